@@ -1,0 +1,9 @@
+//! The types of the editor with their limits, the readers of its records, and what is said of packages.
+#![tactic(auto)]
+
+pub mod answers;
+pub mod commands;
+pub mod extents;
+pub mod moments;
+pub mod names;
+pub mod texts;

@@ -1,7 +1,9 @@
 //! Commands and pieces as data.
 
 use crate::names::Name;
-use crate::texts::{ContentType, Definition, Identifier, MediaBytes, Remark, SystemName, TileBytes};
+use crate::texts::{
+    ContentType, Definition, Identifier, MediaBytes, Remark, SystemName, TileBytes,
+};
 
 /// How the pixel sizes of the zooms of a pyramid go.
 #[derive(Clone, Copy, Debug, PartialEq, Eq)]

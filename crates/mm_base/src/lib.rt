@@ -3,7 +3,10 @@
 
 pub mod answers;
 pub mod commands;
+pub mod entries;
 pub mod extents;
 pub mod moments;
 pub mod names;
+pub mod numbers;
+pub mod streams;
 pub mod texts;

@@ -1,5 +1,5 @@
 -- What the numbers, bytes and texts of a package are limited to.
-use Rattle.std.specs.Prelude.{◌≡◌, ℕ, ◌+◌, ◌-◌, ◌<◌, ◌≤◌, ◌^◌, Bool, true, false, not, ◌&&◌, ◌||◌, IsTrue, nat_le, ℤ, pos, neg_ℤ, ◌≤ℤ◌, List, [], ◌∷◌, length, codes, ◌++◌}
+use Rattle.std.specs.Prelude.{◌≡◌, ℕ, ◌-◌, ◌≤◌, ◌^◌, Bool, true, false, not, ◌&&◌, ◌||◌, IsTrue, nat_le, ℤ, pos, negsuc, neg_ℤ, ◌≤ℤ◌, List, [], ◌∷◌, length, codes, ◌++◌}
 use Rattle.std.specs.List.{list_any}
 
 -- What a profile of whole numbers limits by its unit of length.
@@ -37,8 +37,13 @@ IsTileSide = IsFrom (pos 1) (pos 4096)
 abbrev pub IsTilePlace : ℤ → Type 0
 IsTilePlace = IsFrom (pos 0) (pos (2 ^ 30 - 1))
 
+-- the number of a row, a medium, a piece, or a reference system that is not given
 abbrev pub IsId : ℤ → Type 0
 IsId = IsFrom (pos 1) (pos (2 ^ 53))
+
+-- the number of any reference system, one of the three given among them
+abbrev pub IsSystemNumber : ℤ → Type 0
+IsSystemNumber = IsFrom (negsuc 0) (pos (2 ^ 53))
 
 abbrev pub IsAmount : ℤ → Type 0
 IsAmount = IsFrom (neg_ℤ (pos (10 ^ 15))) (pos (10 ^ 15))
@@ -82,9 +87,12 @@ pub record IsName (text : List ℕ) : Type 0 where
 abbrev pub has_zero : List ℕ → Bool
 has_zero = list_any (λ c. nat_le c 0)
 
+abbrev pub IsClean : List ℕ → Type 0
+IsClean text = IsTrue (not (has_zero text))
+
 pub record IsText (least most : ℕ) (text : List ℕ) : Type 0 where
   pub long : IsLong least most text
-  pub clean : IsTrue (not (has_zero text))
+  pub clean : IsClean text
 
 abbrev pub is_control : ℕ → Bool
 is_control c = nat_le c 31 || (nat_le 127 c && nat_le c 127)

@@ -1,5 +1,5 @@
 -- One command: whether it is refused, and the package after it.
-use Rattle.std.specs.Prelude.{◌≡◌, ℕ, Bool, true, false, ◌&&◌, List, [], ◌∷◌, ◌++◌, Option, Some, None, Result, Ok, Err, is_err, if◌then◌else◌, ◌==◌}
+use Rattle.std.specs.Prelude.{ℕ, Bool, false, ◌&&◌, [], ◌∷◌, ◌++◌, Option, Some, None, Result, Ok, Err, is_err, if◌then◌else◌, ◌==◌}
 use Rattle.mm_base.specs.Keys.{Text}
 use Rattle.mm_base.specs.Package.{Package}
 use Rattle.mm_base.specs.Conditions.{Reasons, least, own_reasons, is_open}

@@ -19,7 +19,8 @@ use Rattle.mm_laws.proofs.Tables.{table_put, pyramid_put}
 use Rattle.mm_laws.proofs.Dropped.{drop}
 use Rattle.mm_laws.proofs.Relations.{relation_put, relation_drop, edition_put, discard}
 use Rattle.mm_laws.proofs.Staged.{stage}
-use Rattle.mm_laws.proofs.Published.{piece_keeps, publish}
+use Rattle.mm_laws.proofs.Published.{publish}
+use Rattle.mm_laws.proofs.Contents as contents
 
 none_of_the_first : (rs more : Reasons) → NoneHolds (rs ++ more) → NoneHolds rs
 none_of_the_first [] more h = tt
@@ -44,7 +45,14 @@ done_keeps (commands.Discard name) = discard name
 done_keeps (commands.Stage edition number q) = stage edition number q
 done_keeps (commands.Publish edition) = λ profile p moment stamp h within low is none. publish profile moment stamp low is edition within p h
 done_keeps (commands.Rehearse edition) = λ profile p moment stamp h within low is none. h
-done_keeps (commands.Edit q) = piece_keeps q
+done_keeps (commands.Tile table zoom column row bytes) = contents.tile_put table zoom column row bytes
+done_keeps (commands.TileDrop table zoom column row) = contents.tile_drop table zoom column row
+done_keeps (commands.Row table id title note amount) = contents.row_put table id title note amount
+done_keeps (commands.RowDrop table id) = contents.row_drop table id
+done_keeps (commands.Media table id content_type bytes) = contents.media_put table id content_type bytes
+done_keeps (commands.MediaDrop table id) = contents.media_drop table id
+done_keeps (commands.Map mapping base_id related_id) = contents.map_put mapping base_id related_id
+done_keeps (commands.MapDrop mapping base_id related_id) = contents.map_drop mapping base_id related_id
 
 pub step_keeps : (profile : Profile) (p : Package) (c : Command) (moment : ℕ) → IsStamp moment (stamp moment) → Meets profile p → IsWithin profile c → IsMoment moment → Meets profile (step p c moment)
 step_keeps profile p c moment is h within low = decided (least (reasons p c)) refl where

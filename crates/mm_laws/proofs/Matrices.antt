@@ -15,7 +15,7 @@ use Rattle.mm_laws.specs.Laws.{Keeps}
 use Rattle.mm_laws.proofs.Reasons.{none_holds, not_false, and_false}
 use Rattle.mm_laws.proofs.KindFacts.{are_same, both_true, is_pyramid_tells, pyramid_set}
 use Rattle.mm_laws.proofs.Touch.{touch_keeps}
-use Rattle.mm_laws.proofs.Zooms.{SuitsAll, suits_unless_clashes, still_finer, still_halved}
+use Rattle.mm_laws.proofs.PixelSizes.{SuitsAll, suits_unless_clashes, still_finer, still_halved}
 
 product_tells : (b : Box) (g : Grid) → is_product b g ≡ true → Fits b g
 product_tells b g e =

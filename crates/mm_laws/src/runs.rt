@@ -1,0 +1,24 @@
+//! Runs of commands, the accepted ones among them, and first parts.
+
+ghost use Rattle.std.specs.Prelude.{◌≡◌, ◌⊎◌, ℕ, List, [], ◌∷◌, Some};
+ghost use Rattle.mm_base.specs.Package.{Package};
+ghost use Rattle.mm_base.specs.Runs.{Call, run, accepted, IsFirstPart};
+ghost use Rattle.mm_base.specs.Step.{refusal, step};
+ghost use Rattle.mm_base.specs.declared.answers.Refusal.{Refusal};
+ghost use Rattle.mm_base.specs.declared.commands.Command.{Command};
+
+/// A refused command leaves the package as it was.
+pub fn a_refused_command_changes_nothing()
+    ensures { (p : Package) (c : Command) (moment : ℕ) (r : Refusal) → refusal p c ≡ Some r → step p c moment ≡ p }
+{}
+
+/// The accepted commands alone give what the whole list gives.
+pub fn the_accepted_commands_give_the_last_package()
+    ensures { (p : Package) (calls : List Call) → run p (accepted p calls) ≡ run p calls }
+{}
+
+/// Whatever stops it, one command is done or it is not: no package lies between. Publishing is one command.
+pub fn one_command_is_done_wholly_or_not_at_all()
+    ensures { (p q : Package) (c : Call) (acknowledged : ℕ)
+        → IsFirstPart p (c ∷ []) acknowledged q → (q ≡ p) ⊎ (q ≡ step p c.command c.moment) }
+{}

@@ -1,7 +1,7 @@
 -- A piece that is staged again changes nothing, and a piece is its command.
-use Rattle.std.proofs.Common.{◌≡◌, ◌↔◌, ℕ, ◌+◌, ℤ, pos, ◌≤ℤ◌, Bool, true, false, not, ◌&&◌, int_lt, int_le, [], Option, Some, None, refl, sym, ap, ◌∙◌, arith}
+use Rattle.std.proofs.Common.{◌≡◌, ◌↔◌, ℕ, ◌+◌, ℤ, pos, ◌≤ℤ◌, true, not, ◌&&◌, int_lt, int_le, [], Some, None, refl, sym, ap, ◌∙◌, arith}
 use Rattle.std.proofs.lemmas.Int.{ints}
-use Rattle.std.specs.FinMap.{get, contains_key, insert}
+use Rattle.std.specs.FinMap.{get, contains_key}
 use Rattle.mm_base.specs.Keys.{Text, piece}
 use Rattle.mm_base.specs.Package.{Package, PieceRow, PiecesPart}
 use Rattle.mm_base.specs.Bounds.{Profile}

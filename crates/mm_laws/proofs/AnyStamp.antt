@@ -1,7 +1,7 @@
 -- Whether publishing is refused does not depend on the stamp: no reason looks at last_change.
-use Rattle.std.proofs.Common.{◌≡◌, ℕ, ℤ, Bool, true, false, List, [], ◌∷◌, Option, Some, None, Result, Ok, Err, refl, sym, ap, subst, ◌∙◌, ◌⊎◌, inl, inr, is_some, unsigned_abs}
-use Rattle.std.specs.FinMap.{FinMap, get, contains_key, insert, remove}
-use Rattle.mm_base.specs.Keys.{Text, text_cmp, PieceKey}
+use Rattle.std.proofs.Common.{◌≡◌, ℕ, List, [], ◌∷◌, Option, Some, None, Result, refl, sym, ap, ◌∙◌, inl, inr, is_some, unsigned_abs}
+use Rattle.std.specs.FinMap.{get, contains_key, insert}
+use Rattle.mm_base.specs.Keys.{Text, PieceKey}
 use Rattle.mm_base.specs.Package.{Package, Contents, ContentsPart, PieceRow}
 use Rattle.mm_base.specs.Pieces.{row_piece}
 use Rattle.mm_base.specs.Conditions.{least, piece_reasons, pieces_of}

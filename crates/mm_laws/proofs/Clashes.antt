@@ -1,16 +1,16 @@
 -- The nearest zooms tell whether any zoom clashes.
-use Rattle.std.proofs.Common.{◌≡◌, ◌↔◌, ℤ, Bool, true, false, not, ◌&&◌, ◌||◌, List, [], ◌∷◌, Option, refl, sym, ap, ◌∙◌, inl, inr}
+use Rattle.std.proofs.Common.{◌≡◌, ◌↔◌, ℤ, Bool, true, false, not, ◌&&◌, ◌||◌, List, [], ◌∷◌, Option, refl, sym, ap, ◌∙◌}
 use Rattle.std.specs.declared.cmp.Ordering.{Ordering}
 use Rattle.std.specs.List.{list_any, AllByRecursion}
 use Rattle.std.specs.FinMap.{FinMap, get, contains_key, entries}
-use Rattle.mm_base.specs.Keys.{Text, same_text, Level, level}
-use Rattle.mm_base.specs.Parts.{Each, Has, some_entry}
+use Rattle.mm_base.specs.Keys.{Text, same_text, level}
+use Rattle.mm_base.specs.Parts.{Each, some_entry}
 use Rattle.mm_base.specs.Package.{Package, Grid, has_kind}
 use Rattle.mm_base.specs.Rules.{HigherIsFiner, NextIsHalved}
 use Rattle.mm_base.specs.Conditions.{suits, clashes}
 use Rattle.mm_base.specs.Neighbours.{Zoomed, neighbours, IsNearestBelow, IsNearestAbove}
 use Rattle.mm_base.specs.declared.commands.Kind.TheVariants.{Two}
-use Rattle.mm_base.proofs.Parts.{IsKeyOrder, true_or_false}
+use Rattle.mm_base.proofs.Parts.{IsKeyOrder}
 use Rattle.mm_base.proofs.KeyLaws.{levels, texts}
 use Rattle.mm_base.proofs.Listed.{along_entries}
 use Rattle.mm_laws.proofs.KindFacts.{are_same}

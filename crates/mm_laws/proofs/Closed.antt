@@ -1,5 +1,5 @@
 -- What an accepted publishing gives.
-use Rattle.std.proofs.Common.{◌≡◌, ◌≢◌, ℕ, Bool, true, false, not, ◌&&◌, [], ◌∷◌, ◌++◌, Option, Some, None, Result, Ok, Err, refl, sym, ap, subst, ◌∙◌, is_err}
+use Rattle.std.proofs.Common.{◌≡◌, ℕ, Bool, true, false, ◌&&◌, [], ◌∷◌, ◌++◌, Option, Some, None, Result, Ok, Err, refl, sym, ap, subst, ◌∙◌, is_err}
 use Rattle.std.specs.FinMap.{contains_key}
 use Rattle.mm_base.specs.Keys.{Text, PieceKey}
 use Rattle.mm_base.specs.Package.{Package, published_state}
@@ -7,7 +7,7 @@ use Rattle.mm_base.specs.Stamp.{stamp}
 use Rattle.mm_base.specs.Conditions.{Reasons, least, own_reasons, is_open}
 use Rattle.mm_base.specs.Effects.{is_other}
 use Rattle.mm_base.specs.Editions.{PieceRefusal, edition_trial, closed}
-use Rattle.mm_base.specs.Step.{reasons, reasons_at, publishing, is_publishing, refused_piece, refusal_of, refusal, refusal_at, closed_by, done, unless_refused, step}
+use Rattle.mm_base.specs.Step.{reasons, publishing, is_publishing, refused_piece, refusal_of, refusal, refusal_at, closed_by, done, unless_refused, step}
 use Rattle.mm_base.specs.declared.answers.Refusal.{Refusal}
 use Rattle.mm_base.specs.declared.commands.Command.{Command}
 use Rattle.mm_base.specs.declared.commands.Command.TheVariants as commands

@@ -1,5 +1,5 @@
 -- A table that is dropped, and a relation or edition that is, keep the rules.
-use Rattle.std.proofs.Common.{◌≡◌, ◌≢◌, ℤ, pos, ◌+ℤ◌, true, false, not, ◌||◌, [], Option, Some, None, IfSome, codes, refl, sym, ap, subst, ◌∙◌, ◌⊎◌, inl, inr, is_some}
+use Rattle.std.proofs.Common.{◌≡◌, ◌≢◌, ℤ, pos, ◌+ℤ◌, true, false, not, ◌||◌, [], Option, Some, None, codes, refl, sym, ap, subst, ◌∙◌, ◌⊎◌, inl, inr, is_some}
 use Rattle.std.specs.FinMap.{get, remove, retain_keys}
 use Rattle.mm_base.specs.Keys.{Text, same_text, level, item, Pairing, Extension}
 use Rattle.mm_base.specs.Parts.{Has, Stands}
@@ -140,20 +140,20 @@ module _ (p : Package) (table : Text) (unused : is_used p table ≡ false) where
     };
     q15 = h.q15;
     q16 = (
-        h.q16.0,
-        each_remove texts p.contents table (ContentsWithin profile) h.q16.1,
-        each_remove texts p.kinds table KindWithin h.q16.2,
-        each_remove texts p.sets table (SetWithin profile) h.q16.3,
-        each_retain levels p.matrices (λ k. is_other table k.table) (MatrixWithin profile) h.q16.4,
-        each_remove extension_keys p.extensions (zoom_extension table) ExtensionWithin h.q16.5,
-        each_retain tile_keys p.tiles (λ k. is_other table k.table) TileWithin h.q16.6,
-        each_retain items p.rows (λ k. is_other table k.table) RowWithin h.q16.7,
-        each_retain items p.media (λ k. is_other table k.table) MediumWithin h.q16.8,
-        h.q16.9,
-        h.q16.10,
-        h.q16.11,
-        h.q16.12,
-      );
+      h.q16.0,
+      each_remove texts p.contents table (ContentsWithin profile) h.q16.1,
+      each_remove texts p.kinds table KindWithin h.q16.2,
+      each_remove texts p.sets table (SetWithin profile) h.q16.3,
+      each_retain levels p.matrices (λ k. is_other table k.table) (MatrixWithin profile) h.q16.4,
+      each_remove extension_keys p.extensions (zoom_extension table) ExtensionWithin h.q16.5,
+      each_retain tile_keys p.tiles (λ k. is_other table k.table) TileWithin h.q16.6,
+      each_retain items p.rows (λ k. is_other table k.table) RowWithin h.q16.7,
+      each_retain items p.media (λ k. is_other table k.table) MediumWithin h.q16.8,
+      h.q16.9,
+      h.q16.10,
+      h.q16.11,
+      h.q16.12,
+    );
   }
 
 pub drop : (table : Text) → Keeps (commands.Drop table)

@@ -1,7 +1,6 @@
 -- The numbers with which commands are refused, and the piece that 53 names.
-use Rattle.std.proofs.Common.{◌≡◌, ℕ, Bool, true, false, not, ◌&&◌, ◌||◌, ◌==◌, cond, min, List, [], ◌∷◌, ◌++◌, Option, Some, None, Result, Ok, Err, is_err, is_some, if◌then◌else◌, refl, sym, ap, subst, ◌∙◌, ◌⊎◌, inl, inr, arith}
+use Rattle.std.proofs.Common.{◌≡◌, ℕ, Bool, true, false, not, ◌&&◌, ◌==◌, cond, min, [], ◌∷◌, ◌++◌, Option, Some, None, Result, Ok, Err, is_err, is_some, if◌then◌else◌, refl, sym, ap, subst, ◌∙◌, ◌⊎◌, inl, inr, arith}
 use Rattle.mm_base.proofs.Parts.{same_some}
-use Rattle.mm_base.specs.Keys.{Text}
 use Rattle.mm_base.specs.Package.{Package}
 use Rattle.mm_base.specs.Conditions.{Reasons, least, smaller, own_reasons}
 use Rattle.mm_base.specs.Editions.{PieceRefusal}

@@ -97,20 +97,20 @@ module _ (profile : Profile) (moment : ℕ) (stamp : Text) (low : IsMoment momen
           spelled = each_retain piece_keys p.pieces test (λ _ r. IsSpelled r) h.q15.spelled;
         };
         q16 = (
-        h.q16.0,
-        h.q16.1,
-        h.q16.2,
-        h.q16.3,
-        h.q16.4,
-        h.q16.5,
-        h.q16.6,
-        h.q16.7,
-        h.q16.8,
-        h.q16.9,
-        h.q16.10,
-        each_put texts p.editions edition published_state EditionWithin h.q16.11 (named, refl),
-        each_retain piece_keys p.pieces test PieceWithin h.q16.12,
-      );
+          h.q16.0,
+          h.q16.1,
+          h.q16.2,
+          h.q16.3,
+          h.q16.4,
+          h.q16.5,
+          h.q16.6,
+          h.q16.7,
+          h.q16.8,
+          h.q16.9,
+          h.q16.10,
+          each_put texts p.editions edition published_state EditionWithin h.q16.11 (named, refl),
+          each_retain piece_keys p.pieces test PieceWithin h.q16.12,
+        );
       }
 
   closed_by_keeps : (edition : Text) → IsName edition → (p : Package) → Meets profile p → (v : Result Package PieceRefusal) → edition_trial p edition stamp ≡ v → Meets profile (closed_by edition v p)

@@ -1,8 +1,8 @@
 -- Relations and editions that are put or removed keep the rules.
 use Rattle.std.proofs.Common.{◌≡◌, ◌≢◌, ℕ, ◌≤◌, ℤ, pos, ◌≤ℤ◌, Bool, true, false, not, ◌&&◌, ◌||◌, [], Option, Some, None, codes, refl, sym, ap, subst, ◌∙◌, ◌⊎◌, inl, inr, is_some, arith, zero-le}
 use Rattle.std.proofs.lemmas.Int.{ints}
-use Rattle.std.specs.FinMap.{FinMap, get, contains_key, insert, remove, retain_keys}
-use Rattle.mm_base.specs.Keys.{Text, text_cmp, same_text, Pairing, PieceKey, piece, Extension}
+use Rattle.std.specs.FinMap.{get, contains_key, insert, remove, retain_keys}
+use Rattle.mm_base.specs.Keys.{Text, same_text, Pairing, PieceKey, piece, Extension}
 use Rattle.mm_base.specs.Parts.{Each, Has, Stands}
 use Rattle.mm_base.specs.Package.{Package, Kinds, RelationsPart, HasKind, has_kind, Relation, general_extension, mapping_extension, zoom_extension, open_state, published_state}
 use Rattle.mm_base.specs.Bounds.{IsName, IsClean, MostPieces}

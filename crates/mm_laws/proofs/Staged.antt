@@ -2,7 +2,7 @@
 use Rattle.std.proofs.Common.{◌≡◌, ◌≢◌, ℕ, ◌+◌, ◌≤◌, max, ℤ, pos, ◌≤ℤ◌, Bool, true, false, not, ◌&&◌, ◌==◌, int_lt, int_le, unsigned_abs, Some, refl, sym, ap, subst, ◌∙◌, inl, inr, is_some, arith}
 use Rattle.std.proofs.lemmas.Int.{ints}
 use Rattle.std.proofs.lemmas.Bool.Decides.{nat_tests}
-use Rattle.std.specs.FinMap.{FinMap, get, contains_key, insert}
+use Rattle.std.specs.FinMap.{get, contains_key, insert}
 use Rattle.mm_base.specs.Keys.{Text, same_text, same_number, PieceKey, piece}
 use Rattle.mm_base.specs.Parts.{Has, Stands}
 use Rattle.mm_base.specs.Package.{PieceRow, PiecesPart, open_state}

@@ -209,20 +209,20 @@ module _ (profile : Profile) (p : Package) (h : Meets profile p) (table : Text) 
     q14 = s.exact;
     q15 = h.q15;
     q16 = (
-        h.q16.0,
-        each_put texts p.contents table row (ContentsWithin profile) h.q16.1 s.limits,
-        each_put texts p.kinds table (kind_text kind) KindWithin h.q16.2 (s.name, kind_is_clean kind),
-        s.set_limits,
-        h.q16.4,
-        s.extension_limits,
-        h.q16.6,
-        h.q16.7,
-        h.q16.8,
-        h.q16.9,
-        h.q16.10,
-        h.q16.11,
-        h.q16.12,
-      );
+      h.q16.0,
+      each_put texts p.contents table row (ContentsWithin profile) h.q16.1 s.limits,
+      each_put texts p.kinds table (kind_text kind) KindWithin h.q16.2 (s.name, kind_is_clean kind),
+      s.set_limits,
+      h.q16.4,
+      s.extension_limits,
+      h.q16.6,
+      h.q16.7,
+      h.q16.8,
+      h.q16.9,
+      h.q16.10,
+      h.q16.11,
+      h.q16.12,
+    );
   }
 
 -- ---- a pyramid

@@ -1,7 +1,7 @@
 -- A change of last_change keeps every rule.
 use Rattle.std.proofs.Common.{◌≡◌, ℕ, Option, Some, None, IfSome, refl, sym, ap, ◌∙◌, inl, inr}
-use Rattle.std.specs.FinMap.{FinMap, get, insert}
-use Rattle.mm_base.specs.Keys.{Text, text_cmp}
+use Rattle.std.specs.FinMap.{get, insert}
+use Rattle.mm_base.specs.Keys.{Text}
 use Rattle.mm_base.specs.Parts.{Each, Stands}
 use Rattle.mm_base.specs.Package.{Package, Contents, MatrixSet, ContentsPart, HasKind}
 use Rattle.mm_base.specs.Bounds.{Profile, IsMoment, IsName}

@@ -12,6 +12,7 @@ use Rattle.mm_base.specs.declared.commands.Kind.{Kind}
 use Rattle.mm_base.specs.declared.commands.Kind.TheVariants.{Two, Other, Attributes, Media}
 use Rattle.mm_base.proofs.Parts.{IsKeyOrder, same_key, same_itself, same_some, some_of}
 use Rattle.mm_base.proofs.KeyLaws.{texts}
+use Rattle.mm_base.proofs.CleanTexts.{ascii_is_clean}
 
 -- two keys that the test calls the same are
 pub are_same : {K : Type 0} {R : K → K → Ordering} → IsKeyOrder R → (a b : K) → eq_by_cmp R a b ≡ true → a ≡ b
@@ -43,10 +44,10 @@ is_pyramid_tells kinds table e = elim (either_true (has_kind kinds table Two) (h
 ]
 
 pub kind_is_clean : (kind : Kind) → IsClean (kind_text kind)
-kind_is_clean Two = refl
-kind_is_clean Other = refl
-kind_is_clean Attributes = refl
-kind_is_clean Media = refl
+kind_is_clean Two = ascii_is_clean (kind_text Two) refl refl
+kind_is_clean Other = ascii_is_clean (kind_text Other) refl refl
+kind_is_clean Attributes = ascii_is_clean (kind_text Attributes) refl refl
+kind_is_clean Media = ascii_is_clean (kind_text Media) refl refl
 
 -- a table has one kind
 pub one_kind : (kinds : Kinds) (table : Text) (a b : Kind) → HasKind kinds table a → HasKind kinds table b → kind_text a ≡ kind_text b

@@ -16,6 +16,7 @@ use Rattle.mm_base.specs.Step.{closed_by}
 use Rattle.mm_base.specs.declared.commands.Piece.{Piece}
 use Rattle.mm_base.specs.declared.commands.Piece.TheVariants as pieces
 use Rattle.mm_base.proofs.Parts.{same_some, each_put, each_retain, after_put, after_retain, beside_put}
+use Rattle.mm_base.proofs.CleanTexts.{ascii_is_clean}
 use Rattle.mm_base.proofs.KeyLaws.{texts, piece_keys}
 use Rattle.mm_base.proofs.Listed.{along_entries}
 use Rattle.mm_laws.specs.Laws.{PieceKeeps}
@@ -108,7 +109,7 @@ module _ (profile : Profile) (moment : ℕ) (stamp : Text) (low : IsMoment momen
           h.q16.8,
           h.q16.9,
           h.q16.10,
-          each_put texts p.editions edition published_state EditionWithin h.q16.11 (named, refl),
+          each_put texts p.editions edition published_state EditionWithin h.q16.11 (named, ascii_is_clean published_state refl refl),
           each_retain piece_keys p.pieces test PieceWithin h.q16.12,
         );
       }

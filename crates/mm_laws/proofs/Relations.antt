@@ -14,11 +14,11 @@ use Rattle.mm_base.specs.declared.commands.RelationName.{RelationName}
 use Rattle.mm_base.specs.declared.commands.RelationName.TheVariants as names
 use Rattle.mm_base.specs.declared.commands.Command.TheVariants as commands
 use Rattle.mm_base.proofs.Parts.{each_put, each_remove, each_retain, stands_after_put, after_put, after_remove, after_retain, kept, kept_by_new, at_put, beside_remove, either_false, same_itself, apart, not_none, none_of, some_of}
+use Rattle.mm_base.proofs.CleanTexts.{ascii_is_clean, name_is_clean}
 use Rattle.mm_base.proofs.KeyLaws.{texts, pairing_keys, piece_keys, extension_keys}
 use Rattle.mm_laws.specs.Laws.{Keeps}
 use Rattle.mm_laws.proofs.Reasons.{none_holds, not_false, stands_where}
 use Rattle.mm_laws.proofs.KindFacts.{differ, both_true, either_true, has_kind_tells}
-use Rattle.mm_laws.proofs.CleanNames.{name_is_clean}
 use Rattle.mm_laws.proofs.Tables.{put_once}
 
 -- a name that the test calls another is another
@@ -44,8 +44,8 @@ unfolding name_of
 not_general mapping named e = own_name (subst IsName (sym (ap (λ (x : Extension). name_of x.table) e)) named)
 
 relation_is_clean : (name : RelationName) → IsClean (relation_text name)
-relation_is_clean names.Media = refl
-relation_is_clean names.SimpleAttributes = refl
+relation_is_clean names.Media = ascii_is_clean (relation_text names.Media) refl refl
+relation_is_clean names.SimpleAttributes = ascii_is_clean (relation_text names.SimpleAttributes) refl refl
 
 -- ---- a relation
 suited_new : (kinds_of : Kinds) (base related : Text) (name : RelationName) → has_kind kinds_of base kinds.Attributes || has_kind kinds_of base kinds.Media ≡ true → has_kind kinds_of related (related_kind name) ≡ true
@@ -108,11 +108,17 @@ relation_put mapping base related name profile p moment stamp h within low is no
         h.q16.2,
         h.q16.3,
         h.q16.4,
-        each_put extension_keys p.extensions (mapping_extension mapping) 1 ExtensionWithin h.q16.5 (record { table = name_is_clean mapping within.0; column = tt; name = refl; definition = refl; scope = refl }),
+        each_put extension_keys p.extensions (mapping_extension mapping) 1 ExtensionWithin h.q16.5 (record {
+          table = name_is_clean mapping within.0;
+          column = tt;
+          name = ascii_is_clean (mapping_extension mapping).name refl refl;
+          definition = ascii_is_clean (mapping_extension mapping).definition refl refl;
+          scope = ascii_is_clean (mapping_extension mapping).scope refl refl;
+        }),
         h.q16.6,
         h.q16.7,
         h.q16.8,
-        each_put texts p.relations mapping relation RelationWithin h.q16.9 (record { mapping = within.0; base = within.1; related = within.2; base_column = refl; related_column = refl; name = relation_is_clean name }),
+        each_put texts p.relations mapping relation RelationWithin h.q16.9 (record { mapping = within.0; base = within.1; related = within.2; base_column = ascii_is_clean (codes "id") refl refl; related_column = ascii_is_clean (codes "id") refl refl; name = relation_is_clean name }),
         h.q16.10,
         h.q16.11,
         h.q16.12,
@@ -242,7 +248,7 @@ edition_put name profile p moment stamp h within low is none =
         h.q16.8,
         h.q16.9,
         h.q16.10,
-        each_put texts p.editions name open_state EditionWithin h.q16.11 (within, refl),
+        each_put texts p.editions name open_state EditionWithin h.q16.11 (within, ascii_is_clean open_state refl refl),
         h.q16.12,
       );
     }

@@ -17,11 +17,11 @@ use Rattle.mm_base.specs.declared.commands.PlainKind.{PlainKind}
 use Rattle.mm_base.specs.declared.commands.PlainKind.TheVariants as plain
 use Rattle.mm_base.specs.declared.commands.Command.TheVariants as commands
 use Rattle.mm_base.proofs.Parts.{each_put, stands_after_put, after_put, kept_by_new, at_put, beside_put, no_entry, either_false, same_itself, same_key, none_of}
+use Rattle.mm_base.proofs.CleanTexts.{ascii_is_clean, name_is_clean}
 use Rattle.mm_base.proofs.KeyLaws.{numbers, texts, extension_keys}
 use Rattle.mm_laws.specs.Laws.{Keeps}
 use Rattle.mm_laws.proofs.Reasons.{none_holds, not_false}
 use Rattle.mm_laws.proofs.KindFacts.{differ, kind_is_clean}
-use Rattle.mm_laws.proofs.CleanNames.{name_is_clean}
 use Rattle.mm_laws.proofs.Systems.{if_some_more}
 
 -- ---- extension rows
@@ -243,7 +243,7 @@ table_put table kind identifier profile p moment stamp h within low is none =
       suits = unplaced kind row (get p.sets table) (refl, refl, refl, refl, refl, refl, absent);
       system = tt;
       ordered = (tt, tt);
-      limits = record { table = within.0; data_type = refl; identifier = within.1; description = refl; last_change = (moment, low, is); min_x = tt; min_y = tt; max_x = tt; max_y = tt; system = tt };
+      limits = record { table = within.0; data_type = ascii_is_clean (codes "attributes") refl refl; identifier = within.1; description = refl; last_change = (moment, low, is); min_x = tt; min_y = tt; max_x = tt; max_y = tt; system = tt };
       beside = λ t n. refl;
       set_systems = set_may_still profile p h table row (plain_kind kind) taken.0 taken.1 r.1.0;
       set_tables = λ t s e. stands_after_put texts p.contents table row t (h.q5.of_sets t s e);
@@ -280,7 +280,7 @@ pyramid_put table identifier srs min_x min_y max_x max_y step profile p moment s
       suits = suits step;
       system = may;
       ordered = (less min_x max_x extent.0, less min_y max_y extent.1);
-      limits = record { table = within.0; data_type = refl; identifier = within.1; description = refl; last_change = (moment, low, is); min_x = within.3; min_y = within.4; max_x = within.5; max_y = within.6; system = within.2 };
+      limits = record { table = within.0; data_type = ascii_is_clean (codes "tiles") refl refl; identifier = within.1; description = refl; last_change = (moment, low, is); min_x = within.3; min_y = within.4; max_x = within.5; max_y = within.6; system = within.2 };
       beside = λ t n. beside_put texts p.sets table set t n;
       set_systems = each_put texts p.sets table set (λ t s. MayName p.systems (insert p.kinds table (kind_text (step_kind step))) t s.system)
           (set_may_still profile p h table row (step_kind step) taken.0 taken.1 named) may;
@@ -294,7 +294,13 @@ pyramid_put table identifier srs min_x min_y max_x max_y step profile p moment s
     (λ e. keeps_with profile p h table row (step_kind step) taken.0 taken.1 named sets p.extensions (suited p.extensions (plain_extensions profile p h table row (step_kind step) taken.0 taken.1 named (is_two step e)) h.q16.5))
     (λ e. keeps_with profile p h table row (step_kind step) taken.0 taken.1 named sets (insert p.extensions (zoom_extension table) 1)
     (suited (insert p.extensions (zoom_extension table) 1) (other_extensions profile p h table row (step_kind step) taken.0 taken.1 named (is_other step e))
-    (each_put extension_keys p.extensions (zoom_extension table) 1 ExtensionWithin h.q16.5 (record { table = name_is_clean table within.0; column = refl; name = refl; definition = refl; scope = refl }))))
+    (each_put extension_keys p.extensions (zoom_extension table) 1 ExtensionWithin h.q16.5 (record {
+      table = name_is_clean table within.0;
+      column = ascii_is_clean (codes "tile_data") refl refl;
+      name = ascii_is_clean (zoom_extension table).name refl refl;
+      definition = ascii_is_clean (zoom_extension table).definition refl refl;
+      scope = ascii_is_clean (zoom_extension table).scope refl refl;
+    }))))
   where
     placed : (c : Contents) (s : MatrixSet) (v : Option MatrixSet) → v ≡ Some s → IsPlacedAt c s → (kind : Step) → Suits (step_kind kind) c v
     placed c s v e at steps.Two = subst (λ w. IsPlaced c w) (sym e) at

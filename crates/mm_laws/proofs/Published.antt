@@ -48,7 +48,7 @@ read_back (pieces.MapDrop mapping base_id related_id) = refl
 row_within : (r : PieceRow) → IsSpelled r → (q : Piece) → row_piece r ≡ Some q → IsPieceWithin q
 row_within r s q e = subst IsPieceWithin (same_some (sym (ap row_piece s.1 ∙ read_back s.0) ∙ e)) s.2
 
-same_ok : {a b : Package} → ◌≡◌ {A = Result Package PieceRefusal} (Ok a) (Ok b) → a ≡ b
+pub same_ok : {a b : Package} → ◌≡◌ {A = Result Package PieceRefusal} (Ok a) (Ok b) → a ≡ b
 same_ok e = cc
 
 module _ (profile : Profile) (moment : ℕ) (stamp : Text) (low : IsMoment moment) (is : IsStamp moment stamp) where

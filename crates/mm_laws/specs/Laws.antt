@@ -1,18 +1,21 @@
 -- The laws that this crate's functions state.
-use Rattle.std.specs.Prelude.{◌≡◌, ◌≢◌, ℕ, List, [], ◌∷◌, None, Ok, Bool, ◌&&◌, ◌||◌, ◌==◌, nat_le, is_some, IsTrue}
-use Rattle.mm_base.specs.Keys.{Text}
+use Rattle.std.specs.Prelude.{◌≡◌, ◌≢◌, ℕ, List, [], ◌∷◌, None, Ok, Bool, ◌&&◌, ◌||◌, ◌==◌, nat_le, is_some, IsTrue, true, false, ◌++◌, ◌⊎◌, Some}
+use Rattle.std.specs.List.{list_any}
+use Rattle.mm_base.specs.Keys.{Text, same_text, PieceKey}
 use Rattle.mm_base.specs.Bounds.{Profile, IsMoment}
-use Rattle.mm_base.specs.Parts.{Each, Has}
-use Rattle.mm_base.specs.Package.{Package, published_state}
+use Rattle.mm_base.specs.Parts.{Each, Has, at_value}
+use Rattle.mm_base.specs.Package.{Package, Contents, ContentsPart, PieceRow, open_state, published_state}
+use Rattle.mm_base.specs.Pieces.{piece_command, row_piece}
 use Rattle.mm_base.specs.Within.{IsWithin, IsPieceWithin}
 use Rattle.mm_base.specs.Stamp.{IsStamp, stamp}
 use Rattle.mm_base.specs.Rules.{Meets}
-use Rattle.mm_base.specs.Conditions.{least, own_reasons, piece_reasons}
+use Rattle.mm_base.specs.Conditions.{least, own_reasons, piece_reasons, pieces_of}
 use Rattle.mm_base.specs.Effects.{effect, piece_effect}
-use Rattle.mm_base.specs.Editions.{edition_trial, closed}
+use Rattle.mm_base.specs.Editions.{trial, edition_trial, closed}
 use Rattle.mm_base.specs.Runs.{Call}
 use Rattle.mm_base.specs.declared.answers.Refusal.{Refusal}
 use Rattle.mm_base.specs.declared.commands.Command.{Command}
+use Rattle.mm_base.specs.declared.commands.Command.TheVariants as commands
 use Rattle.mm_base.specs.declared.commands.Piece.{Piece}
 
 -- Where a package meets the rules and the command has no reason to be refused, what it gives meets the rules.
@@ -50,3 +53,47 @@ is_reason_number n = (nat_le 20 n && nat_le n 27) || (nat_le 30 n && nat_le n 35
 pub record IsNumberedRefusal (r : Refusal) : Type 0 where
   pub known : IsTrue (is_reason_number r.number)
   pub names_a_piece : is_some r.piece ≡ (r.number == 53)
+
+-- A piece that is refused on what the pieces before it gave, all of which were accepted.
+pub record FirstRefused (p : Package) (edition : Text) : Type 0 where
+  pub before : List (PieceKey × PieceRow)
+  pub after : List (PieceKey × PieceRow)
+  pub key : PieceKey
+  pub row : PieceRow
+  pub are : pieces_of p edition ≡ before ++ (key, row) ∷ after
+  pub middle : Package
+  pub accepted : trial before p [] ≡ Ok middle
+  pub piece : Piece
+  pub spells : row_piece row ≡ Some piece
+  pub reason : ℕ
+  pub refused : least (piece_reasons middle piece) ≡ Some reason
+
+-- The edition is open and holds no pieces.
+pub record IsNewEdition (name : Text) (p : Package) : Type 0 where
+  pub stands_open : Has p.editions name open_state
+  pub no_pieces : Each p.pieces (λ k _. k.edition ≢ name)
+
+-- whether the command, other than by publishing, sets last_change of the table
+abbrev pub changes : Command → Text → Bool
+changes (commands.Pyramid table identifier srs min_x min_y max_x max_y step) t = same_text t table
+changes (commands.Matrix table zoom matrix) t = same_text t table
+changes (commands.Table table kind identifier) t = same_text t table
+changes (commands.Tile table zoom column row bytes) t = same_text t table
+changes (commands.TileDrop table zoom column row) t = same_text t table
+changes (commands.Row table id title note amount) t = same_text t table
+changes (commands.RowDrop table id) t = same_text t table
+changes (commands.Media table id content_type bytes) t = same_text t table
+changes (commands.MediaDrop table id) t = same_text t table
+changes _ t = false
+
+abbrev pub some_piece_changes : List (PieceKey × PieceRow) → Text → Bool
+some_piece_changes es t = list_any (λ e. at_value (λ q. changes (piece_command q) t) (row_piece e.1)) es
+
+-- publishing sets it of each table that a piece names so
+abbrev pub sets_last_change : Package → Command → Text → Bool
+sets_last_change p (commands.Publish edition) t = some_piece_changes (pieces_of p edition) t
+sets_last_change p c t = changes c t
+
+-- The table's row has this stamp where it is set, and is as it was where it is not.
+abbrev pub IsSetOrKept : Bool → Text → ContentsPart → Text → Contents → Type 0
+IsSetOrKept is_set stamp before t row = ((is_set ≡ true) × (row.last_change ≡ stamp)) ⊎ ((is_set ≡ false) × Has before t row)

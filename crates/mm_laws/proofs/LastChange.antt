@@ -1,5 +1,5 @@
 -- Which commands set last_change, and of which table.
-use Rattle.std.proofs.Common.{◌≡◌, ℕ, ℤ, unsigned_abs, Bool, true, false, ◌||◌, List, [], ◌∷◌, Option, Some, None, Result, Ok, Err, refl, sym, ap, subst, ◌∙◌, ◌⊎◌, inl, inr}
+use Rattle.std.proofs.Common.{◌≡◌, ℕ, ℤ, unsigned_abs, Bool, true, false, ◌||◌, List, [], ◌∷◌, Option, Some, None, Result, Ok, Err, refl, sym, ap, subst, ◌∙◌, inl, inr}
 use Rattle.std.specs.FinMap.{get, insert}
 use Rattle.mm_base.specs.Keys.{Text, same_text, PieceKey}
 use Rattle.mm_base.specs.Parts.{Has, at_value}
@@ -8,7 +8,7 @@ use Rattle.mm_base.specs.Pieces.{piece_command, row_piece}
 use Rattle.mm_base.specs.Stamp.{stamp}
 use Rattle.mm_base.specs.Conditions.{least, piece_reasons, pieces_of}
 use Rattle.mm_base.specs.Effects.{changed_at, touched_row, touch, piece_effect, with_pyramid, with_zoom_row}
-use Rattle.mm_base.specs.Editions.{PieceRefusal, decided, piece_trial, after_trial, trial, edition_trial, closed}
+use Rattle.mm_base.specs.Editions.{PieceRefusal, decided, piece_trial, after_trial, trial, edition_trial}
 use Rattle.mm_base.specs.Step.{refusal, closed_by, done, unless_refused, step}
 use Rattle.mm_base.specs.declared.commands.Piece.{Piece}
 use Rattle.mm_base.specs.declared.commands.Piece.TheVariants as pieces

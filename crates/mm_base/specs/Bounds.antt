@@ -1,5 +1,6 @@
 -- What the numbers, bytes and texts of a package are limited to.
-use Rattle.std.specs.Prelude.{◌≡◌, ℕ, ◌+◌, ◌-◌, ◌<◌, ◌≤◌, ◌^◌, Bool, true, false, not, ◌&&◌, ◌||◌, IsTrue, nat_le, ℤ, pos, neg_ℤ, ◌≤ℤ◌, List, [], ◌∷◌, length, codes, nat_eq, ◌==◌}
+use Rattle.std.specs.Prelude.{ℕ, ◌-◌, ◌≤◌, ◌^◌, Bool, true, false, not, ◌&&◌, ◌||◌, IsTrue, nat_le, ℤ, pos, negsuc, neg_ℤ, ◌≤ℤ◌, List, [], ◌∷◌, length, codes, nat_eq, ◌==◌}
+use Rattle.std.specs.Str.{IsUtf8}
 use Rattle.std.specs.List.{list_any, starts_with, before_first, after_first}
 
 -- What a profile of whole numbers limits by its unit of length.
@@ -37,8 +38,13 @@ IsTileSide = IsFrom (pos 1) (pos 4096)
 abbrev pub IsTilePlace : ℤ → Type 0
 IsTilePlace = IsFrom (pos 0) (pos (2 ^ 30 - 1))
 
+-- the number of a row, a medium, a piece, or a reference system that is not given
 abbrev pub IsId : ℤ → Type 0
 IsId = IsFrom (pos 1) (pos (2 ^ 53))
+
+-- the number of any reference system, one of the three given among them
+abbrev pub IsSystemNumber : ℤ → Type 0
+IsSystemNumber = IsFrom (negsuc 0) (pos (2 ^ 53))
 
 abbrev pub IsAmount : ℤ → Type 0
 IsAmount = IsFrom (neg_ℤ (pos (10 ^ 15))) (pos (10 ^ 15))
@@ -73,18 +79,23 @@ pub record IsName (text : List ℕ) : Type 0 where
   pub all : IsTrue (not (list_any (λ c. not (is_letter_or_digit c)) text))
   pub own : IsTrue (not (starts_with nat_eq text (codes "gpkg") || starts_with nat_eq text (codes "sqlite") || starts_with nat_eq text (codes "mm_")))
 
--- A text holds no byte 0. That it is UTF-8 is what the store keeps of every text.
+-- Any text is UTF-8 without byte 0. The store itself takes any bytes as a text.
 abbrev pub has_zero : List ℕ → Bool
 has_zero = list_any (λ c. nat_le c 0)
 
+pub record IsClean (text : List ℕ) : Type 0 where
+  pub utf8 : IsUtf8 text
+  pub no_zero : IsTrue (not (has_zero text))
+
 pub record IsText (least most : ℕ) (text : List ℕ) : Type 0 where
   pub long : IsLong least most text
-  pub clean : IsTrue (not (has_zero text))
+  pub clean : IsClean text
 
 abbrev pub is_control : ℕ → Bool
 is_control c = nat_le c 31 || (nat_le 127 c && nat_le c 127)
 
 pub record IsIdentifier (text : List ℕ) : Type 0 where
+  pub utf8 : IsUtf8 text
   pub long : IsLong 1 1000 text
   pub printable : IsTrue (not (list_any is_control text))
 

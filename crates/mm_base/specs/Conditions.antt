@@ -1,11 +1,11 @@
 -- For which numbered reasons a command is refused. The reasons are a set: the least number is the answer.
-use Rattle.std.specs.Prelude.{◌≡◌, ℕ, ◌≤◌, ◌+◌, length, nat_le, ◌==◌, ℤ, pos, ◌+ℤ◌, ◌-ℤ◌, ◌*ℤ◌, Bool, true, false, not, cond, ◌&&◌, ◌||◌, List, [], ◌∷◌, ◌++◌, Option, Some, None, min, int_lt, int_le, nat_lt, codes, is_none}
+use Rattle.std.specs.Prelude.{ℕ, ◌+◌, length, ◌==◌, ℤ, pos, ◌+ℤ◌, ◌-ℤ◌, ◌*ℤ◌, Bool, not, cond, ◌&&◌, ◌||◌, List, [], ◌∷◌, Option, Some, None, min, int_lt, int_le, codes}
 use Rattle.std.specs.FinMap.{get, contains_key, entries, retain_keys}
 use Rattle.mm_base.specs.Keys.{Text, same_text, same_number, level, tile, item, Pairing, pairing, PieceKey, piece}
 use Rattle.mm_base.specs.Parts.{some_entry, at_value}
 use Rattle.mm_base.specs.Pieces.{piece_row, same_piece}
 use Rattle.mm_base.specs.Bounds.{MostPieces}
-use Rattle.mm_base.specs.Package.{Package, Contents, MatrixSet, Box, Grid, Relation, PieceRow, has_kind, is_pyramid, open_state}
+use Rattle.mm_base.specs.Package.{Package, Box, Grid, PieceRow, has_kind, is_pyramid, open_state}
 use Rattle.mm_base.specs.declared.commands.Kind.{Kind}
 use Rattle.mm_base.specs.declared.commands.Kind.TheVariants as kinds
 use Rattle.mm_base.specs.declared.commands.Piece.{Piece}

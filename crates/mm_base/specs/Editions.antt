@@ -1,5 +1,5 @@
 -- Publishing: the pieces of an edition as commands, in rising number.
-use Rattle.std.specs.Prelude.{◌≡◌, ℕ, ℤ, pos, Bool, true, false, List, [], ◌∷◌, Option, Some, None, Result, Ok, Err, unsigned_abs}
+use Rattle.std.specs.Prelude.{ℕ, List, [], ◌∷◌, Option, Some, None, Result, Ok, Err, unsigned_abs}
 use Rattle.std.specs.FinMap.{insert, retain_keys}
 use Rattle.mm_base.specs.Keys.{Text, PieceKey}
 use Rattle.mm_base.specs.Package.{Package, PieceRow, published_state}
@@ -12,10 +12,15 @@ use Rattle.mm_base.specs.declared.commands.Piece.{Piece}
 abbrev pub PieceRefusal : Type 0
 PieceRefusal = ℕ × ℕ
 
--- a piece as a command
-abbrev pub piece_trial : Package → ℕ → Piece → Text → Option ℕ → Result Package PieceRefusal
-piece_trial p number q stamp None = Ok (piece_effect p q stamp)
-piece_trial p number q stamp (Some refusal) = Err (number, refusal)
+-- what a piece gives, by its least reason
+abbrev pub decided : Package → ℕ → Piece → Text → Option ℕ → Result Package PieceRefusal
+decided p number q stamp None = Ok (piece_effect p q stamp)
+decided p number q stamp (Some reason) = Err (number, reason)
+
+-- A piece is taken as its command. A row that spells none stands in no package of the rules, and is passed over.
+abbrev pub piece_trial : Package → ℕ → Text → Option Piece → Result Package PieceRefusal
+piece_trial p number stamp None = Ok p
+piece_trial p number stamp (Some q) = decided p number q stamp (least (piece_reasons p q))
 
 abbrev pub after_trial : Result Package PieceRefusal → (Package → Result Package PieceRefusal) → Result Package PieceRefusal
 after_trial (Ok p) rest = rest p
@@ -25,7 +30,7 @@ after_trial (Err refusal) rest = Err refusal
 abbrev pub trial : List (PieceKey × PieceRow) → Package → Text → Result Package PieceRefusal
 trial [] p stamp = Ok p
 trial (e ∷ es) p stamp =
-    after_trial (piece_trial p (unsigned_abs e.0.number) (row_piece e.1) stamp (least (piece_reasons p (row_piece e.1)))) (λ q. trial es q stamp)
+    after_trial (piece_trial p (unsigned_abs e.0.number) stamp (row_piece e.1)) (λ next. trial es next stamp)
 
 abbrev pub edition_trial : Package → Text → Text → Result Package PieceRefusal
 edition_trial p edition stamp = trial (pieces_of p edition) p stamp

@@ -1,7 +1,6 @@
 -- What an accepted command puts and removes.
-use Rattle.std.specs.Prelude.{◌≡◌, ℕ, ℤ, pos, Bool, true, false, not, cond, ◌&&◌, List, [], ◌∷◌, Option, Some, None, is_none, codes}
+use Rattle.std.specs.Prelude.{ℤ, pos, Bool, not, [], Option, Some, None, codes}
 use Rattle.std.specs.FinMap.{get, insert, remove, retain_keys}
-use Rattle.std.specs.Bool.{⊤}
 use Rattle.mm_base.specs.Keys.{Text, same_text, level, tile, item, pairing, piece}
 use Rattle.mm_base.specs.Package.{Package, Contents, Box, kind_text, mapping_extension, zoom_extension, open_state}
 use Rattle.mm_base.specs.Pieces.{piece_row}

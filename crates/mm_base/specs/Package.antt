@@ -1,8 +1,8 @@
 -- A package: what the columns of its tables hold, whether or not they meet the rules.
-use Rattle.std.specs.Prelude.{◌≡◌, ℕ, ℤ, pos, Bool, true, false, ◌||◌, List, Option, Some, None, codes, ⊤, ◌⊎◌}
+use Rattle.std.specs.Prelude.{◌≡◌, ℕ, ℤ, Bool, ◌||◌, List, Option, Some, None, codes, ⊤, ◌⊎◌}
 use Rattle.std.specs.Ordering.{int_cmp}
 use Rattle.std.specs.FinMap.{FinMap, get}
-use Rattle.mm_base.specs.Keys.{Text, text_cmp, same_text, Level, level_cmp, TileKey, tile_cmp, Item, item_cmp, Pairing, pairing_cmp, PieceKey, piece_cmp, Extension, extension_cmp}
+use Rattle.mm_base.specs.Keys.{Text, text_cmp, same_text, level_cmp, tile_cmp, item_cmp, pairing_cmp, piece_cmp, Extension, extension_cmp}
 use Rattle.mm_base.specs.Parts.{at_value}
 use Rattle.mm_base.specs.declared.commands.Kind.{Kind}
 use Rattle.mm_base.specs.declared.commands.Kind.TheVariants.{Two, Other, Attributes, Media}
@@ -15,7 +15,7 @@ pub record System : Type 0 where
   pub definition : Text
   pub description : Text
 
--- a contents row
+-- a contents row; its four bounds are its extent where all stand
 pub record Contents : Type 0 where
   pub data_type : Text
   pub identifier : Text
@@ -27,19 +27,19 @@ pub record Contents : Type 0 where
   pub max_y : Option ℤ
   pub system : Option ℤ
 
--- a bounding box
+-- a bounding box: an extent, empty or not
 pub record Box : Type 0 where
   pub min_x : ℤ
   pub min_y : ℤ
   pub max_x : ℤ
   pub max_y : ℤ
 
--- a tile matrix set
+-- a tile matrix set: the system and the extent of a pyramid
 pub record MatrixSet : Type 0 where
   pub system : ℤ
   pub box : Box
 
--- a tile matrix
+-- a tile matrix: how many tiles it has, how many pixels a tile has, and how large a pixel is
 pub record Grid : Type 0 where
   pub matrix_width : ℤ
   pub matrix_height : ℤ
@@ -48,16 +48,18 @@ pub record Grid : Type 0 where
   pub pixel_x_size : ℤ
   pub pixel_y_size : ℤ
 
--- an attribute row
+-- a row of an attribute table
 pub record AttributeRow : Type 0 where
   pub title : Text
   pub note : Text
   pub amount : ℤ
 
+-- a media item
 pub record Medium : Type 0 where
   pub bytes : List ℕ
   pub content_type : Text
 
+-- a relation, under the name of its mapping
 pub record Relation : Type 0 where
   pub base : Text
   pub related : Text
@@ -80,30 +82,75 @@ pub record PieceRow : Type 0 where
   pub t2 : Text
   pub bytes : List ℕ
 
-pub record Package : Type 0 where
-  pub systems : FinMap int_cmp System
-  pub contents : FinMap text_cmp Contents
-  pub kinds : FinMap text_cmp Text
-  pub sets : FinMap text_cmp MatrixSet
-  pub matrices : FinMap level_cmp Grid
-  pub extensions : FinMap extension_cmp ℕ
-  pub tiles : FinMap tile_cmp (List ℕ)
-  pub rows : FinMap item_cmp AttributeRow
-  pub media : FinMap item_cmp Medium
-  pub relations : FinMap text_cmp Relation
-  pub pairings : FinMap pairing_cmp ⊤
-  pub editions : FinMap text_cmp Text
-  pub pieces : FinMap piece_cmp PieceRow
+-- ---- the parts of a package, each a finite map
+-- by number
+abbrev pub SystemsPart : Type 0
+SystemsPart = FinMap int_cmp System
 
+-- by table name
+abbrev pub ContentsPart : Type 0
+ContentsPart = FinMap text_cmp Contents
+
+-- the registry: the text of each table's kind
+abbrev pub Kinds : Type 0
+Kinds = FinMap text_cmp Text
+
+abbrev pub SetsPart : Type 0
+SetsPart = FinMap text_cmp MatrixSet
+
+abbrev pub MatricesPart : Type 0
+MatricesPart = FinMap level_cmp Grid
+
+-- how often each extension row stands
+abbrev pub ExtensionsPart : Type 0
+ExtensionsPart = FinMap extension_cmp ℕ
+
+-- the bytes of each tile
+abbrev pub TilesPart : Type 0
+TilesPart = FinMap tile_cmp (List ℕ)
+
+abbrev pub RowsPart : Type 0
+RowsPart = FinMap item_cmp AttributeRow
+
+abbrev pub MediaPart : Type 0
+MediaPart = FinMap item_cmp Medium
+
+-- by mapping name
+abbrev pub RelationsPart : Type 0
+RelationsPart = FinMap text_cmp Relation
+
+-- the mapping rows, a set
+abbrev pub PairingsPart : Type 0
+PairingsPart = FinMap pairing_cmp ⊤
+
+-- the state of each edition
+abbrev pub EditionsPart : Type 0
+EditionsPart = FinMap text_cmp Text
+
+abbrev pub PiecesPart : Type 0
+PiecesPart = FinMap piece_cmp PieceRow
+
+pub record Package : Type 0 where
+  pub systems : SystemsPart
+  pub contents : ContentsPart
+  pub kinds : Kinds
+  pub sets : SetsPart
+  pub matrices : MatricesPart
+  pub extensions : ExtensionsPart
+  pub tiles : TilesPart
+  pub rows : RowsPart
+  pub media : MediaPart
+  pub relations : RelationsPart
+  pub pairings : PairingsPart
+  pub editions : EditionsPart
+  pub pieces : PiecesPart
+
+-- ---- kinds of tables
 abbrev pub kind_text : Kind → Text
 kind_text Two = codes "two"
 kind_text Other = codes "other"
 kind_text Attributes = codes "attributes"
 kind_text Media = codes "media"
-
--- the registry of the tables' kinds
-abbrev pub Kinds : Type 0
-Kinds = FinMap text_cmp Text
 
 -- the registry has the table under this kind
 abbrev pub HasKind : Kinds → Text → Kind → Type 0
@@ -119,7 +166,7 @@ IsPyramid kinds table = HasKind kinds table Two ⊎ HasKind kinds table Other
 abbrev pub is_pyramid : Kinds → Text → Bool
 is_pyramid kinds table = has_kind kinds table Two || has_kind kinds table Other
 
--- the extension rows that a package has
+-- ---- the extension rows of a package: of related tables, of each mapping, and of each pyramid with other zoom intervals
 abbrev pub general_extension : Extension
 general_extension = record { table = Some (codes "gpkgext_relations"); column = None; name = codes "gpkg_related_tables"; definition = codes "OGC 18-000"; scope = codes "read-write" }
 
@@ -129,6 +176,7 @@ mapping_extension mapping = record { table = Some mapping; column = None; name =
 abbrev pub zoom_extension : Text → Extension
 zoom_extension table = record { table = Some table; column = Some (codes "tile_data"); name = codes "gpkg_zoom_other"; definition = codes "OGC 12-128r17"; scope = codes "read-write" }
 
+-- ---- states of editions
 abbrev pub open_state : Text
 open_state = codes "open"
 

@@ -1,5 +1,5 @@
--- A piece, and the row that holds it.
-use Rattle.std.specs.Prelude.{◌≡◌, ℕ, ℤ, pos, Bool, ◌&&◌, if◌then◌else◌, unsigned_abs, List, [], codes}
+-- A piece, the row that holds it, and the command that it spells.
+use Rattle.std.specs.Prelude.{ℕ, ℤ, pos, Bool, ◌&&◌, if◌then◌else◌, unsigned_abs, List, [], Option, Some, None, codes}
 use Rattle.mm_base.specs.Keys.{Text, same_text, same_number}
 use Rattle.mm_base.specs.Package.{PieceRow}
 use Rattle.mm_base.specs.declared.commands.Command.{Command}
@@ -7,6 +7,7 @@ use Rattle.mm_base.specs.declared.commands.Command.TheVariants as commands
 use Rattle.mm_base.specs.declared.commands.Piece.{Piece}
 use Rattle.mm_base.specs.declared.commands.Piece.TheVariants.{Tile, TileDrop, Row, RowDrop, Media, MediaDrop, Map, MapDrop}
 
+-- a row of this kind; the columns that no kind uses are 0
 abbrev pub piece_of : Text → Text → ℤ → ℤ → ℤ → Text → Text → List ℕ → PieceRow
 piece_of kind name k1 k2 k3 t1 t2 bytes = record { kind = kind; name = name; k1 = k1; k2 = k2; k3 = k3; k4 = pos 0; k5 = pos 0; k6 = pos 0; k7 = pos 0; t1 = t1; t2 = t2; bytes = bytes }
 
@@ -26,17 +27,18 @@ same_piece a b =
     same_text a.kind b.kind && same_text a.name b.name && same_number a.k1 b.k1 && same_number a.k2 b.k2 && same_number a.k3 b.k3 && same_number a.k4 b.k4
     && same_number a.k5 b.k5 && same_number a.k6 b.k6 && same_number a.k7 b.k7 && same_text a.t1 b.t1 && same_text a.t2 b.t2 && same_text a.bytes b.bytes
 
--- The piece that a row spells. A row of no known kind is read as the last.
-abbrev pub row_piece : PieceRow → Piece
+-- the piece that a row spells, if its kind is known
+abbrev pub row_piece : PieceRow → Option Piece
 row_piece r =
-    if same_text r.kind (codes "tile") then Tile r.name (unsigned_abs r.k1) (unsigned_abs r.k2) (unsigned_abs r.k3) r.bytes
-    else (if same_text r.kind (codes "tile-drop") then TileDrop r.name (unsigned_abs r.k1) (unsigned_abs r.k2) (unsigned_abs r.k3)
-    else (if same_text r.kind (codes "row") then Row r.name r.k1 r.t1 r.t2 r.k2
-    else (if same_text r.kind (codes "row-drop") then RowDrop r.name r.k1
-    else (if same_text r.kind (codes "media") then Media r.name r.k1 r.t1 r.bytes
-    else (if same_text r.kind (codes "media-drop") then MediaDrop r.name r.k1
-    else (if same_text r.kind (codes "map") then Map r.name r.k1 r.k2
-    else MapDrop r.name r.k1 r.k2))))))
+    if same_text r.kind (codes "tile") then Some (Tile r.name (unsigned_abs r.k1) (unsigned_abs r.k2) (unsigned_abs r.k3) r.bytes)
+    else (if same_text r.kind (codes "tile-drop") then Some (TileDrop r.name (unsigned_abs r.k1) (unsigned_abs r.k2) (unsigned_abs r.k3))
+    else (if same_text r.kind (codes "row") then Some (Row r.name r.k1 r.t1 r.t2 r.k2)
+    else (if same_text r.kind (codes "row-drop") then Some (RowDrop r.name r.k1)
+    else (if same_text r.kind (codes "media") then Some (Media r.name r.k1 r.t1 r.bytes)
+    else (if same_text r.kind (codes "media-drop") then Some (MediaDrop r.name r.k1)
+    else (if same_text r.kind (codes "map") then Some (Map r.name r.k1 r.k2)
+    else (if same_text r.kind (codes "map-drop") then Some (MapDrop r.name r.k1 r.k2)
+    else None)))))))
 
 -- the command that a piece spells
 abbrev pub piece_command : Piece → Command

@@ -1,5 +1,5 @@
 -- Runs of commands.
-use Rattle.std.specs.Prelude.{◌≡◌, ℕ, ◌+◌, ◌≤◌, List, [], ◌∷◌, length, take, Option, Some, None, cond, is_none}
+use Rattle.std.specs.Prelude.{◌≡◌, ℕ, ◌+◌, ◌≤◌, List, [], ◌∷◌, length, take, Option, Some, None}
 use Rattle.mm_base.specs.Package.{Package}
 use Rattle.mm_base.specs.Step.{refusal, step}
 use Rattle.mm_base.specs.declared.answers.Refusal.{Refusal}

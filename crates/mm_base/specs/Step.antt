@@ -1,5 +1,5 @@
 -- One command: whether it is refused, and the package after it.
-use Rattle.std.specs.Prelude.{◌≡◌, ℕ, Bool, true, false, ◌&&◌, List, [], ◌∷◌, ◌++◌, Option, Some, None, Result, Ok, Err, is_err, if◌then◌else◌, ◌==◌}
+use Rattle.std.specs.Prelude.{ℕ, Bool, false, ◌&&◌, [], ◌∷◌, ◌++◌, Option, Some, None, Result, Ok, Err, is_err, if◌then◌else◌, ◌==◌}
 use Rattle.mm_base.specs.Keys.{Text}
 use Rattle.mm_base.specs.Package.{Package}
 use Rattle.mm_base.specs.Conditions.{Reasons, least, own_reasons, is_open}
@@ -10,7 +10,7 @@ use Rattle.mm_base.specs.declared.answers.Refusal.{Refusal}
 use Rattle.mm_base.specs.declared.commands.Command.{Command}
 use Rattle.mm_base.specs.declared.commands.Command.TheVariants as commands
 
--- What publishing would give. No reason looks at last_change, so any stamp serves to tell a refusal.
+-- what publishing would give
 abbrev pub publishing : Package → Command → Text → Result Package PieceRefusal
 publishing p (commands.Publish edition) stamp = edition_trial p edition stamp
 publishing p (commands.Rehearse edition) stamp = edition_trial p edition stamp
@@ -21,8 +21,9 @@ is_publishing p (commands.Publish edition) = is_open p edition
 is_publishing p (commands.Rehearse edition) = is_open p edition
 is_publishing p _ = false
 
-abbrev pub reasons : Package → Command → Reasons
-reasons p c = own_reasons p c ++ (53, is_publishing p c && is_err (publishing p c [])) ∷ []
+-- every reason, where the pieces are tried at this stamp
+abbrev pub reasons_at : Package → Command → Text → Reasons
+reasons_at p c stamp = own_reasons p c ++ (53, is_publishing p c && is_err (publishing p c stamp)) ∷ []
 
 abbrev pub refused_piece : Result Package PieceRefusal → Option PieceRefusal
 refused_piece (Ok p) = None
@@ -33,8 +34,15 @@ abbrev pub refusal_of : Option ℕ → Option PieceRefusal → Option Refusal
 refusal_of None piece = None
 refusal_of (Some number) piece = Some (record { number = number; piece = if number == 53 then piece else None })
 
+abbrev pub refusal_at : Package → Command → Text → Option Refusal
+refusal_at p c stamp = refusal_of (least (reasons_at p c stamp)) (refused_piece (publishing p c stamp))
+
+-- No reason looks at last_change, so every stamp tells the same.
+abbrev pub reasons : Package → Command → Reasons
+reasons p c = reasons_at p c []
+
 abbrev pub refusal : Package → Command → Option Refusal
-refusal p c = refusal_of (least (reasons p c)) (refused_piece (publishing p c []))
+refusal p c = refusal_at p c []
 
 abbrev pub closed_by : Text → Result Package PieceRefusal → Package → Package
 closed_by edition (Ok q) p = closed edition q

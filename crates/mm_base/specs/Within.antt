@@ -1,7 +1,6 @@
 -- What the fields of a command are limited to.
-use Rattle.std.specs.Prelude.{◌≡◌, ◌≢◌, ℕ, ◌+◌, ◌-◌, ◌≤◌, ◌^◌, ℤ, pos, negsuc, Bool, true, false, not, ◌&&◌, ◌||◌, IsTrue, nat_le, List, [], ◌∷◌, ◌++◌, length, codes, ◌⊎◌}
-use Rattle.std.specs.List.{list_any}
-use Rattle.mm_base.specs.Bounds.{Profile, IsFrom, IsCoordinate, IsPixelSize, IsZoom, IsMatrixSide, IsTileSide, IsTilePlace, IsId, IsAmount, IsLong, IsTileBytes, IsMediaBytes, IsName, IsText, IsIdentifier, IsSystemName, IsDefinition, IsRemark, IsContentType}
+use Rattle.std.specs.Prelude.{pos}
+use Rattle.mm_base.specs.Bounds.{Profile, IsCoordinate, IsPixelSize, IsZoom, IsMatrixSide, IsTileSide, IsTilePlace, IsId, IsSystemNumber, IsAmount, IsTileBytes, IsMediaBytes, IsName, IsIdentifier, IsSystemName, IsDefinition, IsRemark, IsContentType}
 use Rattle.mm_base.specs.declared.commands.Matrix.{Matrix}
 use Rattle.mm_base.specs.declared.commands.Piece.{Piece}
 use Rattle.mm_base.specs.declared.commands.Piece.TheVariants.{Tile, TileDrop, Row, RowDrop, Media, MediaDrop, Map, MapDrop}
@@ -30,7 +29,7 @@ abbrev pub IsWithin : Profile → Command → Type 0
 IsWithin profile (commands.Srs id name organization organization_id definition description) =
     IsId id × IsSystemName name × IsSystemName organization × IsId organization_id × IsDefinition definition × IsRemark description
 IsWithin profile (commands.Pyramid table identifier srs min_x min_y max_x max_y step) =
-    IsName table × IsIdentifier identifier × IsFrom (negsuc 0) (pos (2 ^ 53)) srs × IsCoordinate profile min_x × IsCoordinate profile min_y × IsCoordinate profile max_x × IsCoordinate profile max_y
+    IsName table × IsIdentifier identifier × IsSystemNumber srs × IsCoordinate profile min_x × IsCoordinate profile min_y × IsCoordinate profile max_x × IsCoordinate profile max_y
 IsWithin profile (commands.Matrix table zoom matrix) = IsName table × IsZoom (pos zoom) × IsMatrixWithin profile matrix
 IsWithin profile (commands.Table table kind identifier) = IsName table × IsIdentifier identifier
 IsWithin profile (commands.Drop table) = IsName table

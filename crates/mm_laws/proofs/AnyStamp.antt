@@ -1,18 +1,17 @@
 -- Whether publishing is refused does not depend on the stamp: no reason looks at last_change.
-use Rattle.std.proofs.Common.{◌≡◌, ℕ, ℤ, Bool, true, false, List, [], ◌∷◌, Option, Some, None, Result, Ok, Err, refl, sym, ap, subst, ◌∙◌, ◌⊎◌, inl, inr, is_some, unsigned_abs}
-use Rattle.std.specs.FinMap.{FinMap, get, contains_key, insert, remove}
-use Rattle.mm_base.specs.Keys.{Text, text_cmp, PieceKey}
-use Rattle.mm_base.specs.Package.{Package, Contents, PieceRow}
+use Rattle.std.proofs.Common.{◌≡◌, ℕ, List, [], ◌∷◌, Option, Some, None, Result, refl, sym, ap, ◌∙◌, inl, inr, is_some, unsigned_abs}
+use Rattle.std.specs.FinMap.{get, contains_key, insert}
+use Rattle.mm_base.specs.Keys.{Text, PieceKey}
+use Rattle.mm_base.specs.Package.{Package, Contents, ContentsPart, PieceRow}
 use Rattle.mm_base.specs.Pieces.{row_piece}
 use Rattle.mm_base.specs.Conditions.{least, piece_reasons, pieces_of}
 use Rattle.mm_base.specs.Effects.{changed_at, touched_row, touch, piece_effect}
-use Rattle.mm_base.specs.Editions.{PieceRefusal, piece_trial, after_trial, trial, edition_trial}
+use Rattle.mm_base.specs.Editions.{PieceRefusal, decided, piece_trial, after_trial, trial, edition_trial}
 use Rattle.mm_base.specs.Step.{refused_piece}
 use Rattle.mm_base.specs.declared.commands.Piece.{Piece}
 use Rattle.mm_base.specs.declared.commands.Piece.TheVariants as pieces
 use Rattle.mm_base.proofs.Parts.{at_put, beside_put, same_key}
 use Rattle.mm_base.proofs.KeyLaws.{texts}
-use Rattle.mm_laws.proofs.Touch.{ContentsPart}
 
 abbrev with_contents : Package → ContentsPart → Package
 with_contents p c = record p { contents = c }
@@ -74,22 +73,24 @@ reasons_alike (pieces.MediaDrop table id) q c same = let e = same table in cc
 reasons_alike (pieces.Map mapping base_id related_id) q c same = refl
 reasons_alike (pieces.MapDrop mapping base_id related_id) q c same = refl
 
-by_answer : (p q : Package) (number : ℕ) (x : Piece) (s r : Text) (on : Package → Result Package PieceRefusal) (to : Package → Result Package PieceRefusal)
+by_answer : (p q : Package) (number : ℕ) (x : Piece) (s r : Text) (on to : Package → Result Package PieceRefusal)
     → refused_piece (on (piece_effect p x s)) ≡ refused_piece (to (piece_effect q x r))
-    → (v : Option ℕ) → refused_piece (after_trial (piece_trial p number x s v) on) ≡ refused_piece (after_trial (piece_trial q number x r v) to)
+    → (v : Option ℕ) → refused_piece (after_trial (decided p number x s v) on) ≡ refused_piece (after_trial (decided q number x r v) to)
 by_answer p q number x s r on to rest None = rest
-by_answer p q number x s r on to rest (Some refusal) = refl
+by_answer p q number x s r on to rest (Some reason) = refl
+
+by_piece : (q : Package) (c : ContentsPart) (number : ℕ) (s r : Text) (on to : Package → Result Package PieceRefusal) → SameKeys c q.contents
+    → ((y : Package) (d : ContentsPart) → SameKeys d y.contents → refused_piece (on (with_contents y d)) ≡ refused_piece (to y))
+    → (v : Option Piece) → refused_piece (after_trial (piece_trial (with_contents q c) number s v) on) ≡ refused_piece (after_trial (piece_trial q number r v) to)
+by_piece q c number s r on to same rest None = rest q c same
+by_piece q c number s r on to same rest (Some x) =
+    let a = effect_alike x q c s r same in
+    ap (λ v. refused_piece (after_trial (decided (with_contents q c) number x s v) on)) (ap least (reasons_alike x q c same))
+    ∙ by_answer (with_contents q c) q number x s r on to (ap (λ y. refused_piece (on y)) a.is ∙ rest (piece_effect q x r) a.contents a.keys) (least (piece_reasons q x))
 
 trial_alike : (es : List (PieceKey × PieceRow)) (q : Package) (c : ContentsPart) (s r : Text) → SameKeys c q.contents → refused_piece (trial es (with_contents q c) s) ≡ refused_piece (trial es q r)
 trial_alike [] q c s r same = refl
-trial_alike (e ∷ es) q c s r same =
-    let x = row_piece e.1 in
-    let number = unsigned_abs e.0.number in
-    let a = effect_alike x q c s r same in
-    ap (λ v. refused_piece (after_trial (piece_trial (with_contents q c) number x s v) (λ y. trial es y s))) (ap least (reasons_alike x q c same))
-    ∙ by_answer (with_contents q c) q number x s r (λ y. trial es y s) (λ y. trial es y r)
-    (ap (λ y. refused_piece (trial es y s)) a.is ∙ trial_alike es (piece_effect q x r) a.contents s r a.keys)
-    (least (piece_reasons q x))
+trial_alike (e ∷ es) q c s r same = by_piece q c (unsigned_abs e.0.number) s r (λ y. trial es y s) (λ y. trial es y r) same (λ y d alike. trial_alike es y d s r alike) (row_piece e.1)
 
 -- publishing is refused at any stamp as at any other, at the same piece and for the same reason
 pub any_stamp : (p : Package) (edition s r : Text) → refused_piece (edition_trial p edition s) ≡ refused_piece (edition_trial p edition r)

@@ -5,16 +5,14 @@ use Rattle.std.specs.Bool.{⊤}
 use Rattle.std.specs.FinMap.{get, contains_key, insert, remove}
 use Rattle.mm_base.specs.Keys.{Text, same_text, same_number, level, tile, Item, item, Pairing, pairing}
 use Rattle.mm_base.specs.Parts.{Has, at_value}
-use Rattle.mm_base.specs.Package.{Package, Grid, Kinds, HasKind, has_kind, is_pyramid, AttributeRow, Medium, Relation}
-use Rattle.mm_base.specs.Bounds.{IsId, IsTilePlace, IsTileBytes}
-use Rattle.mm_base.specs.Rules.{IsInside, Rows, MediaParts, HasItem, Joins, IsSuited, RowWithin, MediumWithin}
-use Rattle.mm_base.specs.Conditions.{own_reasons, outside, is_mapped, joins_item, lacks_row, lacks_medium}
+use Rattle.mm_base.specs.Package.{Package, Grid, Kinds, HasKind, has_kind, is_pyramid, AttributeRow, Medium, Relation, RowsPart, MediaPart}
+use Rattle.mm_base.specs.Rules.{IsInside, HasItem, Joins, IsSuited, TileWithin, RowWithin, MediumWithin, PairingWithin}
+use Rattle.mm_base.specs.Conditions.{piece_reasons, outside, is_mapped, joins_item, lacks_row, lacks_medium}
 use Rattle.mm_base.specs.declared.commands.Kind.TheVariants as kinds
 use Rattle.mm_base.specs.declared.commands.Piece.TheVariants as pieces
-use Rattle.mm_base.specs.declared.commands.Command.TheVariants as commands
 use Rattle.mm_base.proofs.Parts.{each_put, each_remove, stands_after_put, beside_remove, no_entry, either_false, same_itself}
 use Rattle.mm_base.proofs.KeyLaws.{numbers, texts, tile_keys, items, pairing_keys}
-use Rattle.mm_laws.specs.Laws.{Keeps}
+use Rattle.mm_laws.specs.Laws.{PieceKeeps}
 use Rattle.mm_laws.proofs.Reasons.{none_holds, not_false, is_suited, stands_where}
 use Rattle.mm_laws.proofs.KindFacts.{has_kind_tells, has_kind_holds}
 use Rattle.mm_laws.proofs.Touch.{touch_keeps}
@@ -32,9 +30,9 @@ inside (Some g) column row e f =
     let p = either_false (int_le g.matrix_width (pos column)) (int_le g.matrix_height (pos row)) f in
     (from_zero column, not_at_most g.matrix_width (pos column) p.0, from_zero row, not_at_most g.matrix_height (pos row) p.1)
 
-pub tile_put : (table : Text) (zoom column row : ℕ) (bytes : List ℕ) → Keeps (commands.Edit (pieces.Tile table zoom column row bytes))
+pub tile_put : (table : Text) (zoom column row : ℕ) (bytes : List ℕ) → PieceKeeps (pieces.Tile table zoom column row bytes)
 tile_put table zoom column row bytes profile p moment stamp h within low is none =
-    let r = none_holds (own_reasons p (commands.Edit (pieces.Tile table zoom column row bytes))) none in
+    let r = none_holds (piece_reasons p (pieces.Tile table zoom column row bytes)) none in
     let pyramid : is_pyramid p.kinds table ≡ true = is_suited (contains_key p.contents table) (is_pyramid p.kinds table) r.0 r.1.0 in
     let stands : contains_key p.matrices (level table (pos zoom)) ≡ true = stands_where (is_pyramid p.kinds table) (contains_key p.matrices (level table (pos zoom))) r.1.1.0 pyramid in
     let key = tile table (pos zoom) (pos column) (pos row) in
@@ -59,15 +57,19 @@ tile_put table zoom column row bytes profile p moment stamp h within low is none
         h.q16.1,
         h.q16.2,
         h.q16.3,
-        each_put tile_keys p.tiles key bytes (λ k b. IsTilePlace k.column × IsTilePlace k.row × IsTileBytes b) h.q16.4 (within.2, within.3, within.4),
+        h.q16.4,
         h.q16.5,
-        h.q16.6,
+        each_put tile_keys p.tiles key bytes TileWithin h.q16.6 (record { table = within.0; zoom = within.1; column = within.2; row = within.3; bytes = within.4 }),
         h.q16.7,
         h.q16.8,
+        h.q16.9,
+        h.q16.10,
+        h.q16.11,
+        h.q16.12,
       );
     })
 
-pub tile_drop : (table : Text) (zoom column row : ℕ) → Keeps (commands.Edit (pieces.TileDrop table zoom column row))
+pub tile_drop : (table : Text) (zoom column row : ℕ) → PieceKeeps (pieces.TileDrop table zoom column row)
 tile_drop table zoom column row profile p moment stamp h within low is none =
     let key = tile table (pos zoom) (pos column) (pos row) in
     touch_keeps profile (record p { tiles = remove p.tiles key }) table stamp moment low is (record {
@@ -91,26 +93,30 @@ tile_drop table zoom column row profile p moment stamp h within low is none =
         h.q16.1,
         h.q16.2,
         h.q16.3,
-        each_remove tile_keys p.tiles key (λ k b. IsTilePlace k.column × IsTilePlace k.row × IsTileBytes b) h.q16.4,
+        h.q16.4,
         h.q16.5,
-        h.q16.6,
+        each_remove tile_keys p.tiles key TileWithin h.q16.6,
         h.q16.7,
         h.q16.8,
+        h.q16.9,
+        h.q16.10,
+        h.q16.11,
+        h.q16.12,
       );
     })
 
 -- ---- rows and media
 -- a relation that joins two items joins them still, where the ends still stand
-joins_still : (rows next_rows : Rows) (media next_media : MediaParts) (v : Option Relation) (k : Pairing)
+joins_still : (rows next_rows : RowsPart) (media next_media : MediaPart) (v : Option Relation) (k : Pairing)
     → ((r : Relation) → v ≡ Some r → HasItem rows media r.base k.base_id → HasItem next_rows next_media r.base k.base_id)
     → ((r : Relation) → v ≡ Some r → HasItem rows media r.related k.related_id → HasItem next_rows next_media r.related k.related_id)
     → Joins rows media v k → Joins next_rows next_media v k
 joins_still rows next_rows media next_media None k base related h = h
 joins_still rows next_rows media next_media (Some r) k base related h = (base r refl h.0, related r refl h.1)
 
-pub row_put : (table : Text) (id : ℤ) (title note : Text) (amount : ℤ) → Keeps (commands.Edit (pieces.Row table id title note amount))
+pub row_put : (table : Text) (id : ℤ) (title note : Text) (amount : ℤ) → PieceKeeps (pieces.Row table id title note amount)
 row_put table id title note amount profile p moment stamp h within low is none =
-    let r = none_holds (own_reasons p (commands.Edit (pieces.Row table id title note amount))) none in
+    let r = none_holds (piece_reasons p (pieces.Row table id title note amount)) none in
     let kind = has_kind_tells p.kinds table kinds.Attributes (is_suited (contains_key p.contents table) (has_kind p.kinds table kinds.Attributes) r.0 r.1.0) in
     let row : AttributeRow = record { title = title; note = note; amount = amount } in
     let more : (t : Text) (i : ℤ) → HasItem p.rows p.media t i → HasItem (insert p.rows (item table id) row) p.media t i =
@@ -137,16 +143,20 @@ row_put table id title note amount profile p moment stamp h within low is none =
         h.q16.2,
         h.q16.3,
         h.q16.4,
-        each_put items p.rows (item table id) row (λ k s. IsId k.id × RowWithin s) h.q16.5 (within.1, record { title = within.2; note = within.3; amount = within.4 }),
+        h.q16.5,
         h.q16.6,
-        h.q16.7,
+        each_put items p.rows (item table id) row RowWithin h.q16.7 (record { table = within.0; id = within.1; title = within.2; note = within.3; amount = within.4 }),
         h.q16.8,
+        h.q16.9,
+        h.q16.10,
+        h.q16.11,
+        h.q16.12,
       );
     })
 
-pub media_put : (table : Text) (id : ℤ) (content_type : Text) (bytes : List ℕ) → Keeps (commands.Edit (pieces.Media table id content_type bytes))
+pub media_put : (table : Text) (id : ℤ) (content_type : Text) (bytes : List ℕ) → PieceKeeps (pieces.Media table id content_type bytes)
 media_put table id content_type bytes profile p moment stamp h within low is none =
-    let r = none_holds (own_reasons p (commands.Edit (pieces.Media table id content_type bytes))) none in
+    let r = none_holds (piece_reasons p (pieces.Media table id content_type bytes)) none in
     let kind = has_kind_tells p.kinds table kinds.Media (is_suited (contains_key p.contents table) (has_kind p.kinds table kinds.Media) r.0 r.1.0) in
     let medium : Medium = record { bytes = bytes; content_type = content_type } in
     let more : (t : Text) (i : ℤ) → HasItem p.rows p.media t i → HasItem p.rows (insert p.media (item table id) medium) t i =
@@ -174,9 +184,13 @@ media_put table id content_type bytes profile p moment stamp h within low is non
         h.q16.3,
         h.q16.4,
         h.q16.5,
-        each_put items p.media (item table id) medium (λ k s. IsId k.id × MediumWithin s) h.q16.6 (within.1, record { content_type = within.2; bytes = within.3 }),
+        h.q16.6,
         h.q16.7,
-        h.q16.8,
+        each_put items p.media (item table id) medium MediumWithin h.q16.8 (record { table = within.0; id = within.1; content_type = within.2; bytes = within.3 }),
+        h.q16.9,
+        h.q16.10,
+        h.q16.11,
+        h.q16.12,
       );
     })
 
@@ -199,9 +213,9 @@ unmapped p table id none k u e r f =
     in
     (one r.base k.base_id parts.0, one r.related k.related_id parts.1)
 
-pub row_drop : (table : Text) (id : ℤ) → Keeps (commands.Edit (pieces.RowDrop table id))
+pub row_drop : (table : Text) (id : ℤ) → PieceKeeps (pieces.RowDrop table id)
 row_drop table id profile p moment stamp h within low is none =
-    let r = none_holds (own_reasons p (commands.Edit (pieces.RowDrop table id))) none in
+    let r = none_holds (piece_reasons p (pieces.RowDrop table id)) none in
     let away = unmapped p table id r.1.1.1.0 in
     let still : (t : Text) (i : ℤ) → item t i ≢ item table id → HasItem p.rows p.media t i → HasItem (remove p.rows (item table id)) p.media t i =
     λ t i n e. elim e as (λ _. HasItem (remove p.rows (item table id)) p.media t i) [ inl a ↦ inl (ap is_some (beside_remove items p.rows (item table id) (item t i) n) ∙ a) | inr b ↦ inr b ] in
@@ -222,12 +236,26 @@ row_drop table id profile p moment stamp h within low is none =
           (λ s f a. still s.base k.base_id (away k u e s f).0 a) (λ s f a. still s.related k.related_id (away k u e s f).1 a) (h.q13 k u e);
       q14 = h.q14;
       q15 = h.q15;
-      q16 = (h.q16.0, h.q16.1, h.q16.2, h.q16.3, h.q16.4, each_remove items p.rows (item table id) (λ k s. IsId k.id × RowWithin s) h.q16.5, h.q16.6, h.q16.7, h.q16.8);
+      q16 = (
+        h.q16.0,
+        h.q16.1,
+        h.q16.2,
+        h.q16.3,
+        h.q16.4,
+        h.q16.5,
+        h.q16.6,
+        each_remove items p.rows (item table id) RowWithin h.q16.7,
+        h.q16.8,
+        h.q16.9,
+        h.q16.10,
+        h.q16.11,
+        h.q16.12,
+      );
     })
 
-pub media_drop : (table : Text) (id : ℤ) → Keeps (commands.Edit (pieces.MediaDrop table id))
+pub media_drop : (table : Text) (id : ℤ) → PieceKeeps (pieces.MediaDrop table id)
 media_drop table id profile p moment stamp h within low is none =
-    let r = none_holds (own_reasons p (commands.Edit (pieces.MediaDrop table id))) none in
+    let r = none_holds (piece_reasons p (pieces.MediaDrop table id)) none in
     let away = unmapped p table id r.1.1.1.0 in
     let still : (t : Text) (i : ℤ) → item t i ≢ item table id → HasItem p.rows p.media t i → HasItem p.rows (remove p.media (item table id)) t i =
     λ t i n e. elim e as (λ _. HasItem p.rows (remove p.media (item table id)) t i) [ inl a ↦ inl a | inr b ↦ inr (ap is_some (beside_remove items p.media (item table id) (item t i) n) ∙ b) ] in
@@ -248,7 +276,21 @@ media_drop table id profile p moment stamp h within low is none =
           (λ s f a. still s.base k.base_id (away k u e s f).0 a) (λ s f a. still s.related k.related_id (away k u e s f).1 a) (h.q13 k u e);
       q14 = h.q14;
       q15 = h.q15;
-      q16 = (h.q16.0, h.q16.1, h.q16.2, h.q16.3, h.q16.4, h.q16.5, each_remove items p.media (item table id) (λ k s. IsId k.id × MediumWithin s) h.q16.6, h.q16.7, h.q16.8);
+      q16 = (
+        h.q16.0,
+        h.q16.1,
+        h.q16.2,
+        h.q16.3,
+        h.q16.4,
+        h.q16.5,
+        h.q16.6,
+        h.q16.7,
+        each_remove items p.media (item table id) MediumWithin h.q16.8,
+        h.q16.9,
+        h.q16.10,
+        h.q16.11,
+        h.q16.12,
+      );
     })
 
 -- ---- mapping rows
@@ -271,9 +313,9 @@ joins_new p (Some r) k suited e f g =
     let media = either_false (lacks_medium p r.base k.base_id) (lacks_medium p r.related k.related_id) g in
     (an_end p r.base k.base_id s.base rows.0 media.0, an_end p r.related k.related_id (related_kind p.kinds r s) rows.1 media.1)
 
-pub map_put : (mapping : Text) (base_id related_id : ℤ) → Keeps (commands.Edit (pieces.Map mapping base_id related_id))
+pub map_put : (mapping : Text) (base_id related_id : ℤ) → PieceKeeps (pieces.Map mapping base_id related_id)
 map_put mapping base_id related_id profile p moment stamp h within low is none =
-    let r = none_holds (own_reasons p (commands.Edit (pieces.Map mapping base_id related_id))) none in
+    let r = none_holds (piece_reasons p (pieces.Map mapping base_id related_id)) none in
     let key = pairing mapping base_id related_id in
     let stands : contains_key p.relations mapping ≡ true = not_false (contains_key p.relations mapping) r.1.1.0 in
     record {
@@ -301,12 +343,16 @@ map_put mapping base_id related_id profile p moment stamp h within low is none =
         h.q16.4,
         h.q16.5,
         h.q16.6,
-        each_put pairing_keys p.pairings key tt (λ k _. IsId k.base_id × IsId k.related_id) h.q16.7 (within.1, within.2),
+        h.q16.7,
         h.q16.8,
+        h.q16.9,
+        each_put pairing_keys p.pairings key tt PairingWithin h.q16.10 (record { mapping = within.0; base_id = within.1; related_id = within.2 }),
+        h.q16.11,
+        h.q16.12,
       );
     }
 
-pub map_drop : (mapping : Text) (base_id related_id : ℤ) → Keeps (commands.Edit (pieces.MapDrop mapping base_id related_id))
+pub map_drop : (mapping : Text) (base_id related_id : ℤ) → PieceKeeps (pieces.MapDrop mapping base_id related_id)
 map_drop mapping base_id related_id profile p moment stamp h within low is none =
     let key = pairing mapping base_id related_id in
     record {
@@ -325,5 +371,19 @@ map_drop mapping base_id related_id profile p moment stamp h within low is none 
       q13 = each_remove pairing_keys p.pairings key (λ k _. Joins p.rows p.media (get p.relations k.mapping) k) h.q13;
       q14 = h.q14;
       q15 = h.q15;
-      q16 = (h.q16.0, h.q16.1, h.q16.2, h.q16.3, h.q16.4, h.q16.5, h.q16.6, each_remove pairing_keys p.pairings key (λ k _. IsId k.base_id × IsId k.related_id) h.q16.7, h.q16.8);
+      q16 = (
+        h.q16.0,
+        h.q16.1,
+        h.q16.2,
+        h.q16.3,
+        h.q16.4,
+        h.q16.5,
+        h.q16.6,
+        h.q16.7,
+        h.q16.8,
+        h.q16.9,
+        each_remove pairing_keys p.pairings key PairingWithin h.q16.10,
+        h.q16.11,
+        h.q16.12,
+      );
     }

@@ -1,11 +1,11 @@
 -- A table that is dropped, and a relation or edition that is, keep the rules.
-use Rattle.std.proofs.Common.{◌≡◌, ◌≢◌, ℤ, pos, ◌+ℤ◌, true, false, not, ◌||◌, [], Option, Some, None, IfSome, codes, refl, sym, ap, subst, ◌∙◌, ◌⊎◌, inl, inr, is_some}
+use Rattle.std.proofs.Common.{◌≡◌, ◌≢◌, ℤ, pos, ◌+ℤ◌, true, false, not, ◌||◌, [], Option, Some, None, codes, refl, sym, ap, subst, ◌∙◌, ◌⊎◌, inl, inr, is_some}
 use Rattle.std.specs.FinMap.{get, remove, retain_keys}
 use Rattle.mm_base.specs.Keys.{Text, same_text, level, item, Pairing, Extension}
 use Rattle.mm_base.specs.Parts.{Has, Stands}
 use Rattle.mm_base.specs.Package.{Package, kind_text, HasKind, IsPyramid, Relation, general_extension, mapping_extension, zoom_extension}
-use Rattle.mm_base.specs.Bounds.{Profile, IsZoom, IsTilePlace, IsTileBytes, IsId, IsName}
-use Rattle.mm_base.specs.Rules.{Meets, IsPlane, IsOrdered, Suits, FitsIn, IsInside, IsSuited, HasItem, Joins, IsWanted, ContentsWithin, BoxWithin, GridWithin, RowWithin, MediumWithin}
+use Rattle.mm_base.specs.Bounds.{Profile, IsName}
+use Rattle.mm_base.specs.Rules.{Meets, MayName, IsOrdered, Suits, FitsIn, IsInside, IsSuited, HasItem, Joins, IsWanted, ContentsWithin, KindWithin, SetWithin, MatrixWithin, ExtensionWithin, TileWithin, RowWithin, MediumWithin}
 use Rattle.mm_base.specs.Conditions.{own_reasons, is_used}
 use Rattle.mm_base.specs.Effects.{is_other, without_table}
 use Rattle.mm_base.specs.declared.commands.Kind.{Kind}
@@ -16,6 +16,7 @@ use Rattle.mm_base.proofs.KeyLaws.{levels, texts, tile_keys, items, extension_ke
 use Rattle.mm_laws.specs.Laws.{Keeps}
 use Rattle.mm_laws.proofs.Reasons.{none_holds}
 use Rattle.mm_laws.proofs.KindFacts.{differ}
+use Rattle.mm_laws.proofs.Systems.{if_some_more}
 
 -- a name that the test calls another is another
 other_tells : (table name : Text) → is_other table name ≡ true → name ≢ table
@@ -42,6 +43,12 @@ module _ (p : Package) (table : Text) (unused : is_used p table ≡ false) where
 
   pyramid_still : (t : Text) → t ≢ table → IsPyramid p.kinds t → IsPyramid (remove p.kinds table) t
   pyramid_still t n e = elim e as (λ _. IsPyramid (remove p.kinds table) t) [ inl a ↦ inl (kind_still t kinds.Two n a) | inr b ↦ inr (kind_still t kinds.Other n b) ]
+
+  may_still : (t : Text) (s : ℤ) → MayName p.systems p.kinds t s → MayName p.systems (remove p.kinds table) t s
+  may_still t s m = (
+    m.0,
+    λ new. m.1 (elim new as (λ _. IsPyramid p.kinds t) [ inl a ↦ inl (kind_was t kinds.Two a).1 | inr b ↦ inr (kind_was t kinds.Other b).1 ]),
+  )
 
   stands_still : (t : Text) → t ≢ table → Stands p.contents t → Stands (remove p.contents table) t
   stands_still t n e = ap is_some (beside_remove texts p.contents table t n) ∙ e
@@ -93,8 +100,8 @@ module _ (p : Package) (table : Text) (unused : is_used p table ≡ false) where
   keeps_without profile h = record {
     q1 = h.q1;
     q2 = record {
-      of_contents = each_remove texts p.contents table (λ _ c. IfSome c.system (λ s. Stands p.systems s)) h.q2.of_contents;
-      of_sets = each_remove texts p.sets table (λ _ s. Stands p.systems s.system × IsPlane s.system) h.q2.of_sets;
+      of_contents = λ t c e. if_some_more c.system (MayName p.systems p.kinds t) (MayName p.systems (remove p.kinds table) t) (may_still t) (h.q2.of_contents t c (after_remove texts p.contents table t c e).1);
+      of_sets = λ t s e. may_still t s.system (h.q2.of_sets t s (after_remove texts p.sets table t s e).1);
     };
     q3 = λ t c e u d f same. h.q3 t c (after_remove texts p.contents table t c e).1 u d (after_remove texts p.contents table u d f).1 same;
     q4 = record {
@@ -134,14 +141,18 @@ module _ (p : Package) (table : Text) (unused : is_used p table ≡ false) where
     q15 = h.q15;
     q16 = (
       h.q16.0,
-      each_remove texts p.contents table (λ _ c. ContentsWithin profile c) h.q16.1,
-      each_remove texts p.sets table (λ _ s. BoxWithin profile s.box) h.q16.2,
-      each_retain levels p.matrices (λ k. is_other table k.table) (λ k g. IsZoom k.zoom × GridWithin profile g) h.q16.3,
-      each_retain tile_keys p.tiles (λ k. is_other table k.table) (λ k b. IsTilePlace k.column × IsTilePlace k.row × IsTileBytes b) h.q16.4,
-      each_retain items p.rows (λ k. is_other table k.table) (λ k s. IsId k.id × RowWithin s) h.q16.5,
-      each_retain items p.media (λ k. is_other table k.table) (λ k s. IsId k.id × MediumWithin s) h.q16.6,
-      h.q16.7,
-      h.q16.8,
+      each_remove texts p.contents table (ContentsWithin profile) h.q16.1,
+      each_remove texts p.kinds table KindWithin h.q16.2,
+      each_remove texts p.sets table (SetWithin profile) h.q16.3,
+      each_retain levels p.matrices (λ k. is_other table k.table) (MatrixWithin profile) h.q16.4,
+      each_remove extension_keys p.extensions (zoom_extension table) ExtensionWithin h.q16.5,
+      each_retain tile_keys p.tiles (λ k. is_other table k.table) TileWithin h.q16.6,
+      each_retain items p.rows (λ k. is_other table k.table) RowWithin h.q16.7,
+      each_retain items p.media (λ k. is_other table k.table) MediumWithin h.q16.8,
+      h.q16.9,
+      h.q16.10,
+      h.q16.11,
+      h.q16.12,
     );
   }
 

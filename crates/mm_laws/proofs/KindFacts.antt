@@ -3,6 +3,7 @@ use Rattle.std.proofs.Common.{◌≡◌, ◌≢◌, Bool, true, false, ◌&&◌,
 use Rattle.std.specs.declared.cmp.Ordering.{Ordering}
 use Rattle.std.specs.Ordering.{eq_by_cmp}
 use Rattle.std.specs.FinMap.{FinMap, get}
+use Rattle.mm_base.specs.Bounds.{IsClean}
 use Rattle.mm_base.specs.Keys.{Text, text_cmp, same_text}
 use Rattle.mm_base.specs.Parts.{Has, Stands, at_value}
 use Rattle.mm_base.specs.Package.{Contents, MatrixSet, Kinds, kind_text, HasKind, has_kind, IsPyramid, is_pyramid}
@@ -11,6 +12,7 @@ use Rattle.mm_base.specs.declared.commands.Kind.{Kind}
 use Rattle.mm_base.specs.declared.commands.Kind.TheVariants.{Two, Other, Attributes, Media}
 use Rattle.mm_base.proofs.Parts.{IsKeyOrder, same_key, same_itself, same_some, some_of}
 use Rattle.mm_base.proofs.KeyLaws.{texts}
+use Rattle.mm_base.proofs.CleanTexts.{ascii_is_clean}
 
 -- two keys that the test calls the same are
 pub are_same : {K : Type 0} {R : K → K → Ordering} → IsKeyOrder R → (a b : K) → eq_by_cmp R a b ≡ true → a ≡ b
@@ -40,6 +42,12 @@ is_pyramid_tells kinds table e = elim (either_true (has_kind kinds table Two) (h
   | inl a ↦ inl (has_kind_tells kinds table Two a)
   | inr b ↦ inr (has_kind_tells kinds table Other b)
 ]
+
+pub kind_is_clean : (kind : Kind) → IsClean (kind_text kind)
+kind_is_clean Two = ascii_is_clean (kind_text Two) refl refl
+kind_is_clean Other = ascii_is_clean (kind_text Other) refl refl
+kind_is_clean Attributes = ascii_is_clean (kind_text Attributes) refl refl
+kind_is_clean Media = ascii_is_clean (kind_text Media) refl refl
 
 -- a table has one kind
 pub one_kind : (kinds : Kinds) (table : Text) (a b : Kind) → HasKind kinds table a → HasKind kinds table b → kind_text a ≡ kind_text b

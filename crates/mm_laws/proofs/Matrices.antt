@@ -4,8 +4,7 @@ use Rattle.std.specs.FinMap.{FinMap, get, contains_key, insert}
 use Rattle.mm_base.specs.Keys.{Text, Level, level, level_cmp}
 use Rattle.mm_base.specs.Parts.{Has, at_value}
 use Rattle.mm_base.specs.Package.{Grid, Box, MatrixSet, IsPyramid, is_pyramid, has_kind}
-use Rattle.mm_base.specs.Bounds.{IsZoom}
-use Rattle.mm_base.specs.Rules.{Fits, FitsIn, IsInside, GridWithin}
+use Rattle.mm_base.specs.Rules.{Fits, FitsIn, IsInside, MatrixWithin}
 use Rattle.mm_base.specs.Conditions.{own_reasons, grid, is_product, clashes}
 use Rattle.mm_base.specs.declared.commands.Kind.TheVariants.{Two}
 use Rattle.mm_base.specs.declared.commands.Matrix.{Matrix}
@@ -16,7 +15,7 @@ use Rattle.mm_laws.specs.Laws.{Keeps}
 use Rattle.mm_laws.proofs.Reasons.{none_holds, not_false, and_false}
 use Rattle.mm_laws.proofs.KindFacts.{are_same, both_true, is_pyramid_tells, pyramid_set}
 use Rattle.mm_laws.proofs.Touch.{touch_keeps}
-use Rattle.mm_laws.proofs.Zooms.{SuitsAll, suits_unless_clashes, still_finer, still_halved}
+use Rattle.mm_laws.proofs.PixelSizes.{SuitsAll, suits_unless_clashes, still_finer, still_halved}
 
 product_tells : (b : Box) (g : Grid) → is_product b g ≡ true → Fits b g
 product_tells b g e =
@@ -66,12 +65,24 @@ matrix table zoom m profile p moment stamp h within low is none =
         h.q16.0,
         h.q16.1,
         h.q16.2,
-        each_put levels p.matrices (level table (pos zoom)) (grid m) (λ k g. IsZoom k.zoom × GridWithin profile g) h.q16.3
-            (within.1, record { matrix_width = within.2.mw; matrix_height = within.2.mh; tile_width = within.2.tw; tile_height = within.2.th; pixel_x_size = within.2.px; pixel_y_size = within.2.py }),
-        h.q16.4,
+        h.q16.3,
+        each_put levels p.matrices (level table (pos zoom)) (grid m) (MatrixWithin profile) h.q16.4 (record {
+          table = within.0;
+          zoom = within.1;
+          matrix_width = within.2.mw;
+          matrix_height = within.2.mh;
+          tile_width = within.2.tw;
+          tile_height = within.2.th;
+          pixel_x_size = within.2.px;
+          pixel_y_size = within.2.py;
+        }),
         h.q16.5,
         h.q16.6,
         h.q16.7,
         h.q16.8,
+        h.q16.9,
+        h.q16.10,
+        h.q16.11,
+        h.q16.12,
       );
     })

@@ -12,7 +12,7 @@ use Rattle.mm_base.specs.declared.commands.Kind.TheVariants.{Two}
 use Rattle.mm_base.proofs.Parts.{at_put, kept_by_new, same_itself, same_some, true_or_false}
 use Rattle.mm_base.proofs.KeyLaws.{levels, numbers}
 use Rattle.mm_laws.proofs.KindFacts.{are_same, both_true, has_kind_tells}
-use Rattle.mm_laws.proofs.Zooms.{SuitsAll, below as is_lower, is_below, finer_above, still_finer, still_halved}
+use Rattle.mm_laws.proofs.PixelSizes.{SuitsAll, below as is_lower, is_below, finer_above, still_finer, still_halved}
 
 and_true : (a b : Bool) → a ≡ true → b ≡ true → (a && b) ≡ true
 and_true true b e f = f

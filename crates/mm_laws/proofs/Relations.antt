@@ -1,12 +1,12 @@
 -- Relations and editions that are put or removed keep the rules.
 use Rattle.std.proofs.Common.{◌≡◌, ◌≢◌, ℕ, ◌≤◌, ℤ, pos, ◌≤ℤ◌, Bool, true, false, not, ◌&&◌, ◌||◌, [], Option, Some, None, codes, refl, sym, ap, subst, ◌∙◌, ◌⊎◌, inl, inr, is_some, arith, zero-le}
 use Rattle.std.proofs.lemmas.Int.{ints}
-use Rattle.std.specs.FinMap.{FinMap, get, contains_key, insert, remove, retain_keys}
-use Rattle.mm_base.specs.Keys.{Text, text_cmp, same_text, Pairing, PieceKey, piece, Extension}
+use Rattle.std.specs.FinMap.{get, contains_key, insert, remove, retain_keys}
+use Rattle.mm_base.specs.Keys.{Text, same_text, Pairing, PieceKey, piece, Extension}
 use Rattle.mm_base.specs.Parts.{Each, Has, Stands}
-use Rattle.mm_base.specs.Package.{Package, Kinds, HasKind, has_kind, Relation, general_extension, mapping_extension, zoom_extension, open_state, published_state}
-use Rattle.mm_base.specs.Bounds.{IsId, IsName, MostPieces}
-use Rattle.mm_base.specs.Rules.{IsSuited, Joins, IsWanted, IsNumbered}
+use Rattle.mm_base.specs.Package.{Package, Kinds, RelationsPart, HasKind, has_kind, Relation, general_extension, mapping_extension, zoom_extension, open_state, published_state}
+use Rattle.mm_base.specs.Bounds.{IsName, IsClean, MostPieces}
+use Rattle.mm_base.specs.Rules.{IsSuited, Joins, IsWanted, IsNumbered, ExtensionWithin, RelationWithin, PairingWithin, EditionWithin, PieceWithin}
 use Rattle.mm_base.specs.Conditions.{own_reasons, is_plain, relation_text, related_kind}
 use Rattle.mm_base.specs.Effects.{is_other}
 use Rattle.mm_base.specs.declared.commands.Kind.TheVariants as kinds
@@ -14,14 +14,12 @@ use Rattle.mm_base.specs.declared.commands.RelationName.{RelationName}
 use Rattle.mm_base.specs.declared.commands.RelationName.TheVariants as names
 use Rattle.mm_base.specs.declared.commands.Command.TheVariants as commands
 use Rattle.mm_base.proofs.Parts.{each_put, each_remove, each_retain, stands_after_put, after_put, after_remove, after_retain, kept, kept_by_new, at_put, beside_remove, either_false, same_itself, apart, not_none, none_of, some_of}
+use Rattle.mm_base.proofs.CleanTexts.{ascii_is_clean, name_is_clean}
 use Rattle.mm_base.proofs.KeyLaws.{texts, pairing_keys, piece_keys, extension_keys}
 use Rattle.mm_laws.specs.Laws.{Keeps}
 use Rattle.mm_laws.proofs.Reasons.{none_holds, not_false, stands_where}
 use Rattle.mm_laws.proofs.KindFacts.{differ, both_true, either_true, has_kind_tells}
 use Rattle.mm_laws.proofs.Tables.{put_once}
-
-abbrev pub Relations : Type 0
-Relations = FinMap text_cmp Relation
 
 -- a name that the test calls another is another
 pub other_tells : (table name : Text) → is_other table name ≡ true → name ≢ table
@@ -44,6 +42,10 @@ own_name n = let f : false ≡ true = n.own in cc
 not_general : (mapping : Text) → IsName mapping → general_extension ≡ mapping_extension mapping → ⊥
 unfolding name_of
 not_general mapping named e = own_name (subst IsName (sym (ap (λ (x : Extension). name_of x.table) e)) named)
+
+relation_is_clean : (name : RelationName) → IsClean (relation_text name)
+relation_is_clean names.Media = ascii_is_clean (relation_text names.Media) refl refl
+relation_is_clean names.SimpleAttributes = ascii_is_clean (relation_text names.SimpleAttributes) refl refl
 
 -- ---- a relation
 suited_new : (kinds_of : Kinds) (base related : Text) (name : RelationName) → has_kind kinds_of base kinds.Attributes || has_kind kinds_of base kinds.Media ≡ true → has_kind kinds_of related (related_kind name) ≡ true
@@ -100,18 +102,38 @@ relation_put mapping base related name profile p moment stamp h within low is no
         all = λ e w. put_once p.extensions (mapping_extension mapping) e (elim (wanted_was p mapping relation e w) as (λ _. (e ≡ mapping_extension mapping) ⊎ Has p.extensions e 1) [ inl s ↦ inl s | inr b ↦ inr (h.q14.all e b) ]);
       };
       q15 = h.q15;
-      q16 = h.q16;
+      q16 = (
+        h.q16.0,
+        h.q16.1,
+        h.q16.2,
+        h.q16.3,
+        h.q16.4,
+        each_put extension_keys p.extensions (mapping_extension mapping) 1 ExtensionWithin h.q16.5 (record {
+          table = name_is_clean mapping within.0;
+          column = tt;
+          name = ascii_is_clean (mapping_extension mapping).name refl refl;
+          definition = ascii_is_clean (mapping_extension mapping).definition refl refl;
+          scope = ascii_is_clean (mapping_extension mapping).scope refl refl;
+        }),
+        h.q16.6,
+        h.q16.7,
+        h.q16.8,
+        each_put texts p.relations mapping relation RelationWithin h.q16.9 (record { mapping = within.0; base = within.1; related = within.2; base_column = ascii_is_clean (codes "id") refl refl; related_column = ascii_is_clean (codes "id") refl refl; name = relation_is_clean name }),
+        h.q16.10,
+        h.q16.11,
+        h.q16.12,
+      );
     }
   where
     both : (a b : Bool) → a ≡ true → b ≡ true → (a && b) ≡ true
     both true b e f = f
     both false b e f = e
 
-    joins_still : (p : Package) (next : Relations) → ((m : Text) (s : Relation) → Has p.relations m s → Has next m s) → (v : Option Relation) (k : Pairing) → get p.relations k.mapping ≡ v → Joins p.rows p.media v k → Joins p.rows p.media (get next k.mapping) k
+    joins_still : (p : Package) (next : RelationsPart) → ((m : Text) (s : Relation) → Has p.relations m s → Has next m s) → (v : Option Relation) (k : Pairing) → get p.relations k.mapping ≡ v → Joins p.rows p.media v k → Joins p.rows p.media (get next k.mapping) k
     joins_still p next still None k e j = absurd j
     joins_still p next still (Some s) k e j = subst (λ v. Joins p.rows p.media v k) (sym (still k.mapping s e)) j
 
-    wanted_stays : (p : Package) (next : Relations) → ((m : Text) → Stands p.relations m → Stands next m) → (e : Extension) → IsWanted p.kinds p.relations e → IsWanted p.kinds next e
+    wanted_stays : (p : Package) (next : RelationsPart) → ((m : Text) → Stands p.relations m → Stands next m) → (e : Extension) → IsWanted p.kinds p.relations e → IsWanted p.kinds next e
     wanted_stays p next more e (inl a) = inl a
     wanted_stays p next more e (inr (inl m)) = inr (inl (m.0, more m.0 m.1, m.2))
     wanted_stays p next more e (inr (inr t)) = inr (inr t)
@@ -155,7 +177,21 @@ relation_drop mapping profile p moment stamp h within low is none =
         all = λ e w. let was = wanted_was p mapping within e w in beside_remove extension_keys p.extensions (mapping_extension mapping) e was.0 ∙ h.q14.all e was.1;
       };
       q15 = h.q15;
-      q16 = (h.q16.0, h.q16.1, h.q16.2, h.q16.3, h.q16.4, h.q16.5, h.q16.6, each_retain pairing_keys p.pairings test (λ k _. IsId k.base_id × IsId k.related_id) h.q16.7, h.q16.8);
+      q16 = (
+        h.q16.0,
+        h.q16.1,
+        h.q16.2,
+        h.q16.3,
+        h.q16.4,
+        each_remove extension_keys p.extensions (mapping_extension mapping) ExtensionWithin h.q16.5,
+        h.q16.6,
+        h.q16.7,
+        h.q16.8,
+        each_remove texts p.relations mapping RelationWithin h.q16.9,
+        each_retain pairing_keys p.pairings test PairingWithin h.q16.10,
+        h.q16.11,
+        h.q16.12,
+      );
     }
   where
     wanted_still : (p : Package) (mapping : Text) (e : Extension) → e ≢ mapping_extension mapping → IsWanted p.kinds p.relations e → IsWanted p.kinds (remove p.relations mapping) e
@@ -200,7 +236,21 @@ edition_put name profile p moment stamp h within low is none =
         of_open = λ k r e. kept_by_new texts p.editions name open_state (missing p name free) k.edition open_state (h.q15.of_open k r e);
         spelled = h.q15.spelled;
       };
-      q16 = h.q16;
+      q16 = (
+        h.q16.0,
+        h.q16.1,
+        h.q16.2,
+        h.q16.3,
+        h.q16.4,
+        h.q16.5,
+        h.q16.6,
+        h.q16.7,
+        h.q16.8,
+        h.q16.9,
+        h.q16.10,
+        each_put texts p.editions name open_state EditionWithin h.q16.11 (within, ascii_is_clean open_state refl refl),
+        h.q16.12,
+      );
     }
   where
     missing : (p : Package) (name : Text) → get p.editions name ≡ None → contains_key p.editions name ≡ false
@@ -243,5 +293,19 @@ discard name profile p moment stamp h within low is none =
         of_open = λ k r e. let was = after_retain piece_keys p.pieces test k r e in beside_remove texts p.editions name k.edition (other_tells name k.edition was.0) ∙ h.q15.of_open k r was.1;
         spelled = each_retain piece_keys p.pieces test _ h.q15.spelled;
       };
-      q16 = (h.q16.0, h.q16.1, h.q16.2, h.q16.3, h.q16.4, h.q16.5, h.q16.6, h.q16.7, each_retain piece_keys p.pieces test (λ k _. IsName k.edition × IsId k.number) h.q16.8);
+      q16 = (
+        h.q16.0,
+        h.q16.1,
+        h.q16.2,
+        h.q16.3,
+        h.q16.4,
+        h.q16.5,
+        h.q16.6,
+        h.q16.7,
+        h.q16.8,
+        h.q16.9,
+        h.q16.10,
+        each_remove texts p.editions name EditionWithin h.q16.11,
+        each_retain piece_keys p.pieces test PieceWithin h.q16.12,
+      );
     }

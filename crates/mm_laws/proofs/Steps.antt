@@ -19,7 +19,9 @@ use Rattle.mm_laws.proofs.Tables.{table_put, pyramid_put}
 use Rattle.mm_laws.proofs.Dropped.{drop}
 use Rattle.mm_laws.proofs.Relations.{relation_put, relation_drop, edition_put, discard}
 use Rattle.mm_laws.proofs.Staged.{stage}
-use Rattle.mm_laws.proofs.Published.{piece_keeps, publish}
+use Rattle.mm_laws.proofs.Published.{publish}
+use Rattle.mm_laws.proofs.StampFound.{stamp_is}
+use Rattle.mm_laws.proofs.Contents as contents
 
 none_of_the_first : (rs more : Reasons) → NoneHolds (rs ++ more) → NoneHolds rs
 none_of_the_first [] more h = tt
@@ -44,18 +46,25 @@ done_keeps (commands.Discard name) = discard name
 done_keeps (commands.Stage edition number q) = stage edition number q
 done_keeps (commands.Publish edition) = λ profile p moment stamp h within low is none. publish profile moment stamp low is edition within p h
 done_keeps (commands.Rehearse edition) = λ profile p moment stamp h within low is none. h
-done_keeps (commands.Edit q) = piece_keeps q
+done_keeps (commands.Tile table zoom column row bytes) = contents.tile_put table zoom column row bytes
+done_keeps (commands.TileDrop table zoom column row) = contents.tile_drop table zoom column row
+done_keeps (commands.Row table id title note amount) = contents.row_put table id title note amount
+done_keeps (commands.RowDrop table id) = contents.row_drop table id
+done_keeps (commands.Media table id content_type bytes) = contents.media_put table id content_type bytes
+done_keeps (commands.MediaDrop table id) = contents.media_drop table id
+done_keeps (commands.Map mapping base_id related_id) = contents.map_put mapping base_id related_id
+done_keeps (commands.MapDrop mapping base_id related_id) = contents.map_drop mapping base_id related_id
 
-pub step_keeps : (profile : Profile) (p : Package) (c : Command) (moment : ℕ) → IsStamp moment (stamp moment) → Meets profile p → IsWithin profile c → IsMoment moment → Meets profile (step p c moment)
-step_keeps profile p c moment is h within low = decided (least (reasons p c)) refl where
+pub step_keeps : (profile : Profile) (p : Package) (c : Command) (moment : ℕ) → Meets profile p → IsWithin profile c → IsMoment moment → Meets profile (step p c moment)
+step_keeps profile p c moment h within low = decided (least (reasons p c)) refl where
   decided : (v : Option ℕ) → least (reasons p c) ≡ v → Meets profile (unless_refused (refusal_of v (refused_piece (publishing p c []))) (done p c (stamp moment)) p)
   decided None e =
-      done_keeps c profile p moment (stamp moment) h within low is
+      done_keeps c profile p moment (stamp moment) h within low (stamp_is moment low)
       (least_none (own_reasons p c) (none_of_the_first (own_reasons p c) ((53, is_publishing p c && is_err (publishing p c [])) ∷ []) (none_holds (reasons p c) e)))
   decided (Some n) e = h
 
 -- over a whole run
-pub run_keeps : (profile : Profile) → ((m : ℕ) → IsMoment m → IsStamp m (stamp m)) → (calls : List Call) (p : Package) → Meets profile p → AllWithin profile calls → Meets profile (run p calls)
-run_keeps profile stamps [] p h within = h
-run_keeps profile stamps (c ∷ cs) p h within =
-    run_keeps profile stamps cs (step p c.command c.moment) (step_keeps profile p c.command c.moment (stamps c.moment within.0.1) h within.0.0 within.0.1) within.1
+pub run_keeps : (profile : Profile) (calls : List Call) (p : Package) → Meets profile p → AllWithin profile calls → Meets profile (run p calls)
+run_keeps profile [] p h within = h
+run_keeps profile (c ∷ cs) p h within =
+    run_keeps profile cs (step p c.command c.moment) (step_keeps profile p c.command c.moment h within.0.0 within.0.1) within.1

@@ -1,11 +1,9 @@
 -- A system that is put keeps the rules.
-use Rattle.std.proofs.Common.{ℤ, pos, negsuc, Option, Some, None, IfSome, ◌⊎◌, inr}
+use Rattle.std.proofs.Common.{ℤ, pos, negsuc, Option, Some, None, IfSome, inl}
 use Rattle.std.specs.FinMap.{insert}
 use Rattle.mm_base.specs.Keys.{Text}
-use Rattle.mm_base.specs.Parts.{Stands}
 use Rattle.mm_base.specs.Package.{System}
-use Rattle.mm_base.specs.Rules.{IsGiven, SystemWithin}
-use Rattle.mm_base.specs.Bounds.{IsId}
+use Rattle.mm_base.specs.Rules.{MayName, SystemWithin}
 use Rattle.mm_base.specs.Conditions.{own_reasons}
 use Rattle.mm_base.specs.declared.commands.Command.TheVariants.{Srs}
 use Rattle.mm_base.proofs.Parts.{each_put, stands_after_put, kept_by_new}
@@ -13,7 +11,7 @@ use Rattle.mm_base.proofs.KeyLaws.{numbers}
 use Rattle.mm_laws.specs.Laws.{Keeps}
 use Rattle.mm_laws.proofs.Reasons.{none_holds}
 
-if_some_more : {A : Type 0} (v : Option A) (P Q : A → Type 0) → ((x : A) → P x → Q x) → IfSome v P → IfSome v Q
+pub if_some_more : {A : Type 0} (v : Option A) (P Q : A → Type 0) → ((x : A) → P x → Q x) → IfSome v P → IfSome v Q
 if_some_more None P Q more h = tt
 if_some_more (Some x) P Q more h = more x h
 
@@ -30,7 +28,7 @@ srs id name organization organization_id definition description profile p moment
         undefined_stands = still (pos 0) _ h.q1.undefined_stands;
       };
       q2 = record {
-        of_contents = λ q c e. if_some_more c.system (λ s. Stands p.systems s) (λ s. Stands (insert p.systems id system) s) stands (h.q2.of_contents q c e);
+        of_contents = λ q c e. if_some_more c.system (MayName p.systems p.kinds q) (MayName (insert p.systems id system) p.kinds q) (λ s m. (stands s m.0, m.1)) (h.q2.of_contents q c e);
         of_sets = λ q s e. (stands s.system (h.q2.of_sets q s e).0, (h.q2.of_sets q s e).1);
       };
       q3 = h.q3;
@@ -47,8 +45,7 @@ srs id name organization organization_id definition description profile p moment
       q14 = h.q14;
       q15 = h.q15;
       q16 = (
-        each_put numbers p.systems id system (λ i s. (IsGiven i ⊎ (IsId i × IsId s.organization_id)) × SystemWithin s) h.q16.0
-            (inr (within.0, within.3), record { name = within.1; organization = within.2; definition = within.4; description = within.5 }),
+        each_put numbers p.systems id system SystemWithin h.q16.0 (record { numbers = inl (within.0, within.3); name = within.1; organization = within.2; definition = within.4; description = within.5 }),
         h.q16.1,
         h.q16.2,
         h.q16.3,
@@ -57,5 +54,9 @@ srs id name organization organization_id definition description profile p moment
         h.q16.6,
         h.q16.7,
         h.q16.8,
+        h.q16.9,
+        h.q16.10,
+        h.q16.11,
+        h.q16.12,
       );
     }

@@ -6,7 +6,7 @@ use Rattle.mm_base.specs.Keys.{Text, text_cmp, same_text, same_number, level, Ex
 use Rattle.mm_base.specs.Parts.{Each, Has, Stands}
 use Rattle.mm_base.specs.Package.{Package, Contents, Box, MatrixSet, Kinds, kind_text, HasKind, IsPyramid, Relation, zoom_extension}
 use Rattle.mm_base.specs.Bounds.{Profile, IsName}
-use Rattle.mm_base.specs.Rules.{Meets, IsHalved, IsUnplaced, IsPlaced, IsPlacedAt, IsPlane, IsOrdered, Suits, FitsIn, IsSuited, IsWanted, ExactExtensions, DistinctIdentifiers, ContentsWithin, BoxWithin}
+use Rattle.mm_base.specs.Rules.{Meets, MayName, IsHalved, IsUnplaced, IsPlaced, IsPlacedAt, IsOrdered, Suits, FitsIn, IsSuited, IsWanted, ExactExtensions, DistinctIdentifiers, ContentsWithin, KindWithin, SetWithin, ExtensionWithin}
 use Rattle.mm_base.specs.Conditions.{own_reasons, is_identified}
 use Rattle.mm_base.specs.Effects.{with_pyramid, with_zoom_row, step_kind, plain_kind}
 use Rattle.mm_base.specs.declared.commands.Kind.{Kind}
@@ -17,10 +17,12 @@ use Rattle.mm_base.specs.declared.commands.PlainKind.{PlainKind}
 use Rattle.mm_base.specs.declared.commands.PlainKind.TheVariants as plain
 use Rattle.mm_base.specs.declared.commands.Command.TheVariants as commands
 use Rattle.mm_base.proofs.Parts.{each_put, stands_after_put, after_put, kept_by_new, at_put, beside_put, no_entry, either_false, same_itself, same_key, none_of}
+use Rattle.mm_base.proofs.CleanTexts.{ascii_is_clean, name_is_clean}
 use Rattle.mm_base.proofs.KeyLaws.{numbers, texts, extension_keys}
 use Rattle.mm_laws.specs.Laws.{Keeps}
 use Rattle.mm_laws.proofs.Reasons.{none_holds, not_false}
-use Rattle.mm_laws.proofs.KindFacts.{differ}
+use Rattle.mm_laws.proofs.KindFacts.{differ, kind_is_clean}
+use Rattle.mm_laws.proofs.Systems.{if_some_more}
 
 -- ---- extension rows
 pub put_once : (m : FinMap extension_cmp ℕ) (k e : Extension) → (e ≡ k) ⊎ Has m e 1 → Has (insert m k 1) e 1
@@ -71,6 +73,20 @@ module _ (profile : Profile) (p : Package) (h : Meets profile p) (table : Text) 
   -- no pyramid of before is the table
   elsewhere : (t : Text) → IsPyramid p.kinds t → t ≢ table
   elsewhere t e same = elim e as (λ _. ⊥) [ inl a ↦ no_kind _ (ap (get p.kinds) (sym same) ∙ a) | inr b ↦ no_kind _ (ap (get p.kinds) (sym same) ∙ b) ]
+
+  -- a table of before may name the systems that it did
+  pub may_still : (t : Text) (s : ℤ) → t ≢ table → MayName p.systems p.kinds t s → MayName p.systems next_kinds t s
+  may_still t s n m = (
+    m.0,
+    λ new. m.1 (elim new as (λ _. IsPyramid p.kinds t) [
+      | inl a ↦ inl (sym (beside_put texts p.kinds table (kind_text kind) t n) ∙ a)
+      | inr b ↦ inr (sym (beside_put texts p.kinds table (kind_text kind) t n) ∙ b)
+    ]),
+  )
+
+  -- of the sets of before, too
+  pub set_may_still : (t : Text) (s : MatrixSet) → Has p.sets t s → MayName p.systems next_kinds t s.system
+  set_may_still t s e = may_still t s.system (λ same. no_set s (ap (get p.sets) (sym same) ∙ e)) (h.q2.of_sets t s e)
 
   distinct : DistinctIdentifiers next_contents
   distinct t c e u d f same =
@@ -139,21 +155,28 @@ module _ (profile : Profile) (p : Package) (h : Meets profile p) (table : Text) 
   pub record Suited (sets : FinMap text_cmp MatrixSet) (extensions : FinMap extension_cmp ℕ) : Type 0 where
     pub name : IsName table
     pub suits : Suits kind row (get sets table)
-    pub system : IfSome row.system (λ s. Stands p.systems s)
+    pub system : IfSome row.system (MayName p.systems next_kinds table)
     pub ordered : IsOrdered row.min_x row.max_x × IsOrdered row.min_y row.max_y
-    pub limits : ContentsWithin profile row
+    pub limits : ContentsWithin profile table row
     pub beside : (t : Text) → t ≢ table → get sets t ≡ get p.sets t
-    pub set_systems : Each sets (λ _ s. Stands p.systems s.system × IsPlane s.system)
+    pub set_systems : Each sets (λ t s. MayName p.systems next_kinds t s.system)
     pub set_tables : Each sets (λ t _. Stands next_contents t)
     pub set_extents : Each sets (λ _ s. (s.box.min_x <ℤ s.box.max_x) × (s.box.min_y <ℤ s.box.max_y))
-    pub set_limits : Each sets (λ _ s. BoxWithin profile s.box)
+    pub set_limits : Each sets (SetWithin profile)
+    pub extension_limits : Each extensions ExtensionWithin
     pub exact : ExactExtensions next_kinds p.relations extensions
 
   pub keeps_with : (next_sets : FinMap text_cmp MatrixSet) (next_extensions : FinMap extension_cmp ℕ) → Suited next_sets next_extensions
       → Meets profile (record p { contents = next_contents; kinds = next_kinds; sets = next_sets; extensions = next_extensions })
   keeps_with next_sets next_extensions s = record {
     q1 = h.q1;
-    q2 = record { of_contents = each_put texts p.contents table row (λ _ c. IfSome c.system (λ s. Stands p.systems s)) h.q2.of_contents s.system; of_sets = s.set_systems };
+    q2 = record {
+      of_contents = λ t c e. elim (after_put texts p.contents table row t c e) as (λ _. IfSome c.system (MayName p.systems next_kinds t)) [
+        | inl a ↦ subst (λ d. IfSome d.system (MayName p.systems next_kinds t)) a.1 (subst (λ u. IfSome row.system (MayName p.systems next_kinds u)) (sym a.0) s.system)
+        | inr b ↦ if_some_more c.system (MayName p.systems p.kinds t) (MayName p.systems next_kinds t) (λ n. may_still t n b.0) (h.q2.of_contents t c b.1)
+      ];
+      of_sets = s.set_systems;
+    };
     q3 = distinct;
     q4 = record {
       of_tables = each_put texts p.contents table row (λ t _. IsName t) h.q4.of_tables s.name;
@@ -185,7 +208,21 @@ module _ (profile : Profile) (p : Package) (h : Meets profile p) (table : Text) 
     q13 = h.q13;
     q14 = s.exact;
     q15 = h.q15;
-    q16 = (h.q16.0, each_put texts p.contents table row (λ _ c. ContentsWithin profile c) h.q16.1 s.limits, s.set_limits, h.q16.3, h.q16.4, h.q16.5, h.q16.6, h.q16.7, h.q16.8);
+    q16 = (
+      h.q16.0,
+      each_put texts p.contents table row (ContentsWithin profile) h.q16.1 s.limits,
+      each_put texts p.kinds table (kind_text kind) KindWithin h.q16.2 (s.name, kind_is_clean kind),
+      s.set_limits,
+      h.q16.4,
+      s.extension_limits,
+      h.q16.6,
+      h.q16.7,
+      h.q16.8,
+      h.q16.9,
+      h.q16.10,
+      h.q16.11,
+      h.q16.12,
+    );
   }
 
 -- ---- a pyramid
@@ -206,12 +243,13 @@ table_put table kind identifier profile p moment stamp h within low is none =
       suits = unplaced kind row (get p.sets table) (refl, refl, refl, refl, refl, refl, absent);
       system = tt;
       ordered = (tt, tt);
-      limits = record { identifier = within.1; description = refl; last_change = (moment, low, is); min_x = tt; min_y = tt; max_x = tt; max_y = tt };
+      limits = record { table = within.0; data_type = ascii_is_clean (codes "attributes") refl refl; identifier = within.1; description = refl; last_change = (moment, low, is); min_x = tt; min_y = tt; max_x = tt; max_y = tt; system = tt };
       beside = λ t n. refl;
-      set_systems = h.q2.of_sets;
+      set_systems = set_may_still profile p h table row (plain_kind kind) taken.0 taken.1 r.1.0;
       set_tables = λ t s e. stands_after_put texts p.contents table row t (h.q5.of_sets t s e);
       set_extents = h.q6.of_sets;
-      set_limits = h.q16.2;
+      set_limits = h.q16.3;
+      extension_limits = h.q16.5;
       exact = plain_extensions profile p h table row (plain_kind kind) taken.0 taken.1 r.1.0 (not_other kind);
     })
   where
@@ -234,26 +272,35 @@ pyramid_put table identifier srs min_x min_y max_x max_y step profile p moment s
     let row : Contents = record { data_type = codes "tiles"; identifier = identifier; description = []; last_change = stamp; min_x = Some min_x; min_y = Some min_y; max_x = Some max_x; max_y = Some max_y; system = Some srs } in
     let set : MatrixSet = record { system = srs; box = box } in
     let sets = insert p.sets table set in
-    let system : Stands p.systems srs = not_false (contains_key p.systems srs) r.0 in
+    let may : MayName p.systems (insert p.kinds table (kind_text (step_kind step))) table srs = (not_false (contains_key p.systems srs) r.0, λ _. (not_number srs (pos 0) plane.0, not_number srs (pos 4326) plane.1)) in
     let suits : (kind : Step) → Suits (step_kind kind) row (get sets table) = placed row set (get sets table) (at_put texts p.sets table set) (record { data_type = refl; system = refl; min_x = refl; min_y = refl; max_x = refl; max_y = refl }) in
     let suited : (extensions : FinMap extension_cmp ℕ) → ExactExtensions (insert p.kinds table (kind_text (step_kind step))) p.relations extensions
-    → Suited profile p h table row (step_kind step) taken.0 taken.1 named sets extensions = λ extensions exact. record {
+    → Each extensions ExtensionWithin → Suited profile p h table row (step_kind step) taken.0 taken.1 named sets extensions = λ extensions exact limits. record {
       name = within.0;
       suits = suits step;
-      system = system;
+      system = may;
       ordered = (less min_x max_x extent.0, less min_y max_y extent.1);
-      limits = record { identifier = within.1; description = refl; last_change = (moment, low, is); min_x = within.3; min_y = within.4; max_x = within.5; max_y = within.6 };
+      limits = record { table = within.0; data_type = ascii_is_clean (codes "tiles") refl refl; identifier = within.1; description = refl; last_change = (moment, low, is); min_x = within.3; min_y = within.4; max_x = within.5; max_y = within.6; system = within.2 };
       beside = λ t n. beside_put texts p.sets table set t n;
-      set_systems = each_put texts p.sets table set (λ _ s. Stands p.systems s.system × IsPlane s.system) h.q2.of_sets (system, (not_number srs (pos 0) plane.0, not_number srs (pos 4326) plane.1));
+      set_systems = each_put texts p.sets table set (λ t s. MayName p.systems (insert p.kinds table (kind_text (step_kind step))) t s.system)
+          (set_may_still profile p h table row (step_kind step) taken.0 taken.1 named) may;
       set_tables = each_put texts p.sets table set (λ t _. Stands (insert p.contents table row) t) (λ t s e. stands_after_put texts p.contents table row t (h.q5.of_sets t s e)) (ap is_some (at_put texts p.contents table row));
       set_extents = each_put texts p.sets table set (λ _ s. (s.box.min_x <ℤ s.box.max_x) × (s.box.min_y <ℤ s.box.max_y)) h.q6.of_sets (less min_x max_x extent.0, less min_y max_y extent.1);
-      set_limits = each_put texts p.sets table set (λ _ s. BoxWithin profile s.box) h.q16.2 (record { min_x = within.3; min_y = within.4; max_x = within.5; max_y = within.6 });
+      set_limits = each_put texts p.sets table set (SetWithin profile) h.q16.3 (record { table = within.0; system = within.2; box = record { min_x = within.3; min_y = within.4; max_x = within.5; max_y = within.6 } });
+      extension_limits = limits;
       exact = exact;
     } in
     by_step step (λ s. Meets profile (with_zoom_row (with_pyramid p table identifier srs box step stamp) table s))
-    (λ e. keeps_with profile p h table row (step_kind step) taken.0 taken.1 named sets p.extensions (suited p.extensions (plain_extensions profile p h table row (step_kind step) taken.0 taken.1 named (is_two step e))))
+    (λ e. keeps_with profile p h table row (step_kind step) taken.0 taken.1 named sets p.extensions (suited p.extensions (plain_extensions profile p h table row (step_kind step) taken.0 taken.1 named (is_two step e)) h.q16.5))
     (λ e. keeps_with profile p h table row (step_kind step) taken.0 taken.1 named sets (insert p.extensions (zoom_extension table) 1)
-    (suited (insert p.extensions (zoom_extension table) 1) (other_extensions profile p h table row (step_kind step) taken.0 taken.1 named (is_other step e))))
+    (suited (insert p.extensions (zoom_extension table) 1) (other_extensions profile p h table row (step_kind step) taken.0 taken.1 named (is_other step e))
+    (each_put extension_keys p.extensions (zoom_extension table) 1 ExtensionWithin h.q16.5 (record {
+      table = name_is_clean table within.0;
+      column = ascii_is_clean (codes "tile_data") refl refl;
+      name = ascii_is_clean (zoom_extension table).name refl refl;
+      definition = ascii_is_clean (zoom_extension table).definition refl refl;
+      scope = ascii_is_clean (zoom_extension table).scope refl refl;
+    }))))
   where
     placed : (c : Contents) (s : MatrixSet) (v : Option MatrixSet) → v ≡ Some s → IsPlacedAt c s → (kind : Step) → Suits (step_kind kind) c v
     placed c s v e at steps.Two = subst (λ w. IsPlaced c w) (sym e) at

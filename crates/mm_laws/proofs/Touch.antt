@@ -1,20 +1,17 @@
 -- A change of last_change keeps every rule.
 use Rattle.std.proofs.Common.{◌≡◌, ℕ, Option, Some, None, IfSome, refl, sym, ap, ◌∙◌, inl, inr}
-use Rattle.std.specs.FinMap.{FinMap, get, insert}
-use Rattle.mm_base.specs.Keys.{Text, text_cmp}
+use Rattle.std.specs.FinMap.{get, insert}
+use Rattle.mm_base.specs.Keys.{Text}
 use Rattle.mm_base.specs.Parts.{Each, Stands}
-use Rattle.mm_base.specs.Package.{Package, Contents, MatrixSet, HasKind}
+use Rattle.mm_base.specs.Package.{Package, Contents, MatrixSet, ContentsPart, HasKind}
 use Rattle.mm_base.specs.Bounds.{Profile, IsMoment, IsName}
 use Rattle.mm_base.specs.Stamp.{IsStamp}
-use Rattle.mm_base.specs.Rules.{Meets, DistinctIdentifiers, Suits, IsPlaced, ContentsWithin, IsOrdered}
+use Rattle.mm_base.specs.Rules.{Meets, MayName, DistinctIdentifiers, Suits, IsPlaced, ContentsWithin, IsOrdered}
 use Rattle.mm_base.specs.Effects.{changed_at, touched_row, touch}
 use Rattle.mm_base.specs.declared.commands.Kind.{Kind}
 use Rattle.mm_base.specs.declared.commands.Kind.TheVariants.{Two, Other, Attributes, Media}
 use Rattle.mm_base.proofs.Parts.{not_none, after_put, each_put, beside_put, stands_after_put}
 use Rattle.mm_base.proofs.KeyLaws.{texts}
-
-abbrev pub ContentsPart : Type 0
-ContentsPart = FinMap text_cmp Contents
 
 -- the contents rows after the change of one
 abbrev pub touched : ContentsPart → Text → Contents → Text → ContentsPart
@@ -61,7 +58,7 @@ touched_row_keeps profile p table stamp moment low is (Some row) was h =
     let each = each_touched p.contents table row was stamp in
     record {
       q1 = h.q1;
-      q2 = record { of_contents = each (λ _ c. IfSome c.system (λ s. Stands p.systems s)) (λ _ _ x. x) h.q2.of_contents; of_sets = h.q2.of_sets };
+      q2 = record { of_contents = each (λ t c. IfSome c.system (MayName p.systems p.kinds t)) (λ _ _ x. x) h.q2.of_contents; of_sets = h.q2.of_sets };
       q3 = distinct p.contents table row was stamp h.q3;
       q4 = record {
         of_tables = each (λ q _. IsName q) (λ _ _ x. x) h.q4.of_tables;
@@ -85,7 +82,9 @@ touched_row_keeps profile p table stamp moment low is (Some row) was h =
       q15 = h.q15;
       q16 = (
         h.q16.0,
-        each (λ _ c. ContentsWithin profile c) (λ _ b x. record {
+        each (ContentsWithin profile) (λ _ b x. record {
+          table = x.table;
+          data_type = x.data_type;
           identifier = x.identifier;
           description = x.description;
           last_change = (moment, low, is);
@@ -93,6 +92,7 @@ touched_row_keeps profile p table stamp moment low is (Some row) was h =
           min_y = x.min_y;
           max_x = x.max_x;
           max_y = x.max_y;
+          system = x.system;
         }) h.q16.1,
         h.q16.2,
         h.q16.3,
@@ -101,6 +101,10 @@ touched_row_keeps profile p table stamp moment low is (Some row) was h =
         h.q16.6,
         h.q16.7,
         h.q16.8,
+        h.q16.9,
+        h.q16.10,
+        h.q16.11,
+        h.q16.12,
       );
     }
 

@@ -1,6 +1,6 @@
-use Rattle.std.proofs.Common.{rules, arith, ◌≡◌, ℤ, pos, ◌*◌, ◌*ℤ◌, ◌-ℤ◌, to_z, of_z, w64, sym, ap, ◌∙◌}
+use Rattle.std.proofs.Common.{rules, arith, ◌≡◌, pos, ◌*◌, ◌*ℤ◌, ◌-ℤ◌, to_z, of_z, w64, sym, ap, ◌∙◌}
 use Rattle.std.specs.Int.{w128}
-use Rattle.std.proofs.lemmas.Int.{ints, to_z-of_z}
+use Rattle.std.proofs.lemmas.Int.{ints}
 use Rattle.mm_base.proofs.extents.fits.Goals as goal
 
 pub returns-then-across : goal.returns-then-across

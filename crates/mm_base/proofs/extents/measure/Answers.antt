@@ -1,4 +1,4 @@
-use Rattle.std.proofs.Common.{ℕ, ℤ, pos, ◌-◌, ◌*◌, ◌*ℤ◌, ◌^◌, ◌<◌, w64, arith, to_z, of_z, FitsSigned, ◌≡◌, ap, ◌∙◌}
+use Rattle.std.proofs.Common.{ℕ, pos, ◌-◌, ◌*◌, ◌*ℤ◌, ◌^◌, ◌<◌, w64, arith, to_z, of_z, FitsSigned, ◌≡◌, ap, ◌∙◌}
 use Rattle.std.specs.Int.{w128}
 use Rattle.std.proofs.lemmas.Int.{ints, fits_signed_mul, to_z-of_z}
 use Rattle.mm_base.proofs.extents.measure.Goals as goal

@@ -1,4 +1,4 @@
-use Rattle.std.proofs.Common.{◌≡◌, ℕ, ◌≤◌, pos, to_z, w64, ◌∙◌, sym, IfOk}
+use Rattle.std.proofs.Common.{◌≤◌, to_z, w64, ◌∙◌}
 use Rattle.jiff.proofs.SpanFacts.{date_add-days, can_add-days}
 use Rattle.mm_base.proofs.Dates.{start_is, cast_is, day_in, day_is}
 use Rattle.mm_base.proofs.moments.date_of.Goals as goal

@@ -1,4 +1,4 @@
-use Rattle.std.proofs.Common.{◌≡◌, ◌<◌, pos, Bool, true, false, refl, sym, ap, subst, ◌∙◌, rules, unsigned_abs}
+use Rattle.std.proofs.Common.{◌≡◌, ◌<◌, pos, true, false, sym, ap, subst, ◌∙◌, rules, unsigned_abs}
 use Rattle.std.proofs.lemmas.Slice.Eq.{bytes_eq-Decides}
 use Rattle.jiff.specs.Words.{IsYmd}
 use Rattle.mm_base.specs.Stamp.{stamp_text, year_in, pair_at, time_in}

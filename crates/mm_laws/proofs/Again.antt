@@ -1,0 +1,94 @@
+-- A piece that is staged again changes nothing, and a piece is its command.
+use Rattle.std.proofs.Common.{◌≡◌, ◌↔◌, ℕ, ◌+◌, ℤ, pos, ◌≤ℤ◌, true, not, ◌&&◌, int_lt, int_le, [], Some, None, refl, sym, ap, ◌∙◌, arith}
+use Rattle.std.proofs.lemmas.Int.{ints}
+use Rattle.std.specs.FinMap.{get, contains_key}
+use Rattle.mm_base.specs.Keys.{Text, piece}
+use Rattle.mm_base.specs.Package.{Package, PieceRow, PiecesPart}
+use Rattle.mm_base.specs.Bounds.{Profile}
+use Rattle.mm_base.specs.Pieces.{piece_row, same_piece, piece_command}
+use Rattle.mm_base.specs.Within.{IsPieceWithin, IsWithin}
+use Rattle.mm_base.specs.Stamp.{stamp}
+use Rattle.mm_base.specs.Conditions.{least, own_reasons, piece_reasons, is_open, piece_count, has_equal_piece}
+use Rattle.mm_base.specs.Effects.{effect, piece_effect}
+use Rattle.mm_base.specs.Step.{reasons, refused_piece, publishing, refusal, done, unless_refused, step}
+use Rattle.mm_base.specs.declared.commands.Piece.{Piece}
+use Rattle.mm_base.specs.declared.commands.Piece.TheVariants as pieces
+use Rattle.mm_base.specs.declared.commands.Command.TheVariants as commands
+use Rattle.mm_base.proofs.Parts.{either_false, put_again}
+use Rattle.mm_base.proofs.KeyLaws.{texts, numbers, piece_keys}
+use Rattle.mm_laws.proofs.Reasons.{none_holds, not_false, and_false, stands_where}
+use Rattle.mm_laws.proofs.KindFacts.{are_same, both_true, at_true}
+use Rattle.mm_laws.proofs.Closed.{no_refusal}
+
+same_row : (a b : PieceRow) → same_piece a b ≡ true → a ≡ b
+same_row a b e =
+    let bytes = both_true _ _ e in
+    let t2 = both_true _ _ bytes.0 in
+    let t1 = both_true _ _ t2.0 in
+    let k7 = both_true _ _ t1.0 in
+    let k6 = both_true _ _ k7.0 in
+    let k5 = both_true _ _ k6.0 in
+    let k4 = both_true _ _ k5.0 in
+    let k3 = both_true _ _ k4.0 in
+    let k2 = both_true _ _ k3.0 in
+    let k1 = both_true _ _ k2.0 in
+    let name = both_true _ _ k1.0 in
+    λ i. record {
+      kind = are_same texts a.kind b.kind name.0 i;
+      name = are_same texts a.name b.name name.1 i;
+      k1 = are_same numbers a.k1 b.k1 k1.1 i;
+      k2 = are_same numbers a.k2 b.k2 k2.1 i;
+      k3 = are_same numbers a.k3 b.k3 k3.1 i;
+      k4 = are_same numbers a.k4 b.k4 k4.1 i;
+      k5 = are_same numbers a.k5 b.k5 k5.1 i;
+      k6 = are_same numbers a.k6 b.k6 k6.1 i;
+      k7 = are_same numbers a.k7 b.k7 k7.1 i;
+      t1 = are_same texts a.t1 b.t1 t1.1 i;
+      t2 = are_same texts a.t2 b.t2 t2.1 i;
+      bytes = are_same texts a.bytes b.bytes bytes.1 i;
+    }
+
+le_holds : (a b : ℤ) → a ≤ℤ b → int_le a b ≡ true
+le_holds a b h = grind (arith, ints)
+
+pub stage_again : (p : Package) (edition : Text) (number : ℤ) (q : Piece) (moment : ℕ) → refusal p (commands.Stage edition number q) ≡ None
+    → number ≤ℤ pos (piece_count p edition) → step p (commands.Stage edition number q) moment ≡ p
+stage_again p edition number q moment none low =
+    let c = commands.Stage edition number q in
+    let r = none_holds (reasons p c) (no_refusal (least (reasons p c)) (refused_piece (publishing p c [])) none) in
+    let opened : is_open p edition ≡ true = stands_where (contains_key p.editions edition) (is_open p edition) r.1.1.1.0 (not_false (contains_key p.editions edition) r.0) in
+    let differs = (either_false (int_lt (pos (piece_count p edition + 1)) number) (int_le number (pos (piece_count p edition)) && not (has_equal_piece p edition number q)) (and_false (is_open p edition) _ r.1.0 opened)).1 in
+    let equal : has_equal_piece p edition number q ≡ true = not_false _ (and_false (int_le number (pos (piece_count p edition))) _ differs (le_holds number (pos (piece_count p edition)) low)) in
+    let there = at_true (same_piece (piece_row q)) (get p.pieces (piece edition number)) equal in
+    ap (λ v. unless_refused v (done p c (stamp moment)) p) none
+    ∙ ap (λ (m : PiecesPart). record p { pieces = m }) (put_again piece_keys p.pieces (piece edition number) (piece_row q) (there.1 ∙ ap Some (sym (same_row (piece_row q) there.0 there.2))))
+
+pub same_reasons : (q : Piece) (p : Package) → own_reasons p (piece_command q) ≡ piece_reasons p q
+same_reasons (pieces.Tile table zoom column row bytes) p = refl
+same_reasons (pieces.TileDrop table zoom column row) p = refl
+same_reasons (pieces.Row table id title note amount) p = refl
+same_reasons (pieces.RowDrop table id) p = refl
+same_reasons (pieces.Media table id content_type bytes) p = refl
+same_reasons (pieces.MediaDrop table id) p = refl
+same_reasons (pieces.Map mapping base_id related_id) p = refl
+same_reasons (pieces.MapDrop mapping base_id related_id) p = refl
+
+pub same_effect : (q : Piece) (p : Package) (stamp : Text) → effect p (piece_command q) stamp ≡ piece_effect p q stamp
+same_effect (pieces.Tile table zoom column row bytes) p stamp = refl
+same_effect (pieces.TileDrop table zoom column row) p stamp = refl
+same_effect (pieces.Row table id title note amount) p stamp = refl
+same_effect (pieces.RowDrop table id) p stamp = refl
+same_effect (pieces.Media table id content_type bytes) p stamp = refl
+same_effect (pieces.MediaDrop table id) p stamp = refl
+same_effect (pieces.Map mapping base_id related_id) p stamp = refl
+same_effect (pieces.MapDrop mapping base_id related_id) p stamp = refl
+
+pub same_limits : (q : Piece) (profile : Profile) → IsWithin profile (piece_command q) ↔ IsPieceWithin q
+same_limits (pieces.Tile table zoom column row bytes) profile = (λ h. h, λ h. h)
+same_limits (pieces.TileDrop table zoom column row) profile = (λ h. h, λ h. h)
+same_limits (pieces.Row table id title note amount) profile = (λ h. h, λ h. h)
+same_limits (pieces.RowDrop table id) profile = (λ h. h, λ h. h)
+same_limits (pieces.Media table id content_type bytes) profile = (λ h. h, λ h. h)
+same_limits (pieces.MediaDrop table id) profile = (λ h. h, λ h. h)
+same_limits (pieces.Map mapping base_id related_id) profile = (λ h. h, λ h. h)
+same_limits (pieces.MapDrop mapping base_id related_id) profile = (λ h. h, λ h. h)

@@ -6,6 +6,7 @@ pub mod commands;
 pub mod entries;
 pub mod extents;
 mod fields;
+pub mod matrices;
 pub mod moments;
 pub mod names;
 pub mod numbers;

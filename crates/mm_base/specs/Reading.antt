@@ -1,5 +1,5 @@
 -- What a reader answers of a text.
-use Rattle.std.specs.Prelude.{◌≡◌, ℕ, ◌⊎◌, List, Option, None, Result, Ok, Err, IsErr, ⊤}
+use Rattle.std.specs.Prelude.{◌≡◌, ℕ, ◌⊎◌, List, Option, None, Result, Ok, Err, IsErr, ⊤, if◌then◌else◌, nat_le}
 use Rattle.hex.specs.Hex.{decode_of}
 use Rattle.mm_base.specs.Bounds.{IsLong}
 use Rattle.mm_base.specs.declared.answers.Refusal.{Refusal}
@@ -30,3 +30,12 @@ refuses_bytes most text number =
 -- a number against a record, and no piece
 abbrev pub refused : ℕ → ReadFault
 refused number = faults.Refused (record { number = number; piece = None })
+
+-- both values, or the least number that is against one of them; want of memory goes before all
+abbrev pub both_of : {A B : Type 0} → Result A ReadFault → Result B ReadFault → Result (A × B) ReadFault
+both_of (Ok a) (Ok b) = Ok (a, b)
+both_of (Ok a) (Err fault) = Err fault
+both_of (Err faults.Memory) second = Err faults.Memory
+both_of (Err (faults.Refused one)) (Ok b) = Err (faults.Refused one)
+both_of (Err (faults.Refused one)) (Err faults.Memory) = Err faults.Memory
+both_of (Err (faults.Refused one)) (Err (faults.Refused other)) = Err (faults.Refused (if nat_le one.number other.number then one else other))

@@ -1,0 +1,13 @@
+use Rattle.std.proofs.Common.{rules, pos, arith}
+use Rattle.mm_base.specs.Fields.{AName, Plain, Whole}
+use Rattle.mm_base.specs.Records.{id_field}
+use Rattle.mm_base.proofs.ReadingFacts.{text_at, and_then, the_last, refuses}
+use Rattle.mm_base.proofs.pieces.read_map.Goals as goal
+
+pub returns-in-Err : goal.returns-in-Err
+returns-in-Err c =
+    let t = text_at c.args.fields.now in
+    refuses c.args.fields.now 3 (omega arith) (omega arith) c.in-Err.is
+    (and_then AName (t 0) (record { value = Plain; reads = c.name_field.ensures }) c.both-2.ensures
+    (and_then id_field (t 1) (record { value = Whole; reads = c.id_field.ensures }) c.both.ensures
+    (the_last id_field (t 2) (record { value = Whole; reads = c.id_field-2.ensures }))))

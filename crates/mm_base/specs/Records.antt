@@ -1,0 +1,239 @@
+-- The text of a record: which fields spell which command, and which numbers hold against fields that spell none.
+use Rattle.std.specs.Prelude.{◌≡◌, ℕ, ◌+◌, ◌-◌, ◌≤◌, ◌^◌, ◌⊎◌, ℤ, pos, negsuc, neg_ℤ, ◌≤ℤ◌, ◌<ℤ◌, List, [], ◌∷◌, ◌++◌, Option, Some, None, option_map, MatchOption, Bool, if◌then◌else◌, bytes_eq, codes, Contains, ⊤, IsErr}
+use Rattle.mm_base.specs.Keys.{Text}
+use Rattle.mm_base.specs.Bounds.{Profile}
+use Rattle.mm_base.specs.Fields.{Field, OneOf, NumberFrom, BytesTo, TextOf, AnIdentifier, AContentType, AName, Value, Whole, Plain, AllHold, IsAgainstSome}
+use Rattle.mm_base.specs.Package.{kind_text}
+use Rattle.mm_base.specs.Effects.{step_kind, plain_kind}
+use Rattle.mm_base.specs.Conditions.{relation_text}
+use Rattle.mm_base.specs.declared.commands.Matrix.{Matrix}
+use Rattle.mm_base.specs.declared.commands.Piece.{Piece}
+use Rattle.mm_base.specs.declared.commands.Piece.TheVariants.{Tile, TileDrop, Row, RowDrop, Media, MediaDrop, Map, MapDrop}
+use Rattle.mm_base.specs.declared.commands.Command.{Command}
+use Rattle.mm_base.specs.declared.commands.Command.TheVariants as commands
+
+-- ---- the records of pieces, without the word that they begin with
+abbrev pub id_field : Field
+id_field = NumberFrom (pos 1) (pos (2 ^ 53))
+
+abbrev pub zoom_field : Field
+zoom_field = NumberFrom (pos 0) (pos 30)
+
+abbrev pub place_field : Field
+place_field = NumberFrom (pos 0) (pos (2 ^ 30 - 1))
+
+abbrev pub amount_field : Field
+amount_field = NumberFrom (neg_ℤ (pos (10 ^ 15))) (pos (10 ^ 15))
+
+abbrev pub remark_field : Field
+remark_field = TextOf 0 1000
+
+abbrev pub Form : Type 0
+Form = List Field
+
+abbrev pub tile_form : Form
+tile_form = AName ∷ zoom_field ∷ place_field ∷ place_field ∷ BytesTo 1048576 ∷ []
+
+abbrev pub tile_drop_form : Form
+tile_drop_form = AName ∷ zoom_field ∷ place_field ∷ place_field ∷ []
+
+abbrev pub row_form : Form
+row_form = AName ∷ id_field ∷ remark_field ∷ remark_field ∷ amount_field ∷ []
+
+-- a row or media item, by its table and number
+abbrev pub item_form : Form
+item_form = AName ∷ id_field ∷ []
+
+abbrev pub media_form : Form
+media_form = AName ∷ id_field ∷ AContentType ∷ BytesTo 4194304 ∷ []
+
+abbrev pub map_form : Form
+map_form = AName ∷ id_field ∷ id_field ∷ []
+
+abbrev pub piece_forms : List (Text × Form)
+piece_forms =
+    (codes "tile", tile_form) ∷ (codes "tile-drop", tile_drop_form) ∷ (codes "row", row_form) ∷ (codes "row-drop", item_form)
+    ∷ (codes "media", media_form) ∷ (codes "media-drop", item_form) ∷ (codes "map", map_form) ∷ (codes "map-drop", map_form) ∷ []
+
+-- ---- the records of the other commands
+abbrev pub coordinate : Profile → Field
+coordinate profile = NumberFrom (neg_ℤ (pos profile.coordinate)) (pos profile.coordinate)
+
+abbrev pub pixel_size : Profile → Field
+pixel_size profile = NumberFrom (pos 1) (pos profile.pixel_size)
+
+abbrev pub step_words : Field
+step_words = OneOf (codes "two" ∷ codes "other" ∷ [])
+
+abbrev pub kind_words : Field
+kind_words = OneOf (codes "attributes" ∷ codes "media" ∷ [])
+
+abbrev pub relation_words : Field
+relation_words = OneOf (codes "media" ∷ codes "simple_attributes" ∷ [])
+
+abbrev pub system_name : Field
+system_name = TextOf 1 1000
+
+abbrev pub definition_field : Field
+definition_field = TextOf 1 8192
+
+-- a system as a pyramid names it: the given ones too
+abbrev pub named_system : Field
+named_system = NumberFrom (negsuc 0) (pos (2 ^ 53))
+
+abbrev pub srs_form : Form
+srs_form = id_field ∷ system_name ∷ system_name ∷ id_field ∷ definition_field ∷ remark_field ∷ []
+
+abbrev pub pyramid_form : Profile → Form
+pyramid_form profile =
+    AName ∷ AnIdentifier ∷ named_system ∷ coordinate profile ∷ coordinate profile ∷ coordinate profile ∷ coordinate profile
+    ∷ step_words ∷ []
+
+abbrev pub matrix_side : Field
+matrix_side = NumberFrom (pos 1) (pos (2 ^ 30))
+
+abbrev pub tile_side : Field
+tile_side = NumberFrom (pos 1) (pos 4096)
+
+abbrev pub matrix_form : Profile → Form
+matrix_form profile = AName ∷ zoom_field ∷ matrix_side ∷ matrix_side ∷ tile_side ∷ tile_side ∷ pixel_size profile ∷ pixel_size profile ∷ []
+
+abbrev pub table_form : Form
+table_form = AName ∷ kind_words ∷ AnIdentifier ∷ []
+
+abbrev pub relation_form : Form
+relation_form = AName ∷ AName ∷ AName ∷ relation_words ∷ []
+
+-- a table, a mapping or an edition
+abbrev pub name_form : Form
+name_form = AName ∷ []
+
+abbrev pub other_forms : Profile → List (Text × Form)
+other_forms profile =
+    (codes "srs", srs_form) ∷ (codes "pyramid", pyramid_form profile) ∷ (codes "matrix", matrix_form profile) ∷ (codes "table", table_form) ∷ (codes "drop", name_form)
+    ∷ (codes "relation", relation_form) ∷ (codes "relation-drop", name_form) ∷ (codes "edition", name_form) ∷ (codes "discard", name_form)
+    ∷ (codes "publish", name_form) ∷ (codes "rehearse", name_form) ∷ []
+
+-- ---- the form of a record: what its fields after the first word hold, if that word is known
+abbrev pub form_of : List (Text × Form) → Text → Option Form
+form_of [] word = None
+form_of (entry ∷ entries) word = if bytes_eq word entry.0 then Some entry.1 else form_of entries word
+
+abbrev pub piece_form : List Text → Option Form
+piece_form [] = None
+piece_form (word ∷ texts) = form_of piece_forms word
+
+-- a `stage` record is an edition, a number and the record of a piece, whose word is known already
+abbrev pub with_piece : Option Form → Text → Option Form
+with_piece None word = None
+with_piece (Some form) word = Some (AName ∷ id_field ∷ OneOf (word ∷ []) ∷ form)
+
+abbrev pub stage_form : List Text → Option Form
+stage_form (edition ∷ number ∷ word ∷ texts) = with_piece (form_of piece_forms word) word
+stage_form _ = None
+
+abbrev pub record_form : Profile → List Text → Option Form
+record_form profile [] = None
+record_form profile (word ∷ texts) = if bytes_eq word (codes "stage") then stage_form texts else form_of (piece_forms ++ other_forms profile) word
+
+-- ---- the record that a command is spelled by
+abbrev pub piece_word : Piece → Text
+piece_word (Tile table zoom column row bytes) = codes "tile"
+piece_word (TileDrop table zoom column row) = codes "tile-drop"
+piece_word (Row table id title note amount) = codes "row"
+piece_word (RowDrop table id) = codes "row-drop"
+piece_word (Media table id content_type bytes) = codes "media"
+piece_word (MediaDrop table id) = codes "media-drop"
+piece_word (Map mapping base_id related_id) = codes "map"
+piece_word (MapDrop mapping base_id related_id) = codes "map-drop"
+
+abbrev pub piece_values : Piece → List Value
+piece_values (Tile table zoom column row bytes) = Plain table ∷ Whole (pos zoom) ∷ Whole (pos column) ∷ Whole (pos row) ∷ Plain bytes ∷ []
+piece_values (TileDrop table zoom column row) = Plain table ∷ Whole (pos zoom) ∷ Whole (pos column) ∷ Whole (pos row) ∷ []
+piece_values (Row table id title note amount) = Plain table ∷ Whole id ∷ Plain title ∷ Plain note ∷ Whole amount ∷ []
+piece_values (RowDrop table id) = Plain table ∷ Whole id ∷ []
+piece_values (Media table id content_type bytes) = Plain table ∷ Whole id ∷ Plain content_type ∷ Plain bytes ∷ []
+piece_values (MediaDrop table id) = Plain table ∷ Whole id ∷ []
+piece_values (Map mapping base_id related_id) = Plain mapping ∷ Whole base_id ∷ Whole related_id ∷ []
+piece_values (MapDrop mapping base_id related_id) = Plain mapping ∷ Whole base_id ∷ Whole related_id ∷ []
+
+abbrev pub command_word : Command → Text
+command_word (commands.Srs id name organization organization_id definition description) = codes "srs"
+command_word (commands.Pyramid table identifier srs min_x min_y max_x max_y step) = codes "pyramid"
+command_word (commands.Matrix table zoom matrix) = codes "matrix"
+command_word (commands.Table table kind identifier) = codes "table"
+command_word (commands.Drop table) = codes "drop"
+command_word (commands.Tile table zoom column row bytes) = piece_word (Tile table zoom column row bytes)
+command_word (commands.TileDrop table zoom column row) = piece_word (TileDrop table zoom column row)
+command_word (commands.Row table id title note amount) = piece_word (Row table id title note amount)
+command_word (commands.RowDrop table id) = piece_word (RowDrop table id)
+command_word (commands.Media table id content_type bytes) = piece_word (Media table id content_type bytes)
+command_word (commands.MediaDrop table id) = piece_word (MediaDrop table id)
+command_word (commands.Relation mapping base related name) = codes "relation"
+command_word (commands.RelationDrop mapping) = codes "relation-drop"
+command_word (commands.Map mapping base_id related_id) = piece_word (Map mapping base_id related_id)
+command_word (commands.MapDrop mapping base_id related_id) = piece_word (MapDrop mapping base_id related_id)
+command_word (commands.Edition name) = codes "edition"
+command_word (commands.Discard name) = codes "discard"
+command_word (commands.Stage edition number piece) = codes "stage"
+command_word (commands.Publish edition) = codes "publish"
+command_word (commands.Rehearse edition) = codes "rehearse"
+
+abbrev pub matrix_values : Matrix → List Value
+matrix_values m = Whole (pos m.mw) ∷ Whole (pos m.mh) ∷ Whole (pos m.tw) ∷ Whole (pos m.th) ∷ Whole m.px ∷ Whole m.py ∷ []
+
+abbrev pub command_values : Command → List Value
+command_values (commands.Srs id name organization organization_id definition description) =
+    Whole id ∷ Plain name ∷ Plain organization ∷ Whole organization_id ∷ Plain definition ∷ Plain description ∷ []
+command_values (commands.Pyramid table identifier srs min_x min_y max_x max_y step) =
+    Plain table ∷ Plain identifier ∷ Whole srs ∷ Whole min_x ∷ Whole min_y ∷ Whole max_x ∷ Whole max_y ∷ Plain (kind_text (step_kind step)) ∷ []
+command_values (commands.Matrix table zoom matrix) = Plain table ∷ Whole (pos zoom) ∷ matrix_values matrix
+command_values (commands.Table table kind identifier) = Plain table ∷ Plain (kind_text (plain_kind kind)) ∷ Plain identifier ∷ []
+command_values (commands.Drop table) = Plain table ∷ []
+command_values (commands.Tile table zoom column row bytes) = piece_values (Tile table zoom column row bytes)
+command_values (commands.TileDrop table zoom column row) = piece_values (TileDrop table zoom column row)
+command_values (commands.Row table id title note amount) = piece_values (Row table id title note amount)
+command_values (commands.RowDrop table id) = piece_values (RowDrop table id)
+command_values (commands.Media table id content_type bytes) = piece_values (Media table id content_type bytes)
+command_values (commands.MediaDrop table id) = piece_values (MediaDrop table id)
+command_values (commands.Relation mapping base related name) = Plain mapping ∷ Plain base ∷ Plain related ∷ Plain (relation_text name) ∷ []
+command_values (commands.RelationDrop mapping) = Plain mapping ∷ []
+command_values (commands.Map mapping base_id related_id) = piece_values (Map mapping base_id related_id)
+command_values (commands.MapDrop mapping base_id related_id) = piece_values (MapDrop mapping base_id related_id)
+command_values (commands.Edition name) = Plain name ∷ []
+command_values (commands.Discard name) = Plain name ∷ []
+command_values (commands.Stage edition number piece) = Plain edition ∷ Whole number ∷ Plain (piece_word piece) ∷ piece_values piece
+command_values (commands.Publish edition) = Plain edition ∷ []
+command_values (commands.Rehearse edition) = Plain edition ∷ []
+
+-- ---- what the fields of a record spell
+-- the record's form, if it has one, is met by these values
+abbrev pub IsMet : Option Form → List Text → List Value → Type 0
+IsMet None texts values = ⊥
+IsMet (Some form) texts values = AllHold form texts values
+
+-- the number holds against a record, which is 10 alone where it has no form
+abbrev pub IsUnmet : Option Form → List Text → ℕ → Type 0
+IsUnmet None texts n = n ≡ 10
+IsUnmet (Some form) texts n = IsAgainstSome form texts n
+
+abbrev pub SpellsPiece : List Text → Piece → Type 0
+SpellsPiece [] q = ⊥
+SpellsPiece (word ∷ texts) q = (word ≡ piece_word q) × IsMet (piece_form (word ∷ texts)) texts (piece_values q)
+
+abbrev pub HoldsAgainstPiece : List Text → ℕ → Type 0
+HoldsAgainstPiece [] n = n ≡ 10
+HoldsAgainstPiece (word ∷ texts) n = IsUnmet (piece_form (word ∷ texts)) texts n
+
+abbrev pub Spells : Profile → List Text → Command → Type 0
+Spells profile [] c = ⊥
+Spells profile (word ∷ texts) c = (word ≡ command_word c) × IsMet (record_form profile (word ∷ texts)) texts (command_values c)
+
+abbrev pub HoldsAgainst : Profile → List Text → ℕ → Type 0
+HoldsAgainst profile [] n = n ≡ 10
+HoldsAgainst profile (word ∷ texts) n = IsUnmet (record_form profile (word ∷ texts)) texts n
+
+-- the least of the numbers that hold
+pub record IsLeast (Held : ℕ → Type 0) (n : ℕ) : Type 0 where
+  pub is_held : Held n
+  pub is_least : (m : ℕ) → Held m → n ≤ m

@@ -19,7 +19,7 @@ use Rattle.mm_base.proofs.Parts.{same_some, each_put, each_retain, after_put, af
 use Rattle.mm_base.proofs.CleanTexts.{ascii_is_clean}
 use Rattle.mm_base.proofs.KeyLaws.{texts, piece_keys}
 use Rattle.mm_base.proofs.Listed.{along_entries}
-use Rattle.mm_laws.specs.Laws.{PieceKeeps}
+use Rattle.mm_laws.proofs.Kept.{PieceKeeps}
 use Rattle.mm_laws.proofs.KindFacts.{differ}
 use Rattle.mm_laws.proofs.Contents as contents
 use Rattle.mm_laws.proofs.Relations.{other_tells, numbered_still}

@@ -5,8 +5,7 @@ use Rattle.csv.specs.declared.reader.Reader.{Reader}
 use Rattle.mm_base.specs.Bounds.{IsMoment, millimetres}
 use Rattle.mm_base.specs.Package.{Package}
 use Rattle.mm_base.specs.Rules.{Meets}
-use Rattle.mm_base.specs.Step.{refusal, step, done, unless_refused}
-use Rattle.mm_base.specs.Stamp.{stamp}
+use Rattle.mm_base.specs.Step.{refusal, step}
 use Rattle.mm_base.specs.declared.answers.Refusal.{Refusal}
 use Rattle.mm_base.specs.declared.answers.Answer.{Answer}
 use Rattle.mm_base.specs.declared.answers.Answer.TheVariants as answers
@@ -16,12 +15,8 @@ use Rattle.mm_run.specs.Readings.{Reading, IsReadAs}
 use Rattle.mm_run.specs.Answers.{answer_of, answer_to, after, plain}
 use Rattle.mm_run.specs.Applied.{IsApplied, IsSound, Leaves, IsAnswer}
 use Rattle.mm_run.specs.Runs.{IsAnswered, Turns}
-use Rattle.mm_run.proofs.Keeps.{step_meets}
-use Rattle.mm_run.proofs.Spelled.{spelled_within}
-
--- a refused command leaves the package
-pub step_refused : (p : Package) (c : Command) (moment : ℕ) (why : Refusal) → refusal p c ≡ Some why → step p c moment ≡ p
-step_refused p c moment why e = ap (λ r. unless_refused r (done p c (stamp moment)) p) e
+use Rattle.mm_laws.proofs.RunFacts.{refused_same}
+use Rattle.mm_run.proofs.Keeps.{spelled_within, step_meets}
 
 module _ {D : Type 0} (fields : Record) (p : Package) (moment : ℕ) (settled : Package → Type 0) (may_leave : D → Type 0) (stands_for : D → Package → Type 0) where
   -- a command was applied
@@ -30,7 +25,7 @@ module _ {D : Type 0} (fields : Record) (p : Package) (moment : ℕ) (settled : 
   answered_command c answers.Ok read low meets h =
       (Ok c, read, ap answer_of (sym h.0), (h.1, step_meets p c moment low meets (spelled_within fields c read.1)))
   answered_command c (answers.Refused why) read low meets h =
-      (Ok c, read, ap answer_of (sym h.0), subst (IsSound settled) (sym (step_refused p c moment why h.0)) (h.1, meets))
+      (Ok c, read, ap answer_of (sym h.0), subst (IsSound settled) (sym (refused_same p c moment why h.0)) (h.1, meets))
   answered_command c (answers.Fault fault) read low meets h = inr (c, read, step_meets p c moment low meets (spelled_within fields c read.1), h)
 
   -- a record that spells no command

@@ -60,8 +60,7 @@ module _ {S : Type 0} (x y z : S) (first before failed : Bool) (t : Tally) (e : 
 
   at_fault : (f : Fault) → f ≡ e.fault → TellsFailure before failed (z ≡ y) (answers.Fault f) → e.tally.accepted ≡ t.accepted → Result
   at_fault f is h count =
-      let number : f.0 ≡ e.fault.0 = ap (λ (x : Fault). x.0) is in
-      (
+      let number : f.0 ≡ e.fault.0 = ap (λ (x : Fault). x.0) is in (
         λ q. sym so_far ∙ h.0 (number ∙ q),
         λ q. let s = h.1 (number ∙ q) in (sym so_far ∙ s.0, s.1),
         λ q. h.2 (number ∙ q) ∙ so_far,

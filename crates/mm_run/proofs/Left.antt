@@ -182,15 +182,14 @@ module _ {D T : Type 0} (remaining : T → Option (List ℕ)) (a b : Reader T) (
           → (q : Package) × stands_for db q × IsFirstPart p (calls_of moment (h.readings ++ Ok command ∷ [])) (accepted_of (take w given)) q × Meets millimetres q
       done db none stands front count after_it =
           let more : answers_to p moment (h.readings ++ Ok command ∷ []) ≡ answers_to p moment h.readings ++ answers.Ok ∷ [] =
-              answers-more p moment h.readings (Ok command) ∙ ap (λ r. answers_to p moment h.readings ++ answer_of r ∷ []) none in
+          answers-more p moment h.readings (Ok command) ∙ ap (λ r. answers_to p moment h.readings ++ answer_of r ∷ []) none in
           let one : accepted_of (answers_to p moment (h.readings ++ Ok command ∷ [])) ≡ accepted_of (answers_to p moment h.readings) + 1 =
-              ap accepted_of more ∙ accepted_of-more (answers_to p moment h.readings) answers.Ok in
-          let first = part_of p moment (h.readings ++ Ok command ∷ []) [] (accepted_of (take w given)) (omega (arith, front, count, one)) (omega (arith, front, count, one)) in
-          (
+          ap accepted_of more ∙ accepted_of-more (answers_to p moment h.readings) answers.Ok in
+          let first = part_of p moment (h.readings ++ Ok command ∷ []) [] (accepted_of (take w given)) (omega (arith, front, count, one)) (omega (arith, front, count, one)) in (
             step here command moment,
             stands,
             subst (λ q. IsFirstPart p (calls_of moment (h.readings ++ Ok command ∷ [])) (accepted_of (take w given)) q) after_it
-            (subst (λ l. IsFirstPart p (calls_of moment l) (accepted_of (take w given)) (run p (calls_of moment (h.readings ++ Ok command ∷ [])))) (append-nil (h.readings ++ Ok command ∷ [])) first),
+                (subst (λ l. IsFirstPart p (calls_of moment l) (accepted_of (take w given)) (run p (calls_of moment (h.readings ++ Ok command ∷ [])))) (append-nil (h.readings ++ Ok command ∷ [])) first),
             meets,
           )
 

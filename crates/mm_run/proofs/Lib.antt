@@ -1,4 +1,3 @@
-pub mod Spelled
 pub mod Keeps
 pub mod Answered
 pub mod Lists

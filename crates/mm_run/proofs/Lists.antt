@@ -16,7 +16,7 @@ use Rattle.mm_lines.specs.Lines.{line, lines, lines_from}
 use Rattle.mm_lines.specs.Records.{Record}
 use Rattle.mm_run.specs.Readings.{Reading, IsReadAs, AreReadAs}
 use Rattle.mm_run.specs.Answers.{answer_of, answer_to, after, answers_to, calls_of, is_accepted, is_refused, accepted_of, refused_of}
-use Rattle.mm_run.proofs.Answered.{step_refused}
+use Rattle.mm_laws.proofs.RunFacts.{run_accepted}
 
 -- ---- readings
 pub read_more : (rows : List Record) (readings : List Reading) (fields : Record) (reading : Reading) → AreReadAs rows readings → IsReadAs fields reading
@@ -126,17 +126,6 @@ text-more given a n e =
     ap concat whole ∙ concat-append (lines given) (line n a ∷ []) ∙ ap (λ l. concat (lines given) ++ l) (append-nil (line n a))
 
 -- ---- first parts
-run_if_ok : (p : Package) (c : Call) (cs : List Call) → run p (if_ok (refusal p c.command) c cs) ≡ run (step p c.command c.moment) cs
-run_if_ok p c cs = go (refusal p c.command) refl
-  where
-    go : (r : Option Refusal) → refusal p c.command ≡ r → run p (if_ok r c cs) ≡ run (step p c.command c.moment) cs
-    go None e = refl
-    go (Some why) e = ap (λ q. run q cs) (sym (step_refused p c.command c.moment why e))
-
-pub run-accepted : (p : Package) (cs : List Call) → run p (accepted p cs) ≡ run p cs
-run-accepted p [] = refl
-run-accepted p (c ∷ cs) = run_if_ok p c (accepted (step p c.command c.moment) cs) ∙ run-accepted (step p c.command c.moment) cs
-
 if_ok-append : (r : Option Refusal) (c : Call) (xs ys : List Call) → if_ok r c (xs ++ ys) ≡ if_ok r c xs ++ ys
 if_ok-append None c xs ys = refl
 if_ok-append (Some why) c xs ys = refl
@@ -172,7 +161,7 @@ part p xs ys acknowledged least most =
       at_least = least;
       at_most = most;
       there = omega (arith, ap length all, length-append (accepted p xs) (accepted (run p xs) ys));
-      is = sym (ap (run p) front ∙ run-accepted p xs);
+      is = sym (ap (run p) front ∙ run_accepted xs p);
     }
 
 -- the same of records that were read

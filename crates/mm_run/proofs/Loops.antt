@@ -142,8 +142,7 @@ module _ (P : List Answer → ℕ → Type 0) (given : List Answer) (n : ℕ) (t
   stopped-fault f other (inl h) here =
       let same : f ≡ e.fault = cc (h.0) in
       let at : e.tally.written ≡ length given + 1 = rw h.1 (ap (λ k. k + 1) d.1) in
-      let not_writer : e.fault.0 ≢ 97 = rw (← same) other in
-      (
+      let not_writer : e.fault.0 ≢ 97 = rw (← same) other in (
         given,
         (rw h.1 d.0, inl (not_writer, at, rw (← h.0, text-more given (answers.Fault f) n m) (Appends-trans _ _ _ _ _ d.2 h.2)), λ is. absurd (not_writer is)),
         here e.tally.written (omega arith),

@@ -1,6 +1,6 @@
 use Rattle.csv.specs.Records.{fields_of}
 use Rattle.mm_run.proofs.Answered.{answered_command, answered_refusal}
-use Rattle.mm_run.proofs.Spelled.{spelled_within}
+use Rattle.mm_run.proofs.Keeps.{spelled_within}
 use Rattle.mm_run.proofs.answering.answer_row.Goals as goal
 
 pub returns-in-Ok-clause-answered : goal.returns-in-Ok-clause-answered

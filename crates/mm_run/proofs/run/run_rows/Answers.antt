@@ -23,8 +23,7 @@ loop-n-init g c = record {
 pub returns-in-None-clause-done : goal.returns-in-None-clause-done
 returns-in-None-clause-done g c =
     let inv = c.loop-n.invariant in
-    let (given, told, so_far) = inv.given in
-    (
+    let (given, told, so_far) = inv.given in (
       given,
       told,
       λ clean p sound xs here.
@@ -75,18 +74,18 @@ returns-in-Err-clause-stopped g c =
     let at : length given + 1 ≡ c.loop-n.n = omega (arith, told.1) in
     stopped-with
     (λ told w. OnRun (g.A.Apply.is_clean c.turn.new.session) (g.A.Apply.settled c.args.session.now) (source_of g.T.Read.remaining c.args.rows.now)
-        (λ p xs. IsSome p c.args.at xs c.args.rows.now.state (g.A.Apply.may_leave c.turn.new.session) g.A.Apply.stands_for told w))
+    (λ p xs. IsSome p c.args.at xs c.args.rows.now.state (g.A.Apply.may_leave c.turn.new.session) g.A.Apply.stands_for told w))
     given c.loop-n.n c.loop-n.tally c.in-Err.e _ _ _ _ at told c.in-Some.answer (no-writer-fault c.in-Some.answer _ c.in-Some.ensures.faults) c.in-Err.ensures.stops
     (λ faulted w enough clean p sound xs here.
-        some-faulted g.T.Read.remaining c.loop-n.rows c.turn.new.rows p c.args.at xs c.args.rows.now.state (g.A.Apply.settled c.loop-n.session) (g.A.Apply.settled c.turn.new.session)
-        (g.A.Apply.may_leave c.turn.new.session) g.A.Apply.stands_for given inv.set_up.config (so_far (c.turn.ensures.clean clean) p sound xs here) c.in-Some.answer faulted
-        (λ q sound. rw c.in-Some.is at (c.turn.ensures.turns clean q sound)) w enough)
+    some-faulted g.T.Read.remaining c.loop-n.rows c.turn.new.rows p c.args.at xs c.args.rows.now.state (g.A.Apply.settled c.loop-n.session) (g.A.Apply.settled c.turn.new.session)
+    (g.A.Apply.may_leave c.turn.new.session) g.A.Apply.stands_for given inv.set_up.config (so_far (c.turn.ensures.clean clean) p sound xs here) c.in-Some.answer faulted
+    (λ q sound. rw c.in-Some.is at (c.turn.ensures.turns clean q sound)) w enough)
     (λ good w enough clean p sound xs here.
-        some-last p c.args.at (g.A.Apply.may_leave c.turn.new.session) g.A.Apply.stands_for xs c.args.rows.now.state given c.in-Some.answer (g.A.Apply.settled c.turn.new.session)
-        (g.met.A.Apply.leaves_settled c.turn.new.session) _ _
-        (so_far-more g.T.Read.remaining c.loop-n.rows c.turn.new.rows p c.args.at xs c.args.rows.now.state (g.A.Apply.settled c.loop-n.session) (g.A.Apply.settled c.turn.new.session)
-        (g.A.Apply.may_leave c.turn.new.session) g.A.Apply.stands_for given inv.set_up.config (so_far (c.turn.ensures.clean clean) p sound xs here) c.in-Some.answer
-        (λ q sound. rw c.in-Some.is at (c.turn.ensures.turns clean q sound)) good) w enough)
+    some-last p c.args.at (g.A.Apply.may_leave c.turn.new.session) g.A.Apply.stands_for xs c.args.rows.now.state given c.in-Some.answer (g.A.Apply.settled c.turn.new.session)
+    (g.met.A.Apply.leaves_settled c.turn.new.session) _ _
+    (so_far-more g.T.Read.remaining c.loop-n.rows c.turn.new.rows p c.args.at xs c.args.rows.now.state (g.A.Apply.settled c.loop-n.session) (g.A.Apply.settled c.turn.new.session)
+    (g.A.Apply.may_leave c.turn.new.session) g.A.Apply.stands_for given inv.set_up.config (so_far (c.turn.ensures.clean clean) p sound xs here) c.in-Some.answer
+    (λ q sound. rw c.in-Some.is at (c.turn.ensures.turns clean q sound)) good) w enough)
 
 pub returns-in-Err-tell-clause-stopped : goal.returns-in-Err-tell-clause-stopped
 returns-in-Err-tell-clause-stopped g c =
@@ -96,9 +95,9 @@ returns-in-Err-tell-clause-stopped g c =
     let at : length given + 1 ≡ 2 ^ 64 - 1 = omega (arith, told.1) in
     stopped-with
     (λ told w. OnRun (g.A.Apply.is_clean c.loop-n.session) (g.A.Apply.settled c.args.session.now) (source_of g.T.Read.remaining c.args.rows.now)
-        (λ p xs. IsSome p c.args.at xs c.args.rows.now.state (g.A.Apply.may_leave c.loop-n.session) g.A.Apply.stands_for told w))
+    (λ p xs. IsSome p c.args.at xs c.args.rows.now.state (g.A.Apply.may_leave c.loop-n.session) g.A.Apply.stands_for told w))
     given (2 ^ 64 - 1) c.loop-n.tally c.in-Err-tell.e _ _ _ _ at told (answers.Fault (record { 0 = 90 })) (λ e. absurd (omega arith)) c.in-Err-tell.ensures.stops
     (λ faulted w enough clean p sound xs here.
-        some-so_far p c.args.at (g.A.Apply.may_leave c.loop-n.session) g.A.Apply.stands_for xs c.args.rows.now.state given (g.A.Apply.settled c.loop-n.session)
-        (g.met.A.Apply.leaves_settled c.loop-n.session) _ _ (so_far clean p sound xs here) w enough)
+    some-so_far p c.args.at (g.A.Apply.may_leave c.loop-n.session) g.A.Apply.stands_for xs c.args.rows.now.state given (g.A.Apply.settled c.loop-n.session)
+    (g.met.A.Apply.leaves_settled c.loop-n.session) _ _ (so_far clean p sound xs here) w enough)
     (λ good. absurd good)

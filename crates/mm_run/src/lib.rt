@@ -10,3 +10,6 @@ mod telling;
 
 pub use apply::Apply;
 pub use run::run_list;
+
+#[cfg(test)]
+mod tests;

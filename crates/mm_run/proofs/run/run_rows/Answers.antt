@@ -3,7 +3,7 @@ use Rattle.csv.specs.Reading.{source_of}
 use Rattle.mm_base.specs.declared.answers.Answer.{Answer}
 use Rattle.mm_base.specs.declared.answers.Answer.TheVariants as answers
 use Rattle.mm_run.specs.Runs.{IsSome, OnRun}
-use Rattle.mm_run.proofs.Loops.{counted-once, no-writer-fault, stopped-with, told-more, told-none, written-once}
+use Rattle.mm_run.proofs.Loops.{counted-once, no-writer-fault, stopped-fault, stopped-with, told-more, told-none, written-once}
 use Rattle.mm_run.proofs.Left.{all-answered, so_far-more, so_far-none, some-faulted, some-last, some-so_far}
 use Rattle.mm_run.proofs.Failing.{goes-ended, goes-same, stops-failing}
 use Rattle.mm_run.proofs.run.run_rows.Goals as goal
@@ -93,11 +93,10 @@ returns-in-Err-tell-clause-stopped g c =
     let (given, told, so_far) = inv.given in
     let end : c.loop-n.n ≡ 2 ^ 64 - 1 = omega (arith, c.loop-n-test.false) in
     let at : length given + 1 ≡ 2 ^ 64 - 1 = omega (arith, told.1) in
-    stopped-with
+    stopped-fault
     (λ told w. OnRun (g.A.Apply.is_clean c.loop-n.session) (g.A.Apply.settled c.args.session.now) (source_of g.T.Read.remaining c.args.rows.now)
     (λ p xs. IsSome p c.args.at xs c.args.rows.now.state (g.A.Apply.may_leave c.loop-n.session) g.A.Apply.stands_for told w))
-    given (2 ^ 64 - 1) c.loop-n.tally c.in-Err-tell.e _ _ _ _ at told (answers.Fault (record { 0 = 90 })) (λ e. absurd (omega arith)) c.in-Err-tell.ensures.stops
-    (λ faulted w enough clean p sound xs here.
+    given (2 ^ 64 - 1) c.loop-n.tally c.in-Err-tell.e _ _ _ _ at told (record { 0 = 90 }) (λ e. absurd (omega arith)) c.in-Err-tell.ensures.stops
+    (λ w enough clean p sound xs here.
     some-so_far p c.args.at (g.A.Apply.may_leave c.loop-n.session) g.A.Apply.stands_for xs c.args.rows.now.state given (g.A.Apply.settled c.loop-n.session)
     (g.met.A.Apply.leaves_settled c.loop-n.session) _ _ (so_far clean p sound xs here) w enough)
-    (λ good. absurd good)

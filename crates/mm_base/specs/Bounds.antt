@@ -1,0 +1,124 @@
+-- What the numbers, bytes and texts of a package are limited to.
+use Rattle.std.specs.Prelude.{◌≡◌, ℕ, ◌+◌, ◌-◌, ◌<◌, ◌≤◌, ◌^◌, Bool, true, false, not, ◌&&◌, ◌||◌, IsTrue, nat_le, ℤ, pos, neg_ℤ, ◌≤ℤ◌, List, [], ◌∷◌, length, codes, ◌++◌}
+use Rattle.std.specs.List.{list_any}
+
+-- What a profile of whole numbers limits by its unit of length.
+pub record Profile : Type 0 where
+  pub version : ℤ
+  pub coordinate : ℕ
+  pub pixel_size : ℕ
+
+abbrev pub millimetres : Profile
+millimetres = record { version = pos 1; coordinate = 10 ^ 11; pixel_size = 10 ^ 9 }
+
+abbrev pub micrometres : Profile
+micrometres = record { version = pos 2; coordinate = 10 ^ 14; pixel_size = 10 ^ 12 }
+
+-- from low to high, both included
+abbrev pub IsFrom : ℤ → ℤ → ℤ → Type 0
+IsFrom low high z = (low ≤ℤ z) × (z ≤ℤ high)
+
+abbrev pub IsCoordinate : Profile → ℤ → Type 0
+IsCoordinate profile = IsFrom (neg_ℤ (pos profile.coordinate)) (pos profile.coordinate)
+
+abbrev pub IsPixelSize : Profile → ℤ → Type 0
+IsPixelSize profile = IsFrom (pos 1) (pos profile.pixel_size)
+
+abbrev pub IsZoom : ℤ → Type 0
+IsZoom = IsFrom (pos 0) (pos 30)
+
+abbrev pub IsMatrixSide : ℤ → Type 0
+IsMatrixSide = IsFrom (pos 1) (pos (2 ^ 30))
+
+abbrev pub IsTileSide : ℤ → Type 0
+IsTileSide = IsFrom (pos 1) (pos 4096)
+
+-- a column or row of tiles
+abbrev pub IsTilePlace : ℤ → Type 0
+IsTilePlace = IsFrom (pos 0) (pos (2 ^ 30 - 1))
+
+abbrev pub IsId : ℤ → Type 0
+IsId = IsFrom (pos 1) (pos (2 ^ 53))
+
+abbrev pub IsAmount : ℤ → Type 0
+IsAmount = IsFrom (neg_ℤ (pos (10 ^ 15))) (pos (10 ^ 15))
+
+abbrev pub IsMoment : ℕ → Type 0
+IsMoment m = m ≤ 253402300799999
+
+-- as many bytes as from least to most
+abbrev pub IsLong : ℕ → ℕ → List ℕ → Type 0
+IsLong least most bytes = (least ≤ length bytes) × (length bytes ≤ most)
+
+abbrev pub IsTileBytes : List ℕ → Type 0
+IsTileBytes = IsLong 1 1048576
+
+abbrev pub IsMediaBytes : List ℕ → Type 0
+IsMediaBytes = IsLong 1 4194304
+
+-- A name is 1 to 60 of a-z, 0-9 and _, begins with no digit, and not with gpkg, sqlite or mm_.
+abbrev pub is_letter : ℕ → Bool
+is_letter c = (nat_le 97 c && nat_le c 122) || (nat_le 95 c && nat_le c 95)
+
+abbrev pub is_letter_or_digit : ℕ → Bool
+is_letter_or_digit c = is_letter c || (nat_le 48 c && nat_le c 57)
+
+abbrev pub begins_with : List ℕ → List ℕ → Bool
+begins_with [] text = true
+begins_with (p ∷ ps) [] = false
+begins_with (p ∷ ps) (c ∷ cs) = nat_le p c && nat_le c p && begins_with ps cs
+
+abbrev pub begins_with_letter : List ℕ → Bool
+begins_with_letter [] = false
+begins_with_letter (c ∷ cs) = is_letter c
+
+pub record IsName (text : List ℕ) : Type 0 where
+  pub long : IsLong 1 60 text
+  pub first : IsTrue (begins_with_letter text)
+  pub all : IsTrue (not (list_any (λ c. not (is_letter_or_digit c)) text))
+  pub own : IsTrue (not (begins_with (codes "gpkg") text || begins_with (codes "sqlite") text || begins_with (codes "mm_") text))
+
+-- A text holds no byte 0. That it is UTF-8 is what the store keeps of every text.
+abbrev pub has_zero : List ℕ → Bool
+has_zero = list_any (λ c. nat_le c 0)
+
+pub record IsText (least most : ℕ) (text : List ℕ) : Type 0 where
+  pub long : IsLong least most text
+  pub clean : IsTrue (not (has_zero text))
+
+abbrev pub is_control : ℕ → Bool
+is_control c = nat_le c 31 || (nat_le 127 c && nat_le c 127)
+
+pub record IsIdentifier (text : List ℕ) : Type 0 where
+  pub long : IsLong 1 1000 text
+  pub printable : IsTrue (not (list_any is_control text))
+
+abbrev pub IsSystemName : List ℕ → Type 0
+IsSystemName = IsText 1 1000
+
+abbrev pub IsDefinition : List ℕ → Type 0
+IsDefinition = IsText 1 8192
+
+-- a system's description, a row's title, a row's note
+abbrev pub IsRemark : List ℕ → Type 0
+IsRemark = IsText 0 1000
+
+-- a content type is two words round a slash
+abbrev pub is_word_byte : ℕ → Bool
+is_word_byte c = (nat_le 48 c && nat_le c 57) || (nat_le 65 c && nat_le c 90) || (nat_le 97 c && nat_le c 122)
+    || list_any (λ d. nat_le d c && nat_le c d) (codes "!#$&^_.+-")
+
+pub record IsWord (text : List ℕ) : Type 0 where
+  pub long : IsLong 1 64 text
+  pub all : IsTrue (not (list_any (λ c. not (is_word_byte c)) text))
+
+pub record IsContentType (text : List ℕ) : Type 0 where
+  pub kind : List ℕ
+  pub form : List ℕ
+  pub spelled : text ≡ kind ++ codes "/" ++ form
+  pub kind_word : IsWord kind
+  pub form_word : IsWord form
+
+-- the most pieces of an edition
+abbrev pub MostPieces : ℕ
+MostPieces = 4096

@@ -1,0 +1,35 @@
+-- Publishing: the pieces of an edition as commands, in rising number.
+use Rattle.std.specs.Prelude.{◌≡◌, ℕ, ℤ, pos, Bool, true, false, List, [], ◌∷◌, Option, Some, None, Result, Ok, Err, unsigned_abs}
+use Rattle.std.specs.FinMap.{insert, retain_keys}
+use Rattle.mm_base.specs.Keys.{Text, PieceKey}
+use Rattle.mm_base.specs.Package.{Package, PieceRow, published_state}
+use Rattle.mm_base.specs.Pieces.{row_piece}
+use Rattle.mm_base.specs.Conditions.{least, piece_reasons, pieces_of}
+use Rattle.mm_base.specs.Effects.{piece_effect, is_other}
+use Rattle.mm_base.specs.declared.commands.Piece.{Piece}
+
+-- a piece's number and its refusal
+abbrev pub PieceRefusal : Type 0
+PieceRefusal = ℕ × ℕ
+
+-- a piece as a command
+abbrev pub piece_trial : Package → ℕ → Piece → Text → Option ℕ → Result Package PieceRefusal
+piece_trial p number q stamp None = Ok (piece_effect p q stamp)
+piece_trial p number q stamp (Some refusal) = Err (number, refusal)
+
+abbrev pub after_trial : Result Package PieceRefusal → (Package → Result Package PieceRefusal) → Result Package PieceRefusal
+after_trial (Ok p) rest = rest p
+after_trial (Err refusal) rest = Err refusal
+
+-- each on the package that the earlier ones gave, to the first that is refused
+abbrev pub trial : List (PieceKey × PieceRow) → Package → Text → Result Package PieceRefusal
+trial [] p stamp = Ok p
+trial (e ∷ es) p stamp =
+    after_trial (piece_trial p (unsigned_abs e.0.number) (row_piece e.1) stamp (least (piece_reasons p (row_piece e.1)))) (λ q. trial es q stamp)
+
+abbrev pub edition_trial : Package → Text → Text → Result Package PieceRefusal
+edition_trial p edition stamp = trial (pieces_of p edition) p stamp
+
+-- the edition is published and holds no pieces
+abbrev pub closed : Text → Package → Package
+closed edition p = record p { editions = insert p.editions edition published_state; pieces = retain_keys p.pieces (λ k. is_other edition k.edition) }

@@ -1,0 +1,248 @@
+-- The rules that a whole package meets.
+use Rattle.std.specs.Prelude.{◌≡◌, ◌≢◌, ℕ, ◌+◌, ◌≤◌, ℤ, pos, negsuc, ◌+ℤ◌, ◌-ℤ◌, ◌*ℤ◌, ◌≤ℤ◌, ◌<ℤ◌, Bool, true, false, ◌⊎◌, ◌||◌, List, [], Option, Some, None, IfSome, IsTrue, codes, ⊤}
+use Rattle.std.specs.FinMap.{FinMap, get, contains_key}
+use Rattle.std.specs.Ordering.{int_cmp}
+use Rattle.mm_base.specs.Bounds.{Profile, IsFrom, IsCoordinate, IsPixelSize, IsZoom, IsMatrixSide, IsTileSide, IsTilePlace, IsId, IsAmount, IsMoment, IsTileBytes, IsMediaBytes, IsName, IsText, IsIdentifier, IsSystemName, IsDefinition, IsRemark, IsContentType, MostPieces}
+use Rattle.mm_base.specs.Keys.{Text, text_cmp, level_cmp, tile_cmp, item_cmp, pairing_cmp, piece_cmp, extension_cmp, Level, level, TileKey, Item, item, Pairing, PieceKey, piece, Extension}
+use Rattle.mm_base.specs.Parts.{Each, Has, Stands}
+use Rattle.mm_base.specs.Package.{Package, System, Contents, Box, MatrixSet, Grid, AttributeRow, Medium, Relation, PieceRow, kind_text, Kinds, HasKind, IsPyramid, general_extension, mapping_extension, zoom_extension, open_state, published_state}
+use Rattle.mm_base.specs.Pieces.{piece_row}
+use Rattle.mm_base.specs.Within.{IsPieceWithin}
+use Rattle.mm_base.specs.Stamp.{IsStamp}
+use Rattle.mm_base.specs.declared.commands.Kind.{Kind}
+use Rattle.mm_base.specs.declared.commands.Kind.TheVariants.{Two, Other, Attributes, Media}
+use Rattle.mm_base.specs.declared.commands.Piece.{Piece}
+
+-- ---- 1: the three given systems stand
+abbrev pub geographic : System
+geographic = record { name = codes "WGS 84 geographic"; organization = codes "EPSG"; organization_id = pos 4326; definition = codes "EPSG:4326"; description = codes "longitude and latitude" }
+
+abbrev pub undefined_cartesian : System
+undefined_cartesian = record { name = codes "Undefined Cartesian"; organization = codes "NONE"; organization_id = negsuc 0; definition = codes "undefined"; description = codes "undefined Cartesian coordinates" }
+
+abbrev pub undefined_geographic : System
+undefined_geographic = record { name = codes "Undefined geographic"; organization = codes "NONE"; organization_id = pos 0; definition = codes "undefined"; description = codes "undefined geographic coordinates" }
+
+pub record GivenSystems (systems : FinMap int_cmp System) : Type 0 where
+  pub geographic_stands : Has systems (pos 4326) geographic
+  pub cartesian_stands : Has systems (negsuc 0) undefined_cartesian
+  pub undefined_stands : Has systems (pos 0) undefined_geographic
+
+-- ---- 2: each system that is named stands, and no pyramid names a geographic one
+abbrev pub IsPlane : ℤ → Type 0
+IsPlane system = (system ≢ pos 0) × (system ≢ pos 4326)
+
+pub record NamedSystems (systems : FinMap int_cmp System) (contents : FinMap text_cmp Contents) (sets : FinMap text_cmp MatrixSet) : Type 0 where
+  pub of_contents : Each contents (λ _ c. IfSome c.system (λ s. Stands systems s))
+  pub of_sets : Each sets (λ _ s. Stands systems s.system × IsPlane s.system)
+
+-- ---- 3: identifiers differ
+abbrev pub DistinctIdentifiers : FinMap text_cmp Contents → Type 0
+DistinctIdentifiers contents = Each contents (λ table c. Each contents (λ other d. c.identifier ≡ d.identifier → table ≡ other))
+
+-- ---- 4: names
+pub record Names (contents : FinMap text_cmp Contents) (relations : FinMap text_cmp Relation) (editions : FinMap text_cmp Text) : Type 0 where
+  pub of_tables : Each contents (λ table _. IsName table)
+  pub of_mappings : Each relations (λ mapping _. IsName mapping × (get contents mapping ≡ None))
+  pub of_editions : Each editions (λ edition _. IsName edition)
+
+-- ---- 5: the registry, the contents and the matrix sets
+abbrev pub IsUnplaced : Contents → Option MatrixSet → Type 0
+IsUnplaced c set = (c.data_type ≡ codes "attributes") × (c.min_x ≡ None) × (c.min_y ≡ None) × (c.max_x ≡ None) × (c.max_y ≡ None) × (c.system ≡ None) × (set ≡ None)
+
+pub record IsPlacedAt (c : Contents) (s : MatrixSet) : Type 0 where
+  pub data_type : c.data_type ≡ codes "tiles"
+  pub system : c.system ≡ Some s.system
+  pub min_x : c.min_x ≡ Some s.box.min_x
+  pub min_y : c.min_y ≡ Some s.box.min_y
+  pub max_x : c.max_x ≡ Some s.box.max_x
+  pub max_y : c.max_y ≡ Some s.box.max_y
+
+abbrev pub IsPlaced : Contents → Option MatrixSet → Type 0
+IsPlaced c None = ⊥
+IsPlaced c (Some s) = IsPlacedAt c s
+
+abbrev pub Suits : Kind → Contents → Option MatrixSet → Type 0
+Suits Two = IsPlaced
+Suits Other = IsPlaced
+Suits Attributes = IsUnplaced
+Suits Media = IsUnplaced
+
+pub record Registry (contents : FinMap text_cmp Contents) (kinds : Kinds) (sets : FinMap text_cmp MatrixSet) : Type 0 where
+  pub registered : Each contents (λ table c. (kind : Kind) × HasKind kinds table kind × Suits kind c (get sets table))
+  pub of_kinds : Each kinds (λ table _. Stands contents table)
+  pub of_sets : Each sets (λ table _. Stands contents table)
+
+-- ---- 6: extents are not empty
+abbrev pub IsOrdered : Option ℤ → Option ℤ → Type 0
+IsOrdered low high = IfSome low (λ a. IfSome high (λ b. a <ℤ b))
+
+pub record Extents (contents : FinMap text_cmp Contents) (sets : FinMap text_cmp MatrixSet) : Type 0 where
+  pub of_sets : Each sets (λ _ s. (s.box.min_x <ℤ s.box.max_x) × (s.box.min_y <ℤ s.box.max_y))
+  pub of_contents : Each contents (λ _ c. IsOrdered c.min_x c.max_x × IsOrdered c.min_y c.max_y)
+
+-- ---- 7: the matrices of a pyramid cover its extent exactly
+pub record Fits (b : Box) (g : Grid) : Type 0 where
+  pub across : b.max_x -ℤ b.min_x ≡ (g.matrix_width *ℤ g.tile_width) *ℤ g.pixel_x_size
+  pub down : b.max_y -ℤ b.min_y ≡ (g.matrix_height *ℤ g.tile_height) *ℤ g.pixel_y_size
+
+abbrev pub FitsIn : Option MatrixSet → Grid → Type 0
+FitsIn None g = ⊥
+FitsIn (Some s) g = Fits s.box g
+
+abbrev pub MatricesFit : Kinds → FinMap text_cmp MatrixSet → FinMap level_cmp Grid → Type 0
+MatricesFit kinds sets matrices = Each matrices (λ level g. IsPyramid kinds level.table × FitsIn (get sets level.table) g)
+
+-- ---- 8: a higher zoom has smaller pixels
+pub record IsFiner (g h : Grid) : Type 0 where
+  pub across : h.pixel_x_size <ℤ g.pixel_x_size
+  pub down : h.pixel_y_size <ℤ g.pixel_y_size
+
+abbrev pub HigherIsFiner : FinMap level_cmp Grid → Type 0
+HigherIsFiner matrices = (table : Text) (low high : ℤ) (g h : Grid) → Has matrices (level table low) g → Has matrices (level table high) h → low <ℤ high → IsFiner g h
+
+-- ---- 9: in a pyramid of kind `two` the next zoom halves the pixels
+pub record IsHalved (g h : Grid) : Type 0 where
+  pub across : g.pixel_x_size ≡ pos 2 *ℤ h.pixel_x_size
+  pub down : g.pixel_y_size ≡ pos 2 *ℤ h.pixel_y_size
+
+abbrev pub NextIsHalved : Kinds → FinMap level_cmp Grid → Type 0
+NextIsHalved kinds matrices = (table : Text) (zoom : ℤ) (g h : Grid) → HasKind kinds table Two → Has matrices (level table zoom) g → Has matrices (level table (zoom +ℤ pos 1)) h → IsHalved g h
+
+-- ---- 10: each tile lies in a matrix
+abbrev pub IsInside : Option Grid → ℤ → ℤ → Type 0
+IsInside None column row = ⊥
+IsInside (Some g) column row = (pos 0 ≤ℤ column) × (column <ℤ g.matrix_width) × (pos 0 ≤ℤ row) × (row <ℤ g.matrix_height)
+
+abbrev pub TilesInside : FinMap level_cmp Grid → FinMap tile_cmp (List ℕ) → Type 0
+TilesInside matrices tiles = Each tiles (λ k _. IsInside (get matrices (level k.table k.zoom)) k.column k.row)
+
+-- ---- 11: items belong to tables of their kind
+pub record Items (kinds : Kinds) (rows : FinMap item_cmp AttributeRow) (media : FinMap item_cmp Medium) : Type 0 where
+  pub of_rows : Each rows (λ k _. HasKind kinds k.table Attributes)
+  pub of_media : Each media (λ k _. HasKind kinds k.table Media)
+
+-- ---- 12: relations join tables of the kinds that their names ask
+pub record IsSuited (kinds : Kinds) (r : Relation) : Type 0 where
+  pub base : HasKind kinds r.base Attributes ⊎ HasKind kinds r.base Media
+  pub related : ((r.name ≡ codes "media") × HasKind kinds r.related Media) ⊎ ((r.name ≡ codes "simple_attributes") × HasKind kinds r.related Attributes)
+  pub base_column : r.base_column ≡ codes "id"
+  pub related_column : r.related_column ≡ codes "id"
+
+abbrev pub RelationsSuited : Kinds → FinMap text_cmp Relation → Type 0
+RelationsSuited kinds relations = Each relations (λ _ r. IsSuited kinds r)
+
+-- ---- 13: both ends of each mapping row stand
+abbrev pub Rows : Type 0
+Rows = FinMap item_cmp AttributeRow
+
+abbrev pub MediaParts : Type 0
+MediaParts = FinMap item_cmp Medium
+
+abbrev pub HasItem : Rows → MediaParts → Text → ℤ → Type 0
+HasItem rows media table id = Stands rows (item table id) ⊎ Stands media (item table id)
+
+abbrev pub Joins : Rows → MediaParts → Option Relation → Pairing → Type 0
+Joins rows media None k = ⊥
+Joins rows media (Some r) k = HasItem rows media r.base k.base_id × HasItem rows media r.related k.related_id
+
+abbrev pub PairingsJoin : Rows → MediaParts → FinMap text_cmp Relation → FinMap pairing_cmp ⊤ → Type 0
+PairingsJoin rows media relations pairings = Each pairings (λ k _. Joins rows media (get relations k.mapping) k)
+
+-- ---- 14: the extension rows are exactly those that are wanted, each once
+abbrev pub IsWanted : Kinds → FinMap text_cmp Relation → Extension → Type 0
+IsWanted kinds relations e =
+    (e ≡ general_extension)
+    ⊎ (((mapping : Text) × Stands relations mapping × (e ≡ mapping_extension mapping)) ⊎ ((table : Text) × HasKind kinds table Other × (e ≡ zoom_extension table)))
+
+pub record ExactExtensions (kinds : Kinds) (relations : FinMap text_cmp Relation) (extensions : FinMap extension_cmp ℕ) : Type 0 where
+  pub only : Each extensions (λ e count. IsWanted kinds relations e × (count ≡ 1))
+  pub all : (e : Extension) → IsWanted kinds relations e → Has extensions e 1
+
+-- ---- 15: editions and their pieces
+-- the numbers of the pieces are those from 1 to n
+abbrev pub IsNumbered : FinMap piece_cmp PieceRow → Text → ℕ → Type 0
+IsNumbered pieces edition n = (number : ℤ) → (Stands pieces (piece edition number) → IsFrom (pos 1) (pos n) number) × (IsFrom (pos 1) (pos n) number → Stands pieces (piece edition number))
+
+pub record Editions (editions : FinMap text_cmp Text) (pieces : FinMap piece_cmp PieceRow) : Type 0 where
+  pub states : Each editions (λ _ state. (state ≡ open_state) ⊎ (state ≡ published_state))
+  pub numbered : (edition : Text) → Has editions edition open_state → (n : ℕ) × (n ≤ MostPieces) × IsNumbered pieces edition n
+  pub of_open : Each pieces (λ k _. Has editions k.edition open_state)
+  pub spelled : Each pieces (λ _ r. (q : Piece) × (r ≡ piece_row q) × IsPieceWithin q)
+
+-- ---- 16: the limits
+pub record SystemWithin (s : System) : Type 0 where
+  pub name : IsSystemName s.name
+  pub organization : IsSystemName s.organization
+  pub definition : IsDefinition s.definition
+  pub description : IsRemark s.description
+
+-- the number of one of the three given systems
+abbrev pub IsGiven : ℤ → Type 0
+IsGiven id = (id ≡ pos 4326) ⊎ ((id ≡ negsuc 0) ⊎ (id ≡ pos 0))
+
+pub record ContentsWithin (profile : Profile) (c : Contents) : Type 0 where
+  pub identifier : IsIdentifier c.identifier
+  pub description : c.description ≡ []
+  pub last_change : (m : ℕ) × IsMoment m × IsStamp m c.last_change
+  pub min_x : IfSome c.min_x (IsCoordinate profile)
+  pub min_y : IfSome c.min_y (IsCoordinate profile)
+  pub max_x : IfSome c.max_x (IsCoordinate profile)
+  pub max_y : IfSome c.max_y (IsCoordinate profile)
+
+pub record BoxWithin (profile : Profile) (b : Box) : Type 0 where
+  pub min_x : IsCoordinate profile b.min_x
+  pub min_y : IsCoordinate profile b.min_y
+  pub max_x : IsCoordinate profile b.max_x
+  pub max_y : IsCoordinate profile b.max_y
+
+pub record GridWithin (profile : Profile) (g : Grid) : Type 0 where
+  pub matrix_width : IsMatrixSide g.matrix_width
+  pub matrix_height : IsMatrixSide g.matrix_height
+  pub tile_width : IsTileSide g.tile_width
+  pub tile_height : IsTileSide g.tile_height
+  pub pixel_x_size : IsPixelSize profile g.pixel_x_size
+  pub pixel_y_size : IsPixelSize profile g.pixel_y_size
+
+pub record RowWithin (r : AttributeRow) : Type 0 where
+  pub title : IsRemark r.title
+  pub note : IsRemark r.note
+  pub amount : IsAmount r.amount
+
+pub record MediumWithin (m : Medium) : Type 0 where
+  pub bytes : IsMediaBytes m.bytes
+  pub content_type : IsContentType m.content_type
+
+abbrev pub SystemsWithin : FinMap int_cmp System → Type 0
+SystemsWithin systems = Each systems (λ id s. (IsGiven id ⊎ (IsId id × IsId s.organization_id)) × SystemWithin s)
+
+abbrev pub Limits : Profile → Package → Type 0
+Limits profile p =
+    SystemsWithin p.systems
+    × Each p.contents (λ _ c. ContentsWithin profile c)
+    × Each p.sets (λ _ s. BoxWithin profile s.box)
+    × Each p.matrices (λ k g. IsZoom k.zoom × GridWithin profile g)
+    × Each p.tiles (λ k bytes. IsTilePlace k.column × IsTilePlace k.row × IsTileBytes bytes)
+    × Each p.rows (λ k r. IsId k.id × RowWithin r)
+    × Each p.media (λ k m. IsId k.id × MediumWithin m)
+    × Each p.pairings (λ k _. IsId k.base_id × IsId k.related_id)
+    × Each p.pieces (λ k _. IsName k.edition × IsId k.number)
+
+-- All sixteen.
+pub record Meets (profile : Profile) (p : Package) : Type 0 where
+  pub q1 : GivenSystems p.systems
+  pub q2 : NamedSystems p.systems p.contents p.sets
+  pub q3 : DistinctIdentifiers p.contents
+  pub q4 : Names p.contents p.relations p.editions
+  pub q5 : Registry p.contents p.kinds p.sets
+  pub q6 : Extents p.contents p.sets
+  pub q7 : MatricesFit p.kinds p.sets p.matrices
+  pub q8 : HigherIsFiner p.matrices
+  pub q9 : NextIsHalved p.kinds p.matrices
+  pub q10 : TilesInside p.matrices p.tiles
+  pub q11 : Items p.kinds p.rows p.media
+  pub q12 : RelationsSuited p.kinds p.relations
+  pub q13 : PairingsJoin p.rows p.media p.relations p.pairings
+  pub q14 : ExactExtensions p.kinds p.relations p.extensions
+  pub q15 : Editions p.editions p.pieces
+  pub q16 : Limits profile p

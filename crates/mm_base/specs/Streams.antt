@@ -1,0 +1,11 @@
+-- What a clause reads of an `Io`.
+use Rattle.std.specs.Prelude.{Bool}
+use Rattle.mm_base.specs.declared.streams.Io.{Io}
+
+-- the reader or writer inside
+abbrev pub inside : {T : Type 0} → Io T → T
+inside io = io.inner
+
+-- a read, write or flush through it answered an error
+abbrev pub has_failed : {T : Type 0} → Io T → Bool
+has_failed io = io.failed

@@ -1,0 +1,205 @@
+//! Commands and pieces as data.
+
+use crate::names::Name;
+use crate::texts::{
+    ContentType, Definition, Identifier, MediaBytes, Remark, SystemName, TileBytes,
+};
+
+/// How the pixel sizes of the zooms of a pyramid go.
+#[derive(Clone, Copy, Debug, PartialEq, Eq)]
+pub enum Step {
+    /// Each zoom halves the pixel sizes of the one below it.
+    Two,
+    /// A higher zoom has smaller pixel sizes, in any ratio.
+    Other,
+}
+
+/// The kind of a table. Tables of the kinds `Two` and `Other` are tile pyramids.
+#[derive(Clone, Copy, Debug, PartialEq, Eq)]
+pub enum Kind {
+    Two,
+    Other,
+    Attributes,
+    Media,
+}
+
+/// The kind of a table that is no pyramid.
+#[derive(Clone, Copy, Debug, PartialEq, Eq)]
+pub enum PlainKind {
+    Attributes,
+    Media,
+}
+
+/// What a relation relates to: media, or the rows of an attribute table.
+#[derive(Clone, Copy, Debug, PartialEq, Eq)]
+pub enum RelationName {
+    Media,
+    SimpleAttributes,
+}
+
+/// A tile matrix: its width and height in tiles (`mw`, `mh`), the width and height of a tile in pixels (`tw`, `th`),
+/// and the size of a pixel in millimetres (`px`, `py`).
+#[derive(Clone, Copy, Debug, PartialEq, Eq)]
+pub struct Matrix {
+    pub mw: u32,
+    pub mh: u32,
+    pub tw: u32,
+    pub th: u32,
+    pub px: i64,
+    pub py: i64,
+}
+
+/// A command that an edition can hold, with the fields of its record.
+#[derive(Drop)]
+pub enum Piece {
+    Tile {
+        table: Name,
+        zoom: u8,
+        column: u32,
+        row: u32,
+        bytes: TileBytes,
+    },
+    TileDrop {
+        table: Name,
+        zoom: u8,
+        column: u32,
+        row: u32,
+    },
+    Row {
+        table: Name,
+        id: i64,
+        title: Remark,
+        note: Remark,
+        amount: i64,
+    },
+    RowDrop {
+        table: Name,
+        id: i64,
+    },
+    Media {
+        table: Name,
+        id: i64,
+        content_type: ContentType,
+        bytes: MediaBytes,
+    },
+    MediaDrop {
+        table: Name,
+        id: i64,
+    },
+    Map {
+        mapping: Name,
+        base_id: i64,
+        related_id: i64,
+    },
+    MapDrop {
+        mapping: Name,
+        base_id: i64,
+        related_id: i64,
+    },
+}
+
+/// A command, with the fields of its record.
+#[derive(Drop)]
+pub enum Command {
+    Srs {
+        id: i64,
+        name: SystemName,
+        organization: SystemName,
+        organization_id: i64,
+        definition: Definition,
+        description: Remark,
+    },
+    Pyramid {
+        table: Name,
+        identifier: Identifier,
+        srs: i64,
+        min_x: i64,
+        min_y: i64,
+        max_x: i64,
+        max_y: i64,
+        step: Step,
+    },
+    Matrix {
+        table: Name,
+        zoom: u8,
+        matrix: Matrix,
+    },
+    Table {
+        table: Name,
+        kind: PlainKind,
+        identifier: Identifier,
+    },
+    Drop {
+        table: Name,
+    },
+    Tile {
+        table: Name,
+        zoom: u8,
+        column: u32,
+        row: u32,
+        bytes: TileBytes,
+    },
+    TileDrop {
+        table: Name,
+        zoom: u8,
+        column: u32,
+        row: u32,
+    },
+    Row {
+        table: Name,
+        id: i64,
+        title: Remark,
+        note: Remark,
+        amount: i64,
+    },
+    RowDrop {
+        table: Name,
+        id: i64,
+    },
+    Media {
+        table: Name,
+        id: i64,
+        content_type: ContentType,
+        bytes: MediaBytes,
+    },
+    MediaDrop {
+        table: Name,
+        id: i64,
+    },
+    Relation {
+        mapping: Name,
+        base: Name,
+        related: Name,
+        name: RelationName,
+    },
+    RelationDrop {
+        mapping: Name,
+    },
+    Map {
+        mapping: Name,
+        base_id: i64,
+        related_id: i64,
+    },
+    MapDrop {
+        mapping: Name,
+        base_id: i64,
+        related_id: i64,
+    },
+    Edition {
+        name: Name,
+    },
+    Discard {
+        name: Name,
+    },
+    Stage {
+        edition: Name,
+        number: i64,
+        piece: Piece,
+    },
+    Publish {
+        edition: Name,
+    },
+    Rehearse {
+        edition: Name,
+    },
+}

@@ -1,0 +1,108 @@
+-- Publishing keeps the rules.
+use Rattle.std.proofs.Common.{◌≡◌, ℕ, Bool, List, [], ◌∷◌, Option, Some, None, Result, Ok, Err, refl, sym, ap, subst, ◌∙◌, ◌⊎◌, inl, inr, ◌≤◌, unsigned_abs}
+use Rattle.std.specs.List.{AllByRecursion}
+use Rattle.std.specs.FinMap.{retain_keys}
+use Rattle.mm_base.specs.Keys.{Text, same_text, PieceKey}
+use Rattle.mm_base.specs.Package.{Package, PieceRow, open_state, published_state}
+use Rattle.mm_base.specs.Bounds.{Profile, IsMoment, IsId, IsName, MostPieces}
+use Rattle.mm_base.specs.Pieces.{piece_row, row_piece}
+use Rattle.mm_base.specs.Within.{IsPieceWithin}
+use Rattle.mm_base.specs.Stamp.{IsStamp}
+use Rattle.mm_base.specs.Rules.{Meets, IsNumbered}
+use Rattle.mm_base.specs.Conditions.{least, piece_reasons, pieces_of}
+use Rattle.mm_base.specs.Effects.{is_other, piece_effect}
+use Rattle.mm_base.specs.Editions.{PieceRefusal, piece_trial, after_trial, trial, edition_trial, closed}
+use Rattle.mm_base.specs.Step.{closed_by}
+use Rattle.mm_base.specs.declared.commands.Piece.{Piece}
+use Rattle.mm_base.specs.declared.commands.Piece.TheVariants as pieces
+use Rattle.mm_base.specs.declared.commands.Command.TheVariants as commands
+use Rattle.mm_base.proofs.Parts.{each_put, each_retain, after_put, after_retain, beside_put}
+use Rattle.mm_base.proofs.KeyLaws.{texts, piece_keys}
+use Rattle.mm_base.proofs.Listed.{along_entries}
+use Rattle.mm_laws.specs.Laws.{Keeps}
+use Rattle.mm_laws.proofs.KindFacts.{differ}
+use Rattle.mm_laws.proofs.Contents as contents
+use Rattle.mm_laws.proofs.Relations.{other_tells, numbered_still}
+
+pub piece_keeps : (q : Piece) → Keeps (commands.Edit q)
+piece_keeps (pieces.Tile table zoom column row bytes) = contents.tile_put table zoom column row bytes
+piece_keeps (pieces.TileDrop table zoom column row) = contents.tile_drop table zoom column row
+piece_keeps (pieces.Row table id title note amount) = contents.row_put table id title note amount
+piece_keeps (pieces.RowDrop table id) = contents.row_drop table id
+piece_keeps (pieces.Media table id content_type bytes) = contents.media_put table id content_type bytes
+piece_keeps (pieces.MediaDrop table id) = contents.media_drop table id
+piece_keeps (pieces.Map mapping base_id related_id) = contents.map_put mapping base_id related_id
+piece_keeps (pieces.MapDrop mapping base_id related_id) = contents.map_drop mapping base_id related_id
+
+-- the row of a piece is read as that piece
+pub read_back : (q : Piece) → row_piece (piece_row q) ≡ q
+read_back (pieces.Tile table zoom column row bytes) = refl
+read_back (pieces.TileDrop table zoom column row) = refl
+read_back (pieces.Row table id title note amount) = refl
+read_back (pieces.RowDrop table id) = refl
+read_back (pieces.Media table id content_type bytes) = refl
+read_back (pieces.MediaDrop table id) = refl
+read_back (pieces.Map mapping base_id related_id) = refl
+read_back (pieces.MapDrop mapping base_id related_id) = refl
+
+abbrev pub IsSpelled : PieceRow → Type 0
+IsSpelled r = (q : Piece) × (r ≡ piece_row q) × IsPieceWithin q
+
+row_within : (r : PieceRow) → IsSpelled r → IsPieceWithin (row_piece r)
+row_within r s = subst IsPieceWithin (sym (ap row_piece s.1 ∙ read_back s.0)) s.2
+
+same_ok : {a b : Package} → ◌≡◌ {A = Result Package PieceRefusal} (Ok a) (Ok b) → a ≡ b
+same_ok e = cc
+
+module _ (profile : Profile) (moment : ℕ) (stamp : Text) (low : IsMoment moment) (is : IsStamp moment stamp) where
+  decided : (p next : Package) (number : ℕ) (q : Piece) (rest : Package → Result Package PieceRefusal) → Meets profile p → IsPieceWithin q
+      → ((p : Package) → Meets profile p → rest p ≡ Ok next → Meets profile next)
+      → (v : Option ℕ) → least (piece_reasons p q) ≡ v → after_trial (piece_trial p number q stamp v) rest ≡ Ok next → Meets profile next
+  decided p next number q rest h within on None none f = on (piece_effect p q stamp) (piece_keeps q profile p moment stamp h within low is none) f
+  decided p next number q rest h within on (Some n) none f = absurd (let g : ◌≡◌ {A = Result Package PieceRefusal} (Err (number, n)) (Ok next) = f in cc)
+
+  trial_keeps : (es : List (PieceKey × PieceRow)) → AllByRecursion (λ e. IsSpelled e.1) es → (next p : Package) → Meets profile p → trial es p stamp ≡ Ok next → Meets profile next
+  trial_keeps [] spelled next p h e = subst (Meets profile) (same_ok e) h
+  trial_keeps (e ∷ es) spelled next p h f =
+      decided p next (unsigned_abs e.0.number) (row_piece e.1) (λ q. trial es q stamp) h (row_within e.1 spelled.0) (λ q. trial_keeps es spelled.1 next q) (least (piece_reasons p (row_piece e.1))) refl f
+
+  -- the edition is published, and its pieces go
+  closed_keeps : (edition : Text) → IsName edition → (p : Package) → Meets profile p → Meets profile (closed edition p)
+  closed_keeps edition named p h =
+      let test : PieceKey → Bool = λ k. is_other edition k.edition in
+      record {
+        q1 = h.q1;
+        q2 = h.q2;
+        q3 = h.q3;
+        q4 = record { of_tables = h.q4.of_tables; of_mappings = h.q4.of_mappings; of_editions = each_put texts p.editions edition published_state (λ e _. IsName e) h.q4.of_editions named };
+        q5 = h.q5;
+        q6 = h.q6;
+        q7 = h.q7;
+        q8 = h.q8;
+        q9 = h.q9;
+        q10 = h.q10;
+        q11 = h.q11;
+        q12 = h.q12;
+        q13 = h.q13;
+        q14 = h.q14;
+        q15 = record {
+          states = each_put texts p.editions edition published_state (λ _ s. (s ≡ open_state) ⊎ (s ≡ published_state)) h.q15.states (inr refl);
+          numbered = λ e f. elim (after_put texts p.editions edition published_state e open_state f) as (λ _. (n : ℕ) × (n ≤ MostPieces) × IsNumbered (retain_keys p.pieces test) e n) [
+            | inl s ↦ absurd (differ published_state open_state refl s.1)
+            | inr n ↦ let was = h.q15.numbered e n.1 in (was.0, was.1, numbered_still p edition e was.0 n.0 was.2)
+          ];
+          of_open = λ k r e. let was = after_retain piece_keys p.pieces test k r e in beside_put texts p.editions edition published_state k.edition (other_tells edition k.edition was.0) ∙ h.q15.of_open k r was.1;
+          spelled = each_retain piece_keys p.pieces test (λ _ r. IsSpelled r) h.q15.spelled;
+        };
+        q16 = (h.q16.0, h.q16.1, h.q16.2, h.q16.3, h.q16.4, h.q16.5, h.q16.6, h.q16.7, each_retain piece_keys p.pieces test (λ k _. IsName k.edition × IsId k.number) h.q16.8);
+      }
+
+  closed_by_keeps : (edition : Text) → IsName edition → (p : Package) → Meets profile p → (v : Result Package PieceRefusal) → edition_trial p edition stamp ≡ v → Meets profile (closed_by edition v p)
+  closed_by_keeps edition named p h (Ok next) e =
+      closed_keeps edition named next (trial_keeps (pieces_of p edition)
+      (along_entries piece_keys (λ _ r. IsSpelled r) (retain_keys p.pieces (λ k. same_text k.edition edition)) (each_retain piece_keys p.pieces (λ k. same_text k.edition edition) (λ _ r. IsSpelled r) h.q15.spelled))
+      next p h e)
+  closed_by_keeps edition named p h (Err r) e = h
+
+  pub publish : (edition : Text) → IsName edition → (p : Package) → Meets profile p → Meets profile (closed_by edition (edition_trial p edition stamp) p)
+  publish edition named p h = closed_by_keeps edition named p h (edition_trial p edition stamp) refl

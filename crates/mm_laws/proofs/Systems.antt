@@ -1,0 +1,61 @@
+-- A system that is put keeps the rules.
+use Rattle.std.proofs.Common.{ℤ, pos, negsuc, Option, Some, None, IfSome, ◌⊎◌, inr}
+use Rattle.std.specs.FinMap.{insert}
+use Rattle.mm_base.specs.Keys.{Text}
+use Rattle.mm_base.specs.Parts.{Stands}
+use Rattle.mm_base.specs.Package.{System}
+use Rattle.mm_base.specs.Rules.{IsGiven, SystemWithin}
+use Rattle.mm_base.specs.Bounds.{IsId}
+use Rattle.mm_base.specs.Conditions.{own_reasons}
+use Rattle.mm_base.specs.declared.commands.Command.TheVariants.{Srs}
+use Rattle.mm_base.proofs.Parts.{each_put, stands_after_put, kept_by_new}
+use Rattle.mm_base.proofs.KeyLaws.{numbers}
+use Rattle.mm_laws.specs.Laws.{Keeps}
+use Rattle.mm_laws.proofs.Reasons.{none_holds}
+
+if_some_more : {A : Type 0} (v : Option A) (P Q : A → Type 0) → ((x : A) → P x → Q x) → IfSome v P → IfSome v Q
+if_some_more None P Q more h = tt
+if_some_more (Some x) P Q more h = more x h
+
+pub srs : (id : ℤ) (name organization : Text) (organization_id : ℤ) (definition description : Text) → Keeps (Srs id name organization organization_id definition description)
+srs id name organization organization_id definition description profile p moment stamp h within low is none =
+    let new = (none_holds (own_reasons p (Srs id name organization organization_id definition description)) none).0 in
+    let system : System = record { name = name; organization = organization; organization_id = organization_id; definition = definition; description = description } in
+    let still = kept_by_new numbers p.systems id system new in
+    let stands = stands_after_put numbers p.systems id system in
+    record {
+      q1 = record {
+        geographic_stands = still (pos 4326) _ h.q1.geographic_stands;
+        cartesian_stands = still (negsuc 0) _ h.q1.cartesian_stands;
+        undefined_stands = still (pos 0) _ h.q1.undefined_stands;
+      };
+      q2 = record {
+        of_contents = λ q c e. if_some_more c.system (λ s. Stands p.systems s) (λ s. Stands (insert p.systems id system) s) stands (h.q2.of_contents q c e);
+        of_sets = λ q s e. (stands s.system (h.q2.of_sets q s e).0, (h.q2.of_sets q s e).1);
+      };
+      q3 = h.q3;
+      q4 = h.q4;
+      q5 = h.q5;
+      q6 = h.q6;
+      q7 = h.q7;
+      q8 = h.q8;
+      q9 = h.q9;
+      q10 = h.q10;
+      q11 = h.q11;
+      q12 = h.q12;
+      q13 = h.q13;
+      q14 = h.q14;
+      q15 = h.q15;
+      q16 = (
+        each_put numbers p.systems id system (λ i s. (IsGiven i ⊎ (IsId i × IsId s.organization_id)) × SystemWithin s) h.q16.0
+            (inr (within.0, within.3), record { name = within.1; organization = within.2; definition = within.4; description = within.5 }),
+        h.q16.1,
+        h.q16.2,
+        h.q16.3,
+        h.q16.4,
+        h.q16.5,
+        h.q16.6,
+        h.q16.7,
+        h.q16.8,
+      );
+    }

@@ -2,8 +2,8 @@
 use Rattle.std.specs.Prelude.{ℕ, List, [], ◌∷◌, pos, negsuc, false, None}
 use Rattle.sqlite_value.specs.declared.keys.Collation.TheVariants.{Binary}
 use Rattle.sqlite_value.specs.declared.keys.Key.{Key}
-use Rattle.sqlite.specs.declared.types.Value.TheVariants.{Int, Text}
-use Rattle.sqlite_sql.specs.declared.ops.BinaryOp.TheVariants.{Compare}
+use Rattle.sqlite.specs.declared.types.Value.TheVariants.{Null, Int, Text}
+use Rattle.sqlite_sql.specs.declared.ops.BinaryOp.TheVariants.{Compare, Is}
 use Rattle.sqlite_sql.specs.declared.ops.CompareOp.{CompareOp}
 use Rattle.sqlite_sql.specs.declared.ops.CompareOp.TheVariants.{Eq}
 use Rattle.sqlite.specs.Term.{Term, lit, col, op2}
@@ -20,6 +20,10 @@ equals = compares Eq
 -- the column holds this text
 abbrev pub reads : ℕ → List ℕ → Term
 reads column text = op2 (Compare Eq Binary) (col 1 column) (lit (Text text))
+
+-- the column is NULL
+abbrev pub is_absent : ℕ → Term
+is_absent column = op2 (Is Binary) (col 1 column) (lit Null)
 
 abbrev pub no_limit : Term
 no_limit = lit (Int (negsuc 0))

@@ -1,6 +1,6 @@
 -- What the numbers, bytes and texts of a package are limited to.
-use Rattle.std.specs.Prelude.{◌≡◌, ℕ, ◌+◌, ◌-◌, ◌<◌, ◌≤◌, ◌^◌, Bool, true, false, not, ◌&&◌, ◌||◌, IsTrue, nat_le, ℤ, pos, neg_ℤ, ◌≤ℤ◌, List, [], ◌∷◌, length, codes, ◌++◌}
-use Rattle.std.specs.List.{list_any}
+use Rattle.std.specs.Prelude.{◌≡◌, ℕ, ◌+◌, ◌-◌, ◌<◌, ◌≤◌, ◌^◌, Bool, true, false, not, ◌&&◌, ◌||◌, IsTrue, nat_le, ℤ, pos, neg_ℤ, ◌≤ℤ◌, List, [], ◌∷◌, length, codes, nat_eq, ◌==◌}
+use Rattle.std.specs.List.{list_any, starts_with, before_first, after_first}
 
 -- What a profile of whole numbers limits by its unit of length.
 pub record Profile : Type 0 where
@@ -63,11 +63,6 @@ is_letter c = (nat_le 97 c && nat_le c 122) || (nat_le 95 c && nat_le c 95)
 abbrev pub is_letter_or_digit : ℕ → Bool
 is_letter_or_digit c = is_letter c || (nat_le 48 c && nat_le c 57)
 
-abbrev pub begins_with : List ℕ → List ℕ → Bool
-begins_with [] text = true
-begins_with (p ∷ ps) [] = false
-begins_with (p ∷ ps) (c ∷ cs) = nat_le p c && nat_le c p && begins_with ps cs
-
 abbrev pub begins_with_letter : List ℕ → Bool
 begins_with_letter [] = false
 begins_with_letter (c ∷ cs) = is_letter c
@@ -76,7 +71,7 @@ pub record IsName (text : List ℕ) : Type 0 where
   pub long : IsLong 1 60 text
   pub first : IsTrue (begins_with_letter text)
   pub all : IsTrue (not (list_any (λ c. not (is_letter_or_digit c)) text))
-  pub own : IsTrue (not (begins_with (codes "gpkg") text || begins_with (codes "sqlite") text || begins_with (codes "mm_") text))
+  pub own : IsTrue (not (starts_with nat_eq text (codes "gpkg") || starts_with nat_eq text (codes "sqlite") || starts_with nat_eq text (codes "mm_")))
 
 -- A text holds no byte 0. That it is UTF-8 is what the store keeps of every text.
 abbrev pub has_zero : List ℕ → Bool
@@ -104,20 +99,24 @@ abbrev pub IsRemark : List ℕ → Type 0
 IsRemark = IsText 0 1000
 
 -- a content type is two words round a slash
+abbrev pub is_mark : ℕ → Bool
+is_mark c = list_any (λ mark. mark == c) (codes "!#$&^_.+-")
+
 abbrev pub is_word_byte : ℕ → Bool
 is_word_byte c = (nat_le 48 c && nat_le c 57) || (nat_le 65 c && nat_le c 90) || (nat_le 97 c && nat_le c 122)
-    || list_any (λ d. nat_le d c && nat_le c d) (codes "!#$&^_.+-")
+    || is_mark c
 
 pub record IsWord (text : List ℕ) : Type 0 where
   pub long : IsLong 1 64 text
   pub all : IsTrue (not (list_any (λ c. not (is_word_byte c)) text))
 
+abbrev pub is_slash : ℕ → Bool
+is_slash c = c == 47
+
+-- The words stand before and after the first slash. A word has none.
 pub record IsContentType (text : List ℕ) : Type 0 where
-  pub kind : List ℕ
-  pub form : List ℕ
-  pub spelled : text ≡ kind ++ codes "/" ++ form
-  pub kind_word : IsWord kind
-  pub form_word : IsWord form
+  pub kind : IsWord (before_first is_slash text)
+  pub form : IsWord (after_first is_slash text)
 
 -- the most pieces of an edition
 abbrev pub MostPieces : ℕ

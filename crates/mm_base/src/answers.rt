@@ -1,5 +1,8 @@
 //! What calls answer: refusals, faults, and the tallies that go with them.
 
+ghost use Rattle.std.specs.Prelude.{◌≡◌};
+ghost use Rattle.mm_base.specs.Reading.{refused};
+
 /// Why a command is refused. With 53 it tells the piece's number and the piece's own refusal.
 #[derive(Clone, Copy, Debug, PartialEq, Eq)]
 pub struct Refusal {
@@ -32,6 +35,18 @@ pub enum ReadFault {
     /// 10, 11 or 12, the least that holds.
     Refused(Refusal),
     Memory,
+}
+
+impl ReadFault {
+    /// The record is refused with this number.
+    pub const fn refused(number: u8) -> ReadFault
+        ensures { result ≡ refused number }
+    {
+        ReadFault::Refused(Refusal {
+            number,
+            piece: None,
+        })
+    }
 }
 
 /// What a session answers to a command.

@@ -1,0 +1,5 @@
+pub mod Rows
+pub mod Stands
+pub mod Faults
+pub mod Statements
+pub mod Shapes

@@ -1,5 +1,5 @@
 -- The CREATE statements, each on the tables that are there before it.
-use Rattle.std.proofs.Common.{refl}
+use Rattle.std.proofs.Common.{◌≡◌, refl}
 use Rattle.sqlite.specs.Listing.{understood}
 use Rattle.sqlite_tied.specs.Compute.{everything}
 use Rattle.sql_forms.proofs.Creates.{IsCreate}
@@ -62,3 +62,6 @@ mm_editions = record { compiled = refl; said = refl; plain = (refl, refl); defin
 pub mm_pieces : IsCreate (first_of 13) texts.mm_pieces (unplaced tables.mm_pieces) (first_of 14)
 unfolding understood everything
 mm_pieces = record { compiled = refl; said = refl; plain = (refl, refl); defined = refl; becomes = refl; uncounted = refl }
+
+pub all_made : first_of 14 ≡ tables.schema
+all_made = refl

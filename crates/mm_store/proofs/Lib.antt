@@ -6,3 +6,5 @@ pub mod Asking
 pub mod Steps
 pub mod Shapes
 pub mod Refusals
+pub mod Transactions
+pub mod Extensions

@@ -1,0 +1,4 @@
+pub mod Creating
+pub mod Making
+pub mod Committing
+pub mod Srs

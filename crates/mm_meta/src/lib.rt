@@ -1,0 +1,18 @@
+//! The making of a package, its recognition, and its reference systems.
+//!
+//! - `opening`: `init`, which makes all tables and the rows that every package has, in one commit.
+//! - `schema`: the CREATE statements.
+//! - `profile`: the row that says which profile a file has, and `look`, which asks for it.
+//! - `systems`: reference systems.
+//! - `extensions`: the rows of `gpkg_extensions`.
+#![tactic(auto)]
+
+mod extensions;
+mod opening;
+mod profile;
+mod schema;
+mod systems;
+
+pub use opening::init;
+pub use profile::look;
+pub use systems::add_srs;

@@ -1,5 +1,5 @@
 -- From tables without a row to the opening package.
-use Rattle.std.proofs.Common.{◌≡◌, ◌≢◌, true≢false, negsuc, ℕ, ℤ, pos, Bool, true, false, List, None, Some, Result, Ok, Err, OnOk, IsTrue, refl, sym, ap, subst, ◌∙◌, arith}
+use Rattle.std.proofs.Common.{◌≡◌, ◌≢◌, true≢false, negsuc, ℕ, ℤ, pos, Bool, true, false, List, None, Some, Result, Ok, Err, OnOk, IsTrue, refl, sym, ap, subst, ◌∙◌, arith, []}
 use Rattle.std.specs.Ordering.{eq_by_cmp, int_cmp}
 use Rattle.std.specs.FinMap.{FinMap, get, insert, empty, get-empty}
 use Rattle.sqlite.specs.Order.{Row}

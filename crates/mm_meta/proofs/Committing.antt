@@ -1,18 +1,16 @@
 -- The one commit of `init`.
-use Rattle.std.proofs.Common.{◌≡◌, inl, inr, false, true, Result, Ok, Err, OnOk, IfErr, IsTrue, refl, sym, ap, subst, arith}
-use Rattle.sqlite.specs.Tree.{Trees}
-use Rattle.sqlite.specs.Effect.{Database}
+use Rattle.std.proofs.Common.{◌≡◌, inl, inr, false, true, Result, Ok, Err, OnOk, IfErr, IsTrue, refl, sym, subst, arith}
 use Rattle.sqlite.specs.State.{State, HasCleanDisk, Survives, Shows}
 use Rattle.sqlite.specs.Held.{Held, state}
 use Rattle.sqlite.specs.Store.{Ghosts}
 use Rattle.sqlite.proofs.StateLemmas.{survives_then}
 use Rattle.sqlite.proofs.Callers.{survives_begin}
-use Rattle.mm_schema.specs.Made.{first_of, no_schema}
+use Rattle.mm_schema.specs.Made.{first_of}
 use Rattle.mm_base.specs.Bounds.{Profile}
 use Rattle.mm_base.specs.Opening.{opening}
 use Rattle.mm_base.specs.declared.answers.Fault.{Fault}
 use Rattle.mm_store.specs.Faults.{IsStoreFault}
-use Rattle.mm_store.specs.Stands.{StandsFor, Ground, ground_of, IsInside, IsSettled}
+use Rattle.mm_store.specs.Stands.{StandsFor, ground_of, IsInside, IsSettled}
 use Rattle.mm_store.specs.Statements.{CommitsNothing}
 use Rattle.mm_store.proofs.Transactions.{OnlyCommitted, settles}
 use Rattle.mm_meta.specs.Opening.{IsBlank, IsBareAt, IsMaking, IsInit}

@@ -1,8 +1,8 @@
 -- One CREATE after another.
-use Rattle.std.proofs.Common.{◌≡◌, ℕ, [], Result, Ok, Err, OnOk, IsTrue, ◌∙◌, arith, List}
+use Rattle.std.proofs.Common.{ℕ, [], Result, Ok, Err, OnOk, IsTrue, ◌∙◌, arith, List}
 use Rattle.sqlite.specs.Schema.{Schema}
 use Rattle.sqlite.specs.Table.{Table}
-use Rattle.sqlite.specs.State.{State, HasCleanDisk, ExecutesInside}
+use Rattle.sqlite.specs.State.{State, ExecutesInside}
 use Rattle.sql_forms.proofs.Creates.{IsCreate, creates}
 use Rattle.mm_base.specs.declared.answers.Fault.{Fault}
 use Rattle.mm_store.specs.Stands.{Ground}

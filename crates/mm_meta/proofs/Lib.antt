@@ -2,3 +2,4 @@ pub mod Creating
 pub mod Making
 pub mod Committing
 pub mod Srs
+pub mod Looking

@@ -1,11 +1,11 @@
 -- From tables without a row to the opening package.
-use Rattle.std.proofs.Common.{◌≡◌, ◌≢◌, true≢false, negsuc, ℕ, ℤ, pos, Bool, true, false, List, None, Some, Result, Ok, Err, OnOk, IsTrue, refl, sym, ap, subst, ◌∙◌, arith, []}
+use Rattle.std.proofs.Common.{◌≡◌, ◌≢◌, true≢false, negsuc, ℕ, ℤ, pos, true, false, List, None, Result, Ok, Err, OnOk, IsTrue, refl, sym, ap, subst, ◌∙◌, arith, []}
 use Rattle.std.specs.Ordering.{eq_by_cmp, int_cmp}
 use Rattle.std.specs.FinMap.{FinMap, get, insert, empty, get-empty}
 use Rattle.sqlite.specs.Order.{Row}
 use Rattle.sqlite.specs.Schema.{Schema}
 use Rattle.sqlite.specs.Tree.{Trees, with_tree, put_row}
-use Rattle.sqlite.specs.State.{State, HasCleanDisk, ExecutesInside}
+use Rattle.sqlite.specs.State.{State, ExecutesInside}
 use Rattle.sqlite_catalog.specs.Listing.{IsSound}
 use Rattle.sql_forms.specs.Tables.{tables_of, IsBare, IsReady, Leaves}
 use Rattle.sql_forms.proofs.Tables.{bare_at, bare_rows}

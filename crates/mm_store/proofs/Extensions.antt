@@ -94,4 +94,3 @@ uncounts rows m h z test decides = record {
         false_from_ne_true _ (λ is.
         let hit : is_extension z r ≡ true = sym (decides r (h.sound r there)) ∙ sym (not_not (test r)) ∙ ap not gone in
         apart.0 (sym (extension_keys.exact (extension_of r) e (equal_is _ is)) ∙ extension_keys.exact (extension_of r) z (equal_is _ hit))))))
-

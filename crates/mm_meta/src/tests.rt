@@ -1,13 +1,11 @@
 //! What no clause says: that the calls can succeed, and that the definitions mean the tables of the profile. The expected rows
 //! are written from the profile's own description.
 
-ghost use Rattle.std.specs.Prelude.{◌≡◌, false, IfOk};
-
 use crate::{add_srs, create_in_memory, init, look};
 use mm_base::answers::{Fault, Open, Outcome, Refusal};
 use sqlite::types::ValueRef;
 use sqlite::{Connection, Error, MemStore, Row};
-use std::alloc::{AllocError, Global};
+use std::alloc::Global;
 use std::fmt::Write;
 use std::test::Fail;
 
@@ -32,10 +30,7 @@ fn add_row(text: &mut String, row: &Row) -> Result<(), Fail> {
 }
 
 /// The rows that a query shows, a line each.
-fn rows_of(alloc: Global, conn: &mut Connection<MemStore>, sql: &str) -> Result<String, Fail>
-    requires { conn.old.in_transaction ≡ false }
-    ensures mode { conn.new.in_transaction ≡ false }
-{
+fn rows_of(alloc: Global, conn: &mut Connection<MemStore>, sql: &str) -> Result<String, Fail> {
     let rows = conn.query_all(sql, &[])?;
     let mut text = String::new(alloc);
     for row in &rows {
@@ -44,19 +39,23 @@ fn rows_of(alloc: Global, conn: &mut Connection<MemStore>, sql: &str) -> Result<
     Ok(text)
 }
 
-fn change(conn: &mut Connection<MemStore>, sql: &str) -> Result<(), Error>
-    requires { conn.old.in_transaction ≡ false }
-    ensures mode { IfOk result (λ _. conn.new.in_transaction ≡ false) }
-{
-    let mut tx = conn.transaction();
-    tx.execute(sql, &[])?;
-    tx.commit()
+fn change(conn: &mut Connection<MemStore>, sql: &str) -> Result<usize, Error> {
+    conn.execute(sql, &[])
 }
 
-fn add(conn: &mut Connection<MemStore>, id: i64) -> Result<Outcome, Fault>
-    requires { conn.old.in_transaction ≡ false }
-    ensures mode { conn.new.in_transaction ≡ false }
-{
+/// What `look` answers, where no transaction is open.
+fn looked(conn: &mut Connection<MemStore>) -> Option<Result<(), Open>> {
+    if !conn.is_autocommit() {
+        return None;
+    }
+    Some(look(conn))
+}
+
+/// What `add_srs` answers in a transaction of its own, which is committed.
+fn added(conn: &mut Connection<MemStore>, id: i64) -> Option<Result<Outcome, Fault>> {
+    if !conn.is_autocommit() {
+        return None;
+    }
     let mut tx = conn.transaction();
     let outcome = add_srs(
         &mut tx,
@@ -67,16 +66,8 @@ fn add(conn: &mut Connection<MemStore>, id: i64) -> Result<Outcome, Fault>
         "projected metres",
         "",
     );
-    if tx.commit().is_err() {
-        return Err(Fault(91));
-    }
-    outcome
-}
-
-fn blank(alloc: Global) -> Result<Connection<MemStore>, AllocError>
-    ensures mode { IfOk result (λ conn. conn.in_transaction ≡ false) }
-{
-    Connection::open_in_memory(alloc)
+    tx.commit().ok()?;
+    Some(outcome)
 }
 
 #[test]
@@ -133,7 +124,7 @@ fn the_other_tables_are_there_and_empty(rt: HostRuntime) -> Result<(), Fail> {
 #[test]
 fn a_new_package_is_recognised(rt: HostRuntime) -> Result<(), Fail> {
     let mut conn = create_in_memory(rt.alloc())?;
-    assert_eq!(rt; look(&mut conn), Ok(()));
+    assert_eq!(rt; looked(&mut conn), Some(Ok(())));
     Ok(())
 }
 
@@ -151,17 +142,18 @@ fn other_profiles_are_told_apart(rt: HostRuntime) -> Result<(), Fail> {
     ] {
         let mut conn = create_in_memory(rt.alloc())?;
         change(&mut conn, sql)?;
-        assert_eq!(rt; look(&mut conn), Err(want), "after {sql}");
+        assert_eq!(rt; looked(&mut conn), Some(Err(want)), "after {sql}");
     }
     Ok(())
 }
 
 #[test]
 fn a_database_without_tables_has_no_profile(rt: HostRuntime) -> Result<(), Fail> {
-    let mut conn = blank(rt.alloc())?;
-    assert_eq!(rt; look(&mut conn), Err(Open::NoProfile));
+    let mut conn = Connection::open_in_memory(rt.alloc())?;
+    assert_eq!(rt; looked(&mut conn), Some(Err(Open::NoProfile)));
+    assert!(rt; conn.is_autocommit());
     assert_eq!(rt; init(&mut conn), Ok(()));
-    assert_eq!(rt; look(&mut conn), Ok(()));
+    assert_eq!(rt; looked(&mut conn), Some(Ok(())));
     Ok(())
 }
 
@@ -179,7 +171,7 @@ fn a_system_is_added_once(rt: HostRuntime) -> Result<(), Fail> {
         (0, taken),
         (-1, taken),
     ] {
-        assert_eq!(rt; add(&mut conn, id), Ok(want), "at {id}");
+        assert_eq!(rt; added(&mut conn, id), Some(Ok(want)), "at {id}");
     }
     let text = rows_of(
         rt.alloc(),

@@ -8,3 +8,7 @@ pub mod Shapes
 pub mod Refusals
 pub mod Transactions
 pub mod Extensions
+pub mod Removals
+pub mod Entries
+pub mod Changes
+pub mod Lookups

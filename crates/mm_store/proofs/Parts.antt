@@ -71,6 +71,10 @@ module _ {K V : Type 0} {R : K → K → Ordering} {part : Row → Row} {row_of 
       pub removes : Holds part row_of (without (test k) rows) (remove m k)
       removes = maps.removes it.order.total it.order.exact part row_of it.key_is rows m h k (test k) (it.decides k)
 
+      -- the same by another test that finds the row
+      pub removes_where : (out : Row → Bool) → ((r : Row) (l : K) (v : V) → part r ≡ row_of l v → out r ≡ eq_by_cmp R l k) → Holds part row_of (without out rows) (remove m k)
+      removes_where out tells = maps.removes it.order.total it.order.exact part row_of it.key_is rows m h k out tells
+
       pub changes : (change : Row → Row) (v w : V) → get m k ≡ Some v → ((r : Row) → part r ≡ row_of k v → part (change r) ≡ row_of k w) → Holds part row_of (with_changed (test k) change rows) (insert m k w)
       changes change v w stands changes_to = maps.changes it.order.total it.order.exact part row_of it.key_is rows m h k (test k) (it.decides k) change v w stands changes_to
 

@@ -3,3 +3,4 @@ pub mod Stands
 pub mod Faults
 pub mod Statements
 pub mod Shapes
+pub mod Removals

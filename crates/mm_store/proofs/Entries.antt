@@ -16,7 +16,7 @@ use Rattle.sql_forms.proofs.Lists.{none_holds, either_any, and_true}
 use Rattle.mm_base.specs.Keys.{Text, text_cmp, same_text}
 use Rattle.mm_base.specs.Parts.{some_entry}
 use Rattle.mm_base.specs.Conditions.{is_used, is_identified}
-use Rattle.mm_base.specs.Package.{Package, Contents, Relation}
+use Rattle.mm_base.specs.Package.{Package, Relation}
 use Rattle.mm_base.proofs.Parts.{IsKeyOrder, no_entry}
 use Rattle.mm_base.proofs.KeyLaws.{texts}
 use Rattle.mm_base.proofs.Listed.{along_entries}

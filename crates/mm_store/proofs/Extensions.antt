@@ -17,7 +17,6 @@ use Rattle.sqlite.specs.Term.{Term}
 use Rattle.sqlite.specs.Tree.{rowid, put_row}
 use Rattle.sqlite.specs.Edit.{is_taken}
 use Rattle.sqlite_schema.specs.Rules.{equal}
-use Rattle.sqlite_rules.specs.Lists.{Has}
 use Rattle.sqlite_rules.proofs.ListLemmas.{has_filtered}
 use Rattle.sqlite_rules.proofs.TableLemmas.{put_has}
 use Rattle.sql_forms.specs.Forms.{equals, reads, is_absent}
@@ -138,16 +137,9 @@ zoom_test table r is =
     ∙ rw (equal_maybe e.table table, equal_maybe e.column (codes "tile_data"), equal_text e.name (codes "gpkg_zoom_other"), equal_text e.definition (codes "OGC 12-128r17"), equal_text e.scope (codes "read-write"))
     (five (option_cmp text_cmp e.table (Some table)) (option_cmp text_cmp e.column (Some (codes "tile_data"))) (text_cmp e.name (codes "gpkg_zoom_other")) (text_cmp e.definition (codes "OGC 12-128r17")) (text_cmp e.scope (codes "read-write")))
 
-dropped : {X : Type 0} (p q : X → Bool) (xs : List X) → ((x : X) → Has xs x → q x ≡ not (p x)) → filter p (filter q xs) ≡ []
-dropped p q [] so = refl
-dropped p q (x ∷ xs) so = elim (cases_Bool (p x)) [
-  | inl e ↦ let f = so x (inl refl) in let more = dropped p q xs (λ y h. so y (inr h)) in rw (f, e) more
-  | inr e ↦ let f = so x (inl refl) in let more = dropped p q xs (λ y h. so y (inr h)) in rw (f, e, e) more
-]
-
 -- where the column is absent
 maybe_absent : (o : Option Text) → is_true (binary (Is Binary) (maybe_words o) Null) ≡ is_eq (option_cmp text_cmp o None)
-unfolding binary
+unfolding binary value_cmp lib.Ieee.is_nan lib.Ieee.lt
 maybe_absent None = refl
 maybe_absent (Some t) = refl
 

@@ -1,5 +1,5 @@
 -- What a DELETE with its cascades leaves of the parts of a package.
-use Rattle.std.proofs.Common.{◌≡◌, ℤ, Bool, not, List, [], ◌∷◌, Some, ap, ◌∙◌}
+use Rattle.std.proofs.Common.{◌≡◌, ℤ, Bool, not, ◌∷◌, Some, ap, ◌∙◌}
 use Rattle.sqlite.specs.declared.types.Value.TheVariants.{Text as Words}
 use Rattle.sqlite_value.specs.declared.keys.Collation.TheVariants.{Binary}
 use Rattle.sqlite.specs.Order.{Row}

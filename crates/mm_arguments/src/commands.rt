@@ -1,0 +1,118 @@
+//! The subcommands and their arguments, with the texts that help prints.
+
+use clap::{Arg, Command, value_parser};
+use std::alloc::{AllocError, Global};
+
+fn file_argument<'a>(alloc: Global) -> Arg<'a> {
+    Arg::new(alloc, "FILE").required(true).help(
+        "The package's file; its journal FILE-wal stands beside it",
+    )
+}
+
+fn at_argument<'a>(alloc: Global) -> Arg<'a> {
+    Arg::new(alloc, "at")
+        .long("at")
+        .value_name("MS")
+        .help(
+            "The moment of all changes, in milliseconds since 1970-01-01T00:00:00Z [default: the clock's]",
+        )
+        .value_parser(value_parser!(i64).range(0..=253402300799999))
+}
+
+fn edition_argument<'a>(alloc: Global) -> Arg<'a> {
+    Arg::new(alloc, "EDITION")
+        .required(true)
+        .help("The name of the open edition that takes the kit's pieces")
+}
+
+fn folder_argument<'a>(alloc: Global) -> Arg<'a> {
+    Arg::new(alloc, "FOLDER").required(true).help(
+        "The folder of the kit: its list kit.csv and the files that the list names",
+    )
+}
+
+fn port_argument<'a>(alloc: Global) -> Arg<'a> {
+    Arg::new(alloc, "port")
+        .long("port")
+        .value_name("P")
+        .required(true)
+        .help("The TCP port of 127.0.0.1 to listen on, from 1 to 65535")
+        .value_parser(value_parser!(u16).range(1..=65535))
+}
+
+fn count_argument<'a>(alloc: Global) -> Arg<'a> {
+    Arg::new(alloc, "count")
+        .long("count")
+        .value_name("N")
+        .required(true)
+        .help("How many connections to serve before the end, from 1 to 1000000")
+        .value_parser(value_parser!(u32).range(1..=1000000))
+}
+
+fn init_command<'a>(alloc: Global) -> Result<Command<'a>, AllocError> {
+    Command::new(alloc, "init")
+        .about("Makes a new package with no table, in a file that is missing or empty")
+        .arg(file_argument(alloc))
+}
+
+fn run_command<'a>(alloc: Global) -> Result<Command<'a>, AllocError> {
+    Command::new(alloc, "run")
+        .about("Applies the CSV records of standard input, and answers each with a line")
+        .after_help(
+            "Example: mmpkg run map.gpkg < records.csv\nLine N answers record N: `N ok`, `N refused R`, or `N fault F`, which ends the run.",
+        )
+        .arg(file_argument(alloc))?
+        .arg(at_argument(alloc))
+}
+
+fn kit_command<'a>(alloc: Global) -> Result<Command<'a>, AllocError> {
+    Command::new(alloc, "kit")
+        .about(
+            "Stages the pieces of a kit in an open edition; an import that was stopped is done again",
+        )
+        .arg(file_argument(alloc))?
+        .arg(edition_argument(alloc))?
+        .arg(folder_argument(alloc))?
+        .arg(at_argument(alloc))
+}
+
+fn check_command<'a>(alloc: Global) -> Result<Command<'a>, AllocError> {
+    Command::new(alloc, "check")
+        .about("Checks the whole package against its rules, and changes nothing")
+        .arg(file_argument(alloc))
+}
+
+fn list_command<'a>(alloc: Global) -> Result<Command<'a>, AllocError> {
+    Command::new(alloc, "list")
+        .about("Lists the tables and editions of the package")
+        .arg(file_argument(alloc))
+}
+
+fn serve_command<'a>(alloc: Global) -> Result<Command<'a>, AllocError> {
+    Command::new(alloc, "serve")
+        .about(
+            "Serves tiles, media and lists of the package over HTTP, one connection after another",
+        )
+        .arg(file_argument(alloc))?
+        .arg(port_argument(alloc))?
+        .arg(count_argument(alloc))
+}
+
+/// The whole command line.
+pub(crate) fn command<'a>(alloc: Global) -> Result<Command<'a>, AllocError> {
+    Command::new(alloc, "mmpkg")
+        .about(
+            "Edits offline map packages: GeoPackage tables with coordinates in whole millimetres",
+        )
+        .after_help(
+            "Exit status: 0 all accepted, 1 something refused, 2 wrong arguments, 3 a fault, 4 not a package.",
+        )
+        .subcommand_required(true)
+        .arg_required_else_help(true)
+        .subcommand(init_command(alloc)?)?
+        .subcommand(run_command(alloc)?)?
+        .subcommand(kit_command(alloc)?)?
+        .subcommand(check_command(alloc)?)?
+        .subcommand(list_command(alloc)?)?
+        .subcommand(serve_command(alloc)?)
+}

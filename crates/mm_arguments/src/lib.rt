@@ -1,0 +1,11 @@
+//! The command line of `mmpkg`: what its words ask for, with every number within its range, and the texts of help and
+//! usage. It opens nothing and prints nothing.
+#![tactic(auto)]
+
+mod commands;
+mod requests;
+
+pub use requests::{Request, read_arguments, status_of};
+
+#[cfg(test)]
+mod tests;

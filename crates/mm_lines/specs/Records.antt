@@ -1,0 +1,31 @@
+-- The records of some bytes, as `csv` reads them.
+use Rattle.std.specs.Prelude.{◌≡◌, ◌⊎◌, ℕ, List, Bool, true, false, Option, Some, None}
+use Rattle.csv.specs.Reading.{ReadRecord, Ready, default_config, has_failed, records, strip_bom}
+use Rattle.csv.specs.Records.{Row, fields_of}
+use Rattle.csv.specs.declared.reader.Reader.{Reader}
+use Rattle.csv.specs.declared.reader.Trim.TheVariants as trim
+
+-- a record's fields, in order
+abbrev pub Record : Type 0
+Record = List (List ℕ)
+
+-- fields behind commas, double quotes doubled inside quotes, no row of headers, nothing trimmed
+abbrev pub records_of : List ℕ → List Record
+records_of bytes = records default_config (strip_bom bytes)
+
+-- a reader of such records, of any length, which hasn't failed
+pub record IsSetUp {T : Type 0} (rows : Reader T) : Type 0 where
+  pub config : rows.config ≡ default_config
+  pub trim : rows.trim ≡ trim.None
+  pub flexible : rows.flexible ≡ true
+  pub ready : Ready rows
+  pub working : has_failed rows ≡ false
+
+-- the next record was read, or there is none
+abbrev pub NextRow : {T : Type 0} → (T → Option (List ℕ)) → Reader T → Reader T → Option Row → Type 0
+NextRow remaining old new None = (fields : Record) × ReadRecord remaining old new false fields
+NextRow remaining old new (Some row) = ReadRecord remaining old new true (fields_of row)
+
+-- why bytes weren't read: 90 want of memory, or 96 the reader, which tells it
+abbrev pub IsReadFault : ℕ → Bool → Type 0
+IsReadFault fault failed = (fault ≡ 90) ⊎ ((fault ≡ 96) × (failed ≡ true))

@@ -1,0 +1,52 @@
+-- One record: what its answer says.
+use Rattle.std.proofs.Common.{◌≡◌, ◌⊎◌, inl, inr, ℕ, List, Option, Some, None, Ok, Err, true, false, refl, sym, ap, subst, ◌∙◌}
+use Rattle.csv.specs.Reading.{ReadRecord}
+use Rattle.csv.specs.declared.reader.Reader.{Reader}
+use Rattle.mm_base.specs.Bounds.{IsMoment, millimetres}
+use Rattle.mm_base.specs.Package.{Package}
+use Rattle.mm_base.specs.Rules.{Meets}
+use Rattle.mm_base.specs.Step.{refusal, step}
+use Rattle.mm_base.specs.declared.answers.Refusal.{Refusal}
+use Rattle.mm_base.specs.declared.answers.Answer.{Answer}
+use Rattle.mm_base.specs.declared.answers.Answer.TheVariants as answers
+use Rattle.mm_base.specs.declared.commands.Command.{Command}
+use Rattle.mm_lines.specs.Records.{Record}
+use Rattle.mm_run.specs.Readings.{Reading, IsReadAs}
+use Rattle.mm_run.specs.Answers.{answer_of, answer_to, after, plain}
+use Rattle.mm_run.specs.Applied.{IsApplied, IsSound, Leaves, IsAnswer}
+use Rattle.mm_run.specs.Runs.{IsAnswered, Turns}
+use Rattle.mm_laws.proofs.RunFacts.{refused_same}
+use Rattle.mm_run.proofs.Keeps.{spelled_within, step_meets}
+
+module _ {D : Type 0} (fields : Record) (p : Package) (moment : ℕ) (settled : Package → Type 0) (may_leave : D → Type 0) (stands_for : D → Package → Type 0) where
+  -- a command was applied
+  pub answered_command : (c : Command) (a : Answer) → IsReadAs fields (Ok c) → IsMoment moment → Meets millimetres p
+      → IsApplied p c moment a settled may_leave stands_for → IsAnswered fields p moment a settled may_leave stands_for
+  answered_command c answers.Ok read low meets h =
+      (Ok c, read, ap answer_of (sym h.0), (h.1, step_meets p c moment low meets (spelled_within fields c read.1)))
+  answered_command c (answers.Refused why) read low meets h =
+      (Ok c, read, ap answer_of (sym h.0), subst (IsSound settled) (sym (refused_same p c moment why h.0)) (h.1, meets))
+  answered_command c (answers.Fault fault) read low meets h = inr (c, read, step_meets p c moment low meets (spelled_within fields c read.1), h)
+
+  -- a record that spells no command
+  pub answered_refusal : (why : Refusal) → why.piece ≡ None → IsReadAs fields (Err why.number) → IsSound settled p
+      → IsAnswered fields p moment (answers.Refused why) settled may_leave stands_for
+  answered_refusal why none read sound = (Err why.number, read, ap answers.Refused (whole why none), sound)
+    where
+      whole : (why : Refusal) → why.piece ≡ None → why ≡ plain why.number
+      whole why none = ap (λ o. let r : Refusal = record { number = why.number; piece = o } in r) none
+
+  -- a record was read and answered
+  pub turned : {T : Type 0} (remaining : T → Option (List ℕ)) (a b : Reader T) (x : Answer) → ReadRecord remaining a b true fields
+      → IsAnswered fields p moment x settled may_leave stands_for → Turns remaining a b p moment (Some x) settled may_leave stands_for
+  turned remaining a b answers.Ok read h = (fields, read, h)
+  turned remaining a b (answers.Refused why) read h = (fields, read, h)
+  turned remaining a b (answers.Fault fault) read h = inr (fields, read, h)
+
+-- what an answer that is no fault says
+pub goes_on : {D T : Type 0} (remaining : T → Option (List ℕ)) (a b : Reader T) (p : Package) (moment : ℕ) (settled : Package → Type 0) (may_leave : D → Type 0) (stands_for : D → Package → Type 0)
+    (x : Answer) → IsAnswer x → Turns remaining a b p moment (Some x) settled may_leave stands_for
+    → (fields : Record) × ReadRecord remaining a b true fields × (reading : Reading) × IsReadAs fields reading × (x ≡ answer_to p reading) × IsSound settled (after p moment reading)
+goes_on remaining a b p moment settled may_leave stands_for answers.Ok good h = (h.0, h.1, h.2.0, h.2.1, h.2.2, h.2.3)
+goes_on remaining a b p moment settled may_leave stands_for (answers.Refused why) good h = (h.0, h.1, h.2.0, h.2.1, h.2.2, h.2.3)
+goes_on remaining a b p moment settled may_leave stands_for (answers.Fault fault) good h = absurd good

@@ -1,0 +1,60 @@
+-- What a run reports of all the records of its bytes.
+use Rattle.std.proofs.Common.{◌≡◌, ◌∙◌, ◌+◌, ◌≤◌, inl, inr, ℕ, List, [], ◌∷◌, length, take, Option, Some, None, refl, sym, ap, subst, arith, option_map}
+use Rattle.std.proofs.Math.Seq.{take-length}
+use Rattle.csv.specs.Reading.{default_config, records, strip_bom}
+use Rattle.csv.specs.declared.parser.State.TheVariants as states
+use Rattle.mm_base.specs.Package.{Package}
+use Rattle.mm_base.specs.Runs.{run}
+use Rattle.mm_base.specs.declared.answers.Answer.{Answer}
+use Rattle.mm_base.specs.declared.answers.RunFault.{RunFault}
+use Rattle.mm_base.specs.declared.answers.Tally.{Tally}
+use Rattle.mm_lines.specs.Records.{Record, records_of}
+use Rattle.mm_lines.proofs.RecordsFacts.{records-all, records-first}
+use Rattle.mm_run.specs.Readings.{Reading, AreReadAs}
+use Rattle.mm_run.specs.Answers.{answers_to, calls_of, accepted_of, refused_of}
+use Rattle.mm_run.specs.Applied.{Leaves}
+use Rattle.mm_run.specs.Told.{AreTold}
+use Rattle.mm_run.specs.Runs.{AreFirstParts, IsAll, IsSome, IsStopped, RanAll, RanSome, acknowledged_of, given_of}
+use Rattle.mm_run.proofs.Left.{parts-left}
+use Rattle.mm_run.proofs.Lists.{as_many, counted-answers, length-answers}
+
+pub ran-all : {D : Type 0} (p : Package) (moment : ℕ) (bytes : List ℕ) (settled : Package → Type 0) (may_leave : D → Type 0) (stands_for : D → Package → Type 0) (old new : Option (List ℕ)) (t : Tally)
+    (given : List Answer) → ((q : Package) → settled q → Leaves may_leave stands_for q) → AreTold given t old new → IsAll p moment (strip_bom bytes) states.StartRecord settled given
+    → RanAll p moment bytes settled may_leave stands_for old new t
+ran-all p moment bytes settled may_leave stands_for old new t given law told all =
+    let same : all.rows ≡ records_of bytes = records-all (strip_bom bytes) all.rows all.are in
+    let readings = all.readings in
+    let size : length (records_of bytes) ≡ length readings = ap length (sym same) ∙ as_many all.rows readings all.read in
+    let a : t.accepted ≡ accepted_of (answers_to p moment readings) = told.0.0 ∙ ap accepted_of all.were in
+    let b : t.refused ≡ refused_of (answers_to p moment readings) = told.0.1 ∙ ap refused_of all.were in
+    record {
+      readings = readings;
+      read = subst (λ rows. AreReadAs rows readings) same all.read;
+      text = rw (← all.were) told.2;
+      counted = (a, b);
+      all = omega (arith, a, b, size, counted-answers p moment readings);
+      written = told.1 ∙ (ap length all.were ∙ (length-answers p moment readings ∙ sym size));
+      stands = all.stands;
+      left = parts-left p moment may_leave stands_for readings t.accepted (law (run p (calls_of moment readings)) all.stands.0) all.stands.1 (omega (arith, a)) (omega (arith, a));
+    }
+
+pub ran-some : {D : Type 0} (p : Package) (moment : ℕ) (bytes : List ℕ) (may_leave : D → Type 0) (stands_for : D → Package → Type 0) (old new : Option (List ℕ)) (failed : _) (e : RunFault)
+    (given : List Answer) → IsStopped given e old new failed → IsSome p moment (strip_bom bytes) states.StartRecord may_leave stands_for given e.tally.written
+    → RanSome p moment bytes may_leave stands_for old new e
+ran-some p moment bytes may_leave stands_for old new failed e given stopped some =
+    let readings = some.readings in
+    let first : some.rows ≡ take (length some.rows) (records_of bytes) = records-first some.state (strip_bom bytes) some.rest some.rows some.reached in
+    let size : length some.rows ≡ length readings = as_many some.rows readings some.read in
+    let rows : some.rows ≡ take (length readings) (records_of bytes) = first ∙ ap (λ n. take n (records_of bytes)) size in
+    let a : e.tally.accepted ≡ accepted_of (answers_to p moment (take (length given) readings)) = stopped.0.0 ∙ ap accepted_of some.were in
+    let b : e.tally.refused ≡ refused_of (answers_to p moment (take (length given) readings)) = stopped.0.1 ∙ ap refused_of some.were in
+    let long : length given ≡ length (take (length given) readings) = ap length some.were ∙ length-answers p moment (take (length given) readings) in
+    let count : e.tally.accepted + e.tally.refused ≡ length given = omega (arith, a, b, long, counted-answers p moment (take (length given) readings)) in
+    let same : given_of p moment readings e.tally ≡ given = ap (λ n. answers_to p moment (take n readings)) count ∙ sym some.were in
+    record {
+      readings = readings;
+      read = subst (λ l. AreReadAs l readings) rows some.read;
+      text = rw same stopped.1;
+      counted = rw same stopped.0;
+      left = subst (λ n. AreFirstParts may_leave stands_for p (calls_of moment readings) n) (ap (λ l. accepted_of (take e.tally.written l)) (sym same)) some.left;
+    }

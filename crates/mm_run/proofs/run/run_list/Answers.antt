@@ -1,0 +1,17 @@
+use Rattle.std.proofs.Common.{ap, option_map}
+use Rattle.csv.specs.Reading.{strip_bom}
+use Rattle.mm_run.proofs.Reports.{ran-all, ran-some}
+use Rattle.mm_run.proofs.run.run_list.Goals as goal
+
+pub returns-in-Ok-clause-done : goal.returns-in-Ok-clause-done
+returns-in-Ok-clause-done g c clean p sound bytes here =
+    let (given, told, all) = c.in-Ok.ensures.done in
+    let new = c.run_told.new.session in
+    ran-all p c.args.at bytes (g.A.Apply.settled new) (g.A.Apply.may_leave new) g.A.Apply.stands_for _ _ c.in-Ok.tally given (g.met.A.Apply.leaves_settled new) told
+    (all clean p sound (strip_bom bytes) (ap (option_map strip_bom) here))
+
+pub returns-in-Err-clause-stopped : goal.returns-in-Err-clause-stopped
+returns-in-Err-clause-stopped g c clean p sound bytes here =
+    let (given, stopped, some) = c.in-Err.ensures.stopped in
+    let new = c.run_told.new.session in
+    ran-some p c.args.at bytes (g.A.Apply.may_leave new) g.A.Apply.stands_for _ _ _ c.in-Err.e given stopped (some clean p sound (strip_bom bytes) (ap (option_map strip_bom) here))

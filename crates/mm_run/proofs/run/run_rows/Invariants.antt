@@ -1,0 +1,22 @@
+use Rattle.std.proofs.Common.{◌≡◌, ◌+◌, List, true}
+use Rattle.csv.specs.Reading.{source_of}
+use Rattle.mm_base.specs.Streams.{has_failed, inside}
+use Rattle.mm_base.specs.declared.answers.Answer.{Answer}
+use Rattle.mm_lines.specs.Records.{IsSetUp}
+use Rattle.mm_run.specs.Told.{AreTold}
+use Rattle.mm_run.specs.Runs.{IsSoFar, OnRun}
+use Rattle.mm_run.proofs.run.run_rows.Given as goal
+
+abbrev pub invariant-loop-n : goal.invariant-loop-n
+invariant-loop-n g l = record {
+  set_up : IsSetUp l.rows;
+  counted : l.tally.accepted + l.tally.refused + 1 ≡ l.n;
+  numbered : l.tally.written + 1 ≡ l.n;
+  working : has_failed l.writer ≡ has_failed l.fn.writer;
+  clean : g.A.Apply.is_clean l.session → g.A.Apply.is_clean l.fn.session;
+  same : g.A.Apply.has_failed l.session ≡ g.A.Apply.has_failed l.fn.session;
+  ended : g.A.Apply.has_failed l.fn.session ≡ true → (l.session ≡ l.fn.session) × (l.tally.accepted ≡ 0);
+  given : (given : List Answer) × AreTold given l.tally (g.W.Write.contents (inside l.fn.writer)) (g.W.Write.contents (inside l.writer))
+      × OnRun (g.A.Apply.is_clean l.session) (g.A.Apply.settled l.fn.session) (source_of g.T.Read.remaining l.fn.rows)
+      (λ p xs. IsSoFar p l.at xs l.fn.rows.state (source_of g.T.Read.remaining l.rows) l.rows.state (g.A.Apply.settled l.session) given);
+}

@@ -1,0 +1,22 @@
+use Rattle.std.proofs.Common.{◌≡◌, ◌+◌, ◌≤◌, arith, length, option_map}
+use Rattle.csv.specs.Reading.{strip_bom}
+use Rattle.csv.specs.declared.parser.State.TheVariants as states
+use Rattle.mm_base.specs.Streams.{inside}
+use Rattle.mm_run.specs.Runs.{IsSome, OnRun}
+use Rattle.mm_run.proofs.Loops.{read_not_writer, stopped-fault}
+use Rattle.mm_run.proofs.Left.{some-all}
+use Rattle.mm_run.proofs.run.run_told.Goals as goal
+
+pub returns-in-Err-tell-clause-stopped : goal.returns-in-Err-tell-clause-stopped
+returns-in-Err-tell-clause-stopped g c =
+    let t = c.in-Ok.tally in
+    let new = c.run_held-held.new.session in
+    let (given, told, all) = rw c.in-Ok.is at c.run_held-held.ensures.done in
+    let at : length given + 1 ≡ t.written + 1 = omega (arith, told.1) in
+    let fault = c.in-Err-drain.fault in
+    stopped-fault
+    (λ told w. OnRun (g.A.Apply.is_clean new) (g.A.Apply.settled c.args.session.now) (option_map strip_bom (g.R.Read.remaining (inside c.args.reader.now)))
+        (λ p xs. IsSome p c.args.at xs states.StartRecord (g.A.Apply.may_leave new) g.A.Apply.stands_for told w))
+    given (t.written + 1) t c.in-Err-tell.e _ _ _ _ at told fault (read_not_writer fault.0 _ c.in-Err-drain.ensures.fault) c.in-Err-tell.ensures.stops
+    (λ w enough clean p sound xs here.
+        some-all p c.args.at (g.A.Apply.may_leave new) g.A.Apply.stands_for xs states.StartRecord given (g.A.Apply.settled new) (g.met.A.Apply.leaves_settled new) (all clean p sound xs here) w enough)

@@ -1,0 +1,52 @@
+-- What a command that is applied does.
+use Rattle.std.specs.Prelude.{◌≡◌, ◌⊎◌, ℕ, Bool, true, false, Some, None, ⊤}
+use Rattle.mm_base.specs.Bounds.{millimetres}
+use Rattle.mm_base.specs.Package.{Package}
+use Rattle.mm_base.specs.Rules.{Meets}
+use Rattle.mm_base.specs.Step.{refusal, step}
+use Rattle.mm_base.specs.declared.answers.Answer.{Answer}
+use Rattle.mm_base.specs.declared.answers.Answer.TheVariants as answers
+use Rattle.mm_base.specs.declared.commands.Command.{Command}
+
+-- settled for a package that meets the rules
+abbrev pub IsSound : (Package → Type 0) → Package → Type 0
+IsSound settled p = settled p × Meets millimetres p
+
+-- each database that may be left stands for this package
+abbrev pub Leaves : {D : Type 0} → (D → Type 0) → (D → Package → Type 0) → Package → Type 0
+Leaves {D} may_leave stands_for p = (db : D) → may_leave db → stands_for db p
+
+-- each stands for the package as it was or, where nothing refuses the command, for the one that the step gives
+abbrev pub LeavesEither : {D : Type 0} → (D → Type 0) → (D → Package → Type 0) → Package → Command → ℕ → Type 0
+LeavesEither {D} may_leave stands_for p command moment =
+    (db : D) → may_leave db → stands_for db p ⊎ ((refusal p command ≡ None) × stands_for db (step p command moment))
+
+-- what is answered, and what then is settled or may be left
+abbrev pub IsApplied : {D : Type 0} → Package → Command → ℕ → Answer → (Package → Type 0) → (D → Type 0) → (D → Package → Type 0) → Type 0
+IsApplied p command moment answers.Ok settled may_leave stands_for = (refusal p command ≡ None) × settled (step p command moment)
+IsApplied p command moment (answers.Refused why) settled may_leave stands_for = (refusal p command ≡ Some why) × settled p
+IsApplied p command moment (answers.Fault fault) settled may_leave stands_for = LeavesEither may_leave stands_for p command moment
+
+-- a fault of a command: 90 want of memory, 91 the store, 92 open again
+abbrev pub IsApplyFault : ℕ → Type 0
+IsApplyFault fault = (fault ≡ 90) ⊎ (fault ≡ 91) ⊎ (fault ≡ 92)
+
+-- what holds of the number where the answer is a fault
+abbrev pub OnFault : Answer → (ℕ → Type 0) → Type 0
+OnFault answers.Ok P = ⊤
+OnFault (answers.Refused why) P = ⊤
+OnFault (answers.Fault fault) P = P fault.0
+
+-- it is no fault
+abbrev pub IsAnswer : Answer → Type 0
+IsAnswer answers.Ok = ⊤
+IsAnswer (answers.Refused why) = ⊤
+IsAnswer (answers.Fault fault) = ⊥
+
+-- What an answer tells of a session that has to be opened again: whether it had to before, and has to now. One that had
+-- to before is the same now, and accepts nothing; 92 comes only there, and after 91 it has to.
+abbrev pub TellsFailure : Bool → Bool → Type 0 → Answer → Type 0
+TellsFailure before failed same answers.Ok = (before ≡ false) × (failed ≡ false)
+TellsFailure before failed same (answers.Refused why) = (failed ≡ before) × (before ≡ true → same)
+TellsFailure before failed same (answers.Fault fault) =
+    (fault.0 ≡ 92 → before ≡ true) × (fault.0 ≡ 91 → (before ≡ false) × (failed ≡ true)) × (fault.0 ≡ 96 → failed ≡ before) × (before ≡ true → same)

@@ -1,0 +1,5 @@
+pub mod Readings
+pub mod Answers
+pub mod Applied
+pub mod Told
+pub mod Runs

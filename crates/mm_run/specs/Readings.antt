@@ -1,0 +1,31 @@
+-- What a record is read as.
+use Rattle.std.specs.Prelude.{◌≡◌, ◌⊎◌, ℕ, List, [], ◌∷◌, None, Result, Ok, Err, ⊤}
+use Rattle.csv.specs.Records.{AllText}
+use Rattle.mm_base.specs.Bounds.{millimetres}
+use Rattle.mm_base.specs.Records.{Spells, HoldsAgainst, IsLeast}
+use Rattle.mm_base.specs.declared.commands.Command.{Command}
+use Rattle.mm_base.specs.declared.answers.ReadFault.{ReadFault}
+use Rattle.mm_base.specs.declared.answers.ReadFault.TheVariants as faults
+use Rattle.mm_lines.specs.Records.{Record}
+
+-- a command, or the number that refuses the record
+abbrev pub Reading : Type 0
+Reading = Result Command ℕ
+
+-- The command that the fields spell, or the least number that holds against them. A record with a field that isn't
+-- text is refused 10.
+abbrev pub IsReadAs : Record → Reading → Type 0
+IsReadAs fields (Ok command) = AllText fields × Spells millimetres fields command
+IsReadAs fields (Err number) = (AllText fields × IsLeast (HoldsAgainst millimetres fields) number) ⊎ (¬ (AllText fields) × (number ≡ 10))
+
+-- each record in turn
+unfoldable pub AreReadAs : List Record → List Reading → Type 0
+AreReadAs [] [] = ⊤
+AreReadAs (fields ∷ rows) (reading ∷ readings) = IsReadAs fields reading × AreReadAs rows readings
+AreReadAs _ _ = ⊥
+
+-- what a reader of records answers; want of memory says nothing of the record
+abbrev pub IsRead : Record → Result Command ReadFault → Type 0
+IsRead fields (Ok command) = IsReadAs fields (Ok command)
+IsRead fields (Err (faults.Refused why)) = (why.piece ≡ None) × IsReadAs fields (Err why.number)
+IsRead fields (Err faults.Memory) = ⊤

@@ -1,0 +1,131 @@
+-- The run of a list of records.
+use Rattle.std.specs.Prelude.{ℕ, ◌+◌, ◌≡◌, ◌⊎◌, List, [], ◌∷◌, Bool, true, false, Option, Some, None, Result, Ok, Err, length, take}
+use Rattle.std.specs.List.{concat}
+use Rattle.std.specs.Io.KnownBytes.{Appends}
+use Rattle.csv.specs.Reading.{AreRecords, Reached, ReadRecord, default_config}
+use Rattle.csv.specs.declared.parser.State.{State}
+use Rattle.csv.specs.declared.reader.Reader.{Reader}
+use Rattle.mm_base.specs.Bounds.{millimetres}
+use Rattle.mm_base.specs.Package.{Package}
+use Rattle.mm_base.specs.Rules.{Meets}
+use Rattle.mm_base.specs.Runs.{Call, run, IsFirstPart}
+use Rattle.mm_base.specs.Step.{step}
+use Rattle.mm_base.specs.declared.commands.Command.{Command}
+use Rattle.mm_base.specs.declared.answers.Answer.{Answer}
+use Rattle.mm_base.specs.declared.answers.Answer.TheVariants as answers
+use Rattle.mm_base.specs.declared.answers.Tally.{Tally}
+use Rattle.mm_base.specs.declared.answers.RunFault.{RunFault}
+use Rattle.mm_lines.specs.Lines.{lines}
+use Rattle.mm_lines.specs.Records.{Record, records_of}
+use Rattle.mm_run.specs.Readings.{Reading, IsReadAs, AreReadAs}
+use Rattle.mm_run.specs.Answers.{answer_to, after, answers_to, calls_of, accepted_of}
+use Rattle.mm_run.specs.Applied.{IsSound, Leaves, LeavesEither, IsApplyFault}
+use Rattle.mm_run.specs.Told.{AreCounted, IsStoppedText}
+
+-- a fault that has a line of its own: of a command, or of the reader, which tells it
+abbrev pub IsRunFault : ℕ → Bool → Type 0
+IsRunFault fault failed = IsApplyFault fault ⊎ ((fault ≡ 96) × (failed ≡ true))
+
+-- Each database that may be left stands for a first part of these calls, of which so many were acknowledged; and that
+-- package meets the rules.
+abbrev pub AreFirstParts : {D : Type 0} → (D → Type 0) → (D → Package → Type 0) → Package → List Call → ℕ → Type 0
+AreFirstParts {D} may_leave stands_for p calls acknowledged =
+    (db : D) → may_leave db → (q : Package) × stands_for db q × IsFirstPart p calls acknowledged q × Meets millimetres q
+
+-- the answers that were given: those to the records that were counted
+abbrev pub given_of : Package → ℕ → List Reading → Tally → List Answer
+given_of p moment readings t = answers_to p moment (take (t.accepted + t.refused) readings)
+
+-- how many `ok` lines were written whole
+abbrev pub acknowledged_of : Package → ℕ → List Reading → Tally → ℕ
+acknowledged_of p moment readings t = accepted_of (take t.written (given_of p moment readings t))
+
+-- What holds for a package that the session was settled for and for the bytes that the reader had still to give, where
+-- the store was clean.
+abbrev pub OnRun : Type 0 → (Package → Type 0) → Option (List ℕ) → (Package → List ℕ → Type 0) → Type 0
+OnRun clean settled source P = clean → (p : Package) → IsSound settled p → (bytes : List ℕ) → source ≡ Some bytes → P p bytes
+
+-- A run without a fault: each record of the bytes is answered, and all that is accepted stands.
+pub record RanAll {D : Type 0} (p : Package) (moment : ℕ) (bytes : List ℕ) (settled : Package → Type 0) (may_leave : D → Type 0) (stands_for : D → Package → Type 0)
+    (old new : Option (List ℕ)) (t : Tally) : Type 0 where
+  pub readings : List Reading
+  pub read : AreReadAs (records_of bytes) readings
+  pub text : Appends old new (concat (lines (answers_to p moment readings)))
+  pub counted : AreCounted t (answers_to p moment readings)
+  pub all : t.accepted + t.refused ≡ length (records_of bytes)
+  pub written : t.written ≡ length (records_of bytes)
+  pub stands : IsSound settled (run p (calls_of moment readings))
+  pub left : AreFirstParts may_leave stands_for p (calls_of moment readings) t.accepted
+
+-- A run with a fault: the first records are answered, and what may be left is a first part of what was read.
+pub record RanSome {D : Type 0} (p : Package) (moment : ℕ) (bytes : List ℕ) (may_leave : D → Type 0) (stands_for : D → Package → Type 0)
+    (old new : Option (List ℕ)) (e : RunFault) : Type 0 where
+  pub readings : List Reading
+  pub read : AreReadAs (take (length readings) (records_of bytes)) readings
+  pub text : IsStoppedText (given_of p moment readings e.tally) e old new
+  pub counted : AreCounted e.tally (given_of p moment readings e.tally)
+  pub left : AreFirstParts may_leave stands_for p (calls_of moment readings) (acknowledged_of p moment readings e.tally)
+
+-- What a run tells of a session that has to be opened again. One that had to before is the same after the run, and
+-- accepted nothing; 92 comes only there, and after 91 it has to.
+abbrev pub TellsFailureOf : Bool → Bool → Type 0 → Result Tally RunFault → Type 0
+TellsFailureOf before failed same (Ok t) = (failed ≡ before) × (before ≡ true → same × (t.accepted ≡ 0))
+TellsFailureOf before failed same (Err e) =
+    (e.fault.0 ≡ 92 → before ≡ true) × (e.fault.0 ≡ 91 → (before ≡ false) × (failed ≡ true)) × (e.fault.0 ≡ 96 → failed ≡ before)
+    × (before ≡ true → same × (e.tally.accepted ≡ 0))
+
+-- ---- inside a run
+-- the answer to a record, and what then is settled or may be left
+abbrev pub IsAnswered : {D : Type 0} → Record → Package → ℕ → Answer → (Package → Type 0) → (D → Type 0) → (D → Package → Type 0) → Type 0
+IsAnswered fields p moment (answers.Fault fault) settled may_leave stands_for =
+    Leaves may_leave stands_for p
+    ⊎ ((command : Command) × IsReadAs fields (Ok command) × Meets millimetres (step p command moment) × LeavesEither may_leave stands_for p command moment)
+IsAnswered fields p moment answers.Ok settled may_leave stands_for =
+    (reading : Reading) × IsReadAs fields reading × (answers.Ok ≡ answer_to p reading) × IsSound settled (after p moment reading)
+IsAnswered fields p moment (answers.Refused why) settled may_leave stands_for =
+    (reading : Reading) × IsReadAs fields reading × (answers.Refused why ≡ answer_to p reading) × IsSound settled (after p moment reading)
+
+-- a record was read and answered, or couldn't be read, or the end was reached
+abbrev pub Turns : {D T : Type 0} → (T → Option (List ℕ)) → Reader T → Reader T → Package → ℕ → Option Answer → (Package → Type 0) → (D → Type 0) → (D → Package → Type 0) → Type 0
+Turns remaining old new p moment None settled may_leave stands_for = (fields : Record) × ReadRecord remaining old new false fields × IsSound settled p
+Turns remaining old new p moment (Some answers.Ok) settled may_leave stands_for =
+    (fields : Record) × ReadRecord remaining old new true fields × IsAnswered fields p moment answers.Ok settled may_leave stands_for
+Turns remaining old new p moment (Some (answers.Refused why)) settled may_leave stands_for =
+    (fields : Record) × ReadRecord remaining old new true fields × IsAnswered fields p moment (answers.Refused why) settled may_leave stands_for
+Turns remaining old new p moment (Some (answers.Fault fault)) settled may_leave stands_for =
+    Leaves may_leave stands_for p ⊎ ((fields : Record) × ReadRecord remaining old new true fields × IsAnswered fields p moment (answers.Fault fault) settled may_leave stands_for)
+
+-- Some answers, counted and told up to the end of a run that a fault stopped. At 97 the writer tells that it failed.
+abbrev pub IsStopped : List Answer → RunFault → Option (List ℕ) → Option (List ℕ) → Bool → Type 0
+IsStopped given e old new failed = AreCounted e.tally given × IsStoppedText given e old new × (e.fault.0 ≡ 97 → failed ≡ true)
+
+-- the records so far are these, read so and answered so; the package after them is settled, and the reader stands behind them
+pub record IsSoFar (p : Package) (moment : ℕ) (xs : List ℕ) (s : State) (source : Option (List ℕ)) (s2 : State) (settled : Package → Type 0) (given : List Answer) : Type 0 where
+  pub rows : List Record
+  pub rest : List ℕ
+  pub here : source ≡ Some rest
+  pub reached : Reached default_config s xs rows s2 rest
+  pub readings : List Reading
+  pub read : AreReadAs rows readings
+  pub were : given ≡ answers_to p moment readings
+  pub stands : IsSound settled (run p (calls_of moment readings))
+
+-- the records are these, to the end
+pub record IsAll (p : Package) (moment : ℕ) (xs : List ℕ) (s : State) (settled : Package → Type 0) (given : List Answer) : Type 0 where
+  pub rows : List Record
+  pub are : AreRecords default_config s xs rows
+  pub readings : List Reading
+  pub read : AreReadAs rows readings
+  pub were : given ≡ answers_to p moment readings
+  pub stands : IsSound settled (run p (calls_of moment readings))
+
+-- the first records are these, the first answers those given, and so much may be left
+pub record IsSome {D : Type 0} (p : Package) (moment : ℕ) (xs : List ℕ) (s : State) (may_leave : D → Type 0) (stands_for : D → Package → Type 0) (given : List Answer) (written : ℕ) : Type 0 where
+  pub rows : List Record
+  pub state : State
+  pub rest : List ℕ
+  pub reached : Reached default_config s xs rows state rest
+  pub readings : List Reading
+  pub read : AreReadAs rows readings
+  pub were : given ≡ answers_to p moment (take (length given) readings)
+  pub left : AreFirstParts may_leave stands_for p (calls_of moment readings) (accepted_of (take written given))

@@ -1,0 +1,15 @@
+//! The run of a list of records: each is read, applied and answered with a line, which is written and flushed before
+//! the next record is read. What may be left at each exit is a first part of the accepted commands.
+#![tactic(auto)]
+
+mod answering;
+mod apply;
+mod reading;
+mod run;
+mod telling;
+
+pub use apply::Apply;
+pub use run::run_list;
+
+#[cfg(test)]
+mod tests;

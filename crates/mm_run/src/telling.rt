@@ -1,0 +1,64 @@
+//! Telling an answer: its line is written and counted.
+
+ghost use Rattle.std.specs.Prelude.{◌≡◌, ◌+◌, ◌<◌, ◌^◌, IfOk, IfErr};
+ghost use Rattle.mm_base.specs.Streams.{has_failed, inside};
+ghost use Rattle.mm_run.specs.Told.{Goes, IsNear, Stops, with_answer};
+
+use mm_base::answers::{Answer, Fault, RunFault, Tally};
+use mm_base::streams::Io;
+use mm_lines::{Sent, answer_line, send};
+use std::io::Write;
+
+/// The tally with one more answer.
+fn counted(tally: Tally, answer: Answer) -> Tally
+    requires { (tally.accepted + 1 < 2 ^ 64) × (tally.refused + 1 < 2 ^ 64) }
+    ensures { result ≡ with_answer answer tally }
+{
+    match answer {
+        Answer::Ok => Tally {
+            accepted: tally.accepted + 1,
+            ..tally
+        },
+        Answer::Refused(_) => Tally {
+            refused: tally.refused + 1,
+            ..tally
+        },
+        Answer::Fault(_) => tally,
+    }
+}
+
+/// Writes line `n`, which tells the answer, and flushes. It counts both, and stops at a fault: the answer's own, or 97
+/// where the writer fails.
+pub(crate) fn tell<W: Write>(
+    n: u64,
+    answer: Answer,
+    writer: &mut Io<W>,
+    tally: Tally,
+) -> Result<Tally, RunFault>
+    requires { (tally.accepted + tally.refused + 1 ≡ n) × (tally.written + 1 ≡ n) }
+    ensures goes { IfOk result (λ t. Goes (W.contents (inside writer.old)) (W.contents (inside writer.new)) (has_failed writer.old) (has_failed writer.new) n answer tally t) }
+    ensures near { IfErr result (λ e. IsNear e.tally) }
+    ensures stops { IfErr result (λ e. Stops (W.contents (inside writer.old)) (W.contents (inside writer.new)) (has_failed writer.new) n answer tally e) }
+{
+    let mut tally = counted(tally, answer);
+    match send(writer, answer_line(n, answer).as_slice()) {
+        Sent::Flushed => {
+            tally.written += 1;
+            match answer {
+                Answer::Fault(fault) => Err(RunFault { fault, tally }),
+                _ => Ok(tally),
+            }
+        }
+        Sent::Unflushed => {
+            tally.written += 1;
+            Err(RunFault {
+                fault: Fault(97),
+                tally,
+            })
+        }
+        Sent::Cut => Err(RunFault {
+            fault: Fault(97),
+            tally,
+        }),
+    }
+}

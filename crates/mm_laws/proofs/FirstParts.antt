@@ -1,7 +1,7 @@
 -- First parts of a list that is done in two parts.
 use Rattle.std.proofs.Common.{◌≡◌, ℕ, ◌+◌, ◌≤◌, List, [], ◌∷◌, ◌++◌, length, take, Option, Some, None, refl, sym, ap, ◌∙◌, arith}
 use Rattle.std.proofs.lemmas.List.{take-append-le, length-append}
-use Rattle.std.proofs.Math.Seq.{take-append-add}
+use Rattle.std.proofs.Math.Seq.{take-append-add, take-length}
 use Rattle.mm_base.specs.Package.{Package}
 use Rattle.mm_base.specs.Step.{refusal, step}
 use Rattle.mm_base.specs.Runs.{Call, run, if_ok, accepted, IsFirstPart}
@@ -21,10 +21,6 @@ accepted_append [] after p = refl
 accepted_append (c ∷ cs) after p =
     ap (if_ok (refusal p c.command) c) (accepted_append cs after (step p c.command c.moment))
     ∙ if_ok_append (refusal p c.command) c (accepted (step p c.command c.moment) cs) (accepted (run (step p c.command c.moment) cs) after)
-
-take_all : (xs : List Call) → take (length xs) xs ≡ xs
-take_all [] = refl
-take_all (x ∷ xs) = ap (λ l. x ∷ l) (take_all xs)
 
 pub first_part_after : (p q : Package) (before after : List Call) (a : ℕ) → IsFirstPart (run p before) after a q → IsFirstPart p (before ++ after) (length (accepted p before) + a) q
 first_part_after p q before after a part =
@@ -72,7 +68,7 @@ whole_part p calls = record {
   at_least = itself (length (accepted p calls));
   at_most = one_more (length (accepted p calls));
   there = itself (length (accepted p calls));
-  is = sym (run_accepted calls p) ∙ ap (run p) (sym (take_all (accepted p calls)));
+  is = sym (run_accepted calls p) ∙ ap (run p) (sym (take-length (accepted p calls)));
 }
   where
     itself : (n : ℕ) → n ≤ n

@@ -1,4 +1,5 @@
 -- A package: what the columns of its tables hold, whether or not they meet the rules.
+-- The clauses that are named are those of OGC 12-128r17 (GeoPackage) and OGC 18-000 (Related Tables Extension).
 use Rattle.std.specs.Prelude.{◌≡◌, ℕ, ℤ, Bool, ◌||◌, List, Option, Some, None, codes, ⊤, ◌⊎◌}
 use Rattle.std.specs.Ordering.{int_cmp}
 use Rattle.std.specs.FinMap.{FinMap, get}
@@ -7,7 +8,7 @@ use Rattle.mm_base.specs.Parts.{at_value}
 use Rattle.mm_base.specs.declared.commands.Kind.{Kind}
 use Rattle.mm_base.specs.declared.commands.Kind.TheVariants.{Two, Other, Attributes, Media}
 
--- a spatial reference system
+-- a spatial reference system (Spatial Reference Systems)
 pub record System : Type 0 where
   pub name : Text
   pub organization : Text
@@ -15,7 +16,7 @@ pub record System : Type 0 where
   pub definition : Text
   pub description : Text
 
--- a contents row; its four bounds are its extent where all stand
+-- a contents row; its four bounds are its extent where all stand (Contents)
 pub record Contents : Type 0 where
   pub data_type : Text
   pub identifier : Text
@@ -34,12 +35,12 @@ pub record Box : Type 0 where
   pub max_x : ℤ
   pub max_y : ℤ
 
--- a tile matrix set: the system and the extent of a pyramid
+-- a tile matrix set: the system and the extent of a pyramid (Tile Matrix Set)
 pub record MatrixSet : Type 0 where
   pub system : ℤ
   pub box : Box
 
--- a tile matrix: how many tiles it has, how many pixels a tile has, and how large a pixel is
+-- a tile matrix: how many tiles it has, how many pixels a tile has, and how large a pixel is (Tile Matrix)
 pub record Grid : Type 0 where
   pub matrix_width : ℤ
   pub matrix_height : ℤ
@@ -48,18 +49,18 @@ pub record Grid : Type 0 where
   pub pixel_x_size : ℤ
   pub pixel_y_size : ℤ
 
--- a row of an attribute table
+-- a row of an attribute table (Attributes); which columns it has is this editor's choice
 pub record AttributeRow : Type 0 where
   pub title : Text
   pub note : Text
   pub amount : ℤ
 
--- a media item
+-- a media item (Media)
 pub record Medium : Type 0 where
   pub bytes : List ℕ
   pub content_type : Text
 
--- a relation, under the name of its mapping
+-- a relation, under the name of its mapping (Extended Relations Table)
 pub record Relation : Type 0 where
   pub base : Text
   pub related : Text
@@ -101,7 +102,7 @@ SetsPart = FinMap text_cmp MatrixSet
 abbrev pub MatricesPart : Type 0
 MatricesPart = FinMap level_cmp Grid
 
--- how often each extension row stands
+-- how often each extension row stands (Extensions)
 abbrev pub ExtensionsPart : Type 0
 ExtensionsPart = FinMap extension_cmp ℕ
 
@@ -119,7 +120,7 @@ MediaPart = FinMap item_cmp Medium
 abbrev pub RelationsPart : Type 0
 RelationsPart = FinMap text_cmp Relation
 
--- the mapping rows, a set
+-- the mapping rows, a set (User Defined Mapping Tables)
 abbrev pub PairingsPart : Type 0
 PairingsPart = FinMap pairing_cmp ⊤
 
@@ -166,7 +167,7 @@ IsPyramid kinds table = HasKind kinds table Two ⊎ HasKind kinds table Other
 abbrev pub is_pyramid : Kinds → Text → Bool
 is_pyramid kinds table = has_kind kinds table Two || has_kind kinds table Other
 
--- ---- the extension rows of a package: of related tables, of each mapping, and of each pyramid with other zoom intervals
+-- ---- the extension rows of a package: of related tables, of each mapping, and of each pyramid with other zoom intervals (Zoom Other Intervals)
 abbrev pub general_extension : Extension
 general_extension = record { table = Some (codes "gpkgext_relations"); column = None; name = codes "gpkg_related_tables"; definition = codes "OGC 18-000"; scope = codes "read-write" }
 

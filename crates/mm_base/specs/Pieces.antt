@@ -27,9 +27,9 @@ same_piece a b =
     same_text a.kind b.kind && same_text a.name b.name && same_number a.k1 b.k1 && same_number a.k2 b.k2 && same_number a.k3 b.k3 && same_number a.k4 b.k4
     && same_number a.k5 b.k5 && same_number a.k6 b.k6 && same_number a.k7 b.k7 && same_text a.t1 b.t1 && same_text a.t2 b.t2 && same_text a.bytes b.bytes
 
--- the piece that a row spells, if its kind is known
-abbrev pub row_piece : PieceRow → Option Piece
-row_piece r =
+-- the piece that some columns of a row give, if its kind is known
+abbrev pub piece_by_kind : PieceRow → Option Piece
+piece_by_kind r =
     if same_text r.kind (codes "tile") then Some (Tile r.name (unsigned_abs r.k1) (unsigned_abs r.k2) (unsigned_abs r.k3) r.bytes)
     else (if same_text r.kind (codes "tile-drop") then Some (TileDrop r.name (unsigned_abs r.k1) (unsigned_abs r.k2) (unsigned_abs r.k3))
     else (if same_text r.kind (codes "row") then Some (Row r.name r.k1 r.t1 r.t2 r.k2)
@@ -39,6 +39,15 @@ row_piece r =
     else (if same_text r.kind (codes "map") then Some (Map r.name r.k1 r.k2)
     else (if same_text r.kind (codes "map-drop") then Some (MapDrop r.name r.k1 r.k2)
     else None)))))))
+
+-- where all columns are as that piece's row has them
+abbrev pub if_spelled : PieceRow → Option Piece → Option Piece
+if_spelled r None = None
+if_spelled r (Some q) = if same_piece (piece_row q) r then Some q else None
+
+-- the piece that a row spells, if it spells one
+abbrev pub row_piece : PieceRow → Option Piece
+row_piece r = if_spelled r (piece_by_kind r)
 
 -- the command that a piece spells
 abbrev pub piece_command : Piece → Command

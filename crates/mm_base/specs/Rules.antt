@@ -1,4 +1,4 @@
--- The rules that a whole package meets.
+-- The rules that a whole package meets, Q1 to Q16. Each reads only the parts that it names.
 use Rattle.std.specs.Prelude.{◌≡◌, ◌≢◌, ℕ, ◌≤◌, ℤ, pos, negsuc, ◌+ℤ◌, ◌-ℤ◌, ◌*ℤ◌, ◌≤ℤ◌, ◌<ℤ◌, ◌⊎◌, List, [], Option, Some, None, IfSome, codes, ⊤}
 use Rattle.std.specs.FinMap.{get}
 use Rattle.mm_base.specs.Bounds.{Profile, IsFrom, IsCoordinate, IsPixelSize, IsZoom, IsMatrixSide, IsTileSide, IsTilePlace, IsId, IsSystemNumber, IsAmount, IsTileBytes, IsMediaBytes, IsName, IsClean, IsIdentifier, IsSystemName, IsDefinition, IsRemark, IsContentType, MostPieces}
@@ -85,7 +85,7 @@ pub record Extents (contents : ContentsPart) (sets : SetsPart) : Type 0 where
   pub of_sets : Each sets (λ _ s. (s.box.min_x <ℤ s.box.max_x) × (s.box.min_y <ℤ s.box.max_y))
   pub of_contents : Each contents (λ _ c. IsOrdered c.min_x c.max_x × IsOrdered c.min_y c.max_y)
 
--- ---- 7: each matrix belongs to a pyramid and covers its extent exactly
+-- ---- 7: each matrix belongs to a pyramid and covers its extent exactly (Tile Matrix, in whole numbers)
 pub record Fits (b : Box) (g : Grid) : Type 0 where
   pub across : b.max_x -ℤ b.min_x ≡ (g.matrix_width *ℤ g.tile_width) *ℤ g.pixel_x_size
   pub down : b.max_y -ℤ b.min_y ≡ (g.matrix_height *ℤ g.tile_height) *ℤ g.pixel_y_size
@@ -97,7 +97,7 @@ FitsIn (Some s) g = Fits s.box g
 abbrev pub MatricesFit : Kinds → SetsPart → MatricesPart → Type 0
 MatricesFit kinds sets matrices = Each matrices (λ k g. IsPyramid kinds k.table × FitsIn (get sets k.table) g)
 
--- ---- 8: of any two zooms the higher has the smaller pixels
+-- ---- 8: of any two zooms the higher has the smaller pixels (Tile Matrix)
 pub record IsFiner (g h : Grid) : Type 0 where
   pub across : h.pixel_x_size <ℤ g.pixel_x_size
   pub down : h.pixel_y_size <ℤ g.pixel_y_size
@@ -105,7 +105,7 @@ pub record IsFiner (g h : Grid) : Type 0 where
 abbrev pub HigherIsFiner : MatricesPart → Type 0
 HigherIsFiner matrices = (table : Text) (low high : ℤ) (g h : Grid) → Has matrices (level table low) g → Has matrices (level table high) h → low <ℤ high → IsFiner g h
 
--- ---- 9: in a pyramid of kind `two` the next zoom halves the pixels
+-- ---- 9: in a pyramid of kind `two` the next zoom halves the pixels (Zoom Levels)
 pub record IsHalved (g h : Grid) : Type 0 where
   pub across : g.pixel_x_size ≡ pos 2 *ℤ h.pixel_x_size
   pub down : g.pixel_y_size ≡ pos 2 *ℤ h.pixel_y_size
@@ -113,7 +113,7 @@ pub record IsHalved (g h : Grid) : Type 0 where
 abbrev pub NextIsHalved : Kinds → MatricesPart → Type 0
 NextIsHalved kinds matrices = (table : Text) (zoom : ℤ) (g h : Grid) → HasKind kinds table Two → Has matrices (level table zoom) g → Has matrices (level table (zoom +ℤ pos 1)) h → IsHalved g h
 
--- ---- 10: each tile lies in the matrix at its zoom; column 0, row 0 is the upper left
+-- ---- 10: each tile lies in the matrix at its zoom; column 0, row 0 is the upper left, and tiles may be missing (Tile Pyramid User Data Tables)
 abbrev pub IsInside : Option Grid → ℤ → ℤ → Type 0
 IsInside None column row = ⊥
 IsInside (Some g) column row = (pos 0 ≤ℤ column) × (column <ℤ g.matrix_width) × (pos 0 ≤ℤ row) × (row <ℤ g.matrix_height)
@@ -126,7 +126,7 @@ pub record Items (kinds : Kinds) (rows : RowsPart) (media : MediaPart) : Type 0 
   pub of_rows : Each rows (λ k _. HasKind kinds k.table Attributes)
   pub of_media : Each media (λ k _. HasKind kinds k.table Media)
 
--- ---- 12: relations join tables of the kinds that their names ask for
+-- ---- 12: relations join tables of the kinds that their names ask for (Media, Simple Attributes)
 pub record IsSuited (kinds : Kinds) (r : Relation) : Type 0 where
   pub base : HasKind kinds r.base Attributes ⊎ HasKind kinds r.base Media
   pub related : ((r.name ≡ codes "media") × HasKind kinds r.related Media) ⊎ ((r.name ≡ codes "simple_attributes") × HasKind kinds r.related Attributes)

@@ -1,11 +1,11 @@
 -- A piece that is staged again changes nothing, and a piece is its command.
-use Rattle.std.proofs.Common.{◌≡◌, ◌↔◌, ℕ, ◌+◌, ℤ, pos, ◌≤ℤ◌, true, not, ◌&&◌, int_lt, int_le, [], Some, None, refl, sym, ap, ◌∙◌, arith}
+use Rattle.std.proofs.Common.{◌≡◌, ◌↔◌, ℕ, ◌+◌, ℤ, pos, ◌≤ℤ◌, true, not, ◌&&◌, int_lt, int_le, [], Some, None, refl, sym, ap, ◌∙◌, arith, Bool, false, if◌then◌else◌, Option}
 use Rattle.std.proofs.lemmas.Int.{ints}
 use Rattle.std.specs.FinMap.{get, contains_key}
 use Rattle.mm_base.specs.Keys.{Text, piece}
 use Rattle.mm_base.specs.Package.{Package, PieceRow, PiecesPart}
 use Rattle.mm_base.specs.Bounds.{Profile}
-use Rattle.mm_base.specs.Pieces.{piece_row, same_piece, piece_command}
+use Rattle.mm_base.specs.Pieces.{piece_row, same_piece, piece_by_kind, if_spelled, row_piece, piece_command}
 use Rattle.mm_base.specs.Within.{IsPieceWithin, IsWithin}
 use Rattle.mm_base.specs.Stamp.{stamp}
 use Rattle.mm_base.specs.Conditions.{least, own_reasons, piece_reasons, is_open, piece_count, has_equal_piece}
@@ -14,11 +14,12 @@ use Rattle.mm_base.specs.Step.{reasons, refused_piece, publishing, refusal, done
 use Rattle.mm_base.specs.declared.commands.Piece.{Piece}
 use Rattle.mm_base.specs.declared.commands.Piece.TheVariants as pieces
 use Rattle.mm_base.specs.declared.commands.Command.TheVariants as commands
-use Rattle.mm_base.proofs.Parts.{either_false, put_again}
+use Rattle.mm_base.proofs.Parts.{either_false, put_again, same_some}
 use Rattle.mm_base.proofs.KeyLaws.{texts, numbers, piece_keys}
 use Rattle.mm_laws.proofs.Reasons.{none_holds, not_false, and_false, stands_where}
 use Rattle.mm_laws.proofs.KindFacts.{are_same, both_true, at_true}
 use Rattle.mm_laws.proofs.Closed.{no_refusal}
+use Rattle.mm_laws.proofs.Published.{read_back}
 
 same_row : (a b : PieceRow) → same_piece a b ≡ true → a ≡ b
 same_row a b e =
@@ -47,6 +48,17 @@ same_row a b e =
       t2 = are_same texts a.t2 b.t2 t2.1 i;
       bytes = are_same texts a.bytes b.bytes bytes.1 i;
     }
+
+spelled_only : (r : PieceRow) (v : Option Piece) (q : Piece) → if_spelled r v ≡ Some q → r ≡ piece_row q
+spelled_only r None q e = absurd (let f : ◌≡◌ {A = Option Piece} None (Some q) = e in cc)
+spelled_only r (Some x) q e = by_test (same_piece (piece_row x) r) refl e where
+  by_test : (b : Bool) → same_piece (piece_row x) r ≡ b → (if b then Some x else None) ≡ Some q → r ≡ piece_row q
+  by_test true t f = sym (same_row (piece_row x) r t) ∙ ap piece_row (same_some f)
+  by_test false t f = absurd (let g : ◌≡◌ {A = Option Piece} None (Some q) = f in cc)
+
+-- a row spells a piece exactly where it is that piece's row
+pub spells : (r : PieceRow) (q : Piece) → (row_piece r ≡ Some q) ↔ (r ≡ piece_row q)
+spells r q = (λ e. spelled_only r (piece_by_kind r) q e, λ e. ap row_piece e ∙ read_back q)
 
 le_holds : (a b : ℤ) → a ≤ℤ b → int_le a b ≡ true
 le_holds a b h = grind (arith, ints)

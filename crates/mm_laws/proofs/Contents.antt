@@ -12,7 +12,7 @@ use Rattle.mm_base.specs.declared.commands.Kind.TheVariants as kinds
 use Rattle.mm_base.specs.declared.commands.Piece.TheVariants as pieces
 use Rattle.mm_base.proofs.Parts.{each_put, each_remove, stands_after_put, beside_remove, no_entry, either_false, same_itself}
 use Rattle.mm_base.proofs.KeyLaws.{numbers, texts, tile_keys, items, pairing_keys}
-use Rattle.mm_laws.specs.Laws.{PieceKeeps}
+use Rattle.mm_laws.proofs.Kept.{PieceKeeps}
 use Rattle.mm_laws.proofs.Reasons.{none_holds, not_false, is_suited, stands_where}
 use Rattle.mm_laws.proofs.KindFacts.{has_kind_tells, has_kind_holds}
 use Rattle.mm_laws.proofs.Touch.{touch_keeps}

@@ -13,7 +13,7 @@ use Rattle.mm_base.specs.declared.commands.Kind.TheVariants as kinds
 use Rattle.mm_base.specs.declared.commands.Command.TheVariants as commands
 use Rattle.mm_base.proofs.Parts.{each_remove, each_retain, after_remove, after_retain, kept, beside_remove, absent_after_remove, no_entry, either_false, same_itself, apart}
 use Rattle.mm_base.proofs.KeyLaws.{levels, texts, tile_keys, items, extension_keys}
-use Rattle.mm_laws.specs.Laws.{Keeps}
+use Rattle.mm_laws.proofs.Kept.{Keeps}
 use Rattle.mm_laws.proofs.Reasons.{none_holds}
 use Rattle.mm_laws.proofs.KindFacts.{differ}
 use Rattle.mm_laws.proofs.Systems.{if_some_more}

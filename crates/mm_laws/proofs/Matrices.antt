@@ -11,7 +11,7 @@ use Rattle.mm_base.specs.declared.commands.Matrix.{Matrix}
 use Rattle.mm_base.specs.declared.commands.Command.TheVariants as commands
 use Rattle.mm_base.proofs.Parts.{each_put, kept_by_new}
 use Rattle.mm_base.proofs.KeyLaws.{levels, numbers}
-use Rattle.mm_laws.specs.Laws.{Keeps}
+use Rattle.mm_laws.proofs.Kept.{Keeps}
 use Rattle.mm_laws.proofs.Reasons.{none_holds, not_false, and_false}
 use Rattle.mm_laws.proofs.KindFacts.{are_same, both_true, is_pyramid_tells, pyramid_set}
 use Rattle.mm_laws.proofs.Touch.{touch_keeps}

@@ -1,11 +1,11 @@
 -- Publishing keeps the rules.
-use Rattle.std.proofs.Common.{◌≡◌, ℕ, Bool, List, [], ◌∷◌, Option, Some, None, Result, Ok, Err, refl, sym, ap, subst, ◌∙◌, ◌⊎◌, inl, inr, ◌≤◌, unsigned_abs}
+use Rattle.std.proofs.Common.{◌≡◌, ℕ, ℤ, Bool, true, false, ◌&&◌, if◌then◌else◌, List, [], ◌∷◌, Option, Some, None, Result, Ok, Err, refl, sym, ap, subst, ◌∙◌, ◌⊎◌, inl, inr, ◌≤◌, unsigned_abs}
 use Rattle.std.specs.List.{AllByRecursion}
 use Rattle.std.specs.FinMap.{retain_keys}
-use Rattle.mm_base.specs.Keys.{Text, same_text, PieceKey}
+use Rattle.mm_base.specs.Keys.{Text, same_text, same_number, PieceKey}
 use Rattle.mm_base.specs.Package.{Package, PieceRow, open_state, published_state}
 use Rattle.mm_base.specs.Bounds.{Profile, IsMoment, IsName, MostPieces}
-use Rattle.mm_base.specs.Pieces.{piece_row, row_piece}
+use Rattle.mm_base.specs.Pieces.{piece_row, same_piece, piece_by_kind, if_spelled, row_piece}
 use Rattle.mm_base.specs.Within.{IsPieceWithin}
 use Rattle.mm_base.specs.Stamp.{IsStamp}
 use Rattle.mm_base.specs.Rules.{Meets, IsNumbered, IsSpelled, EditionWithin, PieceWithin}
@@ -15,11 +15,11 @@ use Rattle.mm_base.specs.Editions.{PieceRefusal, decided, piece_trial, after_tri
 use Rattle.mm_base.specs.Step.{closed_by}
 use Rattle.mm_base.specs.declared.commands.Piece.{Piece}
 use Rattle.mm_base.specs.declared.commands.Piece.TheVariants as pieces
-use Rattle.mm_base.proofs.Parts.{same_some, each_put, each_retain, after_put, after_retain, beside_put}
+use Rattle.mm_base.proofs.Parts.{same_some, same_itself, each_put, each_retain, after_put, after_retain, beside_put}
 use Rattle.mm_base.proofs.CleanTexts.{ascii_is_clean}
-use Rattle.mm_base.proofs.KeyLaws.{texts, piece_keys}
+use Rattle.mm_base.proofs.KeyLaws.{texts, numbers, piece_keys}
 use Rattle.mm_base.proofs.Listed.{along_entries}
-use Rattle.mm_laws.specs.Laws.{PieceKeeps}
+use Rattle.mm_laws.proofs.Kept.{PieceKeeps}
 use Rattle.mm_laws.proofs.KindFacts.{differ}
 use Rattle.mm_laws.proofs.Contents as contents
 use Rattle.mm_laws.proofs.Relations.{other_tells, numbered_still}
@@ -35,15 +35,28 @@ piece_keeps (pieces.Map mapping base_id related_id) = contents.map_put mapping b
 piece_keeps (pieces.MapDrop mapping base_id related_id) = contents.map_drop mapping base_id related_id
 
 -- the row of a piece is read as that piece
+both : (a b : Bool) → a ≡ true → b ≡ true → (a && b) ≡ true
+both true b e f = f
+both false b e f = e
+
+row_itself : (r : PieceRow) → same_piece r r ≡ true
+row_itself r =
+    let text : (t : Text) → same_text t t ≡ true = λ t. same_itself texts t in
+    let number : (z : ℤ) → same_number z z ≡ true = λ z. same_itself numbers z in
+    both _ _ (both _ _ (both _ _ (both _ _ (both _ _ (both _ _ (both _ _ (both _ _ (both _ _ (both _ _ (both _ _ (text r.kind) (text r.name)) (number r.k1)) (number r.k2)) (number r.k3)) (number r.k4)) (number r.k5)) (number r.k6)) (number r.k7)) (text r.t1)) (text r.t2)) (text r.bytes)
+
+by_kind : (q : Piece) → piece_by_kind (piece_row q) ≡ Some q
+by_kind (pieces.Tile table zoom column row bytes) = refl
+by_kind (pieces.TileDrop table zoom column row) = refl
+by_kind (pieces.Row table id title note amount) = refl
+by_kind (pieces.RowDrop table id) = refl
+by_kind (pieces.Media table id content_type bytes) = refl
+by_kind (pieces.MediaDrop table id) = refl
+by_kind (pieces.Map mapping base_id related_id) = refl
+by_kind (pieces.MapDrop mapping base_id related_id) = refl
+
 pub read_back : (q : Piece) → row_piece (piece_row q) ≡ Some q
-read_back (pieces.Tile table zoom column row bytes) = refl
-read_back (pieces.TileDrop table zoom column row) = refl
-read_back (pieces.Row table id title note amount) = refl
-read_back (pieces.RowDrop table id) = refl
-read_back (pieces.Media table id content_type bytes) = refl
-read_back (pieces.MediaDrop table id) = refl
-read_back (pieces.Map mapping base_id related_id) = refl
-read_back (pieces.MapDrop mapping base_id related_id) = refl
+read_back q = ap (if_spelled (piece_row q)) (by_kind q) ∙ ap (λ b. if b then Some q else None) (row_itself (piece_row q))
 
 row_within : (r : PieceRow) → IsSpelled r → (q : Piece) → row_piece r ≡ Some q → IsPieceWithin q
 row_within r s q e = subst IsPieceWithin (same_some (sym (ap row_piece s.1 ∙ read_back s.0) ∙ e)) s.2

@@ -16,7 +16,7 @@ use Rattle.mm_base.specs.declared.commands.Command.TheVariants as commands
 use Rattle.mm_base.proofs.Parts.{each_put, each_remove, each_retain, stands_after_put, after_put, after_remove, after_retain, kept, kept_by_new, at_put, beside_remove, either_false, same_itself, apart, not_none, none_of, some_of}
 use Rattle.mm_base.proofs.CleanTexts.{ascii_is_clean, name_is_clean}
 use Rattle.mm_base.proofs.KeyLaws.{texts, pairing_keys, piece_keys, extension_keys}
-use Rattle.mm_laws.specs.Laws.{Keeps}
+use Rattle.mm_laws.proofs.Kept.{Keeps}
 use Rattle.mm_laws.proofs.Reasons.{none_holds, not_false, stands_where}
 use Rattle.mm_laws.proofs.KindFacts.{differ, both_true, either_true, has_kind_tells}
 use Rattle.mm_laws.proofs.Tables.{put_once}

@@ -14,7 +14,7 @@ use Rattle.mm_base.specs.declared.commands.Piece.{Piece}
 use Rattle.mm_base.specs.declared.commands.Command.TheVariants as commands
 use Rattle.mm_base.proofs.Parts.{each_put, stands_after_put, after_put, at_put, beside_put, some_of, either_false, same_key}
 use Rattle.mm_base.proofs.KeyLaws.{piece_keys, texts, numbers}
-use Rattle.mm_laws.specs.Laws.{Keeps}
+use Rattle.mm_laws.proofs.Kept.{Keeps}
 use Rattle.mm_laws.proofs.Reasons.{none_holds, not_false, and_false, stands_where}
 use Rattle.mm_laws.proofs.KindFacts.{are_same, at_true}
 use Rattle.mm_laws.proofs.Counted.{piece_count-is}

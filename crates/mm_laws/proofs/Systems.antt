@@ -8,7 +8,7 @@ use Rattle.mm_base.specs.Conditions.{own_reasons}
 use Rattle.mm_base.specs.declared.commands.Command.TheVariants.{Srs}
 use Rattle.mm_base.proofs.Parts.{each_put, stands_after_put, kept_by_new}
 use Rattle.mm_base.proofs.KeyLaws.{numbers}
-use Rattle.mm_laws.specs.Laws.{Keeps}
+use Rattle.mm_laws.proofs.Kept.{Keeps}
 use Rattle.mm_laws.proofs.Reasons.{none_holds}
 
 pub if_some_more : {A : Type 0} (v : Option A) (P Q : A → Type 0) → ((x : A) → P x → Q x) → IfSome v P → IfSome v Q

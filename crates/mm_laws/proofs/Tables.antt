@@ -19,7 +19,7 @@ use Rattle.mm_base.specs.declared.commands.Command.TheVariants as commands
 use Rattle.mm_base.proofs.Parts.{each_put, stands_after_put, after_put, kept_by_new, at_put, beside_put, no_entry, either_false, same_itself, same_key, none_of}
 use Rattle.mm_base.proofs.CleanTexts.{ascii_is_clean, name_is_clean}
 use Rattle.mm_base.proofs.KeyLaws.{numbers, texts, extension_keys}
-use Rattle.mm_laws.specs.Laws.{Keeps}
+use Rattle.mm_laws.proofs.Kept.{Keeps}
 use Rattle.mm_laws.proofs.Reasons.{none_holds, not_false}
 use Rattle.mm_laws.proofs.KindFacts.{differ, kind_is_clean}
 use Rattle.mm_laws.proofs.Systems.{if_some_more}

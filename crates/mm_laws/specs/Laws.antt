@@ -1,16 +1,14 @@
--- The laws that this crate's functions state.
-use Rattle.std.specs.Prelude.{◌≡◌, ◌≢◌, ℕ, List, [], ◌∷◌, None, Ok, Bool, ◌&&◌, ◌||◌, ◌==◌, nat_le, is_some, IsTrue, true, false, ◌++◌, ◌⊎◌, Some}
+-- What the laws of this crate speak of.
+use Rattle.std.specs.Prelude.{◌≡◌, ◌≢◌, ℕ, List, [], ◌∷◌, Ok, Bool, ◌&&◌, ◌||◌, ◌==◌, nat_le, is_some, IsTrue, true, false, ◌++◌, ◌⊎◌, Some}
 use Rattle.std.specs.List.{list_any}
 use Rattle.mm_base.specs.Keys.{Text, same_text, PieceKey}
 use Rattle.mm_base.specs.Bounds.{Profile, IsMoment}
 use Rattle.mm_base.specs.Parts.{Each, Has, at_value}
 use Rattle.mm_base.specs.Package.{Package, Contents, ContentsPart, PieceRow, open_state, published_state}
 use Rattle.mm_base.specs.Pieces.{piece_command, row_piece}
-use Rattle.mm_base.specs.Within.{IsWithin, IsPieceWithin}
-use Rattle.mm_base.specs.Stamp.{IsStamp, stamp}
-use Rattle.mm_base.specs.Rules.{Meets}
-use Rattle.mm_base.specs.Conditions.{least, own_reasons, piece_reasons, pieces_of}
-use Rattle.mm_base.specs.Effects.{effect, piece_effect}
+use Rattle.mm_base.specs.Within.{IsWithin}
+use Rattle.mm_base.specs.Stamp.{stamp}
+use Rattle.mm_base.specs.Conditions.{least, piece_reasons, pieces_of}
 use Rattle.mm_base.specs.Editions.{trial, edition_trial, closed}
 use Rattle.mm_base.specs.Runs.{Call}
 use Rattle.mm_base.specs.declared.answers.Refusal.{Refusal}
@@ -18,25 +16,22 @@ use Rattle.mm_base.specs.declared.commands.Command.{Command}
 use Rattle.mm_base.specs.declared.commands.Command.TheVariants as commands
 use Rattle.mm_base.specs.declared.commands.Piece.{Piece}
 
--- Where a package meets the rules and the command has no reason to be refused, what it gives meets the rules.
-abbrev pub Keeps : Command → Type 0
-Keeps c = (profile : Profile) (p : Package) (moment : ℕ) (stamp : Text) → Meets profile p → IsWithin profile c → IsMoment moment → IsStamp moment stamp
-    → least (own_reasons p c) ≡ None → Meets profile (effect p c stamp)
-
--- the same of a piece
-abbrev pub PieceKeeps : Piece → Type 0
-PieceKeeps q = (profile : Profile) (p : Package) (moment : ℕ) (stamp : Text) → Meets profile p → IsPieceWithin q → IsMoment moment → IsStamp moment stamp
-    → least (piece_reasons p q) ≡ None → Meets profile (piece_effect p q stamp)
-
+-- ---- lists
 -- every command of the list is within the limits, and every moment
 abbrev pub AllWithin : Profile → List Call → Type 0
 AllWithin profile [] = Unit {0}
 AllWithin profile (c ∷ cs) = (IsWithin profile c.command × IsMoment c.moment) × AllWithin profile cs
 
+-- ---- editions
 -- The edition is published and holds no pieces.
 pub record IsClosed (edition : Text) (p : Package) : Type 0 where
   pub published : Has p.editions edition published_state
   pub no_pieces : Each p.pieces (λ k _. k.edition ≢ edition)
+
+-- The edition is open and holds no pieces.
+pub record IsNewEdition (name : Text) (p : Package) : Type 0 where
+  pub stands_open : Has p.editions name open_state
+  pub no_pieces : Each p.pieces (λ k _. k.edition ≢ name)
 
 -- Every piece was accepted on what the earlier ones gave, and then the edition was closed.
 pub record IsPublished (p : Package) (edition : Text) (moment : ℕ) (next : Package) : Type 0 where
@@ -44,15 +39,6 @@ pub record IsPublished (p : Package) (edition : Text) (moment : ℕ) (next : Pac
   pub accepted : edition_trial p edition (stamp moment) ≡ Ok edited
   pub next_is : next ≡ closed edition edited
   pub closes : IsClosed edition next
-
--- the numbers of the reasons for which a command is refused
-abbrev pub is_reason_number : ℕ → Bool
-is_reason_number n = (nat_le 20 n && nat_le n 27) || (nat_le 30 n && nat_le n 35) || (nat_le 40 n && nat_le n 48) || (nat_le 50 n && nat_le n 55)
-
--- The number is one of these, and a piece is named exactly with 53.
-pub record IsNumberedRefusal (r : Refusal) : Type 0 where
-  pub known : IsTrue (is_reason_number r.number)
-  pub names_a_piece : is_some r.piece ≡ (r.number == 53)
 
 -- A piece that is refused on what the pieces before it gave, all of which were accepted.
 pub record FirstRefused (p : Package) (edition : Text) : Type 0 where
@@ -68,11 +54,17 @@ pub record FirstRefused (p : Package) (edition : Text) : Type 0 where
   pub reason : ℕ
   pub refused : least (piece_reasons middle piece) ≡ Some reason
 
--- The edition is open and holds no pieces.
-pub record IsNewEdition (name : Text) (p : Package) : Type 0 where
-  pub stands_open : Has p.editions name open_state
-  pub no_pieces : Each p.pieces (λ k _. k.edition ≢ name)
+-- ---- refusals
+-- the numbers of the reasons for which a command is refused
+abbrev pub is_reason_number : ℕ → Bool
+is_reason_number n = (nat_le 20 n && nat_le n 27) || (nat_le 30 n && nat_le n 35) || (nat_le 40 n && nat_le n 48) || (nat_le 50 n && nat_le n 55)
 
+-- The number is one of these, and a piece is named exactly with 53.
+pub record IsNumberedRefusal (r : Refusal) : Type 0 where
+  pub known : IsTrue (is_reason_number r.number)
+  pub names_a_piece : is_some r.piece ≡ (r.number == 53)
+
+-- ---- last_change
 -- whether the command, other than by publishing, sets last_change of the table
 abbrev pub changes : Command → Text → Bool
 changes (commands.Pyramid table identifier srs min_x min_y max_x max_y step) t = same_text t table

@@ -5,7 +5,7 @@ ghost use Rattle.mm_base.specs.Bounds.{Profile};
 ghost use Rattle.mm_base.specs.Conditions.{own_reasons, piece_reasons, piece_count};
 ghost use Rattle.mm_base.specs.Effects.{effect, piece_effect};
 ghost use Rattle.mm_base.specs.Keys.{Text};
-ghost use Rattle.mm_base.specs.Package.{Package, open_state};
+ghost use Rattle.mm_base.specs.Package.{Package, PieceRow, open_state};
 ghost use Rattle.mm_base.specs.Parts.{Has};
 ghost use Rattle.mm_base.specs.Pieces.{piece_row, row_piece, piece_command};
 ghost use Rattle.mm_base.specs.Rules.{Meets};
@@ -28,9 +28,9 @@ pub fn a_piece_is_its_command()
     ensures limits { (profile : Profile) (q : Piece) → IsWithin profile (piece_command q) ↔ IsPieceWithin q }
 {}
 
-/// The row in which a piece is kept is read as that piece.
-pub fn the_row_of_a_piece_spells_it()
-    ensures { (q : Piece) → row_piece (piece_row q) ≡ Some q }
+/// A row spells a piece exactly where it is the row in which that piece is kept, column for column.
+pub fn a_row_spells_the_piece_that_it_keeps_and_no_other()
+    ensures { (r : PieceRow) (q : Piece) → (row_piece r ≡ Some q) ↔ (r ≡ piece_row q) }
 {}
 
 /// Staging a piece again that stands already is accepted, and changes nothing.

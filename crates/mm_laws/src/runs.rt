@@ -1,6 +1,6 @@
 //! Runs of commands, the accepted ones among them, and first parts.
 
-ghost use Rattle.std.specs.Prelude.{◌≡◌, ◌⊎◌, ℕ, List, [], ◌∷◌, Some, None};
+ghost use Rattle.std.specs.Prelude.{◌≡◌, ◌⊎◌, ℕ, List, [], ◌∷◌, ◌++◌, ◌+◌, length, Some, None};
 ghost use Rattle.mm_base.specs.Package.{Package, Contents};
 ghost use Rattle.mm_base.specs.Keys.{Text};
 ghost use Rattle.mm_base.specs.Parts.{Has};
@@ -25,6 +25,24 @@ pub fn the_accepted_commands_give_the_last_package()
 pub fn one_command_is_done_wholly_or_not_at_all()
     ensures { (p q : Package) (c : Call) (acknowledged : ℕ)
         → IsFirstPart p (c ∷ []) acknowledged q → (q ≡ p) ⊎ (q ≡ step p c.command c.moment) }
+{}
+
+/// The last package is a first part, all of it.
+pub fn the_last_package_is_a_first_part()
+    ensures { (p : Package) (calls : List Call) → IsFirstPart p calls (length (accepted p calls)) (run p calls) }
+{}
+
+/// Where the commands before were all acknowledged, a first part of the rest is a first part of the whole list.
+pub fn a_first_part_of_the_rest_is_one_of_the_whole()
+    ensures { (p q : Package) (before after : List Call) (acknowledged : ℕ)
+        → IsFirstPart (run p before) after acknowledged q
+        → IsFirstPart p (before ++ after) (length (accepted p before) + acknowledged) q }
+{}
+
+/// A first part stays one where more commands follow.
+pub fn a_first_part_stays_one_where_more_follows()
+    ensures { (p q : Package) (calls after : List Call) (acknowledged : ℕ)
+        → IsFirstPart p calls acknowledged q → IsFirstPart p (calls ++ after) acknowledged q }
 {}
 
 /// After an accepted command the contents row of each table has the stamp of the moment where the command, or a piece

@@ -1,3 +1,4 @@
+pub mod Served
 pub mod Readings
 pub mod Answers
 pub mod Applied

@@ -1,7 +1,9 @@
 //! Reading a record as a command.
 
 ghost use Rattle.csv.specs.Records.{fields_of};
+ghost use Rattle.std.specs.Prelude.{◌≡◌};
 ghost use Rattle.mm_run.specs.Readings.{IsRead};
+ghost use Rattle.mm_run.specs.Served as served;
 
 use csv::{ByteRecord, StringRecord};
 use mm_base::answers::ReadFault;
@@ -10,7 +12,15 @@ use mm_base::records::read_command;
 use mm_lines::text_fields;
 use std::alloc::Global;
 
-/// The command that a record spells. One with a field that isn't text is refused 10.
+/// Whether a command is served so far.
+fn is_served(command: &Command) -> bool
+    ensures { result ≡ served.is_served command.now }
+{
+    matches!(command, Command::Srs { .. })
+}
+
+/// The command that a record spells. One with a field that isn't text is refused 10, and so is
+/// a command that is not served yet.
 pub(crate) fn read_row(alloc: Global, row: ByteRecord) -> Result<Command, ReadFault>
     ensures { IsRead (fields_of row) result }
 {
@@ -21,7 +31,8 @@ pub(crate) fn read_row(alloc: Global, row: ByteRecord) -> Result<Command, ReadFa
         return Err(ReadFault::Memory);
     };
     match read_command(alloc, fields.as_slice()) {
-        Ok(command) => Ok(command),
+        Ok(command) if is_served(&command) => Ok(command),
+        Ok(_) => Err(ReadFault::refused(10)),
         Err(fault) => Err(fault),
     }
 }

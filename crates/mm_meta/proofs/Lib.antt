@@ -1,0 +1,5 @@
+pub mod Creating
+pub mod Making
+pub mod Committing
+pub mod Srs
+pub mod Looking

@@ -1,0 +1,123 @@
+-- What the query of the profile's table tells.
+use Rattle.std.proofs.Common.{◌≡◌, ◌≢◌, inl, inr, ℤ, pos, true, false, List, [], ◌∷◌, Option, Some, None, Result, Ok, Err, IsTrue, refl, sym, ap, subst, ◌∙◌, arith}
+use Rattle.std.specs.Prelude.{if◌then◌else◌, IsSome}
+use Rattle.std.specs.List.Sorted.{IsPermutation}
+use Rattle.std.proofs.lemmas.List.Sorted.{length_permutation}
+use Rattle.sqlite.specs.declared.error.Error.{Error}
+use Rattle.sqlite.specs.declared.types.Value.TheVariants.{Int}
+use Rattle.sqlite.specs.Order.{Row, column}
+use Rattle.sqlite.specs.Schema.{Schema}
+use Rattle.sqlite.specs.Command.{Command}
+use Rattle.sqlite_schema.specs.declared.command.Returning.{Returning}
+use Rattle.sqlite_resolve.specs.declared.compiled.Compiled.{Compiled}
+use Rattle.sqlite_resolve.specs.declared.error.CompileError.{CompileError}
+use Rattle.sqlite_resolve.specs.declared.error.CompileError.TheVariants.{NoSuchTable}
+use Rattle.sqlite_resolve.specs.Compile.{compiled}
+use Rattle.sqlite_resolve.specs.Lowering.{and_then}
+use Rattle.sqlite_resolve.specs.Scope.{Name}
+use Rattle.sqlite.specs.Clock.{timed}
+use Rattle.sqlite.specs.Listing.{understood, listing_schema, reads_listing, if_select}
+use Rattle.sqlite_tied.specs.Compute.{everything}
+use Rattle.sqlite.specs.State.{State, HasCleanDisk, IsUnchanged, FailsToQuery, Shown, ShowsRows, Survives, CommitsShowing}
+use Rattle.sqlite.proofs.StateLemmas.{survives_weaker}
+use Rattle.sql_forms.proofs.Lists.{same_value, has_permuted}
+use Rattle.sql_forms.proofs.Selects.{selects_all}
+use Rattle.mm_schema.specs.Statements.{profile_rows}
+use Rattle.mm_schema.proofs.Selecting as statement
+use Rattle.mm_base.specs.Package.{Package}
+use Rattle.mm_base.specs.declared.answers.Open.{Open}
+use Rattle.mm_base.specs.declared.answers.Open.TheVariants as opens
+use Rattle.mm_store.specs.Stands.{ReadsAs}
+use Rattle.mm_store.specs.Statements.{CommitsNothing}
+use Rattle.mm_meta.specs.Look.{IsProfile, Judges, Tells, Agrees, IsLooked}
+
+-- ---- The text is a query, whatever the schema.
+
+none_planned : (r : Result Command CompileError) (formats : List Name) (make : List Name × (Command × Option Returning) → Compiled) → ((plan : List Name × (Command × Option Returning)) → (make plan).returning ≡ plan.1.1) → (c : Compiled)
+    → and_then (and_then (and_then r (λ k. Ok (k, None))) (λ found. Ok (formats, found))) (λ plan. Ok (make plan)) ≡ Ok c → c.returning ≡ None
+none_planned (Ok k) formats make keeps c h = sym (ap (λ (x : Compiled). x.returning) (same_value h)) ∙ keeps (formats, (k, None))
+none_planned (Err e) formats make keeps c h = absurd cc
+
+from_compiled : (schema : Schema) (c : Compiled) → compiled schema profile_rows ≡ Ok c → c.returning ≡ None
+unfolding everything
+from_compiled schema c h = none_planned _ _ _ (λ plan. refl) c h
+
+never_listed : if_select (compiled listing_schema profile_rows) ≡ if_select (Err NoSuchTable)
+unfolding everything listing_schema
+never_listed = refl
+
+returns_nothing : (schema : Schema) (c : Compiled) → understood schema profile_rows ≡ Ok c → c.returning ≡ None
+unfolding understood
+returns_nothing schema c = elim (reads_listing schema profile_rows) as (λ b. (if b then if_select (compiled listing_schema profile_rows) else compiled schema profile_rows) ≡ Ok c → c.returning ≡ None) [
+  | true ↦ λ h. absurd (let e = sym never_listed ∙ h in cc)
+  | false ↦ λ h. from_compiled schema c h
+]
+
+never_some : {X : Type 0} (o : Option X) → o ≡ None → IsSome o → ⊥
+never_some None is h = absurd (let e : false ≡ true = h in cc)
+never_some (Some x) is h = absurd cc
+
+module _ (old new : State) where
+  pub quiet : Survives old new (CommitsShowing profile_rows [] old) → CommitsNothing old new
+  unfolding CommitsShowing
+  quiet h = survives_weaker old new _ _ (λ clean db may. never_some may.0.returning (returns_nothing old.now.schema may.0 may.1.is) may.2) h
+
+  pub unchanged : (rows : List Row) → Shown profile_rows [] old new rows → IsUnchanged old new
+  unfolding Shown
+  unchanged rows h = (subst (ShowsRows old new profile_rows h.0 (timed [] h.0.formats h.1.now) rows) (returns_nothing old.now.schema h.0 h.1.is) h.2).3
+
+-- ---- a database that stands for a package
+
+alone : {X : Type 0} (x : X) (ys : List X) → IsPermutation (x ∷ []) ys → ys ≡ x ∷ []
+alone x [] h = absurd (let e : 0 ≡ 1 = length_permutation (x ∷ []) [] h in cc)
+alone x (y ∷ []) h = elim (has_permuted (x ∷ []) (y ∷ []) y h (inl refl)) [ inl same ↦ ap (λ z. z ∷ []) same | inr none ↦ absurd none ]
+alone x (y ∷ z ∷ ys) h = absurd (let e = length_permutation (x ∷ []) (y ∷ z ∷ ys) h in omega (arith, e))
+
+module _ (old new : State) (version : ℤ) where
+  abbrev shown : Row
+  shown = Int (pos 1) ∷ Int version ∷ []
+
+  rows_are : (p : Package) (rows : List Row) → (IsTrue old.is_open → ReadsAs version old.now p) → Shown profile_rows [] old new rows → rows ≡ shown ∷ []
+  rows_are p rows reads h =
+      let at = reads (unchanged old new rows h).0.was_open in
+      let all = selects_all _ _ _ _ _ _ statement.profile_rows old new at.schema_is [] [] refl rows h in
+      alone shown rows (rw at.stands.holds.profile at all.0)
+
+  same_row : (row : Row) → shown ∷ [] ≡ row ∷ [] → shown ≡ row
+  same_row row e = cc
+
+  same_version : (other : ℤ) → IsProfile other (shown ∷ []) → other ≡ version
+  same_version other it =
+      let second : Int version ≡ Int other = ap (λ (r : Row). column r 1) (same_row it.0 it.1) ∙ it.3 in
+      let e : version ≡ other = cc in sym e
+
+  agreed : (result : Result (Unit {0}) Open) → Judges (shown ∷ []) result → Agrees version result
+  agreed (Ok u) h = sym (same_version (pos 1) h)
+  agreed (Err (opens.Version other)) h = let same = same_version other h.0 in (same, subst (λ v. v ≢ pos 1) same h.1)
+  agreed (Err opens.BadProfile) h = h version (shown, refl, refl, refl)
+  agreed (Err (opens.Fault fault)) h = tt
+  agreed (Err opens.NoProfile) h = tt
+  agreed (Err (opens.Rule rule)) h = tt
+
+untold : (version : ℤ) (e : Error) (result : Result (Unit {0}) Open) → Tells e result → Agrees version result
+untold version e (Ok u) h = absurd h
+untold version e (Err (opens.Version other)) h = absurd h
+untold version e (Err opens.BadProfile) h = absurd h
+untold version e (Err (opens.Fault fault)) h = tt
+untold version e (Err opens.NoProfile) h = tt
+untold version e (Err (opens.Rule rule)) h = absurd h
+
+module _ (old new : State) (h : Survives old new (CommitsShowing profile_rows [] old)) (result : Result (Unit {0}) Open) where
+  pub judged : (rows : List Row) → (HasCleanDisk new → Shown profile_rows [] old new rows) → Judges rows result → IsLooked old new result
+  judged rows shows judges = record {
+    survives = quiet old new h;
+    answers = λ clean. inl (rows, shows clean, unchanged old new rows (shows clean), judges);
+    agrees = λ clean version p reads. agreed old new version result (subst (λ rs. Judges rs result) (rows_are old new version p rows reads (shows clean)) judges);
+  }
+
+  pub refused : (e : Error) → (HasCleanDisk new → FailsToQuery profile_rows [] old new e) → Tells e result → IsLooked old new result
+  refused e fails tells = record {
+    survives = quiet old new h;
+    answers = λ clean. inr (e, fails clean, tells);
+    agrees = λ clean version p reads. untold version e result tells;
+  }

@@ -1,0 +1,9 @@
+use Rattle.mm_meta.proofs.Creating.{creating_then}
+use Rattle.mm_meta.proofs.schema.create_tables.Goals as goal
+
+pub returns-clause-made : goal.returns-clause-made
+returns-clause-made g c =
+    let made_0 = c.in-Ok.ensures.made in
+    let made_1 = creating_then _ _ _ _ _ _ _ _ made_0 c.in-Ok-create_further_tables.ensures.made in
+    let made_2 = creating_then _ _ _ _ _ _ _ _ made_1 c.in-Ok-create_content_tables.ensures.made in
+    creating_then _ _ _ _ _ _ _ _ made_2 c.create_edition_tables.ensures.made

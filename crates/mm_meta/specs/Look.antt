@@ -1,0 +1,62 @@
+-- Whether a database holds a package of this profile.
+use Rattle.std.specs.Prelude.{◌≡◌, ◌≢◌, ◌⊎◌, ⊤, ℤ, pos, Bool, true, false, List, [], ◌∷◌, Result, Ok, Err, IsTrue}
+use Rattle.sqlite.specs.declared.error.Error.{Error}
+use Rattle.sqlite.specs.declared.error.Error.TheVariants.{SqliteFailure}
+use Rattle.sqlite.specs.declared.error.ErrorCode.TheVariants.{OutOfMemory, SystemIoFailure, DatabaseCorrupt, DiskFull, Closed, OperationInterrupted}
+use Rattle.sqlite.specs.declared.types.Value.TheVariants.{Int}
+use Rattle.sqlite.specs.Order.{Row, column}
+use Rattle.sqlite.specs.State.{State, HasCleanDisk, IsUnchanged, FailsToQuery, Shown}
+use Rattle.mm_base.specs.Package.{Package}
+use Rattle.mm_base.specs.declared.answers.Open.{Open}
+use Rattle.mm_base.specs.declared.answers.Open.TheVariants as opens
+use Rattle.mm_schema.specs.Statements.{profile_rows}
+use Rattle.mm_store.specs.Faults.{memory, told_as}
+use Rattle.mm_store.specs.Stands.{ReadsAs}
+use Rattle.mm_store.specs.Statements.{CommitsNothing}
+
+-- memory, the disk or a limit on steps stopped the query
+abbrev pub stops : Error → Bool
+stops (SqliteFailure OutOfMemory) = true
+stops (SqliteFailure SystemIoFailure) = true
+stops (SqliteFailure DatabaseCorrupt) = true
+stops (SqliteFailure DiskFull) = true
+stops (SqliteFailure Closed) = true
+stops (SqliteFailure OperationInterrupted) = true
+stops _ = false
+
+-- the rows are one, and it is (1, version)
+abbrev pub IsProfile : ℤ → List Row → Type 0
+IsProfile version rows = (row : Row) × (rows ≡ row ∷ []) × (column row 0 ≡ Int (pos 1)) × (column row 1 ≡ Int version)
+
+-- how the rows of the profile's table are judged
+abbrev pub Judges : List Row → Result (Unit {0}) Open → Type 0
+Judges rows (Ok _) = IsProfile (pos 1) rows
+Judges rows (Err (opens.Version version)) = IsProfile version rows × (version ≢ pos 1)
+Judges rows (Err opens.BadProfile) = (version : ℤ) → IsProfile version rows → ⊥
+Judges rows (Err (opens.Fault fault)) = fault ≡ memory
+Judges rows (Err opens.NoProfile) = ⊥
+Judges rows (Err (opens.Rule rule)) = ⊥
+
+-- how an error of the query is told
+abbrev pub Tells : Error → Result (Unit {0}) Open → Type 0
+Tells e (Err opens.NoProfile) = stops e ≡ false
+Tells e (Err (opens.Fault fault)) = (stops e ≡ true) × (fault ≡ told_as e)
+Tells e _ = ⊥
+
+-- The answer judges the rows that the query shows, and leaves all as it was, or tells the error with which it fails.
+abbrev pub Answers : State → State → Result (Unit {0}) Open → Type 0
+Answers old new result =
+    ((rows : List Row) × Shown profile_rows [] old new rows × IsUnchanged old new × Judges rows result)
+    ⊎ ((e : Error) × FailsToQuery profile_rows [] old new e × Tells e result)
+
+-- what is answered of a database that stands for a package under a version, unless the query is refused or stopped
+abbrev pub Agrees : ℤ → Result (Unit {0}) Open → Type 0
+Agrees version (Ok _) = version ≡ pos 1
+Agrees version (Err (opens.Version other)) = (other ≡ version) × (version ≢ pos 1)
+Agrees version (Err opens.BadProfile) = ⊥
+Agrees version (Err _) = ⊤
+
+pub record IsLooked (old new : State) (result : Result (Unit {0}) Open) : Type 0 where
+  pub survives : CommitsNothing old new
+  pub answers : HasCleanDisk new → Answers old new result
+  pub agrees : HasCleanDisk new → (version : ℤ) (p : Package) → (IsTrue old.is_open → ReadsAs version old.now p) → Agrees version result

@@ -1,0 +1,9 @@
+-- Which commands are served.
+use Rattle.std.specs.Prelude.{Bool, true, false}
+use Rattle.mm_base.specs.declared.commands.Command.{Command}
+use Rattle.mm_base.specs.declared.commands.Command.TheVariants as commands
+
+-- The commands that the crates above serve so far. A record of any other is refused 10.
+abbrev pub is_served : Command → Bool
+is_served (commands.Srs id name organization organization_id definition description) = true
+is_served _ = false

@@ -1,0 +1,5 @@
+pub mod Tables
+pub mod Creates
+pub mod Made
+pub mod Places
+pub mod Statements

@@ -1,0 +1,45 @@
+-- The schema as its CREATE texts make it.
+use Rattle.std.specs.Prelude.{◌≡◌, ℕ, List, [], ◌∷◌, take, map, fold, Ok}
+use Rattle.std.specs.List.{AllByRecursion}
+use Rattle.sqlite.specs.Table.{Table}
+use Rattle.sqlite.specs.Schema.{Schema}
+use Rattle.sqlite.specs.Change.{created}
+use Rattle.sqlite.specs.Compile.{table_defined_by}
+use Rattle.mm_schema.specs.Tables as tables
+use Rattle.mm_schema.specs.Creates as creates
+
+-- a table as its text defines it, before the database gives it a tree
+abbrev pub unplaced : Table → Table
+unplaced t = record t { tree = 0 }
+
+abbrev pub no_schema : Schema
+no_schema = record { tables = []; indexes = []; views = [] }
+
+-- the schema of the first so many tables, made in turn
+abbrev pub first_of : ℕ → Schema
+first_of n = fold created no_schema (map unplaced (take n tables.tables))
+
+-- each text, with the table that it is to define
+abbrev pub definitions : List (List ℕ × Table)
+definitions =
+    (creates.gpkg_spatial_ref_sys, tables.gpkg_spatial_ref_sys)
+    ∷ (creates.gpkg_contents, tables.gpkg_contents)
+    ∷ (creates.gpkg_tile_matrix_set, tables.gpkg_tile_matrix_set)
+    ∷ (creates.gpkg_tile_matrix, tables.gpkg_tile_matrix)
+    ∷ (creates.gpkg_extensions, tables.gpkg_extensions)
+    ∷ (creates.gpkgext_relations, tables.gpkgext_relations)
+    ∷ (creates.mm_profile, tables.mm_profile)
+    ∷ (creates.mm_tables, tables.mm_tables)
+    ∷ (creates.mm_tiles, tables.mm_tiles)
+    ∷ (creates.mm_rows, tables.mm_rows)
+    ∷ (creates.mm_media, tables.mm_media)
+    ∷ (creates.mm_map, tables.mm_map)
+    ∷ (creates.mm_editions, tables.mm_editions)
+    ∷ (creates.mm_pieces, tables.mm_pieces) ∷ []
+
+-- the text defines the table
+abbrev pub Defines : List ℕ × Table → Type 0
+Defines d = table_defined_by d.0 ≡ Ok (unplaced d.1)
+
+abbrev pub AllDefine : List (List ℕ × Table) → Type 0
+AllDefine = AllByRecursion Defines

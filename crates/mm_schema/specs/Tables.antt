@@ -1,0 +1,229 @@
+-- The tables of a package and the schema that they are, as values. The first six are the tables of a GeoPackage, under the names of the standard.
+use Rattle.std.specs.Prelude.{ℕ, true, false, List, [], ◌∷◌, codes, Option, Some, None, slice_index_or}
+use Rattle.sqlite.specs.Collation.TheVariants.{Binary}
+use Rattle.sqlite.specs.declared.types.Value.TheVariants.{Null}
+use Rattle.sqlite.specs.Kind.{Kind}
+use Rattle.sqlite.specs.Kind.TheVariants.{Integer, Text, Blob}
+use Rattle.sqlite.specs.Table.{Table}
+use Rattle.sqlite.specs.Schema.{Schema}
+use Rattle.sqlite_schema.specs.declared.schema.Column.{Column}
+use Rattle.sqlite_schema.specs.declared.schema.Index.{Index}
+use Rattle.sqlite_schema.specs.declared.schema.Reference.{Reference}
+use Rattle.sqlite_schema.specs.declared.schema.Action.{Action}
+use Rattle.sqlite_schema.specs.declared.schema.Action.TheVariants.{NoAction, Cascade, Restrict}
+use Rattle.sqlite_value.specs.declared.keys.Order.{Order}
+use Rattle.sqlite_value.specs.Keys.{plain}
+use Rattle.sqlite_catalog.specs.Listing.{automatic}
+
+abbrev required : List ℕ → Kind → Column
+required name kind = record { name = name; kind = kind; is_strict = true; not_null = true; default = Null; collation = Binary }
+
+abbrev optional : List ℕ → Kind → Column
+optional name kind = record { name = name; kind = kind; is_strict = true; not_null = false; default = Null; collation = Binary }
+
+abbrev refers : List ℕ → List ℕ → List (List ℕ) → Action → Reference
+refers columns parent parent_columns on_delete = record { columns = columns; parent = parent; parent_columns = parent_columns; on_delete = on_delete; on_update = NoAction; is_deferred = false }
+
+abbrev table : List ℕ → ℕ → List Column → Option ℕ → List ℕ → List (List ℕ) → List Order → List Reference → Table
+table name tree columns key primary uniques orders references = record {
+  name = name;
+  tree = tree;
+  columns = columns;
+  key = key;
+  primary = primary;
+  uniques = uniques;
+  orders = orders;
+  checks = [];
+  references = references;
+  computed = [];
+  stamps = record { places = []; terms = []; formats = [] };
+  is_counted = false;
+}
+
+-- the index of one of the table's keys
+abbrev unique : Table → ℕ → ℕ → Index
+unique it at tree = automatic it at (slice_index_or it.uniques at []) tree
+
+abbrev pub gpkg_spatial_ref_sys : Table
+gpkg_spatial_ref_sys = table (codes "gpkg_spatial_ref_sys") 0
+    (required (codes "srs_name") Text
+    ∷ required (codes "srs_id") Integer
+    ∷ required (codes "organization") Text
+    ∷ required (codes "organization_coordsys_id") Integer
+    ∷ required (codes "definition") Text
+    ∷ required (codes "description") Text
+    ∷ [])
+    (Some 1) (0 ∷ []) ([]) ([])
+    ([])
+
+abbrev pub gpkg_contents : Table
+gpkg_contents = table (codes "gpkg_contents") 1
+    (required (codes "table_name") Text
+    ∷ required (codes "data_type") Text
+    ∷ required (codes "identifier") Text
+    ∷ required (codes "description") Text
+    ∷ required (codes "last_change") Text
+    ∷ optional (codes "min_x") Integer
+    ∷ optional (codes "min_y") Integer
+    ∷ optional (codes "max_x") Integer
+    ∷ optional (codes "max_y") Integer
+    ∷ optional (codes "srs_id") Integer
+    ∷ [])
+    None (1 ∷ []) ((1 ∷ []) ∷ (3 ∷ []) ∷ []) (plain ∷ plain ∷ [])
+    (refers (10 ∷ []) (codes "gpkg_spatial_ref_sys") (codes "srs_id" ∷ []) NoAction
+    ∷ [])
+
+abbrev pub gpkg_tile_matrix_set : Table
+gpkg_tile_matrix_set = table (codes "gpkg_tile_matrix_set") 4
+    (required (codes "table_name") Text
+    ∷ required (codes "srs_id") Integer
+    ∷ required (codes "min_x") Integer
+    ∷ required (codes "min_y") Integer
+    ∷ required (codes "max_x") Integer
+    ∷ required (codes "max_y") Integer
+    ∷ [])
+    None (1 ∷ []) ((1 ∷ []) ∷ []) (plain ∷ [])
+    (refers (1 ∷ []) (codes "gpkg_contents") (codes "table_name" ∷ []) Cascade
+    ∷ refers (2 ∷ []) (codes "gpkg_spatial_ref_sys") (codes "srs_id" ∷ []) NoAction
+    ∷ [])
+
+abbrev pub gpkg_tile_matrix : Table
+gpkg_tile_matrix = table (codes "gpkg_tile_matrix") 6
+    (required (codes "table_name") Text
+    ∷ required (codes "zoom_level") Integer
+    ∷ required (codes "matrix_width") Integer
+    ∷ required (codes "matrix_height") Integer
+    ∷ required (codes "tile_width") Integer
+    ∷ required (codes "tile_height") Integer
+    ∷ required (codes "pixel_x_size") Integer
+    ∷ required (codes "pixel_y_size") Integer
+    ∷ [])
+    None (1 ∷ 2 ∷ []) ((1 ∷ 2 ∷ []) ∷ []) (plain ∷ [])
+    (refers (1 ∷ []) (codes "gpkg_contents") (codes "table_name" ∷ []) Cascade
+    ∷ [])
+
+abbrev pub gpkg_extensions : Table
+gpkg_extensions = table (codes "gpkg_extensions") 8
+    (optional (codes "table_name") Text
+    ∷ optional (codes "column_name") Text
+    ∷ required (codes "extension_name") Text
+    ∷ required (codes "definition") Text
+    ∷ required (codes "scope") Text
+    ∷ [])
+    None ([]) ((1 ∷ 2 ∷ 3 ∷ []) ∷ []) (plain ∷ [])
+    ([])
+
+abbrev pub gpkgext_relations : Table
+gpkgext_relations = table (codes "gpkgext_relations") 10
+    (required (codes "id") Integer
+    ∷ required (codes "base_table_name") Text
+    ∷ required (codes "base_primary_column") Text
+    ∷ required (codes "related_table_name") Text
+    ∷ required (codes "related_primary_column") Text
+    ∷ required (codes "relation_name") Text
+    ∷ required (codes "mapping_table_name") Text
+    ∷ [])
+    (Some 0) (0 ∷ []) ((7 ∷ []) ∷ []) (plain ∷ [])
+    (refers (2 ∷ []) (codes "gpkg_contents") (codes "table_name" ∷ []) Restrict
+    ∷ refers (4 ∷ []) (codes "gpkg_contents") (codes "table_name" ∷ []) Restrict
+    ∷ [])
+
+abbrev pub mm_profile : Table
+mm_profile = table (codes "mm_profile") 12
+    (required (codes "id") Integer
+    ∷ required (codes "version") Integer
+    ∷ [])
+    (Some 0) (0 ∷ []) ([]) ([])
+    ([])
+
+abbrev pub mm_tables : Table
+mm_tables = table (codes "mm_tables") 13
+    (required (codes "table_name") Text
+    ∷ required (codes "kind") Text
+    ∷ [])
+    None (1 ∷ []) ((1 ∷ []) ∷ []) (plain ∷ [])
+    (refers (1 ∷ []) (codes "gpkg_contents") (codes "table_name" ∷ []) Cascade
+    ∷ [])
+
+abbrev pub mm_tiles : Table
+mm_tiles = table (codes "mm_tiles") 15
+    (required (codes "table_name") Text
+    ∷ required (codes "zoom_level") Integer
+    ∷ required (codes "tile_column") Integer
+    ∷ required (codes "tile_row") Integer
+    ∷ required (codes "tile_data") Blob
+    ∷ [])
+    None (1 ∷ 2 ∷ 3 ∷ 4 ∷ []) ((1 ∷ 2 ∷ 3 ∷ 4 ∷ []) ∷ []) (plain ∷ [])
+    (refers (1 ∷ 2 ∷ []) (codes "gpkg_tile_matrix") (codes "table_name" ∷ codes "zoom_level" ∷ []) Cascade
+    ∷ [])
+
+abbrev pub mm_rows : Table
+mm_rows = table (codes "mm_rows") 17
+    (required (codes "table_name") Text
+    ∷ required (codes "id") Integer
+    ∷ required (codes "title") Text
+    ∷ required (codes "note") Text
+    ∷ required (codes "amount") Integer
+    ∷ [])
+    None (1 ∷ 2 ∷ []) ((1 ∷ 2 ∷ []) ∷ []) (plain ∷ [])
+    (refers (1 ∷ []) (codes "gpkg_contents") (codes "table_name" ∷ []) Cascade
+    ∷ [])
+
+abbrev pub mm_media : Table
+mm_media = table (codes "mm_media") 19
+    (required (codes "table_name") Text
+    ∷ required (codes "id") Integer
+    ∷ required (codes "data") Blob
+    ∷ required (codes "content_type") Text
+    ∷ [])
+    None (1 ∷ 2 ∷ []) ((1 ∷ 2 ∷ []) ∷ []) (plain ∷ [])
+    (refers (1 ∷ []) (codes "gpkg_contents") (codes "table_name" ∷ []) Cascade
+    ∷ [])
+
+abbrev pub mm_map : Table
+mm_map = table (codes "mm_map") 21
+    (required (codes "mapping") Text
+    ∷ required (codes "base_id") Integer
+    ∷ required (codes "related_id") Integer
+    ∷ [])
+    None (1 ∷ 2 ∷ 3 ∷ []) ((1 ∷ 2 ∷ 3 ∷ []) ∷ []) (plain ∷ [])
+    (refers (1 ∷ []) (codes "gpkgext_relations") (codes "mapping_table_name" ∷ []) Cascade
+    ∷ [])
+
+abbrev pub mm_editions : Table
+mm_editions = table (codes "mm_editions") 23
+    (required (codes "name") Text
+    ∷ required (codes "state") Text
+    ∷ [])
+    None (1 ∷ []) ((1 ∷ []) ∷ []) (plain ∷ [])
+    ([])
+
+abbrev pub mm_pieces : Table
+mm_pieces = table (codes "mm_pieces") 25
+    (required (codes "edition") Text
+    ∷ required (codes "piece_no") Integer
+    ∷ required (codes "kind") Text
+    ∷ required (codes "name") Text
+    ∷ required (codes "k1") Integer
+    ∷ required (codes "k2") Integer
+    ∷ required (codes "k3") Integer
+    ∷ required (codes "k4") Integer
+    ∷ required (codes "k5") Integer
+    ∷ required (codes "k6") Integer
+    ∷ required (codes "k7") Integer
+    ∷ required (codes "t1") Text
+    ∷ required (codes "t2") Text
+    ∷ required (codes "data") Blob
+    ∷ [])
+    None (1 ∷ 2 ∷ []) ((1 ∷ 2 ∷ []) ∷ []) (plain ∷ [])
+    (refers (1 ∷ []) (codes "mm_editions") (codes "name" ∷ []) Cascade
+    ∷ [])
+
+abbrev pub tables : List Table
+tables = gpkg_spatial_ref_sys ∷ gpkg_contents ∷ gpkg_tile_matrix_set ∷ gpkg_tile_matrix ∷ gpkg_extensions ∷ gpkgext_relations ∷ mm_profile ∷ mm_tables ∷ mm_tiles ∷ mm_rows ∷ mm_media ∷ mm_map ∷ mm_editions ∷ mm_pieces ∷ []
+
+abbrev pub indexes : List Index
+indexes = unique gpkg_contents 0 2 ∷ unique gpkg_contents 1 3 ∷ unique gpkg_tile_matrix_set 0 5 ∷ unique gpkg_tile_matrix 0 7 ∷ unique gpkg_extensions 0 9 ∷ unique gpkgext_relations 0 11 ∷ unique mm_tables 0 14 ∷ unique mm_tiles 0 16 ∷ unique mm_rows 0 18 ∷ unique mm_media 0 20 ∷ unique mm_map 0 22 ∷ unique mm_editions 0 24 ∷ unique mm_pieces 0 26 ∷ []
+
+abbrev pub schema : Schema
+schema = record { tables = tables; indexes = indexes; views = [] }

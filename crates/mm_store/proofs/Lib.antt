@@ -1,0 +1,14 @@
+pub mod Parts
+pub mod Keys
+pub mod Puts
+pub mod Single
+pub mod Asking
+pub mod Steps
+pub mod Shapes
+pub mod Refusals
+pub mod Transactions
+pub mod Extensions
+pub mod Removals
+pub mod Entries
+pub mod Changes
+pub mod Lookups

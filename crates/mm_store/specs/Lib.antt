@@ -1,0 +1,6 @@
+pub mod Rows
+pub mod Stands
+pub mod Faults
+pub mod Statements
+pub mod Shapes
+pub mod Removals

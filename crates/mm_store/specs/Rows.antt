@@ -1,0 +1,96 @@
+-- The rows that hold the entries of a package.
+use Rattle.std.specs.Prelude.{◌≡◌, ℕ, zero, suc, ℤ, Bool, List, [], ◌∷◌, drop, filter, length, Option, Some, None, ⊤}
+use Rattle.std.specs.Ordering.{eq_by_cmp}
+use Rattle.std.specs.FinMap.{FinMap, get}
+use Rattle.sqlite.specs.declared.types.Value.{Value}
+use Rattle.sqlite.specs.declared.types.Value.TheVariants.{Null, Int, Text as Words, Blob}
+use Rattle.sqlite.specs.Order.{Row, column}
+use Rattle.sqlite_rules.specs.Lists.{Has}
+use Rattle.mm_base.specs.Keys.{Text, Level, TileKey, Item, Pairing, PieceKey, Extension, extension_cmp}
+use Rattle.mm_base.specs.Package.{System, Contents, MatrixSet, Grid, AttributeRow, Medium, Relation, PieceRow}
+
+-- what of a row counts: all of it, all but a rowid that the store chose, or all but an id that the store chose
+abbrev pub whole : Row → Row
+whole r = r
+
+abbrev pub past_rowid : Row → Row
+past_rowid r = drop 1 r
+
+abbrev pub past_id : Row → Row
+past_id r = drop 2 r
+
+abbrev pub maybe : Option ℤ → Value
+maybe None = Null
+maybe (Some z) = Int z
+
+abbrev pub maybe_words : Option Text → Value
+maybe_words None = Null
+maybe_words (Some t) = Words t
+
+abbrev pub system_row : ℤ → System → Row
+system_row id s = Int id ∷ Words s.name ∷ Null ∷ Words s.organization ∷ Int s.organization_id ∷ Words s.definition ∷ Words s.description ∷ []
+
+abbrev pub contents_row : Text → Contents → Row
+contents_row table c =
+    Words table ∷ Words c.data_type ∷ Words c.identifier ∷ Words c.description ∷ Words c.last_change ∷ maybe c.min_x ∷ maybe c.min_y ∷ maybe c.max_x ∷ maybe c.max_y ∷ maybe c.system ∷ []
+
+abbrev pub kind_row : Text → Text → Row
+kind_row table kind = Words table ∷ Words kind ∷ []
+
+abbrev pub set_row : Text → MatrixSet → Row
+set_row table s = Words table ∷ Int s.system ∷ Int s.box.min_x ∷ Int s.box.min_y ∷ Int s.box.max_x ∷ Int s.box.max_y ∷ []
+
+abbrev pub grid_row : Level → Grid → Row
+grid_row k g = Words k.table ∷ Int k.zoom ∷ Int g.matrix_width ∷ Int g.matrix_height ∷ Int g.tile_width ∷ Int g.tile_height ∷ Int g.pixel_x_size ∷ Int g.pixel_y_size ∷ []
+
+abbrev pub tile_row : TileKey → List ℕ → Row
+tile_row k bytes = Words k.table ∷ Int k.zoom ∷ Int k.column ∷ Int k.row ∷ Blob bytes ∷ []
+
+abbrev pub attributes_row : Item → AttributeRow → Row
+attributes_row k r = Words k.table ∷ Int k.id ∷ Words r.title ∷ Words r.note ∷ Int r.amount ∷ []
+
+abbrev pub medium_row : Item → Medium → Row
+medium_row k m = Words k.table ∷ Int k.id ∷ Blob m.bytes ∷ Words m.content_type ∷ []
+
+abbrev pub relation_row : Text → Relation → Row
+relation_row mapping r = Words r.base ∷ Words r.base_column ∷ Words r.related ∷ Words r.related_column ∷ Words r.name ∷ Words mapping ∷ []
+
+abbrev pub pairing_row : Pairing → ⊤ → Row
+pairing_row k v = Words k.mapping ∷ Int k.base_id ∷ Int k.related_id ∷ []
+
+abbrev pub edition_row : Text → Text → Row
+edition_row name state = Words name ∷ Words state ∷ []
+
+abbrev pub staged_row : PieceKey → PieceRow → Row
+staged_row k r =
+    Words k.edition ∷ Int k.number ∷ Words r.kind ∷ Words r.name ∷ Int r.k1 ∷ Int r.k2 ∷ Int r.k3 ∷ Int r.k4 ∷ Int r.k5 ∷ Int r.k6 ∷ Int r.k7 ∷ Words r.t1 ∷ Words r.t2 ∷ Blob r.bytes ∷ []
+
+-- ---- extension rows, of which there may be equal ones
+
+abbrev pub extension_row : Extension → Row
+extension_row e = maybe_words e.table ∷ maybe_words e.column ∷ Words e.name ∷ Words e.definition ∷ Words e.scope ∷ []
+
+abbrev pub words_of : Value → Text
+words_of (Words t) = t
+words_of _ = []
+
+abbrev pub maybe_of : Value → Option Text
+maybe_of (Words t) = Some t
+maybe_of _ = None
+
+-- the extension that a row holds
+abbrev pub extension_of : Row → Extension
+extension_of r = record { table = maybe_of (column r 1); column = maybe_of (column r 2); name = words_of (column r 3); definition = words_of (column r 4); scope = words_of (column r 5) }
+
+abbrev pub is_extension : Extension → Row → Bool
+is_extension e r = eq_by_cmp extension_cmp (extension_of r) e
+
+-- none is no entry
+abbrev pub as_count : ℕ → Option ℕ
+as_count zero = None
+as_count (suc n) = Some (suc n)
+
+-- each row is an extension's, and the map has for each extension how many rows are its
+pub record Counts (rows : List Row) (m : FinMap extension_cmp ℕ) : Type 0 where
+  pub sound : (r : Row) → Has rows r → past_rowid r ≡ extension_row (extension_of r)
+  pub counted : (e : Extension) → get m e ≡ as_count (length (filter (is_extension e) rows))

@@ -1,0 +1,71 @@
+-- Which databases stand for a package, and what a connection over them shows.
+use Rattle.std.specs.Prelude.{◌≡◌, ℤ, pos, Bool, false, [], ◌∷◌, IsTrue}
+use Rattle.sqlite.specs.declared.types.Value.TheVariants.{Null, Int}
+use Rattle.sqlite.specs.Order.{Row}
+use Rattle.sqlite.specs.Tree.{Trees}
+use Rattle.sqlite.specs.Effect.{Database}
+use Rattle.sqlite.specs.State.{State}
+use Rattle.sqlite_catalog.specs.Listing.{IsSound}
+use Rattle.sql_forms.specs.Tables.{tables_of, AreTables}
+use Rattle.sql_forms.specs.Maps.{Holds}
+use Rattle.mm_schema.specs.Tables.{schema, gpkg_spatial_ref_sys, gpkg_contents, gpkg_tile_matrix_set, gpkg_tile_matrix, gpkg_extensions, gpkgext_relations, mm_profile, mm_tables, mm_tiles, mm_rows, mm_media, mm_map, mm_editions, mm_pieces}
+use Rattle.mm_base.specs.Package.{Package}
+use Rattle.mm_base.specs.Bounds.{Profile}
+use Rattle.mm_store.specs.Rows.{whole, past_rowid, past_id, system_row, contents_row, kind_row, set_row, grid_row, tile_row, attributes_row, medium_row, relation_row, pairing_row, edition_row, staged_row, Counts}
+
+-- the one row of the profile's table
+abbrev pub profile_row : ℤ → Row
+profile_row version = Int (pos 1) ∷ Null ∷ Int version ∷ []
+
+-- The tables hold the package, part by part.
+pub record Holding (version : ℤ) (tables : Trees) (p : Package) : Type 0 where
+  pub systems : Holds whole system_row (tables gpkg_spatial_ref_sys.tree) p.systems
+  pub contents : Holds past_rowid contents_row (tables gpkg_contents.tree) p.contents
+  pub kinds : Holds past_rowid kind_row (tables mm_tables.tree) p.kinds
+  pub sets : Holds past_rowid set_row (tables gpkg_tile_matrix_set.tree) p.sets
+  pub matrices : Holds past_rowid grid_row (tables gpkg_tile_matrix.tree) p.matrices
+  pub extensions : Counts (tables gpkg_extensions.tree) p.extensions
+  pub tiles : Holds past_rowid tile_row (tables mm_tiles.tree) p.tiles
+  pub rows : Holds past_rowid attributes_row (tables mm_rows.tree) p.rows
+  pub media : Holds past_rowid medium_row (tables mm_media.tree) p.media
+  pub relations : Holds past_id relation_row (tables gpkgext_relations.tree) p.relations
+  pub pairings : Holds past_rowid pairing_row (tables mm_map.tree) p.pairings
+  pub editions : Holds past_rowid edition_row (tables mm_editions.tree) p.editions
+  pub pieces : Holds past_rowid staged_row (tables mm_pieces.tree) p.pieces
+  pub profile : tables mm_profile.tree ≡ profile_row version ∷ []
+
+-- The trees list the profile's tables and obey them, their rowids are integers that rise, and the rows are the package's.
+pub record StandsFor (version : ℤ) (db : Trees) (p : Package) : Type 0 where
+  pub sound : ∥ IsSound schema db ∥₁
+  pub rows : AreTables schema db
+  pub holds : Holding version (tables_of schema db) p
+
+-- a connection's database, with the schema that it goes by
+pub record ReadsAs (version : ℤ) (db : Database) (p : Package) : Type 0 where
+  pub schema_is : db.schema ≡ schema
+  pub stands : StandsFor version db.trees p
+
+-- what a rollback goes back to, and whether the store was open there
+pub record Ground : Type 0 where
+  pub database : Database
+  pub is_open : Bool
+
+abbrev pub ground_of : State → Ground
+ground_of s = record { database = s.committed; is_open = s.is_open }
+
+-- a rollback goes back to this ground
+abbrev pub StandsOn : State → Ground → Type 0
+StandsOn s ground = IsTrue s.is_open → (s.committed ≡ ground.database) × IsTrue ground.is_open
+
+-- a transaction is open on the ground, and sees the package
+pub record IsInside (profile : Profile) (s : State) (ground : Ground) (p : Package) : Type 0 where
+  pub mode : IsTrue s.in_transaction
+  pub back : StandsOn s ground
+  pub reads : IsTrue s.is_open → ReadsAs profile.version s.now p
+
+-- no transaction is open, the connection reads as the package, and each database that may be left stands for it
+pub record IsSettled (profile : Profile) (s : State) (p : Package) : Type 0 where
+  pub mode : s.in_transaction ≡ false
+  pub back : IsTrue s.is_open → ReadsAs profile.version s.committed p
+  pub reads : IsTrue s.is_open → ReadsAs profile.version s.now p
+  pub left : (db : Trees) → s.may_leave db → StandsFor profile.version db p

@@ -1,0 +1,11 @@
+//! What holds of the definitions, as contracts.
+
+ghost use Rattle.std.specs.Prelude.{◌≡◌, ℤ};
+ghost use Rattle.sqlite.specs.Tree.{Trees};
+ghost use Rattle.mm_base.specs.Package.{Package};
+ghost use Rattle.mm_store.specs.Stands.{StandsFor};
+
+/// A database stands for at most one package.
+pub fn stands_for_one()
+    ensures { (version : ℤ) (db : Trees) (p q : Package) → StandsFor version db p → StandsFor version db q → p ≡ q }
+{}

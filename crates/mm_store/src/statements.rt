@@ -1,0 +1,112 @@
+//! One statement inside a transaction, with its error told as a fault.
+
+ghost use Rattle.std.specs.Prelude.{◌≡◌, ◌⊎◌, is_some, slice_get, IfOk, IfErr};
+ghost use Rattle.sqlite.specs.Values.{bound};
+ghost use Rattle.sqlite.specs.Held.{state};
+ghost use Rattle.sqlite.specs.Order.{column};
+ghost use Rattle.sqlite.specs.State.{HasCleanDisk, FailsToQuery, IsTooLate};
+ghost use Rattle.sqlite.specs.declared.types.Value.TheVariants.{Int};
+ghost use Rattle.mm_store.specs.Faults.{told_as};
+ghost use Rattle.mm_store.specs.Statements.{IsRun, IsAsked, GivesText, GivesPair};
+
+use crate::faults::fault_of;
+use mm_base::answers::Fault;
+use sqlite::types::ValueRef;
+use sqlite::{Alter, Error, Row, Transaction};
+
+/// Runs a statement that shows no rows.
+pub fn run<S: Alter>(
+    tx: &mut Transaction<'_, S>,
+    sql: &str,
+    params: &[ValueRef<'_>],
+) -> Result<(), Fault>
+    ensures same_reference { tx.new.conn.ghost_name ≡ tx.old.conn.ghost_name }
+    ensures run { IsRun (state S.Store tx.old.conn.now) (state S.Store tx.new.conn.now) sql.now (bound params.now) result }
+{
+    match tx.execute(sql, params) {
+        Ok(_) => Ok(()),
+        Err(error) => Err(fault_of(error)),
+    }
+}
+
+fn first_of(rows: Vec<Row>) -> Option<Row>
+    ensures { result ≡ slice_get rows.items 0 }
+{
+    rows.into_iter().next()
+}
+
+/// The first row of a query that shows few.
+pub fn first<S: Alter>(
+    tx: &mut Transaction<'_, S>,
+    sql: &str,
+    params: &[ValueRef<'_>],
+) -> Result<Option<Row>, Fault>
+    ensures same_reference { tx.new.conn.ghost_name ≡ tx.old.conn.ghost_name }
+    ensures asked { IsAsked (state S.Store tx.old.conn.now) (state S.Store tx.new.conn.now) sql.now (bound params.now) (λ it first. it ≡ first) result }
+    ensures failed { HasCleanDisk (state S.Store tx.new.conn.now) → IfErr result (λ fault. (e : Error) × (fault ≡ told_as e)
+        × (FailsToQuery sql.now (bound params.now) (state S.Store tx.old.conn.now) (state S.Store tx.new.conn.now) e ⊎ IsTooLate sql.now (bound params.now) (state S.Store tx.old.conn.now) (state S.Store tx.new.conn.now) e)) }
+{
+    match tx.query_all(sql, params) {
+        Ok(rows) => Ok(first_of(rows)),
+        Err(error) => Err(fault_of(error)),
+    }
+}
+
+/// Whether a query shows a row.
+pub fn exists<S: Alter>(
+    tx: &mut Transaction<'_, S>,
+    sql: &str,
+    params: &[ValueRef<'_>],
+) -> Result<bool, Fault>
+    ensures same_reference { tx.new.conn.ghost_name ≡ tx.old.conn.ghost_name }
+    ensures asked { IsAsked (state S.Store tx.old.conn.now) (state S.Store tx.new.conn.now) sql.now (bound params.now) (λ it first. it ≡ is_some first) result }
+{
+    match first(tx, sql, params) {
+        Ok(row) => Ok(row.is_some()),
+        Err(fault) => Err(fault),
+    }
+}
+
+/// The text in the first column of the first row.
+pub fn first_text<S: Alter>(
+    tx: &mut Transaction<'_, S>,
+    sql: &str,
+    params: &[ValueRef<'_>],
+) -> Result<Option<String>, Fault>
+    ensures same_reference { tx.new.conn.ghost_name ≡ tx.old.conn.ghost_name }
+    ensures asked { IsAsked (state S.Store tx.old.conn.now) (state S.Store tx.new.conn.now) sql.now (bound params.now) (λ it first. GivesText it first) result }
+{
+    match first(tx, sql, params) {
+        Ok(Some(row)) => match row.get(0) {
+            Ok(text) => Ok(Some(text)),
+            Err(error) => Err(fault_of(error)),
+        },
+        Ok(None) => Ok(None),
+        Err(fault) => Err(fault),
+    }
+}
+
+fn pair_in(row: &Row) -> Result<(i64, i64), Error>
+    ensures { IfOk result (λ pair. (column row.now 0 ≡ Int pair.0) × (column row.now 1 ≡ Int pair.1)) }
+{
+    Ok((row.get(0)?, row.get(1)?))
+}
+
+/// The numbers in the first two columns of the first row.
+pub fn first_pair<S: Alter>(
+    tx: &mut Transaction<'_, S>,
+    sql: &str,
+    params: &[ValueRef<'_>],
+) -> Result<Option<(i64, i64)>, Fault>
+    ensures same_reference { tx.new.conn.ghost_name ≡ tx.old.conn.ghost_name }
+    ensures asked { IsAsked (state S.Store tx.old.conn.now) (state S.Store tx.new.conn.now) sql.now (bound params.now) (λ it first. GivesPair it first) result }
+{
+    match first(tx, sql, params) {
+        Ok(Some(row)) => match pair_in(&row) {
+            Ok(pair) => Ok(Some(pair)),
+            Err(error) => Err(fault_of(error)),
+        },
+        Ok(None) => Ok(None),
+        Err(fault) => Err(fault),
+    }
+}

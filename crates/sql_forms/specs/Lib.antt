@@ -1,0 +1,4 @@
+pub mod Forms
+pub mod Tables
+pub mod Maps
+pub mod Cascade

@@ -89,3 +89,8 @@ sets_last_change p c t = changes c t
 -- The table's row has this stamp where it is set, and is as it was where it is not.
 abbrev pub IsSetOrKept : Bool → Text → ContentsPart → Text → Contents → Type 0
 IsSetOrKept is_set stamp before t row = ((is_set ≡ true) × (row.last_change ≡ stamp)) ⊎ ((is_set ≡ false) × Has before t row)
+
+-- ---- records
+-- the numbers that may hold against the fields of a record
+abbrev pub IsReadingNumber : ℕ → Type 0
+IsReadingNumber n = (n ≡ 10) ⊎ (n ≡ 11) ⊎ (n ≡ 12)

@@ -4,6 +4,7 @@
 #![tactic(auto)]
 
 pub mod editions;
+pub mod records;
 pub mod refusals;
 pub mod rules;
 pub mod runs;

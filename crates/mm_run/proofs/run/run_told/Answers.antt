@@ -1,4 +1,4 @@
-use Rattle.std.proofs.Common.{◌≡◌, ◌+◌, ◌≤◌, arith, length, option_map}
+use Rattle.std.proofs.Common.{◌≡◌, ◌+◌, arith, length, option_map}
 use Rattle.csv.specs.Reading.{strip_bom}
 use Rattle.csv.specs.declared.parser.State.TheVariants as states
 use Rattle.mm_base.specs.Streams.{inside}

@@ -112,21 +112,21 @@ first_holds f fs t ts v n h l = record { is_held = inr l.is_held; is_least = lea
     least m (inl b) = absurd (not_against f t v m h b)
     least m (inr b) = l.is_least m b
 
-rest_holds : (f : Field) (fs : List Field) (t : Text) (ts : List Text) (vs : List Value) (n : ℕ) → IsAgainst f t n → AllHold fs ts vs → IsLeast (IsAgainstSome (f ∷ fs) (t ∷ ts)) n
+pub rest_holds : (f : Field) (fs : List Field) (t : Text) (ts : List Text) (vs : List Value) (n : ℕ) → IsAgainst f t n → AllHold fs ts vs → IsLeast (IsAgainstSome (f ∷ fs) (t ∷ ts)) n
 rest_holds f fs t ts vs n a h = record { is_held = inl a; is_least = least }
   where
     least : (m : ℕ) → IsAgainst f t m ⊎ IsAgainstSome fs ts m → n ≤ m
     least m (inl b) = let e : n ≡ m = one_against f t n m a b in omega (arith, e)
     least m (inr b) = absurd (none_against fs ts vs m h b)
 
-first_lower : (f : Field) (fs : List Field) (t : Text) (ts : List Text) (n k : ℕ) → IsAgainst f t n → IsLeast (IsAgainstSome fs ts) k → n ≤ k → IsLeast (IsAgainstSome (f ∷ fs) (t ∷ ts)) n
+pub first_lower : (f : Field) (fs : List Field) (t : Text) (ts : List Text) (n k : ℕ) → IsAgainst f t n → IsLeast (IsAgainstSome fs ts) k → n ≤ k → IsLeast (IsAgainstSome (f ∷ fs) (t ∷ ts)) n
 first_lower f fs t ts n k a l low = record { is_held = inl a; is_least = least }
   where
     least : (m : ℕ) → IsAgainst f t m ⊎ IsAgainstSome fs ts m → n ≤ m
     least m (inl b) = let e : n ≡ m = one_against f t n m a b in omega (arith, e)
     least m (inr b) = omega (arith, low, l.is_least m b)
 
-rest_lower : (f : Field) (fs : List Field) (t : Text) (ts : List Text) (n k : ℕ) → IsAgainst f t n → IsLeast (IsAgainstSome fs ts) k → k ≤ n → IsLeast (IsAgainstSome (f ∷ fs) (t ∷ ts)) k
+pub rest_lower : (f : Field) (fs : List Field) (t : Text) (ts : List Text) (n k : ℕ) → IsAgainst f t n → IsLeast (IsAgainstSome fs ts) k → k ≤ n → IsLeast (IsAgainstSome (f ∷ fs) (t ∷ ts)) k
 rest_lower f fs t ts n k a l low = record { is_held = inr l.is_held; is_least = least }
   where
     least : (m : ℕ) → IsAgainst f t m ⊎ IsAgainstSome fs ts m → k ≤ m

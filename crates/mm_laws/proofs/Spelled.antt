@@ -1,6 +1,6 @@
 -- The fields of a record spell one command at most, and nothing is against fields that spell one.
-use Rattle.std.proofs.Common.{◌≡◌, ◌∙◌, inl, inr, ℕ, ℤ, pos, List, [], ◌∷◌, drop, Option, None, Some, Result, Ok, refl, sym, ap, arith}
-use Rattle.std.specs.Prelude.{codes, bytes_eq, if◌then◌else◌, get_or, unsigned_abs}
+use Rattle.std.proofs.Common.{◌≡◌, ◌∙◌, inl, inr, ℕ, zero, suc, ℤ, pos, List, [], ◌∷◌, Option, None, Some, Result, Ok, refl, sym, ap, arith}
+use Rattle.std.specs.Prelude.{codes, bytes_eq, if◌then◌else◌, unsigned_abs}
 use Rattle.hex.specs.Hex.{decode_of}
 use Rattle.hex.specs.declared.error.FromHexError.{FromHexError}
 use Rattle.mm_base.specs.Keys.{Text}
@@ -64,30 +64,42 @@ met_one None ts vs ws h k = absurd h
 met_one (Some form) ts vs ws h k = values_one form ts vs ws h k
 
 -- ---- the command of a word and values
-abbrev plain_of : Value → Text
+abbrev pub plain_of : Value → Text
 plain_of (Plain t) = t
 plain_of (Whole z) = []
 
-abbrev whole_of : Value → ℤ
+abbrev pub whole_of : Value → ℤ
 whole_of (Plain t) = pos 0
 whole_of (Whole z) = z
 
+abbrev pub head : List Value → Value
+head [] = Plain []
+head (v ∷ vs) = v
+
+abbrev pub tail : List Value → List Value
+tail [] = []
+tail (v ∷ vs) = vs
+
+abbrev value_of : List Value → ℕ → Value
+value_of vs zero = head vs
+value_of vs (suc i) = value_of (tail vs) i
+
 abbrev text_of : List Value → ℕ → Text
-text_of vs i = plain_of (get_or vs i (Plain []))
+text_of vs i = plain_of (value_of vs i)
 
 abbrev number_of : List Value → ℕ → ℤ
-number_of vs i = whole_of (get_or vs i (Plain []))
+number_of vs i = whole_of (value_of vs i)
 
 abbrev count_of : List Value → ℕ → ℕ
 count_of vs i = unsigned_abs (number_of vs i)
 
-abbrev step_of : Text → Step
+abbrev pub step_of : Text → Step
 step_of t = if bytes_eq t (codes "two") then steps.Two else steps.Other
 
-abbrev kind_of : Text → PlainKind
+abbrev pub kind_of : Text → PlainKind
 kind_of t = if bytes_eq t (codes "attributes") then plain_kinds.Attributes else plain_kinds.Media
 
-abbrev relation_of : Text → RelationName
+abbrev pub relation_of : Text → RelationName
 relation_of t = if bytes_eq t (codes "media") then names.Media else names.SimpleAttributes
 
 abbrev pub piece_of : Text → List Value → Piece
@@ -117,7 +129,7 @@ command_of word vs =
     (if bytes_eq word (codes "discard") then commands.Discard (text_of vs 0) else
     (if bytes_eq word (codes "publish") then commands.Publish (text_of vs 0) else
     (if bytes_eq word (codes "rehearse") then commands.Rehearse (text_of vs 0) else
-    (if bytes_eq word (codes "stage") then commands.Stage (text_of vs 0) (number_of vs 1) (piece_of (text_of vs 2) (drop 3 vs)) else
+    (if bytes_eq word (codes "stage") then commands.Stage (text_of vs 0) (number_of vs 1) (piece_of (text_of vs 2) (tail (tail (tail vs)))) else
     piece_command (piece_of word vs))))))))))))
 
 pub piece_back : (q : Piece) → piece_of (piece_word q) (piece_values q) ≡ q

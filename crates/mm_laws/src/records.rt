@@ -1,6 +1,6 @@
 //! The fields of a record, and what they spell.
 
-ghost use Rattle.std.specs.Prelude.{◌≡◌, ℕ, ℤ, List};
+ghost use Rattle.std.specs.Prelude.{◌≡◌, ◌⊎◌, ℕ, ℤ, List};
 ghost use Rattle.mm_base.specs.Bounds.{Profile};
 ghost use Rattle.mm_base.specs.Keys.{Text};
 ghost use Rattle.mm_base.specs.Numbers as numbers;
@@ -8,6 +8,12 @@ ghost use Rattle.mm_base.specs.Records.{HoldsAgainst, HoldsAgainstPiece, IsLeast
 ghost use Rattle.mm_base.specs.declared.commands.Command.{Command};
 ghost use Rattle.mm_base.specs.declared.commands.Piece.{Piece};
 ghost use Rattle.mm_laws.specs.Laws.{IsReadingNumber};
+
+/// The fields of every record spell a command, or some number is the least that is against them; so for pieces.
+pub fn every_record_spells_a_command_or_has_a_least_number()
+    ensures commands { (profile : Profile) (texts : List Text) → ((c : Command) × Spells profile texts c) ⊎ ((n : ℕ) × IsLeast (HoldsAgainst profile texts) n) }
+    ensures pieces { (texts : List Text) → ((q : Piece) × SpellsPiece texts q) ⊎ ((n : ℕ) × IsLeast (HoldsAgainstPiece texts) n) }
+{}
 
 /// The fields of a record spell one command at most, and one piece at most.
 pub fn fields_spell_one_command_at_most()

@@ -1,7 +1,8 @@
 //! Lending a reader to `csv` and having it back. What `csv` promises doesn't say which reader it keeps, so a type's
 //! invariant does: it holds the reference under a name that the call picks.
 
-ghost use Rattle.std.specs.Prelude.{◌≡◌, ℕ, Bool};
+ghost use Rattle.std.specs.Prelude.{◌≡◌, ◌||◌, ℕ, Bool};
+ghost use Rattle.std.specs.Result.{is_err};
 ghost use Rattle.std.specs.Io.{ReadsAtMost};
 ghost use Rattle.std.specs.Io.KnownBytes.{ReadConsumes};
 
@@ -35,13 +36,14 @@ pub struct Held<'a, R> {
 }
 
 impl<R: Read> Read for Held<'_, R> {
-    ghost use Rattle.mm_base.specs.Streams.{inside};
+    ghost use Rattle.mm_base.specs.Streams.{has_failed, inside};
 
     ghost remaining = { λ s. R.remaining (inside s.reader.now) };
 
     fn read(&mut self, buf: &mut [u8]) -> io::Result<usize>
         ensures bound { ReadsAtMost result buf.new }
         ensures bytes { ReadConsumes (R.remaining (inside self.old.reader.now)) (R.remaining (inside self.new.reader.now)) result buf.new }
+        ensures failed { has_failed self.new.reader.now ≡ (has_failed self.old.reader.now || is_err result) }
         ensures same_reference { self.new.reader.ghost_name ≡ self.old.reader.ghost_name }
     {
         self.reader.read(buf)
@@ -57,11 +59,15 @@ pub struct Source<'a, R, K: Lender> {
 }
 
 impl<R: Read, K: Lender> Read for Source<'_, R, K> {
-    ghost use Rattle.mm_base.specs.Streams.{inside};
+    ghost use Rattle.mm_base.specs.Streams.{has_failed, inside};
 
     ghost remaining = { λ s. R.remaining (inside s.held.reader.now) };
 
-    fn read(&mut self, buf: &mut [u8]) -> io::Result<usize> {
+    fn read(&mut self, buf: &mut [u8]) -> io::Result<usize>
+        ensures bound { ReadsAtMost result buf.new }
+        ensures bytes { ReadConsumes (R.remaining (inside self.old.held.reader.now)) (R.remaining (inside self.new.held.reader.now)) result buf.new }
+        ensures failed { has_failed self.new.held.reader.now ≡ (has_failed self.old.held.reader.now || is_err result) }
+    {
         self.held.read(buf)
     }
 }

@@ -11,7 +11,7 @@ use Rattle.mm_schema.specs.Tables.{gpkg_contents, mm_tiles, mm_rows, mm_media, m
 use Rattle.mm_base.specs.Keys.{Text, TileKey, Item}
 use Rattle.mm_base.specs.Package.{Contents, AttributeRow, Medium}
 use Rattle.mm_base.specs.Effects.{changed_at}
-use Rattle.mm_store.specs.Rows.{past_rowid, maybe, contents_row, tile_row, attributes_row, medium_row, edition_row}
+use Rattle.mm_store.specs.Rows.{past_rowid, maybe, contents_row, tile_row, attribute_row, medium_row, edition_row}
 
 abbrev pub tile_sets : List Term
 tile_sets = col 1 1 ∷ col 1 2 ∷ col 1 3 ∷ col 1 4 ∷ col 0 4 ∷ []
@@ -24,9 +24,9 @@ tile_changed k v w r is =
 abbrev pub row_sets : List Term
 row_sets = col 1 1 ∷ col 1 2 ∷ col 0 2 ∷ col 0 3 ∷ col 0 4 ∷ []
 
-pub row_changed : (k : Item) (v w : AttributeRow) (r : Row) → past_rowid r ≡ attributes_row k v
-    → past_rowid (updated mm_rows row_sets (Words k.table ∷ Int k.id ∷ Words w.title ∷ Words w.note ∷ Int w.amount ∷ []) r) ≡ attributes_row k w
-row_changed k v w r is = rw (columns_are r (attributes_row k v) 0 is, columns_are r (attributes_row k v) 1 is) (cast_all_is mm_rows.columns (attributes_row k w) refl)
+pub row_changed : (k : Item) (v w : AttributeRow) (r : Row) → past_rowid r ≡ attribute_row k v
+    → past_rowid (updated mm_rows row_sets (Words k.table ∷ Int k.id ∷ Words w.title ∷ Words w.note ∷ Int w.amount ∷ []) r) ≡ attribute_row k w
+row_changed k v w r is = rw (columns_are r (attribute_row k v) 0 is, columns_are r (attribute_row k v) 1 is) (cast_all_is mm_rows.columns (attribute_row k w) refl)
 
 abbrev pub medium_sets : List Term
 medium_sets = col 1 1 ∷ col 1 2 ∷ col 0 2 ∷ col 0 3 ∷ []

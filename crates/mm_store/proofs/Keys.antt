@@ -22,7 +22,7 @@ use Rattle.sql_forms.proofs.Rows.{equal_is}
 use Rattle.mm_base.specs.Keys.{Text, text_cmp, Level, level_cmp, level, TileKey, tile_cmp, tile, Item, item_cmp, item, Pairing, pairing_cmp, pairing, PieceKey, piece_cmp, piece}
 use Rattle.mm_base.specs.Package.{System}
 use Rattle.mm_base.proofs.KeyLaws.{numbers, texts, levels, items, tile_keys, pairing_keys, piece_keys}
-use Rattle.mm_store.specs.Rows.{whole, past_rowid, past_id, maybe, system_row, contents_row, kind_row, set_row, grid_row, tile_row, attributes_row, medium_row, relation_row, pairing_row, edition_row, staged_row}
+use Rattle.mm_store.specs.Rows.{whole, past_rowid, past_id, maybe, system_row, contents_row, kind_row, set_row, grid_row, tile_row, attribute_row, medium_row, relation_row, pairing_row, edition_row, staged_row}
 use Rattle.mm_store.proofs.Parts.{IsPart}
 
 pub is_eq_then : (a b : Ordering) → is_eq (ordering_then a b) ≡ (is_eq a && is_eq b)
@@ -146,7 +146,7 @@ tiles = record {
       ) refl;
 }
 
-pub rows : IsPart item_cmp past_rowid attributes_row by_item
+pub rows : IsPart item_cmp past_rowid attribute_row by_item
 rows = record {
   order = items;
   key_is = λ k l v w e. let t : k.table ≡ l.table = cc in let z : k.id ≡ l.id = cc in λ i. item (t i) (z i);

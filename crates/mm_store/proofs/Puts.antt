@@ -8,7 +8,7 @@ use Rattle.sql_forms.specs.Maps.{Holds}
 use Rattle.mm_schema.specs.Tables.{gpkg_spatial_ref_sys, gpkg_contents, mm_tables, gpkg_tile_matrix_set, gpkg_tile_matrix, gpkg_extensions, mm_tiles, mm_rows, mm_media, gpkgext_relations, mm_map, mm_editions, mm_pieces}
 use Rattle.mm_base.specs.Keys.{Text, text_cmp, level_cmp, tile_cmp, item_cmp, pairing_cmp, piece_cmp, extension_cmp}
 use Rattle.mm_base.specs.Package.{Package, System, Contents, MatrixSet, Grid, AttributeRow, Medium, Relation, PieceRow}
-use Rattle.mm_store.specs.Rows.{whole, past_rowid, past_id, system_row, contents_row, kind_row, set_row, grid_row, tile_row, attributes_row, medium_row, relation_row, pairing_row, edition_row, staged_row, Counts}
+use Rattle.mm_store.specs.Rows.{whole, past_rowid, past_id, system_row, contents_row, kind_row, set_row, grid_row, tile_row, attribute_row, medium_row, relation_row, pairing_row, edition_row, staged_row, Counts}
 use Rattle.mm_store.specs.Stands.{Holding}
 
 module _ (version : ℤ) (tables : Trees) (p : Package) (h : Holding version tables p) (rows : List Row) where
@@ -33,7 +33,7 @@ module _ (version : ℤ) (tables : Trees) (p : Package) (h : Holding version tab
   pub put_tiles : (m : FinMap tile_cmp (List ℕ)) → Holds past_rowid tile_row rows m → Holding version (with_tree tables mm_tiles.tree rows) (record p { tiles = m })
   put_tiles m new = record { systems = h.systems; contents = h.contents; kinds = h.kinds; sets = h.sets; matrices = h.matrices; extensions = h.extensions; tiles = new; rows = h.rows; media = h.media; relations = h.relations; pairings = h.pairings; editions = h.editions; pieces = h.pieces; profile = h.profile }
 
-  pub put_rows : (m : FinMap item_cmp AttributeRow) → Holds past_rowid attributes_row rows m → Holding version (with_tree tables mm_rows.tree rows) (record p { rows = m })
+  pub put_rows : (m : FinMap item_cmp AttributeRow) → Holds past_rowid attribute_row rows m → Holding version (with_tree tables mm_rows.tree rows) (record p { rows = m })
   put_rows m new = record { systems = h.systems; contents = h.contents; kinds = h.kinds; sets = h.sets; matrices = h.matrices; extensions = h.extensions; tiles = h.tiles; rows = new; media = h.media; relations = h.relations; pairings = h.pairings; editions = h.editions; pieces = h.pieces; profile = h.profile }
 
   pub put_media : (m : FinMap item_cmp Medium) → Holds past_rowid medium_row rows m → Holding version (with_tree tables mm_media.tree rows) (record p { media = m })

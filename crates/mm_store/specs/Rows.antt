@@ -46,8 +46,8 @@ grid_row k g = Words k.table ∷ Int k.zoom ∷ Int g.matrix_width ∷ Int g.mat
 abbrev pub tile_row : TileKey → List ℕ → Row
 tile_row k bytes = Words k.table ∷ Int k.zoom ∷ Int k.column ∷ Int k.row ∷ Blob bytes ∷ []
 
-abbrev pub attributes_row : Item → AttributeRow → Row
-attributes_row k r = Words k.table ∷ Int k.id ∷ Words r.title ∷ Words r.note ∷ Int r.amount ∷ []
+abbrev pub attribute_row : Item → AttributeRow → Row
+attribute_row k r = Words k.table ∷ Int k.id ∷ Words r.title ∷ Words r.note ∷ Int r.amount ∷ []
 
 abbrev pub medium_row : Item → Medium → Row
 medium_row k m = Words k.table ∷ Int k.id ∷ Blob m.bytes ∷ Words m.content_type ∷ []

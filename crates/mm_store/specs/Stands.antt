@@ -11,7 +11,7 @@ use Rattle.sql_forms.specs.Maps.{Holds}
 use Rattle.mm_schema.specs.Tables.{schema, gpkg_spatial_ref_sys, gpkg_contents, gpkg_tile_matrix_set, gpkg_tile_matrix, gpkg_extensions, gpkgext_relations, mm_profile, mm_tables, mm_tiles, mm_rows, mm_media, mm_map, mm_editions, mm_pieces}
 use Rattle.mm_base.specs.Package.{Package}
 use Rattle.mm_base.specs.Bounds.{Profile}
-use Rattle.mm_store.specs.Rows.{whole, past_rowid, past_id, system_row, contents_row, kind_row, set_row, grid_row, tile_row, attributes_row, medium_row, relation_row, pairing_row, edition_row, staged_row, Counts}
+use Rattle.mm_store.specs.Rows.{whole, past_rowid, past_id, system_row, contents_row, kind_row, set_row, grid_row, tile_row, attribute_row, medium_row, relation_row, pairing_row, edition_row, staged_row, Counts}
 
 -- the one row of the profile's table
 abbrev pub profile_row : ℤ → Row
@@ -26,7 +26,7 @@ pub record Holding (version : ℤ) (tables : Trees) (p : Package) : Type 0 where
   pub matrices : Holds past_rowid grid_row (tables gpkg_tile_matrix.tree) p.matrices
   pub extensions : Counts (tables gpkg_extensions.tree) p.extensions
   pub tiles : Holds past_rowid tile_row (tables mm_tiles.tree) p.tiles
-  pub rows : Holds past_rowid attributes_row (tables mm_rows.tree) p.rows
+  pub rows : Holds past_rowid attribute_row (tables mm_rows.tree) p.rows
   pub media : Holds past_rowid medium_row (tables mm_media.tree) p.media
   pub relations : Holds past_id relation_row (tables gpkgext_relations.tree) p.relations
   pub pairings : Holds past_rowid pairing_row (tables mm_map.tree) p.pairings

@@ -1,5 +1,5 @@
 -- What is read of the fields of a record, one field at a time.
-use Rattle.std.proofs.Common.{◌≡◌, ◌≢◌, ◌∙◌, ◌≤◌, ◌<◌, ◌+◌, ◌⊎◌, inl, inr, ℕ, zero, suc, ℤ, pos, neg_ℤ, List, [], ◌∷◌, length, drop, map, Option, None, Some, Bool, true, false, Result, Ok, Err, IsErr, refl, sym, ap, subst, arith, ◌<ℤ◌, ◌≤ℤ◌, Contains}
+use Rattle.std.proofs.Common.{◌≡◌, ◌≢◌, ◌∙◌, ◌≤◌, ◌<◌, ◌+◌, ◌⊎◌, inl, inr, ℕ, zero, suc, ℤ, pos, neg_ℤ, List, [], ◌∷◌, length, drop, map, None, Bool, true, false, Result, Ok, Err, IsErr, refl, sym, ap, subst, arith, ◌<ℤ◌, ◌≤ℤ◌}
 use Rattle.std.specs.Prelude.{get_or, nat_le, if◌then◌else◌, ⊤}
 use Rattle.std.specs.Borrow.{Bor}
 use Rattle.std.proofs.lemmas.Int.{ints}
@@ -10,7 +10,7 @@ use Rattle.hex.specs.declared.error.FromHexError.{FromHexError}
 use Rattle.mm_base.specs.Bounds.{IsLong}
 use Rattle.mm_base.specs.Keys.{Text}
 use Rattle.mm_base.specs.Numbers.{Spells, LeadDigits, value_from}
-use Rattle.mm_base.specs.Reading.{ReadsTo, both_of, refused}
+use Rattle.mm_base.specs.Reading.{ReadsTo, both_of}
 use Rattle.mm_base.specs.Fields.{Field, OneOf, NumberFrom, BytesTo, TextOf, AnIdentifier, AContentType, AName, Value, Whole, Plain, Holds, IsAgainst, AllHold, IsAgainstSome}
 use Rattle.mm_base.specs.Records.{IsLeast}
 use Rattle.mm_base.specs.declared.answers.Refusal.{Refusal}

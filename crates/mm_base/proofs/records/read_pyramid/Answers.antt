@@ -1,4 +1,4 @@
-use Rattle.std.proofs.Common.{rules, pos, arith, refl}
+use Rattle.std.proofs.Common.{rules, arith, refl}
 use Rattle.std.proofs.Common.{w64}
 use Rattle.std.proofs.lemmas.Int.{to_z-of_z}
 use mir.Val.{SFits}
@@ -6,7 +6,7 @@ use Rattle.mm_base.specs.Fields.{AName, AnIdentifier, Plain, Whole}
 use Rattle.mm_base.specs.Records.{coordinate, named_system, step_words}
 use Rattle.mm_base.specs.Bounds.{millimetres}
 use Rattle.mm_base.specs.Package.{kind_text}
-use Rattle.mm_base.specs.Effects.{step_kind, plain_kind}
+use Rattle.mm_base.specs.Effects.{step_kind}
 use Rattle.mm_base.proofs.ReadingFacts.{text_at, and_then, the_last, texts_are, holds, refuses}
 use Rattle.mm_base.proofs.records.read_pyramid.Goals as goal
 

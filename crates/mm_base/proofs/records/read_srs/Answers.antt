@@ -1,4 +1,4 @@
-use Rattle.std.proofs.Common.{rules, pos, arith, refl}
+use Rattle.std.proofs.Common.{rules, arith, refl}
 use Rattle.std.proofs.Common.{w64}
 use Rattle.std.proofs.lemmas.Int.{to_z-of_z}
 use mir.Val.{SFits}

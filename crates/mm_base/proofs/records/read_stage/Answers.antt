@@ -1,4 +1,4 @@
-use Rattle.std.proofs.Common.{rules, arith, refl, w64}
+use Rattle.std.proofs.Common.{rules, refl, w64}
 use Rattle.std.proofs.lemmas.Int.{to_z-of_z}
 use mir.Val.{SFits}
 use Rattle.mm_base.specs.Fields.{AName, Plain, Whole}

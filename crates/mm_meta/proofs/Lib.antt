@@ -3,3 +3,4 @@ pub mod Making
 pub mod Committing
 pub mod Srs
 pub mod Looking
+pub mod Refusing

@@ -29,7 +29,8 @@ use Rattle.mm_base.specs.declared.answers.Open.{Open}
 use Rattle.mm_base.specs.declared.answers.Open.TheVariants as opens
 use Rattle.mm_store.specs.Stands.{ReadsAs}
 use Rattle.mm_store.specs.Statements.{CommitsNothing}
-use Rattle.mm_meta.specs.Look.{IsProfile, Judges, Tells, Agrees, IsLooked}
+use Rattle.mm_meta.proofs.Refusing.{never_refused}
+use Rattle.mm_meta.specs.Look.{stops, IsProfile, Judges, Tells, Agrees, IsLooked}
 
 -- ---- The text is a query, whatever the schema.
 
@@ -96,16 +97,16 @@ module _ (old new : State) (version : ℤ) where
   agreed (Err (opens.Version other)) h = let same = same_version other h.0 in (same, subst (λ v. v ≢ pos 1) same h.1)
   agreed (Err opens.BadProfile) h = h version (shown, refl, refl, refl)
   agreed (Err (opens.Fault fault)) h = tt
-  agreed (Err opens.NoProfile) h = tt
-  agreed (Err (opens.Rule rule)) h = tt
+  agreed (Err opens.NoProfile) h = absurd h
+  agreed (Err (opens.Rule rule)) h = absurd h
 
-untold : (version : ℤ) (e : Error) (result : Result (Unit {0}) Open) → Tells e result → Agrees version result
-untold version e (Ok u) h = absurd h
-untold version e (Err (opens.Version other)) h = absurd h
-untold version e (Err opens.BadProfile) h = absurd h
-untold version e (Err (opens.Fault fault)) h = tt
-untold version e (Err opens.NoProfile) h = tt
-untold version e (Err (opens.Rule rule)) h = absurd h
+untold : (version : ℤ) (e : Error) (result : Result (Unit {0}) Open) → (stops e ≡ false → ⊥) → Tells e result → Agrees version result
+untold version e (Ok u) stopped h = absurd h
+untold version e (Err (opens.Version other)) stopped h = absurd h
+untold version e (Err opens.BadProfile) stopped h = absurd h
+untold version e (Err (opens.Fault fault)) stopped h = tt
+untold version e (Err opens.NoProfile) stopped h = absurd (stopped h)
+untold version e (Err (opens.Rule rule)) stopped h = absurd h
 
 module _ (old new : State) (h : Survives old new (CommitsShowing profile_rows [] old)) (result : Result (Unit {0}) Open) where
   pub judged : (rows : List Row) → (HasCleanDisk new → Shown profile_rows [] old new rows) → Judges rows result → IsLooked old new result
@@ -119,5 +120,5 @@ module _ (old new : State) (h : Survives old new (CommitsShowing profile_rows []
   refused e fails tells = record {
     survives = quiet old new h;
     answers = λ clean. inr (e, fails clean, tells);
-    agrees = λ clean version p reads. untold version e result tells;
+    agrees = λ clean version p reads. untold version e result (λ goes. never_refused old new e goes (λ up. (reads up).schema_is) (returns_nothing old.now.schema) (fails clean)) tells;
   }

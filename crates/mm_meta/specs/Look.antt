@@ -49,12 +49,14 @@ Answers old new result =
     ((rows : List Row) × Shown profile_rows [] old new rows × IsUnchanged old new × Judges rows result)
     ⊎ ((e : Error) × FailsToQuery profile_rows [] old new e × Tells e result)
 
--- what is answered of a database that stands for a package under a version, unless the query is refused or stopped
+-- what is answered of a database that stands for a package under a version, unless a fault is
 abbrev pub Agrees : ℤ → Result (Unit {0}) Open → Type 0
 Agrees version (Ok _) = version ≡ pos 1
 Agrees version (Err (opens.Version other)) = (other ≡ version) × (version ≢ pos 1)
+Agrees version (Err (opens.Fault fault)) = ⊤
+Agrees version (Err opens.NoProfile) = ⊥
 Agrees version (Err opens.BadProfile) = ⊥
-Agrees version (Err _) = ⊤
+Agrees version (Err (opens.Rule rule)) = ⊥
 
 pub record IsLooked (old new : State) (result : Result (Unit {0}) Open) : Type 0 where
   pub survives : CommitsNothing old new

@@ -1,11 +1,10 @@
 -- One record: what its answer says.
-use Rattle.std.proofs.Common.{◌≡◌, ◌⊎◌, inl, inr, ℕ, List, Option, Some, None, Ok, Err, true, false, refl, sym, ap, subst, ◌∙◌}
+use Rattle.std.proofs.Common.{◌≡◌, inr, ℕ, List, Option, Some, None, Ok, Err, true, sym, ap, subst}
 use Rattle.csv.specs.Reading.{ReadRecord}
 use Rattle.csv.specs.declared.reader.Reader.{Reader}
 use Rattle.mm_base.specs.Bounds.{IsMoment, millimetres}
 use Rattle.mm_base.specs.Package.{Package}
 use Rattle.mm_base.specs.Rules.{Meets}
-use Rattle.mm_base.specs.Step.{refusal, step}
 use Rattle.mm_base.specs.declared.answers.Refusal.{Refusal}
 use Rattle.mm_base.specs.declared.answers.Answer.{Answer}
 use Rattle.mm_base.specs.declared.answers.Answer.TheVariants as answers
@@ -13,7 +12,7 @@ use Rattle.mm_base.specs.declared.commands.Command.{Command}
 use Rattle.mm_lines.specs.Records.{Record}
 use Rattle.mm_run.specs.Readings.{Reading, IsReadAs}
 use Rattle.mm_run.specs.Answers.{answer_of, answer_to, after, plain}
-use Rattle.mm_run.specs.Applied.{IsApplied, IsSound, Leaves, IsAnswer}
+use Rattle.mm_run.specs.Applied.{IsApplied, IsSound, IsAnswer}
 use Rattle.mm_run.specs.Runs.{IsAnswered, Turns}
 use Rattle.mm_laws.proofs.RunFacts.{refused_same}
 use Rattle.mm_run.proofs.Keeps.{spelled_within, step_meets}

@@ -1,5 +1,5 @@
 -- What a run tells of a session that has to be opened again.
-use Rattle.std.proofs.Common.{◌≡◌, ◌≢◌, ◌∙◌, ◌⊎◌, inl, inr, ℕ, List, Option, Bool, true, false, Err, refl, sym, ap, arith}
+use Rattle.std.proofs.Common.{◌≡◌, ◌≢◌, ◌∙◌, inl, inr, ℕ, List, Option, Bool, true, false, Err, refl, sym, ap, arith}
 use Rattle.mm_base.specs.declared.answers.Fault.{Fault}
 use Rattle.mm_base.specs.declared.answers.Answer.{Answer}
 use Rattle.mm_base.specs.declared.answers.Answer.TheVariants as answers

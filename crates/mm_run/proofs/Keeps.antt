@@ -1,5 +1,5 @@
 -- A command that was read and applied keeps the rules.
-use Rattle.std.proofs.Common.{◌≡◌, ℕ, List, Ok}
+use Rattle.std.proofs.Common.{ℕ, Ok}
 use Rattle.mm_base.specs.Bounds.{IsMoment, millimetres}
 use Rattle.mm_base.specs.Package.{Package}
 use Rattle.mm_base.specs.Records.{HoldsAgainst, Spells}

@@ -1,9 +1,8 @@
 -- The records so far, and what may be left of them.
-use Rattle.std.proofs.Common.{◌≡◌, ◌∙◌, ◌<◌, ◌≤◌, ◌+◌, ◌⊎◌, inl, inr, ℕ, zero, suc, List, [], ◌∷◌, ◌++◌, take, length, Option, Some, None, Ok, refl, sym, ap, subst, arith, true, false, append-nil, length-append}
-use Rattle.std.specs.Prelude.{if◌then◌else◌}
+use Rattle.std.proofs.Common.{◌≡◌, ◌∙◌, ◌≤◌, ◌+◌, inl, inr, ℕ, zero, suc, List, [], ◌∷◌, ◌++◌, take, length, Option, Some, None, Ok, refl, sym, ap, subst, arith, true, false, append-nil}
 use Rattle.std.proofs.lemmas.List.{take_all}
-use Rattle.std.proofs.Math.Seq.{take-append_seam, take-length}
-use Rattle.csv.specs.Reading.{AreRecords, Reached, ReadRecord, default_config, source_of}
+use Rattle.std.proofs.Math.Seq.{take-append_seam}
+use Rattle.csv.specs.Reading.{Reached, ReadRecord, default_config, source_of}
 use Rattle.csv.specs.declared.parser.State.{State}
 use Rattle.csv.specs.declared.reader.Reader.{Reader}
 use Rattle.csv.proofs.ReadFacts.{rows-end, rows-more}
@@ -18,9 +17,9 @@ use Rattle.mm_base.specs.declared.answers.Answer.TheVariants as answers
 use Rattle.mm_base.specs.declared.commands.Command.{Command}
 use Rattle.mm_lines.specs.Records.{Record}
 use Rattle.mm_run.specs.Readings.{Reading, IsReadAs, AreReadAs}
-use Rattle.mm_run.specs.Answers.{answer_of, answer_to, after, answers_to, calls_of, is_accepted, is_fault, accepted_of}
+use Rattle.mm_run.specs.Answers.{answer_of, answers_to, calls_of, is_fault, accepted_of}
 use Rattle.mm_run.specs.Applied.{IsSound, Leaves, LeavesEither, IsAnswer}
-use Rattle.mm_run.specs.Runs.{AreFirstParts, IsAll, IsAnswered, IsSoFar, IsSome, Turns}
+use Rattle.mm_run.specs.Runs.{AreFirstParts, IsAll, IsSoFar, IsSome, Turns}
 use Rattle.mm_run.proofs.Answered.{goes_on}
 use Rattle.mm_run.proofs.Lists.{accepted_of-more, answers-more, at_most_one, length-answers, none_read, part_of, read_more, run-more}
 

@@ -1,17 +1,15 @@
 -- How answers, calls and first parts grow with the records that were read.
-use Rattle.std.proofs.Common.{◌≡◌, ◌⊎◌, inl, inr, ◌∙◌, ◌+◌, ◌≤◌, ◌<◌, ℕ, zero, suc, List, [], ◌∷◌, ◌++◌, Option, Some, None, Result, Ok, Err, take, length, true, false, refl, sym, ap, subst, arith, add-zero, append-nil, append_assoc, length-append}
+use Rattle.std.proofs.Common.{◌≡◌, ◌∙◌, ◌+◌, ◌≤◌, ℕ, suc, List, [], ◌∷◌, ◌++◌, Option, Some, None, Ok, Err, take, length, refl, sym, ap, subst, arith, add-zero, append-nil, length-append}
 use Rattle.std.specs.Prelude.{if◌then◌else◌}
 use Rattle.std.specs.List.{concat}
-use Rattle.std.proofs.lemmas.List.{take-append-le}
 use Rattle.std.proofs.lemmas.List.Folds.{concat-append}
-use Rattle.std.proofs.Math.Seq.{take-append-add, take-append_seam, take-length}
+use Rattle.std.proofs.Math.Seq.{take-append_seam}
 use Rattle.mm_base.specs.Package.{Package}
 use Rattle.mm_base.specs.Step.{refusal, step}
 use Rattle.mm_base.specs.Runs.{Call, run, accepted, if_ok, IsFirstPart}
 use Rattle.mm_base.specs.declared.answers.Refusal.{Refusal}
 use Rattle.mm_base.specs.declared.answers.Answer.{Answer}
 use Rattle.mm_base.specs.declared.answers.Answer.TheVariants as answers
-use Rattle.mm_base.specs.declared.commands.Command.{Command}
 use Rattle.mm_lines.specs.Lines.{line, lines, lines_from}
 use Rattle.mm_lines.specs.Records.{Record}
 use Rattle.mm_run.specs.Readings.{Reading, IsReadAs, AreReadAs}

@@ -1,34 +1,23 @@
 -- What one turn of a run does to what was answered, written and left so far.
-use Rattle.std.proofs.Common.{◌≡◌, ◌≢◌, ◌∙◌, ◌<◌, ◌≤◌, ◌+◌, ◌⊎◌, inl, inr, ℕ, List, [], ◌∷◌, ◌++◌, take, length, Option, Some, None, Ok, refl, sym, ap, subst, arith, Bool, true, false, add-zero, append-nil, length-append}
+use Rattle.std.proofs.Common.{◌≡◌, ◌≢◌, ◌∙◌, ◌<◌, ◌≤◌, ◌+◌, ◌⊎◌, inl, inr, ℕ, List, [], ◌∷◌, ◌++◌, take, length, Option, refl, sym, ap, subst, arith, Bool, true, add-zero, length-append}
 use Rattle.std.specs.Prelude.{get_or, if◌then◌else◌}
 use Rattle.std.proofs.KnownBytes.{Appends-nil, Appends-trans}
-use Rattle.std.proofs.lemmas.List.{get_or-append-add, length_push, take_all}
-use Rattle.std.proofs.Math.Seq.{take-append_seam, take-length}
+use Rattle.std.proofs.lemmas.List.{get_or-append-add, length_push}
+use Rattle.std.proofs.Math.Seq.{take-append_seam}
 use Rattle.std.specs.Io.KnownBytes.{Appends}
 use Rattle.std.specs.List.{concat}
-use Rattle.csv.specs.Reading.{Reached, default_config, source_of}
-use Rattle.csv.specs.declared.parser.State.{State}
-use Rattle.csv.specs.declared.reader.Reader.{Reader}
-use Rattle.csv.proofs.ReadFacts.{rows-end, rows-more}
-use Rattle.mm_base.specs.Package.{Package}
-use Rattle.mm_base.specs.Rules.{Meets}
-use Rattle.mm_base.specs.Runs.{run}
-use Rattle.mm_base.specs.Step.{refusal, step}
 use Rattle.mm_base.specs.declared.answers.Answer.{Answer}
 use Rattle.mm_base.specs.declared.answers.Answer.TheVariants as answers
 use Rattle.mm_base.specs.declared.answers.Fault.{Fault}
 use Rattle.mm_base.specs.declared.answers.RunFault.{RunFault}
 use Rattle.mm_base.specs.declared.answers.Tally.{Tally}
-use Rattle.mm_base.specs.declared.commands.Command.{Command}
 use Rattle.mm_lines.specs.Lines.{line, lines, lines_from}
-use Rattle.mm_lines.specs.Records.{Record, IsReadFault}
-use Rattle.mm_run.specs.Readings.{Reading, IsReadAs, AreReadAs}
-use Rattle.mm_run.specs.Answers.{answer_to, after, answers_to, calls_of, is_accepted, is_refused, accepted_of, refused_of, is_fault}
-use Rattle.mm_run.specs.Applied.{IsSound, Leaves, LeavesEither, IsAnswer, OnFault}
-use Rattle.mm_run.specs.Told.{AreCounted, AreTold, Goes, IsCutAt, IsStoppedText, Stops, with_answer, with_line}
-use Rattle.mm_run.specs.Runs.{AreFirstParts, IsAll, IsAnswered, IsRunFault, IsSoFar, IsSome, IsStopped, Turns}
-use Rattle.mm_run.proofs.Answered.{goes_on}
-use Rattle.mm_run.proofs.Lists.{accepted_of-more, answers-more, as_many, at_most_one, length-answers, length-lines_from, lines_from-more, none_read, part_of, read_more, refused_of-more, run-more, text-more}
+use Rattle.mm_lines.specs.Records.{IsReadFault}
+use Rattle.mm_run.specs.Answers.{is_accepted, is_refused, accepted_of, refused_of, is_fault}
+use Rattle.mm_run.specs.Applied.{IsAnswer, OnFault}
+use Rattle.mm_run.specs.Told.{AreCounted, AreTold, Goes, IsCutAt, Stops, with_answer, with_line}
+use Rattle.mm_run.specs.Runs.{IsRunFault, IsStopped}
+use Rattle.mm_run.proofs.Lists.{accepted_of-more, length-lines_from, lines_from-more, refused_of-more, text-more}
 
 -- ---- what was told
 -- nothing yet

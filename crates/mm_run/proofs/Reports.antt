@@ -1,20 +1,19 @@
 -- What a run reports of all the records of its bytes.
-use Rattle.std.proofs.Common.{◌≡◌, ◌∙◌, ◌+◌, ◌≤◌, inl, inr, ℕ, List, [], ◌∷◌, length, take, Option, Some, None, refl, sym, ap, subst, arith, option_map}
-use Rattle.std.proofs.Math.Seq.{take-length}
-use Rattle.csv.specs.Reading.{default_config, records, strip_bom}
+use Rattle.std.proofs.Common.{◌≡◌, ◌∙◌, ◌+◌, ℕ, List, length, take, Option, sym, ap, subst, arith}
+use Rattle.csv.specs.Reading.{strip_bom}
 use Rattle.csv.specs.declared.parser.State.TheVariants as states
 use Rattle.mm_base.specs.Package.{Package}
 use Rattle.mm_base.specs.Runs.{run}
 use Rattle.mm_base.specs.declared.answers.Answer.{Answer}
 use Rattle.mm_base.specs.declared.answers.RunFault.{RunFault}
 use Rattle.mm_base.specs.declared.answers.Tally.{Tally}
-use Rattle.mm_lines.specs.Records.{Record, records_of}
+use Rattle.mm_lines.specs.Records.{records_of}
 use Rattle.mm_lines.proofs.RecordsFacts.{records-all, records-first}
-use Rattle.mm_run.specs.Readings.{Reading, AreReadAs}
+use Rattle.mm_run.specs.Readings.{AreReadAs}
 use Rattle.mm_run.specs.Answers.{answers_to, calls_of, accepted_of, refused_of}
 use Rattle.mm_run.specs.Applied.{Leaves}
 use Rattle.mm_run.specs.Told.{AreTold}
-use Rattle.mm_run.specs.Runs.{AreFirstParts, IsAll, IsSome, IsStopped, RanAll, RanSome, acknowledged_of, given_of}
+use Rattle.mm_run.specs.Runs.{AreFirstParts, IsAll, IsSome, IsStopped, RanAll, RanSome, given_of}
 use Rattle.mm_run.proofs.Left.{parts-left}
 use Rattle.mm_run.proofs.Lists.{as_many, counted-answers, length-answers}
 

@@ -1,5 +1,5 @@
 -- What is written of the answers, and counted.
-use Rattle.std.specs.Prelude.{ℕ, ◌+◌, ◌<◌, ◌≤◌, ◌≡◌, ◌≢◌, ◌⊎◌, get_or, List, [], ◌∷◌, ◌++◌, Bool, true, Option, length, take, ⊤}
+use Rattle.std.specs.Prelude.{ℕ, ◌+◌, ◌<◌, ◌≤◌, ◌≡◌, ◌≢◌, ◌⊎◌, get_or, List, [], ◌∷◌, ◌++◌, Bool, true, Option, length, take}
 use Rattle.std.specs.List.{concat}
 use Rattle.std.specs.Io.KnownBytes.{Appends}
 use Rattle.mm_base.specs.declared.answers.Fault.{Fault}

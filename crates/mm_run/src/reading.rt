@@ -13,7 +13,7 @@ use mm_lines::text_fields;
 use std::alloc::Global;
 
 /// Whether a command is served so far.
-fn is_served(command: &Command) -> bool
+pub fn is_served(command: &Command) -> bool
     ensures { result ≡ served.is_served command.now }
 {
     matches!(command, Command::Srs { .. })

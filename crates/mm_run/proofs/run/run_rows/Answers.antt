@@ -1,7 +1,5 @@
-use Rattle.std.proofs.Common.{◌≡◌, ◌+◌, ◌-◌, ◌^◌, ◌∙◌, ◌≤◌, ℕ, List, [], ◌∷◌, ◌++◌, refl, arith, length}
+use Rattle.std.proofs.Common.{◌≡◌, ◌+◌, ◌-◌, ◌^◌, ◌∙◌, [], ◌∷◌, ◌++◌, refl, arith, length}
 use Rattle.csv.specs.Reading.{source_of}
-use Rattle.mm_base.specs.declared.answers.Answer.{Answer}
-use Rattle.mm_base.specs.declared.answers.Answer.TheVariants as answers
 use Rattle.mm_run.specs.Runs.{IsSome, OnRun}
 use Rattle.mm_run.proofs.Loops.{counted-once, no-writer-fault, stopped-fault, stopped-with, told-more, told-none, written-once}
 use Rattle.mm_run.proofs.Left.{all-answered, so_far-more, so_far-none, some-faulted, some-last, some-so_far}

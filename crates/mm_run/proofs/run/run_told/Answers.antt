@@ -1,4 +1,4 @@
-use Rattle.std.proofs.Common.{◌≡◌, ◌+◌, ◌≤◌, arith, length, option_map}
+use Rattle.std.proofs.Common.{◌≡◌, ◌+◌, arith, length, option_map}
 use Rattle.csv.specs.Reading.{strip_bom}
 use Rattle.csv.specs.declared.parser.State.TheVariants as states
 use Rattle.mm_base.specs.Streams.{inside}
@@ -16,7 +16,7 @@ returns-in-Err-tell-clause-stopped g c =
     let fault = c.in-Err-drain.fault in
     stopped-fault
     (λ told w. OnRun (g.A.Apply.is_clean new) (g.A.Apply.settled c.args.session.now) (option_map strip_bom (g.R.Read.remaining (inside c.args.reader.now)))
-        (λ p xs. IsSome p c.args.at xs states.StartRecord (g.A.Apply.may_leave new) g.A.Apply.stands_for told w))
+    (λ p xs. IsSome p c.args.at xs states.StartRecord (g.A.Apply.may_leave new) g.A.Apply.stands_for told w))
     given (t.written + 1) t c.in-Err-tell.e _ _ _ _ at told fault (read_not_writer fault.0 _ c.in-Err-drain.ensures.fault) c.in-Err-tell.ensures.stops
     (λ w enough clean p sound xs here.
-        some-all p c.args.at (g.A.Apply.may_leave new) g.A.Apply.stands_for xs states.StartRecord given (g.A.Apply.settled new) (g.met.A.Apply.leaves_settled new) (all clean p sound xs here) w enough)
+    some-all p c.args.at (g.A.Apply.may_leave new) g.A.Apply.stands_for xs states.StartRecord given (g.A.Apply.settled new) (g.met.A.Apply.leaves_settled new) (all clean p sound xs here) w enough)

@@ -1,5 +1,5 @@
 -- What is read of the fields of a record, one field at a time.
-use Rattle.std.proofs.Common.{◌≡◌, ◌≢◌, ◌∙◌, ◌≤◌, ◌<◌, ◌+◌, ◌⊎◌, inl, inr, ℕ, zero, suc, ℤ, pos, neg_ℤ, List, [], ◌∷◌, length, drop, map, Option, None, Some, Bool, true, false, Result, Ok, Err, IsErr, refl, sym, ap, subst, arith, ◌<ℤ◌, ◌≤ℤ◌, Contains}
+use Rattle.std.proofs.Common.{to_z, of_z, w64, ◌^◌, ◌≡◌, ◌≢◌, ◌∙◌, ◌≤◌, ◌<◌, ◌+◌, ◌⊎◌, inl, inr, ℕ, zero, suc, ℤ, pos, neg_ℤ, List, [], ◌∷◌, length, drop, map, None, Bool, true, false, Result, Ok, Err, IsErr, refl, sym, ap, subst, arith, ◌<ℤ◌, ◌≤ℤ◌}
 use Rattle.std.specs.Prelude.{get_or, nat_le, if◌then◌else◌, ⊤}
 use Rattle.std.specs.Borrow.{Bor}
 use Rattle.std.proofs.lemmas.Int.{ints}
@@ -7,10 +7,10 @@ use Rattle.std.proofs.lemmas.List.{drop_more, drop_all, length-map}
 use Rattle.std.proofs.lemmas.Bool.Decides.{nat_tests}
 use Rattle.hex.specs.Hex.{decode_of}
 use Rattle.hex.specs.declared.error.FromHexError.{FromHexError}
-use Rattle.mm_base.specs.Bounds.{IsLong}
+use Rattle.mm_base.specs.Bounds.{millimetres, IsId, IsSystemNumber, IsCoordinate, IsPixelSize, IsAmount, IsLong}
 use Rattle.mm_base.specs.Keys.{Text}
 use Rattle.mm_base.specs.Numbers.{Spells, LeadDigits, value_from}
-use Rattle.mm_base.specs.Reading.{ReadsTo, both_of, refused}
+use Rattle.mm_base.specs.Reading.{ReadsTo, both_of}
 use Rattle.mm_base.specs.Fields.{Field, OneOf, NumberFrom, BytesTo, TextOf, AnIdentifier, AContentType, AName, Value, Whole, Plain, Holds, IsAgainst, AllHold, IsAgainstSome}
 use Rattle.mm_base.specs.Records.{IsLeast}
 use Rattle.mm_base.specs.declared.answers.Refusal.{Refusal}
@@ -243,3 +243,22 @@ is_ten fs xs h = record {
 -- the fields are those that the form asks
 pub holds : {A : Type 0} {fs : List Field} {ts : List Text} {r : Result A ReadFault} {v : A} → r ≡ Ok v → (h : AreFields fs ts r) → AllHold fs ts (h.values v)
 holds {fs = fs} {ts = ts} e h = subst (ReadsTo (λ x. AllHold fs ts (h.values x)) (IsLeast (IsAgainstSome fs ts))) e h.reads
+
+-- ---- a number within these limits is the one that its 64 bits hold
+kept : (z : ℤ) → neg_ℤ (pos (10 ^ 16)) ≤ℤ z → z ≤ℤ pos (10 ^ 16) → to_z w64 (of_z w64 z) ≡ z
+kept z low high = omega (arith, ints)
+
+pub id_kept : (z : ℤ) → IsId z → to_z w64 (of_z w64 z) ≡ z
+id_kept z h = kept z (omega (arith, ints, h.0)) (omega (arith, ints, h.1))
+
+pub system_kept : (z : ℤ) → IsSystemNumber z → to_z w64 (of_z w64 z) ≡ z
+system_kept z h = kept z (omega (arith, ints, h.0)) (omega (arith, ints, h.1))
+
+pub coordinate_kept : (z : ℤ) → IsCoordinate millimetres z → to_z w64 (of_z w64 z) ≡ z
+coordinate_kept z h = kept z (omega (arith, ints, h.0)) (omega (arith, ints, h.1))
+
+pub pixel_size_kept : (z : ℤ) → IsPixelSize millimetres z → to_z w64 (of_z w64 z) ≡ z
+pixel_size_kept z h = kept z (omega (arith, ints, h.0)) (omega (arith, ints, h.1))
+
+pub amount_kept : (z : ℤ) → IsAmount z → to_z w64 (of_z w64 z) ≡ z
+amount_kept z h = kept z (omega (arith, ints, h.0)) (omega (arith, ints, h.1))

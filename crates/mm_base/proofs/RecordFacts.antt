@@ -1,13 +1,13 @@
 -- What is read of a record by its first word, and the limits of what it spells.
-use Rattle.std.proofs.Common.{◌≡◌, ◌∙◌, ◌≤◌, ◌+◌, ◌⊎◌, inl, inr, ℕ, ℤ, pos, List, [], ◌∷◌, ◌++◌, length, drop, take, ◌-◌, length-drop, Option, None, Some, IfOk, Bool, true, false, Result, Ok, Err, refl, sym, ap, subst, arith}
+use Rattle.std.proofs.Common.{◌≡◌, ◌∙◌, ◌≤◌, inl, inr, ℕ, ℤ, List, [], ◌∷◌, ◌++◌, length, drop, take, ◌-◌, length-drop, Option, None, Some, IfOk, Bool, true, false, Result, Ok, Err, refl, sym, ap, subst, arith}
 use Rattle.std.specs.Prelude.{⊤, codes, bytes_eq, if◌then◌else◌}
 use Rattle.std.specs.Borrow.{Bor}
 use Rattle.std.proofs.lemmas.List.{take_all}
 use Rattle.std.proofs.lemmas.Slice.Eq.{bytes_eq-Decides}
 use Rattle.mm_base.specs.Keys.{Text}
-use Rattle.mm_base.specs.Bounds.{Profile, IsFrom, IsLong, IsText, IsIdentifier, IsContentType, IsName, millimetres}
-use Rattle.mm_base.specs.Reading.{ReadsTo, both_of}
-use Rattle.mm_base.specs.Fields.{Field, OneOf, NumberFrom, BytesTo, TextOf, AnIdentifier, AContentType, AName, Value, Whole, Plain, Holds, IsAgainst, AllHold, IsAgainstSome}
+use Rattle.mm_base.specs.Bounds.{IsFrom, IsLong, IsText, IsIdentifier, IsContentType, IsName, millimetres}
+use Rattle.mm_base.specs.Reading.{ReadsTo}
+use Rattle.mm_base.specs.Fields.{Field, OneOf, NumberFrom, BytesTo, TextOf, AnIdentifier, AContentType, AName, Value, Whole, Plain, Holds, AllHold, IsAgainstSome}
 use Rattle.mm_base.specs.Records.{Form, form_of, piece_forms, piece_form, other_forms, record_form, stage_form, with_piece, id_field, IsLeast, IsMet, IsUnmet, SpellsPiece, HoldsAgainstPiece, Spells, HoldsAgainst, piece_word, piece_values, command_word, command_values}
 use Rattle.mm_base.specs.Records as forms
 use Rattle.mm_base.specs.Pieces.{piece_command}
@@ -18,7 +18,7 @@ use Rattle.mm_base.specs.declared.commands.Piece.{Piece}
 use Rattle.mm_base.specs.declared.commands.Piece.TheVariants.{Tile, TileDrop, Row, RowDrop, Media, MediaDrop, Map, MapDrop}
 use Rattle.mm_base.specs.declared.commands.Command.{Command}
 use Rattle.mm_base.specs.declared.commands.Command.TheVariants as commands
-use Rattle.mm_base.proofs.ReadingFacts.{IsField, AreFields, the_last, and_then, texts_of, text_at, one_more, all_at_least_ten, first_holds}
+use Rattle.mm_base.proofs.ReadingFacts.{AreFields, texts_of, text_at, one_more, all_at_least_ten, first_holds}
 
 -- ---- by the first word
 -- the fields behind the first, as a slice pattern gives them

@@ -1,8 +1,7 @@
 -- What a reader answers of a text.
-use Rattle.std.specs.Prelude.{◌≡◌, ℕ, ◌⊎◌, List, Option, None, Result, Ok, Err, IsErr, ⊤, if◌then◌else◌, nat_le}
+use Rattle.std.specs.Prelude.{◌≡◌, ℕ, ◌⊎◌, List, None, Result, Ok, Err, IsErr, ⊤, if◌then◌else◌, nat_le}
 use Rattle.hex.specs.Hex.{decode_of}
 use Rattle.mm_base.specs.Bounds.{IsLong}
-use Rattle.mm_base.specs.declared.answers.Refusal.{Refusal}
 use Rattle.mm_base.specs.declared.answers.ReadFault.{ReadFault}
 use Rattle.mm_base.specs.declared.answers.ReadFault.TheVariants as faults
 

@@ -1,4 +1,4 @@
-use Rattle.std.proofs.Common.{rules, codes, refl}
+use Rattle.std.proofs.Common.{codes, refl}
 use Rattle.mm_base.specs.Records as forms
 use Rattle.mm_base.proofs.RecordFacts.{piece_arm}
 use Rattle.mm_base.proofs.pieces.piece_of.Goals as goal

@@ -1,9 +1,7 @@
-use Rattle.std.proofs.Common.{rules, pos, arith, refl, w64}
-use Rattle.std.proofs.lemmas.Int.{to_z-of_z}
-use mir.Val.{SFits}
+use Rattle.std.proofs.Common.{arith, refl}
 use Rattle.mm_base.specs.Fields.{AContentType, AName, BytesTo, Plain, Whole}
 use Rattle.mm_base.specs.Records.{id_field}
-use Rattle.mm_base.proofs.ReadingFacts.{text_at, and_then, the_last, texts_are, holds, refuses}
+use Rattle.mm_base.proofs.ReadingFacts.{text_at, and_then, the_last, texts_are, holds, refuses, id_kept}
 use Rattle.mm_base.proofs.pieces.read_media.Goals as goal
 
 pub returns-in-Err : goal.returns-in-Err
@@ -24,5 +22,5 @@ returns-in-Ok c =
     (and_then id_field (t 1) (record { value = Whole; reads = c.id_field.ensures }) c.both-2.ensures
     (and_then AContentType (t 2) (record { value = Plain; reads = c.read.ensures }) c.both.ensures
     (the_last (BytesTo 4194304) (t 3) (record { value = Plain; reads = c.read-2.ensures }))))) in
-    let fits0 : SFits w64 c.in-Ok.read.1.0 = search rules in
-    rw (texts_are c.args.fields.now 4 (omega arith) (omega arith)) (simp to_z-of_z (refl, all))
+    let kept0 = id_kept c.in-Ok.read.1.0 all.1.0.1 in
+    rw (texts_are c.args.fields.now 4 (omega arith) (omega arith)) (rw kept0 (refl, all))

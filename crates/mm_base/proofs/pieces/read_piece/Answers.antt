@@ -1,4 +1,3 @@
-use Rattle.std.proofs.Common.{rules}
 use Rattle.mm_base.proofs.RecordFacts.{piece_within}
 use Rattle.mm_base.proofs.pieces.read_piece.Goals as goal
 

@@ -1,10 +1,7 @@
-use Rattle.std.proofs.Common.{rules, pos, arith, refl}
-use Rattle.std.proofs.Common.{w64}
-use Rattle.std.proofs.lemmas.Int.{to_z-of_z}
-use mir.Val.{SFits}
+use Rattle.std.proofs.Common.{arith, refl}
 use Rattle.mm_base.specs.Fields.{AName, Plain, Whole}
 use Rattle.mm_base.specs.Records.{amount_field, id_field, remark_field}
-use Rattle.mm_base.proofs.ReadingFacts.{text_at, and_then, the_last, texts_are, holds, refuses}
+use Rattle.mm_base.proofs.ReadingFacts.{text_at, and_then, the_last, texts_are, holds, refuses, amount_kept, id_kept}
 use Rattle.mm_base.proofs.pieces.read_row.Goals as goal
 
 pub returns-in-Err : goal.returns-in-Err
@@ -27,6 +24,6 @@ returns-in-Ok c =
     (and_then remark_field (t 2) (record { value = Plain; reads = c.read.ensures }) c.both-2.ensures
     (and_then remark_field (t 3) (record { value = Plain; reads = c.read-2.ensures }) c.both.ensures
     (the_last amount_field (t 4) (record { value = Whole; reads = c.number_field.ensures })))))) in
-    let fits0 : SFits w64 c.in-Ok.read.1.0 = search rules in
-    let fits1 : SFits w64 c.in-Ok.read.1.1.1.1 = search rules in
-    rw (texts_are c.args.fields.now 5 (omega arith) (omega arith)) (simp to_z-of_z (refl, all))
+    let kept0 = id_kept c.in-Ok.read.1.0 all.1.0.1 in
+    let kept1 = amount_kept c.in-Ok.read.1.1.1.1 all.1.1.1.1.0.1 in
+    rw (texts_are c.args.fields.now 5 (omega arith) (omega arith)) (simp (kept0, kept1) (refl, all))

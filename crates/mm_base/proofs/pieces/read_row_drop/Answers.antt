@@ -1,9 +1,7 @@
-use Rattle.std.proofs.Common.{rules, pos, arith, refl, w64}
-use Rattle.std.proofs.lemmas.Int.{to_z-of_z}
-use mir.Val.{SFits}
+use Rattle.std.proofs.Common.{arith, refl}
 use Rattle.mm_base.specs.Fields.{AName, Plain, Whole}
 use Rattle.mm_base.specs.Records.{id_field}
-use Rattle.mm_base.proofs.ReadingFacts.{text_at, and_then, the_last, texts_are, holds, refuses}
+use Rattle.mm_base.proofs.ReadingFacts.{text_at, and_then, the_last, texts_are, holds, refuses, id_kept}
 use Rattle.mm_base.proofs.pieces.read_row_drop.Goals as goal
 
 pub returns-in-Err : goal.returns-in-Err
@@ -20,5 +18,5 @@ returns-in-Ok c =
     holds c.in-Ok.is
     (and_then AName (t 0) (record { value = Plain; reads = c.name_field.ensures }) c.both.ensures
     (the_last id_field (t 1) (record { value = Whole; reads = c.id_field.ensures }))) in
-    let fits0 : SFits w64 c.in-Ok.read.1 = search rules in
-    rw (texts_are c.args.fields.now 2 (omega arith) (omega arith)) (simp to_z-of_z (refl, all))
+    let kept0 = id_kept c.in-Ok.read.1 all.1.0.1 in
+    rw (texts_are c.args.fields.now 2 (omega arith) (omega arith)) (rw kept0 (refl, all))

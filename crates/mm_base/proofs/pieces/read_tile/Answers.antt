@@ -1,4 +1,4 @@
-use Rattle.std.proofs.Common.{rules, pos, arith, refl}
+use Rattle.std.proofs.Common.{pos, arith, refl}
 use Rattle.mm_base.specs.Fields.{AName, BytesTo, Plain, Whole}
 use Rattle.mm_base.specs.Records.{place_field, zoom_field}
 use Rattle.mm_base.proofs.ReadingFacts.{text_at, and_then, the_last, texts_are, holds, refuses}

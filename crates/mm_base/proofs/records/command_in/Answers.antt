@@ -1,4 +1,4 @@
-use Rattle.std.proofs.Common.{rules, codes, refl, Some}
+use Rattle.std.proofs.Common.{codes, refl, Some}
 use Rattle.mm_base.specs.Bounds.{millimetres}
 use Rattle.mm_base.specs.Records as forms
 use Rattle.mm_base.proofs.ReadingFacts.{texts_of}

@@ -1,4 +1,3 @@
-use Rattle.std.proofs.Common.{rules}
 use Rattle.mm_base.proofs.RecordFacts.{command_within}
 use Rattle.mm_base.proofs.records.read_command.Goals as goal
 

@@ -1,6 +1,6 @@
-use Rattle.std.proofs.Common.{rules, pos, arith}
+use Rattle.std.proofs.Common.{arith}
 use Rattle.mm_base.specs.Fields.{AName, Plain}
-use Rattle.mm_base.proofs.ReadingFacts.{text_at, and_then, the_last, refuses}
+use Rattle.mm_base.proofs.ReadingFacts.{text_at, the_last, refuses}
 use Rattle.mm_base.proofs.records.read_drop.Goals as goal
 
 pub returns-in-Err : goal.returns-in-Err

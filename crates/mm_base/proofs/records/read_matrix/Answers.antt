@@ -1,11 +1,8 @@
-use Rattle.std.proofs.Common.{rules, pos, arith, refl}
-use Rattle.std.proofs.Common.{w64}
-use Rattle.std.proofs.lemmas.Int.{to_z-of_z}
-use mir.Val.{SFits}
+use Rattle.std.proofs.Common.{pos, arith, refl}
 use Rattle.mm_base.specs.Fields.{AName, Plain, Whole}
 use Rattle.mm_base.specs.Records.{matrix_side, pixel_size, tile_side, zoom_field}
 use Rattle.mm_base.specs.Bounds.{millimetres}
-use Rattle.mm_base.proofs.ReadingFacts.{text_at, and_then, the_last, texts_are, holds, refuses}
+use Rattle.mm_base.proofs.ReadingFacts.{text_at, and_then, the_last, texts_are, holds, refuses, pixel_size_kept}
 use Rattle.mm_base.proofs.records.read_matrix.Goals as goal
 
 pub returns-in-Err : goal.returns-in-Err
@@ -34,6 +31,6 @@ returns-in-Ok c =
     (and_then tile_side (t 5) (record { value = λ z. Whole (pos z); reads = c.count_field-4.ensures }) c.both-2.ensures
     (and_then (pixel_size millimetres) (t 6) (record { value = Whole; reads = c.number_field.ensures }) c.both.ensures
     (the_last (pixel_size millimetres) (t 7) (record { value = Whole; reads = c.number_field-2.ensures }))))))))) in
-    let fits0 : SFits w64 c.in-Ok.read.1.1.1.1.1.1.0 = search rules in
-    let fits1 : SFits w64 c.in-Ok.read.1.1.1.1.1.1.1 = search rules in
-    rw (texts_are c.args.fields.now 8 (omega arith) (omega arith)) (simp to_z-of_z (refl, all))
+    let kept0 = pixel_size_kept c.in-Ok.read.1.1.1.1.1.1.0 all.1.1.1.1.1.1.0.1 in
+    let kept1 = pixel_size_kept c.in-Ok.read.1.1.1.1.1.1.1 all.1.1.1.1.1.1.1.0.1 in
+    rw (texts_are c.args.fields.now 8 (omega arith) (omega arith)) (simp (kept0, kept1) (refl, all))

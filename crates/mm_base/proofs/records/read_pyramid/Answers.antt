@@ -1,13 +1,10 @@
-use Rattle.std.proofs.Common.{rules, pos, arith, refl}
-use Rattle.std.proofs.Common.{w64}
-use Rattle.std.proofs.lemmas.Int.{to_z-of_z}
-use mir.Val.{SFits}
+use Rattle.std.proofs.Common.{arith, refl}
 use Rattle.mm_base.specs.Fields.{AName, AnIdentifier, Plain, Whole}
 use Rattle.mm_base.specs.Records.{coordinate, named_system, step_words}
 use Rattle.mm_base.specs.Bounds.{millimetres}
 use Rattle.mm_base.specs.Package.{kind_text}
-use Rattle.mm_base.specs.Effects.{step_kind, plain_kind}
-use Rattle.mm_base.proofs.ReadingFacts.{text_at, and_then, the_last, texts_are, holds, refuses}
+use Rattle.mm_base.specs.Effects.{step_kind}
+use Rattle.mm_base.proofs.ReadingFacts.{text_at, and_then, the_last, texts_are, holds, refuses, coordinate_kept, system_kept}
 use Rattle.mm_base.proofs.records.read_pyramid.Goals as goal
 
 pub returns-in-Err : goal.returns-in-Err
@@ -36,9 +33,9 @@ returns-in-Ok c =
     (and_then (coordinate millimetres) (t 5) (record { value = Whole; reads = c.number_field-4.ensures }) c.both-2.ensures
     (and_then (coordinate millimetres) (t 6) (record { value = Whole; reads = c.number_field-5.ensures }) c.both.ensures
     (the_last step_words (t 7) (record { value = λ step. Plain (kind_text (step_kind step)); reads = c.step_field.ensures }))))))))) in
-    let fits0 : SFits w64 c.in-Ok.read.1.1.0 = search rules in
-    let fits1 : SFits w64 c.in-Ok.read.1.1.1.0 = search rules in
-    let fits2 : SFits w64 c.in-Ok.read.1.1.1.1.0 = search rules in
-    let fits3 : SFits w64 c.in-Ok.read.1.1.1.1.1.0 = search rules in
-    let fits4 : SFits w64 c.in-Ok.read.1.1.1.1.1.1.0 = search rules in
-    rw (texts_are c.args.fields.now 8 (omega arith) (omega arith)) (simp to_z-of_z (refl, all))
+    let kept0 = system_kept c.in-Ok.read.1.1.0 all.1.1.0.1 in
+    let kept1 = coordinate_kept c.in-Ok.read.1.1.1.0 all.1.1.1.0.1 in
+    let kept2 = coordinate_kept c.in-Ok.read.1.1.1.1.0 all.1.1.1.1.0.1 in
+    let kept3 = coordinate_kept c.in-Ok.read.1.1.1.1.1.0 all.1.1.1.1.1.0.1 in
+    let kept4 = coordinate_kept c.in-Ok.read.1.1.1.1.1.1.0 all.1.1.1.1.1.1.0.1 in
+    rw (texts_are c.args.fields.now 8 (omega arith) (omega arith)) (simp (kept0, kept1, kept2, kept3, kept4) (refl, all))

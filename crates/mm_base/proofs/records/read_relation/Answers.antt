@@ -1,4 +1,4 @@
-use Rattle.std.proofs.Common.{rules, pos, arith, refl}
+use Rattle.std.proofs.Common.{arith, refl}
 use Rattle.mm_base.specs.Fields.{AName, Plain}
 use Rattle.mm_base.specs.Records.{relation_words}
 use Rattle.mm_base.specs.Conditions.{relation_text}

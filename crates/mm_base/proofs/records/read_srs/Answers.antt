@@ -1,10 +1,7 @@
-use Rattle.std.proofs.Common.{rules, pos, arith, refl}
-use Rattle.std.proofs.Common.{w64}
-use Rattle.std.proofs.lemmas.Int.{to_z-of_z}
-use mir.Val.{SFits}
+use Rattle.std.proofs.Common.{arith, refl}
 use Rattle.mm_base.specs.Fields.{Plain, Whole}
 use Rattle.mm_base.specs.Records.{definition_field, id_field, remark_field, system_name}
-use Rattle.mm_base.proofs.ReadingFacts.{text_at, and_then, the_last, texts_are, holds, refuses}
+use Rattle.mm_base.proofs.ReadingFacts.{text_at, and_then, the_last, texts_are, holds, refuses, id_kept}
 use Rattle.mm_base.proofs.records.read_srs.Goals as goal
 
 pub returns-in-Err : goal.returns-in-Err
@@ -29,6 +26,6 @@ returns-in-Ok c =
     (and_then id_field (t 3) (record { value = Whole; reads = c.id_field-2.ensures }) c.both-2.ensures
     (and_then definition_field (t 4) (record { value = Plain; reads = c.read-3.ensures }) c.both.ensures
     (the_last remark_field (t 5) (record { value = Plain; reads = c.read-4.ensures }))))))) in
-    let fits0 : SFits w64 c.in-Ok.read.0 = search rules in
-    let fits1 : SFits w64 c.in-Ok.read.1.1.1.0 = search rules in
-    rw (texts_are c.args.fields.now 6 (omega arith) (omega arith)) (simp to_z-of_z (refl, all))
+    let kept0 = id_kept c.in-Ok.read.0 all.0.1 in
+    let kept1 = id_kept c.in-Ok.read.1.1.1.0 all.1.1.1.0.1 in
+    rw (texts_are c.args.fields.now 6 (omega arith) (omega arith)) (simp (kept0, kept1) (refl, all))

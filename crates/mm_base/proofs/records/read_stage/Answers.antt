@@ -1,9 +1,7 @@
-use Rattle.std.proofs.Common.{rules, arith, refl, w64}
-use Rattle.std.proofs.lemmas.Int.{to_z-of_z}
-use mir.Val.{SFits}
+use Rattle.std.proofs.Common.{refl}
 use Rattle.mm_base.specs.Fields.{AName, Plain, Whole}
 use Rattle.mm_base.specs.Records.{id_field}
-use Rattle.mm_base.proofs.ReadingFacts.{text_at, texts_of, and_then, holds}
+use Rattle.mm_base.proofs.ReadingFacts.{text_at, texts_of, and_then, holds, id_kept}
 use Rattle.mm_base.proofs.RecordFacts.{after_two, piece_fields, stage_met, stage_refuses, two_and_rest}
 use Rattle.mm_base.proofs.records.read_stage.Goals as goal
 
@@ -23,5 +21,5 @@ returns-in-Ok c =
     (and_then AName (text_at xs 0) (record { value = Plain; reads = c.name_field.ensures }) c.both-2.ensures
     (and_then id_field (text_at xs 1) (record { value = Whole; reads = c.id_field.ensures }) c.both.ensures
     (piece_fields (texts_of (after_two xs)) c.read_piece.result c.read_piece.ensures.reads))) in
-    let fits : SFits w64 c.in-Ok.read.1.0 = search rules in
-    rw (two_and_rest xs c.in-len2-up.len_at_least) (simp to_z-of_z (refl, stage_met _ _ (texts_of (after_two xs)) _ _ _ _ all))
+    let kept0 = id_kept c.in-Ok.read.1.0 all.1.0.1 in
+    rw (two_and_rest xs c.in-len2-up.len_at_least) (rw kept0 (refl, stage_met _ _ (texts_of (after_two xs)) _ _ _ _ all))

@@ -1,8 +1,8 @@
-use Rattle.std.proofs.Common.{rules, pos, arith, refl}
+use Rattle.std.proofs.Common.{arith, refl}
 use Rattle.mm_base.specs.Fields.{AName, AnIdentifier, Plain}
 use Rattle.mm_base.specs.Records.{kind_words}
 use Rattle.mm_base.specs.Package.{kind_text}
-use Rattle.mm_base.specs.Effects.{step_kind, plain_kind}
+use Rattle.mm_base.specs.Effects.{plain_kind}
 use Rattle.mm_base.proofs.ReadingFacts.{text_at, and_then, the_last, texts_are, holds, refuses}
 use Rattle.mm_base.proofs.records.read_table.Goals as goal
 

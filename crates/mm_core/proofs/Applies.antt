@@ -1,0 +1,28 @@
+-- A session as a thing that commands are applied to.
+use Rattle.std.proofs.Common.{◌≡◌, ◌⊎◌, inl, inr, ℕ, Bool, true, false, None, refl, sym, subst, arith}
+use Rattle.sqlite.specs.State.{State, HasCleanDisk}
+use Rattle.mm_base.specs.Bounds.{millimetres}
+use Rattle.mm_base.specs.Package.{Package}
+use Rattle.mm_base.specs.Rules.{Meets}
+use Rattle.mm_base.specs.Within.{IsWithin}
+use Rattle.mm_base.specs.declared.answers.Answer.{Answer}
+use Rattle.mm_base.specs.declared.answers.Answer.TheVariants as answer
+use Rattle.mm_base.specs.declared.commands.Command.{Command}
+use Rattle.mm_store.specs.Stands.{IsSettled}
+use Rattle.mm_run.specs.Applied as run
+use Rattle.mm_core.specs.Applied.{IsApplied, Stands}
+
+module _ (old new : State) (c : Command) (moment : ℕ) (a : Answer) where
+  pub applied_so : (failed : Bool) → (failed ≡ true → (a ≡ answer.Fault (record { 0 = 92 })) × (new ≡ old)) → (failed ≡ false → IsApplied c moment old new a)
+      → HasCleanDisk new → (p : Package) → IsSettled millimetres old p → Meets millimetres p → IsWithin millimetres c
+      → run.IsApplied p c moment a (IsSettled millimetres new) new.may_leave Stands
+  applied_so true ended applied clean p settled meets within =
+      let it = ended refl in
+      rw it.0 (λ db may. inl (settled.left db (subst (λ (s : State). s.may_leave db) it.1 may)))
+  applied_so false ended applied clean p settled meets within = (applied refl).answers clean p (record { settled = settled; meets = meets; within = within })
+
+  pub clean_so : (failed served : Bool) → (failed ≡ true → new ≡ old) → (failed ≡ false → served ≡ true → IsApplied c moment old new a) → (failed ≡ false → served ≡ false → new ≡ old)
+      → HasCleanDisk new → HasCleanDisk old
+  clean_so true served ended applied unserved clean = subst HasCleanDisk (ended refl) clean
+  clean_so false true ended applied unserved clean = let h = (applied refl refl).survives.clean in omega (arith, h)
+  clean_so false false ended applied unserved clean = subst HasCleanDisk (unserved refl refl) clean

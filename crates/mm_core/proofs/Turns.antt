@@ -1,0 +1,84 @@
+-- One command in one transaction: how its ends are reached.
+use Rattle.std.proofs.Common.{◌≡◌, ◌⊎◌, inl, inr, ℕ, true, false, Option, Some, None, Result, Ok, Err, IfErr, IsTrue, refl, sym, ap, subst, ◌∙◌, arith}
+use Rattle.sqlite.specs.Tree.{Trees}
+use Rattle.sqlite.specs.State.{State, HasCleanDisk, Survives, Shows, IsRolledBack}
+use Rattle.sqlite.specs.Held.{Held, state}
+use Rattle.sqlite.specs.Store.{Ghosts}
+use Rattle.sqlite.proofs.StateLemmas.{survives_then, survives_weaker}
+use Rattle.sqlite.proofs.Callers.{survives_begin}
+use Rattle.mm_base.specs.Bounds.{millimetres}
+use Rattle.mm_base.specs.Package.{Package}
+use Rattle.mm_base.specs.Step.{refusal, step}
+use Rattle.mm_base.specs.declared.answers.Answer.{Answer}
+use Rattle.mm_base.specs.declared.answers.Answer.TheVariants as answer
+use Rattle.mm_base.specs.declared.answers.Fault.{Fault}
+use Rattle.mm_base.specs.declared.answers.Outcome.{Outcome}
+use Rattle.mm_base.specs.declared.answers.Outcome.TheVariants.{Done, Refused}
+use Rattle.mm_base.specs.declared.answers.Refusal.{Refusal}
+use Rattle.mm_base.specs.declared.commands.Command.{Command}
+use Rattle.mm_store.specs.Stands.{ground_of, IsInside, IsSettled}
+use Rattle.mm_store.specs.Faults.{IsStoreFault}
+use Rattle.mm_store.specs.Statements.{CommitsNothing}
+use Rattle.mm_store.specs.Shapes.{IsPut, IsTried}
+use Rattle.mm_store.proofs.Transactions.{OnlyCommitted, settles, rolled_quiet, rolled_back}
+use Rattle.mm_core.specs.Applied.{IsApplied, IsReady, MayCommit, Stands}
+
+module _ {S : Type 0} (g : Ghosts S) (was now : Held S) (begun : now ≡ record was { in_transaction = true }) (ended last : State)
+    (c : Command) (moment : ℕ) (result : Result Outcome Fault) (tried : IsTried millimetres c moment (state g now) ended result) where
+  abbrev old : State
+  old = state g was
+
+  put : (p : Package) → IsReady old c p → IsPut millimetres c (state g now) (ground_of old) p
+  put p it = record { within = it.within; meets = it.meets; inside = rw begun (record { mode = refl; back = λ is_open. (refl, is_open); reads = it.settled.reads }) }
+
+  module _ (is : result ≡ Ok Done) where
+    done : HasCleanDisk ended → (p : Package) → IsReady old c p → (refusal p c ≡ None) × IsTrue ended.is_open × IsInside millimetres ended (ground_of old) (step p c moment)
+    done clean p it = (rw is at tried.tries) clean (ground_of old) p (put p it)
+
+    commits : Survives ended last (λ db. db ≡ ended.now.trees) → Survives old last (MayCommit old c moment)
+    commits h = survives_begin g was last (MayCommit old c moment) (rw begun at (survives_then (state g now) ended last _ _ (MayCommit old c moment) (λ _ db none. absurd none)
+        (λ clean db same p it. let its = done (omega (arith, h.clean)) p it in (its.0, subst (λ t. Stands t (step p c moment)) (sym same) (its.2.reads its.1).stands)) tried.survives h))
+
+    pub committed : OnlyCommitted last → Survives ended last (λ db. db ≡ ended.now.trees) → (HasCleanDisk last → Shows ended last ended.now ended.now false)
+        → IsApplied c moment old last answer.Ok
+    committed law h shows = record {
+      survives = commits h;
+      answers = λ clean p it. let its = done (omega (arith, h.clean)) p it in (its.0, settles millimetres ended last (ground_of old) (step p c moment) law (shows clean) its.2);
+    }
+
+    pub in_doubt : (fault : Fault) → Survives ended last (λ db. db ≡ ended.now.trees) → IsApplied c moment old last (answer.Fault fault)
+    in_doubt fault h = record {
+      survives = commits h;
+      answers = λ clean p it db may. elim ((commits h).crash clean db may) [ inl before ↦ inl (it.settled.left db before) | inr new ↦ inr (new p it) ];
+    }
+
+  -- a transaction that is rolled back leaves what was left before
+  module _ (two : CommitsNothing ended last) where
+    quiet : CommitsNothing old last
+    quiet = rolled_quiet g was now begun ended last tried.survives two
+
+    left_before : HasCleanDisk last → (p : Package) → IsReady old c p → (db : Trees) → last.may_leave db → Stands db p
+    left_before clean p it db may = elim (quiet.crash clean db may) [ inl before ↦ it.settled.left db before | inr none ↦ absurd none ]
+
+    pub refused : (why : Refusal) → result ≡ Ok (Refused why) → (HasCleanDisk last → IsRolledBack ended last) → IsApplied c moment old last (answer.Refused why)
+    refused why is undone = record {
+      survives = survives_weaker old last (λ _. ⊥) (MayCommit old c moment) (λ _ db none. absurd none) quiet;
+      answers = λ clean p it. (
+        (rw is at tried.tries) (omega (arith, two.clean)) (ground_of old) p (put p it),
+        rolled_back g was now begun ended last tried.survives two millimetres p it.settled clean (undone clean) (tried.on (omega (arith, two.clean)) (ground_of old) p (put p it)),
+      );
+    }
+
+    pub gave_up : (fault : Fault) → IsApplied c moment old last (answer.Fault fault)
+    gave_up fault = record {
+      survives = survives_weaker old last (λ _. ⊥) (MayCommit old c moment) (λ _ db none. absurd none) quiet;
+      answers = λ clean p it db may. inl (left_before clean p it db may);
+    }
+
+-- a fault of the store is 90 or 91
+pub store_fault : (result : Result Outcome Fault) (fault : Fault) → result ≡ Err fault → IfErr result IsStoreFault → (fault.0 ≡ 90) ⊎ (fault.0 ≡ 91)
+store_fault result fault is h = either (rw is at h)
+  where
+    either : IsStoreFault fault → (fault.0 ≡ 90) ⊎ (fault.0 ≡ 91)
+    either (inl e) = inl (ap (λ (f : Fault). f.0) e)
+    either (inr e) = inr (ap (λ (f : Fault). f.0) e)

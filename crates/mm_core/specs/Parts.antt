@@ -1,0 +1,13 @@
+-- What a clause reads of a session.
+use Rattle.std.specs.Prelude.{Bool}
+use Rattle.sqlite.specs.Held.{Held}
+use Rattle.sqlite.specs.Store.{Ghosts}
+use Rattle.mm_core.specs.declared.session.Session.{Session}
+
+-- its connection
+abbrev pub held : {S : Type 0} {g : Ghosts S} → Session S g → Held S
+held session = session.conn
+
+-- an earlier command was answered a fault
+abbrev pub has_failed : {S : Type 0} {g : Ghosts S} → Session S g → Bool
+has_failed session = session.failed

@@ -1,0 +1,15 @@
+//! Sessions on a package, and runs of lists of commands.
+//!
+//! A session is made by `create` on a database without tables or by `adopt` on one that holds a package. `apply` does one
+//! command in one transaction, whose commit is its last call of the store; `run_list` reads records and answers each.
+//! What a crash may leave at each exit is stated by their contracts.
+#![tactic(auto)]
+
+mod applying;
+mod running;
+mod session;
+
+pub use session::Session;
+
+#[cfg(test)]
+mod tests;

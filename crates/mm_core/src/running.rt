@@ -1,0 +1,38 @@
+//! The run of a list on a session.
+
+ghost use Rattle.mm_base.specs.Bounds.{millimetres};
+ghost use Rattle.mm_store.specs.Stands.{IsSettled};
+ghost use Rattle.mm_core.specs.Applied.{Stands};
+ghost use Rattle.mm_core.specs.Parts.{held};
+ghost use Rattle.mm_core.specs.Parts as parts;
+ghost use Rattle.sqlite.specs.Held.{state};
+ghost use Rattle.sqlite.specs.State.{HasCleanDisk};
+
+use crate::session::Session;
+use mm_base::answers::Answer;
+use mm_base::commands::Command;
+use mm_base::moments::Moment;
+use mm_run::Apply;
+use sqlite::Alter;
+
+impl<S: Alter> Apply for Session<S> {
+    ghost use Rattle.sqlite.specs.Tree.{Trees};
+
+    ghost Database = { Trees };
+
+    ghost stands_for = { Stands };
+
+    ghost may_leave = { λ s db. (state S.Store (held s)).may_leave db };
+
+    ghost is_clean = { λ s. HasCleanDisk (state S.Store (held s)) };
+
+    ghost settled = { λ s p. IsSettled millimetres (state S.Store (held s)) p };
+
+    ghost has_failed = { λ s. parts.has_failed s };
+
+    fn apply(&mut self, command: &Command, at: Moment) -> Answer {
+        self.apply(command, at)
+    }
+
+    ghost leaves_settled = { λ s p settled db may. settled.left db may };
+}

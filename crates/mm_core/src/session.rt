@@ -1,0 +1,160 @@
+//! Sessions: how one begins, what it answers to a command, and when it has to be opened again.
+
+ghost use Rattle.std.specs.Prelude.{◌≡◌, false};
+
+use crate::applying::apply_once;
+use mm_base::answers::{Answer, Fault, Open, Refusal, RunFault, Tally};
+use mm_base::commands::Command;
+use mm_base::moments::Moment;
+use mm_base::streams::Io;
+use mm_meta::{init, look};
+use mm_run::{is_served, run_list};
+use sqlite::{Alter, Connection};
+use std::alloc::Global;
+use std::io::{Read, Write};
+
+/// A connection to a package that only this session writes. After a fault of `apply` it has failed: every later command
+/// is answered 92, and the package has to be opened again.
+#[derive(Drop)]
+pub struct Session<S: Alter> {
+    conn: Connection<S>,
+    alloc: Global,
+    failed: bool,
+    ghost idle: { conn.in_transaction ≡ false },
+}
+
+impl<S: Alter> Session<S> {
+    ghost use Rattle.std.specs.Prelude.{◌≡◌, ◌⊎◌, IfOk, IfErr, false, true};
+    ghost use Rattle.sqlite.specs.Held.{state};
+    ghost use Rattle.mm_meta.specs.Look.{IsLooked};
+    ghost use Rattle.mm_core.specs.Sessions.{IsCreated, IsNotCreated};
+    ghost use Rattle.mm_core.specs.Parts.{held, has_failed};
+
+    /// Makes a new package on a connection whose database has no table, in one commit. On a fault the connection is
+    /// handed back, and each database that may be left has no table or stands for the new package.
+    pub fn create(alloc: Global, conn: Connection<S>) -> Result<Session<S>, (Connection<S>, Fault)>
+        requires { conn.in_transaction ≡ false }
+        ensures working { IfOk result (λ session. has_failed session ≡ false) }
+        ensures created { IfOk result (λ session. IsCreated (state S.Store conn) (state S.Store (held session))) }
+        ensures faults { IfErr result (λ e. (e.1.0 ≡ 90) ⊎ (e.1.0 ≡ 91)) }
+        ensures not_created { IfErr result (λ e. IsNotCreated (state S.Store conn) (state S.Store e.0)) }
+    {
+        let mut conn = conn;
+        match init(&mut conn) {
+            Ok(()) => Ok(Session {
+                conn,
+                alloc,
+                failed: false,
+            }),
+            Err(fault) => Err((conn, fault)),
+        }
+    }
+
+    /// Takes a connection whose profile row is that of a package, and writes nothing. Else the connection is handed
+    /// back with what `look` answers.
+    pub fn adopt(alloc: Global, conn: Connection<S>) -> Result<Session<S>, (Connection<S>, Open)>
+        requires { conn.in_transaction ≡ false }
+        ensures working { IfOk result (λ session. has_failed session ≡ false) }
+        ensures adopted { IfOk result (λ session. IsLooked (state S.Store conn) (state S.Store (held session)) (Ok tt)) }
+        ensures not_adopted { IfErr result (λ e. IsLooked (state S.Store conn) (state S.Store e.0) (Err e.1)) }
+    {
+        let mut conn = conn;
+        match look(&mut conn) {
+            Ok(()) => Ok(Session {
+                conn,
+                alloc,
+                failed: false,
+            }),
+            Err(open) => Err((conn, open)),
+        }
+    }
+
+    /// Hands the connection back, and makes no call of the store.
+    pub fn close(self) -> Connection<S>
+        ensures { result ≡ held self }
+    {
+        let Session {
+            conn,
+            alloc: _,
+            failed: _,
+        } = self;
+        conn
+    }
+}
+
+impl<S: Alter> Session<S> {
+    ghost use Rattle.std.specs.Prelude.{◌≡◌, ◌⊎◌, None, false, true};
+    ghost use Rattle.sqlite.specs.Held.{state};
+    ghost use Rattle.mm_run.specs.Answers.{is_fault};
+    ghost use Rattle.mm_run.specs.Applied.{OnFault};
+    ghost use Rattle.mm_run.specs.Served.{is_served};
+    ghost use Rattle.mm_core.specs.Applied.{IsApplied};
+    ghost use Rattle.mm_core.specs.Parts.{held, has_failed};
+
+    /// Applies one command at a moment, in one transaction whose commit is the last call of the store. `Ok` where it is
+    /// done for good, `Refused` where nothing changed. A fault, 90 or 91, ends the session: each later call is answered
+    /// 92 and makes no call of the store. A command that is not served yet is refused 10.
+    pub fn apply(&mut self, command: &Command, at: Moment) -> Answer
+        ensures ended { has_failed self.old ≡ true → (result ≡ Answer.Fault (record { 0 = 92 })) × (self.new ≡ self.old) }
+        ensures working { has_failed self.old ≡ false → OnFault result (λ fault. (fault ≡ 90) ⊎ (fault ≡ 91)) }
+        ensures fails { has_failed self.old ≡ false → has_failed self.new ≡ is_fault result }
+        ensures applied { has_failed self.old ≡ false → is_served command.now ≡ true → IsApplied command.now at (state S.Store (held self.old)) (state S.Store (held self.new)) result }
+        ensures unserved { has_failed self.old ≡ false → is_served command.now ≡ false → (result ≡ Answer.Refused (record { number = 10; piece = None })) × (self.new ≡ self.old) }
+    {
+        if self.failed {
+            return Answer::Fault(Fault(92));
+        }
+        if !is_served(command) {
+            return Answer::Refused(Refusal {
+                number: 10,
+                piece: None,
+            });
+        }
+        let answer = apply_once(&mut self.conn, command, at);
+        self.failed = matches!(answer, Answer::Fault(_));
+        answer
+    }
+}
+
+impl<S: Alter> Session<S> {
+    ghost use Rattle.std.specs.Prelude.{◌≡◌, ◌⊎◌, IfOk, IfErr, OnOk, true};
+    ghost use Rattle.std.specs.Io.KnownBytes.{IsAtEnd};
+    ghost use Rattle.sqlite.specs.Held.{state};
+    ghost use Rattle.sqlite.specs.State.{HasCleanDisk};
+    ghost use Rattle.mm_base.specs.Bounds.{millimetres};
+    ghost use Rattle.mm_base.specs.Streams.{inside};
+    ghost use Rattle.mm_base.specs.Streams as streams;
+    ghost use Rattle.mm_store.specs.Stands.{IsSettled};
+    ghost use Rattle.mm_run.specs.Told.{IsNear};
+    ghost use Rattle.mm_run.specs.Runs.{IsRunFault, OnRun, RanAll, RanSome, TellsFailureOf};
+    ghost use Rattle.mm_core.specs.Applied.{Stands};
+    ghost use Rattle.mm_core.specs.Parts.{held, has_failed};
+
+    /// Reads records to the end and answers each with a line, which is written and flushed before the next record is
+    /// read. Each command is applied at the moment that is handed in. At each exit every database that may be left is
+    /// that of a first part of the accepted commands, with every acknowledged one in it.
+    ///
+    /// A fault ends the run, with the line of the next record's number where it can be written: 90 want of memory, 91
+    /// the store, 92 where the session has to be opened again, 96 where the reader fails, and 97, without a line, where
+    /// the writer does.
+    pub fn run_list<R: Read, W: Write>(
+        &mut self,
+        reader: &mut Io<R>,
+        writer: &mut Io<W>,
+        at: Moment,
+    ) -> Result<Tally, RunFault>
+        ensures done { IfOk result (λ t. OnRun (HasCleanDisk (state S.Store (held self.new))) (λ p. IsSettled millimetres (state S.Store (held self.old)) p) (R.remaining (inside reader.old))
+            (λ p bytes. RanAll p at bytes (λ q. IsSettled millimetres (state S.Store (held self.new)) q) (λ db. (state S.Store (held self.new)).may_leave db) Stands (W.contents (inside writer.old)) (W.contents (inside writer.new)) t)) }
+        ensures end { OnOk result (IsAtEnd (R.remaining (inside reader.new))) }
+        ensures working { OnOk result (streams.has_failed writer.new ≡ streams.has_failed writer.old) }
+        ensures stopped { IfErr result (λ e. OnRun (HasCleanDisk (state S.Store (held self.new))) (λ p. IsSettled millimetres (state S.Store (held self.old)) p) (R.remaining (inside reader.old))
+            (λ p bytes. RanSome p at bytes (λ db. (state S.Store (held self.new)).may_leave db) Stands (W.contents (inside writer.old)) (W.contents (inside writer.new)) e)) }
+        ensures near { IfErr result (λ e. IsNear e.tally) }
+        ensures session { TellsFailureOf (has_failed self.old) (has_failed self.new) (self.new ≡ self.old) result }
+        ensures writer { IfErr result (λ e. e.fault.0 ≡ 97 → streams.has_failed writer.new ≡ true) }
+        ensures why { IfErr result (λ e. (e.fault.0 ≡ 97) ⊎ IsRunFault e.fault.0 (streams.has_failed reader.new)) }
+    {
+        let alloc = self.alloc;
+        run_list(alloc, self, reader, writer, at)
+    }
+}

@@ -63,7 +63,7 @@ fn answers_records_of_reference_systems(rt: HostRuntime) {
         let mut session = new_session(alloc).expect(&rt, "a session");
         let (text, tally) = answers(alloc, &mut session, records).expect(&rt, "answers");
         assert!(&rt; text.as_slice() == wanted);
-        assert_eq!(&rt; tally.written, tally.accepted + tally.refused);
+        assert!(&rt; tally.accepted.checked_add(tally.refused) == Some(tally.written));
     }
 }
 

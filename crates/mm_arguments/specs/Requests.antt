@@ -1,7 +1,13 @@
--- What a request is limited to.
-use Rattle.std.specs.Prelude.{◌≤◌, ⊤}
+-- What words ask for, and what a request is limited to.
+use Rattle.std.specs.Prelude.{◌≡◌, ◌≤◌, ⊤, ℕ, List, Option, Some, None, codes, pos}
+use Rattle.std.specs.Borrow.{Bor}
+use Rattle.std.specs.Str.Parse.{IsNumeral, digits_value, signed_digits_value, without_leading_plus, without_leading_sign}
+use Rattle.clap.specs.Words.{Row, Text, all_of, first_of, one_of, subcommand_of}
+use Rattle.clap.specs.declared.error.kind.ErrorKind.{ErrorKind}
+use Rattle.clap.specs.declared.error.kind.ErrorKind.TheVariants as kind
+use Rattle.mm_arguments.specs.CommandLine.{command_line}
 use Rattle.mm_arguments.specs.declared.requests.Request.{Request}
-use Rattle.mm_arguments.specs.declared.requests.Request.TheVariants.{Init, Run, Kit, Check, List, Serve}
+use Rattle.mm_arguments.specs.declared.requests.Request.TheVariants.{Init, Run, Kit, Check, List as Tables, Serve}
 
 -- a port is at least 1, and so many connections are served: 1 to 1,000,000
 abbrev pub IsWithin : Request → Type 0
@@ -9,5 +15,47 @@ IsWithin (Init file) = ⊤
 IsWithin (Run file at) = ⊤
 IsWithin (Kit file edition folder at) = ⊤
 IsWithin (Check file) = ⊤
-IsWithin (List file) = ⊤
+IsWithin (Tables file) = ⊤
 IsWithin (Serve file port count) = (1 ≤ port) × (1 ≤ count) × (count ≤ 1000000)
+
+-- ---- what the words of a subcommand give
+
+module _ (rows : List Row) where
+  -- the word of this argument
+  abbrev pub IsWord : Text → Bor Text → Type 0
+  IsWord id word = first_of id rows ≡ Some word.now
+
+  -- the number that stands behind an option
+  abbrev pub IsNumber : Text → ℕ → Type 0
+  IsNumber id number = (text : Text) × (one_of id rows ≡ Some text)
+      × IsNumeral 10 (without_leading_plus text) × (number ≡ digits_value 10 (without_leading_plus text))
+
+  -- the moment, where the words give one
+  abbrev pub IsMoment : Option ℕ → Type 0
+  IsMoment None = all_of (codes "at") rows ≡ None
+  IsMoment (Some at) = (text : Text) × (one_of (codes "at") rows ≡ Some text)
+      × IsNumeral 10 (without_leading_sign text) × (pos at ≡ signed_digits_value 10 text)
+
+-- the subcommand and its words ask for this
+abbrev pub AsksFor : Text → List Row → Request → Type 0
+AsksFor name rows (Init file) = (name ≡ codes "init") × IsWord rows (codes "FILE") file
+AsksFor name rows (Run file at) = (name ≡ codes "run") × IsWord rows (codes "FILE") file × IsMoment rows at
+AsksFor name rows (Kit file edition folder at) = (name ≡ codes "kit") × IsWord rows (codes "FILE") file
+    × IsWord rows (codes "EDITION") edition × IsWord rows (codes "FOLDER") folder × IsMoment rows at
+AsksFor name rows (Check file) = (name ≡ codes "check") × IsWord rows (codes "FILE") file
+AsksFor name rows (Tables file) = (name ≡ codes "list") × IsWord rows (codes "FILE") file
+AsksFor name rows (Serve file port count) = (name ≡ codes "serve") × IsWord rows (codes "FILE") file
+    × IsNumber rows (codes "port") port × IsNumber rows (codes "count") count
+
+-- the words ask for this: of what `clap` reads of them on the command line
+abbrev pub Asks : List Text → Request → Type 0
+Asks words request = (name : Text) × (rows : List Row) × (subcommand_of command_line words ≡ Some (name, rows)) × AsksFor name rows request
+
+-- ---- the exit status of an error
+
+-- 0 for help that was asked for, none for want of memory, 2 for wrong arguments
+abbrev pub status_of : ErrorKind → Option ℕ
+status_of kind.OutOfMemory = None
+status_of kind.DisplayHelp = Some 0
+status_of kind.DisplayVersion = Some 0
+status_of other = Some 2

@@ -1,15 +1,23 @@
 //! The subcommands and their arguments, with the texts that help prints.
 
+ghost use Rattle.std.specs.Prelude.{IfOk, codes};
+ghost use Rattle.mm_arguments.specs.CommandLine as line;
+ghost use Rattle.mm_arguments.specs.CommandLine.{IsArgument, IsCommand};
+
 use clap::{Arg, Command, value_parser};
 use std::alloc::{AllocError, Global};
 
-fn file_argument<'a>(alloc: Global) -> Arg<'a> {
+fn file_argument<'a>(alloc: Global) -> Arg<'a>
+    ensures { IsArgument line.file result }
+{
     Arg::new(alloc, "FILE").required(true).help(
         "The package's file; its journal FILE-wal stands beside it",
     )
 }
 
-fn at_argument<'a>(alloc: Global) -> Arg<'a> {
+fn at_argument<'a>(alloc: Global) -> Arg<'a>
+    ensures { IsArgument line.at result }
+{
     Arg::new(alloc, "at")
         .long("at")
         .value_name("MS")
@@ -19,19 +27,25 @@ fn at_argument<'a>(alloc: Global) -> Arg<'a> {
         .value_parser(value_parser!(i64).range(0..=253402300799999))
 }
 
-fn edition_argument<'a>(alloc: Global) -> Arg<'a> {
+fn edition_argument<'a>(alloc: Global) -> Arg<'a>
+    ensures { IsArgument (line.word (codes "EDITION")) result }
+{
     Arg::new(alloc, "EDITION")
         .required(true)
         .help("The name of the open edition that takes the kit's pieces")
 }
 
-fn folder_argument<'a>(alloc: Global) -> Arg<'a> {
+fn folder_argument<'a>(alloc: Global) -> Arg<'a>
+    ensures { IsArgument (line.word (codes "FOLDER")) result }
+{
     Arg::new(alloc, "FOLDER").required(true).help(
         "The folder of the kit: its list kit.csv and the files that the list names",
     )
 }
 
-fn port_argument<'a>(alloc: Global) -> Arg<'a> {
+fn port_argument<'a>(alloc: Global) -> Arg<'a>
+    ensures { IsArgument line.port result }
+{
     Arg::new(alloc, "port")
         .long("port")
         .value_name("P")
@@ -40,7 +54,9 @@ fn port_argument<'a>(alloc: Global) -> Arg<'a> {
         .value_parser(value_parser!(u16).range(1..=65535))
 }
 
-fn count_argument<'a>(alloc: Global) -> Arg<'a> {
+fn count_argument<'a>(alloc: Global) -> Arg<'a>
+    ensures { IsArgument line.count result }
+{
     Arg::new(alloc, "count")
         .long("count")
         .value_name("N")
@@ -49,13 +65,17 @@ fn count_argument<'a>(alloc: Global) -> Arg<'a> {
         .value_parser(value_parser!(u32).range(1..=1000000))
 }
 
-fn init_command<'a>(alloc: Global) -> Result<Command<'a>, AllocError> {
+fn init_command<'a>(alloc: Global) -> Result<Command<'a>, AllocError>
+    ensures { IfOk result (IsCommand line.init) }
+{
     Command::new(alloc, "init")
         .about("Makes a new package with no table, in a file that is missing or empty")
         .arg(file_argument(alloc))
 }
 
-fn run_command<'a>(alloc: Global) -> Result<Command<'a>, AllocError> {
+fn run_command<'a>(alloc: Global) -> Result<Command<'a>, AllocError>
+    ensures { IfOk result (IsCommand line.run) }
+{
     Command::new(alloc, "run")
         .about("Applies the CSV records of standard input, and answers each with a line")
         .after_help(
@@ -65,7 +85,9 @@ fn run_command<'a>(alloc: Global) -> Result<Command<'a>, AllocError> {
         .arg(at_argument(alloc))
 }
 
-fn kit_command<'a>(alloc: Global) -> Result<Command<'a>, AllocError> {
+fn kit_command<'a>(alloc: Global) -> Result<Command<'a>, AllocError>
+    ensures { IfOk result (IsCommand line.kit) }
+{
     Command::new(alloc, "kit")
         .about(
             "Stages the pieces of a kit in an open edition; an import that was stopped is done again",
@@ -76,19 +98,25 @@ fn kit_command<'a>(alloc: Global) -> Result<Command<'a>, AllocError> {
         .arg(at_argument(alloc))
 }
 
-fn check_command<'a>(alloc: Global) -> Result<Command<'a>, AllocError> {
+fn check_command<'a>(alloc: Global) -> Result<Command<'a>, AllocError>
+    ensures { IfOk result (IsCommand line.check) }
+{
     Command::new(alloc, "check")
         .about("Checks the whole package against its rules, and changes nothing")
         .arg(file_argument(alloc))
 }
 
-fn list_command<'a>(alloc: Global) -> Result<Command<'a>, AllocError> {
+fn list_command<'a>(alloc: Global) -> Result<Command<'a>, AllocError>
+    ensures { IfOk result (IsCommand line.list) }
+{
     Command::new(alloc, "list")
         .about("Lists the tables and editions of the package")
         .arg(file_argument(alloc))
 }
 
-fn serve_command<'a>(alloc: Global) -> Result<Command<'a>, AllocError> {
+fn serve_command<'a>(alloc: Global) -> Result<Command<'a>, AllocError>
+    ensures { IfOk result (IsCommand line.serve) }
+{
     Command::new(alloc, "serve")
         .about(
             "Serves tiles, media and lists of the package over HTTP, one connection after another",
@@ -99,7 +127,9 @@ fn serve_command<'a>(alloc: Global) -> Result<Command<'a>, AllocError> {
 }
 
 /// The whole command line.
-pub(crate) fn command<'a>(alloc: Global) -> Result<Command<'a>, AllocError> {
+pub(crate) fn command<'a>(alloc: Global) -> Result<Command<'a>, AllocError>
+    ensures { IfOk result (IsCommand line.command_line) }
+{
     Command::new(alloc, "mmpkg")
         .about(
             "Edits offline map packages: GeoPackage tables with coordinates in whole millimetres",

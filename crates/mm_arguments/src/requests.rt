@@ -1,8 +1,10 @@
 //! What the words ask for.
 
-ghost use Rattle.std.specs.Prelude.{◌≡◌, ◌↔◌, ◌⊎◌, IfOk, IfSome, IsNone};
-ghost use Rattle.clap.specs.Values.{kind_of};
-ghost use Rattle.mm_arguments.specs.Requests.{IsWithin};
+ghost use Rattle.std.specs.Prelude.{◌≡◌, ◌⊎◌, IfOk, IfSome, codes, map};
+ghost use Rattle.clap.specs.Words.{FailsBy, fault_of, found_of, kind_of, rows_of};
+ghost use Rattle.mm_arguments.specs.CommandLine.{command_line};
+ghost use Rattle.mm_arguments.specs.Requests.{Asks, AsksFor, IsMoment, IsWithin, IsWord};
+ghost use Rattle.mm_arguments.specs.Requests as spec;
 
 use crate::commands::command;
 use clap::error::ErrorKind;
@@ -40,24 +42,42 @@ pub enum Request<'a> {
     },
 }
 
-fn moment_of(matches: &ArgMatches) -> Option<Moment> {
-    Moment::new(matches.get_one::<i64>("at")?)
+// `clap` has tested the range, for the message that it prints. The clause rests on the test of `Moment::new`.
+fn moment_of(matches: &ArgMatches) -> Option<Option<Moment>>
+    ensures { IfSome result (IsMoment (rows_of (found_of matches.now))) }
+{
+    if !matches.contains_id("at") {
+        return Some(None);
+    }
+    let moment = Moment::new(matches.get_one::<i64>("at")?)?;
+    Some(Some(moment))
+}
+
+/// The word of an argument.
+fn word_of<'a>(matches: &ArgMatches<'a>, id: &str) -> Option<&'a str>
+    ensures { IfSome result (IsWord (rows_of (found_of matches.now)) id.now) }
+{
+    matches.get_str(id)
 }
 
 fn kit_of<'a>(file: &'a str, matches: &ArgMatches<'a>) -> Option<Request<'a>>
-    ensures { IfSome result IsWithin }
+    requires { IsWord (rows_of (found_of matches.now)) (codes "FILE") file }
+    ensures within { IfSome result IsWithin }
+    ensures asks { IfSome result (AsksFor (codes "kit") (rows_of (found_of matches.now))) }
 {
     Some(Request::Kit {
         file,
-        edition: matches.get_str("EDITION")?,
-        folder: matches.get_str("FOLDER")?,
-        at: moment_of(matches),
+        edition: word_of(matches, "EDITION")?,
+        folder: word_of(matches, "FOLDER")?,
+        at: moment_of(matches)?,
     })
 }
 
 // `clap` has tested the ranges, for the message that it prints. The clause rests on this test.
 fn serve_of<'a>(file: &'a str, matches: &ArgMatches<'a>) -> Option<Request<'a>>
-    ensures { IfSome result IsWithin }
+    requires { IsWord (rows_of (found_of matches.now)) (codes "FILE") file }
+    ensures within { IfSome result IsWithin }
+    ensures asks { IfSome result (AsksFor (codes "serve") (rows_of (found_of matches.now))) }
 {
     let port = matches.get_one::<u16>("port")?;
     let count = matches.get_one::<u32>("count")?;
@@ -68,14 +88,15 @@ fn serve_of<'a>(file: &'a str, matches: &ArgMatches<'a>) -> Option<Request<'a>>
 }
 
 fn request_of<'a>(name: &str, matches: &ArgMatches<'a>) -> Option<Request<'a>>
-    ensures { IfSome result IsWithin }
+    ensures within { IfSome result IsWithin }
+    ensures asks { IfSome result (AsksFor name.now (rows_of (found_of matches.now))) }
 {
-    let file = matches.get_str("FILE")?;
+    let file = word_of(matches, "FILE")?;
     match name {
         "init" => Some(Request::Init { file }),
         "run" => Some(Request::Run {
             file,
-            at: moment_of(matches),
+            at: moment_of(matches)?,
         }),
         "kit" => kit_of(file, matches),
         "check" => Some(Request::Check { file }),
@@ -85,14 +106,18 @@ fn request_of<'a>(name: &str, matches: &ArgMatches<'a>) -> Option<Request<'a>>
     }
 }
 
-/// What the words ask for. The first word is the program's name, as the usage line shows it.
+/// What the words ask for, as `clap` reads them on the command line that is defined. The first word is the program's name,
+/// as the usage line shows it.
 ///
 /// # Errors
 ///
 /// Help that was asked for, wrong arguments, and want of memory: `status_of` tells them apart, and the error prints
-/// itself, with a line end behind it.
+/// itself, with a line end behind it. But for want of memory it comes only where the command line has a fault on the
+/// words, and is of its kind.
 pub fn read_arguments<'a>(alloc: Global, words: &'a [&'a str]) -> Result<Request<'a>, Error>
-    ensures { IfOk result IsWithin }
+    ensures within { IfOk result IsWithin }
+    ensures asks { IfOk result (Asks (map (λ word. word.now) words.entry.now)) }
+    ensures fails { FailsBy (fault_of command_line (map (λ word. word.now) words.entry.now)) result }
 {
     let matches = command(alloc)?.try_get_matches_from(words)?;
     let asked = match matches.subcommand() {
@@ -108,8 +133,7 @@ pub fn read_arguments<'a>(alloc: Global, words: &'a [&'a str]) -> Result<Request
 /// The exit status of an error: 0 for help that was asked for, 2 for wrong arguments, and none for want of memory,
 /// which is a fault and no matter of the words.
 pub fn status_of(error: &Error) -> Option<u8>
-    ensures memory { IsNone result ↔ (kind_of error.now ≡ ErrorKind.OutOfMemory) }
-    ensures shown { kind_of error.now ≡ ErrorKind.DisplayHelp → result ≡ Some 0 }
+    ensures told { result ≡ spec.status_of (kind_of error.now) }
     ensures status { IfSome result (λ status. (status ≡ 0) ⊎ (status ≡ 2)) }
 {
     if matches!(error.kind(), ErrorKind::OutOfMemory) {

@@ -1,0 +1,86 @@
+-- The command line, as `clap` reads one: the subcommands, and what each takes.
+use Rattle.std.specs.Prelude.{◌≡◌, Some, [], codes, pos, true, false}
+use Rattle.clap.specs.Simple.{new_shape}
+use Rattle.clap.specs.Words.{App, Rule, Text, app_of, new_app, new_rule, rule_of, with_rule, with_subcommand}
+use Rattle.clap.specs.declared.builder.arg.Arg.{Arg}
+use Rattle.clap.specs.declared.builder.command.Command.{Command}
+use Rattle.clap.specs.declared.builder.command.Command.TheViews.{out-Command as fields_of}
+use Rattle.clap.specs.declared.builder.value_parser.ValueParser.TheVariants.{Signed}
+
+-- a word that has to stand
+abbrev pub word : Text → Rule
+word id = record (new_rule id) { required = true }
+
+abbrev pub file : Rule
+file = word (codes "FILE")
+
+-- --at MS, of the years up to 9999
+abbrev pub at : Rule
+at = record (new_rule (codes "at")) {
+  long = Some (codes "at");
+  value_names = 1;
+  parser = Some (Signed (pos 0) (pos 253402300799999));
+}
+
+abbrev pub port : Rule
+port = record (new_rule (codes "port")) {
+  long = Some (codes "port");
+  value_names = 1;
+  required = true;
+  parser = Some (Signed (pos 1) (pos 65535));
+}
+
+abbrev pub count : Rule
+count = record (new_rule (codes "count")) {
+  long = Some (codes "count");
+  value_names = 1;
+  required = true;
+  parser = Some (Signed (pos 1) (pos 1000000));
+}
+
+-- ---- the subcommands
+
+abbrev pub with_file : Text → App
+with_file name = with_rule (new_app name) file
+
+abbrev pub init : App
+init = with_file (codes "init")
+
+abbrev pub run : App
+run = with_rule (with_file (codes "run")) at
+
+abbrev pub kit : App
+kit = with_rule (with_rule (with_rule (with_file (codes "kit")) (word (codes "EDITION"))) (word (codes "FOLDER"))) at
+
+abbrev pub check : App
+check = with_file (codes "check")
+
+abbrev pub list : App
+list = with_file (codes "list")
+
+abbrev pub serve : App
+serve = with_rule (with_rule (with_file (codes "serve")) port) count
+
+-- ---- the whole
+
+-- without words it shows help, and a subcommand has to stand
+abbrev pub start : App
+start = record {
+  top = record (new_shape (codes "mmpkg")) { subcommand_required = true; arg_required_else_help = true };
+  subs = [];
+}
+
+abbrev pub command_line : App
+command_line =
+    with_subcommand (with_subcommand (with_subcommand (with_subcommand (with_subcommand (with_subcommand start
+    init.top) run.top) kit.top) check.top) list.top) serve.top
+
+-- ---- the values that are made of it
+
+-- the argument is this one
+abbrev pub IsArgument : Rule → Arg → Type 0
+IsArgument rule a = (rule_of a ≡ rule) × (a.global ≡ false)
+
+-- the command is this one
+abbrev pub IsCommand : App → Command → Type 0
+IsCommand app c = (app_of c ≡ app) × ((fields_of c).has_globals ≡ false)

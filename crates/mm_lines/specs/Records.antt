@@ -1,5 +1,5 @@
 -- The records of some bytes, as `csv` reads them.
-use Rattle.std.specs.Prelude.{◌≡◌, ◌⊎◌, ℕ, List, Bool, true, false, Option, Some, None}
+use Rattle.std.specs.Prelude.{◌≡◌, ◌⊎◌, ◌+◌, ◌≤◌, ℕ, List, Bool, true, false, Option, Some, None, length, ⊤}
 use Rattle.csv.specs.Reading.{ReadRecord, Ready, default_config, has_failed, records, strip_bom}
 use Rattle.csv.specs.Records.{Row, fields_of}
 use Rattle.csv.specs.declared.reader.Reader.{Reader}
@@ -29,3 +29,9 @@ NextRow remaining old new (Some row) = ReadRecord remaining old new true (fields
 -- why bytes weren't read: 90 want of memory, or 96 the reader, which tells it
 abbrev pub IsReadFault : ℕ → Bool → Type 0
 IsReadFault fault failed = (fault ≡ 90) ⊎ ((fault ≡ 96) × (failed ≡ true))
+
+-- at least so many of the known bytes were read
+abbrev pub ReadAtLeast : ℕ → Option (List ℕ) → Option (List ℕ) → Type 0
+ReadAtLeast n None new = ⊤
+ReadAtLeast n (Some xs) None = ⊥
+ReadAtLeast n (Some xs) (Some ys) = n + length ys ≤ length xs

@@ -1,9 +1,9 @@
 //! The end of the input.
 
-ghost use Rattle.std.specs.Prelude.{OnOk, IfErr};
+ghost use Rattle.std.specs.Prelude.{◌≡◌, ◌-◌, ◌^◌, OnOk, IfErr};
 ghost use Rattle.std.specs.Io.KnownBytes.{IsAtEnd};
 ghost use Rattle.mm_base.specs.Streams.{has_failed, inside};
-ghost use Rattle.mm_lines.specs.Records.{IsReadFault};
+ghost use Rattle.mm_lines.specs.Records.{IsReadFault, ReadAtLeast};
 
 use mm_base::answers::Fault;
 use mm_base::streams::Io;
@@ -13,13 +13,14 @@ use std::io::Read;
 ///
 /// # Errors
 ///
-/// 96 where the reader fails, and 90 where it gives 2^64 - 1 times without an end.
+/// 96 where the reader fails, and 90 where it gives 2^64 - 1 times without an end, so at least as many bytes.
 pub fn drain<R: Read>(reader: &mut Io<R>) -> Result<(), Fault>
     ensures end { OnOk result (IsAtEnd (R.remaining (inside reader.new))) }
     ensures fault { IfErr result (λ f. IsReadFault f.0 (has_failed reader.new)) }
+    ensures endless { IfErr result (λ f. f.0 ≡ 90 → ReadAtLeast (2 ^ 64 - 1) (R.remaining (inside reader.old)) (R.remaining (inside reader.new))) }
 {
     let mut one = [0u8];
-    for _ in 0..u64::MAX {
+    for times in 0..u64::MAX {
         match reader.read(&mut one) {
             Ok(0) => return Ok(()),
             Ok(_) => {}

@@ -3,6 +3,7 @@
 
 use crate::{add_srs, create_in_memory, init, look};
 use mm_base::answers::{Fault, Open, Outcome, Refusal};
+use mm_store::statements::{first_pair, first_text};
 use sqlite::types::ValueRef;
 use sqlite::{Connection, Error, MemStore, Row};
 use std::alloc::Global;
@@ -68,6 +69,25 @@ fn added(conn: &mut Connection<MemStore>, id: i64) -> Option<Result<Outcome, Fau
     );
     tx.commit().ok()?;
     Some(outcome)
+}
+
+/// The first text of one query and the first two numbers of another, where no transaction is open.
+fn shown(conn: &mut Connection<MemStore>) -> Result<(Option<String>, Option<(i64, i64)>), Fault> {
+    if !conn.is_autocommit() {
+        return Err(Fault(91));
+    }
+    let mut tx = conn.transaction();
+    let text = first_text(
+        &mut tx,
+        "SELECT srs_name FROM gpkg_spatial_ref_sys ORDER BY srs_id DESC",
+        &[],
+    )?;
+    let pair = first_pair(
+        &mut tx,
+        "SELECT srs_id, organization_coordsys_id + 1 FROM gpkg_spatial_ref_sys ORDER BY srs_id",
+        &[],
+    )?;
+    Ok((text, pair))
 }
 
 #[test]
@@ -182,5 +202,17 @@ fn a_system_is_added_once(rt: HostRuntime) -> Result<(), Fail> {
         text.as_str(),
         "ETRS89 / UTM zone 32N|25832|EPSG|25832|projected metres||\n"
     );
+    Ok(())
+}
+
+#[test]
+fn the_first_row_is_shown(rt: HostRuntime) -> Result<(), Fail> {
+    let mut conn = create_in_memory(rt.alloc())?;
+    let (text, pair) = shown(&mut conn)?;
+    match &text {
+        Some(text) => assert_eq!(rt; text.as_str(), "WGS 84 geographic"),
+        None => assert!(rt; false),
+    }
+    assert_eq!(rt; pair, Some((-1, 0)));
     Ok(())
 }

@@ -60,6 +60,8 @@ pub fn exists<S: Alter>(
 ) -> Result<bool, Fault>
     ensures same_reference { tx.new.conn.ghost_name ≡ tx.old.conn.ghost_name }
     ensures asked { IsAsked (state S.Store tx.old.conn.now) (state S.Store tx.new.conn.now) sql.now (bound params.now) (λ it first. it ≡ is_some first) result }
+    ensures failed { HasCleanDisk (state S.Store tx.new.conn.now) → IfErr result (λ fault. (e : Error) × (fault ≡ told_as e)
+        × (FailsToQuery sql.now (bound params.now) (state S.Store tx.old.conn.now) (state S.Store tx.new.conn.now) e ⊎ IsTooLate sql.now (bound params.now) (state S.Store tx.old.conn.now) (state S.Store tx.new.conn.now) e)) }
 {
     match first(tx, sql, params) {
         Ok(row) => Ok(row.is_some()),

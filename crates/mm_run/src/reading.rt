@@ -8,8 +8,8 @@ ghost use Rattle.mm_run.specs.Served as served;
 use csv::{ByteRecord, StringRecord};
 use mm_base::answers::ReadFault;
 use mm_base::commands::Command;
-use mm_base::records::read_command;
 use mm_lines::text_fields;
+use mm_records::read_command;
 use std::alloc::Global;
 
 /// Whether a command is served so far.

@@ -1,0 +1,4 @@
+pub mod Reasons
+pub mod Refusing
+pub mod Registered
+pub mod Touching

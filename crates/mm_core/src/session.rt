@@ -110,7 +110,7 @@ impl<S: Alter> Session<S> {
                 piece: None,
             });
         }
-        let answer = apply_once(&mut self.conn, command, at);
+        let answer = apply_once(self.alloc, &mut self.conn, command, at);
         self.failed = matches!(answer, Answer::Fault(_));
         answer
     }

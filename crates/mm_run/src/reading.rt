@@ -16,7 +16,13 @@ use std::alloc::Global;
 pub fn is_served(command: &Command) -> bool
     ensures { result ≡ served.is_served command.now }
 {
-    matches!(command, Command::Srs { .. })
+    matches!(
+        command,
+        Command::Srs { .. }
+            | Command::Pyramid { .. }
+            | Command::Table { .. }
+            | Command::Drop { .. }
+    )
 }
 
 /// The command that a record spells. One with a field that isn't text is refused 10, and so is

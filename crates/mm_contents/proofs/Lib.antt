@@ -2,3 +2,4 @@ pub mod Reasons
 pub mod Refusing
 pub mod Registered
 pub mod Touching
+pub mod Looking

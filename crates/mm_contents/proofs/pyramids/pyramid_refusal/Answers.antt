@@ -6,19 +6,17 @@ use Rattle.mm_contents.proofs.pyramids.pyramid_refusal.Goals as goal
 
 pub returns-in-Ok-false-clause-look : goal.returns-in-Ok-false-clause-look
 returns-in-Ok-false-clause-look g c profile =
-    let a = c.args in
     look_as profile _ _ _ _ ((rw (to_z-of_z c.ranges.srs) at c.in-Ok-false.ensures.look) profile)
-    (λ p says step. pyramid_21 p a.table.now a.identifier.now a.srs a.min_x a.min_y a.max_x a.max_y step (sym says ∙ c.in-Ok-false.field-0-test))
+    (λ p says step. pyramid_21 p c.args.table.now c.args.identifier.now c.args.srs c.args.min_x c.args.min_y c.args.max_x c.args.max_y step (sym says ∙ c.in-Ok-false.field-0-test))
 
 pub returns-in-Err-clause-look : goal.returns-in-Err-clause-look
 returns-in-Err-clause-look g c profile = look_failed profile _ _ _ (c.in-Err.ensures.look profile)
 
 pub returns-then-is_geographic-clause-look : goal.returns-then-is_geographic-clause-look
 returns-then-is_geographic-clause-look g c profile =
-    let a = c.args in
     let geographic = sym (rw (to_z-of_z c.ranges.srs) at c.is_geographic.ensures) ∙ c.if-is_geographic.true in
     look_as profile _ _ _ _ ((rw (to_z-of_z c.ranges.srs) at c.in-Ok-true.ensures.look) profile)
-    (λ p says step. pyramid_22 p a.table.now a.identifier.now a.srs a.min_x a.min_y a.max_x a.max_y step (sym says ∙ c.in-Ok-true.field-0-test) geographic)
+    (λ p says step. pyramid_22 p c.args.table.now c.args.identifier.now c.args.srs c.args.min_x c.args.min_y c.args.max_x c.args.max_y step (sym says ∙ c.in-Ok-true.field-0-test) geographic)
 
 pub returns-in-Ok-true-is_taken-clause-look : goal.returns-in-Ok-true-is_taken-clause-look
 returns-in-Ok-true-is_taken-clause-look g c profile =

@@ -67,6 +67,7 @@ fn run_command<'a>(alloc: Global) -> Result<Command<'a>, AllocError> {
 
 fn kit_command<'a>(alloc: Global) -> Result<Command<'a>, AllocError> {
     Command::new(alloc, "kit")
+        .hide(true)
         .about(
             "Stages the pieces of a kit in an open edition; an import that was stopped is done again",
         )
@@ -78,18 +79,21 @@ fn kit_command<'a>(alloc: Global) -> Result<Command<'a>, AllocError> {
 
 fn check_command<'a>(alloc: Global) -> Result<Command<'a>, AllocError> {
     Command::new(alloc, "check")
+        .hide(true)
         .about("Checks the whole package against its rules, and changes nothing")
         .arg(file_argument(alloc))
 }
 
 fn list_command<'a>(alloc: Global) -> Result<Command<'a>, AllocError> {
     Command::new(alloc, "list")
+        .hide(true)
         .about("Lists the tables and editions of the package")
         .arg(file_argument(alloc))
 }
 
 fn serve_command<'a>(alloc: Global) -> Result<Command<'a>, AllocError> {
     Command::new(alloc, "serve")
+        .hide(true)
         .about(
             "Serves tiles, media and lists of the package over HTTP, one connection after another",
         )

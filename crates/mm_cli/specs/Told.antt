@@ -1,5 +1,5 @@
 -- What is printed, and the exit status that goes with it.
-use Rattle.std.specs.Prelude.{◌≡◌, ℕ, List, ◌++◌, Option, Bool, false, true, codes, decimal}
+use Rattle.std.specs.Prelude.{◌≡◌, ℕ, List, ◌++◌, Option, Bool, false, true, Result, Ok, Err, codes, decimal}
 use Rattle.mm_lines.specs.Sending.{Sends}
 use Rattle.mm_lines.specs.declared.sending.Sent.{Sent}
 use Rattle.mm_lines.specs.declared.sending.Sent.TheVariants as sent
@@ -33,3 +33,12 @@ stop_status stops.NotEmpty = 4
 stop_status (stops.NotPackage number) = 4
 stop_status (stops.Rule rule) = 4
 stop_status (stops.Fault fault) = 3
+
+-- ---- what making a package came to
+abbrev pub init_text : Result (Unit {0}) Stop → List ℕ
+init_text (Ok done) = codes "init ok\n"
+init_text (Err why) = stop_text why
+
+abbrev pub init_status : Result (Unit {0}) Stop → ℕ
+init_status (Ok done) = 0
+init_status (Err why) = stop_status why

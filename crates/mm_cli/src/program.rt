@@ -8,7 +8,7 @@ use crate::clock::{Now, time_now};
 use crate::files::{open_new, open_old};
 use crate::package::{close_files, make_package, run_package};
 use crate::stop::Stop;
-use crate::tell::{DONE, FAULT, REFUSED, USAGE, tell_bytes, tell_stop, tell_text};
+use crate::tell::{FAULT, REFUSED, USAGE, tell_bytes, tell_init, tell_stop, tell_text};
 use mm_arguments::{Request, read_arguments, status_of};
 use mm_base::answers::Fault;
 use mm_base::moments::Moment;
@@ -57,10 +57,7 @@ fn init_told<W: Write>(rt: &HostRuntime, path: &str, output: &mut Io<W>) -> u8
     ensures status { result ≤ 4 }
     ensures unprinted { TellsFailure (has_failed output.old) (has_failed output.new) result }
 {
-    match init_file(rt, path, Wary) {
-        Ok(()) => tell_bytes(output, b"init ok\n", DONE),
-        Err(why) => tell_stop(output, why),
-    }
+    tell_init(output, init_file(rt, path, Wary))
 }
 
 fn run_told<R: Read, W: Write>(

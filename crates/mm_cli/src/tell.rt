@@ -2,7 +2,7 @@
 
 ghost use Rattle.std.specs.Prelude.{◌≡◌, ◌⊎◌, ◌++◌, ◌+◌, ◌≤◌, true, codes, decimal, length};
 ghost use Rattle.mm_base.specs.Streams.{has_failed, inside};
-ghost use Rattle.mm_cli.specs.Told.{IsTold, stop_status, stop_text};
+ghost use Rattle.mm_cli.specs.Told.{IsTold, init_status, init_text, stop_status, stop_text};
 
 use crate::stop::Stop;
 use arrayvec::ArrayVec;
@@ -90,5 +90,15 @@ pub fn tell_stop<W: Write>(output: &mut Io<W>, why: Stop) -> u8
             let line = numbered_line(b"fault ", number);
             tell_bytes(output, line.as_slice(), FAULT)
         }
+    }
+}
+
+/// Prints what making a package came to.
+pub fn tell_init<W: Write>(output: &mut Io<W>, outcome: Result<(), Stop>) -> u8
+    ensures { IsTold (W.contents (inside output.old)) (W.contents (inside output.new)) (has_failed output.old) (has_failed output.new) (init_text outcome) (init_status outcome) result }
+{
+    match outcome {
+        Ok(()) => tell_bytes(output, b"init ok\n", DONE),
+        Err(why) => tell_stop(output, why),
     }
 }

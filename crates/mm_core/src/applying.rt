@@ -13,6 +13,7 @@ use mm_base::answers::{Answer, Fault, Outcome};
 use mm_base::commands::Command;
 use mm_base::moments::{Moment, stamp};
 use mm_contents::{add_pyramid, add_table, drop_table};
+use mm_matrices::add_matrix;
 use mm_meta::add_srs;
 use mm_store::faults::fault_of;
 use sqlite::{Alter, Connection, Transaction};
@@ -66,6 +67,11 @@ fn run_command<S: Alter>(
             *step,
             at,
         ),
+        Command::Matrix {
+            table,
+            zoom,
+            matrix,
+        } => add_matrix(tx, table.as_str(), *zoom, matrix, at),
         Command::Table {
             table,
             kind,

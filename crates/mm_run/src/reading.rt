@@ -20,6 +20,7 @@ pub fn is_served(command: &Command) -> bool
         command,
         Command::Srs { .. }
             | Command::Pyramid { .. }
+            | Command::Matrix { .. }
             | Command::Table { .. }
             | Command::Drop { .. }
     )

@@ -3,8 +3,8 @@
 use mm_base::answers::{Answer, Fault};
 use mm_base::commands::Command;
 use mm_base::moments::Moment;
-use mm_base::records::read_command;
 use mm_core::Session;
+use mm_records::read_command;
 use sqlite::{Alter, Connection, FileStore, Files, Options};
 use sqlite_disk::{Disk, Fuse, Memory};
 use std::alloc::Global;

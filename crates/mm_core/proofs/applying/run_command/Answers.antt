@@ -22,6 +22,11 @@ returns-in-Pyramid-clause-tried g c moment stamped =
     let lent = simp to_z-of_z at (rw (c.as_str-in-Pyramid.ensures.text, c.as_str-in-Pyramid-2.ensures.text) at (c.add_pyramid.ensures.lent millimetres moment stamped)) in
     rw c.in-Pyramid.is (lent_tried _ _ _ _ _ _ lent)
 
+pub returns-in-Matrix-clause-tried : goal.returns-in-Matrix-clause-tried
+returns-in-Matrix-clause-tried g c moment stamped =
+    let lent = rw c.as_str-in-Matrix.ensures.text at (c.add_matrix.ensures.lent millimetres moment stamped) in
+    rw c.in-Matrix.is (lent_tried _ _ _ _ _ _ lent)
+
 pub returns-in-Table-clause-tried : goal.returns-in-Table-clause-tried
 returns-in-Table-clause-tried g c moment stamped =
     let lent = rw (c.as_str-in-Table.ensures.text, c.as_str-in-Table-2.ensures.text) at (c.add_table.ensures.lent millimetres moment stamped) in

@@ -89,6 +89,7 @@ fn kit_command<'a>(alloc: Global) -> Result<Command<'a>, AllocError>
     ensures { IfOk result (IsCommand line.kit) }
 {
     Command::new(alloc, "kit")
+        .hide(true)
         .about(
             "Stages the pieces of a kit in an open edition; an import that was stopped is done again",
         )
@@ -102,6 +103,7 @@ fn check_command<'a>(alloc: Global) -> Result<Command<'a>, AllocError>
     ensures { IfOk result (IsCommand line.check) }
 {
     Command::new(alloc, "check")
+        .hide(true)
         .about("Checks the whole package against its rules, and changes nothing")
         .arg(file_argument(alloc))
 }
@@ -110,6 +112,7 @@ fn list_command<'a>(alloc: Global) -> Result<Command<'a>, AllocError>
     ensures { IfOk result (IsCommand line.list) }
 {
     Command::new(alloc, "list")
+        .hide(true)
         .about("Lists the tables and editions of the package")
         .arg(file_argument(alloc))
 }
@@ -118,6 +121,7 @@ fn serve_command<'a>(alloc: Global) -> Result<Command<'a>, AllocError>
     ensures { IfOk result (IsCommand line.serve) }
 {
     Command::new(alloc, "serve")
+        .hide(true)
         .about(
             "Serves tiles, media and lists of the package over HTTP, one connection after another",
         )

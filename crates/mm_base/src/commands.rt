@@ -1,9 +1,10 @@
 //! Commands and pieces as data.
 
+use crate::bytes::{MediaBytes, TileBytes};
+use crate::content_types::ContentType;
+use crate::identifiers::Identifier;
 use crate::names::Name;
-use crate::texts::{
-    ContentType, Definition, Identifier, MediaBytes, Remark, SystemName, TileBytes,
-};
+use crate::texts::{Definition, Remark, SystemName};
 
 /// How the pixel sizes of the zooms of a pyramid go.
 #[derive(Clone, Copy, Debug, PartialEq, Eq)]

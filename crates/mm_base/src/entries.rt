@@ -1,9 +1,12 @@
 //! What reads of a package answer.
 
+use crate::bytes::MediaBytes;
 use crate::commands::Kind;
+use crate::content_types::ContentType;
 use crate::extents::Extent;
+use crate::identifiers::Identifier;
 use crate::names::Name;
-use crate::texts::{ContentType, Identifier, MediaBytes, Remark, Text};
+use crate::texts::{Remark, Text};
 
 /// An attribute row.
 #[derive(Drop)]

@@ -9,7 +9,7 @@ ghost use Rattle.mm_base.specs.Conditions.{grid};
 use crate::commands::Matrix;
 
 /// The farthest coordinate, in either direction, in millimetres.
-pub(crate) const FARTHEST: i64 = 100_000_000_000;
+pub const FARTHEST: i64 = 100_000_000_000;
 
 /// A bounding box that is not empty.
 #[derive(Clone, Copy, Debug, PartialEq, Eq)]

@@ -1,5 +1,6 @@
 -- One command in one transaction: how its ends are reached.
 use Rattle.std.proofs.Common.{◌≡◌, ◌⊎◌, inl, inr, ℕ, true, false, Option, Some, None, Result, Ok, Err, IfErr, IsTrue, refl, sym, ap, subst, ◌∙◌, arith}
+use Rattle.std.proofs.Math.Nat.{le_refl}
 use Rattle.sqlite.specs.Tree.{Trees}
 use Rattle.sqlite.specs.State.{State, HasCleanDisk, Survives, Shows, IsRolledBack}
 use Rattle.sqlite.specs.Held.{Held, state}
@@ -74,6 +75,13 @@ module _ {S : Type 0} (g : Ghosts S) (was now : Held S) (begun : now ≡ record 
       survives = survives_weaker old last (λ _. ⊥) (MayCommit old c moment) (λ _ db none. absurd none) quiet;
       answers = λ clean p it db may. inl (left_before clean p it db may);
     }
+
+-- a command that is given up before its transaction begins
+pub not_begun : (before : State) (c : Command) (moment : ℕ) (fault : Fault) → IsApplied c moment before before (answer.Fault fault)
+not_begun before c moment fault = record {
+  survives = record { clean = le_refl _; shield = λ s. s; counts = le_refl _; limit = refl; closes = λ clean is_open. inl is_open; crash = λ clean db may. inl may };
+  answers = λ clean p it db may. inl (it.settled.left db may);
+}
 
 -- a fault of the store is 90 or 91
 pub store_fault : (result : Result Outcome Fault) (fault : Fault) → result ≡ Err fault → IfErr result IsStoreFault → (fault.0 ≡ 90) ⊎ (fault.0 ≡ 91)

@@ -3,6 +3,7 @@
 ghost use Rattle.std.specs.Prelude.{◌≡◌, ◌⊎◌, ℕ, false, true};
 ghost use Rattle.sqlite.specs.Held.{state};
 ghost use Rattle.mm_base.specs.Bounds.{millimetres};
+ghost use Rattle.mm_base.specs.Stamp.{IsStamp};
 ghost use Rattle.mm_store.specs.Shapes.{IsTried};
 ghost use Rattle.mm_run.specs.Applied.{OnFault};
 ghost use Rattle.mm_run.specs.Served.{is_served};
@@ -10,16 +11,23 @@ ghost use Rattle.mm_core.specs.Applied.{IsApplied};
 
 use mm_base::answers::{Answer, Fault, Outcome};
 use mm_base::commands::Command;
-use mm_base::moments::Moment;
+use mm_base::moments::{Moment, stamp};
+use mm_contents::{add_pyramid, add_table, drop_table};
+use mm_matrices::add_matrix;
 use mm_meta::add_srs;
 use mm_store::faults::fault_of;
 use sqlite::{Alter, Connection, Transaction};
+use std::alloc::Global;
 
-/// Does what the command says within the transaction.
-fn run_command<S: Alter>(tx: &mut Transaction<'_, S>, command: &Command) -> Result<Outcome, Fault>
+/// Does what the command says within the transaction. `at` is the stamp of its moment.
+fn run_command<S: Alter>(
+    tx: &mut Transaction<'_, S>,
+    command: &Command,
+    at: &str,
+) -> Result<Outcome, Fault>
     requires { is_served command.now ≡ true }
     ensures same_reference { tx.new.conn.ghost_name ≡ tx.old.conn.ghost_name }
-    ensures tried { (moment : ℕ) → IsTried millimetres command.now moment (state S.Store tx.old.conn.now) (state S.Store tx.new.conn.now) result }
+    ensures tried { (moment : ℕ) → IsStamp moment at.now → IsTried millimetres command.now moment (state S.Store tx.old.conn.now) (state S.Store tx.new.conn.now) result }
 {
     match command {
         Command::Srs {
@@ -38,24 +46,59 @@ fn run_command<S: Alter>(tx: &mut Transaction<'_, S>, command: &Command) -> Resu
             definition.as_str(),
             description.as_str(),
         ),
+        Command::Pyramid {
+            table,
+            identifier,
+            srs,
+            min_x,
+            min_y,
+            max_x,
+            max_y,
+            step,
+        } => add_pyramid(
+            tx,
+            table.as_str(),
+            identifier.as_str(),
+            *srs,
+            *min_x,
+            *min_y,
+            *max_x,
+            *max_y,
+            *step,
+            at,
+        ),
+        Command::Matrix {
+            table,
+            zoom,
+            matrix,
+        } => add_matrix(tx, table.as_str(), *zoom, matrix, at),
+        Command::Table {
+            table,
+            kind,
+            identifier,
+        } => add_table(tx, table.as_str(), *kind, identifier.as_str(), at),
+        Command::Drop { table } => drop_table(tx, table.as_str()),
         _ => unreachable!(),
     }
 }
 
-/// One command in one transaction, whose commit is the last call of the store. A refusal rolls it back.
-pub(crate) fn apply_once<S: Alter>(
+/// One command in one transaction, whose commit is the last call of the store. A refusal rolls it back. `at` is the stamp
+/// of the moment.
+fn run_transaction<S: Alter>(
     conn: &mut Connection<S>,
     command: &Command,
-    at: Moment,
+    moment: Moment,
+    at: &str,
 ) -> Answer
     requires idle { conn.old.in_transaction ≡ false }
     requires served { is_served command.now ≡ true }
+    requires stamped { IsStamp moment at.now }
     ensures mode { conn.new.in_transaction ≡ false }
     ensures faults { OnFault result (λ fault. (fault ≡ 90) ⊎ (fault ≡ 91)) }
-    ensures applied { IsApplied command.now at (state S.Store conn.old) (state S.Store conn.new) result }
+    ensures applied { IsApplied command.now moment (state S.Store conn.old) (state S.Store conn.new) result }
 {
     let mut tx = conn.transaction();
-    match run_command(&mut tx, command) {
+    match run_command(&mut tx, command, at) {
         Ok(Outcome::Done) => match tx.commit() {
             Ok(()) => Answer::Ok,
             Err(error) => Answer::Fault(fault_of(error)),
@@ -68,5 +111,25 @@ pub(crate) fn apply_once<S: Alter>(
             tx.rollback();
             Answer::Fault(fault)
         }
+    }
+}
+
+/// One command at a moment, in one transaction whose commit is the last call of the store. Want of memory for the
+/// moment's stamp is a fault before the transaction begins.
+pub(crate) fn apply_once<S: Alter>(
+    alloc: Global,
+    conn: &mut Connection<S>,
+    command: &Command,
+    moment: Moment,
+) -> Answer
+    requires idle { conn.old.in_transaction ≡ false }
+    requires served { is_served command.now ≡ true }
+    ensures mode { conn.new.in_transaction ≡ false }
+    ensures faults { OnFault result (λ fault. (fault ≡ 90) ⊎ (fault ≡ 91)) }
+    ensures applied { IsApplied command.now moment (state S.Store conn.old) (state S.Store conn.new) result }
+{
+    match stamp(alloc, moment) {
+        Ok(at) => run_transaction(conn, command, moment, at.as_str()),
+        Err(_) => Answer::Fault(Fault(90)),
     }
 }

@@ -110,7 +110,7 @@ impl<S: Alter> Session<S> {
                 piece: None,
             });
         }
-        let answer = apply_once(&mut self.conn, command, at);
+        let answer = apply_once(self.alloc, &mut self.conn, command, at);
         self.failed = matches!(answer, Answer::Fault(_));
         answer
     }
@@ -143,6 +143,7 @@ impl<S: Alter> Session<S> {
         writer: &mut Io<W>,
         at: Moment,
     ) -> Result<Tally, RunFault>
+        ensures clean { HasCleanDisk (state S.Store (held self.new)) → HasCleanDisk (state S.Store (held self.old)) }
         ensures done { IfOk result (λ t. OnRun (HasCleanDisk (state S.Store (held self.new))) (λ p. IsSettled millimetres (state S.Store (held self.old)) p) (R.remaining (inside reader.old))
             (λ p bytes. RanAll p at bytes (λ q. IsSettled millimetres (state S.Store (held self.new)) q) (λ db. (state S.Store (held self.new)).may_leave db) Stands (W.contents (inside writer.old)) (W.contents (inside writer.new)) t)) }
         ensures end { OnOk result (IsAtEnd (R.remaining (inside reader.new))) }

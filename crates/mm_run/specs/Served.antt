@@ -6,4 +6,8 @@ use Rattle.mm_base.specs.declared.commands.Command.TheVariants as commands
 -- The commands that the crates above serve so far. A record of any other is refused 10.
 abbrev pub is_served : Command → Bool
 is_served (commands.Srs id name organization organization_id definition description) = true
+is_served (commands.Pyramid table identifier srs min_x min_y max_x max_y step) = true
+is_served (commands.Matrix table zoom matrix) = true
+is_served (commands.Table table kind identifier) = true
+is_served (commands.Drop table) = true
 is_served _ = false

@@ -8,15 +8,22 @@ ghost use Rattle.mm_run.specs.Served as served;
 use csv::{ByteRecord, StringRecord};
 use mm_base::answers::ReadFault;
 use mm_base::commands::Command;
-use mm_base::records::read_command;
 use mm_lines::text_fields;
+use mm_records::read_command;
 use std::alloc::Global;
 
 /// Whether a command is served so far.
 pub fn is_served(command: &Command) -> bool
     ensures { result ≡ served.is_served command.now }
 {
-    matches!(command, Command::Srs { .. })
+    matches!(
+        command,
+        Command::Srs { .. }
+            | Command::Pyramid { .. }
+            | Command::Matrix { .. }
+            | Command::Table { .. }
+            | Command::Drop { .. }
+    )
 }
 
 /// The command that a record spells. One with a field that isn't text is refused 10, and so is

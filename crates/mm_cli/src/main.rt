@@ -1,0 +1,50 @@
+//! The program `mmpkg`: it makes packages, and runs lists of commands on them.
+#![tactic(auto)]
+
+mod clock;
+mod files;
+mod package;
+mod program;
+mod stop;
+mod tell;
+#[cfg(test)]
+mod tests;
+
+use mm_base::answers::Fault;
+use mm_base::streams::Io;
+use program::program;
+use std::io::BufReader;
+use std::process::ExitCode;
+use std::{env, io};
+use stop::Stop;
+use tell::{USAGE, tell_bytes, tell_stop};
+
+/// Runs the program on the words of its caller.
+fn run_words(rt: &HostRuntime) -> io::Result<u8> {
+    let alloc = rt.alloc();
+    let words: Vec<String> = env::args(rt)?.collect(alloc)?;
+    let mut texts = Vec::with_capacity(alloc, words.len())?;
+    for word in &words {
+        texts.push(word.as_str())?;
+    }
+    let mut input = Io::new(BufReader::new(alloc, rt.reader())?);
+    let mut output = Io::new(io::writer(rt));
+    Ok(program(rt, texts.as_slice(), &mut input, &mut output))
+}
+
+/// What is printed where the words can't be had: words that are no text are wrong arguments, and else memory was refused.
+fn tell_no_words(rt: &HostRuntime, error: io::Error) -> u8 {
+    let mut output = Io::new(io::writer(rt));
+    if error.kind() == io::ErrorKind::OutOfMemory {
+        tell_stop(&mut output, Stop::Fault(Fault(90)))
+    } else {
+        tell_bytes(&mut output, b"Usage: mmpkg <COMMAND>\n", USAGE)
+    }
+}
+
+fn main(rt: HostRuntime) -> ExitCode {
+    match run_words(&rt) {
+        Ok(status) => ExitCode::from(status),
+        Err(error) => ExitCode::from(tell_no_words(&rt, error)),
+    }
+}

@@ -1,0 +1,5 @@
+pub mod Reasons
+pub mod Refusing
+pub mod Registered
+pub mod Touching
+pub mod Looking

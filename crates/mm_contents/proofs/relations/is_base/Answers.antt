@@ -1,0 +1,18 @@
+use Rattle.std.proofs.Common.{◌≡◌, [], ◌∷◌, ◌∙◌, rules}
+use Rattle.mm_base.specs.Keys.{same_text}
+use Rattle.mm_base.specs.Parts.{some_entry}
+use Rattle.mm_store.proofs.Entries.{based_is}
+use Rattle.sqlite.specs.declared.types.Value.TheVariants.{Text as Words}
+use Rattle.sqlite.specs.Held.{state}
+use Rattle.sql_forms.proofs.Selects.{selects_any}
+use Rattle.mm_schema.proofs.Selecting as statement
+use Rattle.mm_store.proofs.Steps.{looks, seen}
+use Rattle.mm_contents.proofs.relations.is_base.Goals as goal
+
+pub returns-clause-look : goal.returns-clause-look
+returns-clause-look g c profile =
+    let old = state g.S.Store c.args.tx.now.conn.now in
+    let new = state g.S.Store c.exists.new.tx.conn.now in
+    looks profile old new _ _ _ (λ p found. found ≡ some_entry (λ _ r. same_text r.base c.args.table.now) p.relations) c.exists.result c.exists.ensures.asked (λ x first ready shown gives.
+    let read = selects_any _ _ _ _ _ _ statement.is_base old new ready.schema_is (Words c.args.table.now ∷ []) _ (search rules) first shown in
+    (read.0, λ p h. gives ∙ read.1 ∙ based_is c.args.table.now (seen old 10) p.relations h.relations))

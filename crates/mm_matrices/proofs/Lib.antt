@@ -1,0 +1,3 @@
+pub mod Nearest
+pub mod Covering
+pub mod Refusing

@@ -1,0 +1,142 @@
+//! Tile matrices.
+
+ghost use Rattle.std.specs.Prelude.{◌≡◌, ℕ, pos, None, MatchOption};
+ghost use Rattle.std.specs.FinMap.{get, contains_key, insert};
+ghost use Rattle.sqlite.specs.Held.{state};
+ghost use Rattle.mm_base.specs.Bounds.{Profile};
+ghost use Rattle.mm_base.specs.Conditions.{least, own_reasons, grid};
+ghost use Rattle.mm_base.specs.Effects.{step_kind};
+ghost use Rattle.mm_base.specs.Keys.{level};
+ghost use Rattle.mm_base.specs.Rules.{Meets};
+ghost use Rattle.mm_base.specs.Stamp.{IsStamp};
+ghost use Rattle.mm_base.specs.declared.commands.Command.TheVariants as commands;
+ghost use Rattle.mm_store.specs.Shapes.{IsLook, IsChange, IsLent};
+ghost use Rattle.mm_matrices.specs.Shown.{IsPlainKind};
+
+use crate::extents::fits_pyramid;
+use crate::zooms::suits_zooms;
+use mm_base::answers::{Fault, Outcome, Refusal};
+use mm_base::commands::{Kind, Matrix, Step};
+use mm_contents::{kind_of, touch};
+use mm_store::statements::{exists, run};
+use sqlite::{Alter, Transaction, params};
+
+/// Whether a matrix stands at this zoom of a table.
+fn has_matrix<S: Alter>(tx: &mut Transaction<'_, S>, table: &str, zoom: u8) -> Result<bool, Fault>
+    ensures same_reference { tx.new.conn.ghost_name ≡ tx.old.conn.ghost_name }
+    ensures look { (profile : Profile) → IsLook profile (state S.Store tx.old.conn.now) (state S.Store tx.new.conn.now) (λ p found. found ≡ contains_key p.matrices (level table.now (pos zoom))) result }
+{
+    exists(
+        tx,
+        "SELECT 1 FROM gpkg_tile_matrix WHERE table_name = ?1 AND zoom_level = ?2",
+        params![table, u32::from(zoom)],
+    )
+}
+
+/// Puts a matrix at a zoom that is free.
+fn insert_matrix<S: Alter>(
+    tx: &mut Transaction<'_, S>,
+    table: &str,
+    zoom: u8,
+    matrix: &Matrix,
+) -> Result<(), Fault>
+    ensures same_reference { tx.new.conn.ghost_name ≡ tx.old.conn.ghost_name }
+    ensures change { (profile : Profile) → IsChange profile (state S.Store tx.old.conn.now) (state S.Store tx.new.conn.now) (λ p. get p.matrices (level table.now (pos zoom)) ≡ None)
+        (λ p. record p { matrices = insert p.matrices (level table.now (pos zoom)) (grid matrix.now) }) result }
+{
+    run(
+        tx,
+        "INSERT INTO gpkg_tile_matrix (table_name, zoom_level, matrix_width, matrix_height, tile_width, tile_height, pixel_x_size, pixel_y_size) VALUES (?1, ?2, ?3, ?4, ?5, ?6, ?7, ?8)",
+        params![
+            table,
+            u32::from(zoom),
+            matrix.mw,
+            matrix.mh,
+            matrix.tw,
+            matrix.th,
+            matrix.px,
+            matrix.py
+        ],
+    )
+}
+
+/// How the pixel sizes of a table of this kind go, where it is a pyramid.
+fn step_of(kind: Kind) -> Option<Step>
+    ensures { MatchOption result (IsPlainKind kind) (λ step. kind ≡ step_kind step) }
+{
+    match kind {
+        Kind::Two => Some(Step::Two),
+        Kind::Other => Some(Step::Other),
+        Kind::Attributes | Kind::Media => None,
+    }
+}
+
+/// Why a matrix is not added, if it is not.
+fn matrix_refusal<S: Alter>(
+    tx: &mut Transaction<'_, S>,
+    table: &str,
+    zoom: u8,
+    matrix: &Matrix,
+) -> Result<Option<u8>, Fault>
+    ensures same_reference { tx.new.conn.ghost_name ≡ tx.old.conn.ghost_name }
+    ensures look { (profile : Profile) → IsLook profile (state S.Store tx.old.conn.now) (state S.Store tx.new.conn.now) (λ p why. Meets profile p → why ≡ least (own_reasons p (commands.Matrix table.now zoom matrix.now))) result }
+{
+    let kind = match kind_of(tx, table) {
+        Ok(Some(kind)) => kind,
+        Ok(None) => return Ok(Some(25)),
+        Err(fault) => return Err(fault),
+    };
+    let step = match step_of(kind) {
+        Some(step) => step,
+        None => return Ok(Some(26)),
+    };
+    match has_matrix(tx, table, zoom) {
+        Ok(false) => {}
+        Ok(true) => return Ok(Some(30)),
+        Err(fault) => return Err(fault),
+    }
+    match fits_pyramid(tx, table, matrix) {
+        Ok(true) => {}
+        Ok(false) => return Ok(Some(31)),
+        Err(fault) => return Err(fault),
+    }
+    match suits_zooms(tx, table, zoom, matrix, step) {
+        Ok(true) => Ok(None),
+        Ok(false) => Ok(Some(32)),
+        Err(fault) => Err(fault),
+    }
+}
+
+/// The command `matrix`: adds the tile matrix of one zoom to a pyramid. `at` is the stamp of the moment, which becomes the
+/// last_change of the pyramid. Refused 25 where no table has the name, 26 where it is no pyramid, 30 where a matrix stands at
+/// the zoom, 31 where the matrix does not cover the extent exactly, 32 where its pixel sizes are out of order with those of
+/// another zoom or, in a pyramid of kind `two`, not in ratio 2 to those of the next. (Tile Matrix; Zoom Levels.)
+pub fn add_matrix<S: Alter>(
+    tx: &mut Transaction<'_, S>,
+    table: &str,
+    zoom: u8,
+    matrix: &Matrix,
+    at: &str,
+) -> Result<Outcome, Fault>
+    ensures same_reference { tx.new.conn.ghost_name ≡ tx.old.conn.ghost_name }
+    ensures lent { (profile : Profile) (moment : ℕ) → IsStamp moment at.now → IsLent profile (commands.Matrix table.now zoom matrix.now) moment (state S.Store tx.old.conn.now) (state S.Store tx.new.conn.now) result }
+{
+    match matrix_refusal(tx, table, zoom, matrix) {
+        Ok(None) => {}
+        Ok(Some(number)) => {
+            return Ok(Outcome::Refused(Refusal {
+                number,
+                piece: None,
+            }));
+        }
+        Err(fault) => return Err(fault),
+    }
+    match insert_matrix(tx, table, zoom, matrix) {
+        Ok(()) => {}
+        Err(fault) => return Err(fault),
+    }
+    match touch(tx, table, at) {
+        Ok(()) => Ok(Outcome::Done),
+        Err(fault) => Err(fault),
+    }
+}

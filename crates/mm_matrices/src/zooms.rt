@@ -1,0 +1,141 @@
+//! Whether a matrix suits the nearest lower and the nearest higher zoom of its pyramid.
+
+ghost use Rattle.std.specs.Prelude.{◌≡◌, pos, Option, IfOk, IfErr};
+ghost use Rattle.sqlite.specs.Values.{bound};
+ghost use Rattle.sqlite.specs.Held.{state};
+ghost use Rattle.sqlite.specs.Order.{column};
+ghost use Rattle.sqlite.specs.declared.types.Value.TheVariants.{Int};
+ghost use Rattle.mm_base.specs.Bounds.{Profile};
+ghost use Rattle.mm_base.specs.Conditions.{grid};
+ghost use Rattle.mm_base.specs.Neighbours.{Zoomed, IsNearestBelow, IsNearestAbove, zoomed, is_halved};
+ghost use Rattle.mm_base.specs.Neighbours as spec;
+ghost use Rattle.mm_store.specs.Faults.{IsStoreFault};
+ghost use Rattle.mm_store.specs.Shapes.{IsLook};
+ghost use Rattle.mm_store.specs.Statements.{IsAsked};
+ghost use Rattle.mm_matrices.specs.Shown.{ShowsMatrix, ShowsZoomed, GivesZoomed};
+
+use mm_base::answers::Fault;
+use mm_base::commands::{Matrix, Step};
+use mm_base::matrices::neighbours;
+use mm_store::faults::fault_of;
+use mm_store::statements::first;
+use sqlite::types::ValueRef;
+use sqlite::{Alter, Error, Row, Transaction, params};
+
+/// The zoom in the first column of a row. One above 255 is a fault, 91.
+fn zoom_in(row: &Row) -> Result<u8, Fault>
+    ensures zoom { IfOk result (λ zoom. column row.now 0 ≡ Int (pos zoom)) }
+    ensures faults { IfErr result IsStoreFault }
+{
+    let zoom: u32 = match row.get(0) {
+        Ok(zoom) => zoom,
+        Err(error) => return Err(fault_of(error)),
+    };
+    match u8::try_from(zoom) {
+        Ok(zoom) => Ok(zoom),
+        Err(_) => Err(Fault(91)),
+    }
+}
+
+/// The matrix in the columns after the zoom.
+fn matrix_in(row: &Row) -> Result<Matrix, Error>
+    ensures { IfOk result (λ m. ShowsMatrix row.now m) }
+{
+    Ok(Matrix {
+        mw: row.get(1)?,
+        mh: row.get(2)?,
+        tw: row.get(3)?,
+        th: row.get(4)?,
+        px: row.get(5)?,
+        py: row.get(6)?,
+    })
+}
+
+/// A zoom with its matrix.
+fn zoomed_in(row: &Row) -> Result<(u8, Matrix), Fault>
+    ensures zoomed { IfOk result (λ entry. ShowsZoomed row.now entry) }
+    ensures faults { IfErr result IsStoreFault }
+{
+    let zoom = match zoom_in(row) {
+        Ok(zoom) => zoom,
+        Err(fault) => return Err(fault),
+    };
+    match matrix_in(row) {
+        Ok(matrix) => Ok((zoom, matrix)),
+        Err(error) => Err(fault_of(error)),
+    }
+}
+
+/// The zoom with its matrix in the first row of a query.
+fn first_zoomed<S: Alter>(
+    tx: &mut Transaction<'_, S>,
+    sql: &str,
+    params: &[ValueRef<'_>],
+) -> Result<Option<(u8, Matrix)>, Fault>
+    ensures same_reference { tx.new.conn.ghost_name ≡ tx.old.conn.ghost_name }
+    ensures asked { IsAsked (state S.Store tx.old.conn.now) (state S.Store tx.new.conn.now) sql.now (bound params.now) (λ it first. GivesZoomed it first) result }
+{
+    match first(tx, sql, params) {
+        Ok(Some(row)) => match zoomed_in(&row) {
+            Ok(entry) => Ok(Some(entry)),
+            Err(fault) => Err(fault),
+        },
+        Ok(None) => Ok(None),
+        Err(fault) => Err(fault),
+    }
+}
+
+/// The nearest lower zoom at which the table has a matrix.
+fn nearest_below<S: Alter>(
+    tx: &mut Transaction<'_, S>,
+    table: &str,
+    zoom: u8,
+) -> Result<Option<(u8, Matrix)>, Fault>
+    ensures same_reference { tx.new.conn.ghost_name ≡ tx.old.conn.ghost_name }
+    ensures look { (profile : Profile) → IsLook profile (state S.Store tx.old.conn.now) (state S.Store tx.new.conn.now) (λ p below. IsNearestBelow p.matrices table.now (pos zoom) (zoomed below)) result }
+{
+    first_zoomed(
+        tx,
+        "SELECT zoom_level, matrix_width, matrix_height, tile_width, tile_height, pixel_x_size, pixel_y_size FROM gpkg_tile_matrix WHERE table_name = ?1 AND zoom_level < ?2 ORDER BY zoom_level DESC LIMIT 1",
+        params![table, u32::from(zoom)],
+    )
+}
+
+/// The nearest higher zoom at which the table has a matrix.
+fn nearest_above<S: Alter>(
+    tx: &mut Transaction<'_, S>,
+    table: &str,
+    zoom: u8,
+) -> Result<Option<(u8, Matrix)>, Fault>
+    ensures same_reference { tx.new.conn.ghost_name ≡ tx.old.conn.ghost_name }
+    ensures look { (profile : Profile) → IsLook profile (state S.Store tx.old.conn.now) (state S.Store tx.new.conn.now) (λ p above. IsNearestAbove p.matrices table.now (pos zoom) (zoomed above)) result }
+{
+    first_zoomed(
+        tx,
+        "SELECT zoom_level, matrix_width, matrix_height, tile_width, tile_height, pixel_x_size, pixel_y_size FROM gpkg_tile_matrix WHERE table_name = ?1 AND zoom_level > ?2 ORDER BY zoom_level LIMIT 1",
+        params![table, u32::from(zoom)],
+    )
+}
+
+/// Whether a matrix suits the nearest lower and the nearest higher zoom of its pyramid, which decide for all.
+pub(crate) fn suits_zooms<S: Alter>(
+    tx: &mut Transaction<'_, S>,
+    table: &str,
+    zoom: u8,
+    matrix: &Matrix,
+    step: Step,
+) -> Result<bool, Fault>
+    ensures same_reference { tx.new.conn.ghost_name ≡ tx.old.conn.ghost_name }
+    ensures look { (profile : Profile) → IsLook profile (state S.Store tx.old.conn.now) (state S.Store tx.new.conn.now)
+        (λ p suits. (below : Option Zoomed) × (above : Option Zoomed) × IsNearestBelow p.matrices table.now (pos zoom) below × IsNearestAbove p.matrices table.now (pos zoom) above
+        × (suits ≡ spec.neighbours below (pos zoom) (grid matrix.now) above (is_halved step))) result }
+{
+    let below = match nearest_below(tx, table, zoom) {
+        Ok(below) => below,
+        Err(fault) => return Err(fault),
+    };
+    match nearest_above(tx, table, zoom) {
+        Ok(above) => Ok(neighbours(below, zoom, matrix, above, step)),
+        Err(fault) => Err(fault),
+    }
+}

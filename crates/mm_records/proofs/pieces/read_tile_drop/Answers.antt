@@ -1,0 +1,25 @@
+use Rattle.std.proofs.Common.{pos, arith, refl}
+use Rattle.mm_base.specs.Fields.{AName, Plain, Whole}
+use Rattle.mm_base.specs.Records.{place_field, zoom_field}
+use Rattle.mm_base.proofs.ReadingFacts.{text_at, and_then, the_last, texts_are, holds, refuses}
+use Rattle.mm_records.proofs.pieces.read_tile_drop.Goals as goal
+
+pub returns-in-Err : goal.returns-in-Err
+returns-in-Err c =
+    let t = text_at c.args.fields.now in
+    refuses c.args.fields.now 4 (omega arith) (omega arith) c.in-Err.is
+    (and_then AName (t 0) (record { value = Plain; reads = c.name_field.ensures }) c.both-3.ensures
+    (and_then zoom_field (t 1) (record { value = λ z. Whole (pos z); reads = c.zoom_field.ensures }) c.both-2.ensures
+    (and_then place_field (t 2) (record { value = λ z. Whole (pos z); reads = c.count_field.ensures }) c.both.ensures
+    (the_last place_field (t 3) (record { value = λ z. Whole (pos z); reads = c.count_field-2.ensures })))))
+
+pub returns-in-Ok : goal.returns-in-Ok
+returns-in-Ok c =
+    let t = text_at c.args.fields.now in
+    let all =
+    holds c.in-Ok.is
+    (and_then AName (t 0) (record { value = Plain; reads = c.name_field.ensures }) c.both-3.ensures
+    (and_then zoom_field (t 1) (record { value = λ z. Whole (pos z); reads = c.zoom_field.ensures }) c.both-2.ensures
+    (and_then place_field (t 2) (record { value = λ z. Whole (pos z); reads = c.count_field.ensures }) c.both.ensures
+    (the_last place_field (t 3) (record { value = λ z. Whole (pos z); reads = c.count_field-2.ensures }))))) in
+    rw (texts_are c.args.fields.now 4 (omega arith) (omega arith)) (refl, all)

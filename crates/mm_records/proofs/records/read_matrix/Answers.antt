@@ -1,0 +1,36 @@
+use Rattle.std.proofs.Common.{pos, arith, refl}
+use Rattle.mm_base.specs.Fields.{AName, Plain, Whole}
+use Rattle.mm_base.specs.Records.{matrix_side, pixel_size, tile_side, zoom_field}
+use Rattle.mm_base.specs.Bounds.{millimetres}
+use Rattle.mm_base.proofs.ReadingFacts.{text_at, and_then, the_last, texts_are, holds, refuses, pixel_size_kept}
+use Rattle.mm_records.proofs.records.read_matrix.Goals as goal
+
+pub returns-in-Err : goal.returns-in-Err
+returns-in-Err c =
+    let t = text_at c.args.fields.now in
+    refuses c.args.fields.now 8 (omega arith) (omega arith) c.in-Err.is
+    (and_then AName (t 0) (record { value = Plain; reads = c.name_field.ensures }) c.both-7.ensures
+    (and_then zoom_field (t 1) (record { value = λ z. Whole (pos z); reads = c.zoom_field.ensures }) c.both-6.ensures
+    (and_then matrix_side (t 2) (record { value = λ z. Whole (pos z); reads = c.count_field.ensures }) c.both-5.ensures
+    (and_then matrix_side (t 3) (record { value = λ z. Whole (pos z); reads = c.count_field-2.ensures }) c.both-4.ensures
+    (and_then tile_side (t 4) (record { value = λ z. Whole (pos z); reads = c.count_field-3.ensures }) c.both-3.ensures
+    (and_then tile_side (t 5) (record { value = λ z. Whole (pos z); reads = c.count_field-4.ensures }) c.both-2.ensures
+    (and_then (pixel_size millimetres) (t 6) (record { value = Whole; reads = c.number_field.ensures }) c.both.ensures
+    (the_last (pixel_size millimetres) (t 7) (record { value = Whole; reads = c.number_field-2.ensures })))))))))
+
+pub returns-in-Ok : goal.returns-in-Ok
+returns-in-Ok c =
+    let t = text_at c.args.fields.now in
+    let all =
+    holds c.in-Ok.is
+    (and_then AName (t 0) (record { value = Plain; reads = c.name_field.ensures }) c.both-7.ensures
+    (and_then zoom_field (t 1) (record { value = λ z. Whole (pos z); reads = c.zoom_field.ensures }) c.both-6.ensures
+    (and_then matrix_side (t 2) (record { value = λ z. Whole (pos z); reads = c.count_field.ensures }) c.both-5.ensures
+    (and_then matrix_side (t 3) (record { value = λ z. Whole (pos z); reads = c.count_field-2.ensures }) c.both-4.ensures
+    (and_then tile_side (t 4) (record { value = λ z. Whole (pos z); reads = c.count_field-3.ensures }) c.both-3.ensures
+    (and_then tile_side (t 5) (record { value = λ z. Whole (pos z); reads = c.count_field-4.ensures }) c.both-2.ensures
+    (and_then (pixel_size millimetres) (t 6) (record { value = Whole; reads = c.number_field.ensures }) c.both.ensures
+    (the_last (pixel_size millimetres) (t 7) (record { value = Whole; reads = c.number_field-2.ensures }))))))))) in
+    let kept0 = pixel_size_kept c.in-Ok.read.1.1.1.1.1.1.0 all.1.1.1.1.1.1.0.1 in
+    let kept1 = pixel_size_kept c.in-Ok.read.1.1.1.1.1.1.1 all.1.1.1.1.1.1.1.0.1 in
+    rw (texts_are c.args.fields.now 8 (omega arith) (omega arith)) (simp (kept0, kept1) (refl, all))

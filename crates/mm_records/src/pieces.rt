@@ -1,0 +1,258 @@
+//! Readers of the records of pieces.
+
+ghost use Rattle.std.specs.Prelude.{◌≡◌, IfOk, map, codes};
+ghost use Rattle.mm_base.specs.Reading.{ReadsTo};
+ghost use Rattle.mm_base.specs.Fields.{AllHold, IsAgainstSome};
+ghost use Rattle.mm_base.specs.Records.{IsLeast, piece_values, piece_word, SpellsPiece, HoldsAgainstPiece};
+ghost use Rattle.mm_base.specs.Records as forms;
+ghost use Rattle.mm_base.specs.Within.{IsPieceWithin};
+
+use crate::fields::{both, count_field, id_field, name_field, number_field, zoom_field};
+use mm_base::answers::ReadFault;
+use mm_base::bytes::{MediaBytes, TileBytes};
+use mm_base::commands::Piece;
+use mm_base::content_types::ContentType;
+use mm_base::texts::Remark;
+use std::alloc::Global;
+
+/// The last column or row that a tile may have.
+const LAST_PLACE: u32 = 1_073_741_823;
+
+/// The largest amount of an attribute row, either way.
+const MOST_AMOUNT: i64 = 1_000_000_000_000_000;
+
+/// `tile,TABLE,Z,C,R,HEX`
+fn read_tile(alloc: Global, fields: &[&str]) -> Result<Piece, ReadFault>
+    ensures { ReadsTo (λ c. (piece_word c ≡ codes "tile") × AllHold forms.tile_form (map (λ f. f.now) fields.now) (piece_values c)) (IsLeast (IsAgainstSome forms.tile_form (map (λ f. f.now) fields.now))) result }
+{
+    let [table, zoom, column, row, bytes] = fields else {
+        return Err(ReadFault::refused(10));
+    };
+    match both(
+        name_field(table),
+        both(
+            zoom_field(zoom),
+            both(
+                count_field(column, 0, LAST_PLACE),
+                both(
+                    count_field(row, 0, LAST_PLACE),
+                    TileBytes::read(alloc, bytes),
+                ),
+            ),
+        ),
+    ) {
+        Ok(read) => {
+            let (table, (zoom, (column, (row, bytes)))) = read;
+            Ok(Piece::Tile {
+                table,
+                zoom,
+                column,
+                row,
+                bytes,
+            })
+        }
+        Err(fault) => Err(fault),
+    }
+}
+
+/// `tile-drop,TABLE,Z,C,R`
+fn read_tile_drop(fields: &[&str]) -> Result<Piece, ReadFault>
+    ensures { ReadsTo (λ c. (piece_word c ≡ codes "tile-drop") × AllHold forms.tile_drop_form (map (λ f. f.now) fields.now) (piece_values c)) (IsLeast (IsAgainstSome forms.tile_drop_form (map (λ f. f.now) fields.now))) result }
+{
+    let [table, zoom, column, row] = fields else {
+        return Err(ReadFault::refused(10));
+    };
+    match both(
+        name_field(table),
+        both(
+            zoom_field(zoom),
+            both(
+                count_field(column, 0, LAST_PLACE),
+                count_field(row, 0, LAST_PLACE),
+            ),
+        ),
+    ) {
+        Ok(read) => {
+            let (table, (zoom, (column, row))) = read;
+            Ok(Piece::TileDrop {
+                table,
+                zoom,
+                column,
+                row,
+            })
+        }
+        Err(fault) => Err(fault),
+    }
+}
+
+/// `row,TABLE,ID,TITLE,NOTE,AMOUNT`
+fn read_row(alloc: Global, fields: &[&str]) -> Result<Piece, ReadFault>
+    ensures { ReadsTo (λ c. (piece_word c ≡ codes "row") × AllHold forms.row_form (map (λ f. f.now) fields.now) (piece_values c)) (IsLeast (IsAgainstSome forms.row_form (map (λ f. f.now) fields.now))) result }
+{
+    let [table, id, title, note, amount] = fields else {
+        return Err(ReadFault::refused(10));
+    };
+    match both(
+        name_field(table),
+        both(
+            id_field(id),
+            both(
+                Remark::read(alloc, title),
+                both(
+                    Remark::read(alloc, note),
+                    number_field(amount, -MOST_AMOUNT, MOST_AMOUNT),
+                ),
+            ),
+        ),
+    ) {
+        Ok(read) => {
+            let (table, (id, (title, (note, amount)))) = read;
+            Ok(Piece::Row {
+                table,
+                id,
+                title,
+                note,
+                amount,
+            })
+        }
+        Err(fault) => Err(fault),
+    }
+}
+
+/// `row-drop,TABLE,ID`
+fn read_row_drop(fields: &[&str]) -> Result<Piece, ReadFault>
+    ensures { ReadsTo (λ c. (piece_word c ≡ codes "row-drop") × AllHold forms.item_form (map (λ f. f.now) fields.now) (piece_values c)) (IsLeast (IsAgainstSome forms.item_form (map (λ f. f.now) fields.now))) result }
+{
+    let [table, id] = fields else {
+        return Err(ReadFault::refused(10));
+    };
+    match both(name_field(table), id_field(id)) {
+        Ok(read) => {
+            let (table, id) = read;
+            Ok(Piece::RowDrop { table, id })
+        }
+        Err(fault) => Err(fault),
+    }
+}
+
+/// `media,TABLE,ID,TYPE,HEX`
+fn read_media(alloc: Global, fields: &[&str]) -> Result<Piece, ReadFault>
+    ensures { ReadsTo (λ c. (piece_word c ≡ codes "media") × AllHold forms.media_form (map (λ f. f.now) fields.now) (piece_values c)) (IsLeast (IsAgainstSome forms.media_form (map (λ f. f.now) fields.now))) result }
+{
+    let [table, id, content_type, bytes] = fields else {
+        return Err(ReadFault::refused(10));
+    };
+    match both(
+        name_field(table),
+        both(
+            id_field(id),
+            both(
+                ContentType::read(alloc, content_type),
+                MediaBytes::read(alloc, bytes),
+            ),
+        ),
+    ) {
+        Ok(read) => {
+            let (table, (id, (content_type, bytes))) = read;
+            Ok(Piece::Media {
+                table,
+                id,
+                content_type,
+                bytes,
+            })
+        }
+        Err(fault) => Err(fault),
+    }
+}
+
+/// `media-drop,TABLE,ID`
+fn read_media_drop(fields: &[&str]) -> Result<Piece, ReadFault>
+    ensures { ReadsTo (λ c. (piece_word c ≡ codes "media-drop") × AllHold forms.item_form (map (λ f. f.now) fields.now) (piece_values c)) (IsLeast (IsAgainstSome forms.item_form (map (λ f. f.now) fields.now))) result }
+{
+    let [table, id] = fields else {
+        return Err(ReadFault::refused(10));
+    };
+    match both(name_field(table), id_field(id)) {
+        Ok(read) => {
+            let (table, id) = read;
+            Ok(Piece::MediaDrop { table, id })
+        }
+        Err(fault) => Err(fault),
+    }
+}
+
+/// `map,MAPPING,BASEID,RELID`
+fn read_map(fields: &[&str]) -> Result<Piece, ReadFault>
+    ensures { ReadsTo (λ c. (piece_word c ≡ codes "map") × AllHold forms.map_form (map (λ f. f.now) fields.now) (piece_values c)) (IsLeast (IsAgainstSome forms.map_form (map (λ f. f.now) fields.now))) result }
+{
+    let [mapping, base_id, related_id] = fields else {
+        return Err(ReadFault::refused(10));
+    };
+    match both(
+        name_field(mapping),
+        both(id_field(base_id), id_field(related_id)),
+    ) {
+        Ok(read) => {
+            let (mapping, (base_id, related_id)) = read;
+            Ok(Piece::Map {
+                mapping,
+                base_id,
+                related_id,
+            })
+        }
+        Err(fault) => Err(fault),
+    }
+}
+
+/// `map-drop,MAPPING,BASEID,RELID`
+fn read_map_drop(fields: &[&str]) -> Result<Piece, ReadFault>
+    ensures { ReadsTo (λ c. (piece_word c ≡ codes "map-drop") × AllHold forms.map_form (map (λ f. f.now) fields.now) (piece_values c)) (IsLeast (IsAgainstSome forms.map_form (map (λ f. f.now) fields.now))) result }
+{
+    let [mapping, base_id, related_id] = fields else {
+        return Err(ReadFault::refused(10));
+    };
+    match both(
+        name_field(mapping),
+        both(id_field(base_id), id_field(related_id)),
+    ) {
+        Ok(read) => {
+            let (mapping, (base_id, related_id)) = read;
+            Ok(Piece::MapDrop {
+                mapping,
+                base_id,
+                related_id,
+            })
+        }
+        Err(fault) => Err(fault),
+    }
+}
+
+/// The piece that a record of one of the eight kinds spells.
+fn piece_of(alloc: Global, fields: &[&str]) -> Result<Piece, ReadFault>
+    ensures { ReadsTo (SpellsPiece (map (λ f. f.now) fields.now)) (IsLeast (HoldsAgainstPiece (map (λ f. f.now) fields.now))) result }
+{
+    let [word, rest @ ..] = fields else {
+        return Err(ReadFault::refused(10));
+    };
+    match *word {
+        "tile" => read_tile(alloc, rest),
+        "tile-drop" => read_tile_drop(rest),
+        "row" => read_row(alloc, rest),
+        "row-drop" => read_row_drop(rest),
+        "media" => read_media(alloc, rest),
+        "media-drop" => read_media_drop(rest),
+        "map" => read_map(rest),
+        "map-drop" => read_map_drop(rest),
+        _ => Err(ReadFault::refused(10)),
+    }
+}
+
+/// The piece that a record's fields spell. Else the least number that is against them: 10 where they are the record
+/// of no piece, 11 where a number or length is outside its limits, 12 where a name is none. Memory is answered only
+/// for want of memory.
+pub fn read_piece(alloc: Global, fields: &[&str]) -> Result<Piece, ReadFault>
+    ensures reads { ReadsTo (SpellsPiece (map (λ f. f.now) fields.now)) (IsLeast (HoldsAgainstPiece (map (λ f. f.now) fields.now))) result }
+    ensures within { IfOk result IsPieceWithin }
+{
+    piece_of(alloc, fields)
+}

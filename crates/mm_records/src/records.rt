@@ -1,0 +1,443 @@
+//! Readers of the records of commands.
+
+ghost use Rattle.std.specs.Prelude.{◌≡◌, IfOk, map, codes};
+ghost use Rattle.mm_base.specs.Bounds.{millimetres};
+ghost use Rattle.mm_base.specs.Reading.{ReadsTo};
+ghost use Rattle.mm_base.specs.Fields.{AllHold, IsAgainstSome};
+ghost use Rattle.mm_base.specs.Records.{IsLeast, command_values, command_word, Spells, HoldsAgainst, HoldsAgainstPiece, SpellsPiece, IsMet, IsUnmet, stage_form};
+ghost use Rattle.mm_base.specs.Pieces.{piece_command};
+ghost use Rattle.mm_base.specs.declared.commands.Piece.{Piece};
+ghost use Rattle.mm_base.specs.Records as forms;
+ghost use Rattle.mm_base.specs.Within.{IsWithin};
+
+use crate::fields::{
+    both, count_field, id_field, kind_field, name_field, number_field, relation_field, step_field,
+    zoom_field,
+};
+use crate::pieces::read_piece;
+use mm_base::answers::ReadFault;
+use mm_base::commands::{Command, Matrix, Piece};
+use mm_base::extents::FARTHEST;
+use mm_base::identifiers::Identifier;
+use mm_base::texts::{Definition, Remark, SystemName};
+use std::alloc::Global;
+
+/// The most tiles that a matrix may have in a row or column.
+const MOST_TILES: u32 = 1_073_741_824;
+
+/// The most pixels that a tile may have in a row or column.
+const MOST_PIXELS: u32 = 4096;
+
+/// The largest size of a pixel, in millimetres.
+const LARGEST_PIXEL: i64 = 1_000_000_000;
+
+/// The largest number of a reference system.
+const MOST_ID: i64 = 9_007_199_254_740_992;
+
+/// `srs,ID,NAME,ORG,ORGID,DEFINITION,DESCRIPTION`
+fn read_srs(alloc: Global, fields: &[&str]) -> Result<Command, ReadFault>
+    ensures { ReadsTo (λ c. (command_word c ≡ codes "srs") × AllHold forms.srs_form (map (λ f. f.now) fields.now) (command_values c)) (IsLeast (IsAgainstSome forms.srs_form (map (λ f. f.now) fields.now))) result }
+{
+    let [
+        id,
+        name,
+        organization,
+        organization_id,
+        definition,
+        description,
+    ] = fields
+    else {
+        return Err(ReadFault::refused(10));
+    };
+    match both(
+        id_field(id),
+        both(
+            SystemName::read(alloc, name),
+            both(
+                SystemName::read(alloc, organization),
+                both(
+                    id_field(organization_id),
+                    both(
+                        Definition::read(alloc, definition),
+                        Remark::read(alloc, description),
+                    ),
+                ),
+            ),
+        ),
+    ) {
+        Ok(read) => {
+            let (id, (name, (organization, (organization_id, (definition, description))))) = read;
+            Ok(Command::Srs {
+                id,
+                name,
+                organization,
+                organization_id,
+                definition,
+                description,
+            })
+        }
+        Err(fault) => Err(fault),
+    }
+}
+
+/// `pyramid,TABLE,IDENTIFIER,SRS,MINX,MINY,MAXX,MAXY,STEP`
+fn read_pyramid(alloc: Global, fields: &[&str]) -> Result<Command, ReadFault>
+    ensures { ReadsTo (λ c. (command_word c ≡ codes "pyramid") × AllHold (forms.pyramid_form millimetres) (map (λ f. f.now) fields.now) (command_values c)) (IsLeast (IsAgainstSome (forms.pyramid_form millimetres) (map (λ f. f.now) fields.now))) result }
+{
+    let [table, identifier, srs, min_x, min_y, max_x, max_y, step] = fields else {
+        return Err(ReadFault::refused(10));
+    };
+    match both(
+        name_field(table),
+        both(
+            Identifier::read(alloc, identifier),
+            both(
+                number_field(srs, -1, MOST_ID),
+                both(
+                    number_field(min_x, -FARTHEST, FARTHEST),
+                    both(
+                        number_field(min_y, -FARTHEST, FARTHEST),
+                        both(
+                            number_field(max_x, -FARTHEST, FARTHEST),
+                            both(number_field(max_y, -FARTHEST, FARTHEST), step_field(step)),
+                        ),
+                    ),
+                ),
+            ),
+        ),
+    ) {
+        Ok(read) => {
+            let (table, (identifier, (srs, (min_x, (min_y, (max_x, (max_y, step))))))) = read;
+            Ok(Command::Pyramid {
+                table,
+                identifier,
+                srs,
+                min_x,
+                min_y,
+                max_x,
+                max_y,
+                step,
+            })
+        }
+        Err(fault) => Err(fault),
+    }
+}
+
+/// `matrix,TABLE,Z,MW,MH,TW,TH,PX,PY`
+fn read_matrix(fields: &[&str]) -> Result<Command, ReadFault>
+    ensures { ReadsTo (λ c. (command_word c ≡ codes "matrix") × AllHold (forms.matrix_form millimetres) (map (λ f. f.now) fields.now) (command_values c)) (IsLeast (IsAgainstSome (forms.matrix_form millimetres) (map (λ f. f.now) fields.now))) result }
+{
+    let [table, zoom, mw, mh, tw, th, px, py] = fields else {
+        return Err(ReadFault::refused(10));
+    };
+    match both(
+        name_field(table),
+        both(
+            zoom_field(zoom),
+            both(
+                count_field(mw, 1, MOST_TILES),
+                both(
+                    count_field(mh, 1, MOST_TILES),
+                    both(
+                        count_field(tw, 1, MOST_PIXELS),
+                        both(
+                            count_field(th, 1, MOST_PIXELS),
+                            both(
+                                number_field(px, 1, LARGEST_PIXEL),
+                                number_field(py, 1, LARGEST_PIXEL),
+                            ),
+                        ),
+                    ),
+                ),
+            ),
+        ),
+    ) {
+        Ok(read) => {
+            let (table, (zoom, (mw, (mh, (tw, (th, (px, py))))))) = read;
+            Ok(Command::Matrix {
+                table,
+                zoom,
+                matrix: Matrix {
+                    mw,
+                    mh,
+                    tw,
+                    th,
+                    px,
+                    py,
+                },
+            })
+        }
+        Err(fault) => Err(fault),
+    }
+}
+
+/// `table,TABLE,KIND,IDENTIFIER`
+fn read_table(alloc: Global, fields: &[&str]) -> Result<Command, ReadFault>
+    ensures { ReadsTo (λ c. (command_word c ≡ codes "table") × AllHold forms.table_form (map (λ f. f.now) fields.now) (command_values c)) (IsLeast (IsAgainstSome forms.table_form (map (λ f. f.now) fields.now))) result }
+{
+    let [table, kind, identifier] = fields else {
+        return Err(ReadFault::refused(10));
+    };
+    match both(
+        name_field(table),
+        both(kind_field(kind), Identifier::read(alloc, identifier)),
+    ) {
+        Ok(read) => {
+            let (table, (kind, identifier)) = read;
+            Ok(Command::Table {
+                table,
+                kind,
+                identifier,
+            })
+        }
+        Err(fault) => Err(fault),
+    }
+}
+
+/// `drop,TABLE`
+fn read_drop(fields: &[&str]) -> Result<Command, ReadFault>
+    ensures { ReadsTo (λ c. (command_word c ≡ codes "drop") × AllHold forms.name_form (map (λ f. f.now) fields.now) (command_values c)) (IsLeast (IsAgainstSome forms.name_form (map (λ f. f.now) fields.now))) result }
+{
+    let [table] = fields else {
+        return Err(ReadFault::refused(10));
+    };
+    match name_field(table) {
+        Ok(table) => Ok(Command::Drop { table }),
+        Err(fault) => Err(fault),
+    }
+}
+
+/// `relation,MAPPING,BASE,RELATED,NAME`
+fn read_relation(fields: &[&str]) -> Result<Command, ReadFault>
+    ensures { ReadsTo (λ c. (command_word c ≡ codes "relation") × AllHold forms.relation_form (map (λ f. f.now) fields.now) (command_values c)) (IsLeast (IsAgainstSome forms.relation_form (map (λ f. f.now) fields.now))) result }
+{
+    let [mapping, base, related, name] = fields else {
+        return Err(ReadFault::refused(10));
+    };
+    match both(
+        name_field(mapping),
+        both(
+            name_field(base),
+            both(name_field(related), relation_field(name)),
+        ),
+    ) {
+        Ok(read) => {
+            let (mapping, (base, (related, name))) = read;
+            Ok(Command::Relation {
+                mapping,
+                base,
+                related,
+                name,
+            })
+        }
+        Err(fault) => Err(fault),
+    }
+}
+
+/// `relation-drop,MAPPING`
+fn read_relation_drop(fields: &[&str]) -> Result<Command, ReadFault>
+    ensures { ReadsTo (λ c. (command_word c ≡ codes "relation-drop") × AllHold forms.name_form (map (λ f. f.now) fields.now) (command_values c)) (IsLeast (IsAgainstSome forms.name_form (map (λ f. f.now) fields.now))) result }
+{
+    let [mapping] = fields else {
+        return Err(ReadFault::refused(10));
+    };
+    match name_field(mapping) {
+        Ok(mapping) => Ok(Command::RelationDrop { mapping }),
+        Err(fault) => Err(fault),
+    }
+}
+
+/// `edition,NAME`
+fn read_edition(fields: &[&str]) -> Result<Command, ReadFault>
+    ensures { ReadsTo (λ c. (command_word c ≡ codes "edition") × AllHold forms.name_form (map (λ f. f.now) fields.now) (command_values c)) (IsLeast (IsAgainstSome forms.name_form (map (λ f. f.now) fields.now))) result }
+{
+    let [name] = fields else {
+        return Err(ReadFault::refused(10));
+    };
+    match name_field(name) {
+        Ok(name) => Ok(Command::Edition { name }),
+        Err(fault) => Err(fault),
+    }
+}
+
+/// `discard,NAME`
+fn read_discard(fields: &[&str]) -> Result<Command, ReadFault>
+    ensures { ReadsTo (λ c. (command_word c ≡ codes "discard") × AllHold forms.name_form (map (λ f. f.now) fields.now) (command_values c)) (IsLeast (IsAgainstSome forms.name_form (map (λ f. f.now) fields.now))) result }
+{
+    let [name] = fields else {
+        return Err(ReadFault::refused(10));
+    };
+    match name_field(name) {
+        Ok(name) => Ok(Command::Discard { name }),
+        Err(fault) => Err(fault),
+    }
+}
+
+/// `publish,EDITION`
+fn read_publish(fields: &[&str]) -> Result<Command, ReadFault>
+    ensures { ReadsTo (λ c. (command_word c ≡ codes "publish") × AllHold forms.name_form (map (λ f. f.now) fields.now) (command_values c)) (IsLeast (IsAgainstSome forms.name_form (map (λ f. f.now) fields.now))) result }
+{
+    let [edition] = fields else {
+        return Err(ReadFault::refused(10));
+    };
+    match name_field(edition) {
+        Ok(edition) => Ok(Command::Publish { edition }),
+        Err(fault) => Err(fault),
+    }
+}
+
+/// `rehearse,EDITION`
+fn read_rehearse(fields: &[&str]) -> Result<Command, ReadFault>
+    ensures { ReadsTo (λ c. (command_word c ≡ codes "rehearse") × AllHold forms.name_form (map (λ f. f.now) fields.now) (command_values c)) (IsLeast (IsAgainstSome forms.name_form (map (λ f. f.now) fields.now))) result }
+{
+    let [edition] = fields else {
+        return Err(ReadFault::refused(10));
+    };
+    match name_field(edition) {
+        Ok(edition) => Ok(Command::Rehearse { edition }),
+        Err(fault) => Err(fault),
+    }
+}
+
+/// `stage,EDITION,NO,PIECE..`
+fn read_stage(alloc: Global, fields: &[&str]) -> Result<Command, ReadFault>
+    ensures { ReadsTo (λ c. (command_word c ≡ codes "stage") × IsMet (stage_form (map (λ f. f.now) fields.now)) (map (λ f. f.now) fields.now) (command_values c)) (IsLeast (IsUnmet (stage_form (map (λ f. f.now) fields.now)) (map (λ f. f.now) fields.now))) result }
+{
+    let [edition, number, piece @ ..] = fields else {
+        return Err(ReadFault::refused(10));
+    };
+    match both(
+        name_field(edition),
+        both(id_field(number), read_piece(alloc, piece)),
+    ) {
+        Ok(read) => {
+            let (edition, (number, piece)) = read;
+            Ok(Command::Stage {
+                edition,
+                number,
+                piece,
+            })
+        }
+        Err(fault) => Err(fault),
+    }
+}
+
+/// The command that a piece is.
+fn command_of(piece: Piece) -> Command
+    ensures { result ≡ piece_command piece }
+{
+    match piece {
+        Piece::Tile {
+            table,
+            zoom,
+            column,
+            row,
+            bytes,
+        } => Command::Tile {
+            table,
+            zoom,
+            column,
+            row,
+            bytes,
+        },
+        Piece::TileDrop {
+            table,
+            zoom,
+            column,
+            row,
+        } => Command::TileDrop {
+            table,
+            zoom,
+            column,
+            row,
+        },
+        Piece::Row {
+            table,
+            id,
+            title,
+            note,
+            amount,
+        } => Command::Row {
+            table,
+            id,
+            title,
+            note,
+            amount,
+        },
+        Piece::RowDrop { table, id } => Command::RowDrop { table, id },
+        Piece::Media {
+            table,
+            id,
+            content_type,
+            bytes,
+        } => Command::Media {
+            table,
+            id,
+            content_type,
+            bytes,
+        },
+        Piece::MediaDrop { table, id } => Command::MediaDrop { table, id },
+        Piece::Map {
+            mapping,
+            base_id,
+            related_id,
+        } => Command::Map {
+            mapping,
+            base_id,
+            related_id,
+        },
+        Piece::MapDrop {
+            mapping,
+            base_id,
+            related_id,
+        } => Command::MapDrop {
+            mapping,
+            base_id,
+            related_id,
+        },
+    }
+}
+
+/// The command that the record of a piece spells.
+fn read_edit(alloc: Global, fields: &[&str]) -> Result<Command, ReadFault>
+    ensures { ReadsTo (λ c. (q : Piece) × (c ≡ piece_command q) × SpellsPiece (map (λ f. f.now) fields.now) q) (IsLeast (HoldsAgainstPiece (map (λ f. f.now) fields.now))) result }
+{
+    match read_piece(alloc, fields) {
+        Ok(piece) => Ok(command_of(piece)),
+        Err(fault) => Err(fault),
+    }
+}
+
+/// The command that a record spells.
+fn command_in(alloc: Global, fields: &[&str]) -> Result<Command, ReadFault>
+    ensures { ReadsTo (Spells millimetres (map (λ f. f.now) fields.now)) (IsLeast (HoldsAgainst millimetres (map (λ f. f.now) fields.now))) result }
+{
+    let [word, rest @ ..] = fields else {
+        return Err(ReadFault::refused(10));
+    };
+    match *word {
+        "stage" => read_stage(alloc, rest),
+        "srs" => read_srs(alloc, rest),
+        "pyramid" => read_pyramid(alloc, rest),
+        "matrix" => read_matrix(rest),
+        "table" => read_table(alloc, rest),
+        "drop" => read_drop(rest),
+        "relation" => read_relation(rest),
+        "relation-drop" => read_relation_drop(rest),
+        "edition" => read_edition(rest),
+        "discard" => read_discard(rest),
+        "publish" => read_publish(rest),
+        "rehearse" => read_rehearse(rest),
+        _ => read_edit(alloc, fields),
+    }
+}
+
+/// The command that a record's fields spell. Else the least number that is against them: 10 where they are the
+/// record of no command, 11 where a number or length is outside its limits, 12 where a name is none. Memory is
+/// answered only for want of memory.
+pub fn read_command(alloc: Global, fields: &[&str]) -> Result<Command, ReadFault>
+    ensures reads { ReadsTo (Spells millimetres (map (λ f. f.now) fields.now)) (IsLeast (HoldsAgainst millimetres (map (λ f. f.now) fields.now))) result }
+    ensures within { IfOk result (IsWithin millimetres) }
+{
+    command_in(alloc, fields)
+}

@@ -12,6 +12,7 @@ ghost use Rattle.mm_base.specs.Stamp.{IsStamp};
 ghost use Rattle.mm_base.specs.declared.commands.Command.TheVariants as commands;
 ghost use Rattle.mm_store.specs.Shapes.{IsLook, IsChange, IsLent};
 ghost use Rattle.mm_contents.specs.Rows.{pyramid_contents, IsUnregistered};
+ghost use Rattle.mm_contents.specs.Stamped.{IsLentAt};
 
 use crate::contents::{has_identifier, is_taken};
 use crate::extensions::insert_zoom_row;
@@ -166,6 +167,7 @@ pub fn add_pyramid<S: Alter>(
     at: &str,
 ) -> Result<Outcome, Fault>
     ensures same_reference { tx.new.conn.ghost_name ≡ tx.old.conn.ghost_name }
+    ensures any_text { (profile : Profile) → IsLentAt profile (commands.Pyramid table.now identifier.now srs min_x min_y max_x max_y step) at.now (state S.Store tx.old.conn.now) (state S.Store tx.new.conn.now) result }
     ensures lent { (profile : Profile) (moment : ℕ) → IsStamp moment at.now
         → IsLent profile (commands.Pyramid table.now identifier.now srs min_x min_y max_x max_y step) moment (state S.Store tx.old.conn.now) (state S.Store tx.new.conn.now) result }
 {

@@ -3,3 +3,4 @@ pub mod Refusing
 pub mod Registered
 pub mod Touching
 pub mod Looking
+pub mod Stamping

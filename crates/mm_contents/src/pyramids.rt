@@ -4,6 +4,7 @@ ghost use Rattle.std.specs.Prelude.{◌≡◌, ◌||◌, ℕ, Some, None, int_le
 ghost use Rattle.std.specs.FinMap.{get, insert};
 ghost use Rattle.sqlite.specs.Held.{state};
 ghost use Rattle.mm_base.specs.Bounds.{Profile};
+ghost use Rattle.mm_base.specs.Checks.{box_of};
 ghost use Rattle.mm_base.specs.Conditions.{least, own_reasons};
 ghost use Rattle.mm_base.specs.Effects.{with_pyramid, with_zoom_row};
 ghost use Rattle.mm_base.specs.Package.{zoom_extension};
@@ -11,6 +12,7 @@ ghost use Rattle.mm_base.specs.Stamp.{IsStamp};
 ghost use Rattle.mm_base.specs.declared.commands.Command.TheVariants as commands;
 ghost use Rattle.mm_store.specs.Shapes.{IsLook, IsChange, IsLent};
 ghost use Rattle.mm_contents.specs.Rows.{pyramid_contents, IsUnregistered};
+ghost use Rattle.mm_contents.specs.Stamped.{IsLentAt};
 
 use crate::contents::{has_identifier, is_taken};
 use crate::extensions::insert_zoom_row;
@@ -18,6 +20,7 @@ use crate::kinds::{insert_kind, text_of_step};
 use crate::systems::{has_system, is_geographic};
 use mm_base::answers::{Fault, Outcome, Refusal};
 use mm_base::commands::Step;
+use mm_base::extents::Extent;
 use mm_store::statements::run;
 use sqlite::{Alter, Transaction, params};
 
@@ -26,21 +29,27 @@ fn insert_pyramid_contents<S: Alter>(
     tx: &mut Transaction<'_, S>,
     table: &str,
     identifier: &str,
-    at: &str,
-    min_x: i64,
-    min_y: i64,
-    max_x: i64,
-    max_y: i64,
     srs: i64,
+    extent: &Extent,
+    at: &str,
 ) -> Result<(), Fault>
     ensures same_reference { tx.new.conn.ghost_name ≡ tx.old.conn.ghost_name }
     ensures change { (profile : Profile) → IsChange profile (state S.Store tx.old.conn.now) (state S.Store tx.new.conn.now) (λ p. get p.contents table.now ≡ None)
-        (λ p. record p { contents = insert p.contents table.now (pyramid_contents identifier.now at.now srs (record { min_x = min_x; min_y = min_y; max_x = max_x; max_y = max_y })) }) result }
+        (λ p. record p { contents = insert p.contents table.now (pyramid_contents identifier.now at.now srs (box_of extent.now)) }) result }
 {
     run(
         tx,
         "INSERT INTO gpkg_contents (table_name, data_type, identifier, description, last_change, min_x, min_y, max_x, max_y, srs_id) VALUES (?1, 'tiles', ?2, '', ?3, ?4, ?5, ?6, ?7, ?8)",
-        params![table, identifier, at, min_x, min_y, max_x, max_y, srs],
+        params![
+            table,
+            identifier,
+            at,
+            extent.min_x,
+            extent.min_y,
+            extent.max_x,
+            extent.max_y,
+            srs
+        ],
     )
 }
 
@@ -49,19 +58,23 @@ fn insert_matrix_set<S: Alter>(
     tx: &mut Transaction<'_, S>,
     table: &str,
     srs: i64,
-    min_x: i64,
-    min_y: i64,
-    max_x: i64,
-    max_y: i64,
+    extent: &Extent,
 ) -> Result<(), Fault>
     ensures same_reference { tx.new.conn.ghost_name ≡ tx.old.conn.ghost_name }
     ensures change { (profile : Profile) → IsChange profile (state S.Store tx.old.conn.now) (state S.Store tx.new.conn.now) (λ p. get p.sets table.now ≡ None)
-        (λ p. record p { sets = insert p.sets table.now (record { system = srs; box = record { min_x = min_x; min_y = min_y; max_x = max_x; max_y = max_y } }) }) result }
+        (λ p. record p { sets = insert p.sets table.now (record { system = srs; box = box_of extent.now }) }) result }
 {
     run(
         tx,
         "INSERT INTO gpkg_tile_matrix_set (table_name, srs_id, min_x, min_y, max_x, max_y) VALUES (?1, ?2, ?3, ?4, ?5, ?6)",
-        params![table, srs, min_x, min_y, max_x, max_y],
+        params![
+            table,
+            srs,
+            extent.min_x,
+            extent.min_y,
+            extent.max_x,
+            extent.max_y
+        ],
     )
 }
 
@@ -70,19 +83,16 @@ fn insert_pyramid<S: Alter>(
     tx: &mut Transaction<'_, S>,
     table: &str,
     identifier: &str,
-    at: &str,
     srs: i64,
-    min_x: i64,
-    min_y: i64,
-    max_x: i64,
-    max_y: i64,
+    extent: &Extent,
     step: Step,
+    at: &str,
 ) -> Result<(), Fault>
     ensures same_reference { tx.new.conn.ghost_name ≡ tx.old.conn.ghost_name }
     ensures change { (profile : Profile) → IsChange profile (state S.Store tx.old.conn.now) (state S.Store tx.new.conn.now) (IsUnregistered table.now)
-        (λ p. with_pyramid p table.now identifier.now srs (record { min_x = min_x; min_y = min_y; max_x = max_x; max_y = max_y }) step at.now) result }
+        (λ p. with_pyramid p table.now identifier.now srs (box_of extent.now) step at.now) result }
 {
-    match insert_pyramid_contents(tx, table, identifier, at, min_x, min_y, max_x, max_y, srs) {
+    match insert_pyramid_contents(tx, table, identifier, srs, extent, at) {
         Ok(()) => {}
         Err(fault) => return Err(fault),
     }
@@ -90,7 +100,7 @@ fn insert_pyramid<S: Alter>(
         Ok(()) => {}
         Err(fault) => return Err(fault),
     }
-    insert_matrix_set(tx, table, srs, min_x, min_y, max_x, max_y)
+    insert_matrix_set(tx, table, srs, extent)
 }
 
 /// Whether the bounds hold no point between them.
@@ -157,6 +167,7 @@ pub fn add_pyramid<S: Alter>(
     at: &str,
 ) -> Result<Outcome, Fault>
     ensures same_reference { tx.new.conn.ghost_name ≡ tx.old.conn.ghost_name }
+    ensures any_text { (profile : Profile) → IsLentAt profile (commands.Pyramid table.now identifier.now srs min_x min_y max_x max_y step) at.now (state S.Store tx.old.conn.now) (state S.Store tx.new.conn.now) result }
     ensures lent { (profile : Profile) (moment : ℕ) → IsStamp moment at.now
         → IsLent profile (commands.Pyramid table.now identifier.now srs min_x min_y max_x max_y step) moment (state S.Store tx.old.conn.now) (state S.Store tx.new.conn.now) result }
 {
@@ -170,9 +181,13 @@ pub fn add_pyramid<S: Alter>(
         }
         Err(fault) => return Err(fault),
     }
-    match insert_pyramid(
-        tx, table, identifier, at, srs, min_x, min_y, max_x, max_y, step,
-    ) {
+    let extent = Extent {
+        min_x,
+        min_y,
+        max_x,
+        max_y,
+    };
+    match insert_pyramid(tx, table, identifier, srs, &extent, step, at) {
         Ok(()) => {}
         Err(fault) => return Err(fault),
     }

@@ -13,6 +13,7 @@ ghost use Rattle.mm_base.specs.declared.commands.Command.TheVariants as commands
 ghost use Rattle.mm_store.specs.Removals.{without_table_rows};
 ghost use Rattle.mm_store.specs.Shapes.{IsLook, IsChange, IsLent};
 ghost use Rattle.mm_contents.specs.Rows.{plain_contents};
+ghost use Rattle.mm_contents.specs.Stamped.{IsLentAt};
 
 use crate::contents::{has_identifier, has_table, insert_plain_contents, is_taken};
 use crate::extensions::delete_zoom_row;
@@ -54,6 +55,7 @@ pub fn add_table<S: Alter>(
     at: &str,
 ) -> Result<Outcome, Fault>
     ensures same_reference { tx.new.conn.ghost_name ≡ tx.old.conn.ghost_name }
+    ensures any_text { (profile : Profile) → IsLentAt profile (commands.Table table.now kind identifier.now) at.now (state S.Store tx.old.conn.now) (state S.Store tx.new.conn.now) result }
     ensures lent { (profile : Profile) (moment : ℕ) → IsStamp moment at.now → IsLent profile (commands.Table table.now kind identifier.now) moment (state S.Store tx.old.conn.now) (state S.Store tx.new.conn.now) result }
 {
     match table_refusal(tx, table, identifier) {

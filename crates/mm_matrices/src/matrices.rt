@@ -11,6 +11,7 @@ ghost use Rattle.mm_base.specs.Rules.{Meets};
 ghost use Rattle.mm_base.specs.Stamp.{IsStamp};
 ghost use Rattle.mm_base.specs.declared.commands.Command.TheVariants as commands;
 ghost use Rattle.mm_store.specs.Shapes.{IsLook, IsChange, IsLent};
+ghost use Rattle.mm_contents.specs.Stamped.{IsLentAt};
 ghost use Rattle.mm_matrices.specs.Shown.{IsPlainKind};
 
 use crate::extents::fits_pyramid;
@@ -119,6 +120,7 @@ pub fn add_matrix<S: Alter>(
     at: &str,
 ) -> Result<Outcome, Fault>
     ensures same_reference { tx.new.conn.ghost_name ≡ tx.old.conn.ghost_name }
+    ensures any_text { (profile : Profile) → IsLentAt profile (commands.Matrix table.now zoom matrix.now) at.now (state S.Store tx.old.conn.now) (state S.Store tx.new.conn.now) result }
     ensures lent { (profile : Profile) (moment : ℕ) → IsStamp moment at.now → IsLent profile (commands.Matrix table.now zoom matrix.now) moment (state S.Store tx.old.conn.now) (state S.Store tx.new.conn.now) result }
 {
     match matrix_refusal(tx, table, zoom, matrix) {

@@ -17,6 +17,6 @@ returns-clause-change g c profile =
     let r = c.ranges in
     changes_then profile _ _ _ _ _
     (changes_then profile _ _ _ _ _
-    (change_where profile (IsUnregistered c.args.table.now) _ _ _ ((rw (to_z-of_z r.min_x, to_z-of_z r.min_y, to_z-of_z r.max_x, to_z-of_z r.max_y, to_z-of_z r.srs) at c.in-Ok.ensures.change) profile) (λ p new. new.0))
+    (change_where profile (IsUnregistered c.args.table.now) _ _ _ ((rw (to_z-of_z r.srs) at c.in-Ok.ensures.change) profile) (λ p new. new.0))
     ((rw c.text_of_step.ensures at c.in-Ok-insert_kind.ensures.change) profile) (λ p new. new.1))
-    ((rw (to_z-of_z r.min_x, to_z-of_z r.min_y, to_z-of_z r.max_x, to_z-of_z r.max_y, to_z-of_z r.srs) at c.insert_matrix_set.ensures.change) profile) (λ p new. new.2)
+    ((rw (to_z-of_z r.srs) at c.insert_matrix_set.ensures.change) profile) (λ p new. new.2)

@@ -1,5 +1,5 @@
 -- A connection whose profile row was looked at is settled as it was before.
-use Rattle.std.proofs.Common.{◌≡◌, ◌⊎◌, inl, inr, Ok, sym, subst, ◌∙◌}
+use Rattle.std.proofs.Common.{inl, inr, Ok, sym, subst, ◌∙◌}
 use Rattle.sqlite.specs.State.{State, HasCleanDisk}
 use Rattle.mm_base.specs.Bounds.{millimetres}
 use Rattle.mm_base.specs.Package.{Package}

@@ -1,7 +1,7 @@
 //! What files are told to be, and what is left of them.
 
 use super::{RECORD, make_file, make_folder, outcome};
-use crate::files::open_new;
+use crate::files::{open_new, open_old};
 use crate::package::close_files;
 use sqlite::{Alter, Connection, Wary};
 use std::test::Fail;
@@ -75,15 +75,12 @@ fn runs_on_half_a_package(rt: HostRuntime) -> Result<(), Fail> {
     Ok(())
 }
 
-/// Makes a table that is no part of a package.
-fn with_other_table<S: Alter + Drop>(conn: Connection<S>) -> Result<Connection<S>, Fail> {
+/// Runs a statement on the database.
+fn with_statement<S: Alter + Drop>(conn: Connection<S>, sql: &str) -> Result<Connection<S>, Fail> {
     let mut conn = conn;
-    match conn.execute(
-        "CREATE TABLE notes (id INTEGER PRIMARY KEY, note TEXT) STRICT",
-        &[],
-    ) {
+    match conn.execute(sql, &[]) {
         Ok(_) => Ok(conn),
-        Err(_) => Err(Fail::new("no table was made")),
+        Err(_) => Err(Fail::new("the statement was not run")),
     }
 }
 
@@ -93,7 +90,8 @@ fn runs_on_a_database_of_another_program(rt: HostRuntime) -> Result<(), Fail> {
     let Ok(conn) = open_new(&rt, "mm_cli_other/a.gpkg", Wary) else {
         return Err(Fail::new("not opened"));
     };
-    let Ok(()) = close_files(with_other_table(conn)?) else {
+    let table = "CREATE TABLE notes (id INTEGER PRIMARY KEY, note TEXT) STRICT";
+    let Ok(()) = close_files(with_statement(conn, table)?) else {
         return Err(Fail::new("not closed"));
     };
     let bytes = fs::read(&rt, "mm_cli_other/a.gpkg")?;
@@ -102,6 +100,39 @@ fn runs_on_a_database_of_another_program(rt: HostRuntime) -> Result<(), Fail> {
     assert_eq!(rt; text.as_slice(), b"not a package 94\n".as_slice());
     assert!(rt; same);
     fs::remove_dir_all(&rt, "mm_cli_other")?;
+    Ok(())
+}
+
+// Another version, and no row.
+#[test]
+fn runs_on_other_profiles(rt: HostRuntime) -> Result<(), Fail> {
+    make_folder(&rt, "mm_cli_profile")?;
+    for (path, change, want) in [
+        (
+            "mm_cli_profile/a.gpkg",
+            "UPDATE mm_profile SET version = 2",
+            b"not a package 93\n".as_slice(),
+        ),
+        (
+            "mm_cli_profile/b.gpkg",
+            "DELETE FROM mm_profile",
+            b"not a package 95\n".as_slice(),
+        ),
+    ] {
+        make_file(&rt, path)?;
+        let Ok(conn) = open_old(&rt, path, Wary) else {
+            return Err(Fail::new("not opened"));
+        };
+        let Ok(()) = close_files(with_statement(conn, change)?) else {
+            return Err(Fail::new("not closed"));
+        };
+        let bytes = fs::read(&rt, path)?;
+        let (status, text, same) = run_on(&rt, path, bytes.as_slice())?;
+        assert_eq!(rt; status, 4);
+        assert_eq!(rt; text.as_slice(), want);
+        assert!(rt; same);
+    }
+    fs::remove_dir_all(&rt, "mm_cli_profile")?;
     Ok(())
 }
 

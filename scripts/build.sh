@@ -1,0 +1,16 @@
+#!/usr/bin/env bash
+# Builds the program from this clone: proves it with all that stands below it, compiles it, and puts it at out/mmpkg.
+# From nothing it takes some twenty minutes; with no change since, no time.
+#
+#     scripts/build.sh
+set -eu -o pipefail
+
+top=$(cd "$(dirname "$0")/.." && pwd)
+mkdir -p "$top/out"
+if ! (cd "$top/crates/mm_cli" && rt run -- --help) >"$top/out/build.log" 2>&1; then
+    tail -n 40 "$top/out/build.log" >&2
+    echo "mmpkg was not built" >&2
+    exit 1
+fi
+cp "$top/crates/mm_cli/out/mm_cli" "$top/out/mmpkg"
+echo "built out/mmpkg"

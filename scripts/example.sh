@@ -1,0 +1,25 @@
+#!/usr/bin/env bash
+# Builds the program from this clone, makes a new package and runs the example list on it, and prints what it did.
+#
+#     scripts/example.sh [FILE]
+#
+# FILE is the package to make; without it, one in a new folder of the system's.
+set -eu -o pipefail
+
+file=$(realpath -m "${1:-$(mktemp -d)/example.gpkg}")
+cd "$(dirname "$0")/.."
+scripts/build.sh
+
+# Prints the command, runs it, and prints its exit status.
+show() {
+    echo "\$ $1"
+    local status=0
+    eval "$1" || status=$?
+    echo "(status $status)"
+}
+
+PATH="$PWD/out:$PATH"
+show "mmpkg init '$file'"
+show "cat examples/systems.csv"
+show "mmpkg run '$file' < examples/systems.csv"
+show "ls '$file' '$file-wal'"

@@ -1,5 +1,6 @@
 //! The program on files of the tests' own.
 
+mod contents;
 mod faults;
 mod files;
 mod runs;

@@ -1,5 +1,5 @@
 #!/usr/bin/env bash
-# Builds the program from this clone, makes a new package and runs the example list on it, and prints what it did.
+# Builds the program from this clone, makes a new package and runs the example lists on it, and prints what it did.
 #
 #     scripts/example.sh [FILE]
 #
@@ -22,4 +22,6 @@ PATH="$PWD/out:$PATH"
 show "mmpkg init '$file'"
 show "cat examples/systems.csv"
 show "mmpkg run '$file' < examples/systems.csv"
+show "cat examples/base_map.csv"
+show "mmpkg run '$file' --at 0 < examples/base_map.csv"
 show "ls '$file' '$file-wal'"

@@ -1,6 +1,6 @@
 #!/usr/bin/env bash
 # Builds the program from this clone: proves it with all that stands below it, compiles it, and puts it at out/mmpkg.
-# From nothing it takes some twenty minutes; with no change since, no time.
+# From nothing it proves every crate below first, which takes many minutes; with no change since, no time.
 #
 #     scripts/build.sh
 set -eu -o pipefail

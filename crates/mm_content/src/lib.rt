@@ -1,0 +1,18 @@
+//! The content of a package: attribute rows, media and tiles are put, replaced and removed by their keys.
+//!
+//! - `rows`: `put_row` and `drop_row`.
+//! - `media`: `put_media` and `drop_media`.
+//! - `tiles`: `put_tile` and `drop_tile`.
+//! - `mapped`: whether a mapping row has an item as an end.
+//! - `kinds`: whether a table is of the kind that a command asks.
+#![tactic(auto)]
+
+mod kinds;
+mod mapped;
+mod media;
+mod rows;
+mod tiles;
+
+pub use media::{drop_media, put_media};
+pub use rows::{drop_row, put_row};
+pub use tiles::{drop_tile, put_tile};

@@ -1,0 +1,266 @@
+//! Tiles.
+
+ghost use Rattle.std.specs.Prelude.{◌≡◌, ℕ, pos, int_le, ◌||◌, List, None, true, ⊤, option_map};
+ghost use Rattle.std.specs.FinMap.{get, contains_key, insert, remove};
+ghost use Rattle.sqlite.specs.Held.{state};
+ghost use Rattle.mm_base.specs.Bounds.{Profile};
+ghost use Rattle.mm_base.specs.Conditions.{least, own_reasons};
+ghost use Rattle.mm_base.specs.Keys.{level, tile};
+ghost use Rattle.mm_base.specs.Package.{Grid};
+ghost use Rattle.mm_base.specs.Rules.{Meets};
+ghost use Rattle.mm_base.specs.Stamp.{IsStamp};
+ghost use Rattle.mm_base.specs.declared.commands.Command.TheVariants as commands;
+ghost use Rattle.mm_store.specs.Shapes.{IsLook, IsChange, IsLent};
+ghost use Rattle.mm_contents.specs.Stamped.{IsLentAt};
+
+use crate::kinds::pyramid_refusal;
+use mm_base::answers::{Fault, Outcome, Refusal};
+use mm_contents::touch;
+use mm_store::statements::{exists, first_pair, run};
+use sqlite::{Alter, Transaction, params};
+
+/// The width and the height, in tiles, of the matrix at this zoom of a table.
+fn sides_at<S: Alter>(
+    tx: &mut Transaction<'_, S>,
+    table: &str,
+    zoom: u8,
+) -> Result<Option<(i64, i64)>, Fault>
+    ensures same_reference { tx.new.conn.ghost_name ≡ tx.old.conn.ghost_name }
+    ensures look { (profile : Profile) → IsLook profile (state S.Store tx.old.conn.now) (state S.Store tx.new.conn.now)
+        (λ p sides. option_map (λ (g : Grid). (g.matrix_width, g.matrix_height)) (get p.matrices (level table.now (pos zoom))) ≡ sides) result }
+{
+    first_pair(
+        tx,
+        "SELECT matrix_width, matrix_height FROM gpkg_tile_matrix WHERE table_name = ?1 AND zoom_level = ?2",
+        params![table, u32::from(zoom)],
+    )
+}
+
+/// Whether a tile stands at this place.
+fn has_tile<S: Alter>(
+    tx: &mut Transaction<'_, S>,
+    table: &str,
+    zoom: u8,
+    column: u32,
+    row: u32,
+) -> Result<bool, Fault>
+    ensures same_reference { tx.new.conn.ghost_name ≡ tx.old.conn.ghost_name }
+    ensures look { (profile : Profile) → IsLook profile (state S.Store tx.old.conn.now) (state S.Store tx.new.conn.now) (λ p found. found ≡ contains_key p.tiles (tile table.now (pos zoom) (pos column) (pos row))) result }
+{
+    exists(
+        tx,
+        "SELECT 1 FROM mm_tiles WHERE table_name = ?1 AND zoom_level = ?2 AND tile_column = ?3 AND tile_row = ?4",
+        params![table, u32::from(zoom), column, row],
+    )
+}
+
+/// Puts a tile at a place that is free.
+fn insert_tile<S: Alter>(
+    tx: &mut Transaction<'_, S>,
+    table: &str,
+    zoom: u8,
+    column: u32,
+    row: u32,
+    bytes: &[u8],
+) -> Result<(), Fault>
+    ensures same_reference { tx.new.conn.ghost_name ≡ tx.old.conn.ghost_name }
+    ensures change { (profile : Profile) → IsChange profile (state S.Store tx.old.conn.now) (state S.Store tx.new.conn.now) (λ p. get p.tiles (tile table.now (pos zoom) (pos column) (pos row)) ≡ None)
+        (λ p. record p { tiles = insert p.tiles (tile table.now (pos zoom) (pos column) (pos row)) bytes.now }) result }
+{
+    run(
+        tx,
+        "INSERT INTO mm_tiles (table_name, zoom_level, tile_column, tile_row, tile_data) VALUES (?1, ?2, ?3, ?4, ?5)",
+        params![table, u32::from(zoom), column, row, bytes],
+    )
+}
+
+/// Puts a tile in place of the one that stands.
+fn update_tile<S: Alter>(
+    tx: &mut Transaction<'_, S>,
+    table: &str,
+    zoom: u8,
+    column: u32,
+    row: u32,
+    bytes: &[u8],
+) -> Result<(), Fault>
+    ensures same_reference { tx.new.conn.ghost_name ≡ tx.old.conn.ghost_name }
+    ensures change { (profile : Profile) → IsChange profile (state S.Store tx.old.conn.now) (state S.Store tx.new.conn.now) (λ p. contains_key p.tiles (tile table.now (pos zoom) (pos column) (pos row)) ≡ true)
+        (λ p. record p { tiles = insert p.tiles (tile table.now (pos zoom) (pos column) (pos row)) bytes.now }) result }
+{
+    run(
+        tx,
+        "UPDATE mm_tiles SET tile_data = ?5 WHERE table_name = ?1 AND zoom_level = ?2 AND tile_column = ?3 AND tile_row = ?4",
+        params![table, u32::from(zoom), column, row, bytes],
+    )
+}
+
+/// Puts a tile, in place of the one that stands or as a new one.
+fn write_tile<S: Alter>(
+    tx: &mut Transaction<'_, S>,
+    table: &str,
+    zoom: u8,
+    column: u32,
+    row: u32,
+    bytes: &[u8],
+) -> Result<(), Fault>
+    ensures same_reference { tx.new.conn.ghost_name ≡ tx.old.conn.ghost_name }
+    ensures change { (profile : Profile) → IsChange profile (state S.Store tx.old.conn.now) (state S.Store tx.new.conn.now) (λ p. ⊤)
+        (λ p. record p { tiles = insert p.tiles (tile table.now (pos zoom) (pos column) (pos row)) bytes.now }) result }
+{
+    match has_tile(tx, table, zoom, column, row) {
+        Ok(true) => update_tile(tx, table, zoom, column, row, bytes),
+        Ok(false) => insert_tile(tx, table, zoom, column, row, bytes),
+        Err(fault) => Err(fault),
+    }
+}
+
+/// Removes the tile at a place.
+fn delete_tile<S: Alter>(
+    tx: &mut Transaction<'_, S>,
+    table: &str,
+    zoom: u8,
+    column: u32,
+    row: u32,
+) -> Result<(), Fault>
+    ensures same_reference { tx.new.conn.ghost_name ≡ tx.old.conn.ghost_name }
+    ensures change { (profile : Profile) → IsChange profile (state S.Store tx.old.conn.now) (state S.Store tx.new.conn.now) (λ p. ⊤)
+        (λ p. record p { tiles = remove p.tiles (tile table.now (pos zoom) (pos column) (pos row)) }) result }
+{
+    run(
+        tx,
+        "DELETE FROM mm_tiles WHERE table_name = ?1 AND zoom_level = ?2 AND tile_column = ?3 AND tile_row = ?4",
+        params![table, u32::from(zoom), column, row],
+    )
+}
+
+/// Whether a place is outside a matrix of this width and height.
+fn is_outside(width: i64, height: i64, column: u32, row: u32) -> bool
+    ensures { result ≡ (int_le width (pos column) || int_le height (pos row)) }
+{
+    width <= i64::from(column) || height <= i64::from(row)
+}
+
+/// Why a tile is not put, if it is not.
+fn tile_refusal<S: Alter>(
+    tx: &mut Transaction<'_, S>,
+    table: &str,
+    zoom: u8,
+    column: u32,
+    row: u32,
+) -> Result<Option<u8>, Fault>
+    ensures same_reference { tx.new.conn.ghost_name ≡ tx.old.conn.ghost_name }
+    ensures look { (profile : Profile) → IsLook profile (state S.Store tx.old.conn.now) (state S.Store tx.new.conn.now)
+        (λ p why. Meets profile p → (bytes : List ℕ) → why ≡ least (own_reasons p (commands.Tile table.now zoom column row bytes))) result }
+{
+    match pyramid_refusal(tx, table) {
+        Ok(None) => {}
+        Ok(Some(number)) => return Ok(Some(number)),
+        Err(fault) => return Err(fault),
+    }
+    let (width, height) = match sides_at(tx, table, zoom) {
+        Ok(Some(sides)) => sides,
+        Ok(None) => return Ok(Some(33)),
+        Err(fault) => return Err(fault),
+    };
+    if is_outside(width, height, column, row) {
+        Ok(Some(34))
+    } else {
+        Ok(None)
+    }
+}
+
+/// The command `tile`: puts the bytes of a tile of a pyramid, in place of those that stand at its zoom, column and row if
+/// there are any. `at` is the stamp of the moment, which becomes the last_change of the pyramid. Refused 25 where no table
+/// has the name, 26 where it is no pyramid, 33 where the zoom has no matrix, 34 where the column or the row is outside the
+/// matrix. (Tile Matrix; Tile Pyramid User Data Tables.)
+pub fn put_tile<S: Alter>(
+    tx: &mut Transaction<'_, S>,
+    table: &str,
+    zoom: u8,
+    column: u32,
+    row: u32,
+    bytes: &[u8],
+    at: &str,
+) -> Result<Outcome, Fault>
+    ensures same_reference { tx.new.conn.ghost_name ≡ tx.old.conn.ghost_name }
+    ensures any_text { (profile : Profile) → IsLentAt profile (commands.Tile table.now zoom column row bytes.now) at.now (state S.Store tx.old.conn.now) (state S.Store tx.new.conn.now) result }
+    ensures lent { (profile : Profile) (moment : ℕ) → IsStamp moment at.now → IsLent profile (commands.Tile table.now zoom column row bytes.now) moment (state S.Store tx.old.conn.now) (state S.Store tx.new.conn.now) result }
+{
+    match tile_refusal(tx, table, zoom, column, row) {
+        Ok(None) => {}
+        Ok(Some(number)) => {
+            return Ok(Outcome::Refused(Refusal {
+                number,
+                piece: None,
+            }));
+        }
+        Err(fault) => return Err(fault),
+    }
+    match write_tile(tx, table, zoom, column, row, bytes) {
+        Ok(()) => {}
+        Err(fault) => return Err(fault),
+    }
+    match touch(tx, table, at) {
+        Ok(()) => Ok(Outcome::Done),
+        Err(fault) => Err(fault),
+    }
+}
+
+/// Why a tile is not removed, if it is not.
+fn tile_drop_refusal<S: Alter>(
+    tx: &mut Transaction<'_, S>,
+    table: &str,
+    zoom: u8,
+    column: u32,
+    row: u32,
+) -> Result<Option<u8>, Fault>
+    ensures same_reference { tx.new.conn.ghost_name ≡ tx.old.conn.ghost_name }
+    ensures look { (profile : Profile) → IsLook profile (state S.Store tx.old.conn.now) (state S.Store tx.new.conn.now)
+        (λ p why. Meets profile p → why ≡ least (own_reasons p (commands.TileDrop table.now zoom column row))) result }
+{
+    match pyramid_refusal(tx, table) {
+        Ok(None) => {}
+        Ok(Some(number)) => return Ok(Some(number)),
+        Err(fault) => return Err(fault),
+    }
+    match has_tile(tx, table, zoom, column, row) {
+        Ok(true) => Ok(None),
+        Ok(false) => Ok(Some(35)),
+        Err(fault) => Err(fault),
+    }
+}
+
+/// The command `tile-drop`: removes a tile of a pyramid. `at` is the stamp of the moment, which becomes the last_change of
+/// the pyramid. Refused 25 where no table has the name, 26 where it is no pyramid, 35 where no tile stands at the zoom, the
+/// column and the row. (Tile Pyramid User Data Tables.)
+pub fn drop_tile<S: Alter>(
+    tx: &mut Transaction<'_, S>,
+    table: &str,
+    zoom: u8,
+    column: u32,
+    row: u32,
+    at: &str,
+) -> Result<Outcome, Fault>
+    ensures same_reference { tx.new.conn.ghost_name ≡ tx.old.conn.ghost_name }
+    ensures any_text { (profile : Profile) → IsLentAt profile (commands.TileDrop table.now zoom column row) at.now (state S.Store tx.old.conn.now) (state S.Store tx.new.conn.now) result }
+    ensures lent { (profile : Profile) (moment : ℕ) → IsStamp moment at.now → IsLent profile (commands.TileDrop table.now zoom column row) moment (state S.Store tx.old.conn.now) (state S.Store tx.new.conn.now) result }
+{
+    match tile_drop_refusal(tx, table, zoom, column, row) {
+        Ok(None) => {}
+        Ok(Some(number)) => {
+            return Ok(Outcome::Refused(Refusal {
+                number,
+                piece: None,
+            }));
+        }
+        Err(fault) => return Err(fault),
+    }
+    match delete_tile(tx, table, zoom, column, row) {
+        Ok(()) => {}
+        Err(fault) => return Err(fault),
+    }
+    match touch(tx, table, at) {
+        Ok(()) => Ok(Outcome::Done),
+        Err(fault) => Err(fault),
+    }
+}

@@ -23,6 +23,12 @@ pub fn is_served(command: &Command) -> bool
             | Command::Matrix { .. }
             | Command::Table { .. }
             | Command::Drop { .. }
+            | Command::Tile { .. }
+            | Command::TileDrop { .. }
+            | Command::Row { .. }
+            | Command::RowDrop { .. }
+            | Command::Media { .. }
+            | Command::MediaDrop { .. }
     )
 }
 

@@ -2,17 +2,18 @@
 
 ghost use Rattle.std.specs.Prelude.{◌≡◌, ◌≤◌, ◌⊎◌, IfOk, IfErr};
 ghost use Rattle.mm_base.specs.Streams.{has_failed};
-ghost use Rattle.mm_cli.specs.Told.{TellsFailure};
+ghost use Rattle.mm_work.specs.Told.{TellsFailure};
 
 use crate::clock::{Now, time_now};
-use crate::files::{open_new, open_old};
-use crate::package::{close_files, make_package, run_package};
-use crate::stop::Stop;
-use crate::tell::{FAULT, REFUSED, USAGE, tell_bytes, tell_init, tell_stop, tell_text};
+use crate::files::{close_files, open_new, open_old};
 use mm_arguments::{Request, read_arguments, status_of};
 use mm_base::answers::Fault;
 use mm_base::moments::Moment;
 use mm_base::streams::Io;
+use mm_work::{
+    FAULT, REFUSED, Stop, USAGE, make_package, run_package, tell_bytes, tell_init, tell_stop,
+    tell_text,
+};
 use sqlite::{Start, Wary};
 use std::io::{Read, Write};
 

@@ -10,16 +10,15 @@ ghost use Rattle.mm_meta.specs.Look.{IsLooked};
 ghost use Rattle.mm_run.specs.Runs.{OnRun};
 ghost use Rattle.mm_core.specs.Parts.{held};
 ghost use Rattle.mm_core.specs.Sessions.{IsCreated};
-ghost use Rattle.mm_cli.specs.Ran.{IsRun};
+ghost use Rattle.mm_work.specs.Ran.{IsRun};
 
 use crate::stop::Stop;
 use crate::tell::{DONE, FAULT, REFUSED};
-use mm_base::answers::{Fault, Open};
+use mm_base::answers::Open;
 use mm_base::moments::Moment;
 use mm_base::streams::Io;
 use mm_core::Session;
-use sqlite::{Alter, Connection, Error, ErrorCode, FileStore};
-use sqlite_disk::Disk;
+use sqlite::{Alter, Connection};
 use std::alloc::Global;
 use std::io::{Read, Write};
 
@@ -95,14 +94,5 @@ pub fn run_package<S: Alter + Drop, R: Read, W: Write>(
             Ok((session.close(), status))
         }
         Err(why) => Err(why),
-    }
-}
-
-/// Closes the files, which copies the journal back.
-pub fn close_files<D: Disk + Drop>(conn: Connection<FileStore<D>>) -> Result<(), Stop> {
-    match conn.close() {
-        Ok(()) => Ok(()),
-        Err(Error::SqliteFailure(ErrorCode::OutOfMemory)) => Err(Stop::Fault(Fault(90))),
-        Err(_) => Err(Stop::Fault(Fault(91))),
     }
 }

@@ -2,7 +2,7 @@
 
 ghost use Rattle.std.specs.Prelude.{◌≡◌, ◌⊎◌, ◌++◌, ◌+◌, ◌≤◌, true, codes, decimal, length};
 ghost use Rattle.mm_base.specs.Streams.{has_failed, inside};
-ghost use Rattle.mm_cli.specs.Told.{IsTold, init_status, init_text, stop_status, stop_text};
+ghost use Rattle.mm_work.specs.Told.{IsTold, init_status, init_text, stop_status, stop_text};
 
 use crate::stop::Stop;
 use arrayvec::ArrayVec;

@@ -2,9 +2,10 @@
 
 ghost use Rattle.std.specs.Prelude.{◌≡◌, false, IfOk};
 
-use crate::stop::Stop;
 use mm_base::answers::Fault;
+use mm_work::Stop;
 use sqlite::{Connection, Error, ErrorCode, FileFrom, FileStore, Start};
+use sqlite_disk::Disk;
 use std::{fs, io};
 
 /// No database is as short as this; a shorter file is refused without being opened, so that it stays as it is.
@@ -72,5 +73,14 @@ pub fn open_old<S: Start>(
         None | Some(0) => Err(Stop::NotPackage(94)),
         Some(length) if length < SHORTEST => Err(Stop::Fault(Fault(91))),
         Some(_) => open_file(rt, path, start),
+    }
+}
+
+/// Closes the files, which copies the journal back.
+pub fn close_files<D: Disk + Drop>(conn: Connection<FileStore<D>>) -> Result<(), Stop> {
+    match conn.close() {
+        Ok(()) => Ok(()),
+        Err(Error::SqliteFailure(ErrorCode::OutOfMemory)) => Err(Stop::Fault(Fault(90))),
+        Err(_) => Err(Stop::Fault(Fault(91))),
     }
 }

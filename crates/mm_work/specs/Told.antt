@@ -3,8 +3,8 @@ use Rattle.std.specs.Prelude.{◌≡◌, ℕ, List, ◌++◌, Option, Bool, fals
 use Rattle.mm_lines.specs.Sending.{Sends}
 use Rattle.mm_lines.specs.declared.sending.Sent.{Sent}
 use Rattle.mm_lines.specs.declared.sending.Sent.TheVariants as sent
-use Rattle.mm_cli.specs.declared.stop.Stop.{Stop}
-use Rattle.mm_cli.specs.declared.stop.Stop.TheVariants as stops
+use Rattle.mm_work.specs.declared.stop.Stop.{Stop}
+use Rattle.mm_work.specs.declared.stop.Stop.TheVariants as stops
 
 -- the status where all was printed, and that of a fault else
 abbrev pub status_after : Sent → ℕ → ℕ

@@ -1,7 +1,7 @@
 use Rattle.sqlite.specs.Held.{state}
 use Rattle.mm_core.specs.Parts.{held}
-use Rattle.mm_cli.proofs.Adopting.{looked_settled}
-use Rattle.mm_cli.proofs.package.run_package.Goals as goal
+use Rattle.mm_work.proofs.Adopting.{looked_settled}
+use Rattle.mm_work.proofs.package.run_package.Goals as goal
 
 pub returns-in-Ok-clause-ran : goal.returns-in-Ok-clause-ran
 returns-in-Ok-clause-ran g c = rw c.close.ensures (λ clean p sound bytes is.

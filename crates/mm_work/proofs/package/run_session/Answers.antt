@@ -1,6 +1,6 @@
 use Rattle.std.proofs.Common.{rules, ◌≡◌, inl, inr, refl}
 use Rattle.std.specs.Prelude.{◌≢◌}
-use Rattle.mm_cli.proofs.package.run_session.Goals as goal
+use Rattle.mm_work.proofs.package.run_session.Goals as goal
 
 pub returns-in-Ok-clause-ran : goal.returns-in-Ok-clause-ran
 returns-in-Ok-clause-ran g c clean p sound bytes is =

@@ -21,3 +21,18 @@ is_content (commands.RowDrop table id) = true
 is_content (commands.Media table id content_type bytes) = true
 is_content (commands.MediaDrop table id) = true
 is_content _ = false
+
+-- it changes relations or mapping rows
+abbrev pub relates : Command → Bool
+relates (commands.Relation mapping base related name) = true
+relates (commands.RelationDrop mapping) = true
+relates (commands.Map mapping base_id related_id) = true
+relates (commands.MapDrop mapping base_id related_id) = true
+relates _ = false
+
+-- it changes an edition that is not published yet, and no content
+abbrev pub prepares_edition : Command → Bool
+prepares_edition (commands.Edition name) = true
+prepares_edition (commands.Discard name) = true
+prepares_edition (commands.Stage edition number piece) = true
+prepares_edition _ = false

@@ -29,6 +29,13 @@ pub fn is_served(command: &Command) -> bool
             | Command::RowDrop { .. }
             | Command::Media { .. }
             | Command::MediaDrop { .. }
+            | Command::Relation { .. }
+            | Command::RelationDrop { .. }
+            | Command::Map { .. }
+            | Command::MapDrop { .. }
+            | Command::Edition { .. }
+            | Command::Discard { .. }
+            | Command::Stage { .. }
     )
 }
 

@@ -4,3 +4,5 @@ pub mod Rows
 pub mod Failing
 pub mod Numbering
 pub mod Unchanged
+pub mod Spelled
+pub mod Turning

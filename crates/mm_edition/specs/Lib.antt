@@ -1,3 +1,4 @@
 pub mod Standings
 pub mod Kept
 pub mod Places
+pub mod Turns

@@ -6,3 +6,6 @@ pub mod Numbering
 pub mod Unchanged
 pub mod Spelled
 pub mod Turning
+pub mod InOrder
+pub mod Trials
+pub mod Tries

@@ -9,3 +9,4 @@ pub mod Turning
 pub mod InOrder
 pub mod Trials
 pub mod Tries
+pub mod Rehearsed

@@ -1,0 +1,7 @@
+//! One walk over the rows of a query, a row at a time. All that reads many rows goes by it: it holds one row, and what
+//! the visitor of the rows keeps.
+//!
+//! - `walk`: the walk, and what is done with each row.
+#![tactic(auto)]
+
+pub mod walk;

@@ -1,2 +1,4 @@
 pub mod Given
 pub mod Walking
+pub mod Matches
+pub mod Testing

@@ -38,6 +38,7 @@ module _ {S V : Type 0} (g : Ghosts S) (takes : V → Row → V → Result Bool 
     mode = mode;
     survives = λ asks. commits_nothing sql params (state g old) (state g now) asks survives;
     walked = λ clean asks. inr (record { rests = refused_rests sql params (state g old) (state g now) e asks (fails clean); rows = []; begins = inl refl; taken = refl; told = told_fault e fault is });
+    faults = inl (told_fault e fault is);
   }
 
   module _ (old now : Held S) (v w : V) (far : SoFar old now v w) where
@@ -51,6 +52,7 @@ module _ {S V : Type 0} (g : Ghosts S) (takes : V → Row → V → Result Bool 
       mode = far.mode;
       survives = λ asks. commits_nothing sql params (state g old) (state g now) asks far.survives;
       walked = λ clean asks. let it = far.given clean asks in inr (record { rests = inl it.2; rows = it.0; begins = fronts it.0 it.2 it.1; taken = it.3; told = told });
+      faults = inl told;
     }
 
     module _ (new : Held S) (mode : now.in_transaction ≡ false → new.in_transaction ≡ false) (quiet : Survives (state g now) (state g new) (λ _. ⊥)) where
@@ -71,6 +73,7 @@ module _ {S V : Type 0} (g : Ghosts S) (takes : V → Row → V → Result Bool 
         mode = all_mode;
         survives = all_quiet;
         walked = λ clean asks. let it = far.given (was_clean clean) asks in inr (record { rests = rests it.2 (kept clean); rows = it.0; begins = fronts it.0 it.2 it.1; taken = it.3; told = told_fault e fault is });
+        faults = inl (told_fault e fault is);
       }
         where
           rests : IsUnchanged (state g old) (state g now) → Fails (state g now) (state g new) ⊥ e ⊎ IsUnchanged (state g now) (state g new) → Rests (state g old) (state g new)
@@ -96,6 +99,7 @@ module _ {S V : Type 0} (g : Ghosts S) (takes : V → Row → V → Result Bool 
           walked = λ clean asks.
               let it = far.given (was_clean clean) asks in
               record { same = all_same clean asks; rows = it.0; shown = shown_before sql params (state g old) (state g now) (state g new) it.0 asks it.2 (same clean) (shows clean it.0 it.1); taken = it.3 };
+          faults = tt;
         }
 
         module _ (row : Row) (gives : HasCleanDisk (state g new) → (given : List Row) → HasGiven g sql params now given → HasGiven g sql params new (given ++ row ∷ [])) (u : V) where
@@ -123,7 +127,7 @@ module _ {S V : Type 0} (g : Ghosts S) (takes : V → Row → V → Result Bool 
               }
 
           pub stopped : takes w row u (Ok false) → IsWalk takes sql params (state g old) (state g new) v u (Ok false)
-          stopped step = record { mode = all_mode; survives = all_quiet; walked = at_last (Ok false) step }
+          stopped step = record { mode = all_mode; survives = all_quiet; walked = at_last (Ok false) step; faults = tt }
 
           pub gave_up : (fault : Fault) → takes w row u (Err fault) → IsWalk takes sql params (state g old) (state g new) v u (Err fault)
-          gave_up fault step = record { mode = all_mode; survives = all_quiet; walked = λ clean asks. inl (at_last (Err fault) step clean asks) }
+          gave_up fault step = record { mode = all_mode; survives = all_quiet; walked = λ clean asks. inl (at_last (Err fault) step clean asks); faults = inr (w, row, step) }

@@ -1,5 +1,5 @@
 -- What a walk over the rows of a query does.
-use Rattle.std.specs.Prelude.{◌≡◌, ◌⊎◌, ℕ, Bool, true, false, List, [], ◌∷◌, ◌++◌, None, Result, Ok, Err}
+use Rattle.std.specs.Prelude.{◌≡◌, ◌⊎◌, ℕ, Bool, true, false, List, [], ◌∷◌, ◌++◌, None, Result, Ok, Err, IfErr}
 use Rattle.sqlite.specs.Order.{Row}
 use Rattle.sqlite.specs.Schema.{Schema}
 use Rattle.sqlite.specs.Listing.{understood}
@@ -63,3 +63,4 @@ module _ {V : Type 0} (takes : V → Row → V → Result Bool Fault → Type 0)
       pub mode : old.in_transaction ≡ false → new.in_transaction ≡ false
       pub survives : OnlyAsks old.now.schema sql → CommitsNothing old new
       pub walked : HasCleanDisk new → OnlyAsks old.now.schema sql → Ends result
+      pub faults : IfErr result (λ fault. IsStoreFault fault ⊎ ((before : V) × (row : Row) × takes before row w (Err fault)))

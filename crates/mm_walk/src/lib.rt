@@ -2,6 +2,8 @@
 //! the visitor of the rows keeps.
 //!
 //! - `walk`: the walk, and what is done with each row.
+//! - `row_tests`: whether each row of a query passes a test.
 #![tactic(auto)]
 
+pub mod row_tests;
 pub mod walk;

@@ -11,6 +11,8 @@ mod kinds;
 mod mapped;
 mod media;
 mod rows;
+#[cfg(test)]
+mod tests;
 mod tiles;
 
 pub use media::{drop_media, has_medium, put_media};

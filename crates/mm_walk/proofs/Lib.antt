@@ -2,3 +2,4 @@ pub mod Given
 pub mod Walking
 pub mod Matches
 pub mod Testing
+pub mod Quiet

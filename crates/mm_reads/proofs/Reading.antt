@@ -1,0 +1,92 @@
+-- A walk over the tables of the contents is a read.
+use Rattle.std.proofs.Common.{◌≡◌, ◌⊎◌, inl, inr, Bool, true, false, List, [], ◌∷◌, ◌++◌, Result, Ok, Err, IfOk, IfErr, Vec, Global, refl, sym, ap, subst, ◌∙◌, append_assoc, append-nil}
+use Rattle.sqlite.specs.Order.{Row}
+use Rattle.sqlite_value.specs.declared.value.Value.TheVariants.{Null}
+use Rattle.sqlite.specs.State.{State, HasCleanDisk}
+use Rattle.sql_forms.proofs.States.{shows_as, shown_open}
+use Rattle.sql_forms.proofs.Queries.{no_overlay}
+use Rattle.sql_forms.specs.Tables.{tables_of}
+use Rattle.mm_schema.specs.Tables.{schema}
+use Rattle.mm_base.specs.Bounds.{Profile}
+use Rattle.mm_base.specs.Package.{Package}
+use Rattle.mm_base.specs.declared.answers.Fault.{Fault}
+use Rattle.mm_base.specs.declared.entries.Entry.{Entry}
+use Rattle.mm_store.specs.Faults.{IsStoreFault}
+use Rattle.mm_store.specs.Stands.{ReadsAs, IsSettled}
+use Rattle.mm_store.specs.Statements.{CommitsNothing}
+use Rattle.mm_store.specs.Shapes.{IsRead}
+use Rattle.mm_walk.specs.Walk.{Rests, Takes, Ends, IsWalk}
+use Rattle.mm_reads.specs.Listing.{Gathers, Lists}
+use Rattle.mm_reads.proofs.Asking.{list_asks}
+use Rattle.mm_reads.proofs.Listed.{list_text, list_tables, ShowsAll, lists_tables}
+
+-- ---- a connection that rests is as settled as before
+
+settled_still : (profile : Profile) (old new : State) (p : Package) → CommitsNothing old new → HasCleanDisk new → Rests old new → IsSettled profile old p → IsSettled profile new p
+settled_still profile old new p quiet clean (inl same) it = record {
+  mode = same.0.mode ∙ it.mode;
+  back = λ up. subst (λ d. ReadsAs profile.version d p) (sym same.0.committed_is) (it.back same.0.was_open);
+  reads = λ up. subst (λ d. ReadsAs profile.version d p) (sym same.0.now_is) (it.reads same.0.was_open);
+  left = λ db may. elim (quiet.crash clean db may) [ inl before ↦ it.left db before | inr none ↦ absurd none ];
+}
+settled_still profile old new p quiet clean (inr undone) it = record {
+  mode = undone.autocommit;
+  back = λ up. subst (λ d. ReadsAs profile.version d p) (sym (undone.undone up).1) (it.back (undone.was_open up));
+  reads = λ up. subst (λ d. ReadsAs profile.version d p) (sym (undone.undone up).0) (it.back (undone.was_open up));
+  left = λ db may. elim (quiet.crash clean db may) [ inl before ↦ it.left db before | inr none ↦ absurd none ];
+}
+
+-- ---- the walk of a visitor that keeps what it gathers
+
+module _ {V : Type 0} (takes : V → Row → V → Result Bool Fault → Type 0) (items : V → List Entry) (gathers : (v u : V) (row : Row) (result : Result Bool Fault) → takes v row u result → Gathers (items v) row (items u) result) where
+  gathered : (v w : V) (rows : List Row) → Takes takes v rows w → (es : List Entry) × (items w ≡ items v ++ es) × ShowsAll rows es
+  gathered v w [] same = ([], ap items (sym same) ∙ sym (append-nil (items v)), refl)
+  gathered v w (r ∷ rows) (u, step, more) =
+      let one = gathers v u r (Ok true) step in
+      let rest = gathered u w rows more in
+      (one.1 ∷ rest.0, rest.1 ∙ ap (λ es. es ++ rest.0) one.3 ∙ append_assoc (items v) (one.1 ∷ []) rest.0, (one.2, rest.2))
+
+  module _ (old new : State) (v w : V) (empty : items v ≡ []) where
+    rests : (result : Result Bool Fault) → Ends takes list_text [] old new v w result → Rests old new
+    rests (Ok true) it = inl it.same
+    rests (Ok false) it = inl it.same
+    rests (Err fault) (inl it) = inl it.same
+    rests (Err fault) (inr it) = it.rests
+
+    module _ (profile : Profile) where
+      tables_told : (p : Package) → IsSettled profile old p → (result : Result Bool Fault) → Ends takes list_text [] old new v w result → IfOk result (λ _. Lists p (items w))
+      tables_told p it (Err fault) h = tt
+      tables_told p it (Ok false) h = absurd (let e : false ≡ true = (gathers h.before w h.last (Ok false) h.ends).0 in cc)
+      tables_told p it (Ok true) h =
+          let at = it.reads (shown_open list_text [] old new h.rows h.shown) in
+          let read = shows_as old new list_text [] schema at.schema_is _ list_tables.compiled list_tables.plain list_tables.unlisted h.rows h.shown in
+          let all = gathered v w h.rows h.taken in
+          let holds = at.stands.holds in
+          subst (Lists p) (sym (all.1 ∙ ap (λ es. es ++ all.0) empty))
+          (lists_tables p (tables_of schema old.now.trees 1) (tables_of schema old.now.trees 13) holds.contents holds.kinds (at.stands.rows 1).rise (at.stands.rows 13).rise _ (no_overlay old.now.trees 1) (no_overlay old.now.trees 13) h.rows (read.0.answer Null) all.0 all.2)
+
+      -- the entries, where the walk came to its end
+      abbrev pub Found : Result Bool Fault → Result (Vec Entry Global) Fault → Type 0
+      Found (Ok goes) (Ok entries) = entries.items ≡ items w
+      Found (Ok goes) (Err fault) = ⊥
+      Found (Err fault) (Ok entries) = ⊥
+      Found (Err fault) (Err other) = fault ≡ other
+
+      pub read_by_walk : (result : Result Bool Fault) (last : Result (Vec Entry Global) Fault) → IsWalk takes list_text [] old new v w result → Found result last → IsRead profile old new (λ p (tables : Vec Entry Global). Lists p tables.items) last
+      read_by_walk result last it found = record {
+        survives = it.survives (list_asks old.now.schema);
+        settled = λ clean p meets was. settled_still profile old new p (it.survives (list_asks old.now.schema)) clean (rests result (it.walked clean (list_asks old.now.schema))) was;
+        says = λ clean p meets was. says p result last found (tables_told p was result (it.walked clean (list_asks old.now.schema)));
+        faults = faults result last found it.faults;
+      }
+        where
+          says : (p : Package) (result : Result Bool Fault) (last : Result (Vec Entry Global) Fault) → Found result last → IfOk result (λ _. Lists p (items w)) → IfOk last (λ tables. Lists p tables.items)
+          says p (Ok goes) (Ok entries) same h = subst (Lists p) (sym same) h
+          says p (Err fault) (Ok entries) none h = absurd none
+          says p result (Err fault) found h = tt
+
+          faults : (result : Result Bool Fault) (last : Result (Vec Entry Global) Fault) → Found result last → IfErr result (λ fault. IsStoreFault fault ⊎ ((before : V) × (row : Row) × takes before row w (Err fault))) → IfErr last IsStoreFault
+          faults result (Ok entries) found h = tt
+          faults (Ok goes) (Err fault) none h = absurd none
+          faults (Err fault) (Err other) same (inl stored) = subst IsStoreFault same stored
+          faults (Err fault) (Err other) same (inr told) = subst IsStoreFault same (gathers told.0 w told.1 (Err fault) told.2)

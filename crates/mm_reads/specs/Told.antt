@@ -1,0 +1,36 @@
+-- What the reads tell of a package, and of the rows that they read it from.
+use Rattle.std.specs.Prelude.{◌≡◌, ℕ, List, Option, Some, None, MatchOption}
+use Rattle.std.specs.declared.vec.Vec.{Vec}
+use Rattle.sqlite.specs.declared.types.Value.TheVariants.{Int, Text as Words, Blob}
+use Rattle.sqlite.specs.Order.{Row, column}
+use Rattle.mm_base.specs.Package.{AttributeRow, Medium}
+use Rattle.mm_base.specs.declared.entries.Media.{Media}
+use Rattle.mm_base.specs.declared.entries.Row.{Row as RowTold}
+
+-- the bytes of an entry are told, or that there is no entry
+abbrev pub TellsBytes : {A : Type 0} → Option (List ℕ) → Option (Vec ℕ A) → Type 0
+TellsBytes entry found = MatchOption found (entry ≡ None) (λ bytes. entry ≡ Some bytes.items)
+
+-- a medium and an attribute row, as they are told
+abbrev pub medium_of : Media → Medium
+medium_of m = record { bytes = m.bytes; content_type = m.content_type }
+
+abbrev pub row_of : RowTold → AttributeRow
+row_of r = record { title = r.title; note = r.note; amount = r.amount }
+
+-- what is told of the first row of a query: nothing where it has none
+abbrev pub Gives : {T : Type 0} → (Row → T → Type 0) → Option T → Option Row → Type 0
+Gives Shows None first = first ≡ None
+Gives Shows (Some it) first = (row : Row) × (first ≡ Some row) × Shows row it
+
+abbrev pub ShowsBytes : {A : Type 0} → Row → Vec ℕ A → Type 0
+ShowsBytes row bytes = column row 0 ≡ Blob bytes.items
+
+pub record ShowsMedium (row : Row) (m : Media) : Type 0 where
+  pub bytes : column row 0 ≡ Blob m.bytes
+  pub content_type : column row 1 ≡ Words m.content_type
+
+pub record ShowsRow (row : Row) (r : RowTold) : Type 0 where
+  pub title : column row 0 ≡ Words r.title
+  pub note : column row 1 ≡ Words r.note
+  pub amount : column row 2 ≡ Int r.amount

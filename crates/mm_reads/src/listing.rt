@@ -1,0 +1,217 @@
+//! The list of the tables.
+
+ghost use Rattle.std.specs.Prelude.{◌≡◌, false, string_bytes, IfOk, IfErr, IfSome};
+ghost use Rattle.sqlite.specs.Held.{state};
+ghost use Rattle.sqlite.specs.Order.{column};
+ghost use Rattle.sqlite.specs.declared.types.Value.TheVariants.{Int, Text as Words};
+ghost use Rattle.mm_base.specs.Bounds.{Profile};
+ghost use Rattle.mm_base.specs.Package.{kind_text};
+ghost use Rattle.mm_store.specs.Faults.{IsStoreFault};
+ghost use Rattle.mm_store.specs.Shapes.{IsRead};
+ghost use Rattle.mm_reads.specs.Listing.{ShowsPlace, ShowsPlaceOf, ShowsEntry, Gathers, Lists};
+
+use mm_base::answers::Fault;
+use mm_base::commands::Kind;
+use mm_base::entries::Entry;
+use mm_base::extents::Extent;
+use mm_base::identifiers::Identifier;
+use mm_base::names::Name;
+use mm_base::texts::Text;
+use mm_store::faults::fault_of;
+use mm_walk::walk::{Visitor, walk};
+use sqlite::{Alter, Connection, Row};
+use std::alloc::Global;
+
+/// The text in a column.
+fn text_in(row: &Row, at: usize) -> Result<String, Fault>
+    ensures shown { IfOk result (λ text. column row.now at ≡ Words (string_bytes text)) }
+    ensures fault { IfErr result IsStoreFault }
+{
+    match row.get(at) {
+        Ok(text) => Ok(text),
+        Err(error) => Err(fault_of(error)),
+    }
+}
+
+/// The number in a column.
+fn number_in(row: &Row, at: usize) -> Result<i64, Fault>
+    ensures shown { IfOk result (λ number. column row.now at ≡ Int number) }
+    ensures fault { IfErr result IsStoreFault }
+{
+    match row.get(at) {
+        Ok(number) => Ok(number),
+        Err(error) => Err(fault_of(error)),
+    }
+}
+
+/// The name in a column. A text that is none is a fault, 91.
+fn name_in(row: &Row, at: usize) -> Result<Name, Fault>
+    ensures shown { IfOk result (λ name. column row.now at ≡ Words name) }
+    ensures fault { IfErr result IsStoreFault }
+{
+    match text_in(row, at) {
+        Ok(text) => match Name::read(text.as_str()) {
+            Some(name) => Ok(name),
+            None => Err(Fault(91)),
+        },
+        Err(fault) => Err(fault),
+    }
+}
+
+/// The kind that the registry writes so.
+fn kind_named(text: &str) -> Option<Kind>
+    ensures { IfSome result (λ kind. text.now ≡ kind_text kind) }
+{
+    match text {
+        "two" => Some(Kind::Two),
+        "other" => Some(Kind::Other),
+        "attributes" => Some(Kind::Attributes),
+        "media" => Some(Kind::Media),
+        _ => None,
+    }
+}
+
+/// The kind in a column. A text that is none is a fault, 91.
+fn kind_in(row: &Row, at: usize) -> Result<Kind, Fault>
+    ensures shown { IfOk result (λ kind. column row.now at ≡ Words (kind_text kind)) }
+    ensures fault { IfErr result IsStoreFault }
+{
+    match text_in(row, at) {
+        Ok(text) => match kind_named(text.as_str()) {
+            Some(kind) => Ok(kind),
+            None => Err(Fault(91)),
+        },
+        Err(fault) => Err(fault),
+    }
+}
+
+/// The identifier in a column. A text that is none is a fault, 91.
+fn identifier_in(row: &Row, at: usize) -> Result<Identifier, Fault>
+    ensures shown { IfOk result (λ identifier. column row.now at ≡ Words identifier) }
+    ensures fault { IfErr result IsStoreFault }
+{
+    match text_in(row, at) {
+        Ok(text) => match Identifier::new(text) {
+            Some(identifier) => Ok(identifier),
+            None => Err(Fault(91)),
+        },
+        Err(fault) => Err(fault),
+    }
+}
+
+/// The time in a column. A text of another length than a stamp's is a fault, 91.
+fn time_in(row: &Row, at: usize) -> Result<Text<24, 24>, Fault>
+    ensures shown { IfOk result (λ time. column row.now at ≡ Words time) }
+    ensures fault { IfErr result IsStoreFault }
+{
+    match text_in(row, at) {
+        Ok(text) => match Text::new(text) {
+            Some(time) => Ok(time),
+            None => Err(Fault(91)),
+        },
+        Err(fault) => Err(fault),
+    }
+}
+
+/// The reference system and the extent in the columns from 4 on.
+fn place_in(row: &Row) -> Result<(i64, Extent), Fault>
+    ensures shown { IfOk result (λ place. ShowsPlace row.now place) }
+    ensures fault { IfErr result IsStoreFault }
+{
+    let system = number_in(row, 4)?;
+    let min_x = number_in(row, 5)?;
+    let min_y = number_in(row, 6)?;
+    let max_x = number_in(row, 7)?;
+    match number_in(row, 8) {
+        Ok(max_y) => Ok((
+            system,
+            Extent {
+                min_x,
+                min_y,
+                max_x,
+                max_y,
+            },
+        )),
+        Err(fault) => Err(fault),
+    }
+}
+
+/// The place of a table of this kind, which only pyramids have.
+fn place_of(row: &Row, kind: Kind) -> Result<Option<(i64, Extent)>, Fault>
+    ensures shown { IfOk result (λ place. ShowsPlaceOf row.now kind place) }
+    ensures fault { IfErr result IsStoreFault }
+{
+    match kind {
+        Kind::Two | Kind::Other => match place_in(row) {
+            Ok(place) => Ok(Some(place)),
+            Err(fault) => Err(fault),
+        },
+        Kind::Attributes | Kind::Media => Ok(None),
+    }
+}
+
+/// The table that a row of the list shows.
+fn entry_in(row: &Row) -> Result<Entry, Fault>
+    ensures shown { IfOk result (λ e. ShowsEntry row.now e) }
+    ensures fault { IfErr result IsStoreFault }
+{
+    let table = name_in(row, 0)?;
+    let kind = kind_in(row, 1)?;
+    let identifier = identifier_in(row, 2)?;
+    let last_change = time_in(row, 3)?;
+    match place_of(row, kind) {
+        Ok(place) => Ok(Entry {
+            table,
+            kind,
+            identifier,
+            last_change,
+            place,
+        }),
+        Err(fault) => Err(fault),
+    }
+}
+
+/// The tables that the list has shown so far.
+#[derive(Drop)]
+struct Gathered {
+    entries: Vec<Entry>,
+}
+
+impl Visitor for Gathered {
+    ghost use Rattle.mm_reads.specs.Listing.{Gathers};
+
+    ghost takes = { λ old row new result. Gathers old.entries.items row new.entries.items result };
+
+    fn take(&mut self, row: &Row) -> Result<bool, Fault> {
+        let entry = match entry_in(row) {
+            Ok(entry) => entry,
+            Err(fault) => return Err(fault),
+        };
+        match self.entries.push(entry) {
+            Ok(()) => Ok(true),
+            Err(_) => Err(Fault(90)),
+        }
+    }
+}
+
+/// The tables of the contents by rising name, each with its kind, identifier and last_change, and exactly the pyramids with their
+/// reference system and extent. (Contents.) A fault is 90 where memory was refused, and else 91, also where a value stands that no
+/// package has; the connection is then as settled as before.
+pub fn contents<S: Alter>(alloc: Global, conn: &mut Connection<S>) -> Result<Vec<Entry>, Fault>
+    requires { conn.old.in_transaction ≡ false }
+    ensures mode { conn.new.in_transaction ≡ false }
+    ensures read { (profile : Profile) → IsRead profile (state S.Store conn.old) (state S.Store conn.new) (λ p tables. Lists p tables.items) result }
+{
+    let mut gathered = Gathered {
+        entries: Vec::new(alloc),
+    };
+    match walk(
+        conn,
+        "SELECT c.table_name, t.kind, c.identifier, c.last_change, c.srs_id, c.min_x, c.min_y, c.max_x, c.max_y FROM gpkg_contents AS c LEFT JOIN mm_tables AS t ON t.table_name = c.table_name ORDER BY c.table_name",
+        &[],
+        &mut gathered,
+    ) {
+        Ok(_) => Ok(gathered.entries),
+        Err(fault) => Err(fault),
+    }
+}

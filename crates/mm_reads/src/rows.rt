@@ -1,0 +1,97 @@
+//! An attribute row.
+
+ghost use Rattle.std.specs.Prelude.{◌≡◌, false, option_map, string_bytes, IfOk, IfErr};
+ghost use Rattle.std.specs.FinMap.{get};
+ghost use Rattle.sqlite.specs.Values.{bound};
+ghost use Rattle.sqlite.specs.Held.{state};
+ghost use Rattle.sqlite.specs.Order.{column};
+ghost use Rattle.sqlite.specs.declared.types.Value.TheVariants.{Text as Words};
+ghost use Rattle.mm_base.specs.Bounds.{Profile};
+ghost use Rattle.mm_base.specs.Keys.{item};
+ghost use Rattle.mm_store.specs.Faults.{IsStoreFault};
+ghost use Rattle.mm_store.specs.Shapes.{IsLook, IsRead};
+ghost use Rattle.mm_store.specs.Statements.{IsAsked};
+ghost use Rattle.mm_reads.specs.Told.{Gives, ShowsRow, row_of};
+
+use mm_base::answers::Fault;
+use mm_base::entries::Row;
+use mm_base::texts::Remark;
+use mm_store::faults::fault_of;
+use mm_store::statements::first;
+use sqlite::types::ValueRef;
+use sqlite::{Alter, Connection, Transaction, params};
+
+/// The text in a column of a row. One that is no title and no note is a fault, 91.
+fn remark_in(row: &sqlite::Row, at: usize) -> Result<Remark, Fault>
+    ensures shown { IfOk result (λ text. column row.now at ≡ Words text) }
+    ensures fault { IfErr result IsStoreFault }
+{
+    match row.get(at) {
+        Ok(text) => match Remark::new(text) {
+            Some(text) => Ok(text),
+            None => Err(Fault(91)),
+        },
+        Err(error) => Err(fault_of(error)),
+    }
+}
+
+/// The attribute row in the first three columns of a row.
+fn row_in(row: &sqlite::Row) -> Result<Row, Fault>
+    ensures shown { IfOk result (λ r. ShowsRow row.now r) }
+    ensures fault { IfErr result IsStoreFault }
+{
+    let title = remark_in(row, 0)?;
+    let note = remark_in(row, 1)?;
+    match row.get(2) {
+        Ok(amount) => Ok(Row {
+            title,
+            note,
+            amount,
+        }),
+        Err(error) => Err(fault_of(error)),
+    }
+}
+
+/// The attribute row in the first row of a query.
+fn first_row<S: Alter>(
+    tx: &mut Transaction<'_, S>,
+    sql: &str,
+    params: &[ValueRef<'_>],
+) -> Result<Option<Row>, Fault>
+    ensures same_reference { tx.new.conn.ghost_name ≡ tx.old.conn.ghost_name }
+    ensures asked { IsAsked (state S.Store tx.old.conn.now) (state S.Store tx.new.conn.now) sql.now (bound params.now) (λ it first. Gives ShowsRow it first) result }
+{
+    match first(tx, sql, params) {
+        Ok(Some(row)) => match row_in(&row) {
+            Ok(found) => Ok(Some(found)),
+            Err(fault) => Err(fault),
+        },
+        Ok(None) => Ok(None),
+        Err(fault) => Err(fault),
+    }
+}
+
+/// The row of an id, inside a transaction.
+fn row_at<S: Alter>(tx: &mut Transaction<'_, S>, table: &str, id: i64) -> Result<Option<Row>, Fault>
+    ensures same_reference { tx.new.conn.ghost_name ≡ tx.old.conn.ghost_name }
+    ensures look { (profile : Profile) → IsLook profile (state S.Store tx.old.conn.now) (state S.Store tx.new.conn.now) (λ p found. get p.rows (item table.now id) ≡ option_map row_of found) result }
+{
+    first_row(
+        tx,
+        "SELECT title, note, amount FROM mm_rows WHERE table_name = ?1 AND id = ?2",
+        params![table, id],
+    )
+}
+
+/// The row of an attribute table that has an id, or None where none has it. (Attributes.) A fault is 90 where memory was refused,
+/// and else 91, also where a text stands that no package has; the connection is then as settled as before.
+pub fn row<S: Alter>(conn: &mut Connection<S>, table: &str, id: i64) -> Result<Option<Row>, Fault>
+    requires { conn.old.in_transaction ≡ false }
+    ensures mode { conn.new.in_transaction ≡ false }
+    ensures read { (profile : Profile) → IsRead profile (state S.Store conn.old) (state S.Store conn.new) (λ p found. get p.rows (item table.now id) ≡ option_map row_of found) result }
+{
+    let mut tx = conn.transaction();
+    let found = row_at(&mut tx, table, id);
+    tx.rollback();
+    found
+}

@@ -1,23 +1,16 @@
 //! The program `mmpkg`: it makes packages, and runs lists of commands on them.
 #![tactic(auto)]
 
-mod clock;
-mod files;
-mod package;
-mod program;
-mod stop;
-mod tell;
 #[cfg(test)]
 mod tests;
 
 use mm_base::answers::Fault;
 use mm_base::streams::Io;
-use program::program;
+use mm_program::program;
+use mm_work::{Stop, USAGE, tell_bytes, tell_stop};
 use std::io::BufReader;
 use std::process::ExitCode;
 use std::{env, io};
-use stop::Stop;
-use tell::{USAGE, tell_bytes, tell_stop};
 
 /// Runs the program on the words of its caller.
 fn run_words(rt: &HostRuntime) -> io::Result<u8> {

@@ -7,8 +7,8 @@ mod runs;
 mod streams;
 mod words;
 
-use crate::program::program;
 use mm_base::streams::Io;
+use mm_program::program;
 use std::fs;
 use std::test::Fail;
 

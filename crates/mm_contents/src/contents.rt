@@ -43,7 +43,7 @@ pub(crate) fn has_identifier<S: Alter>(
 }
 
 /// Whether a table or a mapping has this name.
-pub(crate) fn is_taken<S: Alter>(tx: &mut Transaction<'_, S>, name: &str) -> Result<bool, Fault>
+pub fn is_taken<S: Alter>(tx: &mut Transaction<'_, S>, name: &str) -> Result<bool, Fault>
     ensures same_reference { tx.new.conn.ghost_name ≡ tx.old.conn.ghost_name }
     ensures look { (profile : Profile) → IsLook profile (state S.Store tx.old.conn.now) (state S.Store tx.new.conn.now) (λ p found. found ≡ conditions.is_taken p name.now) result }
 {

@@ -1,10 +1,10 @@
 //! The contents of a package: tables and tile pyramids are added and removed, and noted as changed.
 //!
-//! - `contents`: the rows of `gpkg_contents`, and `touch`.
+//! - `contents`: the rows of `gpkg_contents`, `touch` and `is_taken`.
 //! - `kinds`: the registry of the kinds of tables, and `kind_of`.
 //! - `tables`: `add_table` and `drop_table`.
 //! - `pyramids`: `add_pyramid`.
-//! - `relations`: whether a relation has a name or uses a table.
+//! - `relations`: whether a relation has a name (`has_relation`) or uses a table.
 //! - `systems`: whether a pyramid may name a reference system.
 //! - `extensions`: the rows of `gpkg_extensions`.
 #![tactic(auto)]
@@ -17,7 +17,8 @@ mod relations;
 mod systems;
 mod tables;
 
-pub use contents::touch;
+pub use contents::{is_taken, touch};
 pub use kinds::kind_of;
 pub use pyramids::add_pyramid;
+pub use relations::has_relation;
 pub use tables::{add_table, drop_table};

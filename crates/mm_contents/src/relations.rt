@@ -14,7 +14,7 @@ use mm_store::statements::exists;
 use sqlite::{Alter, Transaction, params};
 
 /// Whether a relation has this mapping name.
-pub(crate) fn has_relation<S: Alter>(
+pub fn has_relation<S: Alter>(
     tx: &mut Transaction<'_, S>,
     mapping: &str,
 ) -> Result<bool, Fault>

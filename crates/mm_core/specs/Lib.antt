@@ -1,3 +1,4 @@
+pub mod Groups
 pub mod Sessions
 pub mod Applied
 pub mod Parts

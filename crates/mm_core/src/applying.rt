@@ -1,86 +1,19 @@
 //! One command in a transaction of its own.
 
-ghost use Rattle.std.specs.Prelude.{◌≡◌, ◌⊎◌, ℕ, false, true};
+ghost use Rattle.std.specs.Prelude.{◌≡◌, ◌⊎◌, false, true};
 ghost use Rattle.sqlite.specs.Held.{state};
-ghost use Rattle.mm_base.specs.Bounds.{millimetres};
 ghost use Rattle.mm_base.specs.Stamp.{IsStamp};
-ghost use Rattle.mm_store.specs.Shapes.{IsTried};
 ghost use Rattle.mm_run.specs.Applied.{OnFault};
 ghost use Rattle.mm_run.specs.Served.{is_served};
 ghost use Rattle.mm_core.specs.Applied.{IsApplied};
 
+use crate::dispatching::run_command;
 use mm_base::answers::{Answer, Fault, Outcome};
 use mm_base::commands::Command;
 use mm_base::moments::{Moment, stamp};
-use mm_contents::{add_pyramid, add_table, drop_table};
-use mm_matrices::add_matrix;
-use mm_meta::add_srs;
 use mm_store::faults::fault_of;
-use sqlite::{Alter, Connection, Transaction};
+use sqlite::{Alter, Connection};
 use std::alloc::Global;
-
-/// Does what the command says within the transaction. `at` is the stamp of its moment.
-fn run_command<S: Alter>(
-    tx: &mut Transaction<'_, S>,
-    command: &Command,
-    at: &str,
-) -> Result<Outcome, Fault>
-    requires { is_served command.now ≡ true }
-    ensures same_reference { tx.new.conn.ghost_name ≡ tx.old.conn.ghost_name }
-    ensures tried { (moment : ℕ) → IsStamp moment at.now → IsTried millimetres command.now moment (state S.Store tx.old.conn.now) (state S.Store tx.new.conn.now) result }
-{
-    match command {
-        Command::Srs {
-            id,
-            name,
-            organization,
-            organization_id,
-            definition,
-            description,
-        } => add_srs(
-            tx,
-            *id,
-            name.as_str(),
-            organization.as_str(),
-            *organization_id,
-            definition.as_str(),
-            description.as_str(),
-        ),
-        Command::Pyramid {
-            table,
-            identifier,
-            srs,
-            min_x,
-            min_y,
-            max_x,
-            max_y,
-            step,
-        } => add_pyramid(
-            tx,
-            table.as_str(),
-            identifier.as_str(),
-            *srs,
-            *min_x,
-            *min_y,
-            *max_x,
-            *max_y,
-            *step,
-            at,
-        ),
-        Command::Matrix {
-            table,
-            zoom,
-            matrix,
-        } => add_matrix(tx, table.as_str(), *zoom, matrix, at),
-        Command::Table {
-            table,
-            kind,
-            identifier,
-        } => add_table(tx, table.as_str(), *kind, identifier.as_str(), at),
-        Command::Drop { table } => drop_table(tx, table.as_str()),
-        _ => unreachable!(),
-    }
-}
 
 /// One command in one transaction, whose commit is the last call of the store. A refusal rolls it back. `at` is the stamp
 /// of the moment.

@@ -6,6 +6,7 @@
 #![tactic(auto)]
 
 mod applying;
+mod dispatching;
 mod running;
 mod session;
 

@@ -21,7 +21,7 @@ use Rattle.mm_laws.proofs.KindFacts.{are_same, both_true, at_true}
 use Rattle.mm_laws.proofs.Closed.{no_refusal}
 use Rattle.mm_laws.proofs.Published.{read_back}
 
-same_row : (a b : PieceRow) → same_piece a b ≡ true → a ≡ b
+pub same_row : (a b : PieceRow) → same_piece a b ≡ true → a ≡ b
 same_row a b e =
     let bytes = both_true _ _ e in
     let t2 = both_true _ _ bytes.0 in

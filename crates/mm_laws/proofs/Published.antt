@@ -39,7 +39,7 @@ both : (a b : Bool) → a ≡ true → b ≡ true → (a && b) ≡ true
 both true b e f = f
 both false b e f = e
 
-row_itself : (r : PieceRow) → same_piece r r ≡ true
+pub row_itself : (r : PieceRow) → same_piece r r ≡ true
 row_itself r =
     let text : (t : Text) → same_text t t ≡ true = λ t. same_itself texts t in
     let number : (z : ℤ) → same_number z z ≡ true = λ z. same_itself numbers z in

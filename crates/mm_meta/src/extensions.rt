@@ -11,8 +11,8 @@ use mm_base::answers::Fault;
 use mm_store::statements::run;
 use sqlite::{Alter, Transaction, params};
 
-/// Puts the extension row of a mapping, or that of the list of mappings.
-pub(crate) fn insert_related_row<S: Alter>(
+/// Puts the extension row of a mapping, or that of the list of mappings. (Related Tables Extension.)
+pub fn insert_related_row<S: Alter>(
     tx: &mut Transaction<'_, S>,
     table: &str,
 ) -> Result<(), Fault>

@@ -17,6 +17,7 @@ mod systems;
 #[cfg(test)]
 mod tests;
 
+pub use extensions::insert_related_row;
 pub use memory::create_in_memory;
 pub use opening::init;
 pub use profile::look;

@@ -23,6 +23,19 @@ pub fn is_served(command: &Command) -> bool
             | Command::Matrix { .. }
             | Command::Table { .. }
             | Command::Drop { .. }
+            | Command::Tile { .. }
+            | Command::TileDrop { .. }
+            | Command::Row { .. }
+            | Command::RowDrop { .. }
+            | Command::Media { .. }
+            | Command::MediaDrop { .. }
+            | Command::Relation { .. }
+            | Command::RelationDrop { .. }
+            | Command::Map { .. }
+            | Command::MapDrop { .. }
+            | Command::Edition { .. }
+            | Command::Discard { .. }
+            | Command::Stage { .. }
     )
 }
 

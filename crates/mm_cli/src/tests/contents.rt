@@ -1,4 +1,4 @@
-//! What `run` answers to the records that lay out the contents of a package.
+//! What `run` answers to the records that lay out a package, and to those of its content.
 
 use super::{make_file, make_folder, outcome};
 use std::fs;
@@ -68,6 +68,71 @@ drop,base > ok
 table,base,attributes,Base map > ok
 ";
 
+/// The same of tiles, attribute rows and media.
+const CONTENT: &str = "matrix,base,1,2,2,256,256,2000,2000 > ok
+tile,base,1,1,1,aa > ok
+tile,base,1,2,1,aa > refused 34
+tile,base,1,1,2,aa > refused 34
+tile,base,5,0,0,aa > refused 33
+tile,base,31,0,0,aa > refused 11
+tile,base,1,0,0, > refused 11
+tile,base,1,0,0,a > refused 10
+tile,none,1,0,0,aa > refused 25
+tile,base,1,0,1,89504e > ok
+tile,base,1,0,1,FFD8 > ok
+tile-drop,base,1,0,1 > ok
+tile-drop,base,1,0,1 > refused 35
+tile-drop,base,5,0,1 > refused 35
+tile-drop,none,1,0,1 > refused 25
+
+table,spots,attributes,Spots > ok
+table,photos,media,Photos > ok
+row,spots,7,Well,,3 > ok
+media,photos,3,image/jpeg,ffd8ff > ok
+row,photos,7,Well,,3 > refused 26
+row,base,7,Well,,3 > refused 26
+row,none,7,Well,,3 > refused 25
+media,spots,3,image/jpeg,ffd8ff > refused 26
+media,none,3,image/jpeg,ffd8ff > refused 25
+tile,spots,0,0,0,aa > refused 26
+tile-drop,spots,0,0,0 > refused 26
+row,spots,7,Gate,by the road,-3 > ok
+row-drop,spots,8 > refused 40
+row-drop,photos,7 > refused 26
+row-drop,none,7 > refused 25
+row-drop,spots,7 > ok
+row-drop,spots,7 > refused 40
+media-drop,photos,7 > refused 41
+media-drop,spots,3 > refused 26
+media-drop,none,3 > refused 25
+media-drop,photos,3 > ok
+media-drop,photos,3 > refused 41
+drop,spots > ok
+row,spots,7,Well,,3 > refused 25
+
+table,spots,attributes,Spots > ok
+table,more,attributes,More > ok
+table,photos,media,Photos > ok
+row,spots,1,,,1000000000000000 > ok
+row,spots,1,,,1000000000000001 > refused 11
+row,spots,1,,,-1000000000000000 > ok
+row,spots,1,,,-1000000000000001 > refused 11
+row,spots,0,,,0 > refused 11
+row,spots,9007199254740992,,,0 > ok
+row,spots,9007199254740993,,,0 > refused 11
+row,more,1,,,0 > ok
+row,spots,1,\0,,0 > refused 11
+media,photos,1,abcdefghijklmnopqrstuvwxyzABCDEFGHIJKLMNOPQRSTUVWXYZ0123456789!#/abcdefghijklmnopqrstuvwxyzABCDEFGHIJKLMNOPQRSTUVWXYZ0123456789!#,00 > ok
+media,photos,1,abcdefghijklmnopqrstuvwxyzABCDEFGHIJKLMNOPQRSTUVWXYZ0123456789!#$/abcdefghijklmnopqrstuvwxyzABCDEFGHIJKLMNOPQRSTUVWXYZ0123456789!#,00 > refused 11
+media,photos,1,abcdefghijklmnopqrstuvwxyzABCDEFGHIJKLMNOPQRSTUVWXYZ0123456789!#/abcdefghijklmnopqrstuvwxyzABCDEFGHIJKLMNOPQRSTUVWXYZ0123456789!#$,00 > refused 11
+media,photos,1,image,00 > refused 11
+media,photos,1,/jpeg,00 > refused 11
+media,photos,1,image/jpeg;q=1,00 > refused 11
+media,photos,1,image/jpeg, > refused 11
+row-drop,more,1 > ok
+row-drop,spots,1 > ok
+";
+
 /// Runs the records of both lists on a new package, and compares the answers.
 fn compare_answers(rt: &HostRuntime, group: &str) -> Result<(), Fail> {
     let alloc = rt.alloc();
@@ -99,10 +164,49 @@ fn compare_answers(rt: &HostRuntime, group: &str) -> Result<(), Fail> {
 }
 
 #[test]
-fn lays_out_the_contents(rt: HostRuntime) -> Result<(), Fail> {
-    for group in GROUPS.split("\n\n") {
+fn answers_records_of_the_contents(rt: HostRuntime) -> Result<(), Fail> {
+    for group in GROUPS.split("\n\n").chain(CONTENT.split("\n\n")) {
         compare_answers(&rt, group)?;
     }
     fs::remove_dir_all(&rt, "mm_cli_contents")?;
+    Ok(())
+}
+
+/// The answer to a record that ends in so many bytes, as hexadecimal digits.
+fn answer_to_bytes(rt: &HostRuntime, front: &str, length: usize) -> Result<Vec<u8>, Fail> {
+    let mut record = String::new(rt.alloc());
+    record.push_str(front)?;
+    for _ in 0..length {
+        record.push_str("5a")?;
+    }
+    record.push('\n')?;
+    let words = ["mmpkg", "run", "mm_cli_bytes/a.gpkg"];
+    let (_, text) = outcome(rt, &words, record.as_bytes());
+    Ok(text)
+}
+
+// Tiles have 1 to 1,048,576 bytes, media 1 to 4,194,304.
+#[test]
+fn takes_bytes_up_to_their_limits(rt: HostRuntime) -> Result<(), Fail> {
+    make_folder(&rt, "mm_cli_bytes")?;
+    make_file(&rt, "mm_cli_bytes/a.gpkg")?;
+    let records = "srs,25832,A,EPSG,25832,d,
+pyramid,base,Base map,25832,0,0,1024000,1024000,two
+matrix,base,0,1,1,256,256,4000,4000
+table,photos,media,Photos
+";
+    let words = ["mmpkg", "run", "mm_cli_bytes/a.gpkg"];
+    let (status, _) = outcome(&rt, &words, records.as_bytes());
+    assert_eq!(rt; status, 0);
+    for (front, length, wanted) in [
+        ("tile,base,0,0,0,", 1048576, b"1 ok\n".as_slice()),
+        ("tile,base,0,0,0,", 1048577, b"1 refused 11\n"),
+        ("media,photos,1,image/png,", 4194304, b"1 ok\n"),
+        ("media,photos,1,image/png,", 4194305, b"1 refused 11\n"),
+    ] {
+        let text = answer_to_bytes(&rt, front, length)?;
+        assert_eq!(rt; text.as_slice(), wanted, "at {length}");
+    }
+    fs::remove_dir_all(&rt, "mm_cli_bytes")?;
     Ok(())
 }

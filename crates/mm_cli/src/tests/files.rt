@@ -1,8 +1,7 @@
 //! What files are told to be, and what is left of them.
 
 use super::{RECORD, make_file, make_folder, outcome};
-use crate::files::{open_new, open_old};
-use crate::package::close_files;
+use mm_program::{close_files, open_new, open_old};
 use sqlite::{Alter, Connection, Wary};
 use std::test::Fail;
 use std::{fs, io};

@@ -1,8 +1,8 @@
 //! Writers and readers that fail.
 
 use super::{RECORD, make_file, make_folder, outcome};
-use crate::program::program;
 use mm_base::streams::Io;
+use mm_program::program;
 use std::io::{ErrorKind, Read, Write};
 use std::test::Fail;
 use std::{fs, io};

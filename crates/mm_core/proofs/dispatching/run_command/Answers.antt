@@ -1,0 +1,15 @@
+use Rattle.mm_base.specs.Bounds.{millimetres}
+use Rattle.mm_store.proofs.Shapes.{lent_tried}
+use Rattle.mm_core.proofs.dispatching.run_command.Goals as goal
+
+pub returns-in-Srs-clause-tried : goal.returns-in-Srs-clause-tried
+returns-in-Srs-clause-tried g c moment stamped = lent_tried millimetres _ _ _ _ _ (c.lay_out.ensures.lent moment stamped)
+
+pub returns-in-Tile-clause-tried : goal.returns-in-Tile-clause-tried
+returns-in-Tile-clause-tried g c moment stamped = lent_tried millimetres _ _ _ _ _ (c.change_content.ensures.lent moment stamped)
+
+pub returns-in-Relation-clause-tried : goal.returns-in-Relation-clause-tried
+returns-in-Relation-clause-tried g c moment stamped = lent_tried millimetres _ _ _ _ _ (c.relate.ensures.lent moment)
+
+pub returns-in-Edition-clause-tried : goal.returns-in-Edition-clause-tried
+returns-in-Edition-clause-tried g c moment stamped = lent_tried millimetres _ _ _ _ _ (c.prepare_edition.ensures.lent moment)

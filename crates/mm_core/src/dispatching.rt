@@ -1,0 +1,236 @@
+//! Which function does which command.
+
+ghost use Rattle.std.specs.Prelude.{◌≡◌, ℕ, true};
+ghost use Rattle.sqlite.specs.Held.{state};
+ghost use Rattle.mm_base.specs.Bounds.{millimetres};
+ghost use Rattle.mm_base.specs.Stamp.{IsStamp};
+ghost use Rattle.mm_store.specs.Shapes.{IsLent, IsTried};
+ghost use Rattle.mm_run.specs.Served.{is_served};
+ghost use Rattle.mm_core.specs.Groups.{lays_out, is_content, relates, prepares_edition};
+
+use mm_base::answers::{Fault, Outcome};
+use mm_base::commands::Command;
+use mm_content::{drop_media, drop_row, drop_tile, put_media, put_row, put_tile};
+use mm_contents::{add_pyramid, add_table, drop_table};
+use mm_edition::{discard, open_edition, stage};
+use mm_matrices::add_matrix;
+use mm_meta::add_srs;
+use mm_relate::{add_map, add_relation, drop_map, drop_relation};
+use sqlite::{Alter, Transaction};
+
+/// The commands that lay a package out: reference systems, tables, pyramids and their matrices.
+fn lay_out<S: Alter>(
+    tx: &mut Transaction<'_, S>,
+    command: &Command,
+    at: &str,
+) -> Result<Outcome, Fault>
+    requires { lays_out command.now ≡ true }
+    ensures same_reference { tx.new.conn.ghost_name ≡ tx.old.conn.ghost_name }
+    ensures lent { (moment : ℕ) → IsStamp moment at.now → IsLent millimetres command.now moment (state S.Store tx.old.conn.now) (state S.Store tx.new.conn.now) result }
+{
+    match command {
+        Command::Srs {
+            id,
+            name,
+            organization,
+            organization_id,
+            definition,
+            description,
+        } => add_srs(
+            tx,
+            *id,
+            name.as_str(),
+            organization.as_str(),
+            *organization_id,
+            definition.as_str(),
+            description.as_str(),
+        ),
+        Command::Pyramid {
+            table,
+            identifier,
+            srs,
+            min_x,
+            min_y,
+            max_x,
+            max_y,
+            step,
+        } => add_pyramid(
+            tx,
+            table.as_str(),
+            identifier.as_str(),
+            *srs,
+            *min_x,
+            *min_y,
+            *max_x,
+            *max_y,
+            *step,
+            at,
+        ),
+        Command::Matrix {
+            table,
+            zoom,
+            matrix,
+        } => add_matrix(tx, table.as_str(), *zoom, matrix, at),
+        Command::Table {
+            table,
+            kind,
+            identifier,
+        } => add_table(tx, table.as_str(), *kind, identifier.as_str(), at),
+        Command::Drop { table } => drop_table(tx, table.as_str()),
+        _ => unreachable!(),
+    }
+}
+
+/// The commands that put and remove content: tiles, attribute rows and media.
+fn change_content<S: Alter>(
+    tx: &mut Transaction<'_, S>,
+    command: &Command,
+    at: &str,
+) -> Result<Outcome, Fault>
+    requires { is_content command.now ≡ true }
+    ensures same_reference { tx.new.conn.ghost_name ≡ tx.old.conn.ghost_name }
+    ensures lent { (moment : ℕ) → IsStamp moment at.now → IsLent millimetres command.now moment (state S.Store tx.old.conn.now) (state S.Store tx.new.conn.now) result }
+{
+    match command {
+        Command::Tile {
+            table,
+            zoom,
+            column,
+            row,
+            bytes,
+        } => put_tile(
+            tx,
+            table.as_str(),
+            *zoom,
+            *column,
+            *row,
+            bytes.as_slice(),
+            at,
+        ),
+        Command::TileDrop {
+            table,
+            zoom,
+            column,
+            row,
+        } => drop_tile(tx, table.as_str(), *zoom, *column, *row, at),
+        Command::Row {
+            table,
+            id,
+            title,
+            note,
+            amount,
+        } => put_row(
+            tx,
+            table.as_str(),
+            *id,
+            title.as_str(),
+            note.as_str(),
+            *amount,
+            at,
+        ),
+        Command::RowDrop { table, id } => drop_row(tx, table.as_str(), *id, at),
+        Command::Media {
+            table,
+            id,
+            content_type,
+            bytes,
+        } => put_media(
+            tx,
+            table.as_str(),
+            *id,
+            content_type.as_str(),
+            bytes.as_slice(),
+            at,
+        ),
+        Command::MediaDrop { table, id } => drop_media(tx, table.as_str(), *id, at),
+        _ => unreachable!(),
+    }
+}
+
+/// The commands that relate rows and media to each other.
+fn relate<S: Alter>(tx: &mut Transaction<'_, S>, command: &Command) -> Result<Outcome, Fault>
+    requires { relates command.now ≡ true }
+    ensures same_reference { tx.new.conn.ghost_name ≡ tx.old.conn.ghost_name }
+    ensures lent { (moment : ℕ) → IsLent millimetres command.now moment (state S.Store tx.old.conn.now) (state S.Store tx.new.conn.now) result }
+{
+    match command {
+        Command::Relation {
+            mapping,
+            base,
+            related,
+            name,
+        } => add_relation(
+            tx,
+            mapping.as_str(),
+            base.as_str(),
+            related.as_str(),
+            *name,
+        ),
+        Command::RelationDrop { mapping } => drop_relation(tx, mapping.as_str()),
+        Command::Map {
+            mapping,
+            base_id,
+            related_id,
+        } => add_map(tx, mapping.as_str(), *base_id, *related_id),
+        Command::MapDrop {
+            mapping,
+            base_id,
+            related_id,
+        } => drop_map(tx, mapping.as_str(), *base_id, *related_id),
+        _ => unreachable!(),
+    }
+}
+
+/// The commands that open, fill and discard editions.
+fn prepare_edition<S: Alter>(
+    tx: &mut Transaction<'_, S>,
+    command: &Command,
+) -> Result<Outcome, Fault>
+    requires { prepares_edition command.now ≡ true }
+    ensures same_reference { tx.new.conn.ghost_name ≡ tx.old.conn.ghost_name }
+    ensures lent { (moment : ℕ) → IsLent millimetres command.now moment (state S.Store tx.old.conn.now) (state S.Store tx.new.conn.now) result }
+{
+    match command {
+        Command::Edition { name } => open_edition(tx, name.as_str()),
+        Command::Discard { name } => discard(tx, name.as_str()),
+        Command::Stage {
+            edition,
+            number,
+            piece,
+        } => stage(tx, edition.as_str(), *number, piece),
+        _ => unreachable!(),
+    }
+}
+
+/// Does what the command says within the transaction. `at` is the stamp of its moment.
+pub(crate) fn run_command<S: Alter>(
+    tx: &mut Transaction<'_, S>,
+    command: &Command,
+    at: &str,
+) -> Result<Outcome, Fault>
+    requires { is_served command.now ≡ true }
+    ensures same_reference { tx.new.conn.ghost_name ≡ tx.old.conn.ghost_name }
+    ensures tried { (moment : ℕ) → IsStamp moment at.now → IsTried millimetres command.now moment (state S.Store tx.old.conn.now) (state S.Store tx.new.conn.now) result }
+{
+    match command {
+        Command::Srs { .. }
+        | Command::Pyramid { .. }
+        | Command::Matrix { .. }
+        | Command::Table { .. }
+        | Command::Drop { .. } => lay_out(tx, command, at),
+        Command::Tile { .. }
+        | Command::TileDrop { .. }
+        | Command::Row { .. }
+        | Command::RowDrop { .. }
+        | Command::Media { .. }
+        | Command::MediaDrop { .. } => change_content(tx, command, at),
+        Command::Relation { .. }
+        | Command::RelationDrop { .. }
+        | Command::Map { .. }
+        | Command::MapDrop { .. } => relate(tx, command),
+        Command::Edition { .. } | Command::Discard { .. } | Command::Stage { .. } => {
+            prepare_edition(tx, command)
+        }
+        _ => unreachable!(),
+    }
+}

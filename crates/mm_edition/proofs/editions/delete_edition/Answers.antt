@@ -1,0 +1,21 @@
+use Rattle.std.proofs.Common.{Ok, rules}
+use Rattle.std.specs.Prelude.{⊤}
+use Rattle.sqlite.specs.declared.types.Value.TheVariants.{Text as Words}
+use Rattle.sqlite.specs.Held.{state}
+use Rattle.sql_forms.specs.Cascade.{cut}
+use Rattle.sql_forms.proofs.Cascades.{cascaded}
+use Rattle.mm_schema.specs.Places.{edition_place}
+use Rattle.mm_schema.proofs.Cascading as statement
+use Rattle.mm_store.specs.Removals.{without_edition_rows}
+use Rattle.mm_store.proofs.Removals.{drops_edition}
+use Rattle.mm_store.proofs.Steps.{changes, seen}
+use Rattle.mm_edition.proofs.editions.delete_edition.Goals as goal
+
+pub returns-clause-change : goal.returns-clause-change
+returns-clause-change g c profile =
+    let old = state g.S.Store c.args.tx.now.conn.now in
+    let new = state g.S.Store c.run.new.tx.conn.now in
+    let edition = c.args.edition.now in
+    changes profile old new _ _ (cut edition_place (Words edition)) (λ p. ⊤) (without_edition_rows edition) c.run.result c.run.ensures.run
+    (λ count ready h. cascaded _ _ _ _ _ _ statement.delete_edition old new (Words edition) _ (Ok count) ready (search rules) h)
+    (λ p rows h any. drops_edition edition profile.version (seen old) p h)

@@ -1,0 +1,64 @@
+-- A staged piece as its row holds it, and what a row shows of it.
+use Rattle.std.specs.Prelude.{◌≡◌, pos, string_bytes, Option, Some, None, ⊤}
+use Rattle.sqlite.specs.declared.types.Value.TheVariants.{Int, Text as Words, Blob}
+use Rattle.sqlite.specs.Order.{Row, column}
+use Rattle.mm_base.specs.Package.{PieceRow}
+use Rattle.mm_base.specs.Pieces.{piece_of}
+use Rattle.mm_edition.specs.declared.kept.Numbers.{Numbers}
+use Rattle.mm_edition.specs.declared.kept.Kept.{Kept}
+use Rattle.mm_edition.specs.declared.kept.Written.{Written}
+
+abbrev pub kept_row : Kept → PieceRow
+kept_row k = record {
+  kind = string_bytes k.kind;
+  name = string_bytes k.name;
+  k1 = k.numbers.k1;
+  k2 = k.numbers.k2;
+  k3 = k.numbers.k3;
+  k4 = k.numbers.k4;
+  k5 = k.numbers.k5;
+  k6 = k.numbers.k6;
+  k7 = k.numbers.k7;
+  t1 = string_bytes k.t1;
+  t2 = string_bytes k.t2;
+  bytes = k.bytes.items;
+}
+
+-- the row that is to be written
+abbrev pub written_row : Written → PieceRow
+written_row w = piece_of w.kind.now w.name.now w.k1 w.k2 w.k3 w.t1.now w.t2.now w.bytes.now
+
+-- the numbers are those that are to be written
+abbrev pub AreNumbers : Numbers → Written → Type 0
+AreNumbers n w = (n.k1 ≡ w.k1) × (n.k2 ≡ w.k2) × (n.k3 ≡ w.k3) × (n.k4 ≡ pos 0) × (n.k5 ≡ pos 0) × (n.k6 ≡ pos 0) × (n.k7 ≡ pos 0)
+
+-- the columns from the third on hold the numbers
+pub record HasNumbers (shown : Row) (n : Numbers) : Type 0 where
+  pub k1 : column shown 2 ≡ Int n.k1
+  pub k2 : column shown 3 ≡ Int n.k2
+  pub k3 : column shown 4 ≡ Int n.k3
+  pub k4 : column shown 5 ≡ Int n.k4
+  pub k5 : column shown 6 ≡ Int n.k5
+  pub k6 : column shown 7 ≡ Int n.k6
+  pub k7 : column shown 8 ≡ Int n.k7
+
+-- The row shows the piece, column by column.
+pub record Shows (shown : Row) (r : PieceRow) : Type 0 where
+  pub kind : column shown 0 ≡ Words r.kind
+  pub name : column shown 1 ≡ Words r.name
+  pub k1 : column shown 2 ≡ Int r.k1
+  pub k2 : column shown 3 ≡ Int r.k2
+  pub k3 : column shown 4 ≡ Int r.k3
+  pub k4 : column shown 5 ≡ Int r.k4
+  pub k5 : column shown 6 ≡ Int r.k5
+  pub k6 : column shown 7 ≡ Int r.k6
+  pub k7 : column shown 8 ≡ Int r.k7
+  pub t1 : column shown 9 ≡ Words r.t1
+  pub t2 : column shown 10 ≡ Words r.t2
+  pub bytes : column shown 11 ≡ Blob r.bytes
+
+-- a row that was asked for by its key shows the piece, and none where there is none
+abbrev pub IsRowOf : Option PieceRow → Option Row → Type 0
+IsRowOf None None = ⊤
+IsRowOf (Some r) (Some shown) = Shows shown r
+IsRowOf _ _ = ⊥

@@ -1,0 +1,9 @@
+-- How an edition stands, as its row writes it.
+use Rattle.mm_base.specs.Keys.{Text}
+use Rattle.mm_base.specs.Package.{open_state, published_state}
+use Rattle.mm_edition.specs.declared.editions.Standing.{Standing}
+use Rattle.mm_edition.specs.declared.editions.Standing.TheVariants.{Open, Published}
+
+abbrev pub standing_text : Standing → Text
+standing_text Open = open_state
+standing_text Published = published_state

@@ -1,0 +1,152 @@
+//! How an edition stands, and the commands that open and discard one.
+
+ghost use Rattle.std.specs.Prelude.{◌≡◌, ℕ, None, IfSome, option_map, string_bytes, ⊤};
+ghost use Rattle.std.specs.FinMap.{get, insert};
+ghost use Rattle.sqlite.specs.Held.{state};
+ghost use Rattle.mm_base.specs.Bounds.{Profile};
+ghost use Rattle.mm_base.specs.Conditions.{least, own_reasons};
+ghost use Rattle.mm_base.specs.Package.{open_state};
+ghost use Rattle.mm_base.specs.declared.commands.Command.TheVariants as commands;
+ghost use Rattle.mm_store.specs.Removals.{without_edition_rows};
+ghost use Rattle.mm_store.specs.Shapes.{IsLook, IsChange, IsLent};
+ghost use Rattle.mm_edition.specs.Standings.{standing_text};
+
+use mm_base::answers::{Fault, Outcome, Refusal};
+use mm_store::statements::{first_text, run};
+use sqlite::{Alter, Transaction, params};
+
+/// How an edition stands.
+#[derive(Clone, Copy, Debug, PartialEq, Eq)]
+pub(crate) enum Standing {
+    Open,
+    Published,
+}
+
+/// The standing that a row writes so.
+fn standing_named(text: &str) -> Option<Standing>
+    ensures { IfSome result (λ standing. text.now ≡ standing_text standing) }
+{
+    match text {
+        "open" => Some(Standing::Open),
+        "published" => Some(Standing::Published),
+        _ => None,
+    }
+}
+
+/// What the row of an edition writes of how it stands.
+fn written_state<S: Alter>(
+    tx: &mut Transaction<'_, S>,
+    edition: &str,
+) -> Result<Option<String>, Fault>
+    ensures same_reference { tx.new.conn.ghost_name ≡ tx.old.conn.ghost_name }
+    ensures look { (profile : Profile) → IsLook profile (state S.Store tx.old.conn.now) (state S.Store tx.new.conn.now) (λ p text. get p.editions edition.now ≡ option_map string_bytes text) result }
+{
+    first_text(
+        tx,
+        "SELECT state FROM mm_editions WHERE name = ?1",
+        params![edition],
+    )
+}
+
+/// How an edition stands, if there is one of the name. A text that is no standing is a fault, 91.
+pub(crate) fn standing_of<S: Alter>(
+    tx: &mut Transaction<'_, S>,
+    edition: &str,
+) -> Result<Option<Standing>, Fault>
+    ensures same_reference { tx.new.conn.ghost_name ≡ tx.old.conn.ghost_name }
+    ensures look { (profile : Profile) → IsLook profile (state S.Store tx.old.conn.now) (state S.Store tx.new.conn.now) (λ p standing. get p.editions edition.now ≡ option_map standing_text standing) result }
+{
+    match written_state(tx, edition) {
+        Ok(Some(text)) => match standing_named(text.as_str()) {
+            Some(standing) => Ok(Some(standing)),
+            None => Err(Fault(91)),
+        },
+        Ok(None) => Ok(None),
+        Err(fault) => Err(fault),
+    }
+}
+
+/// Puts an open edition, where none has the name.
+fn insert_edition<S: Alter>(tx: &mut Transaction<'_, S>, edition: &str) -> Result<(), Fault>
+    ensures same_reference { tx.new.conn.ghost_name ≡ tx.old.conn.ghost_name }
+    ensures change { (profile : Profile) → IsChange profile (state S.Store tx.old.conn.now) (state S.Store tx.new.conn.now) (λ p. get p.editions edition.now ≡ None)
+        (λ p. record p { editions = insert p.editions edition.now open_state }) result }
+{
+    run(
+        tx,
+        "INSERT INTO mm_editions (name, state) VALUES (?1, 'open')",
+        params![edition],
+    )
+}
+
+/// The command `edition`: opens an edition without pieces. Refused 50 where one has the name, open or published.
+pub fn open_edition<S: Alter>(tx: &mut Transaction<'_, S>, edition: &str) -> Result<Outcome, Fault>
+    ensures same_reference { tx.new.conn.ghost_name ≡ tx.old.conn.ghost_name }
+    ensures lent { (profile : Profile) (moment : ℕ) → IsLent profile (commands.Edition edition.now) moment (state S.Store tx.old.conn.now) (state S.Store tx.new.conn.now) result }
+{
+    match standing_of(tx, edition) {
+        Ok(None) => {}
+        Ok(Some(_)) => {
+            return Ok(Outcome::Refused(Refusal {
+                number: 50,
+                piece: None,
+            }));
+        }
+        Err(fault) => return Err(fault),
+    }
+    match insert_edition(tx, edition) {
+        Ok(()) => Ok(Outcome::Done),
+        Err(fault) => Err(fault),
+    }
+}
+
+/// Removes an edition, and by its key its pieces.
+fn delete_edition<S: Alter>(tx: &mut Transaction<'_, S>, edition: &str) -> Result<(), Fault>
+    ensures same_reference { tx.new.conn.ghost_name ≡ tx.old.conn.ghost_name }
+    ensures change { (profile : Profile) → IsChange profile (state S.Store tx.old.conn.now) (state S.Store tx.new.conn.now) (λ p. ⊤) (without_edition_rows edition.now) result }
+{
+    run(
+        tx,
+        "DELETE FROM mm_editions WHERE name = ?1",
+        params![edition],
+    )
+}
+
+/// Why an edition is not one that takes and gives up pieces, if it is not: 51 where none has the name, 55 where it is
+/// published.
+pub(crate) fn closed_refusal<S: Alter>(
+    tx: &mut Transaction<'_, S>,
+    edition: &str,
+) -> Result<Option<u8>, Fault>
+    ensures same_reference { tx.new.conn.ghost_name ≡ tx.old.conn.ghost_name }
+    ensures look { (profile : Profile) → IsLook profile (state S.Store tx.old.conn.now) (state S.Store tx.new.conn.now) (λ p why. why ≡ least (own_reasons p (commands.Discard edition.now))) result }
+{
+    match standing_of(tx, edition) {
+        Ok(Some(Standing::Open)) => Ok(None),
+        Ok(Some(Standing::Published)) => Ok(Some(55)),
+        Ok(None) => Ok(Some(51)),
+        Err(fault) => Err(fault),
+    }
+}
+
+/// The command `discard`: removes an open edition and its pieces. Refused 51 where no edition has the name, 55 where it is
+/// published.
+pub fn discard<S: Alter>(tx: &mut Transaction<'_, S>, edition: &str) -> Result<Outcome, Fault>
+    ensures same_reference { tx.new.conn.ghost_name ≡ tx.old.conn.ghost_name }
+    ensures lent { (profile : Profile) (moment : ℕ) → IsLent profile (commands.Discard edition.now) moment (state S.Store tx.old.conn.now) (state S.Store tx.new.conn.now) result }
+{
+    match closed_refusal(tx, edition) {
+        Ok(None) => {}
+        Ok(Some(number)) => {
+            return Ok(Outcome::Refused(Refusal {
+                number,
+                piece: None,
+            }));
+        }
+        Err(fault) => return Err(fault),
+    }
+    match delete_edition(tx, edition) {
+        Ok(()) => Ok(Outcome::Done),
+        Err(fault) => Err(fault),
+    }
+}

@@ -1,0 +1,145 @@
+//! The command that stages a piece.
+
+ghost use Rattle.std.specs.Prelude.{◌≡◌, ◌<ℤ◌, ◌-ℤ◌, ℕ, pos};
+ghost use Rattle.sqlite.specs.Held.{state};
+ghost use Rattle.mm_base.specs.Bounds.{Profile, IsId};
+ghost use Rattle.mm_base.specs.Pieces.{piece_row};
+ghost use Rattle.mm_base.specs.Rules.{Meets};
+ghost use Rattle.mm_base.specs.declared.commands.Command.TheVariants as commands;
+ghost use Rattle.mm_base.specs.declared.commands.Piece.{Piece as SpecPiece};
+ghost use Rattle.mm_store.specs.Shapes.{IsLook, IsLent};
+ghost use Rattle.mm_edition.specs.Kept.{kept_row, written_row};
+ghost use Rattle.mm_edition.specs.Places.{IsPlace, IsPlaceAt, IsPlaceBehind, IsRoom, TellsBehind};
+
+use crate::editions::{Standing, standing_of};
+use crate::kept::{Kept, Written, as_written, is_written};
+use crate::pieces::{has_piece, insert_piece, kept_piece};
+use mm_base::answers::{Fault, Outcome, Refusal};
+use mm_base::commands::Piece;
+use sqlite::{Alter, Transaction};
+
+/// An edition has so many pieces at most.
+const MOST_PIECES: i64 = 4096;
+
+/// What staging a piece under a number comes to.
+pub(crate) enum Place {
+    /// An equal piece stands there already.
+    Equal,
+    /// It is the next number.
+    Next,
+    Refused(u8),
+}
+
+/// What the next number comes to: it is free, or it is one too many.
+fn next_place(number: i64) -> Place
+    ensures { IsRoom number result }
+{
+    if number > MOST_PIECES {
+        Place::Refused(54)
+    } else {
+        Place::Next
+    }
+}
+
+/// The number before one that is not the first.
+fn number_before(number: i64) -> i64
+    ensures { pos 1 <ℤ number → result ≡ number -ℤ pos 1 }
+{
+    if number > 1 { number - 1 } else { 0 }
+}
+
+/// Whether a number is the first, or behind that of a piece of the edition.
+fn is_behind<S: Alter>(
+    tx: &mut Transaction<'_, S>,
+    edition: &str,
+    number: i64,
+) -> Result<bool, Fault>
+    ensures same_reference { tx.new.conn.ghost_name ≡ tx.old.conn.ghost_name }
+    ensures look { (profile : Profile) → IsLook profile (state S.Store tx.old.conn.now) (state S.Store tx.new.conn.now) (λ p behind. TellsBehind p edition.now number behind) result }
+{
+    match has_piece(tx, edition, number_before(number)) {
+        Ok(found) => Ok(found || number <= 1),
+        Err(fault) => Err(fault),
+    }
+}
+
+/// What staging under a number comes to where the edition has no piece of that number.
+fn place_behind<S: Alter>(
+    tx: &mut Transaction<'_, S>,
+    edition: &str,
+    number: i64,
+) -> Result<Place, Fault>
+    ensures same_reference { tx.new.conn.ghost_name ≡ tx.old.conn.ghost_name }
+    ensures look { (profile : Profile) → IsLook profile (state S.Store tx.old.conn.now) (state S.Store tx.new.conn.now) (λ p place. IsPlaceBehind p edition.now number place) result }
+{
+    match is_behind(tx, edition, number) {
+        Ok(true) => Ok(next_place(number)),
+        Ok(false) => Ok(Place::Refused(52)),
+        Err(fault) => Err(fault),
+    }
+}
+
+/// What staging under a number comes to at which a piece stands.
+fn place_at(kept: &Kept, written: Written<'_>) -> Place
+    ensures { IsPlaceAt (written_row written.entry) (kept_row kept.now) result }
+{
+    if is_written(kept, written) {
+        Place::Equal
+    } else {
+        Place::Refused(52)
+    }
+}
+
+/// What staging a piece under a number of an edition comes to.
+fn place_of<S: Alter>(
+    tx: &mut Transaction<'_, S>,
+    edition: &str,
+    number: i64,
+    written: Written<'_>,
+) -> Result<Place, Fault>
+    ensures same_reference { tx.new.conn.ghost_name ≡ tx.old.conn.ghost_name }
+    ensures look { (profile : Profile) → IsLook profile (state S.Store tx.old.conn.now) (state S.Store tx.new.conn.now)
+        (λ p place. Meets profile p → IsId number → (q : SpecPiece) → written_row written.entry ≡ piece_row q → IsPlace p edition.now number q place) result }
+{
+    match standing_of(tx, edition) {
+        Ok(Some(Standing::Open)) => {}
+        Ok(Some(Standing::Published)) => return Ok(Place::Refused(55)),
+        Ok(None) => return Ok(Place::Refused(51)),
+        Err(fault) => return Err(fault),
+    }
+    match kept_piece(tx, edition, number) {
+        Ok(Some(kept)) => Ok(place_at(&kept, written)),
+        Ok(None) => place_behind(tx, edition, number),
+        Err(fault) => Err(fault),
+    }
+}
+
+/// The command `stage`: keeps a piece in an open edition under the next number. An equal piece under a number that stands
+/// is accepted and changes nothing. Refused 51 where no edition has the name, 52 where the number isn't the next and no
+/// equal piece has it, 54 where the edition has 4,096 pieces, 55 where it is published.
+pub fn stage<S: Alter>(
+    tx: &mut Transaction<'_, S>,
+    edition: &str,
+    number: i64,
+    piece: &Piece,
+) -> Result<Outcome, Fault>
+    ensures same_reference { tx.new.conn.ghost_name ≡ tx.old.conn.ghost_name }
+    ensures lent { (profile : Profile) (moment : ℕ) → IsLent profile (commands.Stage edition.now number piece.now) moment (state S.Store tx.old.conn.now) (state S.Store tx.new.conn.now) result }
+{
+    let written = as_written(piece);
+    match place_of(tx, edition, number, written) {
+        Ok(Place::Next) => {}
+        Ok(Place::Equal) => return Ok(Outcome::Done),
+        Ok(Place::Refused(number)) => {
+            return Ok(Outcome::Refused(Refusal {
+                number,
+                piece: None,
+            }));
+        }
+        Err(fault) => return Err(fault),
+    }
+    match insert_piece(tx, edition, number, written) {
+        Ok(()) => Ok(Outcome::Done),
+        Err(fault) => Err(fault),
+    }
+}

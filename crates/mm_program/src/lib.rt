@@ -1,0 +1,13 @@
+//! The program `mmpkg` as a function of its words, its input and its output.
+//!
+//! - `subcommands`: what each subcommand does.
+//! - `files`: the package's file and its journal.
+//! - `clock`: the moment of a run that names none.
+#![tactic(auto)]
+
+mod clock;
+mod files;
+mod subcommands;
+
+pub use files::{close_files, open_new, open_old};
+pub use subcommands::program;

@@ -1,0 +1,120 @@
+//! The program as a function of its words, its input and its output.
+
+ghost use Rattle.std.specs.Prelude.{◌≡◌, ◌≤◌, ◌⊎◌, IfOk, IfErr};
+ghost use Rattle.mm_base.specs.Streams.{has_failed};
+ghost use Rattle.mm_work.specs.Told.{TellsFailure};
+
+use crate::clock::{Now, time_now};
+use crate::files::{close_files, open_new, open_old};
+use mm_arguments::{Request, read_arguments, status_of};
+use mm_base::answers::Fault;
+use mm_base::moments::Moment;
+use mm_base::streams::Io;
+use mm_work::{
+    FAULT, REFUSED, Stop, USAGE, make_package, run_package, tell_bytes, tell_init, tell_stop,
+    tell_text,
+};
+use sqlite::{Start, Wary};
+use std::io::{Read, Write};
+
+/// Makes a package in a new file.
+fn init_file<S: Start>(rt: &HostRuntime, path: &str, start: S) -> Result<(), Stop> {
+    let conn = open_new(rt, path, start)?;
+    close_files(make_package(rt.alloc(), conn)?)
+}
+
+/// Runs the records of the input on the package of a file.
+fn run_file<S: Start, R: Read, W: Write>(
+    rt: &HostRuntime,
+    path: &str,
+    start: S,
+    input: &mut Io<R>,
+    output: &mut Io<W>,
+    at: Moment,
+) -> Result<u8, Stop>
+    ensures status { IfOk result (λ status. status ≤ 4) }
+    ensures working { IfOk result (λ status. (status ≡ 3) ⊎ (has_failed output.new ≡ has_failed output.old)) }
+    ensures unused { IfErr result (λ why. has_failed output.new ≡ has_failed output.old) }
+{
+    let conn = match open_old(rt, path, start) {
+        Ok(conn) => conn,
+        Err(why) => return Err(why),
+    };
+    let (conn, status) = match run_package(rt.alloc(), conn, input, output, at) {
+        Ok(ran) => ran,
+        Err(why) => return Err(why),
+    };
+    let closed = close_files(conn);
+    if status == FAULT {
+        return Ok(status);
+    }
+    match closed {
+        Ok(()) => Ok(status),
+        Err(why) => Err(why),
+    }
+}
+
+fn init_told<W: Write>(rt: &HostRuntime, path: &str, output: &mut Io<W>) -> u8
+    ensures status { result ≤ 4 }
+    ensures unprinted { TellsFailure (has_failed output.old) (has_failed output.new) result }
+{
+    tell_init(output, init_file(rt, path, Wary))
+}
+
+fn run_told<R: Read, W: Write>(
+    rt: &HostRuntime,
+    path: &str,
+    at: Option<Moment>,
+    input: &mut Io<R>,
+    output: &mut Io<W>,
+) -> u8
+    ensures status { result ≤ 4 }
+    ensures unprinted { TellsFailure (has_failed output.old) (has_failed output.new) result }
+{
+    let moment = match at {
+        Some(moment) => moment,
+        None => match time_now(rt) {
+            Now::At(moment) => moment,
+            Now::Outside => return tell_bytes(output, b"refused 11\n", REFUSED),
+            Now::Unread => return tell_stop(output, Stop::Fault(Fault(96))),
+        },
+    };
+    match run_file(rt, path, Wary, input, output, moment) {
+        Ok(status) => status,
+        Err(why) => tell_stop(output, why),
+    }
+}
+
+/// Prints what the reader of the words answered in place of a request: help, or what is wrong with them.
+fn tell_words<W: Write>(output: &mut Io<W>, error: clap::Error) -> u8
+    ensures status { result ≤ 4 }
+    ensures unprinted { TellsFailure (has_failed output.old) (has_failed output.new) result }
+{
+    match status_of(&error) {
+        Some(status) => tell_text(output, error, status),
+        None => tell_stop(output, Stop::Fault(Fault(90))),
+    }
+}
+
+/// The whole program, of which the first word is its name. It answers the exit status: 0 where all was accepted, 1 where
+/// something was refused, 2 for wrong words, 3 for a fault, 4 where the file is no package. A print that fails ends with 3.
+pub fn program<R: Read, W: Write>(
+    rt: &HostRuntime,
+    words: &[&str],
+    input: &mut Io<R>,
+    output: &mut Io<W>,
+) -> u8
+    ensures status { result ≤ 4 }
+    ensures unprinted { TellsFailure (has_failed output.old) (has_failed output.new) result }
+{
+    match read_arguments(rt.alloc(), words) {
+        Ok(Request::Init { file }) => init_told(rt, file, output),
+        Ok(Request::Run { file, at }) => run_told(rt, file, at, input, output),
+        Ok(_) => tell_bytes(
+            output,
+            b"error: this subcommand is not served yet\n\nFor more information, try '--help'.\n",
+            USAGE,
+        ),
+        Err(error) => tell_words(output, error),
+    }
+}

@@ -1,0 +1,16 @@
+//! The relations of a package after the Related Tables Extension: they are added and removed, and so are the mapping rows
+//! that relate one row or medium to another.
+//!
+//! - `relations`: `add_relation` and `drop_relation`.
+//! - `maps`: the mapping rows, `add_map` and `drop_map`.
+//! - `ends`: the tables that a relation joins, and whether a row or medium stands in one.
+//! - `extensions`: the extension rows of mappings.
+#![tactic(auto)]
+
+mod ends;
+mod extensions;
+mod maps;
+mod relations;
+
+pub use maps::{add_map, drop_map};
+pub use relations::{add_relation, drop_relation};

@@ -1,0 +1,16 @@
+//! The work of the program on a connection to a package, over any store, and what is printed of it.
+//!
+//! - `package`: making a package, and running a list of records on one.
+//! - `stop`: why the work was not done.
+//! - `tell`: what is printed, byte for byte, and the exit status that goes with it.
+#![tactic(auto)]
+
+mod package;
+mod stop;
+mod tell;
+
+pub use package::{make_package, run_package};
+pub use stop::Stop;
+pub use tell::{
+    DONE, FAULT, NO_PACKAGE, REFUSED, USAGE, tell_bytes, tell_init, tell_stop, tell_text,
+};

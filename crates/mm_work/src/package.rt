@@ -1,0 +1,98 @@
+//! The work on a connection to a package.
+
+ghost use Rattle.std.specs.Prelude.{◌≡◌, ◌≤◌, ◌⊎◌, false, IfOk, IfErr, Ok};
+ghost use Rattle.sqlite.specs.Held.{state};
+ghost use Rattle.sqlite.specs.State.{HasCleanDisk};
+ghost use Rattle.mm_base.specs.Bounds.{millimetres};
+ghost use Rattle.mm_base.specs.Streams.{has_failed, inside};
+ghost use Rattle.mm_store.specs.Stands.{IsSettled};
+ghost use Rattle.mm_meta.specs.Look.{IsLooked};
+ghost use Rattle.mm_run.specs.Runs.{OnRun};
+ghost use Rattle.mm_core.specs.Parts.{held};
+ghost use Rattle.mm_core.specs.Sessions.{IsCreated};
+ghost use Rattle.mm_work.specs.Ran.{IsRun};
+
+use crate::stop::Stop;
+use crate::tell::{DONE, FAULT, REFUSED};
+use mm_base::answers::Open;
+use mm_base::moments::Moment;
+use mm_base::streams::Io;
+use mm_core::Session;
+use sqlite::{Alter, Connection};
+use std::alloc::Global;
+use std::io::{Read, Write};
+
+/// Makes a package in a database with no table.
+pub fn make_package<S: Alter + Drop>(
+    alloc: Global,
+    conn: Connection<S>,
+) -> Result<Connection<S>, Stop>
+    requires { conn.in_transaction ≡ false }
+    ensures { IfOk result (λ made. IsCreated (state S.Store conn) (state S.Store made)) }
+{
+    match Session::create(alloc, conn) {
+        Ok(session) => Ok(session.close()),
+        Err((_, fault)) => Err(Stop::Fault(fault)),
+    }
+}
+
+/// A session on a package that is there.
+fn adopt_package<S: Alter + Drop>(alloc: Global, conn: Connection<S>) -> Result<Session<S>, Stop>
+    requires { conn.in_transaction ≡ false }
+    ensures { IfOk result (λ session. IsLooked (state S.Store conn) (state S.Store (held session)) (Ok tt)) }
+{
+    match Session::adopt(alloc, conn) {
+        Ok(session) => Ok(session),
+        Err((_, Open::Version(_))) => Err(Stop::NotPackage(93)),
+        Err((_, Open::NoProfile)) => Err(Stop::NotPackage(94)),
+        Err((_, Open::BadProfile)) => Err(Stop::NotPackage(95)),
+        Err((_, Open::Rule(rule))) => Err(Stop::Rule(rule)),
+        Err((_, Open::Fault(fault))) => Err(Stop::Fault(fault)),
+    }
+}
+
+/// Runs the records of the input on a session, and answers the exit status.
+fn run_session<S: Alter, R: Read, W: Write>(
+    session: &mut Session<S>,
+    input: &mut Io<R>,
+    output: &mut Io<W>,
+    at: Moment,
+) -> u8
+    ensures status { result ≤ 3 }
+    ensures working { (result ≡ 3) ⊎ (has_failed output.new ≡ has_failed output.old) }
+    ensures clean { HasCleanDisk (state S.Store (held session.new)) → HasCleanDisk (state S.Store (held session.old)) }
+    ensures ran { OnRun (HasCleanDisk (state S.Store (held session.new))) (λ p. IsSettled millimetres (state S.Store (held session.old)) p) (R.remaining (inside input.old))
+        (λ p bytes. IsRun p at bytes (state S.Store (held session.new)) (W.contents (inside output.old)) (W.contents (inside output.new)) result) }
+{
+    match session.run_list(input, output, at) {
+        Ok(tally) if tally.refused == 0 => DONE,
+        Ok(_) => REFUSED,
+        Err(_) => FAULT,
+    }
+}
+
+/// Runs the records of the input on a connection to a package, and hands it back with the exit status. What is then
+/// left of the package is stated for a connection that was settled for one.
+pub fn run_package<S: Alter + Drop, R: Read, W: Write>(
+    alloc: Global,
+    conn: Connection<S>,
+    input: &mut Io<R>,
+    output: &mut Io<W>,
+    at: Moment,
+) -> Result<(Connection<S>, u8), Stop>
+    requires { conn.in_transaction ≡ false }
+    ensures status { IfOk result (λ ran. ran.1 ≤ 3) }
+    ensures working { IfOk result (λ ran. (ran.1 ≡ 3) ⊎ (has_failed output.new ≡ has_failed output.old)) }
+    ensures ran { IfOk result (λ ran. OnRun (HasCleanDisk (state S.Store ran.0)) (λ p. IsSettled millimetres (state S.Store conn) p) (R.remaining (inside input.old))
+        (λ p bytes. IsRun p at bytes (state S.Store ran.0) (W.contents (inside output.old)) (W.contents (inside output.new)) ran.1)) }
+    ensures unused { IfErr result (λ why. has_failed output.new ≡ has_failed output.old) }
+{
+    match adopt_package(alloc, conn) {
+        Ok(session) => {
+            let mut session = session;
+            let status = run_session(&mut session, input, output, at);
+            Ok((session.close(), status))
+        }
+        Err(why) => Err(why),
+    }
+}

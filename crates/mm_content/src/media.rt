@@ -21,7 +21,11 @@ use mm_store::statements::{exists, run};
 use sqlite::{Alter, Transaction, params};
 
 /// Whether a table has a medium of this id.
-pub fn has_medium<S: Alter>(tx: &mut Transaction<'_, S>, table: &str, id: i64) -> Result<bool, Fault>
+pub fn has_medium<S: Alter>(
+    tx: &mut Transaction<'_, S>,
+    table: &str,
+    id: i64,
+) -> Result<bool, Fault>
     ensures same_reference { tx.new.conn.ghost_name ≡ tx.old.conn.ghost_name }
     ensures look { (profile : Profile) → IsLook profile (state S.Store tx.old.conn.now) (state S.Store tx.new.conn.now) (λ p found. found ≡ contains_key p.media (item table.now id)) result }
 {

@@ -6,7 +6,7 @@ use mm_base::answers::Fault;
 use mm_base::commands::Kind;
 use mm_base::entries::Entry;
 use mm_meta::create_in_memory;
-use sqlite::{Connection, MemStore};
+use sqlite::{Connection, MemStore, params};
 use std::alloc::Global;
 use std::fmt::Write;
 use std::test::Fail;
@@ -209,8 +209,8 @@ fn the_tables_are_listed_by_name(rt: HostRuntime) -> Result<(), Fail> {
 #[test]
 fn a_value_that_no_package_has_is_a_fault(rt: HostRuntime) -> Result<(), Fail> {
     let mut conn = package(rt.alloc())?;
+    conn.execute("UPDATE mm_rows SET title = ?1 WHERE id = 7", params!["a\0"])?;
     for sql in [
-        "UPDATE mm_rows SET title = 'a' || char(0) WHERE id = 7",
         "UPDATE mm_media SET content_type = 'image' WHERE id = 3",
         "UPDATE mm_media SET data = x'' WHERE id = 4",
     ] {

@@ -1,0 +1,10 @@
+pub mod Terms
+pub mod Quiet
+pub mod MatrixQueries
+pub mod ContentsQueries
+pub mod ItemQueries
+pub mod Joined
+pub mod Checks
+pub mod Keys
+pub mod TileRules
+pub mod MatrixRules

@@ -1,0 +1,22 @@
+-- The values of a shown row.
+use Rattle.std.specs.Prelude.{◌≡◌, ℕ, ℤ, Bool, true, false, List, length, Option, Some, None}
+use Rattle.std.specs.Str.{IsUtf8}
+use Rattle.sqlite.specs.declared.types.Value.{Value}
+use Rattle.sqlite.specs.declared.types.Value.TheVariants.{Null, Int, Text as Words, Blob}
+
+abbrev pub number_of : Value → Option ℤ
+number_of (Int z) = Some z
+number_of _ = None
+
+abbrev pub is_there : Value → Bool
+is_there Null = false
+is_there _ = true
+
+-- how many bytes a blob has
+abbrev pub length_of : Value → Option ℕ
+length_of (Blob bytes) = Some (length bytes)
+length_of _ = None
+
+abbrev pub IsUtf8Words : Value → Type 0
+IsUtf8Words (Words text) = IsUtf8 text
+IsUtf8Words _ = ⊥

@@ -1,0 +1,5 @@
+pub mod Columns
+pub mod Check
+pub mod Texts
+pub mod MatrixRows
+pub mod TileRows

@@ -1,0 +1,53 @@
+-- The queries of the check.
+use Rattle.std.specs.Prelude.{ℕ, List, codes}
+
+abbrev pub tiles_inside : List ℕ
+tiles_inside = codes "SELECT t.tile_column, t.tile_row, m.matrix_width, m.matrix_height FROM mm_tiles AS t LEFT JOIN gpkg_tile_matrix AS m ON m.table_name = t.table_name AND m.zoom_level = t.zoom_level ORDER BY t.table_name, t.zoom_level, t.tile_column, t.tile_row"
+
+abbrev pub matrices_fit : List ℕ
+matrices_fit = codes "SELECT k.kind, s.min_x, s.min_y, s.max_x, s.max_y, m.matrix_width, m.matrix_height, m.tile_width, m.tile_height, m.pixel_x_size, m.pixel_y_size FROM gpkg_tile_matrix AS m LEFT JOIN mm_tables AS k ON k.table_name = m.table_name LEFT JOIN gpkg_tile_matrix_set AS s ON s.table_name = m.table_name ORDER BY m.table_name, m.zoom_level"
+
+abbrev pub higher_is_finer : List ℕ
+higher_is_finer = codes "SELECT a.pixel_x_size, a.pixel_y_size, b.pixel_x_size, b.pixel_y_size FROM gpkg_tile_matrix AS a JOIN gpkg_tile_matrix AS b ON b.table_name = a.table_name AND a.zoom_level < b.zoom_level ORDER BY a.table_name, a.zoom_level, b.zoom_level"
+
+abbrev pub next_is_halved : List ℕ
+next_is_halved = codes "SELECT k.kind, a.zoom_level, b.zoom_level, a.pixel_x_size, a.pixel_y_size, b.pixel_x_size, b.pixel_y_size FROM gpkg_tile_matrix AS a JOIN gpkg_tile_matrix AS b ON b.table_name = a.table_name AND a.zoom_level < b.zoom_level LEFT JOIN mm_tables AS k ON k.table_name = a.table_name ORDER BY a.table_name, a.zoom_level, b.zoom_level"
+
+abbrev pub contents_systems : List ℕ
+contents_systems = codes "SELECT c.srs_id, s.srs_id, k.kind FROM gpkg_contents AS c LEFT JOIN gpkg_spatial_ref_sys AS s ON s.srs_id = c.srs_id LEFT JOIN mm_tables AS k ON k.table_name = c.table_name ORDER BY c.table_name"
+
+abbrev pub set_systems : List ℕ
+set_systems = codes "SELECT m.srs_id, s.srs_id, k.kind FROM gpkg_tile_matrix_set AS m LEFT JOIN gpkg_spatial_ref_sys AS s ON s.srs_id = m.srs_id LEFT JOIN mm_tables AS k ON k.table_name = m.table_name ORDER BY m.table_name"
+
+abbrev pub distinct_identifiers : List ℕ
+distinct_identifiers = codes "SELECT a.table_name, b.table_name FROM gpkg_contents AS a JOIN gpkg_contents AS b ON b.identifier = a.identifier ORDER BY a.table_name"
+
+abbrev pub mapping_names : List ℕ
+mapping_names = codes "SELECT c.table_name FROM gpkgext_relations AS r LEFT JOIN gpkg_contents AS c ON c.table_name = r.mapping_table_name ORDER BY r.mapping_table_name"
+
+abbrev pub registered : List ℕ
+registered = codes "SELECT k.kind, c.data_type, c.min_x, c.min_y, c.max_x, c.max_y, c.srs_id, s.min_x, s.min_y, s.max_x, s.max_y, s.srs_id FROM gpkg_contents AS c LEFT JOIN mm_tables AS k ON k.table_name = c.table_name LEFT JOIN gpkg_tile_matrix_set AS s ON s.table_name = c.table_name ORDER BY c.table_name"
+
+abbrev pub kinds_have_contents : List ℕ
+kinds_have_contents = codes "SELECT c.table_name FROM mm_tables AS k LEFT JOIN gpkg_contents AS c ON c.table_name = k.table_name ORDER BY k.table_name"
+
+abbrev pub sets_have_contents : List ℕ
+sets_have_contents = codes "SELECT c.table_name FROM gpkg_tile_matrix_set AS s LEFT JOIN gpkg_contents AS c ON c.table_name = s.table_name ORDER BY s.table_name"
+
+abbrev pub set_extents : List ℕ
+set_extents = codes "SELECT s.min_x, s.min_y, s.max_x, s.max_y FROM gpkg_tile_matrix_set AS s ORDER BY s.table_name"
+
+abbrev pub contents_extents : List ℕ
+contents_extents = codes "SELECT c.min_x, c.min_y, c.max_x, c.max_y FROM gpkg_contents AS c ORDER BY c.table_name"
+
+abbrev pub rows_in_tables : List ℕ
+rows_in_tables = codes "SELECT k.kind FROM mm_rows AS r LEFT JOIN mm_tables AS k ON k.table_name = r.table_name ORDER BY r.table_name, r.id"
+
+abbrev pub media_in_tables : List ℕ
+media_in_tables = codes "SELECT k.kind FROM mm_media AS m LEFT JOIN mm_tables AS k ON k.table_name = m.table_name ORDER BY m.table_name, m.id"
+
+abbrev pub relations_suited : List ℕ
+relations_suited = codes "SELECT b.kind, c.kind, r.base_primary_column, r.related_primary_column, r.relation_name FROM gpkgext_relations AS r LEFT JOIN mm_tables AS b ON b.table_name = r.base_table_name LEFT JOIN mm_tables AS c ON c.table_name = r.related_table_name ORDER BY r.mapping_table_name"
+
+abbrev pub pairings_join : List ℕ
+pairings_join = codes "SELECT r.mapping_table_name, a.id, b.id, c.id, d.id FROM mm_map AS m LEFT JOIN gpkgext_relations AS r ON r.mapping_table_name = m.mapping LEFT JOIN mm_rows AS a ON a.table_name = r.base_table_name AND a.id = m.base_id LEFT JOIN mm_media AS b ON b.table_name = r.base_table_name AND b.id = m.base_id LEFT JOIN mm_rows AS c ON c.table_name = r.related_table_name AND c.id = m.related_id LEFT JOIN mm_media AS d ON d.table_name = r.related_table_name AND d.id = m.related_id ORDER BY m.mapping, m.base_id, m.related_id"

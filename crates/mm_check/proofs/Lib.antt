@@ -5,6 +5,9 @@ pub mod ContentsQueries
 pub mod ItemQueries
 pub mod Joined
 pub mod Checks
+pub mod Compose
 pub mod Keys
 pub mod TileRules
 pub mod MatrixRules
+pub mod ContentsRules
+pub mod ItemRules

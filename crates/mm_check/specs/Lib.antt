@@ -1,5 +1,8 @@
 pub mod Columns
 pub mod Check
 pub mod Texts
+pub mod Parts
 pub mod MatrixRows
 pub mod TileRows
+pub mod ContentsRows
+pub mod ItemRows

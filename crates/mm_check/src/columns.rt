@@ -1,10 +1,9 @@
 //! The values of a shown row. A value of another kind than asked for is none.
 
-ghost use Rattle.std.specs.Prelude.{◌≡◌, ◌↔◌, IsTrue, MatchOption, option_map};
+ghost use Rattle.std.specs.Prelude.{◌≡◌, ◌↔◌, Some, IsTrue};
 ghost use Rattle.sqlite_value.specs.Value.{owned};
 ghost use Rattle.sqlite.specs.Order.{column};
-ghost use Rattle.mm_check.specs.Columns.{number_of, is_there, IsUtf8Words, length_of};
-ghost use Rattle.sqlite.specs.declared.types.Value.TheVariants.{Text as Words};
+ghost use Rattle.mm_check.specs.Columns.{number_of, is_there, words_of, IsPyramidKind, same_words_by};
 
 use sqlite::Row;
 use sqlite::types::ValueRef;
@@ -37,4 +36,38 @@ pub fn stands(row: &Row, at: usize) -> bool
         ValueRef::Null => false,
         _ => true,
     }
+}
+
+/// Whether two columns hold the same number, or neither holds one.
+pub fn same_number(row: &Row, at: usize, other: usize) -> bool
+    ensures { IsTrue result ↔ number_of (column row.now at) ≡ number_of (column row.now other) }
+{
+    number(row, at) == number(row, other)
+}
+
+/// Whether a column holds this text.
+pub fn text_is(row: &Row, at: usize, text: &str) -> bool
+    ensures { IsTrue result ↔ words_of (column row.now at) ≡ Some text.now }
+{
+    match value(row, at) {
+        ValueRef::Text(bytes) => bytes == text.as_bytes(),
+        _ => false,
+    }
+}
+
+/// Whether two columns hold the same text.
+pub fn same_text(row: &Row, at: usize, other: usize) -> bool
+    ensures { IsTrue result ↔ same_words_by (column row.now at) (column row.now other) }
+{
+    match (value(row, at), value(row, other)) {
+        (ValueRef::Text(one), ValueRef::Text(two)) => one == two,
+        _ => false,
+    }
+}
+
+/// Whether a column holds the kind of a pyramid.
+pub fn is_pyramid(row: &Row, at: usize) -> bool
+    ensures { IsTrue result ↔ IsPyramidKind (column row.now at) }
+{
+    text_is(row, at, "two") || text_is(row, at, "other")
 }

@@ -6,5 +6,7 @@
 #![tactic(auto)]
 
 mod columns;
+pub mod contents;
+pub mod items;
 pub mod matrices;
 pub mod tiles;

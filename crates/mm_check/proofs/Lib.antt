@@ -11,3 +11,7 @@ pub mod TileRules
 pub mod MatrixRules
 pub mod ContentsRules
 pub mod ItemRules
+pub mod LimitQueries
+pub mod Texts
+pub mod Counted
+pub mod LimitRules

@@ -1,5 +1,5 @@
 -- The values of a shown row.
-use Rattle.std.specs.Prelude.{◌≡◌, ◌⊎◌, ℕ, ℤ, codes, Bool, true, false, List, length, Option, Some, None}
+use Rattle.std.specs.Prelude.{◌≡◌, ◌⊎◌, ℕ, ℤ, codes, Bool, true, false, ⊤, List, Option, Some, None}
 use Rattle.std.specs.Str.{IsUtf8}
 use Rattle.sqlite.specs.declared.types.Value.{Value}
 use Rattle.sqlite.specs.declared.types.Value.TheVariants.{Null, Int, Text as Words, Blob}
@@ -12,18 +12,18 @@ abbrev pub is_there : Value → Bool
 is_there Null = false
 is_there _ = true
 
--- how many bytes a blob has
-abbrev pub length_of : Value → Option ℕ
-length_of (Blob bytes) = Some (length bytes)
-length_of _ = None
-
-abbrev pub IsUtf8Words : Value → Type 0
-IsUtf8Words (Words text) = IsUtf8 text
-IsUtf8Words _ = ⊥
+abbrev pub bytes_of : Value → Option (List ℕ)
+bytes_of (Blob bytes) = Some bytes
+bytes_of _ = None
 
 abbrev pub words_of : Value → Option (List ℕ)
 words_of (Words text) = Some text
 words_of _ = None
+
+-- no text that is UTF-8
+abbrev pub Unread : Option (List ℕ) → Type 0
+Unread None = ⊤
+Unread (Some text) = IsUtf8 text → ⊥
 
 -- the text of the kind of a pyramid
 abbrev pub IsPyramidKind : Value → Type 0

@@ -6,3 +6,4 @@ pub mod MatrixRows
 pub mod TileRows
 pub mod ContentsRows
 pub mod ItemRows
+pub mod LimitRows

@@ -1,9 +1,9 @@
 //! The values of a shown row. A value of another kind than asked for is none.
 
-ghost use Rattle.std.specs.Prelude.{◌≡◌, ◌↔◌, Some, IsTrue};
+ghost use Rattle.std.specs.Prelude.{◌≡◌, ◌↔◌, Some, None, IsTrue, MatchOption};
 ghost use Rattle.sqlite_value.specs.Value.{owned};
 ghost use Rattle.sqlite.specs.Order.{column};
-ghost use Rattle.mm_check.specs.Columns.{number_of, is_there, words_of, IsPyramidKind, same_words_by};
+ghost use Rattle.mm_check.specs.Columns.{number_of, is_there, words_of, IsPyramidKind, same_words_by, bytes_of, Unread};
 
 use sqlite::Row;
 use sqlite::types::ValueRef;
@@ -70,4 +70,37 @@ pub fn is_pyramid(row: &Row, at: usize) -> bool
     ensures { IsTrue result ↔ IsPyramidKind (column row.now at) }
 {
     text_is(row, at, "two") || text_is(row, at, "other")
+}
+
+/// The bytes of the text in a column.
+pub fn words(row: &Row, at: usize) -> Option<&[u8]>
+    ensures { MatchOption result (words_of (column row.now at) ≡ None) (λ bytes. words_of (column row.now at) ≡ Some bytes.now) }
+{
+    match value(row, at) {
+        ValueRef::Text(bytes) => Some(bytes),
+        _ => None,
+    }
+}
+
+/// The text in a column, where it is UTF-8.
+pub fn text(row: &Row, at: usize) -> Option<&str>
+    ensures { MatchOption result (Unread (words_of (column row.now at))) (λ text. words_of (column row.now at) ≡ Some text.now) }
+{
+    match words(row, at) {
+        Some(bytes) => match std::str::from_utf8(bytes) {
+            Ok(text) => Some(text),
+            Err(_) => None,
+        },
+        None => None,
+    }
+}
+
+/// The bytes of the blob in a column.
+pub fn blob(row: &Row, at: usize) -> Option<&[u8]>
+    ensures { MatchOption result (bytes_of (column row.now at) ≡ None) (λ bytes. bytes_of (column row.now at) ≡ Some bytes.now) }
+{
+    match value(row, at) {
+        ValueRef::Blob(bytes) => Some(bytes),
+        _ => None,
+    }
 }

@@ -8,5 +8,6 @@
 mod columns;
 pub mod contents;
 pub mod items;
+pub mod limits;
 pub mod matrices;
 pub mod tiles;

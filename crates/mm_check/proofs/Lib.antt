@@ -15,3 +15,5 @@ pub mod LimitQueries
 pub mod Texts
 pub mod Counted
 pub mod LimitRules
+pub mod SystemQueries
+pub mod SystemRules

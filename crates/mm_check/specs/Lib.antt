@@ -7,3 +7,4 @@ pub mod TileRows
 pub mod ContentsRows
 pub mod ItemRows
 pub mod LimitRows
+pub mod SystemRows

@@ -90,3 +90,6 @@ editions_within = codes "SELECT t.name, t.state FROM mm_editions AS t ORDER BY t
 
 abbrev pub pieces_within : List ℕ
 pieces_within = codes "SELECT t.edition, t.piece_no FROM mm_pieces AS t ORDER BY t.edition, t.piece_no"
+
+abbrev pub given_systems : List ℕ
+given_systems = codes "SELECT a.srs_name, a.organization, a.organization_coordsys_id, a.definition, a.description, b.srs_name, b.organization, b.organization_coordsys_id, b.definition, b.description, c.srs_name, c.organization, c.organization_coordsys_id, c.definition, c.description FROM mm_profile AS v LEFT JOIN gpkg_spatial_ref_sys AS a ON a.srs_id = ?1 LEFT JOIN gpkg_spatial_ref_sys AS b ON b.srs_id = ?2 LEFT JOIN gpkg_spatial_ref_sys AS c ON c.srs_id = ?3"

@@ -3,7 +3,7 @@
 ghost use Rattle.std.specs.Prelude.{⊤, ◌↔◌, ℤ, IsTrue};
 ghost use Rattle.sqlite.specs.Held.{state};
 ghost use Rattle.mm_base.specs.Bounds.{millimetres};
-ghost use Rattle.mm_base.specs.Rules.{NamedSystems, DistinctIdentifiers, Names, Registry, Extents, IsPlane, IsOrdered};
+ghost use Rattle.mm_base.specs.Rules.{NamedSystems, DistinctIdentifiers, Names, Registry, Extents, Limits, IsPlane, IsOrdered};
 ghost use Rattle.mm_check.specs.Check.{IsCheck};
 ghost use Rattle.sqlite.specs.Order.{column};
 ghost use Rattle.mm_check.specs.Columns.{number_of};
@@ -115,6 +115,13 @@ pub fn mapping_names<S: Alter>(conn: &mut Connection<S>) -> Result<bool, Fault>
         &[],
         &Absent,
     )
+}
+
+/// Rule 4, where rule 16 holds: no mapping has the name of a table.
+pub fn names<S: Alter>(conn: &mut Connection<S>) -> Result<bool, Fault>
+    ensures { IsCheck millimetres (state S.Store conn.old) (state S.Store conn.new) (λ p. Limits millimetres p) (λ p. Names p.contents p.relations p.editions) result }
+{
+    mapping_names(conn)
 }
 
 /// A row of another table beside this one.

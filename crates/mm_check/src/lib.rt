@@ -10,4 +10,5 @@ pub mod contents;
 pub mod items;
 pub mod limits;
 pub mod matrices;
+pub mod systems;
 pub mod tiles;

@@ -11,7 +11,7 @@ use Rattle.mm_walk.specs.RowTests.{IsQuery}
 use Rattle.mm_schema.specs.Tables.{schema}
 use Rattle.mm_check.specs.Texts as text
 use Rattle.mm_check.proofs.Quiet.{IsQuiet}
-use Rattle.mm_check.proofs.Terms.{equals, below, same_as}
+use Rattle.mm_check.proofs.Terms.{equals, below, same_as, follows}
 
 pub rows_in_tables : IsQuery schema text.rows_in_tables (inner 17 (left 13 (equals 2 1 1 1 ∷ []) end)) [] (col 2 2 ∷ [])
     ((col 1 1, ascending Binary) ∷ (col 1 2, ascending Binary) ∷ []) (codes "kind" ∷ [])

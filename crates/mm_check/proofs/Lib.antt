@@ -17,3 +17,6 @@ pub mod Counted
 pub mod LimitRules
 pub mod SystemQueries
 pub mod SystemRules
+pub mod EditionQueries
+pub mod Numbering
+pub mod EditionRules

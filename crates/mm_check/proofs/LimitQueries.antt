@@ -11,7 +11,7 @@ use Rattle.mm_walk.specs.RowTests.{IsQuery}
 use Rattle.mm_schema.specs.Tables.{schema}
 use Rattle.mm_check.specs.Texts as text
 use Rattle.mm_check.proofs.Quiet.{IsQuiet}
-use Rattle.mm_check.proofs.Terms.{equals, below, same_as}
+use Rattle.mm_check.proofs.Terms.{equals, below, same_as, follows}
 
 pub systems_within : IsQuery schema text.systems_within (inner 0 end) [] (col 1 0 ∷ col 1 1 ∷ col 1 3 ∷ col 1 4 ∷ col 1 5 ∷ col 1 6 ∷ [])
     ((col 1 0, ascending Binary) ∷ []) (codes "srs_id" ∷ codes "srs_name" ∷ codes "organization" ∷ codes "organization_coordsys_id" ∷ codes "definition" ∷ codes "description" ∷ [])

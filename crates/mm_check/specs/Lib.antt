@@ -8,3 +8,4 @@ pub mod ContentsRows
 pub mod ItemRows
 pub mod LimitRows
 pub mod SystemRows
+pub mod PieceRows

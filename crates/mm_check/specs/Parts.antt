@@ -1,9 +1,11 @@
 -- The parts of rules that are decided by a walk each.
-use Rattle.std.specs.Prelude.{◌≡◌, ◌<ℤ◌, None, IfSome}
+use Rattle.std.specs.Prelude.{◌≡◌, ◌⊎◌, pos, ◌-ℤ◌, ◌<ℤ◌, None, IfSome}
 use Rattle.std.specs.FinMap.{get}
-use Rattle.mm_base.specs.Parts.{Each, Stands}
-use Rattle.mm_base.specs.Package.{Package, HasKind}
-use Rattle.mm_base.specs.Rules.{MayName, Suits, IsOrdered}
+use Rattle.mm_base.specs.Parts.{Each, Has, Stands}
+use Rattle.mm_base.specs.Package.{Package, HasKind, open_state, published_state}
+use Rattle.mm_base.specs.Rules.{MayName, Suits, IsOrdered, IsSpelled}
+use Rattle.mm_base.specs.Bounds.{IsFrom, MostPieces}
+use Rattle.mm_base.specs.Keys.{piece}
 use Rattle.mm_base.specs.declared.commands.Kind.{Kind}
 use Rattle.mm_base.specs.declared.commands.Kind.TheVariants.{Attributes, Media}
 
@@ -41,3 +43,17 @@ RowsInTables p = Each p.rows (λ k _. HasKind p.kinds k.table Attributes)
 
 abbrev pub MediaInTables : Package → Type 0
 MediaInTables p = Each p.media (λ k _. HasKind p.kinds k.table Media)
+
+-- ---- of rule 15
+abbrev pub EditionStates : Package → Type 0
+EditionStates p = Each p.editions (λ _ state. (state ≡ open_state) ⊎ (state ≡ published_state))
+
+abbrev pub PiecesOfOpen : Package → Type 0
+PiecesOfOpen p = Each p.pieces (λ k _. Has p.editions k.edition open_state)
+
+abbrev pub PiecesSpelled : Package → Type 0
+PiecesSpelled p = Each p.pieces (λ _ r. IsSpelled r)
+
+-- each is the first or follows another
+abbrev pub PiecesNumbered : Package → Type 0
+PiecesNumbered p = Each p.pieces (λ k _. IsFrom (pos 1) (pos MostPieces) k.number × ((k.number ≡ pos 1) ⊎ Stands p.pieces (piece k.edition (k.number -ℤ pos 1))))

@@ -93,3 +93,15 @@ pieces_within = codes "SELECT t.edition, t.piece_no FROM mm_pieces AS t ORDER BY
 
 abbrev pub given_systems : List ℕ
 given_systems = codes "SELECT a.srs_name, a.organization, a.organization_coordsys_id, a.definition, a.description, b.srs_name, b.organization, b.organization_coordsys_id, b.definition, b.description, c.srs_name, c.organization, c.organization_coordsys_id, c.definition, c.description FROM mm_profile AS v LEFT JOIN gpkg_spatial_ref_sys AS a ON a.srs_id = ?1 LEFT JOIN gpkg_spatial_ref_sys AS b ON b.srs_id = ?2 LEFT JOIN gpkg_spatial_ref_sys AS c ON c.srs_id = ?3"
+
+abbrev pub edition_states : List ℕ
+edition_states = codes "SELECT e.state FROM mm_editions AS e ORDER BY e.name"
+
+abbrev pub pieces_of_open : List ℕ
+pieces_of_open = codes "SELECT e.state FROM mm_pieces AS p LEFT JOIN mm_editions AS e ON e.name = p.edition ORDER BY p.edition, p.piece_no"
+
+abbrev pub pieces_numbered : List ℕ
+pieces_numbered = codes "SELECT p.piece_no, q.piece_no FROM mm_pieces AS p LEFT JOIN mm_pieces AS q ON q.edition = p.edition AND q.piece_no = p.piece_no - 1 ORDER BY p.edition, p.piece_no"
+
+abbrev pub pieces_spelled : List ℕ
+pieces_spelled = codes "SELECT p.kind, p.name, p.k1, p.k2, p.k3, p.k4, p.k5, p.k6, p.k7, p.t1, p.t2, p.data FROM mm_pieces AS p ORDER BY p.edition, p.piece_no"

@@ -104,3 +104,10 @@ pub fn blob(row: &Row, at: usize) -> Option<&[u8]>
         _ => None,
     }
 }
+
+/// Whether a column holds this number.
+pub fn number_is(row: &Row, at: usize, wanted: i64) -> bool
+    ensures { IsTrue result ↔ number_of (column row.now at) ≡ Some wanted }
+{
+    number(row, at) == Some(wanted)
+}

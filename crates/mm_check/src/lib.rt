@@ -7,6 +7,7 @@
 
 mod columns;
 pub mod contents;
+pub mod editions;
 pub mod items;
 pub mod limits;
 pub mod matrices;

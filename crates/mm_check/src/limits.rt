@@ -28,13 +28,13 @@ const FARTHEST: i64 = 100_000_000_000;
 const LARGEST_PIXEL: i64 = 1_000_000_000;
 
 /// The most tiles a matrix has across or down.
-const MOST_TILES: i64 = 1_073_741_824;
+pub(crate) const MOST_TILES: i64 = 1_073_741_824;
 
 /// The largest amount of an attribute row, either way.
-const MOST_AMOUNT: i64 = 1_000_000_000_000_000;
+pub(crate) const MOST_AMOUNT: i64 = 1_000_000_000_000_000;
 
 /// The largest number of a row, a medium, a piece or a reference system.
-const LAST_ID: i64 = 9_007_199_254_740_992;
+pub(crate) const LAST_ID: i64 = 9_007_199_254_740_992;
 
 fn has_zero(text: &str) -> bool
     ensures { result ≡ bounds.has_zero text.now }
@@ -61,7 +61,7 @@ fn is_text(text: &str, least: usize, most: usize) -> bool
 }
 
 #[tactic(auto, using(crate::proofs::Texts::unread))]
-fn is_name_at(row: &Row, at: usize) -> bool
+pub(crate) fn is_name_at(row: &Row, at: usize) -> bool
     ensures { IsTrue result ↔ text_by IsName (column row.now at) }
 {
     match text(row, at) {
@@ -91,7 +91,7 @@ fn is_identifier_at(row: &Row, at: usize) -> bool
 }
 
 #[tactic(auto, using(crate::proofs::Texts::unread))]
-fn is_content_type_at(row: &Row, at: usize) -> bool
+pub(crate) fn is_content_type_at(row: &Row, at: usize) -> bool
     ensures { IsTrue result ↔ text_by IsContentType (column row.now at) }
 {
     match text(row, at) {
@@ -111,7 +111,7 @@ fn is_stamp_at(row: &Row, at: usize) -> bool
 }
 
 #[tactic(auto, using(crate::proofs::Texts::unread))]
-fn is_text_at(row: &Row, at: usize, least: usize, most: usize) -> bool
+pub(crate) fn is_text_at(row: &Row, at: usize, least: usize, most: usize) -> bool
     ensures { IsTrue result ↔ text_by (IsText least most) (column row.now at) }
 {
     match text(row, at) {
@@ -145,7 +145,7 @@ fn is_from(number: i64, low: i64, high: i64) -> bool
     low <= number && number <= high
 }
 
-fn is_within(row: &Row, at: usize, low: i64, high: i64) -> bool
+pub(crate) fn is_within(row: &Row, at: usize, low: i64, high: i64) -> bool
     ensures { IsTrue result ↔ number_by (IsFrom low high) (column row.now at) }
 {
     match number(row, at) {
@@ -170,7 +170,7 @@ fn is_long(bytes: &[u8], most: usize) -> bool
 }
 
 /// Whether a blob has 1 to `most` bytes, which are not copied.
-fn is_blob_within(row: &Row, at: usize, most: usize) -> bool
+pub(crate) fn is_blob_within(row: &Row, at: usize, most: usize) -> bool
     ensures { IsTrue result ↔ bytes_by (IsLong 1 most) (column row.now at) }
 {
     match blob(row, at) {

@@ -1,25 +1,17 @@
 //! The given reference systems.
 
-ghost use Rattle.std.specs.Prelude.{⊤, ◌≡◌, ◌↔◌, Some, IsTrue};
+ghost use Rattle.std.specs.Prelude.{⊤, ◌↔◌, IsTrue};
 ghost use Rattle.sqlite.specs.Held.{state};
 ghost use Rattle.sqlite.specs.Order.{column};
 ghost use Rattle.mm_base.specs.Bounds.{millimetres};
 ghost use Rattle.mm_base.specs.Rules.{GivenSystems, geographic, undefined_cartesian, undefined_geographic};
 ghost use Rattle.mm_check.specs.Check.{IsCheck};
 ghost use Rattle.mm_check.specs.SystemRows.{IsGivenRow, shows_by};
-ghost use Rattle.mm_check.specs.Columns.{number_of};
 
-use crate::columns::{number, text_is};
+use crate::columns::{number_is, text_is};
 use mm_base::answers::Fault;
 use mm_walk::row_tests::{RowTest, each_passes};
 use sqlite::{Alter, Connection, Row, params};
-
-/// Whether a column holds this number.
-fn number_is(row: &Row, at: usize, wanted: i64) -> bool
-    ensures { IsTrue result ↔ number_of (column row.now at) ≡ Some wanted }
-{
-    number(row, at) == Some(wanted)
-}
 
 /// Whether the first five columns are those of the system of geographic coordinates.
 fn is_geographic(row: &Row) -> bool

@@ -20,3 +20,5 @@ pub mod SystemRules
 pub mod EditionQueries
 pub mod Numbering
 pub mod EditionRules
+pub mod ExtensionQueries
+pub mod ExtensionRules

@@ -45,7 +45,7 @@ abbrev of_row : System → Row → Type 0
 of_row wanted r = shows_by wanted (column r 1) (column r 3) (column r 4) (column r 5) (column r 6)
 
 -- of the row of one table whose rows are not looked at
-one_row : (rows : List Row) (row : Row) (A : Type 0) → rows ≡ row ∷ [] → ((r : Row) → lists.Has rows r → A) ↔ A
+pub one_row : (rows : List Row) (row : Row) (A : Type 0) → rows ≡ row ∷ [] → ((r : Row) → lists.Has rows r → A) ↔ A
 one_row rows row A is = (λ f. f row (subst (λ l. lists.Has l row) (sym is) (inl refl)), λ a r there. a)
 
 module _ (version : ℤ) (db : Trees) (p : Package) (stands : StandsFor version db p) where

@@ -9,3 +9,4 @@ pub mod ItemRows
 pub mod LimitRows
 pub mod SystemRows
 pub mod PieceRows
+pub mod ExtensionRows

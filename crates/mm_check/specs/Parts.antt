@@ -1,9 +1,9 @@
 -- The parts of rules that are decided by a walk each.
-use Rattle.std.specs.Prelude.{◌≡◌, ◌⊎◌, pos, ◌-ℤ◌, ◌<ℤ◌, None, IfSome}
+use Rattle.std.specs.Prelude.{◌≡◌, ◌⊎◌, pos, ◌-ℤ◌, ◌<ℤ◌, codes, None, IfSome}
 use Rattle.std.specs.FinMap.{get}
 use Rattle.mm_base.specs.Parts.{Each, Has, Stands}
-use Rattle.mm_base.specs.Package.{Package, HasKind, open_state, published_state}
-use Rattle.mm_base.specs.Rules.{MayName, Suits, IsOrdered, IsSpelled}
+use Rattle.mm_base.specs.Package.{Package, HasKind, open_state, published_state, general_extension, mapping_extension, zoom_extension}
+use Rattle.mm_base.specs.Rules.{MayName, Suits, IsOrdered, IsSpelled, IsWanted}
 use Rattle.mm_base.specs.Bounds.{IsFrom, MostPieces}
 use Rattle.mm_base.specs.Keys.{piece}
 use Rattle.mm_base.specs.declared.commands.Kind.{Kind}
@@ -57,3 +57,19 @@ PiecesSpelled p = Each p.pieces (λ _ r. IsSpelled r)
 -- each is the first or follows another
 abbrev pub PiecesNumbered : Package → Type 0
 PiecesNumbered p = Each p.pieces (λ k _. IsFrom (pos 1) (pos MostPieces) k.number × ((k.number ≡ pos 1) ⊎ Stands p.pieces (piece k.edition (k.number -ℤ pos 1))))
+
+-- ---- of rule 14
+abbrev pub ExtensionsWanted : Package → Type 0
+ExtensionsWanted p = Each p.extensions (λ e _. IsWanted p.kinds p.relations e)
+
+abbrev pub ExtensionsOnce : Package → Type 0
+ExtensionsOnce p = Each p.extensions (λ _ count. count ≡ 1)
+
+abbrev pub GeneralExtension : Package → Type 0
+GeneralExtension p = Stands p.extensions general_extension
+
+abbrev pub MappingExtensions : Package → Type 0
+MappingExtensions p = Each p.relations (λ mapping _. Stands p.extensions (mapping_extension mapping))
+
+abbrev pub ZoomExtensions : Package → Type 0
+ZoomExtensions p = Each p.kinds (λ table kind. kind ≡ codes "other" → Stands p.extensions (zoom_extension table))

@@ -105,3 +105,18 @@ pieces_numbered = codes "SELECT p.piece_no, q.piece_no FROM mm_pieces AS p LEFT 
 
 abbrev pub pieces_spelled : List ℕ
 pieces_spelled = codes "SELECT p.kind, p.name, p.k1, p.k2, p.k3, p.k4, p.k5, p.k6, p.k7, p.t1, p.t2, p.data FROM mm_pieces AS p ORDER BY p.edition, p.piece_no"
+
+abbrev pub extensions_wanted : List ℕ
+extensions_wanted = codes "SELECT e.table_name, e.column_name, e.extension_name, e.definition, e.scope, r.mapping_table_name, k.kind FROM gpkg_extensions AS e LEFT JOIN gpkgext_relations AS r ON r.mapping_table_name = e.table_name LEFT JOIN mm_tables AS k ON k.table_name = e.table_name"
+
+abbrev pub extensions_once : List ℕ
+extensions_once = codes "SELECT 1 FROM gpkg_extensions AS a JOIN gpkg_extensions AS b ON a.rowid < b.rowid AND b.table_name IS a.table_name AND b.column_name IS a.column_name AND b.extension_name IS a.extension_name AND b.definition IS a.definition AND b.scope IS a.scope"
+
+abbrev pub general_extension : List ℕ
+general_extension = codes "SELECT e.extension_name FROM mm_profile AS v LEFT JOIN gpkg_extensions AS e ON e.table_name IS 'gpkgext_relations' AND e.column_name IS NULL AND e.extension_name IS 'gpkg_related_tables' AND e.definition IS 'OGC 18-000' AND e.scope IS 'read-write'"
+
+abbrev pub mapping_extensions : List ℕ
+mapping_extensions = codes "SELECT e.extension_name FROM gpkgext_relations AS r LEFT JOIN gpkg_extensions AS e ON e.table_name IS r.mapping_table_name AND e.column_name IS NULL AND e.extension_name IS 'gpkg_related_tables' AND e.definition IS 'OGC 18-000' AND e.scope IS 'read-write' ORDER BY r.mapping_table_name"
+
+abbrev pub zoom_extensions : List ℕ
+zoom_extensions = codes "SELECT k.kind, e.extension_name FROM mm_tables AS k LEFT JOIN gpkg_extensions AS e ON e.table_name IS k.table_name AND e.column_name IS 'tile_data' AND e.extension_name IS 'gpkg_zoom_other' AND e.definition IS 'OGC 12-128r17' AND e.scope IS 'read-write' ORDER BY k.table_name"

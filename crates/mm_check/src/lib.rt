@@ -8,6 +8,7 @@
 mod columns;
 pub mod contents;
 pub mod editions;
+pub mod extensions;
 pub mod items;
 pub mod limits;
 pub mod matrices;

@@ -1,6 +1,6 @@
 //! Which function does which command.
 
-ghost use Rattle.std.specs.Prelude.{◌≡◌, ℕ, true};
+ghost use Rattle.std.specs.Prelude.{◌≡◌, ℕ, false, true};
 ghost use Rattle.sqlite.specs.Held.{state};
 ghost use Rattle.mm_base.specs.Bounds.{millimetres};
 ghost use Rattle.mm_base.specs.Stamp.{IsStamp};

@@ -7,6 +7,7 @@
 
 mod applying;
 mod dispatching;
+mod reading;
 mod running;
 mod session;
 

@@ -17,9 +17,9 @@ use std::io::{Read, Write};
 /// is answered 92, and the package has to be opened again.
 #[derive(Drop)]
 pub struct Session<S: Alter> {
-    conn: Connection<S>,
-    alloc: Global,
-    failed: bool,
+    pub(crate) conn: Connection<S>,
+    pub(crate) alloc: Global,
+    pub(crate) failed: bool,
     ghost idle: { conn.in_transaction ≡ false },
 }
 

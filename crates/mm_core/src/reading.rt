@@ -1,0 +1,101 @@
+//! What is read of the package of a session.
+
+use crate::session::Session;
+use mm_base::answers::Fault;
+use mm_base::entries::{Entry, Media, Related, Row};
+use mm_base::names::Name;
+use mm_reads::{contents, media, row, tile};
+use mm_related::related;
+use sqlite::Alter;
+
+impl<S: Alter> Session<S> {
+    ghost use Rattle.std.specs.Prelude.{◌≡◌, pos, Err, false, true, option_map};
+    ghost use Rattle.std.specs.FinMap.{get};
+    ghost use Rattle.sqlite.specs.Held.{state};
+    ghost use Rattle.mm_base.specs.Bounds.{millimetres};
+    ghost use Rattle.mm_base.specs.Keys as keys;
+    ghost use Rattle.mm_base.specs.Keys.{item};
+    ghost use Rattle.mm_store.specs.Shapes.{IsRead};
+    ghost use Rattle.mm_reads.specs.Told.{TellsBytes, medium_of, row_of};
+    ghost use Rattle.mm_reads.specs.Listing.{Lists};
+    ghost use Rattle.mm_related.specs.Related.{Tells};
+    ghost use Rattle.mm_core.specs.Parts.{held, has_failed};
+
+    /// The bytes of the tile of a pyramid at a zoom, column and row, or None where none stands there. (Tile Pyramid User
+    /// Data Tables.)
+    ///
+    /// 92 where the session has to be opened again, and then nothing is asked of the store. After another fault the session goes
+    /// on, and the package and what may be left are as they were.
+    pub fn tile(&mut self, table: &Name, zoom: u8, column: u32, row: u32) -> Result<Option<Vec<u8>>, Fault>
+        ensures ended { has_failed self.old ≡ true → (result ≡ Err (record { 0 = 92 })) × (self.new ≡ self.old) }
+        ensures same { has_failed self.new ≡ has_failed self.old }
+        ensures read { has_failed self.old ≡ false → IsRead millimetres (state S.Store (held self.old)) (state S.Store (held self.new)) (λ p found. TellsBytes (get p.tiles (keys.tile table.now (pos zoom) (pos column) (pos row))) found) result }
+    {
+        if self.failed {
+            return Err(Fault(92));
+        }
+        tile(&mut self.conn, table.as_str(), zoom, column, row)
+    }
+
+    /// The medium of a media table that has an id, or None where none has it. (Media.)
+    ///
+    /// 92 where the session has to be opened again, and then nothing is asked of the store. After another fault the session goes
+    /// on, and the package and what may be left are as they were.
+    pub fn media(&mut self, table: &Name, id: i64) -> Result<Option<Media>, Fault>
+        ensures ended { has_failed self.old ≡ true → (result ≡ Err (record { 0 = 92 })) × (self.new ≡ self.old) }
+        ensures same { has_failed self.new ≡ has_failed self.old }
+        ensures read { has_failed self.old ≡ false → IsRead millimetres (state S.Store (held self.old)) (state S.Store (held self.new)) (λ p found. get p.media (item table.now id) ≡ option_map medium_of found) result }
+    {
+        if self.failed {
+            return Err(Fault(92));
+        }
+        media(&mut self.conn, table.as_str(), id)
+    }
+
+    /// The row of an attribute table that has an id, or None where none has it. (Attributes.)
+    ///
+    /// 92 where the session has to be opened again, and then nothing is asked of the store. After another fault the session goes
+    /// on, and the package and what may be left are as they were.
+    pub fn row(&mut self, table: &Name, id: i64) -> Result<Option<Row>, Fault>
+        ensures ended { has_failed self.old ≡ true → (result ≡ Err (record { 0 = 92 })) × (self.new ≡ self.old) }
+        ensures same { has_failed self.new ≡ has_failed self.old }
+        ensures read { has_failed self.old ≡ false → IsRead millimetres (state S.Store (held self.old)) (state S.Store (held self.new)) (λ p found. get p.rows (item table.now id) ≡ option_map row_of found) result }
+    {
+        if self.failed {
+            return Err(Fault(92));
+        }
+        row(&mut self.conn, table.as_str(), id)
+    }
+
+    /// The tables of the contents by rising name, each with its kind, identifier and last_change, and exactly the pyramids with
+    /// their reference system and extent. (Contents.)
+    ///
+    /// 92 where the session has to be opened again, and then nothing is asked of the store. After another fault the session goes
+    /// on, and the package and what may be left are as they were.
+    pub fn contents(&mut self) -> Result<Vec<Entry>, Fault>
+        ensures ended { has_failed self.old ≡ true → (result ≡ Err (record { 0 = 92 })) × (self.new ≡ self.old) }
+        ensures same { has_failed self.new ≡ has_failed self.old }
+        ensures read { has_failed self.old ≡ false → IsRead millimetres (state S.Store (held self.old)) (state S.Store (held self.new)) (λ p tables. Lists p tables.items) result }
+    {
+        if self.failed {
+            return Err(Fault(92));
+        }
+        contents(self.alloc, &mut self.conn)
+    }
+
+    /// What an attribute row or medium is related to, from the base of a relation to its related table only, ordered by mapping,
+    /// related table and id; None where the table has no item of the id. (Related Tables Extension.)
+    ///
+    /// 92 where the session has to be opened again, and then nothing is asked of the store. After another fault the session goes
+    /// on, and the package and what may be left are as they were.
+    pub fn related(&mut self, table: &Name, id: i64) -> Result<Option<Vec<Related>>, Fault>
+        ensures ended { has_failed self.old ≡ true → (result ≡ Err (record { 0 = 92 })) × (self.new ≡ self.old) }
+        ensures same { has_failed self.new ≡ has_failed self.old }
+        ensures read { has_failed self.old ≡ false → IsRead millimetres (state S.Store (held self.old)) (state S.Store (held self.new)) (λ p found. Tells p table.now id found) result }
+    {
+        if self.failed {
+            return Err(Fault(92));
+        }
+        related(self.alloc, &mut self.conn, table.as_str(), id)
+    }
+}

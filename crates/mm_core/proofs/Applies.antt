@@ -21,8 +21,6 @@ module _ (old new : State) (c : Command) (moment : ℕ) (a : Answer) where
       rw it.0 (λ db may. inl (settled.left db (subst (λ (s : State). s.may_leave db) it.1 may)))
   applied_so false ended applied clean p settled meets within = (applied refl).answers clean p (record { settled = settled; meets = meets; within = within })
 
-  pub clean_so : (failed served : Bool) → (failed ≡ true → new ≡ old) → (failed ≡ false → served ≡ true → IsApplied c moment old new a) → (failed ≡ false → served ≡ false → new ≡ old)
-      → HasCleanDisk new → HasCleanDisk old
-  clean_so true served ended applied unserved clean = subst HasCleanDisk (ended refl) clean
-  clean_so false true ended applied unserved clean = let h = (applied refl refl).survives.clean in omega (arith, h)
-  clean_so false false ended applied unserved clean = subst HasCleanDisk (unserved refl refl) clean
+  pub clean_so : (failed : Bool) → (failed ≡ true → new ≡ old) → (failed ≡ false → IsApplied c moment old new a) → HasCleanDisk new → HasCleanDisk old
+  clean_so true ended applied clean = subst HasCleanDisk (ended refl) clean
+  clean_so false ended applied clean = let h = (applied refl).survives.clean in omega (arith, h)

@@ -16,12 +16,16 @@ use Rattle.mm_base.specs.declared.answers.Fault.{Fault}
 use Rattle.mm_base.specs.declared.answers.Outcome.{Outcome}
 use Rattle.mm_base.specs.declared.answers.Outcome.TheVariants.{Done, Refused}
 use Rattle.mm_base.specs.declared.answers.Refusal.{Refusal}
+use Rattle.mm_base.specs.Keys.{Text}
 use Rattle.mm_base.specs.declared.commands.Command.{Command}
+use Rattle.mm_base.specs.declared.commands.Command.TheVariants as commands
+use Rattle.mm_laws.proofs.Closed.{rehearse_same}
 use Rattle.mm_store.specs.Stands.{ground_of, IsInside, IsSettled}
 use Rattle.mm_store.specs.Faults.{IsStoreFault}
 use Rattle.mm_store.specs.Statements.{CommitsNothing}
 use Rattle.mm_store.specs.Shapes.{IsPut, IsTried}
 use Rattle.mm_store.proofs.Transactions.{OnlyCommitted, settles, rolled_quiet, rolled_back}
+use Rattle.mm_edition.specs.Rehearsals.{IsRehearsal}
 use Rattle.mm_core.specs.Applied.{IsApplied, IsReady, MayCommit, Stands}
 
 module _ {S : Type 0} (g : Ghosts S) (was now : Held S) (begun : now ≡ record was { in_transaction = true }) (ended last : State)
@@ -90,3 +94,30 @@ store_fault result fault is h = either (rw is at h)
     either : IsStoreFault fault → (fault.0 ≡ 90) ⊎ (fault.0 ≡ 91)
     either (inl e) = inl (ap (λ (f : Fault). f.0) e)
     either (inr e) = inr (ap (λ (f : Fault). f.0) e)
+
+-- ---- a rehearsal
+
+module _ (old new : State) (edition : Text) (moment : ℕ) (result : Result Outcome Fault) where
+  quietly : IsRehearsal millimetres edition old new result → Survives old new (MayCommit old (commands.Rehearse edition) moment)
+  quietly it = survives_weaker old new (λ _. ⊥) (MayCommit old (commands.Rehearse edition) moment) (λ _ db none. absurd none) it.survives
+
+  pub rehearsed_well : result ≡ Ok Done → IsRehearsal millimetres edition old new result → IsApplied (commands.Rehearse edition) moment old new answer.Ok
+  rehearsed_well is it = record {
+    survives = quietly it;
+    answers = λ clean p ready. (
+      (rw is at it.answers) clean p ready.within ready.meets ready.settled,
+      subst (IsSettled millimetres new) (sym (rehearse_same p edition moment)) (it.settled clean p ready.within ready.meets ready.settled),
+    );
+  }
+
+  pub rehearsed_refused : (why : Refusal) → result ≡ Ok (Refused why) → IsRehearsal millimetres edition old new result → IsApplied (commands.Rehearse edition) moment old new (answer.Refused why)
+  rehearsed_refused why is it = record {
+    survives = quietly it;
+    answers = λ clean p ready. ((rw is at it.answers) clean p ready.within ready.meets ready.settled, it.settled clean p ready.within ready.meets ready.settled);
+  }
+
+  pub rehearsed_in_vain : (fault : Fault) → IsRehearsal millimetres edition old new result → IsApplied (commands.Rehearse edition) moment old new (answer.Fault fault)
+  rehearsed_in_vain fault it = record {
+    survives = quietly it;
+    answers = λ clean p ready db may. inl ((it.settled clean p ready.within ready.meets ready.settled).left db may);
+  }

@@ -36,3 +36,8 @@ prepares_edition (commands.Edition name) = true
 prepares_edition (commands.Discard name) = true
 prepares_edition (commands.Stage edition number piece) = true
 prepares_edition _ = false
+
+-- it changes nothing, whatever it is answered
+abbrev pub rehearses : Command → Bool
+rehearses (commands.Rehearse edition) = true
+rehearses _ = false

@@ -4,13 +4,15 @@ ghost use Rattle.std.specs.Prelude.{◌≡◌, ◌⊎◌, false, true};
 ghost use Rattle.sqlite.specs.Held.{state};
 ghost use Rattle.mm_base.specs.Stamp.{IsStamp};
 ghost use Rattle.mm_run.specs.Applied.{OnFault};
-ghost use Rattle.mm_run.specs.Served.{is_served};
+ghost use Rattle.mm_base.specs.declared.commands.Command.TheVariants as commands;
 ghost use Rattle.mm_core.specs.Applied.{IsApplied};
+ghost use Rattle.mm_core.specs.Groups.{rehearses};
 
 use crate::dispatching::run_command;
 use mm_base::answers::{Answer, Fault, Outcome};
 use mm_base::commands::Command;
 use mm_base::moments::{Moment, stamp};
+use mm_edition::rehearse;
 use mm_store::faults::fault_of;
 use sqlite::{Alter, Connection};
 use std::alloc::Global;
@@ -24,7 +26,7 @@ fn run_transaction<S: Alter>(
     at: &str,
 ) -> Answer
     requires idle { conn.old.in_transaction ≡ false }
-    requires served { is_served command.now ≡ true }
+    requires lasting { rehearses command.now ≡ false }
     requires stamped { IsStamp moment at.now }
     ensures mode { conn.new.in_transaction ≡ false }
     ensures faults { OnFault result (λ fault. (fault ≡ 90) ⊎ (fault ≡ 91)) }
@@ -47,6 +49,26 @@ fn run_transaction<S: Alter>(
     }
 }
 
+/// A rehearsal, whose transaction is rolled back. `at` is the stamp of the moment.
+fn rehearse_once<S: Alter>(
+    conn: &mut Connection<S>,
+    edition: &str,
+    moment: Moment,
+    at: &str,
+) -> Answer
+    requires idle { conn.old.in_transaction ≡ false }
+    requires stamped { IsStamp moment at.now }
+    ensures mode { conn.new.in_transaction ≡ false }
+    ensures faults { OnFault result (λ fault. (fault ≡ 90) ⊎ (fault ≡ 91)) }
+    ensures applied { IsApplied (commands.Rehearse edition.now) moment (state S.Store conn.old) (state S.Store conn.new) result }
+{
+    match rehearse(conn, edition, at) {
+        Ok(Outcome::Done) => Answer::Ok,
+        Ok(Outcome::Refused(why)) => Answer::Refused(why),
+        Err(fault) => Answer::Fault(fault),
+    }
+}
+
 /// One command at a moment, in one transaction whose commit is the last call of the store. Want of memory for the
 /// moment's stamp is a fault before the transaction begins.
 pub(crate) fn apply_once<S: Alter>(
@@ -56,13 +78,17 @@ pub(crate) fn apply_once<S: Alter>(
     moment: Moment,
 ) -> Answer
     requires idle { conn.old.in_transaction ≡ false }
-    requires served { is_served command.now ≡ true }
     ensures mode { conn.new.in_transaction ≡ false }
     ensures faults { OnFault result (λ fault. (fault ≡ 90) ⊎ (fault ≡ 91)) }
     ensures applied { IsApplied command.now moment (state S.Store conn.old) (state S.Store conn.new) result }
 {
     match stamp(alloc, moment) {
-        Ok(at) => run_transaction(conn, command, moment, at.as_str()),
+        Ok(at) => match command {
+            Command::Rehearse { edition } => {
+                rehearse_once(conn, edition.as_str(), moment, at.as_str())
+            }
+            _ => run_transaction(conn, command, moment, at.as_str()),
+        },
         Err(_) => Answer::Fault(Fault(90)),
     }
 }

@@ -5,14 +5,13 @@ ghost use Rattle.sqlite.specs.Held.{state};
 ghost use Rattle.mm_base.specs.Bounds.{millimetres};
 ghost use Rattle.mm_base.specs.Stamp.{IsStamp};
 ghost use Rattle.mm_store.specs.Shapes.{IsLent, IsTried};
-ghost use Rattle.mm_run.specs.Served.{is_served};
-ghost use Rattle.mm_core.specs.Groups.{lays_out, is_content, relates, prepares_edition};
+ghost use Rattle.mm_core.specs.Groups.{lays_out, is_content, relates, prepares_edition, rehearses};
 
 use mm_base::answers::{Fault, Outcome};
 use mm_base::commands::Command;
 use mm_content::{drop_media, drop_row, drop_tile, put_media, put_row, put_tile};
 use mm_contents::{add_pyramid, add_table, drop_table};
-use mm_edition::{discard, open_edition, stage};
+use mm_edition::{discard, open_edition, publish, stage};
 use mm_matrices::add_matrix;
 use mm_meta::add_srs;
 use mm_relate::{add_map, add_relation, drop_map, drop_relation};
@@ -202,13 +201,13 @@ fn prepare_edition<S: Alter>(
     }
 }
 
-/// Does what the command says within the transaction. `at` is the stamp of its moment.
+/// Does what a command that is no rehearsal says within the transaction. `at` is the stamp of its moment.
 pub(crate) fn run_command<S: Alter>(
     tx: &mut Transaction<'_, S>,
     command: &Command,
     at: &str,
 ) -> Result<Outcome, Fault>
-    requires { is_served command.now ≡ true }
+    requires { rehearses command.now ≡ false }
     ensures same_reference { tx.new.conn.ghost_name ≡ tx.old.conn.ghost_name }
     ensures tried { (moment : ℕ) → IsStamp moment at.now → IsTried millimetres command.now moment (state S.Store tx.old.conn.now) (state S.Store tx.new.conn.now) result }
 {
@@ -231,6 +230,7 @@ pub(crate) fn run_command<S: Alter>(
         Command::Edition { .. } | Command::Discard { .. } | Command::Stage { .. } => {
             prepare_edition(tx, command)
         }
-        _ => unreachable!(),
+        Command::Publish { edition } => publish(tx, edition.as_str(), at),
+        Command::Rehearse { .. } => unreachable!(),
     }
 }

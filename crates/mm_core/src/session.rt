@@ -3,12 +3,12 @@
 ghost use Rattle.std.specs.Prelude.{◌≡◌, false};
 
 use crate::applying::apply_once;
-use mm_base::answers::{Answer, Fault, Open, Refusal, RunFault, Tally};
+use mm_base::answers::{Answer, Fault, Open, RunFault, Tally};
 use mm_base::commands::Command;
 use mm_base::moments::Moment;
 use mm_base::streams::Io;
 use mm_meta::{init, look};
-use mm_run::{is_served, run_list};
+use mm_run::run_list;
 use sqlite::{Alter, Connection};
 use std::alloc::Global;
 use std::io::{Read, Write};
@@ -87,28 +87,21 @@ impl<S: Alter> Session<S> {
     ghost use Rattle.sqlite.specs.Held.{state};
     ghost use Rattle.mm_run.specs.Answers.{is_fault};
     ghost use Rattle.mm_run.specs.Applied.{OnFault};
-    ghost use Rattle.mm_run.specs.Served.{is_served};
     ghost use Rattle.mm_core.specs.Applied.{IsApplied};
     ghost use Rattle.mm_core.specs.Parts.{held, has_failed};
 
-    /// Applies one command at a moment, in one transaction whose commit is the last call of the store. `Ok` where it is
+    /// Applies one command at a moment, in one transaction whose commit is the last call of the store; that of a
+    /// rehearsal is rolled back. `Ok` where it is
     /// done for good, `Refused` where nothing changed. A fault, 90 or 91, ends the session: each later call is answered
-    /// 92 and makes no call of the store. A command that is not served yet is refused 10.
+    /// 92 and makes no call of the store.
     pub fn apply(&mut self, command: &Command, at: Moment) -> Answer
         ensures ended { has_failed self.old ≡ true → (result ≡ Answer.Fault (record { 0 = 92 })) × (self.new ≡ self.old) }
         ensures working { has_failed self.old ≡ false → OnFault result (λ fault. (fault ≡ 90) ⊎ (fault ≡ 91)) }
         ensures fails { has_failed self.old ≡ false → has_failed self.new ≡ is_fault result }
-        ensures applied { has_failed self.old ≡ false → is_served command.now ≡ true → IsApplied command.now at (state S.Store (held self.old)) (state S.Store (held self.new)) result }
-        ensures unserved { has_failed self.old ≡ false → is_served command.now ≡ false → (result ≡ Answer.Refused (record { number = 10; piece = None })) × (self.new ≡ self.old) }
+        ensures applied { has_failed self.old ≡ false → IsApplied command.now at (state S.Store (held self.old)) (state S.Store (held self.new)) result }
     {
         if self.failed {
             return Answer::Fault(Fault(92));
-        }
-        if !is_served(command) {
-            return Answer::Refused(Refusal {
-                number: 10,
-                piece: None,
-            });
         }
         let answer = apply_once(self.alloc, &mut self.conn, command, at);
         self.failed = matches!(answer, Answer::Fault(_));

@@ -4,3 +4,9 @@ pub mod Rows
 pub mod Failing
 pub mod Numbering
 pub mod Unchanged
+pub mod Spelled
+pub mod Turning
+pub mod InOrder
+pub mod Trials
+pub mod Tries
+pub mod Rehearsed

@@ -1,19 +1,22 @@
 -- What the row of a staged piece shows.
-use Rattle.std.proofs.Common.{◌≡◌, ℕ, [], ◌∷◌, List, Option, Some, None, refl, sym, ap, subst, ◌∙◌}
+use Rattle.std.proofs.Common.{◌≡◌, ℕ, Bool, true, false, not, ◌&&◌, [], ◌∷◌, List, Option, Some, None, refl, sym, ap, subst, ◌∙◌}
 use Rattle.sqlite.specs.declared.types.Value.TheVariants.{Int, Text as Words, Blob}
 use Rattle.sqlite.specs.Order.{Row, column}
 use Rattle.sqlite.specs.Term.{Term, col}
 use Rattle.std.specs.FinMap.{FinMap, get}
 use Rattle.sql_forms.specs.Tables.{Finds}
 use Rattle.sql_forms.specs.Maps.{Holds}
-use Rattle.sql_forms.proofs.Keys.{columns_are}
+use Rattle.sqlite_value.specs.declared.keys.Collation.TheVariants.{Binary}
+use Rattle.sqlite_schema.specs.Rules.{equal}
+use Rattle.sql_forms.proofs.Keys.{columns_are, equal_text}
 use Rattle.sql_forms.proofs.Selects.{shows}
-use Rattle.mm_base.specs.Keys.{PieceKey, piece_cmp}
+use Rattle.mm_base.specs.Keys.{Text, PieceKey, piece_cmp}
+use Rattle.mm_base.specs.Effects.{is_other}
 use Rattle.mm_base.specs.Package.{PieceRow}
 use Rattle.mm_store.specs.Rows.{past_rowid, staged_row}
 use Rattle.mm_store.proofs.Parts.{finds_none, finds_some}
 use Rattle.mm_store.proofs.Keys as parts
-use Rattle.mm_store.proofs.Keys.{by_piece}
+use Rattle.mm_store.proofs.Keys.{by_piece, by_text}
 use Rattle.mm_edition.specs.Kept.{Shows, IsRowOf}
 
 abbrev pub piece_terms : List Term
@@ -73,3 +76,11 @@ module _ (rows : List Row) (m : FinMap piece_cmp PieceRow) (h : Holds past_rowid
 
   pub found_row : (x first : Option Row) → x ≡ first → Finds (by_piece k) (shows piece_terms params) rows first → IsRowOf (get m k) x
   found_row x first gives found = subst (IsRowOf (get m k)) (sym gives) (by_row first found)
+
+-- whether a row is of another edition
+and_true : (b : Bool) → (b && true) ≡ b
+and_true true = refl
+and_true false = refl
+
+pub of_other : (edition : Text) (r : Row) (k : PieceKey) (v : PieceRow) → past_rowid r ≡ staged_row k v → not (by_text edition r) ≡ is_other edition k.edition
+of_other edition r k v is = ap not (and_true _ ∙ ap (λ x. equal Binary x (Words edition)) (columns_are r (staged_row k v) 0 is) ∙ equal_text k.edition edition)

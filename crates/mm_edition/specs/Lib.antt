@@ -1,3 +1,5 @@
 pub mod Standings
 pub mod Kept
 pub mod Places
+pub mod Turns
+pub mod Rehearsals

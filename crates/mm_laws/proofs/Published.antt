@@ -45,7 +45,7 @@ row_itself r =
     let number : (z : ℤ) → same_number z z ≡ true = λ z. same_itself numbers z in
     both _ _ (both _ _ (both _ _ (both _ _ (both _ _ (both _ _ (both _ _ (both _ _ (both _ _ (both _ _ (both _ _ (text r.kind) (text r.name)) (number r.k1)) (number r.k2)) (number r.k3)) (number r.k4)) (number r.k5)) (number r.k6)) (number r.k7)) (text r.t1)) (text r.t2)) (text r.bytes)
 
-by_kind : (q : Piece) → piece_by_kind (piece_row q) ≡ Some q
+pub by_kind : (q : Piece) → piece_by_kind (piece_row q) ≡ Some q
 by_kind (pieces.Tile table zoom column row bytes) = refl
 by_kind (pieces.TileDrop table zoom column row) = refl
 by_kind (pieces.Row table id title note amount) = refl

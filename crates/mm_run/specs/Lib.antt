@@ -1,4 +1,3 @@
-pub mod Served
 pub mod Readings
 pub mod Answers
 pub mod Applied

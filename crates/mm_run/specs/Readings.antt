@@ -6,7 +6,6 @@ use Rattle.mm_base.specs.Records.{Spells, HoldsAgainst, IsLeast}
 use Rattle.mm_base.specs.declared.commands.Command.{Command}
 use Rattle.mm_base.specs.declared.answers.ReadFault.{ReadFault}
 use Rattle.mm_base.specs.declared.answers.ReadFault.TheVariants as faults
-use Rattle.mm_run.specs.Served.{is_served}
 use Rattle.mm_lines.specs.Records.{Record}
 
 -- a command, or the number that refuses the record
@@ -14,13 +13,12 @@ abbrev pub Reading : Type 0
 Reading = Result Command ℕ
 
 -- The command that the fields spell, or the least number that holds against them. A record with a field that isn't
--- text is refused 10, and so is a command that is not served yet.
+-- text is refused 10.
 abbrev pub IsReadAs : Record → Reading → Type 0
-IsReadAs fields (Ok command) = AllText fields × Spells millimetres fields command × (is_served command ≡ true)
+IsReadAs fields (Ok command) = AllText fields × Spells millimetres fields command
 IsReadAs fields (Err number) =
     (AllText fields × IsLeast (HoldsAgainst millimetres fields) number)
     ⊎ (¬ (AllText fields) × (number ≡ 10))
-    ⊎ ((number ≡ 10) × (command : Command) × Spells millimetres fields command × (is_served command ≡ false))
 
 -- each record in turn
 unfoldable pub AreReadAs : List Record → List Reading → Type 0

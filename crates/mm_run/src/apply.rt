@@ -7,7 +7,6 @@ ghost use Rattle.mm_base.specs.Rules.{Meets};
 ghost use Rattle.mm_base.specs.Within.{IsWithin};
 ghost use Rattle.mm_run.specs.Answers.{is_fault};
 ghost use Rattle.mm_run.specs.Applied.{IsApplied, IsApplyFault, OnFault};
-ghost use Rattle.mm_run.specs.Served.{is_served};
 
 use mm_base::answers::{Answer, Fault};
 use mm_base::commands::Command;
@@ -40,7 +39,7 @@ pub trait Apply {
         ensures working { has_failed self.old ≡ false → OnFault result (λ fault. fault ≢ 92) }
         ensures fails { has_failed self.old ≡ false → has_failed self.new ≡ is_fault result }
         ensures clean { is_clean self.new → is_clean self.old }
-        ensures applied { is_clean self.new → (p : Package) → settled self.old p → Meets millimetres p → IsWithin millimetres command.now → is_served command.now ≡ true
+        ensures applied { is_clean self.new → (p : Package) → settled self.old p → Meets millimetres p → IsWithin millimetres command.now
             → IsApplied p command.now at result (settled self.new) (may_leave self.new) stands_for };
 
     ghost leaves_settled: { (s : Self) (p : Package) → settled s p → (db : Database) → may_leave s db → stands_for db p };

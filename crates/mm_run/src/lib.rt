@@ -9,7 +9,6 @@ mod run;
 mod telling;
 
 pub use apply::Apply;
-pub use reading::is_served;
 pub use run::run_list;
 
 #[cfg(test)]

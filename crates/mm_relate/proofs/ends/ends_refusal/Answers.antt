@@ -1,4 +1,4 @@
-use Rattle.std.proofs.Common.{sym, ap, ◌∙◌}
+use Rattle.std.proofs.Common.{◌∙◌}
 use Rattle.std.proofs.Math.Facts.{to_z-of_z}
 use Rattle.mm_base.specs.Conditions.{smaller, lacks_row, lacks_medium}
 use Rattle.mm_store.proofs.Shapes.{look_as, look_failed, looks_then}

@@ -1,4 +1,4 @@
-use Rattle.std.proofs.Common.{refl, sym, ap, ◌∙◌}
+use Rattle.std.proofs.Common.{refl, sym, ◌∙◌}
 use Rattle.mm_store.proofs.Refusals.{refused, refused_for, accepted_for}
 use Rattle.mm_store.proofs.Shapes.{refuses, accepts, look_gave_up, change_gave_up, change_where, changes_then}
 use Rattle.mm_relate.proofs.Fresh.{IsNew, is_new}

@@ -8,7 +8,7 @@ returns-in-Ok-clause-answered g c clean p sound =
     let read = c.in-Ok.ensures in
     answered_command (fields_of c.args.row) p c.args.at (g.A.Apply.settled c.apply.new.self) (g.A.Apply.may_leave c.apply.new.self) g.A.Apply.stands_for
     c.in-Ok.command c.apply.result read c.milliseconds-milliseconds.ensures.within sound.1
-    (c.apply.ensures.applied clean p sound.0 sound.1 (spelled_within (fields_of c.args.row) c.in-Ok.command read.1) read.2)
+    (c.apply.ensures.applied clean p sound.0 sound.1 (spelled_within (fields_of c.args.row) c.in-Ok.command read.1))
 
 pub returns-in-Err-Refused-clause-answered : goal.returns-in-Err-Refused-clause-answered
 returns-in-Err-Refused-clause-answered g c clean p sound =

@@ -1,0 +1,17 @@
+use Rattle.std.specs.Prelude.{⊤}
+use Rattle.std.proofs.Common.{[], ◌∷◌, refl, rules}
+use Rattle.sqlite.specs.Held.{state}
+use Rattle.mm_base.specs.Bounds.{millimetres}
+use Rattle.mm_check.specs.Parts.{EditionStates}
+use Rattle.mm_base.specs.Rules.{Limits}
+use Rattle.mm_check.specs.Texts as text
+use Rattle.mm_check.specs.PieceRows.{IsStateRow}
+use Rattle.mm_check.proofs.Checks.{checks}
+use Rattle.mm_check.proofs.EditionQueries as query
+use Rattle.mm_check.proofs.EditionRules as rule
+use Rattle.mm_check.proofs.editions.edition_states.Goals as goal
+
+pub returns : goal.returns
+returns g c =
+    checks text.edition_states [] IsStateRow _ _ _ _ _ query.edition_states query.quiet_edition_states (λ p. Limits millimetres p) (λ p. EditionStates p) rule.edition_states millimetres
+    (state g.S.Store c.args.conn.now) (state g.S.Store c.each_passes.new.conn) [] refl c.each_passes.result c.each_passes.ensures

@@ -1,0 +1,17 @@
+use Rattle.std.specs.Prelude.{⊤}
+use Rattle.std.proofs.Common.{[], ◌∷◌, refl, rules}
+use Rattle.sqlite.specs.Held.{state}
+use Rattle.mm_base.specs.Bounds.{millimetres}
+use Rattle.mm_check.specs.Parts.{PiecesSpelled}
+use Rattle.mm_base.specs.Rules.{Limits}
+use Rattle.mm_check.specs.Texts as text
+use Rattle.mm_check.specs.PieceRows.{IsSpelledRow}
+use Rattle.mm_check.proofs.Checks.{checks}
+use Rattle.mm_check.proofs.EditionQueries as query
+use Rattle.mm_check.proofs.EditionRules as rule
+use Rattle.mm_check.proofs.editions.pieces_spelled.Goals as goal
+
+pub returns : goal.returns
+returns g c =
+    checks text.pieces_spelled [] IsSpelledRow _ _ _ _ _ query.pieces_spelled query.quiet_pieces_spelled (λ p. Limits millimetres p) (λ p. PiecesSpelled p) rule.pieces_spelled millimetres
+    (state g.S.Store c.args.conn.now) (state g.S.Store c.each_passes.new.conn) [] refl c.each_passes.result c.each_passes.ensures

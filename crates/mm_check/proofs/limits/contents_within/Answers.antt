@@ -1,0 +1,16 @@
+use Rattle.std.specs.Prelude.{⊤}
+use Rattle.std.proofs.Common.{[], ◌∷◌, refl, rules}
+use Rattle.sqlite.specs.Held.{state}
+use Rattle.mm_base.specs.Bounds.{millimetres}
+use Rattle.mm_check.specs.LimitRows.{ContentsAreWithin}
+use Rattle.mm_check.specs.Texts as text
+use Rattle.mm_check.specs.LimitRows.{IsContentsWithinRow}
+use Rattle.mm_check.proofs.Checks.{checks}
+use Rattle.mm_check.proofs.LimitQueries as query
+use Rattle.mm_check.proofs.LimitRules as rule
+use Rattle.mm_check.proofs.limits.contents_within.Goals as goal
+
+pub returns : goal.returns
+returns g c =
+    checks text.contents_within [] IsContentsWithinRow _ _ _ _ _ query.contents_within query.quiet_contents_within (λ _. ⊤) (λ p. ContentsAreWithin p) rule.contents_within millimetres
+    (state g.S.Store c.args.conn.now) (state g.S.Store c.each_passes.new.conn) [] refl c.each_passes.result c.each_passes.ensures

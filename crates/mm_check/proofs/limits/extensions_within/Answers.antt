@@ -1,0 +1,16 @@
+use Rattle.std.specs.Prelude.{⊤}
+use Rattle.std.proofs.Common.{[], ◌∷◌, refl, rules}
+use Rattle.sqlite.specs.Held.{state}
+use Rattle.mm_base.specs.Bounds.{millimetres}
+use Rattle.mm_check.specs.LimitRows.{ExtensionsAreWithin}
+use Rattle.mm_check.specs.Texts as text
+use Rattle.mm_check.specs.LimitRows.{IsExtensionWithinRow}
+use Rattle.mm_check.proofs.Checks.{checks}
+use Rattle.mm_check.proofs.LimitQueries as query
+use Rattle.mm_check.proofs.LimitRules as rule
+use Rattle.mm_check.proofs.limits.extensions_within.Goals as goal
+
+pub returns : goal.returns
+returns g c =
+    checks text.extensions_within [] IsExtensionWithinRow _ _ _ _ _ query.extensions_within query.quiet_extensions_within (λ _. ⊤) (λ p. ExtensionsAreWithin p) rule.extensions_within millimetres
+    (state g.S.Store c.args.conn.now) (state g.S.Store c.each_passes.new.conn) [] refl c.each_passes.result c.each_passes.ensures

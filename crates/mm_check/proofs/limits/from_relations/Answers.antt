@@ -1,0 +1,19 @@
+use Rattle.std.specs.Prelude.{⊤}
+use Rattle.std.proofs.Common.{Ok, Err, true, false}
+use Rattle.sqlite.specs.Held.{state}
+use Rattle.mm_base.specs.Bounds.{millimetres}
+use Rattle.mm_check.specs.LimitRows.{FromPairings, FromRelations, RelationsAreWithin}
+use Rattle.mm_check.proofs.Compose.{goes_on, stops, gives_up, as_told}
+use Rattle.mm_check.proofs.limits.from_relations.Goals as goal
+
+pub returns-in-Ok-true : goal.returns-in-Ok-true
+returns-in-Ok-true g c =
+    goes_on millimetres (state g.S.Store c.args.conn.now) (state g.S.Store c.relations_within.new.conn) (state g.S.Store c.from_pairings.new.conn) (λ _. ⊤) (λ p. RelationsAreWithin p) (λ p. FromPairings p) (λ p. FromRelations p) (λ p. (λ a. a, λ a. a)) c.relations_within.result c.from_pairings.result c.in-Ok-true.is c.in-Ok-true.field-0-test c.relations_within.ensures c.from_pairings.ensures
+
+pub returns-in-Ok-false : goal.returns-in-Ok-false
+returns-in-Ok-false g c =
+    stops millimetres (state g.S.Store c.args.conn.now) (state g.S.Store c.relations_within.new.conn) (λ _. ⊤) (λ p. RelationsAreWithin p) (λ p. FromPairings p) (λ p. FromRelations p) (λ p. (λ a. a, λ a. a)) c.relations_within.result c.in-Ok-false.is c.in-Ok-false.field-0-test c.relations_within.ensures
+
+pub returns-in-Err : goal.returns-in-Err
+returns-in-Err g c =
+    gives_up millimetres (state g.S.Store c.args.conn.now) (state g.S.Store c.relations_within.new.conn) (λ _. ⊤) (λ _. ⊤) (λ p. RelationsAreWithin p) (λ p. FromRelations p) c.relations_within.result c.in-Err.fault c.in-Err.is c.relations_within.ensures

@@ -1,0 +1,35 @@
+-- The values of a shown row.
+use Rattle.std.specs.Prelude.{◌≡◌, ◌⊎◌, ℕ, ℤ, codes, Bool, true, false, ⊤, List, Option, Some, None}
+use Rattle.std.specs.Str.{IsUtf8}
+use Rattle.sqlite.specs.declared.types.Value.{Value}
+use Rattle.sqlite.specs.declared.types.Value.TheVariants.{Null, Int, Text as Words, Blob}
+
+abbrev pub number_of : Value → Option ℤ
+number_of (Int z) = Some z
+number_of _ = None
+
+abbrev pub is_there : Value → Bool
+is_there Null = false
+is_there _ = true
+
+abbrev pub bytes_of : Value → Option (List ℕ)
+bytes_of (Blob bytes) = Some bytes
+bytes_of _ = None
+
+abbrev pub words_of : Value → Option (List ℕ)
+words_of (Words text) = Some text
+words_of _ = None
+
+-- no text that is UTF-8
+abbrev pub Unread : Option (List ℕ) → Type 0
+Unread None = ⊤
+Unread (Some text) = IsUtf8 text → ⊥
+
+-- the text of the kind of a pyramid
+abbrev pub IsPyramidKind : Value → Type 0
+IsPyramidKind v = (words_of v ≡ Some (codes "two")) ⊎ (words_of v ≡ Some (codes "other"))
+
+-- two texts that are the same
+abbrev pub same_words_by : Value → Value → Type 0
+same_words_by (Words a) (Words b) = a ≡ b
+same_words_by _ _ = ⊥

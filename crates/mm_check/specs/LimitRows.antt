@@ -1,0 +1,195 @@
+-- What rule 16 asks of the columns of a row, and of each part of a package.
+use Rattle.std.specs.Prelude.{◌≡◌, ℤ, List, [], ℕ, Option, Some, None, IfSome, MatchOption}
+use Rattle.std.specs.Str.{IsUtf8}
+use Rattle.sqlite.specs.Order.{Row, column}
+use Rattle.sqlite.specs.declared.types.Value.{Value}
+use Rattle.mm_base.specs.Bounds.{millimetres, IsCoordinate, IsPixelSize, IsZoom, IsMatrixSide, IsTileSide, IsTilePlace, IsId, IsSystemNumber, IsAmount, IsTileBytes, IsMediaBytes, IsName, IsClean, IsIdentifier, IsSystemName, IsDefinition, IsRemark, IsContentType}
+use Rattle.mm_base.specs.Parts.{Each}
+use Rattle.mm_base.specs.Package.{Package}
+use Rattle.mm_base.specs.Rules.{AreSystemNumbers, SystemWithin, ContentsWithin, KindWithin, SetWithin, MatrixWithin, ExtensionWithin, TileWithin, RowWithin, MediumWithin, RelationWithin, PairingWithin, EditionWithin, PieceWithin}
+use Rattle.mm_base.specs.Stamp.{IsSomeStamp}
+use Rattle.mm_check.specs.Columns.{number_of, words_of, bytes_of}
+
+-- ---- a column
+abbrev pub text_by : (List ℕ → Type 0) → Value → Type 0
+text_by P v = MatchOption (words_of v) ⊥ (λ text. IsUtf8 text × P text)
+
+abbrev pub text_if_any : (List ℕ → Type 0) → Value → Type 0
+text_if_any P v = IfSome (words_of v) (λ text. IsUtf8 text × P text)
+
+abbrev pub number_by : (ℤ → Type 0) → Value → Type 0
+number_by P v = MatchOption (number_of v) ⊥ P
+
+abbrev pub number_if_any : (ℤ → Type 0) → Value → Type 0
+number_if_any P v = IfSome (number_of v) P
+
+abbrev pub bytes_by : (List ℕ → Type 0) → Value → Type 0
+bytes_by P v = MatchOption (bytes_of v) ⊥ P
+
+abbrev pub numbers_by : Option ℤ → Option ℤ → Type 0
+numbers_by (Some id) (Some organization_id) = AreSystemNumbers id organization_id
+numbers_by _ _ = ⊥
+
+-- ---- the rows of the tables, column by column
+pub record IsSystemWithinRow (r : Row) : Type 0 where
+  pub numbers : numbers_by (number_of (column r 0)) (number_of (column r 3))
+  pub name : text_by IsSystemName (column r 1)
+  pub organization : text_by IsSystemName (column r 2)
+  pub definition : text_by IsDefinition (column r 4)
+  pub description : text_by IsRemark (column r 5)
+
+pub record IsContentsWithinRow (r : Row) : Type 0 where
+  pub table : text_by IsName (column r 0)
+  pub data_type : text_by IsClean (column r 1)
+  pub identifier : text_by IsIdentifier (column r 2)
+  pub description : words_of (column r 3) ≡ Some []
+  pub last_change : text_by IsSomeStamp (column r 4)
+  pub min_x : number_if_any (IsCoordinate millimetres) (column r 5)
+  pub min_y : number_if_any (IsCoordinate millimetres) (column r 6)
+  pub max_x : number_if_any (IsCoordinate millimetres) (column r 7)
+  pub max_y : number_if_any (IsCoordinate millimetres) (column r 8)
+  pub system : number_if_any IsSystemNumber (column r 9)
+
+pub record IsKindWithinRow (r : Row) : Type 0 where
+  pub table : text_by IsName (column r 0)
+  pub kind : text_by IsClean (column r 1)
+
+pub record IsSetWithinRow (r : Row) : Type 0 where
+  pub table : text_by IsName (column r 0)
+  pub system : number_by IsSystemNumber (column r 1)
+  pub min_x : number_by (IsCoordinate millimetres) (column r 2)
+  pub min_y : number_by (IsCoordinate millimetres) (column r 3)
+  pub max_x : number_by (IsCoordinate millimetres) (column r 4)
+  pub max_y : number_by (IsCoordinate millimetres) (column r 5)
+
+pub record IsMatrixWithinRow (r : Row) : Type 0 where
+  pub table : text_by IsName (column r 0)
+  pub zoom : number_by IsZoom (column r 1)
+  pub matrix_width : number_by IsMatrixSide (column r 2)
+  pub matrix_height : number_by IsMatrixSide (column r 3)
+  pub tile_width : number_by IsTileSide (column r 4)
+  pub tile_height : number_by IsTileSide (column r 5)
+  pub pixel_x_size : number_by (IsPixelSize millimetres) (column r 6)
+  pub pixel_y_size : number_by (IsPixelSize millimetres) (column r 7)
+
+pub record IsExtensionWithinRow (r : Row) : Type 0 where
+  pub table : text_if_any IsClean (column r 0)
+  pub at_column : text_if_any IsClean (column r 1)
+  pub name : text_by IsClean (column r 2)
+  pub definition : text_by IsClean (column r 3)
+  pub scope : text_by IsClean (column r 4)
+
+pub record IsTileWithinRow (r : Row) : Type 0 where
+  pub table : text_by IsName (column r 0)
+  pub zoom : number_by IsZoom (column r 1)
+  pub at_column : number_by IsTilePlace (column r 2)
+  pub at_row : number_by IsTilePlace (column r 3)
+  pub bytes : bytes_by IsTileBytes (column r 4)
+
+pub record IsAttributeWithinRow (r : Row) : Type 0 where
+  pub table : text_by IsName (column r 0)
+  pub id : number_by IsId (column r 1)
+  pub title : text_by IsRemark (column r 2)
+  pub note : text_by IsRemark (column r 3)
+  pub amount : number_by IsAmount (column r 4)
+
+pub record IsMediumWithinRow (r : Row) : Type 0 where
+  pub table : text_by IsName (column r 0)
+  pub id : number_by IsId (column r 1)
+  pub bytes : bytes_by IsMediaBytes (column r 2)
+  pub content_type : text_by IsContentType (column r 3)
+
+pub record IsRelationWithinRow (r : Row) : Type 0 where
+  pub mapping : text_by IsName (column r 0)
+  pub base : text_by IsName (column r 1)
+  pub base_column : text_by IsClean (column r 2)
+  pub related : text_by IsName (column r 3)
+  pub related_column : text_by IsClean (column r 4)
+  pub name : text_by IsClean (column r 5)
+
+pub record IsPairingWithinRow (r : Row) : Type 0 where
+  pub mapping : text_by IsName (column r 0)
+  pub base_id : number_by IsId (column r 1)
+  pub related_id : number_by IsId (column r 2)
+
+pub record IsEditionWithinRow (r : Row) : Type 0 where
+  pub name : text_by IsName (column r 0)
+  pub state : text_by IsClean (column r 1)
+
+pub record IsPieceWithinRow (r : Row) : Type 0 where
+  pub edition : text_by IsName (column r 0)
+  pub number : number_by IsId (column r 1)
+
+-- ---- the parts
+abbrev pub SystemsAreWithin : Package → Type 0
+SystemsAreWithin p = Each p.systems SystemWithin
+
+abbrev pub ContentsAreWithin : Package → Type 0
+ContentsAreWithin p = Each p.contents (ContentsWithin millimetres)
+
+abbrev pub KindsAreWithin : Package → Type 0
+KindsAreWithin p = Each p.kinds KindWithin
+
+abbrev pub SetsAreWithin : Package → Type 0
+SetsAreWithin p = Each p.sets (SetWithin millimetres)
+
+abbrev pub MatricesAreWithin : Package → Type 0
+MatricesAreWithin p = Each p.matrices (MatrixWithin millimetres)
+
+abbrev pub ExtensionsAreWithin : Package → Type 0
+ExtensionsAreWithin p = Each p.extensions ExtensionWithin
+
+abbrev pub TilesAreWithin : Package → Type 0
+TilesAreWithin p = Each p.tiles TileWithin
+
+abbrev pub RowsAreWithin : Package → Type 0
+RowsAreWithin p = Each p.rows RowWithin
+
+abbrev pub MediaAreWithin : Package → Type 0
+MediaAreWithin p = Each p.media MediumWithin
+
+abbrev pub RelationsAreWithin : Package → Type 0
+RelationsAreWithin p = Each p.relations RelationWithin
+
+abbrev pub PairingsAreWithin : Package → Type 0
+PairingsAreWithin p = Each p.pairings PairingWithin
+
+abbrev pub EditionsAreWithin : Package → Type 0
+EditionsAreWithin p = Each p.editions EditionWithin
+
+abbrev pub PiecesAreWithin : Package → Type 0
+PiecesAreWithin p = Each p.pieces PieceWithin
+
+-- a part and all parts after it
+abbrev pub FromEditions : Package → Type 0
+FromEditions p = EditionsAreWithin p × PiecesAreWithin p
+
+abbrev pub FromPairings : Package → Type 0
+FromPairings p = PairingsAreWithin p × FromEditions p
+
+abbrev pub FromRelations : Package → Type 0
+FromRelations p = RelationsAreWithin p × FromPairings p
+
+abbrev pub FromMedia : Package → Type 0
+FromMedia p = MediaAreWithin p × FromRelations p
+
+abbrev pub FromRows : Package → Type 0
+FromRows p = RowsAreWithin p × FromMedia p
+
+abbrev pub FromTiles : Package → Type 0
+FromTiles p = TilesAreWithin p × FromRows p
+
+abbrev pub FromExtensions : Package → Type 0
+FromExtensions p = ExtensionsAreWithin p × FromTiles p
+
+abbrev pub FromMatrices : Package → Type 0
+FromMatrices p = MatricesAreWithin p × FromExtensions p
+
+abbrev pub FromSets : Package → Type 0
+FromSets p = SetsAreWithin p × FromMatrices p
+
+abbrev pub FromKinds : Package → Type 0
+FromKinds p = KindsAreWithin p × FromSets p
+
+abbrev pub FromContents : Package → Type 0
+FromContents p = ContentsAreWithin p × FromKinds p

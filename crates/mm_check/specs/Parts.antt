@@ -1,0 +1,75 @@
+-- The parts of rules that are decided by a walk each.
+use Rattle.std.specs.Prelude.{◌≡◌, ◌⊎◌, pos, ◌-ℤ◌, ◌<ℤ◌, codes, None, IfSome}
+use Rattle.std.specs.FinMap.{get}
+use Rattle.mm_base.specs.Parts.{Each, Has, Stands}
+use Rattle.mm_base.specs.Package.{Package, HasKind, open_state, published_state, general_extension, mapping_extension, zoom_extension}
+use Rattle.mm_base.specs.Rules.{MayName, Suits, IsOrdered, IsSpelled, IsWanted}
+use Rattle.mm_base.specs.Bounds.{IsFrom, MostPieces}
+use Rattle.mm_base.specs.Keys.{piece}
+use Rattle.mm_base.specs.declared.commands.Kind.{Kind}
+use Rattle.mm_base.specs.declared.commands.Kind.TheVariants.{Attributes, Media}
+
+-- ---- of rule 2
+abbrev pub ContentsSystems : Package → Type 0
+ContentsSystems p = Each p.contents (λ table c. IfSome c.system (MayName p.systems p.kinds table))
+
+abbrev pub SetSystems : Package → Type 0
+SetSystems p = Each p.sets (λ table s. MayName p.systems p.kinds table s.system)
+
+-- ---- of rule 4
+abbrev pub MappingNames : Package → Type 0
+MappingNames p = Each p.relations (λ mapping _. get p.contents mapping ≡ None)
+
+-- ---- of rule 5
+abbrev pub Registered : Package → Type 0
+Registered p = Each p.contents (λ table c. (kind : Kind) × HasKind p.kinds table kind × Suits kind c (get p.sets table))
+
+abbrev pub KindsHaveContents : Package → Type 0
+KindsHaveContents p = Each p.kinds (λ table _. Stands p.contents table)
+
+abbrev pub SetsHaveContents : Package → Type 0
+SetsHaveContents p = Each p.sets (λ table _. Stands p.contents table)
+
+-- ---- of rule 6
+abbrev pub SetExtents : Package → Type 0
+SetExtents p = Each p.sets (λ _ s. (s.box.min_x <ℤ s.box.max_x) × (s.box.min_y <ℤ s.box.max_y))
+
+abbrev pub ContentsExtents : Package → Type 0
+ContentsExtents p = Each p.contents (λ _ c. IsOrdered c.min_x c.max_x × IsOrdered c.min_y c.max_y)
+
+-- ---- of rule 11
+abbrev pub RowsInTables : Package → Type 0
+RowsInTables p = Each p.rows (λ k _. HasKind p.kinds k.table Attributes)
+
+abbrev pub MediaInTables : Package → Type 0
+MediaInTables p = Each p.media (λ k _. HasKind p.kinds k.table Media)
+
+-- ---- of rule 15
+abbrev pub EditionStates : Package → Type 0
+EditionStates p = Each p.editions (λ _ state. (state ≡ open_state) ⊎ (state ≡ published_state))
+
+abbrev pub PiecesOfOpen : Package → Type 0
+PiecesOfOpen p = Each p.pieces (λ k _. Has p.editions k.edition open_state)
+
+abbrev pub PiecesSpelled : Package → Type 0
+PiecesSpelled p = Each p.pieces (λ _ r. IsSpelled r)
+
+-- each is the first or follows another
+abbrev pub PiecesNumbered : Package → Type 0
+PiecesNumbered p = Each p.pieces (λ k _. IsFrom (pos 1) (pos MostPieces) k.number × ((k.number ≡ pos 1) ⊎ Stands p.pieces (piece k.edition (k.number -ℤ pos 1))))
+
+-- ---- of rule 14
+abbrev pub ExtensionsWanted : Package → Type 0
+ExtensionsWanted p = Each p.extensions (λ e _. IsWanted p.kinds p.relations e)
+
+abbrev pub ExtensionsOnce : Package → Type 0
+ExtensionsOnce p = Each p.extensions (λ _ count. count ≡ 1)
+
+abbrev pub GeneralExtension : Package → Type 0
+GeneralExtension p = Stands p.extensions general_extension
+
+abbrev pub MappingExtensions : Package → Type 0
+MappingExtensions p = Each p.relations (λ mapping _. Stands p.extensions (mapping_extension mapping))
+
+abbrev pub ZoomExtensions : Package → Type 0
+ZoomExtensions p = Each p.kinds (λ table kind. kind ≡ codes "other" → Stands p.extensions (zoom_extension table))

@@ -1,0 +1,256 @@
+//! The rules of editions and of their pieces.
+
+ghost use Rattle.std.specs.Prelude.{◌≡◌, ◌⊎◌, ◌↔◌, [], Some, codes, pos, IsTrue};
+ghost use Rattle.sqlite.specs.Held.{state};
+ghost use Rattle.sqlite.specs.Order.{column};
+ghost use Rattle.mm_base.specs.Bounds.{millimetres};
+ghost use Rattle.mm_base.specs.Rules.{Editions, Limits};
+ghost use Rattle.mm_check.specs.Check.{IsCheck};
+ghost use Rattle.mm_check.specs.Columns.{bytes_of};
+ghost use Rattle.mm_check.specs.Parts.{EditionStates, PiecesOfOpen, PiecesNumbered, PiecesSpelled};
+ghost use Rattle.mm_check.specs.PieceRows.{IsStateRow, IsOpenRow, IsNumberedRow, IsSpelledRow, IsOfKind, AreUnused, HasNoTexts, HasNoBytes, IsPlace, IsItem, IsPair, IsTile, IsTileDrop, IsRow, IsItemDrop, IsMedia, IsMap, IsPut, IsDrop};
+
+use crate::columns::{blob, number_is, stands, text_is};
+use crate::limits::{
+    LAST_ID, MOST_AMOUNT, MOST_TILES, is_blob_within, is_content_type_at, is_name_at, is_text_at,
+    is_within,
+};
+use mm_base::answers::Fault;
+use mm_walk::row_tests::{RowTest, each_passes};
+use sqlite::{Alter, Connection, Row};
+
+/// An edition with its state.
+struct State;
+
+impl RowTest for State {
+    ghost good = { λ _ row. IsStateRow row };
+
+    fn passes(&self, row: &Row) -> bool {
+        text_is(row, 0, "open") || text_is(row, 0, "published")
+    }
+}
+
+/// Of rule 15, that each edition is open or published.
+pub fn edition_states<S: Alter>(conn: &mut Connection<S>) -> Result<bool, Fault>
+    ensures { IsCheck millimetres (state S.Store conn.old) (state S.Store conn.new) (λ p. Limits millimetres p) (λ p. EditionStates p) result }
+{
+    each_passes(
+        conn,
+        "SELECT e.state FROM mm_editions AS e ORDER BY e.name",
+        &[],
+        &State,
+    )
+}
+
+/// A piece with the state of its edition.
+struct OfOpen;
+
+impl RowTest for OfOpen {
+    ghost good = { λ _ row. IsOpenRow row };
+
+    fn passes(&self, row: &Row) -> bool {
+        text_is(row, 0, "open")
+    }
+}
+
+/// Of rule 15, that each piece is one of an open edition.
+pub fn pieces_of_open<S: Alter>(conn: &mut Connection<S>) -> Result<bool, Fault>
+    ensures { IsCheck millimetres (state S.Store conn.old) (state S.Store conn.new) (λ p. Limits millimetres p) (λ p. PiecesOfOpen p) result }
+{
+    each_passes(
+        conn,
+        "SELECT e.state FROM mm_pieces AS p LEFT JOIN mm_editions AS e ON e.name = p.edition ORDER BY p.edition, p.piece_no",
+        &[],
+        &OfOpen,
+    )
+}
+
+/// A piece with the one before it.
+struct Numbered;
+
+impl RowTest for Numbered {
+    ghost good = { λ _ row. IsNumberedRow row };
+
+    fn passes(&self, row: &Row) -> bool {
+        is_within(row, 0, 1, 4096) && (number_is(row, 0, 1) || stands(row, 1))
+    }
+}
+
+/// Of rule 15, where rule 16 holds, that each piece follows another or is the first, and is one of the first 4,096.
+pub fn pieces_numbered<S: Alter>(conn: &mut Connection<S>) -> Result<bool, Fault>
+    ensures { IsCheck millimetres (state S.Store conn.old) (state S.Store conn.new) (λ p. Limits millimetres p) (λ p. PiecesNumbered p) result }
+{
+    each_passes(
+        conn,
+        "SELECT p.piece_no, q.piece_no FROM mm_pieces AS p LEFT JOIN mm_pieces AS q ON q.edition = p.edition AND q.piece_no = p.piece_no - 1 ORDER BY p.edition, p.piece_no",
+        &[],
+        &Numbered,
+    )
+}
+
+fn are_unused(row: &Row) -> bool
+    ensures { IsTrue result ↔ AreUnused row.now }
+{
+    number_is(row, 5, 0) && number_is(row, 6, 0) && number_is(row, 7, 0) && number_is(row, 8, 0)
+}
+
+fn has_no_texts(row: &Row) -> bool
+    ensures { IsTrue result ↔ HasNoTexts row.now }
+{
+    text_is(row, 9, "") && text_is(row, 10, "")
+}
+
+fn is_empty(bytes: &[u8]) -> bool
+    ensures { IsTrue result ↔ bytes.now ≡ [] }
+{
+    bytes.is_empty()
+}
+
+fn has_no_bytes(row: &Row) -> bool
+    ensures { IsTrue result ↔ HasNoBytes row.now }
+{
+    match blob(row, 11) {
+        Some(bytes) => is_empty(bytes),
+        None => false,
+    }
+}
+
+fn is_place(row: &Row) -> bool
+    ensures { IsTrue result ↔ IsPlace row.now }
+{
+    is_within(row, 2, 0, 30)
+        && is_within(row, 3, 0, MOST_TILES - 1)
+        && is_within(row, 4, 0, MOST_TILES - 1)
+}
+
+fn is_item(row: &Row) -> bool
+    ensures { IsTrue result ↔ IsItem row.now }
+{
+    is_within(row, 2, 1, LAST_ID) && number_is(row, 3, 0) && number_is(row, 4, 0)
+}
+
+fn is_pair(row: &Row) -> bool
+    ensures { IsTrue result ↔ IsPair row.now }
+{
+    is_within(row, 2, 1, LAST_ID) && is_within(row, 3, 1, LAST_ID) && number_is(row, 4, 0)
+}
+
+fn is_tile(row: &Row) -> bool
+    ensures { IsTrue result ↔ IsTile row.now }
+{
+    text_is(row, 0, "tile")
+        && is_place(row)
+        && has_no_texts(row)
+        && is_blob_within(row, 11, 1_048_576)
+}
+
+fn is_tile_drop(row: &Row) -> bool
+    ensures { IsTrue result ↔ IsTileDrop row.now }
+{
+    text_is(row, 0, "tile-drop") && is_place(row) && has_no_texts(row) && has_no_bytes(row)
+}
+
+fn is_row(row: &Row) -> bool
+    ensures { IsTrue result ↔ IsRow row.now }
+{
+    text_is(row, 0, "row")
+        && is_within(row, 2, 1, LAST_ID)
+        && is_within(row, 3, -MOST_AMOUNT, MOST_AMOUNT)
+        && number_is(row, 4, 0)
+        && is_text_at(row, 9, 0, 1000)
+        && is_text_at(row, 10, 0, 1000)
+        && has_no_bytes(row)
+}
+
+fn is_item_drop(row: &Row, kind: &str) -> bool
+    ensures { IsTrue result ↔ IsItemDrop kind.now row.now }
+{
+    text_is(row, 0, kind) && is_item(row) && has_no_texts(row) && has_no_bytes(row)
+}
+
+fn is_media(row: &Row) -> bool
+    ensures { IsTrue result ↔ IsMedia row.now }
+{
+    text_is(row, 0, "media")
+        && is_item(row)
+        && is_content_type_at(row, 9)
+        && text_is(row, 10, "")
+        && is_blob_within(row, 11, 4_194_304)
+}
+
+fn is_map(row: &Row, kind: &str) -> bool
+    ensures { IsTrue result ↔ IsMap kind.now row.now }
+{
+    text_is(row, 0, kind) && is_pair(row) && has_no_texts(row) && has_no_bytes(row)
+}
+
+fn is_put(row: &Row) -> bool
+    ensures { IsTrue result ↔ IsPut row.now }
+{
+    is_tile(row) || is_row(row) || is_media(row) || is_map(row, "map")
+}
+
+fn is_drop(row: &Row) -> bool
+    ensures { IsTrue result ↔ IsDrop row.now }
+{
+    is_tile_drop(row)
+        || is_item_drop(row, "row-drop")
+        || is_item_drop(row, "media-drop")
+        || is_map(row, "map-drop")
+}
+
+/// A row of a staged piece, column by column.
+struct Spelled;
+
+impl RowTest for Spelled {
+    ghost good = { λ _ row. IsSpelledRow row };
+
+    fn passes(&self, row: &Row) -> bool {
+        is_name_at(row, 1) && are_unused(row) && (is_put(row) || is_drop(row))
+    }
+}
+
+/// Of rule 15, that each row spells a piece within the limits.
+pub fn pieces_spelled<S: Alter>(conn: &mut Connection<S>) -> Result<bool, Fault>
+    ensures { IsCheck millimetres (state S.Store conn.old) (state S.Store conn.new) (λ p. Limits millimetres p) (λ p. PiecesSpelled p) result }
+{
+    each_passes(
+        conn,
+        "SELECT p.kind, p.name, p.k1, p.k2, p.k3, p.k4, p.k5, p.k6, p.k7, p.t1, p.t2, p.data FROM mm_pieces AS p ORDER BY p.edition, p.piece_no",
+        &[],
+        &Spelled,
+    )
+}
+
+/// Of rule 15, what it asks of each piece but its edition.
+pub fn pieces_alone<S: Alter>(conn: &mut Connection<S>) -> Result<bool, Fault>
+    ensures { IsCheck millimetres (state S.Store conn.old) (state S.Store conn.new) (λ p. Limits millimetres p) (λ p. PiecesSpelled p × PiecesNumbered p) result }
+{
+    match pieces_spelled(conn) {
+        Ok(true) => pieces_numbered(conn),
+        Ok(false) => Ok(false),
+        Err(fault) => Err(fault),
+    }
+}
+
+/// Of rule 15, what it asks of each piece.
+pub fn pieces<S: Alter>(conn: &mut Connection<S>) -> Result<bool, Fault>
+    ensures { IsCheck millimetres (state S.Store conn.old) (state S.Store conn.new) (λ p. Limits millimetres p) (λ p. PiecesOfOpen p × (PiecesSpelled p × PiecesNumbered p)) result }
+{
+    match pieces_of_open(conn) {
+        Ok(true) => pieces_alone(conn),
+        Ok(false) => Ok(false),
+        Err(fault) => Err(fault),
+    }
+}
+
+/// Rule 15, where rule 16 holds: editions are open or published, and the pieces of open ones are numbered from 1 and spell what they should.
+pub fn editions<S: Alter>(conn: &mut Connection<S>) -> Result<bool, Fault>
+    ensures { IsCheck millimetres (state S.Store conn.old) (state S.Store conn.new) (λ p. Limits millimetres p) (λ p. Editions p.editions p.pieces) result }
+{
+    match edition_states(conn) {
+        Ok(true) => pieces(conn),
+        Ok(false) => Ok(false),
+        Err(fault) => Err(fault),
+    }
+}

@@ -1,0 +1,675 @@
+//! Rule 16: every name, number, text and length is within its limits. A text that is no UTF-8 is within none.
+
+ghost use Rattle.std.specs.Prelude.{⊤, ◌≡◌, ◌↔◌, ◌⊎◌, Some, None, IfSome, IsTrue, MatchOption, pos};
+ghost use Rattle.std.specs.Str.{IsUtf8};
+ghost use Rattle.sqlite.specs.Order.{column};
+ghost use Rattle.sqlite.specs.Held.{state};
+ghost use Rattle.mm_base.specs.Bounds.{IsFrom, IsLong, IsText, IsName, IsClean, IsIdentifier, IsContentType, millimetres};
+ghost use Rattle.mm_base.specs.Bounds as bounds;
+ghost use Rattle.mm_base.specs.Rules.{IsGiven, Limits};
+ghost use Rattle.mm_base.specs.Stamp.{IsSomeStamp};
+ghost use Rattle.mm_check.specs.Check.{IsCheck};
+ghost use Rattle.mm_check.specs.Columns.{number_of, words_of};
+ghost use Rattle.mm_check.specs.LimitRows.{text_by, text_if_any, number_by, number_if_any, bytes_by, numbers_by, IsSystemWithinRow, IsContentsWithinRow, IsKindWithinRow, IsSetWithinRow, IsMatrixWithinRow, IsExtensionWithinRow, IsTileWithinRow, IsAttributeWithinRow, IsMediumWithinRow, IsRelationWithinRow, IsPairingWithinRow, IsEditionWithinRow, IsPieceWithinRow, SystemsAreWithin, ContentsAreWithin, KindsAreWithin, SetsAreWithin, MatricesAreWithin, ExtensionsAreWithin, TilesAreWithin, RowsAreWithin, MediaAreWithin, RelationsAreWithin, PairingsAreWithin, EditionsAreWithin, PiecesAreWithin, FromContents, FromKinds, FromSets, FromMatrices, FromExtensions, FromTiles, FromRows, FromMedia, FromRelations, FromPairings, FromEditions};
+
+use crate::columns::{blob, number, text, text_is, words};
+use mm_base::answers::Fault;
+use mm_base::content_types::is_content_type;
+use mm_base::identifiers::is_identifier;
+use mm_base::moments::is_stamp;
+use mm_base::names::is_name;
+use mm_walk::row_tests::{RowTest, each_passes};
+use sqlite::{Alter, Connection, Row};
+
+/// The largest coordinate, either way.
+const FARTHEST: i64 = 100_000_000_000;
+
+/// The largest pixel size.
+const LARGEST_PIXEL: i64 = 1_000_000_000;
+
+/// The most tiles a matrix has across or down.
+pub(crate) const MOST_TILES: i64 = 1_073_741_824;
+
+/// The largest amount of an attribute row, either way.
+pub(crate) const MOST_AMOUNT: i64 = 1_000_000_000_000_000;
+
+/// The largest number of a row, a medium, a piece or a reference system.
+pub(crate) const LAST_ID: i64 = 9_007_199_254_740_992;
+
+fn has_zero(text: &str) -> bool
+    ensures { result ≡ bounds.has_zero text.now }
+{
+    text.as_bytes().iter().any(|byte| *byte == 0)
+}
+
+fn is_clean(text: &str) -> bool
+    ensures { IsTrue result ↔ IsClean text.now }
+{
+    !has_zero(text)
+}
+
+fn is_text(text: &str, least: usize, most: usize) -> bool
+    ensures { IsTrue result ↔ IsText least most text.now }
+{
+    if text.len() < least {
+        return false;
+    }
+    if text.len() > most {
+        return false;
+    }
+    is_clean(text)
+}
+
+#[tactic(auto, using(crate::proofs::Texts::unread))]
+pub(crate) fn is_name_at(row: &Row, at: usize) -> bool
+    ensures { IsTrue result ↔ text_by IsName (column row.now at) }
+{
+    match text(row, at) {
+        Some(text) => is_name(text),
+        None => false,
+    }
+}
+
+#[tactic(auto, using(crate::proofs::Texts::unread))]
+fn is_clean_at(row: &Row, at: usize) -> bool
+    ensures { IsTrue result ↔ text_by IsClean (column row.now at) }
+{
+    match text(row, at) {
+        Some(text) => is_clean(text),
+        None => false,
+    }
+}
+
+#[tactic(auto, using(crate::proofs::Texts::unread))]
+fn is_identifier_at(row: &Row, at: usize) -> bool
+    ensures { IsTrue result ↔ text_by IsIdentifier (column row.now at) }
+{
+    match text(row, at) {
+        Some(text) => is_identifier(text),
+        None => false,
+    }
+}
+
+#[tactic(auto, using(crate::proofs::Texts::unread))]
+pub(crate) fn is_content_type_at(row: &Row, at: usize) -> bool
+    ensures { IsTrue result ↔ text_by IsContentType (column row.now at) }
+{
+    match text(row, at) {
+        Some(text) => is_content_type(text),
+        None => false,
+    }
+}
+
+#[tactic(auto, using(crate::proofs::Texts::unread))]
+fn is_stamp_at(row: &Row, at: usize) -> bool
+    ensures { IsTrue result ↔ text_by IsSomeStamp (column row.now at) }
+{
+    match text(row, at) {
+        Some(text) => is_stamp(text),
+        None => false,
+    }
+}
+
+#[tactic(auto, using(crate::proofs::Texts::unread))]
+pub(crate) fn is_text_at(row: &Row, at: usize, least: usize, most: usize) -> bool
+    ensures { IsTrue result ↔ text_by (IsText least most) (column row.now at) }
+{
+    match text(row, at) {
+        Some(text) => is_text(text, least, most),
+        None => false,
+    }
+}
+
+/// The same of a column that may be empty.
+fn is_clean_if_any(row: &Row, at: usize) -> bool
+    ensures { IsTrue result ↔ text_if_any IsClean (column row.now at) }
+{
+    match words(row, at) {
+        Some(bytes) => is_clean_utf8(bytes),
+        None => true,
+    }
+}
+
+fn is_clean_utf8(bytes: &[u8]) -> bool
+    ensures { IsTrue result ↔ (IsUtf8 bytes.now × IsClean bytes.now) }
+{
+    match std::str::from_utf8(bytes) {
+        Ok(text) => is_clean(text),
+        Err(_) => false,
+    }
+}
+
+fn is_from(number: i64, low: i64, high: i64) -> bool
+    ensures { IsTrue result ↔ IsFrom low high number }
+{
+    low <= number && number <= high
+}
+
+pub(crate) fn is_within(row: &Row, at: usize, low: i64, high: i64) -> bool
+    ensures { IsTrue result ↔ number_by (IsFrom low high) (column row.now at) }
+{
+    match number(row, at) {
+        Some(number) => is_from(number, low, high),
+        None => false,
+    }
+}
+
+fn is_within_if_any(row: &Row, at: usize, low: i64, high: i64) -> bool
+    ensures { IsTrue result ↔ number_if_any (IsFrom low high) (column row.now at) }
+{
+    match number(row, at) {
+        Some(number) => is_from(number, low, high),
+        None => true,
+    }
+}
+
+fn is_long(bytes: &[u8], most: usize) -> bool
+    ensures { IsTrue result ↔ IsLong 1 most bytes.now }
+{
+    1 <= bytes.len() && bytes.len() <= most
+}
+
+/// Whether a blob has 1 to `most` bytes, which are not copied.
+pub(crate) fn is_blob_within(row: &Row, at: usize, most: usize) -> bool
+    ensures { IsTrue result ↔ bytes_by (IsLong 1 most) (column row.now at) }
+{
+    match blob(row, at) {
+        Some(bytes) => is_long(bytes, most),
+        None => false,
+    }
+}
+
+fn is_given(id: i64) -> bool
+    ensures { IsTrue result ↔ IsGiven id }
+{
+    id == 4326 || id == -1 || id == 0
+}
+
+/// Whether the numbers of a system are within their limits, which are wider for a given one.
+fn are_system_numbers(row: &Row) -> bool
+    ensures { IsTrue result ↔ numbers_by (number_of (column row.now 0)) (number_of (column row.now 3)) }
+{
+    match (number(row, 0), number(row, 3)) {
+        (Some(id), Some(organization_id)) => {
+            is_from(id, 1, LAST_ID) && is_from(organization_id, 1, LAST_ID)
+                || is_given(id) && is_from(organization_id, -1, LAST_ID)
+        }
+        _ => false,
+    }
+}
+
+/// A row of reference systems, column by column.
+struct System;
+
+impl RowTest for System {
+    ghost good = { λ _ row. IsSystemWithinRow row };
+
+    fn passes(&self, row: &Row) -> bool {
+        are_system_numbers(row)
+            && is_text_at(row, 1, 1, 1000)
+            && is_text_at(row, 2, 1, 1000)
+            && is_text_at(row, 4, 1, 8192)
+            && is_text_at(row, 5, 0, 1000)
+    }
+}
+
+/// Of rule 16, what it asks of reference systems.
+pub fn systems_within<S: Alter>(conn: &mut Connection<S>) -> Result<bool, Fault>
+    ensures { IsCheck millimetres (state S.Store conn.old) (state S.Store conn.new) (λ _. ⊤) (λ p. SystemsAreWithin p) result }
+{
+    each_passes(
+        conn,
+        "SELECT t.srs_id, t.srs_name, t.organization, t.organization_coordsys_id, t.definition, t.description FROM gpkg_spatial_ref_sys AS t ORDER BY t.srs_id",
+        &[],
+        &System,
+    )
+}
+
+/// A row of contents, column by column.
+struct Contents;
+
+impl RowTest for Contents {
+    ghost good = { λ _ row. IsContentsWithinRow row };
+
+    fn passes(&self, row: &Row) -> bool {
+        is_name_at(row, 0)
+            && is_clean_at(row, 1)
+            && is_identifier_at(row, 2)
+            && text_is(row, 3, "")
+            && is_stamp_at(row, 4)
+            && is_within_if_any(row, 5, -FARTHEST, FARTHEST)
+            && is_within_if_any(row, 6, -FARTHEST, FARTHEST)
+            && is_within_if_any(row, 7, -FARTHEST, FARTHEST)
+            && is_within_if_any(row, 8, -FARTHEST, FARTHEST)
+            && is_within_if_any(row, 9, -1, LAST_ID)
+    }
+}
+
+/// Of rule 16, what it asks of contents.
+pub fn contents_within<S: Alter>(conn: &mut Connection<S>) -> Result<bool, Fault>
+    ensures { IsCheck millimetres (state S.Store conn.old) (state S.Store conn.new) (λ _. ⊤) (λ p. ContentsAreWithin p) result }
+{
+    each_passes(
+        conn,
+        "SELECT t.table_name, t.data_type, t.identifier, t.description, t.last_change, t.min_x, t.min_y, t.max_x, t.max_y, t.srs_id FROM gpkg_contents AS t ORDER BY t.table_name",
+        &[],
+        &Contents,
+    )
+}
+
+/// A row of the registry, column by column.
+struct Kind;
+
+impl RowTest for Kind {
+    ghost good = { λ _ row. IsKindWithinRow row };
+
+    fn passes(&self, row: &Row) -> bool {
+        is_name_at(row, 0) && is_clean_at(row, 1)
+    }
+}
+
+/// Of rule 16, what it asks of the registry.
+pub fn kinds_within<S: Alter>(conn: &mut Connection<S>) -> Result<bool, Fault>
+    ensures { IsCheck millimetres (state S.Store conn.old) (state S.Store conn.new) (λ _. ⊤) (λ p. KindsAreWithin p) result }
+{
+    each_passes(
+        conn,
+        "SELECT t.table_name, t.kind FROM mm_tables AS t ORDER BY t.table_name",
+        &[],
+        &Kind,
+    )
+}
+
+/// A row of matrix sets, column by column.
+struct MatrixSet;
+
+impl RowTest for MatrixSet {
+    ghost good = { λ _ row. IsSetWithinRow row };
+
+    fn passes(&self, row: &Row) -> bool {
+        is_name_at(row, 0)
+            && is_within(row, 1, -1, LAST_ID)
+            && is_within(row, 2, -FARTHEST, FARTHEST)
+            && is_within(row, 3, -FARTHEST, FARTHEST)
+            && is_within(row, 4, -FARTHEST, FARTHEST)
+            && is_within(row, 5, -FARTHEST, FARTHEST)
+    }
+}
+
+/// Of rule 16, what it asks of matrix sets.
+pub fn sets_within<S: Alter>(conn: &mut Connection<S>) -> Result<bool, Fault>
+    ensures { IsCheck millimetres (state S.Store conn.old) (state S.Store conn.new) (λ _. ⊤) (λ p. SetsAreWithin p) result }
+{
+    each_passes(
+        conn,
+        "SELECT t.table_name, t.srs_id, t.min_x, t.min_y, t.max_x, t.max_y FROM gpkg_tile_matrix_set AS t ORDER BY t.table_name",
+        &[],
+        &MatrixSet,
+    )
+}
+
+/// A row of matrices, column by column.
+struct Matrix;
+
+impl RowTest for Matrix {
+    ghost good = { λ _ row. IsMatrixWithinRow row };
+
+    fn passes(&self, row: &Row) -> bool {
+        is_name_at(row, 0)
+            && is_within(row, 1, 0, 30)
+            && is_within(row, 2, 1, MOST_TILES)
+            && is_within(row, 3, 1, MOST_TILES)
+            && is_within(row, 4, 1, 4096)
+            && is_within(row, 5, 1, 4096)
+            && is_within(row, 6, 1, LARGEST_PIXEL)
+            && is_within(row, 7, 1, LARGEST_PIXEL)
+    }
+}
+
+/// Of rule 16, what it asks of matrices.
+pub fn matrices_within<S: Alter>(conn: &mut Connection<S>) -> Result<bool, Fault>
+    ensures { IsCheck millimetres (state S.Store conn.old) (state S.Store conn.new) (λ _. ⊤) (λ p. MatricesAreWithin p) result }
+{
+    each_passes(
+        conn,
+        "SELECT t.table_name, t.zoom_level, t.matrix_width, t.matrix_height, t.tile_width, t.tile_height, t.pixel_x_size, t.pixel_y_size FROM gpkg_tile_matrix AS t ORDER BY t.table_name, t.zoom_level",
+        &[],
+        &Matrix,
+    )
+}
+
+/// A row of extension rows, column by column.
+struct Extension;
+
+impl RowTest for Extension {
+    ghost good = { λ _ row. IsExtensionWithinRow row };
+
+    fn passes(&self, row: &Row) -> bool {
+        is_clean_if_any(row, 0)
+            && is_clean_if_any(row, 1)
+            && is_clean_at(row, 2)
+            && is_clean_at(row, 3)
+            && is_clean_at(row, 4)
+    }
+}
+
+/// Of rule 16, what it asks of extension rows.
+pub fn extensions_within<S: Alter>(conn: &mut Connection<S>) -> Result<bool, Fault>
+    ensures { IsCheck millimetres (state S.Store conn.old) (state S.Store conn.new) (λ _. ⊤) (λ p. ExtensionsAreWithin p) result }
+{
+    each_passes(
+        conn,
+        "SELECT t.table_name, t.column_name, t.extension_name, t.definition, t.scope FROM gpkg_extensions AS t",
+        &[],
+        &Extension,
+    )
+}
+
+/// A row of tiles, column by column.
+struct Tile;
+
+impl RowTest for Tile {
+    ghost good = { λ _ row. IsTileWithinRow row };
+
+    fn passes(&self, row: &Row) -> bool {
+        is_name_at(row, 0)
+            && is_within(row, 1, 0, 30)
+            && is_within(row, 2, 0, MOST_TILES - 1)
+            && is_within(row, 3, 0, MOST_TILES - 1)
+            && is_blob_within(row, 4, 1_048_576)
+    }
+}
+
+/// Of rule 16, what it asks of tiles.
+pub fn tiles_within<S: Alter>(conn: &mut Connection<S>) -> Result<bool, Fault>
+    ensures { IsCheck millimetres (state S.Store conn.old) (state S.Store conn.new) (λ _. ⊤) (λ p. TilesAreWithin p) result }
+{
+    each_passes(
+        conn,
+        "SELECT t.table_name, t.zoom_level, t.tile_column, t.tile_row, t.tile_data FROM mm_tiles AS t ORDER BY t.table_name, t.zoom_level, t.tile_column, t.tile_row",
+        &[],
+        &Tile,
+    )
+}
+
+/// A row of attribute rows, column by column.
+struct Item;
+
+impl RowTest for Item {
+    ghost good = { λ _ row. IsAttributeWithinRow row };
+
+    fn passes(&self, row: &Row) -> bool {
+        is_name_at(row, 0)
+            && is_within(row, 1, 1, LAST_ID)
+            && is_text_at(row, 2, 0, 1000)
+            && is_text_at(row, 3, 0, 1000)
+            && is_within(row, 4, -MOST_AMOUNT, MOST_AMOUNT)
+    }
+}
+
+/// Of rule 16, what it asks of attribute rows.
+pub fn rows_within<S: Alter>(conn: &mut Connection<S>) -> Result<bool, Fault>
+    ensures { IsCheck millimetres (state S.Store conn.old) (state S.Store conn.new) (λ _. ⊤) (λ p. RowsAreWithin p) result }
+{
+    each_passes(
+        conn,
+        "SELECT t.table_name, t.id, t.title, t.note, t.amount FROM mm_rows AS t ORDER BY t.table_name, t.id",
+        &[],
+        &Item,
+    )
+}
+
+/// A row of media, column by column.
+struct Medium;
+
+impl RowTest for Medium {
+    ghost good = { λ _ row. IsMediumWithinRow row };
+
+    fn passes(&self, row: &Row) -> bool {
+        is_name_at(row, 0)
+            && is_within(row, 1, 1, LAST_ID)
+            && is_blob_within(row, 2, 4_194_304)
+            && is_content_type_at(row, 3)
+    }
+}
+
+/// Of rule 16, what it asks of media.
+pub fn media_within<S: Alter>(conn: &mut Connection<S>) -> Result<bool, Fault>
+    ensures { IsCheck millimetres (state S.Store conn.old) (state S.Store conn.new) (λ _. ⊤) (λ p. MediaAreWithin p) result }
+{
+    each_passes(
+        conn,
+        "SELECT t.table_name, t.id, t.data, t.content_type FROM mm_media AS t ORDER BY t.table_name, t.id",
+        &[],
+        &Medium,
+    )
+}
+
+/// A row of relations, column by column.
+struct Relation;
+
+impl RowTest for Relation {
+    ghost good = { λ _ row. IsRelationWithinRow row };
+
+    fn passes(&self, row: &Row) -> bool {
+        is_name_at(row, 0)
+            && is_name_at(row, 1)
+            && is_clean_at(row, 2)
+            && is_name_at(row, 3)
+            && is_clean_at(row, 4)
+            && is_clean_at(row, 5)
+    }
+}
+
+/// Of rule 16, what it asks of relations.
+pub fn relations_within<S: Alter>(conn: &mut Connection<S>) -> Result<bool, Fault>
+    ensures { IsCheck millimetres (state S.Store conn.old) (state S.Store conn.new) (λ _. ⊤) (λ p. RelationsAreWithin p) result }
+{
+    each_passes(
+        conn,
+        "SELECT t.mapping_table_name, t.base_table_name, t.base_primary_column, t.related_table_name, t.related_primary_column, t.relation_name FROM gpkgext_relations AS t ORDER BY t.mapping_table_name",
+        &[],
+        &Relation,
+    )
+}
+
+/// A row of mapping rows, column by column.
+struct Pairing;
+
+impl RowTest for Pairing {
+    ghost good = { λ _ row. IsPairingWithinRow row };
+
+    fn passes(&self, row: &Row) -> bool {
+        is_name_at(row, 0) && is_within(row, 1, 1, LAST_ID) && is_within(row, 2, 1, LAST_ID)
+    }
+}
+
+/// Of rule 16, what it asks of mapping rows.
+pub fn pairings_within<S: Alter>(conn: &mut Connection<S>) -> Result<bool, Fault>
+    ensures { IsCheck millimetres (state S.Store conn.old) (state S.Store conn.new) (λ _. ⊤) (λ p. PairingsAreWithin p) result }
+{
+    each_passes(
+        conn,
+        "SELECT t.mapping, t.base_id, t.related_id FROM mm_map AS t ORDER BY t.mapping, t.base_id, t.related_id",
+        &[],
+        &Pairing,
+    )
+}
+
+/// A row of editions, column by column.
+struct Edition;
+
+impl RowTest for Edition {
+    ghost good = { λ _ row. IsEditionWithinRow row };
+
+    fn passes(&self, row: &Row) -> bool {
+        is_name_at(row, 0) && is_clean_at(row, 1)
+    }
+}
+
+/// Of rule 16, what it asks of editions.
+pub fn editions_within<S: Alter>(conn: &mut Connection<S>) -> Result<bool, Fault>
+    ensures { IsCheck millimetres (state S.Store conn.old) (state S.Store conn.new) (λ _. ⊤) (λ p. EditionsAreWithin p) result }
+{
+    each_passes(
+        conn,
+        "SELECT t.name, t.state FROM mm_editions AS t ORDER BY t.name",
+        &[],
+        &Edition,
+    )
+}
+
+/// A row of staged pieces, column by column.
+struct Piece;
+
+impl RowTest for Piece {
+    ghost good = { λ _ row. IsPieceWithinRow row };
+
+    fn passes(&self, row: &Row) -> bool {
+        is_name_at(row, 0) && is_within(row, 1, 1, LAST_ID)
+    }
+}
+
+/// Of rule 16, what it asks of staged pieces.
+pub fn pieces_within<S: Alter>(conn: &mut Connection<S>) -> Result<bool, Fault>
+    ensures { IsCheck millimetres (state S.Store conn.old) (state S.Store conn.new) (λ _. ⊤) (λ p. PiecesAreWithin p) result }
+{
+    each_passes(
+        conn,
+        "SELECT t.edition, t.piece_no FROM mm_pieces AS t ORDER BY t.edition, t.piece_no",
+        &[],
+        &Piece,
+    )
+}
+
+/// Of rule 16, what it asks of editions and of the parts after them.
+fn from_editions<S: Alter>(conn: &mut Connection<S>) -> Result<bool, Fault>
+    ensures { IsCheck millimetres (state S.Store conn.old) (state S.Store conn.new) (λ _. ⊤) (λ p. FromEditions p) result }
+{
+    match editions_within(conn) {
+        Ok(true) => pieces_within(conn),
+        Ok(false) => Ok(false),
+        Err(fault) => Err(fault),
+    }
+}
+
+/// Of rule 16, what it asks of mapping rows and of the parts after them.
+fn from_pairings<S: Alter>(conn: &mut Connection<S>) -> Result<bool, Fault>
+    ensures { IsCheck millimetres (state S.Store conn.old) (state S.Store conn.new) (λ _. ⊤) (λ p. FromPairings p) result }
+{
+    match pairings_within(conn) {
+        Ok(true) => from_editions(conn),
+        Ok(false) => Ok(false),
+        Err(fault) => Err(fault),
+    }
+}
+
+/// Of rule 16, what it asks of relations and of the parts after them.
+fn from_relations<S: Alter>(conn: &mut Connection<S>) -> Result<bool, Fault>
+    ensures { IsCheck millimetres (state S.Store conn.old) (state S.Store conn.new) (λ _. ⊤) (λ p. FromRelations p) result }
+{
+    match relations_within(conn) {
+        Ok(true) => from_pairings(conn),
+        Ok(false) => Ok(false),
+        Err(fault) => Err(fault),
+    }
+}
+
+/// Of rule 16, what it asks of media and of the parts after them.
+fn from_media<S: Alter>(conn: &mut Connection<S>) -> Result<bool, Fault>
+    ensures { IsCheck millimetres (state S.Store conn.old) (state S.Store conn.new) (λ _. ⊤) (λ p. FromMedia p) result }
+{
+    match media_within(conn) {
+        Ok(true) => from_relations(conn),
+        Ok(false) => Ok(false),
+        Err(fault) => Err(fault),
+    }
+}
+
+/// Of rule 16, what it asks of attribute rows and of the parts after them.
+fn from_rows<S: Alter>(conn: &mut Connection<S>) -> Result<bool, Fault>
+    ensures { IsCheck millimetres (state S.Store conn.old) (state S.Store conn.new) (λ _. ⊤) (λ p. FromRows p) result }
+{
+    match rows_within(conn) {
+        Ok(true) => from_media(conn),
+        Ok(false) => Ok(false),
+        Err(fault) => Err(fault),
+    }
+}
+
+/// Of rule 16, what it asks of tiles and of the parts after them.
+fn from_tiles<S: Alter>(conn: &mut Connection<S>) -> Result<bool, Fault>
+    ensures { IsCheck millimetres (state S.Store conn.old) (state S.Store conn.new) (λ _. ⊤) (λ p. FromTiles p) result }
+{
+    match tiles_within(conn) {
+        Ok(true) => from_rows(conn),
+        Ok(false) => Ok(false),
+        Err(fault) => Err(fault),
+    }
+}
+
+/// Of rule 16, what it asks of extension rows and of the parts after them.
+fn from_extensions<S: Alter>(conn: &mut Connection<S>) -> Result<bool, Fault>
+    ensures { IsCheck millimetres (state S.Store conn.old) (state S.Store conn.new) (λ _. ⊤) (λ p. FromExtensions p) result }
+{
+    match extensions_within(conn) {
+        Ok(true) => from_tiles(conn),
+        Ok(false) => Ok(false),
+        Err(fault) => Err(fault),
+    }
+}
+
+/// Of rule 16, what it asks of matrices and of the parts after them.
+fn from_matrices<S: Alter>(conn: &mut Connection<S>) -> Result<bool, Fault>
+    ensures { IsCheck millimetres (state S.Store conn.old) (state S.Store conn.new) (λ _. ⊤) (λ p. FromMatrices p) result }
+{
+    match matrices_within(conn) {
+        Ok(true) => from_extensions(conn),
+        Ok(false) => Ok(false),
+        Err(fault) => Err(fault),
+    }
+}
+
+/// Of rule 16, what it asks of matrix sets and of the parts after them.
+fn from_sets<S: Alter>(conn: &mut Connection<S>) -> Result<bool, Fault>
+    ensures { IsCheck millimetres (state S.Store conn.old) (state S.Store conn.new) (λ _. ⊤) (λ p. FromSets p) result }
+{
+    match sets_within(conn) {
+        Ok(true) => from_matrices(conn),
+        Ok(false) => Ok(false),
+        Err(fault) => Err(fault),
+    }
+}
+
+/// Of rule 16, what it asks of the registry and of the parts after them.
+fn from_kinds<S: Alter>(conn: &mut Connection<S>) -> Result<bool, Fault>
+    ensures { IsCheck millimetres (state S.Store conn.old) (state S.Store conn.new) (λ _. ⊤) (λ p. FromKinds p) result }
+{
+    match kinds_within(conn) {
+        Ok(true) => from_sets(conn),
+        Ok(false) => Ok(false),
+        Err(fault) => Err(fault),
+    }
+}
+
+/// Of rule 16, what it asks of contents and of the parts after them.
+fn from_contents<S: Alter>(conn: &mut Connection<S>) -> Result<bool, Fault>
+    ensures { IsCheck millimetres (state S.Store conn.old) (state S.Store conn.new) (λ _. ⊤) (λ p. FromContents p) result }
+{
+    match contents_within(conn) {
+        Ok(true) => from_kinds(conn),
+        Ok(false) => Ok(false),
+        Err(fault) => Err(fault),
+    }
+}
+
+/// Rule 16: every name, number, text and length is within its limits.
+pub fn limits<S: Alter>(conn: &mut Connection<S>) -> Result<bool, Fault>
+    ensures { IsCheck millimetres (state S.Store conn.old) (state S.Store conn.new) (λ _. ⊤) (λ p. Limits millimetres p) result }
+{
+    match systems_within(conn) {
+        Ok(true) => from_contents(conn),
+        Ok(false) => Ok(false),
+        Err(fault) => Err(fault),
+    }
+}

@@ -1,0 +1,25 @@
+use Rattle.std.proofs.Common.{sym, ◌∙◌}
+use Rattle.mm_edition.proofs.Tries.{closed_tried, look_tried_in_vain, publish_53, publish_gave_up, publish_done, publish_half_closed}
+use Rattle.mm_edition.proofs.publishing.publish.Goals as goal
+
+pub returns-in-Ok-Some-clause-tried : goal.returns-in-Ok-Some-clause-tried
+returns-in-Ok-Some-clause-tried g c profile moment stamped = closed_tried profile _ moment _ _ _ c.in-Ok-Some.number c.in-Ok-Some.field-0-is (c.in-Ok-Some.ensures.look profile)
+
+pub returns-in-Err-clause-tried : goal.returns-in-Err-clause-tried
+returns-in-Err-clause-tried g c profile moment stamped = look_tried_in_vain profile _ moment _ _ _ (c.in-Err.ensures.look profile)
+
+pub returns-in-Ok-Some-try_pieces-clause-tried : goal.returns-in-Ok-Some-try_pieces-clause-tried
+returns-in-Ok-Some-try_pieces-clause-tried g c profile moment stamped =
+    publish_53 profile _ moment _ _ _ c.in-Ok-None.field-0-is (c.in-Ok-None.ensures.look profile) _ _ c.in-Ok-Some-try_pieces.piece c.in-Ok-Some-try_pieces.field-0-is (c.in-Ok-Some-try_pieces.ensures.trial profile moment stamped)
+
+pub returns-in-Err-try_pieces-clause-tried : goal.returns-in-Err-try_pieces-clause-tried
+returns-in-Err-try_pieces-clause-tried g c profile moment stamped =
+    publish_gave_up profile _ moment _ _ _ c.in-Ok-None.field-0-is (c.in-Ok-None.ensures.look profile) _ _ (c.in-Err-try_pieces.ensures.trial profile moment stamped)
+
+pub returns-in-Ok-clause-tried : goal.returns-in-Ok-clause-tried
+returns-in-Ok-clause-tried g c profile moment stamped =
+    publish_done profile _ moment _ _ _ c.in-Ok-None.field-0-is (c.in-Ok-None.ensures.look profile) _ _ c.in-Ok-None-try_pieces.field-0-is (c.in-Ok-None-try_pieces.ensures.trial profile moment stamped) _ _ (c.in-Ok.ensures.change profile)
+
+pub returns-in-Err-close_edition-clause-tried : goal.returns-in-Err-close_edition-clause-tried
+returns-in-Err-close_edition-clause-tried g c profile moment stamped =
+    publish_half_closed profile _ moment _ _ _ c.in-Ok-None.field-0-is (c.in-Ok-None.ensures.look profile) _ _ c.in-Ok-None-try_pieces.field-0-is (c.in-Ok-None-try_pieces.ensures.trial profile moment stamped) _ _ (c.in-Err-close_edition.ensures.change profile)

@@ -1,0 +1,23 @@
+use Rattle.std.proofs.Common.{Ok, ap, ◌∙◌}
+use Rattle.mm_edition.proofs.Turning.{turn_ends, turn_looked_in_vain, turn_done, turn_refused, turn_gave_up}
+use Rattle.mm_edition.proofs.running.try_piece.Goals as goal
+
+pub returns-in-Ok-None-clause-turn : goal.returns-in-Ok-None-clause-turn
+returns-in-Ok-None-clause-turn g c profile moment stamped = turn_ends profile _ _ moment _ _ _ c.in-Ok-None.field-0-is (c.in-Ok-None.ensures.look profile)
+
+pub returns-in-Err-clause-turn : goal.returns-in-Err-clause-turn
+returns-in-Err-clause-turn g c profile moment stamped = turn_looked_in_vain profile _ _ moment _ _ _ (c.in-Err.ensures.look profile)
+
+pub returns-in-Ok-Done-clause-turn : goal.returns-in-Ok-Done-clause-turn
+returns-in-Ok-Done-clause-turn g c profile moment stamped =
+    turn_done profile _ _ moment _ _ _ _ c.in-Ok-Some.found c.in-Ok-Some.field-0-is (c.in-Ok-Some.ensures.look profile) c.run_piece.result (c.run_piece.ensures.lent profile moment stamped) c.args.at.now stamped
+    (c.in-Ok-Done.is ∙ ap Ok c.in-Ok-Done.field-0-is)
+
+pub returns-in-Ok-Refused-clause-turn : goal.returns-in-Ok-Refused-clause-turn
+returns-in-Ok-Refused-clause-turn g c profile moment stamped =
+    turn_refused profile _ _ moment _ _ _ _ c.in-Ok-Some.found c.in-Ok-Some.field-0-is (c.in-Ok-Some.ensures.look profile) c.run_piece.result (c.run_piece.ensures.lent profile moment stamped) c.in-Ok-Refused.why
+    (c.in-Ok-Refused.is ∙ ap Ok c.in-Ok-Refused.field-0-is)
+
+pub returns-clause-turn : goal.returns-clause-turn
+returns-clause-turn g c profile moment stamped =
+    turn_gave_up profile _ _ moment _ _ _ _ c.in-Ok-Some.found c.in-Ok-Some.field-0-is (c.in-Ok-Some.ensures.look profile) c.run_piece.result (c.run_piece.ensures.lent profile moment stamped) c.in-Err-run_piece.fault c.in-Err-run_piece.is

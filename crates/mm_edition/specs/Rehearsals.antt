@@ -1,0 +1,27 @@
+-- What a rehearsal answers, and that it changes nothing.
+use Rattle.std.specs.Prelude.{◌≡◌, Some, None, Result, Ok, Err, IfErr, ⊤}
+use Rattle.sqlite.specs.State.{State, HasCleanDisk}
+use Rattle.mm_base.specs.Bounds.{Profile, IsName}
+use Rattle.mm_base.specs.Keys.{Text}
+use Rattle.mm_base.specs.Package.{Package}
+use Rattle.mm_base.specs.Rules.{Meets}
+use Rattle.mm_base.specs.Step.{refusal}
+use Rattle.mm_base.specs.declared.answers.Fault.{Fault}
+use Rattle.mm_base.specs.declared.answers.Outcome.{Outcome}
+use Rattle.mm_base.specs.declared.answers.Outcome.TheVariants.{Done, Refused}
+use Rattle.mm_base.specs.declared.commands.Command.TheVariants as commands
+use Rattle.mm_store.specs.Stands.{IsSettled}
+use Rattle.mm_store.specs.Faults.{IsStoreFault}
+use Rattle.mm_store.specs.Statements.{CommitsNothing}
+
+-- the answer is the refusal of the rehearsal, which is that of the publishing
+abbrev pub TellsRefusal : Package → Text → Result Outcome Fault → Type 0
+TellsRefusal p edition (Ok Done) = refusal p (commands.Rehearse edition) ≡ None
+TellsRefusal p edition (Ok (Refused why)) = refusal p (commands.Rehearse edition) ≡ Some why
+TellsRefusal p edition (Err fault) = ⊤
+
+pub record IsRehearsal (profile : Profile) (edition : Text) (old new : State) (result : Result Outcome Fault) : Type 0 where
+  pub survives : CommitsNothing old new
+  pub settled : HasCleanDisk new → (p : Package) → IsName edition → Meets profile p → IsSettled profile old p → IsSettled profile new p
+  pub answers : HasCleanDisk new → (p : Package) → IsName edition → Meets profile p → IsSettled profile old p → TellsRefusal p edition result
+  pub faults : IfErr result IsStoreFault

@@ -1,0 +1,51 @@
+-- What becomes of one piece that is published, and of all of them.
+use Rattle.std.specs.Prelude.{◌≡◌, ℕ, pos, Option, Some, None, Result, Ok, Err, IsTrue, IfOk, IfErr, ⊤}
+use Rattle.std.specs.FinMap.{get}
+use Rattle.sqlite.specs.State.{State, HasCleanDisk}
+use Rattle.mm_base.specs.Bounds.{Profile}
+use Rattle.mm_base.specs.Keys.{Text, piece}
+use Rattle.mm_base.specs.Package.{Package, open_state}
+use Rattle.mm_base.specs.Pieces.{piece_row}
+use Rattle.mm_base.specs.Rules.{Meets}
+use Rattle.mm_base.specs.Stamp.{stamp}
+use Rattle.mm_base.specs.Conditions.{least, piece_reasons}
+use Rattle.mm_base.specs.Effects.{piece_effect}
+use Rattle.mm_base.specs.Editions.{edition_trial}
+use Rattle.mm_base.specs.declared.answers.Fault.{Fault}
+use Rattle.mm_base.specs.declared.commands.Piece.{Piece}
+use Rattle.mm_store.specs.Stands.{Ground, StandsOn, IsInside}
+use Rattle.mm_store.specs.Faults.{IsStoreFault}
+use Rattle.mm_store.specs.Statements.{CommitsNothing}
+use Rattle.mm_edition.specs.declared.running.Turn.{Turn}
+use Rattle.mm_edition.specs.declared.running.Turn.TheVariants.{Done, End, Refused}
+
+-- a transaction on a package that meets the rules
+pub record IsReady (profile : Profile) (s : State) (ground : Ground) (p : Package) : Type 0 where
+  pub meets : Meets profile p
+  pub inside : IsInside profile s ground p
+
+module _ (profile : Profile) (edition : Text) (number moment : ℕ) where
+  -- The piece stands and nothing refuses it, and the transaction then stands for what it gives; or there is none; or it is refused.
+  abbrev pub Takes : State → Ground → Package → Turn → Type 0
+  Takes new ground p Done =
+      (q : Piece) × (get p.pieces (piece edition (pos number)) ≡ Some (piece_row q)) × (least (piece_reasons p q) ≡ None) × IsReady profile new ground (piece_effect p q (stamp moment))
+  Takes new ground p End = (get p.pieces (piece edition (pos number)) ≡ None) × IsTrue new.is_open × IsReady profile new ground p
+  Takes new ground p (Refused why) = (q : Piece) × (get p.pieces (piece edition (pos number)) ≡ Some (piece_row q)) × (least (piece_reasons p q) ≡ Some why)
+
+  pub record IsTurn (old new : State) (result : Result Turn Fault) : Type 0 where
+    pub survives : CommitsNothing old new
+    pub on : HasCleanDisk new → (ground : Ground) (p : Package) → IsReady profile old ground p → StandsOn new ground
+    pub takes : HasCleanDisk new → (ground : Ground) (p : Package) → IsReady profile old ground p → IfOk result (Takes new ground p)
+    pub faults : IfErr result IsStoreFault
+
+module _ (profile : Profile) (edition : Text) (moment : ℕ) where
+  -- All pieces were done in turn, and the transaction stands for what they gave; or the first that is refused is told.
+  abbrev pub Tells : State → Ground → Package → Option (ℕ × ℕ) → Type 0
+  Tells new ground p None = (q : Package) × (edition_trial p edition (stamp moment) ≡ Ok q) × (q.editions ≡ p.editions) × IsTrue new.is_open × IsReady profile new ground q
+  Tells new ground p (Some refused) = edition_trial p edition (stamp moment) ≡ Err refused
+
+  pub record IsTrial (old new : State) (result : Result (Option (ℕ × ℕ)) Fault) : Type 0 where
+    pub survives : CommitsNothing old new
+    pub on : HasCleanDisk new → (ground : Ground) (p : Package) → IsReady profile old ground p → get p.editions edition ≡ Some open_state → StandsOn new ground
+    pub tells : HasCleanDisk new → (ground : Ground) (p : Package) → IsReady profile old ground p → get p.editions edition ≡ Some open_state → IfOk result (Tells new ground p)
+    pub faults : IfErr result IsStoreFault

@@ -1,0 +1,118 @@
+//! Publishing an edition.
+
+ghost use Rattle.std.specs.Prelude.{◌≡◌, ℕ, true, ⊤};
+ghost use Rattle.std.specs.FinMap.{contains_key, insert, retain_keys};
+ghost use Rattle.sqlite.specs.Held.{state};
+ghost use Rattle.mm_base.specs.Bounds.{Profile};
+ghost use Rattle.mm_base.specs.Editions.{closed};
+ghost use Rattle.mm_base.specs.Effects.{is_other};
+ghost use Rattle.mm_base.specs.Package.{published_state};
+ghost use Rattle.mm_base.specs.Stamp.{IsStamp};
+ghost use Rattle.mm_base.specs.declared.commands.Command.TheVariants as commands;
+ghost use Rattle.mm_store.specs.Shapes.{IsChange, IsTried};
+ghost use Rattle.mm_edition.specs.Turns.{IsTrial};
+
+use crate::editions::closed_refusal;
+use crate::running::{Turn, try_piece};
+use mm_base::answers::{Fault, Outcome, Refusal};
+use mm_store::statements::run;
+use sqlite::{Alter, Transaction, params};
+
+/// No open edition has a piece of this number, so publishing comes to its end there at the latest.
+const PAST_THE_LAST: u32 = 4097;
+
+/// Does what the pieces of an edition say, in rising number, to the first that is refused, which is told with its number
+/// and its refusal. One piece is held at a time. `at` is the stamp of the moment.
+pub(crate) fn try_pieces<S: Alter>(
+    tx: &mut Transaction<'_, S>,
+    edition: &str,
+    at: &str,
+) -> Result<Option<(u32, u8)>, Fault>
+    ensures same_reference { tx.new.conn.ghost_name ≡ tx.old.conn.ghost_name }
+    ensures trial { (profile : Profile) (moment : ℕ) → IsStamp moment at.now → IsTrial profile edition.now moment (state S.Store tx.old.conn.now) (state S.Store tx.new.conn.now) result }
+{
+    for number in 1..PAST_THE_LAST + 1 {
+        match try_piece(tx, edition, number, at) {
+            Ok(Turn::Done) => {}
+            Ok(Turn::End) => return Ok(None),
+            Ok(Turn::Refused(why)) => return Ok(Some((number, why))),
+            Err(fault) => return Err(fault),
+        }
+    }
+    Err(Fault(91))
+}
+
+/// Writes that an edition is published.
+fn mark_published<S: Alter>(tx: &mut Transaction<'_, S>, edition: &str) -> Result<(), Fault>
+    ensures same_reference { tx.new.conn.ghost_name ≡ tx.old.conn.ghost_name }
+    ensures change { (profile : Profile) → IsChange profile (state S.Store tx.old.conn.now) (state S.Store tx.new.conn.now) (λ p. contains_key p.editions edition.now ≡ true)
+        (λ p. record p { editions = insert p.editions edition.now published_state }) result }
+{
+    run(
+        tx,
+        "UPDATE mm_editions SET state = 'published' WHERE name = ?1",
+        params![edition],
+    )
+}
+
+/// Removes the pieces of an edition.
+fn delete_pieces<S: Alter>(tx: &mut Transaction<'_, S>, edition: &str) -> Result<(), Fault>
+    ensures same_reference { tx.new.conn.ghost_name ≡ tx.old.conn.ghost_name }
+    ensures change { (profile : Profile) → IsChange profile (state S.Store tx.old.conn.now) (state S.Store tx.new.conn.now) (λ p. ⊤)
+        (λ p. record p { pieces = retain_keys p.pieces (λ k. is_other edition.now k.edition) }) result }
+{
+    run(
+        tx,
+        "DELETE FROM mm_pieces WHERE edition = ?1",
+        params![edition],
+    )
+}
+
+/// Publishes an edition whose pieces were done, and removes them.
+fn close_edition<S: Alter>(tx: &mut Transaction<'_, S>, edition: &str) -> Result<(), Fault>
+    ensures same_reference { tx.new.conn.ghost_name ≡ tx.old.conn.ghost_name }
+    ensures change { (profile : Profile) → IsChange profile (state S.Store tx.old.conn.now) (state S.Store tx.new.conn.now) (λ p. contains_key p.editions edition.now ≡ true) (closed edition.now) result }
+{
+    match mark_published(tx, edition) {
+        Ok(()) => delete_pieces(tx, edition),
+        Err(fault) => Err(fault),
+    }
+}
+
+/// The command `publish`: does all pieces of an open edition in rising number, each by its conditions on what the earlier
+/// ones gave, and publishes the edition, which then holds no pieces. `at` is the stamp of the moment, which becomes the
+/// last_change of each table that a piece changes. Refused 51 where no edition has the name, 55 where it is published, and
+/// 53 with the number and the refusal of the first piece that is refused; the caller rolls the transaction back then.
+pub fn publish<S: Alter>(
+    tx: &mut Transaction<'_, S>,
+    edition: &str,
+    at: &str,
+) -> Result<Outcome, Fault>
+    ensures same_reference { tx.new.conn.ghost_name ≡ tx.old.conn.ghost_name }
+    ensures tried { (profile : Profile) (moment : ℕ) → IsStamp moment at.now → IsTried profile (commands.Publish edition.now) moment (state S.Store tx.old.conn.now) (state S.Store tx.new.conn.now) result }
+{
+    match closed_refusal(tx, edition) {
+        Ok(None) => {}
+        Ok(Some(number)) => {
+            return Ok(Outcome::Refused(Refusal {
+                number,
+                piece: None,
+            }));
+        }
+        Err(fault) => return Err(fault),
+    }
+    match try_pieces(tx, edition, at) {
+        Ok(None) => {}
+        Ok(Some(piece)) => {
+            return Ok(Outcome::Refused(Refusal {
+                number: 53,
+                piece: Some(piece),
+            }));
+        }
+        Err(fault) => return Err(fault),
+    }
+    match close_edition(tx, edition) {
+        Ok(()) => Ok(Outcome::Done),
+        Err(fault) => Err(fault),
+    }
+}

@@ -1,0 +1,28 @@
+//! Rehearsing the publishing of an edition.
+
+ghost use Rattle.std.specs.Prelude.{◌≡◌, ℕ, false};
+ghost use Rattle.sqlite.specs.Held.{state};
+ghost use Rattle.mm_base.specs.Bounds.{Profile};
+ghost use Rattle.mm_base.specs.Stamp.{IsStamp};
+ghost use Rattle.mm_edition.specs.Rehearsals.{IsRehearsal};
+
+use crate::publishing::publish;
+use mm_base::answers::{Fault, Outcome};
+use sqlite::{Alter, Connection};
+
+/// The command `rehearse`: answers what `publish` would, and changes nothing, since the transaction that it publishes in is
+/// rolled back. `at` is the stamp of any moment.
+pub fn rehearse<S: Alter>(
+    conn: &mut Connection<S>,
+    edition: &str,
+    at: &str,
+) -> Result<Outcome, Fault>
+    requires idle { conn.old.in_transaction ≡ false }
+    ensures mode { conn.new.in_transaction ≡ false }
+    ensures rehearsed { (profile : Profile) (moment : ℕ) → IsStamp moment at.now → IsRehearsal profile edition.now (state S.Store conn.old) (state S.Store conn.new) result }
+{
+    let mut tx = conn.transaction();
+    let outcome = publish(&mut tx, edition, at);
+    tx.rollback();
+    outcome
+}

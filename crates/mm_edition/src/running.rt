@@ -1,0 +1,120 @@
+//! One staged piece taken as its command.
+
+ghost use Rattle.std.specs.Prelude.{◌≡◌, ℕ};
+ghost use Rattle.sqlite.specs.Held.{state};
+ghost use Rattle.mm_base.specs.Bounds.{Profile};
+ghost use Rattle.mm_base.specs.Pieces.{piece_command};
+ghost use Rattle.mm_base.specs.Stamp.{IsStamp};
+ghost use Rattle.mm_store.specs.Shapes.{IsLent};
+ghost use Rattle.mm_edition.specs.Turns.{IsTurn};
+
+use crate::pieces::piece;
+use mm_base::answers::{Fault, Outcome};
+use mm_base::commands::Piece;
+use mm_content::{drop_media, drop_row, drop_tile, put_media, put_row, put_tile};
+use mm_relate::{add_map, drop_map};
+use sqlite::{Alter, Transaction};
+
+/// What became of the piece of a number.
+pub(crate) enum Turn {
+    Done,
+    /// The edition has no piece of the number.
+    End,
+    Refused(u8),
+}
+
+/// Does what a piece says within the transaction. `at` is the stamp of the moment.
+fn run_piece<S: Alter>(
+    tx: &mut Transaction<'_, S>,
+    piece: &Piece,
+    at: &str,
+) -> Result<Outcome, Fault>
+    ensures same_reference { tx.new.conn.ghost_name ≡ tx.old.conn.ghost_name }
+    ensures lent { (profile : Profile) (moment : ℕ) → IsStamp moment at.now → IsLent profile (piece_command piece.now) moment (state S.Store tx.old.conn.now) (state S.Store tx.new.conn.now) result }
+{
+    match piece {
+        Piece::Tile {
+            table,
+            zoom,
+            column,
+            row,
+            bytes,
+        } => put_tile(
+            tx,
+            table.as_str(),
+            *zoom,
+            *column,
+            *row,
+            bytes.as_slice(),
+            at,
+        ),
+        Piece::TileDrop {
+            table,
+            zoom,
+            column,
+            row,
+        } => drop_tile(tx, table.as_str(), *zoom, *column, *row, at),
+        Piece::Row {
+            table,
+            id,
+            title,
+            note,
+            amount,
+        } => put_row(
+            tx,
+            table.as_str(),
+            *id,
+            title.as_str(),
+            note.as_str(),
+            *amount,
+            at,
+        ),
+        Piece::RowDrop { table, id } => drop_row(tx, table.as_str(), *id, at),
+        Piece::Media {
+            table,
+            id,
+            content_type,
+            bytes,
+        } => put_media(
+            tx,
+            table.as_str(),
+            *id,
+            content_type.as_str(),
+            bytes.as_slice(),
+            at,
+        ),
+        Piece::MediaDrop { table, id } => drop_media(tx, table.as_str(), *id, at),
+        Piece::Map {
+            mapping,
+            base_id,
+            related_id,
+        } => add_map(tx, mapping.as_str(), *base_id, *related_id),
+        Piece::MapDrop {
+            mapping,
+            base_id,
+            related_id,
+        } => drop_map(tx, mapping.as_str(), *base_id, *related_id),
+    }
+}
+
+/// Does what the piece of a number says, if the edition has one. `at` is the stamp of the moment.
+pub(crate) fn try_piece<S: Alter>(
+    tx: &mut Transaction<'_, S>,
+    edition: &str,
+    number: u32,
+    at: &str,
+) -> Result<Turn, Fault>
+    ensures same_reference { tx.new.conn.ghost_name ≡ tx.old.conn.ghost_name }
+    ensures turn { (profile : Profile) (moment : ℕ) → IsStamp moment at.now → IsTurn profile edition.now number moment (state S.Store tx.old.conn.now) (state S.Store tx.new.conn.now) result }
+{
+    let found = match piece(tx, edition, number) {
+        Ok(Some(found)) => found,
+        Ok(None) => return Ok(Turn::End),
+        Err(fault) => return Err(fault),
+    };
+    match run_piece(tx, &found, at) {
+        Ok(Outcome::Done) => Ok(Turn::Done),
+        Ok(Outcome::Refused(why)) => Ok(Turn::Refused(why.number)),
+        Err(fault) => Err(fault),
+    }
+}

@@ -1,0 +1,6 @@
+pub mod Asked
+pub mod Distinct
+pub mod Mates
+pub mod Listed
+pub mod OnlyAsks
+pub mod Reading

@@ -1,0 +1,62 @@
+//! The values in the columns of a row that a query shows. A value that no package has is a fault, 91.
+
+ghost use Rattle.std.specs.Prelude.{◌≡◌, string_bytes, IfOk, IfErr};
+ghost use Rattle.sqlite.specs.Order.{column};
+ghost use Rattle.sqlite.specs.declared.types.Value.TheVariants.{Int, Text as Words};
+ghost use Rattle.mm_store.specs.Faults.{IsStoreFault};
+
+use mm_base::answers::Fault;
+use mm_base::names::Name;
+use mm_base::texts::Remark;
+use mm_store::faults::fault_of;
+use sqlite::Row;
+
+/// The text in a column.
+fn text_in(row: &Row, at: usize) -> Result<String, Fault>
+    ensures shown { IfOk result (λ text. column row.now at ≡ Words (string_bytes text)) }
+    ensures fault { IfErr result IsStoreFault }
+{
+    match row.get(at) {
+        Ok(text) => Ok(text),
+        Err(error) => Err(fault_of(error)),
+    }
+}
+
+/// The number in a column.
+pub(crate) fn number_in(row: &Row, at: usize) -> Result<i64, Fault>
+    ensures shown { IfOk result (λ number. column row.now at ≡ Int number) }
+    ensures fault { IfErr result IsStoreFault }
+{
+    match row.get(at) {
+        Ok(number) => Ok(number),
+        Err(error) => Err(fault_of(error)),
+    }
+}
+
+/// The name in a column.
+pub(crate) fn name_in(row: &Row, at: usize) -> Result<Name, Fault>
+    ensures shown { IfOk result (λ name. column row.now at ≡ Words name) }
+    ensures fault { IfErr result IsStoreFault }
+{
+    match text_in(row, at) {
+        Ok(text) => match Name::read(text.as_str()) {
+            Some(name) => Ok(name),
+            None => Err(Fault(91)),
+        },
+        Err(fault) => Err(fault),
+    }
+}
+
+/// The name of a relation in a column.
+pub(crate) fn remark_in(row: &Row, at: usize) -> Result<Remark, Fault>
+    ensures shown { IfOk result (λ text. column row.now at ≡ Words text) }
+    ensures fault { IfErr result IsStoreFault }
+{
+    match text_in(row, at) {
+        Ok(text) => match Remark::new(text) {
+            Some(text) => Ok(text),
+            None => Err(Fault(91)),
+        },
+        Err(fault) => Err(fault),
+    }
+}

@@ -1,0 +1,14 @@
+//! What an attribute row or medium is related to, read from its mapping rows. Here are also the tests of the calls on relations.
+//!
+//! - `listing`: the list of an item's mapping rows.
+//! - `items`: whether an item stands.
+//! - `columns`: the values in the columns of a row.
+#![tactic(auto)]
+
+mod columns;
+mod items;
+mod listing;
+#[cfg(test)]
+mod tests;
+
+pub use listing::related;

@@ -1,5 +1,5 @@
 -- The list of an item's mapping rows, from the rows that the query shows.
-use Rattle.std.proofs.Common.{◌≡◌, ◌≢◌, inl, inr, ℕ, ℤ, Bool, true, false, cond, ◌&&◌, List, [], ◌∷◌, map, Option, Some, None, option_map, refl, sym, ap, subst, ◌∙◌}
+use Rattle.std.proofs.Common.{◌≡◌, ◌≢◌, inl, inr, ℤ, Bool, true, false, cond, ◌&&◌, List, [], ◌∷◌, map, Option, Some, None, option_map, refl, sym, ap, subst, ◌∙◌}
 use Rattle.std.specs.Prelude.{T, ⊤}
 use Rattle.std.specs.declared.cmp.Ordering.{Ordering}
 use Rattle.std.specs.declared.cmp.Ordering.TheVariants.{Less, Equal, Greater}
@@ -7,14 +7,14 @@ use Rattle.std.specs.Ordering.{is_lt, is_eq, is_gt, ordering_reverse}
 use Rattle.std.specs.Cmp.{tied_itself}
 use Rattle.std.specs.List.{AllByRecursion, IsDistinct, flat_map}
 use Rattle.std.specs.List.Sorted.{IsPermutation}
-use Rattle.std.specs.FinMap.{get, entries, entries_sorted, get-entries, find, is_sorted, retain_keys}
+use Rattle.std.specs.FinMap.{get, entries_sorted, get-entries, find, is_sorted, retain_keys}
 use Rattle.std.specs.FinMap.Entries.{below_all, same_entries}
-use Rattle.std.proofs.lemmas.Bool.{both_ways, and_parts, and_from}
+use Rattle.std.proofs.lemmas.Bool.{and_parts, and_from}
 use Rattle.std.proofs.lemmas.List.Sorted.{IsPermutation-sym}
 use Rattle.std.proofs.lemmas.Map.Keys.{IsDistinct-IsPermutation}
 use Rattle.sqlite.specs.declared.types.Value.TheVariants.{Int, Text as Words}
 use Rattle.sqlite.specs.Order.{Row, column}
-use Rattle.sqlite.specs.Query.{Output, output, output_cmp, matches, inner, end, IsAnswer}
+use Rattle.sqlite.specs.Query.{Output, output_cmp, matches, inner, end, IsAnswer}
 use Rattle.sqlite.specs.Term.{Env}
 use Rattle.sqlite.specs.Tree.{Trees, IsTable}
 use Rattle.sqlite_trees.specs.Tree.{IsAscending}
@@ -33,7 +33,7 @@ use Rattle.mm_base.proofs.KeyLaws.{texts, numbers, pairing_keys}
 use Rattle.mm_laws.proofs.KindFacts.{at_true, are_same}
 use Rattle.mm_store.specs.Rows.{past_rowid, past_id, relation_row, pairing_row}
 use Rattle.mm_content.proofs.Ends.{base_tells}
-use Rattle.mm_related.specs.Related.{is_from, mapping_rows, Mate, mate, told, Lists, ShowsRelated}
+use Rattle.mm_related.specs.Related.{is_from, mapping_rows, mate, told, Lists, ShowsRelated}
 use Rattle.mm_related.proofs.Asked.{terms, asked}
 use Rattle.mm_related.proofs.Distinct.{distinct_map}
 use Rattle.mm_related.proofs.Mates.{IsMatch, IsMate, out, ties, env, passing, mate_of, mate_key, cmp_is, one_key, match_of, beside, beside_has, has_beside, all_apart}

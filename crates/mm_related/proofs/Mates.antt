@@ -1,7 +1,5 @@
 -- The matches of the query, each of a mapping row.
-use Rattle.std.proofs.Common.{◌≡◌, inl, inr, ℕ, ℤ, Bool, true, false, cond, ◌&&◌, List, [], ◌∷◌, map, Option, Some, refl, sym, ap, subst, ◌∙◌}
-use Rattle.std.specs.Prelude.{⊤}
-use Rattle.std.specs.declared.cmp.Ordering.{Ordering}
+use Rattle.std.proofs.Common.{◌≡◌, inl, inr, ℤ, Bool, true, false, cond, ◌&&◌, List, [], ◌∷◌, Some, refl, sym, ap, subst, ◌∙◌}
 use Rattle.std.specs.declared.cmp.Ordering.TheVariants.{Equal}
 use Rattle.std.specs.Ordering.{is_eq, ordering_then, int_cmp}
 use Rattle.std.specs.Cmp.{tied_itself}
@@ -23,7 +21,7 @@ use Rattle.sql_forms.proofs.Rows.{equal_is}
 use Rattle.mm_base.specs.Keys.{Text, text_cmp, same_text, same_number, Pairing, pairing_cmp}
 use Rattle.mm_base.specs.Parts.{at_value}
 use Rattle.mm_base.specs.Package.{Package, Relation}
-use Rattle.mm_base.proofs.Parts.{kept, same_itself}
+use Rattle.mm_base.proofs.Parts.{kept}
 use Rattle.mm_base.proofs.KeyLaws.{texts, numbers, pairing_keys}
 use Rattle.mm_laws.proofs.KindFacts.{are_same}
 use Rattle.mm_store.specs.Rows.{past_rowid, past_id, relation_row, pairing_row}

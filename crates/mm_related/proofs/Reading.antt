@@ -1,5 +1,5 @@
 -- A walk over an item's mapping rows is a read, and so is one read after another.
-use Rattle.std.proofs.Common.{◌≡◌, ◌⊎◌, inl, inr, ℤ, Bool, true, false, List, [], ◌∷◌, ◌++◌, Option, Some, None, Result, Ok, Err, IfOk, IfErr, IsTrue, Vec, Global, refl, sym, ap, subst, ◌∙◌, append_assoc, append-nil, arith}
+use Rattle.std.proofs.Common.{◌≡◌, ◌⊎◌, inl, inr, ℤ, Bool, true, false, List, [], ◌∷◌, ◌++◌, Result, Ok, Err, IfOk, IfErr, Vec, Global, refl, sym, ap, subst, ◌∙◌, append_assoc, append-nil, arith}
 use Rattle.sqlite.specs.declared.types.Value.TheVariants.{Int, Text as Words}
 use Rattle.sqlite_value.specs.declared.value.Value.TheVariants.{Null}
 use Rattle.sqlite.specs.Order.{Row}
@@ -11,7 +11,6 @@ use Rattle.mm_schema.specs.Tables.{schema}
 use Rattle.mm_base.specs.Bounds.{Profile}
 use Rattle.mm_base.specs.Keys.{Text}
 use Rattle.mm_base.specs.Package.{Package}
-use Rattle.mm_base.specs.Rules.{Meets}
 use Rattle.mm_base.specs.declared.answers.Fault.{Fault}
 use Rattle.mm_base.specs.declared.entries.Related.{Related}
 use Rattle.mm_store.specs.Faults.{IsStoreFault}
@@ -20,7 +19,7 @@ use Rattle.mm_store.specs.Statements.{CommitsNothing}
 use Rattle.mm_store.specs.Shapes.{IsRead}
 use Rattle.mm_store.proofs.Shapes.{quiet_then}
 use Rattle.mm_walk.specs.Walk.{Rests, Takes, Ends, IsWalk}
-use Rattle.mm_related.specs.Related.{Gathers, Lists, ShowsRelated}
+use Rattle.mm_related.specs.Related.{Gathers, Lists}
 use Rattle.mm_related.proofs.Asked as asked
 use Rattle.mm_related.proofs.Asked.{listed_text}
 use Rattle.mm_related.proofs.OnlyAsks.{only_asks}

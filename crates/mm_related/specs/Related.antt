@@ -1,5 +1,5 @@
 -- What an item is related to, and what the rows show that it is read from.
-use Rattle.std.specs.Prelude.{◌≡◌, ℤ, Bool, true, false, ◌||◌, ◌&&◌, List, [], ◌∷◌, ◌++◌, map, Option, Some, None, option_map, Result, MatchResult, MatchOption, ⊤}
+use Rattle.std.specs.Prelude.{◌≡◌, ℤ, Bool, true, false, ◌||◌, ◌&&◌, List, [], ◌∷◌, ◌++◌, map, Option, Some, option_map, Result, MatchResult, MatchOption, ⊤}
 use Rattle.std.specs.FinMap.{get, contains_key, entries, retain_keys}
 use Rattle.std.specs.declared.vec.Vec.{Vec}
 use Rattle.sqlite.specs.declared.types.Value.TheVariants.{Int, Text as Words}

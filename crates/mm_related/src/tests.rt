@@ -11,7 +11,7 @@ use mm_meta::{add_srs, create_in_memory};
 use mm_records::read_command;
 use mm_relate::{add_map, add_relation, drop_map, drop_relation};
 use sqlite::types::ValueRef;
-use sqlite::{Connection, MemStore, Row, Transaction};
+use sqlite::{Alter, Connection, MemStore, Row, Transaction};
 use std::alloc::Global;
 use std::fmt::Write;
 use std::test::Fail;
@@ -26,8 +26,8 @@ fn command_of(alloc: Global, record: &str) -> Option<Command> {
     read_command(alloc, fields.as_slice()).ok()
 }
 
-fn called_on_tables(
-    tx: &mut Transaction<'_, MemStore>,
+fn called_on_tables<S: Alter>(
+    tx: &mut Transaction<'_, S>,
     command: &Command,
 ) -> Option<Result<Outcome, Fault>> {
     let outcome = match command {
@@ -84,8 +84,8 @@ fn called_on_tables(
     Some(outcome)
 }
 
-fn called_on_items(
-    tx: &mut Transaction<'_, MemStore>,
+fn called_on_items<S: Alter>(
+    tx: &mut Transaction<'_, S>,
     command: &Command,
 ) -> Option<Result<Outcome, Fault>> {
     let outcome = match command {
@@ -139,8 +139,8 @@ fn called_on_items(
     Some(outcome)
 }
 
-fn called_on_relations(
-    tx: &mut Transaction<'_, MemStore>,
+fn called_on_relations<S: Alter>(
+    tx: &mut Transaction<'_, S>,
     command: &Command,
 ) -> Option<Result<Outcome, Fault>> {
     let outcome = match command {
@@ -167,7 +167,7 @@ fn called_on_relations(
 }
 
 /// 0 for done, else the number of the refusal or of the fault; None where the record spells no command of these tests.
-fn number_of(alloc: Global, tx: &mut Transaction<'_, MemStore>, record: &str) -> Option<u8> {
+fn number_of<S: Alter>(alloc: Global, tx: &mut Transaction<'_, S>, record: &str) -> Option<u8> {
     let command = command_of(alloc, record)?;
     let outcome = match called_on_tables(tx, &command) {
         Some(outcome) => outcome,
@@ -184,7 +184,7 @@ fn number_of(alloc: Global, tx: &mut Transaction<'_, MemStore>, record: &str) ->
 }
 
 /// What a record is answered in a transaction of its own, which is committed.
-fn answer(alloc: Global, conn: &mut Connection<MemStore>, record: &str) -> Option<u8> {
+fn answer<S: Alter>(alloc: Global, conn: &mut Connection<S>, record: &str) -> Option<u8> {
     if !conn.is_autocommit() {
         return None;
     }
@@ -236,7 +236,7 @@ fn add_row(text: &mut String, row: &Row) -> Result<(), Fail> {
 }
 
 /// The rows that a query shows, a line each, with a bar behind each value.
-fn rows_of(alloc: Global, conn: &mut Connection<MemStore>, sql: &str) -> Result<String, Fail> {
+fn rows_of<S: Alter>(alloc: Global, conn: &mut Connection<S>, sql: &str) -> Result<String, Fail> {
     let rows = conn.query_all(sql, &[])?;
     let mut text = String::new(alloc);
     for row in &rows {
@@ -388,9 +388,9 @@ fn a_call_touches_its_own_rows_alone(rt: HostRuntime) -> Result<(), Fail> {
 }
 
 /// What an item is related to, an item a line; `none` where it does not stand.
-fn related_text(
+fn related_text<S: Alter>(
     alloc: Global,
-    conn: &mut Connection<MemStore>,
+    conn: &mut Connection<S>,
     table: &str,
     id: i64,
 ) -> Option<String> {

@@ -82,13 +82,14 @@ pub(crate) fn apply_once<S: Alter>(
     ensures faults { OnFault result (λ fault. (fault ≡ 90) ⊎ (fault ≡ 91)) }
     ensures applied { IsApplied command.now moment (state S.Store conn.old) (state S.Store conn.new) result }
 {
-    match stamp(alloc, moment) {
-        Ok(at) => match command {
-            Command::Rehearse { edition } => {
-                rehearse_once(conn, edition.as_str(), moment, at.as_str())
-            }
-            _ => run_transaction(conn, command, moment, at.as_str()),
-        },
-        Err(_) => Answer::Fault(Fault(90)),
+    let at = match stamp(alloc, moment) {
+        Ok(at) => at,
+        Err(_) => return Answer::Fault(Fault(90)),
+    };
+    match command {
+        Command::Rehearse { edition } => {
+            rehearse_once(conn, edition.as_str(), moment, at.as_str())
+        }
+        _ => run_transaction(conn, command, moment, at.as_str()),
     }
 }

@@ -52,10 +52,10 @@ fn answers_records_of_reference_systems(rt: HostRuntime) {
         ),
         (b"srs,5,,NONE,1,undefined,\n", b"1 refused 11\n"),
         (b"srs,5,A,NONE,1,undefined\n", b"1 refused 10\n"),
-        // A number with leading zeros, bytes that are no text, and a command that is not served yet.
+        // A number with leading zeros, bytes that are no text, and a last record that its end cuts short.
         (
-            b"srs,5001,A,NONE,1,undefined,\nsrs,007,B,NONE,1,undefined,\n\xff\xfe,1\nedition,a\n",
-            b"1 ok\n2 refused 10\n3 refused 10\n4 refused 10\n",
+            b"srs,5001,A,NONE,1,undefined,\nsrs,007,B,NONE,1,undefined,\n\xff\xfe,1\nedition,a\nedition,\"a",
+            b"1 ok\n2 refused 10\n3 refused 10\n4 ok\n5 refused 50\n",
         ),
     ];
     let alloc = rt.alloc();

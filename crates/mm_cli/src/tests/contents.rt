@@ -133,6 +133,94 @@ row-drop,more,1 > ok
 row-drop,spots,1 > ok
 ";
 
+/// The same of relations and editions.
+const RELATED: &str = "table,spots,attributes,Spots > ok
+table,photos,media,Photos > ok
+row,spots,7,Well,,3 > ok
+media,photos,3,image/jpeg,ffd8ff > ok
+relation,spot_photos,spots,photos,media > ok
+map,spot_photos,7,3 > ok
+row-drop,spots,7 > refused 42
+media-drop,photos,3 > refused 42
+map,spot_photos,7,3 > refused 45
+map,spot_photos,8,3 > refused 40
+map,spot_photos,7,4 > refused 41
+map,none,7,3 > refused 44
+relation,spot_photos,spots,photos,media > refused 43
+relation,base,spots,photos,media > refused 43
+relation,m,photos,spots,media > refused 47
+relation,m,base,photos,media > refused 47
+relation,m,none,photos,media > refused 25
+table,spot_photos,media,P > refused 23
+drop,spots > refused 48
+drop,photos > refused 48
+map-drop,spot_photos,7,3 > ok
+map-drop,spot_photos,7,3 > refused 46
+row-drop,spots,7 > ok
+row-drop,spots,7 > refused 40
+relation-drop,spot_photos > ok
+relation-drop,spot_photos > refused 44
+drop,spots > ok
+drop,spots > refused 25
+
+table,spots,attributes,Spots > ok
+row,spots,7,Well,,3 > ok
+relation,near,spots,spots,simple_attributes > ok
+map,near,7,7 > ok
+row-drop,spots,7 > refused 42
+map-drop,near,7,7 > ok
+row-drop,spots,7 > ok
+
+matrix,base,1,2,2,256,256,2000,2000 > ok
+edition,spring > ok
+stage,spring,1,tile,base,1,0,0,01 > ok
+stage,spring,2,tile,base,1,2,0,02 > ok
+stage,spring,3,tile,base,1,0,1,03 > ok
+stage,spring,2,tile,base,1,2,0,02 > ok
+stage,spring,2,tile,base,1,2,0,03 > refused 52
+stage,spring,5,tile,base,1,0,0,01 > refused 52
+rehearse,spring > refused 53 2 34
+publish,spring > refused 53 2 34
+tile-drop,base,1,0,0 > refused 35
+discard,spring > ok
+discard,spring > refused 51
+
+edition,e > ok
+publish,e > ok
+publish,e > refused 55
+stage,e,1,row-drop,spots,1 > refused 55
+edition,e > refused 50
+publish,f > refused 51
+rehearse,f > refused 51
+discard,e > refused 55
+
+table,spots,attributes,Spots > ok
+row,spots,7,Well,,3 > ok
+relation,near,spots,spots,simple_attributes > ok
+map,near,7,7 > ok
+edition,e > ok
+stage,e,1,row,spots,8,Gate,,0 > ok
+stage,e,2,map,near,7,8 > ok
+stage,e,3,row-drop,spots,7 > ok
+publish,e > refused 53 3 42
+row-drop,spots,8 > refused 40
+discard,e > ok
+edition,e > ok
+stage,e,1,row,spots,8,Gate,,0 > ok
+stage,e,2,map,near,7,8 > ok
+rehearse,e > ok
+row-drop,spots,8 > refused 40
+publish,e > ok
+row-drop,spots,8 > refused 42
+publish,e > refused 55
+
+table,spots,attributes,Spots > ok
+edition,e > ok
+stage,e,1,row,spots,8,Gate,,0 > ok
+drop,spots > ok
+publish,e > refused 53 1 25
+";
+
 /// Runs the records of both lists on a new package, and compares the answers.
 fn compare_answers(rt: &HostRuntime, group: &str) -> Result<(), Fail> {
     let alloc = rt.alloc();
@@ -165,7 +253,7 @@ fn compare_answers(rt: &HostRuntime, group: &str) -> Result<(), Fail> {
 
 #[test]
 fn answers_records_of_the_contents(rt: HostRuntime) -> Result<(), Fail> {
-    for group in GROUPS.split("\n\n").chain(CONTENT.split("\n\n")) {
+    for group in GROUPS.split("\n\n").chain(CONTENT.split("\n\n")).chain(RELATED.split("\n\n")) {
         compare_answers(&rt, group)?;
     }
     fs::remove_dir_all(&rt, "mm_cli_contents")?;

@@ -62,7 +62,7 @@ fn answers_records_that_are_no_commands(rt: HostRuntime) -> Result<(), Fail> {
     assert_eq!(rt; status, 1);
     assert_eq!(rt;
         text.as_slice(),
-        b"1 ok\n2 refused 10\n3 refused 10\n4 refused 10\n5 refused 10\n".as_slice()
+        b"1 ok\n2 refused 10\n3 refused 10\n4 ok\n5 refused 10\n".as_slice()
     );
     fs::remove_dir_all(&rt, "mm_cli_list")?;
     Ok(())

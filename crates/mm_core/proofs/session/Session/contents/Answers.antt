@@ -1,0 +1,6 @@
+use Rattle.std.proofs.Math.Facts.{to_z-of_z}
+use Rattle.mm_base.specs.Bounds.{millimetres}
+use Rattle.mm_core.proofs.session.Session.contents.Goals as goal
+
+pub returns-clause-read : goal.returns-clause-read
+returns-clause-read g c working = c.contents.ensures.read millimetres

@@ -22,3 +22,4 @@ pub mod Numbering
 pub mod EditionRules
 pub mod ExtensionQueries
 pub mod ExtensionRules
+pub mod Verdicts

@@ -14,3 +14,6 @@ pub mod limits;
 pub mod matrices;
 pub mod systems;
 pub mod tiles;
+pub mod verdict;
+
+pub use verdict::verify;

@@ -13,6 +13,8 @@ pub mod items;
 pub mod limits;
 pub mod matrices;
 pub mod systems;
+#[cfg(test)]
+mod tests;
 pub mod tiles;
 pub mod verdict;
 

@@ -1,5 +1,5 @@
 -- All rules in turn.
-use Rattle.std.proofs.Common.{◌≡◌, ◌↔◌, ◌⊎◌, inl, inr, ℕ, ◌+◌, ◌<◌, ◌≤◌, ◌==◌, Bool, true, false, Option, Some, None, Result, Ok, Err, IsTrue, refl, sym, ap, subst, ◌∙◌, arith}
+use Rattle.std.proofs.Common.{◌≡◌, ◌↔◌, inl, inr, ℕ, ◌+◌, ◌<◌, ◌≤◌, ◌==◌, Bool, true, false, Some, None, Result, Ok, Err, refl, sym, subst, arith}
 use Rattle.std.specs.Prelude.{⊤}
 use Rattle.std.proofs.lemmas.Bool.{cases_Bool}
 use Rattle.std.proofs.lemmas.Bool.Decides.{nat_tests}
@@ -10,7 +10,7 @@ use Rattle.mm_base.specs.Rules.{Meets, Limits}
 use Rattle.mm_base.specs.declared.answers.Fault.{Fault}
 use Rattle.mm_store.proofs.Shapes.{quiet_then}
 use Rattle.mm_check.specs.Check.{IsCheck}
-use Rattle.mm_check.specs.Verdict.{rule, Before, IsFailing, IsVerdict, IsVerified, HasPassed}
+use Rattle.mm_check.specs.Verdict.{rule, Before, IsVerified, HasPassed}
 use Rattle.mm_check.proofs.Compose.{as_told, same_rule}
 
 one_more : (profile : Profile) (p : Package) (k : ℕ) → 1 ≤ k → Before profile k p → rule profile k p → Before profile (k + 1) p

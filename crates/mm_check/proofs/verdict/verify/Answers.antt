@@ -1,5 +1,4 @@
-use Rattle.std.proofs.Common.{◌≡◌, ◌<◌, ◌≤◌, arith, rules}
-use Rattle.std.proofs.lemmas.Bool.Decides.{nat_tests}
+use Rattle.std.proofs.Common.{◌≡◌, ◌≤◌, arith}
 use Rattle.sqlite.specs.Held.{state}
 use Rattle.mm_check.proofs.Verdicts.{limits_pass, limits_stop, limits_fail, next_passes, next_stops, next_fails, all_pass}
 use Rattle.mm_check.proofs.verdict.verify.Goals as goal

@@ -1,21 +1,21 @@
 -- A check by a walk.
-use Rattle.std.proofs.Common.{◌≡◌, ◌↔◌, inl, inr, ℕ, List, [], Bool, false, IsTrue, Result, Ok, Err, IfOk, IfErr, OnOk, sym, ap, subst, ◌∙◌, arith}
+use Rattle.std.proofs.Common.{◌≡◌, ◌↔◌, inl, inr, ℕ, List, Bool, false, IsTrue, Result, Ok, Err, IfOk, sym, subst}
 use Rattle.sqlite_value.specs.declared.keys.Key.{Key}
 use Rattle.sqlite.specs.Order.{Row}
 use Rattle.sqlite_sql.specs.Term.{Term}
 use Rattle.sqlite_sql.specs.Query.{Join}
 use Rattle.sqlite.specs.Effect.{Database}
 use Rattle.sqlite.specs.Tree.{Trees}
-use Rattle.sqlite.specs.State.{State, HasCleanDisk, IsUnchanged, Survives}
+use Rattle.sqlite.specs.State.{State, HasCleanDisk, Survives}
 use Rattle.mm_base.specs.Bounds.{Profile}
 use Rattle.mm_base.specs.Package.{Package}
 use Rattle.mm_base.specs.declared.answers.Fault.{Fault}
 use Rattle.mm_store.specs.Stands.{StandsFor, ReadsAs, IsSettled}
-use Rattle.mm_walk.specs.Walk.{OnlyAsks, Rests}
+use Rattle.mm_walk.specs.Walk.{Rests}
 use Rattle.mm_walk.specs.RowTests.{IsQuery, AllShown, TellsAll}
 use Rattle.mm_schema.specs.Tables.{schema}
 use Rattle.mm_check.specs.Check.{IsCheck}
-use Rattle.mm_check.proofs.Quiet.{IsQuiet, only_asks}
+use Rattle.mm_walk.proofs.Quiet.{IsQuiet, only_asks}
 use Rattle.std.proofs.Common.{ℤ}
 
 -- what is shown says the rule

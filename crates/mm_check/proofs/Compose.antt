@@ -1,10 +1,9 @@
 -- Checks one after another.
-use Rattle.std.proofs.Common.{◌≡◌, ◌↔◌, Bool, true, false, Result, Ok, Err, IfOk, IfErr, IsTrue, refl, sym, ap, subst, ◌∙◌, arith}
-use Rattle.sqlite.specs.State.{State, HasCleanDisk, Survives}
+use Rattle.std.proofs.Common.{◌≡◌, ◌↔◌, Bool, true, false, Result, Ok, Err, refl, subst, arith}
+use Rattle.sqlite.specs.State.{State, HasCleanDisk}
 use Rattle.mm_base.specs.Bounds.{Profile}
 use Rattle.mm_base.specs.Package.{Package}
 use Rattle.mm_base.specs.declared.answers.Fault.{Fault}
-use Rattle.mm_store.specs.Stands.{IsSettled}
 use Rattle.mm_store.proofs.Shapes.{quiet_then}
 use Rattle.mm_check.specs.Check.{IsCheck}
 

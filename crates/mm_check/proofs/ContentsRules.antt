@@ -1,6 +1,6 @@
 -- What the queries of contents, kinds and matrix sets show, and rules 2 to 6.
-use Rattle.std.proofs.Common.{◌≡◌, ◌↔◌, ◌⊎◌, inl, inr, Bool, true, false, ◌&&◌, ℤ, [], ◌∷◌, Option, Some, None, is_some, IsTrue, codes, filter, refl, sym, ap, subst, ◌∙◌}
-use Rattle.std.specs.Prelude.{⊤, ◌<ℤ◌, IfSome}
+use Rattle.std.proofs.Common.{◌≡◌, ◌↔◌, ◌⊎◌, inl, inr, true, false, ◌&&◌, ℤ, [], ◌∷◌, Option, Some, None, is_some, IsTrue, codes, filter, refl, sym, ap, ◌∙◌}
+use Rattle.std.specs.Prelude.{⊤, IfSome}
 use Rattle.std.specs.FinMap.{get}
 use Rattle.sqlite.specs.Order.{Row, column}
 use Rattle.sqlite.specs.Tree.{Trees}
@@ -12,23 +12,20 @@ use Rattle.sqlite_sql.specs.Query.{inner, left, end, or_nulls}
 use Rattle.sqlite_schema.specs.Rules.{equal}
 use Rattle.sqlite_rules.specs.Lists as lists
 use Rattle.mm_base.specs.Keys.{Text}
-use Rattle.mm_base.specs.Parts.{Each, Has}
 use Rattle.mm_base.specs.Package.{Package, Contents, MatrixSet, IsPyramid, kind_text}
-use Rattle.mm_base.specs.Rules.{DistinctIdentifiers, MayName, IsPlane, IsOrdered, IsPlaced, IsPlacedAt, IsUnplaced, Suits}
+use Rattle.mm_base.specs.Rules.{DistinctIdentifiers, MayName, IsPlane, IsOrdered, IsPlaced, IsUnplaced, Suits}
 use Rattle.mm_base.specs.declared.commands.Kind.{Kind}
 use Rattle.mm_base.specs.declared.commands.Kind.TheVariants.{Two, Other, Attributes, Media}
 use Rattle.mm_base.proofs.Parts.{same_some}
 use Rattle.mm_store.specs.Rows.{maybe, system_row, contents_row, kind_row, set_row, relation_row}
 use Rattle.mm_store.specs.Stands.{StandsFor}
-use Rattle.mm_walk.specs.RowTests.{OnTrue}
-use Rattle.mm_check.specs.Columns.{number_of, words_of, is_there, IsPyramidKind}
+use Rattle.mm_check.specs.Columns.{number_of, words_of, is_there}
 use Rattle.mm_check.specs.ContentsRows.{MayNameRow, IsSameRow, IsThereRow, IsAbsentRow, IsOrderedRow, IsPlacedRow, IsUnplacedRow, IsRegisteredRow}
 use Rattle.mm_check.specs.Parts.{ContentsSystems, SetSystems, MappingNames, Registered, KindsHaveContents, SetsHaveContents, SetExtents, ContentsExtents}
 use Rattle.mm_check.proofs.Joined.{as_whole, after_rowid, after_id, covered, covered_whole, covered_id, each_row, joined}
 use Rattle.mm_check.proofs.Keys.{name_is, number_is, on_true, same}
-use Rattle.mm_check.proofs.Terms.{equals, below}
+use Rattle.mm_check.proofs.Terms.{equals}
 use Rattle.mm_check.proofs.Checks.{Says}
-use Rattle.std.proofs.Common.{List}
 
 -- ---- rule 2
 module _ (version : ℤ) (db : Trees) (p : Package) (stands : StandsFor version db p) (table : Text) where

@@ -1,7 +1,6 @@
 -- Rows that are counted, as the entries of a map.
-use Rattle.std.proofs.Common.{◌≡◌, ℕ, zero, suc, Bool, true, false, List, [], ◌∷◌, length, drop, filter, Option, Some, None, inl, inr, refl, sym, ap, subst, ◌∙◌}
+use Rattle.std.proofs.Common.{◌≡◌, ℕ, suc, true, List, [], ◌∷◌, length, drop, filter, Some, inl, refl, sym, ap, subst, ◌∙◌}
 use Rattle.std.specs.FinMap.{FinMap, get}
-use Rattle.std.specs.Ordering.{eq_by_cmp}
 use Rattle.sqlite.specs.Order.{Row}
 use Rattle.sqlite.specs.declared.types.Value.{Value}
 use Rattle.sqlite_rules.specs.Lists.{Has}
@@ -9,7 +8,7 @@ use Rattle.sqlite_rules.proofs.ListLemmas.{has_filtered, has_kept}
 use Rattle.mm_base.specs.Keys.{Extension, extension_cmp}
 use Rattle.mm_base.proofs.Parts.{same_itself}
 use Rattle.mm_base.proofs.KeyLaws.{extension_keys}
-use Rattle.mm_store.specs.Rows.{past_rowid, extension_row, extension_of, is_extension, as_count, Counts}
+use Rattle.mm_store.specs.Rows.{extension_row, extension_of, is_extension, as_count, Counts}
 use Rattle.mm_check.proofs.Joined.{Covers, after_rowid}
 use Rattle.mm_check.proofs.Keys.{tie}
 

@@ -1,17 +1,16 @@
 -- What the texts of the queries compile to.
-use Rattle.std.proofs.Common.{ℕ, [], ◌∷◌, codes, refl, pos}
-use Rattle.sqlite.specs.declared.types.Value.TheVariants.{Null, Int, Text as Words}
+use Rattle.std.proofs.Common.{[], ◌∷◌, codes, refl}
 use Rattle.sqlite_value.specs.declared.keys.Collation.TheVariants.{Binary}
 use Rattle.sqlite_value.specs.Keys.{ascending}
-use Rattle.sqlite_sql.specs.Term.{lit, col}
+use Rattle.sqlite_sql.specs.Term.{col}
 use Rattle.sqlite_sql.specs.Query.{inner, left, end}
 use Rattle.sqlite.specs.Listing.{understood}
 use Rattle.sqlite_tied.specs.Compute.{everything}
 use Rattle.mm_walk.specs.RowTests.{IsQuery}
 use Rattle.mm_schema.specs.Tables.{schema}
 use Rattle.mm_check.specs.Texts as text
-use Rattle.mm_check.proofs.Quiet.{IsQuiet}
-use Rattle.mm_check.proofs.Terms.{equals, below, same_as, follows}
+use Rattle.mm_walk.proofs.Quiet.{IsQuiet}
+use Rattle.mm_check.proofs.Terms.{equals, follows}
 
 pub edition_states : IsQuery schema text.edition_states (inner 23 end) [] (col 1 2 ∷ [])
     ((col 1 1, ascending Binary) ∷ []) (codes "state" ∷ [])

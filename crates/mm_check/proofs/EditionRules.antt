@@ -1,27 +1,22 @@
 -- What the queries of editions and pieces show, and rule 15.
-use Rattle.std.proofs.Common.{◌≡◌, ◌↔◌, ◌⊎◌, inl, inr, Bool, true, false, ◌&&◌, ℕ, suc, zero, ℤ, pos, negsuc, ◌-ℤ◌, ◌≤ℤ◌, ◌<◌, ◌≤◌, ◌^◌, nat_lt, unsigned_abs, [], ◌∷◌, List, Option, Some, None, is_some, IsTrue, codes, filter, refl, sym, ap, ap₂, subst, ◌∙◌, arith, cond}
-use Rattle.std.specs.Prelude.{⊤}
+use Rattle.std.proofs.Common.{◌≡◌, ◌↔◌, ◌⊎◌, inl, inr, true, ◌&&◌, ℕ, suc, zero, ℤ, pos, negsuc, ◌-ℤ◌, ◌≤ℤ◌, ◌<◌, ◌^◌, nat_lt, unsigned_abs, [], ◌∷◌, List, Option, Some, is_some, IsTrue, refl, sym, ap, ap₂, subst, arith}
 use Rattle.std.proofs.lemmas.Bool.{and_parts, and_from}
 use Rattle.std.proofs.lemmas.Bool.Decides.{nat_tests}
 use Rattle.std.proofs.lemmas.Int.{ints}
 use Rattle.std.specs.FinMap.{get}
 use Rattle.sqlite.specs.Order.{Row, column}
 use Rattle.sqlite.specs.Ops.{binary}
-use Rattle.sqlite.specs.Tree.{Trees}
-use Rattle.sqlite.specs.declared.types.Value.{Value}
-use Rattle.sqlite.specs.declared.types.Value.TheVariants.{Null, Int, Blob, Text as Words}
+use Rattle.sqlite.specs.declared.types.Value.TheVariants.{Int, Blob, Text as Words}
 use Rattle.sqlite_value.specs.declared.keys.Collation.TheVariants.{Binary}
 use Rattle.sqlite_sql.specs.declared.ops.ArithOp.TheVariants.{Sub}
 use Rattle.sqlite_sql.specs.declared.ops.BinaryOp.TheVariants.{Arith}
 use Rattle.sqlite_sql.specs.Numeral.{fits_i64}
 use Rattle.sqlite_sql.specs.Term.{col}
-use Rattle.sqlite_sql.specs.Query.{inner, left, end, or_nulls}
+use Rattle.sqlite_sql.specs.Query.{inner, left, end}
 use Rattle.sqlite_schema.specs.Rules.{equal}
-use Rattle.sqlite_rules.specs.Lists as lists
 use Rattle.mm_base.specs.Bounds.{millimetres, IsId, IsFrom, IsZoom, IsTilePlace, MostPieces}
 use Rattle.mm_base.specs.Keys.{Text, PieceKey, piece}
-use Rattle.mm_base.specs.Parts.{Each, Has, Stands}
-use Rattle.mm_base.specs.Package.{Package, PieceRow, open_state, published_state}
+use Rattle.mm_base.specs.Package.{Package, PieceRow, open_state}
 use Rattle.mm_base.specs.Pieces.{piece_row}
 use Rattle.mm_base.specs.Within.{IsPieceWithin}
 use Rattle.mm_base.specs.Rules.{Limits, Editions, IsSpelled}

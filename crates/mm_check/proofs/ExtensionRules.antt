@@ -1,7 +1,6 @@
 -- What the queries of extension rows show, and rule 14.
-use Rattle.std.proofs.Common.{◌≡◌, ◌≢◌, ◌↔◌, ◌⊎◌, inl, inr, Bool, true, false, ◌&&◌, ℕ, zero, suc, ◌+◌, ◌≤◌, List, [], ◌∷◌, drop, length, filter, Option, Some, None, is_some, IsTrue, codes, refl, sym, ap, subst, ◌∙◌, arith, pos, ℤ}
-use Rattle.std.specs.Prelude.{⊤, if◌then◌else◌}
-use Rattle.std.specs.List.{AllByRecursion}
+use Rattle.std.proofs.Common.{◌≡◌, ◌≢◌, ◌↔◌, ◌⊎◌, inl, inr, Bool, true, false, ◌&&◌, ℕ, zero, suc, ◌≤◌, List, [], ◌∷◌, drop, length, filter, Option, Some, None, is_some, IsTrue, codes, refl, sym, ap, subst, ◌∙◌, arith, pos, ℤ}
+use Rattle.std.specs.Prelude.{⊤}
 use Rattle.std.specs.FinMap.{get}
 use Rattle.std.proofs.lemmas.Bool.{and_parts, and_from}
 use Rattle.std.specs.Ordering.{is_eq, is_lt, ordering_reverse}
@@ -25,15 +24,13 @@ use Rattle.sqlite_rules.specs.Lists as lists
 use Rattle.sqlite_rules.proofs.ListLemmas.{all_has, has_filtered, has_kept}
 use Rattle.sql_forms.proofs.Keys.{as_truth}
 use Rattle.mm_base.specs.Keys.{Text, Extension}
-use Rattle.mm_base.specs.Parts.{Each, Has, Stands}
-use Rattle.mm_base.specs.Package.{Package, HasKind, general_extension as general, mapping_extension, zoom_extension}
+use Rattle.mm_base.specs.Parts.{Has, Stands}
+use Rattle.mm_base.specs.Package.{Package, general_extension as general, mapping_extension, zoom_extension}
 use Rattle.mm_base.specs.Rules.{IsWanted, ExactExtensions}
-use Rattle.mm_base.specs.declared.commands.Kind.TheVariants.{Other}
 use Rattle.mm_base.proofs.Parts.{same_some, same_itself, some_of}
 use Rattle.mm_base.proofs.KeyLaws.{texts, extension_keys}
 use Rattle.mm_store.specs.Rows.{maybe_words, extension_row, extension_of, is_extension, relation_row, kind_row, as_count}
 use Rattle.mm_store.specs.Stands.{StandsFor, profile_row}
-use Rattle.mm_walk.specs.RowTests.{OnTrue}
 use Rattle.mm_check.specs.Columns.{words_of, is_there}
 use Rattle.mm_check.specs.ExtensionRows.{NoRow, IsWantedRow, IsStandingRow, IsMarkedRow, IsRelated, IsZoomOther}
 use Rattle.mm_check.specs.Parts.{ExtensionsWanted, ExtensionsOnce, GeneralExtension, MappingExtensions, ZoomExtensions}

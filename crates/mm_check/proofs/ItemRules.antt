@@ -1,5 +1,5 @@
 -- What the queries of items, relations and mapping rows show, and rules 11 to 13.
-use Rattle.std.proofs.Common.{◌≡◌, ◌↔◌, ◌⊎◌, inl, inr, Bool, true, false, ◌&&◌, ℕ, ℤ, [], ◌∷◌, List, Option, Some, None, is_some, IsTrue, codes, filter, refl, sym, ap, subst, ◌∙◌}
+use Rattle.std.proofs.Common.{◌≡◌, ◌↔◌, ◌⊎◌, inl, inr, true, false, ◌&&◌, ℕ, ℤ, [], ◌∷◌, List, Option, Some, None, is_some, IsTrue, codes, filter, refl, ap}
 use Rattle.std.specs.Prelude.{⊤}
 use Rattle.std.specs.FinMap.{get}
 use Rattle.sqlite.specs.Order.{Row, column}
@@ -14,7 +14,7 @@ use Rattle.sqlite_rules.specs.Lists as lists
 use Rattle.mm_base.specs.Keys.{Text, item}
 use Rattle.mm_base.specs.Parts.{Stands}
 use Rattle.mm_base.specs.Package.{Package, Relation, AttributeRow, Medium}
-use Rattle.mm_base.specs.Rules.{RelationsSuited, IsSuited, PairingsJoin, Joins}
+use Rattle.mm_base.specs.Rules.{RelationsSuited, PairingsJoin, Joins}
 use Rattle.mm_base.proofs.Parts.{same_some}
 use Rattle.mm_store.specs.Rows.{kind_row, attribute_row, medium_row, relation_row, pairing_row}
 use Rattle.mm_store.specs.Stands.{StandsFor}

@@ -1,6 +1,6 @@
 -- The conditions of joins: equalities of keys.
-use Rattle.std.proofs.Common.{◌≡◌, ◌↔◌, Bool, true, false, ◌&&◌, ℤ, Option, refl, sym, ap, ap₂, ◌∙◌}
-use Rattle.std.specs.Prelude.{⊤, ◌<ℤ◌}
+use Rattle.std.proofs.Common.{◌≡◌, ◌↔◌, Bool, true, false, ◌&&◌, ℤ, refl, sym, ap, ap₂, ◌∙◌}
+use Rattle.std.specs.Prelude.{◌<ℤ◌}
 use Rattle.std.proofs.lemmas.Bool.{and_parts, and_from}
 use Rattle.std.proofs.lemmas.Cmp.{int_ranked}
 use Rattle.std.specs.Ordering.{is_eq, is_lt, int_cmp}

@@ -1,5 +1,4 @@
 pub mod Terms
-pub mod Quiet
 pub mod MatrixQueries
 pub mod ContentsQueries
 pub mod ItemQueries
@@ -22,3 +21,4 @@ pub mod Numbering
 pub mod EditionRules
 pub mod ExtensionQueries
 pub mod ExtensionRules
+pub mod Verdicts

@@ -1,17 +1,15 @@
 -- What the texts of the queries compile to.
-use Rattle.std.proofs.Common.{ℕ, [], ◌∷◌, codes, refl, pos}
-use Rattle.sqlite.specs.declared.types.Value.TheVariants.{Null, Int, Text as Words}
+use Rattle.std.proofs.Common.{[], ◌∷◌, codes, refl}
 use Rattle.sqlite_value.specs.declared.keys.Collation.TheVariants.{Binary}
 use Rattle.sqlite_value.specs.Keys.{ascending}
-use Rattle.sqlite_sql.specs.Term.{lit, col}
-use Rattle.sqlite_sql.specs.Query.{inner, left, end}
+use Rattle.sqlite_sql.specs.Term.{col}
+use Rattle.sqlite_sql.specs.Query.{inner, end}
 use Rattle.sqlite.specs.Listing.{understood}
 use Rattle.sqlite_tied.specs.Compute.{everything}
 use Rattle.mm_walk.specs.RowTests.{IsQuery}
 use Rattle.mm_schema.specs.Tables.{schema}
 use Rattle.mm_check.specs.Texts as text
-use Rattle.mm_check.proofs.Quiet.{IsQuiet}
-use Rattle.mm_check.proofs.Terms.{equals, below, same_as, follows}
+use Rattle.mm_walk.proofs.Quiet.{IsQuiet}
 
 pub systems_within : IsQuery schema text.systems_within (inner 0 end) [] (col 1 0 ∷ col 1 1 ∷ col 1 3 ∷ col 1 4 ∷ col 1 5 ∷ col 1 6 ∷ [])
     ((col 1 0, ascending Binary) ∷ []) (codes "srs_id" ∷ codes "srs_name" ∷ codes "organization" ∷ codes "organization_coordsys_id" ∷ codes "definition" ∷ codes "description" ∷ [])

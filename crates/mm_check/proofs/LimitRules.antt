@@ -1,9 +1,8 @@
 -- What the queries of rule 16 show.
-use Rattle.std.proofs.Common.{◌≡◌, ◌↔◌, ℕ, ℤ, [], ◌∷◌, Option, Some, None, refl, ap}
+use Rattle.std.proofs.Common.{◌↔◌, ℕ, ℤ, [], ◌∷◌, Option, Some, None, refl, ap}
 use Rattle.std.specs.Prelude.{⊤, IfSome}
-use Rattle.std.specs.Str.{IsUtf8}
 use Rattle.sqlite_sql.specs.Term.{col}
-use Rattle.sqlite_sql.specs.Query.{inner, left, end}
+use Rattle.sqlite_sql.specs.Query.{inner, end}
 use Rattle.mm_base.specs.Keys.{Text}
 use Rattle.mm_base.specs.Bounds.{millimetres, IsCoordinate, IsSystemNumber, IsClean}
 use Rattle.mm_base.proofs.Parts.{same_some}

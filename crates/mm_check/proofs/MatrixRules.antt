@@ -1,11 +1,10 @@
 -- What the queries of matrices show, and rules 7 to 9.
-use Rattle.std.proofs.Common.{◌≡◌, ◌↔◌, ◌⊎◌, Bool, true, ◌&&◌, ℤ, pos, [], ◌∷◌, Option, Some, None, codes, filter, refl, subst, ap₂, arith}
+use Rattle.std.proofs.Common.{◌≡◌, ◌↔◌, ◌⊎◌, Bool, true, ◌&&◌, ℤ, pos, [], ◌∷◌, Option, Some, codes, filter, refl, subst, ap₂, arith}
 use Rattle.std.specs.Prelude.{⊤, ◌<ℤ◌, ◌+ℤ◌, ◌*ℤ◌}
 use Rattle.std.specs.FinMap.{get}
 use Rattle.std.proofs.lemmas.Bool.{and_parts, and_from}
 use Rattle.std.proofs.lemmas.Int.{ints}
 use Rattle.sqlite.specs.Order.{Row, column}
-use Rattle.sqlite.specs.Tree.{Trees}
 use Rattle.sqlite.specs.Ops.{binary, is_true}
 use Rattle.sqlite.specs.declared.types.Value.{Value}
 use Rattle.sqlite.specs.declared.types.Value.TheVariants.{Null, Int, Text as Words}
@@ -18,10 +17,9 @@ use Rattle.sqlite_schema.specs.Rules.{equal}
 use Rattle.sqlite_rules.specs.Lists as lists
 use Rattle.mm_base.specs.Keys.{Text, Level, level}
 use Rattle.mm_base.specs.Parts.{Each, Has}
-use Rattle.mm_base.specs.Package.{Package, Grid}
+use Rattle.mm_base.specs.Package.{Grid}
 use Rattle.mm_base.specs.Rules.{HigherIsFiner, MatricesFit, FitsIn, NextIsHalved}
 use Rattle.mm_store.specs.Rows.{grid_row, kind_row, set_row}
-use Rattle.mm_store.specs.Stands.{StandsFor}
 use Rattle.mm_walk.specs.RowTests.{OnTrue}
 use Rattle.mm_check.specs.Columns.{IsPyramidKind}
 use Rattle.mm_check.specs.MatrixRows.{IsFinerRow, IsFittingRow, IsHalvedRow}

@@ -1,10 +1,9 @@
 -- What the query of the given systems shows, and rule 1.
-use Rattle.std.proofs.Common.{◌≡◌, ◌↔◌, inl, Bool, true, ◌&&◌, ℤ, pos, negsuc, [], ◌∷◌, List, Option, Some, None, filter, refl, sym, ap, subst}
+use Rattle.std.proofs.Common.{◌≡◌, ◌↔◌, inl, true, ◌&&◌, ℤ, pos, negsuc, [], ◌∷◌, List, Option, Some, None, filter, refl, sym, ap, subst}
 use Rattle.std.specs.Prelude.{⊤}
 use Rattle.std.specs.FinMap.{get}
 use Rattle.sqlite.specs.Order.{Row, column}
 use Rattle.sqlite.specs.Tree.{Trees}
-use Rattle.sqlite.specs.declared.types.Value.{Value}
 use Rattle.sqlite.specs.declared.types.Value.TheVariants.{Null, Int, Text as Words}
 use Rattle.sqlite_value.specs.declared.keys.Collation.TheVariants.{Binary}
 use Rattle.sqlite_sql.specs.Term.{col}

@@ -1,5 +1,5 @@
 -- Texts within a limit are UTF-8.
-use Rattle.std.proofs.Common.{◌≡◌, ◌↔◌, ℕ, suc, ◌+◌, ◌<◌, take, drop, Bool, true, false, not, ◌||◌, List, [], ◌∷◌, Option, Some, None, MatchOption, nat_le, nat_lt, ◌==◌, refl, sym, ap, subst, ◌∙◌, arith}
+use Rattle.std.proofs.Common.{◌≡◌, ℕ, suc, ◌+◌, ◌<◌, take, drop, Bool, true, false, not, ◌||◌, List, [], ◌∷◌, Option, Some, None, MatchOption, nat_lt, refl, sym, ap, subst, ◌∙◌, arith}
 use Rattle.std.specs.Str.{IsUtf8}
 use Rattle.std.specs.List.{list_any, before_first, after_first, position_or_len}
 use Rattle.std.proofs.lemmas.Bool.Decides.{nat_tests}

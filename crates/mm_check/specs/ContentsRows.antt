@@ -1,5 +1,5 @@
 -- What the tests of rows of contents, kinds, matrix sets and relations ask.
-use Rattle.std.specs.Prelude.{◌≡◌, ◌⊎◌, ℤ, ◌<ℤ◌, Bool, false, codes, Option, Some, None, IfSome, IsTrue}
+use Rattle.std.specs.Prelude.{◌≡◌, ◌⊎◌, false, codes, Some, IfSome, IsTrue}
 use Rattle.sqlite.specs.Order.{Row, column}
 use Rattle.mm_base.specs.Rules.{IsPlane, IsOrdered}
 use Rattle.mm_check.specs.Columns.{number_of, words_of, is_there, IsPyramidKind, same_words_by}

@@ -10,3 +10,4 @@ pub mod LimitRows
 pub mod SystemRows
 pub mod PieceRows
 pub mod ExtensionRows
+pub mod Verdict

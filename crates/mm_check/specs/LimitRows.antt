@@ -1,5 +1,5 @@
 -- What rule 16 asks of the columns of a row, and of each part of a package.
-use Rattle.std.specs.Prelude.{◌≡◌, ℤ, List, [], ℕ, Option, Some, None, IfSome, MatchOption}
+use Rattle.std.specs.Prelude.{◌≡◌, ℤ, List, [], ℕ, Option, Some, IfSome, MatchOption}
 use Rattle.std.specs.Str.{IsUtf8}
 use Rattle.sqlite.specs.Order.{Row, column}
 use Rattle.sqlite.specs.declared.types.Value.{Value}

@@ -1,5 +1,5 @@
 -- What the tests of rows of editions and of staged pieces ask.
-use Rattle.std.specs.Prelude.{◌≡◌, ◌⊎◌, ℕ, ℤ, pos, List, [], codes, Option, Some, IsTrue, MatchOption}
+use Rattle.std.specs.Prelude.{◌≡◌, ◌⊎◌, ℕ, pos, List, [], codes, Some, IsTrue}
 use Rattle.sqlite.specs.Order.{Row, column}
 use Rattle.mm_base.specs.Bounds.{IsFrom, MostPieces, IsName, IsZoom, IsTilePlace, IsId, IsAmount, IsRemark, IsContentType, IsTileBytes, IsMediaBytes}
 use Rattle.mm_check.specs.Columns.{number_of, words_of, bytes_of, is_there}

@@ -1,5 +1,5 @@
 -- What the tests of rows of tiles ask.
-use Rattle.std.specs.Prelude.{ℤ, pos, ◌≤ℤ◌, ◌<ℤ◌, Option, Some, None}
+use Rattle.std.specs.Prelude.{ℤ, pos, ◌≤ℤ◌, ◌<ℤ◌, Option, Some}
 use Rattle.sqlite.specs.Order.{Row, column}
 use Rattle.mm_check.specs.Columns.{number_of}
 

@@ -1,5 +1,5 @@
 -- A session as a thing that commands are applied to.
-use Rattle.std.proofs.Common.{◌≡◌, ◌⊎◌, inl, inr, ℕ, Bool, true, false, None, refl, sym, subst, arith}
+use Rattle.std.proofs.Common.{◌≡◌, inl, ℕ, Bool, true, false, refl, subst, arith}
 use Rattle.sqlite.specs.State.{State, HasCleanDisk}
 use Rattle.mm_base.specs.Bounds.{millimetres}
 use Rattle.mm_base.specs.Package.{Package}

@@ -1,5 +1,5 @@
 -- What a command that is committed by itself does to a connection.
-use Rattle.std.specs.Prelude.{◌≡◌, ℕ, None, true}
+use Rattle.std.specs.Prelude.{◌≡◌, ℕ, None}
 use Rattle.sqlite.specs.Tree.{Trees}
 use Rattle.sqlite.specs.State.{State, HasCleanDisk, Survives}
 use Rattle.mm_base.specs.Bounds.{millimetres}

@@ -1,5 +1,4 @@
 use Rattle.sqlite.specs.Held.{state}
-use Rattle.mm_base.specs.declared.answers.Fault.{Fault}
 use Rattle.mm_core.proofs.Turns.{not_begun}
 use Rattle.mm_core.proofs.applying.apply_once.Goals as goal
 

@@ -1,4 +1,4 @@
-use Rattle.std.proofs.Common.{◌≡◌, rules, Ok, ap, ◌∙◌}
+use Rattle.std.proofs.Common.{rules, Ok, ap, ◌∙◌}
 use Rattle.sqlite.specs.Held.{state}
 use Rattle.mm_base.specs.declared.answers.Answer.TheVariants as answer
 use Rattle.mm_core.specs.Applied.{IsApplied}

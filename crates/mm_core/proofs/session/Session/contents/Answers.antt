@@ -1,4 +1,3 @@
-use Rattle.std.proofs.Math.Facts.{to_z-of_z}
 use Rattle.mm_base.specs.Bounds.{millimetres}
 use Rattle.mm_core.proofs.session.Session.contents.Goals as goal
 

@@ -1,0 +1,59 @@
+-- Which rule a package breaks first, and what the whole check answers.
+use Rattle.std.specs.Prelude.{◌≡◌, ◌⊎◌, ℕ, ◌≤◌, ◌<◌, ◌==◌, Bool, true, false, Option, Some, None, Result, IfOk, IfErr}
+use Rattle.sqlite.specs.State.{State, HasCleanDisk}
+use Rattle.mm_base.specs.Bounds.{Profile}
+use Rattle.mm_base.specs.Package.{Package}
+use Rattle.mm_base.specs.Rules.{Meets, GivenSystems, NamedSystems, DistinctIdentifiers, Names, Registry, Extents, MatricesFit, HigherIsFiner, NextIsHalved, TilesInside, Items, RelationsSuited, PairingsJoin, ExactExtensions, Editions, Limits}
+use Rattle.mm_base.specs.declared.answers.Fault.{Fault}
+use Rattle.mm_store.specs.Faults.{IsStoreFault}
+use Rattle.mm_store.specs.Stands.{IsSettled}
+use Rattle.mm_store.specs.Statements.{CommitsNothing}
+
+abbrev pub either : Bool → Type 0 → Type 0 → Type 0
+either true A B = A
+either false A B = B
+
+-- rule k, from 1 to 15; each other number is 16
+unfoldable pub rule : Profile → ℕ → Package → Type 0
+rule profile k p =
+    either (k == 1) (GivenSystems p.systems)
+    (either (k == 2) (NamedSystems p.systems p.contents p.kinds p.sets)
+    (either (k == 3) (DistinctIdentifiers p.contents)
+    (either (k == 4) (Names p.contents p.relations p.editions)
+    (either (k == 5) (Registry p.contents p.kinds p.sets)
+    (either (k == 6) (Extents p.contents p.sets)
+    (either (k == 7) (MatricesFit p.kinds p.sets p.matrices)
+    (either (k == 8) (HigherIsFiner p.matrices)
+    (either (k == 9) (NextIsHalved p.kinds p.matrices)
+    (either (k == 10) (TilesInside p.matrices p.tiles)
+    (either (k == 11) (Items p.kinds p.rows p.media)
+    (either (k == 12) (RelationsSuited p.kinds p.relations)
+    (either (k == 13) (PairingsJoin p.rows p.media p.relations p.pairings)
+    (either (k == 14) (ExactExtensions p.kinds p.relations p.extensions)
+    (either (k == 15) (Editions p.editions p.pieces)
+    (Limits profile p)))))))))))))))
+
+-- rule 16 holds, and each from 1 to k - 1
+abbrev pub Before : Profile → ℕ → Package → Type 0
+Before profile k p = rule profile 16 p × ((j : ℕ) → 1 ≤ j → j < k → rule profile j p)
+
+-- 16 where rule 16 fails, else the least that fails
+abbrev pub IsFailing : Profile → Package → ℕ → Type 0
+IsFailing profile p k = ((k ≡ 16) × (rule profile 16 p → ⊥)) ⊎ ((1 ≤ k) × (k < 16) × Before profile k p × (rule profile k p → ⊥))
+
+abbrev pub IsVerdict : Profile → Package → Option ℕ → Type 0
+IsVerdict profile p None = Meets profile p
+IsVerdict profile p (Some k) = IsFailing profile p k
+
+-- It writes nothing, leaves the connection as settled as before, and answers which rule the package breaks. No fault is a rule's.
+pub record IsVerified (profile : Profile) (old new : State) (result : Result (Option ℕ) Fault) : Type 0 where
+  pub survives : CommitsNothing old new
+  pub settled : HasCleanDisk new → (p : Package) → IsSettled profile old p → IsSettled profile new p
+  pub says : HasCleanDisk new → (p : Package) → IsSettled profile old p → IfOk result (IsVerdict profile p)
+  pub faults : IfErr result IsStoreFault
+
+-- so far each rule holds
+pub record HasPassed (profile : Profile) (old now : State) (k : ℕ) : Type 0 where
+  pub survives : CommitsNothing old now
+  pub settled : HasCleanDisk now → (p : Package) → IsSettled profile old p → IsSettled profile now p
+  pub says : HasCleanDisk now → (p : Package) → IsSettled profile old p → Before profile k p

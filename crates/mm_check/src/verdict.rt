@@ -1,0 +1,58 @@
+//! All rules in turn.
+
+ghost use Rattle.std.specs.Prelude.{◌≤◌, ◌<◌};
+ghost use Rattle.sqlite.specs.Held.{state};
+ghost use Rattle.mm_base.specs.Bounds.{millimetres};
+ghost use Rattle.mm_check.specs.Check.{IsCheck};
+ghost use Rattle.mm_check.specs.Verdict.{rule, Before, IsVerified};
+
+use crate::{contents, editions, extensions, items, limits, matrices, systems, tiles};
+use mm_base::answers::Fault;
+use sqlite::{Alter, Connection};
+
+/// Rule k of those from 1 to 15, where rule 16 and all before it hold.
+fn one_rule<S: Alter>(conn: &mut Connection<S>, k: u8) -> Result<bool, Fault>
+    requires low { 1 ≤ k }
+    requires high { k < 16 }
+    ensures { IsCheck millimetres (state S.Store conn.old) (state S.Store conn.new) (Before millimetres k) (rule millimetres k) result }
+{
+    match k {
+        1 => systems::given_systems(conn),
+        2 => contents::named_systems(conn),
+        3 => contents::distinct_identifiers(conn),
+        4 => contents::names(conn),
+        5 => contents::registry(conn),
+        6 => contents::extents(conn),
+        7 => matrices::matrices_fit(conn),
+        8 => matrices::higher_is_finer(conn),
+        9 => matrices::next_is_halved(conn),
+        10 => tiles::tiles_inside(conn),
+        11 => items::items(conn),
+        12 => items::relations_suited(conn),
+        13 => items::pairings_join(conn),
+        14 => extensions::extensions(conn),
+        15 => editions::editions(conn),
+        _ => unreachable!(),
+    }
+}
+
+/// The whole check of the package that a connection with no transaction shows, whatever that package is: None where it
+/// meets all sixteen rules, 16 where rule 16 fails, else the least rule that fails. It writes nothing. A fault is 90 where
+/// memory was refused and 91 where the store failed, and never stands for a rule that fails.
+pub fn verify<S: Alter>(conn: &mut Connection<S>) -> Result<Option<u8>, Fault>
+    ensures { IsVerified millimetres (state S.Store conn.old) (state S.Store conn.new) result }
+{
+    match limits::limits(conn) {
+        Ok(true) => {}
+        Ok(false) => return Ok(Some(16)),
+        Err(fault) => return Err(fault),
+    }
+    'rules: for k in 1..16u8 {
+        match one_rule(conn, k) {
+            Ok(true) => {}
+            Ok(false) => return Ok(Some(k)),
+            Err(fault) => return Err(fault),
+        }
+    }
+    Ok(None)
+}

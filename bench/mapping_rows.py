@@ -1,0 +1,65 @@
+#!/usr/bin/env python3
+"""The time of one `map` command as mapping rows are added, and of one `row-drop` beside them.
+
+    bench/mapping_rows.py [--program out/mmpkg] [--rows 10000] [--folder FOLDER]
+
+Each record is sent when the last has been answered, and timed alone. The first 1,000 `map` commands are compared with the last
+1,000 (medians). Then 100 rows that no mapping row names are dropped, and 100 media.
+"""
+
+import argparse
+import os
+import pathlib
+import statistics
+import subprocess
+import tempfile
+import time
+
+
+def records_of(rows):
+    """The records, each with what it is counted under."""
+    yield "table,spots,attributes,Spots", ""
+    yield "table,photos,media,Photos", ""
+    yield "relation,spot_photos,spots,photos,media", ""
+    for number in range(1, 101):
+        yield f"row,spots,{number},Well,,0", ""
+        yield f"media,photos,{number},image/png,00", ""
+    for number in range(rows + 1, rows + 101):
+        yield f"row,spots,{number},Gate,,0", ""
+        yield f"media,photos,{number},image/png,00", ""
+    for number in range(rows):
+        yield f"map,spot_photos,{number // 100 + 1},{number % 100 + 1}", "map"
+    for number in range(rows + 1, rows + 101):
+        yield f"row-drop,spots,{number}", "row-drop"
+        yield f"media-drop,photos,{number}", "media-drop"
+
+
+def main():
+    top = pathlib.Path(__file__).resolve().parent.parent
+    words = argparse.ArgumentParser(description="The time of one map command as mapping rows are added.")
+    words.add_argument("--program", default=str(top / "out" / "mmpkg"), help="the program (default: out/mmpkg)")
+    words.add_argument("--rows", type=int, default=10000, help="mapping rows, at most 10,000 (default: 10000)")
+    words.add_argument("--folder", help="where the files are made (default: the system's folder for such)")
+    asked = words.parse_args()
+    times = {}
+    with tempfile.TemporaryDirectory(dir=asked.folder) as folder:
+        file = os.path.join(folder, "bench.gpkg")
+        subprocess.run([asked.program, "init", file], check=True, stdout=subprocess.DEVNULL)
+        with subprocess.Popen([asked.program, "run", file, "--at", "0"], stdin=subprocess.PIPE, stdout=subprocess.PIPE) as run:
+            for record, kind in records_of(asked.rows):
+                begin = time.perf_counter()
+                run.stdin.write(record.encode() + b"\n")
+                run.stdin.flush()
+                answer = run.stdout.readline()
+                times.setdefault(kind, []).append(time.perf_counter() - begin)
+                if not answer.endswith(b" ok\n"):
+                    raise SystemExit(f"{record}: {answer.decode()}")
+            run.stdin.close()
+    first, last = statistics.median(times["map"][:1000]), statistics.median(times["map"][-1000:])
+    print(f"map: {1e6 * first:.0f} us at first, {1e6 * last:.0f} us at last; ratio {last / first:.2f}")
+    for kind in ("row-drop", "media-drop"):
+        print(f"{kind} beside {asked.rows} mapping rows: {1e6 * statistics.median(times[kind]):.0f} us")
+
+
+if __name__ == "__main__":
+    main()

@@ -1,10 +1,10 @@
 #!/usr/bin/env python3
 """Refuses each growth of memory in turn, and looks at what the program answers.
 
-    scripts/build.sh && scripts/refuse_memory.py [out/mmpkg]
+    scripts/build.sh && scripts/refuse_memory.py [out/mmpkg [STEP]]
 
 The program asks the C library for memory. A small library is loaded before it whose N-th call of malloc or realloc answers
-that there is none; N counts upwards until a run meets no refusal. The answer has to be that of ample memory, or fault 90.
+that there is none; N counts upwards, by STEP or else by one, until a run meets no refusal. The answer has to be that of ample memory, or fault 90.
 What was acknowledged has to stand afterwards. Needs cc. The gate doesn't run this.
 """
 import os
@@ -62,6 +62,7 @@ def run(program, library, number, words, records):
 
 def main():
     program = os.path.abspath(sys.argv[1] if len(sys.argv) > 1 else os.path.join(TOP, "out", "mmpkg"))
+    step = int(sys.argv[2]) if len(sys.argv) > 2 else 1
     count = RECORDS.count(b"\n")
     with tempfile.TemporaryDirectory() as folder:
         source = os.path.join(folder, "refuser.c")
@@ -77,16 +78,16 @@ def main():
                     os.remove(path)
 
         # Making a package.
-        number, refused = 0, True
+        number, refused = 1 - step, True
         while refused:
-            number += 1
+            number += step
             fresh()
             status, lines, refused = run(program, library, number, ["init", file], b"")
             if refused and (status, lines) == (3, ["fault 90"]):
                 continue
             if (status, lines) != (0, ["init ok"]):
                 sys.exit(f"init at growth {number}: status {status}, {lines}")
-        print(f"init: each of {number - 1} growths refused: fault 90")
+        print(f"init: of {number - 1} growths each that was refused: fault 90")
 
         # A run: the answers of ample memory up to a fault 90, and what was acknowledged stands afterwards.
         fresh()
@@ -94,9 +95,9 @@ def main():
         with open(file, "rb") as made:
             empty = made.read()
         _, ample, _ = run(program, library, 0, ["run", file, "--at", "0"], RECORDS)
-        number, refused = 0, True
+        number, refused = 1 - step, True
         while refused:
-            number += 1
+            number += step
             fresh()
             with open(file, "wb") as made:
                 made.write(empty)
@@ -111,7 +112,7 @@ def main():
             done = count - len(first)
             if not len(whole) <= done <= len(whole) + 1:
                 sys.exit(f"run at growth {number}: {len(whole)} records were acknowledged and {done} stand")
-        print(f"run: each of {number - 1} growths refused: the answers before it, then fault 90, and what was acknowledged stands")
+        print(f"run: of {number - 1} growths each that was refused: the answers before it, then fault 90, and what was acknowledged stands")
 
 
 if __name__ == "__main__":

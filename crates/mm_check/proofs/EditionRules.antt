@@ -25,13 +25,13 @@ use Rattle.mm_base.specs.declared.commands.Piece.TheVariants.{Tile, TileDrop, Ro
 use Rattle.mm_base.proofs.Parts.{same_some, some_of}
 use Rattle.mm_store.specs.Rows.{edition_row, staged_row}
 use Rattle.mm_check.specs.PieceRows.{IsStateRow, IsOpenRow, IsNumberedRow, IsSpelledRow, IsPut, IsDrop}
-use Rattle.mm_check.specs.Parts.{EditionStates, PiecesOfOpen, PiecesNumbered, PiecesSpelled}
-use Rattle.mm_check.proofs.Joined.{after_rowid, covered, each_row, each_row_in, joined}
-use Rattle.mm_check.proofs.Keys.{name_is, texts_are, ints_are, same}
+use Rattle.mm_rules.specs.Parts.{EditionStates, PiecesOfOpen, PiecesNumbered, PiecesSpelled}
+use Rattle.mm_rules.proofs.Joined.{after_rowid, covered, each_row, each_row_in, joined}
+use Rattle.mm_rules.proofs.Keys.{name_is, texts_are, ints_are, same}
 use Rattle.mm_check.proofs.Numbering.{numbered, follows_from}
-use Rattle.mm_check.proofs.Terms.{equals, follows}
+use Rattle.mm_rules.proofs.Terms.{equals, follows}
 use Rattle.mm_check.proofs.Texts.{name_utf8, content_type_utf8}
-use Rattle.mm_check.proofs.Checks.{Says}
+use Rattle.mm_rules.proofs.Checks.{Says}
 
 number_inside : {x y : ℤ} → ◌≡◌ {A = Option ℤ} (Some x) (Some y) → x ≡ y
 number_inside e = cc

@@ -8,10 +8,10 @@ use Rattle.mm_base.specs.Bounds.{millimetres, IsCoordinate, IsSystemNumber, IsCl
 use Rattle.mm_base.proofs.Parts.{same_some}
 use Rattle.mm_store.specs.Rows.{maybe, maybe_words, system_row, contents_row, kind_row, set_row, grid_row, extension_row, tile_row, attribute_row, medium_row, relation_row, pairing_row, edition_row, staged_row}
 use Rattle.mm_check.specs.LimitRows.{number_if_any, text_if_any, IsSystemWithinRow, IsContentsWithinRow, IsKindWithinRow, IsSetWithinRow, IsMatrixWithinRow, IsExtensionWithinRow, IsTileWithinRow, IsAttributeWithinRow, IsMediumWithinRow, IsRelationWithinRow, IsPairingWithinRow, IsEditionWithinRow, IsPieceWithinRow, SystemsAreWithin, ContentsAreWithin, KindsAreWithin, SetsAreWithin, MatricesAreWithin, ExtensionsAreWithin, TilesAreWithin, RowsAreWithin, MediaAreWithin, RelationsAreWithin, PairingsAreWithin, EditionsAreWithin, PiecesAreWithin}
-use Rattle.mm_check.proofs.Joined.{as_whole, after_rowid, after_id, covered, covered_whole, covered_id, each_row}
-use Rattle.mm_check.proofs.Counted.{counts_cover}
+use Rattle.mm_rules.proofs.Joined.{as_whole, after_rowid, after_id, covered, covered_whole, covered_id, each_row}
+use Rattle.mm_rules.proofs.Counted.{counts_cover}
 use Rattle.mm_check.proofs.Texts.{name_utf8, content_type_utf8, stamp_is_utf8}
-use Rattle.mm_check.proofs.Checks.{Says}
+use Rattle.mm_rules.proofs.Checks.{Says}
 
 number_is : (P : ℤ → Type 0) (o : Option ℤ) → number_if_any P (maybe o) ↔ IfSome o P
 number_is P None = (λ _. tt, λ _. tt)

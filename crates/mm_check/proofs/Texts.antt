@@ -13,7 +13,7 @@ use Rattle.mm_base.specs.Stamp.{IsSomeStamp}
 use Rattle.mm_base.proofs.CleanTexts.{name_is_clean}
 use Rattle.mm_base.proofs.Parts.{either_false}
 use Rattle.mm_base.proofs.StampText.{stamp_utf8}
-use Rattle.mm_check.specs.Columns.{Unread}
+use Rattle.mm_rules.specs.Columns.{Unread}
 
 -- what is no UTF-8 passes no test of texts
 pub unread : (P : List ℕ → Type 0) (o : Option (List ℕ)) → Unread o → MatchOption o ⊥ (λ text. IsUtf8 text × P text) → ⊥

@@ -9,9 +9,9 @@ use Rattle.mm_base.specs.Package.{Package}
 use Rattle.mm_base.specs.Rules.{Meets, Limits}
 use Rattle.mm_base.specs.declared.answers.Fault.{Fault}
 use Rattle.mm_store.proofs.Shapes.{quiet_then}
-use Rattle.mm_check.specs.Check.{IsCheck}
+use Rattle.mm_rules.specs.Check.{IsCheck}
 use Rattle.mm_check.specs.Verdict.{rule, Before, IsVerified, HasPassed}
-use Rattle.mm_check.proofs.Compose.{as_told, same_rule}
+use Rattle.mm_rules.proofs.Compose.{as_told, same_rule}
 
 one_more : (profile : Profile) (p : Package) (k : ℕ) → 1 ≤ k → Before profile k p → rule profile k p → Before profile (k + 1) p
 one_more profile p k low before here = (

@@ -1,13 +1,3 @@
-pub mod Columns
-pub mod Check
-pub mod Texts
-pub mod Parts
-pub mod MatrixRows
-pub mod TileRows
-pub mod ContentsRows
-pub mod ItemRows
 pub mod LimitRows
-pub mod SystemRows
 pub mod PieceRows
-pub mod ExtensionRows
 pub mod Verdict

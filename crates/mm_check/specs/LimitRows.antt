@@ -8,7 +8,7 @@ use Rattle.mm_base.specs.Parts.{Each}
 use Rattle.mm_base.specs.Package.{Package}
 use Rattle.mm_base.specs.Rules.{AreSystemNumbers, SystemWithin, ContentsWithin, KindWithin, SetWithin, MatrixWithin, ExtensionWithin, TileWithin, RowWithin, MediumWithin, RelationWithin, PairingWithin, EditionWithin, PieceWithin}
 use Rattle.mm_base.specs.Stamp.{IsSomeStamp}
-use Rattle.mm_check.specs.Columns.{number_of, words_of, bytes_of}
+use Rattle.mm_rules.specs.Columns.{number_of, words_of, bytes_of}
 
 -- ---- a column
 abbrev pub text_by : (List ℕ → Type 0) → Value → Type 0

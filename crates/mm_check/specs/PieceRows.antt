@@ -2,7 +2,7 @@
 use Rattle.std.specs.Prelude.{◌≡◌, ◌⊎◌, ℕ, pos, List, [], codes, Some, IsTrue}
 use Rattle.sqlite.specs.Order.{Row, column}
 use Rattle.mm_base.specs.Bounds.{IsFrom, MostPieces, IsName, IsZoom, IsTilePlace, IsId, IsAmount, IsRemark, IsContentType, IsTileBytes, IsMediaBytes}
-use Rattle.mm_check.specs.Columns.{number_of, words_of, bytes_of, is_there}
+use Rattle.mm_rules.specs.Columns.{number_of, words_of, bytes_of, is_there}
 use Rattle.mm_check.specs.LimitRows.{text_by, number_by, bytes_by}
 
 abbrev pub IsStateRow : Row → Type 0

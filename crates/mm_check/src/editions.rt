@@ -5,17 +5,17 @@ ghost use Rattle.sqlite.specs.Held.{state};
 ghost use Rattle.sqlite.specs.Order.{column};
 ghost use Rattle.mm_base.specs.Bounds.{millimetres};
 ghost use Rattle.mm_base.specs.Rules.{Editions, Limits};
-ghost use Rattle.mm_check.specs.Check.{IsCheck};
-ghost use Rattle.mm_check.specs.Columns.{bytes_of};
-ghost use Rattle.mm_check.specs.Parts.{EditionStates, PiecesOfOpen, PiecesNumbered, PiecesSpelled};
+ghost use Rattle.mm_rules.specs.Check.{IsCheck};
+ghost use Rattle.mm_rules.specs.Columns.{bytes_of};
+ghost use Rattle.mm_rules.specs.Parts.{EditionStates, PiecesOfOpen, PiecesNumbered, PiecesSpelled};
 ghost use Rattle.mm_check.specs.PieceRows.{IsStateRow, IsOpenRow, IsNumberedRow, IsSpelledRow, IsOfKind, AreUnused, HasNoTexts, HasNoBytes, IsPlace, IsItem, IsPair, IsTile, IsTileDrop, IsRow, IsItemDrop, IsMedia, IsMap, IsPut, IsDrop};
 
-use crate::columns::{blob, number_is, stands, text_is};
 use crate::limits::{
     LAST_ID, MOST_AMOUNT, MOST_TILES, is_blob_within, is_content_type_at, is_name_at, is_text_at,
     is_within,
 };
 use mm_base::answers::Fault;
+use mm_rules::columns::{blob, number_is, stands, text_is};
 use mm_walk::row_tests::{RowTest, each_passes};
 use sqlite::{Alter, Connection, Row};
 

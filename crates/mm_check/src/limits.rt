@@ -8,16 +8,16 @@ ghost use Rattle.mm_base.specs.Bounds.{IsFrom, IsLong, IsText, IsName, IsClean, 
 ghost use Rattle.mm_base.specs.Bounds as bounds;
 ghost use Rattle.mm_base.specs.Rules.{IsGiven, Limits};
 ghost use Rattle.mm_base.specs.Stamp.{IsSomeStamp};
-ghost use Rattle.mm_check.specs.Check.{IsCheck};
-ghost use Rattle.mm_check.specs.Columns.{number_of, words_of};
+ghost use Rattle.mm_rules.specs.Check.{IsCheck};
+ghost use Rattle.mm_rules.specs.Columns.{number_of, words_of};
 ghost use Rattle.mm_check.specs.LimitRows.{text_by, text_if_any, number_by, number_if_any, bytes_by, numbers_by, IsSystemWithinRow, IsContentsWithinRow, IsKindWithinRow, IsSetWithinRow, IsMatrixWithinRow, IsExtensionWithinRow, IsTileWithinRow, IsAttributeWithinRow, IsMediumWithinRow, IsRelationWithinRow, IsPairingWithinRow, IsEditionWithinRow, IsPieceWithinRow, SystemsAreWithin, ContentsAreWithin, KindsAreWithin, SetsAreWithin, MatricesAreWithin, ExtensionsAreWithin, TilesAreWithin, RowsAreWithin, MediaAreWithin, RelationsAreWithin, PairingsAreWithin, EditionsAreWithin, PiecesAreWithin, FromContents, FromKinds, FromSets, FromMatrices, FromExtensions, FromTiles, FromRows, FromMedia, FromRelations, FromPairings, FromEditions};
 
-use crate::columns::{blob, number, text, text_is, words};
 use mm_base::answers::Fault;
 use mm_base::content_types::is_content_type;
 use mm_base::identifiers::is_identifier;
 use mm_base::moments::is_stamp;
 use mm_base::names::is_name;
+use mm_rules::columns::{blob, number, text, text_is, words};
 use mm_walk::row_tests::{RowTest, each_passes};
 use sqlite::{Alter, Connection, Row};
 

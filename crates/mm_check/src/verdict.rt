@@ -3,11 +3,12 @@
 ghost use Rattle.std.specs.Prelude.{◌≤◌, ◌<◌};
 ghost use Rattle.sqlite.specs.Held.{state};
 ghost use Rattle.mm_base.specs.Bounds.{millimetres};
-ghost use Rattle.mm_check.specs.Check.{IsCheck};
+ghost use Rattle.mm_rules.specs.Check.{IsCheck};
 ghost use Rattle.mm_check.specs.Verdict.{rule, Before, IsVerified};
 
-use crate::{contents, editions, extensions, items, limits, matrices, systems, tiles};
+use crate::{editions, limits};
 use mm_base::answers::Fault;
+use mm_rules::{contents, extensions, items, matrices, systems, tiles};
 use sqlite::{Alter, Connection};
 
 /// Rule k of those from 1 to 15, where rule 16 and all before it hold.

@@ -2,7 +2,7 @@ use Rattle.std.specs.Prelude.{⊤}
 use Rattle.sqlite.specs.Held.{state}
 use Rattle.mm_base.specs.Bounds.{millimetres}
 use Rattle.mm_check.specs.LimitRows.{FromExtensions, FromMatrices, MatricesAreWithin}
-use Rattle.mm_check.proofs.Compose.{goes_on, stops, gives_up}
+use Rattle.mm_rules.proofs.Compose.{goes_on, stops, gives_up}
 use Rattle.mm_check.proofs.limits.from_matrices.Goals as goal
 
 pub returns-in-Ok-true : goal.returns-in-Ok-true

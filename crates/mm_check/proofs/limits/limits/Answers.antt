@@ -3,7 +3,7 @@ use Rattle.sqlite.specs.Held.{state}
 use Rattle.mm_base.specs.Bounds.{millimetres}
 use Rattle.mm_check.specs.LimitRows.{SystemsAreWithin, FromContents}
 use Rattle.mm_base.specs.Rules.{Limits}
-use Rattle.mm_check.proofs.Compose.{goes_on, stops, gives_up}
+use Rattle.mm_rules.proofs.Compose.{goes_on, stops, gives_up}
 use Rattle.mm_check.proofs.limits.limits.Goals as goal
 
 pub returns-in-Ok-true : goal.returns-in-Ok-true

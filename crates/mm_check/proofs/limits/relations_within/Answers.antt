@@ -3,9 +3,9 @@ use Rattle.std.proofs.Common.{[], refl}
 use Rattle.sqlite.specs.Held.{state}
 use Rattle.mm_base.specs.Bounds.{millimetres}
 use Rattle.mm_check.specs.LimitRows.{RelationsAreWithin}
-use Rattle.mm_check.specs.Texts as text
+use Rattle.mm_rules.specs.Texts as text
 use Rattle.mm_check.specs.LimitRows.{IsRelationWithinRow}
-use Rattle.mm_check.proofs.Checks.{checks}
+use Rattle.mm_rules.proofs.Checks.{checks}
 use Rattle.mm_check.proofs.LimitQueries as query
 use Rattle.mm_check.proofs.LimitRules as rule
 use Rattle.mm_check.proofs.limits.relations_within.Goals as goal

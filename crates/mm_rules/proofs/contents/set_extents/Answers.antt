@@ -1,0 +1,16 @@
+use Rattle.std.specs.Prelude.{⊤}
+use Rattle.std.proofs.Common.{[], refl}
+use Rattle.sqlite.specs.Held.{state}
+use Rattle.mm_base.specs.Bounds.{millimetres}
+use Rattle.mm_rules.specs.Parts.{SetExtents}
+use Rattle.mm_rules.specs.Texts as text
+use Rattle.mm_rules.specs.ContentsRows.{IsOrderedRow}
+use Rattle.mm_rules.proofs.Checks.{checks}
+use Rattle.mm_rules.proofs.ContentsQueries as query
+use Rattle.mm_rules.proofs.ContentsRules as rule
+use Rattle.mm_rules.proofs.contents.set_extents.Goals as goal
+
+pub returns : goal.returns
+returns g c =
+    checks text.set_extents [] IsOrderedRow _ _ _ _ _ query.set_extents query.quiet_set_extents (λ _. ⊤) (λ p. SetExtents p) rule.set_extents millimetres
+    (state g.S.Store c.args.conn.now) (state g.S.Store c.each_passes.new.conn) [] refl c.each_passes.result c.each_passes.ensures

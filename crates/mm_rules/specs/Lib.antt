@@ -1,0 +1,10 @@
+pub mod Columns
+pub mod Check
+pub mod Texts
+pub mod Parts
+pub mod MatrixRows
+pub mod TileRows
+pub mod ContentsRows
+pub mod ItemRows
+pub mod SystemRows
+pub mod ExtensionRows

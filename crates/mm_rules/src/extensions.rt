@@ -1,0 +1,182 @@
+//! The rule of extension rows.
+
+ghost use Rattle.std.specs.Prelude.{⊤, ◌↔◌, IsTrue};
+ghost use Rattle.sqlite.specs.Held.{state};
+ghost use Rattle.mm_base.specs.Bounds.{millimetres};
+ghost use Rattle.mm_base.specs.Rules.{ExactExtensions};
+ghost use Rattle.mm_rules.specs.Check.{IsCheck};
+ghost use Rattle.mm_rules.specs.Parts.{ExtensionsWanted, ExtensionsOnce, GeneralExtension, MappingExtensions, ZoomExtensions};
+ghost use Rattle.mm_rules.specs.ExtensionRows.{NoRow, IsWantedRow, IsStandingRow, IsMarkedRow, IsRelated, IsZoomOther};
+
+use crate::columns::{stands, text_is};
+use mm_base::answers::Fault;
+use mm_walk::row_tests::{RowTest, each_passes};
+use sqlite::{Alter, Connection, Row};
+
+fn is_related(row: &Row) -> bool
+    ensures { IsTrue result ↔ IsRelated row.now }
+{
+    !stands(row, 1)
+        && text_is(row, 2, "gpkg_related_tables")
+        && text_is(row, 3, "OGC 18-000")
+        && text_is(row, 4, "read-write")
+}
+
+fn is_zoom_other(row: &Row) -> bool
+    ensures { IsTrue result ↔ IsZoomOther row.now }
+{
+    text_is(row, 1, "tile_data")
+        && text_is(row, 2, "gpkg_zoom_other")
+        && text_is(row, 3, "OGC 12-128r17")
+        && text_is(row, 4, "read-write")
+}
+
+/// An extension row with what may want it.
+struct Wanted;
+
+impl RowTest for Wanted {
+    ghost good = { λ _ row. IsWantedRow row };
+
+    fn passes(&self, row: &Row) -> bool {
+        text_is(row, 0, "gpkgext_relations") && is_related(row)
+            || stands(row, 0) && stands(row, 5) && is_related(row)
+            || stands(row, 0) && text_is(row, 6, "other") && is_zoom_other(row)
+    }
+}
+
+/// Of rule 14, that each extension row is wanted.
+pub fn extensions_wanted<S: Alter>(conn: &mut Connection<S>) -> Result<bool, Fault>
+    ensures { IsCheck millimetres (state S.Store conn.old) (state S.Store conn.new) (λ _. ⊤) (λ p. ExtensionsWanted p) result }
+{
+    each_passes(
+        conn,
+        "SELECT e.table_name, e.column_name, e.extension_name, e.definition, e.scope, r.mapping_table_name, k.kind FROM gpkg_extensions AS e LEFT JOIN gpkgext_relations AS r ON r.mapping_table_name = e.table_name LEFT JOIN mm_tables AS k ON k.table_name = e.table_name",
+        &[],
+        &Wanted,
+    )
+}
+
+/// No row at all.
+struct Never;
+
+impl RowTest for Never {
+    ghost good = { λ _ row. NoRow row };
+
+    fn passes(&self, _: &Row) -> bool {
+        false
+    }
+}
+
+/// Of rule 14, that no extension row stands twice.
+pub fn extensions_once<S: Alter>(conn: &mut Connection<S>) -> Result<bool, Fault>
+    ensures { IsCheck millimetres (state S.Store conn.old) (state S.Store conn.new) (λ _. ⊤) (λ p. ExtensionsOnce p) result }
+{
+    each_passes(
+        conn,
+        "SELECT 1 FROM gpkg_extensions AS a JOIN gpkg_extensions AS b ON a.rowid < b.rowid AND b.table_name IS a.table_name AND b.column_name IS a.column_name AND b.extension_name IS a.extension_name AND b.definition IS a.definition AND b.scope IS a.scope",
+        &[],
+        &Never,
+    )
+}
+
+/// A row of another table beside this one.
+struct Standing;
+
+impl RowTest for Standing {
+    ghost good = { λ _ row. IsStandingRow row };
+
+    fn passes(&self, row: &Row) -> bool {
+        stands(row, 0)
+    }
+}
+
+/// Of rule 14, that the row of related tables stands.
+pub fn general_extension<S: Alter>(conn: &mut Connection<S>) -> Result<bool, Fault>
+    ensures { IsCheck millimetres (state S.Store conn.old) (state S.Store conn.new) (λ _. ⊤) (λ p. GeneralExtension p) result }
+{
+    each_passes(
+        conn,
+        "SELECT e.extension_name FROM mm_profile AS v LEFT JOIN gpkg_extensions AS e ON e.table_name IS 'gpkgext_relations' AND e.column_name IS NULL AND e.extension_name IS 'gpkg_related_tables' AND e.definition IS 'OGC 18-000' AND e.scope IS 'read-write'",
+        &[],
+        &Standing,
+    )
+}
+
+/// Of rule 14, that each mapping has its row.
+pub fn mapping_extensions<S: Alter>(conn: &mut Connection<S>) -> Result<bool, Fault>
+    ensures { IsCheck millimetres (state S.Store conn.old) (state S.Store conn.new) (λ _. ⊤) (λ p. MappingExtensions p) result }
+{
+    each_passes(
+        conn,
+        "SELECT e.extension_name FROM gpkgext_relations AS r LEFT JOIN gpkg_extensions AS e ON e.table_name IS r.mapping_table_name AND e.column_name IS NULL AND e.extension_name IS 'gpkg_related_tables' AND e.definition IS 'OGC 18-000' AND e.scope IS 'read-write' ORDER BY r.mapping_table_name",
+        &[],
+        &Standing,
+    )
+}
+
+/// A kind with the row of other zoom intervals.
+struct Marked;
+
+impl RowTest for Marked {
+    ghost good = { λ _ row. IsMarkedRow row };
+
+    fn passes(&self, row: &Row) -> bool {
+        !text_is(row, 0, "other") || stands(row, 1)
+    }
+}
+
+/// Of rule 14, that each pyramid of kind `other` has its row.
+pub fn zoom_extensions<S: Alter>(conn: &mut Connection<S>) -> Result<bool, Fault>
+    ensures { IsCheck millimetres (state S.Store conn.old) (state S.Store conn.new) (λ _. ⊤) (λ p. ZoomExtensions p) result }
+{
+    each_passes(
+        conn,
+        "SELECT k.kind, e.extension_name FROM mm_tables AS k LEFT JOIN gpkg_extensions AS e ON e.table_name IS k.table_name AND e.column_name IS 'tile_data' AND e.extension_name IS 'gpkg_zoom_other' AND e.definition IS 'OGC 12-128r17' AND e.scope IS 'read-write' ORDER BY k.table_name",
+        &[],
+        &Marked,
+    )
+}
+
+/// Of rule 14, that each mapping and each pyramid of kind `other` has its row.
+pub fn pyramids_marked<S: Alter>(conn: &mut Connection<S>) -> Result<bool, Fault>
+    ensures { IsCheck millimetres (state S.Store conn.old) (state S.Store conn.new) (λ _. ⊤) (λ p. MappingExtensions p × ZoomExtensions p) result }
+{
+    match mapping_extensions(conn) {
+        Ok(true) => zoom_extensions(conn),
+        Ok(false) => Ok(false),
+        Err(fault) => Err(fault),
+    }
+}
+
+/// Of rule 14, that each row that is wanted stands.
+pub fn all_stand<S: Alter>(conn: &mut Connection<S>) -> Result<bool, Fault>
+    ensures { IsCheck millimetres (state S.Store conn.old) (state S.Store conn.new) (λ _. ⊤) (λ p. GeneralExtension p × (MappingExtensions p × ZoomExtensions p)) result }
+{
+    match general_extension(conn) {
+        Ok(true) => pyramids_marked(conn),
+        Ok(false) => Ok(false),
+        Err(fault) => Err(fault),
+    }
+}
+
+/// Of rule 14, that each row that is wanted stands, and no row twice.
+pub fn all_stand_once<S: Alter>(conn: &mut Connection<S>) -> Result<bool, Fault>
+    ensures { IsCheck millimetres (state S.Store conn.old) (state S.Store conn.new) (λ _. ⊤) (λ p. ExtensionsOnce p × (GeneralExtension p × (MappingExtensions p × ZoomExtensions p))) result }
+{
+    match extensions_once(conn) {
+        Ok(true) => all_stand(conn),
+        Ok(false) => Ok(false),
+        Err(fault) => Err(fault),
+    }
+}
+
+/// Rule 14: the extension rows are exactly those that are wanted, each once.
+pub fn extensions<S: Alter>(conn: &mut Connection<S>) -> Result<bool, Fault>
+    ensures { IsCheck millimetres (state S.Store conn.old) (state S.Store conn.new) (λ _. ⊤) (λ p. ExactExtensions p.kinds p.relations p.extensions) result }
+{
+    match extensions_wanted(conn) {
+        Ok(true) => all_stand_once(conn),
+        Ok(false) => Ok(false),
+        Err(fault) => Err(fault),
+    }
+}

@@ -1,0 +1,134 @@
+//! The rules of attribute rows, media, relations and mapping rows.
+
+ghost use Rattle.std.specs.Prelude.{⊤, ◌≡◌, ◌⊎◌, ◌↔◌, codes, Some, IsTrue};
+ghost use Rattle.sqlite.specs.Held.{state};
+ghost use Rattle.mm_base.specs.Bounds.{millimetres};
+ghost use Rattle.mm_base.specs.Rules.{Items, RelationsSuited, PairingsJoin};
+ghost use Rattle.mm_rules.specs.Check.{IsCheck};
+ghost use Rattle.sqlite.specs.Order.{column};
+ghost use Rattle.mm_rules.specs.Columns.{words_of};
+ghost use Rattle.mm_rules.specs.Parts.{RowsInTables, MediaInTables};
+ghost use Rattle.mm_rules.specs.ItemRows.{IsAttributesRow, IsMediaRow, IsSuitedRow, IsJoinedRow};
+
+use crate::columns::{stands, text_is};
+use mm_base::answers::Fault;
+use mm_walk::row_tests::{RowTest, each_passes};
+use sqlite::{Alter, Connection, Row};
+
+/// An attribute row with the kind of its table.
+struct OfAttributes;
+
+impl RowTest for OfAttributes {
+    ghost good = { λ _ row. IsAttributesRow row };
+
+    fn passes(&self, row: &Row) -> bool {
+        text_is(row, 0, "attributes")
+    }
+}
+
+/// Of rule 11, what it asks of attribute rows.
+pub fn rows_in_tables<S: Alter>(conn: &mut Connection<S>) -> Result<bool, Fault>
+    ensures { IsCheck millimetres (state S.Store conn.old) (state S.Store conn.new) (λ _. ⊤) (λ p. RowsInTables p) result }
+{
+    each_passes(
+        conn,
+        "SELECT k.kind FROM mm_rows AS r LEFT JOIN mm_tables AS k ON k.table_name = r.table_name ORDER BY r.table_name, r.id",
+        &[],
+        &OfAttributes,
+    )
+}
+
+/// A medium with the kind of its table.
+struct OfMedia;
+
+impl RowTest for OfMedia {
+    ghost good = { λ _ row. IsMediaRow row };
+
+    fn passes(&self, row: &Row) -> bool {
+        text_is(row, 0, "media")
+    }
+}
+
+/// Of rule 11, what it asks of media.
+pub fn media_in_tables<S: Alter>(conn: &mut Connection<S>) -> Result<bool, Fault>
+    ensures { IsCheck millimetres (state S.Store conn.old) (state S.Store conn.new) (λ _. ⊤) (λ p. MediaInTables p) result }
+{
+    each_passes(
+        conn,
+        "SELECT k.kind FROM mm_media AS m LEFT JOIN mm_tables AS k ON k.table_name = m.table_name ORDER BY m.table_name, m.id",
+        &[],
+        &OfMedia,
+    )
+}
+
+/// Rule 11: rows and media belong to tables of their kind.
+pub fn items<S: Alter>(conn: &mut Connection<S>) -> Result<bool, Fault>
+    ensures { IsCheck millimetres (state S.Store conn.old) (state S.Store conn.new) (λ _. ⊤) (λ p. Items p.kinds p.rows p.media) result }
+{
+    match rows_in_tables(conn) {
+        Ok(true) => media_in_tables(conn),
+        Ok(false) => Ok(false),
+        Err(fault) => Err(fault),
+    }
+}
+
+/// Whether the kind in the first column may be that of a relation's base.
+fn is_base(row: &Row) -> bool
+    ensures { IsTrue result ↔ (words_of (column row.now 0) ≡ Some (codes "attributes")) ⊎ (words_of (column row.now 0) ≡ Some (codes "media")) }
+{
+    text_is(row, 0, "attributes") || text_is(row, 0, "media")
+}
+
+/// Whether the kind in the second column is the one that the relation's name asks for.
+fn is_related(row: &Row) -> bool
+    ensures { IsTrue result ↔ ((words_of (column row.now 4) ≡ Some (codes "media")) × (words_of (column row.now 1) ≡ Some (codes "media"))) ⊎ ((words_of (column row.now 4) ≡ Some (codes "simple_attributes")) × (words_of (column row.now 1) ≡ Some (codes "attributes"))) }
+{
+    text_is(row, 4, "media") && text_is(row, 1, "media")
+        || text_is(row, 4, "simple_attributes") && text_is(row, 1, "attributes")
+}
+
+/// A relation with the kinds of its ends.
+struct Suited;
+
+impl RowTest for Suited {
+    ghost good = { λ _ row. IsSuitedRow row };
+
+    fn passes(&self, row: &Row) -> bool {
+        is_base(row) && is_related(row) && text_is(row, 2, "id") && text_is(row, 3, "id")
+    }
+}
+
+/// Rule 12: relations join tables of the kinds that their names ask for.
+pub fn relations_suited<S: Alter>(conn: &mut Connection<S>) -> Result<bool, Fault>
+    ensures { IsCheck millimetres (state S.Store conn.old) (state S.Store conn.new) (λ _. ⊤) (λ p. RelationsSuited p.kinds p.relations) result }
+{
+    each_passes(
+        conn,
+        "SELECT b.kind, c.kind, r.base_primary_column, r.related_primary_column, r.relation_name FROM gpkgext_relations AS r LEFT JOIN mm_tables AS b ON b.table_name = r.base_table_name LEFT JOIN mm_tables AS c ON c.table_name = r.related_table_name ORDER BY r.mapping_table_name",
+        &[],
+        &Suited,
+    )
+}
+
+/// A mapping row with its relation, and with what stands at both ends.
+struct Joined;
+
+impl RowTest for Joined {
+    ghost good = { λ _ row. IsJoinedRow row };
+
+    fn passes(&self, row: &Row) -> bool {
+        stands(row, 0) && (stands(row, 1) || stands(row, 2)) && (stands(row, 3) || stands(row, 4))
+    }
+}
+
+/// Rule 13: each mapping row names a relation, and both its ends stand.
+pub fn pairings_join<S: Alter>(conn: &mut Connection<S>) -> Result<bool, Fault>
+    ensures { IsCheck millimetres (state S.Store conn.old) (state S.Store conn.new) (λ _. ⊤) (λ p. PairingsJoin p.rows p.media p.relations p.pairings) result }
+{
+    each_passes(
+        conn,
+        "SELECT r.mapping_table_name, a.id, b.id, c.id, d.id FROM mm_map AS m LEFT JOIN gpkgext_relations AS r ON r.mapping_table_name = m.mapping LEFT JOIN mm_rows AS a ON a.table_name = r.base_table_name AND a.id = m.base_id LEFT JOIN mm_media AS b ON b.table_name = r.base_table_name AND b.id = m.base_id LEFT JOIN mm_rows AS c ON c.table_name = r.related_table_name AND c.id = m.related_id LEFT JOIN mm_media AS d ON d.table_name = r.related_table_name AND d.id = m.related_id ORDER BY m.mapping, m.base_id, m.related_id",
+        &[],
+        &Joined,
+    )
+}

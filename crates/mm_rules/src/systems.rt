@@ -1,0 +1,70 @@
+//! The given reference systems.
+
+ghost use Rattle.std.specs.Prelude.{⊤, ◌↔◌, IsTrue};
+ghost use Rattle.sqlite.specs.Held.{state};
+ghost use Rattle.sqlite.specs.Order.{column};
+ghost use Rattle.mm_base.specs.Bounds.{millimetres};
+ghost use Rattle.mm_base.specs.Rules.{GivenSystems, geographic, undefined_cartesian, undefined_geographic};
+ghost use Rattle.mm_rules.specs.Check.{IsCheck};
+ghost use Rattle.mm_rules.specs.SystemRows.{IsGivenRow, shows_by};
+
+use crate::columns::{number_is, text_is};
+use mm_base::answers::Fault;
+use mm_walk::row_tests::{RowTest, each_passes};
+use sqlite::{Alter, Connection, Row, params};
+
+/// Whether the first five columns are those of the system of geographic coordinates.
+fn is_geographic(row: &Row) -> bool
+    ensures { IsTrue result ↔ shows_by geographic (column row.now 0) (column row.now 1) (column row.now 2) (column row.now 3) (column row.now 4) }
+{
+    text_is(row, 0, "WGS 84 geographic")
+        && text_is(row, 1, "EPSG")
+        && number_is(row, 2, 4326)
+        && text_is(row, 3, "EPSG:4326")
+        && text_is(row, 4, "longitude and latitude")
+}
+
+/// Whether the next five are those of the undefined Cartesian system.
+fn is_undefined_cartesian(row: &Row) -> bool
+    ensures { IsTrue result ↔ shows_by undefined_cartesian (column row.now 5) (column row.now 6) (column row.now 7) (column row.now 8) (column row.now 9) }
+{
+    text_is(row, 5, "Undefined Cartesian")
+        && text_is(row, 6, "NONE")
+        && number_is(row, 7, -1)
+        && text_is(row, 8, "undefined")
+        && text_is(row, 9, "undefined Cartesian coordinates")
+}
+
+/// Whether the last five are those of the undefined geographic system.
+fn is_undefined_geographic(row: &Row) -> bool
+    ensures { IsTrue result ↔ shows_by undefined_geographic (column row.now 10) (column row.now 11) (column row.now 12) (column row.now 13) (column row.now 14) }
+{
+    text_is(row, 10, "Undefined geographic")
+        && text_is(row, 11, "NONE")
+        && number_is(row, 12, 0)
+        && text_is(row, 13, "undefined")
+        && text_is(row, 14, "undefined geographic coordinates")
+}
+
+/// The columns of the three given systems, one after another.
+struct Given;
+
+impl RowTest for Given {
+    ghost good = { λ _ row. IsGivenRow row };
+
+    fn passes(&self, row: &Row) -> bool {
+        is_geographic(row) && is_undefined_cartesian(row) && is_undefined_geographic(row)
+    }
+}
+
+/// Rule 1: the three given systems stand as they were given.
+pub fn given_systems<S: Alter>(conn: &mut Connection<S>) -> Result<bool, Fault>
+    ensures { IsCheck millimetres (state S.Store conn.old) (state S.Store conn.new) (λ _. ⊤) (λ p. GivenSystems p.systems) result }
+{
+    each_passes(
+        conn,
+        "SELECT a.srs_name, a.organization, a.organization_coordsys_id, a.definition, a.description, b.srs_name, b.organization, b.organization_coordsys_id, b.definition, b.description, c.srs_name, c.organization, c.organization_coordsys_id, c.definition, c.description FROM mm_profile AS v LEFT JOIN gpkg_spatial_ref_sys AS a ON a.srs_id = ?1 LEFT JOIN gpkg_spatial_ref_sys AS b ON b.srs_id = ?2 LEFT JOIN gpkg_spatial_ref_sys AS c ON c.srs_id = ?3",
+        params![4326i64, -1i64, 0i64],
+        &Given,
+    )
+}

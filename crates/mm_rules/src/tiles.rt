@@ -1,0 +1,43 @@
+//! Tiles lie in their matrices.
+
+ghost use Rattle.std.specs.Prelude.{⊤};
+ghost use Rattle.sqlite.specs.Held.{state};
+ghost use Rattle.mm_base.specs.Bounds.{millimetres};
+ghost use Rattle.mm_base.specs.Rules.{TilesInside};
+ghost use Rattle.mm_rules.specs.Check.{IsCheck};
+ghost use Rattle.mm_rules.specs.TileRows.{IsInsideRow};
+
+use crate::columns::number;
+use mm_base::answers::Fault;
+use mm_walk::row_tests::{RowTest, each_passes};
+use sqlite::{Alter, Connection, Row};
+
+/// A tile with the sides of the matrix at its zoom.
+struct Inside;
+
+impl RowTest for Inside {
+    ghost good = { λ _ row. IsInsideRow row };
+
+    fn passes(&self, row: &Row) -> bool {
+        let place = (number(row, 0), number(row, 1));
+        let sides = (number(row, 2), number(row, 3));
+        match (place, sides) {
+            ((Some(column), Some(line)), (Some(width), Some(height))) => {
+                0 <= column && column < width && 0 <= line && line < height
+            }
+            _ => false,
+        }
+    }
+}
+
+/// Rule 10: each tile lies in the matrix at its zoom.
+pub fn tiles_inside<S: Alter>(conn: &mut Connection<S>) -> Result<bool, Fault>
+    ensures { IsCheck millimetres (state S.Store conn.old) (state S.Store conn.new) (λ _. ⊤) (λ p. TilesInside p.matrices p.tiles) result }
+{
+    each_passes(
+        conn,
+        "SELECT t.tile_column, t.tile_row, m.matrix_width, m.matrix_height FROM mm_tiles AS t LEFT JOIN gpkg_tile_matrix AS m ON m.table_name = t.table_name AND m.zoom_level = t.zoom_level ORDER BY t.table_name, t.zoom_level, t.tile_column, t.tile_row",
+        &[],
+        &Inside,
+    )
+}

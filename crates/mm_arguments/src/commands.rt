@@ -89,9 +89,11 @@ fn kit_command<'a>(alloc: Global) -> Result<Command<'a>, AllocError>
     ensures { IfOk result (IsCommand line.kit) }
 {
     Command::new(alloc, "kit")
-        .hide(true)
         .about(
             "Stages the pieces of a kit in an open edition; an import that was stopped is done again",
+        )
+        .after_help(
+            "Example: mmpkg kit map.gpkg spring kits/spring\nPrints `kit complete N`, `kit refused PIECE R`, or `kit fault F`.",
         )
         .arg(file_argument(alloc))?
         .arg(edition_argument(alloc))?
@@ -103,8 +105,8 @@ fn check_command<'a>(alloc: Global) -> Result<Command<'a>, AllocError>
     ensures { IfOk result (IsCommand line.check) }
 {
     Command::new(alloc, "check")
-        .hide(true)
         .about("Checks the whole package against its rules, and changes nothing")
+        .after_help("Prints `package ok`, or `rule Qk` for the rule that fails.")
         .arg(file_argument(alloc))
 }
 
@@ -112,8 +114,10 @@ fn list_command<'a>(alloc: Global) -> Result<Command<'a>, AllocError>
     ensures { IfOk result (IsCommand line.list) }
 {
     Command::new(alloc, "list")
-        .hide(true)
         .about("Lists the tables and editions of the package")
+        .after_help(
+            "A line for each table: name, kind, how many tiles, rows or media, last change, identifier.\nThen a line for each edition: its name, and `open` with the number of its pieces, or `published`.",
+        )
         .arg(file_argument(alloc))
 }
 
@@ -121,9 +125,11 @@ fn serve_command<'a>(alloc: Global) -> Result<Command<'a>, AllocError>
     ensures { IfOk result (IsCommand line.serve) }
 {
     Command::new(alloc, "serve")
-        .hide(true)
         .about(
             "Serves tiles, media and lists of the package over HTTP, one connection after another",
+        )
+        .after_help(
+            "Example: mmpkg serve map.gpkg --port 8080 --count 1000\nRoutes: /tiles/TABLE/Z/COLUMN/ROW, /media/TABLE/ID, /related/TABLE/ID, /contents.",
         )
         .arg(file_argument(alloc))?
         .arg(port_argument(alloc))?

@@ -112,9 +112,13 @@ fn helps(rt: HostRuntime) -> Result<(), Fail> {
 Usage: mmpkg <COMMAND>
 
 Commands:
-  init  Makes a new package with no table, in a file that is missing or empty
-  run   Applies the CSV records of standard input, and answers each with a line
-  help  Print this message or the help of the given subcommand(s)
+  init   Makes a new package with no table, in a file that is missing or empty
+  run    Applies the CSV records of standard input, and answers each with a line
+  kit    Stages the pieces of a kit in an open edition; an import that was stopped is done again
+  check  Checks the whole package against its rules, and changes nothing
+  list   Lists the tables and editions of the package
+  serve  Serves tiles, media and lists of the package over HTTP, one connection after another
+  help   Print this message or the help of the given subcommand(s)
 
 Options:
   -h, --help  Print help

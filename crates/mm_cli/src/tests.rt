@@ -1,6 +1,7 @@
 //! The program on files of the tests' own.
 
 mod contents;
+mod editions;
 mod faults;
 mod files;
 mod runs;

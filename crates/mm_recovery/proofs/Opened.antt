@@ -1,0 +1,46 @@
+-- A connection that was just opened.
+use Rattle.std.proofs.Common.{◌≡◌, IsTrue, Bool, true, false, if◌then◌else◌, inl, inr, refl, sym, ap, subst, ◌∙◌}
+use Rattle.std.specs.Coded.{Coded-set}
+use Rattle.std.proofs.Math.Logic.{∥∥₁_elim}
+use Rattle.sqlite_schema.specs.contracts.schema.Schema as schema
+use Rattle.sqlite_catalog.proofs.ReadLemmas.{lists_once}
+use Rattle.sqlite.specs.Tree.{Trees}
+use Rattle.sqlite.specs.Effect.{Database, IsDatabase}
+use Rattle.sqlite.specs.State.{State, IsLive, Opens}
+use Rattle.mm_schema.specs.Tables as tables
+use Rattle.mm_base.specs.Bounds.{millimetres}
+use Rattle.mm_base.specs.Package.{Package}
+use Rattle.sqlite.specs.declared.error.Error.{Error}
+use Rattle.mm_store.specs.Faults.{IsStoreFault, told_as, wants_memory, memory, store}
+use Rattle.mm_store.specs.Stands.{StandsFor, ReadsAs, IsSettled}
+use Rattle.mm_recovery.specs.Found.{IsSettledByFound}
+
+-- nothing but the last commit may be left
+abbrev pub OnlyCommitted : State → Type 0
+OnlyCommitted s = (db : Trees) → IsTrue s.is_open → s.may_leave db → db ≡ s.committed.trees
+
+-- a database that stands for a package has the profile's schema, whatever schema its connection found in it
+pub reads_by : (db : Database) (p : Package) → IsDatabase db → StandsFor millimetres.version db.trees p → ReadsAs millimetres.version db p
+reads_by db p sound stands = record {
+  schema_is = ∥∥₁_elim stands.sound (Coded-set schema.the_row.coded db.schema tables.schema) (λ profile. lists_once _ db.schema tables.schema sound.lists profile.lists);
+  stands = stands;
+}
+
+pub opened_settles : (s : State) → Opens s → IsLive s → OnlyCommitted s → IsSettledByFound s
+opened_settles s opens live law p stands =
+    let now = live opens.is_open in
+    let reads = reads_by s.committed p now.1 stands in
+    record {
+      mode = opens.autocommit;
+      back = λ _. reads;
+      reads = λ _. subst (λ d. ReadsAs millimetres.version d p) (sym opens.clean) reads;
+      left = λ db may. subst (λ t. StandsFor millimetres.version t p) (sym (law db opens.is_open may)) stands;
+    }
+
+-- every error of the store is told as 90 or 91
+pub told_is : (e : Error) → IsStoreFault (told_as e)
+told_is e = by (wants_memory e)
+  where
+    by : (b : Bool) → IsStoreFault (if b then memory else store)
+    by true = inl refl
+    by false = inr refl

@@ -1,0 +1,23 @@
+-- What a connection finds that is opened again.
+use Rattle.std.specs.Prelude.{◌≡◌, IsTrue}
+use Rattle.sqlite.specs.Tree.{Trees}
+use Rattle.sqlite.specs.State.{State, HasCleanDisk}
+use Rattle.mm_base.specs.Bounds.{millimetres}
+use Rattle.mm_base.specs.Package.{Package}
+use Rattle.mm_store.specs.Stands.{StandsFor, IsSettled}
+
+-- settled for each package that the database stands for which it found; there is one at most
+abbrev pub IsSettledByFound : State → Type 0
+IsSettledByFound new = (p : Package) → StandsFor millimetres.version new.committed.trees p → IsSettled millimetres new p
+
+-- It found a database that might be left, on a disk that had been clean.
+pub record FindsLeft (old new : State) : Type 0 where
+  pub clean : HasCleanDisk new → HasCleanDisk old
+  pub found : HasCleanDisk new → ∥ old.may_leave new.committed.trees ∥₁
+  pub settled : HasCleanDisk new → IsSettledByFound new
+
+-- It found the database that was committed last.
+pub record FindsCommitted (old new : State) : Type 0 where
+  pub clean : HasCleanDisk new → HasCleanDisk old
+  pub found : HasCleanDisk new → new.committed.trees ≡ old.committed.trees
+  pub settled : HasCleanDisk new → IsSettledByFound new

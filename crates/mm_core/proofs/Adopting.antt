@@ -1,5 +1,5 @@
 -- A connection that is looked at and then checked is settled as it was before.
-use Rattle.std.proofs.Common.{◌≡◌, ◌⊎◌, inl, inr, Bool, true, false, Some, None, Ok, Err, refl, sym, subst, ◌∙◌, arith, absurd}
+use Rattle.std.proofs.Common.{inl, inr, true, false, Some, None, Ok, Err, refl, sym, subst, ◌∙◌, arith}
 use Rattle.sqlite.specs.State.{State, HasCleanDisk}
 use Rattle.sqlite.specs.declared.error.Error.{Error}
 use Rattle.mm_base.specs.Bounds.{millimetres}
@@ -13,7 +13,7 @@ use Rattle.mm_store.proofs.Shapes.{quiet_then}
 use Rattle.mm_meta.specs.Look.{Answers, IsLooked, Agrees}
 use Rattle.mm_check.specs.Verdict.{IsVerified}
 use Rattle.mm_core.specs.Adopted.{IsAdopted, Declines, TellsProfile, IsNotAdopted}
-use Rattle.std.specs.Prelude.{ℕ, ℤ, pos, if◌then◌else◌}
+use Rattle.std.specs.Prelude.{ℕ, pos, if◌then◌else◌}
 
 looked_settled : (old new : State) (p : Package) → IsLooked old new (Ok tt) → HasCleanDisk new → IsSettled millimetres old p → IsSettled millimetres new p
 looked_settled old new p looked clean settled = kept (looked.answers clean)
@@ -63,7 +63,7 @@ module _ (old mid new : State) (looked : IsLooked old mid (Ok tt)) where
       let early : HasCleanDisk new → HasCleanDisk mid = λ clean. omega (arith, clean, verified.survives.clean) in
       record {
         survives = quiet_then old mid new looked.survives verified.survives;
-        profile = λ clean. (mid, looked.answers (early clean));
+        profile = λ clean. looked.agrees (early clean);
         settled = λ clean p s. verified.settled clean p (looked_settled old mid p looked (early clean) s);
         meets = λ clean p s. verified.says clean p (looked_settled old mid p looked (early clean) s);
       }
@@ -73,7 +73,7 @@ module _ (old mid new : State) (looked : IsLooked old mid (Ok tt)) where
       let early : HasCleanDisk new → HasCleanDisk mid = λ clean. omega (arith, clean, verified.survives.clean) in
       record {
         survives = quiet_then old mid new looked.survives verified.survives;
-        profile = λ clean. (mid, looked.answers (early clean));
+        profile = λ clean. looked.agrees (early clean);
         declines = λ clean p s. verified.says clean p (looked_settled old mid p looked (early clean) s);
       }
 

@@ -27,13 +27,14 @@ module _ (old new : State) where
   unfolding rule
   limits_pass r {b} is told h =
       let c = as_told millimetres old new (λ _. ⊤) (λ p. Limits millimetres p) r b true is told h in
-      record { survives = c.survives; settled = c.settled; says = λ clean p s. ((c.says clean p s tt).0 refl, λ j from to. absurd (omega (arith, from, to))) }
+      record { mode = c.mode; survives = c.survives; settled = c.settled; says = λ clean p s. ((c.says clean p s tt).0 refl, λ j from to. absurd (omega (arith, from, to))) }
 
   pub limits_stop : (r : Result Bool Fault) {b : Bool} → r ≡ Ok b → b ≡ false → IsCheck millimetres old new (λ _. ⊤) (λ p. Limits millimetres p) r → IsVerified millimetres old new (Ok (Some 16))
   unfolding rule
   limits_stop r {b} is told h =
       let c = as_told millimetres old new (λ _. ⊤) (λ p. Limits millimetres p) r b false is told h in
       record {
+        mode = c.mode;
         survives = c.survives;
         settled = c.settled;
         says = λ clean p s. inl (refl, λ it. let e : false ≡ true = (c.says clean p s tt).1 it in absurd (let f : false ≡ true = e in cc));
@@ -43,13 +44,14 @@ module _ (old new : State) where
   pub limits_fail : (r : Result Bool Fault) (fault : Fault) → r ≡ Err fault → IsCheck millimetres old new (λ _. ⊤) (λ p. Limits millimetres p) r → IsVerified millimetres old new (Err fault)
   limits_fail r fault is h =
       let c = subst (IsCheck millimetres old new (λ _. ⊤) (λ p. Limits millimetres p)) is h in
-      record { survives = c.survives; settled = c.settled; says = λ clean p s. tt; faults = c.faults }
+      record { mode = c.mode; survives = c.survives; settled = c.settled; says = λ clean p s. tt; faults = c.faults }
 
 module _ (old mid new : State) (k : ℕ) (low : 1 ≤ k) (high : k < 16) (so_far : HasPassed millimetres old mid k) where
   pub next_passes : (r : Result Bool Fault) {b : Bool} → r ≡ Ok b → b ≡ true → IsCheck millimetres mid new (Before millimetres k) (rule millimetres k) r → HasPassed millimetres old new (k + 1)
   next_passes r {b} is told h =
       let c = as_told millimetres mid new (Before millimetres k) (rule millimetres k) r b true is told h in
       record {
+        mode = λ idle. c.mode (so_far.mode idle);
         survives = quiet_then old mid new so_far.survives c.survives;
         settled = λ clean p s. c.settled clean p (so_far.settled (omega (arith, c.survives.clean)) p s);
         says = λ clean p s.
@@ -62,6 +64,7 @@ module _ (old mid new : State) (k : ℕ) (low : 1 ≤ k) (high : k < 16) (so_far
   next_stops r {b} is told h =
       let c = as_told millimetres mid new (Before millimetres k) (rule millimetres k) r b false is told h in
       record {
+        mode = λ idle. c.mode (so_far.mode idle);
         survives = quiet_then old mid new so_far.survives c.survives;
         settled = λ clean p s. c.settled clean p (so_far.settled (omega (arith, c.survives.clean)) p s);
         says = λ clean p s.
@@ -75,6 +78,7 @@ module _ (old mid new : State) (k : ℕ) (low : 1 ≤ k) (high : k < 16) (so_far
   next_fails r fault is h =
       let c = subst (IsCheck millimetres mid new (Before millimetres k) (rule millimetres k)) is h in
       record {
+        mode = λ idle. c.mode (so_far.mode idle);
         survives = quiet_then old mid new so_far.survives c.survives;
         settled = λ clean p s. c.settled clean p (so_far.settled (omega (arith, c.survives.clean)) p s);
         says = λ clean p s. tt;
@@ -107,7 +111,7 @@ pub all_pass : (old new : State) (k : ℕ) → k ≡ 16 → HasPassed millimetre
 all_pass old new k is passed = whole (subst (HasPassed millimetres old new) is passed)
   where
     whole : HasPassed millimetres old new 16 → IsVerified millimetres old new (Ok None)
-    whole h = record { survives = h.survives; settled = h.settled; says = λ clean p s. each_meets p (h.says clean p s); faults = tt }
+    whole h = record { mode = h.mode; survives = h.survives; settled = h.settled; says = λ clean p s. each_meets p (h.says clean p s); faults = tt }
 
 pub as_rule : (old new : State) (Known : Package → Type 0) (Rule : Package → Type 0) (k n : ℕ) → k ≡ n → ((p : Package) → Before millimetres n p → Known p) → ((p : Package) → Rule p ↔ rule millimetres n p) → (r : Result Bool Fault) → IsCheck millimetres old new Known Rule r
     → IsCheck millimetres old new (Before millimetres k) (rule millimetres k) r

@@ -45,8 +45,9 @@ abbrev pub IsVerdict : Profile → Package → Option ℕ → Type 0
 IsVerdict profile p None = Meets profile p
 IsVerdict profile p (Some k) = IsFailing profile p k
 
--- It writes nothing, leaves the connection as settled as before, and answers which rule the package breaks. No fault is a rule's.
+-- It opens no transaction, writes nothing, leaves the connection as settled as before, and answers which rule the package breaks. No fault is a rule's.
 pub record IsVerified (profile : Profile) (old new : State) (result : Result (Option ℕ) Fault) : Type 0 where
+  pub mode : old.in_transaction ≡ false → new.in_transaction ≡ false
   pub survives : CommitsNothing old new
   pub settled : HasCleanDisk new → (p : Package) → IsSettled profile old p → IsSettled profile new p
   pub says : HasCleanDisk new → (p : Package) → IsSettled profile old p → IfOk result (IsVerdict profile p)
@@ -54,6 +55,7 @@ pub record IsVerified (profile : Profile) (old new : State) (result : Result (Op
 
 -- so far each rule holds
 pub record HasPassed (profile : Profile) (old now : State) (k : ℕ) : Type 0 where
+  pub mode : old.in_transaction ≡ false → now.in_transaction ≡ false
   pub survives : CommitsNothing old now
   pub settled : HasCleanDisk now → (p : Package) → IsSettled profile old p → IsSettled profile now p
   pub says : HasCleanDisk now → (p : Package) → IsSettled profile old p → Before profile k p

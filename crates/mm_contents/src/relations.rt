@@ -14,10 +14,7 @@ use mm_store::statements::exists;
 use sqlite::{Alter, Transaction, params};
 
 /// Whether a relation has this mapping name.
-pub fn has_relation<S: Alter>(
-    tx: &mut Transaction<'_, S>,
-    mapping: &str,
-) -> Result<bool, Fault>
+pub fn has_relation<S: Alter>(tx: &mut Transaction<'_, S>, mapping: &str) -> Result<bool, Fault>
     ensures same_reference { tx.new.conn.ghost_name ≡ tx.old.conn.ghost_name }
     ensures look { (profile : Profile) → IsLook profile (state S.Store tx.old.conn.now) (state S.Store tx.new.conn.now) (λ p found. found ≡ contains_key p.relations mapping.now) result }
 {

@@ -1,4 +1,5 @@
 pub mod Groups
 pub mod Sessions
+pub mod Adopted
 pub mod Applied
 pub mod Parts

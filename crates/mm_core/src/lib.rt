@@ -1,11 +1,13 @@
 //! Sessions on a package, and runs of lists of commands.
 //!
-//! A session is made by `create` on a database without tables or by `adopt` on one that holds a package. `apply` does one
-//! command in one transaction, whose commit is its last call of the store; `run_list` reads records and answers each.
-//! What a crash may leave at each exit is stated by their contracts.
+//! A session is made by `create` on a database without tables or by `adopt` on one that holds a package, which is checked
+//! whole. `apply` does one command in one transaction, whose commit is its last call of the store; `run_list` reads
+//! records and answers each; `check` does the whole check again. What a crash may leave at each exit is stated by their
+//! contracts.
 #![tactic(auto)]
 
 mod applying;
+mod checking;
 mod dispatching;
 mod reading;
 mod running;

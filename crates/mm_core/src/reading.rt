@@ -26,7 +26,13 @@ impl<S: Alter> Session<S> {
     ///
     /// 92 where the session has to be opened again, and then nothing is asked of the store. After another fault the session goes
     /// on, and the package and what may be left are as they were.
-    pub fn tile(&mut self, table: &Name, zoom: u8, column: u32, row: u32) -> Result<Option<Vec<u8>>, Fault>
+    pub fn tile(
+        &mut self,
+        table: &Name,
+        zoom: u8,
+        column: u32,
+        row: u32,
+    ) -> Result<Option<Vec<u8>>, Fault>
         ensures ended { has_failed self.old ≡ true → (result ≡ Err (record { 0 = 92 })) × (self.new ≡ self.old) }
         ensures same { has_failed self.new ≡ has_failed self.old }
         ensures read { has_failed self.old ≡ false → IsRead millimetres (state S.Store (held self.old)) (state S.Store (held self.new)) (λ p found. TellsBytes (get p.tiles (keys.tile table.now (pos zoom) (pos column) (pos row))) found) result }

@@ -7,6 +7,7 @@ use mm_base::answers::{Answer, Fault, Open, RunFault, Tally};
 use mm_base::commands::Command;
 use mm_base::moments::Moment;
 use mm_base::streams::Io;
+use mm_check::verify;
 use mm_meta::{init, look};
 use mm_run::run_list;
 use sqlite::{Alter, Connection};
@@ -26,7 +27,7 @@ pub struct Session<S: Alter> {
 impl<S: Alter> Session<S> {
     ghost use Rattle.std.specs.Prelude.{◌≡◌, ◌⊎◌, IfOk, IfErr, false, true};
     ghost use Rattle.sqlite.specs.Held.{state};
-    ghost use Rattle.mm_meta.specs.Look.{IsLooked};
+    ghost use Rattle.mm_core.specs.Adopted.{IsAdopted, IsNotAdopted};
     ghost use Rattle.mm_core.specs.Sessions.{IsCreated, IsNotCreated};
     ghost use Rattle.mm_core.specs.Parts.{held, has_failed};
 
@@ -50,22 +51,33 @@ impl<S: Alter> Session<S> {
         }
     }
 
-    /// Takes a connection whose profile row is that of a package, and writes nothing. Else the connection is handed
-    /// back with what `look` answers.
+    /// Takes a connection to a package that meets all sixteen rules, and writes nothing: it asks for the profile's row,
+    /// and then checks the whole package. What may be left is as it was, so a connection that is settled for a package
+    /// gives a session that is settled for it.
+    ///
+    /// # Errors
+    ///
+    /// The connection is handed back with 93, 94 or 95 as `look` tells them, with `Open::Rule` for the rule that fails
+    /// (16 where it fails, else the least), or with a fault: 90 where memory was refused, and else 91.
     pub fn adopt(alloc: Global, conn: Connection<S>) -> Result<Session<S>, (Connection<S>, Open)>
         requires { conn.in_transaction ≡ false }
         ensures working { IfOk result (λ session. has_failed session ≡ false) }
-        ensures adopted { IfOk result (λ session. IsLooked (state S.Store conn) (state S.Store (held session)) (Ok tt)) }
-        ensures not_adopted { IfErr result (λ e. IsLooked (state S.Store conn) (state S.Store e.0) (Err e.1)) }
+        ensures adopted { IfOk result (λ session. IsAdopted (state S.Store conn) (state S.Store (held session))) }
+        ensures not_adopted { IfErr result (λ e. IsNotAdopted (state S.Store conn) (state S.Store e.0) e.1) }
     {
         let mut conn = conn;
         match look(&mut conn) {
-            Ok(()) => Ok(Session {
+            Ok(()) => {}
+            Err(open) => return Err((conn, open)),
+        }
+        match verify(&mut conn) {
+            Ok(None) => Ok(Session {
                 conn,
                 alloc,
                 failed: false,
             }),
-            Err(open) => Err((conn, open)),
+            Ok(Some(rule)) => Err((conn, Open::Rule(rule))),
+            Err(fault) => Err((conn, Open::Fault(fault))),
         }
     }
 

@@ -102,11 +102,15 @@ module _ (profile : Profile) (edition : Text) (number moment : ℕ) where
             let end = (rw done_is at lent.answers) clean ground p (put mid ground p it seen.1 seen.2) in
             let none = no_reason (least (piece_reasons p q)) (sym (piece_refusal p q) ∙ end.0) in
             let next : step p (piece_command q) moment ≡ piece_effect p q (stamp moment) = ap (λ r. unless_refused r (done p (piece_command q) (stamp moment)) p) end.0 ∙ piece_done p q (stamp moment) in
-            let low = stamped_moment moment at stamped in
-            (q, there, none, record {
-              meets = piece_keeps q profile p moment (stamp moment) it.meets within low (stamp_is moment low) none;
-              inside = subst (IsInside profile new ground) next end.2;
-            });
+            let low = stamped_moment moment at stamped in (
+              q,
+              there,
+              none,
+              record {
+                meets = piece_keeps q profile p moment (stamp moment) it.meets within low (stamp_is moment low) none;
+                inside = subst (IsInside profile new ground) next end.2;
+              },
+            );
         faults = tt;
       }
 

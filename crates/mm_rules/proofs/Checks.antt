@@ -53,6 +53,7 @@ module _ (sql : List ℕ) (params : Row) (good : Row → Type 0) (from : Join) (
   checked result h =
       let asks = only_asks sql quiet old.now.schema in
       record {
+        mode = h.mode;
         survives = h.survives asks;
         settled = λ clean p s. still_settled profile old new p (h.survives asks) h.mode (h.rests clean asks) clean s;
         says = told result h;

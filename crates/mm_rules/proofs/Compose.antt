@@ -11,12 +11,13 @@ module _ (profile : Profile) where
   -- the rule in other words, where more may be known
   pub same_rule : (old new : State) (Known More Rule Other : Package → Type 0) → ((p : Package) → More p → Known p) → ((p : Package) → More p → Rule p ↔ Other p) → (r : Result Bool Fault) → IsCheck profile old new Known Rule r → IsCheck profile old new More Other r
   same_rule old new Known More Rule Other knows same (Ok b) h = record {
+    mode = h.mode;
     survives = h.survives;
     settled = h.settled;
     says = λ clean p s more. let t = h.says clean p s (knows p more) in let i = same p more in (λ e. i.0 (t.0 e), λ o. t.1 (i.1 o));
     faults = h.faults;
   }
-  same_rule old new Known More Rule Other knows same (Err fault) h = record { survives = h.survives; settled = h.settled; says = λ clean p s more. tt; faults = h.faults }
+  same_rule old new Known More Rule Other knows same (Err fault) h = record { mode = h.mode; survives = h.survives; settled = h.settled; says = λ clean p s more. tt; faults = h.faults }
 
   -- a check whose answer was matched
   pub as_told : (old new : State) (Known Rule : Package → Type 0) (r : Result Bool Fault) (b told : Bool) → r ≡ Ok b → b ≡ told → IsCheck profile old new Known Rule r → IsCheck profile old new Known Rule (Ok told)
@@ -24,6 +25,7 @@ module _ (profile : Profile) where
 
   then_check : (old mid new : State) (Known A B C : Package → Type 0) → ((p : Package) → (A p × B p) ↔ C p) → IsCheck profile old mid Known A (Ok true) → (s : Result Bool Fault) → IsCheck profile mid new Known B s → IsCheck profile old new Known C s
   then_check old mid new Known A B C same one (Ok b) two = record {
+    mode = λ idle. two.mode (one.mode idle);
     survives = quiet_then old mid new one.survives two.survives;
     settled = λ clean p s. two.settled clean p (one.settled (omega (arith, two.survives.clean)) p s);
     says = λ clean p s known.
@@ -34,6 +36,7 @@ module _ (profile : Profile) where
     faults = two.faults;
   }
   then_check old mid new Known A B C same one (Err fault) two = record {
+    mode = λ idle. two.mode (one.mode idle);
     survives = quiet_then old mid new one.survives two.survives;
     settled = λ clean p s. two.settled clean p (one.settled (omega (arith, two.survives.clean)) p s);
     says = λ clean p s known. tt;
@@ -49,6 +52,7 @@ module _ (profile : Profile) where
   stops old new Known A B C same r {b} is no_b one =
       let h = as_told old new Known A r b false is no_b one in
       record {
+        mode = h.mode;
         survives = h.survives;
         settled = h.settled;
         says = λ clean p s known. let t = h.says clean p s known in (λ e. absurd (let f : false ≡ true = e in cc), λ o. t.1 ((same p).1 o).0);
@@ -56,4 +60,4 @@ module _ (profile : Profile) where
       }
 
   pub gives_up : (old new : State) (Known More A C : Package → Type 0) (r : Result Bool Fault) (fault : Fault) → r ≡ Err fault → IsCheck profile old new Known A r → IsCheck profile old new More C (Err fault)
-  gives_up old new Known More A C r fault is one = let h = subst (IsCheck profile old new Known A) is one in record { survives = h.survives; settled = h.settled; says = λ clean p s known. tt; faults = h.faults }
+  gives_up old new Known More A C r fault is one = let h = subst (IsCheck profile old new Known A) is one in record { mode = h.mode; survives = h.survives; settled = h.settled; says = λ clean p s known. tt; faults = h.faults }

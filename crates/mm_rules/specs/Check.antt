@@ -1,5 +1,5 @@
 -- What a check of a rule does.
-use Rattle.std.specs.Prelude.{◌↔◌, Bool, IsTrue, Result, IfOk, IfErr}
+use Rattle.std.specs.Prelude.{◌≡◌, ◌↔◌, Bool, false, IsTrue, Result, IfOk, IfErr}
 use Rattle.sqlite.specs.State.{State, HasCleanDisk}
 use Rattle.mm_base.specs.Bounds.{Profile}
 use Rattle.mm_base.specs.Package.{Package}
@@ -8,9 +8,10 @@ use Rattle.mm_store.specs.Faults.{IsStoreFault}
 use Rattle.mm_store.specs.Stands.{IsSettled}
 use Rattle.mm_store.specs.Statements.{CommitsNothing}
 
--- It writes nothing and leaves the connection as settled as before, and it tells whether the rule holds of a package that
+-- It opens no transaction, writes nothing and leaves the connection as settled as before, and it tells whether the rule holds of a package that
 -- is known to meet `Known`. Its faults are the store's, and none is a rule's.
 pub record IsCheck (profile : Profile) (old new : State) (Known Rule : Package → Type 0) (result : Result Bool Fault) : Type 0 where
+  pub mode : old.in_transaction ≡ false → new.in_transaction ≡ false
   pub survives : CommitsNothing old new
   pub settled : HasCleanDisk new → (p : Package) → IsSettled profile old p → IsSettled profile new p
   pub says : HasCleanDisk new → (p : Package) → IsSettled profile old p → Known p → IfOk result (λ b. IsTrue b ↔ Rule p)

@@ -1,13 +1,13 @@
 //! The work on a connection to a package.
 
-ghost use Rattle.std.specs.Prelude.{◌≡◌, ◌≤◌, ◌⊎◌, false, IfOk, IfErr, Ok};
+ghost use Rattle.std.specs.Prelude.{◌≡◌, ◌≤◌, ◌⊎◌, false, IfOk, IfErr};
 ghost use Rattle.sqlite.specs.Held.{state};
 ghost use Rattle.sqlite.specs.State.{HasCleanDisk};
 ghost use Rattle.mm_base.specs.Bounds.{millimetres};
 ghost use Rattle.mm_base.specs.Streams.{has_failed, inside};
 ghost use Rattle.mm_store.specs.Stands.{IsSettled};
-ghost use Rattle.mm_meta.specs.Look.{IsLooked};
 ghost use Rattle.mm_run.specs.Runs.{OnRun};
+ghost use Rattle.mm_core.specs.Adopted.{IsAdopted};
 ghost use Rattle.mm_core.specs.Parts.{held};
 ghost use Rattle.mm_core.specs.Sessions.{IsCreated};
 ghost use Rattle.mm_work.specs.Ran.{IsRun};
@@ -36,10 +36,13 @@ pub fn make_package<S: Alter + Drop>(
     }
 }
 
-/// A session on a package that is there.
-fn adopt_package<S: Alter + Drop>(alloc: Global, conn: Connection<S>) -> Result<Session<S>, Stop>
+/// A session on a package that is there and meets all rules.
+pub(crate) fn adopt_package<S: Alter + Drop>(
+    alloc: Global,
+    conn: Connection<S>,
+) -> Result<Session<S>, Stop>
     requires { conn.in_transaction ≡ false }
-    ensures { IfOk result (λ session. IsLooked (state S.Store conn) (state S.Store (held session)) (Ok tt)) }
+    ensures { IfOk result (λ session. IsAdopted (state S.Store conn) (state S.Store (held session))) }
 {
     match Session::adopt(alloc, conn) {
         Ok(session) => Ok(session),

@@ -1,0 +1,14 @@
+use Rattle.sqlite.specs.Held.{state}
+use Rattle.mm_core.proofs.Adopting.{adopts, rule_fails, look_failed}
+use Rattle.mm_core.proofs.session.Session.adopt.Goals as goal
+
+pub returns-in-Err-clause-not_adopted : goal.returns-in-Err-clause-not_adopted
+returns-in-Err-clause-not_adopted g c = look_failed (state g.S.Store c.args.conn) (state g.S.Store c.look.new.conn) c.in-Err.open c.in-Err.ensures.looked
+
+pub returns-in-Ok-None-clause-adopted : goal.returns-in-Ok-None-clause-adopted
+returns-in-Ok-None-clause-adopted g c =
+    adopts (state g.S.Store c.args.conn) (state g.S.Store c.look.new.conn) (state g.S.Store c.verify.new.conn) c.in-Ok.ensures.looked (rw c.in-Ok-None.field-0-is at c.in-Ok-None.ensures)
+
+pub returns-in-Ok-Some-clause-not_adopted : goal.returns-in-Ok-Some-clause-not_adopted
+returns-in-Ok-Some-clause-not_adopted g c =
+    rule_fails (state g.S.Store c.args.conn) (state g.S.Store c.look.new.conn) (state g.S.Store c.verify.new.conn) c.in-Ok.ensures.looked c.in-Ok-Some.rule (rw c.in-Ok-Some.field-0-is at c.in-Ok-Some.ensures)

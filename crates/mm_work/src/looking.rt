@@ -1,0 +1,40 @@
+//! The work that changes nothing: the whole check of a package.
+
+ghost use Rattle.std.specs.Prelude.{◌≡◌, false, IfOk};
+ghost use Rattle.sqlite.specs.Held.{state};
+ghost use Rattle.mm_base.specs.Streams.{has_failed, inside};
+ghost use Rattle.mm_core.specs.Adopted.{IsAdopted};
+ghost use Rattle.mm_work.specs.Told.{IsTold};
+ghost use Rattle.mm_work.specs.Looked.{check_status, check_text};
+
+use crate::package::adopt_package;
+use crate::stop::Stop;
+use crate::tell::{DONE, tell_bytes, tell_stop};
+use mm_base::streams::Io;
+use sqlite::{Alter, Connection};
+use std::alloc::Global;
+use std::io::Write;
+
+/// Checks the whole package, which adopting it does, and hands the connection back. `Stop::Rule` where a rule fails.
+pub fn check_package<S: Alter + Drop>(
+    alloc: Global,
+    conn: Connection<S>,
+) -> Result<Connection<S>, Stop>
+    requires { conn.in_transaction ≡ false }
+    ensures { IfOk result (λ checked. IsAdopted (state S.Store conn) (state S.Store checked)) }
+{
+    match adopt_package(alloc, conn) {
+        Ok(session) => Ok(session.close()),
+        Err(why) => Err(why),
+    }
+}
+
+/// Prints what checking a package came to.
+pub fn tell_check<W: Write>(output: &mut Io<W>, outcome: Result<(), Stop>) -> u8
+    ensures { IsTold (W.contents (inside output.old)) (W.contents (inside output.new)) (has_failed output.old) (has_failed output.new) (check_text outcome) (check_status outcome) result }
+{
+    match outcome {
+        Ok(()) => tell_bytes(output, b"package ok\n", DONE),
+        Err(why) => tell_stop(output, why),
+    }
+}

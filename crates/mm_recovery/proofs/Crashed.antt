@@ -1,5 +1,5 @@
 -- What a store's files hold after a crash, and what the next open finds of it.
-use Rattle.std.proofs.Common.{arith, ◌≡◌, ℕ, ◌≤◌, IsTrue, sym, ap, subst, ◌∙◌, true, Bool, ◌&&◌}
+use Rattle.std.proofs.Common.{arith, ◌≡◌, ℕ, ◌≤◌, IsTrue, subst}
 use Rattle.std.proofs.Math.Logic.{∥∥₁_map}
 use Rattle.sqlite_disk.specs.declared.Disk.{Ghosts}
 use Rattle.sqlite_wal.specs.Reads.{AreClean}
@@ -51,9 +51,9 @@ module _ {D : Type 0} {g : Ghosts D} where
       record {
         clean = λ clean. nothing_less _ _ quiet.clean (calm clean);
         found = λ clean. ∥∥₁_map
-          (next_run last (numbered (calm clean)) (sound (calm clean)) (image_of g (record { log = log; db = db })) (left_by last _ (was clean)
-          (subst (λ (f : D × D). outcomes g f.0 f.1 (image_of g (record { log = log; db = db }))) are (log_left, db_left))) (file_state new)
-          (record { holds = (finds clean).holds; reads = (finds clean).reads }))
-          (λ may. quiet.outcomes _ may);
+            (next_run last (numbered (calm clean)) (sound (calm clean)) (image_of g (record { log = log; db = db })) (left_by last _ (was clean)
+            (subst (λ (f : D × D). outcomes g f.0 f.1 (image_of g (record { log = log; db = db }))) are (log_left, db_left))) (file_state new)
+            (record { holds = (finds clean).holds; reads = (finds clean).reads }))
+            (λ may. quiet.outcomes _ may);
         settled = λ clean. opened_settles (file_state new) (opened clean).0 (opened clean).1 (only_committed new stays);
       }

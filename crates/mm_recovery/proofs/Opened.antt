@@ -1,5 +1,5 @@
 -- A connection that was just opened.
-use Rattle.std.proofs.Common.{◌≡◌, IsTrue, Bool, true, false, if◌then◌else◌, inl, inr, refl, sym, ap, subst, ◌∙◌}
+use Rattle.std.proofs.Common.{◌≡◌, IsTrue, Bool, true, false, if◌then◌else◌, inl, inr, refl, sym, subst}
 use Rattle.std.specs.Coded.{Coded-set}
 use Rattle.std.proofs.Math.Logic.{∥∥₁_elim}
 use Rattle.sqlite_schema.specs.contracts.schema.Schema as schema
@@ -12,7 +12,7 @@ use Rattle.mm_base.specs.Bounds.{millimetres}
 use Rattle.mm_base.specs.Package.{Package}
 use Rattle.sqlite.specs.declared.error.Error.{Error}
 use Rattle.mm_store.specs.Faults.{IsStoreFault, told_as, wants_memory, memory, store}
-use Rattle.mm_store.specs.Stands.{StandsFor, ReadsAs, IsSettled}
+use Rattle.mm_store.specs.Stands.{StandsFor, ReadsAs}
 use Rattle.mm_recovery.specs.Found.{IsSettledByFound}
 
 -- nothing but the last commit may be left

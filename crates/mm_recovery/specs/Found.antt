@@ -1,6 +1,5 @@
 -- What a connection finds that is opened again.
-use Rattle.std.specs.Prelude.{◌≡◌, IsTrue}
-use Rattle.sqlite.specs.Tree.{Trees}
+use Rattle.std.specs.Prelude.{◌≡◌}
 use Rattle.sqlite.specs.State.{State, HasCleanDisk}
 use Rattle.mm_base.specs.Bounds.{millimetres}
 use Rattle.mm_base.specs.Package.{Package}

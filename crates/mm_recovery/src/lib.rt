@@ -2,8 +2,16 @@
 //!
 //! These calls are for theorems and tests. The program opens files of the system, and what those hold after a loss of power is
 //! no matter of a contract; here a disk stands for them that can be made to crash.
+//!
+//! - `files`: a connection's two files.
+//! - `sessions`: a session on them, and the run of a list.
 #![tactic(auto)]
 
 mod files;
+mod sessions;
 
 pub use files::{open_after_close, open_after_crash};
+pub use sessions::{NotRecovered, recover_after_crash, run_and_recover};
+
+#[cfg(test)]
+mod tests;

@@ -1,4 +1,3 @@
-use Rattle.std.proofs.Common.{◌≡◌, rules}
 use Rattle.mm_recovery.proofs.Opened.{told_is}
 use Rattle.std.proofs.lemmas.Bool.{and_parts, and_from}
 use Rattle.mm_recovery.proofs.Crashed.{crashed}

@@ -1,0 +1,129 @@
+-- What an adopted session is settled for, and why a package that was left is never declined.
+use Rattle.std.proofs.Common.{IfOk, IfErr, List, Option, Result, ◌≡◌, ◌==◌, ℕ, Bool, true, false, inl, inr, Ok, Err, Some, None, refl, arith}
+use Rattle.std.proofs.lemmas.Bool.{both_ways}
+use Rattle.std.proofs.Math.Logic.{∥∥₁_elim, ∥∥₁_map}
+use Rattle.sqlite.specs.Tree.{Trees}
+use Rattle.sqlite.specs.State.{State, HasCleanDisk}
+use Rattle.mm_base.specs.Bounds.{millimetres}
+use Rattle.mm_base.specs.Package.{Package}
+use Rattle.mm_base.specs.Rules.{Meets}
+use Rattle.mm_base.specs.declared.answers.Open.{Open}
+use Rattle.mm_base.specs.declared.answers.Open.TheVariants as opens
+use Rattle.mm_check.specs.Verdict.{either, rule, IsFailing}
+use Rattle.mm_core.specs.Adopted.{IsAdopted, IsNotAdopted, Declines}
+use Rattle.mm_core.specs.Applied.{Stands}
+use Rattle.mm_base.specs.Runs.{IsFirstPart}
+use Rattle.mm_base.specs.declared.answers.Tally.{Tally}
+use Rattle.mm_base.specs.declared.answers.RunFault.{RunFault}
+use Rattle.mm_run.specs.Readings.{Reading}
+use Rattle.mm_run.specs.Answers.{calls_of}
+use Rattle.mm_run.specs.Runs.{OnRun, RanAll, RanSome}
+use Rattle.mm_store.specs.Stands.{IsSettled}
+use Rattle.mm_recovery.specs.Found.{FindsLeft}
+use Rattle.mm_recovery.specs.Recovered.{IsRecovered, LeavesPackages, IsFault, WereRead, acknowledged, IsFirstPartOn, IsRunRecovered, IsNotRecovered, IsRunNotRecovered}
+use Rattle.sqlite.specs.Held.{Held}
+use Rattle.sqlite_store.specs.declared.store.FileStore.{FileStore}
+use Rattle.sqlite_disk.specs.declared.Disk.{Ghosts}
+
+either_holds : (b : Bool) (A B : Type 0) → A → B → either b A B
+either_holds true A B a b = a
+either_holds false A B a b = b
+
+-- a package that meets the rules breaks none
+rule_holds : (p : Package) (k : ℕ) → Meets millimetres p → rule millimetres k p
+unfolding rule
+rule_holds p k m =
+    either_holds (k == 1) _ _ m.q1 (either_holds (k == 2) _ _ m.q2 (either_holds (k == 3) _ _ m.q3 (either_holds (k == 4) _ _ m.q4 (either_holds (k == 5) _ _ m.q5
+    (either_holds (k == 6) _ _ m.q6 (either_holds (k == 7) _ _ m.q7 (either_holds (k == 8) _ _ m.q8 (either_holds (k == 9) _ _ m.q9 (either_holds (k == 10) _ _ m.q10
+    (either_holds (k == 11) _ _ m.q11 (either_holds (k == 12) _ _ m.q12 (either_holds (k == 13) _ _ m.q13 (either_holds (k == 14) _ _ m.q14 (either_holds (k == 15) _ _ m.q15 m.q16))))))))))))))
+
+none_fails : (p : Package) (k : ℕ) → Meets millimetres p → IsFailing millimetres p k → ⊥
+none_fails p k m (inl it) = it.1 (rule_holds p 16 m)
+none_fails p k m (inr it) = it.3 (rule_holds p k m)
+
+abbrev is_fault : Open → Bool
+is_fault (opens.Fault fault) = true
+is_fault _ = false
+
+none_is_declined : (p : Package) (why : Open) → Meets millimetres p → Declines p why → is_fault why ≡ false → ⊥
+none_is_declined p (opens.Rule k) m it other = none_fails p k m it
+none_is_declined p (opens.Fault fault) m it other = both_ways true other refl
+none_is_declined p (opens.Version version) m it other = it
+none_is_declined p opens.NoProfile m it other = it
+none_is_declined p opens.BadProfile m it other = it
+
+-- an opened connection is adopted
+pub recovers_by : (old mid new : State) → FindsLeft old mid → IsAdopted mid new → IsRecovered old new
+recovers_by old mid new finds adopted =
+    let early : HasCleanDisk new → HasCleanDisk mid = λ clean. omega (arith, clean, adopted.survives.clean) in
+    record {
+      clean = λ clean. finds.clean (early clean);
+      found = λ clean. ∥∥₁_map (finds.found (early clean)) (λ may. (
+        mid.committed.trees,
+        may,
+        λ (p : Package) (stands : Stands mid.committed.trees p).
+            let was = finds.settled (early clean) p stands in (adopted.settled clean p was, adopted.meets clean p was),
+      ));
+    }
+
+-- one that is declined was at fault, where packages were left
+module _ (old mid new : State) (finds : FindsLeft old mid) where
+  never : (why : Open) → IsNotAdopted mid new why → is_fault why ≡ false → HasCleanDisk new → LeavesPackages old → ⊥
+  never why declined other clean left =
+      let early : HasCleanDisk mid = omega (arith, clean, declined.survives.clean) in
+      ∥∥₁_elim (finds.found early) (λ a b. absurd a) (λ may.
+      let it = left mid.committed.trees may in
+      none_is_declined it.0 why it.2 (declined.declines clean it.0 (finds.settled early it.0 it.1)) other)
+
+  declines : (why : Open) → IsNotAdopted mid new why → HasCleanDisk new → LeavesPackages old → IsFault why
+  declines (opens.Fault fault) declined clean left = declined.profile clean
+  declines (opens.Rule k) declined clean left = never (opens.Rule k) declined refl clean left
+  declines (opens.Version version) declined clean left = never (opens.Version version) declined refl clean left
+  declines opens.NoProfile declined clean left = never opens.NoProfile declined refl clean left
+  declines opens.BadProfile declined clean left = never opens.BadProfile declined refl clean left
+
+  pub declines_by : (why : Open) → IsNotAdopted mid new why → (HasCleanDisk new → HasCleanDisk old) × (HasCleanDisk new → LeavesPackages old → IsFault why)
+  declines_by why declined = ((λ clean. finds.clean (omega (arith, clean, declined.survives.clean))), declines why declined)
+
+-- ---- the run of a list, and then a crash
+
+-- what may be left of a list, told by its run
+abbrev pub Ran : State → Package → ℕ → List ℕ → Result Tally RunFault → Type 0
+Ran mid p moment bytes ran = (readings : List Reading) × WereRead bytes readings ran
+    × ((db : Trees) → mid.may_leave db → (q : Package) × Stands db q × IsFirstPart p (calls_of moment readings) (acknowledged p moment readings ran) q × Meets millimetres q)
+
+pub ran_all : (mid : State) (p : Package) (moment : ℕ) (bytes : List ℕ) (old new : Option (List ℕ)) (t : Tally)
+    → RanAll p moment bytes (λ q. IsSettled millimetres mid q) (λ db. mid.may_leave db) Stands old new t → Ran mid p moment bytes (Ok t)
+ran_all mid p moment bytes old new t it = (it.readings, it.read, it.left)
+
+pub ran_some : (mid : State) (p : Package) (moment : ℕ) (bytes : List ℕ) (old new : Option (List ℕ)) (e : RunFault)
+    → RanSome p moment bytes (λ db. mid.may_leave db) Stands old new e → Ran mid p moment bytes (Err e)
+ran_some mid p moment bytes old new e it = (it.readings, it.read, it.left)
+
+-- the package that is found is the one of a first part
+pub first_part_found : (mid new : State) (p : Package) (moment : ℕ) (bytes : List ℕ) (ran : Result Tally RunFault)
+    → IsRecovered mid new → HasCleanDisk new → Ran mid p moment bytes ran → IsFirstPartOn new p moment bytes ran
+first_part_found mid new p moment bytes ran recovered clean it =
+    ∥∥₁_map (recovered.found clean) (λ found.
+    let left = it.2 found.0 found.1 in
+    (it.0, it.1, left.0, left.2, found.2 left.0 left.1))
+
+pub left_packages : (mid : State) (p : Package) (moment : ℕ) (bytes : List ℕ) (ran : Result Tally RunFault) → Ran mid p moment bytes ran → LeavesPackages mid
+left_packages mid p moment bytes ran it db may = let left = it.2 db may in (left.0, left.1, left.3)
+
+module _ (old mid : State) (source : Option (List ℕ)) (moment : ℕ) (text text_now : Option (List ℕ)) where
+  abbrev pub RunTells : Result Tally RunFault → Type 0
+  RunTells ran =
+      IfOk ran (λ t. OnRun (HasCleanDisk mid) (λ p. IsSettled millimetres old p) source (λ p bytes. RanAll p moment bytes (λ q. IsSettled millimetres mid q) (λ db. mid.may_leave db) Stands text text_now t))
+      × IfErr ran (λ e. OnRun (HasCleanDisk mid) (λ p. IsSettled millimetres old p) source (λ p bytes. RanSome p moment bytes (λ db. mid.may_leave db) Stands text text_now e))
+
+  pub ran_by : (ran : Result Tally RunFault) → RunTells ran → OnRun (HasCleanDisk mid) (λ p. IsSettled millimetres old p) source (λ p bytes. Ran mid p moment bytes ran)
+  ran_by (Ok t) told clean p sound bytes is = ran_all mid p moment bytes text text_now t (told.0 clean p sound bytes is)
+  ran_by (Err e) told clean p sound bytes is = ran_some mid p moment bytes text text_now e (told.1 clean p sound bytes is)
+
+  pub run_recovers : (new : State) (ran : Result Tally RunFault) → RunTells ran → IsRecovered mid new → IsRunRecovered old new source moment ran
+  run_recovers new ran told recovered clean p sound bytes is = first_part_found mid new p moment bytes ran recovered clean (ran_by ran told (recovered.clean clean) p sound bytes is)
+
+  pub run_declines : {D : Type 0} {g : Ghosts D} (conn : Option (Held (FileStore D g))) (why : Open) (ran : Result Tally RunFault) → RunTells ran → IsNotRecovered mid conn why → IsRunNotRecovered old source conn why
+  run_declines {D} {g} None why ran told it = it
+  run_declines {D} {g} (Some conn) why ran told it = λ clean p sound bytes is. it.1 clean (left_packages mid p moment bytes ran (ran_by ran told (it.0 clean) p sound bytes is))

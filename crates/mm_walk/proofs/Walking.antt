@@ -21,6 +21,7 @@ module _ {S V : Type 0} (g : Ghosts S) (takes : V → Row → V → Result Bool 
   pub record SoFar (old now : Held S) (v w : V) : Type 0 where
     pub mode : old.in_transaction ≡ false → now.in_transaction ≡ false
     pub survives : Survives (state g old) (state g now) (CommitsShowing sql params (state g old))
+    pub visited : (rows : List Row) × Takes takes v rows w
     pub given : HasCleanDisk (state g now) → OnlyAsks old.schema sql → (rows : List Row) × HasGiven g sql params now rows × IsUnchanged (state g old) (state g now) × Takes takes v rows w
 
   pub begun_so_far : (old now : Held S) (v : V) → (old.in_transaction ≡ false → now.in_transaction ≡ false) → Survives (state g old) (state g now) (CommitsShowing sql params (state g old))
@@ -28,6 +29,7 @@ module _ {S V : Type 0} (g : Ghosts S) (takes : V → Row → V → Result Bool 
   begun_so_far old now v mode survives begun = record {
     mode = mode;
     survives = survives;
+    visited = ([], refl);
     given = λ clean asks. let b = begun_asking g sql params old now asks (begun clean) in ([], b.0, b.1, refl);
   }
 
@@ -38,6 +40,7 @@ module _ {S V : Type 0} (g : Ghosts S) (takes : V → Row → V → Result Bool 
     mode = mode;
     survives = λ asks. commits_nothing sql params (state g old) (state g now) asks survives;
     walked = λ clean asks. inr (record { rests = refused_rests sql params (state g old) (state g now) e asks (fails clean); rows = []; begins = inl refl; taken = refl; told = told_fault e fault is });
+    visits = ([], inl refl);
     faults = inl (told_fault e fault is);
   }
 
@@ -52,6 +55,7 @@ module _ {S V : Type 0} (g : Ghosts S) (takes : V → Row → V → Result Bool 
       mode = far.mode;
       survives = λ asks. commits_nothing sql params (state g old) (state g now) asks far.survives;
       walked = λ clean asks. let it = far.given clean asks in inr (record { rests = inl it.2; rows = it.0; begins = fronts it.0 it.2 it.1; taken = it.3; told = told });
+      visits = (far.visited.0, inl far.visited.1);
       faults = inl told;
     }
 
@@ -73,6 +77,7 @@ module _ {S V : Type 0} (g : Ghosts S) (takes : V → Row → V → Result Bool 
         mode = all_mode;
         survives = all_quiet;
         walked = λ clean asks. let it = far.given (was_clean clean) asks in inr (record { rests = rests it.2 (kept clean); rows = it.0; begins = fronts it.0 it.2 it.1; taken = it.3; told = told_fault e fault is });
+        visits = (far.visited.0, inl far.visited.1);
         faults = inl (told_fault e fault is);
       }
         where
@@ -99,6 +104,7 @@ module _ {S V : Type 0} (g : Ghosts S) (takes : V → Row → V → Result Bool 
           walked = λ clean asks.
               let it = far.given (was_clean clean) asks in
               record { same = all_same clean asks; rows = it.0; shown = shown_before sql params (state g old) (state g now) (state g new) it.0 asks it.2 (same clean) (shows clean it.0 it.1); taken = it.3 };
+          visits = (far.visited.0, inl far.visited.1);
           faults = tt;
         }
 
@@ -107,6 +113,7 @@ module _ {S V : Type 0} (g : Ghosts S) (takes : V → Row → V → Result Bool 
           goes_on step = record {
             mode = all_mode;
             survives = both;
+            visited = (far.visited.0 ++ row ∷ [], takes_one_more takes v w u far.visited.0 row far.visited.1 step);
             given = λ clean asks.
                 let it = far.given (was_clean clean) asks in
                 (it.0 ++ row ∷ [], gives clean it.0 it.1, all_same clean asks, takes_one_more takes v w u it.0 row it.3 step);
@@ -127,7 +134,7 @@ module _ {S V : Type 0} (g : Ghosts S) (takes : V → Row → V → Result Bool 
               }
 
           pub stopped : takes w row u (Ok false) → IsWalk takes sql params (state g old) (state g new) v u (Ok false)
-          stopped step = record { mode = all_mode; survives = all_quiet; walked = at_last (Ok false) step; faults = tt }
+          stopped step = record { mode = all_mode; survives = all_quiet; walked = at_last (Ok false) step; visits = (far.visited.0, inr (w, row, far.visited.1, step)); faults = tt }
 
           pub gave_up : (fault : Fault) → takes w row u (Err fault) → IsWalk takes sql params (state g old) (state g new) v u (Err fault)
-          gave_up fault step = record { mode = all_mode; survives = all_quiet; walked = λ clean asks. inl (at_last (Err fault) step clean asks); faults = inr (w, row, step) }
+          gave_up fault step = record { mode = all_mode; survives = all_quiet; walked = λ clean asks. inl (at_last (Err fault) step clean asks); visits = (far.visited.0, inr (w, row, far.visited.1, step)); faults = inr (w, row, step) }

@@ -27,6 +27,10 @@ module _ {V : Type 0} (takes : V → Row → V → Result Bool Fault → Type 0)
   Takes v [] w = v ≡ w
   Takes v (r ∷ rows) w = (u : V) × takes v r u (Ok true) × Takes u rows w
 
+  -- some rows were taken, and it may be that the last of them ended the walk so
+  abbrev pub Visits : V → V → Result Bool Fault → Type 0
+  Visits v w result = (rows : List Row) × (Takes v rows w ⊎ ((before : V) × (row : Row) × Takes v rows before × takes before row w result))
+
   module _ (sql : List ℕ) (params : Row) (old new : State) (v w : V) where
     -- it took all rows of an answer
     pub record IsWhole : Type 0 where
@@ -63,4 +67,5 @@ module _ {V : Type 0} (takes : V → Row → V → Result Bool Fault → Type 0)
       pub mode : old.in_transaction ≡ false → new.in_transaction ≡ false
       pub survives : OnlyAsks old.now.schema sql → CommitsNothing old new
       pub walked : HasCleanDisk new → OnlyAsks old.now.schema sql → Ends result
+      pub visits : Visits v w result
       pub faults : IfErr result (λ fault. IsStoreFault fault ⊎ ((before : V) × (row : Row) × takes before row w (Err fault)))

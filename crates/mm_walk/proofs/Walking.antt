@@ -1,10 +1,8 @@
 -- A walk, step by step.
-use Rattle.std.proofs.Common.{◌≡◌, ◌⊎◌, inl, inr, ℕ, Bool, true, false, List, [], ◌∷◌, ◌++◌, Option, None, Some, Result, Ok, Err, refl, sym, ap, subst, ◌∙◌, arith}
+use Rattle.std.proofs.Common.{◌≡◌, ◌⊎◌, inl, inr, ℕ, Bool, true, false, List, [], ◌∷◌, ◌++◌, Result, Ok, Err, refl, ◌∙◌, arith}
 use Rattle.sqlite.specs.Order.{Row}
 use Rattle.sqlite.specs.declared.error.Error.{Error}
-use Rattle.sqlite.specs.Schema.{Schema}
-use Rattle.sqlite.specs.Effect.{Database}
-use Rattle.sqlite.specs.State.{State, HasCleanDisk, IsUnchanged, Fails, FailsToQuery, Shown, Survives, CommitsShowing}
+use Rattle.sqlite.specs.State.{HasCleanDisk, IsUnchanged, Fails, FailsToQuery, Shown, Survives, CommitsShowing}
 use Rattle.sqlite.proofs.StateLemmas.{survives_then}
 use Rattle.sqlite.proofs.Callers.{unchanged_then, given_begin}
 use Rattle.sqlite_trees.specs.declared.store.Store.{Ghosts}
@@ -13,7 +11,7 @@ use Rattle.sqlite.specs.Given.{HasGiven, HasBegun}
 use Rattle.mm_base.specs.declared.answers.Fault.{Fault}
 use Rattle.mm_store.specs.Faults.{told_as, IsStoreFault}
 use Rattle.mm_store.proofs.Asking.{told_fault}
-use Rattle.mm_walk.specs.Walk.{OnlyAsks, Rests, IsFront, Takes, IsWhole, IsEndedAt, IsCutOff, Ends, IsWalk}
+use Rattle.mm_walk.specs.Walk.{OnlyAsks, Rests, IsFront, Takes, IsEndedAt, IsWalk}
 use Rattle.mm_walk.proofs.Given.{begun_asking, commits_nothing, begins_before, shown_before, refused_rests, takes_one_more}
 
 module _ {S V : Type 0} (g : Ghosts S) (takes : V → Row → V → Result Bool Fault → Type 0) (sql : List ℕ) (params : Row) where
@@ -47,7 +45,7 @@ module _ {S V : Type 0} (g : Ghosts S) (takes : V → Row → V → Result Bool 
   module _ (old now : Held S) (v w : V) (far : SoFar old now v w) where
     -- the rows that the query has given begin an answer
     fronts : (rows : List Row) → IsUnchanged (state g old) (state g now) → HasGiven g sql params now rows → IsFront sql params (state g old) rows
-    fronts rows same gives = inr (begins_before sql params (state g old) (state g now) rows same (given_begin g sql params now rows gives))
+    fronts rows same gives = inr (same.0.was_open, begins_before sql params (state g old) (state g now) rows same (given_begin g sql params now rows gives))
 
     -- too many rows to count
     pub endless : (fault : Fault) → IsStoreFault fault → IsWalk takes sql params (state g old) (state g now) v w (Err fault)

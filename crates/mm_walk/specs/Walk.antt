@@ -1,5 +1,5 @@
 -- What a walk over the rows of a query does.
-use Rattle.std.specs.Prelude.{◌≡◌, ◌⊎◌, ℕ, Bool, true, false, List, [], ◌∷◌, ◌++◌, None, Result, Ok, Err, IfErr}
+use Rattle.std.specs.Prelude.{◌≡◌, ◌⊎◌, ℕ, Bool, true, false, List, [], ◌∷◌, ◌++◌, None, Result, Ok, Err, IfErr, IsTrue}
 use Rattle.sqlite.specs.Order.{Row}
 use Rattle.sqlite.specs.Schema.{Schema}
 use Rattle.sqlite.specs.Listing.{understood}
@@ -17,9 +17,9 @@ OnlyAsks schema sql = (c : Compiled) → understood schema sql ≡ Ok c → c.re
 abbrev pub Rests : State → State → Type 0
 Rests old new = IsUnchanged old new ⊎ IsRolledBack old new
 
--- an answer of the query begins with these rows, if any
+-- an answer of the query begins with these rows, if any; only an open connection gives one
 abbrev pub IsFront : List ℕ → Row → State → List Row → Type 0
-IsFront sql params s rows = (rows ≡ []) ⊎ Begins sql params s rows
+IsFront sql params s rows = (rows ≡ []) ⊎ (IsTrue s.is_open × Begins sql params s rows)
 
 module _ {V : Type 0} (takes : V → Row → V → Result Bool Fault → Type 0) where
   -- the visitor took each of the rows and went on

@@ -2,13 +2,14 @@
 //!
 //! A session is made by `create` on a database without tables or by `adopt` on one that holds a package, which is checked
 //! whole. `apply` does one command in one transaction, whose commit is its last call of the store; `run_list` reads
-//! records and answers each; `check` does the whole check again. What a crash may leave at each exit is stated by their
-//! contracts.
+//! records and answers each; `check` does the whole check again, and `list` writes the listing. What a crash may leave at
+//! each exit is stated by their contracts.
 #![tactic(auto)]
 
 mod applying;
 mod checking;
 mod dispatching;
+mod listing;
 mod reading;
 mod running;
 mod session;

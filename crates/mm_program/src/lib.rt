@@ -1,12 +1,14 @@
 //! The program `mmpkg` as a function of its words, its input and its output.
 //!
 //! - `subcommands`: what each subcommand does.
+//! - `looking`: those that change nothing.
 //! - `files`: the package's file and its journal.
 //! - `clock`: the moment of a run that names none.
 #![tactic(auto)]
 
 mod clock;
 mod files;
+mod looking;
 mod subcommands;
 
 pub use files::{close_files, open_new, open_old};

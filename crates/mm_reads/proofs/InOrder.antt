@@ -38,10 +38,10 @@ turned Greater = refl
 flips : (a b : Row) → has_same_id a b ≡ has_same_id b a
 flips a b = ap is_eq (value_cmp_total.antisymm (rowid a) (rowid b)) ∙ turned (value_cmp (rowid b) (rowid a))
 
-never_same : (a b : Row) → has_same_id a b ≡ false → a ≡ b → ⊥
+pub never_same : (a b : Row) → has_same_id a b ≡ false → a ≡ b → ⊥
 never_same a b off same = both_ways (has_same_id a b) off (sym (ap (has_same_id a) same) ∙ ap is_eq (tied_itself value_cmp_total (rowid a)))
 
-distinct : (rows : List Row) → IsTable rows → IsDistinct has_same_id rows
+pub distinct : (rows : List Row) → IsTable rows → IsDistinct has_same_id rows
 unfolding IsDistinct
 distinct [] up = tt
 distinct (x ∷ rows) up = (all_weaker _ (λ y. has_same_id x y ≡ false) (λ y less. ap is_eq less) rows up.0, distinct rows up.1)

@@ -69,7 +69,7 @@ module _ (from : Join) (terms project : List Term) (order : List (Term × Key)) 
         a.shown ∙ ap (map (λ (o : Output). o.1)) pulled.2 ∙ map-map (λ (o : Output). o.1) as_output pulled.0,
       )
 
-flat_single : {X Y : Type 0} (f : X → List Y) (g : X → Y) (xs : List X) → ((x : X) → Has xs x → f x ≡ g x ∷ []) → flat_map f xs ≡ map g xs
+pub flat_single : {X Y : Type 0} (f : X → List Y) (g : X → Y) (xs : List X) → ((x : X) → Has xs x → f x ≡ g x ∷ []) → flat_map f xs ≡ map g xs
 flat_single f g [] one = refl
 flat_single f g (x ∷ xs) one = let here = one x (inl refl) in let more = flat_single f g xs (λ y there. one y (inr there)) in rw (here, more)
 
@@ -101,10 +101,10 @@ abbrev pub first_or_none : List Row → Row
 first_or_none [] = []
 first_or_none (x ∷ xs) = x
 
-abbrev joins : Row → Row → Bool
+abbrev pub joins : Row → Row → Bool
 joins r s = equal Binary (column s 1) (column r 1) && true
 
-abbrev kind_at : List Row → Row → Row
+abbrev pub kind_at : List Row → Row → Row
 kind_at kinds r = first_or_none (filter (joins r) kinds)
 
 abbrev env_at : List Row → Row → Env
@@ -152,21 +152,21 @@ place_by row c Media place is so = ap place_told is
 module _ (p : Package) (tables kinds : List Row) (ht : Holds past_rowid contents_row tables p.contents) (hk : Holds past_rowid kind_row kinds p.kinds) (ut : IsTable tables) (uk : IsTable kinds) where
   -- ---- each row of the contents joins one row
 
-  same_test : (r : Row) (k : Text) (c : Contents) → past_rowid r ≡ contents_row k c → filter (joins r) kinds ≡ filter (by_text k) kinds
+  pub same_test : (r : Row) (k : Text) (c : Contents) → past_rowid r ≡ contents_row k c → filter (joins r) kinds ≡ filter (by_text k) kinds
   same_test r k c is = ap (λ v. filter (λ s. equal Binary (column s 1) v && true) kinds) (columns_are r (contents_row k c) 0 is)
 
   single : (k : Text) (o : Option Text) (xs : List Row) → Picks parts.kinds kinds p.kinds hk uk k o xs → or_nulls xs ≡ first_or_none xs ∷ []
   single k None xs none = ap or_nulls none ∙ ap (λ ys. first_or_none ys ∷ []) (sym none)
   single k (Some kind) xs one = ap or_nulls one.1 ∙ ap (λ ys. first_or_none ys ∷ []) (sym one.1)
 
-  one_each : (r : Row) → Has tables r → or_nulls (filter (joins r) kinds) ≡ kind_at kinds r ∷ []
+  pub one_each : (r : Row) → Has tables r → or_nulls (filter (joins r) kinds) ≡ kind_at kinds r ∷ []
   one_each r there =
       let at = ht.sound r there in
       let same = same_test r at.0 at.1 at.3 in
       single at.0 (get p.kinds at.0) (filter (joins r) kinds) (subst (Picks parts.kinds kinds p.kinds hk uk at.0 (get p.kinds at.0)) (sym same) (picked parts.kinds kinds p.kinds hk uk at.0 (get p.kinds at.0) refl))
 
   -- the kind that a row shows is the registry's
-  kind_is : (k : Text) (o : Option Text) (xs : List Row) → Picks parts.kinds kinds p.kinds hk uk k o xs → (t : Text) → column (first_or_none xs) 2 ≡ Words t → o ≡ Some t
+  pub kind_is : (k : Text) (o : Option Text) (xs : List Row) → Picks parts.kinds kinds p.kinds hk uk k o xs → (t : Text) → column (first_or_none xs) 2 ≡ Words t → o ≡ Some t
   kind_is k None xs none t is = absurd (never_null t (ap (λ ys. column (first_or_none ys) 2) (sym none) ∙ is))
   kind_is k (Some kind) xs one t is =
       ap Some (same_words (sym (columns_are one.0 (kind_row k kind) 1 one.2) ∙ ap (λ ys. column (first_or_none ys) 2) (sym one.1) ∙ is))

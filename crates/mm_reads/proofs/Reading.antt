@@ -22,7 +22,7 @@ use Rattle.mm_reads.proofs.Listed.{list_text, list_tables, ShowsAll, lists_table
 
 -- ---- a connection that rests is as settled as before
 
-settled_still : (profile : Profile) (old new : State) (p : Package) → CommitsNothing old new → HasCleanDisk new → Rests old new → IsSettled profile old p → IsSettled profile new p
+pub settled_still : (profile : Profile) (old new : State) (p : Package) → CommitsNothing old new → HasCleanDisk new → Rests old new → IsSettled profile old p → IsSettled profile new p
 settled_still profile old new p quiet clean (inl same) it = record {
   mode = same.0.mode ∙ it.mode;
   back = λ up. subst (λ d. ReadsAs profile.version d p) (sym same.0.committed_is) (it.back same.0.was_open);

@@ -1,9 +1,7 @@
 -- The rows that a query shows, and the matches of its FROM.
-use Rattle.std.proofs.Common.{◌≡◌, ◌↔◌, inl, inr, ℕ, Bool, true, false, cond, List, [], ◌∷◌, ◌++◌, map, filter, refl, sym, ap, subst, ◌∙◌}
+use Rattle.std.proofs.Common.{◌≡◌, inl, inr, Bool, true, false, cond, List, [], ◌∷◌, ◌++◌, map, filter, refl, sym, ap, subst, ◌∙◌}
 use Rattle.std.specs.List.{AllByRecursion, flat_map, list_all}
-use Rattle.std.specs.List.Sorted.{IsPermutation}
 use Rattle.std.proofs.lemmas.List.Sorted.{IsPermutation-sym}
-use Rattle.sqlite_value.specs.declared.value.Value.TheVariants.{Null}
 use Rattle.sqlite_value.specs.declared.keys.Key.{Key}
 use Rattle.sqlite_value.specs.Order.{Row}
 use Rattle.sqlite_trees.specs.Tree.{Trees}
@@ -11,7 +9,6 @@ use Rattle.sqlite_trees.proofs.ListLemmas.{all-map, all_from_map, all-permutatio
 use Rattle.sqlite_sql.specs.Term.{Term, Env, eval_all, holds}
 use Rattle.sqlite_sql.specs.Query.{Query, Join, end, inner, left, counted, made, folded, first, matches, or_nulls, Output, output, IsAnswer}
 use Rattle.sqlite_rules.specs.Lists.{Has}
-use Rattle.sqlite_rules.proofs.ListLemmas.{all_has, all_from, has_left, has_right, has_either}
 use Rattle.sql_forms.specs.Forms.{query, no_limit}
 use Rattle.mm_walk.specs.RowTests.{OnTrue, EachMatch}
 

@@ -1,5 +1,5 @@
 -- What a walk that tests each row tells.
-use Rattle.std.proofs.Common.{◌≡◌, ◌↔◌, ◌⊎◌, inl, inr, ℕ, Bool, true, false, List, [], ◌∷◌, ◌++◌, IsTrue, Result, Ok, Err, IfOk, IfErr, OnOk, refl, sym, ap, subst, ◌∙◌}
+use Rattle.std.proofs.Common.{◌≡◌, ◌↔◌, ◌⊎◌, inl, inr, ℕ, Bool, true, false, List, [], ◌∷◌, ◌++◌, IsTrue, Result, Ok, Err, IfOk, IfErr, OnOk, refl, sym, subst, ◌∙◌}
 use Rattle.std.specs.List.{AllByRecursion}
 use Rattle.sqlite_value.specs.declared.value.Value.TheVariants.{Null}
 use Rattle.sqlite_value.specs.declared.keys.Key.{Key}
@@ -9,16 +9,13 @@ use Rattle.sqlite_sql.specs.Query.{Join}
 use Rattle.sqlite_sql.specs.Program.{overlay}
 use Rattle.sqlite_schema.specs.declared.schema.Schema.{Schema}
 use Rattle.sqlite_schema.specs.declared.command.Command.TheVariants.{Select}
-use Rattle.sqlite_resolve.specs.declared.compiled.Compiled.{Compiled}
-use Rattle.sqlite_resolve.specs.declared.error.CompileError.{CompileError}
-use Rattle.sqlite.specs.Effect.{Database}
 use Rattle.sqlite.specs.Listing.{understood}
-use Rattle.sqlite.specs.State.{State, HasCleanDisk, IsUnchanged, Shown, Begins}
+use Rattle.sqlite.specs.State.{State, IsUnchanged, Shown, Begins}
 use Rattle.sqlite.proofs.Callers.{IsPlain, reads_as, begins_as}
 use Rattle.sql_forms.specs.Forms.{query, no_limit, alone}
 use Rattle.mm_base.specs.declared.answers.Fault.{Fault}
 use Rattle.mm_store.specs.Faults.{IsStoreFault}
-use Rattle.mm_walk.specs.Walk.{OnlyAsks, Rests, Takes, IsWhole, IsEndedAt, Ends, IsWalk}
+use Rattle.mm_walk.specs.Walk.{OnlyAsks, Rests, Takes, Ends, IsWalk}
 use Rattle.mm_walk.specs.RowTests.{IsQuery, AllShown, TellsAll}
 use Rattle.mm_walk.proofs.Matches.{all_split, all_good, each_good}
 

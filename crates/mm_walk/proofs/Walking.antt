@@ -1,10 +1,8 @@
 -- A walk, step by step.
-use Rattle.std.proofs.Common.{◌≡◌, ◌⊎◌, inl, inr, ℕ, Bool, true, false, List, [], ◌∷◌, ◌++◌, Option, None, Some, Result, Ok, Err, refl, sym, ap, subst, ◌∙◌, arith}
+use Rattle.std.proofs.Common.{◌≡◌, ◌⊎◌, inl, inr, ℕ, Bool, true, false, List, [], ◌∷◌, ◌++◌, Result, Ok, Err, refl, ◌∙◌, arith}
 use Rattle.sqlite.specs.Order.{Row}
 use Rattle.sqlite.specs.declared.error.Error.{Error}
-use Rattle.sqlite.specs.Schema.{Schema}
-use Rattle.sqlite.specs.Effect.{Database}
-use Rattle.sqlite.specs.State.{State, HasCleanDisk, IsUnchanged, Fails, FailsToQuery, Shown, Survives, CommitsShowing}
+use Rattle.sqlite.specs.State.{HasCleanDisk, IsUnchanged, Fails, FailsToQuery, Shown, Survives, CommitsShowing}
 use Rattle.sqlite.proofs.StateLemmas.{survives_then}
 use Rattle.sqlite.proofs.Callers.{unchanged_then, given_begin}
 use Rattle.sqlite_trees.specs.declared.store.Store.{Ghosts}
@@ -13,7 +11,7 @@ use Rattle.sqlite.specs.Given.{HasGiven, HasBegun}
 use Rattle.mm_base.specs.declared.answers.Fault.{Fault}
 use Rattle.mm_store.specs.Faults.{told_as, IsStoreFault}
 use Rattle.mm_store.proofs.Asking.{told_fault}
-use Rattle.mm_walk.specs.Walk.{OnlyAsks, Rests, IsFront, Takes, IsWhole, IsEndedAt, IsCutOff, Ends, IsWalk}
+use Rattle.mm_walk.specs.Walk.{OnlyAsks, Rests, IsFront, Takes, IsEndedAt, IsWalk}
 use Rattle.mm_walk.proofs.Given.{begun_asking, commits_nothing, begins_before, shown_before, refused_rests, takes_one_more}
 
 module _ {S V : Type 0} (g : Ghosts S) (takes : V → Row → V → Result Bool Fault → Type 0) (sql : List ℕ) (params : Row) where
@@ -21,6 +19,7 @@ module _ {S V : Type 0} (g : Ghosts S) (takes : V → Row → V → Result Bool 
   pub record SoFar (old now : Held S) (v w : V) : Type 0 where
     pub mode : old.in_transaction ≡ false → now.in_transaction ≡ false
     pub survives : Survives (state g old) (state g now) (CommitsShowing sql params (state g old))
+    pub visited : (rows : List Row) × Takes takes v rows w
     pub given : HasCleanDisk (state g now) → OnlyAsks old.schema sql → (rows : List Row) × HasGiven g sql params now rows × IsUnchanged (state g old) (state g now) × Takes takes v rows w
 
   pub begun_so_far : (old now : Held S) (v : V) → (old.in_transaction ≡ false → now.in_transaction ≡ false) → Survives (state g old) (state g now) (CommitsShowing sql params (state g old))
@@ -28,6 +27,7 @@ module _ {S V : Type 0} (g : Ghosts S) (takes : V → Row → V → Result Bool 
   begun_so_far old now v mode survives begun = record {
     mode = mode;
     survives = survives;
+    visited = ([], refl);
     given = λ clean asks. let b = begun_asking g sql params old now asks (begun clean) in ([], b.0, b.1, refl);
   }
 
@@ -38,13 +38,14 @@ module _ {S V : Type 0} (g : Ghosts S) (takes : V → Row → V → Result Bool 
     mode = mode;
     survives = λ asks. commits_nothing sql params (state g old) (state g now) asks survives;
     walked = λ clean asks. inr (record { rests = refused_rests sql params (state g old) (state g now) e asks (fails clean); rows = []; begins = inl refl; taken = refl; told = told_fault e fault is });
+    visits = ([], inl refl);
     faults = inl (told_fault e fault is);
   }
 
   module _ (old now : Held S) (v w : V) (far : SoFar old now v w) where
     -- the rows that the query has given begin an answer
     fronts : (rows : List Row) → IsUnchanged (state g old) (state g now) → HasGiven g sql params now rows → IsFront sql params (state g old) rows
-    fronts rows same gives = inr (begins_before sql params (state g old) (state g now) rows same (given_begin g sql params now rows gives))
+    fronts rows same gives = inr (same.0.was_open, begins_before sql params (state g old) (state g now) rows same (given_begin g sql params now rows gives))
 
     -- too many rows to count
     pub endless : (fault : Fault) → IsStoreFault fault → IsWalk takes sql params (state g old) (state g now) v w (Err fault)
@@ -52,6 +53,7 @@ module _ {S V : Type 0} (g : Ghosts S) (takes : V → Row → V → Result Bool 
       mode = far.mode;
       survives = λ asks. commits_nothing sql params (state g old) (state g now) asks far.survives;
       walked = λ clean asks. let it = far.given clean asks in inr (record { rests = inl it.2; rows = it.0; begins = fronts it.0 it.2 it.1; taken = it.3; told = told });
+      visits = (far.visited.0, inl far.visited.1);
       faults = inl told;
     }
 
@@ -73,6 +75,7 @@ module _ {S V : Type 0} (g : Ghosts S) (takes : V → Row → V → Result Bool 
         mode = all_mode;
         survives = all_quiet;
         walked = λ clean asks. let it = far.given (was_clean clean) asks in inr (record { rests = rests it.2 (kept clean); rows = it.0; begins = fronts it.0 it.2 it.1; taken = it.3; told = told_fault e fault is });
+        visits = (far.visited.0, inl far.visited.1);
         faults = inl (told_fault e fault is);
       }
         where
@@ -99,6 +102,7 @@ module _ {S V : Type 0} (g : Ghosts S) (takes : V → Row → V → Result Bool 
           walked = λ clean asks.
               let it = far.given (was_clean clean) asks in
               record { same = all_same clean asks; rows = it.0; shown = shown_before sql params (state g old) (state g now) (state g new) it.0 asks it.2 (same clean) (shows clean it.0 it.1); taken = it.3 };
+          visits = (far.visited.0, inl far.visited.1);
           faults = tt;
         }
 
@@ -107,6 +111,7 @@ module _ {S V : Type 0} (g : Ghosts S) (takes : V → Row → V → Result Bool 
           goes_on step = record {
             mode = all_mode;
             survives = both;
+            visited = (far.visited.0 ++ row ∷ [], takes_one_more takes v w u far.visited.0 row far.visited.1 step);
             given = λ clean asks.
                 let it = far.given (was_clean clean) asks in
                 (it.0 ++ row ∷ [], gives clean it.0 it.1, all_same clean asks, takes_one_more takes v w u it.0 row it.3 step);
@@ -127,7 +132,7 @@ module _ {S V : Type 0} (g : Ghosts S) (takes : V → Row → V → Result Bool 
               }
 
           pub stopped : takes w row u (Ok false) → IsWalk takes sql params (state g old) (state g new) v u (Ok false)
-          stopped step = record { mode = all_mode; survives = all_quiet; walked = at_last (Ok false) step; faults = tt }
+          stopped step = record { mode = all_mode; survives = all_quiet; walked = at_last (Ok false) step; visits = (far.visited.0, inr (w, row, far.visited.1, step)); faults = tt }
 
           pub gave_up : (fault : Fault) → takes w row u (Err fault) → IsWalk takes sql params (state g old) (state g new) v u (Err fault)
-          gave_up fault step = record { mode = all_mode; survives = all_quiet; walked = λ clean asks. inl (at_last (Err fault) step clean asks); faults = inr (w, row, step) }
+          gave_up fault step = record { mode = all_mode; survives = all_quiet; walked = λ clean asks. inl (at_last (Err fault) step clean asks); visits = (far.visited.0, inr (w, row, far.visited.1, step)); faults = inr (w, row, step) }

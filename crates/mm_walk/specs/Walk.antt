@@ -1,5 +1,5 @@
 -- What a walk over the rows of a query does.
-use Rattle.std.specs.Prelude.{◌≡◌, ◌⊎◌, ℕ, Bool, true, false, List, [], ◌∷◌, ◌++◌, None, Result, Ok, Err, IfErr}
+use Rattle.std.specs.Prelude.{◌≡◌, ◌⊎◌, ℕ, Bool, true, false, List, [], ◌∷◌, ◌++◌, None, Result, Ok, Err, IfErr, IsTrue}
 use Rattle.sqlite.specs.Order.{Row}
 use Rattle.sqlite.specs.Schema.{Schema}
 use Rattle.sqlite.specs.Listing.{understood}
@@ -17,15 +17,19 @@ OnlyAsks schema sql = (c : Compiled) → understood schema sql ≡ Ok c → c.re
 abbrev pub Rests : State → State → Type 0
 Rests old new = IsUnchanged old new ⊎ IsRolledBack old new
 
--- an answer of the query begins with these rows, if any
+-- an answer of the query begins with these rows, if any; only an open connection gives one
 abbrev pub IsFront : List ℕ → Row → State → List Row → Type 0
-IsFront sql params s rows = (rows ≡ []) ⊎ Begins sql params s rows
+IsFront sql params s rows = (rows ≡ []) ⊎ (IsTrue s.is_open × Begins sql params s rows)
 
 module _ {V : Type 0} (takes : V → Row → V → Result Bool Fault → Type 0) where
   -- the visitor took each of the rows and went on
   abbrev pub Takes : V → List Row → V → Type 0
   Takes v [] w = v ≡ w
   Takes v (r ∷ rows) w = (u : V) × takes v r u (Ok true) × Takes u rows w
+
+  -- some rows were taken, and it may be that the last of them ended the walk so
+  abbrev pub Visits : V → V → Result Bool Fault → Type 0
+  Visits v w result = (rows : List Row) × (Takes v rows w ⊎ ((before : V) × (row : Row) × Takes v rows before × takes before row w result))
 
   module _ (sql : List ℕ) (params : Row) (old new : State) (v w : V) where
     -- it took all rows of an answer
@@ -63,4 +67,5 @@ module _ {V : Type 0} (takes : V → Row → V → Result Bool Fault → Type 0)
       pub mode : old.in_transaction ≡ false → new.in_transaction ≡ false
       pub survives : OnlyAsks old.now.schema sql → CommitsNothing old new
       pub walked : HasCleanDisk new → OnlyAsks old.now.schema sql → Ends result
+      pub visits : Visits v w result
       pub faults : IfErr result (λ fault. IsStoreFault fault ⊎ ((before : V) × (row : Row) × takes before row w (Err fault)))

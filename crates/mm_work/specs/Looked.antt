@@ -1,5 +1,13 @@
--- What is printed of a package that was checked, and the exit status that goes with it.
-use Rattle.std.specs.Prelude.{ℕ, List, Result, Ok, Err, codes}
+-- What is printed of a package that was checked or listed, and the exit status that goes with it.
+use Rattle.std.specs.Prelude.{ℕ, List, Option, Result, Ok, Err, codes}
+use Rattle.std.specs.Io.KnownBytes.{Appends}
+use Rattle.sqlite.specs.State.{State, HasCleanDisk}
+use Rattle.mm_base.specs.Bounds.{millimetres}
+use Rattle.mm_base.specs.Package.{Package}
+use Rattle.mm_base.specs.Rules.{Meets}
+use Rattle.mm_store.specs.Stands.{IsSettled}
+use Rattle.mm_store.specs.Statements.{CommitsNothing}
+use Rattle.mm_listing.specs.Listing.{listing}
 use Rattle.mm_work.specs.Told.{stop_text, stop_status}
 use Rattle.mm_work.specs.declared.stop.Stop.{Stop}
 
@@ -10,3 +18,10 @@ check_text (Err why) = stop_text why
 abbrev pub check_status : Result (Unit {0}) Stop → ℕ
 check_status (Ok done) = 0
 check_status (Err why) = stop_status why
+
+-- It wrote nothing to the package, which meets the rules, and the listing of it was printed.
+pub record IsListing (old new : State) (held holds : Option (List ℕ)) : Type 0 where
+  pub survives : CommitsNothing old new
+  pub settled : HasCleanDisk new → (p : Package) → IsSettled millimetres old p → IsSettled millimetres new p
+  pub meets : HasCleanDisk new → (p : Package) → IsSettled millimetres old p → Meets millimetres p
+  pub printed : HasCleanDisk new → (p : Package) → IsSettled millimetres old p → Appends held holds (listing p)

@@ -1,7 +1,7 @@
 //! The work of the program on a connection to a package, over any store, and what is printed of it.
 //!
 //! - `package`: making a package, and running a list of records on one.
-//! - `looking`: what changes nothing: the whole check.
+//! - `looking`: what changes nothing: the whole check, and the listing.
 //! - `stop`: why the work was not done.
 //! - `tell`: what is printed, byte for byte, and the exit status that goes with it.
 #![tactic(auto)]
@@ -11,7 +11,7 @@ mod package;
 mod stop;
 mod tell;
 
-pub use looking::{check_package, tell_check};
+pub use looking::{check_package, list_package, tell_check};
 pub use package::{make_package, run_package};
 pub use stop::Stop;
 pub use tell::{

@@ -1,11 +1,11 @@
-//! The work that changes nothing: the whole check of a package.
+//! The work that changes nothing: the whole check of a package, and its listing.
 
-ghost use Rattle.std.specs.Prelude.{◌≡◌, false, IfOk};
+ghost use Rattle.std.specs.Prelude.{◌≡◌, ◌⊎◌, false, IfOk, IfErr, OnOk};
 ghost use Rattle.sqlite.specs.Held.{state};
 ghost use Rattle.mm_base.specs.Streams.{has_failed, inside};
 ghost use Rattle.mm_core.specs.Adopted.{IsAdopted};
-ghost use Rattle.mm_work.specs.Told.{IsTold};
-ghost use Rattle.mm_work.specs.Looked.{check_status, check_text};
+ghost use Rattle.mm_work.specs.Told.{IsTold, stop_status};
+ghost use Rattle.mm_work.specs.Looked.{IsListing, check_status, check_text};
 
 use crate::package::adopt_package;
 use crate::stop::Stop;
@@ -25,6 +25,29 @@ pub fn check_package<S: Alter + Drop>(
 {
     match adopt_package(alloc, conn) {
         Ok(session) => Ok(session.close()),
+        Err(why) => Err(why),
+    }
+}
+
+/// Writes the listing of the package, and hands the connection back. At a fault a beginning of the listing was written.
+pub fn list_package<S: Alter + Drop, W: Write>(
+    alloc: Global,
+    conn: Connection<S>,
+    output: &mut Io<W>,
+) -> Result<Connection<S>, Stop>
+    requires { conn.in_transaction ≡ false }
+    ensures working { OnOk result (has_failed output.new ≡ has_failed output.old) }
+    ensures listed { IfOk result (λ end. IsListing (state S.Store conn) (state S.Store end) (W.contents (inside output.old)) (W.contents (inside output.new))) }
+    ensures stopped { IfErr result (λ why. (has_failed output.new ≡ has_failed output.old) ⊎ (stop_status why ≡ 3)) }
+{
+    match adopt_package(alloc, conn) {
+        Ok(session) => {
+            let mut session = session;
+            match session.list(output) {
+                Ok(()) => Ok(session.close()),
+                Err(fault) => Err(Stop::Fault(fault)),
+            }
+        }
         Err(why) => Err(why),
     }
 }

@@ -9,6 +9,7 @@ ghost use Rattle.mm_store.specs.Stands.{IsSettled};
 ghost use Rattle.mm_run.specs.Runs.{OnRun};
 ghost use Rattle.mm_core.specs.Adopted.{IsAdopted};
 ghost use Rattle.mm_core.specs.Parts.{held};
+ghost use Rattle.mm_core.specs.Parts as sessions;
 ghost use Rattle.mm_core.specs.Sessions.{IsCreated};
 ghost use Rattle.mm_work.specs.Ran.{IsRun};
 
@@ -42,7 +43,8 @@ pub(crate) fn adopt_package<S: Alter + Drop>(
     conn: Connection<S>,
 ) -> Result<Session<S>, Stop>
     requires { conn.in_transaction ≡ false }
-    ensures { IfOk result (λ session. IsAdopted (state S.Store conn) (state S.Store (held session))) }
+    ensures working { IfOk result (λ session. sessions.has_failed session ≡ false) }
+    ensures adopted { IfOk result (λ session. IsAdopted (state S.Store conn) (state S.Store (held session))) }
 {
     match Session::adopt(alloc, conn) {
         Ok(session) => Ok(session),

@@ -1,0 +1,36 @@
+//! The listing of the package of a session.
+
+use crate::session::Session;
+use mm_base::answers::Fault;
+use mm_base::streams::Io;
+use mm_listing::list;
+use sqlite::Alter;
+use std::io::Write;
+
+impl<S: Alter> Session<S> {
+    ghost use Rattle.std.specs.Prelude.{◌≡◌, Err, false, true};
+    ghost use Rattle.sqlite.specs.Held.{state};
+    ghost use Rattle.mm_base.specs.Bounds.{millimetres};
+    ghost use Rattle.mm_base.specs.Streams.{inside};
+    ghost use Rattle.mm_base.specs.Streams as streams;
+    ghost use Rattle.mm_listing.specs.Listing.{listing};
+    ghost use Rattle.mm_listing.specs.Writing.{IsListed};
+    ghost use Rattle.mm_core.specs.Parts.{held, has_failed};
+
+    /// Writes the listing of the package: a line for each table, and then one for each edition, by rising name. Each line
+    /// is written before the next row is asked for. It writes nothing to the package.
+    ///
+    /// 92 where the session has to be opened again, and then nothing is asked of the store and nothing is written. At
+    /// another fault a beginning of the listing was written: 97 where the writer failed, else 90 where memory was refused
+    /// and 91 where the store failed. Then the session goes on, and the package and what may be left are as they were.
+    pub fn list<W: Write>(&mut self, writer: &mut Io<W>) -> Result<(), Fault>
+        ensures ended { has_failed self.old ≡ true → (result ≡ Err (record { 0 = 92 })) × (self.new ≡ self.old) × (writer.new ≡ writer.old) }
+        ensures same { has_failed self.new ≡ has_failed self.old }
+        ensures listed { has_failed self.old ≡ false → IsListed millimetres listing (state S.Store (held self.old)) (state S.Store (held self.new)) (W.contents (inside writer.old)) (W.contents (inside writer.new)) (streams.has_failed writer.old) (streams.has_failed writer.new) result }
+    {
+        if self.failed {
+            return Err(Fault(92));
+        }
+        list(&mut self.conn, writer)
+    }
+}

@@ -1,0 +1,6 @@
+pub mod Counting
+pub mod Fronts
+pub mod Written
+pub mod TableLines
+pub mod EditionLines
+pub mod Walks

@@ -1,0 +1,24 @@
+use Rattle.std.proofs.Common.{subst}
+use Rattle.sqlite.specs.Held.{state}
+use Rattle.mm_base.specs.Streams.{has_failed, inside}
+use Rattle.mm_listing.specs.Listing.{tables}
+use Rattle.mm_listing.specs.Writing.{IsListed}
+use Rattle.mm_listing.proofs.Walks.{tables_listed}
+use Rattle.mm_listing.proofs.Written.{done_of, kept}
+use Rattle.mm_listing.proofs.listing.show_tables.Goals as goal
+
+pub returns-in-Ok-clause-same_reference : goal.returns-in-Ok-clause-same_reference
+returns-in-Ok-clause-same_reference g c = kept c.walk.ensures (λ v. v.output.ghost_name) (λ v u row result h. h.0)
+
+pub returns-in-Ok-clause-listed : goal.returns-in-Ok-clause-listed
+returns-in-Ok-clause-listed g c profile =
+    subst (λ r. IsListed profile tables (state g.S.Store c.args.conn.now) (state g.S.Store c.walk.new.conn) (g.W.Write.contents (inside c.args.lines.now.output.now)) (g.W.Write.contents (inside c.walk.new.visitor.output.now)) (has_failed c.args.lines.now.output.now) (has_failed c.walk.new.visitor.output.now) (done_of r)) c.in-Ok.is
+    (tables_listed _ (λ v. g.W.Write.contents (inside v.output.now)) (λ v. has_failed v.output.now) (λ v u row result h. h.1) (state g.S.Store c.args.conn.now) (state g.S.Store c.walk.new.conn) c.args.lines.now c.walk.new.visitor profile c.walk.result c.walk.ensures)
+
+pub returns-in-Err-clause-same_reference : goal.returns-in-Err-clause-same_reference
+returns-in-Err-clause-same_reference g c = kept c.walk.ensures (λ v. v.output.ghost_name) (λ v u row result h. h.0)
+
+pub returns-in-Err-clause-listed : goal.returns-in-Err-clause-listed
+returns-in-Err-clause-listed g c profile =
+    subst (λ r. IsListed profile tables (state g.S.Store c.args.conn.now) (state g.S.Store c.walk.new.conn) (g.W.Write.contents (inside c.args.lines.now.output.now)) (g.W.Write.contents (inside c.walk.new.visitor.output.now)) (has_failed c.args.lines.now.output.now) (has_failed c.walk.new.visitor.output.now) (done_of r)) c.in-Err.is
+    (tables_listed _ (λ v. g.W.Write.contents (inside v.output.now)) (λ v. has_failed v.output.now) (λ v u row result h. h.1) (state g.S.Store c.args.conn.now) (state g.S.Store c.walk.new.conn) c.args.lines.now c.walk.new.visitor profile c.walk.result c.walk.ensures)

@@ -1,0 +1,50 @@
+-- What becomes of a text that is written line by line.
+use Rattle.std.specs.Prelude.{◌≡◌, ◌⊎◌, ℕ, Bool, true, List, ◌++◌, Option, Result, Ok, Err}
+use Rattle.std.specs.Io.KnownBytes.{Appends}
+use Rattle.sqlite.specs.Order.{Row}
+use Rattle.sqlite.specs.State.{State, HasCleanDisk}
+use Rattle.mm_base.specs.Bounds.{Profile}
+use Rattle.mm_base.specs.Package.{Package}
+use Rattle.mm_base.specs.declared.answers.Fault.{Fault}
+use Rattle.mm_store.specs.Faults.{IsStoreFault}
+use Rattle.mm_store.specs.Stands.{IsSettled}
+use Rattle.mm_store.specs.Statements.{CommitsNothing}
+
+-- the writer failed
+abbrev pub unwritten : Fault
+unwritten = record { 0 = 97 }
+
+-- a beginning of the text was written, and no more
+abbrev pub IsBegun : Option (List ℕ) → Option (List ℕ) → List ℕ → Type 0
+IsBegun old new text = (front rest : List ℕ) × (text ≡ front ++ rest) × Appends old new front
+
+-- ---- one line
+
+abbrev pub SendsLine : Option (List ℕ) → Option (List ℕ) → Bool → Bool → List ℕ → Result Bool Fault → Type 0
+SendsLine old new before failed line (Ok goes) = (goes ≡ true) × Appends old new line × (failed ≡ before)
+SendsLine old new before failed line (Err fault) = (fault ≡ unwritten) × (failed ≡ true) × IsBegun old new line
+
+-- The line that the row shows was written; or the row shows none, and nothing was; or the writer failed.
+abbrev pub TakesLine : (Row → List ℕ → Type 0) → Option (List ℕ) → Option (List ℕ) → Bool → Bool → Row → Result Bool Fault → Type 0
+TakesLine Shows old new before failed row (Ok goes) = (line : List ℕ) × Shows row line × SendsLine old new before failed line (Ok goes)
+TakesLine Shows old new before failed row (Err fault) =
+    (IsStoreFault fault × (new ≡ old) × (failed ≡ before)) ⊎ ((line : List ℕ) × Shows row line × SendsLine old new before failed line (Err fault))
+
+-- ---- the whole text
+
+-- at a fault a beginning of it
+abbrev pub IsWritten : Option (List ℕ) → Option (List ℕ) → List ℕ → Result (Unit {0}) Fault → Type 0
+IsWritten old new text (Ok done) = Appends old new text
+IsWritten old new text (Err fault) = IsBegun old new text
+
+-- 97 is answered exactly where the writer failed, and else 90 or 91
+abbrev pub TellsWriter : Bool → Bool → Result (Unit {0}) Fault → Type 0
+TellsWriter before failed (Ok done) = failed ≡ before
+TellsWriter before failed (Err fault) = (IsStoreFault fault × (failed ≡ before)) ⊎ ((fault ≡ unwritten) × (failed ≡ true))
+
+-- It commits nothing and leaves the connection as settled as it was, and writes the text of the package that it is settled for.
+pub record IsListed (profile : Profile) (text : Package → List ℕ) (old new : State) (held holds : Option (List ℕ)) (before failed : Bool) (result : Result (Unit {0}) Fault) : Type 0 where
+  pub survives : CommitsNothing old new
+  pub settled : HasCleanDisk new → (p : Package) → IsSettled profile old p → IsSettled profile new p
+  pub written : HasCleanDisk new → (p : Package) → IsSettled profile old p → IsWritten held holds (text p) result
+  pub writer : TellsWriter before failed result

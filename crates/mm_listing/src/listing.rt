@@ -1,0 +1,164 @@
+//! The walks over the tables and the editions, in which each line is written before the next row is asked for.
+
+ghost use Rattle.std.specs.Prelude.{◌≡◌, false};
+ghost use Rattle.sqlite.specs.Held.{state};
+ghost use Rattle.mm_base.specs.Bounds.{Profile};
+ghost use Rattle.mm_base.specs.Streams.{has_failed, inside};
+ghost use Rattle.mm_listing.specs.Listing.{editions, listing, tables};
+ghost use Rattle.mm_listing.specs.Writing.{IsListed, SendsLine};
+
+use crate::shown::{edition_in, table_in};
+use mm_base::answers::Fault;
+use mm_base::streams::Io;
+use mm_lines::{Sent, send};
+use mm_walk::walk::{Visitor, walk};
+use sqlite::{Alter, Connection, Row};
+use std::io::Write;
+
+/// Writes a line, and goes on.
+fn send_line<W: Write>(output: &mut Io<W>, line: &[u8]) -> Result<bool, Fault>
+    ensures { SendsLine (W.contents (inside output.old)) (W.contents (inside output.new)) (has_failed output.old) (has_failed output.new) line.now result }
+{
+    match send(output, line) {
+        Sent::Flushed => Ok(true),
+        Sent::Unflushed => Err(Fault(97)),
+        Sent::Cut => Err(Fault(97)),
+    }
+}
+
+/// Writes the line of each table that is shown.
+#[derive(Drop)]
+struct TableLines<'a, W> {
+    output: &'a mut Io<W>,
+}
+
+impl<W: Write> Visitor for TableLines<'_, W> {
+    ghost use Rattle.mm_base.specs.Streams.{has_failed, inside};
+    ghost use Rattle.mm_listing.specs.Shown.{ShowsTable};
+    ghost use Rattle.mm_listing.specs.Writing.{TakesLine};
+
+    ghost takes = { λ old row new result. (new.output.ghost_name ≡ old.output.ghost_name) × TakesLine ShowsTable (W.contents (inside old.output.now)) (W.contents (inside new.output.now)) (has_failed old.output.now) (has_failed new.output.now) row result };
+
+    fn take(&mut self, row: &Row) -> Result<bool, Fault> {
+        match table_in(row) {
+            Ok(line) => send_line(self.output, line.as_slice()),
+            Err(fault) => Err(fault),
+        }
+    }
+}
+
+/// Writes the line of each edition that is shown.
+#[derive(Drop)]
+struct EditionLines<'a, W> {
+    output: &'a mut Io<W>,
+}
+
+impl<W: Write> Visitor for EditionLines<'_, W> {
+    ghost use Rattle.mm_base.specs.Streams.{has_failed, inside};
+    ghost use Rattle.mm_listing.specs.Shown.{ShowsEdition};
+    ghost use Rattle.mm_listing.specs.Writing.{TakesLine};
+
+    ghost takes = { λ old row new result. (new.output.ghost_name ≡ old.output.ghost_name) × TakesLine ShowsEdition (W.contents (inside old.output.now)) (W.contents (inside new.output.now)) (has_failed old.output.now) (has_failed new.output.now) row result };
+
+    fn take(&mut self, row: &Row) -> Result<bool, Fault> {
+        match edition_in(row) {
+            Ok(line) => send_line(self.output, line.as_slice()),
+            Err(fault) => Err(fault),
+        }
+    }
+}
+
+/// Shows the tables to the visitor.
+fn show_tables<S: Alter, W: Write>(
+    conn: &mut Connection<S>,
+    lines: &mut TableLines<'_, W>,
+) -> Result<(), Fault>
+    requires { conn.old.in_transaction ≡ false }
+    ensures same_reference { lines.new.output.ghost_name ≡ lines.old.output.ghost_name }
+    ensures mode { conn.new.in_transaction ≡ false }
+    ensures listed { (profile : Profile) → IsListed profile tables (state S.Store conn.old) (state S.Store conn.new) (W.contents (inside lines.old.output.now)) (W.contents (inside lines.new.output.now)) (has_failed lines.old.output.now) (has_failed lines.new.output.now) result }
+{
+    match walk(
+        conn,
+        "SELECT c.table_name, k.kind, c.last_change, c.identifier, (SELECT count(*) FROM mm_tiles AS t WHERE t.table_name = c.table_name), (SELECT count(*) FROM mm_rows AS r WHERE r.table_name = c.table_name), (SELECT count(*) FROM mm_media AS m WHERE m.table_name = c.table_name) FROM gpkg_contents AS c LEFT JOIN mm_tables AS k ON k.table_name = c.table_name ORDER BY c.table_name",
+        &[],
+        lines,
+    ) {
+        Ok(_) => Ok(()),
+        Err(fault) => Err(fault),
+    }
+}
+
+/// The lines of the tables.
+fn list_tables<S: Alter, W: Write>(
+    conn: &mut Connection<S>,
+    output: &mut Io<W>,
+) -> Result<(), Fault>
+    requires { conn.old.in_transaction ≡ false }
+    ensures mode { conn.new.in_transaction ≡ false }
+    ensures listed { (profile : Profile) → IsListed profile tables (state S.Store conn.old) (state S.Store conn.new) (W.contents (inside output.old)) (W.contents (inside output.new)) (has_failed output.old) (has_failed output.new) result }
+{
+    let mut lines = TableLines { output };
+    let shown = show_tables(conn, &mut lines);
+    let TableLines { output: inner } = lines;
+    // No effect at run time: the proof reads what `output` holds from this use.
+    let _ = &*inner;
+    shown
+}
+
+/// Shows the editions to the visitor.
+fn show_editions<S: Alter, W: Write>(
+    conn: &mut Connection<S>,
+    lines: &mut EditionLines<'_, W>,
+) -> Result<(), Fault>
+    requires { conn.old.in_transaction ≡ false }
+    ensures same_reference { lines.new.output.ghost_name ≡ lines.old.output.ghost_name }
+    ensures mode { conn.new.in_transaction ≡ false }
+    ensures listed { (profile : Profile) → IsListed profile editions (state S.Store conn.old) (state S.Store conn.new) (W.contents (inside lines.old.output.now)) (W.contents (inside lines.new.output.now)) (has_failed lines.old.output.now) (has_failed lines.new.output.now) result }
+{
+    match walk(
+        conn,
+        "SELECT e.name, e.state, (SELECT count(*) FROM mm_pieces AS p WHERE p.edition = e.name) FROM mm_editions AS e ORDER BY e.name",
+        &[],
+        lines,
+    ) {
+        Ok(_) => Ok(()),
+        Err(fault) => Err(fault),
+    }
+}
+
+/// The lines of the editions.
+fn list_editions<S: Alter, W: Write>(
+    conn: &mut Connection<S>,
+    output: &mut Io<W>,
+) -> Result<(), Fault>
+    requires { conn.old.in_transaction ≡ false }
+    ensures mode { conn.new.in_transaction ≡ false }
+    ensures listed { (profile : Profile) → IsListed profile editions (state S.Store conn.old) (state S.Store conn.new) (W.contents (inside output.old)) (W.contents (inside output.new)) (has_failed output.old) (has_failed output.new) result }
+{
+    let mut lines = EditionLines { output };
+    let shown = show_editions(conn, &mut lines);
+    let EditionLines { output: inner } = lines;
+    // No effect at run time: the proof reads what `output` holds from this use.
+    let _ = &*inner;
+    shown
+}
+
+/// Writes the listing of a package: a line for each table, with its name, its kind, how many tiles, rows or media it has,
+/// its last change and its identifier; then one for each edition, with its name, and how many pieces it has or that it is
+/// published; each by rising name. It reads alone: the package and what may be left are as they were.
+///
+/// # Errors
+///
+/// What was written is a beginning of the listing. 97 where the writer failed; else 90 where memory was refused, and 91
+/// where the store failed or gave a value that no package has.
+pub fn list<S: Alter, W: Write>(conn: &mut Connection<S>, output: &mut Io<W>) -> Result<(), Fault>
+    requires { conn.old.in_transaction ≡ false }
+    ensures mode { conn.new.in_transaction ≡ false }
+    ensures listed { (profile : Profile) → IsListed profile listing (state S.Store conn.old) (state S.Store conn.new) (W.contents (inside output.old)) (W.contents (inside output.new)) (has_failed output.old) (has_failed output.new) result }
+{
+    match list_tables(conn, output) {
+        Ok(()) => list_editions(conn, output),
+        Err(fault) => Err(fault),
+    }
+}

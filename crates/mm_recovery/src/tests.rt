@@ -2,6 +2,7 @@
 
 use crate::run_and_recover;
 use mm_base::moments::Moment;
+use mm_base::names::Name;
 use mm_base::streams::Io;
 use mm_core::Session;
 use sqlite::{Connection, FileStore, Files, Options};
@@ -10,9 +11,10 @@ use std::alloc::Global;
 use std::test::Fail;
 
 const RECORDS: &str = "table,spots,attributes,Spots
-table,photos,media,Photos
-row,spots,7,Well,,3
-drop,photos
+edition,e
+stage,e,1,row,spots,1,Well,,3
+stage,e,2,row,spots,2,Gate,,0
+publish,e
 ";
 
 /// A session on a new package, over files in memory; the log takes so many calls and then none.
@@ -30,13 +32,22 @@ fn new_session(alloc: Global, calls: u64) -> Option<Session<FileStore<Fuse<Memor
     }
 }
 
-/// The tables of the package after so many of the records.
-fn tables_after(done: u64) -> usize {
-    match done {
-        0 => 0,
-        1 | 4 => 1,
-        _ => 2,
+/// How many tables there are after so many of the records, and whether the edition's rows stand.
+fn stands_after(done: u64) -> (usize, bool) {
+    (usize::from(done > 0), done > 4)
+}
+
+/// The same of a session's package. An edition of which half is published is neither.
+fn found_in(session: &mut Session<FileStore<Fuse<Memory>>>) -> Result<(usize, bool), Fail> {
+    let Some(spots) = Name::read("spots") else {
+        return Err(Fail::new("no name"));
+    };
+    let first = session.row(&spots, 1)?.is_some();
+    let second = session.row(&spots, 2)?.is_some();
+    if first != second {
+        return Err(Fail::new("half published"));
     }
+    Ok((session.contents()?.len(), first))
 }
 
 // Each stop leaves the package of the records that were acknowledged, or of one more.
@@ -69,9 +80,9 @@ fn finds_a_first_part_after_each_stop(rt: HostRuntime) -> Result<(), Fail> {
             Ok(tally) => tally.accepted,
             Err(stopped) => stopped.tally.accepted,
         };
-        let found = again.contents()?.len();
+        let found = found_in(&mut again)?;
         assert!(rt;
-            found == tables_after(done) || found == tables_after(done.saturating_add(1)),
+            found == stands_after(done) || found == stands_after(done.saturating_add(1)),
             "at {calls}"
         );
         if ran.is_ok() {

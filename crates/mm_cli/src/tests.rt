@@ -3,6 +3,7 @@
 mod contents;
 mod faults;
 mod files;
+mod pages;
 mod runs;
 mod streams;
 mod words;

@@ -2,12 +2,15 @@
 //!
 //! - `subcommands`: what each subcommand does.
 //! - `files`: the package's file and its journal.
+//! - `serving`: the page served over sockets.
 //! - `clock`: the moment of a run that names none.
 #![tactic(auto)]
 
 mod clock;
 mod files;
+mod serving;
 mod subcommands;
 
 pub use files::{close_files, open_new, open_old};
+pub use serving::serve_on;
 pub use subcommands::program;

@@ -37,7 +37,10 @@ pub fn make_package<S: Alter + Drop>(
 }
 
 /// A session on a package that is there.
-fn adopt_package<S: Alter + Drop>(alloc: Global, conn: Connection<S>) -> Result<Session<S>, Stop>
+pub fn adopt_package<S: Alter + Drop>(
+    alloc: Global,
+    conn: Connection<S>,
+) -> Result<Session<S>, Stop>
     requires { conn.in_transaction ≡ false }
     ensures { IfOk result (λ session. IsLooked (state S.Store conn) (state S.Store (held session)) (Ok tt)) }
 {

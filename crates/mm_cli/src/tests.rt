@@ -4,6 +4,7 @@ mod contents;
 mod editions;
 mod faults;
 mod files;
+mod pages;
 mod runs;
 mod streams;
 mod words;

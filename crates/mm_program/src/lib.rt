@@ -3,13 +3,16 @@
 //! - `subcommands`: what each subcommand does.
 //! - `looking`: those that change nothing.
 //! - `files`: the package's file and its journal.
+//! - `serving`: the page served over sockets.
 //! - `clock`: the moment of a run that names none.
 #![tactic(auto)]
 
 mod clock;
 mod files;
 mod looking;
+mod serving;
 mod subcommands;
 
 pub use files::{close_files, open_new, open_old};
+pub use serving::serve_on;
 pub use subcommands::program;

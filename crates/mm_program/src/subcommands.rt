@@ -7,6 +7,7 @@ ghost use Rattle.mm_work.specs.Told.{TellsFailure};
 use crate::clock::{Now, time_now};
 use crate::files::{close_files, open_new, open_old};
 use crate::looking::{check_told, list_told};
+use crate::serving::serve_told;
 use mm_arguments::{Request, read_arguments, status_of};
 use mm_base::answers::Fault;
 use mm_base::moments::Moment;
@@ -113,6 +114,7 @@ pub fn program<R: Read, W: Write>(
         Ok(Request::Run { file, at }) => run_told(rt, file, at, input, output),
         Ok(Request::Check { file }) => check_told(rt, file, output),
         Ok(Request::List { file }) => list_told(rt, file, output),
+        Ok(Request::Serve { file, port, count }) => serve_told(rt, file, port, count, output),
         Ok(_) => tell_bytes(
             output,
             b"error: this subcommand is not served yet\n\nFor more information, try '--help'.\n",

@@ -1,3 +1,4 @@
 pub mod Ran
 pub mod Told
 pub mod Looked
+pub mod Pages

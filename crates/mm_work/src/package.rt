@@ -38,7 +38,7 @@ pub fn make_package<S: Alter + Drop>(
 }
 
 /// A session on a package that is there and meets all rules.
-pub(crate) fn adopt_package<S: Alter + Drop>(
+pub fn adopt_package<S: Alter + Drop>(
     alloc: Global,
     conn: Connection<S>,
 ) -> Result<Session<S>, Stop>

@@ -29,7 +29,7 @@ pub const FAULT: u8 = 3;
 pub const NO_PACKAGE: u8 = 4;
 
 // Appends bytes that have room.
-fn put(line: &mut ArrayVec<u8, 40>, bytes: &[u8])
+pub(crate) fn put(line: &mut ArrayVec<u8, 40>, bytes: &[u8])
     requires { length line.old.items + length bytes.now ≤ 40 }
     ensures bytes { line.new.items ≡ line.old.items ++ bytes.now }
     ensures size { length line.new.items ≡ length line.old.items + length bytes.now }
@@ -38,7 +38,7 @@ fn put(line: &mut ArrayVec<u8, 40>, bytes: &[u8])
 }
 
 /// Some words and a number on a line. It is built in place and takes no memory.
-fn numbered_line(words: &[u8], number: u8) -> ArrayVec<u8, 40>
+pub(crate) fn numbered_line(words: &[u8], number: u8) -> ArrayVec<u8, 40>
     requires { length words.now ≤ 19 }
     ensures { result.items ≡ words.now ++ decimal number ++ codes "\n" }
 {

@@ -1,0 +1,4 @@
+pub mod ListFacts
+pub mod ServeFacts
+pub mod PageFacts
+pub mod Leaving

@@ -1,0 +1,22 @@
+use Rattle.std.proofs.Common.{◌∙◌, inl, subst}
+use Rattle.sqlite.specs.Held.{state}
+use Rattle.mm_base.specs.Package.{Package}
+use Rattle.mm_base.specs.Streams.{inside}
+use Rattle.mm_core.specs.Parts.{held, has_failed}
+use Rattle.mm_page.specs.Page.{Writes}
+use Rattle.mm_page.specs.Served.{IsOn, Served}
+use Rattle.mm_page.proofs.ServeFacts.{under, weaker}
+use Rattle.mm_page.proofs.serving.respond.Goals as goal
+
+pub returns-in-Ok-Some-clause-response : goal.returns-in-Ok-Some-clause-response
+returns-in-Ok-Some-clause-response g c =
+    let old = c.args.session.now in
+    let on = IsOn (has_failed old) (state g.S.Store (held old)) (state g.S.Store (held c.head_response.new.session)) in
+    let all = under {X = (p : Package) × on p} (λ x v. Writes x.0 c.of.result.now c.of-in-Ok-Some.result.now v.items) c.head_response.result (λ x. c.head_response.ensures.response x.0 x.1) in
+    weaker _ (λ v. Served on (g.R.Read.remaining (inside c.args.reader.now)) v.items) c.head_response.result
+    (λ v w p st input e.
+    let (fits, within, h, is, at) = rw (e, c.in-Ok-Some.field-0-is) at c.in-Ok-Some.ensures.head in
+    let method = c.of.ensures ∙ at.method in
+    let target = c.of-in-Ok-Some.ensures ∙ at.path in
+    inl (h, is, subst (λ t. Writes p h.method t v.items) target (subst (λ m. Writes p m c.of-in-Ok-Some.result.now v.items) method (w (p, st)))))
+    all

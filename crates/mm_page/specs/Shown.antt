@@ -1,0 +1,15 @@
+-- What the page shows of a package.
+use Rattle.std.specs.Prelude.{ℤ, List, Option, Some, None, map, if◌then◌else◌}
+use Rattle.std.specs.FinMap.{entries}
+use Rattle.mm_base.specs.Keys.{Text}
+use Rattle.mm_base.specs.Package.{Package}
+use Rattle.mm_reads.specs.Listing.{Listed, listed}
+use Rattle.mm_related.specs.Related.{Mate, is_item, mapping_rows, mate}
+
+-- what an item is related to, by rising mapping, related table and id, where the package has the item
+abbrev pub mates : Package → Text → ℤ → Option (List Mate)
+mates p table id = if is_item p table id then Some (map (mate p) (mapping_rows p table id)) else None
+
+-- the tables of the contents, by rising name
+abbrev pub tables : Package → List Listed
+tables p = map (listed p) (entries p.contents)

@@ -1,0 +1,77 @@
+//! What the page reads of the package of a session. On a session that has to be opened again each answers 92.
+
+ghost use Rattle.std.specs.Prelude.{◌≡◌, pos, IfErr, map, option_map};
+ghost use Rattle.std.specs.FinMap.{get};
+ghost use Rattle.sqlite.specs.Held.{state};
+ghost use Rattle.mm_base.specs.Keys.{item};
+ghost use Rattle.mm_base.specs.Keys as keys;
+ghost use Rattle.mm_reads.specs.Told.{medium_of};
+ghost use Rattle.mm_reads.specs.Listing as listing;
+ghost use Rattle.mm_related.specs.Related.{told};
+ghost use Rattle.mm_core.specs.Parts.{held, has_failed};
+ghost use Rattle.mm_page.specs.Served.{Answers, IsOn, IsPageFault, LeavesPackage};
+ghost use Rattle.mm_page.specs.Shown.{mates, tables};
+
+use mm_base::answers::Fault;
+use mm_base::entries::{Entry, Media, Related};
+use mm_base::names::Name;
+use mm_core::Session;
+use sqlite::Alter;
+
+/// The bytes of a tile.
+pub fn read_tile<S: Alter>(
+    session: &mut Session<S>,
+    table: &Name,
+    zoom: u8,
+    column: u32,
+    row: u32,
+) -> Result<Option<Vec<u8>>, Fault>
+    ensures same { has_failed session.new ≡ has_failed session.old }
+    ensures kept { LeavesPackage (state S.Store (held session.old)) (state S.Store (held session.new)) }
+    ensures value { Answers (IsOn (has_failed session.old) (state S.Store (held session.old)) (state S.Store (held session.new)))
+        (option_map (λ v. v.items)) (λ p. get p.tiles (keys.tile table.now (pos zoom) (pos column) (pos row))) result }
+    ensures fault { IfErr result (IsPageFault (has_failed session.old)) }
+{
+    session.tile(table, zoom, column, row)
+}
+
+/// A medium.
+pub fn read_media<S: Alter>(
+    session: &mut Session<S>,
+    table: &Name,
+    id: i64,
+) -> Result<Option<Media>, Fault>
+    ensures same { has_failed session.new ≡ has_failed session.old }
+    ensures kept { LeavesPackage (state S.Store (held session.old)) (state S.Store (held session.new)) }
+    ensures value { Answers (IsOn (has_failed session.old) (state S.Store (held session.old)) (state S.Store (held session.new)))
+        (option_map medium_of) (λ p. get p.media (item table.now id)) result }
+    ensures fault { IfErr result (IsPageFault (has_failed session.old)) }
+{
+    session.media(table, id)
+}
+
+/// What an attribute row or medium is related to, where it stands.
+pub fn read_mates<S: Alter>(
+    session: &mut Session<S>,
+    table: &Name,
+    id: i64,
+) -> Result<Option<Vec<Related>>, Fault>
+    ensures same { has_failed session.new ≡ has_failed session.old }
+    ensures kept { LeavesPackage (state S.Store (held session.old)) (state S.Store (held session.new)) }
+    ensures value { Answers (IsOn (has_failed session.old) (state S.Store (held session.old)) (state S.Store (held session.new)))
+        (option_map (λ v. map told v.items)) (λ p. mates p table.now id) result }
+    ensures fault { IfErr result (IsPageFault (has_failed session.old)) }
+{
+    session.related(table, id)
+}
+
+/// The tables by rising name.
+pub fn read_tables<S: Alter>(session: &mut Session<S>) -> Result<Vec<Entry>, Fault>
+    ensures same { has_failed session.new ≡ has_failed session.old }
+    ensures kept { LeavesPackage (state S.Store (held session.old)) (state S.Store (held session.new)) }
+    ensures value { Answers (IsOn (has_failed session.old) (state S.Store (held session.old)) (state S.Store (held session.new)))
+        (λ v. map listing.told v.items) tables result }
+    ensures fault { IfErr result (IsPageFault (has_failed session.old)) }
+{
+    session.contents()
+}

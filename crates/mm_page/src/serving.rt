@@ -1,0 +1,140 @@
+//! A request read and answered.
+
+ghost use Rattle.std.specs.Prelude.{◌≡◌, ◌⊎◌, IfOk, IfErr, IsUtf8, OnOk, bytes_eq, codes, true};
+ghost use Rattle.sqlite.specs.Held.{state};
+ghost use Rattle.mm_base.specs.Keys.{Text};
+ghost use Rattle.mm_base.specs.Package.{Package};
+ghost use Rattle.mm_base.specs.Streams.{inside};
+ghost use Rattle.mm_base.specs.Streams as streams;
+ghost use Rattle.mm_core.specs.Parts.{held, has_failed};
+ghost use Rattle.mm_page.specs.Page.{Page, Writes, WritesTo};
+ghost use Rattle.mm_page.specs.Page as page;
+ghost use Rattle.mm_page.specs.Served.{IsOn, IsPageFault, LeavesPackage, Served, ServedTo, Stopped};
+
+use crate::replies::{printed, reply};
+use http::Method;
+use httparse::spans::EMPTY_HEADER_SPAN;
+use mm_base::answers::{Fault, PageFault};
+use mm_base::streams::Io;
+use mm_core::Session;
+use mm_lines::{Sent, send};
+use mm_routes::{bad_request, not_allowed, not_found, read_head, read_path};
+use sqlite::Alter;
+use std::alloc::Global;
+use std::io::{Read, Write};
+use std::str::from_utf8;
+
+/// The target before its first question mark.
+fn before_query(target: &str) -> &str
+    ensures { result.now ≡ page.path_of target.now }
+{
+    match target.split_once('?') {
+        Some((path, _)) => path,
+        None => target,
+    }
+}
+
+fn is_get(method: &[u8]) -> bool
+    ensures { result ≡ bytes_eq method.now (codes "GET") }
+{
+    method == Method::GET.as_str().as_bytes()
+}
+
+/// The response to a path.
+fn path_response<S: Alter>(
+    alloc: Global,
+    session: &mut Session<S>,
+    path: &str,
+) -> Result<Vec<u8>, Fault>
+    ensures same { has_failed session.new ≡ has_failed session.old }
+    ensures kept { LeavesPackage (state S.Store (held session.old)) (state S.Store (held session.new)) }
+    ensures response { (p : Package) → IsOn (has_failed session.old) (state S.Store (held session.old)) (state S.Store (held session.new)) p → IfOk result (λ v. WritesTo p path.now v.items) }
+    ensures fault { IfErr result (IsPageFault (has_failed session.old)) }
+{
+    match read_path(alloc, path) {
+        Ok(Some(wanted)) => reply(alloc, session, wanted),
+        Ok(None) => printed(not_found(alloc)),
+        Err(fault) => Err(fault),
+    }
+}
+
+/// The response to a head of this method and target.
+fn head_response<S: Alter>(
+    alloc: Global,
+    session: &mut Session<S>,
+    method: &[u8],
+    target: &[u8],
+) -> Result<Vec<u8>, Fault>
+    requires text { IsUtf8 target.now }
+    ensures same { has_failed session.new ≡ has_failed session.old }
+    ensures kept { LeavesPackage (state S.Store (held session.old)) (state S.Store (held session.new)) }
+    ensures response { (p : Package) → IsOn (has_failed session.old) (state S.Store (held session.old)) (state S.Store (held session.new)) p → IfOk result (λ v. Writes p method.now target.now v.items) }
+    ensures fault { IfErr result (IsPageFault (has_failed session.old)) }
+{
+    if !is_get(method) {
+        return printed(not_allowed(alloc));
+    }
+    let Ok(target) = from_utf8(target) else {
+        unreachable!()
+    };
+    path_response(alloc, session, before_query(target))
+}
+
+/// The response to what the reader gives.
+fn respond<S: Alter, R: Read>(
+    alloc: Global,
+    session: &mut Session<S>,
+    reader: &mut Io<R>,
+) -> Result<Vec<u8>, Fault>
+    ensures same { has_failed session.new ≡ has_failed session.old }
+    ensures kept { LeavesPackage (state S.Store (held session.old)) (state S.Store (held session.new)) }
+    ensures response { IfOk result (λ v. Served (IsOn (has_failed session.old) (state S.Store (held session.old)) (state S.Store (held session.new))) (R.remaining (inside reader.old)) v.items) }
+    ensures fault { IfErr result (λ fault. IsPageFault (has_failed session.old) fault ⊎ ((fault.0 ≡ 96) × (streams.has_failed reader.new ≡ true))) }
+{
+    let mut buf = [0; 8192];
+    let mut headers = [EMPTY_HEADER_SPAN; 64];
+    match read_head(reader, &mut buf, &mut headers) {
+        Ok(Some((n, spans))) => {
+            let head = &buf[..n];
+            head_response(alloc, session, spans.method.of(head), spans.path.of(head))
+        }
+        Ok(None) => printed(bad_request(alloc)),
+        Err(fault) => Err(fault),
+    }
+}
+
+/// Reads the head of one request and writes one response, which is made whole before its first byte is written. What was written
+/// is the page of the package and of all that the reader had still to give, however it is cut.
+///
+/// A fault ends it. With 90 want of memory, 91 the store, 92 where the package is needed and the session has to be opened again,
+/// and 96 where the reader fails, nothing was written; with 97, where the writer fails, a front of the response was. The session
+/// stays as it is.
+pub fn serve_one<S: Alter, R: Read, W: Write>(
+    alloc: Global,
+    session: &mut Session<S>,
+    reader: &mut Io<R>,
+    writer: &mut Io<W>,
+) -> Result<(), PageFault>
+    ensures same { has_failed session.new ≡ has_failed session.old }
+    ensures kept { LeavesPackage (state S.Store (held session.old)) (state S.Store (held session.new)) }
+    ensures served { OnOk result (ServedTo (IsOn (has_failed session.old) (state S.Store (held session.old)) (state S.Store (held session.new)))
+        (R.remaining (inside reader.old)) (W.contents (inside writer.old)) (W.contents (inside writer.new))) }
+    ensures working { OnOk result (streams.has_failed writer.new ≡ streams.has_failed writer.old) }
+    ensures stopped { IfErr result (λ e. Stopped (has_failed session.old) (IsOn (has_failed session.old) (state S.Store (held session.old)) (state S.Store (held session.new)))
+        (R.remaining (inside reader.old)) (streams.has_failed reader.new) (W.contents (inside writer.old)) (W.contents (inside writer.new)) (streams.has_failed writer.new) e.0) }
+{
+    let response = match respond(alloc, session, reader) {
+        Ok(response) => response,
+        Err(fault) => return Err(PageFault(fault)),
+    };
+    match send(writer, &response) {
+        Sent::Flushed => Ok(()),
+        Sent::Unflushed => Err(PageFault(Fault(97))),
+        Sent::Cut => Err(PageFault(Fault(97))),
+    }
+}
+
+/// A package and an input have one response.
+pub fn one_page()
+    ensures { (p : Package) (input a b : Text) → Page p input a → Page p input b → a ≡ b }
+{}

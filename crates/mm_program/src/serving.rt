@@ -1,0 +1,153 @@
+//! The page served over sockets.
+
+ghost use Rattle.std.specs.Prelude.{◌≡◌, ◌≤◌, ◌⊎◌, IfErr, IfOk};
+ghost use Rattle.sqlite.specs.Held.{state};
+ghost use Rattle.mm_base.specs.Streams.{inside};
+ghost use Rattle.mm_base.specs.Streams as streams;
+ghost use Rattle.mm_core.specs.Parts.{held, has_failed};
+ghost use Rattle.mm_page.specs.Served.{LeavesPackage};
+ghost use Rattle.mm_work.specs.Pages.{IsServed, IsServiceFault};
+ghost use Rattle.mm_work.specs.Told.{TellsFailure};
+
+use crate::files::{close_files, open_old};
+use mm_base::answers::{Fault, PageFault};
+use mm_base::streams::Io;
+use mm_core::Session;
+use mm_page::serve_one;
+use mm_work::{DONE, FAULT, Stop, adopt_package, tell_page_fault, tell_serving, tell_stop};
+use sqlite::{Alter, Start, Wary};
+use std::alloc::Global;
+use std::io;
+use std::io::Write;
+use std::net::{Ipv4Addr, TcpListener, TcpStream};
+use std::time::Duration;
+
+/// How many seconds a read or write of a connection may wait, so that a client that says nothing can't stop the page.
+const PATIENCE: u64 = 10;
+
+/// The next connection, whose reads and writes wait for ten seconds at most.
+fn next_stream(listener: &TcpListener) -> io::Result<TcpStream> {
+    let (stream, _address) = listener.accept()?;
+    let patience = Some(Duration::from_secs(PATIENCE));
+    stream.set_read_timeout(patience)?;
+    stream.set_write_timeout(patience)?;
+    Ok(stream)
+}
+
+/// Serves the next connection. 96 where there is none to be had.
+fn serve_next<S: Alter>(
+    alloc: Global,
+    session: &mut Session<S>,
+    listener: &TcpListener,
+) -> Result<(), PageFault>
+    ensures same { has_failed session.new ≡ has_failed session.old }
+    ensures kept { LeavesPackage (state S.Store (held session.old)) (state S.Store (held session.new)) }
+    ensures fault { IfErr result (λ why. IsServiceFault why.0) }
+{
+    let Ok(stream) = next_stream(listener) else {
+        return Err(PageFault(Fault(96)));
+    };
+    let mut reader = Io::new(&stream);
+    let mut writer = Io::new(&stream);
+    serve_one(alloc, session, &mut reader, &mut writer)
+}
+
+/// Serves so many connections, one after another. The fault of a connection is printed as `page fault NUMBER`, and the next is
+/// served. It answers the exit status: 0, or 3 where a connection met a fault, or where a fault couldn't be printed, which ends it.
+/// The session stays as it is.
+pub fn serve_on<S: Alter, W: Write>(
+    alloc: Global,
+    session: &mut Session<S>,
+    listener: &TcpListener,
+    count: u32,
+    output: &mut Io<W>,
+) -> u8
+    ensures same { has_failed session.new ≡ has_failed session.old }
+    ensures kept { LeavesPackage (state S.Store (held session.old)) (state S.Store (held session.new)) }
+    ensures served { IsServed count (W.contents (inside output.old)) (W.contents (inside output.new)) (streams.has_failed output.old) (streams.has_failed output.new) result }
+{
+    let mut status = DONE;
+    for served in 0..count {
+        if let Err(fault) = serve_next(alloc, session, listener) {
+            if !tell_page_fault(output, fault) {
+                return FAULT;
+            }
+            status = FAULT;
+        }
+    }
+    status
+}
+
+/// Binds the port on the loopback address, and serves so many connections on it. 96 where it can't be bound.
+fn serve_port<S: Alter, W: Write>(
+    rt: &HostRuntime,
+    session: &mut Session<S>,
+    port: u16,
+    count: u32,
+    output: &mut Io<W>,
+) -> Result<u8, Stop>
+    ensures status { IfOk result (λ status. status ≤ 3) }
+    ensures working { IfOk result (λ status. (status ≡ 3) ⊎ (streams.has_failed output.new ≡ streams.has_failed output.old)) }
+    ensures unused { IfErr result (λ why. streams.has_failed output.new ≡ streams.has_failed output.old) }
+{
+    let Ok(listener) = TcpListener::bind(rt, (Ipv4Addr::LOCALHOST, port)) else {
+        return Err(Stop::Fault(Fault(96)));
+    };
+    if !tell_serving(output, port) {
+        return Ok(FAULT);
+    }
+    Ok(serve_on(rt.alloc(), session, &listener, count, output))
+}
+
+/// Serves the package of a file. The port is bound once the file is adopted.
+fn serve_file<S: Start, W: Write>(
+    rt: &HostRuntime,
+    path: &str,
+    start: S,
+    port: u16,
+    count: u32,
+    output: &mut Io<W>,
+) -> Result<u8, Stop>
+    ensures status { IfOk result (λ status. status ≤ 3) }
+    ensures working { IfOk result (λ status. (status ≡ 3) ⊎ (streams.has_failed output.new ≡ streams.has_failed output.old)) }
+    ensures unused { IfErr result (λ why. streams.has_failed output.new ≡ streams.has_failed output.old) }
+{
+    let conn = match open_old(rt, path, start) {
+        Ok(conn) => conn,
+        Err(why) => return Err(why),
+    };
+    let mut session = match adopt_package(rt.alloc(), conn) {
+        Ok(session) => session,
+        Err(why) => return Err(why),
+    };
+    let served = serve_port(rt, &mut session, port, count, output);
+    let closed = close_files(session.close());
+    let status = match served {
+        Ok(status) => status,
+        Err(why) => return Err(why),
+    };
+    if status == FAULT {
+        return Ok(status);
+    }
+    match closed {
+        Ok(()) => Ok(status),
+        Err(why) => Err(why),
+    }
+}
+
+/// The subcommand `serve`.
+pub(crate) fn serve_told<W: Write>(
+    rt: &HostRuntime,
+    path: &str,
+    port: u16,
+    count: u32,
+    output: &mut Io<W>,
+) -> u8
+    ensures status { result ≤ 4 }
+    ensures unprinted { TellsFailure (streams.has_failed output.old) (streams.has_failed output.new) result }
+{
+    match serve_file(rt, path, Wary, port, count, output) {
+        Ok(status) => status,
+        Err(why) => tell_stop(output, why),
+    }
+}

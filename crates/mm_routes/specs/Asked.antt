@@ -1,0 +1,35 @@
+-- What the path of a request asks for.
+use Rattle.std.specs.Prelude.{◌≡◌, ℤ, pos, ◌≤ℤ◌, [], ◌∷◌, ◌++◌, List, codes}
+use Rattle.mm_base.specs.Bounds.{IsName}
+use Rattle.mm_base.specs.Keys.{Text}
+use Rattle.mm_base.specs.Numbers.{Spells}
+
+-- a tile, a medium, what an item is related to, or the tables
+pub data Wanted : Type 0 where
+  Tile : (table : Text) (zoom column row : ℤ) → Wanted
+  Media : (table : Text) (id : ℤ) → Wanted
+  Related : (table : Text) (id : ℤ) → Wanted
+  Contents : Wanted
+
+-- the text spells this number, which is within these limits
+abbrev pub Numbers : ℤ → ℤ → Text → ℤ → Type 0
+Numbers least most text z = Spells text z × (least ≤ℤ z) × (z ≤ℤ most)
+
+-- a path of these parts, each after a slash
+abbrev pub path_from : List Text → Text
+path_from [] = []
+path_from (part ∷ []) = 47 ∷ part
+path_from (part ∷ next ∷ rest) = 47 ∷ (part ++ path_from (next ∷ rest))
+
+-- The table of routes: a table's name, then numbers within their limits.
+abbrev pub Asks : Text → Wanted → Type 0
+Asks path (Tile table z c r) = (zoom column row : Text)
+    × (path ≡ path_from (codes "tiles" ∷ table ∷ zoom ∷ column ∷ row ∷ []))
+    × IsName table × Numbers (pos 0) (pos 30) zoom z × Numbers (pos 0) (pos 1073741823) column c × Numbers (pos 0) (pos 1073741823) row r
+Asks path (Media table i) = (id : Text)
+    × (path ≡ path_from (codes "media" ∷ table ∷ id ∷ []))
+    × IsName table × Numbers (pos 1) (pos 9007199254740992) id i
+Asks path (Related table i) = (id : Text)
+    × (path ≡ path_from (codes "related" ∷ table ∷ id ∷ []))
+    × IsName table × Numbers (pos 1) (pos 9007199254740992) id i
+Asks path Contents = path ≡ path_from (codes "contents" ∷ [])

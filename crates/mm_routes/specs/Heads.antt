@@ -1,0 +1,24 @@
+-- The head of a request at the front of some bytes, by `httparse`'s grammar.
+use Rattle.std.specs.Prelude.{ℕ, ◌≤◌, List, length, take, Option, None, Some, ⊤}
+use Rattle.httparse.specs.Grammar.{ReadsRequest, RequestHead, print_request}
+use Rattle.httparse.specs.Spans.{IsRequestAt, IsRequestOf, IsRequestWithin}
+use Rattle.httparse.specs.declared.spans.HeaderSpan.{HeaderSpan}
+use Rattle.httparse.specs.declared.spans.RequestSpans.{RequestSpans}
+
+-- the head at the front of the input, of at most so many bytes and header lines
+pub record IsHead (limit room : ℕ) (input : List ℕ) (h : RequestHead) : Type 0 where
+  pub rest : List ℕ
+  pub reads : ReadsRequest input h rest
+  pub short : length (print_request h) ≤ limit
+  pub few : length h.fields ≤ room
+
+-- what reading the head of an input answers: the head that it has, with its parts in so many bytes of the buffer, or that it has none
+abbrev pub Heads : ℕ → ℕ → List ℕ → List ℕ → List HeaderSpan → Option (ℕ × RequestSpans) → Type 0
+Heads limit room input buf headers None = (h : RequestHead) → ¬ (IsHead limit room input h)
+Heads limit room input buf headers (Some (n, spans)) = (n ≤ length buf) × IsRequestWithin (take n buf) headers spans
+    × (h : RequestHead) × IsHead limit room input h × IsRequestAt (take n buf) headers spans h
+
+-- the parts of the head that was found lie in the buffer, whatever is known of the input
+abbrev pub Lies : List ℕ → List HeaderSpan → Option (ℕ × RequestSpans) → Type 0
+Lies buf headers None = ⊤
+Lies buf headers (Some (n, spans)) = (n ≤ length buf) × IsRequestWithin (take n buf) headers spans × IsRequestOf (take n buf) headers spans

@@ -1,0 +1,4 @@
+pub mod Heads
+pub mod Asked
+pub mod Routes
+pub mod Responses

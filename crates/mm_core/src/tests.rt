@@ -1,5 +1,7 @@
 //! Runs on a package in memory.
 
+mod looking;
+
 use crate::session::Session;
 use mm_base::answers::{Open, Tally};
 use mm_base::moments::Moment;

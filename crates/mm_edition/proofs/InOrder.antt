@@ -1,19 +1,19 @@
 -- The pieces of an open edition, in the list that publishing goes along, are numbered 1, 2, 3 and so on.
-use Rattle.std.proofs.Common.{◌≡◌, ◌≢◌, ◌⊎◌, inl, inr, ℕ, suc, ◌≤◌, ◌+◌, ℤ, pos, ◌≤ℤ◌, ◌<ℤ◌, Bool, true, false, cond, ◌&&◌, List, [], ◌∷◌, Option, Some, None, is_some, refl, sym, ap, subst, ◌∙◌, arith}
+use Rattle.std.proofs.Common.{◌≡◌, ◌≢◌, ◌⊎◌, inl, inr, ℕ, suc, ◌≤◌, ℤ, pos, ◌≤ℤ◌, ◌<ℤ◌, Bool, true, false, cond, ◌&&◌, List, [], ◌∷◌, Option, Some, None, is_some, refl, sym, ap, subst, ◌∙◌, arith}
 use Rattle.std.proofs.lemmas.Int.{ints}
 use Rattle.std.specs.Prelude.{T}
 use Rattle.std.specs.declared.cmp.Ordering.{Ordering}
 use Rattle.std.specs.declared.cmp.Ordering.TheVariants.{Less, Equal, Greater}
-use Rattle.std.specs.Ordering.{is_eq, is_lt, int_cmp, ordering_then, eq_by_cmp}
+use Rattle.std.specs.Ordering.{is_eq, is_lt, int_cmp, ordering_then}
 use Rattle.std.specs.Cmp.{int_cmp_is}
-use Rattle.std.specs.FinMap.{FinMap, get, entries, entries_sorted, find, is_sorted, get-entries, retain_keys}
+use Rattle.std.specs.FinMap.{get, entries, entries_sorted, find, is_sorted, get-entries, retain_keys}
 use Rattle.std.specs.FinMap.Entries.{below_all}
 use Rattle.mm_base.specs.Keys.{Text, text_cmp, same_text, PieceKey, piece, piece_cmp}
 use Rattle.mm_base.specs.Parts.{Stands}
 use Rattle.mm_base.specs.Package.{Package, PieceRow, PiecesPart}
 use Rattle.mm_base.specs.Rules.{IsNumbered}
 use Rattle.mm_base.specs.Conditions.{pieces_of}
-use Rattle.mm_base.proofs.Parts.{IsKeyOrder, same_key, same_itself, not_none, some_of, kept, after_retain}
+use Rattle.mm_base.proofs.Parts.{same_key, same_itself, kept, after_retain}
 use Rattle.mm_base.proofs.KeyLaws.{texts, piece_keys}
 use Rattle.mm_laws.proofs.KindFacts.{are_same}
 
@@ -99,22 +99,21 @@ module _ (m : PiecesPart) (edition : Text) (n : ℕ) (numbered : IsNumbered m ed
       let is_i : e.0.number ≡ pos i = elim (lower_or_same i e.0.number first.2) as (λ _. e.0.number ≡ pos i) [
         | inl s ↦ s
         | inr less ↦
-          let ranged = ((numbered e.0.number).0 (ap is_some (ap (get m) (sym named) ∙ first.0))).1 in
-          let there = all (pos i) (same_is i) ((numbered (pos i)).1 (one_or_more i low, at_most i n e.0.number less ranged)) in
-          let apart : piece edition (pos i) ≢ e.0 = λ s. differ i e.0.number less (sym (ap (λ (k : PieceKey). k.number) s)) in
-          let behind = ap is_some (sym (past_first e es (piece edition (pos i)) apart)) ∙ there in
-          absurd (higher_not_below edition (pos i) e.0.number less (subst (λ k. T (is_lt (piece_cmp k (piece edition (pos i))))) named (found_below e.0 (piece edition (pos i)) es parts.0 behind)))
+            let ranged = ((numbered e.0.number).0 (ap is_some (ap (get m) (sym named) ∙ first.0))).1 in
+            let there = all (pos i) (same_is i) ((numbered (pos i)).1 (one_or_more i low, at_most i n e.0.number less ranged)) in
+            let apart : piece edition (pos i) ≢ e.0 = λ s. differ i e.0.number less (sym (ap (λ (k : PieceKey). k.number) s)) in
+            let behind = ap is_some (sym (past_first e es (piece edition (pos i)) apart)) ∙ there in
+            absurd (higher_not_below edition (pos i) e.0.number less (subst (λ k. T (is_lt (piece_cmp k (piece edition (pos i))))) named (found_below e.0 (piece edition (pos i)) es parts.0 behind)))
       ] in
-      let key : e.0 ≡ piece edition (pos i) = named ∙ ap (piece edition) is_i in
-      (
+      let key : e.0 ≡ piece edition (pos i) = named ∙ ap (piece edition) is_i in (
         key,
         first.0,
         in_order (suc i) (still i low) es parts.1
-        (λ q x f.
+            (λ q x f.
             let other : q ≢ e.0 = λ s. lost q s x f parts.0 in
             let was = sound q x (past_first e es q other ∙ f) in
             (was.0, was.1, one_more i q.number was.2 (λ s. other (ap (λ t. piece t q.number) was.1 ∙ ap (piece edition) s ∙ sym key))))
-        (λ z high stands. ap is_some (sym (past_first e es (piece edition z) (λ s. not_lower i z high (ap (λ (k : PieceKey). k.number) (s ∙ key))))) ∙ all z (looser i z high) stands),
+            (λ z high stands. ap is_some (sym (past_first e es (piece edition z) (λ s. not_lower i z high (ap (λ (k : PieceKey). k.number) (s ∙ key))))) ∙ all z (looser i z high) stands),
       )
     where
       same_is : (i : ℕ) → pos i ≤ℤ pos i

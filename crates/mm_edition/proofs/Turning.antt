@@ -1,5 +1,5 @@
 -- How the look for a piece and the call that it is taken as make one turn of publishing.
-use Rattle.std.proofs.Common.{◌≡◌, ℕ, pos, Bool, Option, Some, None, option_map, Result, Ok, Err, refl, sym, ap, subst, ◌∙◌, arith}
+use Rattle.std.proofs.Common.{◌≡◌, ℕ, pos, Option, Some, None, option_map, Result, Ok, Err, refl, sym, ap, subst, ◌∙◌, arith}
 use Rattle.std.specs.FinMap.{get}
 use Rattle.sqlite.specs.State.{State}
 use Rattle.mm_base.specs.Bounds.{Profile}
@@ -8,7 +8,7 @@ use Rattle.mm_base.specs.Package.{Package}
 use Rattle.mm_base.specs.Pieces.{piece_row, piece_by_kind, piece_command}
 use Rattle.mm_base.specs.Rules.{Meets, IsSpelled}
 use Rattle.mm_base.specs.Stamp.{IsStamp, stamp}
-use Rattle.mm_base.specs.Within.{IsWithin, IsPieceWithin}
+use Rattle.mm_base.specs.Within.{IsPieceWithin}
 use Rattle.mm_base.specs.Conditions.{least, piece_reasons}
 use Rattle.mm_base.specs.Effects.{piece_effect}
 use Rattle.mm_base.specs.Step.{refusal, refusal_of, step, done, unless_refused}
@@ -102,11 +102,15 @@ module _ (profile : Profile) (edition : Text) (number moment : ℕ) where
             let end = (rw done_is at lent.answers) clean ground p (put mid ground p it seen.1 seen.2) in
             let none = no_reason (least (piece_reasons p q)) (sym (piece_refusal p q) ∙ end.0) in
             let next : step p (piece_command q) moment ≡ piece_effect p q (stamp moment) = ap (λ r. unless_refused r (done p (piece_command q) (stamp moment)) p) end.0 ∙ piece_done p q (stamp moment) in
-            let low = stamped_moment moment at stamped in
-            (q, there, none, record {
-              meets = piece_keeps q profile p moment (stamp moment) it.meets within low (stamp_is moment low) none;
-              inside = subst (IsInside profile new ground) next end.2;
-            });
+            let low = stamped_moment moment at stamped in (
+              q,
+              there,
+              none,
+              record {
+                meets = piece_keeps q profile p moment (stamp moment) it.meets within low (stamp_is moment low) none;
+                inside = subst (IsInside profile new ground) next end.2;
+              },
+            );
         faults = tt;
       }
 

@@ -158,13 +158,7 @@ fn relate<S: Alter>(tx: &mut Transaction<'_, S>, command: &Command) -> Result<Ou
             base,
             related,
             name,
-        } => add_relation(
-            tx,
-            mapping.as_str(),
-            base.as_str(),
-            related.as_str(),
-            *name,
-        ),
+        } => add_relation(tx, mapping.as_str(), base.as_str(), related.as_str(), *name),
         Command::RelationDrop { mapping } => drop_relation(tx, mapping.as_str()),
         Command::Map {
             mapping,

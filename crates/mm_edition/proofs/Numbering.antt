@@ -172,6 +172,10 @@ module _ (p : Package) (edition : Text) (number : ℤ) (q : Piece) where
               let s : Stands p.pieces (piece edition (number -ℤ pos 1)) = (numbered (number -ℤ pos 1)).1 (one_low number is.1, h) in
               let f : false ≡ true = sym is.2 ∙ s in cc)
 
+      -- the next number, of which there is room
+      pub stage_next : IsBehind p edition number → number ≤ℤ pos 4096 → why ≡ None
+      stage_next is room = (stage_behind Next (is, room)).0
+
 -- of a package that meets the rules
 module _ (profile : Profile) (p : Package) (edition : Text) (number : ℤ) (q : Piece) (meets : Meets profile p) (low : IsId number) (open_is : get p.editions edition ≡ Some open_state) where
   pub placed : (written row : PieceRow) → written ≡ piece_row q → get p.pieces (piece edition number) ≡ Some row → (place : Place) → IsPlaceAt written row place → IsPlace p edition number q place

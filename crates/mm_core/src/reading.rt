@@ -2,8 +2,9 @@
 
 use crate::session::Session;
 use mm_base::answers::Fault;
-use mm_base::entries::{Entry, Media, Related, Row};
+use mm_base::entries::{EditionState, Entry, Media, Related, Row};
 use mm_base::names::Name;
+use mm_edition::edition;
 use mm_reads::{contents, media, row, tile};
 use mm_related::related;
 use sqlite::Alter;
@@ -19,6 +20,7 @@ impl<S: Alter> Session<S> {
     ghost use Rattle.mm_reads.specs.Told.{TellsBytes, medium_of, row_of};
     ghost use Rattle.mm_reads.specs.Listing.{Lists};
     ghost use Rattle.mm_related.specs.Related.{Tells};
+    ghost use Rattle.mm_edition.specs.States.{TellsState};
     ghost use Rattle.mm_core.specs.Parts.{held, has_failed};
 
     /// The bytes of the tile of a pyramid at a zoom, column and row, or None where none stands there. (Tile Pyramid User
@@ -103,5 +105,20 @@ impl<S: Alter> Session<S> {
             return Err(Fault(92));
         }
         related(self.alloc, &mut self.conn, table.as_str(), id)
+    }
+
+    /// How an edition stands, or None where none has the name: open with so many pieces, or published.
+    ///
+    /// 92 where the session has to be opened again, and then nothing is asked of the store. After another fault the session goes
+    /// on, and the package and what may be left are as they were.
+    pub fn edition(&mut self, name: &Name) -> Result<Option<EditionState>, Fault>
+        ensures ended { has_failed self.old ≡ true → (result ≡ Err (record { 0 = 92 })) × (self.new ≡ self.old) }
+        ensures same { has_failed self.new ≡ has_failed self.old }
+        ensures read { has_failed self.old ≡ false → IsRead millimetres (state S.Store (held self.old)) (state S.Store (held self.new)) (λ p found. TellsState p name.now found) result }
+    {
+        if self.failed {
+            return Err(Fault(92));
+        }
+        edition(&mut self.conn, name.as_str())
     }
 }

@@ -1,5 +1,5 @@
 -- A look whose answer can't be taken for want of memory, or is none that the rules let stand.
-use Rattle.std.proofs.Common.{◌≡◌, inl, inr, Bool, true, false, refl, if◌then◌else◌, Ok, Err}
+use Rattle.std.proofs.Common.{inl, inr, Bool, true, false, refl, if◌then◌else◌, Ok, Err}
 use Rattle.sqlite.specs.State.{State}
 use Rattle.sqlite.specs.declared.error.Error.{Error}
 use Rattle.mm_base.specs.Bounds.{Profile}

@@ -1,19 +1,19 @@
 -- The pieces of an open edition, in the list that publishing goes along, are numbered 1, 2, 3 and so on.
-use Rattle.std.proofs.Common.{◌≡◌, ◌≢◌, ◌⊎◌, inl, inr, ℕ, suc, ◌≤◌, ◌+◌, ℤ, pos, ◌≤ℤ◌, ◌<ℤ◌, Bool, true, false, cond, ◌&&◌, List, [], ◌∷◌, Option, Some, None, is_some, refl, sym, ap, subst, ◌∙◌, arith}
+use Rattle.std.proofs.Common.{◌≡◌, ◌≢◌, ◌⊎◌, inl, inr, ℕ, suc, ◌≤◌, ℤ, pos, ◌≤ℤ◌, ◌<ℤ◌, Bool, true, false, cond, ◌&&◌, List, [], ◌∷◌, Option, Some, None, is_some, refl, sym, ap, subst, ◌∙◌, arith}
 use Rattle.std.proofs.lemmas.Int.{ints}
 use Rattle.std.specs.Prelude.{T}
 use Rattle.std.specs.declared.cmp.Ordering.{Ordering}
 use Rattle.std.specs.declared.cmp.Ordering.TheVariants.{Less, Equal, Greater}
-use Rattle.std.specs.Ordering.{is_eq, is_lt, int_cmp, ordering_then, eq_by_cmp}
+use Rattle.std.specs.Ordering.{is_eq, is_lt, int_cmp, ordering_then}
 use Rattle.std.specs.Cmp.{int_cmp_is}
-use Rattle.std.specs.FinMap.{FinMap, get, entries, entries_sorted, find, is_sorted, get-entries, retain_keys}
+use Rattle.std.specs.FinMap.{get, entries, entries_sorted, find, is_sorted, get-entries, retain_keys}
 use Rattle.std.specs.FinMap.Entries.{below_all}
 use Rattle.mm_base.specs.Keys.{Text, text_cmp, same_text, PieceKey, piece, piece_cmp}
 use Rattle.mm_base.specs.Parts.{Stands}
 use Rattle.mm_base.specs.Package.{Package, PieceRow, PiecesPart}
 use Rattle.mm_base.specs.Rules.{IsNumbered}
 use Rattle.mm_base.specs.Conditions.{pieces_of}
-use Rattle.mm_base.proofs.Parts.{IsKeyOrder, same_key, same_itself, not_none, some_of, kept, after_retain}
+use Rattle.mm_base.proofs.Parts.{same_key, same_itself, kept, after_retain}
 use Rattle.mm_base.proofs.KeyLaws.{texts, piece_keys}
 use Rattle.mm_laws.proofs.KindFacts.{are_same}
 

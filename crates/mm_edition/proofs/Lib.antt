@@ -10,3 +10,4 @@ pub mod InOrder
 pub mod Trials
 pub mod Tries
 pub mod Rehearsed
+pub mod LastPiece

@@ -1,15 +1,15 @@
 -- For which number a piece is not staged, from what was looked up.
-use Rattle.std.proofs.Common.{◌≡◌, ◌≢◌, ◌⊎◌, inl, inr, ℕ, ◌+◌, ◌≤◌, ℤ, pos, ◌≤ℤ◌, ◌<ℤ◌, ◌-ℤ◌, Bool, true, false, not, ◌&&◌, ◌||◌, ◌==◌, int_lt, int_le, [], ◌∷◌, Option, Some, None, is_some, refl, sym, ap, subst, ◌∙◌, arith}
+use Rattle.std.proofs.Common.{◌≡◌, ◌≢◌, ◌⊎◌, inl, inr, ℕ, ◌+◌, ◌≤◌, ℤ, pos, ◌≤ℤ◌, ◌<ℤ◌, ◌-ℤ◌, Bool, true, false, not, ◌&&◌, ◌||◌, ◌==◌, int_lt, int_le, [], ◌∷◌, Option, Some, None, is_some, refl, sym, ap, ◌∙◌, arith}
 use Rattle.std.proofs.lemmas.Int.{ints}
 use Rattle.std.proofs.lemmas.Bool.Decides.{nat_tests}
 use Rattle.std.specs.FinMap.{get, contains_key}
 use Rattle.mm_base.specs.Bounds.{Profile, IsId, MostPieces}
 use Rattle.mm_base.specs.Keys.{Text, same_text, same_number, piece}
-use Rattle.mm_base.specs.Parts.{Has, Stands, at_value}
+use Rattle.mm_base.specs.Parts.{Stands, at_value}
 use Rattle.mm_base.specs.Package.{Package, PieceRow, PiecesPart, open_state, published_state}
 use Rattle.mm_base.specs.Pieces.{piece_row, same_piece}
 use Rattle.mm_base.specs.Rules.{Meets, IsNumbered}
-use Rattle.mm_base.specs.Conditions.{least, own_reasons, is_open, piece_count, has_equal_piece}
+use Rattle.mm_base.specs.Conditions.{least, own_reasons, piece_count, has_equal_piece}
 use Rattle.mm_base.specs.declared.commands.Command.TheVariants as commands
 use Rattle.mm_base.specs.declared.commands.Piece.{Piece}
 use Rattle.mm_base.specs.Stamp.{stamp}
@@ -171,6 +171,10 @@ module _ (p : Package) (edition : Text) (number : ℤ) (q : Piece) where
           not_before = beyond n (number -ℤ pos 1) (λ h.
               let s : Stands p.pieces (piece edition (number -ℤ pos 1)) = (numbered (number -ℤ pos 1)).1 (one_low number is.1, h) in
               let f : false ≡ true = sym is.2 ∙ s in cc)
+
+      -- the next number, of which there is room
+      pub stage_next : IsBehind p edition number → number ≤ℤ pos 4096 → why ≡ None
+      stage_next is room = (stage_behind Next (is, room)).0
 
 -- of a package that meets the rules
 module _ (profile : Profile) (p : Package) (edition : Text) (number : ℤ) (q : Piece) (meets : Meets profile p) (low : IsId number) (open_is : get p.editions edition ≡ Some open_state) where

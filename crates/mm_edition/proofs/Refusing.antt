@@ -1,5 +1,5 @@
 -- For which number a command on an edition is refused, from how the edition stands.
-use Rattle.std.proofs.Common.{◌≡◌, ℕ, Bool, not, ◌&&◌, [], ◌∷◌, Option, Some, None, is_some, refl, sym, ap}
+use Rattle.std.proofs.Common.{◌≡◌, ℕ, not, ◌&&◌, [], ◌∷◌, Option, Some, None, is_some, sym, ap}
 use Rattle.std.specs.FinMap.{get}
 use Rattle.mm_base.specs.Keys.{Text, same_text}
 use Rattle.mm_base.specs.Parts.{at_value}

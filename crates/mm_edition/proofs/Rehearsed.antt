@@ -12,7 +12,7 @@ use Rattle.mm_base.specs.declared.answers.Fault.{Fault}
 use Rattle.mm_base.specs.declared.answers.Outcome.{Outcome}
 use Rattle.mm_base.specs.declared.answers.Outcome.TheVariants.{Done, Refused}
 use Rattle.mm_base.specs.declared.commands.Command.TheVariants as commands
-use Rattle.mm_store.specs.Stands.{Ground, ground_of, IsSettled}
+use Rattle.mm_store.specs.Stands.{ground_of, IsSettled}
 use Rattle.mm_store.specs.Statements.{CommitsNothing}
 use Rattle.mm_store.specs.Shapes.{IsPut, IsTried, Tries}
 use Rattle.mm_store.proofs.Transactions.{rolled_quiet, rolled_back}

@@ -1,7 +1,7 @@
 -- What the row of a staged piece shows.
 use Rattle.std.proofs.Common.{◌≡◌, ℕ, Bool, true, false, not, ◌&&◌, [], ◌∷◌, List, Option, Some, None, refl, sym, ap, subst, ◌∙◌}
 use Rattle.sqlite.specs.declared.types.Value.TheVariants.{Int, Text as Words, Blob}
-use Rattle.sqlite.specs.Order.{Row, column}
+use Rattle.sqlite.specs.Order.{Row}
 use Rattle.sqlite.specs.Term.{Term, col}
 use Rattle.std.specs.FinMap.{FinMap, get}
 use Rattle.sql_forms.specs.Tables.{Finds}

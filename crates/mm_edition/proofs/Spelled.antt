@@ -1,9 +1,8 @@
 -- A kept row that spells a piece is that piece's row, where the rules hold.
-use Rattle.std.proofs.Common.{◌≡◌, Option, Some, sym, ap, ◌∙◌}
+use Rattle.std.proofs.Common.{◌≡◌, Some, sym, ap, ◌∙◌}
 use Rattle.mm_base.specs.Package.{PieceRow}
 use Rattle.mm_base.specs.Pieces.{piece_row, piece_by_kind}
 use Rattle.mm_base.specs.Rules.{IsSpelled}
-use Rattle.mm_base.specs.Within.{IsPieceWithin}
 use Rattle.mm_base.specs.declared.commands.Piece.{Piece}
 use Rattle.mm_base.proofs.Parts.{same_some}
 use Rattle.mm_laws.proofs.Published.{by_kind}

@@ -1,5 +1,5 @@
 -- How far the publishing of an edition has come, piece by piece.
-use Rattle.std.proofs.Common.{◌≡◌, inl, inr, arith, le_refl, ℕ, suc, ◌+◌, pos, unsigned_abs, List, [], ◌∷◌, Option, Some, None, Result, Ok, Err, IsTrue, is_some, refl, sym, ap, subst, ◌∙◌}
+use Rattle.std.proofs.Common.{◌≡◌, inl, inr, arith, le_refl, ℕ, suc, ◌+◌, pos, unsigned_abs, List, [], ◌∷◌, Option, Some, None, Ok, Err, refl, sym, ap, subst, ◌∙◌}
 use Rattle.std.specs.FinMap.{get}
 use Rattle.sqlite.specs.State.{State, HasCleanDisk}
 use Rattle.mm_base.specs.Bounds.{Profile}
@@ -9,7 +9,7 @@ use Rattle.mm_base.specs.Pieces.{piece_row, row_piece}
 use Rattle.mm_base.specs.Stamp.{stamp}
 use Rattle.mm_base.specs.Conditions.{least, piece_reasons, pieces_of}
 use Rattle.mm_base.specs.Effects.{piece_effect, touched_row}
-use Rattle.mm_base.specs.Editions.{PieceRefusal, decided, piece_trial, after_trial, trial, edition_trial}
+use Rattle.mm_base.specs.Editions.{decided, piece_trial, after_trial, trial, edition_trial}
 use Rattle.mm_base.specs.declared.commands.Piece.{Piece}
 use Rattle.mm_base.specs.declared.commands.Piece.TheVariants as pieces
 use Rattle.mm_base.proofs.Parts.{same_some, not_none}

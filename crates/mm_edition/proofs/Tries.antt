@@ -1,5 +1,5 @@
 -- How a look at the edition, the trial of its pieces and its closing make one publishing.
-use Rattle.std.proofs.Common.{◌≡◌, inl, inr, ℕ, Bool, true, false, not, ◌&&◌, ◌++◌, is_err, [], ◌∷◌, Option, Some, None, is_some, Result, Ok, Err, refl, sym, ap, subst, ◌∙◌, arith}
+use Rattle.std.proofs.Common.{◌≡◌, inl, inr, ℕ, true, not, ◌&&◌, is_err, [], ◌∷◌, Option, Some, None, is_some, Result, Ok, Err, refl, sym, ap, subst, ◌∙◌, arith}
 use Rattle.std.specs.FinMap.{get, contains_key}
 use Rattle.sqlite.specs.State.{State, HasCleanDisk}
 use Rattle.mm_base.specs.Bounds.{Profile}
@@ -17,7 +17,7 @@ use Rattle.mm_base.specs.declared.answers.Outcome.TheVariants as outcome
 use Rattle.mm_base.specs.declared.commands.Command.TheVariants as commands
 use Rattle.mm_base.proofs.Parts.{same_some}
 use Rattle.mm_laws.proofs.AnyStamp.{any_stamp}
-use Rattle.mm_store.specs.Stands.{Ground, StandsOn, IsInside}
+use Rattle.mm_store.specs.Stands.{Ground, IsInside}
 use Rattle.mm_store.specs.Shapes.{IsLook, IsChange, IsPut, IsTried}
 use Rattle.mm_store.proofs.Shapes.{quiet_then}
 use Rattle.mm_edition.specs.Turns.{IsReady, IsTrial}

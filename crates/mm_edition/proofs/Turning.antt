@@ -1,5 +1,5 @@
 -- How the look for a piece and the call that it is taken as make one turn of publishing.
-use Rattle.std.proofs.Common.{◌≡◌, ℕ, pos, Bool, Option, Some, None, option_map, Result, Ok, Err, refl, sym, ap, subst, ◌∙◌, arith}
+use Rattle.std.proofs.Common.{◌≡◌, ℕ, pos, Option, Some, None, option_map, Result, Ok, Err, refl, sym, ap, subst, ◌∙◌, arith}
 use Rattle.std.specs.FinMap.{get}
 use Rattle.sqlite.specs.State.{State}
 use Rattle.mm_base.specs.Bounds.{Profile}
@@ -8,7 +8,7 @@ use Rattle.mm_base.specs.Package.{Package}
 use Rattle.mm_base.specs.Pieces.{piece_row, piece_by_kind, piece_command}
 use Rattle.mm_base.specs.Rules.{Meets, IsSpelled}
 use Rattle.mm_base.specs.Stamp.{IsStamp, stamp}
-use Rattle.mm_base.specs.Within.{IsWithin, IsPieceWithin}
+use Rattle.mm_base.specs.Within.{IsPieceWithin}
 use Rattle.mm_base.specs.Conditions.{least, piece_reasons}
 use Rattle.mm_base.specs.Effects.{piece_effect}
 use Rattle.mm_base.specs.Step.{refusal, refusal_of, step, done, unless_refused}

@@ -1,5 +1,5 @@
 -- A lent call that is accepted and changes nothing.
-use Rattle.std.proofs.Common.{◌≡◌, ℕ, None, Ok, sym, subst, ◌∙◌}
+use Rattle.std.proofs.Common.{◌≡◌, ℕ, None, Ok, sym, subst}
 use Rattle.sqlite.specs.State.{State}
 use Rattle.mm_base.specs.Bounds.{Profile}
 use Rattle.mm_base.specs.Package.{Package}

@@ -3,3 +3,4 @@ pub mod Kept
 pub mod Places
 pub mod Turns
 pub mod Rehearsals
+pub mod States

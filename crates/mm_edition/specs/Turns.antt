@@ -1,5 +1,5 @@
 -- What becomes of one piece that is published, and of all of them.
-use Rattle.std.specs.Prelude.{◌≡◌, ℕ, pos, Option, Some, None, Result, Ok, Err, IsTrue, IfOk, IfErr, ⊤}
+use Rattle.std.specs.Prelude.{◌≡◌, ℕ, pos, Option, Some, None, Result, Ok, Err, IsTrue, IfOk, IfErr}
 use Rattle.std.specs.FinMap.{get}
 use Rattle.sqlite.specs.State.{State, HasCleanDisk}
 use Rattle.mm_base.specs.Bounds.{Profile}

@@ -8,6 +8,7 @@
 //! - `running`: one piece taken as its command.
 //! - `spelling`: the piece that a kept row spells.
 //! - `staging`: `stage`.
+//! - `states`: the read `edition`.
 #![tactic(auto)]
 
 mod editions;
@@ -18,9 +19,11 @@ mod rehearsing;
 mod running;
 mod spelling;
 mod staging;
+mod states;
 
 pub use editions::{discard, open_edition};
 pub use pieces::piece;
 pub use publishing::publish;
 pub use rehearsing::rehearse;
 pub use staging::stage;
+pub use states::edition;

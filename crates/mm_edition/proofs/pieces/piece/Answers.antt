@@ -1,7 +1,6 @@
-use Rattle.std.proofs.Common.{◌≡◌, Some, option_map, pos, rules, sym, ap, ◌∙◌, w64}
+use Rattle.std.proofs.Common.{◌≡◌, Some, option_map, pos, rules, ap, ◌∙◌, w64}
 use Rattle.std.proofs.Math.Facts.{to_z-of_z}
 use mir.Val.{SFits}
-use Rattle.mm_base.specs.Pieces.{piece_row}
 use Rattle.mm_store.proofs.Shapes.{look_as, look_failed}
 use Rattle.mm_contents.proofs.Looking.{look_denied}
 use Rattle.mm_edition.specs.Kept.{kept_row}

@@ -1,19 +1,13 @@
-use Rattle.std.proofs.Common.{◌≡◌, [], ◌∷◌, Option, Some, None, rules, subst}
+use Rattle.std.proofs.Common.{[], ◌∷◌, rules}
 use Rattle.std.specs.FinMap.{get}
 use Rattle.sqlite.specs.declared.types.Value.TheVariants.{Int, Text as Words}
-use Rattle.sqlite.specs.Order.{Row}
 use Rattle.sqlite.specs.Held.{state}
-use Rattle.sql_forms.specs.Tables.{Finds}
-use Rattle.sql_forms.proofs.Selects.{selects_one, shows}
-use Rattle.mm_base.specs.Keys.{PieceKey, piece}
-use Rattle.mm_base.specs.Package.{Package}
+use Rattle.sql_forms.proofs.Selects.{selects_one}
+use Rattle.mm_base.specs.Keys.{piece}
 use Rattle.mm_schema.proofs.Selecting as statement
-use Rattle.mm_store.proofs.Parts.{finds_none, finds_some}
-use Rattle.mm_store.proofs.Keys as parts
-use Rattle.mm_store.proofs.Keys.{by_piece}
 use Rattle.mm_store.proofs.Steps.{looks, seen}
 use Rattle.mm_edition.specs.Kept.{IsRowOf}
-use Rattle.mm_edition.proofs.Rows.{piece_terms, found_row}
+use Rattle.mm_edition.proofs.Rows.{found_row}
 use Rattle.mm_edition.proofs.pieces.row_of_piece.Goals as goal
 
 pub returns-clause-look : goal.returns-clause-look

@@ -1,4 +1,3 @@
-use Rattle.std.specs.Prelude.{⊤}
 use Rattle.mm_store.proofs.Shapes.{changes_then, change_failed}
 use Rattle.mm_edition.proofs.publishing.close_edition.Goals as goal
 

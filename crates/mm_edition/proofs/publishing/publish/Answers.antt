@@ -1,4 +1,3 @@
-use Rattle.std.proofs.Common.{sym, ◌∙◌}
 use Rattle.mm_edition.proofs.Tries.{closed_tried, look_tried_in_vain, publish_53, publish_gave_up, publish_done, publish_half_closed}
 use Rattle.mm_edition.proofs.publishing.publish.Goals as goal
 

@@ -1,4 +1,4 @@
-use Rattle.std.proofs.Common.{rules, refl, ◌∙◌}
+use Rattle.std.proofs.Common.{refl, ◌∙◌}
 use Rattle.mm_store.proofs.Shapes.{quiet_then}
 use Rattle.mm_edition.proofs.Trials.{begins, goes_on_after, trial_ended, trial_refused, trial_gave_up, trial_endless, commits_nothing}
 use Rattle.mm_edition.proofs.publishing.try_pieces.Goals as goal

@@ -1,4 +1,4 @@
-use Rattle.std.proofs.Common.{Some, option_map, sym, ap, ◌∙◌}
+use Rattle.std.proofs.Common.{Some, option_map, ap, ◌∙◌}
 use Rattle.std.proofs.Math.Facts.{to_z-of_z}
 use Rattle.mm_store.proofs.Shapes.{look_as, look_failed, look_weaker, looks_then}
 use Rattle.mm_edition.specs.Kept.{kept_row}

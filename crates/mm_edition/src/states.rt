@@ -1,0 +1,86 @@
+//! The read of an edition: whether it is open or published, and how many pieces an open one has.
+
+ghost use Rattle.std.specs.Prelude.{◌≡◌, false};
+ghost use Rattle.sqlite.specs.Values.{bound};
+ghost use Rattle.sqlite.specs.Held.{state};
+ghost use Rattle.mm_base.specs.Bounds.{Profile};
+ghost use Rattle.mm_base.specs.Rules.{Meets};
+ghost use Rattle.mm_store.specs.Shapes.{IsLook, IsRead};
+ghost use Rattle.mm_store.specs.Statements.{IsAsked};
+ghost use Rattle.mm_edition.specs.States.{GivesNumber, IsLast, TellsState};
+
+use crate::editions::{Standing, standing_of};
+use mm_base::answers::Fault;
+use mm_base::entries::EditionState;
+use mm_store::faults::fault_of;
+use mm_store::statements::first;
+use sqlite::types::ValueRef;
+use sqlite::{Alter, Connection, Transaction, params};
+
+/// The number in the first column of the first row of a query. One that no piece has is a fault, 91.
+fn first_number<S: Alter>(
+    tx: &mut Transaction<'_, S>,
+    sql: &str,
+    params: &[ValueRef<'_>],
+) -> Result<Option<u32>, Fault>
+    ensures same_reference { tx.new.conn.ghost_name ≡ tx.old.conn.ghost_name }
+    ensures asked { IsAsked (state S.Store tx.old.conn.now) (state S.Store tx.new.conn.now) sql.now (bound params.now) (λ it first. GivesNumber it first) result }
+{
+    match first(tx, sql, params) {
+        Ok(Some(row)) => match row.get(0) {
+            Ok(number) => Ok(Some(number)),
+            Err(error) => Err(fault_of(error)),
+        },
+        Ok(None) => Ok(None),
+        Err(fault) => Err(fault),
+    }
+}
+
+/// The last piece's number, if the edition has a piece.
+fn last_number<S: Alter>(tx: &mut Transaction<'_, S>, edition: &str) -> Result<Option<u32>, Fault>
+    ensures same_reference { tx.new.conn.ghost_name ≡ tx.old.conn.ghost_name }
+    ensures look { (profile : Profile) → IsLook profile (state S.Store tx.old.conn.now) (state S.Store tx.new.conn.now) (λ p last. IsLast p.pieces edition.now last) result }
+{
+    first_number(
+        tx,
+        "SELECT piece_no FROM mm_pieces WHERE edition = ?1 ORDER BY piece_no DESC LIMIT 1",
+        params![edition],
+    )
+}
+
+/// How an edition stands, inside a transaction.
+fn state_of<S: Alter>(
+    tx: &mut Transaction<'_, S>,
+    edition: &str,
+) -> Result<Option<EditionState>, Fault>
+    ensures same_reference { tx.new.conn.ghost_name ≡ tx.old.conn.ghost_name }
+    ensures look { (profile : Profile) → IsLook profile (state S.Store tx.old.conn.now) (state S.Store tx.new.conn.now) (λ p found. Meets profile p → TellsState p edition.now found) result }
+{
+    match standing_of(tx, edition) {
+        Ok(Some(Standing::Open)) => match last_number(tx, edition) {
+            Ok(Some(number)) => Ok(Some(EditionState::Open(number))),
+            Ok(None) => Ok(Some(EditionState::Open(0))),
+            Err(fault) => Err(fault),
+        },
+        Ok(Some(Standing::Published)) => Ok(Some(EditionState::Published)),
+        Ok(None) => Ok(None),
+        Err(fault) => Err(fault),
+    }
+}
+
+/// How an edition stands, or None where none has the name: open with so many pieces, or published. A fault is 90 where
+/// memory was refused, and else 91, also where a state stands that no package has; the connection is then as settled as
+/// before.
+pub fn edition<S: Alter>(
+    conn: &mut Connection<S>,
+    edition: &str,
+) -> Result<Option<EditionState>, Fault>
+    requires idle { conn.old.in_transaction ≡ false }
+    ensures mode { conn.new.in_transaction ≡ false }
+    ensures read { (profile : Profile) → IsRead profile (state S.Store conn.old) (state S.Store conn.new) (λ p found. TellsState p edition.now found) result }
+{
+    let mut tx = conn.transaction();
+    let found = state_of(&mut tx, edition);
+    tx.rollback();
+    found
+}

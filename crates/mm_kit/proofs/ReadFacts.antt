@@ -1,0 +1,17 @@
+-- What a record is read as, whether or not it is text.
+use Rattle.std.proofs.Common.{inl, Result, Ok, Err}
+use Rattle.csv.specs.Records.{AllText}
+use Rattle.mm_base.specs.Reading.{ReadsTo}
+use Rattle.mm_base.specs.Records.{IsLeast}
+use Rattle.mm_base.specs.declared.answers.ReadFault.{ReadFault}
+use Rattle.mm_base.specs.declared.answers.ReadFault.TheVariants as faults
+use Rattle.mm_lines.specs.Records.{Record}
+use Rattle.std.proofs.Common.{ℕ}
+use Rattle.mm_kit.specs.Entries.{HoldsAgainstEntry, IsEntry}
+use Rattle.mm_kit.specs.Lists.{IsRead}
+use Rattle.mm_kit.specs.declared.entries.Entry.{Entry}
+
+pub text_read : (place : ℕ) (r : Record) (result : Result Entry ReadFault) → AllText r → ReadsTo (IsEntry place r) (IsLeast (HoldsAgainstEntry place r)) result → IsRead place r result
+text_read place r (Ok e) text h = (text, h)
+text_read place r (Err faults.Memory) text h = tt
+text_read place r (Err (faults.Refused why)) text h = (h.0, inl (text, h.1))

@@ -1,0 +1,43 @@
+use Rattle.std.proofs.Common.{◌≡◌, ◌≤◌, ◌<◌, length, Some, None, arith, rules}
+use Rattle.mm_base.specs.declared.entries.EditionState.TheVariants as states
+use Rattle.mm_edition.specs.States.{TellsState}
+use Rattle.mm_kit.proofs.EditionFacts.{open_has}
+use Rattle.mm_kit.proofs.KitFacts.{imported_longer, imported_none, imported_open, imported_published, staged_at_once}
+use Rattle.mm_kit.proofs.importing.import_entries.Goals as goal
+
+pub returns-in-Ok-clause-answered : goal.returns-in-Ok-clause-answered
+returns-in-Ok-clause-answered g c clean p sound these tells =
+    let before = c.in-Ok.ensures.clean clean in
+    let says : TellsState p c.args.name.now (Some (states.Open c.in-Ok-Some-Open.pieces)) = rw (c.in-Ok-Some-Open.field-0-is, c.in-Ok-Some-Open.field-0-0-is) at (c.in-Ok-Some-Open.ensures.tells before p sound.0 sound.1) in
+    let (old, has, size) = open_has p _ _ sound.1 says.0 says.1 in
+    let most : length old ≤ length c.args.entries.items = omega (arith, size, c.if-records-pieces.false, c.len-records.ensures) in
+    imported_open these _ p _ _ old has most _ (c.in-Ok.ensures.answered clean p (c.in-Ok-Some-Open.ensures.settled before p sound.0 sound.1, sound.1) these tells old has most)
+
+pub returns-in-Err-stage_all-clause-stopped : goal.returns-in-Err-stage_all-clause-stopped
+returns-in-Err-stage_all-clause-stopped g c clean p sound these tells =
+    let before = c.in-Err-stage_all.ensures.clean clean in
+    let says : TellsState p c.args.name.now (Some (states.Open c.in-Ok-Some-Open.pieces)) = rw (c.in-Ok-Some-Open.field-0-is, c.in-Ok-Some-Open.field-0-0-is) at (c.in-Ok-Some-Open.ensures.tells before p sound.0 sound.1) in
+    let (old, has, size) = open_has p _ _ sound.1 says.0 says.1 in
+    c.in-Err-stage_all.ensures.stopped clean p (c.in-Ok-Some-Open.ensures.settled before p sound.0 sound.1, sound.1) these tells old has
+
+pub returns-then-records-pieces-clause-answered : goal.returns-then-records-pieces-clause-answered
+returns-then-records-pieces-clause-answered g c clean p sound these tells =
+    let says : TellsState p c.args.name.now (Some (states.Open c.in-Ok-Some-Open.pieces)) = rw (c.in-Ok-Some-Open.field-0-is, c.in-Ok-Some-Open.field-0-0-is) at (c.in-Ok-Some-Open.ensures.tells clean p sound.0 sound.1) in
+    let less : length c.args.entries.items < c.in-Ok-Some-Open.pieces = omega (arith, c.if-records-pieces.true, c.len-records.ensures) in
+    let size : c.args.entries.len ≡ length c.args.entries.items = search rules in
+    rw (c.len-records.ensures, size) (imported_longer these _ p c.args.entries.items _ _ says less (c.in-Ok-Some-Open.ensures.settled clean p sound.0 sound.1, sound.1))
+
+pub returns-in-Ok-Some-Published-clause-answered : goal.returns-in-Ok-Some-Published-clause-answered
+returns-in-Ok-Some-Published-clause-answered g c clean p sound these tells =
+    let says : TellsState p c.args.name.now (Some states.Published) = rw (c.in-Ok-Some-Published.field-0-is, c.in-Ok-Some-Published.field-0-0-is) at (c.in-Ok-Some-Published.ensures.tells clean p sound.0 sound.1) in
+    imported_published these _ p c.args.entries.items _ says (c.in-Ok-Some-Published.ensures.settled clean p sound.0 sound.1, sound.1)
+
+pub returns-in-Ok-None-clause-answered : goal.returns-in-Ok-None-clause-answered
+returns-in-Ok-None-clause-answered g c clean p sound these tells =
+    let says : TellsState p c.args.name.now None = rw c.in-Ok-None.field-0-is at (c.in-Ok-None.ensures.tells clean p sound.0 sound.1) in
+    imported_none these _ p c.args.entries.items _ says (c.in-Ok-None.ensures.settled clean p sound.0 sound.1, sound.1)
+
+pub returns-in-Err-clause-stopped : goal.returns-in-Err-clause-stopped
+returns-in-Err-clause-stopped g c clean p sound these tells =
+    let settled = c.in-Err.ensures.settled clean p sound.0 sound.1 in
+    staged_at_once these c.args.name.now p c.args.entries.items _ g.A.Apply.stands_for sound.1 (λ db may. g.met.A.Apply.leaves_settled _ p settled db may)

@@ -1,0 +1,23 @@
+use Rattle.std.proofs.Common.{◌∙◌, Ok, Err}
+use Rattle.mm_kit.specs.Lists.{IsKitList}
+use Rattle.mm_kit.proofs.KitFacts.{imported, no_kit, stopped_at_once, stopped_some}
+use Rattle.mm_kit.proofs.importing.import_folder.Goals as goal
+
+pub returns-in-Ok-clause-answered : goal.returns-in-Ok-clause-answered
+returns-in-Ok-clause-answered g c clean p sound these tells =
+    let is : IsKitList these (Ok c.in-Ok-Entries.entries.items) = rw c.in-Ok-Entries.field-0-is at (c.in-Ok-Entries.ensures.lists these tells) in
+    imported these c.args.name.now p _ c.in-Ok.answer _ is (c.in-Ok.ensures.answered clean p sound these (c.in-Ok-Entries.ensures.stays ∙ tells))
+
+pub returns-in-Err-import_entries-clause-stopped : goal.returns-in-Err-import_entries-clause-stopped
+returns-in-Err-import_entries-clause-stopped g c clean p sound these tells =
+    let is : IsKitList these (Ok c.in-Ok-Entries.entries.items) = rw c.in-Ok-Entries.field-0-is at (c.in-Ok-Entries.ensures.lists these tells) in
+    stopped_some these c.args.name.now p _ _ g.A.Apply.stands_for c.in-Err-import_entries.e.staged is (c.in-Err-import_entries.ensures.stopped clean p sound these (c.in-Ok-Entries.ensures.stays ∙ tells))
+
+pub returns-in-Ok-Refused-clause-answered : goal.returns-in-Ok-Refused-clause-answered
+returns-in-Ok-Refused-clause-answered g c clean p sound these tells =
+    let is : IsKitList these (Err (c.in-Ok-Refused.piece, c.in-Ok-Refused.number)) = rw c.in-Ok-Refused.field-0-is at (c.in-Ok-Refused.ensures.lists these tells) in
+    no_kit these c.args.name.now p c.in-Ok-Refused.piece c.in-Ok-Refused.number _ is sound
+
+pub returns-in-Err-clause-stopped : goal.returns-in-Err-clause-stopped
+returns-in-Err-clause-stopped g c clean p sound these tells =
+    stopped_at_once these c.args.name.now p _ g.A.Apply.stands_for sound.1 (λ db may. g.met.A.Apply.leaves_settled _ p sound.0 db may)

@@ -1,0 +1,134 @@
+use Rattle.std.proofs.Common.{◌≡◌, ◌≤◌, ◌<◌, ◌+◌, ◌∙◌, ◌⊎◌, inl, inr, length, List, [], ◌∷◌, ◌++◌, Ok, Err, ℕ, pos, sym, ap, subst, refl, arith, rules, append_assoc, append-nil, length-append}
+use Rattle.std.specs.Vec.Iter.{into_iter_items}
+use Rattle.mm_base.specs.Step.{step}
+use Rattle.mm_base.specs.declared.commands.Command.TheVariants as commands
+use Rattle.mm_kit.specs.Kits.{filled}
+use Rattle.mm_kit.specs.Lists.{AreWithin}
+use Rattle.mm_kit.proofs.Within.{entry_at, stage_within, step_meets}
+use Rattle.mm_kit.proofs.StageFacts.{counted, grows, left_in_doubt, has_first, has_whole, number_refused, number_unfilled, so_far-more, so_far-none}
+use Rattle.mm_kit.proofs.staging.stage_all.Goals as goal
+
+nothing_left : {X : Type 0} (l : List X) → length l ≡ 0 → l ≡ []
+nothing_left [] h = refl
+nothing_left (x ∷ xs) h = absurd (omega (arith, h))
+
+inside : {X : Type 0} (front : List X) (e : X) (back all : List X) → front ++ e ∷ back ≡ all → length all ≤ 4096 → length front < 4096
+inside front e back all same most = omega (arith, most, ap length same, length-append front (e ∷ back))
+
+no_file : (n : ℕ) → n ≡ 52 → (n ≡ 57) ⊎ (n ≡ 11) → ⊥
+no_file n e (inl h) = absurd (omega (arith, e, h))
+no_file n e (inr h) = absurd (omega (arith, e, h))
+
+pub loop-entry-init : goal.loop-entry-init
+loop-entry-init g c =
+    let gives : into_iter_items c.into_iter-entry-iterator.result ≡ c.args.entries.items = search rules in
+    record {
+      can_next = tt;
+      finite = tt;
+      count = refl;
+      items = gives;
+      len = search rules;
+      clean = λ h. h;
+      working = c.requires.working;
+      files = refl;
+      so_far = λ clean p sound these tells old before. (p, sound, rw gives (so_far-none these _ c.args.entries.items p old));
+    }
+
+pub returns-in-Ok-Err-clause-answered : goal.returns-in-Ok-Err-clause-answered
+returns-in-Ok-Err-clause-answered g c clean p sound these tells old before most =
+    let at = c.loop-entry in
+    let steps : into_iter_items at.entry-iterator ≡ c.in-Some.entry ∷ into_iter_items c.next.new.self = c.in-Some.ensures.steps.0 in
+    let (q, stands, here) = at.invariant.so_far clean p sound these tells old before in
+    let so = rw steps at here in
+    let lacks : filled these c.in-Some.entry ≡ Err c.in-Ok-Err.number = sym (rw (at.invariant.files, tells, c.in-Ok-Err.field-0-is) at c.in-Ok-Err.ensures.fills) in
+    let first = number_unfilled these _ _ p old before _ _ _ _ q so lacks in
+    record {
+      answer_is = rw (first, at.invariant.count) refl;
+      next = q;
+      sound = stands;
+      grows = grows these _ _ p old before _ _ q so;
+      has = has_first these _ _ p old before _ _ _ _ q so lacks;
+    }
+
+pub returns-in-Err-clause-stopped : goal.returns-in-Err-clause-stopped
+returns-in-Err-clause-stopped g c clean p sound these tells old before db may =
+    let at = c.loop-entry in
+    let (q, stands, so) = at.invariant.so_far clean p sound these tells old before in
+    (q, g.met.A.Apply.leaves_settled _ q stands.0 db may, stands.1, grows these _ _ p old before _ _ q so, rw at.invariant.count (counted these _ _ p old before _ _ q so))
+
+pub returns-in-Refused-clause-answered : goal.returns-in-Refused-clause-answered
+returns-in-Refused-clause-answered g c clean p sound these tells old before most =
+    let at = c.loop-entry in
+    let steps : into_iter_items at.entry-iterator ≡ c.in-Some.entry ∷ into_iter_items c.next.new.self = c.in-Some.ensures.steps.0 in
+    let (q, stands, here) = at.invariant.so_far (c.in-Refused.ensures.clean clean) p sound these tells old before in
+    let so = rw steps at here in
+    let full : filled these c.in-Some.entry ≡ Ok c.in-Ok-Ok.piece = sym (rw (at.invariant.files, tells, c.in-Ok-Ok.field-0-is) at c.in-Ok-Ok.ensures.fills) in
+    let less : length at.yielded < 4096 = inside _ _ _ _ (rw steps at at.invariant.items) c.requires.fine.0 in
+    let filled_within = rw c.in-Ok-Ok.field-0-is at c.in-Ok-Ok.ensures.within in
+    let within = stage_within _ _ _ c.in-Refused.ensures.named less (filled_within (entry_at _ _ _ (subst AreWithin (sym (rw steps at at.invariant.items)) c.requires.fine.1))) in
+    let (bad, stays) = (rw at.invariant.count at c.in-Refused.ensures.applied) clean q stands.0 stands.1 within in
+    let (first, is) = number_refused these _ _ p old before _ _ _ _ q so full less stands.1 _ bad in
+    record {
+      answer_is = rw (first, at.invariant.count) refl;
+      next = q;
+      sound = (stays, stands.1);
+      grows = grows these _ _ p old before _ _ q so;
+      has = λ why. absurd (no_file _ is why);
+    }
+
+pub returns-in-Fault-clause-stopped : goal.returns-in-Fault-clause-stopped
+returns-in-Fault-clause-stopped g c clean p sound these tells old before db may =
+    let at = c.loop-entry in
+    let steps : into_iter_items at.entry-iterator ≡ c.in-Some.entry ∷ into_iter_items c.next.new.self = c.in-Some.ensures.steps.0 in
+    let (q, stands, here) = at.invariant.so_far (c.in-Fault.ensures.clean clean) p sound these tells old before in
+    let so = rw steps at here in
+    let full : filled these c.in-Some.entry ≡ Ok c.in-Ok-Ok.piece = sym (rw (at.invariant.files, tells, c.in-Ok-Ok.field-0-is) at c.in-Ok-Ok.ensures.fills) in
+    let less : length at.yielded < 4096 = inside _ _ _ _ (rw steps at at.invariant.items) c.requires.fine.0 in
+    let filled_within = rw c.in-Ok-Ok.field-0-is at c.in-Ok-Ok.ensures.within in
+    let within = stage_within _ _ _ c.in-Fault.ensures.named less (filled_within (entry_at _ _ _ (subst AreWithin (sym (rw steps at at.invariant.items)) c.requires.fine.1))) in
+    let either = (rw at.invariant.count at c.in-Fault.ensures.applied) clean q stands.0 stands.1 within db may in
+    rw at.invariant.count (left_in_doubt these _ _ p old before g.A.Apply.stands_for db _ _ _ _ q so full less stands.1 c.args.at (step_meets q _ _ _ c.args.at c.in-Fault.ensures.moment stands.1 within) either)
+
+pub loop-entry-preserved : goal.loop-entry-preserved
+loop-entry-preserved g c =
+    let at = c.loop-entry in
+    let steps : into_iter_items at.entry-iterator ≡ c.in-Some.entry ∷ into_iter_items c.next.new.self = c.in-Some.ensures.steps.0 in
+    let gone = c.in-Some.ensures.steps.1 in
+    record {
+      can_next = tt;
+      finite = tt;
+      count = omega (arith, at.invariant.count, length-append at.yielded (c.in-Some.entry ∷ []));
+      items = append_assoc at.yielded (c.in-Some.entry ∷ []) _ ∙ rw (← steps) at.invariant.items;
+      len = omega (arith, at.invariant.len, ap length steps, gone);
+      clean = λ h. at.invariant.clean (c.in-Ok.ensures.clean h);
+      working = c.in-Ok.ensures.fails at.invariant.working;
+      files = c.fill.ensures.stays ∙ at.invariant.files;
+      so_far = λ clean p sound these tells old before.
+          let (q, stands, here) = at.invariant.so_far (c.in-Ok.ensures.clean clean) p sound these tells old before in
+          let so = rw steps at here in
+          let full : filled these c.in-Some.entry ≡ Ok c.in-Ok-Ok.piece = sym (rw (at.invariant.files, tells, c.in-Ok-Ok.field-0-is) at c.in-Ok-Ok.ensures.fills) in
+          let less : length at.yielded < 4096 = inside _ _ _ _ (rw steps at at.invariant.items) c.requires.fine.0 in
+          let filled_within = rw c.in-Ok-Ok.field-0-is at c.in-Ok-Ok.ensures.within in
+          let within = stage_within _ _ _ c.in-Ok.ensures.named less (filled_within (entry_at _ _ _ (subst AreWithin (sym (rw steps at at.invariant.items)) c.requires.fine.1))) in
+          let (good, goes) = (rw at.invariant.count at c.in-Ok.ensures.applied) clean q stands.0 stands.1 within in (
+            step q (commands.Stage c.args.edition.now (pos (length at.yielded + 1)) c.in-Ok-Ok.piece) c.args.at,
+            (goes, step_meets q _ _ _ c.args.at c.in-Ok.ensures.moment stands.1 within),
+            rw (length-append at.yielded (c.in-Some.entry ∷ [])) (so_far-more these _ _ p old before _ _ _ _ q so full less stands.1 c.args.at good),
+          );
+    }
+
+pub returns-clause-answered : goal.returns-clause-answered
+returns-clause-answered g c clean p sound these tells old before most =
+    let at = c.loop-entry in
+    let (q, stands, here) = at.invariant.so_far clean p sound these tells old before in
+    let none = c.in-None.ensures.steps in
+    let empty : into_iter_items at.entry-iterator ≡ [] = nothing_left _ (sym at.invariant.len ∙ none.0) in
+    let all : length at.yielded ≡ length c.args.entries.items = ap length (sym (append-nil at.yielded) ∙ rw empty at at.invariant.items) in
+    let (first, whole) = has_whole these _ _ p old before _ q (rw empty at here) (omega (arith, most, all)) in
+    record {
+      answer_is = rw (first, at.invariant.count, all) refl;
+      next = q;
+      sound = stands;
+      grows = grows these _ _ p old before _ _ q here;
+      has = rw at.invariant.count whole;
+    }

@@ -1,0 +1,24 @@
+use Rattle.std.proofs.Common.{◌≡◌, ◌++◌, length, false, Some, List}
+use Rattle.std.specs.Vec.Iter.{into_iter_items, into_iter_len}
+use Rattle.mm_base.specs.Package.{Package}
+use Rattle.mm_base.specs.declared.commands.Piece.{Piece}
+use Rattle.mm_run.specs.Applied.{IsSound}
+use Rattle.mm_kit.specs.Editions.{HasPieces}
+use Rattle.mm_kit.specs.Folders.{Files}
+use Rattle.mm_kit.specs.Imports.{IsSoFar}
+use Rattle.mm_kit.proofs.staging.stage_all.Given as goal
+
+abbrev pub invariant-loop-entry : goal.invariant-loop-entry
+invariant-loop-entry g l = record {
+  can_next : (goal.iterator-loop-entry g).can_next l.entry-iterator;
+  finite : (goal.iterator-loop-entry g).is_finite l.entry-iterator;
+  count : l.staged ≡ length l.yielded;
+  items : l.yielded ++ into_iter_items l.entry-iterator ≡ l.fn.entries.items;
+  len : into_iter_len l.entry-iterator ≡ length (into_iter_items l.entry-iterator);
+  clean : g.A.Apply.is_clean l.desk → g.A.Apply.is_clean l.fn.desk;
+  working : g.A.Apply.has_failed l.desk ≡ false;
+  files : g.F.Folder.files l.folder ≡ g.F.Folder.files l.fn.folder;
+  so_far : g.A.Apply.is_clean l.desk → (p : Package) → IsSound (g.A.Apply.settled l.fn.desk) p → (these : Files) → g.F.Folder.files l.fn.folder ≡ Some these
+      → (old : List Piece) → HasPieces p l.fn.edition old
+      → (q : Package) × IsSound (g.A.Apply.settled l.desk) q × IsSoFar these l.fn.edition l.fn.entries.items (into_iter_items l.entry-iterator) p old (length l.yielded) q;
+}

@@ -1,0 +1,79 @@
+-- A record of a kit's list: its number, and the record of a piece, in which the last field of a tile or a media item is the
+-- name of the file that holds the bytes.
+use Rattle.std.specs.Prelude.{◌≡◌, ◌≢◌, ◌⊎◌, ◌≤◌, ◌<◌, ◌-◌, ℕ, ℤ, pos, Bool, false, ◌||◌, length, take, get_or, if◌then◌else◌, [], ◌∷◌, ◌++◌, Option, Some, None, Result, Ok, Err, codes, bytes_eq, nat_lt, ⊤}
+use Rattle.std.specs.Borrow.{Bor}
+use Rattle.csv.specs.Records.{AllText}
+use Rattle.mm_base.specs.Fields.{IsAgainst}
+use Rattle.mm_base.specs.Keys.{Text}
+use Rattle.mm_base.specs.Numbers.{Spells}
+use Rattle.mm_base.specs.Reading.{refused}
+use Rattle.mm_base.specs.declared.answers.ReadFault.{ReadFault}
+use Rattle.mm_base.specs.declared.answers.ReadFault.TheVariants as faults
+use Rattle.mm_base.specs.Records.{SpellsPiece, HoldsAgainstPiece, IsLeast, id_field}
+use Rattle.mm_base.specs.declared.commands.Piece.{Piece}
+use Rattle.mm_base.specs.declared.commands.Piece.TheVariants as pieces
+use Rattle.mm_lines.specs.Records.{Record}
+use Rattle.mm_kit.specs.FileNames.{IsFileName}
+use Rattle.mm_kit.specs.declared.entries.Entry.{Entry}
+use Rattle.mm_kit.specs.declared.entries.Entry.TheVariants.{Ready, Tile, Media}
+
+-- the last field of the piece's record is a file's name
+abbrev pub takes_file : Record → Bool
+takes_file [] = false
+takes_file (word ∷ rest) = bytes_eq word (codes "tile") || bytes_eq word (codes "media")
+
+abbrev pub file_of : Record → Option Text
+file_of r = if takes_file r then Some (get_or r (length r - 1) []) else None
+
+-- the piece's record, with 00 in the place of the file's name
+abbrev pub shown : Record → Record
+shown r = if takes_file r then take (length r - 1) r ++ codes "00" ∷ [] else r
+
+-- the entry of the piece that is then spelled
+abbrev pub entry_of : Piece → Option Text → Entry
+entry_of (pieces.Tile table zoom column row bytes) (Some file) = Tile table zoom column row file
+entry_of (pieces.Media table id content_type bytes) (Some file) = Media table id content_type file
+entry_of q file = Ready q
+
+abbrev pub IsInForm : Option Text → Type 0
+IsInForm None = ⊤
+IsInForm (Some name) = IsFileName name
+
+-- the record at this place of the list is this entry
+abbrev pub IsEntry : ℕ → Record → Entry → Type 0
+IsEntry place [] e = ⊥
+IsEntry place (number ∷ r) e = Spells number (pos place) × (place ≤ 4096) × IsInForm (file_of r) × (q : Piece) × SpellsPiece (shown r) q × (e ≡ entry_of q (file_of r))
+
+-- The numbers against the record at this place: 10 to 12 as against every record of a piece, 54 where there are too many
+-- records, 56 where its number isn't its place, 57 where the file's name is out of form.
+abbrev pub HoldsAgainstEntry : ℕ → Record → ℕ → Type 0
+HoldsAgainstEntry place [] n = n ≡ 10
+HoldsAgainstEntry place (number ∷ r) n =
+    IsAgainst id_field number n ⊎ HoldsAgainstPiece (shown r) n ⊎ ((n ≡ 54) × (4096 < place)) ⊎ ((n ≡ 56) × ¬ (Spells number (pos place))) ⊎ ((n ≡ 57) × ¬ (IsInForm (file_of r)))
+
+-- The entry, or the least number that is against the record. One with a field that isn't text is refused 10.
+abbrev pub IsReadAs : ℕ → Record → Result Entry ℕ → Type 0
+IsReadAs place r (Ok e) = AllText r × IsEntry place r e
+IsReadAs place r (Err n) = (AllText r × IsLeast (HoldsAgainstEntry place r) n) ⊎ (¬ (AllText r) × (n ≡ 10))
+
+-- ---- inside the reader
+abbrev pub text_of : Option (Bor Text) → Option Text
+text_of None = None
+text_of (Some field) = Some field.now
+
+-- the name of the file, or 57
+abbrev pub file_read : Option Text → Result (Option Text) ℕ → Type 0
+file_read field (Ok file) = (file ≡ field) × IsInForm field
+file_read field (Err n) = (n ≡ 57) × ¬ (IsInForm field)
+
+-- what is left to be asked of a record whose number and piece were read
+abbrev pub IsPlaced : ℕ → ℤ → Option Text → Result (Option Text) ℕ → Type 0
+IsPlaced place number field (Ok file) = (place ≤ 4096) × (number ≡ pos place) × (file ≡ field) × IsInForm field
+IsPlaced place number field (Err n) =
+    ((n ≡ 54) × (4096 < place)) ⊎ ((n ≡ 56) × (place ≤ 4096) × (number ≢ pos place)) ⊎ ((n ≡ 57) × (place ≤ 4096) × (number ≡ pos place) × ¬ (IsInForm field))
+
+-- the least number that is against a record whose number is refused; want of memory goes before all
+abbrev pub least_fault : ℕ → Result Piece ReadFault → ReadFault
+least_fault n (Ok q) = refused n
+least_fault n (Err faults.Memory) = faults.Memory
+least_fault n (Err (faults.Refused why)) = if nat_lt why.number n then faults.Refused why else refused n

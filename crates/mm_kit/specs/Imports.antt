@@ -1,0 +1,145 @@
+-- What an import of a kit does.
+use Rattle.std.specs.Prelude.{◌≡◌, ◌≢◌, ◌≤◌, ◌⊎◌, ◌+◌, ℕ, max, length, Bool, true, List, [], ◌∷◌, ◌++◌, Option, Some, Result, Ok, Err, ⊤}
+use Rattle.std.specs.FinMap.{get}
+use Rattle.mm_base.specs.Keys.{Text, PieceKey}
+use Rattle.mm_base.specs.Package.{Package}
+use Rattle.mm_base.specs.Rules.{Meets}
+use Rattle.mm_base.specs.Bounds.{millimetres}
+use Rattle.mm_base.specs.declared.commands.Piece.{Piece}
+use Rattle.mm_base.specs.declared.answers.Staged.{Staged}
+use Rattle.mm_base.specs.declared.answers.Staged.TheVariants.{Complete, Refused}
+use Rattle.mm_base.specs.declared.answers.KitFault.{KitFault}
+use Rattle.mm_run.specs.Applied.{IsSound}
+use Rattle.mm_kit.specs.Editions.{Edition, HasPieces, IsEdition}
+use Rattle.mm_kit.specs.Folders.{Files}
+use Rattle.mm_kit.specs.Kits.{IsWhole, against, edition_answer, filled, error_of, first_answer, first_number, kit_answer, kit_of, kit_pieces}
+use Rattle.mm_kit.specs.Lists.{IsKitList}
+use Rattle.mm_kit.specs.declared.entries.Entry.{Entry}
+
+abbrev pub IsFirstOf : List Piece → List Piece → Type 0
+IsFirstOf front all = (rest : List Piece) × (all ≡ front ++ rest)
+
+-- nothing of the package but the pieces of this edition differs
+pub record SameBut (name : Text) (p q : Package) : Type 0 where
+  pub parts : q ≡ record p { pieces = q.pieces }
+  pub others : (k : PieceKey) → (k.edition ≢ name) → get q.pieces k ≡ get p.pieces k
+
+-- the edition's pieces were a first part of the kit, and are one that is as long at least
+pub record IsGrown (name : Text) (kit : List Piece) (p q : Package) : Type 0 where
+  pub old : List Piece
+  pub new : List Piece
+  pub before : HasPieces p name old
+  pub after : HasPieces q name new
+  pub more : IsFirstOf old new
+  pub of_kit : IsFirstOf new kit
+  pub same : SameBut name p q
+
+-- the package is as it was, or its edition has grown along the kit
+abbrev pub OnlyGrows : Text → List Piece → Package → Package → Type 0
+OnlyGrows name kit p q = (q ≡ p) ⊎ IsGrown name kit p q
+
+-- ---- an import that is answered
+
+-- complete: the kit is whole, has so many pieces, and they are the edition's
+pub record HasWhole (files : Files) (name : Text) (entries : List Entry) (q : Package) (n : ℕ) : Type 0 where
+  pub whole : IsWhole files entries
+  pub pieces : HasPieces q name (kit_pieces files entries)
+  pub count : length (kit_pieces files entries) ≡ n
+
+-- refused for a file: where the edition's pieces were a first part of the kit, they are the kit
+abbrev pub HasFirst : Files → Text → List Entry → Package → Package → ℕ → Type 0
+HasFirst files name entries p q number =
+    (number ≡ 57) ⊎ (number ≡ 11) → (old : List Piece) → HasPieces p name old → IsFirstOf old (kit_pieces files entries) → HasPieces q name (kit_pieces files entries)
+
+abbrev pub HasAnswered : Files → Text → Result (List Entry) (ℕ × ℕ) → Package → Package → Staged → Type 0
+HasAnswered files name (Ok entries) p q (Complete n) = HasWhole files name entries q n
+HasAnswered files name (Ok entries) p q (Refused place number) = HasFirst files name entries p q number
+HasAnswered files name (Err at) p q (Complete n) = ⊥
+HasAnswered files name (Err at) p q (Refused place number) = ⊤
+
+-- The answer is that of the kit on the package, and the session is then settled for a package that has grown along the kit.
+pub record IsAnswered (files : Files) (name : Text) (p : Package) (settled : Package → Type 0) (answer : Staged) : Type 0 where
+  pub list : Result (List Entry) (ℕ × ℕ)
+  pub read : IsKitList files list
+  pub edition : Option Edition
+  pub stands : IsEdition p name edition
+  pub answer_is : answer ≡ kit_answer files list edition
+  pub next : Package
+  pub sound : IsSound settled next
+  pub grows : OnlyGrows name (kit_of files list) p next
+  pub has : HasAnswered files name list p next answer
+
+-- ---- one that is stopped
+
+-- the pieces of an edition that was open, after s pieces were answered ok: as many as before or s, or one more, which is in doubt
+abbrev pub IsCounted : ℕ → Text → Package → Package → Type 0
+IsCounted s name p q = (old : List Piece) → HasPieces p name old
+    → (new : List Piece) × HasPieces q name new × ((length new ≡ max (length old) s) ⊎ ((length old ≤ s) × (length new ≡ s + 1)))
+
+-- the package is as it was, or its edition has grown along the kit of the folder
+abbrev pub GrowsAlong : Files → Text → Package → Package → Type 0
+GrowsAlong files name p q = (q ≡ p) ⊎ ((list : Result (List Entry) (ℕ × ℕ)) × IsKitList files list × IsGrown name (kit_of files list) p q)
+
+-- each database that may be left stands for such a package, which meets the rules
+abbrev pub IsStopped : {D : Type 0} → Files → Text → Package → (D → Type 0) → (D → Package → Type 0) → ℕ → Type 0
+IsStopped {D} files name p may_leave stands_for s =
+    (db : D) → may_leave db → (q : Package) × stands_for db q × Meets millimetres q × GrowsAlong files name p q × IsCounted s name p q
+
+-- ---- what is promised where
+
+-- of a folder that tells its files, and of a session that is settled for a package of the rules, where the store was clean
+abbrev pub OnKit : Type 0 → (Package → Type 0) → Option Files → (Files → Package → Type 0) → Type 0
+OnKit clean settled told P = clean → (p : Package) → IsSound settled p → (files : Files) → told ≡ Some files → P files p
+
+-- a fault of an import: 90 want of memory, 91 the store, 92 open again, or 96, which the folder tells
+abbrev pub IsKitFault : ℕ → Bool → Type 0
+IsKitFault fault failed = (fault ≡ 90) ⊎ (fault ≡ 91) ⊎ (fault ≡ 92) ⊎ ((fault ≡ 96) × (failed ≡ true))
+
+-- What an import tells of a session that has to be opened again: it is as it was, nothing is staged, and 92 comes only there.
+abbrev pub TellsFailureOf : Bool → Bool → Type 0 → Result Staged KitFault → Type 0
+TellsFailureOf before failed same (Ok a) = (failed ≡ before) × (before ≡ true → same)
+TellsFailureOf before failed same (Err e) = (e.fault.0 ≡ 92 → before ≡ true) × (e.fault.0 ≡ 96 → failed ≡ before) × (before ≡ true → same × (e.staged ≡ 0))
+
+-- ---- inside the import
+
+-- done are the pieces of the entries so far: they are passed over while they stand, or they are all that stands
+abbrev pub IsPassed : Text → Package → List Piece → List Piece → Package → Type 0
+IsPassed name p old done q = ((q ≡ p) × IsFirstOf done old) ⊎ (IsFirstOf old done × HasPieces q name done × SameBut name p q)
+
+-- After k entries, where these are left: what is still to be staged, and the answer, are those of the entries left.
+pub record IsSoFar (files : Files) (name : Text) (entries left : List Entry) (p : Package) (old : List Piece) (k : ℕ) (q : Package) : Type 0 where
+  pub done : List Piece
+  pub count : length done ≡ k
+  pub kit : kit_pieces files entries ≡ done ++ kit_pieces files left
+  pub whole : first_number (λ i e. error_of (filled files e)) 1 entries ≡ first_number (λ i e. error_of (filled files e)) (k + 1) left
+  pub answer : first_number (against files old) 1 entries ≡ first_number (against files old) (k + 1) left
+  pub passed : IsPassed name p old done q
+
+-- what staging the entries comes to, in an edition that has these pieces
+pub record AreStaged (files : Files) (name : Text) (entries : List Entry) (p : Package) (old : List Piece) (settled : Package → Type 0) (answer : Staged) : Type 0 where
+  pub answer_is : answer ≡ first_answer (length entries) (first_number (against files old) 1 entries)
+  pub next : Package
+  pub sound : IsSound settled next
+  pub grows : OnlyGrows name (kit_pieces files entries) p next
+  pub has : HasAnswered files name (Ok entries) p next answer
+
+abbrev pub MayBeStaged : {D : Type 0} → Files → Text → List Entry → Package → (D → Type 0) → (D → Package → Type 0) → ℕ → Type 0
+MayBeStaged {D} files name entries p may_leave stands_for s =
+    (db : D) → may_leave db → (q : Package) × stands_for db q × Meets millimetres q × OnlyGrows name (kit_pieces files entries) p q × IsCounted s name p q
+
+-- what the import of the entries comes to
+pub record AreImported (files : Files) (name : Text) (entries : List Entry) (p : Package) (settled : Package → Type 0) (answer : Staged) : Type 0 where
+  pub edition : Option Edition
+  pub stands : IsEdition p name edition
+  pub answer_is : answer ≡ edition_answer files entries edition
+  pub next : Package
+  pub sound : IsSound settled next
+  pub grows : OnlyGrows name (kit_pieces files entries) p next
+  pub has : HasAnswered files name (Ok entries) p next answer
+
+-- ---- imports that are repeated
+
+-- q comes from p by imports of the kit, each begun on a package that the one before may have left
+unfoldable pub AreRepeats : Text → List Piece → Package → List Package → Package → Type 0
+AreRepeats name kit p [] q = q ≡ p
+AreRepeats name kit p (r ∷ rest) q = OnlyGrows name kit p r × AreRepeats name kit r rest q

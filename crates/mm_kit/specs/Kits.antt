@@ -1,0 +1,91 @@
+-- A kit: the pieces of a list and a folder, and the answer to its import.
+use Rattle.std.specs.Prelude.{◌≡◌, ◌+◌, ℕ, nat_le, nat_lt, ◌&&◌, length, if◌then◌else◌, List, [], ◌∷◌, Option, Some, None, Result, Ok, Err}
+use Rattle.mm_base.specs.Pieces.{piece_row, same_piece}
+use Rattle.mm_base.specs.declared.commands.Piece.{Piece}
+use Rattle.mm_base.specs.declared.commands.Piece.TheVariants as pieces
+use Rattle.mm_base.specs.declared.answers.Staged.{Staged}
+use Rattle.mm_base.specs.declared.answers.Staged.TheVariants.{Complete, Refused}
+use Rattle.mm_kit.specs.Editions.{Edition, Open, Published, numbered}
+use Rattle.mm_kit.specs.Folders.{Files}
+use Rattle.mm_kit.specs.declared.entries.Entry.{Entry}
+use Rattle.mm_kit.specs.declared.entries.Entry.TheVariants.{Ready, Tile, Media}
+
+-- ---- the pieces
+
+-- the piece of a file's bytes: 57 where there is no such file, 11 where it has none or too many
+abbrev pub with_file : ℕ → (List ℕ → Piece) → Option (List ℕ) → Result Piece ℕ
+with_file most make None = Err 57
+with_file most make (Some bytes) = if nat_le 1 (length bytes) && nat_le (length bytes) most then Ok (make bytes) else Err 11
+
+abbrev pub filled : Files → Entry → Result Piece ℕ
+filled files (Ready q) = Ok q
+filled files (Tile table zoom column row file) = with_file 1048576 (λ bytes. pieces.Tile table zoom column row bytes) (files file)
+filled files (Media table id content_type file) = with_file 4194304 (λ bytes. pieces.Media table id content_type bytes) (files file)
+
+abbrev pub or_end : Result Piece ℕ → List Piece → List Piece
+or_end (Ok q) later = q ∷ later
+or_end (Err n) later = []
+
+-- the pieces before the first whose file is missing or of a wrong length
+unfoldable pub kit_pieces : Files → List Entry → List Piece
+kit_pieces files [] = []
+kit_pieces files (e ∷ rest) = or_end (filled files e) (kit_pieces files rest)
+
+-- a list that is refused is no kit
+abbrev pub kit_of : Files → Result (List Entry) (ℕ × ℕ) → List Piece
+kit_of files (Ok entries) = kit_pieces files entries
+kit_of files (Err at) = []
+
+-- ---- the first entry with a condition
+
+abbrev pub error_of : Result Piece ℕ → Option ℕ
+error_of (Ok q) = None
+error_of (Err n) = Some n
+
+abbrev pub or_later : ℕ → Option ℕ → Option (ℕ × ℕ) → Option (ℕ × ℕ)
+or_later i (Some n) later = Some (i, n)
+or_later i None later = later
+
+-- the first in order with a number against it, counted from i, and the number
+unfoldable pub first_number : (ℕ → Entry → Option ℕ) → ℕ → List Entry → Option (ℕ × ℕ)
+first_number condition i [] = None
+first_number condition i (e ∷ rest) = or_later i (condition i e) (first_number condition (i + 1) rest)
+
+-- each file is there and has a length within its limits
+abbrev pub IsWhole : Files → List Entry → Type 0
+IsWhole files entries = first_number (λ i e. error_of (filled files e)) 1 entries ≡ None
+
+-- ---- the answer
+
+-- 52 where another piece stands at the number
+abbrev pub beside : Option Piece → Piece → Option ℕ
+beside None q = None
+beside (Some other) q = if same_piece (piece_row q) (piece_row other) then None else Some 52
+
+abbrev pub against_piece : List Piece → ℕ → Result Piece ℕ → Option ℕ
+against_piece old i (Err n) = Some n
+against_piece old i (Ok q) = beside (numbered old i) q
+
+-- what is against an entry, for an edition with these pieces: 57 or 11 of its file, or 52
+abbrev pub against : Files → List Piece → ℕ → Entry → Option ℕ
+against files old i e = against_piece old i (filled files e)
+
+abbrev pub first_answer : ℕ → Option (ℕ × ℕ) → Staged
+first_answer n None = Complete n
+first_answer n (Some at) = Refused at.0 at.1
+
+-- the answer for the entries of a list: 51 where there is no such edition, 55 where it is published
+abbrev pub edition_answer : Files → List Entry → Option Edition → Staged
+edition_answer files entries None = Refused 0 51
+edition_answer files entries (Some Published) = Refused 0 55
+edition_answer files entries (Some (Open old)) = if nat_lt (length entries) (length old) then Refused (length entries + 1) 52
+    else first_answer (length entries) (first_number (against files old) 1 entries)
+
+abbrev pub kit_answer : Files → Result (List Entry) (ℕ × ℕ) → Option Edition → Staged
+kit_answer files (Ok entries) edition = edition_answer files entries edition
+kit_answer files (Err at) edition = Refused at.0 at.1
+
+-- what is made of the bytes that were read, if they were
+abbrev pub made : (List ℕ → Piece) → Result (List ℕ) ℕ → Result Piece ℕ
+made make (Ok bytes) = Ok (make bytes)
+made make (Err n) = Err n

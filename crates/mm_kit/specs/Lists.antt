@@ -1,0 +1,84 @@
+-- What the list of a kit says: its entries, or the first record that is refused.
+use Rattle.std.specs.Prelude.{◌≡◌, ◌⊎◌, ◌≤◌, ◌<◌, ◌+◌, ℕ, length, List, [], ◌∷◌, ◌++◌, Option, Some, None, Result, Ok, Err, pos, codes, ⊤}
+use Rattle.csv.specs.Reading.{Reached, default_config}
+use Rattle.csv.specs.declared.parser.State.{State}
+use Rattle.csv.specs.declared.parser.State.TheVariants as states
+use Rattle.mm_base.specs.declared.answers.ReadFault.{ReadFault}
+use Rattle.mm_base.specs.declared.answers.ReadFault.TheVariants as faults
+use Rattle.mm_base.specs.Bounds.{IsName, IsZoom, IsTilePlace, IsId, IsContentType}
+use Rattle.mm_base.specs.Within.{IsPieceWithin}
+use Rattle.mm_lines.specs.Records.{Record, records_of}
+use Rattle.mm_kit.specs.Entries.{IsReadAs}
+use Rattle.mm_kit.specs.Folders.{Files}
+use Rattle.mm_kit.specs.declared.entries.Entry.{Entry}
+use Rattle.mm_kit.specs.declared.entries.Entry.TheVariants.{Ready, Tile, Media}
+use Rattle.mm_kit.specs.declared.lists.Listed.{Listed}
+use Rattle.mm_kit.specs.declared.lists.Listed.TheVariants.{Entries, Refused}
+
+-- the records from this place on are these entries
+unfoldable pub AreEntries : ℕ → List Record → List Entry → Type 0
+AreEntries place [] [] = ⊤
+AreEntries place (r ∷ rs) (e ∷ es) = IsReadAs place r (Ok e) × AreEntries (place + 1) rs es
+AreEntries _ _ _ = ⊥
+
+-- the record at this place is refused with this number, and those before it are entries
+pub record IsFirstRefused (rows : List Record) (place number : ℕ) : Type 0 where
+  pub before : List Record
+  pub row : Record
+  pub after : List Record
+  pub are : rows ≡ before ++ row ∷ after
+  pub place_is : place ≡ length before + 1
+  pub entries : List Entry
+  pub read : AreEntries 1 before entries
+  pub refused : IsReadAs place row (Err number)
+
+-- the entries of the records, or the place and the number of the first that is refused
+abbrev pub IsListed : List Record → Result (List Entry) (ℕ × ℕ) → Type 0
+IsListed rows (Ok entries) = AreEntries 1 rows entries
+IsListed rows (Err at) = IsFirstRefused rows at.0 at.1
+
+-- the list of a folder: 57 where it has none, 11 where it is too long
+abbrev pub IsListOf : Option (List ℕ) → Result (List Entry) (ℕ × ℕ) → Type 0
+IsListOf None list = list ≡ Err (0, 57)
+IsListOf (Some bytes) list = ((16777216 < length bytes) × (list ≡ Err (0, 11))) ⊎ ((length bytes ≤ 16777216) × IsListed (records_of bytes) list)
+
+abbrev pub IsKitList : Files → Result (List Entry) (ℕ × ℕ) → Type 0
+IsKitList files list = IsListOf (files (codes "kit.csv")) list
+
+-- ---- what the readers answer
+abbrev pub listing : Listed → Result (List Entry) (ℕ × ℕ)
+listing (Entries entries) = Ok entries.items
+listing (Refused place number) = Err (place, number)
+
+-- want of memory says nothing of the record
+abbrev pub IsRead : ℕ → Record → Result Entry ReadFault → Type 0
+IsRead place r (Ok e) = IsReadAs place r (Ok e)
+IsRead place r (Err (faults.Refused why)) = (why.piece ≡ None) × IsReadAs place r (Err why.number)
+IsRead place r (Err faults.Memory) = ⊤
+
+-- an entry within the limits, but for the bytes of its file
+abbrev pub IsEntryWithin : Entry → Type 0
+IsEntryWithin (Ready q) = IsPieceWithin q
+IsEntryWithin (Tile table zoom column row file) = IsName table × IsZoom (pos zoom) × IsTilePlace (pos column) × IsTilePlace (pos row)
+IsEntryWithin (Media table id content_type file) = IsName table × IsId id × IsContentType content_type
+
+unfoldable pub AreWithin : List Entry → Type 0
+AreWithin [] = ⊤
+AreWithin (e ∷ es) = IsEntryWithin e × AreWithin es
+
+-- not too many entries, each within the limits
+abbrev pub AreFine : List Entry → Type 0
+AreFine entries = (length entries ≤ 4096) × AreWithin entries
+
+abbrev pub AreSound : Listed → Type 0
+AreSound (Entries entries) = AreFine entries.items
+AreSound (Refused place number) = ⊤
+
+-- the records so far are these entries, and the reader stands behind them
+pub record AreSoFar (bytes : List ℕ) (source : Option (List ℕ)) (s : State) (entries : List Entry) (place : ℕ) : Type 0 where
+  pub rows : List Record
+  pub rest : List ℕ
+  pub here : source ≡ Some rest
+  pub reached : Reached default_config states.StartRecord bytes rows s rest
+  pub count : length rows + 1 ≡ place
+  pub read : AreEntries 1 rows entries

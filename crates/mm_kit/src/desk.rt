@@ -1,0 +1,24 @@
+//! What a kit is imported on.
+
+ghost use Rattle.std.specs.Prelude.{◌≡◌, ◌⊎◌, Err, IfOk, IfErr, false, true};
+ghost use Rattle.mm_base.specs.Bounds.{millimetres};
+ghost use Rattle.mm_base.specs.Package.{Package};
+ghost use Rattle.mm_base.specs.Rules.{Meets};
+ghost use Rattle.mm_edition.specs.States.{TellsState};
+
+use mm_base::answers::Fault;
+use mm_base::entries::EditionState;
+use mm_base::names::Name;
+use mm_run::Apply;
+
+/// A thing that commands are applied to, and that tells how an edition stands.
+pub trait Desk: Apply {
+    /// How an edition stands, or None where none has the name.
+    fn edition(&mut self, name: &Name) -> Result<Option<EditionState>, Fault>
+        ensures ended { Self.has_failed self.old ≡ true → (result ≡ Err (record { 0 = 92 })) × (self.new ≡ self.old) }
+        ensures faults { Self.has_failed self.old ≡ false → IfErr result (λ fault. (fault.0 ≡ 90) ⊎ (fault.0 ≡ 91)) }
+        ensures same { Self.has_failed self.new ≡ Self.has_failed self.old }
+        ensures clean { Self.is_clean self.new → Self.is_clean self.old }
+        ensures settled { Self.is_clean self.new → (p : Package) → Self.settled self.old p → Meets millimetres p → Self.settled self.new p }
+        ensures tells { IfOk result (λ found. Self.is_clean self.new → (p : Package) → Self.settled self.old p → Meets millimetres p → TellsState p name.now found) };
+}

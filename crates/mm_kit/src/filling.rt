@@ -1,0 +1,86 @@
+//! A piece with the bytes of its file.
+
+ghost use Rattle.std.specs.Prelude.{◌≡◌, ◌≤◌, List, Option, IfOk, IfErr, IfSome, ℕ, true};
+ghost use Rattle.mm_kit.specs.Folders.{Files};
+ghost use Rattle.mm_kit.specs.Kits.{filled, made, with_file};
+ghost use Rattle.mm_kit.specs.Lists.{IsEntryWithin};
+ghost use Rattle.mm_base.specs.Within.{IsPieceWithin};
+ghost use Rattle.mm_base.specs.declared.commands.Piece.{Piece as SpecPiece};
+ghost use Rattle.mm_kit.specs.declared.folders.FolderFault.TheVariants as folder_fault;
+
+use crate::entries::Entry;
+use crate::file_names::FileName;
+use crate::folders::{Folder, FolderFault, Found};
+use mm_base::bytes::Bytes;
+use mm_base::commands::Piece;
+use std::alloc::Global;
+
+/// The bytes of a file, from 1 to `MOST`: 57 where there is no such file, 11 where it has none or too many.
+fn read_bytes<const MOST: usize, F: Folder>(
+    alloc: Global,
+    folder: &mut F,
+    name: &FileName,
+) -> Result<Result<Bytes<MOST>, u8>, FolderFault>
+    ensures reads { IfOk result (λ r. IfSome (F.files folder.old) (λ these. (make : List ℕ → SpecPiece) → made make r ≡ with_file MOST make (these name.now))) }
+    ensures stays { F.files folder.new ≡ F.files folder.old }
+    ensures fails { IfErr result (λ e. e ≡ folder_fault.Failed → F.has_failed folder.new ≡ true) }
+{
+    match folder.read(alloc, name.as_str(), MOST as u64) {
+        Ok(Found::Bytes(bytes)) => match Bytes::new(bytes) {
+            Some(bytes) => Ok(Ok(bytes)),
+            None => Ok(Err(11)),
+        },
+        Ok(Found::TooLong) => Ok(Err(11)),
+        Ok(Found::Missing) => Ok(Err(57)),
+        Err(fault) => Err(fault),
+    }
+}
+
+/// The piece of an entry, with the bytes of its file: 57 where there is no such file, 11 where its length is outside the
+/// limits of a tile or a media item.
+pub(crate) fn fill<F: Folder>(
+    alloc: Global,
+    folder: &mut F,
+    entry: Entry,
+) -> Result<Result<Piece, u8>, FolderFault>
+    ensures fills { IfOk result (λ r. IfSome (F.files folder.old) (λ these. r ≡ filled these entry)) }
+    ensures within { IfOk result (λ r. IfOk r (λ piece. IsEntryWithin entry → IsPieceWithin piece)) }
+    ensures stays { F.files folder.new ≡ F.files folder.old }
+    ensures fails { IfErr result (λ e. e ≡ folder_fault.Failed → F.has_failed folder.new ≡ true) }
+{
+    match entry {
+        Entry::Ready(piece) => Ok(Ok(piece)),
+        Entry::Tile {
+            table,
+            zoom,
+            column,
+            row,
+            file,
+        } => match read_bytes(alloc, folder, &file) {
+            Ok(Ok(bytes)) => Ok(Ok(Piece::Tile {
+                table,
+                zoom,
+                column,
+                row,
+                bytes,
+            })),
+            Ok(Err(number)) => Ok(Err(number)),
+            Err(fault) => Err(fault),
+        },
+        Entry::Media {
+            table,
+            id,
+            content_type,
+            file,
+        } => match read_bytes(alloc, folder, &file) {
+            Ok(Ok(bytes)) => Ok(Ok(Piece::Media {
+                table,
+                id,
+                content_type,
+                bytes,
+            })),
+            Ok(Err(number)) => Ok(Err(number)),
+            Err(fault) => Err(fault),
+        },
+    }
+}

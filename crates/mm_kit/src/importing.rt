@@ -1,0 +1,115 @@
+//! The import of a kit, in the order of its steps.
+
+ghost use Rattle.std.specs.Prelude.{◌≡◌, ◌≢◌, ◌⊎◌, IfOk, IfErr, Some, false, true};
+ghost use Rattle.mm_base.specs.Package.{Package};
+ghost use Rattle.mm_kit.specs.Folders.{Files};
+ghost use Rattle.mm_kit.specs.Imports.{AreImported, IsAnswered, IsKitFault, IsStopped, MayBeStaged, OnKit, TellsFailureOf};
+ghost use Rattle.mm_kit.specs.Lists.{AreFine, AreSound, IsKitList, listing};
+ghost use Rattle.mm_kit.specs.declared.folders.FolderFault.TheVariants as folder_faults;
+
+use crate::desk::Desk;
+use crate::entries::Entry;
+use crate::folders::{Folder, FolderFault, Found};
+use crate::lists::{Listed, read_list};
+use crate::staging::{folder_fault, stage_all};
+use mm_base::answers::{KitFault, Staged};
+use mm_base::entries::EditionState;
+use mm_base::moments::Moment;
+use mm_base::names::Name;
+use std::alloc::Global;
+
+/// The most bytes of a kit's list.
+const MOST_BYTES: u64 = 16_777_216;
+
+/// The entries of the folder's list, or the answer where there are none.
+fn find_list<F: Folder>(alloc: Global, folder: &mut F) -> Result<Listed, FolderFault>
+    ensures lists { IfOk result (λ l. (files : Files) → F.files folder.old ≡ Some files → IsKitList files (listing l)) }
+    ensures sound { IfOk result AreSound }
+    ensures stays { F.files folder.new ≡ F.files folder.old }
+    ensures fails { IfErr result (λ e. e ≡ folder_faults.Failed → F.has_failed folder.new ≡ true) }
+{
+    match folder.read(alloc, "kit.csv", MOST_BYTES) {
+        Ok(Found::Bytes(list)) => match read_list(alloc, list.as_slice()) {
+            Ok(listed) => Ok(listed),
+            Err(_) => Err(FolderFault::Memory),
+        },
+        Ok(Found::TooLong) => Ok(Listed::Refused(0, 11)),
+        Ok(Found::Missing) => Ok(Listed::Refused(0, 57)),
+        Err(fault) => Err(fault),
+    }
+}
+
+/// The import of a list's entries: the edition, then each piece.
+fn import_entries<A: Desk, F: Folder>(
+    alloc: Global,
+    desk: &mut A,
+    name: &Name,
+    folder: &mut F,
+    entries: Vec<Entry>,
+    at: Moment,
+) -> Result<Staged, KitFault>
+    requires { AreFine entries.items }
+    ensures clean { A.is_clean desk.new → A.is_clean desk.old }
+    ensures answered { IfOk result (λ a. OnKit (A.is_clean desk.new) (A.settled desk.old) (F.files folder.old)
+        (λ files p. AreImported files name.now entries.items p (A.settled desk.new) a)) }
+    ensures stopped { IfErr result (λ e. OnKit (A.is_clean desk.new) (A.settled desk.old) (F.files folder.old)
+        (λ files p. MayBeStaged files name.now entries.items p (A.may_leave desk.new) A.stands_for e.staged)) }
+    ensures session { TellsFailureOf (A.has_failed desk.old) (A.has_failed desk.new) (desk.new ≡ desk.old) result }
+    ensures why { IfErr result (λ e. IsKitFault e.fault.0 (F.has_failed folder.new)) }
+{
+    let records = entries.len() as u32;
+    match desk.edition(name) {
+        Ok(Some(EditionState::Open(pieces))) => {
+            if records < pieces {
+                return Ok(Staged::Refused {
+                    piece: records + 1,
+                    number: 52,
+                });
+            }
+            match stage_all(alloc, desk, name, folder, entries, at) {
+                Ok(answer) => Ok(answer),
+                Err(e) => Err(e),
+            }
+        }
+        Ok(Some(EditionState::Published)) => Ok(Staged::Refused {
+            piece: 0,
+            number: 55,
+        }),
+        Ok(None) => Ok(Staged::Refused {
+            piece: 0,
+            number: 51,
+        }),
+        Err(fault) => Err(KitFault { fault, staged: 0 }),
+    }
+}
+
+/// The import of a folder's kit into an edition.
+pub(crate) fn import_folder<A: Desk, F: Folder>(
+    alloc: Global,
+    desk: &mut A,
+    name: &Name,
+    folder: &mut F,
+    at: Moment,
+) -> Result<Staged, KitFault>
+    ensures clean { A.is_clean desk.new → A.is_clean desk.old }
+    ensures answered { IfOk result (λ a. OnKit (A.is_clean desk.new) (A.settled desk.old) (F.files folder.old)
+        (λ files p. IsAnswered files name.now p (A.settled desk.new) a)) }
+    ensures stopped { IfErr result (λ e. OnKit (A.is_clean desk.new) (A.settled desk.old) (F.files folder.old)
+        (λ files p. IsStopped files name.now p (A.may_leave desk.new) A.stands_for e.staged)) }
+    ensures session { TellsFailureOf (A.has_failed desk.old) (A.has_failed desk.new) (desk.new ≡ desk.old) result }
+    ensures why { IfErr result (λ e. IsKitFault e.fault.0 (F.has_failed folder.new)) }
+{
+    match find_list(alloc, folder) {
+        Ok(Listed::Entries(entries)) => {
+            match import_entries(alloc, desk, name, folder, entries, at) {
+                Ok(answer) => Ok(answer),
+                Err(e) => Err(e),
+            }
+        }
+        Ok(Listed::Refused(piece, number)) => Ok(Staged::Refused { piece, number }),
+        Err(fault) => Err(KitFault {
+            fault: folder_fault(fault),
+            staged: 0,
+        }),
+    }
+}

@@ -1,0 +1,37 @@
+//! What imports come to, for whoever relies on them. No function here does anything: the contract of each is a law.
+
+ghost use Rattle.std.specs.Prelude.{◌≡◌, List};
+ghost use Rattle.mm_base.specs.Editions.{edition_trial, trial};
+ghost use Rattle.mm_base.specs.Keys.{Text};
+ghost use Rattle.mm_base.specs.Package.{Package};
+ghost use Rattle.mm_base.specs.declared.commands.Piece.{Piece};
+ghost use Rattle.mm_kit.specs.Editions.{HasPieces, rows_from};
+ghost use Rattle.mm_kit.specs.Imports.{AreRepeats, IsFirstOf, OnlyGrows, SameBut};
+
+/// Pieces that are a first part of the kit stay one, and no shorter.
+pub fn a_first_part_stays_one_and_no_shorter()
+    ensures { (name : Text) (kit : List Piece) (p q : Package) (old : List Piece) → OnlyGrows name kit p q → HasPieces p name old → IsFirstOf old kit
+        → (new : List Piece) × HasPieces q name new × IsFirstOf old new × IsFirstOf new kit }
+{}
+
+/// Where they are no first part of the kit nothing changes.
+pub fn other_pieces_stay()
+    ensures { (name : Text) (kit : List Piece) (p q : Package) (old : List Piece) → OnlyGrows name kit p q → HasPieces p name old → ¬ (IsFirstOf old kit) → q ≡ p }
+{}
+
+/// Nor does anything where the edition isn't open, or the list is no kit.
+pub fn an_edition_that_is_not_open_stays()
+    ensures { (name : Text) (kit : List Piece) (p q : Package) → OnlyGrows name kit p q → ((old : List Piece) → ¬ (HasPieces p name old)) → q ≡ p }
+{}
+
+/// Nothing but the pieces of the edition changes, however often an import is begun.
+pub fn nothing_but_the_edition_changes()
+    ensures { (name : Text) (kit : List Piece) (p q : Package) (stops : List Package) → AreRepeats name kit p stops q → SameBut name p q }
+{}
+
+/// After any number of stops and repeats that end with the kit's pieces in the edition, publishing tries the kit's pieces, in
+/// their order, on the package that stands then.
+pub fn publishing_after_repeats_publishes_the_kit()
+    ensures { (name : Text) (kit : List Piece) (p q : Package) (stops : List Package) (stamp : Text) → AreRepeats name kit p stops q → HasPieces q name kit
+        → SameBut name p q × (edition_trial q name stamp ≡ trial (rows_from name 1 kit) q stamp) }
+{}

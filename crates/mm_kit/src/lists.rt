@@ -1,0 +1,91 @@
+//! The list of a kit.
+
+ghost use Rattle.std.specs.Prelude.{◌≡◌, ℕ, List, IfOk, OnSome, Some};
+ghost use Rattle.csv.specs.Reading.{reader_state, source_of, strip_bom};
+ghost use Rattle.csv.specs.Records.{fields_of};
+ghost use Rattle.csv.specs.declared.parser.State.TheVariants as states;
+ghost use Rattle.mm_lines.specs.Records.{IsSetUp, NextRow, records_of};
+ghost use Rattle.csv.specs.Reading.{default_config, records};
+ghost use Rattle.mm_kit.specs.Lists.{AreSound, IsListed, IsRead, listing};
+
+use crate::entries::{Entry, read_entry};
+use csv::{ByteRecord, Reader, StringRecord};
+use mm_base::answers::ReadFault;
+use mm_lines::{open_rows, text_fields};
+use std::alloc::{AllocError, Global};
+use std::io::Read;
+
+/// What a list comes to: its entries, or the first record that is refused, with its number.
+#[derive(Drop)]
+pub enum Listed {
+    Entries(Vec<Entry>),
+    Refused(u32, u8),
+}
+
+/// The next record, if there is one. The bytes are in memory, so that nothing but memory is wanted.
+fn next_record<T: Read>(
+    alloc: Global,
+    rows: &mut Reader<T>,
+) -> Result<Option<ByteRecord>, AllocError>
+    requires { IsSetUp rows.old }
+    ensures stays { IfOk result (λ o. OnSome o (IsSetUp rows.new)) }
+    ensures reads { IfOk result (λ o. NextRow T.remaining rows.old rows.new o) }
+{
+    let mut row = ByteRecord::new(alloc);
+    match rows.read_byte_record(&mut row) {
+        Ok(true) => Ok(Some(row)),
+        Ok(false) => Ok(None),
+        Err(_) => Err(AllocError),
+    }
+}
+
+/// The entry of a record at a place. One with a field that isn't text is refused 10.
+fn read_row(alloc: Global, place: u32, row: ByteRecord) -> Result<Entry, ReadFault>
+    ensures { IsRead place (fields_of row) result }
+{
+    let Ok(text) = StringRecord::from_byte_record(row) else {
+        return Err(ReadFault::refused(10));
+    };
+    let Ok(fields) = text_fields(alloc, &text) else {
+        return Err(ReadFault::Memory);
+    };
+    read_entry(alloc, place, fields.as_slice())
+}
+
+/// The entries of the records of a reader.
+fn read_rows<T: Read>(alloc: Global, rows: &mut Reader<T>) -> Result<Listed, AllocError>
+    requires { IsSetUp rows.old }
+    ensures lists { IfOk result (λ l. (bytes : List ℕ) → source_of T.remaining rows.old ≡ Some bytes → reader_state rows.old ≡ states.StartRecord
+        → IsListed (records default_config bytes) (listing l)) }
+    ensures sound { IfOk result AreSound }
+{
+    let mut entries = Vec::new(alloc);
+    for place in 1..4_098u32 {
+        match next_record(alloc, rows) {
+            Ok(Some(row)) => match read_row(alloc, place, row) {
+                Ok(entry) => {
+                    if entries.push(entry).is_err() {
+                        return Err(AllocError);
+                    }
+                }
+                Err(ReadFault::Refused(why)) => return Ok(Listed::Refused(place, why.number)),
+                Err(ReadFault::Memory) => return Err(AllocError),
+            },
+            Ok(None) => return Ok(Listed::Entries(entries)),
+            Err(e) => return Err(e),
+        }
+    }
+    unreachable!()
+}
+
+/// The entries of a list, or its first record that is refused.
+pub(crate) fn read_list(alloc: Global, bytes: &[u8]) -> Result<Listed, AllocError>
+    ensures lists { IfOk result (λ l. IsListed (records_of bytes.now) (listing l)) }
+    ensures sound { IfOk result AreSound }
+{
+    let mut rows = open_rows(alloc, bytes);
+    match read_rows(alloc, &mut rows) {
+        Ok(listed) => Ok(listed),
+        Err(e) => Err(e),
+    }
+}

@@ -1,0 +1,67 @@
+//! The import of a kit on a session.
+
+ghost use Rattle.std.specs.Prelude.{◌≡◌, ◌⊎◌, IfOk, IfErr, true};
+ghost use Rattle.sqlite.specs.Held.{state};
+ghost use Rattle.sqlite.specs.State.{HasCleanDisk};
+ghost use Rattle.mm_base.specs.Bounds.{millimetres};
+ghost use Rattle.mm_store.specs.Stands.{IsSettled};
+ghost use Rattle.mm_core.specs.Applied.{Stands};
+ghost use Rattle.mm_core.specs.Parts.{held, has_failed};
+ghost use Rattle.mm_kit.specs.Imports.{IsAnswered, IsKitFault, IsStopped, OnKit, TellsFailureOf};
+
+use crate::desk::Desk;
+use crate::folders::Folder;
+use crate::importing::import_folder;
+use mm_base::answers::{Fault, KitFault, Staged};
+use mm_base::entries::EditionState;
+use mm_base::moments::Moment;
+use mm_base::names::Name;
+use mm_core::Session;
+use sqlite::Alter;
+use std::alloc::Global;
+
+impl<S: Alter> Desk for Session<S> {
+    fn edition(&mut self, name: &Name) -> Result<Option<EditionState>, Fault> {
+        self.edition(name)
+    }
+}
+
+/// Stages the pieces of a folder's kit in an edition that is open, and answers `Complete` where the edition's pieces are
+/// the kit. An import that was stopped is done again, as often as is wanted: pieces that stand already are passed over.
+///
+/// The list `kit.csv` is read first, then the edition, then for each record in order its file. `Refused` tells the record's
+/// place, or 0 of the list itself: 57 where there is no list and 11 where it is too long; the first record that is refused;
+/// 51 or 55 of the edition; 57 or 11 of a record's file, 52 where another piece stands at its number.
+///
+/// # Errors
+///
+/// 90 want of memory, 91 the store, 92 where the session has to be opened again, 96 where the folder failed; each with the
+/// number of pieces that were answered ok in this call.
+pub fn import_kit<S: Alter, F: Folder>(
+    alloc: Global,
+    session: &mut Session<S>,
+    name: &Name,
+    folder: &mut F,
+    at: Moment,
+) -> Result<Staged, KitFault>
+    ensures clean { HasCleanDisk (state S.Store (held session.new)) → HasCleanDisk (state S.Store (held session.old)) }
+
+    // The answer is that of the kit on the package, and the session is settled for one whose edition has grown along the kit.
+    ensures answered { IfOk result (λ a. OnKit (HasCleanDisk (state S.Store (held session.new))) (λ p. IsSettled millimetres (state S.Store (held session.old)) p) (F.files folder.old)
+        (λ files p. IsAnswered files name.now p (λ q. IsSettled millimetres (state S.Store (held session.new)) q) a)) }
+
+    // With a fault each database that may be left stands for such a package, with as many pieces as were answered ok, or one more.
+    ensures stopped { IfErr result (λ e. OnKit (HasCleanDisk (state S.Store (held session.new))) (λ p. IsSettled millimetres (state S.Store (held session.old)) p) (F.files folder.old)
+        (λ files p. IsStopped files name.now p (λ db. (state S.Store (held session.new)).may_leave db) Stands e.staged)) }
+
+    // A session that has to be opened again is left as it was, and 92 comes only there.
+    ensures session { TellsFailureOf (has_failed session.old) (has_failed session.new) (session.new ≡ session.old) result }
+
+    // 96 is the folder's, and the folder tells it.
+    ensures why { IfErr result (λ e. IsKitFault e.fault.0 (F.has_failed folder.new)) }
+{
+    match import_folder(alloc, session, name, folder, at) {
+        Ok(answer) => Ok(answer),
+        Err(fault) => Err(fault),
+    }
+}

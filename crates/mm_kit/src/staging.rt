@@ -1,0 +1,128 @@
+//! The staging of a kit's pieces, one after another.
+
+ghost use Rattle.std.specs.Prelude.{◌≡◌, ◌≢◌, ◌≤◌, ◌⊎◌, List, length, pos, IfOk, IfErr, false, true};
+ghost use Rattle.mm_base.specs.Bounds.{IsMoment, IsName, millimetres};
+ghost use Rattle.mm_base.specs.Package.{Package};
+ghost use Rattle.mm_base.specs.Rules.{Meets};
+ghost use Rattle.mm_base.specs.Within.{IsWithin};
+ghost use Rattle.mm_base.specs.declared.answers.Answer.TheVariants as answers;
+ghost use Rattle.mm_base.specs.declared.commands.Command.TheVariants as commands;
+ghost use Rattle.mm_base.specs.declared.commands.Piece.{Piece as SpecPiece};
+ghost use Rattle.mm_run.specs.Answers.{is_fault};
+ghost use Rattle.mm_run.specs.Applied.{IsApplied, IsApplyFault, IsSound, OnFault};
+ghost use Rattle.mm_kit.specs.Editions.{HasPieces};
+ghost use Rattle.mm_kit.specs.Folders.{Files};
+ghost use Rattle.mm_kit.specs.Imports.{AreStaged, IsKitFault, MayBeStaged, OnKit, TellsFailureOf};
+ghost use Rattle.mm_kit.specs.Lists.{AreFine};
+ghost use Rattle.mm_kit.specs.declared.folders.FolderFault.TheVariants as folder_fault;
+
+use crate::desk::Desk;
+use crate::entries::Entry;
+use crate::filling::fill;
+use crate::folders::{Folder, FolderFault};
+use mm_base::answers::{Answer, Fault, KitFault, Staged};
+use mm_base::commands::{Command, Piece};
+use mm_base::moments::Moment;
+use mm_base::names::Name;
+use mm_run::Apply;
+use std::alloc::Global;
+
+/// The same name again.
+fn same_name(name: &Name) -> Name
+    ensures same { result ≡ name.now }
+    ensures named { IsName name.now }
+{
+    match Name::read(name.as_str()) {
+        Some(same) => same,
+        None => unreachable!(),
+    }
+}
+
+/// A folder's fault as one of the import.
+pub(crate) fn folder_fault(fault: FolderFault) -> Fault
+    ensures { (result.0 ≡ 90) ⊎ ((result.0 ≡ 96) × (fault ≡ folder_fault.Failed)) }
+{
+    match fault {
+        FolderFault::Memory => Fault(90),
+        FolderFault::Failed => Fault(96),
+    }
+}
+
+/// The command that stages one piece.
+fn stage_piece<A: Apply>(
+    desk: &mut A,
+    edition: &Name,
+    number: u32,
+    piece: Piece,
+    at: Moment,
+) -> Answer
+    ensures named { IsName edition.now }
+    ensures moment { IsMoment at }
+    ensures faults { OnFault result IsApplyFault }
+    ensures ended { A.has_failed desk.old ≡ true → (result ≡ answers.Fault (record { 0 = 92 })) × (desk.new ≡ desk.old) }
+    ensures working { A.has_failed desk.old ≡ false → OnFault result (λ fault. fault ≢ 92) }
+    ensures fails { A.has_failed desk.old ≡ false → A.has_failed desk.new ≡ is_fault result }
+    ensures clean { A.is_clean desk.new → A.is_clean desk.old }
+    ensures applied { A.is_clean desk.new → (p : Package) → A.settled desk.old p → Meets millimetres p → IsWithin millimetres (commands.Stage edition.now (pos number) piece)
+        → IsApplied p (commands.Stage edition.now (pos number) piece) at result (A.settled desk.new) (A.may_leave desk.new) A.stands_for }
+{
+    // The proof reads from this that the moment is within its limits.
+    let _milliseconds = at.milliseconds();
+    let command = Command::Stage {
+        edition: same_name(edition),
+        number: i64::from(number),
+        piece,
+    };
+    desk.apply(&command, at)
+}
+
+/// Stages the pieces of the entries in order, up to the first that is refused.
+pub(crate) fn stage_all<A: Desk, F: Folder>(
+    alloc: Global,
+    desk: &mut A,
+    edition: &Name,
+    folder: &mut F,
+    entries: Vec<Entry>,
+    at: Moment,
+) -> Result<Staged, KitFault>
+    requires fine { AreFine entries.items }
+    requires working { A.has_failed desk.old ≡ false }
+    ensures clean { A.is_clean desk.new → A.is_clean desk.old }
+    ensures answered { IfOk result (λ a. OnKit (A.is_clean desk.new) (A.settled desk.old) (F.files folder.old)
+        (λ files p. (old : List SpecPiece) → HasPieces p edition.now old → length old ≤ length entries.items → AreStaged files edition.now entries.items p old (A.settled desk.new) a)) }
+    ensures stopped { IfErr result (λ e. OnKit (A.is_clean desk.new) (A.settled desk.old) (F.files folder.old)
+        (λ files p. (old : List SpecPiece) → HasPieces p edition.now old → MayBeStaged files edition.now entries.items p (A.may_leave desk.new) A.stands_for e.staged)) }
+    ensures session { IfOk result (λ a. A.has_failed desk.new ≡ false) }
+    ensures fault { IfErr result (λ e. (e.fault.0 ≢ 92) × (e.fault.0 ≡ 96 → A.has_failed desk.new ≡ false)) }
+    ensures why { IfErr result (λ e. IsKitFault e.fault.0 (F.has_failed folder.new)) }
+{
+    let mut staged = 0u32;
+    for entry in entries {
+        let piece = match fill(alloc, folder, entry) {
+            Ok(Ok(piece)) => piece,
+            Ok(Err(number)) => {
+                return Ok(Staged::Refused {
+                    piece: staged + 1,
+                    number,
+                });
+            }
+            Err(fault) => {
+                return Err(KitFault {
+                    fault: folder_fault(fault),
+                    staged,
+                });
+            }
+        };
+        match stage_piece(desk, edition, staged + 1, piece, at) {
+            Answer::Ok => staged += 1,
+            Answer::Refused(why) => {
+                return Ok(Staged::Refused {
+                    piece: staged + 1,
+                    number: why.number,
+                });
+            }
+            Answer::Fault(fault) => return Err(KitFault { fault, staged }),
+        }
+    }
+    Ok(Staged::Complete(staged))
+}

@@ -1,0 +1,291 @@
+//! Imports into packages in memory, of folders in memory.
+
+ghost use Rattle.std.specs.Prelude.{None};
+
+use crate::folders::{Folder, FolderFault, Found};
+use crate::sessions::import_kit;
+use mm_base::answers::{Fault, KitFault, Staged};
+use mm_base::entries::EditionState;
+use mm_base::moments::Moment;
+use mm_base::names::Name;
+use mm_base::streams::Io;
+use mm_core::Session;
+use sqlite::{Connection, MemStore};
+use std::alloc::Global;
+
+/// A folder of four files in memory, one of whose reads may fail.
+#[derive(Drop)]
+struct Files {
+    list: &'static [u8],
+    /// The bytes of `b.bin`, if it is there.
+    second: Option<&'static [u8]>,
+    reads: u32,
+    failing: u32,
+    failed: bool,
+}
+
+/// The bytes where they are not too many.
+fn found(alloc: Global, bytes: &[u8], most: u64) -> Result<Found, FolderFault> {
+    if bytes.len() as u64 > most {
+        return Ok(Found::TooLong);
+    }
+    let mut copy = Vec::new(alloc);
+    match copy.extend_from_slice(bytes) {
+        Ok(()) => Ok(Found::Bytes(copy)),
+        Err(_) => Err(FolderFault::Memory),
+    }
+}
+
+impl Folder for Files {
+    ghost files = { λ s. None };
+
+    ghost has_failed = { λ s. s.failed };
+
+    fn read(&mut self, alloc: Global, name: &str, most: u64) -> Result<Found, FolderFault> {
+        self.reads = self.reads.wrapping_add(1);
+        if self.reads == self.failing {
+            self.failed = true;
+            return Err(FolderFault::Failed);
+        }
+        match name {
+            "kit.csv" => found(alloc, self.list, most),
+            "a.bin" => found(alloc, b"\x01", most),
+            "b.bin" => match self.second {
+                Some(bytes) => found(alloc, bytes, most),
+                None => Ok(Found::Missing),
+            },
+            "c.bin" => found(alloc, b"\x03", most),
+            "a..b" => found(alloc, b"\x04", most),
+            _ => Ok(Found::Missing),
+        }
+    }
+
+    fn failed(&self) -> bool {
+        self.failed
+    }
+}
+
+const LIST: &[u8] =
+    b"1,tile,base,1,0,0,a.bin\n2,tile,base,1,1,0,b.bin\n3,row,spots,8,Gate,,0\n4,media,photos,4,image/png,c.bin\n5,map,spot_photos,8,4\n";
+
+/// A package with a pyramid, two plain tables, a relation of both, and the open edition `k`.
+const PACKAGE: &[u8] = b"srs,25832,ETRS89 / UTM zone 32N,EPSG,25832,projected metres,
+pyramid,base,Base map,25832,500000000,5600000000,501024000,5601024000,two
+matrix,base,0,1,1,256,256,4000,4000
+matrix,base,1,2,2,256,256,2000,2000
+table,spots,attributes,Spots
+table,photos,media,Photos
+relation,spot_photos,spots,photos,media
+edition,k
+";
+
+fn session_of(alloc: Global, at: Moment) -> Option<Session<MemStore>> {
+    let Ok(conn) = Connection::open_in_memory(alloc) else {
+        return None;
+    };
+    let Ok(mut session) = Session::create(alloc, conn) else {
+        return None;
+    };
+    if run(alloc, &mut session, PACKAGE, at) != Some(8) {
+        return None;
+    }
+    Some(session)
+}
+
+/// How many records are accepted.
+fn run(alloc: Global, session: &mut Session<MemStore>, records: &[u8], at: Moment) -> Option<u64> {
+    let mut reader = Io::new(records);
+    let mut writer = Io::new(Vec::new(alloc));
+    match session.run_list(&mut reader, &mut writer, at) {
+        Ok(tally) => Some(tally.accepted),
+        Err(_) => None,
+    }
+}
+
+fn folder(list: &'static [u8], second: Option<&'static [u8]>, failing: u32) -> Files {
+    Files {
+        list,
+        second,
+        reads: 0,
+        failing,
+        failed: false,
+    }
+}
+
+fn refused(piece: u32, number: u8) -> Result<Staged, KitFault> {
+    Ok(Staged::Refused { piece, number })
+}
+
+fn stopped(number: u8, staged: u32) -> Result<Staged, KitFault> {
+    Err(KitFault {
+        fault: Fault(number),
+        staged,
+    })
+}
+
+#[test]
+fn goes_on_after_a_stop_and_stages_nothing_twice(rt: HostRuntime) {
+    let alloc = rt.alloc();
+    let at = Moment::new(0).expect(&rt, "a moment");
+    let name = Name::read("k").expect(&rt, "a name");
+    let other = Name::read("none").expect(&rt, "a name");
+    let mut session = session_of(alloc, at).expect(&rt, "a session");
+    let second: Option<&'static [u8]> = Some(b"\x02");
+    // The list, a.bin, b.bin, and then c.bin for the fourth piece.
+    let mut failing = folder(LIST, second, 4);
+    assert!(&rt; import_kit(alloc, &mut session, &name, &mut failing, at) == stopped(96, 3));
+    assert!(&rt; failing.failed());
+    assert!(&rt; session.edition(&name) == Ok(Some(EditionState::Open(3))));
+    for _again in 0..2 {
+        let answer = import_kit(alloc, &mut session, &name, &mut folder(LIST, second, 0), at);
+        assert!(&rt; answer == Ok(Staged::Complete(5)));
+        assert!(&rt; session.edition(&name) == Ok(Some(EditionState::Open(5))));
+    }
+    let answer = import_kit(
+        alloc,
+        &mut session,
+        &name,
+        &mut folder(LIST, Some(b"\x09"), 0),
+        at,
+    );
+    assert!(&rt; answer == refused(2, 52));
+    assert!(&rt; session.edition(&name) == Ok(Some(EditionState::Open(5))));
+    let answer = import_kit(
+        alloc,
+        &mut session,
+        &other,
+        &mut folder(LIST, second, 0),
+        at,
+    );
+    assert!(&rt; answer == refused(0, 51));
+    assert!(&rt; run(alloc, &mut session, b"publish,k\n", at) == Some(1));
+    assert!(&rt; session.edition(&name) == Ok(Some(EditionState::Published)));
+    let answer = import_kit(alloc, &mut session, &name, &mut folder(LIST, second, 0), at);
+    assert!(&rt; answer == refused(0, 55));
+}
+
+#[test]
+fn answers_each_list(rt: HostRuntime) {
+    let alloc = rt.alloc();
+    let at = Moment::new(0).expect(&rt, "a moment");
+    let name = Name::read("k").expect(&rt, "a name");
+    let mut session = session_of(alloc, at).expect(&rt, "a session");
+    // A list, the bytes of `b.bin`, which read fails, the answer, and how many pieces then stand.
+    let cases: [(
+        &'static [u8],
+        Option<&'static [u8]>,
+        u32,
+        Result<Staged, KitFault>,
+        u32,
+    ); 20] = [
+        (b"", Some(b"\x02"), 0, Ok(Staged::Complete(0)), 0),
+        (
+            b"2,tile,base,1,0,0,a.bin\n2,tile,base,1,1,0,b.bin\n",
+            Some(b"\x02"),
+            0,
+            refused(1, 56),
+            0,
+        ),
+        (
+            b"1,tile,base,1,0,0,../a.bin\n",
+            Some(b"\x02"),
+            0,
+            refused(1, 57),
+            0,
+        ),
+        (
+            b"1,row,spots,8,Gate,,0\n2,tile,base,1,1,0,..\n",
+            Some(b"\x02"),
+            0,
+            refused(2, 57),
+            0,
+        ),
+        (
+            b"1,row,spots,8,Gate,,0\n2,tile,base,1,1,0,/etc/x\n",
+            Some(b"\x02"),
+            0,
+            refused(2, 57),
+            0,
+        ),
+        (
+            b"1,row,spots,8,Gate,,0\n2,tile,base,1,1,0,a/b\n",
+            Some(b"\x02"),
+            0,
+            refused(2, 57),
+            0,
+        ),
+        (
+            b"1,row,spots,8,Gate,,0\n2,tile,base,1,1,0,.a\n",
+            Some(b"\x02"),
+            0,
+            refused(2, 57),
+            0,
+        ),
+        (
+            b"1,row,spots,8,Gate,,0\n2,tile,base,1,1,0,\n",
+            Some(b"\x02"),
+            0,
+            refused(2, 57),
+            0,
+        ),
+        (
+            b"1,row,spots,8,Gate,,0\n2,tile,base,1,1,0,aaaaaaaaaaaaaaaaaaaaaaaaaaaaaaaaaaaaaaaaaaaaaaaaaaaaaaaaaaaaaaaaaaaaaaaaaaaaaaaaaaaaaaaaaaaaaaaaaaaaa\n",
+            Some(b"\x02"),
+            0,
+            refused(2, 57),
+            0,
+        ),
+        (
+            b"1,row,spots,8,Gate,,0\n02,tile,base,1,1,0,a.bin\n",
+            Some(b"\x02"),
+            0,
+            refused(2, 10),
+            0,
+        ),
+        (
+            b"1,row,spots,8,Gate,,0\n0,tile,base,1,1,0,a.bin\n",
+            Some(b"\x02"),
+            0,
+            refused(2, 11),
+            0,
+        ),
+        (
+            b"1,row,Spots,8,Gate,,0\n",
+            Some(b"\x02"),
+            0,
+            refused(1, 12),
+            0,
+        ),
+        (
+            b"1,row,spots,8,\xff\xfe,,0\n",
+            Some(b"\x02"),
+            0,
+            refused(1, 10),
+            0,
+        ),
+        (b"1,drop,spots\n", Some(b"\x02"), 0, refused(1, 10), 0),
+        (LIST, Some(b"\x02"), 1, stopped(96, 0), 0),
+        (LIST, None, 0, refused(2, 57), 1),
+        (LIST, Some(b""), 0, refused(2, 11), 1),
+        (LIST, Some(b"\x02"), 3, stopped(96, 1), 1),
+        (b"", Some(b"\x02"), 0, refused(1, 52), 1),
+        (
+            b"1,tile,base,1,0,0,a.bin\n2,tile,base,1,0,0,a..b\n",
+            Some(b"\x02"),
+            0,
+            Ok(Staged::Complete(2)),
+            2,
+        ),
+    ];
+    for (list, second, failing, wanted, pieces) in cases {
+        let answer = import_kit(
+            alloc,
+            &mut session,
+            &name,
+            &mut folder(list, second, failing),
+            at,
+        );
+        assert!(&rt; answer == wanted);
+        assert!(&rt; session.edition(&name) == Ok(Some(EditionState::Open(pieces))));
+    }
+}

@@ -5,6 +5,7 @@ mod editions;
 mod faults;
 mod files;
 mod pages;
+mod recovery;
 mod runs;
 mod streams;
 mod words;

@@ -12,6 +12,3 @@ mod sessions;
 
 pub use files::{open_after_close, open_after_crash};
 pub use sessions::{NotRecovered, recover_after_crash, run_and_recover};
-
-#[cfg(test)]
-mod tests;

@@ -31,8 +31,14 @@ fn session_on_a_tile(alloc: Global) -> Option<Session<MemStore>> {
     let mut session = Session::create(alloc, conn).ok()?;
     let mut reader = Io::new(RECORDS);
     let mut writer = Io::new(Vec::new(alloc));
-    let tally = session.run_list(&mut reader, &mut writer, Moment::new(0)?).ok()?;
-    if tally.refused == 0 { Some(session) } else { None }
+    let tally = session
+        .run_list(&mut reader, &mut writer, Moment::new(0)?)
+        .ok()?;
+    if tally.refused == 0 {
+        Some(session)
+    } else {
+        None
+    }
 }
 
 #[test]

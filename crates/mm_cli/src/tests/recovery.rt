@@ -1,10 +1,10 @@
 //! A run whose log stops at each of its calls, and the package that is then found.
 
-use crate::run_and_recover;
 use mm_base::moments::Moment;
 use mm_base::names::Name;
 use mm_base::streams::Io;
 use mm_core::Session;
+use mm_recovery::run_and_recover;
 use sqlite::{Connection, FileStore, Files, Options};
 use sqlite_disk::{Fuse, Memory};
 use std::alloc::Global;

@@ -1,15 +1,8 @@
 //! The page over sockets of this process.
 
 use super::{make_file, make_folder, outcome};
-use mm_base::moments::Moment;
-use mm_base::streams::Io;
-use mm_core::Session;
-use mm_program::serve_on;
-use sqlite::{Connection, MemStore};
-use std::alloc::Global;
 use std::fs;
-use std::io::{Read, Write};
-use std::net::{Shutdown, TcpListener, TcpStream};
+use std::net::TcpListener;
 use std::test::Fail;
 
 const RECORDS: &[u8] = b"srs,25832,ETRS89 / UTM zone 32N,EPSG,25832,projected metres,

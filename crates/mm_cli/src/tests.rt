@@ -3,6 +3,7 @@
 mod contents;
 mod faults;
 mod files;
+mod looking;
 mod runs;
 mod streams;
 mod words;

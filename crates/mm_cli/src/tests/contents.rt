@@ -253,7 +253,11 @@ fn compare_answers(rt: &HostRuntime, group: &str) -> Result<(), Fail> {
 
 #[test]
 fn answers_records_of_the_contents(rt: HostRuntime) -> Result<(), Fail> {
-    for group in GROUPS.split("\n\n").chain(CONTENT.split("\n\n")).chain(RELATED.split("\n\n")) {
+    for group in GROUPS
+        .split("\n\n")
+        .chain(CONTENT.split("\n\n"))
+        .chain(RELATED.split("\n\n"))
+    {
         compare_answers(&rt, group)?;
     }
     fs::remove_dir_all(&rt, "mm_cli_contents")?;

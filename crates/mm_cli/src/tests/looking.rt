@@ -27,13 +27,19 @@ fn checks_and_lists(rt: HostRuntime) -> Result<(), Fail> {
     assert_eq!(rt; status, 0);
     let (status, text) = outcome(&rt, &["mmpkg", "list", path], b"");
     assert_eq!(rt; status, 0);
-    assert_eq!(rt; text.as_slice(), b"base                     two                 0 1970-01-01T00:00:00.000Z Base map\n".as_slice());
+    assert_eq!(rt;
+        text.as_slice(),
+        b"base                     two                 0 1970-01-01T00:00:00.000Z Base map\n".as_slice()
+    );
     fs::write(&rt, "mm_cli_looks/b.gpkg", b"")?;
     for word in ["check", "list"] {
         let (status, text) = outcome(&rt, &["mmpkg", word, "mm_cli_looks/b.gpkg"], b"");
         assert_eq!(rt; status, 4);
         assert_eq!(rt; text.as_slice(), b"not a package 94\n".as_slice());
-        assert_eq!(rt; fs::read(&rt, "mm_cli_looks/b.gpkg")?.as_slice(), b"".as_slice());
+        assert_eq!(rt;
+            fs::read(&rt, "mm_cli_looks/b.gpkg")?.as_slice(),
+            b"".as_slice()
+        );
     }
     fs::remove_dir_all(&rt, "mm_cli_looks")?;
     Ok(())
@@ -56,13 +62,21 @@ fn tells_the_rule_that_fails(rt: HostRuntime) -> Result<(), Fail> {
     make_folder(&rt, "mm_cli_rule")?;
     let path = "mm_cli_rule/a.gpkg";
     make_file(&rt, path)?;
-    change(&rt, path, "DELETE FROM gpkg_spatial_ref_sys WHERE srs_id = 0")?;
+    change(
+        &rt,
+        path,
+        "DELETE FROM gpkg_spatial_ref_sys WHERE srs_id = 0",
+    )?;
     let before = fs::read(&rt, path)?;
     for word in ["check", "list", "run"] {
         let (status, text) = outcome(&rt, &["mmpkg", word, path], PYRAMID);
         assert_eq!(rt; status, 4, "{word}");
         assert_eq!(rt; text.as_slice(), b"rule Q1\n".as_slice(), "{word}");
-        assert_eq!(rt; fs::read(&rt, path)?.as_slice(), before.as_slice(), "{word}");
+        assert_eq!(rt;
+            fs::read(&rt, path)?.as_slice(),
+            before.as_slice(),
+            "{word}"
+        );
     }
     fs::remove_dir_all(&rt, "mm_cli_rule")?;
     Ok(())

@@ -50,6 +50,9 @@ fn adopted(alloc: Global, change: &str) -> Option<Option<u8>> {
     let Ok(_) = conn.execute_batch(change) else {
         return None;
     };
+    if !conn.is_autocommit() {
+        return None;
+    }
     match Session::adopt(alloc, conn) {
         Ok(session) => {
             let mut session = session;

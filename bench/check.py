@@ -1,0 +1,103 @@
+#!/usr/bin/env python3
+"""The whole check of a package, against SQLite's own checks of a database with as many tiles.
+
+    bench/check.py [--program out/mmpkg] [--tiles 100000] [--bytes 200] [--folder FOLDER]
+
+A package is filled with half the tiles, checked, filled with the rest, and checked again: seconds and peak memory, as
+/usr/bin/time tells them. SQLite's side, through Python's sqlite3 in a process of its own, does PRAGMA integrity_check, PRAGMA
+foreign_key_check and one scan that reads every tile. The check must take at most 2.3 times as long for twice the tiles, and its
+memory must not grow with their number.
+"""
+
+import argparse
+import os
+import pathlib
+import re
+import sqlite3
+import subprocess
+import sys
+import tempfile
+
+SIDE = 400
+LAYOUT = f"""srs,25832,ETRS89 / UTM zone 32N,EPSG,25832,projected metres,
+pyramid,base,Base map,25832,0,0,{SIDE * 256 * 1000},{SIDE * 256 * 1000},two
+matrix,base,0,{SIDE},{SIDE},256,256,1000,1000
+"""
+CHECKS = """
+import sqlite3, sys
+database = sqlite3.connect(sys.argv[1])
+assert database.execute("PRAGMA integrity_check").fetchone() == ("ok",)
+assert database.execute("PRAGMA foreign_key_check").fetchone() is None
+assert sum(len(row[4]) for row in database.execute("SELECT * FROM mm_tiles")) > 0
+"""
+
+
+def measured(words):
+    """Seconds and peak kilobytes of a command."""
+    done = subprocess.run(["/usr/bin/time", "-v", *words], stdout=subprocess.PIPE, stderr=subprocess.PIPE, check=False)
+    told = done.stderr.decode()
+    if done.returncode != 0:
+        raise SystemExit(done.stdout.decode()[:400] + told[-400:])
+    clock = re.search(r"Elapsed \(wall clock\) time.*: (?:(\d+):)?(\d+):([\d.]+)", told)
+    seconds = int(clock.group(1) or 0) * 3600 + int(clock.group(2)) * 60 + float(clock.group(3))
+    return seconds, int(re.search(r"Maximum resident set size \(kbytes\): (\d+)", told).group(1))
+
+
+def places(start, end):
+    return ((number % SIDE, number // SIDE) for number in range(start, end))
+
+
+def fill(program, file, folder, start, end, size):
+    path = os.path.join(folder, "records.csv")
+    with open(path, "w") as out:
+        if start == 0:
+            out.write(LAYOUT)
+        for column, row in places(start, end):
+            out.write(f"tile,base,0,{column},{row},{os.urandom(size).hex()}\n")
+    with open(path, "rb") as records:
+        subprocess.run([program, "run", file, "--at", "0"], stdin=records, stdout=subprocess.DEVNULL, check=True)
+
+
+def fill_other(file, start, end, size):
+    database = sqlite3.connect(file)
+    if start == 0:
+        database.executescript(
+            """CREATE TABLE gpkg_tile_matrix (table_name TEXT NOT NULL, zoom_level INTEGER NOT NULL, matrix_width INTEGER NOT NULL,
+                matrix_height INTEGER NOT NULL, PRIMARY KEY (table_name, zoom_level)) STRICT;
+            CREATE TABLE mm_tiles (table_name TEXT NOT NULL, zoom_level INTEGER NOT NULL, tile_column INTEGER NOT NULL, tile_row INTEGER NOT NULL,
+                tile_data BLOB NOT NULL, PRIMARY KEY (table_name, zoom_level, tile_column, tile_row),
+                FOREIGN KEY (table_name, zoom_level) REFERENCES gpkg_tile_matrix ON DELETE CASCADE) STRICT;"""
+        )
+        database.execute("INSERT INTO gpkg_tile_matrix VALUES ('base', 0, ?, ?)", (SIDE, SIDE))
+    tiles = (("base", 0, column, row, os.urandom(size)) for column, row in places(start, end))
+    database.executemany("INSERT INTO mm_tiles VALUES (?, ?, ?, ?, ?)", tiles)
+    database.commit()
+    database.close()
+
+
+def main():
+    parser = argparse.ArgumentParser(description=__doc__, formatter_class=argparse.RawDescriptionHelpFormatter)
+    parser.add_argument("--program", default=str(pathlib.Path(__file__).resolve().parent.parent / "out" / "mmpkg"))
+    parser.add_argument("--tiles", type=int, default=100000)
+    parser.add_argument("--bytes", type=int, default=200)
+    parser.add_argument("--folder")
+    given = parser.parse_args()
+    if given.tiles > SIDE * SIDE:
+        parser.error(f"at most {SIDE * SIDE} tiles")
+    with tempfile.TemporaryDirectory(dir=given.folder) as folder:
+        file = os.path.join(folder, "bench.gpkg")
+        other = os.path.join(folder, "other.db")
+        subprocess.run([given.program, "init", file], check=True, stdout=subprocess.DEVNULL)
+        taken = []
+        for start, end in ((0, given.tiles // 2), (given.tiles // 2, given.tiles)):
+            fill(given.program, file, folder, start, end, given.bytes)
+            fill_other(other, start, end, given.bytes)
+            ours = measured([given.program, "check", file])
+            theirs = measured([sys.executable, "-c", CHECKS, other])
+            taken.append(ours)
+            print(f"{end} tiles: mmpkg {ours[0]:.2f} s, {ours[1]} KB; SQLite {theirs[0]:.2f} s, {theirs[1]} KB")
+        print(f"twice the tiles: {taken[1][0] / max(taken[0][0], 0.01):.2f} times the seconds, {taken[1][1] / taken[0][1]:.2f} times the memory")
+
+
+if __name__ == "__main__":
+    main()

@@ -29,3 +29,11 @@ pub fn time_now(rt: &HostRuntime) -> Now {
         None => Now::Outside,
     }
 }
+
+/// The moment that the words give, or else the clock's.
+pub fn moment_of(rt: &HostRuntime, at: Option<Moment>) -> Now {
+    match at {
+        Some(moment) => Now::At(moment),
+        None => time_now(rt),
+    }
+}

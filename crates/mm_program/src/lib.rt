@@ -1,6 +1,7 @@
 //! The program `mmpkg` as a function of its words, its input and its output.
 //!
 //! - `subcommands`: what each subcommand does.
+//! - `kits`: a folder of the system, and the import of its kit.
 //! - `looking`: those that change nothing.
 //! - `files`: the package's file and its journal.
 //! - `serving`: the page served over sockets.
@@ -9,6 +10,7 @@
 
 mod clock;
 mod files;
+mod kits;
 mod looking;
 mod serving;
 mod subcommands;

@@ -4,8 +4,9 @@ ghost use Rattle.std.specs.Prelude.{◌≡◌, ◌≤◌, ◌⊎◌, IfOk, IfErr
 ghost use Rattle.mm_base.specs.Streams.{has_failed};
 ghost use Rattle.mm_work.specs.Told.{TellsFailure};
 
-use crate::clock::{Now, time_now};
+use crate::clock::{Now, moment_of};
 use crate::files::{close_files, open_new, open_old};
+use crate::kits::kit_told;
 use crate::looking::{check_told, list_told};
 use crate::serving::serve_told;
 use mm_arguments::{Request, read_arguments, status_of};
@@ -13,8 +14,7 @@ use mm_base::answers::Fault;
 use mm_base::moments::Moment;
 use mm_base::streams::Io;
 use mm_work::{
-    FAULT, REFUSED, Stop, USAGE, make_package, run_package, tell_bytes, tell_init, tell_stop,
-    tell_text,
+    FAULT, REFUSED, Stop, make_package, run_package, tell_bytes, tell_init, tell_stop, tell_text,
 };
 use sqlite::{Start, Wary};
 use std::io::{Read, Write};
@@ -73,13 +73,10 @@ fn run_told<R: Read, W: Write>(
     ensures status { result ≤ 4 }
     ensures unprinted { TellsFailure (has_failed output.old) (has_failed output.new) result }
 {
-    let moment = match at {
-        Some(moment) => moment,
-        None => match time_now(rt) {
-            Now::At(moment) => moment,
-            Now::Outside => return tell_bytes(output, b"refused 11\n", REFUSED),
-            Now::Unread => return tell_stop(output, Stop::Fault(Fault(96))),
-        },
+    let moment = match moment_of(rt, at) {
+        Now::At(moment) => moment,
+        Now::Outside => return tell_bytes(output, b"refused 11\n", REFUSED),
+        Now::Unread => return tell_stop(output, Stop::Fault(Fault(96))),
     };
     match run_file(rt, path, Wary, input, output, moment) {
         Ok(status) => status,
@@ -115,11 +112,14 @@ pub fn program<R: Read, W: Write>(
         Ok(Request::Check { file }) => check_told(rt, file, output),
         Ok(Request::List { file }) => list_told(rt, file, output),
         Ok(Request::Serve { file, port, count }) => serve_told(rt, file, port, count, output),
-        Ok(_) => tell_bytes(
-            output,
-            b"error: this subcommand is not served yet\n\nFor more information, try '--help'.\n",
-            USAGE,
-        ),
+        Ok(
+            Request::Kit {
+                file,
+                edition,
+                folder,
+                at,
+            },
+        ) => kit_told(rt, file, edition, folder, at, output),
         Err(error) => tell_words(output, error),
     }
 }

@@ -2,3 +2,4 @@ pub mod Ran
 pub mod Told
 pub mod Looked
 pub mod Pages
+pub mod Kits

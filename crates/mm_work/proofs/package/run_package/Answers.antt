@@ -1,5 +1,3 @@
-use Rattle.sqlite.specs.Held.{state}
-use Rattle.mm_core.specs.Parts.{held}
 use Rattle.mm_work.proofs.package.run_package.Goals as goal
 
 pub returns-in-Ok-clause-ran : goal.returns-in-Ok-clause-ran

@@ -1,0 +1,126 @@
+//! The subcommand `kit`, on a folder of the system.
+
+ghost use Rattle.std.specs.Prelude.{◌≤◌};
+ghost use Rattle.mm_base.specs.Streams.{has_failed};
+ghost use Rattle.mm_work.specs.Told.{TellsFailure};
+
+use crate::clock::{Now, moment_of};
+use crate::files::{close_files, open_old};
+use mm_base::answers::Fault;
+use mm_base::moments::Moment;
+use mm_base::names::Name;
+use mm_base::streams::Io;
+use mm_kit::{Folder, FolderFault, Found};
+use mm_work::{Import, REFUSED, Stop, import_package, tell_bytes, tell_import, tell_stop};
+use sqlite::{Start, Wary};
+use std::alloc::Global;
+use std::io::{Read, Write};
+use std::{fs, io};
+
+/// A folder of the system. It opens names of one file alone, so that nothing outside the folder is read but what a link in
+/// it leads to.
+#[derive(Drop)]
+struct SystemFolder<'a> {
+    rt: &'a HostRuntime,
+    path: &'a str,
+    failed: bool,
+}
+
+/// The failure of a call of the system.
+fn folder_fault(error: io::Error) -> FolderFault {
+    match error.kind() {
+        io::ErrorKind::OutOfMemory => FolderFault::Memory,
+        _ => FolderFault::Failed,
+    }
+}
+
+/// The bytes of a file, where they are `most` at most.
+fn read_file(rt: &HostRuntime, path: &str, name: &str, most: u64) -> Result<Found, FolderFault> {
+    let Ok(path) = format!(in rt.alloc(); "{path}/{name}") else {
+        return Err(FolderFault::Memory);
+    };
+    let file = match fs::File::open(rt, path.as_str()) {
+        Ok(file) => file,
+        Err(error) if error.kind() == io::ErrorKind::NotFound => return Ok(Found::Missing),
+        Err(error) => return Err(folder_fault(error)),
+    };
+    let mut bytes = Vec::new(rt.alloc());
+    match file.take(most.saturating_add(1)).read_to_end(&mut bytes) {
+        Ok(_) if bytes.len() as u64 > most => Ok(Found::TooLong),
+        Ok(_) => Ok(Found::Bytes(bytes)),
+        Err(error) => Err(folder_fault(error)),
+    }
+}
+
+impl<'a> Folder for SystemFolder<'a> {
+    ghost use Rattle.std.specs.Prelude.{None};
+
+    // No clause tells what the files of a system hold.
+    ghost files = { λ s. None };
+
+    ghost has_failed = { λ s. s.failed };
+
+    fn read(&mut self, _alloc: Global, name: &str, most: u64) -> Result<Found, FolderFault> {
+        match read_file(self.rt, self.path, name, most) {
+            Ok(found) => Ok(found),
+            Err(FolderFault::Memory) => Err(FolderFault::Memory),
+            Err(FolderFault::Failed) => {
+                self.failed = true;
+                Err(FolderFault::Failed)
+            }
+        }
+    }
+
+    fn failed(&self) -> bool {
+        self.failed
+    }
+}
+
+/// Imports the kit of a folder into an edition of the package of a file.
+fn import_file<S: Start>(
+    rt: &HostRuntime,
+    path: &str,
+    start: S,
+    edition: &Name,
+    folder: &str,
+    at: Moment,
+) -> Result<Import, Stop> {
+    let conn = open_old(rt, path, start)?;
+    let mut folder = SystemFolder {
+        rt,
+        path: folder,
+        failed: false,
+    };
+    let (conn, import) = import_package(rt.alloc(), conn, edition, &mut folder, at)?;
+    let closed = close_files(conn);
+    if import.is_ok() {
+        closed?;
+    }
+    Ok(import)
+}
+
+/// The subcommand `kit`. An edition that is no name is refused before the clock is asked or the file opened.
+pub(crate) fn kit_told<W: Write>(
+    rt: &HostRuntime,
+    path: &str,
+    edition: &str,
+    folder: &str,
+    at: Option<Moment>,
+    output: &mut Io<W>,
+) -> u8
+    ensures status { result ≤ 4 }
+    ensures unprinted { TellsFailure (has_failed output.old) (has_failed output.new) result }
+{
+    let Some(name) = Name::read(edition) else {
+        return tell_bytes(output, b"kit refused 0 12\n", REFUSED);
+    };
+    let moment = match moment_of(rt, at) {
+        Now::At(moment) => moment,
+        Now::Outside => return tell_bytes(output, b"refused 11\n", REFUSED),
+        Now::Unread => return tell_stop(output, Stop::Fault(Fault(96))),
+    };
+    match import_file(rt, path, Wary, &name, folder, moment) {
+        Ok(import) => tell_import(output, import),
+        Err(why) => tell_stop(output, why),
+    }
+}

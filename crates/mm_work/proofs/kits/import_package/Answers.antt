@@ -1,0 +1,7 @@
+use Rattle.mm_work.proofs.Imported.{imports}
+use Rattle.mm_work.proofs.kits.import_package.Goals as goal
+
+pub returns-in-Ok : goal.returns-in-Ok
+returns-in-Ok g c = record {
+  imported = rw c.close.ensures (imports _ _ _ c.in-Ok.ensures.adopted c.import_kit-import.ensures.clean _ _ c.import_kit-import.result c.import_kit-import.ensures.answered c.import_kit-import.ensures.stopped);
+}

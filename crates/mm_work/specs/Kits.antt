@@ -1,0 +1,34 @@
+-- What the import of a kit comes to, and what is printed of it.
+use Rattle.std.specs.Prelude.{ℕ, List, ◌++◌, Result, Ok, Err, codes, decimal}
+use Rattle.sqlite.specs.State.{State}
+use Rattle.mm_base.specs.Bounds.{millimetres}
+use Rattle.mm_base.specs.Keys.{Text}
+use Rattle.mm_base.specs.Package.{Package}
+use Rattle.mm_base.specs.declared.answers.Staged.{Staged}
+use Rattle.mm_base.specs.declared.answers.Staged.TheVariants as answers
+use Rattle.mm_base.specs.declared.answers.KitFault.{KitFault}
+use Rattle.mm_store.specs.Stands.{IsSettled}
+use Rattle.mm_core.specs.Applied.{Stands}
+use Rattle.mm_kit.specs.Folders.{Files}
+use Rattle.mm_kit.specs.Imports.{IsAnswered, IsStopped}
+
+-- answered, and the connection is settled for the package after it; or stopped by a fault, and so much may be left
+abbrev pub IsImport : Files → Text → Package → State → Result Staged KitFault → Type 0
+IsImport files name p new (Ok answer) = IsAnswered files name p (λ q. IsSettled millimetres new q) answer
+IsImport files name p new (Err stopped) = IsStopped files name p (λ db. new.may_leave db) Stands stopped.staged
+
+abbrev pub staged_text : Staged → List ℕ
+staged_text (answers.Complete count) = codes "kit complete " ++ decimal count ++ codes "\n"
+staged_text (answers.Refused piece number) = codes "kit refused " ++ decimal piece ++ codes " " ++ decimal number ++ codes "\n"
+
+abbrev pub staged_status : Staged → ℕ
+staged_status (answers.Complete count) = 0
+staged_status (answers.Refused piece number) = 1
+
+abbrev pub kit_text : Result Staged KitFault → List ℕ
+kit_text (Ok staged) = staged_text staged
+kit_text (Err stopped) = codes "kit fault " ++ decimal stopped.fault.0 ++ codes "\n"
+
+abbrev pub kit_status : Result Staged KitFault → ℕ
+kit_status (Ok staged) = staged_status staged
+kit_status (Err stopped) = 3

@@ -1,0 +1,114 @@
+//! The import of a kit on a connection, and what is printed of it.
+
+ghost use Rattle.std.specs.Prelude.{◌≡◌, ◌++◌, ◌+◌, ◌≤◌, codes, decimal, false, length, IfOk};
+ghost use Rattle.sqlite.specs.Held.{state};
+ghost use Rattle.sqlite.specs.State.{HasCleanDisk};
+ghost use Rattle.mm_base.specs.Bounds.{millimetres};
+ghost use Rattle.mm_base.specs.Streams.{has_failed, inside};
+ghost use Rattle.mm_store.specs.Stands.{IsSettled};
+ghost use Rattle.mm_core.specs.Applied.{Stands};
+ghost use Rattle.mm_kit.specs.Imports.{OnKit};
+ghost use Rattle.mm_work.specs.Kits.{IsImport, kit_status, kit_text, staged_status, staged_text};
+ghost use Rattle.mm_work.specs.Told.{IsTold};
+
+use crate::package::adopt_package;
+use crate::stop::Stop;
+use crate::tell::{DONE, FAULT, REFUSED, numbered_line, put, tell_bytes};
+use arrayvec::ArrayVec;
+use itoa::Buffer;
+use mm_base::answers::{KitFault, Staged};
+use mm_base::moments::Moment;
+use mm_base::names::Name;
+use mm_base::streams::Io;
+use mm_kit::{Folder, import_kit};
+use sqlite::{Alter, Connection};
+use std::alloc::Global;
+use std::io::Write;
+
+/// What an import came to.
+pub type Import = Result<Staged, KitFault>;
+
+/// Imports the kit of a folder into an edition of the package of a connection, and hands the connection back.
+pub fn import_package<S: Alter + Drop, F: Folder>(
+    alloc: Global,
+    conn: Connection<S>,
+    name: &Name,
+    folder: &mut F,
+    at: Moment,
+) -> Result<(Connection<S>, Import), Stop>
+    requires { conn.in_transaction ≡ false }
+    ensures imported { IfOk result (λ done. OnKit (HasCleanDisk (state S.Store done.0)) (λ p. IsSettled millimetres (state S.Store conn) p) (F.files folder.old)
+        (λ files p. IsImport files name.now p (state S.Store done.0) done.1)) }
+{
+    match adopt_package(alloc, conn) {
+        Ok(session) => {
+            let mut session = session;
+            let import = import_kit(alloc, &mut session, name, folder, at);
+            Ok((session.close(), import))
+        }
+        Err(why) => Err(why),
+    }
+}
+
+// Appends a number that has room.
+fn put_number(line: &mut ArrayVec<u8, 40>, number: u32)
+    requires { length line.old.items ≤ 30 }
+    ensures digits { line.new.items ≡ line.old.items ++ decimal number }
+    ensures size { length line.new.items ≤ length line.old.items + 10 }
+{
+    let mut buffer = Buffer::new();
+    put(line, buffer.format(number as u64).as_bytes());
+}
+
+/// It is built in place and takes no memory.
+fn complete_line(count: u32) -> ArrayVec<u8, 40>
+    ensures { result.items ≡ codes "kit complete " ++ decimal count ++ codes "\n" }
+{
+    let mut line = ArrayVec::new();
+    put(&mut line, b"kit complete ");
+    put_number(&mut line, count);
+    put(&mut line, b"\n");
+    line
+}
+
+/// It is built in place and takes no memory.
+fn refused_line(piece: u32, number: u8) -> ArrayVec<u8, 40>
+    ensures { result.items ≡ codes "kit refused " ++ decimal piece ++ codes " " ++ decimal number ++ codes "\n" }
+{
+    let mut line = ArrayVec::new();
+    put(&mut line, b"kit refused ");
+    put_number(&mut line, piece);
+    put(&mut line, b" ");
+    put_number(&mut line, number as u32);
+    put(&mut line, b"\n");
+    line
+}
+
+/// Prints the answer to a kit: status 0 where it is complete, and 1 where it is refused.
+fn tell_staged<W: Write>(output: &mut Io<W>, staged: Staged) -> u8
+    ensures { IsTold (W.contents (inside output.old)) (W.contents (inside output.new)) (has_failed output.old) (has_failed output.new) (staged_text staged) (staged_status staged) result }
+{
+    match staged {
+        Staged::Complete(count) => {
+            let line = complete_line(count);
+            tell_bytes(output, line.as_slice(), DONE)
+        }
+        Staged::Refused { piece, number } => {
+            let line = refused_line(piece, number);
+            tell_bytes(output, line.as_slice(), REFUSED)
+        }
+    }
+}
+
+/// Prints what an import came to: status 0 where it is complete, 1 where it is refused, 3 for a fault.
+pub fn tell_import<W: Write>(output: &mut Io<W>, import: Import) -> u8
+    ensures { IsTold (W.contents (inside output.old)) (W.contents (inside output.new)) (has_failed output.old) (has_failed output.new) (kit_text import) (kit_status import) result }
+{
+    match import {
+        Ok(staged) => tell_staged(output, staged),
+        Err(stopped) => {
+            let line = numbered_line(b"kit fault ", stopped.fault.0);
+            tell_bytes(output, line.as_slice(), FAULT)
+        }
+    }
+}

@@ -6,3 +6,5 @@ pub mod KitFacts
 pub mod ListFacts
 pub mod ReadFacts
 pub mod LawFacts
+pub mod ShelfFacts
+pub mod OneList

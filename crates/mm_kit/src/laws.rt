@@ -1,11 +1,14 @@
 //! What imports come to, for whoever relies on them. No function here does anything: the contract of each is a law.
 
-ghost use Rattle.std.specs.Prelude.{◌≡◌, List};
+ghost use Rattle.std.specs.Prelude.{◌≡◌, ℕ, List, Result};
 ghost use Rattle.mm_base.specs.Editions.{edition_trial, trial};
 ghost use Rattle.mm_base.specs.Keys.{Text};
 ghost use Rattle.mm_base.specs.Package.{Package};
 ghost use Rattle.mm_base.specs.declared.commands.Piece.{Piece};
 ghost use Rattle.mm_kit.specs.Editions.{HasPieces, rows_from};
+ghost use Rattle.mm_kit.specs.Folders.{Files};
+ghost use Rattle.mm_kit.specs.Lists.{IsKitList};
+ghost use Rattle.mm_kit.specs.declared.entries.Entry.{Entry};
 ghost use Rattle.mm_kit.specs.Imports.{AreRepeats, IsFirstOf, OnlyGrows, SameBut};
 
 /// Pieces that are a first part of the kit stay one, and no shorter.
@@ -34,4 +37,9 @@ pub fn nothing_but_the_edition_changes()
 pub fn publishing_after_repeats_publishes_the_kit()
     ensures { (name : Text) (kit : List Piece) (p q : Package) (stops : List Package) (stamp : Text) → AreRepeats name kit p stops q → HasPieces q name kit
         → SameBut name p q × (edition_trial q name stamp ≡ trial (rows_from name 1 kit) q stamp) }
+{}
+
+/// A folder has one list: its entries, or the first record that is refused.
+pub fn a_folder_has_one_list()
+    ensures { (files : Files) (a b : Result (List Entry) (ℕ × ℕ)) → IsKitList files a → IsKitList files b → a ≡ b }
 {}

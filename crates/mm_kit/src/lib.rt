@@ -10,6 +10,7 @@
 //! - `laws`: what imports come to.
 //! - `lists`: the list.
 //! - `sessions`: the import on a session.
+//! - `shelves`: a folder in memory.
 //! - `staging`: one piece after another.
 #![tactic(auto)]
 
@@ -22,6 +23,7 @@ mod importing;
 pub mod laws;
 mod lists;
 mod sessions;
+mod shelves;
 mod staging;
 #[cfg(test)]
 mod tests;
@@ -32,3 +34,4 @@ pub use file_names::FileName;
 pub use folders::{Folder, FolderFault, Found};
 pub use lists::Listed;
 pub use sessions::import_kit;
+pub use shelves::{Shelf, ShelfFile};

@@ -1,6 +1,7 @@
 //! Imports into packages in memory, of folders in memory.
 
-ghost use Rattle.std.specs.Prelude.{None};
+ghost use Rattle.std.specs.Prelude.{◌≡◌, IfErr, None};
+ghost use Rattle.mm_kit.specs.declared.folders.FolderFault.TheVariants as folder_faults;
 
 use crate::folders::{Folder, FolderFault, Found};
 use crate::sessions::import_kit;
@@ -25,7 +26,9 @@ struct Files {
 }
 
 /// The bytes where they are not too many.
-fn found(alloc: Global, bytes: &[u8], most: u64) -> Result<Found, FolderFault> {
+fn found(alloc: Global, bytes: &[u8], most: u64) -> Result<Found, FolderFault>
+    ensures { IfErr result (λ fault. fault ≡ folder_faults.Memory) }
+{
     if bytes.len() as u64 > most {
         return Ok(Found::TooLong);
     }

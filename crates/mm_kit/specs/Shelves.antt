@@ -1,0 +1,14 @@
+-- The files of a folder in memory.
+use Rattle.std.specs.Prelude.{◌≡◌, ℕ, List, [], ◌∷◌, Option, Some, None, bytes_eq, string_bytes, if◌then◌else◌}
+use Rattle.std.specs.Borrow.{Bor}
+use Rattle.mm_base.specs.Keys.{Text}
+use Rattle.mm_kit.specs.declared.shelves.ShelfFile.{ShelfFile}
+
+-- the bytes of the first file of a name
+unfoldable pub file_at : List ShelfFile → Text → Option (List ℕ)
+file_at [] name = None
+file_at (file ∷ rest) name = if bytes_eq (string_bytes file.name) name then Some file.bytes.items else file_at rest name
+
+abbrev pub IsOnShelf : Option (List ℕ) → Option (Bor ShelfFile) → Type 0
+IsOnShelf bytes None = bytes ≡ None
+IsOnShelf bytes (Some file) = bytes ≡ Some file.now.bytes.items

@@ -4,6 +4,7 @@ mod contents;
 mod editions;
 mod faults;
 mod files;
+mod kits;
 mod looking;
 mod pages;
 mod recovery;

@@ -5,6 +5,7 @@ ghost use Rattle.mm_kit.specs.declared.folders.FolderFault.TheVariants as folder
 
 use crate::folders::{Folder, FolderFault, Found};
 use crate::sessions::import_kit;
+use crate::shelves::{Shelf, ShelfFile};
 use mm_base::answers::{Fault, KitFault, Staged};
 use mm_base::entries::EditionState;
 use mm_base::moments::Moment;
@@ -291,4 +292,59 @@ fn answers_each_list(rt: HostRuntime) {
         assert!(&rt; answer == wanted);
         assert!(&rt; session.edition(&name) == Ok(Some(EditionState::Open(pieces))));
     }
+}
+
+/// The import of a shelf with a list alone.
+fn import_list(
+    alloc: Global,
+    session: &mut Session<MemStore>,
+    bytes: Vec<u8>,
+) -> Option<Result<Staged, KitFault>> {
+    let mut name = String::new(alloc);
+    name.push_str("kit.csv").ok()?;
+    let mut files = Vec::new(alloc);
+    files.push(ShelfFile { name, bytes }).ok()?;
+    let mut shelf = Shelf { files };
+    let edition = Name::read("k")?;
+    Some(import_kit(alloc, session, &edition, &mut shelf, Moment::new(0)?))
+}
+
+/// A list of so many rows.
+fn list_of_rows(alloc: Global, rows: u32) -> Option<Vec<u8>> {
+    let mut list = String::new(alloc);
+    for number in 0..rows {
+        let place = number.saturating_add(1);
+        let record = format!(in alloc; "{place},row,spots,{place},,,0\n").ok()?;
+        list.push_str(record.as_str()).ok()?;
+    }
+    Some(list.into_bytes())
+}
+
+/// A list of 16,777,216 bytes, and so many more.
+fn list_of_bytes(alloc: Global, more: usize) -> Option<Vec<u8>> {
+    let block = [97u8; 65536];
+    let mut list = Vec::new(alloc);
+    for _block in 0..256 {
+        list.extend_from_slice(block.as_slice()).ok()?;
+    }
+    for _byte in 0..more {
+        list.push(97).ok()?;
+    }
+    Some(list)
+}
+
+// A list has 4,096 records at most, and 16,777,216 bytes.
+#[test]
+fn reads_lists_up_to_their_limits(rt: HostRuntime) {
+    let alloc = rt.alloc();
+    let at = Moment::new(0).expect(&rt, "a moment");
+    let mut session = session_of(alloc, at).expect(&rt, "a session");
+    let list = list_of_bytes(alloc, 1).expect(&rt, "a list");
+    assert!(&rt; import_list(alloc, &mut session, list) == Some(refused(0, 11)));
+    let list = list_of_bytes(alloc, 0).expect(&rt, "a list");
+    assert!(&rt; import_list(alloc, &mut session, list) == Some(refused(1, 10)));
+    let list = list_of_rows(alloc, 4097).expect(&rt, "a list");
+    assert!(&rt; import_list(alloc, &mut session, list) == Some(refused(4097, 54)));
+    let list = list_of_rows(alloc, 4096).expect(&rt, "a list");
+    assert!(&rt; import_list(alloc, &mut session, list) == Some(Ok(Staged::Complete(4096))));
 }

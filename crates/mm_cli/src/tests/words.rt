@@ -24,11 +24,11 @@ fn tells_wrong_words(rt: HostRuntime) {
     let (status, text) = outcome(&rt, &["mmpkg"], b"");
     assert_eq!(rt; status, 2);
     assert!(rt; text.as_slice().starts_with(b"Edits offline map packages"));
-    let (status, text) = outcome(&rt, &["mmpkg", "check", "a.gpkg"], b"");
+    let (status, text) = outcome(&rt, &["mmpkg", "walk", "a.gpkg"], b"");
     assert_eq!(rt; status, 2);
     assert!(rt;
         text.as_slice()
-            .starts_with(b"error: this subcommand is not served yet\n")
+            .starts_with(b"error: unrecognized subcommand 'walk'\n")
     );
 }
 

@@ -3,16 +3,17 @@
 
     bench/check.py [--program out/mmpkg] [--tiles 100000] [--bytes 200] [--folder FOLDER]
 
-A package is filled with half the tiles, checked, filled with the rest, and checked again: seconds and peak memory, as
+A package is filled with half the tiles, checked, filled with the rest, and checked again: processor seconds and peak memory, as
 /usr/bin/time tells them. SQLite's side, through Python's sqlite3 in a process of its own, does PRAGMA integrity_check, PRAGMA
 foreign_key_check and one scan that reads every tile. The check must take at most 2.3 times as long for twice the tiles, and its
-memory must not grow with their number.
+memory must not grow with their number. Opening the file is measured apart: the store then reads each page and checks its keys.
 """
 
 import argparse
 import os
 import pathlib
 import re
+import shutil
 import sqlite3
 import subprocess
 import sys
@@ -32,14 +33,13 @@ assert sum(len(row[4]) for row in database.execute("SELECT * FROM mm_tiles")) > 
 """
 
 
-def measured(words):
-    """Seconds and peak kilobytes of a command."""
+def measured(words, status=0):
+    """Processor seconds and peak kilobytes of a command."""
     done = subprocess.run(["/usr/bin/time", "-v", *words], stdout=subprocess.PIPE, stderr=subprocess.PIPE, check=False)
     told = done.stderr.decode()
-    if done.returncode != 0:
+    if done.returncode != status:
         raise SystemExit(done.stdout.decode()[:400] + told[-400:])
-    clock = re.search(r"Elapsed \(wall clock\) time.*: (?:(\d+):)?(\d+):([\d.]+)", told)
-    seconds = int(clock.group(1) or 0) * 3600 + int(clock.group(2)) * 60 + float(clock.group(3))
+    seconds = sum(float(re.search(rf"{kind} time \(seconds\): ([\d.]+)", told).group(1)) for kind in ("User", "System"))
     return seconds, int(re.search(r"Maximum resident set size \(kbytes\): (\d+)", told).group(1))
 
 
@@ -75,6 +75,17 @@ def fill_other(file, start, end, size):
     database.close()
 
 
+def opening(program, file, folder):
+    """The same of opening alone: a copy whose profile row is that of another program is refused as soon as it is open."""
+    copy = os.path.join(folder, "copy.gpkg")
+    shutil.copy(file, copy)
+    database = sqlite3.connect(copy)
+    database.execute("UPDATE mm_profile SET version = 2")
+    database.commit()
+    database.close()
+    return measured([program, "check", copy], status=4)
+
+
 def main():
     parser = argparse.ArgumentParser(description=__doc__, formatter_class=argparse.RawDescriptionHelpFormatter)
     parser.add_argument("--program", default=str(pathlib.Path(__file__).resolve().parent.parent / "out" / "mmpkg"))
@@ -92,10 +103,11 @@ def main():
         for start, end in ((0, given.tiles // 2), (given.tiles // 2, given.tiles)):
             fill(given.program, file, folder, start, end, given.bytes)
             fill_other(other, start, end, given.bytes)
-            ours = measured([given.program, "check", file])
+            ours = min(measured([given.program, "check", file]) for _ in range(3))
+            alone = min(opening(given.program, file, folder) for _ in range(3))
             theirs = measured([sys.executable, "-c", CHECKS, other])
             taken.append(ours)
-            print(f"{end} tiles: mmpkg {ours[0]:.2f} s, {ours[1]} KB; SQLite {theirs[0]:.2f} s, {theirs[1]} KB")
+            print(f"{end} tiles: mmpkg {ours[0]:.2f} s, {ours[1]} KB, of which opening {alone[0]:.2f} s, {alone[1]} KB; SQLite {theirs[0]:.2f} s, {theirs[1]} KB")
         print(f"twice the tiles: {taken[1][0] / max(taken[0][0], 0.01):.2f} times the seconds, {taken[1][1] / taken[0][1]:.2f} times the memory")
 
 

@@ -11,6 +11,7 @@ use Rattle.mm_store.specs.Faults.{IsStoreFault, memory, store, wants_memory, tol
 use Rattle.mm_store.specs.Stands.{ReadsAs, IsSettled}
 use Rattle.mm_store.proofs.Shapes.{quiet_then}
 use Rattle.mm_meta.specs.Look.{Answers, IsLooked, Agrees}
+use Rattle.mm_meta.proofs.Looking.{shows_profile}
 use Rattle.mm_check.specs.Verdict.{IsVerified}
 use Rattle.mm_core.specs.Adopted.{IsAdopted, Declines, TellsProfile, IsNotAdopted}
 use Rattle.std.specs.Prelude.{ℕ, pos, if◌then◌else◌}
@@ -63,6 +64,7 @@ module _ (old mid new : State) (looked : IsLooked old mid (Ok tt)) where
       let early : HasCleanDisk new → HasCleanDisk mid = λ clean. omega (arith, clean, verified.survives.clean) in
       record {
         survives = quiet_then old mid new looked.survives verified.survives;
+        row = λ clean. shows_profile old mid (looked.answers (early clean));
         profile = λ clean. looked.agrees (early clean);
         settled = λ clean p s. verified.settled clean p (looked_settled old mid p looked (early clean) s);
         meets = λ clean p s. verified.says clean p (looked_settled old mid p looked (early clean) s);
@@ -73,7 +75,7 @@ module _ (old mid new : State) (looked : IsLooked old mid (Ok tt)) where
       let early : HasCleanDisk new → HasCleanDisk mid = λ clean. omega (arith, clean, verified.survives.clean) in
       record {
         survives = quiet_then old mid new looked.survives verified.survives;
-        profile = λ clean. looked.agrees (early clean);
+        profile = λ clean. (shows_profile old mid (looked.answers (early clean)), looked.agrees (early clean));
         declines = λ clean p s. verified.says clean p (looked_settled old mid p looked (early clean) s);
       }
 

@@ -9,17 +9,18 @@ use Rattle.mm_base.specs.declared.answers.Open.TheVariants as opens
 use Rattle.mm_store.specs.Stands.{ReadsAs, IsSettled}
 use Rattle.mm_store.specs.Statements.{CommitsNothing}
 use Rattle.mm_store.specs.Faults.{IsStoreFault}
-use Rattle.mm_meta.specs.Look.{Answers}
+use Rattle.mm_meta.specs.Look.{ShowsProfile, Answers}
 use Rattle.mm_check.specs.Verdict.{IsFailing}
 
 -- no package of another version is read
 abbrev pub IsOfThisVersion : State → Type 0
 IsOfThisVersion s = (version : ℤ) (p : Package) → (IsTrue s.is_open → ReadsAs version s.now p) → version ≡ pos 1
 
--- It wrote nothing, and the profile's row was this profile's. Settled for a package, it is settled for it still, and the
--- package meets the rules.
+-- It wrote nothing, and the profile's table shows this profile's row alone. Settled for a package, it is settled for it
+-- still, and the package meets the rules.
 pub record IsAdopted (old new : State) : Type 0 where
   pub survives : CommitsNothing old new
+  pub row : HasCleanDisk new → ShowsProfile (pos 1) old
   pub profile : HasCleanDisk new → IsOfThisVersion old
   pub settled : HasCleanDisk new → (p : Package) → IsSettled millimetres old p → IsSettled millimetres new p
   pub meets : HasCleanDisk new → (p : Package) → IsSettled millimetres old p → Meets millimetres p
@@ -30,9 +31,9 @@ Declines p (opens.Rule rule) = IsFailing millimetres p rule
 Declines p (opens.Fault fault) = ⊤
 Declines p _ = ⊥
 
--- An opening number tells of the profile's row.
+-- An opening number tells of the profile's row; a rule is told of a package of this version alone.
 abbrev pub TellsProfile : State → State → Open → Type 0
-TellsProfile old new (opens.Rule rule) = IsOfThisVersion old
+TellsProfile old new (opens.Rule rule) = ShowsProfile (pos 1) old × IsOfThisVersion old
 TellsProfile old new (opens.Fault fault) = IsStoreFault fault
 TellsProfile old new why = Answers old new (Err why)
 

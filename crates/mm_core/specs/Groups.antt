@@ -3,24 +3,32 @@ use Rattle.std.specs.Prelude.{Bool, true, false}
 use Rattle.mm_base.specs.declared.commands.Command.{Command}
 use Rattle.mm_base.specs.declared.commands.Command.TheVariants as commands
 
--- it changes reference systems, tables, pyramids or matrices
+-- it changes reference systems or tables
 abbrev pub lays_out : Command → Bool
 lays_out (commands.Srs id name organization organization_id definition description) = true
-lays_out (commands.Pyramid table identifier srs min_x min_y max_x max_y step) = true
-lays_out (commands.Matrix table zoom matrix) = true
 lays_out (commands.Table table kind identifier) = true
 lays_out (commands.Drop table) = true
 lays_out _ = false
 
--- it changes tiles, attribute rows or media
-abbrev pub is_content : Command → Bool
-is_content (commands.Tile table zoom column row bytes) = true
-is_content (commands.TileDrop table zoom column row) = true
-is_content (commands.Row table id title note amount) = true
-is_content (commands.RowDrop table id) = true
-is_content (commands.Media table id content_type bytes) = true
-is_content (commands.MediaDrop table id) = true
-is_content _ = false
+-- it changes pyramids or matrices
+abbrev pub lays_out_pyramid : Command → Bool
+lays_out_pyramid (commands.Pyramid table identifier srs min_x min_y max_x max_y step) = true
+lays_out_pyramid (commands.Matrix table zoom matrix) = true
+lays_out_pyramid _ = false
+
+-- it changes a tile
+abbrev pub changes_tile : Command → Bool
+changes_tile (commands.Tile table zoom column row bytes) = true
+changes_tile (commands.TileDrop table zoom column row) = true
+changes_tile _ = false
+
+-- it changes an attribute row or a media row
+abbrev pub changes_item : Command → Bool
+changes_item (commands.Row table id title note amount) = true
+changes_item (commands.RowDrop table id) = true
+changes_item (commands.Media table id content_type bytes) = true
+changes_item (commands.MediaDrop table id) = true
+changes_item _ = false
 
 -- it changes relations or mapping rows
 abbrev pub relates : Command → Bool

@@ -5,7 +5,7 @@ ghost use Rattle.sqlite.specs.Held.{state};
 ghost use Rattle.mm_base.specs.Bounds.{millimetres};
 ghost use Rattle.mm_base.specs.Stamp.{IsStamp};
 ghost use Rattle.mm_store.specs.Shapes.{IsLent, IsTried};
-ghost use Rattle.mm_core.specs.Groups.{lays_out, is_content, relates, prepares_edition, rehearses};
+ghost use Rattle.mm_core.specs.Groups.{lays_out, lays_out_pyramid, changes_tile, changes_item, relates, prepares_edition, rehearses};
 
 use mm_base::answers::{Fault, Outcome};
 use mm_base::commands::Command;
@@ -17,7 +17,7 @@ use mm_meta::add_srs;
 use mm_relate::{add_map, add_relation, drop_map, drop_relation};
 use sqlite::{Alter, Transaction};
 
-/// The commands that lay a package out: reference systems, tables, pyramids and their matrices.
+/// The commands that lay out reference systems and tables.
 fn lay_out<S: Alter>(
     tx: &mut Transaction<'_, S>,
     command: &Command,
@@ -44,6 +44,27 @@ fn lay_out<S: Alter>(
             definition.as_str(),
             description.as_str(),
         ),
+        Command::Table {
+            table,
+            kind,
+            identifier,
+        } => add_table(tx, table.as_str(), *kind, identifier.as_str(), at),
+        Command::Drop { table } => drop_table(tx, table.as_str()),
+        _ => unreachable!(),
+    }
+}
+
+/// The commands that lay out pyramids and their matrices.
+fn lay_out_pyramid<S: Alter>(
+    tx: &mut Transaction<'_, S>,
+    command: &Command,
+    at: &str,
+) -> Result<Outcome, Fault>
+    requires { lays_out_pyramid command.now ≡ true }
+    ensures same_reference { tx.new.conn.ghost_name ≡ tx.old.conn.ghost_name }
+    ensures lent { (moment : ℕ) → IsStamp moment at.now → IsLent millimetres command.now moment (state S.Store tx.old.conn.now) (state S.Store tx.new.conn.now) result }
+{
+    match command {
         Command::Pyramid {
             table,
             identifier,
@@ -70,23 +91,17 @@ fn lay_out<S: Alter>(
             zoom,
             matrix,
         } => add_matrix(tx, table.as_str(), *zoom, matrix, at),
-        Command::Table {
-            table,
-            kind,
-            identifier,
-        } => add_table(tx, table.as_str(), *kind, identifier.as_str(), at),
-        Command::Drop { table } => drop_table(tx, table.as_str()),
         _ => unreachable!(),
     }
 }
 
-/// The commands that put and remove content: tiles, attribute rows and media.
-fn change_content<S: Alter>(
+/// The commands that put and remove tiles.
+fn change_tile<S: Alter>(
     tx: &mut Transaction<'_, S>,
     command: &Command,
     at: &str,
 ) -> Result<Outcome, Fault>
-    requires { is_content command.now ≡ true }
+    requires { changes_tile command.now ≡ true }
     ensures same_reference { tx.new.conn.ghost_name ≡ tx.old.conn.ghost_name }
     ensures lent { (moment : ℕ) → IsStamp moment at.now → IsLent millimetres command.now moment (state S.Store tx.old.conn.now) (state S.Store tx.new.conn.now) result }
 {
@@ -112,6 +127,21 @@ fn change_content<S: Alter>(
             column,
             row,
         } => drop_tile(tx, table.as_str(), *zoom, *column, *row, at),
+        _ => unreachable!(),
+    }
+}
+
+/// The commands that put and remove attribute rows and media.
+fn change_item<S: Alter>(
+    tx: &mut Transaction<'_, S>,
+    command: &Command,
+    at: &str,
+) -> Result<Outcome, Fault>
+    requires { changes_item command.now ≡ true }
+    ensures same_reference { tx.new.conn.ghost_name ≡ tx.old.conn.ghost_name }
+    ensures lent { (moment : ℕ) → IsStamp moment at.now → IsLent millimetres command.now moment (state S.Store tx.old.conn.now) (state S.Store tx.new.conn.now) result }
+{
+    match command {
         Command::Row {
             table,
             id,
@@ -206,17 +236,15 @@ pub(crate) fn run_command<S: Alter>(
     ensures tried { (moment : ℕ) → IsStamp moment at.now → IsTried millimetres command.now moment (state S.Store tx.old.conn.now) (state S.Store tx.new.conn.now) result }
 {
     match command {
-        Command::Srs { .. }
-        | Command::Pyramid { .. }
-        | Command::Matrix { .. }
-        | Command::Table { .. }
-        | Command::Drop { .. } => lay_out(tx, command, at),
-        Command::Tile { .. }
-        | Command::TileDrop { .. }
-        | Command::Row { .. }
+        Command::Srs { .. } | Command::Table { .. } | Command::Drop { .. } => {
+            lay_out(tx, command, at)
+        }
+        Command::Pyramid { .. } | Command::Matrix { .. } => lay_out_pyramid(tx, command, at),
+        Command::Tile { .. } | Command::TileDrop { .. } => change_tile(tx, command, at),
+        Command::Row { .. }
         | Command::RowDrop { .. }
         | Command::Media { .. }
-        | Command::MediaDrop { .. } => change_content(tx, command, at),
+        | Command::MediaDrop { .. } => change_item(tx, command, at),
         Command::Relation { .. }
         | Command::RelationDrop { .. }
         | Command::Map { .. }

@@ -30,7 +30,7 @@ use Rattle.mm_base.specs.declared.answers.Open.TheVariants as opens
 use Rattle.mm_store.specs.Stands.{ReadsAs}
 use Rattle.mm_store.specs.Statements.{CommitsNothing}
 use Rattle.mm_meta.proofs.Refusing.{never_refused}
-use Rattle.mm_meta.specs.Look.{stops, IsProfile, Judges, Tells, Agrees, IsLooked}
+use Rattle.mm_meta.specs.Look.{stops, IsProfile, ShowsProfile, Judges, Tells, Answers, Agrees, IsLooked}
 
 -- ---- The text is a query, whatever the schema.
 
@@ -66,6 +66,21 @@ module _ (old new : State) where
   pub unchanged : (rows : List Row) → Shown profile_rows [] old new rows → IsUnchanged old new
   unfolding Shown
   unchanged rows h = (subst (ShowsRows old new profile_rows h.0 (timed [] h.0.formats h.1.now) rows) (returns_nothing old.now.schema h.0 h.1.is) h.2).3
+
+  unchanged_still : IsUnchanged old new → IsUnchanged old old
+  unchanged_still h = (record { was_open = h.0.was_open; is_open = h.0.was_open; now_is = refl; committed_is = refl; mode = refl }, record { changes = refl; last_rowid = refl }, refl)
+
+  -- what it shows, it shows of the state before alone
+  pub asked_still : (rows : List Row) → Shown profile_rows [] old new rows → Shown profile_rows [] old old rows
+  unfolding Shown
+  asked_still rows h =
+      let none = returns_nothing old.now.schema h.0 h.1.is in
+      let it = subst (ShowsRows old new profile_rows h.0 (timed [] h.0.formats h.1.now) rows) none h.2 in
+      (h.0, h.1, subst (ShowsRows old old profile_rows h.0 (timed [] h.0.formats h.1.now) rows) (sym none) (it.0, it.1, it.2, unchanged_still it.3))
+
+  pub shows_profile : Answers old new (Ok tt) → ShowsProfile (pos 1) old
+  shows_profile (inl it) = (it.0, asked_still it.0 it.1, it.3)
+  shows_profile (inr it) = absurd it.2
 
 -- ---- a database that stands for a package
 

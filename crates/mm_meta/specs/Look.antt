@@ -28,6 +28,10 @@ stops _ = false
 abbrev pub IsProfile : ℤ → List Row → Type 0
 IsProfile version rows = (row : Row) × (rows ≡ row ∷ []) × (column row 0 ≡ Int (pos 1)) × (column row 1 ≡ Int version)
 
+-- asked for its rows, the profile's table shows one alone: (1, version)
+abbrev pub ShowsProfile : ℤ → State → Type 0
+ShowsProfile version s = (rows : List Row) × Shown profile_rows [] s s rows × IsProfile version rows
+
 -- how the rows of the profile's table are judged
 abbrev pub Judges : List Row → Result (Unit {0}) Open → Type 0
 Judges rows (Ok _) = IsProfile (pos 1) rows

@@ -11,21 +11,6 @@ returns-in-Srs-clause-lent g c moment stamped =
     let lent = simp to_z-of_z at (rw (c.as_str.ensures.text, c.as_str-in-Srs.ensures.text, c.as_str-in-Srs-2.ensures.text, c.as_str-in-Srs-3.ensures.text) at (c.add_srs.ensures.lent millimetres moment)) in
     rw c.in-Srs.is lent
 
-pub returns-in-Pyramid-clause-lent : goal.returns-in-Pyramid-clause-lent
-returns-in-Pyramid-clause-lent g c moment stamped =
-    let srs_fits : SFits w64 c.in-Pyramid.srs = search rules in
-    let min_x_fits : SFits w64 c.in-Pyramid.min_x = search rules in
-    let min_y_fits : SFits w64 c.in-Pyramid.min_y = search rules in
-    let max_x_fits : SFits w64 c.in-Pyramid.max_x = search rules in
-    let max_y_fits : SFits w64 c.in-Pyramid.max_y = search rules in
-    let lent = simp to_z-of_z at (rw (c.as_str-in-Pyramid.ensures.text, c.as_str-in-Pyramid-2.ensures.text) at (c.add_pyramid.ensures.lent millimetres moment stamped)) in
-    rw c.in-Pyramid.is lent
-
-pub returns-in-Matrix-clause-lent : goal.returns-in-Matrix-clause-lent
-returns-in-Matrix-clause-lent g c moment stamped =
-    let lent = rw c.as_str-in-Matrix.ensures.text at (c.add_matrix.ensures.lent millimetres moment stamped) in
-    rw c.in-Matrix.is lent
-
 pub returns-in-Table-clause-lent : goal.returns-in-Table-clause-lent
 returns-in-Table-clause-lent g c moment stamped =
     let lent = rw (c.as_str-in-Table.ensures.text, c.as_str-in-Table-2.ensures.text) at (c.add_table.ensures.lent millimetres moment stamped) in

@@ -2,23 +2,13 @@ use Rattle.std.proofs.Common.{rules, w64}
 use Rattle.std.proofs.lemmas.Int.{to_z-of_z}
 use Rattle.mm_base.specs.Bounds.{millimetres}
 use mir.Val.{SFits}
-use Rattle.mm_core.proofs.dispatching.change_content.Goals as goal
-
-pub returns-in-Tile-clause-lent : goal.returns-in-Tile-clause-lent
-returns-in-Tile-clause-lent g c moment stamped =
-    let lent = rw (c.as_str.ensures.text, c.as_slice.ensures.bytes) at (c.put_tile.ensures.lent millimetres moment stamped) in
-    rw c.in-Tile.is lent
-
-pub returns-in-TileDrop-clause-lent : goal.returns-in-TileDrop-clause-lent
-returns-in-TileDrop-clause-lent g c moment stamped =
-    let lent = rw c.as_str-in-TileDrop.ensures.text at (c.drop_tile.ensures.lent millimetres moment stamped) in
-    rw c.in-TileDrop.is lent
+use Rattle.mm_core.proofs.dispatching.change_item.Goals as goal
 
 pub returns-in-Row-clause-lent : goal.returns-in-Row-clause-lent
 returns-in-Row-clause-lent g c moment stamped =
     let id_fits : SFits w64 c.in-Row.id = search rules in
     let amount_fits : SFits w64 c.in-Row.amount = search rules in
-    let lent = simp to_z-of_z at (rw (c.as_str-in-Row.ensures.text, c.as_str-in-Row-2.ensures.text, c.as_str-in-Row-3.ensures.text) at (c.put_row.ensures.lent millimetres moment stamped)) in
+    let lent = simp to_z-of_z at (rw (c.as_str.ensures.text, c.as_str-in-Row.ensures.text, c.as_str-in-Row-2.ensures.text) at (c.put_row.ensures.lent millimetres moment stamped)) in
     rw c.in-Row.is lent
 
 pub returns-in-RowDrop-clause-lent : goal.returns-in-RowDrop-clause-lent
@@ -30,7 +20,7 @@ returns-in-RowDrop-clause-lent g c moment stamped =
 pub returns-in-Media-clause-lent : goal.returns-in-Media-clause-lent
 returns-in-Media-clause-lent g c moment stamped =
     let id_fits : SFits w64 c.in-Media.id = search rules in
-    let lent = simp to_z-of_z at (rw (c.as_str-in-Media.ensures.text, c.as_str-in-Media-2.ensures.text, c.as_slice-in-Media.ensures.bytes) at (c.put_media.ensures.lent millimetres moment stamped)) in
+    let lent = simp to_z-of_z at (rw (c.as_str-in-Media.ensures.text, c.as_str-in-Media-2.ensures.text, c.as_slice.ensures.bytes) at (c.put_media.ensures.lent millimetres moment stamped)) in
     rw c.in-Media.is lent
 
 pub returns-in-MediaDrop-clause-lent : goal.returns-in-MediaDrop-clause-lent

@@ -1,5 +1,9 @@
 //! Commands and pieces as data.
 
+ghost use Rattle.std.specs.Prelude.{◌≡◌, ◌≢◌, MatchOption};
+ghost use Rattle.mm_base.specs.Package.{kind_text};
+ghost use Rattle.mm_base.specs.declared.commands.Kind.{Kind as KindValue};
+
 use crate::bytes::{MediaBytes, TileBytes};
 use crate::content_types::ContentType;
 use crate::identifiers::Identifier;
@@ -22,6 +26,21 @@ pub enum Kind {
     Other,
     Attributes,
     Media,
+}
+
+impl Kind {
+    /// The kind that the registry of a package writes so, or None where it writes none so.
+    pub fn named(text: &str) -> Option<Kind>
+        ensures { MatchOption result ((kind : KindValue) → text.now ≢ kind_text kind) (λ kind. text.now ≡ kind_text kind) }
+    {
+        match text {
+            "two" => Some(Kind::Two),
+            "other" => Some(Kind::Other),
+            "attributes" => Some(Kind::Attributes),
+            "media" => Some(Kind::Media),
+            _ => None,
+        }
+    }
 }
 
 /// The kind of a table that is no pyramid.

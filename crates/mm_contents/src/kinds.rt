@@ -1,6 +1,6 @@
 //! The registry of the kinds of tables.
 
-ghost use Rattle.std.specs.Prelude.{◌≡◌, None, IfSome, option_map, string_bytes};
+ghost use Rattle.std.specs.Prelude.{◌≡◌, None, option_map, string_bytes};
 ghost use Rattle.std.specs.FinMap.{get, insert};
 ghost use Rattle.sqlite.specs.Held.{state};
 ghost use Rattle.mm_base.specs.Bounds.{Profile};
@@ -33,19 +33,6 @@ pub(crate) fn text_of_step(step: Step) -> &'static str
     }
 }
 
-/// The kind that the registry writes so.
-fn kind_named(text: &str) -> Option<Kind>
-    ensures { IfSome result (λ kind. text.now ≡ kind_text kind) }
-{
-    match text {
-        "two" => Some(Kind::Two),
-        "other" => Some(Kind::Other),
-        "attributes" => Some(Kind::Attributes),
-        "media" => Some(Kind::Media),
-        _ => None,
-    }
-}
-
 /// What the registry writes of a table.
 fn registered<S: Alter>(tx: &mut Transaction<'_, S>, table: &str) -> Result<Option<String>, Fault>
     ensures same_reference { tx.new.conn.ghost_name ≡ tx.old.conn.ghost_name }
@@ -64,7 +51,7 @@ pub fn kind_of<S: Alter>(tx: &mut Transaction<'_, S>, table: &str) -> Result<Opt
     ensures look { (profile : Profile) → IsLook profile (state S.Store tx.old.conn.now) (state S.Store tx.new.conn.now) (λ p kind. get p.kinds table.now ≡ option_map kind_text kind) result }
 {
     match registered(tx, table) {
-        Ok(Some(text)) => match kind_named(text.as_str()) {
+        Ok(Some(text)) => match Kind::named(text.as_str()) {
             Some(kind) => Ok(Some(kind)),
             None => Err(Fault(91)),
         },

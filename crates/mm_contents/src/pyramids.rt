@@ -17,11 +17,12 @@ ghost use Rattle.mm_contents.specs.Stamped.{IsLentAt};
 use crate::contents::{has_identifier, is_taken};
 use crate::extensions::insert_zoom_row;
 use crate::kinds::{insert_kind, text_of_step};
-use crate::systems::{has_system, is_geographic};
+use crate::systems::is_geographic;
 use mm_base::answers::{Fault, Outcome, Refusal};
 use mm_base::commands::Step;
 use mm_base::extents::Extent;
 use mm_store::statements::run;
+use mm_store::systems::has_system;
 use sqlite::{Alter, Transaction, params};
 
 /// Puts the contents row of a new pyramid.

@@ -1,6 +1,7 @@
 //! A staged piece as its row holds it.
 
-ghost use Rattle.std.specs.Prelude.{◌≡◌, ◌↔◌, IfOk, IsTrue, pos, []};
+ghost use Rattle.std.specs.Prelude.{◌≡◌, ◌↔◌, IfOk, IsTrue, true, pos, []};
+ghost use Rattle.mm_base.specs.PieceGroups.{changes_tile, changes_item, changes_mapping};
 ghost use Rattle.mm_base.specs.Pieces.{piece_of, piece_row};
 ghost use Rattle.mm_edition.specs.Kept.{kept_row, written_row, HasNumbers, AreNumbers, Shows};
 
@@ -113,8 +114,9 @@ fn numbered<'a>(kind: &'a str, name: &'a str, k1: i64, k2: i64) -> Written<'a>
     }
 }
 
-/// What is written of a piece.
-pub(crate) fn as_written(piece: &Piece) -> Written<'_>
+/// What is written of a piece that changes a tile.
+fn written_tile(piece: &Piece) -> Written<'_>
+    requires { changes_tile piece.now ≡ true }
     ensures { written_row result ≡ piece_row piece.now }
 {
     match piece {
@@ -149,6 +151,16 @@ pub(crate) fn as_written(piece: &Piece) -> Written<'_>
             t2: "",
             bytes: b"",
         },
+        _ => unreachable!(),
+    }
+}
+
+/// What is written of a piece that changes an attribute row or a medium.
+fn written_item(piece: &Piece) -> Written<'_>
+    requires { changes_item piece.now ≡ true }
+    ensures { written_row result ≡ piece_row piece.now }
+{
+    match piece {
         Piece::Row {
             table,
             id,
@@ -182,6 +194,16 @@ pub(crate) fn as_written(piece: &Piece) -> Written<'_>
             bytes: bytes.as_slice(),
         },
         Piece::MediaDrop { table, id } => numbered("media-drop", table.as_str(), *id, 0),
+        _ => unreachable!(),
+    }
+}
+
+/// What is written of a piece that changes a mapping row.
+fn written_mapping(piece: &Piece) -> Written<'_>
+    requires { changes_mapping piece.now ≡ true }
+    ensures { written_row result ≡ piece_row piece.now }
+{
+    match piece {
         Piece::Map {
             mapping,
             base_id,
@@ -192,5 +214,18 @@ pub(crate) fn as_written(piece: &Piece) -> Written<'_>
             base_id,
             related_id,
         } => numbered("map-drop", mapping.as_str(), *base_id, *related_id),
+        _ => unreachable!(),
+    }
+}
+
+/// What is written of a piece.
+pub(crate) fn as_written(piece: &Piece) -> Written<'_>
+    ensures { written_row result ≡ piece_row piece.now }
+{
+    match piece {
+        Piece::Tile { .. } | Piece::TileDrop { .. } => written_tile(piece),
+        Piece::Row { .. } | Piece::RowDrop { .. } | Piece::Media { .. } | Piece::MediaDrop { .. } =>
+            written_item(piece),
+        Piece::Map { .. } | Piece::MapDrop { .. } => written_mapping(piece),
     }
 }

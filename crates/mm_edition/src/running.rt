@@ -1,8 +1,9 @@
 //! One staged piece taken as its command.
 
-ghost use Rattle.std.specs.Prelude.{◌≡◌, ℕ};
+ghost use Rattle.std.specs.Prelude.{◌≡◌, ℕ, true};
 ghost use Rattle.sqlite.specs.Held.{state};
 ghost use Rattle.mm_base.specs.Bounds.{Profile};
+ghost use Rattle.mm_base.specs.PieceGroups.{changes_tile, changes_item, changes_mapping};
 ghost use Rattle.mm_base.specs.Pieces.{piece_command};
 ghost use Rattle.mm_base.specs.Stamp.{IsStamp};
 ghost use Rattle.mm_store.specs.Shapes.{IsLent};
@@ -23,12 +24,13 @@ pub(crate) enum Turn {
     Refused(u8),
 }
 
-/// Does what a piece says within the transaction. `at` is the stamp of the moment.
-fn run_piece<S: Alter>(
+/// Puts or removes the tile of a piece. `at` is the stamp of the moment.
+fn run_tile<S: Alter>(
     tx: &mut Transaction<'_, S>,
     piece: &Piece,
     at: &str,
 ) -> Result<Outcome, Fault>
+    requires { changes_tile piece.now ≡ true }
     ensures same_reference { tx.new.conn.ghost_name ≡ tx.old.conn.ghost_name }
     ensures lent { (profile : Profile) (moment : ℕ) → IsStamp moment at.now → IsLent profile (piece_command piece.now) moment (state S.Store tx.old.conn.now) (state S.Store tx.new.conn.now) result }
 {
@@ -54,6 +56,21 @@ fn run_piece<S: Alter>(
             column,
             row,
         } => drop_tile(tx, table.as_str(), *zoom, *column, *row, at),
+        _ => unreachable!(),
+    }
+}
+
+/// Puts or removes the attribute row or medium of a piece. `at` is the stamp of the moment.
+fn run_item<S: Alter>(
+    tx: &mut Transaction<'_, S>,
+    piece: &Piece,
+    at: &str,
+) -> Result<Outcome, Fault>
+    requires { changes_item piece.now ≡ true }
+    ensures same_reference { tx.new.conn.ghost_name ≡ tx.old.conn.ghost_name }
+    ensures lent { (profile : Profile) (moment : ℕ) → IsStamp moment at.now → IsLent profile (piece_command piece.now) moment (state S.Store tx.old.conn.now) (state S.Store tx.new.conn.now) result }
+{
+    match piece {
         Piece::Row {
             table,
             id,
@@ -84,6 +101,17 @@ fn run_piece<S: Alter>(
             at,
         ),
         Piece::MediaDrop { table, id } => drop_media(tx, table.as_str(), *id, at),
+        _ => unreachable!(),
+    }
+}
+
+/// Puts or removes the mapping row of a piece.
+fn run_mapping<S: Alter>(tx: &mut Transaction<'_, S>, piece: &Piece) -> Result<Outcome, Fault>
+    requires { changes_mapping piece.now ≡ true }
+    ensures same_reference { tx.new.conn.ghost_name ≡ tx.old.conn.ghost_name }
+    ensures lent { (profile : Profile) (moment : ℕ) → IsLent profile (piece_command piece.now) moment (state S.Store tx.old.conn.now) (state S.Store tx.new.conn.now) result }
+{
+    match piece {
         Piece::Map {
             mapping,
             base_id,
@@ -94,6 +122,24 @@ fn run_piece<S: Alter>(
             base_id,
             related_id,
         } => drop_map(tx, mapping.as_str(), *base_id, *related_id),
+        _ => unreachable!(),
+    }
+}
+
+/// Does what a piece says within the transaction. `at` is the stamp of the moment.
+fn run_piece<S: Alter>(
+    tx: &mut Transaction<'_, S>,
+    piece: &Piece,
+    at: &str,
+) -> Result<Outcome, Fault>
+    ensures same_reference { tx.new.conn.ghost_name ≡ tx.old.conn.ghost_name }
+    ensures lent { (profile : Profile) (moment : ℕ) → IsStamp moment at.now → IsLent profile (piece_command piece.now) moment (state S.Store tx.old.conn.now) (state S.Store tx.new.conn.now) result }
+{
+    match piece {
+        Piece::Tile { .. } | Piece::TileDrop { .. } => run_tile(tx, piece, at),
+        Piece::Row { .. } | Piece::RowDrop { .. } | Piece::Media { .. } | Piece::MediaDrop { .. } =>
+            run_item(tx, piece, at),
+        Piece::Map { .. } | Piece::MapDrop { .. } => run_mapping(tx, piece),
     }
 }
 

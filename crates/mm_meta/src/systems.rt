@@ -1,27 +1,16 @@
 //! Spatial reference systems.
 
 ghost use Rattle.std.specs.Prelude.{◌≡◌, ℕ, None};
-ghost use Rattle.std.specs.FinMap.{get, contains_key, insert};
+ghost use Rattle.std.specs.FinMap.{get, insert};
 ghost use Rattle.sqlite.specs.Held.{state};
 ghost use Rattle.mm_base.specs.Bounds.{Profile};
 ghost use Rattle.mm_base.specs.declared.commands.Command.TheVariants as commands;
-ghost use Rattle.mm_store.specs.Shapes.{IsLook, IsChange, IsLent};
+ghost use Rattle.mm_store.specs.Shapes.{IsChange, IsLent};
 
 use mm_base::answers::{Fault, Outcome, Refusal};
-use mm_store::statements::{exists, run};
+use mm_store::statements::run;
+use mm_store::systems::has_system;
 use sqlite::{Alter, Transaction, params};
-
-/// Whether a system has this number.
-fn has_system<S: Alter>(tx: &mut Transaction<'_, S>, id: i64) -> Result<bool, Fault>
-    ensures same_reference { tx.new.conn.ghost_name ≡ tx.old.conn.ghost_name }
-    ensures look { (profile : Profile) → IsLook profile (state S.Store tx.old.conn.now) (state S.Store tx.new.conn.now) (λ p found. found ≡ contains_key p.systems id) result }
-{
-    exists(
-        tx,
-        "SELECT 1 FROM gpkg_spatial_ref_sys WHERE srs_id = ?1",
-        params![id],
-    )
-}
 
 /// Puts a system whose number is free.
 pub(crate) fn insert_system<S: Alter>(

@@ -1,9 +1,9 @@
 //! The list of the tables.
 
-ghost use Rattle.std.specs.Prelude.{◌≡◌, false, string_bytes, IfOk, IfErr, IfSome};
+ghost use Rattle.std.specs.Prelude.{◌≡◌, false, IfOk, IfErr};
 ghost use Rattle.sqlite.specs.Held.{state};
 ghost use Rattle.sqlite.specs.Order.{column};
-ghost use Rattle.sqlite.specs.declared.types.Value.TheVariants.{Int, Text as Words};
+ghost use Rattle.sqlite.specs.declared.types.Value.TheVariants.{Text as Words};
 ghost use Rattle.mm_base.specs.Bounds.{Profile};
 ghost use Rattle.mm_base.specs.Package.{kind_text};
 ghost use Rattle.mm_store.specs.Faults.{IsStoreFault};
@@ -15,61 +15,11 @@ use mm_base::commands::Kind;
 use mm_base::entries::Entry;
 use mm_base::extents::Extent;
 use mm_base::identifiers::Identifier;
-use mm_base::names::Name;
 use mm_base::texts::Text;
-use mm_store::faults::fault_of;
+use mm_store::columns::{name_in, number_in, text_in};
 use mm_walk::walk::{Visitor, walk};
 use sqlite::{Alter, Connection, Row};
 use std::alloc::Global;
-
-/// The text in a column.
-fn text_in(row: &Row, at: usize) -> Result<String, Fault>
-    ensures shown { IfOk result (λ text. column row.now at ≡ Words (string_bytes text)) }
-    ensures fault { IfErr result IsStoreFault }
-{
-    match row.get(at) {
-        Ok(text) => Ok(text),
-        Err(error) => Err(fault_of(error)),
-    }
-}
-
-/// The number in a column.
-fn number_in(row: &Row, at: usize) -> Result<i64, Fault>
-    ensures shown { IfOk result (λ number. column row.now at ≡ Int number) }
-    ensures fault { IfErr result IsStoreFault }
-{
-    match row.get(at) {
-        Ok(number) => Ok(number),
-        Err(error) => Err(fault_of(error)),
-    }
-}
-
-/// The name in a column. A text that is none is a fault, 91.
-fn name_in(row: &Row, at: usize) -> Result<Name, Fault>
-    ensures shown { IfOk result (λ name. column row.now at ≡ Words name) }
-    ensures fault { IfErr result IsStoreFault }
-{
-    match text_in(row, at) {
-        Ok(text) => match Name::read(text.as_str()) {
-            Some(name) => Ok(name),
-            None => Err(Fault(91)),
-        },
-        Err(fault) => Err(fault),
-    }
-}
-
-/// The kind that the registry writes so.
-fn kind_named(text: &str) -> Option<Kind>
-    ensures { IfSome result (λ kind. text.now ≡ kind_text kind) }
-{
-    match text {
-        "two" => Some(Kind::Two),
-        "other" => Some(Kind::Other),
-        "attributes" => Some(Kind::Attributes),
-        "media" => Some(Kind::Media),
-        _ => None,
-    }
-}
 
 /// The kind in a column. A text that is none is a fault, 91.
 fn kind_in(row: &Row, at: usize) -> Result<Kind, Fault>
@@ -77,7 +27,7 @@ fn kind_in(row: &Row, at: usize) -> Result<Kind, Fault>
     ensures fault { IfErr result IsStoreFault }
 {
     match text_in(row, at) {
-        Ok(text) => match kind_named(text.as_str()) {
+        Ok(text) => match Kind::named(text.as_str()) {
             Some(kind) => Ok(kind),
             None => Err(Fault(91)),
         },

@@ -1,11 +1,9 @@
 //! An attribute row.
 
-ghost use Rattle.std.specs.Prelude.{◌≡◌, false, option_map, string_bytes, IfOk, IfErr};
+ghost use Rattle.std.specs.Prelude.{◌≡◌, false, option_map, IfOk, IfErr};
 ghost use Rattle.std.specs.FinMap.{get};
 ghost use Rattle.sqlite.specs.Values.{bound};
 ghost use Rattle.sqlite.specs.Held.{state};
-ghost use Rattle.sqlite.specs.Order.{column};
-ghost use Rattle.sqlite.specs.declared.types.Value.TheVariants.{Text as Words};
 ghost use Rattle.mm_base.specs.Bounds.{Profile};
 ghost use Rattle.mm_base.specs.Keys.{item};
 ghost use Rattle.mm_store.specs.Faults.{IsStoreFault};
@@ -15,25 +13,10 @@ ghost use Rattle.mm_reads.specs.Told.{Gives, ShowsRow, row_of};
 
 use mm_base::answers::Fault;
 use mm_base::entries::Row;
-use mm_base::texts::Remark;
-use mm_store::faults::fault_of;
+use mm_store::columns::{number_in, remark_in};
 use mm_store::statements::first;
 use sqlite::types::ValueRef;
 use sqlite::{Alter, Connection, Transaction, params};
-
-/// The text in a column of a row. One that is no title and no note is a fault, 91.
-fn remark_in(row: &sqlite::Row, at: usize) -> Result<Remark, Fault>
-    ensures shown { IfOk result (λ text. column row.now at ≡ Words text) }
-    ensures fault { IfErr result IsStoreFault }
-{
-    match row.get(at) {
-        Ok(text) => match Remark::new(text) {
-            Some(text) => Ok(text),
-            None => Err(Fault(91)),
-        },
-        Err(error) => Err(fault_of(error)),
-    }
-}
 
 /// The attribute row in the first three columns of a row.
 fn row_in(row: &sqlite::Row) -> Result<Row, Fault>
@@ -42,13 +25,13 @@ fn row_in(row: &sqlite::Row) -> Result<Row, Fault>
 {
     let title = remark_in(row, 0)?;
     let note = remark_in(row, 1)?;
-    match row.get(2) {
+    match number_in(row, 2) {
         Ok(amount) => Ok(Row {
             title,
             note,
             amount,
         }),
-        Err(error) => Err(fault_of(error)),
+        Err(fault) => Err(fault),
     }
 }
 

@@ -1,10 +1,11 @@
 //! Readers of the records of commands.
 
-ghost use Rattle.std.specs.Prelude.{◌≡◌, IfOk, map, codes};
+ghost use Rattle.std.specs.Prelude.{◌≡◌, true, IfOk, map, codes};
 ghost use Rattle.mm_base.specs.Bounds.{millimetres};
 ghost use Rattle.mm_base.specs.Reading.{ReadsTo};
 ghost use Rattle.mm_base.specs.Fields.{AllHold, IsAgainstSome};
 ghost use Rattle.mm_base.specs.Records.{IsLeast, command_values, command_word, Spells, HoldsAgainst, HoldsAgainstPiece, SpellsPiece, IsMet, IsUnmet, stage_form};
+ghost use Rattle.mm_base.specs.PieceGroups.{changes_tile, changes_item, changes_mapping};
 ghost use Rattle.mm_base.specs.Pieces.{piece_command};
 ghost use Rattle.mm_base.specs.declared.commands.Piece.{Piece};
 ghost use Rattle.mm_base.specs.Records as forms;
@@ -322,8 +323,9 @@ fn read_stage(alloc: Global, fields: &[&str]) -> Result<Command, ReadFault>
     }
 }
 
-/// The command that a piece is.
-fn command_of(piece: Piece) -> Command
+/// The command that a piece is which changes a tile.
+fn tile_command(piece: Piece) -> Command
+    requires { changes_tile piece ≡ true }
     ensures { result ≡ piece_command piece }
 {
     match piece {
@@ -351,6 +353,16 @@ fn command_of(piece: Piece) -> Command
             column,
             row,
         },
+        _ => unreachable!(),
+    }
+}
+
+/// The command that a piece is which changes an attribute row or a medium.
+fn item_command(piece: Piece) -> Command
+    requires { changes_item piece ≡ true }
+    ensures { result ≡ piece_command piece }
+{
+    match piece {
         Piece::Row {
             table,
             id,
@@ -377,6 +389,16 @@ fn command_of(piece: Piece) -> Command
             bytes,
         },
         Piece::MediaDrop { table, id } => Command::MediaDrop { table, id },
+        _ => unreachable!(),
+    }
+}
+
+/// The command that a piece is which changes a mapping row.
+fn mapping_command(piece: Piece) -> Command
+    requires { changes_mapping piece ≡ true }
+    ensures { result ≡ piece_command piece }
+{
+    match piece {
         Piece::Map {
             mapping,
             base_id,
@@ -395,6 +417,19 @@ fn command_of(piece: Piece) -> Command
             base_id,
             related_id,
         },
+        _ => unreachable!(),
+    }
+}
+
+/// The command that a piece is.
+fn command_of(piece: Piece) -> Command
+    ensures { result ≡ piece_command piece }
+{
+    match piece {
+        Piece::Tile { .. } | Piece::TileDrop { .. } => tile_command(piece),
+        Piece::Row { .. } | Piece::RowDrop { .. } | Piece::Media { .. } | Piece::MediaDrop { .. } =>
+            item_command(piece),
+        Piece::Map { .. } | Piece::MapDrop { .. } => mapping_command(piece),
     }
 }
 

@@ -1,5 +1,5 @@
 -- A connection that was just opened.
-use Rattle.std.proofs.Common.{◌≡◌, IsTrue, Bool, true, false, if◌then◌else◌, inl, inr, refl, sym, subst}
+use Rattle.std.proofs.Common.{◌≡◌, IsTrue, sym, subst}
 use Rattle.std.specs.Coded.{Coded-set}
 use Rattle.std.proofs.Math.Logic.{∥∥₁_elim}
 use Rattle.sqlite_schema.specs.contracts.schema.Schema as schema
@@ -10,8 +10,6 @@ use Rattle.sqlite.specs.State.{State, IsLive, Opens}
 use Rattle.mm_schema.specs.Tables as tables
 use Rattle.mm_base.specs.Bounds.{millimetres}
 use Rattle.mm_base.specs.Package.{Package}
-use Rattle.sqlite.specs.declared.error.Error.{Error}
-use Rattle.mm_store.specs.Faults.{IsStoreFault, told_as, wants_memory, memory, store}
 use Rattle.mm_store.specs.Stands.{StandsFor, ReadsAs}
 use Rattle.mm_recovery.specs.Found.{IsSettledByFound}
 
@@ -36,11 +34,3 @@ opened_settles s opens live law p stands =
       reads = λ _. subst (λ d. ReadsAs millimetres.version d p) (sym opens.clean) reads;
       left = λ db may. subst (λ t. StandsFor millimetres.version t p) (sym (law db opens.is_open may)) stands;
     }
-
--- every error of the store is told as 90 or 91
-pub told_is : (e : Error) → IsStoreFault (told_as e)
-told_is e = by (wants_memory e)
-  where
-    by : (b : Bool) → IsStoreFault (if b then memory else store)
-    by true = inl refl
-    by false = inr refl

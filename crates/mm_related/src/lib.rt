@@ -2,10 +2,8 @@
 //!
 //! - `listing`: the list of an item's mapping rows.
 //! - `items`: whether an item stands.
-//! - `columns`: the values in the columns of a row.
 #![tactic(auto)]
 
-mod columns;
 mod items;
 mod listing;
 #[cfg(test)]

@@ -7,10 +7,10 @@ ghost use Rattle.mm_store.specs.Faults.{IsStoreFault};
 ghost use Rattle.mm_store.specs.Shapes.{IsRead};
 ghost use Rattle.mm_related.specs.Related.{ShowsRelated, Gathers, Lists, Tells};
 
-use crate::columns::{name_in, number_in, remark_in};
 use crate::items::stands;
 use mm_base::answers::Fault;
 use mm_base::entries::Related;
+use mm_store::columns::{name_in, number_in, remark_in};
 use mm_walk::walk::{Visitor, walk};
 use sqlite::{Alter, Connection, Row, params};
 use std::alloc::Global;

@@ -47,6 +47,22 @@ fn called_on_tables<S: Alter>(
             definition.as_str(),
             description.as_str(),
         ),
+        Command::Table {
+            table,
+            kind,
+            identifier,
+        } => add_table(tx, table.as_str(), *kind, identifier.as_str(), FIRST),
+        Command::Drop { table } => drop_table(tx, table.as_str()),
+        _ => return None,
+    };
+    Some(outcome)
+}
+
+fn called_on_pyramids<S: Alter>(
+    tx: &mut Transaction<'_, S>,
+    command: &Command,
+) -> Option<Result<Outcome, Fault>> {
+    let outcome = match command {
         Command::Pyramid {
             table,
             identifier,
@@ -73,18 +89,12 @@ fn called_on_tables<S: Alter>(
             zoom,
             matrix,
         } => add_matrix(tx, table.as_str(), *zoom, matrix, FIRST),
-        Command::Table {
-            table,
-            kind,
-            identifier,
-        } => add_table(tx, table.as_str(), *kind, identifier.as_str(), FIRST),
-        Command::Drop { table } => drop_table(tx, table.as_str()),
         _ => return None,
     };
     Some(outcome)
 }
 
-fn called_on_items<S: Alter>(
+fn called_on_tiles<S: Alter>(
     tx: &mut Transaction<'_, S>,
     command: &Command,
 ) -> Option<Result<Outcome, Fault>> {
@@ -104,6 +114,16 @@ fn called_on_items<S: Alter>(
             bytes.as_slice(),
             FIRST,
         ),
+        _ => return None,
+    };
+    Some(outcome)
+}
+
+fn called_on_items<S: Alter>(
+    tx: &mut Transaction<'_, S>,
+    command: &Command,
+) -> Option<Result<Outcome, Fault>> {
+    let outcome = match command {
         Command::Row {
             table,
             id,
@@ -166,16 +186,30 @@ fn called_on_relations<S: Alter>(
     Some(outcome)
 }
 
+/// What the call of a command answers; None where it is no command of these tests.
+fn called<S: Alter>(
+    tx: &mut Transaction<'_, S>,
+    command: &Command,
+) -> Option<Result<Outcome, Fault>> {
+    if let Some(outcome) = called_on_tables(tx, command) {
+        return Some(outcome);
+    }
+    if let Some(outcome) = called_on_pyramids(tx, command) {
+        return Some(outcome);
+    }
+    if let Some(outcome) = called_on_tiles(tx, command) {
+        return Some(outcome);
+    }
+    if let Some(outcome) = called_on_items(tx, command) {
+        return Some(outcome);
+    }
+    called_on_relations(tx, command)
+}
+
 /// 0 for done, else the number of the refusal or of the fault; None where the record spells no command of these tests.
 fn number_of<S: Alter>(alloc: Global, tx: &mut Transaction<'_, S>, record: &str) -> Option<u8> {
     let command = command_of(alloc, record)?;
-    let outcome = match called_on_tables(tx, &command) {
-        Some(outcome) => outcome,
-        None => match called_on_items(tx, &command) {
-            Some(outcome) => outcome,
-            None => called_on_relations(tx, &command)?,
-        },
-    };
+    let outcome = called(tx, &command)?;
     match outcome {
         Ok(Outcome::Done) => Some(0),
         Ok(Outcome::Refused(refusal)) => Some(refusal.number),

@@ -4,9 +4,13 @@
 //!
 //! - `faults`: how an error of the store is told.
 //! - `statements`: one statement inside a transaction, with its error told.
+//! - `columns`: the values in the columns of a row that a query shows.
+//! - `systems`: the reference systems.
 //! - `laws`: what holds of the definitions.
 #![tactic(auto)]
 
+pub mod columns;
 pub mod faults;
 pub mod laws;
 pub mod statements;
+pub mod systems;

@@ -1,5 +1,6 @@
 use Rattle.sqlite.proofs.Callers.{finds_again}
-use Rattle.mm_recovery.proofs.Opened.{told_is, opened_settles}
+use Rattle.mm_store.proofs.Asking.{told_fault}
+use Rattle.mm_recovery.proofs.Opened.{opened_settles}
 use Rattle.mm_recovery.proofs.Crashed.{only_committed}
 use Rattle.mm_recovery.proofs.files.open_after_close.Goals as goal
 
@@ -11,4 +12,4 @@ returns-in-Ok-open_files-clause-found g c = record {
 }
 
 pub returns-clause-faults : goal.returns-clause-faults
-returns-clause-faults g c = rw c.fault_of-in-Err-open_files.ensures (told_is _)
+returns-clause-faults g c = told_fault _ _ c.fault_of-in-Err-open_files.ensures

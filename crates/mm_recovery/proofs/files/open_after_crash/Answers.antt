@@ -1,5 +1,5 @@
-use Rattle.mm_recovery.proofs.Opened.{told_is}
 use Rattle.std.proofs.lemmas.Bool.{and_parts, and_from}
+use Rattle.mm_store.proofs.Asking.{told_fault}
 use Rattle.mm_recovery.proofs.Crashed.{crashed}
 use Rattle.mm_recovery.proofs.files.open_after_crash.Goals as goal
 
@@ -9,4 +9,4 @@ returns-in-Ok-clause-found g c =
     (λ clean. and_from _ _ (c.crash.ensures.clean (and_parts _ _ clean).0) (c.crash-2.ensures.clean (and_parts _ _ clean).1)) c.crash.ensures.left c.crash-2.ensures.left c.in-Ok.ensures.opened c.in-Ok.ensures.found
 
 pub returns-clause-faults : goal.returns-clause-faults
-returns-clause-faults g c = rw c.fault_of.ensures (told_is _)
+returns-clause-faults g c = told_fault _ _ c.fault_of.ensures

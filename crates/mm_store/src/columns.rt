@@ -5,14 +5,14 @@ ghost use Rattle.sqlite.specs.Order.{column};
 ghost use Rattle.sqlite.specs.declared.types.Value.TheVariants.{Int, Text as Words};
 ghost use Rattle.mm_store.specs.Faults.{IsStoreFault};
 
+use crate::faults::fault_of;
 use mm_base::answers::Fault;
 use mm_base::names::Name;
 use mm_base::texts::Remark;
-use mm_store::faults::fault_of;
 use sqlite::Row;
 
 /// The text in a column.
-fn text_in(row: &Row, at: usize) -> Result<String, Fault>
+pub fn text_in(row: &Row, at: usize) -> Result<String, Fault>
     ensures shown { IfOk result (λ text. column row.now at ≡ Words (string_bytes text)) }
     ensures fault { IfErr result IsStoreFault }
 {
@@ -23,7 +23,7 @@ fn text_in(row: &Row, at: usize) -> Result<String, Fault>
 }
 
 /// The number in a column.
-pub(crate) fn number_in(row: &Row, at: usize) -> Result<i64, Fault>
+pub fn number_in(row: &Row, at: usize) -> Result<i64, Fault>
     ensures shown { IfOk result (λ number. column row.now at ≡ Int number) }
     ensures fault { IfErr result IsStoreFault }
 {
@@ -34,7 +34,7 @@ pub(crate) fn number_in(row: &Row, at: usize) -> Result<i64, Fault>
 }
 
 /// The name in a column.
-pub(crate) fn name_in(row: &Row, at: usize) -> Result<Name, Fault>
+pub fn name_in(row: &Row, at: usize) -> Result<Name, Fault>
     ensures shown { IfOk result (λ name. column row.now at ≡ Words name) }
     ensures fault { IfErr result IsStoreFault }
 {
@@ -47,8 +47,8 @@ pub(crate) fn name_in(row: &Row, at: usize) -> Result<Name, Fault>
     }
 }
 
-/// The name of a relation in a column.
-pub(crate) fn remark_in(row: &Row, at: usize) -> Result<Remark, Fault>
+/// The title, note or name of a relation in a column.
+pub fn remark_in(row: &Row, at: usize) -> Result<Remark, Fault>
     ensures shown { IfOk result (λ text. column row.now at ≡ Words text) }
     ensures fault { IfErr result IsStoreFault }
 {

@@ -7,7 +7,7 @@ use Rattle.mm_schema.proofs.Selecting as statement
 use Rattle.mm_store.proofs.Parts.{found}
 use Rattle.mm_store.proofs.Keys as parts
 use Rattle.mm_store.proofs.Steps.{looks, seen}
-use Rattle.mm_meta.proofs.systems.has_system.Goals as goal
+use Rattle.mm_store.proofs.systems.has_system.Goals as goal
 
 pub returns-clause-look : goal.returns-clause-look
 returns-clause-look g c profile =

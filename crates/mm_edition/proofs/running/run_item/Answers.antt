@@ -1,0 +1,29 @@
+use Rattle.std.proofs.Common.{rules, w64}
+use Rattle.std.proofs.lemmas.Int.{to_z-of_z}
+use mir.Val.{SFits}
+use Rattle.mm_edition.proofs.running.run_item.Goals as goal
+
+pub returns-in-Row-clause-lent : goal.returns-in-Row-clause-lent
+returns-in-Row-clause-lent g c profile moment stamped =
+    let id_fits : SFits w64 c.in-Row.id = search rules in
+    let amount_fits : SFits w64 c.in-Row.amount = search rules in
+    let lent = simp to_z-of_z at (rw (c.as_str.ensures.text, c.as_str-in-Row.ensures.text, c.as_str-in-Row-2.ensures.text) at (c.put_row.ensures.lent profile moment stamped)) in
+    rw c.in-Row.is lent
+
+pub returns-in-RowDrop-clause-lent : goal.returns-in-RowDrop-clause-lent
+returns-in-RowDrop-clause-lent g c profile moment stamped =
+    let id_fits : SFits w64 c.in-RowDrop.id = search rules in
+    let lent = simp to_z-of_z at (rw c.as_str-in-RowDrop.ensures.text at (c.drop_row.ensures.lent profile moment stamped)) in
+    rw c.in-RowDrop.is lent
+
+pub returns-in-Media-clause-lent : goal.returns-in-Media-clause-lent
+returns-in-Media-clause-lent g c profile moment stamped =
+    let id_fits : SFits w64 c.in-Media.id = search rules in
+    let lent = simp to_z-of_z at (rw (c.as_str-in-Media.ensures.text, c.as_str-in-Media-2.ensures.text, c.as_slice.ensures.bytes) at (c.put_media.ensures.lent profile moment stamped)) in
+    rw c.in-Media.is lent
+
+pub returns-in-MediaDrop-clause-lent : goal.returns-in-MediaDrop-clause-lent
+returns-in-MediaDrop-clause-lent g c profile moment stamped =
+    let id_fits : SFits w64 c.in-MediaDrop.id = search rules in
+    let lent = simp to_z-of_z at (rw c.as_str-in-MediaDrop.ensures.text at (c.drop_media.ensures.lent profile moment stamped)) in
+    rw c.in-MediaDrop.is lent

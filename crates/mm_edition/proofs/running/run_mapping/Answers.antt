@@ -1,0 +1,18 @@
+use Rattle.std.proofs.Common.{rules, w64}
+use Rattle.std.proofs.lemmas.Int.{to_z-of_z}
+use mir.Val.{SFits}
+use Rattle.mm_edition.proofs.running.run_mapping.Goals as goal
+
+pub returns-in-Map-clause-lent : goal.returns-in-Map-clause-lent
+returns-in-Map-clause-lent g c profile moment =
+    let base_fits : SFits w64 c.in-Map.base_id = search rules in
+    let related_fits : SFits w64 c.in-Map.related_id = search rules in
+    let lent = simp to_z-of_z at (rw c.as_str.ensures.text at (c.add_map.ensures.lent profile moment)) in
+    rw c.in-Map.is lent
+
+pub returns-in-MapDrop-clause-lent : goal.returns-in-MapDrop-clause-lent
+returns-in-MapDrop-clause-lent g c profile moment =
+    let base_fits : SFits w64 c.in-MapDrop.base_id = search rules in
+    let related_fits : SFits w64 c.in-MapDrop.related_id = search rules in
+    let lent = simp to_z-of_z at (rw c.as_str-in-MapDrop.ensures.text at (c.drop_map.ensures.lent profile moment)) in
+    rw c.in-MapDrop.is lent

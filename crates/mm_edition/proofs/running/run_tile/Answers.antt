@@ -1,0 +1,11 @@
+use Rattle.mm_edition.proofs.running.run_tile.Goals as goal
+
+pub returns-in-Tile-clause-lent : goal.returns-in-Tile-clause-lent
+returns-in-Tile-clause-lent g c profile moment stamped =
+    let lent = rw (c.as_str.ensures.text, c.as_slice.ensures.bytes) at (c.put_tile.ensures.lent profile moment stamped) in
+    rw c.in-Tile.is lent
+
+pub returns-in-TileDrop-clause-lent : goal.returns-in-TileDrop-clause-lent
+returns-in-TileDrop-clause-lent g c profile moment stamped =
+    let lent = rw c.as_str-in-TileDrop.ensures.text at (c.drop_tile.ensures.lent profile moment stamped) in
+    rw c.in-TileDrop.is lent

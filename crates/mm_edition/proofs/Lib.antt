@@ -5,6 +5,7 @@ pub mod Failing
 pub mod Numbering
 pub mod Unchanged
 pub mod Spelled
+pub mod Quieting
 pub mod Turning
 pub mod InOrder
 pub mod Trials

@@ -16,6 +16,7 @@ use Rattle.mm_store.specs.Stands.{ground_of, IsSettled}
 use Rattle.mm_store.specs.Statements.{CommitsNothing}
 use Rattle.mm_store.specs.Shapes.{IsPut, IsTried, Tries}
 use Rattle.mm_store.proofs.Transactions.{rolled_quiet, rolled_back}
+use Rattle.mm_edition.specs.Quiet.{IsQuiet}
 use Rattle.mm_edition.specs.Rehearsals.{TellsRefusal, IsRehearsal}
 
 module _ {S : Type 0} (g : Ghosts S) (was now : Held S) (begun : now ≡ record was { in_transaction = true }) (ended last : State) (profile : Profile) (edition : Text) (moment : ℕ)
@@ -37,3 +38,8 @@ module _ {S : Type 0} (g : Ghosts S) (was now : Held S) (begun : now ≡ record 
         tells p (step p (commands.Publish edition) moment) result (tried.tries (omega (arith, two.clean)) (ground_of (state g was)) p (put p named meets settled));
     faults = tried.faults;
   }
+
+-- it commits nothing, at whatever text
+module _ {S : Type 0} (g : Ghosts S) (was now : Held S) (begun : now ≡ record was { in_transaction = true }) (ended last : State) (result : Result Outcome Fault) (quiet : IsQuiet (state g now) ended result) (two : CommitsNothing ended last) where
+  pub rehearsed_quiet : IsQuiet (state g was) last result
+  rehearsed_quiet = record { survives = rolled_quiet g was now begun ended last quiet.survives two; faults = quiet.faults }

@@ -10,6 +10,7 @@ ghost use Rattle.mm_base.specs.Package.{published_state};
 ghost use Rattle.mm_base.specs.Stamp.{IsStamp};
 ghost use Rattle.mm_base.specs.declared.commands.Command.TheVariants as commands;
 ghost use Rattle.mm_store.specs.Shapes.{IsChange, IsTried};
+ghost use Rattle.mm_edition.specs.Quiet.{IsQuiet};
 ghost use Rattle.mm_edition.specs.Turns.{IsTrial};
 
 use crate::editions::closed_refusal;
@@ -29,6 +30,7 @@ pub(crate) fn try_pieces<S: Alter>(
     at: &str,
 ) -> Result<Option<(u32, u8)>, Fault>
     ensures same_reference { tx.new.conn.ghost_name ≡ tx.old.conn.ghost_name }
+    ensures any_text { IsQuiet (state S.Store tx.old.conn.now) (state S.Store tx.new.conn.now) result }
     ensures trial { (profile : Profile) (moment : ℕ) → IsStamp moment at.now → IsTrial profile edition.now moment (state S.Store tx.old.conn.now) (state S.Store tx.new.conn.now) result }
 {
     for number in 1..PAST_THE_LAST + 1 {
@@ -89,6 +91,7 @@ pub fn publish<S: Alter>(
     at: &str,
 ) -> Result<Outcome, Fault>
     ensures same_reference { tx.new.conn.ghost_name ≡ tx.old.conn.ghost_name }
+    ensures any_text { IsQuiet (state S.Store tx.old.conn.now) (state S.Store tx.new.conn.now) result }
     ensures tried { (profile : Profile) (moment : ℕ) → IsStamp moment at.now → IsTried profile (commands.Publish edition.now) moment (state S.Store tx.old.conn.now) (state S.Store tx.new.conn.now) result }
 {
     match closed_refusal(tx, edition) {

@@ -4,6 +4,7 @@ ghost use Rattle.std.specs.Prelude.{◌≡◌, ℕ, false};
 ghost use Rattle.sqlite.specs.Held.{state};
 ghost use Rattle.mm_base.specs.Bounds.{Profile};
 ghost use Rattle.mm_base.specs.Stamp.{IsStamp};
+ghost use Rattle.mm_edition.specs.Quiet.{IsQuiet};
 ghost use Rattle.mm_edition.specs.Rehearsals.{IsRehearsal};
 
 use crate::publishing::publish;
@@ -19,6 +20,7 @@ pub fn rehearse<S: Alter>(
 ) -> Result<Outcome, Fault>
     requires idle { conn.old.in_transaction ≡ false }
     ensures mode { conn.new.in_transaction ≡ false }
+    ensures any_text { IsQuiet (state S.Store conn.old) (state S.Store conn.new) result }
     ensures rehearsed { (profile : Profile) (moment : ℕ) → IsStamp moment at.now → IsRehearsal profile edition.now (state S.Store conn.old) (state S.Store conn.new) result }
 {
     let mut tx = conn.transaction();

@@ -7,6 +7,7 @@ ghost use Rattle.mm_base.specs.PieceGroups.{changes_tile, changes_item, changes_
 ghost use Rattle.mm_base.specs.Pieces.{piece_command};
 ghost use Rattle.mm_base.specs.Stamp.{IsStamp};
 ghost use Rattle.mm_store.specs.Shapes.{IsLent};
+ghost use Rattle.mm_edition.specs.Quiet.{IsQuiet};
 ghost use Rattle.mm_edition.specs.Turns.{IsTurn};
 
 use crate::pieces::piece;
@@ -32,6 +33,7 @@ fn run_tile<S: Alter>(
 ) -> Result<Outcome, Fault>
     requires { changes_tile piece.now ≡ true }
     ensures same_reference { tx.new.conn.ghost_name ≡ tx.old.conn.ghost_name }
+    ensures any_text { IsQuiet (state S.Store tx.old.conn.now) (state S.Store tx.new.conn.now) result }
     ensures lent { (profile : Profile) (moment : ℕ) → IsStamp moment at.now → IsLent profile (piece_command piece.now) moment (state S.Store tx.old.conn.now) (state S.Store tx.new.conn.now) result }
 {
     match piece {
@@ -68,6 +70,7 @@ fn run_item<S: Alter>(
 ) -> Result<Outcome, Fault>
     requires { changes_item piece.now ≡ true }
     ensures same_reference { tx.new.conn.ghost_name ≡ tx.old.conn.ghost_name }
+    ensures any_text { IsQuiet (state S.Store tx.old.conn.now) (state S.Store tx.new.conn.now) result }
     ensures lent { (profile : Profile) (moment : ℕ) → IsStamp moment at.now → IsLent profile (piece_command piece.now) moment (state S.Store tx.old.conn.now) (state S.Store tx.new.conn.now) result }
 {
     match piece {
@@ -133,6 +136,7 @@ fn run_piece<S: Alter>(
     at: &str,
 ) -> Result<Outcome, Fault>
     ensures same_reference { tx.new.conn.ghost_name ≡ tx.old.conn.ghost_name }
+    ensures any_text { IsQuiet (state S.Store tx.old.conn.now) (state S.Store tx.new.conn.now) result }
     ensures lent { (profile : Profile) (moment : ℕ) → IsStamp moment at.now → IsLent profile (piece_command piece.now) moment (state S.Store tx.old.conn.now) (state S.Store tx.new.conn.now) result }
 {
     match piece {
@@ -151,6 +155,7 @@ pub(crate) fn try_piece<S: Alter>(
     at: &str,
 ) -> Result<Turn, Fault>
     ensures same_reference { tx.new.conn.ghost_name ≡ tx.old.conn.ghost_name }
+    ensures any_text { IsQuiet (state S.Store tx.old.conn.now) (state S.Store tx.new.conn.now) result }
     ensures turn { (profile : Profile) (moment : ℕ) → IsStamp moment at.now → IsTurn profile edition.now number moment (state S.Store tx.old.conn.now) (state S.Store tx.new.conn.now) result }
 {
     let found = match piece(tx, edition, number) {

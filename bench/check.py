@@ -9,9 +9,7 @@ foreign_key_check and one scan that reads every tile. The check must take at mos
 memory must not grow with their number. Opening the file is measured apart: the store then reads each page and checks its keys.
 """
 
-import argparse
 import os
-import pathlib
 import re
 import shutil
 import sqlite3
@@ -19,11 +17,9 @@ import subprocess
 import sys
 import tempfile
 
+import common
+
 SIDE = 400
-LAYOUT = f"""srs,25832,ETRS89 / UTM zone 32N,EPSG,25832,projected metres,
-pyramid,base,Base map,25832,0,0,{SIDE * 256 * 1000},{SIDE * 256 * 1000},two
-matrix,base,0,{SIDE},{SIDE},256,256,1000,1000
-"""
 CHECKS = """
 import sqlite3, sys
 database = sqlite3.connect(sys.argv[1])
@@ -50,8 +46,6 @@ def places(start, end):
 def fill(program, file, folder, start, end, size):
     path = os.path.join(folder, "records.csv")
     with open(path, "w") as out:
-        if start == 0:
-            out.write(LAYOUT)
         for column, row in places(start, end):
             out.write(f"tile,base,0,{column},{row},{os.urandom(size).hex()}\n")
     with open(path, "rb") as records:
@@ -87,18 +81,13 @@ def opening(program, file, folder):
 
 
 def main():
-    parser = argparse.ArgumentParser(description=__doc__, formatter_class=argparse.RawDescriptionHelpFormatter)
-    parser.add_argument("--program", default=str(pathlib.Path(__file__).resolve().parent.parent / "out" / "mmpkg"))
-    parser.add_argument("--tiles", type=int, default=100000)
-    parser.add_argument("--bytes", type=int, default=200)
-    parser.add_argument("--folder")
-    given = parser.parse_args()
+    given = common.words_of(__doc__, tiles=(100000, "tiles in the end, at most 160,000"), bytes=(200, "bytes of a tile"))
     if given.tiles > SIDE * SIDE:
-        parser.error(f"at most {SIDE * SIDE} tiles")
+        raise SystemExit(f"at most {SIDE * SIDE} tiles")
     with tempfile.TemporaryDirectory(dir=given.folder) as folder:
         file = os.path.join(folder, "bench.gpkg")
         other = os.path.join(folder, "other.db")
-        subprocess.run([given.program, "init", file], check=True, stdout=subprocess.DEVNULL)
+        common.make_package(given.program, file, common.layout(SIDE))
         taken = []
         for start, end in ((0, given.tiles // 2), (given.tiles // 2, given.tiles)):
             fill(given.program, file, folder, start, end, given.bytes)

@@ -8,9 +8,7 @@ file is taken out. SQLite's side, through Python's sqlite3, inserts the same row
 the program held (as `/usr/bin/time -v` tells it), for publishing 512 and 4,096 pieces of 10 kB.
 """
 
-import argparse
 import os
-import pathlib
 import re
 import sqlite3
 import statistics
@@ -18,19 +16,15 @@ import subprocess
 import tempfile
 import time
 
+import common
+
 SIDE = 64
-LAYOUT = f"""srs,25832,ETRS89 / UTM zone 32N,EPSG,25832,projected metres,
-pyramid,base,Base map,25832,0,0,{SIDE * 256 * 1000},{SIDE * 256 * 1000},two
-matrix,base,0,{SIDE},{SIDE},256,256,1000,1000
-edition,spring
-"""
 
 
 class Package:
     def __init__(self, program, folder, name):
         self.program, self.folder, self.file = program, folder, os.path.join(folder, name)
-        subprocess.run([program, "init", self.file], check=True, stdout=subprocess.DEVNULL)
-        self.run(LAYOUT)
+        common.make_package(program, self.file, common.layout(SIDE) + "edition,spring\n")
 
     def run(self, records, words=()):
         path = os.path.join(self.folder, "records.csv")
@@ -65,11 +59,7 @@ def sqlite_time(folder, count, size):
 
 
 def main():
-    top = pathlib.Path(__file__).resolve().parent.parent
-    words = argparse.ArgumentParser(description="An edition staged and published.")
-    words.add_argument("--program", default=str(top / "out" / "mmpkg"), help="the program (default: out/mmpkg)")
-    words.add_argument("--folder", help="where the files are made (default: the system's folder for such)")
-    asked = words.parse_args()
+    asked = common.words_of(__doc__)
     count = 4096
     with tempfile.TemporaryDirectory(dir=asked.folder) as folder:
         package = Package(asked.program, folder, "bench.gpkg")

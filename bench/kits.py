@@ -8,13 +8,13 @@ the piece that stands. SQLite's side, through Python's sqlite3 with WAL and sync
 the piece by their keys, and inserts and commits it, or compares its bytes.
 """
 
-import argparse
 import os
-import pathlib
 import sqlite3
 import subprocess
 import tempfile
 import time
+
+import common
 
 SIDE = 200
 
@@ -29,8 +29,7 @@ def make_kit(folder, tiles, size):
 
 def program_times(program, folder, kit, tiles):
     file = os.path.join(folder, "bench.gpkg")
-    subprocess.run([program, "init", file], check=True, stdout=subprocess.DEVNULL)
-    subprocess.run([program, "run", file, "--at", "0"], input=b"edition,k\n", check=True, stdout=subprocess.DEVNULL)
+    common.make_package(program, file, "edition,k\n")
     times = []
     for _ in range(2):
         begin = time.perf_counter()
@@ -73,13 +72,7 @@ def sqlite_times(folder, kit, tiles):
 
 
 def main():
-    top = pathlib.Path(__file__).resolve().parent.parent
-    words = argparse.ArgumentParser(description="The import of a kit, against SQLite doing the same.")
-    words.add_argument("--program", default=str(top / "out" / "mmpkg"), help="the program (default: out/mmpkg)")
-    words.add_argument("--tiles", type=int, default=4000, help="tiles of the kit (default: 4000)")
-    words.add_argument("--bytes", type=int, default=20000, help="bytes of a tile (default: 20000)")
-    words.add_argument("--folder", help="where the files are made (default: the system's folder for such)")
-    asked = words.parse_args()
+    asked = common.words_of(__doc__, tiles=(4000, "tiles of the kit"), bytes=(20000, "bytes of a tile"))
     with tempfile.TemporaryDirectory(dir=asked.folder) as folder:
         kit = os.path.join(folder, "kit")
         os.mkdir(kit)

@@ -7,13 +7,11 @@ Each record is sent when the last has been answered, and timed alone. The first 
 1,000 (medians). Then 100 rows that no mapping row names are dropped, and 100 media.
 """
 
-import argparse
 import os
-import pathlib
 import statistics
-import subprocess
 import tempfile
-import time
+
+import common
 
 
 def records_of(rows):
@@ -35,26 +33,11 @@ def records_of(rows):
 
 
 def main():
-    top = pathlib.Path(__file__).resolve().parent.parent
-    words = argparse.ArgumentParser(description="The time of one map command as mapping rows are added.")
-    words.add_argument("--program", default=str(top / "out" / "mmpkg"), help="the program (default: out/mmpkg)")
-    words.add_argument("--rows", type=int, default=10000, help="mapping rows, at most 10,000 (default: 10000)")
-    words.add_argument("--folder", help="where the files are made (default: the system's folder for such)")
-    asked = words.parse_args()
-    times = {}
+    asked = common.words_of(__doc__, rows=(10000, "mapping rows, at most 10,000"))
     with tempfile.TemporaryDirectory(dir=asked.folder) as folder:
         file = os.path.join(folder, "bench.gpkg")
-        subprocess.run([asked.program, "init", file], check=True, stdout=subprocess.DEVNULL)
-        with subprocess.Popen([asked.program, "run", file, "--at", "0"], stdin=subprocess.PIPE, stdout=subprocess.PIPE) as run:
-            for record, kind in records_of(asked.rows):
-                begin = time.perf_counter()
-                run.stdin.write(record.encode() + b"\n")
-                run.stdin.flush()
-                answer = run.stdout.readline()
-                times.setdefault(kind, []).append(time.perf_counter() - begin)
-                if not answer.endswith(b" ok\n"):
-                    raise SystemExit(f"{record}: {answer.decode()}")
-            run.stdin.close()
+        common.make_package(asked.program, file)
+        times = common.times_by_kind(asked.program, file, records_of(asked.rows))
     first, last = statistics.median(times["map"][:1000]), statistics.median(times["map"][-1000:])
     print(f"map: {1e6 * first:.0f} us at first, {1e6 * last:.0f} us at last; ratio {last / first:.2f}")
     for kind in ("row-drop", "media-drop"):

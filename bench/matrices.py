@@ -8,13 +8,11 @@ record before it reads the next, so each is sent when the last has been answered
 commands are compared with the last 100: the time of one must not grow with what the package holds.
 """
 
-import argparse
 import os
-import pathlib
 import statistics
-import subprocess
 import tempfile
-import time
+
+import common
 
 # 31 numbers of tiles whose pixel sizes divide one extent, from the coarsest on.
 WIDTH = 3 << 29
@@ -31,40 +29,23 @@ ORDERS = {"rising": list(range(31)), "falling": list(range(30, -1, -1)), "inside
 
 
 def records_of(pyramids, order):
-    """The records, each with whether it is a matrix."""
-    yield "srs,25832,ETRS89 / UTM zone 32N,EPSG,25832,projected metres,", False
+    """The records, each with what it is counted under."""
+    yield "srs,25832,ETRS89 / UTM zone 32N,EPSG,25832,projected metres,", ""
     for number in range(pyramids):
-        yield f"pyramid,p{number},Pyramid {number},25832,0,0,{WIDTH * TILE},{WIDTH * TILE},other", False
+        yield f"pyramid,p{number},Pyramid {number},25832,0,0,{WIDTH * TILE},{WIDTH * TILE},other", ""
         for zoom in order:
             tiles = WIDTH // SIZES[zoom]
-            yield f"matrix,p{number},{zoom},{tiles},{tiles},{TILE},{TILE},{SIZES[zoom]},{SIZES[zoom]}", True
+            yield f"matrix,p{number},{zoom},{tiles},{tiles},{TILE},{TILE},{SIZES[zoom]},{SIZES[zoom]}", "matrix"
 
 
 def times_of(program, file, pyramids, order):
     """The seconds of each matrix command."""
-    subprocess.run([program, "init", file], check=True, stdout=subprocess.DEVNULL)
-    times = []
-    with subprocess.Popen([program, "run", file, "--at", "0"], stdin=subprocess.PIPE, stdout=subprocess.PIPE) as run:
-        for record, is_matrix in records_of(pyramids, order):
-            begin = time.perf_counter()
-            run.stdin.write(record.encode() + b"\n")
-            run.stdin.flush()
-            answer = run.stdout.readline()
-            if is_matrix:
-                times.append(time.perf_counter() - begin)
-            if not answer.endswith(b" ok\n"):
-                raise SystemExit(f"{record}: {answer.decode()}")
-        run.stdin.close()
-    return times
+    common.make_package(program, file)
+    return common.times_by_kind(program, file, records_of(pyramids, order))["matrix"]
 
 
 def main():
-    top = pathlib.Path(__file__).resolve().parent.parent
-    words = argparse.ArgumentParser(description="The time of one matrix command as a package fills.")
-    words.add_argument("--program", default=str(top / "out" / "mmpkg"), help="the program (default: out/mmpkg)")
-    words.add_argument("--pyramids", type=int, default=500, help="pyramids of 31 matrices each (default: 500)")
-    words.add_argument("--folder", help="where the files are made (default: the system's folder for such)")
-    asked = words.parse_args()
+    asked = common.words_of(__doc__, pyramids=(500, "pyramids of 31 matrices each"))
     for name, order in ORDERS.items():
         with tempfile.TemporaryDirectory(dir=asked.folder) as folder:
             times = times_of(asked.program, os.path.join(folder, "bench.gpkg"), asked.pyramids, order)

@@ -1,13 +1,12 @@
 #!/usr/bin/env python3
 """Requests a second for one tile over loopback, against Python's http.server with sqlite3.
 
-    bench/page.py [--program out/mmpkg] [--requests 2000] [--bytes 20000] [--rounds 5] [--port 18082]
+    bench/page.py [--program out/mmpkg] [--requests 2000] [--bytes 20000] [--rounds 5] [--port 18082] [--folder FOLDER]
 
 One client asks for the same tile, one connection a request. The two servers take turns for some rounds, each on the same package
 file; Python's reads the tile by its key from the same table. What is compared is the median of the rounds.
 """
 
-import argparse
 import http.server
 import multiprocessing
 import pathlib
@@ -17,6 +16,8 @@ import statistics
 import subprocess
 import tempfile
 import time
+
+import common
 
 REQUEST = b"GET /tiles/base/0/0/0 HTTP/1.1\r\nHost: localhost\r\n\r\n"
 
@@ -76,20 +77,11 @@ def time_python(file, port, requests, size):
 
 
 def main():
-    parser = argparse.ArgumentParser()
-    parser.add_argument("--program", default="out/mmpkg")
-    parser.add_argument("--requests", type=int, default=2000)
-    parser.add_argument("--bytes", type=int, default=20000)
-    parser.add_argument("--rounds", type=int, default=5)
-    parser.add_argument("--port", type=int, default=18082)
-    given = parser.parse_args()
-    program = str(pathlib.Path(given.program).resolve())
-    with tempfile.TemporaryDirectory() as folder:
+    given = common.words_of(__doc__, requests=(2000, "requests in a round"), bytes=(20000, "bytes of the tile"), rounds=(5, "rounds of each side"),
+                            port=(18082, "the first of the ports, one for each round of each side"))
+    with tempfile.TemporaryDirectory(dir=given.folder) as folder:
         file = str(pathlib.Path(folder) / "a.gpkg")
-        records = ("srs,25832,ETRS89 / UTM zone 32N,EPSG,25832,projected metres,\npyramid,base,Base map,25832,0,0,256000,256000,two\n"
-                   f"matrix,base,0,1,1,256,256,1000,1000\ntile,base,0,0,0,{'5a' * given.bytes}\n")
-        subprocess.run([program, "init", file], check=True, stdout=subprocess.DEVNULL)
-        subprocess.run([program, "run", file], input=records.encode(), check=True, stdout=subprocess.DEVNULL)
+        common.make_package(given.program, file, common.layout(1) + f"tile,base,0,0,0,{'5a' * given.bytes}\n")
         # Python's SQLite reads a copy of the rows, since the package's own journal is not SQLite's.
         copy = str(pathlib.Path(folder) / "copy.db")
         with sqlite3.connect(copy) as connection:
@@ -98,7 +90,7 @@ def main():
             connection.execute("INSERT INTO mm_tiles VALUES ('base', 0, 0, 0, ?)", (b"\x5a" * given.bytes,))
         ours, theirs = [], []
         for number in range(given.rounds):
-            ours.append(time_ours(program, file, given.port + 2 * number, given.requests, given.bytes))
+            ours.append(time_ours(given.program, file, given.port + 2 * number, given.requests, given.bytes))
             theirs.append(time_python(copy, given.port + 2 * number + 1, given.requests, given.bytes))
             print(f"round {number + 1}: mmpkg {ours[-1]:.0f}, Python {theirs[-1]:.0f} requests a second")
         ratios = [one / other for one, other in zip(ours, theirs)]

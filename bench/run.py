@@ -9,14 +9,14 @@ program reads its records from standard input and writes a line for each; the ti
 and end is measured by runs of no record and taken out. The two sides take turns; the ratio is the median of the rounds' ratios.
 """
 
-import argparse
 import os
-import pathlib
 import sqlite3
 import statistics
 import subprocess
 import tempfile
 import time
+
+import common
 
 TABLE = """CREATE TABLE gpkg_spatial_ref_sys (srs_name TEXT NOT NULL, srs_id INTEGER PRIMARY KEY, organization TEXT NOT NULL,
     organization_coordsys_id INTEGER NOT NULL, definition TEXT NOT NULL, description TEXT NOT NULL) STRICT"""
@@ -43,7 +43,7 @@ def seconds_of_run(program, file, records):
 def time_program(program, folder, rows):
     """The seconds of the commits, and those of a run of no record."""
     file = os.path.join(folder, "bench.gpkg")
-    subprocess.run([program, "init", file], check=True, stdout=subprocess.DEVNULL)
+    common.make_package(program, file)
     text = "".join("srs," + ",".join(str(field) for field in row) + "\n" for row in rows)
     empty = statistics.median(seconds_of_run(program, file, b"") for _ in range(5))
     return seconds_of_run(program, file, text.encode()) - empty, empty
@@ -82,13 +82,7 @@ def time_syncs(folder, count, syncs):
 
 
 def main():
-    top = pathlib.Path(__file__).resolve().parent.parent
-    words = argparse.ArgumentParser(description="Commits a second of mmpkg run against Python's sqlite3.")
-    words.add_argument("--program", default=str(top / "out" / "mmpkg"), help="the program (default: out/mmpkg)")
-    words.add_argument("--records", type=int, default=2000, help="records in a round (default: 2000)")
-    words.add_argument("--rounds", type=int, default=9, help="rounds of each side (default: 9)")
-    words.add_argument("--folder", help="where the files are made (default: the system's folder for such)")
-    asked = words.parse_args()
+    asked = common.words_of(__doc__, records=(2000, "records in a round"), rounds=(9, "rounds of each side"))
     rows = systems(asked.records)
     ours, theirs, twice = [], [], []
     for _ in range(asked.rounds):

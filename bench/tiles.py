@@ -9,20 +9,16 @@ synchronous=FULL, looks up the kind, the matrix and the tile by their keys, inse
 each tile. The last list is compared with the first: a tile must not cost more as the package fills.
 """
 
-import argparse
 import os
-import pathlib
 import sqlite3
 import statistics
 import subprocess
 import tempfile
 import time
 
+import common
+
 SIDE = 200
-LAYOUT = f"""srs,25832,ETRS89 / UTM zone 32N,EPSG,25832,projected metres,
-pyramid,base,Base map,25832,0,0,{SIDE * 256 * 1000},{SIDE * 256 * 1000},two
-matrix,base,0,{SIDE},{SIDE},256,256,1000,1000
-"""
 
 
 def places(start, count):
@@ -44,10 +40,7 @@ def program_times(program, folder, lists, tiles, size):
     path = os.path.join(folder, "records.csv")
     empty = os.path.join(folder, "empty.csv")
     open(empty, "w").close()
-    with open(path, "w") as out:
-        out.write(LAYOUT)
-    subprocess.run([program, "init", file], check=True, stdout=subprocess.DEVNULL)
-    run(program, file, path)
+    common.make_package(program, file, common.layout(SIDE))
     times = []
     for number in range(lists):
         with open(path, "w") as out:
@@ -91,14 +84,7 @@ def sqlite_times(folder, lists, tiles, size):
 
 
 def main():
-    top = pathlib.Path(__file__).resolve().parent.parent
-    words = argparse.ArgumentParser(description="Tiles into a package, against SQLite doing the same.")
-    words.add_argument("--program", default=str(top / "out" / "mmpkg"), help="the program (default: out/mmpkg)")
-    words.add_argument("--lists", type=int, default=10, help="lists of tiles (default: 10)")
-    words.add_argument("--tiles", type=int, default=2000, help="tiles in a list (default: 2000)")
-    words.add_argument("--bytes", type=int, default=10000, help="bytes of a tile (default: 10000)")
-    words.add_argument("--folder", help="where the files are made (default: the system's folder for such)")
-    asked = words.parse_args()
+    asked = common.words_of(__doc__, lists=(10, "lists of tiles"), tiles=(2000, "tiles in a list"), bytes=(10000, "bytes of a tile"))
     with tempfile.TemporaryDirectory(dir=asked.folder) as folder:
         ours = program_times(asked.program, folder, asked.lists, asked.tiles, asked.bytes)
         theirs = sqlite_times(folder, asked.lists, asked.tiles, asked.bytes)

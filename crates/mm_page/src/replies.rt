@@ -22,6 +22,7 @@ use std::alloc::{AllocError, Global};
 pub fn printed(made: Result<Vec<u8>, AllocError>) -> Result<Vec<u8>, Fault>
     ensures ok { IfOk result (λ v. made ≡ Ok v) }
     ensures err { IfErr result (λ f. f.0 ≡ 90) }
+    ensures made { IfOk made (λ v. result ≡ Ok v) }
 {
     match made {
         Ok(bytes) => Ok(bytes),

@@ -1,5 +1,9 @@
 //! The moment of the clock.
 
+ghost use Rattle.std.specs.Prelude.{◌≡◌, IfSome};
+ghost use Rattle.std.specs.Time.{system_time_nanos};
+ghost use Rattle.mm_program.specs.Clock.{IsNow};
+
 use mm_base::moments::Moment;
 use std::time::SystemTime;
 
@@ -13,11 +17,10 @@ pub enum Now {
     Unread,
 }
 
-/// The moment of the clock, asked once.
-pub fn time_now(rt: &HostRuntime) -> Now {
-    let Ok(time) = SystemTime::now(rt) else {
-        return Now::Unread;
-    };
+/// The moment of a time, in whole milliseconds.
+fn moment_at(time: SystemTime) -> Now
+    ensures { IsNow (system_time_nanos time) result }
+{
     let Ok(since) = time.duration_since(SystemTime::UNIX_EPOCH) else {
         return Now::Outside;
     };
@@ -30,8 +33,18 @@ pub fn time_now(rt: &HostRuntime) -> Now {
     }
 }
 
+/// The moment of the clock, asked once. What a clock shows is no matter of a contract.
+fn time_now(rt: &HostRuntime) -> Now {
+    match SystemTime::now(rt) {
+        Ok(time) => moment_at(time),
+        Err(_) => Now::Unread,
+    }
+}
+
 /// The moment that the words give, or else the clock's.
-pub fn moment_of(rt: &HostRuntime, at: Option<Moment>) -> Now {
+pub fn moment_of(rt: &HostRuntime, at: Option<Moment>) -> Now
+    ensures given { IfSome at (λ moment. result ≡ Now.At moment) }
+{
     match at {
         Some(moment) => Now::At(moment),
         None => time_now(rt),

@@ -1,6 +1,7 @@
 //! The package's file.
 
-ghost use Rattle.std.specs.Prelude.{◌≡◌, false, IfOk};
+ghost use Rattle.std.specs.Prelude.{◌≡◌, ◌++◌, codes, false, string_bytes, IfOk, IfErr, OnErr};
+ghost use Rattle.mm_program.specs.Files.{StopsAny, StopsNew, StopsOld};
 
 use mm_base::answers::Fault;
 use mm_work::Stop;
@@ -12,7 +13,9 @@ use std::{fs, io};
 const SHORTEST: u64 = 512;
 
 /// The file's length, and none where there is no such file.
-fn length_of(rt: &HostRuntime, path: &str) -> Result<Option<u64>, Stop> {
+fn length_of(rt: &HostRuntime, path: &str) -> Result<Option<u64>, Stop>
+    ensures { IfErr result StopsAny }
+{
     match fs::metadata(rt, path) {
         Ok(found) => Ok(Some(found.len())),
         Err(error) if error.kind() == io::ErrorKind::NotFound => Ok(None),
@@ -22,7 +25,10 @@ fn length_of(rt: &HostRuntime, path: &str) -> Result<Option<u64>, Stop> {
 }
 
 /// The name of the file's journal.
-fn journal_of(rt: &HostRuntime, path: &str) -> Result<String, Stop> {
+fn journal_of(rt: &HostRuntime, path: &str) -> Result<String, Stop>
+    ensures name { IfOk result (λ name. string_bytes name ≡ path.now ++ codes "-wal") }
+    ensures stopped { IfErr result StopsAny }
+{
     match format!(in rt.alloc(); "{path}-wal") {
         Ok(name) => Ok(name),
         Err(_) => Err(Stop::Fault(Fault(90))),
@@ -35,6 +41,7 @@ fn open_file<S: Start>(
     start: S,
 ) -> Result<Connection<FileStore<FileFrom<S>>>, Stop>
     ensures mode { IfOk result (λ c. c.in_transaction ≡ false) }
+    ensures stopped { IfErr result StopsAny }
 {
     match Connection::open_from(rt, path, false, start) {
         Ok(conn) => Ok(conn),
@@ -50,6 +57,7 @@ pub fn open_new<S: Start>(
     start: S,
 ) -> Result<Connection<FileStore<FileFrom<S>>>, Stop>
     ensures mode { IfOk result (λ c. c.in_transaction ≡ false) }
+    ensures stopped { IfErr result StopsNew }
 {
     if length_of(rt, path)?.unwrap_or(0) > 0 {
         return Err(Stop::NotEmpty);
@@ -68,6 +76,7 @@ pub fn open_old<S: Start>(
     start: S,
 ) -> Result<Connection<FileStore<FileFrom<S>>>, Stop>
     ensures mode { IfOk result (λ c. c.in_transaction ≡ false) }
+    ensures stopped { IfErr result StopsOld }
 {
     match length_of(rt, path)? {
         None | Some(0) => Err(Stop::NotPackage(94)),
@@ -77,10 +86,28 @@ pub fn open_old<S: Start>(
 }
 
 /// Closes the files, which copies the journal back.
-pub fn close_files<D: Disk + Drop>(conn: Connection<FileStore<D>>) -> Result<(), Stop> {
+pub fn close_files<D: Disk + Drop>(conn: Connection<FileStore<D>>) -> Result<(), Stop>
+    ensures { IfErr result StopsAny }
+{
     match conn.close() {
         Ok(()) => Ok(()),
         Err(Error::SqliteFailure(ErrorCode::OutOfMemory)) => Err(Stop::Fault(Fault(90))),
         Err(_) => Err(Stop::Fault(Fault(91))),
+    }
+}
+
+/// Closes the files after some work, and answers what it came to. Where no fault ended the work, a fault of the close is answered.
+pub(crate) fn close_after<D: Disk + Drop, T: Copy>(
+    conn: Connection<FileStore<D>>,
+    done: T,
+    is_fault: bool,
+) -> Result<T, Stop>
+    ensures done { IfOk result (λ answer. answer ≡ done) }
+    ensures fault { OnErr result (is_fault ≡ false) }
+    ensures stopped { IfErr result StopsAny }
+{
+    match close_files(conn) {
+        Err(why) if !is_fault => Err(why),
+        _ => Ok(done),
     }
 }

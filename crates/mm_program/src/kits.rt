@@ -1,11 +1,13 @@
 //! The subcommand `kit`, on a folder of the system.
 
-ghost use Rattle.std.specs.Prelude.{◌≤◌};
-ghost use Rattle.mm_base.specs.Streams.{has_failed};
+ghost use Rattle.std.specs.Prelude.{◌≤◌, IfOk};
+ghost use Rattle.mm_base.specs.Streams.{has_failed, inside};
 ghost use Rattle.mm_work.specs.Told.{TellsFailure};
+ghost use Rattle.mm_program.specs.Files.{IsFew};
+ghost use Rattle.mm_program.specs.Told.{TellsKit};
 
 use crate::clock::{Now, moment_of};
-use crate::files::{close_files, open_old};
+use crate::files::{close_after, open_old};
 use mm_base::answers::Fault;
 use mm_base::moments::Moment;
 use mm_base::names::Name;
@@ -35,7 +37,9 @@ fn folder_fault(error: io::Error) -> FolderFault {
 }
 
 /// The bytes of a file, where they are `most` at most.
-fn read_file(rt: &HostRuntime, path: &str, name: &str, most: u64) -> Result<Found, FolderFault> {
+fn read_file(rt: &HostRuntime, path: &str, name: &str, most: u64) -> Result<Found, FolderFault>
+    ensures { IfOk result (IsFew most) }
+{
     let Ok(path) = format!(in rt.alloc(); "{path}/{name}") else {
         return Err(FolderFault::Memory);
     };
@@ -92,11 +96,7 @@ fn import_file<S: Start>(
         failed: false,
     };
     let (conn, import) = import_package(rt.alloc(), conn, edition, &mut folder, at)?;
-    let closed = close_files(conn);
-    if import.is_ok() {
-        closed?;
-    }
-    Ok(import)
+    close_after(conn, import, import.is_err())
 }
 
 /// The subcommand `kit`. An edition that is no name is refused before the clock is asked or the file opened.
@@ -108,6 +108,7 @@ pub(crate) fn kit_told<W: Write>(
     at: Option<Moment>,
     output: &mut Io<W>,
 ) -> u8
+    ensures told { TellsKit edition.now at (W.contents (inside output.old)) (W.contents (inside output.new)) (has_failed output.old) (has_failed output.new) result }
     ensures status { result ≤ 4 }
     ensures unprinted { TellsFailure (has_failed output.old) (has_failed output.new) result }
 {

@@ -1,8 +1,9 @@
 //! The subcommands that change nothing.
 
 ghost use Rattle.std.specs.Prelude.{◌≡◌, ◌≤◌, ◌⊎◌, IfErr, OnOk};
-ghost use Rattle.mm_base.specs.Streams.{has_failed};
+ghost use Rattle.mm_base.specs.Streams.{has_failed, inside};
 ghost use Rattle.mm_work.specs.Told.{TellsFailure, stop_status};
+ghost use Rattle.mm_program.specs.Told.{StopsCheck, TellsCheck, TellsDecline};
 
 use crate::files::{close_files, open_old};
 use mm_base::streams::Io;
@@ -11,13 +12,19 @@ use sqlite::{Start, Wary};
 use std::io::Write;
 
 /// Checks the package of a file.
-fn check_file<S: Start>(rt: &HostRuntime, path: &str, start: S) -> Result<(), Stop> {
+fn check_file<S: Start>(rt: &HostRuntime, path: &str, start: S) -> Result<(), Stop>
+    ensures { IfErr result StopsCheck }
+{
     let conn = open_old(rt, path, start)?;
-    close_files(check_package(rt.alloc(), conn)?)
+    match check_package(rt.alloc(), conn) {
+        Ok(conn) => close_files(conn),
+        Err((_, why)) => Err(why),
+    }
 }
 
 /// The subcommand `check`.
 pub(crate) fn check_told<W: Write>(rt: &HostRuntime, path: &str, output: &mut Io<W>) -> u8
+    ensures told { TellsCheck (W.contents (inside output.old)) (W.contents (inside output.new)) (has_failed output.old) (has_failed output.new) result }
     ensures status { result ≤ 4 }
     ensures unprinted { TellsFailure (has_failed output.old) (has_failed output.new) result }
 {
@@ -32,24 +39,16 @@ fn list_file<S: Start, W: Write>(
     output: &mut Io<W>,
 ) -> Result<(), Stop>
     ensures working { OnOk result (has_failed output.new ≡ has_failed output.old) }
-    ensures stopped { IfErr result (λ why. (has_failed output.new ≡ has_failed output.old) ⊎ (stop_status why ≡ 3)) }
+    ensures stopped { IfErr result (λ why. (output.new ≡ output.old) ⊎ (stop_status why ≡ 3)) }
 {
-    let conn = match open_old(rt, path, start) {
-        Ok(conn) => conn,
-        Err(why) => return Err(why),
-    };
-    let conn = match list_package(rt.alloc(), conn, output) {
-        Ok(conn) => conn,
-        Err(why) => return Err(why),
-    };
-    match close_files(conn) {
-        Ok(()) => Ok(()),
-        Err(why) => Err(why),
-    }
+    let conn = open_old(rt, path, start)?;
+    let conn = list_package(rt.alloc(), conn, output)?;
+    close_files(conn)
 }
 
 /// The subcommand `list`.
 pub(crate) fn list_told<W: Write>(rt: &HostRuntime, path: &str, output: &mut Io<W>) -> u8
+    ensures declined { TellsDecline (W.contents (inside output.old)) (W.contents (inside output.new)) (has_failed output.old) (has_failed output.new) result }
     ensures status { result ≤ 4 }
     ensures unprinted { TellsFailure (has_failed output.old) (has_failed output.new) result }
 {

@@ -8,8 +8,9 @@ ghost use Rattle.mm_core.specs.Parts.{held, has_failed};
 ghost use Rattle.mm_page.specs.Served.{LeavesPackage};
 ghost use Rattle.mm_work.specs.Pages.{IsServed, IsServiceFault};
 ghost use Rattle.mm_work.specs.Told.{TellsFailure};
+ghost use Rattle.mm_program.specs.Served.{IsQuiet, IsServing, TellsServe, WasServed};
 
-use crate::files::{close_files, open_old};
+use crate::files::{close_after, close_files, open_old};
 use mm_base::answers::{Fault, PageFault};
 use mm_base::streams::Io;
 use mm_core::Session;
@@ -88,7 +89,8 @@ fn serve_port<S: Alter, W: Write>(
 ) -> Result<u8, Stop>
     ensures status { IfOk result (λ status. status ≤ 3) }
     ensures working { IfOk result (λ status. (status ≡ 3) ⊎ (streams.has_failed output.new ≡ streams.has_failed output.old)) }
-    ensures unused { IfErr result (λ why. streams.has_failed output.new ≡ streams.has_failed output.old) }
+    ensures served { IfOk result (IsServing port count (W.contents (inside output.old)) (W.contents (inside output.new)) (streams.has_failed output.old) (streams.has_failed output.new)) }
+    ensures unused { IfErr result (λ why. output.new ≡ output.old) }
 {
     let Ok(listener) = TcpListener::bind(rt, (Ipv4Addr::LOCALHOST, port)) else {
         return Err(Stop::Fault(Fault(96)));
@@ -110,28 +112,21 @@ fn serve_file<S: Start, W: Write>(
 ) -> Result<u8, Stop>
     ensures status { IfOk result (λ status. status ≤ 3) }
     ensures working { IfOk result (λ status. (status ≡ 3) ⊎ (streams.has_failed output.new ≡ streams.has_failed output.old)) }
+    ensures served { IfOk result (IsServing port count (W.contents (inside output.old)) (W.contents (inside output.new)) (streams.has_failed output.old) (streams.has_failed output.new)) }
     ensures unused { IfErr result (λ why. streams.has_failed output.new ≡ streams.has_failed output.old) }
+    ensures stopped { IfErr result (λ why. IsQuiet (W.contents (inside output.old)) (W.contents (inside output.new)) (streams.has_failed output.old) (streams.has_failed output.new) ⊎ WasServed port count (W.contents (inside output.old)) (W.contents (inside output.new)) (streams.has_failed output.old) (streams.has_failed output.new)) }
 {
-    let conn = match open_old(rt, path, start) {
-        Ok(conn) => conn,
-        Err(why) => return Err(why),
-    };
+    let conn = open_old(rt, path, start)?;
     let mut session = match adopt_package(rt.alloc(), conn) {
         Ok(session) => session,
-        Err(why) => return Err(why),
+        Err((_, why)) => return Err(why),
     };
-    let served = serve_port(rt, &mut session, port, count, output);
-    let closed = close_files(session.close());
-    let status = match served {
-        Ok(status) => status,
-        Err(why) => return Err(why),
-    };
-    if status == FAULT {
-        return Ok(status);
-    }
-    match closed {
-        Ok(()) => Ok(status),
-        Err(why) => Err(why),
+    match serve_port(rt, &mut session, port, count, output) {
+        Ok(status) => close_after(session.close(), status, status == FAULT),
+        Err(why) => {
+            let _closed = close_files(session.close());
+            Err(why)
+        }
     }
 }
 
@@ -143,6 +138,7 @@ pub(crate) fn serve_told<W: Write>(
     count: u32,
     output: &mut Io<W>,
 ) -> u8
+    ensures told { TellsServe port count (W.contents (inside output.old)) (W.contents (inside output.new)) (streams.has_failed output.old) (streams.has_failed output.new) result }
     ensures status { result ≤ 4 }
     ensures unprinted { TellsFailure (streams.has_failed output.old) (streams.has_failed output.new) result }
 {

@@ -1,11 +1,15 @@
 //! The program as a function of its words, its input and its output.
 
-ghost use Rattle.std.specs.Prelude.{◌≡◌, ◌≤◌, ◌⊎◌, IfOk, IfErr};
-ghost use Rattle.mm_base.specs.Streams.{has_failed};
-ghost use Rattle.mm_work.specs.Told.{TellsFailure};
+ghost use Rattle.std.specs.Prelude.{◌≡◌, ◌≤◌, ◌⊎◌, IfOk, IfErr, map};
+ghost use Rattle.mm_base.specs.Streams.{has_failed, inside};
+ghost use Rattle.clap.specs.Words.{kind_of};
+ghost use Rattle.mm_arguments.specs.Requests as arguments;
+ghost use Rattle.mm_work.specs.Told.{TellsFailure, stop_status};
+ghost use Rattle.mm_program.specs.Files.{StopsNew};
+ghost use Rattle.mm_program.specs.Told.{TellsDecline, TellsInit, TellsStatus, TellsWords};
 
 use crate::clock::{Now, moment_of};
-use crate::files::{close_files, open_new, open_old};
+use crate::files::{close_after, close_files, open_new, open_old};
 use crate::kits::kit_told;
 use crate::looking::{check_told, list_told};
 use crate::serving::serve_told;
@@ -20,7 +24,9 @@ use sqlite::{Start, Wary};
 use std::io::{Read, Write};
 
 /// Makes a package in a new file.
-fn init_file<S: Start>(rt: &HostRuntime, path: &str, start: S) -> Result<(), Stop> {
+fn init_file<S: Start>(rt: &HostRuntime, path: &str, start: S) -> Result<(), Stop>
+    ensures { IfErr result StopsNew }
+{
     let conn = open_new(rt, path, start)?;
     close_files(make_package(rt.alloc(), conn)?)
 }
@@ -34,35 +40,26 @@ fn run_file<S: Start, R: Read, W: Write>(
     output: &mut Io<W>,
     at: Moment,
 ) -> Result<u8, Stop>
-    ensures status { IfOk result (λ status. status ≤ 4) }
+    ensures status { IfOk result (λ status. status ≤ 3) }
     ensures working { IfOk result (λ status. (status ≡ 3) ⊎ (has_failed output.new ≡ has_failed output.old)) }
     ensures unused { IfErr result (λ why. has_failed output.new ≡ has_failed output.old) }
+    ensures stopped { IfErr result (λ why. (output.new ≡ output.old) ⊎ (stop_status why ≡ 3)) }
 {
-    let conn = match open_old(rt, path, start) {
-        Ok(conn) => conn,
-        Err(why) => return Err(why),
-    };
-    let (conn, status) = match run_package(rt.alloc(), conn, input, output, at) {
-        Ok(ran) => ran,
-        Err(why) => return Err(why),
-    };
-    let closed = close_files(conn);
-    if status == FAULT {
-        return Ok(status);
-    }
-    match closed {
-        Ok(()) => Ok(status),
-        Err(why) => Err(why),
-    }
+    let conn = open_old(rt, path, start)?;
+    let (conn, status) = run_package(rt.alloc(), conn, input, output, at)?;
+    close_after(conn, status, status == FAULT)
 }
 
+/// The subcommand `init`.
 fn init_told<W: Write>(rt: &HostRuntime, path: &str, output: &mut Io<W>) -> u8
+    ensures told { TellsInit (W.contents (inside output.old)) (W.contents (inside output.new)) (has_failed output.old) (has_failed output.new) result }
     ensures status { result ≤ 4 }
     ensures unprinted { TellsFailure (has_failed output.old) (has_failed output.new) result }
 {
     tell_init(output, init_file(rt, path, Wary))
 }
 
+/// The subcommand `run`.
 fn run_told<R: Read, W: Write>(
     rt: &HostRuntime,
     path: &str,
@@ -70,6 +67,7 @@ fn run_told<R: Read, W: Write>(
     input: &mut Io<R>,
     output: &mut Io<W>,
 ) -> u8
+    ensures declined { TellsDecline (W.contents (inside output.old)) (W.contents (inside output.new)) (has_failed output.old) (has_failed output.new) result }
     ensures status { result ≤ 4 }
     ensures unprinted { TellsFailure (has_failed output.old) (has_failed output.new) result }
 {
@@ -86,6 +84,7 @@ fn run_told<R: Read, W: Write>(
 
 /// Prints what the reader of the words answered in place of a request: help, or what is wrong with them.
 fn tell_words<W: Write>(output: &mut Io<W>, error: clap::Error) -> u8
+    ensures told { TellsStatus (arguments.status_of (kind_of error)) (W.contents (inside output.old)) (W.contents (inside output.new)) (has_failed output.old) (has_failed output.new) result }
     ensures status { result ≤ 4 }
     ensures unprinted { TellsFailure (has_failed output.old) (has_failed output.new) result }
 {
@@ -103,6 +102,7 @@ pub fn program<R: Read, W: Write>(
     input: &mut Io<R>,
     output: &mut Io<W>,
 ) -> u8
+    ensures told { TellsWords (map (λ word. word.now) words.entry.now) (W.contents (inside output.old)) (W.contents (inside output.new)) (has_failed output.old) (has_failed output.new) result }
     ensures status { result ≤ 4 }
     ensures unprinted { TellsFailure (has_failed output.old) (has_failed output.new) result }
 {

@@ -3,3 +3,5 @@ pub mod Told
 pub mod Looked
 pub mod Pages
 pub mod Kits
+pub mod Declined
+pub mod Stops

@@ -46,7 +46,7 @@ pub fn import_package<S: Alter + Drop, F: Folder>(
             let import = import_kit(alloc, &mut session, name, folder, at);
             Ok((session.close(), import))
         }
-        Err(why) => Err(why),
+        Err((_, why)) => Err(why),
     }
 }
 

@@ -4,6 +4,7 @@ ghost use Rattle.std.specs.Prelude.{◌≡◌, ◌⊎◌, false, IfOk, IfErr, On
 ghost use Rattle.sqlite.specs.Held.{state};
 ghost use Rattle.mm_base.specs.Streams.{has_failed, inside};
 ghost use Rattle.mm_core.specs.Adopted.{IsAdopted};
+ghost use Rattle.mm_work.specs.Declined.{IsDeclined};
 ghost use Rattle.mm_work.specs.Told.{IsTold, stop_status};
 ghost use Rattle.mm_work.specs.Looked.{IsListing, check_status, check_text};
 
@@ -19,13 +20,14 @@ use std::io::Write;
 pub fn check_package<S: Alter + Drop>(
     alloc: Global,
     conn: Connection<S>,
-) -> Result<Connection<S>, Stop>
+) -> Result<Connection<S>, (Connection<S>, Stop)>
     requires { conn.in_transaction ≡ false }
-    ensures { IfOk result (λ checked. IsAdopted (state S.Store conn) (state S.Store checked)) }
+    ensures checked { IfOk result (λ checked. IsAdopted (state S.Store conn) (state S.Store checked)) }
+    ensures declined { IfErr result (λ e. IsDeclined (state S.Store conn) (state S.Store e.0) e.1) }
 {
     match adopt_package(alloc, conn) {
         Ok(session) => Ok(session.close()),
-        Err(why) => Err(why),
+        Err(e) => Err(e),
     }
 }
 
@@ -38,7 +40,7 @@ pub fn list_package<S: Alter + Drop, W: Write>(
     requires { conn.in_transaction ≡ false }
     ensures working { OnOk result (has_failed output.new ≡ has_failed output.old) }
     ensures listed { IfOk result (λ end. IsListing (state S.Store conn) (state S.Store end) (W.contents (inside output.old)) (W.contents (inside output.new))) }
-    ensures stopped { IfErr result (λ why. (has_failed output.new ≡ has_failed output.old) ⊎ (stop_status why ≡ 3)) }
+    ensures stopped { IfErr result (λ why. (output.new ≡ output.old) ⊎ (stop_status why ≡ 3)) }
 {
     match adopt_package(alloc, conn) {
         Ok(session) => {
@@ -48,7 +50,7 @@ pub fn list_package<S: Alter + Drop, W: Write>(
                 Err(fault) => Err(Stop::Fault(fault)),
             }
         }
-        Err(why) => Err(why),
+        Err((_, why)) => Err(why),
     }
 }
 

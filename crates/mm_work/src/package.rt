@@ -11,7 +11,10 @@ ghost use Rattle.mm_core.specs.Adopted.{IsAdopted};
 ghost use Rattle.mm_core.specs.Parts.{held};
 ghost use Rattle.mm_core.specs.Parts as sessions;
 ghost use Rattle.mm_core.specs.Sessions.{IsCreated};
+ghost use Rattle.mm_work.specs.Declined.{IsDeclined};
+ghost use Rattle.mm_work.specs.Declined as declined;
 ghost use Rattle.mm_work.specs.Ran.{IsRun};
+ghost use Rattle.mm_work.specs.Stops.{StopsMaking};
 
 use crate::stop::Stop;
 use crate::tell::{DONE, FAULT, REFUSED};
@@ -29,7 +32,8 @@ pub fn make_package<S: Alter + Drop>(
     conn: Connection<S>,
 ) -> Result<Connection<S>, Stop>
     requires { conn.in_transaction ≡ false }
-    ensures { IfOk result (λ made. IsCreated (state S.Store conn) (state S.Store made)) }
+    ensures made { IfOk result (λ made. IsCreated (state S.Store conn) (state S.Store made)) }
+    ensures stopped { IfErr result StopsMaking }
 {
     match Session::create(alloc, conn) {
         Ok(session) => Ok(session.close()),
@@ -37,22 +41,32 @@ pub fn make_package<S: Alter + Drop>(
     }
 }
 
-/// A session on a package that is there and meets all rules.
+/// Why a connection is not adopted, as it is told.
+fn stop_of(cause: Open) -> Stop
+    ensures { result ≡ declined.stop_of cause }
+{
+    match cause {
+        Open::Version(_) => Stop::NotPackage(93),
+        Open::NoProfile => Stop::NotPackage(94),
+        Open::BadProfile => Stop::NotPackage(95),
+        Open::Rule(rule) => Stop::Rule(rule),
+        Open::Fault(fault) => Stop::Fault(fault),
+    }
+}
+
+/// A session on a package that is there and meets all rules. Else the connection is handed back, with why it is not adopted.
 pub fn adopt_package<S: Alter + Drop>(
     alloc: Global,
     conn: Connection<S>,
-) -> Result<Session<S>, Stop>
+) -> Result<Session<S>, (Connection<S>, Stop)>
     requires { conn.in_transaction ≡ false }
     ensures working { IfOk result (λ session. sessions.has_failed session ≡ false) }
     ensures adopted { IfOk result (λ session. IsAdopted (state S.Store conn) (state S.Store (held session))) }
+    ensures declined { IfErr result (λ e. IsDeclined (state S.Store conn) (state S.Store e.0) e.1) }
 {
     match Session::adopt(alloc, conn) {
         Ok(session) => Ok(session),
-        Err((_, Open::Version(_))) => Err(Stop::NotPackage(93)),
-        Err((_, Open::NoProfile)) => Err(Stop::NotPackage(94)),
-        Err((_, Open::BadProfile)) => Err(Stop::NotPackage(95)),
-        Err((_, Open::Rule(rule))) => Err(Stop::Rule(rule)),
-        Err((_, Open::Fault(fault))) => Err(Stop::Fault(fault)),
+        Err((conn, cause)) => Err((conn, stop_of(cause))),
     }
 }
 
@@ -90,7 +104,7 @@ pub fn run_package<S: Alter + Drop, R: Read, W: Write>(
     ensures working { IfOk result (λ ran. (ran.1 ≡ 3) ⊎ (has_failed output.new ≡ has_failed output.old)) }
     ensures ran { IfOk result (λ ran. OnRun (HasCleanDisk (state S.Store ran.0)) (λ p. IsSettled millimetres (state S.Store conn) p) (R.remaining (inside input.old))
         (λ p bytes. IsRun p at bytes (state S.Store ran.0) (W.contents (inside output.old)) (W.contents (inside output.new)) ran.1)) }
-    ensures unused { IfErr result (λ why. has_failed output.new ≡ has_failed output.old) }
+    ensures unused { IfErr result (λ why. output.new ≡ output.old) }
 {
     match adopt_package(alloc, conn) {
         Ok(session) => {
@@ -98,6 +112,6 @@ pub fn run_package<S: Alter + Drop, R: Read, W: Write>(
             let status = run_session(&mut session, input, output, at);
             Ok((session.close(), status))
         }
-        Err(why) => Err(why),
+        Err((_, why)) => Err(why),
     }
 }

@@ -1,0 +1,50 @@
+"""What the benches share: the words of their command lines, the packages that they make, and commands timed one by one."""
+
+import argparse
+import pathlib
+import subprocess
+import time
+
+PROGRAM = pathlib.Path(__file__).resolve().parent.parent / "out" / "mmpkg"
+
+
+def words_of(bench, **numbers):
+    """The words of a bench, whose documentation is its help: the program, the folder, and numbers, each by its default and what it counts."""
+    words = argparse.ArgumentParser(description=bench, formatter_class=argparse.RawDescriptionHelpFormatter)
+    words.add_argument("--program", default=str(PROGRAM), help="the program (default: out/mmpkg)")
+    words.add_argument("--folder", help="where the files are made (default: the system's folder for such)")
+    for name, (default, what) in numbers.items():
+        words.add_argument(f"--{name}", type=int, default=default, help=f"{what} (default: {default})")
+    return words.parse_args()
+
+
+def layout(side):
+    """The records of a pyramid with one matrix, of so many tiles each way."""
+    edge = side * 256 * 1000
+    return f"""srs,25832,ETRS89 / UTM zone 32N,EPSG,25832,projected metres,
+pyramid,base,Base map,25832,0,0,{edge},{edge},two
+matrix,base,0,{side},{side},256,256,1000,1000
+"""
+
+
+def make_package(program, file, records=""):
+    """Makes a package in a new file, with these records in it."""
+    subprocess.run([program, "init", file], check=True, stdout=subprocess.DEVNULL)
+    if records:
+        subprocess.run([program, "run", file, "--at", "0"], input=records.encode(), check=True, stdout=subprocess.DEVNULL)
+
+
+def times_by_kind(program, file, records):
+    """The seconds of each record under its kind. Each is sent when the last has been answered, and has to be accepted."""
+    times = {}
+    with subprocess.Popen([program, "run", file, "--at", "0"], stdin=subprocess.PIPE, stdout=subprocess.PIPE) as run:
+        for record, kind in records:
+            begin = time.perf_counter()
+            run.stdin.write(record.encode() + b"\n")
+            run.stdin.flush()
+            answer = run.stdout.readline()
+            times.setdefault(kind, []).append(time.perf_counter() - begin)
+            if not answer.endswith(b" ok\n"):
+                raise SystemExit(f"{record}: {answer.decode()}")
+        run.stdin.close()
+    return times

@@ -1,0 +1,32 @@
+-- Why a file is not opened.
+use Rattle.std.specs.Prelude.{◌≡◌, ◌≤◌, ◌⊎◌, ⊤, ℕ, length}
+use Rattle.mm_base.specs.declared.answers.Fault.{Fault}
+use Rattle.mm_kit.specs.declared.folders.Found.{Found}
+use Rattle.mm_kit.specs.declared.folders.Found.TheVariants as found
+use Rattle.mm_work.specs.declared.stop.Stop.{Stop}
+use Rattle.mm_work.specs.declared.stop.Stop.TheVariants as stops
+
+-- 90 want of memory, 91 the store, 96 the system
+abbrev pub IsFileFault : Fault → Type 0
+IsFileFault fault = (fault.0 ≡ 90) ⊎ (fault.0 ≡ 91) ⊎ (fault.0 ≡ 96)
+
+-- of any file
+abbrev pub StopsAny : Stop → Type 0
+StopsAny (stops.Fault fault) = IsFileFault fault
+StopsAny why = ⊥
+
+-- of one that is to be made
+abbrev pub StopsNew : Stop → Type 0
+StopsNew stops.NotEmpty = ⊤
+StopsNew why = StopsAny why
+
+-- of one that is there
+abbrev pub StopsOld : Stop → Type 0
+StopsOld (stops.NotPackage number) = number ≡ 94
+StopsOld why = StopsAny why
+
+-- no more bytes of a file than were asked for
+abbrev pub IsFew : ℕ → Found → Type 0
+IsFew most (found.Bytes bytes) = length bytes.items ≤ most
+IsFew most found.TooLong = ⊤
+IsFew most found.Missing = ⊤

@@ -1,0 +1,4 @@
+pub mod Clock
+pub mod Files
+pub mod Told
+pub mod Served

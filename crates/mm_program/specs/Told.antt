@@ -1,0 +1,76 @@
+-- What a subcommand prints, and the exit status that goes with it.
+use Rattle.std.specs.Prelude.{◌≡◌, ◌⊎◌, ⊤, ℕ, List, Option, None, Some, Bool, Result, Ok, Err, IfErr, codes}
+use Rattle.mm_base.specs.Bounds.{IsName}
+use Rattle.mm_base.specs.Keys.{Text}
+use Rattle.mm_base.specs.declared.answers.KitFault.{KitFault}
+use Rattle.mm_base.specs.declared.answers.Staged.{Staged}
+use Rattle.mm_work.specs.Kits.{kit_status, kit_text}
+use Rattle.mm_work.specs.Looked.{check_status, check_text}
+use Rattle.mm_work.specs.Told.{IsTold, init_status, init_text, stop_status, stop_text}
+use Rattle.mm_work.specs.declared.stop.Stop.{Stop}
+use Rattle.mm_work.specs.declared.stop.Stop.TheVariants as stops
+use Rattle.clap.specs.Words.{HasKind, fault_of, kind_of}
+use Rattle.clap.specs.declared.error.Error.{Error}
+use Rattle.mm_arguments.specs.CommandLine.{command_line}
+use Rattle.mm_arguments.specs.Requests.{Asks, status_of}
+use Rattle.mm_arguments.specs.declared.requests.Request.{Request}
+use Rattle.mm_arguments.specs.declared.requests.Request.TheVariants as asked
+use Rattle.mm_program.specs.Files.{StopsNew}
+use Rattle.mm_program.specs.Served.{TellsServe}
+
+-- the check of a file never tells that it is not empty
+abbrev pub StopsCheck : Stop → Type 0
+StopsCheck stops.NotEmpty = ⊥
+StopsCheck (stops.NotPackage number) = (number ≡ 93) ⊎ (number ≡ 94) ⊎ (number ≡ 95)
+StopsCheck (stops.Rule rule) = ⊤
+StopsCheck (stops.Fault fault) = ⊤
+
+-- by what the writer held and then holds, whether it had failed and then has, and the exit status
+module _ (old new : Option (List ℕ)) (before failed : Bool) (result : ℕ) where
+  -- `init` tells one of its outcomes and nothing else
+  abbrev pub TellsInit : Type 0
+  TellsInit = (outcome : Result (Unit {0}) Stop) × IfErr outcome StopsNew × IsTold old new before failed (init_text outcome) (init_status outcome) result
+
+  -- so does `check`
+  abbrev pub TellsCheck : Type 0
+  TellsCheck = (outcome : Result (Unit {0}) Stop) × IfErr outcome StopsCheck × IsTold old new before failed (check_text outcome) (check_status outcome) result
+
+  -- Status 4 goes with why the file is no package, and with nothing else.
+  abbrev pub TellsDecline : Type 0
+  TellsDecline = result ≡ 4 → (why : Stop) × IsTold old new before failed (stop_text why) 4 result
+
+-- what an import came to, or why none was begun
+abbrev pub import_text : Result (Result Staged KitFault) Stop → List ℕ
+import_text (Ok import) = kit_text import
+import_text (Err why) = stop_text why
+
+abbrev pub import_status : Result (Result Staged KitFault) Stop → ℕ
+import_status (Ok import) = kit_status import
+import_status (Err why) = stop_status why
+
+-- `kit` refuses an edition that is no name, and a moment of the clock outside the limits; else it tells what the import came to.
+abbrev pub TellsKit : Text → Option ℕ → Option (List ℕ) → Option (List ℕ) → Bool → Bool → ℕ → Type 0
+TellsKit edition at old new before failed result =
+    (¬ (IsName edition) × IsTold old new before failed (codes "kit refused 0 12\n") 1 result)
+    ⊎ (IsName edition × (at ≡ None) × IsTold old new before failed (codes "refused 11\n") 1 result)
+    ⊎ (IsName edition × (outcome : Result (Result Staged KitFault) Stop) × IsTold old new before failed (import_text outcome) (import_status outcome) result)
+
+-- what is told of what was asked for
+abbrev pub TellsRequest : Request → Option (List ℕ) → Option (List ℕ) → Bool → Bool → ℕ → Type 0
+TellsRequest (asked.Init file) old new before failed result = TellsInit old new before failed result
+TellsRequest (asked.Run file at) old new before failed result = TellsDecline old new before failed result
+TellsRequest (asked.Kit file edition folder at) old new before failed result = TellsKit edition.now at old new before failed result
+TellsRequest (asked.Check file) old new before failed result = TellsCheck old new before failed result
+TellsRequest (asked.List file) old new before failed result = TellsDecline old new before failed result
+TellsRequest (asked.Serve file port count) old new before failed result = TellsServe port count old new before failed result
+
+-- Want of memory is a fault. Help and usage are printed as `clap` has them, with their status, or with 3 where the writer failed.
+abbrev pub TellsStatus : Option ℕ → Option (List ℕ) → Option (List ℕ) → Bool → Bool → ℕ → Type 0
+TellsStatus None old new before failed result = IsTold old new before failed (stop_text (stops.Fault (record { 0 = 90 }))) 3 result
+TellsStatus (Some status) old new before failed result = (result ≡ status) ⊎ (result ≡ 3)
+
+-- What the words ask for is told; or what is wrong with them, or that memory is wanted to read them.
+abbrev pub TellsWords : List Text → Option (List ℕ) → Option (List ℕ) → Bool → Bool → ℕ → Type 0
+TellsWords words old new before failed result =
+    ((request : Request) × Asks words request × TellsRequest request old new before failed result)
+    ⊎ ((error : Error) × HasKind (fault_of command_line words) error × TellsStatus (status_of (kind_of error)) old new before failed result)

@@ -1,20 +1,19 @@
 -- A connection that is looked at and then checked is settled as it was before.
-use Rattle.std.proofs.Common.{inl, inr, true, false, Some, None, Ok, Err, refl, sym, subst, ◌∙◌, arith}
+use Rattle.std.proofs.Common.{inl, inr, Some, None, Ok, Err, refl, sym, subst, ◌∙◌, arith}
 use Rattle.sqlite.specs.State.{State, HasCleanDisk}
-use Rattle.sqlite.specs.declared.error.Error.{Error}
 use Rattle.mm_base.specs.Bounds.{millimetres}
 use Rattle.mm_base.specs.Package.{Package}
 use Rattle.mm_base.specs.declared.answers.Fault.{Fault}
 use Rattle.mm_base.specs.declared.answers.Open.{Open}
 use Rattle.mm_base.specs.declared.answers.Open.TheVariants as opens
-use Rattle.mm_store.specs.Faults.{IsStoreFault, memory, store, wants_memory, told_as}
 use Rattle.mm_store.specs.Stands.{ReadsAs, IsSettled}
+use Rattle.mm_store.proofs.Asking.{told_fault}
 use Rattle.mm_store.proofs.Shapes.{quiet_then}
 use Rattle.mm_meta.specs.Look.{Answers, IsLooked, Agrees}
 use Rattle.mm_meta.proofs.Looking.{shows_profile}
 use Rattle.mm_check.specs.Verdict.{IsVerified}
 use Rattle.mm_core.specs.Adopted.{IsAdopted, Declines, TellsProfile, IsNotAdopted}
-use Rattle.std.specs.Prelude.{ℕ, pos, if◌then◌else◌}
+use Rattle.std.specs.Prelude.{ℕ, pos}
 
 looked_settled : (old new : State) (p : Package) → IsLooked old new (Ok tt) → HasCleanDisk new → IsSettled millimetres old p → IsSettled millimetres new p
 looked_settled old new p looked clean settled = kept (looked.answers clean)
@@ -30,9 +29,6 @@ looked_settled old new p looked clean settled = kept (looked.answers clean)
 
 -- ---- the profile's row stopped it
 
-is_store_fault : (e : Error) → IsStoreFault (told_as e)
-is_store_fault e = elim (wants_memory e) as (λ b. IsStoreFault (if b then memory else store)) [ true ↦ inl refl | false ↦ inr refl ]
-
 profile_told : (old new : State) (why : Open) → Answers old new (Err why) → TellsProfile old new why
 profile_told old new (opens.Version version) it = it
 profile_told old new opens.NoProfile it = it
@@ -40,7 +36,7 @@ profile_told old new opens.BadProfile it = it
 profile_told old new (opens.Rule rule) (inl it) = absurd it.3
 profile_told old new (opens.Rule rule) (inr it) = absurd it.2
 profile_told old new (opens.Fault fault) (inl it) = inl it.3
-profile_told old new (opens.Fault fault) (inr it) = subst IsStoreFault (sym it.2.1) (is_store_fault it.0)
+profile_told old new (opens.Fault fault) (inr it) = told_fault it.0 fault it.2.1
 
 declined : (p : Package) (why : Open) → Agrees (pos 1) (Err why) → Declines p why
 declined p (opens.Version version) it = absurd (it.1 refl)

@@ -168,129 +168,88 @@ fn goes_on_after_a_stop_and_stages_nothing_twice(rt: HostRuntime) {
     assert!(&rt; answer == refused(0, 55));
 }
 
+/// Whether the import of these files gives this answer, and so many pieces then stand.
+fn gives(
+    alloc: Global,
+    session: &mut Session<MemStore>,
+    files: Files,
+    wanted: Result<Staged, KitFault>,
+    pieces: u32,
+) -> bool {
+    let Some(name) = Name::read("k") else {
+        return false;
+    };
+    let Some(at) = Moment::new(0) else {
+        return false;
+    };
+    let mut files = files;
+    let answer = import_kit(alloc, session, &name, &mut files, at);
+    answer == wanted && session.edition(&name) == Ok(Some(EditionState::Open(pieces)))
+}
+
+// Lists with the name of a file out of form, each with the place of its record.
 #[test]
-fn answers_each_list(rt: HostRuntime) {
+fn refuses_names_of_files(rt: HostRuntime) {
     let alloc = rt.alloc();
     let at = Moment::new(0).expect(&rt, "a moment");
-    let name = Name::read("k").expect(&rt, "a name");
     let mut session = session_of(alloc, at).expect(&rt, "a session");
-    // A list, the bytes of `b.bin`, which read fails, the answer, and how many pieces then stand.
-    let cases: [(
-        &'static [u8],
-        Option<&'static [u8]>,
-        u32,
-        Result<Staged, KitFault>,
-        u32,
-    ); 20] = [
-        (b"", Some(b"\x02"), 0, Ok(Staged::Complete(0)), 0),
-        (
-            b"2,tile,base,1,0,0,a.bin\n2,tile,base,1,1,0,b.bin\n",
-            Some(b"\x02"),
-            0,
-            refused(1, 56),
-            0,
-        ),
-        (
-            b"1,tile,base,1,0,0,../a.bin\n",
-            Some(b"\x02"),
-            0,
-            refused(1, 57),
-            0,
-        ),
-        (
-            b"1,row,spots,8,Gate,,0\n2,tile,base,1,1,0,..\n",
-            Some(b"\x02"),
-            0,
-            refused(2, 57),
-            0,
-        ),
-        (
-            b"1,row,spots,8,Gate,,0\n2,tile,base,1,1,0,/etc/x\n",
-            Some(b"\x02"),
-            0,
-            refused(2, 57),
-            0,
-        ),
-        (
-            b"1,row,spots,8,Gate,,0\n2,tile,base,1,1,0,a/b\n",
-            Some(b"\x02"),
-            0,
-            refused(2, 57),
-            0,
-        ),
-        (
-            b"1,row,spots,8,Gate,,0\n2,tile,base,1,1,0,.a\n",
-            Some(b"\x02"),
-            0,
-            refused(2, 57),
-            0,
-        ),
-        (
-            b"1,row,spots,8,Gate,,0\n2,tile,base,1,1,0,\n",
-            Some(b"\x02"),
-            0,
-            refused(2, 57),
-            0,
-        ),
+    let lists: [(&'static [u8], u32); 7] = [
+        (b"1,tile,base,1,0,0,../a.bin\n", 1),
+        (b"1,row,spots,8,Gate,,0\n2,tile,base,1,1,0,..\n", 2),
+        (b"1,row,spots,8,Gate,,0\n2,tile,base,1,1,0,/etc/x\n", 2),
+        (b"1,row,spots,8,Gate,,0\n2,tile,base,1,1,0,a/b\n", 2),
+        (b"1,row,spots,8,Gate,,0\n2,tile,base,1,1,0,.a\n", 2),
+        (b"1,row,spots,8,Gate,,0\n2,tile,base,1,1,0,\n", 2),
         (
             b"1,row,spots,8,Gate,,0\n2,tile,base,1,1,0,aaaaaaaaaaaaaaaaaaaaaaaaaaaaaaaaaaaaaaaaaaaaaaaaaaaaaaaaaaaaaaaaaaaaaaaaaaaaaaaaaaaaaaaaaaaaaaaaaaaaa\n",
-            Some(b"\x02"),
-            0,
-            refused(2, 57),
-            0,
-        ),
-        (
-            b"1,row,spots,8,Gate,,0\n02,tile,base,1,1,0,a.bin\n",
-            Some(b"\x02"),
-            0,
-            refused(2, 10),
-            0,
-        ),
-        (
-            b"1,row,spots,8,Gate,,0\n0,tile,base,1,1,0,a.bin\n",
-            Some(b"\x02"),
-            0,
-            refused(2, 11),
-            0,
-        ),
-        (
-            b"1,row,Spots,8,Gate,,0\n",
-            Some(b"\x02"),
-            0,
-            refused(1, 12),
-            0,
-        ),
-        (
-            b"1,row,spots,8,\xff\xfe,,0\n",
-            Some(b"\x02"),
-            0,
-            refused(1, 10),
-            0,
-        ),
-        (b"1,drop,spots\n", Some(b"\x02"), 0, refused(1, 10), 0),
-        (LIST, Some(b"\x02"), 1, stopped(96, 0), 0),
-        (LIST, None, 0, refused(2, 57), 1),
-        (LIST, Some(b""), 0, refused(2, 11), 1),
-        (LIST, Some(b"\x02"), 3, stopped(96, 1), 1),
-        (b"", Some(b"\x02"), 0, refused(1, 52), 1),
-        (
-            b"1,tile,base,1,0,0,a.bin\n2,tile,base,1,0,0,a..b\n",
-            Some(b"\x02"),
-            0,
-            Ok(Staged::Complete(2)),
             2,
         ),
     ];
-    for (list, second, failing, wanted, pieces) in cases {
-        let answer = import_kit(
-            alloc,
-            &mut session,
-            &name,
-            &mut folder(list, second, failing),
-            at,
-        );
-        assert!(&rt; answer == wanted);
-        assert!(&rt; session.edition(&name) == Ok(Some(EditionState::Open(pieces))));
+    for (list, place) in lists {
+        let files = folder(list, Some(b"\x02"), 0);
+        assert!(&rt; gives(alloc, &mut session, files, refused(place, 57), 0));
+    }
+}
+
+// Lists with another record out of form, each with its place and the number that it is refused by.
+#[test]
+fn refuses_records(rt: HostRuntime) {
+    let alloc = rt.alloc();
+    let at = Moment::new(0).expect(&rt, "a moment");
+    let mut session = session_of(alloc, at).expect(&rt, "a session");
+    let lists: [(&'static [u8], u32, u8); 6] = [
+        (b"2,tile,base,1,0,0,a.bin\n2,tile,base,1,1,0,b.bin\n", 1, 56),
+        (b"1,row,spots,8,Gate,,0\n02,tile,base,1,1,0,a.bin\n", 2, 10),
+        (b"1,row,spots,8,Gate,,0\n0,tile,base,1,1,0,a.bin\n", 2, 11),
+        (b"1,row,Spots,8,Gate,,0\n", 1, 12),
+        (b"1,row,spots,8,\xff\xfe,,0\n", 1, 10),
+        (b"1,drop,spots\n", 1, 10),
+    ];
+    for (list, place, number) in lists {
+        let files = folder(list, Some(b"\x02"), 0);
+        assert!(&rt; gives(alloc, &mut session, files, refused(place, number), 0));
+    }
+}
+
+// A list, the bytes of `b.bin`, which read fails, the answer, and how many pieces then stand.
+#[test]
+fn answers_by_the_files(rt: HostRuntime) {
+    let alloc = rt.alloc();
+    let at = Moment::new(0).expect(&rt, "a moment");
+    let mut session = session_of(alloc, at).expect(&rt, "a session");
+    let second: Option<&'static [u8]> = Some(b"\x02");
+    let two: &'static [u8] = b"1,tile,base,1,0,0,a.bin\n2,tile,base,1,0,0,a..b\n";
+    let cases: [(Files, Result<Staged, KitFault>, u32); 7] = [
+        (folder(b"", second, 0), Ok(Staged::Complete(0)), 0),
+        (folder(LIST, second, 1), stopped(96, 0), 0),
+        (folder(LIST, None, 0), refused(2, 57), 1),
+        (folder(LIST, Some(b""), 0), refused(2, 11), 1),
+        (folder(LIST, second, 3), stopped(96, 1), 1),
+        (folder(b"", second, 0), refused(1, 52), 1),
+        (folder(two, second, 0), Ok(Staged::Complete(2)), 2),
+    ];
+    for (files, wanted, pieces) in cases {
+        assert!(&rt; gives(alloc, &mut session, files, wanted, pieces));
     }
 }
 

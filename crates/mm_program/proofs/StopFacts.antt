@@ -1,5 +1,5 @@
 -- Which stops end which work, and what is so of work whose files were then closed.
-use Rattle.std.proofs.Common.{◌≡◌, ◌≢◌, ◌⊎◌, ◌==◌, ℕ, Bool, true, false, Result, Ok, Err, IfOk, IfErr, OnErr, refl, sym, subst, inl, inr}
+use Rattle.std.proofs.Common.{◌≡◌, ◌≢◌, ◌⊎◌, ◌==◌, ℕ, true, false, Result, Ok, Err, IfOk, IfErr, OnErr, refl, sym, subst, inl, inr}
 use Rattle.sqlite.specs.State.{State}
 use Rattle.mm_base.specs.declared.answers.Open.{Open}
 use Rattle.mm_base.specs.declared.answers.Open.TheVariants as opens

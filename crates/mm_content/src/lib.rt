@@ -15,6 +15,6 @@ mod rows;
 mod tests;
 mod tiles;
 
-pub use media::{drop_media, has_medium, put_media};
-pub use rows::{drop_row, has_row, put_row};
+pub use media::{drop_media, put_media};
+pub use rows::{drop_row, put_row};
 pub use tiles::{drop_tile, put_tile};

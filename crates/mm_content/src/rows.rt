@@ -16,21 +16,9 @@ use crate::kinds::plain_refusal;
 use crate::mapped::is_mapped;
 use mm_base::answers::{Fault, Outcome, Refusal};
 use mm_base::commands::PlainKind;
-use mm_contents::touch;
-use mm_store::statements::{exists, run};
+use mm_contents::{has_row, touch};
+use mm_store::statements::run;
 use sqlite::{Alter, Transaction, params};
-
-/// Whether a table has a row of this id.
-pub fn has_row<S: Alter>(tx: &mut Transaction<'_, S>, table: &str, id: i64) -> Result<bool, Fault>
-    ensures same_reference { tx.new.conn.ghost_name ≡ tx.old.conn.ghost_name }
-    ensures look { (profile : Profile) → IsLook profile (state S.Store tx.old.conn.now) (state S.Store tx.new.conn.now) (λ p found. found ≡ contains_key p.rows (item table.now id)) result }
-{
-    exists(
-        tx,
-        "SELECT 1 FROM mm_rows WHERE table_name = ?1 AND id = ?2",
-        params![table, id],
-    )
-}
 
 /// Puts a row at an id that is free.
 fn insert_row<S: Alter>(

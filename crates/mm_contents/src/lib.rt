@@ -5,12 +5,14 @@
 //! - `tables`: `add_table` and `drop_table`.
 //! - `pyramids`: `add_pyramid`.
 //! - `relations`: whether a relation has a name (`has_relation`) or uses a table.
+//! - `items`: `has_row` and `has_medium`.
 //! - `systems`: whether a pyramid may name a reference system.
 //! - `extensions`: the rows of `gpkg_extensions`.
 #![tactic(auto)]
 
 mod contents;
 mod extensions;
+mod items;
 mod kinds;
 mod pyramids;
 mod relations;
@@ -18,6 +20,7 @@ mod systems;
 mod tables;
 
 pub use contents::{is_taken, touch};
+pub use items::{has_medium, has_row};
 pub use kinds::kind_of;
 pub use pyramids::add_pyramid;
 pub use relations::has_relation;

@@ -4,7 +4,7 @@ use Rattle.mm_base.specs.Bounds.{IsName}
 use Rattle.mm_base.specs.Keys.{Text}
 use Rattle.mm_base.specs.declared.answers.KitFault.{KitFault}
 use Rattle.mm_base.specs.declared.answers.Staged.{Staged}
-use Rattle.mm_work.specs.Kits.{kit_status, kit_text}
+use Rattle.mm_imports.specs.Kits.{kit_status, kit_text}
 use Rattle.mm_work.specs.Looked.{check_status, check_text}
 use Rattle.mm_work.specs.Told.{IsTold, init_status, init_text, stop_status, stop_text}
 use Rattle.mm_work.specs.declared.stop.Stop.{Stop}

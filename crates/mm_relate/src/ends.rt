@@ -13,8 +13,7 @@ ghost use Rattle.mm_relate.specs.Relations as spec;
 
 use mm_base::answers::Fault;
 use mm_base::commands::Kind;
-use mm_content::{has_medium, has_row};
-use mm_contents::kind_of;
+use mm_contents::{has_medium, has_row, kind_of};
 use mm_store::faults::fault_of;
 use mm_store::statements::first;
 use sqlite::{Alter, Error, Row, Transaction, params};

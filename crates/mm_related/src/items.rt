@@ -7,7 +7,7 @@ ghost use Rattle.mm_store.specs.Shapes.{IsLook, IsRead};
 ghost use Rattle.mm_related.specs.Related.{is_item};
 
 use mm_base::answers::Fault;
-use mm_content::{has_medium, has_row};
+use mm_contents::{has_medium, has_row};
 use sqlite::{Alter, Connection, Transaction};
 
 /// Whether a table has an attribute row or a medium of this id, inside a transaction.

@@ -2,6 +2,5 @@ pub mod Ran
 pub mod Told
 pub mod Looked
 pub mod Pages
-pub mod Kits
 pub mod Declined
 pub mod Stops

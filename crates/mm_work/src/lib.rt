@@ -1,25 +1,23 @@
 //! The work of the program on a connection to a package, over any store, and what is printed of it.
 //!
 //! - `package`: making a package, and running a list of records on one.
-//! - `kits`: the import of a kit.
 //! - `looking`: what changes nothing: the whole check, and the listing.
 //! - `pages`: what is printed while the page is served.
 //! - `stop`: why the work was not done.
 //! - `tell`: what is printed, byte for byte, and the exit status that goes with it.
 #![tactic(auto)]
 
-mod kits;
 mod looking;
 mod package;
 mod pages;
 mod stop;
 mod tell;
 
-pub use kits::{Import, import_package, tell_import};
 pub use looking::{check_package, list_package, tell_check};
 pub use package::{adopt_package, make_package, run_package};
 pub use pages::{tell_page_fault, tell_serving};
 pub use stop::Stop;
 pub use tell::{
-    DONE, FAULT, NO_PACKAGE, REFUSED, USAGE, tell_bytes, tell_init, tell_stop, tell_text,
+    DONE, FAULT, NO_PACKAGE, REFUSED, USAGE, numbered_line, put, tell_bytes, tell_init, tell_stop,
+    tell_text,
 };

@@ -28,8 +28,8 @@ pub const FAULT: u8 = 3;
 /// The file is no package, or is not empty.
 pub const NO_PACKAGE: u8 = 4;
 
-// Appends bytes that have room.
-pub(crate) fn put(line: &mut ArrayVec<u8, 40>, bytes: &[u8])
+/// Appends bytes that have room.
+pub fn put(line: &mut ArrayVec<u8, 40>, bytes: &[u8])
     requires { length line.old.items + length bytes.now ≤ 40 }
     ensures bytes { line.new.items ≡ line.old.items ++ bytes.now }
     ensures size { length line.new.items ≡ length line.old.items + length bytes.now }
@@ -38,7 +38,7 @@ pub(crate) fn put(line: &mut ArrayVec<u8, 40>, bytes: &[u8])
 }
 
 /// Some words and a number on a line. It is built in place and takes no memory.
-pub(crate) fn numbered_line(words: &[u8], number: u8) -> ArrayVec<u8, 40>
+pub fn numbered_line(words: &[u8], number: u8) -> ArrayVec<u8, 40>
     requires { length words.now ≤ 19 }
     ensures { result.items ≡ words.now ++ decimal number ++ codes "\n" }
 {

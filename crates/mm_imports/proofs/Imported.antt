@@ -10,7 +10,7 @@ use Rattle.mm_core.specs.Adopted.{IsAdopted}
 use Rattle.mm_core.specs.Applied.{Stands}
 use Rattle.mm_kit.specs.Folders.{Files}
 use Rattle.mm_kit.specs.Imports.{OnKit, IsAnswered, IsStopped}
-use Rattle.mm_work.specs.Kits.{IsImport}
+use Rattle.mm_imports.specs.Kits.{IsImport}
 
 module _ (old mid new : State) (adopted : IsAdopted old mid) (early : HasCleanDisk new → HasCleanDisk mid) (told : Option Files) (name : Text) where
   pub imports : (import : Result Staged KitFault)

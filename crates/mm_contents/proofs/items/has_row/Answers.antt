@@ -8,7 +8,7 @@ use Rattle.mm_schema.proofs.Selecting as statement
 use Rattle.mm_store.proofs.Parts.{found}
 use Rattle.mm_store.proofs.Keys as parts
 use Rattle.mm_store.proofs.Steps.{looks, seen}
-use Rattle.mm_content.proofs.rows.has_row.Goals as goal
+use Rattle.mm_contents.proofs.items.has_row.Goals as goal
 
 pub returns-clause-look : goal.returns-clause-look
 returns-clause-look g c profile =

@@ -1,12 +1,13 @@
 #!/usr/bin/env bash
 # Builds the program from this clone: proves it with all that stands below it, compiles it, and puts it at out/mmpkg.
-# From nothing it proves every crate below first, which takes many minutes; with no change since, no time.
+# From nothing it proves every crate below first, side by side, with a line for each that ends; with no change since, it takes no time.
 #
 #     scripts/build.sh
 set -eu -o pipefail
 
 top=$(cd "$(dirname "$0")/.." && pwd)
 mkdir -p "$top/out"
+python3 "$top/scripts/build.py"
 if ! (cd "$top/crates/mm_cli" && rt run -- --help) >"$top/out/build.log" 2>&1; then
     tail -n 40 "$top/out/build.log" >&2
     echo "mmpkg was not built" >&2

@@ -3,12 +3,19 @@
 #
 #     scripts/example.sh [FILE]
 #
-# FILE is the package to make; without it, one in a new folder of the system's.
+# FILE is the package to make; without it, one in a new folder of the system's. Where MMPKG names a built program, that one is run and
+# nothing is built.
 set -eu -o pipefail
 
 file=$(realpath -m "${1:-$(mktemp -d)/example.gpkg}")
 cd "$(dirname "$0")/.."
-scripts/build.sh
+if [ -z "${MMPKG:-}" ]; then
+    scripts/build.sh
+    MMPKG=$PWD/out/mmpkg
+fi
+mmpkg() {
+    "$MMPKG" "$@"
+}
 
 # Prints the command, runs it, and prints its exit status.
 show() {
@@ -18,7 +25,6 @@ show() {
     echo "(status $status)"
 }
 
-PATH="$PWD/out:$PATH"
 show "mmpkg init '$file'"
 show "cat examples/systems.csv"
 show "mmpkg run '$file' < examples/systems.csv"

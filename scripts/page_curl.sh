@@ -4,11 +4,13 @@
 #
 #     scripts/build.sh
 #     scripts/page_curl.sh [PORT]
+#
+# Where MMPKG names a built program, that one is asked.
 set -eu -o pipefail
 
 port=${1:-18080}
 cd "$(dirname "$0")/.."
-program=$PWD/out/mmpkg
+program=${MMPKG:-$PWD/out/mmpkg}
 folder=$(mktemp -d)
 trap 'kill "${server:-}" 2>/dev/null || true; rm -rf "$folder"' EXIT
 

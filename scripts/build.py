@@ -1,0 +1,78 @@
+#!/usr/bin/env python3
+"""Proves and builds the libraries below a program side by side, the longest chain of crates first.
+
+    scripts/build.py [CRATE]     the libraries below crates/CRATE, if not given below the program mm_cli
+
+`rt run` builds what stands below a program crate by crate, and rt's own commands wait for one another where they share a library. So
+this calls the toolchain's own code in one process: each crate as `rt lib` builds it, in the lanes of `rt ci`, one a processor, as many
+as memory holds; a crate gets the processors that stand idle as jobs. What is built already stays as it is.
+"""
+import copy
+import os
+import sys
+import tempfile
+import threading
+import time
+
+from toolchain import is_known, load_rt
+
+PROGRAM = "mm_cli"
+
+
+class Progress:
+    """Prints a line for each crate that ends: what became of it, how many are left, and the minutes so far."""
+
+    def __init__(self, count):
+        self.left, self.began, self.printing = count, time.time(), threading.Lock()
+
+    def tell(self, crate, became, said=""):
+        with self.printing:
+            self.left -= 1
+            minutes = (time.time() - self.began) / 60
+            print(f"{said}{crate.name}: {became} ({self.left} left, {minutes:.1f} minutes so far)", flush=True)
+
+
+def build(rt, crate, jobs, progress):
+    """Builds one library as `rt lib` does, and returns whether it is proved."""
+    crate = copy.copy(crate)
+    if crate.is_built():
+        progress.tell(crate, "stands as it was built")
+        return True
+    with tempfile.TemporaryFile("w+", errors="replace") as crate.out:
+        os.makedirs(f"{crate.folder}/out", exist_ok=True)
+        status = crate.build_rlib(["--jobs", str(jobs)], anew=False)
+        crate.out.seek(0)
+        said = "".join(crate.out.readlines()[-40:]) if status else ""
+    progress.tell(crate, "NOT PROVED" if status else "proved", said)
+    return not status
+
+
+def main(words):
+    if not is_known():
+        print("build: this kit's rt is not the one that this was written for: the crates are built one by one", flush=True)
+        return 0
+    rt = load_rt()
+    rt.rtlib.guarded()
+    root = os.path.dirname(os.path.dirname(os.path.abspath(__file__)))
+    top = rt.rtlib.Crate(f"{root}/crates/{words[0] if words else PROGRAM}", root, {})
+    crates = top.below()
+    held = rt.rtlib.lock(crates)
+    progress = Progress(len(crates))
+
+    def built(crate, given, jobs):
+        stands = all(given[below.name, "proof"] for below in crate.below())
+        return stands and build(rt, crate, jobs, progress)
+
+    tasks = {}
+    for crate in crates:
+        waits = [(below.name, "proof") for below in crate.below()]
+        call = lambda given, jobs, crate=crate: built(crate, given, jobs)
+        tasks[crate.name, "proof"] = (waits, crate.count(rb"\n"), rt.need(crate), call)
+    given = rt.in_lanes(tasks)
+    for it in held:
+        os.close(it)
+    return 0 if all(given.values()) else 1
+
+
+if __name__ == "__main__":
+    sys.exit(main(sys.argv[1:]))

@@ -1,0 +1,215 @@
+"""Must-fail edits, tried many to a check (for scripts/gate.py).
+
+An edit is a wrong body that the check must refuse. `rt ci` tries each in a check of its own, and loads the libraries each time. A
+function's proof rests on the contracts of what it calls and never on their bodies. So edits of different functions stand here in one
+copy of the crate, and each counts as refused only where its own function has a goal of its own unproved, and not for a callee that is
+not proved. What a check leaves open goes into the next. An edit that is left alone, or touches more than bodies, is judged as rt judges
+one edit. No edit fails by a batch: what was not refused is tried again alone, from nothing. The crate must be proved without edits over
+the work that these checks kept; else each is tried again alone, from nothing.
+"""
+import os
+import re
+
+# What the check says of a function that is refused only with another: one that it calls, passes, points to or waits for.
+WITH_ANOTHER = re.compile(r"\bit (calls|passes|points|waits)\b|\bwhich (is|are) not proved\b|\bdepends on\b")
+# What stands right before a brace that opens a clause, and no body.
+OPENS_CLAUSE = re.compile(r"((requires|ensures)(\s*\*)?(\s+\w+)?|ghost(\s+\w+)?\s*:?|=|\bby)\s*\Z")
+
+
+def without_words(rtlib, text):
+    """Returns the text of a .rt file with its comments and strings blanked, at the same offsets."""
+    made = []
+    for it in re.finditer(rtlib.RUST_TOKEN, text):
+        word = it[0]
+        is_quote = word[0] == "'" and len(word) > 2 and word.endswith("'")
+        is_text = word.startswith("//") or re.match(r'[bc]?r?#*"', word) or is_quote
+        made.append(re.sub(r"[^\n]", " ", word) if is_text else word)
+    return "".join(made)
+
+
+def end_of_braces(blank, at):
+    """Returns where the braces that open at this offset are closed."""
+    deep = 0
+    for end in range(at, len(blank)):
+        deep += (blank[end] == "{") - (blank[end] == "}")
+        if not deep:
+            return end
+    return len(blank)
+
+
+def body_after(blank, begin):
+    """Returns where the body of a function begins and ends whose head begins here, or None where it has none."""
+    at, depth = begin, 0
+    while at < len(blank):
+        here = blank[at]
+        depth += (here in "([") - (here in ")]")
+        if here == ";" and not depth:
+            return None
+        if here == "{" and not depth:
+            end = end_of_braces(blank, at)
+            if not OPENS_CLAUSE.search(blank[max(begin, at - 80) : at]):
+                return at, end
+            at = end
+        at += 1
+    return None
+
+
+def bodies(rtlib, text):
+    """Yields each function's name, whether it is a const fn, and where its body begins and ends; clauses are no body."""
+    blank = without_words(rtlib, text)
+    for it in re.finditer(r"\b(const\s+)?fn\s+(\w+)", blank):
+        body = body_after(blank, it.end())
+        if body:
+            yield it[2], bool(it[1]), *body
+
+
+def pairs_of(edit):
+    """Yields the path, the old and the new text of each pair of an edit."""
+    path, old = "", None
+    with open(edit, encoding="utf-8", errors="replace") as it:
+        for line in it.read().split("\n"):
+            if line.startswith("file: "):
+                path = line[6:].strip()
+            elif line.startswith("old: "):
+                old = line[5:]
+            elif line.startswith("new:"):
+                yield path, old, re.sub(r"\A ", "", line[4:])
+
+
+def module_of(path):
+    """Returns the module of a file of src/, with what stands behind it in a function's name."""
+    inside = re.sub(r"(/mod)?\.rt\Z", "", path.removeprefix("src/")).replace("/", "::")
+    return "" if inside in ("lib", "main") else f"{inside}::"
+
+
+class Texts:
+    """The texts of a crate's files, with edits put into them."""
+
+    def __init__(self, crate):
+        self.crate, self.changed = crate, {}
+
+    def get(self, path):
+        if path in self.changed:
+            return self.changed[path]
+        with open(f"{self.crate.folder}/{path}", encoding="utf-8") as it:
+            return it.read()
+
+    def put(self, path, old, new):
+        """Returns whether the old text stands there just once, and is replaced."""
+        text = self.get(path)
+        if text.count(old) != 1:
+            return False
+        self.changed[path] = text.replace(old, new)
+        return True
+
+
+class Trial:
+    """One edit, and the functions whose bodies it changes: none where it changes anything else."""
+
+    def __init__(self, rt, crate, edit):
+        self.edit = edit
+        self.label = f"must-fail {crate.name}/{os.path.basename(edit)}"
+        self.touches = frozenset() if rt.read_edit(edit, crate.folder)[1] else self.functions(rt, crate)
+        names = [rf"{crate.name}::{re.escape(module_of(path))}(?:\S+::)?(?:{name}|fn::{name}::\S+)" for path, name in self.touches]
+        self.own = re.compile("|".join(names))
+
+    def functions(self, rt, crate):
+        """Returns the outermost functions that have all that the edit changes in their bodies, by file and name, or none."""
+        texts, touches = Texts(crate), set()
+        for path, old, new in pairs_of(self.edit):
+            text = texts.get(path)
+            at = text.index(old)
+            inside = [it for it in bodies(rt.rtlib, text) if it[2] < at and at + len(old) <= it[3]]
+            # functions in a cycle of calls have one proof, and a const fn can count in a type
+            if not path.startswith("src/") or not inside or inside[0][1] or re.search(r"#\[cycle\b", text):
+                return frozenset()
+            if is_cited(crate, path, inside[0][0]):
+                return frozenset()
+            touches.add((path, inside[0][0]))
+            texts.put(path, old, new)
+        return frozenset(touches)
+
+
+def is_cited(crate, path, name):
+    """Returns whether a proof of another function cites the proof files of this one, so that they may fail together."""
+    module = module_of(path).replace("::", ".")
+    own = f"{crate.folder}/proofs/{module.replace('.', '/')}{name}/"
+    cites = re.compile(rf"\bproofs\.{re.escape(module)}{name}\.(Goals|Answers|Invariants|Proof)\b")
+    for at, _, files in os.walk(f"{crate.folder}/proofs"):
+        for file in files:
+            if f"{at}/".startswith(own):
+                continue
+            with open(f"{at}/{file}", encoding="utf-8", errors="replace") as it:
+                if cites.search(it.read()):
+                    return True
+    return False
+
+
+def next_batch(trials):
+    """Returns the first edits of which no two change one function, and the others."""
+    taken, batch, left = set(), [], []
+    for it in trials:
+        fits = it.touches and not it.touches & taken
+        (batch if fits else left).append(it)
+        taken |= it.touches if fits else set()
+    return (batch, left) if batch else (trials[:1], trials[1:])
+
+
+def refused_alone(lines):
+    """Returns the lines of functions that are refused for a goal of their own, by the function's name."""
+    refused = {}
+    for line in lines:
+        it = re.match(r"fn (\S+): (?:not proved|no proof)(.*)", line)
+        if it and not WITH_ANOTHER.search(it[2]):
+            refused[it[1]] = line
+    return refused
+
+
+def tried_together(rt, crate, batch, flags, kept):
+    """Returns what the check said of each edit that it refused by a goal of the edit's own function, or None where it says nothing of any."""
+    texts = Texts(crate)
+    if not all(texts.put(*pair) for trial in batch for pair in pairs_of(trial.edit)):
+        return None
+    ran = rt.checked(crate, texts.changed, flags, kept)
+    lines = ran.stdout.rstrip("\n").split("\n")
+    reads = not any(rt.unread(it, texts.changed) for it in lines) and not rt.rtlib.STALE.search(ran.stdout)
+    if not reads or ran.returncode != 1 or not lines[-1].startswith("logic=not-proved"):
+        return None
+    refused = refused_alone(lines)
+    said = {it: next((line for name, line in refused.items() if it.own.fullmatch(name)), None) for it in batch}
+    return {it: line for it, line in said.items() if line}
+
+
+def tried_in_batches(rt, crate, trials, flags, kept):
+    """Returns the answer to each edit, as rt.must_fail gives it, over the work that the checks keep, and how many checks there were."""
+    answers, checks, left, stack = {}, 0, trials, []
+    while left or stack:
+        if not stack:
+            batch, left = next_batch(left)
+            stack.append(batch)
+        batch = stack.pop()
+        checks += 1
+        if len(batch) == 1:
+            answers[batch[0]] = rt.must_fail(crate, batch[0].edit, flags, kept)
+            continue
+        said = tried_together(rt, crate, batch, flags, kept)
+        for it, line in (said or {}).items():
+            answers[it] = True, f"{it.label}: refused, as it must be: {line[:160]}"
+        rest = [it for it in batch if it not in (said or {})]
+        if said:
+            left = rest + left
+        elif said is None:
+            stack += [batch[len(batch) // 2 :], batch[: len(batch) // 2]]
+        else:
+            stack += [[it] for it in rest]
+    return answers, checks
+
+
+def all_tried(rt, crate, edits, flags, kept):
+    """Returns the answers to a crate's edits in their order, as rt.must_fail_all does, and how many checks there were."""
+    trials = [Trial(rt, crate, it) for it in edits]
+    answers, checks = tried_in_batches(rt, crate, trials, flags, kept)
+    is_sound = not rt.checked(crate, {}, flags, kept).returncode
+    again = [it for it in trials if not is_sound or not answers[it][0]]
+    answers.update({it: rt.must_fail(crate, it.edit, flags) for it in again})
+    return [answers[it] for it in trials], checks + 1 + len(again)

@@ -1,0 +1,55 @@
+#!/usr/bin/env bash
+# What the built program shows from outside, by programs that share no code with this repository: the example with its output, the tables
+# of the file, the page by curl, and refused growths of memory. The last line is 'N passed, M failed'.
+#
+#     scripts/outside.sh [PROGRAM]
+#
+# PROGRAM is the built program: without it out/mmpkg, or else the one that the gate left in crates/mm_cli/out.
+set -u -o pipefail
+
+cd "$(dirname "$0")/.."
+program=${1:-out/mmpkg}
+[ -x "$program" ] || program=crates/mm_cli/out/mm_cli
+export MMPKG
+MMPKG=$(realpath "$program")
+folder=$(mktemp -d)
+trap 'rm -rf "$folder"' EXIT
+passed=0
+failed=0
+
+# Installs Debian's packages of the commands that are missing, where that can be done: COMMAND:PACKAGE ..
+want() {
+    local missing=()
+    for it in "$@"; do
+        command -v "${it%%:*}" >/dev/null || missing+=("${it#*:}")
+    done
+    [ ${#missing[@]} = 0 ] || { apt-get update && apt-get install -y "${missing[@]}"; } >"$folder/apt.log" 2>&1 || tail -n 5 "$folder/apt.log"
+}
+
+# Runs a command, and counts it by its status: NAME COMMAND ..
+try() {
+    local name=$1 began=$SECONDS
+    shift
+    if "$@" >"$folder/said" 2>&1; then
+        passed=$((passed + 1))
+        echo "outside: $name: ok ($((SECONDS - began)) s): $(tail -n 1 "$folder/said")"
+    else
+        failed=$((failed + 1))
+        cat "$folder/said"
+        echo "outside: $name: FAILED"
+    fi
+}
+
+# The example's output is what examples/expected.txt has, with the name of its file in place of the path.
+example() {
+    scripts/example.sh "$folder/example.gpkg" | sed "s|$folder/||g" >"$folder/example.txt" || return 1
+    diff examples/expected.txt "$folder/example.txt" && echo "each line as in examples/expected.txt"
+}
+
+want sqlite3:sqlite3 curl:curl xxd:xxd cc:gcc python3:python3
+try 'the example' example
+try 'the tables of its file' scripts/compare_schema.sh "$folder/example.gpkg"
+try 'the page' scripts/page_curl.sh
+try 'refused growths of memory' scripts/refuse_memory.py "$MMPKG" "${STRIDE:-97}"
+echo "$passed passed, $failed failed"
+[ "$failed" = 0 ] && [ "$passed" -gt 0 ]

@@ -1,0 +1,34 @@
+"""The toolchain's command rt as a module, for scripts/gate.py and scripts/build.py."""
+import hashlib
+import importlib.machinery
+import importlib.util
+import os
+import shutil
+import sys
+
+sys.dont_write_bytecode = True
+RT = os.path.realpath(shutil.which("rt") or "rt")
+# The sum of rt and rtlib.py of the kit that the scripts were written for.
+WRITTEN_FOR = "cfb286b97f5e9b9fb95da55dcbe60499937d0d0ee07a201bc33cd95c5f4aa1d3"
+
+
+def sum_of_rt():
+    """Returns the sum of the command rt and of its library."""
+    made = hashlib.sha256()
+    for name in (RT, f"{os.path.dirname(RT)}/rtlib.py"):
+        with open(name, "rb") as it:
+            made.update(it.read())
+    return made.hexdigest()
+
+
+def is_known():
+    """Returns whether this kit's rt is the one that the scripts were written for."""
+    return sum_of_rt() == WRITTEN_FOR
+
+
+def load_rt():
+    """Returns the command rt as a module; its library is the module's rtlib."""
+    loader = importlib.machinery.SourceFileLoader("rt_words", RT)
+    made = importlib.util.module_from_spec(importlib.util.spec_from_loader("rt_words", loader))
+    loader.exec_module(made)
+    return made

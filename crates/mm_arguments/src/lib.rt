@@ -6,6 +6,3 @@ mod commands;
 mod requests;
 
 pub use requests::{Request, read_arguments, status_of};
-
-#[cfg(test)]
-mod tests;

@@ -1,16 +1,8 @@
 //! The program on files of the tests' own.
 
-mod contents;
-mod editions;
 mod faults;
-mod files;
-mod kits;
-mod looking;
-mod pages;
 mod recovery;
-mod runs;
 mod streams;
-mod words;
 
 use mm_base::streams::Io;
 use mm_program::program;

@@ -1,9 +1,6 @@
 //! The program `mmpkg`: it makes packages, and runs lists of commands on them.
 #![tactic(auto)]
 
-#[cfg(test)]
-mod tests;
-
 use mm_base::answers::Fault;
 use mm_base::streams::Io;
 use mm_program::program;

@@ -1,0 +1,20 @@
+//! Each type of text is read once.
+
+use mm_base::bytes::TileBytes;
+use mm_base::content_types::ContentType;
+use mm_base::identifiers::Identifier;
+use mm_base::names::Name;
+use mm_base::texts::Remark;
+use std::alloc::AllocError;
+
+#[test]
+fn reads_texts(rt: HostRuntime) -> Result<(), AllocError> {
+    let alloc = rt.alloc();
+    assert!(&rt; Remark::read(alloc, "").is_ok());
+    assert!(&rt; Identifier::read(alloc, "Base map").is_ok());
+    assert!(&rt; ContentType::read(alloc, "image/png").is_ok());
+    assert!(&rt; TileBytes::read(alloc, "00").is_ok());
+    assert!(&rt; Remark::new(String::from_str(alloc, "a")?).is_some());
+    assert!(&rt; Name::read("base").is_some());
+    Ok(())
+}

@@ -1,0 +1,220 @@
+//! Worked values from outside: stamps, products and numbers at their limits. A list has a line `QUESTION: ANSWER` each.
+
+use crate::lines::{count, fields_of, number};
+use mm_base::commands::{Matrix, Step};
+use mm_base::extents::{Extent, fits};
+use mm_base::matrices::neighbours;
+use mm_base::moments::{Moment, is_stamp, stamp};
+use mm_base::numbers::read_number;
+use std::alloc::Global;
+use std::fmt::Write;
+
+fn extent(fields: &[&str]) -> Option<Extent> {
+    Some(Extent {
+        min_x: number(fields, 0)?,
+        min_y: number(fields, 1)?,
+        max_x: number(fields, 2)?,
+        max_y: number(fields, 3)?,
+    })
+}
+
+/// The matrix that the fields from the fifth on spell.
+fn matrix(fields: &[&str]) -> Option<Matrix> {
+    Some(Matrix {
+        mw: count(fields, 4)?,
+        mh: count(fields, 5)?,
+        tw: count(fields, 6)?,
+        th: count(fields, 7)?,
+        px: number(fields, 8)?,
+        py: number(fields, 9)?,
+    })
+}
+
+/// A matrix of one tile with pixels of a size.
+fn one_tile(pixel: i64) -> Matrix {
+    Matrix {
+        mw: 1,
+        mh: 1,
+        tw: 256,
+        th: 256,
+        px: pixel,
+        py: pixel,
+    }
+}
+
+/// `ZOOM/PIXEL` is a zoom of one tile, and `-` is none.
+fn zoom(text: &str) -> Option<(u8, Matrix)> {
+    let (level, pixel) = text.split_once('/')?;
+    Some((
+        level.parse::<u8>().ok()?,
+        one_tile(pixel.parse::<i64>().ok()?),
+    ))
+}
+
+fn step(text: &str) -> Option<Step> {
+    match text {
+        "two" => Some(Step::Two),
+        "other" => Some(Step::Other),
+        _ => None,
+    }
+}
+
+/// `BELOW ZOOM/PIXEL ABOVE STEP`
+fn are_neighbours(fields: &[&str]) -> Option<bool> {
+    let [below, at, above, kind] = fields else {
+        return None;
+    };
+    let (level, matrix) = zoom(at)?;
+    Some(neighbours(zoom(below), level, &matrix, zoom(above), step(kind)?))
+}
+
+/// `TEXT LEAST MOST`
+fn number_read(fields: &[&str]) -> Option<Result<i64, u8>> {
+    let text = fields.get(0)?;
+    Some(read_number(text, number(fields, 1)?, number(fields, 2)?))
+}
+
+/// The stamp of so many milliseconds, or None where they are no moment.
+fn stamp_of(alloc: Global, milliseconds: i64) -> Option<String> {
+    stamp(alloc, Moment::new(milliseconds)?).ok()
+}
+
+fn tell_stamp(alloc: Global, text: &mut String, question: &str) -> Option<()> {
+    match stamp_of(alloc, question.parse::<i64>().ok()?) {
+        Some(told) => text.push_str(told.as_str()).ok(),
+        None => text.push_str("none").ok(),
+    }
+}
+
+fn tell_number(text: &mut String, fields: &[&str]) -> Option<()> {
+    match number_read(fields)? {
+        Ok(number) => write!(text, "{number}").ok(),
+        Err(refusal) => write!(text, "refused {refusal}").ok(),
+    }
+}
+
+/// Whether what the fields say of extents, matrices or zooms holds.
+fn holds(word: &str, fields: &[&str]) -> Option<bool> {
+    match word {
+        "fits" => Some(fits(&extent(fields)?, &matrix(fields)?)),
+        "extent" => Some(Extent::new(
+            number(fields, 0)?,
+            number(fields, 1)?,
+            number(fields, 2)?,
+            number(fields, 3)?,
+        )
+        .is_some()),
+        "neighbours" => are_neighbours(fields),
+        _ => None,
+    }
+}
+
+fn tell(alloc: Global, text: &mut String, question: &str) -> Option<()> {
+    let (word, rest) = question.split_once(' ')?;
+    match word {
+        "stamp" => tell_stamp(alloc, text, rest),
+        "is_stamp" => write!(text, "{}", is_stamp(rest)).ok(),
+        "number" => tell_number(text, fields_of(alloc, rest, ' ')?.as_slice()),
+        _ => {
+            let fields = fields_of(alloc, rest, ' ')?;
+            write!(text, "{}", holds(word, fields.as_slice())?).ok()
+        }
+    }
+}
+
+/// The list with the answers that are given.
+fn told(alloc: Global, list: &str) -> Option<String> {
+    let mut text = String::new(alloc);
+    for line in list.lines() {
+        let (question, _) = line.split_once(": ")?;
+        write!(text, "{question}: ").ok()?;
+        tell(alloc, &mut text, question)?;
+        text.push_str("\n").ok()?;
+    }
+    Some(text)
+}
+
+const STAMPS: &str = "\
+stamp 0: 1970-01-01T00:00:00.000Z
+stamp 951868799999: 2000-02-29T23:59:59.999Z
+stamp 1000000000000: 2001-09-09T01:46:40.000Z
+stamp 4107542399999: 2100-02-28T23:59:59.999Z
+stamp 253402300799999: 9999-12-31T23:59:59.999Z
+stamp 253402300800000: none
+stamp -1: none
+is_stamp 1970-01-01T00:00:00.000Z: true
+is_stamp 2000-02-29T23:59:59.999Z: true
+is_stamp 2001-09-09T01:46:40.000Z: true
+is_stamp 2100-02-28T23:59:59.999Z: true
+is_stamp 9999-12-31T23:59:59.999Z: true
+is_stamp : false
+is_stamp 1970-01-01T00:00:00.000: false
+is_stamp 1970-01-01T00:00:60.000Z: false
+is_stamp 1970-01-01T24:00:00.000Z: false
+is_stamp 1970-02-29T00:00:00.000Z: false
+is_stamp 1969-12-31T23:59:59.999Z: false
+is_stamp 1970-01-01 00:00:00.000Z: false
+is_stamp 1970-1-01T00:00:00.0000Z: false
+";
+
+#[test]
+fn stamps_moments(rt: HostRuntime) {
+    let text = told(rt.alloc(), STAMPS).expect(&rt, "answers");
+    assert_eq!(&rt; text.as_str(), STAMPS);
+}
+
+/// The product of the fourth line is 2 to the power of 64 too large.
+const EXTENTS: &str = "\
+fits 500000000 5600000000 501024000 5601024000 1 1 256 256 4000 4000: true
+fits 500000000 5600000000 501024000 5601024000 2 2 256 256 1999 1999: false
+fits 500000000 5600000000 501024000 5601024000 1 1 256 256 4000 4001: false
+fits 0 0 2147483648 2147483648 1073741824 1073741824 18 18 954437177 954437177: false
+extent 0 0 10 10: true
+extent 5 0 5 10: false
+extent 0 0 10 100000000001: false
+";
+
+#[test]
+fn compares_extents(rt: HostRuntime) {
+    let text = told(rt.alloc(), EXTENTS).expect(&rt, "answers");
+    assert_eq!(&rt; text.as_str(), EXTENTS);
+}
+
+const ZOOMS: &str = "\
+neighbours - 1/2000 - two: true
+neighbours 0/4000 1/2000 - two: true
+neighbours 0/4000 1/1999 - two: false
+neighbours 0/4000 1/1999 - other: true
+neighbours 0/4000 1/4000 - other: false
+neighbours 0/4000 2/2000 - two: true
+neighbours 0/4000 1/2000 2/1000 two: true
+neighbours 0/4000 1/2000 2/2000 two: false
+neighbours - 1/2000 2/2000 other: false
+neighbours - 1/2000 3/1 two: true
+neighbours - 1/2000 2/1 two: false
+";
+
+#[test]
+fn compares_zooms(rt: HostRuntime) {
+    let text = told(rt.alloc(), ZOOMS).expect(&rt, "answers");
+    assert_eq!(&rt; text.as_str(), ZOOMS);
+}
+
+const NUMBERS: &str = "\
+number 0 0 9: 0
+number -1 -1 9: -1
+number 10 0 9: refused 11
+number -0 0 9: refused 10
+number 00 0 9: refused 10
+number +1 0 9: refused 10
+number 1.0 0 9: refused 10
+number -9223372036854775808 -9223372036854775808 9223372036854775807: -9223372036854775808
+number 9223372036854775808 -9223372036854775808 9223372036854775807: refused 11
+number -99999999999999999999999999999999 -9223372036854775808 9223372036854775807: refused 11
+";
+
+#[test]
+fn reads_numbers_of_any_length(rt: HostRuntime) {
+    let text = told(rt.alloc(), NUMBERS).expect(&rt, "answers");
+    assert_eq!(&rt; text.as_str(), NUMBERS);
+}

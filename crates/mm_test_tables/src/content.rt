@@ -1,0 +1,173 @@
+//! Tiles, attribute rows and media are put, replaced and removed, and a call loads no more than it names.
+
+use crate::commands::{LATER, answers_in_one};
+use crate::packages::BASE;
+use crate::scripts::{package, told, told_on};
+
+const TILES: &str = "\
+0 tile,base,1,1,1,aa
+34 tile,base,1,2,1,aa
+34 tile,base,1,1,2,aa
+33 tile,base,5,0,0,aa
+25 tile,none,1,0,0,aa
+26 tile,spots,1,0,0,aa
+25 tile-drop,none,1,1,1
+26 tile-drop,photos,1,1,1
+35 tile-drop,base,0,1,1
+? SELECT table_name, zoom_level, tile_column, tile_row, tile_data FROM mm_tiles
+base|1|1|1|aa|
+? SELECT table_name, last_change FROM gpkg_contents ORDER BY table_name
+base|2000-02-29T23:59:59.999Z|
+photos|1970-01-01T00:00:00.000Z|
+spots|1970-01-01T00:00:00.000Z|
+";
+
+#[test]
+fn tiles_lie_inside_their_matrix(rt: HostRuntime) {
+    let text = told_on(rt.alloc(), &[BASE], TILES, LATER).expect(&rt, "answers");
+    assert_eq!(rt; text.as_str(), TILES);
+}
+
+const REPLACED_TILES: &str = "\
+0 tile,base,1,0,1,89504e
+? SELECT zoom_level, tile_column, tile_row, tile_data FROM mm_tiles ORDER BY zoom_level
+1|0|1|89504e|
+0 tile,base,1,0,1,ffd8
+? SELECT zoom_level, tile_column, tile_row, tile_data FROM mm_tiles ORDER BY zoom_level
+1|0|1|ffd8|
+0 tile,base,0,0,0,01
+? SELECT zoom_level, tile_column, tile_row, tile_data FROM mm_tiles ORDER BY zoom_level
+0|0|0|01|
+1|0|1|ffd8|
+0 tile-drop,base,1,0,1
+? SELECT zoom_level, tile_column, tile_row, tile_data FROM mm_tiles ORDER BY zoom_level
+0|0|0|01|
+35 tile-drop,base,1,0,1
+? SELECT zoom_level, tile_column, tile_row, tile_data FROM mm_tiles ORDER BY zoom_level
+0|0|0|01|
+";
+
+#[test]
+fn a_tile_is_replaced_and_dropped_once(rt: HostRuntime) {
+    let text = told_on(rt.alloc(), &[BASE], REPLACED_TILES, LATER).expect(&rt, "answers");
+    assert_eq!(rt; text.as_str(), REPLACED_TILES);
+}
+
+const REPLACED_ROWS: &str = "\
+25 row,none,7,Well,,3
+? SELECT id, title, note, amount FROM mm_rows ORDER BY id
+26 row,photos,7,Well,,3
+? SELECT id, title, note, amount FROM mm_rows ORDER BY id
+0 row,spots,7,Well,,3
+? SELECT id, title, note, amount FROM mm_rows ORDER BY id
+7|Well||3|
+0 row,spots,7,Gate,shut,-1000000000000000
+? SELECT id, title, note, amount FROM mm_rows ORDER BY id
+7|Gate|shut|-1000000000000000|
+0 row,spots,8,,,1000000000000000
+? SELECT id, title, note, amount FROM mm_rows ORDER BY id
+7|Gate|shut|-1000000000000000|
+8|||1000000000000000|
+25 row-drop,none,7
+? SELECT id, title, note, amount FROM mm_rows ORDER BY id
+7|Gate|shut|-1000000000000000|
+8|||1000000000000000|
+26 row-drop,base,7
+? SELECT id, title, note, amount FROM mm_rows ORDER BY id
+7|Gate|shut|-1000000000000000|
+8|||1000000000000000|
+0 row-drop,spots,7
+? SELECT id, title, note, amount FROM mm_rows ORDER BY id
+8|||1000000000000000|
+40 row-drop,spots,7
+? SELECT id, title, note, amount FROM mm_rows ORDER BY id
+8|||1000000000000000|
+";
+
+#[test]
+fn rows_are_put_replaced_and_dropped_once(rt: HostRuntime) {
+    let text = told_on(rt.alloc(), &[BASE], REPLACED_ROWS, LATER).expect(&rt, "answers");
+    assert_eq!(rt; text.as_str(), REPLACED_ROWS);
+}
+
+const REPLACED_MEDIA: &str = "\
+25 media,none,3,image/jpeg,ffd8ff
+? SELECT id, content_type, data FROM mm_media ORDER BY id
+26 media,spots,3,image/jpeg,ffd8ff
+? SELECT id, content_type, data FROM mm_media ORDER BY id
+0 media,photos,3,image/jpeg,ffd8ff
+? SELECT id, content_type, data FROM mm_media ORDER BY id
+3|image/jpeg|ffd8ff|
+0 media,photos,3,image/png,89
+? SELECT id, content_type, data FROM mm_media ORDER BY id
+3|image/png|89|
+25 media-drop,none,3
+? SELECT id, content_type, data FROM mm_media ORDER BY id
+3|image/png|89|
+26 media-drop,spots,3
+? SELECT id, content_type, data FROM mm_media ORDER BY id
+3|image/png|89|
+0 media-drop,photos,3
+? SELECT id, content_type, data FROM mm_media ORDER BY id
+41 media-drop,photos,3
+? SELECT id, content_type, data FROM mm_media ORDER BY id
+";
+
+#[test]
+fn media_are_put_replaced_and_dropped_once(rt: HostRuntime) {
+    let text = told_on(rt.alloc(), &[BASE], REPLACED_MEDIA, LATER).expect(&rt, "answers");
+    assert_eq!(rt; text.as_str(), REPLACED_MEDIA);
+}
+
+const MAPPED_ITEMS: &str = "\
+0 row,spots,7,Well,,3
+0 row,spots,3,Gate,,0
+0 media,photos,3,image/jpeg,ff
+0 media,photos,7,image/jpeg,ff
+! INSERT INTO gpkgext_relations (base_table_name, base_primary_column, related_table_name, related_primary_column, relation_name, mapping_table_name) VALUES ('spots', 'id', 'photos', 'id', 'media', 'links')
+! INSERT INTO mm_map (mapping, base_id, related_id) VALUES ('links', 7, 3)
+42 row-drop,spots,7
+0 row-drop,spots,3
+42 media-drop,photos,3
+0 media-drop,photos,7
+! DELETE FROM mm_map
+0 row-drop,spots,7
+0 media-drop,photos,3
+";
+
+#[test]
+fn an_item_that_a_mapping_row_names_stays(rt: HostRuntime) {
+    let text = told_on(rt.alloc(), &[BASE], MAPPED_ITEMS, LATER).expect(&rt, "answers");
+    assert_eq!(rt; text.as_str(), MAPPED_ITEMS);
+}
+
+/// A row over the limit stands where a call would find it that loads the table, and a key of the test's own names rows 7 and 8
+/// where a call would remove them that writes the table back.
+const WATCHED: &str = "\
+! INSERT INTO mm_rows (table_name, id, title, note, amount) VALUES ('spots', 7, 'Well', '', 3), ('spots', 8, 'Gate', '', 2000000000000000)
+! CREATE TABLE watch (name TEXT, id INTEGER, FOREIGN KEY (name, id) REFERENCES mm_rows (table_name, id) ON DELETE RESTRICT ON UPDATE RESTRICT)
+! INSERT INTO watch (name, id) VALUES ('spots', 7), ('spots', 8)
+";
+
+const FIVE: &str = "\
+0 row,spots,9,X,,0
+0 media,photos,4,image/png,01
+0 tile,base,1,0,0,aa
+0 tile-drop,base,1,0,0
+0 row-drop,spots,9
+";
+
+const LEFT: &str = "\
+? SELECT id, title, note, amount FROM mm_rows ORDER BY id
+7|Well||3|
+8|Gate||2000000000000000|
+";
+
+#[test]
+fn a_lent_call_touches_only_its_own_rows(rt: HostRuntime) {
+    let mut conn = package(rt.alloc(), &[BASE, WATCHED]).expect(&rt, "a package");
+    let text = answers_in_one(rt.alloc(), &mut conn, FIVE, LATER).expect(&rt, "answers");
+    assert_eq!(rt; text.as_str(), FIVE);
+    let text = told(rt.alloc(), &mut conn, LEFT, LATER).expect(&rt, "answers");
+    assert_eq!(rt; text.as_str(), LEFT);
+}

@@ -1,0 +1,139 @@
+//! Reference systems, pyramids, tables and matrices are laid out and dropped.
+
+use crate::commands::LATER;
+use crate::packages::PYRAMIDS;
+use crate::scripts::told_on;
+
+const ROWS: &str = "\
+? SELECT table_name, data_type, identifier, description, last_change, min_x, min_y, max_x, max_y, srs_id FROM gpkg_contents WHERE table_name IN ('base', 'loose', 'spots') ORDER BY table_name
+base|tiles|Base map||1970-01-01T00:00:00.000Z|500000000|5600000000|501024000|5601024000|25832|
+loose|tiles|Loose||1970-01-01T00:00:00.000Z|-5|-10|5|10|25832|
+spots|attributes|Spots||1970-01-01T00:00:00.000Z|null|null|null|null|null|
+? SELECT table_name, srs_id, min_x, min_y, max_x, max_y FROM gpkg_tile_matrix_set WHERE table_name IN ('base', 'loose') ORDER BY table_name
+base|25832|500000000|5600000000|501024000|5601024000|
+loose|25832|-5|-10|5|10|
+? SELECT table_name, kind FROM mm_tables ORDER BY table_name
+base|two|
+free|other|
+gap|two|
+loose|other|
+photos|media|
+spots|attributes|
+wide|two|
+? SELECT table_name, column_name, extension_name, definition, scope FROM gpkg_extensions ORDER BY table_name
+free|tile_data|gpkg_zoom_other|OGC 12-128r17|read-write|
+gpkgext_relations|null|gpkg_related_tables|OGC 18-000|read-write|
+loose|tile_data|gpkg_zoom_other|OGC 12-128r17|read-write|
+";
+
+#[test]
+fn pyramids_and_tables_have_their_rows(rt: HostRuntime) {
+    let text = told_on(rt.alloc(), &[PYRAMIDS], ROWS, LATER).expect(&rt, "answers");
+    assert_eq!(rt; text.as_str(), ROWS);
+}
+
+const REFUSED_PYRAMIDS: &str = "\
+21 pyramid,p,P,31467,0,0,1000,1000,two
+22 pyramid,p,P,4326,0,0,1000,1000,two
+22 pyramid,p,P,0,0,0,1000,1000,two
+23 pyramid,base,Base map,25832,0,0,0,10,two
+24 pyramid,p,Base map,25832,0,0,0,10,two
+27 pyramid,p,P,25832,5,0,5,10,two
+27 pyramid,p,P,25832,0,11,5,10,two
+0 pyramid,p,P,-1,0,0,1,1,two
+";
+
+#[test]
+fn a_pyramid_is_refused_with_the_least_number(rt: HostRuntime) {
+    let text = told_on(rt.alloc(), &[PYRAMIDS], REFUSED_PYRAMIDS, LATER).expect(&rt, "answers");
+    assert_eq!(rt; text.as_str(), REFUSED_PYRAMIDS);
+}
+
+const REFUSED_TABLES: &str = "\
+! INSERT INTO gpkgext_relations (base_table_name, base_primary_column, related_table_name, related_primary_column, relation_name, mapping_table_name) VALUES ('spots', 'id', 'photos', 'id', 'media', 'links')
+23 table,base,media,Base map
+23 table,links,media,Links
+24 table,more,media,Spots
+0 table,more,media,spots
+48 drop,spots
+48 drop,photos
+25 drop,links
+0 drop,more
+";
+
+#[test]
+fn a_table_is_refused_with_the_least_number(rt: HostRuntime) {
+    let text = told_on(rt.alloc(), &[PYRAMIDS], REFUSED_TABLES, LATER).expect(&rt, "answers");
+    assert_eq!(rt; text.as_str(), REFUSED_TABLES);
+}
+
+const MATRICES: &str = "\
+25 matrix,none,0,1,1,256,256,4000,4000
+26 matrix,spots,0,1,1,256,256,4000,4000
+0 matrix,base,0,1,1,256,256,4000,4000
+31 matrix,base,1,2,2,256,256,1999,1999
+0 matrix,base,2,4,4,256,256,1000,1000
+32 matrix,base,1,8,8,32,32,4000,4000
+0 matrix,base,1,2,2,256,256,2000,2000
+30 matrix,base,1,2,2,256,256,2000,2000
+31 matrix,base,3,1073741824,1073741824,4096,4096,1000000000,1000000000
+0 matrix,gap,0,1,1,256,256,4000,4000
+0 matrix,gap,2,2,2,256,256,2000,2000
+32 matrix,gap,1,2,2,256,256,2000,2000
+31 matrix,wide,0,1073741824,1073741824,18,18,954437177,954437177
+0 matrix,free,0,1,1,100,100,10,10
+0 matrix,free,1,5,5,100,100,2,2
+? SELECT table_name, zoom_level, matrix_width, matrix_height, tile_width, tile_height, pixel_x_size, pixel_y_size FROM gpkg_tile_matrix WHERE table_name IN ('base', 'free') ORDER BY table_name, zoom_level
+base|0|1|1|256|256|4000|4000|
+base|1|2|2|256|256|2000|2000|
+base|2|4|4|256|256|1000|1000|
+free|0|1|1|100|100|10|10|
+free|1|5|5|100|100|2|2|
+? SELECT table_name, last_change FROM gpkg_contents WHERE table_name IN ('free', 'wide') ORDER BY table_name
+free|2000-02-29T23:59:59.999Z|
+wide|1970-01-01T00:00:00.000Z|
+";
+
+#[test]
+fn matrices_suit_their_pyramid(rt: HostRuntime) {
+    let text = told_on(rt.alloc(), &[PYRAMIDS], MATRICES, LATER).expect(&rt, "answers");
+    assert_eq!(rt; text.as_str(), MATRICES);
+}
+
+const TOUCHED: &str = "\
+0 touch,none
+0 touch,base
+? SELECT table_name FROM gpkg_contents WHERE last_change = '2000-02-29T23:59:59.999Z'
+base|
+";
+
+#[test]
+fn a_touch_changes_one_table_alone(rt: HostRuntime) {
+    let text = told_on(rt.alloc(), &[PYRAMIDS], TOUCHED, LATER).expect(&rt, "answers");
+    assert_eq!(rt; text.as_str(), TOUCHED);
+}
+
+const DROPPED: &str = "\
+0 matrix,free,0,1,1,100,100,10,10
+! INSERT INTO mm_tiles (table_name, zoom_level, tile_column, tile_row, tile_data) VALUES ('free', 0, 0, 0, x'aa')
+! INSERT INTO mm_editions (name, state) VALUES ('spring', 'open')
+! INSERT INTO mm_pieces (edition, piece_no, kind, name, k1, k2, k3, k4, k5, k6, k7, t1, t2, data) VALUES ('spring', 1, 'tile-drop', 'free', 0, 0, 0, 0, 0, 0, 0, '', '', x'')
+0 drop,free
+25 drop,free
+? SELECT table_name FROM gpkg_contents WHERE table_name = 'free'
+? SELECT table_name FROM mm_tables WHERE table_name = 'free'
+? SELECT table_name FROM gpkg_tile_matrix_set WHERE table_name = 'free'
+? SELECT table_name FROM gpkg_tile_matrix
+? SELECT table_name FROM mm_tiles
+? SELECT table_name FROM gpkg_extensions ORDER BY table_name
+gpkgext_relations|
+loose|
+? SELECT edition, piece_no, kind, name FROM mm_pieces
+spring|1|tile-drop|free|
+";
+
+#[test]
+fn a_dropped_pyramid_leaves_its_staged_pieces_alone(rt: HostRuntime) {
+    let text = told_on(rt.alloc(), &[PYRAMIDS], DROPPED, LATER).expect(&rt, "answers");
+    assert_eq!(rt; text.as_str(), DROPPED);
+}

@@ -8,8 +8,8 @@
                                      seventh crate all the same
     scripts/gate.py tried            writes .ci/tried; to be run after a gate without --changed has passed on these files
     scripts/gate.py edits [NAME..]   the edits alone, over the libraries that stand in crates/*/out (as rt must-fail)
-    scripts/gate.py --keep FOLDER    the gate, which keeps the edits' answers and the work of their checks in a folder that is empty
-    scripts/gate.py compare FOLDER   after that, in the same clone: tries each edit alone, and fails where the answer is another one
+    scripts/gate.py compare FOLDER   after a gate with GATE_KEEP=FOLDER, an empty folder in which it keeps the edits' answers and the work of
+                                     their checks, in the same clone: tries each edit alone, and fails where the answer is another one
 
 All but the trying of edits (scripts/edits.py) is rt's own code. The transcripts of cases/ run on both builds of the program beside
 its tests. With another kit than the one that this was written for `rt ci` runs as it is, and the transcripts after it.
@@ -202,7 +202,7 @@ def plain_ci():
 
 def main(words):
     verb, given = (words[0] if words else ""), words[1:]
-    if verb not in ("", "--changed", "--keep", "tried", "edits", "compare") or verb != "edits" and len(given) != (verb in ("--keep", "compare")):
+    if verb not in ("", "--changed", "tried", "edits", "compare") or verb != "edits" and len(given) != (verb == "compare"):
         print(__doc__, end="", file=sys.stderr)
         return 2
     if not is_known():
@@ -211,7 +211,8 @@ def main(words):
         return write_tried()
     if verb == "compare":
         return compare(os.path.realpath(given[0]))
-    rt = patched(os.path.realpath(given[0]) if verb == "--keep" else None)
+    kept = os.environ.get("GATE_KEEP")
+    rt = patched(os.path.realpath(kept) if kept else None)
     if verb == "edits":
         return rt.edits_alone(given)
     if verb == "--changed":

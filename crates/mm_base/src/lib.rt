@@ -34,6 +34,3 @@ pub use names::{Name, is_name};
 pub use numbers::read_number;
 pub use streams::Io;
 pub use texts::{Definition, Remark, SystemName, Text};
-
-#[cfg(test)]
-mod tests;

@@ -7,8 +7,6 @@
 
 pub mod editions;
 pub mod limits;
-#[cfg(test)]
-mod tests;
 pub mod verdict;
 
 pub use verdict::verify;

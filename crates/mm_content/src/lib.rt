@@ -11,8 +11,6 @@ mod kinds;
 mod mapped;
 mod media;
 mod rows;
-#[cfg(test)]
-mod tests;
 mod tiles;
 
 pub use media::{drop_media, put_media};

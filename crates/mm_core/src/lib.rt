@@ -15,6 +15,3 @@ mod running;
 mod session;
 
 pub use session::Session;
-
-#[cfg(test)]
-mod tests;

@@ -25,8 +25,6 @@ mod lists;
 mod sessions;
 mod shelves;
 mod staging;
-#[cfg(test)]
-mod tests;
 
 pub use desk::Desk;
 pub use entries::Entry;

@@ -7,8 +7,6 @@
 
 mod extents;
 mod matrices;
-#[cfg(test)]
-mod tests;
 mod zooms;
 
 pub use matrices::add_matrix;

@@ -14,8 +14,6 @@ mod opening;
 mod profile;
 mod schema;
 mod systems;
-#[cfg(test)]
-mod tests;
 
 pub use extensions::insert_related_row;
 pub use memory::create_in_memory;

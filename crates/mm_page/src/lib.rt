@@ -10,7 +10,5 @@ mod lists;
 mod reads;
 mod replies;
 mod serving;
-#[cfg(test)]
-mod tests;
 
 pub use serving::{one_page, serve_one};

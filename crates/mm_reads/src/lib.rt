@@ -10,8 +10,6 @@
 mod listing;
 mod media_items;
 mod rows;
-#[cfg(test)]
-mod tests;
 mod tiles;
 
 pub use listing::contents;

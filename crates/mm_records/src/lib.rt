@@ -10,6 +10,3 @@ pub mod records;
 
 pub use pieces::read_piece;
 pub use records::read_command;
-
-#[cfg(test)]
-mod tests;

@@ -6,7 +6,5 @@
 
 mod items;
 mod listing;
-#[cfg(test)]
-mod tests;
 
 pub use listing::related;

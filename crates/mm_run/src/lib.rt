@@ -10,6 +10,3 @@ mod telling;
 
 pub use apply::Apply;
 pub use run::run_list;
-
-#[cfg(test)]
-mod tests;

@@ -1,7 +1,7 @@
 //! The check of a package. Each package is changed by statements that the store takes, and the expected numbers are worked out from
-//! the rules by hand. (That a new package meets them, `opening` tells.)
+//! the rules by hand. That a new package meets them is told by `opening`.
 
-use crate::commands::LATER;
+use crate::commands::FIRST;
 use crate::packages::WHOLE;
 use crate::scripts::{told_apart, told_on};
 
@@ -12,7 +12,7 @@ none|
 
 #[test]
 fn a_package_of_all_parts_meets_the_rules(rt: HostRuntime) {
-    let text = told_on(rt.alloc(), &[WHOLE], KEPT, LATER).expect(&rt, "answers");
+    let text = told_on(rt.alloc(), &[WHOLE], KEPT, FIRST).expect(&rt, "answers");
     assert_eq!(rt; text.as_str(), KEPT);
 }
 
@@ -26,12 +26,6 @@ const SYSTEMS: &str = "\
 ! UPDATE gpkg_contents SET srs_id = 0 WHERE table_name = 'base'
 2|
 ";
-
-#[test]
-fn rules_of_systems_are_told(rt: HostRuntime) {
-    let text = told_apart(rt.alloc(), &[WHOLE], "verify", SYSTEMS).expect(&rt, "answers");
-    assert_eq!(rt; text.as_str(), SYSTEMS);
-}
 
 const CONTENTS: &str = "\
 ! DELETE FROM mm_map; UPDATE gpkgext_relations SET mapping_table_name = 'spots'; UPDATE gpkg_extensions SET table_name = 'spots' WHERE table_name = 'spot_photos'
@@ -50,12 +44,6 @@ const CONTENTS: &str = "\
 6|
 ";
 
-#[test]
-fn rules_of_contents_are_told(rt: HostRuntime) {
-    let text = told_apart(rt.alloc(), &[WHOLE], "verify", CONTENTS).expect(&rt, "answers");
-    assert_eq!(rt; text.as_str(), CONTENTS);
-}
-
 const MATRICES: &str = "\
 ! UPDATE gpkg_tile_matrix SET tile_width = 21 WHERE zoom_level = 1
 7|
@@ -71,12 +59,6 @@ const MATRICES: &str = "\
 9|
 ";
 
-#[test]
-fn rules_of_matrices_are_told(rt: HostRuntime) {
-    let text = told_apart(rt.alloc(), &[WHOLE], "verify", MATRICES).expect(&rt, "answers");
-    assert_eq!(rt; text.as_str(), MATRICES);
-}
-
 const TILES_AND_ITEMS: &str = "\
 ! INSERT INTO mm_tiles VALUES ('base', 0, 1, 0, x'00')
 10|
@@ -87,12 +69,6 @@ const TILES_AND_ITEMS: &str = "\
 ! INSERT INTO mm_media VALUES ('base', 1, x'00', 'image/png')
 11|
 ";
-
-#[test]
-fn rules_of_tiles_and_items_are_told(rt: HostRuntime) {
-    let text = told_apart(rt.alloc(), &[WHOLE], "verify", TILES_AND_ITEMS).expect(&rt, "answers");
-    assert_eq!(rt; text.as_str(), TILES_AND_ITEMS);
-}
 
 const RELATIONS: &str = "\
 ! UPDATE gpkgext_relations SET base_primary_column = 'no'
@@ -105,12 +81,6 @@ const RELATIONS: &str = "\
 13|
 ";
 
-#[test]
-fn rules_of_relations_are_told(rt: HostRuntime) {
-    let text = told_apart(rt.alloc(), &[WHOLE], "verify", RELATIONS).expect(&rt, "answers");
-    assert_eq!(rt; text.as_str(), RELATIONS);
-}
-
 const EXTENSIONS: &str = "\
 ! DELETE FROM gpkg_extensions WHERE table_name = 'gpkgext_relations'
 14|
@@ -121,12 +91,6 @@ const EXTENSIONS: &str = "\
 ! UPDATE mm_tables SET kind = 'other' WHERE table_name = 'base'
 14|
 ";
-
-#[test]
-fn the_rule_of_extension_rows_is_told(rt: HostRuntime) {
-    let text = told_apart(rt.alloc(), &[WHOLE], "verify", EXTENSIONS).expect(&rt, "answers");
-    assert_eq!(rt; text.as_str(), EXTENSIONS);
-}
 
 const EDITIONS: &str = "\
 ! UPDATE mm_editions SET state = 'shut' WHERE name = 'f'
@@ -140,12 +104,6 @@ const EDITIONS: &str = "\
 ! UPDATE mm_pieces SET k1 = 31 WHERE piece_no = 2
 15|
 ";
-
-#[test]
-fn the_rule_of_editions_is_told(rt: HostRuntime) {
-    let text = told_apart(rt.alloc(), &[WHOLE], "verify", EDITIONS).expect(&rt, "answers");
-    assert_eq!(rt; text.as_str(), EDITIONS);
-}
 
 const LIMITS: &str = "\
 ! UPDATE gpkg_contents SET last_change = '1970-02-29T00:00:00.000Z' WHERE table_name = 'base'
@@ -161,9 +119,20 @@ const LIMITS: &str = "\
 ";
 
 #[test]
-fn the_rule_of_limits_is_told(rt: HostRuntime) {
-    let text = told_apart(rt.alloc(), &[WHOLE], "verify", LIMITS).expect(&rt, "answers");
-    assert_eq!(rt; text.as_str(), LIMITS);
+fn each_rule_is_told(rt: HostRuntime) {
+    for script in [
+        SYSTEMS,
+        CONTENTS,
+        MATRICES,
+        TILES_AND_ITEMS,
+        RELATIONS,
+        EXTENSIONS,
+        EDITIONS,
+        LIMITS,
+    ] {
+        let text = told_apart(rt.alloc(), &[WHOLE], "verify", script).expect(&rt, "answers");
+        assert_eq!(rt; text.as_str(), script);
+    }
 }
 
 /// The tables keep identifiers apart, so contents without that key stand in for them.

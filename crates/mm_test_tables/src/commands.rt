@@ -1,6 +1,6 @@
 //! Records, and the calls of their commands.
 
-use mm_base::answers::{Fault, Outcome, Refusal};
+use mm_base::answers::{Fault, Outcome};
 use mm_base::bytes::{MediaBytes, TileBytes};
 use mm_base::commands::{Matrix, PlainKind, RelationName, Step};
 use mm_content::{drop_media, drop_row, drop_tile, put_media, put_row, put_tile};
@@ -20,15 +20,10 @@ pub(crate) const LATER: &str = "2000-02-29T23:59:59.999Z";
 fn number_of(outcome: Result<Outcome, Fault>) -> Option<u8> {
     match outcome {
         Ok(Outcome::Done) => Some(0),
-        Ok(
-            Outcome::Refused(
-                Refusal {
-                    number,
-                    piece: None,
-                },
-            ),
-        ) => Some(number),
-        Ok(Outcome::Refused(_)) => None,
+        Ok(Outcome::Refused(refusal)) => match refusal.piece {
+            None => Some(refusal.number),
+            Some(_) => None,
+        },
         Err(fault) => Some(fault.0),
     }
 }

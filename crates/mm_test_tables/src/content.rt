@@ -4,6 +4,7 @@ use crate::commands::{LATER, answers_in_one};
 use crate::packages::BASE;
 use crate::scripts::{package, told, told_on};
 
+/// Tiles lie inside their matrix.
 const TILES: &str = "\
 0 tile,base,1,1,1,aa
 34 tile,base,1,2,1,aa
@@ -22,12 +23,7 @@ photos|1970-01-01T00:00:00.000Z|
 spots|1970-01-01T00:00:00.000Z|
 ";
 
-#[test]
-fn tiles_lie_inside_their_matrix(rt: HostRuntime) {
-    let text = told_on(rt.alloc(), &[BASE], TILES, LATER).expect(&rt, "answers");
-    assert_eq!(rt; text.as_str(), TILES);
-}
-
+/// A tile is replaced, and dropped once.
 const REPLACED_TILES: &str = "\
 0 tile,base,1,0,1,89504e
 ? SELECT zoom_level, tile_column, tile_row, tile_data FROM mm_tiles ORDER BY zoom_level
@@ -47,12 +43,7 @@ const REPLACED_TILES: &str = "\
 0|0|0|01|
 ";
 
-#[test]
-fn a_tile_is_replaced_and_dropped_once(rt: HostRuntime) {
-    let text = told_on(rt.alloc(), &[BASE], REPLACED_TILES, LATER).expect(&rt, "answers");
-    assert_eq!(rt; text.as_str(), REPLACED_TILES);
-}
-
+/// Rows are put, replaced, and dropped once.
 const REPLACED_ROWS: &str = "\
 25 row,none,7,Well,,3
 ? SELECT id, title, note, amount FROM mm_rows ORDER BY id
@@ -84,12 +75,7 @@ const REPLACED_ROWS: &str = "\
 8|||1000000000000000|
 ";
 
-#[test]
-fn rows_are_put_replaced_and_dropped_once(rt: HostRuntime) {
-    let text = told_on(rt.alloc(), &[BASE], REPLACED_ROWS, LATER).expect(&rt, "answers");
-    assert_eq!(rt; text.as_str(), REPLACED_ROWS);
-}
-
+/// Media are put, replaced, and dropped once.
 const REPLACED_MEDIA: &str = "\
 25 media,none,3,image/jpeg,ffd8ff
 ? SELECT id, content_type, data FROM mm_media ORDER BY id
@@ -113,12 +99,7 @@ const REPLACED_MEDIA: &str = "\
 ? SELECT id, content_type, data FROM mm_media ORDER BY id
 ";
 
-#[test]
-fn media_are_put_replaced_and_dropped_once(rt: HostRuntime) {
-    let text = told_on(rt.alloc(), &[BASE], REPLACED_MEDIA, LATER).expect(&rt, "answers");
-    assert_eq!(rt; text.as_str(), REPLACED_MEDIA);
-}
-
+/// An item that a mapping row names stays.
 const MAPPED_ITEMS: &str = "\
 0 row,spots,7,Well,,3
 0 row,spots,3,Gate,,0
@@ -136,9 +117,17 @@ const MAPPED_ITEMS: &str = "\
 ";
 
 #[test]
-fn an_item_that_a_mapping_row_names_stays(rt: HostRuntime) {
-    let text = told_on(rt.alloc(), &[BASE], MAPPED_ITEMS, LATER).expect(&rt, "answers");
-    assert_eq!(rt; text.as_str(), MAPPED_ITEMS);
+fn content_is_changed_as_its_records_say(rt: HostRuntime) {
+    for script in [
+        TILES,
+        REPLACED_TILES,
+        REPLACED_ROWS,
+        REPLACED_MEDIA,
+        MAPPED_ITEMS,
+    ] {
+        let text = told_on(rt.alloc(), &[BASE], script, LATER).expect(&rt, "answers");
+        assert_eq!(rt; text.as_str(), script);
+    }
 }
 
 /// A row over the limit stands where a call would find it that loads the table, and a key of the test's own names rows 7 and 8

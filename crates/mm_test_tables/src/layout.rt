@@ -4,6 +4,7 @@ use crate::commands::LATER;
 use crate::packages::PYRAMIDS;
 use crate::scripts::told_on;
 
+/// Pyramids and tables have their rows.
 const ROWS: &str = "\
 ? SELECT table_name, data_type, identifier, description, last_change, min_x, min_y, max_x, max_y, srs_id FROM gpkg_contents WHERE table_name IN ('base', 'loose', 'spots') ORDER BY table_name
 base|tiles|Base map||1970-01-01T00:00:00.000Z|500000000|5600000000|501024000|5601024000|25832|
@@ -26,12 +27,7 @@ gpkgext_relations|null|gpkg_related_tables|OGC 18-000|read-write|
 loose|tile_data|gpkg_zoom_other|OGC 12-128r17|read-write|
 ";
 
-#[test]
-fn pyramids_and_tables_have_their_rows(rt: HostRuntime) {
-    let text = told_on(rt.alloc(), &[PYRAMIDS], ROWS, LATER).expect(&rt, "answers");
-    assert_eq!(rt; text.as_str(), ROWS);
-}
-
+/// A pyramid is refused with the least number.
 const REFUSED_PYRAMIDS: &str = "\
 21 pyramid,p,P,31467,0,0,1000,1000,two
 22 pyramid,p,P,4326,0,0,1000,1000,two
@@ -43,12 +39,7 @@ const REFUSED_PYRAMIDS: &str = "\
 0 pyramid,p,P,-1,0,0,1,1,two
 ";
 
-#[test]
-fn a_pyramid_is_refused_with_the_least_number(rt: HostRuntime) {
-    let text = told_on(rt.alloc(), &[PYRAMIDS], REFUSED_PYRAMIDS, LATER).expect(&rt, "answers");
-    assert_eq!(rt; text.as_str(), REFUSED_PYRAMIDS);
-}
-
+/// A table is refused with the least number, and dropped where nothing names it.
 const REFUSED_TABLES: &str = "\
 ! INSERT INTO gpkgext_relations (base_table_name, base_primary_column, related_table_name, related_primary_column, relation_name, mapping_table_name) VALUES ('spots', 'id', 'photos', 'id', 'media', 'links')
 23 table,base,media,Base map
@@ -61,12 +52,7 @@ const REFUSED_TABLES: &str = "\
 0 drop,more
 ";
 
-#[test]
-fn a_table_is_refused_with_the_least_number(rt: HostRuntime) {
-    let text = told_on(rt.alloc(), &[PYRAMIDS], REFUSED_TABLES, LATER).expect(&rt, "answers");
-    assert_eq!(rt; text.as_str(), REFUSED_TABLES);
-}
-
+/// A matrix covers its pyramid, and suits the nearest zooms.
 const MATRICES: &str = "\
 25 matrix,none,0,1,1,256,256,4000,4000
 26 matrix,spots,0,1,1,256,256,4000,4000
@@ -94,12 +80,7 @@ free|2000-02-29T23:59:59.999Z|
 wide|1970-01-01T00:00:00.000Z|
 ";
 
-#[test]
-fn matrices_suit_their_pyramid(rt: HostRuntime) {
-    let text = told_on(rt.alloc(), &[PYRAMIDS], MATRICES, LATER).expect(&rt, "answers");
-    assert_eq!(rt; text.as_str(), MATRICES);
-}
-
+/// A touch changes one table alone.
 const TOUCHED: &str = "\
 0 touch,none
 0 touch,base
@@ -107,12 +88,7 @@ const TOUCHED: &str = "\
 base|
 ";
 
-#[test]
-fn a_touch_changes_one_table_alone(rt: HostRuntime) {
-    let text = told_on(rt.alloc(), &[PYRAMIDS], TOUCHED, LATER).expect(&rt, "answers");
-    assert_eq!(rt; text.as_str(), TOUCHED);
-}
-
+/// A dropped pyramid leaves its staged pieces alone.
 const DROPPED: &str = "\
 0 matrix,free,0,1,1,100,100,10,10
 ! INSERT INTO mm_tiles (table_name, zoom_level, tile_column, tile_row, tile_data) VALUES ('free', 0, 0, 0, x'aa')
@@ -133,7 +109,16 @@ spring|1|tile-drop|free|
 ";
 
 #[test]
-fn a_dropped_pyramid_leaves_its_staged_pieces_alone(rt: HostRuntime) {
-    let text = told_on(rt.alloc(), &[PYRAMIDS], DROPPED, LATER).expect(&rt, "answers");
-    assert_eq!(rt; text.as_str(), DROPPED);
+fn packages_are_laid_out_as_their_records_say(rt: HostRuntime) {
+    for script in [
+        ROWS,
+        REFUSED_PYRAMIDS,
+        REFUSED_TABLES,
+        MATRICES,
+        TOUCHED,
+        DROPPED,
+    ] {
+        let text = told_on(rt.alloc(), &[PYRAMIDS], script, LATER).expect(&rt, "answers");
+        assert_eq!(rt; text.as_str(), script);
+    }
 }

@@ -1,13 +1,14 @@
 //! New packages, how they are recognised, and reference systems.
 
-use crate::commands::LATER;
+use crate::commands::{FIRST, LATER};
 use crate::scripts::{told, told_apart, told_on};
 use mm_base::answers::Fault;
-use mm_meta::{create_in_memory, init};
+use mm_meta::create_in_memory;
 use mm_store::statements::{first_pair, first_text};
 use sqlite::{Connection, MemStore};
 use std::test::Fail;
 
+/// The rows that every package has, and what is told of it.
 const GIVEN: &str = "\
 ? SELECT srs_name, srs_id, organization, organization_coordsys_id, definition, description FROM gpkg_spatial_ref_sys ORDER BY srs_id DESC
 WGS 84 geographic|4326|EPSG|4326|EPSG:4326|longitude and latitude|
@@ -24,12 +25,7 @@ none|
 = contents
 ";
 
-#[test]
-fn a_new_package_has_the_given_rows(rt: HostRuntime) {
-    let text = told_on(rt.alloc(), &[], GIVEN, LATER).expect(&rt, "answers");
-    assert_eq!(rt; text.as_str(), GIVEN);
-}
-
+/// The other tables are there, and empty.
 const EMPTY: &str = "\
 ? SELECT table_name, data_type, identifier, description, last_change, min_x, min_y, max_x, max_y, srs_id FROM gpkg_contents
 ? SELECT table_name, srs_id, min_x, min_y, max_x, max_y FROM gpkg_tile_matrix_set
@@ -59,10 +55,23 @@ mm_tables|
 mm_tiles|
 ";
 
+/// A reference system is added once.
+const SYSTEMS: &str = "\
+0 srs,25832,ETRS89 / UTM zone 32N,EPSG,25832,projected metres,
+20 srs,25832,ETRS89 / UTM zone 32N,EPSG,25832,projected metres,
+20 srs,4326,ETRS89 / UTM zone 32N,EPSG,25832,projected metres,
+20 srs,0,ETRS89 / UTM zone 32N,EPSG,25832,projected metres,
+20 srs,-1,ETRS89 / UTM zone 32N,EPSG,25832,projected metres,
+? SELECT srs_name, srs_id, organization, organization_coordsys_id, definition, description FROM gpkg_spatial_ref_sys WHERE srs_id = 25832
+ETRS89 / UTM zone 32N|25832|EPSG|25832|projected metres||
+";
+
 #[test]
-fn the_other_tables_are_there_and_empty(rt: HostRuntime) {
-    let text = told_on(rt.alloc(), &[], EMPTY, LATER).expect(&rt, "answers");
-    assert_eq!(rt; text.as_str(), EMPTY);
+fn a_new_package_is_as_the_profile_says(rt: HostRuntime) {
+    for script in [GIVEN, EMPTY, SYSTEMS] {
+        let text = told_on(rt.alloc(), &[], script, LATER).expect(&rt, "answers");
+        assert_eq!(rt; text.as_str(), script);
+    }
 }
 
 const OTHER_PROFILES: &str = "\
@@ -84,42 +93,20 @@ fn other_profiles_are_told_apart(rt: HostRuntime) {
     assert_eq!(rt; text.as_str(), OTHER_PROFILES);
 }
 
-const NO_PROFILE: &str = "\
+const MADE: &str = "\
 = look
 no profile|
-";
-
-const A_PACKAGE: &str = "\
+= init
+done|
 = look
 a package|
 ";
 
 #[test]
-fn a_database_without_tables_has_no_profile(rt: HostRuntime) -> Result<(), Fail> {
-    let mut conn = Connection::open_in_memory(rt.alloc())?;
-    let text = told(rt.alloc(), &mut conn, NO_PROFILE, LATER).expect(&rt, "answers");
-    assert_eq!(rt; text.as_str(), NO_PROFILE);
-    assert!(rt; conn.is_autocommit());
-    assert_eq!(rt; init(&mut conn), Ok(()));
-    let text = told(rt.alloc(), &mut conn, A_PACKAGE, LATER).expect(&rt, "answers");
-    assert_eq!(rt; text.as_str(), A_PACKAGE);
-    Ok(())
-}
-
-const SYSTEMS: &str = "\
-0 srs,25832,ETRS89 / UTM zone 32N,EPSG,25832,projected metres,
-20 srs,25832,ETRS89 / UTM zone 32N,EPSG,25832,projected metres,
-20 srs,4326,ETRS89 / UTM zone 32N,EPSG,25832,projected metres,
-20 srs,0,ETRS89 / UTM zone 32N,EPSG,25832,projected metres,
-20 srs,-1,ETRS89 / UTM zone 32N,EPSG,25832,projected metres,
-? SELECT srs_name, srs_id, organization, organization_coordsys_id, definition, description FROM gpkg_spatial_ref_sys WHERE srs_id = 25832
-ETRS89 / UTM zone 32N|25832|EPSG|25832|projected metres||
-";
-
-#[test]
-fn a_system_is_added_once(rt: HostRuntime) {
-    let text = told_on(rt.alloc(), &[], SYSTEMS, LATER).expect(&rt, "answers");
-    assert_eq!(rt; text.as_str(), SYSTEMS);
+fn a_database_without_tables_is_made_a_package(rt: HostRuntime) {
+    let mut conn = Connection::open_in_memory(rt.alloc()).expect(&rt, "a connection");
+    let text = told(rt.alloc(), &mut conn, MADE, FIRST).expect(&rt, "answers");
+    assert_eq!(rt; text.as_str(), MADE);
 }
 
 /// The first text of one query and the first two numbers of another, where no transaction is open.

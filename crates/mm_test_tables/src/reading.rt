@@ -4,6 +4,7 @@ use crate::commands::LATER;
 use crate::packages::UNORDERED;
 use crate::scripts::told_on;
 
+/// A tile is told by its place.
 const TILES: &str = "\
 = tile base 1 0 1
 ffd8|
@@ -21,12 +22,7 @@ none|
 none|
 ";
 
-#[test]
-fn a_tile_is_told_by_its_place(rt: HostRuntime) {
-    let text = told_on(rt.alloc(), &[UNORDERED], TILES, LATER).expect(&rt, "answers");
-    assert_eq!(rt; text.as_str(), TILES);
-}
-
+/// An item is told by its table and id.
 const ITEMS: &str = "\
 = row spots 7
 Well||3|
@@ -50,12 +46,7 @@ none|
 none|
 ";
 
-#[test]
-fn an_item_is_told_by_its_table_and_id(rt: HostRuntime) {
-    let text = told_on(rt.alloc(), &[UNORDERED], ITEMS, LATER).expect(&rt, "answers");
-    assert_eq!(rt; text.as_str(), ITEMS);
-}
-
+/// The tables are listed by name.
 const CONTENTS: &str = "\
 = contents
 base|two|1970-01-01T00:00:00.000Z|Base map|25832|500000000|5600000000|501024000|5601024000|
@@ -63,12 +54,7 @@ photos|media|1970-01-01T00:00:00.000Z|Photos|
 spots|attributes|2000-02-29T23:59:59.999Z|Spots|
 ";
 
-#[test]
-fn the_tables_are_listed_by_name(rt: HostRuntime) {
-    let text = told_on(rt.alloc(), &[UNORDERED], CONTENTS, LATER).expect(&rt, "answers");
-    assert_eq!(rt; text.as_str(), CONTENTS);
-}
-
+/// A value that no package has is a fault.
 const FAULTS: &str = "\
 ! UPDATE mm_rows SET title = CAST(x'6100' AS TEXT) WHERE id = 7
 ! UPDATE mm_media SET content_type = 'image' WHERE id = 3
@@ -90,7 +76,9 @@ aa|
 ";
 
 #[test]
-fn a_value_that_no_package_has_is_a_fault(rt: HostRuntime) {
-    let text = told_on(rt.alloc(), &[UNORDERED], FAULTS, LATER).expect(&rt, "answers");
-    assert_eq!(rt; text.as_str(), FAULTS);
+fn what_stands_is_told(rt: HostRuntime) {
+    for script in [TILES, ITEMS, CONTENTS, FAULTS] {
+        let text = told_on(rt.alloc(), &[UNORDERED], script, LATER).expect(&rt, "answers");
+        assert_eq!(rt; text.as_str(), script);
+    }
 }

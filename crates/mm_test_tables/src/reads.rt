@@ -6,7 +6,7 @@ use mm_base::answers::{Fault, Open};
 use mm_base::commands::Kind;
 use mm_base::entries::{Entry, Media, Related, Row};
 use mm_check::verify;
-use mm_meta::look;
+use mm_meta::{init, look};
 use mm_reads::{contents, media, row, tile};
 use mm_related::related;
 use sqlite::{Alter, Connection};
@@ -137,6 +137,13 @@ fn add_look(text: &mut String, found: Result<(), Open>) -> Option<()> {
     }
 }
 
+fn add_made(text: &mut String, made: Result<(), Fault>) -> Option<()> {
+    match made {
+        Ok(()) => text.push_str("done|\n").ok(),
+        Err(fault) => add_nothing(text, Some(fault)),
+    }
+}
+
 fn add_verdict(text: &mut String, found: Result<Option<u8>, Fault>) -> Option<()> {
     match found {
         Ok(Some(rule)) => writeln!(text, "{rule}|").ok(),
@@ -194,12 +201,13 @@ fn ask_whole<S: Alter>(
     match word {
         "contents" => add_contents(text, &contents(alloc, conn)),
         "look" => add_look(text, look(conn)),
+        "init" => add_made(text, init(conn)),
         "verify" => add_verdict(text, verify(conn)),
         _ => None,
     }
 }
 
-/// The answer to `tile TABLE ZOOM COLUMN ROW`, `row TABLE ID`, `media TABLE ID`, `related TABLE ID`, `contents`, `look` or `verify`.
+/// The answer to `tile TABLE ZOOM COLUMN ROW`, `row TABLE ID`, `media TABLE ID`, `related TABLE ID`, `contents`, `look`, `init` or `verify`.
 pub(crate) fn ask<S: Alter>(
     alloc: Global,
     conn: &mut Connection<S>,

@@ -4,6 +4,7 @@ use crate::commands::{FIRST, answers_in_one};
 use crate::packages::{BASE, MAPPED};
 use crate::scripts::{package, told, told_on};
 
+/// A mapped row stands until it is unmapped.
 const UNMAPPED: &str = "\
 42 row-drop,spots,7
 45 map,spot_photos,7,3
@@ -16,12 +17,7 @@ const UNMAPPED: &str = "\
 25 drop,spots
 ";
 
-#[test]
-fn a_mapped_row_stands_until_it_is_unmapped(rt: HostRuntime) {
-    let text = told_on(rt.alloc(), &[BASE, MAPPED], UNMAPPED, FIRST).expect(&rt, "answers");
-    assert_eq!(rt; text.as_str(), UNMAPPED);
-}
-
+/// A relation and a mapping row are refused, and nothing changes.
 const REFUSED: &str = "\
 43 relation,spot_photos,spots,photos,media
 43 relation,base,spots,photos,media
@@ -49,12 +45,7 @@ gpkgext_relations|null|gpkg_related_tables|OGC 18-000|read-write|
 spot_photos|null|gpkg_related_tables|OGC 18-000|read-write|
 ";
 
-#[test]
-fn a_relation_and_a_mapping_row_are_refused(rt: HostRuntime) {
-    let text = told_on(rt.alloc(), &[BASE, MAPPED], REFUSED, FIRST).expect(&rt, "answers");
-    assert_eq!(rt; text.as_str(), REFUSED);
-}
-
+/// A table is related to itself.
 const ITSELF: &str = "\
 0 relation,rr,spots,spots,simple_attributes
 0 map,rr,7,7
@@ -71,44 +62,7 @@ gpkgext_relations|
 photos|1970-01-01T00:00:00.000Z|
 ";
 
-#[test]
-fn a_table_is_related_to_itself(rt: HostRuntime) {
-    let text = told_on(rt.alloc(), &[BASE, MAPPED], ITSELF, FIRST).expect(&rt, "answers");
-    assert_eq!(rt; text.as_str(), ITSELF);
-}
-
-/// A row breaks a rule, and a table of the test's own keeps two rows from being removed: so a call that wrote more rows than
-/// its own would fail.
-const GUARDED: &str = "\
-! INSERT INTO mm_rows (table_name, id, title, note, amount) VALUES ('spots', 8, 'Spring', '', 2000000000000000)
-! CREATE TABLE guard (id INTEGER PRIMARY KEY, name TEXT NOT NULL, number INTEGER NOT NULL, FOREIGN KEY (name, number) REFERENCES mm_rows (table_name, id) ON DELETE RESTRICT ON UPDATE RESTRICT) STRICT
-! INSERT INTO guard (name, number) VALUES ('spots', 7), ('spots', 8)
-";
-
-const FIVE: &str = "\
-0 row,spots,9,X,,0
-0 media,photos,4,image/png,01
-0 map,spot_photos,9,4
-0 tile,base,1,0,0,aa
-0 matrix,base,2,4,4,256,256,1000,1000
-";
-
-const LEFT: &str = "\
-? SELECT table_name, id, title, note, amount FROM mm_rows ORDER BY id
-spots|7|Well||3|
-spots|8|Spring||2000000000000000|
-spots|9|X||0|
-";
-
-#[test]
-fn a_call_touches_its_own_rows_alone(rt: HostRuntime) {
-    let mut conn = package(rt.alloc(), &[BASE, MAPPED, GUARDED]).expect(&rt, "a package");
-    let text = answers_in_one(rt.alloc(), &mut conn, FIVE, FIRST).expect(&rt, "answers");
-    assert_eq!(rt; text.as_str(), FIVE);
-    let text = told(rt.alloc(), &mut conn, LEFT, FIRST).expect(&rt, "answers");
-    assert_eq!(rt; text.as_str(), LEFT);
-}
-
+/// Items are related from the base, by mapping and id.
 const ITEMS: &str = "\
 0 media,photos,12,image/png,01
 0 media,photos,1,image/png,02
@@ -145,7 +99,41 @@ none|
 ";
 
 #[test]
-fn items_are_related_from_the_base_by_mapping_and_id(rt: HostRuntime) {
-    let text = told_on(rt.alloc(), &[BASE, MAPPED], ITEMS, FIRST).expect(&rt, "answers");
-    assert_eq!(rt; text.as_str(), ITEMS);
+fn items_are_related_as_their_records_say(rt: HostRuntime) {
+    for script in [UNMAPPED, REFUSED, ITSELF, ITEMS] {
+        let text = told_on(rt.alloc(), &[BASE, MAPPED], script, FIRST).expect(&rt, "answers");
+        assert_eq!(rt; text.as_str(), script);
+    }
+}
+
+/// A row breaks a rule, and a table of the test's own keeps two rows from being removed: so a call that wrote more rows than
+/// its own would fail.
+const GUARDED: &str = "\
+! INSERT INTO mm_rows (table_name, id, title, note, amount) VALUES ('spots', 8, 'Spring', '', 2000000000000000)
+! CREATE TABLE guard (id INTEGER PRIMARY KEY, name TEXT NOT NULL, number INTEGER NOT NULL, FOREIGN KEY (name, number) REFERENCES mm_rows (table_name, id) ON DELETE RESTRICT ON UPDATE RESTRICT) STRICT
+! INSERT INTO guard (name, number) VALUES ('spots', 7), ('spots', 8)
+";
+
+const FIVE: &str = "\
+0 row,spots,9,X,,0
+0 media,photos,4,image/png,01
+0 map,spot_photos,9,4
+0 tile,base,1,0,0,aa
+0 matrix,base,2,4,4,256,256,1000,1000
+";
+
+const LEFT: &str = "\
+? SELECT table_name, id, title, note, amount FROM mm_rows ORDER BY id
+spots|7|Well||3|
+spots|8|Spring||2000000000000000|
+spots|9|X||0|
+";
+
+#[test]
+fn a_call_touches_its_own_rows_alone(rt: HostRuntime) {
+    let mut conn = package(rt.alloc(), &[BASE, MAPPED, GUARDED]).expect(&rt, "a package");
+    let text = answers_in_one(rt.alloc(), &mut conn, FIVE, FIRST).expect(&rt, "answers");
+    assert_eq!(rt; text.as_str(), FIVE);
+    let text = told(rt.alloc(), &mut conn, LEFT, FIRST).expect(&rt, "answers");
+    assert_eq!(rt; text.as_str(), LEFT);
 }

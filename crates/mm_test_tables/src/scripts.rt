@@ -3,7 +3,7 @@
 //! - `NUMBER RECORD`: a command in a transaction of its own, behind its answer: 0 where it is done, else the refusal's number.
 //! - `? QUERY`: a query, whose rows follow.
 //! - `! STATEMENTS`: changes by statements.
-//! - `= QUESTION`: a question, whose answer follows.
+//! - `= QUESTION`: a question, or `init`, whose answer follows.
 //!
 //! A line of a row or answer ends with a bar.
 
@@ -44,7 +44,7 @@ fn tell<S: Alter>(
     }
 }
 
-/// The script with the answers that are given, its commands at a time; None where a line cannot be played.
+/// The script with the answers that are given, its commands at a time. A line that cannot be played is told so.
 pub(crate) fn told<S: Alter>(
     alloc: Global,
     conn: &mut Connection<S>,
@@ -53,8 +53,8 @@ pub(crate) fn told<S: Alter>(
 ) -> Option<String> {
     let mut text = String::new(alloc);
     for line in script.lines() {
-        if !line.ends_with('|') {
-            tell(alloc, conn, line, at, &mut text)?;
+        if !line.ends_with('|') && tell(alloc, conn, line, at, &mut text).is_none() {
+            writeln!(text, "not played: {line}").ok()?;
         }
     }
     Some(text)

@@ -163,12 +163,6 @@ const RECORDS: &str = "\
 12 edition,a\"b\n\
 ";
 
-#[test]
-fn reads_each_record(rt: HostRuntime) {
-    let text = told(rt.alloc(), RECORDS).expect(&rt, "answers");
-    assert_eq!(&rt; text.as_str(), RECORDS);
-}
-
 /// A record a line, behind its answer, with so many `a` in place of a number in brackets.
 const LONG_RECORDS: &str = "\
 0 drop,[60]\n\
@@ -190,9 +184,11 @@ const LONG_RECORDS: &str = "\
 ";
 
 #[test]
-fn measures_texts_in_bytes(rt: HostRuntime) {
-    let text = told(rt.alloc(), LONG_RECORDS).expect(&rt, "answers");
-    assert_eq!(&rt; text.as_str(), LONG_RECORDS);
+fn reads_each_record(rt: HostRuntime) {
+    for list in [RECORDS, LONG_RECORDS] {
+        let text = told(rt.alloc(), list).expect(&rt, "answers");
+        assert_eq!(&rt; text.as_str(), list);
+    }
 }
 
 /// A record of an organization of so many letters of two bytes each.

@@ -1,0 +1,116 @@
+//! What the tests begin with, and what a run on it answers.
+
+use mm_base::answers::{RunFault, Tally};
+use mm_base::moments::Moment;
+use mm_base::streams::Io;
+use mm_core::Session;
+use sqlite::{Alter, Connection, MemStore};
+use std::alloc::Global;
+use std::io::{Read, Write};
+use std::str::from_utf8;
+
+/// A pyramid with its coarsest matrix.
+pub(crate) const PYRAMID: &str = "srs,25832,ETRS89 / UTM zone 32N,EPSG,25832,projected metres,
+pyramid,base,Base map,25832,500000000,5600000000,501024000,5601024000,two
+matrix,base,0,1,1,256,256,4000,4000
+";
+
+/// The next finer matrix of the pyramid.
+pub(crate) const FINER: &str = "matrix,base,1,2,2,256,256,2000,2000\n";
+
+/// A row that is related to a medium.
+pub(crate) const RELATED: &str = "table,spots,attributes,Spots
+table,photos,media,Photos
+row,spots,7,Well,,3
+media,photos,3,image/jpeg,ffd8ff
+relation,spot_photos,spots,photos,media
+map,spot_photos,7,3
+";
+
+/// A session on a new package in memory.
+pub(crate) fn new_session(alloc: Global) -> Option<Session<MemStore>> {
+    let conn = Connection::open_in_memory(alloc).ok()?;
+    match Session::create(alloc, conn) {
+        Ok(session) => Some(session),
+        Err(_) => None,
+    }
+}
+
+/// Runs the records that the reader gives, each at this moment.
+pub(crate) fn run<S: Alter, R: Read, W: Write>(
+    session: &mut Session<S>,
+    reader: &mut Io<R>,
+    writer: &mut Io<W>,
+    milliseconds: i64,
+) -> Option<Result<Tally, RunFault>> {
+    let at = Moment::new(milliseconds)?;
+    match session.run_list(reader, writer, at) {
+        Ok(tally) => Some(Ok(tally)),
+        Err(stopped) => Some(Err(stopped)),
+    }
+}
+
+/// Whether each record of a run was answered by a line.
+fn is_whole(outcome: Result<Tally, RunFault>) -> bool {
+    match outcome {
+        Ok(tally) => tally.accepted.checked_add(tally.refused) == Some(tally.written),
+        Err(_) => false,
+    }
+}
+
+/// The text of bytes.
+pub(crate) fn text_of(alloc: Global, bytes: &[u8]) -> Option<String> {
+    let mut text = String::new(alloc);
+    text.push_str(from_utf8(bytes).ok()?).ok()?;
+    Some(text)
+}
+
+/// What a run of these records answers, each at this moment.
+pub(crate) fn answers_at<S: Alter>(
+    alloc: Global,
+    session: &mut Session<S>,
+    records: &[u8],
+    milliseconds: i64,
+) -> Option<String> {
+    let mut reader = Io::new(records);
+    let mut writer = Io::new(Vec::new(alloc));
+    let outcome = run(session, &mut reader, &mut writer, milliseconds)?;
+    if is_whole(outcome) {
+        text_of(alloc, writer.into_inner().as_slice())
+    } else {
+        None
+    }
+}
+
+/// What a run of these records answers.
+pub(crate) fn answers<S: Alter>(
+    alloc: Global,
+    session: &mut Session<S>,
+    records: &[u8],
+) -> Option<String> {
+    answers_at(alloc, session, records, 0)
+}
+
+/// A session on a new package after these records at this moment, each of which is accepted.
+pub(crate) fn session_at(
+    alloc: Global,
+    records: &str,
+    milliseconds: i64,
+) -> Option<Session<MemStore>> {
+    let mut session = new_session(alloc)?;
+    let told = answers_at(alloc, &mut session, records.as_bytes(), milliseconds)?;
+    if told.contains("refused") {
+        None
+    } else {
+        Some(session)
+    }
+}
+
+/// A session on a new package after these records, each of which is accepted.
+pub(crate) fn session_after(alloc: Global, parts: &[&str]) -> Option<Session<MemStore>> {
+    let mut records = String::new(alloc);
+    for part in parts {
+        records.push_str(part).ok()?;
+    }
+    session_at(alloc, records.as_str(), 0)
+}

@@ -1,0 +1,274 @@
+//! What sessions on packages in memory answer, adopt, check and list.
+
+use crate::fakes::{Short, short_writer};
+use crate::packages::{
+    FINER, PYRAMID, RELATED, answers, new_session, session_after, session_at, text_of,
+};
+use mm_base::answers::{Fault, Open};
+use mm_base::streams::Io;
+use mm_core::Session;
+use mm_meta::create_in_memory;
+use sqlite::{Connection, MemStore};
+use std::alloc::Global;
+use std::fmt::Write;
+use std::io;
+use std::test::Fail;
+
+// A number with leading zeros, bytes that are no text, quotes, ends of lines, and a last record that its end cuts short.
+const RECORDS: &[u8] = b"srs,25832,ETRS89 / UTM zone 32N,EPSG,25832,projected metres,
+srs,25832,ETRS89 / UTM zone 32N,EPSG,25832,projected metres,
+srs,4326,A,NONE,1,undefined,
+srs,0,A,NONE,1,undefined,
+srs,9007199254740992,A,NONE,1,undefined,
+srs,9007199254740993,A,NONE,1,undefined,
+srs,5,,NONE,1,undefined,
+srs,5,A,NONE,1,undefined
+srs,5001,A,NONE,1,undefined,
+srs,007,B,NONE,1,undefined,
+\xff\xfe,1
+edition,\"a\"\"b\"
+edition,a\r
+edition,\"a";
+
+const ANSWERS: &str = "1 ok
+2 refused 20
+3 refused 20
+4 refused 11
+5 ok
+6 refused 11
+7 refused 11
+8 refused 10
+9 ok
+10 refused 10
+11 refused 10
+12 refused 12
+13 ok
+14 refused 50
+";
+
+/// What a session on a new package answers.
+fn new_answers(alloc: Global, records: &[u8]) -> Option<String> {
+    answers(alloc, &mut new_session(alloc)?, records)
+}
+
+#[test]
+fn answers_each_record(rt: HostRuntime) -> Result<(), Fail> {
+    let told = new_answers(rt.alloc(), RECORDS).expect(&rt, "answers");
+    assert_eq!(rt; told.as_str(), ANSWERS);
+    Ok(())
+}
+
+/// A session on the package of a connection that is in no transaction, or why there is none.
+fn adopt(alloc: Global, conn: Connection<MemStore>) -> Result<Session<MemStore>, Open> {
+    if !conn.is_autocommit() {
+        return Err(Open::Fault(Fault(91)));
+    }
+    match Session::adopt(alloc, conn) {
+        Ok(session) => Ok(session),
+        Err((_, why)) => Err(why),
+    }
+}
+
+/// What a session that adopts a new package answers, and then one that adopts what the first closed.
+fn adopted_answers(alloc: Global, record: &[u8]) -> Option<String> {
+    let mut session = adopt(alloc, create_in_memory(alloc).ok()?).ok()?;
+    let first = answers(alloc, &mut session, record)?;
+    let mut session = adopt(alloc, session.close()).ok()?;
+    let second = answers(alloc, &mut session, record)?;
+    format!(in alloc; "{}{}", first.as_str(), second.as_str()).ok()
+}
+
+#[test]
+fn adopts_what_it_closed(rt: HostRuntime) -> Result<(), Fail> {
+    let told = adopted_answers(rt.alloc(), b"srs,5,A,NONE,1,undefined,\n").expect(&rt, "answers");
+    assert_eq!(rt; told.as_str(), "1 ok\n1 refused 20\n");
+    Ok(())
+}
+
+/// Why a database without tables is not adopted.
+fn why_no_blank(alloc: Global) -> Option<Open> {
+    adopt(alloc, Connection::open_in_memory(alloc).ok()?).err()
+}
+
+#[test]
+fn adopts_no_blank_database(rt: HostRuntime) -> Result<(), Fail> {
+    assert_eq!(rt; why_no_blank(rt.alloc()), Some(Open::NoProfile));
+    Ok(())
+}
+
+/// The connection after a statement of the test's own.
+fn changed(conn: Connection<MemStore>, statement: &str) -> Option<Connection<MemStore>> {
+    let mut conn = conn;
+    match conn.execute_batch(statement) {
+        Ok(_) => Some(conn),
+        Err(_) => None,
+    }
+}
+
+/// The rule that the package of a session breaks, if it breaks one.
+fn checked(session: Session<MemStore>) -> Option<Option<u8>> {
+    let mut session = session;
+    session.check().ok()
+}
+
+/// Which rule the package breaks after a statement of the test's own, and none where it is adopted and checked.
+fn broken_rule(alloc: Global, statement: &str) -> Option<Option<u8>> {
+    let session = session_after(alloc, &[PYRAMID, FINER])?;
+    match adopt(alloc, changed(session.close(), statement)?) {
+        Ok(session) => checked(session),
+        Err(Open::Rule(rule)) => Some(Some(rule)),
+        Err(_) => None,
+    }
+}
+
+/// The lines `RULE:STATEMENT` with the rule that the package breaks after each statement, or `none`.
+fn broken_rules(alloc: Global, lines: &str) -> Option<String> {
+    let mut text = String::new(alloc);
+    for line in lines.lines() {
+        let (_, statement) = line.split_once(':')?;
+        match broken_rule(alloc, statement)? {
+            Some(rule) => writeln!(text, "{rule}:{statement}").ok()?,
+            None => writeln!(text, "none:{statement}").ok()?,
+        }
+    }
+    Some(text)
+}
+
+const BROKEN: &str = "none:
+1:DELETE FROM gpkg_spatial_ref_sys WHERE srs_id = 0
+5:DELETE FROM mm_tables WHERE table_name = 'base'
+7:UPDATE gpkg_tile_matrix SET pixel_x_size = 1999 WHERE zoom_level = 1
+10:INSERT INTO mm_tiles VALUES ('base', 1, 2, 0, x'00')
+14:UPDATE mm_tables SET kind = 'other'
+14:INSERT INTO gpkg_extensions VALUES ('gpkgext_relations', NULL, 'gpkg_related_tables', 'OGC 18-000', 'read-write')
+16:UPDATE gpkg_contents SET last_change = ''
+";
+
+#[test]
+fn adopts_what_meets_the_rules(rt: HostRuntime) -> Result<(), Fail> {
+    let told = broken_rules(rt.alloc(), BROKEN).expect(&rt, "answers");
+    assert_eq!(rt; told.as_str(), BROKEN);
+    Ok(())
+}
+
+/// Two tiles and a row more, and two editions.
+const EDITIONS: &str = "row,spots,8,Gate,,0
+tile,base,1,0,0,01
+tile,base,1,1,0,02
+edition,spring
+stage,spring,1,row-drop,spots,7
+stage,spring,2,row-drop,spots,8
+edition,autumn
+publish,autumn
+";
+
+/// Lists the package of a session.
+fn list<W: io::Write>(session: &mut Session<MemStore>, writer: &mut Io<W>) -> Result<(), Fault> {
+    match session.list(writer) {
+        Ok(()) => Ok(()),
+        Err(fault) => Err(fault),
+    }
+}
+
+/// The listing of the package of a session.
+fn listing(alloc: Global, session: Session<MemStore>) -> Option<String> {
+    let mut session = session;
+    let mut writer = Io::new(Vec::new(alloc));
+    list(&mut session, &mut writer).ok()?;
+    text_of(alloc, writer.into_inner().as_slice())
+}
+
+const FIVE_LINES: &str =
+    "base                     two                 2 1970-01-01T00:00:00.000Z Base map
+photos                   media               1 1970-01-01T00:00:00.000Z Photos
+spots                    attributes          2 1970-01-01T00:00:00.000Z Spots
+edition autumn published
+edition spring open 2
+";
+
+#[test]
+fn lists_tables_and_editions(rt: HostRuntime) -> Result<(), Fail> {
+    let parts = [PYRAMID, FINER, RELATED, EDITIONS];
+    let session = session_after(rt.alloc(), parts.as_slice()).expect(&rt, "a session");
+    let text = listing(rt.alloc(), session).expect(&rt, "a listing");
+    assert_eq!(rt; text.as_str(), FIVE_LINES);
+    Ok(())
+}
+
+/// The listing of a package after these records at this moment.
+fn listed_at(alloc: Global, records: &str, milliseconds: i64) -> Option<String> {
+    listing(alloc, session_at(alloc, records, milliseconds)?)
+}
+
+#[test]
+fn lists_no_table(rt: HostRuntime) -> Result<(), Fail> {
+    let text = listed_at(rt.alloc(), "", 0).expect(&rt, "a listing");
+    assert_eq!(rt; text.as_str(), "");
+    Ok(())
+}
+
+const ONE_LINE: &str =
+    "base                     two                 0 1970-01-01T00:00:00.000Z Base map\n";
+
+#[test]
+fn lists_a_pyramid(rt: HostRuntime) -> Result<(), Fail> {
+    let parts = [PYRAMID, FINER];
+    let session = session_after(rt.alloc(), parts.as_slice()).expect(&rt, "a session");
+    let text = listing(rt.alloc(), session).expect(&rt, "a listing");
+    assert_eq!(rt; text.as_str(), ONE_LINE);
+    Ok(())
+}
+
+const LEAP_DAY: &str =
+    "spots                    attributes          0 2000-02-29T23:59:59.999Z Spots\n";
+
+#[test]
+fn lists_the_moment_that_is_given(rt: HostRuntime) -> Result<(), Fail> {
+    let record = "table,spots,attributes,Spots\n";
+    let text = listed_at(rt.alloc(), record, 951868799999).expect(&rt, "a listing");
+    assert_eq!(rt; text.as_str(), LEAP_DAY);
+    Ok(())
+}
+
+/// The listing of a table whose name and identifier are as long as may be, with both cut away.
+fn longest_names(alloc: Global) -> Option<String> {
+    let name = "t".repeat(alloc, 60).ok()?;
+    let identifier = "i".repeat(alloc, 1000).ok()?;
+    let record = format!(in alloc;
+        "table,{},attributes,{}",
+        name.as_str(),
+        identifier.as_str()
+    );
+    let listing = listed_at(alloc, record.ok()?.as_str(), 0)?;
+    let rest = listing.as_str().strip_prefix(name.as_str())?;
+    let rest = rest.strip_suffix('\n')?.strip_suffix(identifier.as_str())?;
+    text_of(alloc, rest.as_bytes())
+}
+
+#[test]
+fn lists_the_longest_names(rt: HostRuntime) -> Result<(), Fail> {
+    let rest = longest_names(rt.alloc()).expect(&rt, "a listing");
+    assert_eq!(rt;
+        rest.as_str(),
+        " attributes          0 1970-01-01T00:00:00.000Z "
+    );
+    Ok(())
+}
+
+/// What a writer of ten bytes takes of a listing whose fault is 97, where no rule is broken behind it.
+fn cut_listing(alloc: Global) -> Option<String> {
+    let mut session = session_after(alloc, &[PYRAMID, FINER])?;
+    let mut writer = short_writer(alloc, 10);
+    if list(&mut session, &mut writer) != Err(Fault(97)) || checked(session) != Some(None) {
+        return None;
+    }
+    let Short { taken, .. } = writer.into_inner();
+    text_of(alloc, taken.as_slice())
+}
+
+#[test]
+fn lists_into_a_writer_that_fails(rt: HostRuntime) -> Result<(), Fail> {
+    let taken = cut_listing(rt.alloc()).expect(&rt, "a listing");
+    assert_eq!(rt; taken.as_str(), "base      ");
+    Ok(())
+}

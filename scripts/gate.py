@@ -154,7 +154,7 @@ def patched(folder=None):
 
 
 def compare(folder):
-    """Tries each edit alone, over the work that a gate with --keep left in the folder, and returns 1 where an answer is another one."""
+    """Tries each edit alone, over the work that a gate with GATE_KEEP left in the folder, and returns 1 where an answer is another one."""
     rt = load_rt()
     rt.rtlib.guarded()
     rt.Crate.cuts_libraries, rt.rtlib.Crate = True, rt.Crate

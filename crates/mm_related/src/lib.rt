@@ -1,4 +1,4 @@
-//! What an attribute row or medium is related to, read from its mapping rows. Here are also the tests of the calls on relations.
+//! What an attribute row or medium is related to, read from its mapping rows.
 //!
 //! - `listing`: the list of an item's mapping rows.
 //! - `items`: whether an item stands.

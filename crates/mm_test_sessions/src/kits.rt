@@ -1,7 +1,7 @@
 //! Imports of kits in memory into the edition of a package in memory.
 
 use crate::fakes::torn_folder;
-use crate::packages::{FINER, PYRAMID, RELATED, answers, session_after};
+use crate::packages::{FINER, PYRAMID, RELATED, answers, session_after, text_of};
 use mm_base::answers::{KitFault, Staged};
 use mm_base::entries::EditionState;
 use mm_base::moments::Moment;
@@ -62,6 +62,24 @@ fn state_text(alloc: Global, state: Option<EditionState>) -> Option<String> {
     }
 }
 
+/// Imports a folder into an edition.
+fn import<F: Folder>(
+    alloc: Global,
+    session: &mut Session<MemStore>,
+    name: &Name,
+    folder: &mut F,
+) -> Option<Result<Staged, KitFault>> {
+    match import_kit(alloc, session, name, folder, Moment::new(0)?) {
+        Ok(staged) => Some(Ok(staged)),
+        Err(stopped) => Some(Err(stopped)),
+    }
+}
+
+/// How an edition stands.
+fn state(session: &mut Session<MemStore>, name: &Name) -> Option<Option<EditionState>> {
+    session.edition(name).ok()
+}
+
 /// What the import of a folder answers, and how the edition then stands.
 fn imported<F: Folder>(
     alloc: Global,
@@ -70,9 +88,8 @@ fn imported<F: Folder>(
     folder: &mut F,
 ) -> Option<String> {
     let name = Name::read(edition)?;
-    let import = import_kit(alloc, session, &name, folder, Moment::new(0)?);
-    let import = import_text(alloc, import)?;
-    let state = state_text(alloc, session.edition(&name).ok()?)?;
+    let import = import_text(alloc, import(alloc, session, &name, folder)?)?;
+    let state = state_text(alloc, state(session, &name)?)?;
     format!(in alloc; "{}, {}", import.as_str(), state.as_str()).ok()
 }
 
@@ -96,19 +113,37 @@ fn imported_line(alloc: Global, session: &mut Session<MemStore>, line: &str) -> 
     let shelf = shelf_of(alloc, list.as_bytes(), second_of(second))?;
     let mut folder = torn_folder(shelf, failing.parse().ok()?);
     let told = imported(alloc, session, edition, &mut folder)?;
-    if folder.failed() != told.starts_with("fault 96") {
-        return None;
+    if folder.failed() == told.starts_with("fault 96") {
+        Some(told)
+    } else {
+        None
     }
-    Some(told)
 }
 
-/// The lines, each with what its import answers behind ` > `, on one session.
-fn imports(alloc: Global, session: &mut Session<MemStore>, lines: &str) -> Option<String> {
+/// What a line's import answers, or a record where it has no space.
+fn told_line(alloc: Global, session: &mut Session<MemStore>, line: &str) -> Option<String> {
+    if line.contains(' ') {
+        imported_line(alloc, session, line)
+    } else {
+        let told = answers(alloc, session, line.as_bytes())?;
+        text_of(
+            alloc,
+            told.as_str()
+                .strip_prefix("1 ")?
+                .strip_suffix('\n')?
+                .as_bytes(),
+        )
+    }
+}
+
+/// The lines, each with what it answers behind ` > `, on a package with an open edition.
+fn imports(alloc: Global, lines: &str) -> Option<String> {
+    let mut session = session_of(alloc)?;
     let mut text = String::new(alloc);
     for line in lines.lines() {
-        let (import, _) = line.split_once(" > ")?;
-        let told = imported_line(alloc, session, import)?;
-        writeln!(text, "{import} > {}", told.as_str()).ok()?;
+        let (line, _) = line.split_once(" > ")?;
+        let told = told_line(alloc, &mut session, line)?;
+        writeln!(text, "{line} > {}", told.as_str()).ok()?;
     }
     Some(text)
 }
@@ -120,22 +155,14 @@ k 02 0 1,tile,base,1,0,0,a.bin;2,tile,base,1,1,0,b.bin;3,row,spots,8,Gate,,0;4,m
 k 02 0 1,tile,base,1,0,0,a.bin;2,tile,base,1,1,0,b.bin;3,row,spots,8,Gate,,0;4,media,photos,4,image/png,c.bin;5,map,spot_photos,8,4 > complete 5, open 5
 k 09 0 1,tile,base,1,0,0,a.bin;2,tile,base,1,1,0,b.bin;3,row,spots,8,Gate,,0;4,media,photos,4,image/png,c.bin;5,map,spot_photos,8,4 > refused 2 52, open 5
 none 02 0 1,tile,base,1,0,0,a.bin;2,tile,base,1,1,0,b.bin;3,row,spots,8,Gate,,0;4,media,photos,4,image/png,c.bin;5,map,spot_photos,8,4 > refused 0 51, absent
-";
-
-const PUBLISHED: &str =
-    "k 02 0 1,tile,base,1,0,0,a.bin;2,tile,base,1,1,0,b.bin;3,row,spots,8,Gate,,0;4,media,photos,4,image/png,c.bin;5,map,spot_photos,8,4 > refused 0 55, published
+publish,k > ok
+k 02 0 1,tile,base,1,0,0,a.bin;2,tile,base,1,1,0,b.bin;3,row,spots,8,Gate,,0;4,media,photos,4,image/png,c.bin;5,map,spot_photos,8,4 > refused 0 55, published
 ";
 
 #[test]
 fn goes_on_after_a_stop_and_stages_nothing_twice(rt: HostRuntime) -> Result<(), Fail> {
-    let alloc = rt.alloc();
-    let mut session = session_of(alloc).expect(&rt, "a session");
-    let told = imports(alloc, &mut session, STOPPED).expect(&rt, "imports");
+    let told = imports(rt.alloc(), STOPPED).expect(&rt, "imports");
     assert_eq!(rt; told.as_str(), STOPPED);
-    let told = answers(alloc, &mut session, b"publish,k\n").expect(&rt, "an answer");
-    assert_eq!(rt; told.as_str(), "1 ok\n");
-    let told = imports(alloc, &mut session, PUBLISHED).expect(&rt, "imports");
-    assert_eq!(rt; told.as_str(), PUBLISHED);
     Ok(())
 }
 
@@ -148,6 +175,13 @@ k 02 0 1,row,spots,8,Gate,,0;2,tile,base,1,1,0, > refused 2 57, open 0
 k 02 0 1,row,spots,8,Gate,,0;2,tile,base,1,1,0,aaaaaaaaaaaaaaaaaaaaaaaaaaaaaaaaaaaaaaaaaaaaaaaaaaaaaaaaaaaaaaaaaaaaaaaaaaaaaaaaaaaaaaaaaaaaaaaaaaaaa > refused 2 57, open 0
 ";
 
+#[test]
+fn refuses_names_of_files(rt: HostRuntime) -> Result<(), Fail> {
+    let told = imports(rt.alloc(), FILE_NAMES).expect(&rt, "imports");
+    assert_eq!(rt; told.as_str(), FILE_NAMES);
+    Ok(())
+}
+
 const RECORDS: &str = "k 02 0 2,tile,base,1,0,0,a.bin;2,tile,base,1,1,0,b.bin > refused 1 56, open 0
 k 02 0 1,row,spots,8,Gate,,0;02,tile,base,1,1,0,a.bin > refused 2 10, open 0
 k 02 0 1,row,spots,8,Gate,,0;0,tile,base,1,1,0,a.bin > refused 2 11, open 0
@@ -156,15 +190,32 @@ k 02 0 1,drop,spots > refused 1 10, open 0
 ";
 
 #[test]
-fn refuses_lists_out_of_form(rt: HostRuntime) -> Result<(), Fail> {
-    let alloc = rt.alloc();
-    let mut session = session_of(alloc).expect(&rt, "a session");
-    let told = imports(alloc, &mut session, FILE_NAMES).expect(&rt, "imports");
-    assert_eq!(rt; told.as_str(), FILE_NAMES);
-    let told = imports(alloc, &mut session, RECORDS).expect(&rt, "imports");
+fn refuses_records(rt: HostRuntime) -> Result<(), Fail> {
+    let told = imports(rt.alloc(), RECORDS).expect(&rt, "imports");
     assert_eq!(rt; told.as_str(), RECORDS);
-    let mut no_text = shelf_of(alloc, b"1,row,spots,8,\xff\xfe,,0\n", None).expect(&rt, "a shelf");
-    let told = imported(alloc, &mut session, "k", &mut no_text).expect(&rt, "an import");
+    Ok(())
+}
+
+/// What the import of a list answers where `b.bin` has these bytes.
+fn imported_list(
+    alloc: Global,
+    session: &mut Session<MemStore>,
+    list: &[u8],
+    second: &[u8],
+) -> Option<String> {
+    let mut shelf = shelf_of(alloc, list, Some(second))?;
+    imported(alloc, session, "k", &mut shelf)
+}
+
+/// What the import of a list that is no text answers.
+fn imported_no_text(alloc: Global) -> Option<String> {
+    let list = b"1,row,spots,8,\xff\xfe,,0\n";
+    imported_list(alloc, &mut session_of(alloc)?, list, b"\x02")
+}
+
+#[test]
+fn refuses_a_record_that_is_no_text(rt: HostRuntime) -> Result<(), Fail> {
+    let told = imported_no_text(rt.alloc()).expect(&rt, "an import");
     assert_eq!(rt; told.as_str(), "refused 1 10, open 0");
     Ok(())
 }
@@ -180,62 +231,90 @@ k 02 0 1,tile,base,1,0,0,a.bin;2,tile,base,1,0,0,a..b > complete 2, open 2
 
 #[test]
 fn answers_by_the_files(rt: HostRuntime) -> Result<(), Fail> {
-    let alloc = rt.alloc();
-    let mut session = session_of(alloc).expect(&rt, "a session");
-    let told = imports(alloc, &mut session, FILES).expect(&rt, "imports");
+    let told = imports(rt.alloc(), FILES).expect(&rt, "imports");
     assert_eq!(rt; told.as_str(), FILES);
     Ok(())
 }
 
-/// What the import of a list of one tile answers, whose file has so many bytes.
-fn imported_tile(alloc: Global, length: usize) -> Option<String> {
-    let bytes = vec![in alloc; 122; length].ok()?;
-    let shelf = shelf_of(alloc, b"1,tile,base,0,0,0,b.bin\n", Some(bytes.as_slice()));
-    imported(alloc, &mut session_of(alloc)?, "k", &mut shelf?)
+/// What the imports of one tile answer, whose file has so many bytes, an import a line.
+fn imported_tiles(alloc: Global) -> Option<String> {
+    let mut session = session_of(alloc)?;
+    let mut text = String::new(alloc);
+    for length in [1048577, 1048576] {
+        let bytes = vec![in alloc; 122; length].ok()?;
+        let list = b"1,tile,base,0,0,0,b.bin\n";
+        let told = imported_list(alloc, &mut session, list, bytes.as_slice())?;
+        writeln!(text, "{length}: {}", told.as_str()).ok()?;
+    }
+    Some(text)
 }
 
 // A tile has 1,048,576 bytes at most.
+const TILES: &str = "1048577: refused 1 11, open 0
+1048576: complete 1, open 1
+";
+
 #[test]
 fn reads_files_up_to_their_limits(rt: HostRuntime) -> Result<(), Fail> {
-    let told = imported_tile(rt.alloc(), 1048577).expect(&rt, "an import");
-    assert_eq!(rt; told.as_str(), "refused 1 11, open 0");
-    let told = imported_tile(rt.alloc(), 1048576).expect(&rt, "an import");
-    assert_eq!(rt; told.as_str(), "complete 1, open 1");
+    let told = imported_tiles(rt.alloc()).expect(&rt, "imports");
+    assert_eq!(rt; told.as_str(), TILES);
     Ok(())
 }
 
 /// A list of so many rows.
-fn list_of_rows(alloc: Global, rows: u32) -> Option<Vec<u8>> {
+fn list_of_rows(alloc: Global, rows: u32) -> Option<String> {
     let mut list = String::new(alloc);
     for number in 0..rows {
         let place = number.saturating_add(1);
         writeln!(list, "{place},row,spots,{place},,,0").ok()?;
     }
-    Some(list.into_bytes())
+    Some(list)
 }
 
-/// What the import of a list answers.
-fn imported_list(alloc: Global, session: &mut Session<MemStore>, list: Vec<u8>) -> Option<String> {
-    let mut shelf = shelf_of(alloc, list.as_slice(), None)?;
-    imported(alloc, session, "k", &mut shelf)
+/// What the imports of lists of so many bytes that are no record answer, an import a line.
+fn imported_bytes(alloc: Global) -> Option<String> {
+    let mut session = session_of(alloc)?;
+    let mut text = String::new(alloc);
+    for length in [16777217, 16777216] {
+        let list = vec![in alloc; 97; length].ok()?;
+        let told = imported_list(alloc, &mut session, list.as_slice(), b"")?;
+        writeln!(text, "{length} bytes: {}", told.as_str()).ok()?;
+    }
+    Some(text)
 }
 
-// A list has 4,096 records at most, and 16,777,216 bytes.
+// A list has 16,777,216 bytes at most.
+const BYTES: &str = "16777217 bytes: refused 0 11, open 0
+16777216 bytes: refused 1 10, open 0
+";
+
 #[test]
-fn reads_lists_up_to_their_limits(rt: HostRuntime) -> Result<(), Fail> {
-    let alloc = rt.alloc();
-    let mut session = session_of(alloc).expect(&rt, "a session");
-    let list = vec![in alloc; 97; 16777217]?;
-    let told = imported_list(alloc, &mut session, list).expect(&rt, "an import");
-    assert_eq!(rt; told.as_str(), "refused 0 11, open 0");
-    let list = vec![in alloc; 97; 16777216]?;
-    let told = imported_list(alloc, &mut session, list).expect(&rt, "an import");
-    assert_eq!(rt; told.as_str(), "refused 1 10, open 0");
-    let list = list_of_rows(alloc, 4097).expect(&rt, "a list");
-    let told = imported_list(alloc, &mut session, list).expect(&rt, "an import");
-    assert_eq!(rt; told.as_str(), "refused 4097 54, open 0");
-    let list = list_of_rows(alloc, 4096).expect(&rt, "a list");
-    let told = imported_list(alloc, &mut session, list).expect(&rt, "an import");
-    assert_eq!(rt; told.as_str(), "complete 4096, open 4096");
+fn reads_lists_up_to_their_bytes(rt: HostRuntime) -> Result<(), Fail> {
+    let told = imported_bytes(rt.alloc()).expect(&rt, "imports");
+    assert_eq!(rt; told.as_str(), BYTES);
+    Ok(())
+}
+
+/// What the imports of lists of so many rows answer, an import a line.
+fn imported_rows(alloc: Global) -> Option<String> {
+    let mut session = session_of(alloc)?;
+    let mut text = String::new(alloc);
+    for rows in [4097, 4096] {
+        let list = list_of_rows(alloc, rows)?;
+        let told = imported_list(alloc, &mut session, list.as_bytes(), b"")?;
+        writeln!(text, "{rows} rows: {}", told.as_str()).ok()?;
+    }
+    Some(text)
+}
+
+// A list has 4,096 records at most.
+const ROWS: &str = "4097 rows: refused 4097 54, open 0
+4096 rows: complete 4096, open 4096
+";
+
+#[test]
+fn reads_lists_up_to_their_records(rt: HostRuntime) -> Result<(), Fail> {
+    let told = imported_rows(rt.alloc()).expect(&rt, "imports");
+    assert_eq!(rt; told.as_str(), ROWS);
     Ok(())
 }

@@ -1,14 +1,14 @@
 //! Requests and their responses, as docs/FORMATS.md describes the page.
 
 use crate::fakes::{Short, broken_reader, short_writer, slow_reader};
-use crate::packages::{FINER, PYRAMID, RELATED, new_session, session_after};
-use mm_base::answers::PageFault;
+use crate::packages::{FINER, PYRAMID, RELATED, new_session, session_at};
 use mm_base::streams::Io;
 use mm_core::Session;
 use mm_page::serve_one;
 use sqlite::MemStore;
 use std::alloc::Global;
 use std::fmt::Write;
+use std::io;
 use std::io::Read;
 use std::test::Fail;
 
@@ -39,216 +39,221 @@ const ONE_TABLE: &[u8] =
 const THREE_TABLES: &[u8] =
     b"HTTP/1.1 200 OK\r\nContent-Type: application/json\r\nContent-Length: 431\r\nConnection: close\r\n\r\n[{\"data_type\":\"tiles\",\"extent\":[500000000,5600000000,501024000,5601024000],\"identifier\":\"Base map\",\"kind\":\"two\",\"last_change\":\"1970-01-01T00:00:00.000Z\",\"srs_id\":25832,\"table\":\"base\"},{\"data_type\":\"attributes\",\"identifier\":\"Photos\",\"kind\":\"media\",\"last_change\":\"1970-01-01T00:00:00.000Z\",\"table\":\"photos\"},{\"data_type\":\"attributes\",\"identifier\":\"Spots\",\"kind\":\"attributes\",\"last_change\":\"1970-01-01T00:00:00.000Z\",\"table\":\"spots\"}]";
 
-/// A session on a package with a tile, and a row that is related to a medium.
-fn session_of(alloc: Global) -> Option<Session<MemStore>> {
-    session_after(
-        alloc,
-        &[PYRAMID, FINER, RELATED, "tile,base,1,0,1,89504e\n"],
-    )
-}
-
-/// What is written for a request.
-fn page(alloc: Global, session: &mut Session<MemStore>, request: &[u8]) -> Option<Vec<u8>> {
-    let mut reader = Io::new(request);
-    let mut writer = Io::new(Vec::new(alloc));
-    serve_one(alloc, session, &mut reader, &mut writer).ok()?;
-    Some(writer.into_inner())
-}
-
-/// Those of the requests that are given this response. Each is a line, in which a bar stands for a line end.
-fn given(
-    alloc: Global,
-    session: &mut Session<MemStore>,
-    requests: &str,
-    response: &[u8],
-) -> Option<String> {
-    let mut text = String::new(alloc);
-    for line in requests.lines() {
-        let request = line.replace(alloc, '|', "\r\n").ok()?;
-        let written = page(alloc, session, request.as_bytes())?;
-        if written.as_slice() == response {
-            writeln!(text, "{line}").ok()?;
-        }
-    }
-    Some(text)
-}
-
-// The last is two requests.
-const FOUND: [(&str, &[u8]); 5] = [
-    ("GET /tiles/base/1/0/1 HTTP/1.1|Host: localhost||\n", TILE),
-    ("GET /media/photos/3 HTTP/1.1||\n", MEDIUM),
-    ("GET /related/spots/7 HTTP/1.1||\n", MATES),
-    ("GET /contents?x=1 HTTP/1.0||\n", THREE_TABLES),
-    (
-        "GET /related/photos/3 HTTP/1.1||\nGET /related/photos/3 HTTP/1.1||GET /contents HTTP/1.1||\n",
-        EMPTY_LIST,
-    ),
+const RESPONSES: [(&str, &[u8]); 9] = [
+    ("bad request", BAD_REQUEST),
+    ("not found", NOT_FOUND),
+    ("not allowed", NOT_ALLOWED),
+    ("tile", TILE),
+    ("medium", MEDIUM),
+    ("mates", MATES),
+    ("empty list", EMPTY_LIST),
+    ("one table", ONE_TABLE),
+    ("three tables", THREE_TABLES),
 ];
 
-#[test]
-fn serves_what_stands(rt: HostRuntime) -> Result<(), Fail> {
-    let alloc = rt.alloc();
-    let mut session = session_of(alloc).expect(&rt, "a package");
-    for (requests, response) in FOUND {
-        let told = given(alloc, &mut session, requests, response).expect(&rt, "responses");
-        assert_eq!(rt; told.as_str(), requests);
-    }
-    Ok(())
-}
-
-const OF_NOTHING: &str = "GET /tiles/base/1/1/1 HTTP/1.1||
-GET /tiles/base/01/0/1 HTTP/1.1||
-GET /tiles/base/31/0/1 HTTP/1.1||
-GET /tiles/ba%73e/1/0/1 HTTP/1.1||
-GET /media/photos/03 HTTP/1.1||
-GET /media/photos/4 HTTP/1.1||
-GET /related/spots/8 HTTP/1.1||
-GET /related/spots/9007199254740993 HTTP/1.1||
-GET //contents HTTP/1.1||
-GET / HTTP/1.1||
-";
-
-const OF_OTHER_METHODS: &str = "POST /tiles/base/1/0/1 HTTP/1.1|Host: localhost||
-HEAD /contents HTTP/1.1||
-";
-
-// The first is cut before its last line end, and the second is empty.
-const OUT_OF_FORM: &str = "GET /tiles/base/1/0/1 HTTP/1.1|Host: localhost|\n\n";
-
-#[test]
-fn refuses_requests(rt: HostRuntime) -> Result<(), Fail> {
-    let alloc = rt.alloc();
-    let mut session = session_of(alloc).expect(&rt, "a package");
-    let told = given(alloc, &mut session, OF_NOTHING, NOT_FOUND).expect(&rt, "responses");
-    assert_eq!(rt; told.as_str(), OF_NOTHING);
-    let told = given(alloc, &mut session, OF_OTHER_METHODS, NOT_ALLOWED).expect(&rt, "responses");
-    assert_eq!(rt; told.as_str(), OF_OTHER_METHODS);
-    let told = given(alloc, &mut session, OUT_OF_FORM, BAD_REQUEST).expect(&rt, "responses");
-    assert_eq!(rt; told.as_str(), OUT_OF_FORM);
-    Ok(())
-}
-
-#[test]
-fn serves_contents(rt: HostRuntime) -> Result<(), Fail> {
-    let alloc = rt.alloc();
-    let request = "GET /contents HTTP/1.1||\n";
-    let mut empty = new_session(alloc).expect(&rt, "a package");
-    let told = given(alloc, &mut empty, request, EMPTY_LIST).expect(&rt, "a response");
-    assert_eq!(rt; told.as_str(), request);
-    let mut session = session_after(alloc, &[PYRAMID]).expect(&rt, "a package");
-    let told = given(alloc, &mut session, request, ONE_TABLE).expect(&rt, "a response");
-    assert_eq!(rt; told.as_str(), request);
-    Ok(())
-}
-
-/// A request of the contents with so many header lines, the last of which is padded to this length where it is shorter.
-fn long_head(alloc: Global, lines: usize, length: usize) -> Option<String> {
-    let mut head = String::new(alloc);
-    head.push_str("GET /contents HTTP/1.1\r\n").ok()?;
-    head.push_str(
-        "A: b\r\n"
-            .repeat(alloc, lines.checked_sub(1)?)
-            .ok()?
-            .as_str(),
-    )
-    .ok()?;
-    head.push_str("A: ").ok()?;
-    let rest = length.saturating_sub(4).saturating_sub(head.len());
-    head.push_str("b".repeat(alloc, rest).ok()?.as_str()).ok()?;
-    head.push_str("\r\n\r\n").ok()?;
-    if head.len() == length || length == 0 {
-        Some(head)
-    } else {
-        None
-    }
-}
-
-/// What is written for such a request.
-fn headed(
+/// Serves one request: the fault, or 0.
+fn serve<R: Read, W: io::Write>(
     alloc: Global,
     session: &mut Session<MemStore>,
-    lines: usize,
-    length: usize,
-) -> Option<Vec<u8>> {
-    let head = long_head(alloc, lines, length)?;
-    page(alloc, session, head.as_bytes())
-}
-
-// A head has 64 header lines at most, and 8,192 bytes.
-#[test]
-fn limits_heads(rt: HostRuntime) -> Result<(), Fail> {
-    let alloc = rt.alloc();
-    let mut session = new_session(alloc).expect(&rt, "a package");
-    let told = headed(alloc, &mut session, 64, 0).expect(&rt, "a response");
-    assert_eq!(rt; told.as_slice(), EMPTY_LIST);
-    let told = headed(alloc, &mut session, 65, 0).expect(&rt, "a response");
-    assert_eq!(rt; told.as_slice(), BAD_REQUEST);
-    let told = headed(alloc, &mut session, 1, 8192).expect(&rt, "a response");
-    assert_eq!(rt; told.as_slice(), EMPTY_LIST);
-    let told = headed(alloc, &mut session, 1, 8193).expect(&rt, "a response");
-    assert_eq!(rt; told.as_slice(), BAD_REQUEST);
-    Ok(())
-}
-
-/// The fault of one request, or 0.
-fn fault_of(outcome: Result<(), PageFault>) -> u8 {
-    match outcome {
+    reader: &mut Io<R>,
+    writer: &mut Io<W>,
+) -> u8 {
+    match serve_one(alloc, session, reader, writer) {
         Ok(()) => 0,
         Err(why) => why.0.0,
     }
 }
 
-/// The fault or 0 of a request, and what the writer took of its response: `FAULT BYTES`.
-fn served<R: Read>(
-    alloc: Global,
-    session: &mut Session<MemStore>,
-    reader: &mut Io<R>,
-    left: usize,
-) -> Option<String> {
-    let mut writer = short_writer(alloc, left);
-    let fault = fault_of(serve_one(alloc, session, reader, &mut writer));
-    let Short { taken, .. } = writer.into_inner();
-    format!(in alloc; "{fault} {}", taken.as_slice().escape_ascii()).ok()
+/// The name of a response.
+fn name_of(response: &[u8]) -> &'static str {
+    for (name, bytes) in RESPONSES {
+        if response == bytes {
+            return name;
+        }
+    }
+    if response.is_empty() {
+        "nothing"
+    } else {
+        "another response"
+    }
 }
 
-/// What a tile's request comes to where the writer takes from 0 bytes of the response to all: those that differ from what is wanted.
-fn other_cuts(alloc: Global, session: &mut Session<MemStore>) -> Option<String> {
+/// What is given to a request: the name of the response.
+fn given(alloc: Global, session: &mut Session<MemStore>, request: &[u8]) -> Option<&'static str> {
+    let mut reader = Io::new(request);
+    let mut writer = Io::new(Vec::new(alloc));
+    if serve(alloc, session, &mut reader, &mut writer) != 0 {
+        return None;
+    }
+    Some(name_of(writer.into_inner().as_slice()))
+}
+
+/// The lines `RESPONSE: REQUEST` with what each request is given on a package after these records. A bar stands for a line end.
+fn pages(alloc: Global, records: &str, lines: &str) -> Option<String> {
+    let mut session = session_at(alloc, records, 0)?;
+    let mut text = String::new(alloc);
+    for line in lines.lines() {
+        let (_, request) = line.split_once(": ")?;
+        let bytes = request.replace(alloc, '|', "\r\n").ok()?;
+        let name = given(alloc, &mut session, bytes.as_bytes())?;
+        writeln!(text, "{name}: {request}").ok()?;
+    }
+    Some(text)
+}
+
+/// A package with a tile, and a row that is related to a medium.
+fn records_of(alloc: Global) -> Option<String> {
+    let tile = "tile,base,1,0,1,89504e\n";
+    format!(in alloc; "{PYRAMID}{FINER}{RELATED}{tile}").ok()
+}
+
+// The second is cut before its last line end, the fourth is empty, and the last is two requests.
+const PAGES: &str = "tile: GET /tiles/base/1/0/1 HTTP/1.1|Host: localhost||
+bad request: GET /tiles/base/1/0/1 HTTP/1.1|Host: localhost|
+not allowed: POST /tiles/base/1/0/1 HTTP/1.1|Host: localhost||
+bad request: 
+not found: GET /tiles/base/1/1/1 HTTP/1.1||
+not found: GET /tiles/base/01/0/1 HTTP/1.1||
+not found: GET /tiles/base/31/0/1 HTTP/1.1||
+not found: GET /tiles/ba%73e/1/0/1 HTTP/1.1||
+medium: GET /media/photos/3 HTTP/1.1||
+not found: GET /media/photos/03 HTTP/1.1||
+not found: GET /media/photos/4 HTTP/1.1||
+mates: GET /related/spots/7 HTTP/1.1||
+not found: GET /related/spots/8 HTTP/1.1||
+not found: GET /related/spots/9007199254740993 HTTP/1.1||
+empty list: GET /related/photos/3 HTTP/1.1||
+three tables: GET /contents?x=1 HTTP/1.0||
+not found: GET //contents HTTP/1.1||
+not found: GET / HTTP/1.1||
+not allowed: HEAD /contents HTTP/1.1||
+empty list: GET /related/photos/3 HTTP/1.1||GET /contents HTTP/1.1||
+";
+
+/// What the requests are given on that package.
+fn all_pages(alloc: Global) -> Option<String> {
+    pages(alloc, records_of(alloc)?.as_str(), PAGES)
+}
+
+#[test]
+fn serves_requests(rt: HostRuntime) -> Result<(), Fail> {
+    let told = all_pages(rt.alloc()).expect(&rt, "responses");
+    assert_eq!(rt; told.as_str(), PAGES);
+    Ok(())
+}
+
+const NO_CONTENTS: &str = "empty list: GET /contents HTTP/1.1||\n";
+
+#[test]
+fn serves_no_contents(rt: HostRuntime) -> Result<(), Fail> {
+    let told = pages(rt.alloc(), "", NO_CONTENTS).expect(&rt, "a response");
+    assert_eq!(rt; told.as_str(), NO_CONTENTS);
+    Ok(())
+}
+
+const CONTENTS: &str = "one table: GET /contents HTTP/1.1||\n";
+
+#[test]
+fn serves_contents(rt: HostRuntime) -> Result<(), Fail> {
+    let told = pages(rt.alloc(), PYRAMID, CONTENTS).expect(&rt, "a response");
+    assert_eq!(rt; told.as_str(), CONTENTS);
+    Ok(())
+}
+
+/// A request of the contents with so many header lines, the last of which is padded to this length where it is shorter.
+fn long_head(alloc: Global, lines: usize, length: usize) -> Option<String> {
+    let fields = "A: b\r\n".repeat(alloc, lines.checked_sub(1)?).ok()?;
+    let head = format!(in alloc; "GET /contents HTTP/1.1\r\n{}A: ", fields.as_str()).ok()?;
+    let rest = length.saturating_sub(4).saturating_sub(head.len());
+    let rest = "b".repeat(alloc, rest).ok()?;
+    format!(in alloc; "{}{}\r\n\r\n", head.as_str(), rest.as_str()).ok()
+}
+
+/// What heads of so many header lines and bytes are given, a head a line.
+fn long_heads(alloc: Global) -> Option<String> {
+    let mut session = new_session(alloc)?;
+    let mut text = String::new(alloc);
+    for (lines, length) in [(64, 0), (65, 0), (1, 8192), (1, 8193)] {
+        let head = long_head(alloc, lines, length)?;
+        let name = given(alloc, &mut session, head.as_bytes())?;
+        writeln!(text, "{lines} lines, {} bytes: {name}", head.len()).ok()?;
+    }
+    Some(text)
+}
+
+// A head has 64 header lines at most, and 8,192 bytes.
+const HEADS: &str = "64 lines, 409 bytes: empty list
+65 lines, 415 bytes: bad request
+1 lines, 8192 bytes: empty list
+1 lines, 8193 bytes: bad request
+";
+
+#[test]
+fn limits_heads(rt: HostRuntime) -> Result<(), Fail> {
+    let told = long_heads(rt.alloc()).expect(&rt, "responses");
+    assert_eq!(rt; told.as_str(), HEADS);
+    Ok(())
+}
+
+/// The fault of a request or 0, where its writer takes so many bytes and takes that much of the response; else what it took.
+fn cut(alloc: Global, session: &mut Session<MemStore>, left: usize) -> Option<String> {
+    let mut reader = broken_reader(b"GET /tiles/base/1/0/1 HTTP/1.1\r\n\r\n", 1);
+    let mut writer = short_writer(alloc, left);
+    let fault = serve(alloc, session, &mut reader, &mut writer);
+    let Short { taken, .. } = writer.into_inner();
+    if TILE.get(..left)? == taken.as_slice() {
+        format!(in alloc; "{fault}").ok()
+    } else {
+        format!(in alloc; "{}", taken.as_slice().escape_ascii()).ok()
+    }
+}
+
+/// How many bytes the writers take of whom a request is not answered by 97 and the front of the response.
+fn whole_cuts(alloc: Global) -> Option<String> {
+    let mut session = session_at(alloc, records_of(alloc)?.as_str(), 0)?;
     let mut text = String::new(alloc);
     for left in 0..=TILE.len() {
-        let mut reader = broken_reader(b"GET /tiles/base/1/0/1 HTTP/1.1\r\n\r\n", 1);
-        let told = served(alloc, session, &mut reader, left)?;
-        let fault = if left < TILE.len() { 97 } else { 0 };
-        let front = TILE.get(..left)?;
-        let wanted = format!(in alloc; "{fault} {}", front.escape_ascii()).ok()?;
-        if told.as_str() != wanted.as_str() {
+        let told = cut(alloc, &mut session, left)?;
+        if told.as_str() != "97" {
             writeln!(text, "{left}: {}", told.as_str()).ok()?;
         }
     }
     Some(text)
 }
 
+// The response has 100 bytes.
 #[test]
 fn stops_where_the_writer_fails(rt: HostRuntime) -> Result<(), Fail> {
-    let alloc = rt.alloc();
-    let mut session = session_of(alloc).expect(&rt, "a package");
-    let told = other_cuts(alloc, &mut session).expect(&rt, "responses");
-    assert_eq!(rt; told.as_str(), "");
+    let told = whole_cuts(rt.alloc()).expect(&rt, "responses");
+    assert_eq!(rt; told.as_str(), "100: 0\n");
     Ok(())
+}
+
+/// The fault of a request or 0, and the name of what is written: none where nothing is.
+fn served<R: Read>(alloc: Global, reader: &mut Io<R>) -> Option<String> {
+    let mut writer = Io::new(Vec::new(alloc));
+    let fault = serve(alloc, &mut new_session(alloc)?, reader, &mut writer);
+    let written = writer.into_inner();
+    format!(in alloc; "{fault} {}", name_of(written.as_slice())).ok()
+}
+
+/// What is written where a reader fails in a head, where it ends there, and where it fails after bytes of no head.
+fn broken_heads(alloc: Global) -> Option<String> {
+    let failed = served(alloc, &mut broken_reader(b"GET /contents HTTP/1.1\r\n", 1))?;
+    let ended = served(alloc, &mut slow_reader(b"GET /contents HTTP/1.1\r\n"))?;
+    let no_head = served(alloc, &mut broken_reader(b"\0GET", 1))?;
+    format!(in alloc;
+        "{}, {}, {}",
+        failed.as_str(),
+        ended.as_str(),
+        no_head.as_str()
+    )
+    .ok()
 }
 
 #[test]
 fn stops_where_the_reader_fails(rt: HostRuntime) -> Result<(), Fail> {
-    let alloc = rt.alloc();
-    let mut session = new_session(alloc).expect(&rt, "a package");
-    let bad_request = format!(in alloc; "0 {}", BAD_REQUEST.escape_ascii())?;
-    let mut reader = broken_reader(b"GET /contents HTTP/1.1\r\n", 1);
-    let told = served(alloc, &mut session, &mut reader, 999).expect(&rt, "a fault");
-    assert_eq!(rt; told.as_str(), "96 ");
-    let mut reader = slow_reader(b"GET /contents HTTP/1.1\r\n");
-    let told = served(alloc, &mut session, &mut reader, 999).expect(&rt, "a response");
-    assert_eq!(rt; told.as_str(), bad_request.as_str());
-    let mut reader = broken_reader(b"\0GET", 1);
-    let told = served(alloc, &mut session, &mut reader, 999).expect(&rt, "a response");
-    assert_eq!(rt; told.as_str(), bad_request.as_str());
+    let told = broken_heads(rt.alloc()).expect(&rt, "responses");
+    assert_eq!(rt; told.as_str(), "96 nothing, 0 bad request, 0 bad request");
     Ok(())
 }

@@ -1,6 +1,6 @@
 //! Disks in memory that stop, and the package that is found when they are opened again.
 
-use mm_base::answers::{RunFault, Tally};
+use crate::packages::{run, text_of};
 use mm_base::moments::Moment;
 use mm_base::names::Name;
 use mm_base::streams::Io;
@@ -10,11 +10,21 @@ use sqlite::{Connection, FileStore, Files, Options};
 use sqlite_disk::{Fuse, Memory};
 use std::alloc::Global;
 use std::fmt::Write;
-use std::str::from_utf8;
 use std::test::Fail;
 
 /// A session on a package over two files in memory.
 type OnFiles = Session<FileStore<Fuse<Memory>>>;
+
+/// A session on a new package in the files of a connection.
+fn create(alloc: Global, conn: Connection<FileStore<Fuse<Memory>>>) -> Option<OnFiles> {
+    if !conn.is_autocommit() {
+        return None;
+    }
+    match Session::create(alloc, conn) {
+        Ok(session) => Some(session),
+        Err(_) => None,
+    }
+}
 
 /// A session on a new package; the log takes so many calls and then none.
 fn new_session(alloc: Global, calls: u64) -> Option<OnFiles> {
@@ -25,8 +35,10 @@ fn new_session(alloc: Global, calls: u64) -> Option<OnFiles> {
     if !files.may_be_used() {
         return None;
     }
-    let conn = Connection::open_files(alloc, files, Options::new(7)).ok()?;
-    Session::create(alloc, conn).ok()
+    match Connection::open_files(alloc, files, Options::new(7)) {
+        Ok(conn) => create(alloc, conn),
+        Err(_) => None,
+    }
 }
 
 const RECORDS: &[u8] = b"table,spots,attributes,Spots
@@ -49,30 +61,30 @@ fn found_in(session: &mut OnFiles) -> Option<(usize, bool, bool)> {
     Some((session.contents().ok()?.len(), first, second))
 }
 
-/// How many records a run acknowledged, and whether it met no stop.
-fn acknowledged(outcome: Result<Tally, RunFault>) -> (u64, bool) {
-    match outcome {
-        Ok(tally) => (tally.accepted, true),
-        Err(stopped) => (stopped.tally.accepted, false),
-    }
-}
-
-/// Whether the package that is found after a run is that of the records that were acknowledged, or of one more; and whether
-/// the run met no stop.
-fn finds_first_part(alloc: Global, session: OnFiles) -> Option<(bool, bool)> {
+/// A run whose files then crash: how many records it acknowledged, whether it met no stop, and the session that is then adopted.
+fn run_and_crash(alloc: Global, session: OnFiles) -> Option<(u64, bool, OnFiles)> {
     let mut reader = Io::new(RECORDS);
     let mut writer = Io::new(Vec::new(alloc));
     let at = Moment::new(0)?;
-    let (ran, again) = run_and_recover(
+    match run_and_recover(
         alloc,
         session,
         &mut reader,
         &mut writer,
         at,
         Options::new(7),
-    );
-    let mut again = again.ok()?;
-    let (done, ended) = acknowledged(ran);
+    ) {
+        (Ok(tally), Ok(again)) => Some((tally.accepted, true, again)),
+        (Err(stopped), Ok(again)) => Some((stopped.tally.accepted, false, again)),
+        (_, Err(_)) => None,
+    }
+}
+
+/// Whether the package that is found after a run is that of the records that were acknowledged, or of one more; and whether
+/// the run met no stop.
+fn finds_first_part(alloc: Global, session: OnFiles) -> Option<(bool, bool)> {
+    let (done, ended, again) = run_and_crash(alloc, session)?;
+    let mut again = again;
     let found = found_in(&mut again)?;
     let is_first = found == stands_after(done) || found == stands_after(done.saturating_add(1));
     Some((is_first, ended))
@@ -109,11 +121,8 @@ fn finds_a_first_part_after_each_stop(rt: HostRuntime) -> Result<(), Fail> {
 fn answer(alloc: Global, session: &mut OnFiles) -> Option<String> {
     let mut reader = Io::new(b"srs,5001,A,NONE,1,undefined,\n".as_slice());
     let mut writer = Io::new(Vec::new(alloc));
-    let _ = session.run_list(&mut reader, &mut writer, Moment::new(0)?);
-    let bytes = writer.into_inner();
-    let mut text = String::new(alloc);
-    text.push_str(from_utf8(bytes.as_slice()).ok()?).ok()?;
-    Some(text)
+    let _ = run(session, &mut reader, &mut writer, 0)?;
+    text_of(alloc, writer.into_inner().as_slice())
 }
 
 /// What a run of a record and then another answer on a disk whose log takes so many calls; None where it takes no package.

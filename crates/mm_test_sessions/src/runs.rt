@@ -4,13 +4,14 @@ ghost use Rattle.std.specs.Prelude.{◌≡◌};
 ghost use Rattle.mm_run.specs.Applied.{OnFault};
 
 use crate::fakes::{Short, broken_reader, short_writer, unflushed_writer};
-use mm_base::answers::{Answer, Fault, Refusal, RunFault, Tally};
+use mm_base::answers::{Answer, Fault, Refusal, Tally};
 use mm_base::commands::Command;
 use mm_base::moments::Moment;
 use mm_base::streams::Io;
 use mm_run::{Apply, run_list};
 use std::alloc::Global;
 use std::fmt::Write;
+use std::io;
 use std::io::Read;
 use std::test::Fail;
 
@@ -97,11 +98,16 @@ impl Apply for Desk {
 
 const TWO_EQUAL: &[u8] = b"srs,5001,A,NONE,1,undefined,\nsrs,5001,A,NONE,1,undefined,\n";
 
-/// The fault or 0, and the accepted and refused records and the lines that were written.
-fn counts(outcome: Result<Tally, RunFault>) -> (u8, Tally) {
-    match outcome {
-        Ok(tally) => (0, tally),
-        Err(stopped) => (stopped.fault.0, stopped.tally),
+/// Runs the records that the reader gives: the fault or 0, and the tally.
+fn run<R: Read, W: io::Write>(
+    alloc: Global,
+    desk: &mut Desk,
+    reader: &mut Io<R>,
+    writer: &mut Io<W>,
+) -> Option<(u8, Tally)> {
+    match run_list(alloc, desk, reader, writer, Moment::new(951868799999)?) {
+        Ok(tally) => Some((0, tally)),
+        Err(stopped) => Some((stopped.fault.0, stopped.tally)),
     }
 }
 
@@ -113,42 +119,59 @@ fn ran<R: Read>(
     writer: Io<Short>,
 ) -> Option<String> {
     let mut writer = writer;
-    let outcome = run_list(alloc, desk, reader, &mut writer, Moment::new(951868799999)?);
-    let (fault, tally) = counts(outcome);
+    let (fault, tally) = run(alloc, desk, reader, &mut writer)?;
     if writer.failed() != (fault == 97) || reader.failed() != (fault == 96) {
         return None;
     }
     let Short { taken, .. } = writer.into_inner();
-    let mut text = String::new(alloc);
-    write!(
-        text,
-        "{fault} {} {} {} ",
-        tally.accepted, tally.refused, tally.written
-    )
-    .ok()?;
-    write!(text, "{}", taken.as_slice().escape_ascii()).ok()?;
-    Some(text)
+    let bytes = taken.as_slice().escape_ascii();
+    let Tally {
+        accepted,
+        refused,
+        written,
+    } = tally;
+    format!(in alloc; "{fault} {accepted} {refused} {written} {bytes}").ok()
 }
 
-#[test]
-fn answers_each_record(rt: HostRuntime) -> Result<(), Fail> {
-    let alloc = rt.alloc();
-    // A number with a leading zero; bytes that are no text; a quote that is open at the end.
-    let records: &[u8] =
-        b"srs,5001,A,NONE,1,undefined,\nsrs,007,B,NONE,1,undefined,\n\xff\xfe,1\nsrs,5002,C,NONE,1,undefined,\nsrs,5002,C,NONE,1,undefined,\"a";
-    let mut desk = new_desk(alloc, 9);
-    let told = ran(
+/// What a run of these records comes to on a desk that answers so many commands, by a writer that takes so many bytes.
+fn ran_on(alloc: Global, left: u32, records: &[u8], room: usize) -> Option<String> {
+    let mut desk = new_desk(alloc, left);
+    ran(
         alloc,
         &mut desk,
         &mut Io::new(records),
-        short_writer(alloc, 99),
+        short_writer(alloc, room),
     )
-    .expect(&rt, "a run");
-    assert_eq!(rt;
-        told.as_str(),
-        r"0 2 3 5 1 ok\n2 refused 10\n3 refused 10\n4 ok\n5 refused 20\n"
-    );
-    assert_eq!(rt; desk.moment, 951868799999);
+}
+
+// A number with a leading zero; bytes that are no text; a quote that is open at the end.
+const RECORDS: &[u8] =
+    b"srs,5001,A,NONE,1,undefined,\nsrs,007,B,NONE,1,undefined,\n\xff\xfe,1\nsrs,5002,C,NONE,1,undefined,\nsrs,5002,C,NONE,1,undefined,\"a";
+
+const ANSWERS: &str = r"0 2 3 5 1 ok\n2 refused 10\n3 refused 10\n4 ok\n5 refused 20\n";
+
+#[test]
+fn answers_each_record(rt: HostRuntime) -> Result<(), Fail> {
+    let told = ran_on(rt.alloc(), 9, RECORDS, 99).expect(&rt, "a run");
+    assert_eq!(rt; told.as_str(), ANSWERS);
+    Ok(())
+}
+
+/// The moment at which a desk is told to do the commands of a run.
+fn moment_told(alloc: Global) -> Option<u64> {
+    let mut desk = new_desk(alloc, 9);
+    ran(
+        alloc,
+        &mut desk,
+        &mut Io::new(RECORDS),
+        short_writer(alloc, 99),
+    )?;
+    Some(desk.moment)
+}
+
+#[test]
+fn hands_the_moment_on(rt: HostRuntime) -> Result<(), Fail> {
+    assert_eq!(rt; moment_told(rt.alloc()), Some(951868799999));
     Ok(())
 }
 
@@ -177,13 +200,7 @@ const CUT: &str = r"0: 97 1 0 0
 fn cut_runs(alloc: Global) -> Option<String> {
     let mut text = String::new(alloc);
     for left in 0..=18 {
-        let mut desk = new_desk(alloc, 9);
-        let told = ran(
-            alloc,
-            &mut desk,
-            &mut Io::new(TWO_EQUAL),
-            short_writer(alloc, left),
-        )?;
+        let told = ran_on(alloc, 9, TWO_EQUAL, left)?;
         writeln!(text, "{left}: {}", told.as_str()).ok()?;
     }
     Some(text)
@@ -196,61 +213,77 @@ fn tells_where_the_writer_failed(rt: HostRuntime) -> Result<(), Fail> {
     Ok(())
 }
 
-#[test]
-fn tells_where_a_flush_failed(rt: HostRuntime) -> Result<(), Fail> {
-    let alloc = rt.alloc();
+/// What a run of two equal records comes to where the writer can't be flushed.
+fn unflushed_run(alloc: Global) -> Option<String> {
     let mut desk = new_desk(alloc, 9);
-    let told = ran(
+    ran(
         alloc,
         &mut desk,
         &mut Io::new(TWO_EQUAL),
         unflushed_writer(alloc),
     )
-    .expect(&rt, "a run");
+}
+
+#[test]
+fn tells_where_a_flush_failed(rt: HostRuntime) -> Result<(), Fail> {
+    let told = unflushed_run(rt.alloc()).expect(&rt, "a run");
     assert_eq!(rt; told.as_str(), r"97 1 0 1 1 ok\n");
     Ok(())
 }
 
-/// What a run of so many bytes of two equal records comes to where the reader then fails.
-fn ran_until(alloc: Global, length: usize) -> Option<String> {
-    let mut reader = broken_reader(TWO_EQUAL.get(..length)?, 5);
-    ran(
-        alloc,
-        &mut new_desk(alloc, 9),
-        &mut reader,
-        short_writer(alloc, 99),
-    )
+/// What runs of the first bytes of two equal records come to where the reader then fails: after the first record, and three
+/// bytes later.
+fn broken_runs(alloc: Global) -> Option<String> {
+    let mut text = String::new(alloc);
+    for length in [29, 32] {
+        let mut reader = broken_reader(TWO_EQUAL.get(..length)?, 5);
+        let told = ran(
+            alloc,
+            &mut new_desk(alloc, 9),
+            &mut reader,
+            short_writer(alloc, 99),
+        )?;
+        writeln!(text, "{length}: {}", told.as_str()).ok()?;
+    }
+    Some(text)
 }
+
+const BROKEN: &str = r"29: 96 1 0 2 1 ok\n2 fault 96\n
+32: 96 1 0 2 1 ok\n2 fault 96\n
+";
 
 #[test]
 fn tells_where_the_reader_failed(rt: HostRuntime) -> Result<(), Fail> {
-    // After the first record, and three bytes later.
-    let told = ran_until(rt.alloc(), 29).expect(&rt, "a run");
-    assert_eq!(rt; told.as_str(), r"96 1 0 2 1 ok\n2 fault 96\n");
-    let told = ran_until(rt.alloc(), 32).expect(&rt, "a run");
-    assert_eq!(rt; told.as_str(), r"96 1 0 2 1 ok\n2 fault 96\n");
+    let told = broken_runs(rt.alloc()).expect(&rt, "runs");
+    assert_eq!(rt; told.as_str(), BROKEN);
     Ok(())
 }
 
+/// What two runs come to on a desk whose store fails at the second command.
+fn failed_runs(alloc: Global) -> Option<String> {
+    let mut desk = new_desk(alloc, 1);
+    let first = ran(
+        alloc,
+        &mut desk,
+        &mut Io::new(TWO_EQUAL),
+        short_writer(alloc, 99),
+    )?;
+    let second = ran(
+        alloc,
+        &mut desk,
+        &mut Io::new(TWO_EQUAL),
+        short_writer(alloc, 99),
+    )?;
+    format!(in alloc; "{}\n{}\n", first.as_str(), second.as_str()).ok()
+}
+
+const FAILED: &str = r"91 1 0 2 1 ok\n2 fault 91\n
+92 0 0 1 1 fault 92\n
+";
+
 #[test]
 fn ends_at_a_fault_of_the_store(rt: HostRuntime) -> Result<(), Fail> {
-    let alloc = rt.alloc();
-    let mut desk = new_desk(alloc, 1);
-    let told = ran(
-        alloc,
-        &mut desk,
-        &mut Io::new(TWO_EQUAL),
-        short_writer(alloc, 99),
-    )
-    .expect(&rt, "a run");
-    assert_eq!(rt; told.as_str(), r"91 1 0 2 1 ok\n2 fault 91\n");
-    let told = ran(
-        alloc,
-        &mut desk,
-        &mut Io::new(TWO_EQUAL),
-        short_writer(alloc, 99),
-    )
-    .expect(&rt, "a run");
-    assert_eq!(rt; told.as_str(), r"92 0 0 1 1 fault 92\n");
+    let told = failed_runs(rt.alloc()).expect(&rt, "runs");
+    assert_eq!(rt; told.as_str(), FAILED);
     Ok(())
 }

@@ -16,6 +16,14 @@ use std::test::Fail;
 /// A connection to two files in memory.
 type OnFiles = Connection<FileStore<Memory>>;
 
+/// A connection to a new package in its files.
+fn make(alloc: Global, conn: OnFiles) -> Option<OnFiles> {
+    if !conn.is_autocommit() {
+        return None;
+    }
+    make_package(alloc, conn).ok()
+}
+
 /// A connection to a new package.
 fn new_package(alloc: Global) -> Option<OnFiles> {
     let files = Files {
@@ -25,8 +33,10 @@ fn new_package(alloc: Global) -> Option<OnFiles> {
     if !files.may_be_used() {
         return None;
     }
-    let conn = Connection::open_files(alloc, files, Options::new(7)).ok()?;
-    make_package(alloc, conn).ok()
+    match Connection::open_files(alloc, files, Options::new(7)) {
+        Ok(conn) => make(alloc, conn),
+        Err(_) => None,
+    }
 }
 
 /// The status of a run, and the connection.
@@ -46,9 +56,14 @@ const RECORD: &[u8] = b"srs,5001,A,NONE,1,undefined,\n";
 
 const TWO_EQUAL: &[u8] = b"srs,5001,A,NONE,1,undefined,\nsrs,5001,A,NONE,1,undefined,\n";
 
+/// The connection once its files are closed and opened again.
+fn reopened(alloc: Global, conn: OnFiles) -> Option<OnFiles> {
+    open_after_close(alloc, conn, Options::new(7)).ok()
+}
+
 /// What a run of the first record answers, once the files are closed and opened again.
 fn again(alloc: Global, conn: OnFiles) -> Option<Vec<u8>> {
-    let conn = open_after_close(alloc, conn, Options::new(7)).ok()?;
+    let conn = reopened(alloc, conn)?;
     let mut writer = Io::new(Vec::new(alloc));
     run(alloc, conn, &mut Io::new(RECORD), &mut writer)?;
     Some(writer.into_inner())
@@ -110,34 +125,41 @@ fn ends_where_the_writer_fails(rt: HostRuntime) -> Result<(), Fail> {
     Ok(())
 }
 
-/// The same of a run of so many bytes, after which the reader fails: `STATUS BYTES > BYTES`.
-fn ran_until(alloc: Global, length: usize) -> Option<String> {
-    let mut reader = broken_reader(TWO_EQUAL.get(..length)?, 5);
-    let (told, found) = told(alloc, &mut reader, 99)?;
-    format!(in alloc; "{} > {}", told.as_str(), found.as_slice().escape_ascii()).ok()
+/// Runs of the first bytes of two equal records, after which the reader fails, a run a line: after the first record, and three
+/// bytes later. Each line tells what the first record is answered after it.
+fn broken_runs(alloc: Global) -> Option<String> {
+    let mut text = String::new(alloc);
+    for length in [29, 32] {
+        let mut reader = broken_reader(TWO_EQUAL.get(..length)?, 5);
+        let (told, found) = told(alloc, &mut reader, 99)?;
+        let found = found.as_slice().escape_ascii();
+        writeln!(text, "{length}: {} > {found}", told.as_str()).ok()?;
+    }
+    Some(text)
 }
+
+const BROKEN: &str = r"29: 3 1 ok\n2 fault 96\n > 1 refused 20\n
+32: 3 1 ok\n2 fault 96\n > 1 refused 20\n
+";
 
 #[test]
 fn ends_where_the_reader_fails(rt: HostRuntime) -> Result<(), Fail> {
-    // After the first record, and three bytes later.
-    let told = ran_until(rt.alloc(), 29).expect(&rt, "a run");
-    assert_eq!(rt; told.as_str(), r"3 1 ok\n2 fault 96\n > 1 refused 20\n");
-    let told = ran_until(rt.alloc(), 32).expect(&rt, "a run");
-    assert_eq!(rt; told.as_str(), r"3 1 ok\n2 fault 96\n > 1 refused 20\n");
+    let told = broken_runs(rt.alloc()).expect(&rt, "runs");
+    assert_eq!(rt; told.as_str(), BROKEN);
     Ok(())
+}
+
+/// The statuses of a text, of why the work was not done, and of a package that is made, where nothing can be printed.
+fn unprinted(alloc: Global) -> [u8; 3] {
+    [
+        tell_text(&mut short_writer(alloc, 3), "Usage: mmpkg <COMMAND>", DONE),
+        tell_stop(&mut short_writer(alloc, 3), Stop::NotPackage(94)),
+        tell_init(&mut short_writer(alloc, 3), Ok(())),
+    ]
 }
 
 #[test]
 fn ends_where_nothing_is_printed(rt: HostRuntime) -> Result<(), Fail> {
-    let alloc = rt.alloc();
-    assert_eq!(rt;
-        tell_text(&mut short_writer(alloc, 3), "Usage: mmpkg <COMMAND>", DONE),
-        FAULT
-    );
-    assert_eq!(rt;
-        tell_stop(&mut short_writer(alloc, 3), Stop::NotPackage(94)),
-        FAULT
-    );
-    assert_eq!(rt; tell_init(&mut short_writer(alloc, 3), Ok(())), FAULT);
+    assert_eq!(rt; unprinted(rt.alloc()), [FAULT; 3]);
     Ok(())
 }

@@ -9,6 +9,7 @@ as memory holds; a crate gets the processors that stand idle as jobs. What is bu
 """
 import copy
 import os
+import signal
 import sys
 import tempfile
 import threading
@@ -41,6 +42,8 @@ def build(rt, crate, jobs, progress):
     with tempfile.TemporaryFile("w+", errors="replace") as crate.out:
         os.makedirs(f"{crate.folder}/out", exist_ok=True)
         status = crate.build_rlib(["--jobs", str(jobs)], anew=False)
+        if status == -signal.SIGKILL:
+            status = crate.build_rlib(["--jobs", "1"], anew=False)
         crate.out.seek(0)
         said = "".join(crate.out.readlines()[-40:]) if status else ""
     progress.tell(crate, "NOT PROVED" if status else "proved", said)

@@ -1,0 +1,212 @@
+"""What the tools at the border share: the profile's limits, and how command lists and kits are written.
+
+The tools are export_standard.py, import_standard.py and make_kit.py. Nothing here is proved: docs/FORMATS.md has the limits, the records
+and the kits, docs/BORDER.md says what goes across, and scripts/border.sh compares.
+"""
+
+import argparse
+import dataclasses
+import math
+import pathlib
+import re
+import sys
+
+# By the version in mm_profile, how many units of a package's coordinates and pixel sizes are a metre.
+UNITS_OF_VERSION = {1: 1_000, 2: 1_000_000}
+
+# The unit of records that are written here. With version 2 of the profile this one line changes: the limits below grow with the unit.
+# Once the program tells which version it makes, it is to be asked.
+UNITS_PER_METRE = UNITS_OF_VERSION[1]
+COORDINATE_LIMIT = 100_000_000 * UNITS_PER_METRE
+PIXEL_SIZE_LIMIT = 1_000_000 * UNITS_PER_METRE
+
+NUMBER_LIMIT = 2**53
+AMOUNT_LIMIT = 10**15
+ZOOM_LIMIT = 30
+MATRIX_LIMIT = 2**30
+TILE_SIDE_LIMIT = 4096
+TEXT_LIMIT = 1000
+DEFINITION_LIMIT = 8192
+TILE_LIMIT = 1_048_576
+MEDIA_LIMIT = 4_194_304
+KIT_PIECES = 4096
+KIT_LIST_LIMIT = 16_777_216
+
+GIVEN_SYSTEMS = (-1, 0, 4326)
+GEOGRAPHIC_SYSTEMS = (0, 4326)
+
+NAME = re.compile(r"(?!gpkg|sqlite|mm_)[a-z_][a-z0-9_]{0,59}")
+CONTENT_TYPE = re.compile(r"[A-Za-z0-9!#$&^_.+-]{1,64}/[A-Za-z0-9!#$&^_.+-]{1,64}")
+
+
+class Refused(Exception):
+    """Work that can't be done: a message, and the exit status that tells it."""
+
+    def __init__(self, message, status=2):
+        super().__init__(message)
+        self.status = status
+
+
+class Report:
+    """Tells on standard error what does not cross the border, and counts what was left out."""
+
+    def __init__(self):
+        self.count = 0
+
+    def left_out(self, what, why):
+        self.count += 1
+        print(f"left out: {what}: {why}", file=sys.stderr)
+
+    def note(self, what, why):
+        print(f"note: {what}: {why}", file=sys.stderr)
+
+
+def arguments(description):
+    """A parser whose help is the docstring of a tool as it stands."""
+    return argparse.ArgumentParser(usage=argparse.SUPPRESS, description=description, add_help=True,
+                                   formatter_class=argparse.RawDescriptionHelpFormatter)
+
+
+def run_tool(main):
+    """Runs a tool and ends with its exit status; a refusal is told on standard error."""
+    try:
+        sys.exit(main())
+    except Refused as refused:
+        print(refused, file=sys.stderr)
+        sys.exit(refused.status)
+    except OSError as error:
+        print(error, file=sys.stderr)
+        sys.exit(2)
+
+
+def quoted(name):
+    """A name as SQL spells it."""
+    return '"' + name.replace('"', '""') + '"'
+
+
+def is_name(text):
+    return isinstance(text, str) and NAME.fullmatch(text) is not None
+
+
+def is_whole(value, least, most):
+    """Whether a value of a column is a whole number within limits."""
+    return isinstance(value, int) and least <= value <= most
+
+
+def is_text(value, least, most):
+    """Whether a value of a column is a text of UTF-8 without byte 0 within limits, which count bytes."""
+    if not isinstance(value, str) or "\0" in value:
+        return False
+    try:
+        return least <= len(value.encode()) <= most
+    except UnicodeEncodeError:
+        return False
+
+
+def is_identifier(value):
+    return is_text(value, 1, TEXT_LIMIT) and not any(ord(letter) < 0x20 or ord(letter) == 0x7F for letter in value)
+
+
+def whole_units(metres):
+    """A DOUBLE of metres in whole units, None where it is not whole.
+
+    What a sum or a quotient of DOUBLEs is off by is passed over: a millionth of a unit, or a few steps of a DOUBLE of that size.
+    """
+    if not isinstance(metres, (int, float)) or not math.isfinite(metres):
+        return None
+    units = round(metres * UNITS_PER_METRE)
+    off = abs(metres - units / UNITS_PER_METRE)
+    return units if off <= max(1e-6 / UNITS_PER_METRE, 4 * math.ulp(metres)) else None
+
+
+def image_suffix(data):
+    """The suffix of a file with such bytes, by the three image formats of the standard's tiles; empty for other bytes."""
+    if data.startswith(b"\x89PNG"):
+        return ".png"
+    if data.startswith(b"\xff\xd8\xff"):
+        return ".jpg"
+    if data.startswith(b"RIFF") and data[8:12] == b"WEBP":
+        return ".webp"
+    return ""
+
+
+def record(fields):
+    """A record of a command list or of a kit's list, with its line end."""
+    return ",".join(map(field, fields)) + "\n"
+
+
+def field(value):
+    text = str(value)
+    if any(letter in text for letter in ',"\r\n'):
+        return '"' + text.replace('"', '""') + '"'
+    return text
+
+
+@dataclasses.dataclass
+class Piece:
+    """A record of content. The last field of a tile or a media item, its bytes, is kept apart, with the name that a kit's file gets."""
+
+    fields: list
+    data: bytes | None = None
+    file: str = ""
+
+    def command(self):
+        return record(self.fields if self.data is None else [*self.fields, self.data.hex()])
+
+
+def tile_piece(table, zoom, column, row, data):
+    return Piece(["tile", table, zoom, column, row], data, f"{table}-{zoom}-{column}-{row}{image_suffix(data)}")
+
+
+def media_piece(table, number, content_type, data):
+    return Piece(["media", table, number, content_type], data, f"{table}-{number}")
+
+
+class KitWriter:
+    """Writes pieces as kits: the first in FOLDER for EDITION, and where one is full the next in FOLDER_2 for EDITION_2, and so on."""
+
+    def __init__(self, edition, folder):
+        self.edition = edition
+        self.folder = pathlib.Path(folder)
+        self.kits = []
+        self.lines = []
+        self.size = 0
+
+    def add(self, piece):
+        line = self.line(piece)
+        if not self.kits or len(self.lines) == KIT_PIECES or self.size + len(line.encode()) > KIT_LIST_LIMIT:
+            self.begin()
+            line = self.line(piece)
+        if piece.data is not None:
+            (self.kits[-1][1] / piece.file).write_bytes(piece.data)
+        self.lines.append(line)
+        self.size += len(line.encode())
+
+    def line(self, piece):
+        """The record of a piece behind those that stand in the kit."""
+        return record([len(self.lines) + 1, *piece.fields, *([] if piece.data is None else [piece.file])])
+
+    def begin(self):
+        """Ends the kit that stands, and begins the next."""
+        self.end()
+        suffix = f"_{len(self.kits) + 1}" if self.kits else ""
+        edition = self.edition + suffix
+        if not is_name(edition):
+            raise Refused(f"{edition!r} is no name of an edition")
+        folder = pathlib.Path(f"{self.folder}{suffix}")
+        folder.mkdir(parents=True)
+        self.kits.append((edition, folder))
+
+    def end(self):
+        """Writes the list of the kit that stands: the last of its files, so that a kit which was cut short has none."""
+        if self.kits:
+            (self.kits[-1][1] / "kit.csv").write_text("".join(self.lines), encoding="utf-8", newline="")
+        self.lines = []
+        self.size = 0
+
+    def tell(self):
+        """Ends the last kit, and prints the commands that take the kits in."""
+        self.end()
+        for edition, folder in self.kits:
+            print(f"mmpkg kit FILE {edition} {folder}")
+            print(f"echo publish,{edition} | mmpkg run FILE")

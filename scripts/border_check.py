@@ -1,0 +1,476 @@
+#!/usr/bin/env python3
+"""Compares what crosses the border with GDAL's view of it, and packages with what comes back. Called by scripts/border.sh.
+
+    MMPKG=out/mmpkg scripts/border_check.py [--python PYTHON] [WORD ..]
+
+PYTHON is an interpreter with GDAL's modules (Debian's python3-gdal is for /usr/bin/python3); WORD picks the checks whose names have it.
+The last line is 'N passed, M failed'; the exit status is 1 where one failed.
+
+Two packages are equal where 'mmpkg list' tells the same tables at the same moments, and all tables have the same rows. Editions, their
+pieces and the ids of relations are no part of it, and a definition of a system that is no WKT counts as 'undefined'.
+"""
+
+import argparse
+import contextlib
+import hashlib
+import os
+import pathlib
+import random
+import re
+import sqlite3
+import subprocess
+import sys
+import tempfile
+import time
+import traceback
+
+import page_map
+from border import KIT_PIECES, UNITS_OF_VERSION, UNITS_PER_METRE, Piece, media_piece, record, tile_piece, whole_units
+
+TOP = pathlib.Path(__file__).resolve().parent.parent
+SCRIPTS = TOP / "scripts"
+PROGRAM = os.path.realpath(os.environ.get("MMPKG") or TOP / "out" / "mmpkg")
+UTM = 'PROJCS["a grid",GEOGCS["g",DATUM["d",SPHEROID["s",6378137,298]],PRIMEM["p",0],UNIT["degree",0.01745]],UNIT["metre",1]]'
+NOT_COMPARED = {("gpkg_contents", "last_change"), ("gpkgext_relations", "id")}
+RELATIONSHIPS = """
+import sys
+from osgeo import gdal
+opened = gdal.OpenEx(sys.argv[1], gdal.OF_VECTOR)
+for name in opened.GetRelationshipNames() or []:
+    it = opened.GetRelationship(name)
+    print(it.GetLeftTableName(), it.GetRightTableName(), it.GetMappingTableName(), it.GetRelatedTableType())
+"""
+python_with_gdal = "/usr/bin/python3"
+
+
+def run(*command, status=0, given=None):
+    """Runs a command, which has to end with the status, and answers what it printed and what it told on standard error."""
+    done = subprocess.run([str(word) for word in command], input=given, stdout=subprocess.PIPE, stderr=subprocess.PIPE, check=False,
+                          env={**os.environ, "MMPKG": PROGRAM})
+    out, err = done.stdout.decode(), done.stderr.decode()
+    assert done.returncode == status, f"{command[:6]} ended with {done.returncode}: {out[-500:]}{err[-500:]}"
+    return out, err
+
+
+def mmpkg(*words, status=0, given=None):
+    return run(PROGRAM, *words, status=status, given=given)[0]
+
+
+def tool(name, *words, status=0):
+    return run(SCRIPTS / name, *words, status=status)
+
+
+def expect(found, wanted, what):
+    assert found == wanted, f"{what}: {found!r}, wanted {wanted!r}"
+
+
+def new_package(file, records, status=0):
+    mmpkg("init", file)
+    mmpkg("run", file, "--at", "0", given=records.encode(), status=status)
+
+
+def listing(file):
+    """The tables that the program lists, without the editions."""
+    return [line for line in mmpkg("list", file).splitlines() if not re.fullmatch("edition [a-z0-9_]+ (open [0-9]+|published)", line)]
+
+
+def rows_of(file):
+    """By table, the rows of a package that are compared."""
+    with contextlib.closing(sqlite3.connect(f"file:{file}?mode=ro", uri=True)) as opened:
+        tables = [name for (name,) in opened.execute("SELECT name FROM sqlite_schema WHERE type = 'table'")]
+        return {table: compared(opened, table) for table in tables if table not in ("mm_editions", "mm_pieces")}
+
+
+def compared(opened, table):
+    cursor = opened.execute(f"SELECT * FROM {table}")
+    names = [(table, column[0]) for column in cursor.description]
+    rows = []
+    for row in cursor:
+        fields = {name: value for name, value in zip(names, row) if name not in NOT_COMPARED}
+        definition = ("gpkg_spatial_ref_sys", "definition")
+        if "[" not in fields.get(definition, "[") and row[1] != 4326:
+            fields[definition] = "undefined"
+        rows.append(repr(sorted(fields.items())))
+    return sorted(rows)
+
+
+def expect_equal(first, second):
+    expect(listing(second), listing(first), "mmpkg list")
+    before, after = rows_of(first), rows_of(second)
+    for table in before:
+        expect(after.get(table), before[table], f"rows of {table}")
+    expect(sum(map(len, after.values())), sum(map(len, before.values())), "rows in all")
+
+
+def sums_of_tiles(file, query):
+    """The sums of all tiles, by pyramid, zoom, column and row."""
+    with contextlib.closing(sqlite3.connect(f"file:{file}?mode=ro", uri=True)) as opened:
+        tables = [name for (name,) in opened.execute("SELECT table_name FROM gpkg_contents WHERE data_type = 'tiles'")]
+        return {(table, *row[:3]): hashlib.sha256(row[3]).hexdigest() for table in tables for row in opened.execute(query.format(table))}
+
+
+def expect_same_content(file, out):
+    """The tiles and the moments of last change of a package stand in what was made of it."""
+    columns = "SELECT zoom_level, tile_column, tile_row, tile_data FROM "
+    sums = sums_of_tiles(file, columns + "mm_tiles WHERE table_name = '{}'")
+    expect(sums_of_tiles(out, columns + '"{}"'), sums, "sums of tiles")
+    changed = "SELECT table_name, last_change FROM gpkg_contents ORDER BY table_name"
+    with contextlib.closing(sqlite3.connect(file)) as before, contextlib.closing(sqlite3.connect(out)) as after:
+        expect(after.execute(changed).fetchall(), before.execute(changed).fetchall(), "last_change")
+
+
+def export(file, out):
+    return tool("export_standard.py", file, out)[1]
+
+
+def validate(out):
+    """GDAL's validator finds no error, its extra checks included."""
+    found, _ = run(python_with_gdal, "-m", "osgeo_utils.samples.validate_gpkg", "-k", "--extra", out)
+    expect(found, "", "validate_gpkg.py")
+    print(f"    validate_gpkg.py -k --extra {out.name}: 0 errors")
+
+
+def colour_at(out, x, y):
+    """The colour that GDAL finds at a place of the system."""
+    return tuple(map(int, run("gdallocationinfo", "-valonly", "-geoloc", out, x, y)[0].split()[:3]))
+
+
+def take_in(commands, file, folder, moment=0):
+    """Runs the commands that a tool printed on a package, at one moment."""
+    for line in commands.splitlines():
+        words = [str(file) if word == "FILE" else word for word in line.split()]
+        if words[:2] == ["mmpkg", "run"]:
+            mmpkg("run", file, "--at", moment, given=(folder / words[-1]).read_bytes())
+        elif words[:2] == ["mmpkg", "kit"]:
+            mmpkg(*words[1:], "--at", moment)
+        else:
+            mmpkg("run", file, "--at", moment, given=f"{words[1]}\n".encode())
+
+
+def expect_round_trip(file, folder, *kit, valid=True, moment=0):
+    """What is exported and imported again is an equal package, where all its tables were changed at one moment."""
+    export(file, folder / "out.gpkg")
+    if valid:
+        validate(folder / "out.gpkg")
+    expect_same_content(file, folder / "out.gpkg")
+    commands, told = tool("import_standard.py", folder / "out.gpkg", folder / "list.csv", *kit)
+    expect(told, "", "what the import tells")
+    mmpkg("init", folder / "back.gpkg")
+    take_in(commands, folder / "back.gpkg", folder, moment)
+    expect_equal(file, folder / "back.gpkg")
+
+
+def nine_tiles():
+    """Nine coloured tiles with a spot, a photo and their relation."""
+    png = page_map.png_of((1, 2, 3))
+    pieces = [Piece(["row", "spots", 7, "Well", "by the road, north", 3]), media_piece("photos", 1, "image/png", png),
+              Piece(["map", "spots_photos", 7, 1])]
+    layout = ["table,spots,attributes,Spots\n", "table,photos,media,Photos\n", "relation,spots_photos,spots,photos,media\n"]
+    return page_map.records() + "".join(layout) + "".join(piece.command() for piece in pieces)
+
+
+def check_worked_example(folder):
+    """The example that begins with GDAL's picture ends with its colours in their places, but for the tile that was edited."""
+    run(TOP / "examples" / "border" / "run.sh", folder / "example")
+    out = folder / "example" / "out.gpkg"
+    lines = (TOP / "examples" / "border" / "colours.txt").read_text().splitlines()
+    colours = [tuple(map(int, line.split()[1:])) for line in lines]
+    colours[4] = (20, 20, 20)
+    found = [colour_at(out, 500_128 + 256 * (number % 3), 5_600_640 - 256 * (number // 3)) for number in range(9)]
+    expect(found, colours, "colours of the example")
+    expect_round_trip(folder / "example" / "crew.gpkg", folder, moment=86_400_000)
+
+
+def check_nine_tiles_by_gdal(folder):
+    """GDAL finds nine colours in their places, the attribute row and the relation, in what is exported."""
+    out = folder / "out.gpkg"
+    new_package(folder / "a.gpkg", nine_tiles())
+    expect(export(folder / "a.gpkg", out), "", "what the export tells")
+    validate(out)
+    expect_same_content(folder / "a.gpkg", out)
+    info, told = run("gdalinfo", out)
+    expect(told, "", "what gdalinfo tells")
+    for line in ("Size is 192, 192", "Pixel Size = (1.000000000000000,-1.000000000000000)", 'PROJCRS["ETRS89 / UTM zone 32N"'):
+        assert line in info, f"gdalinfo doesn't tell {line}"
+    run("gdal_translate", "-q", "-of", "PNG", "-b", "1", "-b", "2", "-b", "3", out, folder / "all.png")
+    rows = page_map.read_png((folder / "all.png").read_bytes())
+    found = [rows[number // 3 * page_map.SIDE + 32][number % 3 * page_map.SIDE + 32] for number in range(9)]
+    expect(found, page_map.COLOURS, "colours of gdal_translate")
+    layers, told = run("ogrinfo", "-al", out)
+    expect(told, "", "what ogrinfo tells")
+    for line in ("OGRFeature(spots):7", "title (String) = Well", "note (String) = by the road, north", "amount (Integer64) = 3",
+                 "OGRFeature(photos):1", "content_type (String) = image/png"):
+        assert line in layers, f"ogrinfo doesn't tell {line}"
+    expect(run(python_with_gdal, "-c", RELATIONSHIPS, out)[0], "spots photos spots_photos media\n", "relations by GDAL")
+
+
+def check_round_trip_of_the_examples(folder):
+    """The package of the readme's lists; its tiles are no pictures, so the validator has no say."""
+    lists = "".join((TOP / "examples" / f"{name}.csv").read_text() for name in ("systems", "base_map", "spring"))
+    new_package(folder / "a.gpkg", lists, status=1)
+    mmpkg("run", folder / "a.gpkg", "--at", "0", given=b"edition,autumn\n")
+    mmpkg("kit", folder / "a.gpkg", "autumn", TOP / "examples" / "autumn", "--at", "0")
+    mmpkg("run", folder / "a.gpkg", "--at", "0", given=b"publish,autumn\n")
+    told = export(folder / "a.gpkg", folder / "told.gpkg")
+    for name in ("autumn", "spring"):
+        assert f"edition {name}: left out, published" in told, f"edition {name} isn't named"
+    (folder / "trip").mkdir()
+    expect_round_trip(folder / "a.gpkg", folder / "trip", "--kit", "again", folder / "trip" / "kit", valid=False)
+
+
+def random_text(source, least):
+    return "".join(source.choice("aZ9 ,\"'\r\n;%\tüß中") for _ in range(source.randint(least, 30)))
+
+
+def random_pyramid(source, name, system):
+    """A pyramid of one to three zooms with some of its tiles, anywhere within the limits."""
+    step = source.choice(["two", "other"])
+    factors = [2 if step == "two" else source.randint(2, 5) for _ in range(source.randint(0, 2))]
+    pixel, side, wide, high = source.randint(1, 20000), source.choice([1, 16, 60]), source.randint(1, 3), source.randint(1, 3)
+    zoom, pixels = source.randint(0, 20), [pixel]
+    for factor in factors:
+        pixels.insert(0, pixels[0] * factor)
+    tiles = 1
+    for factor in factors:
+        tiles *= factor
+    extent = (wide * side * pixels[0], high * side * pixels[0])
+    x, y = (source.randint(-10**11, 10**11 - length) for length in extent)
+    lines = [record(["pyramid", name, f"Map {name}", system, x, y, x + extent[0], y + extent[1], step])]
+    for level, size in enumerate(pixels):
+        count = pixels[0] // size
+        lines.append(record(["matrix", name, zoom + level, wide * count, high * count, side, side, size, size]))
+        for _ in range(4):
+            colour = tuple(source.randbytes(3))
+            lines.append(tile_piece(name, zoom + level, source.randrange(wide * count), source.randrange(high * count),
+                                    page_map.png_of(colour)).command())
+    return lines
+
+
+def random_package(seed):
+    """Records of a package by a seed: systems, pyramids, rows, media, relations and an edition, with odd texts and numbers at their limits."""
+    source = random.Random(seed)
+    lines = [record(["srs", 2**53, random_text(source, 1), "NONE", 1, "no wkt", random_text(source, 0)]),
+             record(["srs", 31467, "a grid", "EPSG", 31467, UTM, ""])]
+    for number in range(3):
+        lines += random_pyramid(source, f"map_{number}", source.choice([-1, 31467, 2**53]))
+    for number, kind in enumerate(["attributes", "media", "attributes", "media"]):
+        lines.append(record(["table", f"{kind}_{number}", kind, f"Ümlaut, \"{number}\""]))
+    numbers = {name: sorted({2**53, *(source.randint(1, 2**source.randint(1, 53)) for _ in range(6))}) for name in
+               ("attributes_0", "media_1", "attributes_2", "media_3")}
+    for name, ids in numbers.items():
+        for number in ids:
+            piece = (media_piece(name, number, "x.a/b+c", source.randbytes(source.randint(1, 3000))) if name.startswith("media") else
+                     Piece(["row", name, number, random_text(source, 0), random_text(source, 0), source.choice([-1, 1]) * 10**source.randint(0, 15)]))
+            lines.append(piece.command())
+    lines += [record(["edition", "draft"]), record(["stage", "draft", 1, "row-drop", "attributes_0", 2**53])]
+    for number in range(4):
+        base, related = source.choice(list(numbers)), source.choice(list(numbers))
+        name = "media" if related.startswith("media") else "simple_attributes"
+        lines.append(record(["relation", f"relation_{number}", base, related, name]))
+        pairs = sorted({(source.choice(numbers[base]), source.choice(numbers[related])) for _ in range(5)})
+        lines += [record(["map", f"relation_{number}", *pair]) for pair in pairs]
+    return "".join(lines)
+
+
+def check_round_trip_of_random_1(folder):
+    """By a command list."""
+    new_package(folder / "a.gpkg", random_package(1))
+    expect_round_trip(folder / "a.gpkg", folder)
+
+
+def check_round_trip_of_random_2(folder):
+    """By a kit."""
+    new_package(folder / "a.gpkg", random_package(2))
+    expect_round_trip(folder / "a.gpkg", folder, "--kit", "all", folder / "kit")
+
+
+def check_round_trip_of_random_3(folder):
+    """By a command list; the open edition is named, and the system whose number GDAL can't read."""
+    new_package(folder / "a.gpkg", random_package(3))
+    told = export(folder / "a.gpkg", folder / "told.gpkg").splitlines()
+    expect([line.split(": ")[1:3] for line in told], [["system 9007199254740992", "GDAL reads numbers of systems as 32 bits, and takes it for another"],
+                                                      ["edition draft", "left out, open with pieces"]], "what the export tells")
+    expect_round_trip(folder / "a.gpkg", folder)
+
+
+# What a standard GeoPackage may have and a package has not, put beside a package's own tables.
+FOREIGN = """
+INSERT INTO gpkg_spatial_ref_sys VALUES ('in feet', 2225, 'EPSG', 2225, 'PROJCS["f",GEOGCS["g",UNIT["degree",0.01745]],UNIT["foot",0.3048]]', NULL);
+INSERT INTO gpkg_spatial_ref_sys VALUES ('ETRS89', 4258, 'EPSG', 4258, 'GEOGCS["ETRS89",UNIT["degree",0.01745]]', NULL);
+CREATE TABLE roads (fid INTEGER PRIMARY KEY, geom BLOB);
+INSERT INTO gpkg_contents VALUES ('roads', 'features', 'roads', '', '2026-01-01T00:00:00.000Z', 0, 0, 1, 1, 25832);
+CREATE TABLE crew (fid INTEGER PRIMARY KEY, title TEXT);
+INSERT INTO gpkg_contents VALUES ('crew', 'attributes', 'crew', '', '2026-01-01T00:00:00.000Z', NULL, NULL, NULL, NULL, NULL);
+CREATE TABLE crew_spots (base_id INTEGER, related_id INTEGER);
+INSERT INTO gpkgext_relations VALUES (9, 'crew', 'id', 'spots', 'id', 'simple_attributes', 'crew_spots');
+INSERT INTO spots VALUES (8, 'Gate', 'half', 0.5);
+INSERT INTO spots VALUES (9, x'00', 'bytes', 1);
+INSERT INTO photos VALUES (4, x'01', 'no type');
+INSERT INTO spots_photos VALUES (8, 1);
+INSERT INTO base (zoom_level, tile_column, tile_row, tile_data) VALUES (0, 3, 0, x'01');
+INSERT INTO base (zoom_level, tile_column, tile_row, tile_data) VALUES (5, 0, 0, x'01');
+INSERT INTO gpkg_tile_matrix VALUES ('base', 5, 9, 9, 64, 64, 0.3333, 0.3333);
+"""
+UNIT = 1 / UNITS_PER_METRE
+FOREIGN_PYRAMIDS = [("Base Map", 25832, 64.0, 1.0), ("fine", 25832, 32 * UNIT, UNIT / 2), ("part", 25832, 64 + UNIT / 2, 1.0),
+                    ("world", 4326, 64.0, 1.0), ("degrees", 4258, 64.0, 1.0), ("feet", 2225, 64.0, 1.0), ("far", 25832, 10**8 + UNIT, 1.0)]
+LEFT_OUT = ["system 2225", "system 4258", "table 'Base Map'", "table 'crew'", "table 'degrees'", "table 'far'", "table 'feet'",
+            "matrix of fine at zoom 0", "table 'part'", "table 'roads'", "table 'world'", "matrix of base at zoom 5", "relation 'crew_spots'",
+            "row 8 of spots", "row 9 of spots", "media item 4 of photos", "mapping row 8, 1 of spots_photos", "tile 0/3/0 of base",
+            "tiles of base at zoom 5"]
+
+
+def add_foreign(out):
+    with contextlib.closing(sqlite3.connect(out)) as opened:
+        opened.executescript(FOREIGN)
+        for name, system, width, pixel in FOREIGN_PYRAMIDS:
+            opened.execute(f'CREATE TABLE "{name}" (id INTEGER PRIMARY KEY, zoom_level, tile_column, tile_row, tile_data)')
+            opened.execute("INSERT INTO gpkg_contents VALUES (?, 'tiles', ?, '', '2026-01-01T00:00:00.000Z', 0, 0, ?, ?, ?)",
+                           (name, name, width, width, system))
+            opened.execute("INSERT INTO gpkg_tile_matrix_set VALUES (?, ?, 0, 0, ?, ?)", (name, system, width, width))
+            opened.execute("INSERT INTO gpkg_tile_matrix VALUES (?, 0, 1, 1, 64, 64, ?, ?)", (name, pixel, pixel))
+        opened.commit()
+
+
+def check_what_is_whole(_):
+    """The rounding of sums of DOUBLEs is passed over, and nothing that could be meant."""
+    unit = UNITS_PER_METRE
+    for metres, units in ((3 * 0.1, 3 * unit // 10), (5_600_000.1 + 0.2, 56_000_003 * unit // 10), (1e8, 10**8 * unit), (-2, -2 * unit),
+                          (1 / unit, 1), (0.5 / unit, None), (1.001 / unit, None), (1 / 3, None), (float("nan"), None), (None, None), ("1", None)):
+        expect(whole_units(metres), units, f"{metres} m in units")
+
+
+def check_what_is_left_out(folder):
+    """Each thing that a package can't hold is named, and the rest is taken whole."""
+    new_package(folder / "a.gpkg", nine_tiles() + "pyramid,fine,fine,25832,0,0,32,32,two\n")
+    export(folder / "a.gpkg", folder / "out.gpkg")
+    with contextlib.closing(sqlite3.connect(folder / "out.gpkg")) as opened:
+        for table in ("gpkg_tile_matrix_set", "gpkg_contents"):
+            opened.execute(f"DELETE FROM {table} WHERE table_name = 'fine'")
+        opened.execute("DROP TABLE fine")
+        opened.commit()
+    add_foreign(folder / "out.gpkg")
+    commands, told = tool("import_standard.py", folder / "out.gpkg", folder / "list.csv", status=1)
+    named = [line.split(": ")[1] for line in told.splitlines() if line.startswith("left out: ")]
+    expect(sorted(named), sorted(LEFT_OUT), "what is named")
+    mmpkg("init", folder / "back.gpkg")
+    take_in(commands, folder / "back.gpkg", folder)
+    expect_equal(folder / "a.gpkg", folder / "back.gpkg")
+
+
+def check_what_is_refused(folder):
+    """No package is told by the program's own numbers; nothing is written or overwritten, and FILE stays byte for byte."""
+    new_package(folder / "a.gpkg", nine_tiles())
+    with contextlib.closing(sqlite3.connect(folder / "a.gpkg")) as opened:
+        opened.execute("UPDATE gpkg_contents SET description = 'x' WHERE table_name = 'spots'")
+        opened.commit()
+    (folder / "notes.gpkg").write_bytes(b"ten bytes\n")
+    with contextlib.closing(sqlite3.connect(folder / "other.gpkg")) as opened:
+        opened.execute("CREATE TABLE other (id INTEGER)")
+    files = sorted(folder.iterdir())
+    before = [file.read_bytes() for file in files]
+    for name, line, status in (("none", "not a package 94", 4), ("other", "not a package 94", 4), ("notes", "fault 91", 3), ("a", "rule Q16", 4)):
+        _, told = tool("export_standard.py", folder / f"{name}.gpkg", folder / "out.gpkg", status=status)
+        expect(told, f"{folder / name}.gpkg: {line}\n", f"what is told of {name}")
+    tool("export_standard.py", folder / "a.gpkg", folder / "other.gpkg", status=2)
+    tool("import_standard.py", folder / "a.gpkg", folder / "list.csv", status=2)
+    expect(sorted(folder.iterdir()), files, "files")
+    expect([file.read_bytes() for file in files], before, "bytes of the files")
+
+
+def check_units_of_the_profile(folder):
+    """Coordinates go out in metres by the version of the profile; a program that finds every package whole stands in for one to come."""
+    new_package(folder / "a.gpkg", nine_tiles())
+    for version, units in UNITS_OF_VERSION.items():
+        with contextlib.closing(sqlite3.connect(folder / "a.gpkg")) as opened:
+            opened.execute("UPDATE mm_profile SET version = ?", (version,))
+            opened.commit()
+            (wide,) = opened.execute("SELECT max_x FROM gpkg_contents WHERE table_name = 'base'").fetchone()
+        out = folder / f"{version}.gpkg"
+        run("env", "MMPKG=true", SCRIPTS / "export_standard.py", folder / "a.gpkg", out)
+        with contextlib.closing(sqlite3.connect(out)) as opened:
+            for table in ("gpkg_contents", "gpkg_tile_matrix_set"):
+                expect(opened.execute(f"SELECT max_x FROM {table} WHERE table_name = 'base'").fetchone(), (wide / units,), table)
+            expect(opened.execute("SELECT pixel_x_size FROM gpkg_tile_matrix").fetchone(), (wide / 192 / units,), "pixel size")
+
+
+def check_what_stands_in_the_journal(folder):
+    """A command that was answered crosses where the program was killed behind it, when it stands in the journal alone."""
+    mmpkg("init", folder / "a.gpkg")
+    with subprocess.Popen([PROGRAM, "run", folder / "a.gpkg", "--at", "0"], stdin=subprocess.PIPE, stdout=subprocess.PIPE) as running:
+        running.stdin.write(b"table,spots,attributes,Spots\nrow,spots,1,Well,,2\n")
+        running.stdin.flush()
+        expect([running.stdout.readline() for _ in range(2)], [b"1 ok\n", b"2 ok\n"], "answers")
+        running.kill()
+    files = [folder / "a.gpkg", folder / "a.gpkg-wal"]
+    before = [file.read_bytes() for file in files]
+    export(folder / "a.gpkg", folder / "out.gpkg")
+    expect([file.read_bytes() for file in files], before, "bytes of the package and its journal")
+    validate(folder / "out.gpkg")
+    with contextlib.closing(sqlite3.connect(folder / "out.gpkg")) as opened:
+        expect(opened.execute("SELECT * FROM spots").fetchall(), [(1, "Well", "", 2)], "rows of spots")
+
+
+def check_kit_of_gdal2tiles(folder):
+    """The tiles that gdal2tiles.py cuts come in as a kit and show their colours in their places."""
+    example = TOP / "examples" / "border"
+    run("gdaldem", "color-relief", "-q", "-nearest_color_entry", example / "picture.asc", example / "colours.txt", folder / "small.tif")
+    run("gdal_translate", "-q", "-of", "PNG", "-outsize", 768, 768, "-r", "nearest", folder / "small.tif", folder / "all.png")
+    run("gdal2tiles.py", "-q", "--profile=raster", "--xyz", "-w", "none", "-z", 2, folder / "all.png", folder / "tiles")
+    (folder / "tiles" / "about.txt").write_text("no tile")
+    commands, told = tool("make_kit.py", folder / "tiles", "base", "first", folder / "kit", status=1)
+    expect(told, "left out: about.txt: it is no tile Z/C/R.png\n", "what is told")
+    layout = page_map.records().splitlines()[0] + "\npyramid,base,Base,25832,0,0,{0},{0},two\nmatrix,base,2,3,3,256,256,{1},{1}\n"
+    new_package(folder / "a.gpkg", layout.format(768 * UNITS_PER_METRE, UNITS_PER_METRE) + "edition,first\n")
+    take_in(commands, folder / "a.gpkg", folder)
+    export(folder / "a.gpkg", folder / "out.gpkg")
+    validate(folder / "out.gpkg")
+    found = [colour_at(folder / "out.gpkg", 128 + 256 * (number % 3), 640 - 256 * (number // 3)) for number in range(9)]
+    expect(found, page_map.COLOURS, "colours")
+
+
+def check_kits_of_many_tiles(folder):
+    """One tile more than a kit takes begins a second one, by both tools."""
+    tile = page_map.png_of((9, 9, 9))
+    (folder / "tiles" / "0" / "0").mkdir(parents=True)
+    for row in range(KIT_PIECES + 1):
+        (folder / "tiles" / "0" / "0" / f"{row}.png").write_bytes(tile)
+    commands, _ = tool("make_kit.py", folder / "tiles", "base", "first", folder / "kit")
+    expect([line.split()[1] for line in commands.splitlines()], ["kit", "publish,first", "kit", "publish,first_2"], "commands")
+    lists = [(folder / name / "kit.csv").read_text().splitlines() for name in ("kit", "kit_2")]
+    expect([len(lines) for lines in lists], [KIT_PIECES, 1], "pieces")
+    expect([lists[0][-1], lists[1][0]], ["4096,tile,base,0,0,4095,base-0-0-4095.png", "1,tile,base,0,0,4096,base-0-0-4096.png"], "the last pieces")
+    layout = f"pyramid,base,Base,-1,0,0,64000,{64000 * (KIT_PIECES + 1)},two\nmatrix,base,0,1,{KIT_PIECES + 1},64,64,1000,1000\n"
+    new_package(folder / "a.gpkg", layout + "edition,first\nedition,first_2\n")
+    take_in("\n".join(commands.splitlines()[2:]), folder / "a.gpkg", folder)
+    expect(listing(folder / "a.gpkg"), ["base                     two                 1 1970-01-01T00:00:00.000Z Base"], "the package")
+
+
+def main():
+    global python_with_gdal
+    parser = argparse.ArgumentParser(description=__doc__, formatter_class=argparse.RawDescriptionHelpFormatter)
+    parser.add_argument("--python", default=python_with_gdal)
+    parser.add_argument("words", nargs="*", metavar="WORD")
+    given = parser.parse_args()
+    python_with_gdal = given.python
+    passed = failed = 0
+    checks = {name[6:].replace("_", " "): check for name, check in globals().items() if name.startswith("check_")}
+    for name, check in checks.items():
+        if given.words and not any(word in name for word in given.words):
+            continue
+        began = time.monotonic()
+        try:
+            with tempfile.TemporaryDirectory() as folder:
+                check(pathlib.Path(folder))
+            passed += 1
+            print(f"border: {name}: ok ({time.monotonic() - began:.1f} s)", flush=True)
+        except (AssertionError, OSError, sqlite3.Error, subprocess.SubprocessError):
+            failed += 1
+            traceback.print_exc(file=sys.stdout)
+            print(f"border: {name}: FAILED", flush=True)
+    print(f"{passed} passed, {failed} failed")
+    sys.exit(1 if failed or not passed else 0)
+
+
+if __name__ == "__main__":
+    main()

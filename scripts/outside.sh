@@ -1,6 +1,7 @@
 #!/usr/bin/env bash
 # What the built program shows from outside, by programs that share no code with this repository: the example with its output, the tables
-# of the file, the page by curl, and refused growths of memory. The last line is 'N passed, M failed'.
+# of the file, the page by curl, refused growths of memory, and the border to the standard where GDAL is installed. The last line is
+# 'N passed, M failed'.
 #
 #     scripts/outside.sh [PROGRAM]
 #
@@ -26,13 +27,16 @@ want() {
     [ ${#missing[@]} = 0 ] || { apt-get update && apt-get install -y "${missing[@]}"; } >"$folder/apt.log" 2>&1 || tail -n 5 "$folder/apt.log"
 }
 
-# Runs a command, and counts it by its status: NAME COMMAND ..
+# Runs a command, and counts it by its status, but for 77, which says that what it needs is missing: NAME COMMAND ..
 try() {
-    local name=$1 began=$SECONDS
+    local name=$1 began=$SECONDS status=0
     shift
-    if "$@" >"$folder/said" 2>&1; then
+    "$@" >"$folder/said" 2>&1 || status=$?
+    if [ "$status" = 0 ]; then
         passed=$((passed + 1))
         echo "outside: $name: ok ($((SECONDS - began)) s): $(tail -n 1 "$folder/said")"
+    elif [ "$status" = 77 ]; then
+        echo "outside: $name: not tried: $(tail -n 1 "$folder/said")"
     else
         failed=$((failed + 1))
         cat "$folder/said"
@@ -51,5 +55,6 @@ try 'the example' example
 try 'the tables of its file' scripts/compare_schema.sh "$folder/example.gpkg"
 try 'the page' scripts/page_curl.sh
 try 'refused growths of memory' scripts/refuse_memory.py "$MMPKG" "${STRIDE:-97}"
+try 'the border to the standard' scripts/border.sh
 echo "$passed passed, $failed failed"
 [ "$failed" = 0 ] && [ "$passed" -gt 0 ]

@@ -102,12 +102,15 @@ class Round:
     def fill_an_edition(self):
         """Fills an edition by a kit, after kits that are too long, and publishes it."""
         self.do_list(b"table,spots,attributes,Spots\nedition,full\n" + stages(1, 2), 0)
+        for edition in ("full", "nowhere"):
+            self.do_kit(edition, full_kit())
         self.do_kit("full", {"kit.csv": b"\n" * (MOST_KIT_BYTES + 1)})
         self.do_kit("full", {"kit.csv": full_kit()["kit.csv"] + b"4097,row,spots,1,,,0"})
         self.do_list(b"discard,full\nedition,full\n", 0)
         self.do_kit("full", full_kit() | {"kit.csv": b"\n" * (MOST_KIT_BYTES - len(full_kit()["kit.csv"])) + full_kit()["kit.csv"]})
         numbers = MOST_PIECES, MOST_PIECES + 1, MOST_PIECES + 2, MOST_PIECES - 1
         self.do_list(stages(*numbers) + b"rehearse,full\npublish,full\n" + stages(1) + b"drop,spots\n", 1)
+        self.do_kit("full", full_kit())
 
     def program_lines(self, *words, text=b"", status=0):
         """Returns the lines that the program prints, and compares its status."""

@@ -196,10 +196,11 @@ class Author:
 
     # The fields of each record behind its word.
 
-    def new_name(self):
-        """Returns a name that is new, or now and then one that is taken."""
-        if self.slips():
-            return self.pick([*self.package.tables, *self.package.relations, *self.package.editions, "gpkg_contents"])
+    def new_name(self, taken=()):
+        """Returns a name that is new, or now and then one that is taken, by one of its sort most often."""
+        if self.slips(2):
+            others = [*self.package.tables, *self.package.relations, *self.package.editions, "gpkg_contents"]
+            return self.pick([*taken] or others) if self.random.random() < 0.7 else self.pick(others)
         name = self.pick(("t", "_", "map", "agpkg", "m_m", "x9_")) + str(self.random.randrange(10000))
         return name.ljust(60, "z") if self.random.random() < 0.05 else name
 
@@ -240,7 +241,7 @@ class Author:
         min_x, max_x = self.side()
         min_y, max_y = self.side()
         step = self.pick(PYRAMIDS)
-        return [self.new_name(), self.new_identifier(), *map(str, (system, min_x, min_y, max_x, max_y)), step]
+        return [self.new_name(self.package.tables), self.new_identifier(), *map(str, (system, min_x, min_y, max_x, max_y)), step]
 
     def side(self):
         """Returns the least and the most coordinate of an extent."""
@@ -285,7 +286,7 @@ class Author:
         return falls and not (two and (known.get(zoom - 1, 2 * pixel) != 2 * pixel or 2 * known.get(zoom + 1, pixel / 2) != pixel))
 
     def table(self):
-        return [self.new_name(), self.pick(("attributes", "media")), self.new_identifier()]
+        return [self.new_name(self.package.tables), self.pick(("attributes", "media")), self.new_identifier()]
 
     def drop(self):
         return [self.table_of(*PYRAMIDS, "attributes", "media")]
@@ -324,7 +325,7 @@ class Author:
     def relation(self):
         name = self.pick(("media", "simple_attributes"))
         base = self.table_of("media", "attributes")
-        return [self.new_name(), base, self.table_of("media" if name == "media" else "attributes"), name]
+        return [self.new_name(self.package.relations), base, self.table_of("media" if name == "media" else "attributes"), name]
 
     def relation_drop(self):
         return [self.one_of(self.package.relations, self.new_name())]
@@ -345,7 +346,7 @@ class Author:
         return self.one_of(names, self.pick([*self.package.editions, "nowhere"]))
 
     def edition(self):
-        return [self.new_name()]
+        return [self.new_name(self.package.editions)]
 
     def discard(self):
         return [self.edition_of()]

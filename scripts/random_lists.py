@@ -12,6 +12,7 @@ else the last line says what was compared. It fails too where a refusal was not 
 
 import argparse
 import collections
+import contextlib
 import itertools
 import os
 import pathlib
@@ -207,14 +208,13 @@ def exchange(port, head):
     """Returns what is answered to a head."""
     told = b""
     with socket.create_connection(("127.0.0.1", port), timeout=PATIENCE) as connection:
-        try:
+        # The program may have answered and closed already, with bytes unread behind a head.
+        with contextlib.suppress(OSError):
             connection.sendall(head)
             connection.shutdown(socket.SHUT_WR)
+        with contextlib.suppress(ConnectionResetError):
             while part := connection.recv(1 << 16):
                 told += part
-        except (ConnectionResetError, BrokenPipeError):
-            # The program closes with bytes unread behind a head.
-            pass
     return told
 
 

@@ -1,7 +1,7 @@
 #!/usr/bin/env bash
 # What the built program shows from outside, by programs that share no code with this repository: the example with its output, the tables
-# of the file, the page by curl, refused growths of memory, and the border to the standard where GDAL is installed. The last line is
-# 'N passed, M failed'.
+# of the file, the page by curl, refused growths of memory, random lists against a model, and the border to the standard where GDAL is
+# installed. The last line is 'N passed, M failed'.
 #
 #     scripts/outside.sh [PROGRAM]
 #
@@ -55,6 +55,7 @@ try 'the example' example
 try 'the tables of its file' scripts/compare_schema.sh "$folder/example.gpkg"
 try 'the page' scripts/page_curl.sh
 try 'refused growths of memory' scripts/refuse_memory.py "$MMPKG" "${STRIDE:-97}"
+try 'random lists' scripts/random_lists.py
 try 'the border to the standard' scripts/border.sh
 echo "$passed passed, $failed failed"
 [ "$failed" = 0 ] && [ "$passed" -gt 0 ]

@@ -1,5 +1,7 @@
 -- A database stands for at most one package.
-use Rattle.std.proofs.Common.{◌≡◌, ℤ, sym, ◌∙◌}
+use Rattle.std.proofs.Common.{◌≡◌, ℤ, pos, List, ◌∷◌, ap, sym, ◌∙◌}
+use Rattle.sqlite.specs.declared.types.Value.TheVariants.{Int}
+use Rattle.sqlite.specs.Order.{Row}
 use Rattle.std.specs.FinMap.{same_map}
 use Rattle.sqlite.specs.Tree.{Trees}
 use Rattle.sql_forms.specs.Tables.{tables_of}
@@ -29,3 +31,12 @@ same_package version db p q h j i = record {
 
 pub stands_once : (version : ℤ) (db : Trees) (p q : Package) → StandsFor version db p → StandsFor version db q → p ≡ q
 stands_once version db p q one two = same_package version (tables_of schema db) p q one.holds two.holds
+
+-- the version in the one row of the profile's table
+version_in : List Row → ℤ
+version_in ((id ∷ rowid ∷ Int version ∷ rest) ∷ more) = version
+version_in _ = pos 0
+
+pub one_version : (v w : ℤ) (db : Trees) (p q : Package) → StandsFor v db p → StandsFor w db q → v ≡ w
+unfolding version_in
+one_version v w db p q one two = ap version_in (sym one.holds.profile ∙ two.holds.profile)

@@ -74,7 +74,7 @@ def opening(program, file, folder):
     copy = os.path.join(folder, "copy.gpkg")
     shutil.copy(file, copy)
     database = sqlite3.connect(copy)
-    database.execute("UPDATE mm_profile SET version = 2")
+    database.execute("UPDATE mm_profile SET version = 3")
     database.commit()
     database.close()
     return measured([program, "check", copy], status=4)

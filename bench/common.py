@@ -20,10 +20,10 @@ def words_of(bench, **numbers):
 
 def layout(side):
     """The records of a pyramid with one matrix, of so many tiles each way."""
-    edge = side * 256 * 1000
+    edge = side * 256 * 1_000_000
     return f"""srs,25832,ETRS89 / UTM zone 32N,EPSG,25832,projected metres,
 pyramid,base,Base map,25832,0,0,{edge},{edge},two
-matrix,base,0,{side},{side},256,256,1000,1000
+matrix,base,0,{side},{side},256,256,1000000,1000000
 """
 
 

@@ -29,8 +29,9 @@ from edits import all_tried
 from toolchain import RT, is_known, load_rt, sum_of_rt
 
 TRIED = ".ci/tried"
-# The program on which the transcripts of cases/ are run.
+# The program on which the transcripts of cases/ are run, and the scripts that run them.
 PROGRAM = "mm_cli"
+CASES = "cases.py", "make_profile_1.py"
 
 
 def sum_for(rt, crate):
@@ -97,12 +98,13 @@ def runs_cases(rt, crate, ending):
     with tempfile.TemporaryDirectory(prefix="rt-cases-") as room:
         os.chmod(room, 0o777)
         program = f"{room}/{crate.name}"
-        for made, file in ((program, f"{crate.folder}/out/{crate.name}{ending}"), (f"{room}/cases.py", f"{scripts}/cases.py")):
+        needed = [(program, f"{crate.folder}/out/{crate.name}{ending}"), *((f"{room}/{it}", f"{scripts}/{it}") for it in CASES)]
+        for made, file in needed:
             shutil.copyfile(file, made)
             os.chmod(made, 0o755)
         shutil.copytree("cases", f"{room}/cases")
         python = shutil.which("python3", path="/usr/bin:/bin") or os.path.realpath(sys.executable)
-        words = [*(rt.drop_to_nobody() or []), python, f"{room}/cases.py", program, f"{room}/cases"]
+        words = [*(rt.drop_to_nobody() or []), python, f"{room}/{CASES[0]}", program, f"{room}/cases"]
         how = {"cwd": room, "env": {"PATH": "/usr/bin:/bin", "TMPDIR": room, "LANG": "C.UTF-8"}, "stdin": subprocess.DEVNULL}
         ran = subprocess.run(words, stdout=subprocess.PIPE, stderr=subprocess.STDOUT, text=True, errors="replace", **how)
     *said, count = ran.stdout.splitlines() or [""]

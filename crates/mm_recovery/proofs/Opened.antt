@@ -8,7 +8,7 @@ use Rattle.sqlite.specs.Tree.{Trees}
 use Rattle.sqlite.specs.Effect.{Database, IsDatabase}
 use Rattle.sqlite.specs.State.{State, IsLive, Opens}
 use Rattle.mm_schema.specs.Tables as tables
-use Rattle.mm_base.specs.Bounds.{millimetres}
+use Rattle.mm_base.specs.Bounds.{current}
 use Rattle.mm_base.specs.Package.{Package}
 use Rattle.mm_store.specs.Stands.{StandsFor, ReadsAs}
 use Rattle.mm_recovery.specs.Found.{IsSettledByFound}
@@ -18,7 +18,7 @@ abbrev pub OnlyCommitted : State → Type 0
 OnlyCommitted s = (db : Trees) → IsTrue s.is_open → s.may_leave db → db ≡ s.committed.trees
 
 -- a database that stands for a package has the profile's schema, whatever schema its connection found in it
-pub reads_by : (db : Database) (p : Package) → IsDatabase db → StandsFor millimetres.version db.trees p → ReadsAs millimetres.version db p
+pub reads_by : (db : Database) (p : Package) → IsDatabase db → StandsFor current.version db.trees p → ReadsAs current.version db p
 reads_by db p sound stands = record {
   schema_is = ∥∥₁_elim stands.sound (Coded-set schema.the_row.coded db.schema tables.schema) (λ profile. lists_once _ db.schema tables.schema sound.lists profile.lists);
   stands = stands;
@@ -31,6 +31,6 @@ opened_settles s opens live law p stands =
     record {
       mode = opens.autocommit;
       back = λ _. reads;
-      reads = λ _. subst (λ d. ReadsAs millimetres.version d p) (sym opens.clean) reads;
-      left = λ db may. subst (λ t. StandsFor millimetres.version t p) (sym (law db opens.is_open may)) stands;
+      reads = λ _. subst (λ d. ReadsAs current.version d p) (sym opens.clean) reads;
+      left = λ db may. subst (λ t. StandsFor current.version t p) (sym (law db opens.is_open may)) stands;
     }

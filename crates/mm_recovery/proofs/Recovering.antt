@@ -4,7 +4,7 @@ use Rattle.std.proofs.lemmas.Bool.{both_ways}
 use Rattle.std.proofs.Math.Logic.{∥∥₁_elim, ∥∥₁_map}
 use Rattle.sqlite.specs.Tree.{Trees}
 use Rattle.sqlite.specs.State.{State, HasCleanDisk}
-use Rattle.mm_base.specs.Bounds.{millimetres}
+use Rattle.mm_base.specs.Bounds.{current}
 use Rattle.mm_base.specs.Package.{Package}
 use Rattle.mm_base.specs.Rules.{Meets}
 use Rattle.mm_base.specs.declared.answers.Open.{Open}
@@ -12,15 +12,14 @@ use Rattle.mm_base.specs.declared.answers.Open.TheVariants as opens
 use Rattle.mm_check.specs.Verdict.{either, rule, IsFailing}
 use Rattle.mm_core.specs.Adopted.{IsAdopted, IsNotAdopted, Declines}
 use Rattle.mm_core.specs.Applied.{Stands}
-use Rattle.mm_base.specs.Runs.{IsFirstPart}
+use Rattle.mm_base.specs.Runs.{run}
 use Rattle.mm_base.specs.declared.answers.Tally.{Tally}
 use Rattle.mm_base.specs.declared.answers.RunFault.{RunFault}
-use Rattle.mm_run.specs.Readings.{Reading}
 use Rattle.mm_run.specs.Answers.{calls_of}
 use Rattle.mm_run.specs.Runs.{OnRun, RanAll, RanSome}
 use Rattle.mm_store.specs.Stands.{IsSettled}
 use Rattle.mm_recovery.specs.Found.{FindsLeft}
-use Rattle.mm_recovery.specs.Recovered.{IsRecovered, LeavesPackages, IsFault, WereRead, acknowledged, IsFirstPartOn, IsRunRecovered, IsNotRecovered, IsRunNotRecovered}
+use Rattle.mm_recovery.specs.Recovered.{IsRecovered, LeavesPackages, IsFault, RanAndFound, IsRunRecovered, IsNotRecovered, IsRunNotRecovered}
 use Rattle.sqlite.specs.Held.{Held}
 use Rattle.sqlite_store.specs.declared.store.FileStore.{FileStore}
 use Rattle.sqlite_disk.specs.declared.Disk.{Ghosts}
@@ -30,14 +29,14 @@ either_holds true A B a b = a
 either_holds false A B a b = b
 
 -- a package that meets the rules breaks none
-rule_holds : (p : Package) (k : ℕ) → Meets millimetres p → rule millimetres k p
+rule_holds : (p : Package) (k : ℕ) → Meets current p → rule current k p
 unfolding rule
 rule_holds p k m =
     either_holds (k == 1) _ _ m.q1 (either_holds (k == 2) _ _ m.q2 (either_holds (k == 3) _ _ m.q3 (either_holds (k == 4) _ _ m.q4 (either_holds (k == 5) _ _ m.q5
     (either_holds (k == 6) _ _ m.q6 (either_holds (k == 7) _ _ m.q7 (either_holds (k == 8) _ _ m.q8 (either_holds (k == 9) _ _ m.q9 (either_holds (k == 10) _ _ m.q10
     (either_holds (k == 11) _ _ m.q11 (either_holds (k == 12) _ _ m.q12 (either_holds (k == 13) _ _ m.q13 (either_holds (k == 14) _ _ m.q14 (either_holds (k == 15) _ _ m.q15 m.q16))))))))))))))
 
-none_fails : (p : Package) (k : ℕ) → Meets millimetres p → IsFailing millimetres p k → ⊥
+none_fails : (p : Package) (k : ℕ) → Meets current p → IsFailing current p k → ⊥
 none_fails p k m (inl it) = it.1 (rule_holds p 16 m)
 none_fails p k m (inr it) = it.3 (rule_holds p k m)
 
@@ -45,7 +44,7 @@ abbrev is_fault : Open → Bool
 is_fault (opens.Fault fault) = true
 is_fault _ = false
 
-none_is_declined : (p : Package) (why : Open) → Meets millimetres p → Declines p why → is_fault why ≡ false → ⊥
+none_is_declined : (p : Package) (why : Open) → Meets current p → Declines p why → is_fault why ≡ false → ⊥
 none_is_declined p (opens.Rule k) m it other = none_fails p k m it
 none_is_declined p (opens.Fault fault) m it other = both_ways true other refl
 none_is_declined p (opens.Version version) m it other = it
@@ -87,43 +86,46 @@ module _ (old mid new : State) (finds : FindsLeft old mid) where
 
 -- ---- the run of a list, and then a crash
 
--- what may be left of a list, told by its run
-abbrev pub Ran : State → Package → ℕ → List ℕ → Result Tally RunFault → Type 0
-Ran mid p moment bytes ran = (readings : List Reading) × WereRead bytes readings ran
-    × ((db : Trees) → mid.may_leave db → (q : Package) × Stands db q × IsFirstPart p (calls_of moment readings) (acknowledged p moment readings ran) q × Meets millimetres q)
+module _ (mid again : State) (recovered : IsRecovered mid again) (clean : HasCleanDisk again) (p : Package) (moment : ℕ) (bytes : List ℕ) (old new : Option (List ℕ)) where
+  found_after_all : (t : Tally) → RanAll p moment bytes (λ q. IsSettled current mid q) (λ db. mid.may_leave db) Stands old new t → ∥ RanAndFound again p moment bytes old new (Ok t) ∥₁
+  found_after_all t it = ∥∥₁_map (recovered.found clean) (λ found.
+      let left = it.left found.0 found.1 in
+      record {
+        readings = it.readings;
+        read = it.read;
+        text = it.text;
+        counted = it.counted;
+        all = it.all;
+        written = it.written;
+        stands = found.2 (run p (calls_of moment it.readings)) (it.stands.0.left found.0 found.1);
+        left = λ _ may. (left.0, (found.2 left.0 left.1).0, left.2, left.3);
+      })
 
-pub ran_all : (mid : State) (p : Package) (moment : ℕ) (bytes : List ℕ) (old new : Option (List ℕ)) (t : Tally)
-    → RanAll p moment bytes (λ q. IsSettled millimetres mid q) (λ db. mid.may_leave db) Stands old new t → Ran mid p moment bytes (Ok t)
-ran_all mid p moment bytes old new t it = (it.readings, it.read, it.left)
-
-pub ran_some : (mid : State) (p : Package) (moment : ℕ) (bytes : List ℕ) (old new : Option (List ℕ)) (e : RunFault)
-    → RanSome p moment bytes (λ db. mid.may_leave db) Stands old new e → Ran mid p moment bytes (Err e)
-ran_some mid p moment bytes old new e it = (it.readings, it.read, it.left)
-
--- the package that is found is the one of a first part
-pub first_part_found : (mid new : State) (p : Package) (moment : ℕ) (bytes : List ℕ) (ran : Result Tally RunFault)
-    → IsRecovered mid new → HasCleanDisk new → Ran mid p moment bytes ran → IsFirstPartOn new p moment bytes ran
-first_part_found mid new p moment bytes ran recovered clean it =
-    ∥∥₁_map (recovered.found clean) (λ found.
-    let left = it.2 found.0 found.1 in
-    (it.0, it.1, left.0, left.2, found.2 left.0 left.1))
-
-pub left_packages : (mid : State) (p : Package) (moment : ℕ) (bytes : List ℕ) (ran : Result Tally RunFault) → Ran mid p moment bytes ran → LeavesPackages mid
-left_packages mid p moment bytes ran it db may = let left = it.2 db may in (left.0, left.1, left.3)
+  found_after_some : (e : RunFault) → RanSome p moment bytes (λ db. mid.may_leave db) Stands old new e → ∥ RanAndFound again p moment bytes old new (Err e) ∥₁
+  found_after_some e it = ∥∥₁_map (recovered.found clean) (λ found.
+      let left = it.left found.0 found.1 in
+      record {
+        readings = it.readings;
+        read = it.read;
+        text = it.text;
+        counted = it.counted;
+        left = λ _ may. (left.0, (found.2 left.0 left.1).0, left.2, left.3);
+      })
 
 module _ (old mid : State) (source : Option (List ℕ)) (moment : ℕ) (text text_now : Option (List ℕ)) where
   abbrev pub RunTells : Result Tally RunFault → Type 0
   RunTells ran =
-      IfOk ran (λ t. OnRun (HasCleanDisk mid) (λ p. IsSettled millimetres old p) source (λ p bytes. RanAll p moment bytes (λ q. IsSettled millimetres mid q) (λ db. mid.may_leave db) Stands text text_now t))
-      × IfErr ran (λ e. OnRun (HasCleanDisk mid) (λ p. IsSettled millimetres old p) source (λ p bytes. RanSome p moment bytes (λ db. mid.may_leave db) Stands text text_now e))
+      IfOk ran (λ t. OnRun (HasCleanDisk mid) (λ p. IsSettled current old p) source (λ p bytes. RanAll p moment bytes (λ q. IsSettled current mid q) (λ db. mid.may_leave db) Stands text text_now t))
+      × IfErr ran (λ e. OnRun (HasCleanDisk mid) (λ p. IsSettled current old p) source (λ p bytes. RanSome p moment bytes (λ db. mid.may_leave db) Stands text text_now e))
 
-  pub ran_by : (ran : Result Tally RunFault) → RunTells ran → OnRun (HasCleanDisk mid) (λ p. IsSettled millimetres old p) source (λ p bytes. Ran mid p moment bytes ran)
-  ran_by (Ok t) told clean p sound bytes is = ran_all mid p moment bytes text text_now t (told.0 clean p sound bytes is)
-  ran_by (Err e) told clean p sound bytes is = ran_some mid p moment bytes text text_now e (told.1 clean p sound bytes is)
+  left_by : (ran : Result Tally RunFault) → RunTells ran → OnRun (HasCleanDisk mid) (λ p. IsSettled current old p) source (λ p bytes. LeavesPackages mid)
+  left_by (Ok t) told clean p sound bytes is = λ db may. let left = (told.0 clean p sound bytes is).left db may in (left.0, left.1, left.3)
+  left_by (Err e) told clean p sound bytes is = λ db may. let left = (told.1 clean p sound bytes is).left db may in (left.0, left.1, left.3)
 
-  pub run_recovers : (new : State) (ran : Result Tally RunFault) → RunTells ran → IsRecovered mid new → IsRunRecovered old new source moment ran
-  run_recovers new ran told recovered clean p sound bytes is = first_part_found mid new p moment bytes ran recovered clean (ran_by ran told (recovered.clean clean) p sound bytes is)
+  pub run_recovers : (again : State) (ran : Result Tally RunFault) → RunTells ran → IsRecovered mid again → IsRunRecovered old again source text text_now moment ran
+  run_recovers again (Ok t) told recovered clean p sound bytes is = found_after_all mid again recovered clean p moment bytes text text_now t (told.0 (recovered.clean clean) p sound bytes is)
+  run_recovers again (Err e) told recovered clean p sound bytes is = found_after_some mid again recovered clean p moment bytes text text_now e (told.1 (recovered.clean clean) p sound bytes is)
 
   pub run_declines : {D : Type 0} {g : Ghosts D} (conn : Option (Held (FileStore D g))) (why : Open) (ran : Result Tally RunFault) → RunTells ran → IsNotRecovered mid conn why → IsRunNotRecovered old source conn why
   run_declines {D} {g} None why ran told it = it
-  run_declines {D} {g} (Some conn) why ran told it = λ clean p sound bytes is. it.1 clean (left_packages mid p moment bytes ran (ran_by ran told (it.0 clean) p sound bytes is))
+  run_declines {D} {g} (Some conn) why ran told it = λ clean p sound bytes is. it.1 clean (left_by ran told (it.0 clean) p sound bytes is)

@@ -1,13 +1,13 @@
 -- What a connection finds that is opened again.
 use Rattle.std.specs.Prelude.{◌≡◌}
 use Rattle.sqlite.specs.State.{State, HasCleanDisk}
-use Rattle.mm_base.specs.Bounds.{millimetres}
+use Rattle.mm_base.specs.Bounds.{current}
 use Rattle.mm_base.specs.Package.{Package}
 use Rattle.mm_store.specs.Stands.{StandsFor, IsSettled}
 
 -- settled for each package that the database stands for which it found; there is one at most
 abbrev pub IsSettledByFound : State → Type 0
-IsSettledByFound new = (p : Package) → StandsFor millimetres.version new.committed.trees p → IsSettled millimetres new p
+IsSettledByFound new = (p : Package) → StandsFor current.version new.committed.trees p → IsSettled current new p
 
 -- It found a database that might be left, on a disk that had been clean.
 pub record FindsLeft (old new : State) : Type 0 where

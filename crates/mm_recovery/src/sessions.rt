@@ -44,8 +44,9 @@ pub fn recover_after_crash<D: Crash + Drop>(
     }
 }
 
-/// Runs the records of the input on a session, and then lets its files crash, wherever the run ended: what is adopted is
-/// the package of some first part of the accepted commands, with every acknowledged one in it.
+/// Runs the records of the input on a session, and then lets its files crash, wherever the run ended. Records, answers, text and
+/// tally are those of the run; what is adopted is the package of some first part of the accepted commands, with every one in it
+/// whose line was written whole. After a run without a fault it is the package after all of them.
 pub fn run_and_recover<D: Crash + Drop, R: Read, W: Write>(
     alloc: Global,
     session: Session<FileStore<D>>,
@@ -57,7 +58,8 @@ pub fn run_and_recover<D: Crash + Drop, R: Read, W: Write>(
     Result<Tally, RunFault>,
     Result<Session<FileStore<D>>, NotRecovered<D>>,
 )
-    ensures recovered { IfOk result.1 (λ again. IsRunRecovered (file_state (held session)) (file_state (held again)) (R.remaining (inside reader.old)) at result.0) }
+    ensures working { IfOk result.1 (λ again. has_failed again ≡ false) }
+    ensures recovered { IfOk result.1 (λ again. IsRunRecovered (file_state (held session)) (file_state (held again)) (R.remaining (inside reader.old)) (W.contents (inside writer.old)) (W.contents (inside writer.new)) at result.0) }
     ensures not_recovered { IfErr result.1 (λ e. IsRunNotRecovered (file_state (held session)) (R.remaining (inside reader.old)) e.0 e.1) }
 {
     let mut session = session;

@@ -14,9 +14,8 @@ import sys
 # By the version in mm_profile, how many units of a package's coordinates and pixel sizes are a metre.
 UNITS_OF_VERSION = {1: 1_000, 2: 1_000_000}
 
-# The unit of records that are written here. With version 2 of the profile this one line changes: the limits below grow with the unit.
-# Once the program tells which version it makes, it is to be asked.
-UNITS_PER_METRE = UNITS_OF_VERSION[1]
+# The unit of records that are written here: that of the version that the program makes.
+UNITS_PER_METRE = UNITS_OF_VERSION[2]
 COORDINATE_LIMIT = 100_000_000 * UNITS_PER_METRE
 PIXEL_SIZE_LIMIT = 1_000_000 * UNITS_PER_METRE
 

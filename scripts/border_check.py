@@ -379,7 +379,7 @@ def check_what_is_refused(folder):
 
 
 def check_units_of_the_profile(folder):
-    """Coordinates go out in metres by the version of the profile; a program that finds every package whole stands in for one to come."""
+    """Coordinates go out in metres by the version of the profile."""
     new_package(folder / "a.gpkg", nine_tiles())
     for version, units in UNITS_OF_VERSION.items():
         with contextlib.closing(sqlite3.connect(folder / "a.gpkg")) as opened:
@@ -440,7 +440,7 @@ def check_kits_of_many_tiles(folder):
     lists = [(folder / name / "kit.csv").read_text().splitlines() for name in ("kit", "kit_2")]
     expect([len(lines) for lines in lists], [KIT_PIECES, 1], "pieces")
     expect([lists[0][-1], lists[1][0]], ["4096,tile,base,0,0,4095,base-0-0-4095.png", "1,tile,base,0,0,4096,base-0-0-4096.png"], "the last pieces")
-    layout = f"pyramid,base,Base,-1,0,0,64000,{64000 * (KIT_PIECES + 1)},two\nmatrix,base,0,1,{KIT_PIECES + 1},64,64,1000,1000\n"
+    layout = f"pyramid,base,Base,-1,0,0,{64 * UNITS_PER_METRE},{64 * UNITS_PER_METRE * (KIT_PIECES + 1)},two\nmatrix,base,0,1,{KIT_PIECES + 1},64,64,{UNITS_PER_METRE},{UNITS_PER_METRE}\n"
     new_package(folder / "a.gpkg", layout + "edition,first\nedition,first_2\n")
     take_in("\n".join(commands.splitlines()[2:]), folder / "a.gpkg", folder)
     expect(listing(folder / "a.gpkg"), ["base                     two                 1 1970-01-01T00:00:00.000Z Base"], "the package")

@@ -21,6 +21,7 @@ Words that end in '< FILE' or '> FILE' take the input from that file, or have th
     ! write FILE         makes a file of the lines '<' that follow
     ! cut FROM TO SIZE   makes a file of the first SIZE bytes of another, or of a part of it, as 1/2
     ! sql FILE STATEMENT runs a statement by Python's sqlite3; '>' are the rows that it gives, with bars between the values
+    ! older FILE         puts a package back to profile 1, as scripts/make_profile_1.py does
     ! same FILE          the file is byte for byte as it was before the last run of the program
     ! missing FILE       there is no such file
     ! listen             the port is taken, by a listener of this script's own
@@ -39,6 +40,8 @@ import subprocess
 import sys
 import tempfile
 import time
+
+from make_profile_1 import put_back
 
 # How many seconds a run of the program may take, and each call of a connection.
 PATIENCE = 120
@@ -193,7 +196,7 @@ class Room:
 
     def do(self, step):
         """Does a step, and fails where something else comes of it than must."""
-        verbs = {"$": self.run, "write": self.write, "cut": self.cut, "sql": self.sql, "same": self.same, "missing": self.missing, "listen": self.listen}
+        verbs = {"$": self.run, "write": self.write, "cut": self.cut, "sql": self.sql, "older": self.older, "same": self.same, "missing": self.missing, "listen": self.listen}
         if step.verb not in verbs:
             raise Failed("no such step")
         verbs[step.verb](step)
@@ -240,6 +243,11 @@ class Room:
         with contextlib.closing(sqlite3.connect(self.at(name), isolation_level=None)) as connection:
             rows = connection.execute(statement).fetchall()
         step.compare("".join("|".join(map(str, row)) + "\n" for row in rows).encode())
+
+    def older(self, step):
+        """Puts a package back to profile 1."""
+        if not put_back(self.at(step.rest)):
+            raise Failed("no form in profile 1")
 
     def same(self, step):
         if self.contents(step.rest) != self.before.get(step.rest):

@@ -65,7 +65,7 @@ given_rows() {
 -1|Undefined Cartesian|NONE|-1|undefined|undefined Cartesian coordinates
 0|Undefined geographic|NONE|0|undefined|undefined geographic coordinates
 4326|WGS 84 geographic|EPSG|4326|EPSG:4326|longitude and latitude
-1|1
+1|2
 gpkgext_relations||gpkg_related_tables|OGC 18-000|read-write
 END
 }

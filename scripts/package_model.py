@@ -89,7 +89,7 @@ class Package:
         if conditions:
             return f"refused {min(conditions)}"
         getattr(self, "do_" + word.replace("-", "_"))(*values)
-        if word in ("pyramid", "matrix", "table", *PIECES) and word not in ("map", "map-drop"):
+        if word in ("pyramid", "table", *PIECES) and word not in ("map", "map-drop"):
             self.tables[values[0]] = replace(self.tables[values[0]], last_change=stamp(moment))
         return "ok"
 

@@ -4,9 +4,9 @@ import re
 from dataclasses import dataclass
 
 # What the profile's unit decides: its version, and the limits of a coordinate and of a pixel size.
-PROFILE_VERSION = 1
-MOST_COORDINATE = 10**11
-MOST_PIXEL_SIZE = 10**9
+PROFILE_VERSION = 2
+MOST_COORDINATE = 10**14
+MOST_PIXEL_SIZE = 10**12
 
 MOST_ZOOM = 30
 MOST_MATRIX = 2**30
@@ -115,6 +115,7 @@ TILE_SIDE = Number(1, MOST_TILE_SIDE)
 PIXEL_SIZE = Number(1, MOST_PIXEL_SIZE)
 
 PIECES = {
+    "matrix": (NAME, ZOOM, SIDE, SIDE, TILE_SIDE, TILE_SIDE, PIXEL_SIZE, PIXEL_SIZE),
     "tile": (NAME, ZOOM, PLACE, PLACE, Hexadecimal(MOST_TILE_BYTES)),
     "tile-drop": (NAME, ZOOM, PLACE, PLACE),
     "row": (NAME, ITEM, Text(0, 1000), Text(0, 1000), Number(-MOST_AMOUNT, MOST_AMOUNT)),
@@ -127,7 +128,6 @@ PIECES = {
 RECORDS = PIECES | {
     "srs": (ITEM, Text(1, 1000), Text(1, 1000), ITEM, Text(1, 8192), Text(0, 1000)),
     "pyramid": (NAME, IDENTIFIER, Number(-1, MOST_NUMBER), *[COORDINATE] * 4, Word(PYRAMIDS)),
-    "matrix": (NAME, ZOOM, SIDE, SIDE, TILE_SIDE, TILE_SIDE, PIXEL_SIZE, PIXEL_SIZE),
     "table": (NAME, Word(("attributes", "media")), IDENTIFIER),
     "drop": (NAME,),
     "relation": (NAME, NAME, NAME, Word(("media", "simple_attributes"))),

@@ -17,9 +17,9 @@ trap 'kill "${server:-}" 2>/dev/null || true; rm -rf "$folder"' EXIT
 "$program" init "$folder/a.gpkg" >/dev/null
 "$program" run "$folder/a.gpkg" --at 0 >/dev/null <<'END'
 srs,25832,ETRS89 / UTM zone 32N,EPSG,25832,projected metres,
-pyramid,base,Base map,25832,500000000,5600000000,501024000,5601024000,two
-matrix,base,0,1,1,256,256,4000,4000
-matrix,base,1,2,2,256,256,2000,2000
+pyramid,base,Base map,25832,500000000000,5600000000000,501024000000,5601024000000,two
+matrix,base,0,1,1,256,256,4000000,4000000
+matrix,base,1,2,2,256,256,2000000,2000000
 table,spots,attributes,Spots
 table,photos,media,Photos
 row,spots,7,Well,,3
@@ -71,7 +71,7 @@ curl -s "http://127.0.0.1:$port/contents" | python3 -c '
 import json, sys
 tables = json.load(sys.stdin)
 assert [t["table"] for t in tables] == ["base", "photos", "spots"], tables
-assert tables[0]["extent"] == [500000000, 5600000000, 501024000, 5601024000], tables
+assert tables[0]["extent"] == [500000000000, 5600000000000, 501024000000, 5601024000000], tables
 assert [list(t) == sorted(t) for t in tables] == [True] * 3, tables
 ' || failures=$((failures + 1))
 

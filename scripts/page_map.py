@@ -79,8 +79,8 @@ def read_png(data):
 def records():
     lines = [
         "srs,25832,ETRS89 / UTM zone 32N,EPSG,25832,projected metres,",
-        f"pyramid,base,Base map,25832,0,0,{3 * SIDE * 1000},{3 * SIDE * 1000},two",
-        f"matrix,base,0,3,3,{SIDE},{SIDE},1000,1000",
+        f"pyramid,base,Base map,25832,0,0,{3 * SIDE * 1_000_000},{3 * SIDE * 1_000_000},two",
+        f"matrix,base,0,3,3,{SIDE},{SIDE},1000000,1000000",
     ]
     for number, colour in enumerate(COLOURS):
         lines.append(f"tile,base,0,{number % 3},{number // 3},{png_of(colour).hex()}")

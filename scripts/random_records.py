@@ -245,7 +245,7 @@ class Author:
 
     def side(self):
         """Returns the least and the most coordinate of an extent."""
-        span = self.pick((1, 3, 100, 256, 1024)) * 2 ** self.random.randrange(12) * self.pick((1, 5, 1000))
+        span = self.pick((1, 3, 100, 256, 1024)) * 2 ** self.random.randrange(12) * self.pick((1, 5, 1000, 10**6))
         if self.random.random() < 0.08:
             return -MOST_COORDINATE, MOST_COORDINATE
         if self.slips():

@@ -16,9 +16,9 @@ TOP = os.path.dirname(os.path.dirname(os.path.abspath(__file__)))
 
 # Each is accepted once, and refused where it stands already.
 RECORDS = b"""srs,5001,A,NONE,1,undefined,
-pyramid,base,Base map,5001,0,0,1024000,1024000,two
-matrix,base,0,1,1,256,256,4000,4000
-matrix,base,1,2,2,256,256,2000,2000
+pyramid,base,Base map,5001,0,0,1024000000,1024000000,two
+matrix,base,0,1,1,256,256,4000000,4000000
+matrix,base,1,2,2,256,256,2000000,2000000
 table,spots,attributes,Spots
 """
 

@@ -58,6 +58,9 @@ check = with_file (codes "check")
 abbrev pub list : App
 list = with_file (codes "list")
 
+abbrev pub migrate : App
+migrate = with_file (codes "migrate")
+
 abbrev pub serve : App
 serve = with_rule (with_rule (with_file (codes "serve")) port) count
 
@@ -72,8 +75,8 @@ start = record {
 
 abbrev pub command_line : App
 command_line =
-    with_subcommand (with_subcommand (with_subcommand (with_subcommand (with_subcommand (with_subcommand start
-    init.top) run.top) kit.top) check.top) list.top) serve.top
+    with_subcommand (with_subcommand (with_subcommand (with_subcommand (with_subcommand (with_subcommand (with_subcommand start
+    init.top) run.top) kit.top) check.top) list.top) serve.top) migrate.top
 
 -- ---- the values that are made of it
 

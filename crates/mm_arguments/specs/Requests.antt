@@ -7,7 +7,7 @@ use Rattle.clap.specs.declared.error.kind.ErrorKind.{ErrorKind}
 use Rattle.clap.specs.declared.error.kind.ErrorKind.TheVariants as kind
 use Rattle.mm_arguments.specs.CommandLine.{command_line}
 use Rattle.mm_arguments.specs.declared.requests.Request.{Request}
-use Rattle.mm_arguments.specs.declared.requests.Request.TheVariants.{Init, Run, Kit, Check, List as Tables, Serve}
+use Rattle.mm_arguments.specs.declared.requests.Request.TheVariants.{Init, Run, Kit, Check, List as Tables, Serve, Migrate}
 
 -- a port is at least 1, and so many connections are served: 1 to 1,000,000
 abbrev pub IsWithin : Request → Type 0
@@ -16,6 +16,7 @@ IsWithin (Run file at) = ⊤
 IsWithin (Kit file edition folder at) = ⊤
 IsWithin (Check file) = ⊤
 IsWithin (Tables file) = ⊤
+IsWithin (Migrate file) = ⊤
 IsWithin (Serve file port count) = (1 ≤ port) × (1 ≤ count) × (count ≤ 1000000)
 
 -- ---- what the words of a subcommand give
@@ -44,6 +45,7 @@ AsksFor name rows (Kit file edition folder at) = (name ≡ codes "kit") × IsWor
     × IsWord rows (codes "EDITION") edition × IsWord rows (codes "FOLDER") folder × IsMoment rows at
 AsksFor name rows (Check file) = (name ≡ codes "check") × IsWord rows (codes "FILE") file
 AsksFor name rows (Tables file) = (name ≡ codes "list") × IsWord rows (codes "FILE") file
+AsksFor name rows (Migrate file) = (name ≡ codes "migrate") × IsWord rows (codes "FILE") file
 AsksFor name rows (Serve file port count) = (name ≡ codes "serve") × IsWord rows (codes "FILE") file
     × IsNumber rows (codes "port") port × IsNumber rows (codes "count") count
 

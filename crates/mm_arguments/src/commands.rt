@@ -110,6 +110,17 @@ fn check_command<'a>(alloc: Global) -> Result<Command<'a>, AllocError>
         .arg(file_argument(alloc))
 }
 
+fn migrate_command<'a>(alloc: Global) -> Result<Command<'a>, AllocError>
+    ensures { IfOk result (IsCommand line.migrate) }
+{
+    Command::new(alloc, "migrate")
+        .about("Brings a package of profile 1, in whole millimetres, to whole micrometres")
+        .after_help(
+            "Done once, in one commit; after a loss of power it can be done again. A package in micrometres is only checked.\nThe file can't go back. Prints `migrate ok`, or `rule Qk` for the rule that fails.",
+        )
+        .arg(file_argument(alloc))
+}
+
 fn list_command<'a>(alloc: Global) -> Result<Command<'a>, AllocError>
     ensures { IfOk result (IsCommand line.list) }
 {
@@ -142,7 +153,7 @@ pub(crate) fn command<'a>(alloc: Global) -> Result<Command<'a>, AllocError>
 {
     Command::new(alloc, "mmpkg")
         .about(
-            "Edits offline map packages: GeoPackage tables with coordinates in whole millimetres",
+            "Edits offline map packages: GeoPackage tables with coordinates in whole micrometres",
         )
         .after_help(
             "Exit status: 0 all accepted, 1 something refused, 2 wrong arguments, 3 a fault, 4 not a package.",
@@ -154,5 +165,6 @@ pub(crate) fn command<'a>(alloc: Global) -> Result<Command<'a>, AllocError>
         .subcommand(kit_command(alloc)?)?
         .subcommand(check_command(alloc)?)?
         .subcommand(list_command(alloc)?)?
-        .subcommand(serve_command(alloc)?)
+        .subcommand(serve_command(alloc)?)?
+        .subcommand(migrate_command(alloc)?)
 }

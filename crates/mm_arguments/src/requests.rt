@@ -40,6 +40,9 @@ pub enum Request<'a> {
         port: u16,
         count: u32,
     },
+    Migrate {
+        file: &'a str,
+    },
 }
 
 // `clap` has tested the range, for the message that it prints. The clause rests on the test of `Moment::new`.
@@ -102,6 +105,7 @@ fn request_of<'a>(name: &str, matches: &ArgMatches<'a>) -> Option<Request<'a>>
         "check" => Some(Request::Check { file }),
         "list" => Some(Request::List { file }),
         "serve" => serve_of(file, matches),
+        "migrate" => Some(Request::Migrate { file }),
         _ => None,
     }
 }

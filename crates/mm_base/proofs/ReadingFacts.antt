@@ -7,7 +7,7 @@ use Rattle.std.proofs.lemmas.List.{drop_more, drop_all, length-map}
 use Rattle.std.proofs.lemmas.Bool.Decides.{nat_tests}
 use Rattle.hex.specs.Hex.{decode_of}
 use Rattle.hex.specs.declared.error.FromHexError.{FromHexError}
-use Rattle.mm_base.specs.Bounds.{millimetres, IsId, IsSystemNumber, IsCoordinate, IsPixelSize, IsAmount, IsLong}
+use Rattle.mm_base.specs.Bounds.{current, IsId, IsSystemNumber, IsCoordinate, IsPixelSize, IsAmount, IsLong}
 use Rattle.mm_base.specs.Keys.{Text}
 use Rattle.mm_base.specs.Numbers.{Spells, LeadDigits, value_from}
 use Rattle.mm_base.specs.Reading.{ReadsTo, both_of}
@@ -254,10 +254,10 @@ id_kept z h = kept z (omega (arith, ints, h.0)) (omega (arith, ints, h.1))
 pub system_kept : (z : ℤ) → IsSystemNumber z → to_z w64 (of_z w64 z) ≡ z
 system_kept z h = kept z (omega (arith, ints, h.0)) (omega (arith, ints, h.1))
 
-pub coordinate_kept : (z : ℤ) → IsCoordinate millimetres z → to_z w64 (of_z w64 z) ≡ z
+pub coordinate_kept : (z : ℤ) → IsCoordinate current z → to_z w64 (of_z w64 z) ≡ z
 coordinate_kept z h = kept z (omega (arith, ints, h.0)) (omega (arith, ints, h.1))
 
-pub pixel_size_kept : (z : ℤ) → IsPixelSize millimetres z → to_z w64 (of_z w64 z) ≡ z
+pub pixel_size_kept : (z : ℤ) → IsPixelSize current z → to_z w64 (of_z w64 z) ≡ z
 pixel_size_kept z h = kept z (omega (arith, ints, h.0)) (omega (arith, ints, h.1))
 
 pub amount_kept : (z : ℤ) → IsAmount z → to_z w64 (of_z w64 z) ≡ z

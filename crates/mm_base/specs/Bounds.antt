@@ -1,19 +1,25 @@
 -- What the numbers, bytes and texts of a package are limited to.
-use Rattle.std.specs.Prelude.{ℕ, ◌-◌, ◌≤◌, ◌^◌, Bool, false, not, ◌&&◌, ◌||◌, IsTrue, nat_le, ℤ, pos, negsuc, neg_ℤ, ◌≤ℤ◌, List, [], ◌∷◌, length, codes, nat_eq, ◌==◌}
+use Rattle.std.specs.Prelude.{ℕ, ◌-◌, ◌≤◌, ◌^◌, Bool, true, false, not, ◌&&◌, ◌||◌, IsTrue, nat_le, ℤ, pos, negsuc, neg_ℤ, ◌≤ℤ◌, List, [], ◌∷◌, length, codes, nat_eq, ◌==◌}
 use Rattle.std.specs.Str.{IsUtf8}
 use Rattle.std.specs.List.{list_any, starts_with, before_first, after_first}
 
--- What a profile of whole numbers limits by its unit of length.
+-- What a profile of whole numbers limits by its unit of length, and what it takes.
 pub record Profile : Type 0 where
   pub version : ℤ
   pub coordinate : ℕ
   pub pixel_size : ℕ
+  -- whether an edition can hold matrices
+  pub matrix_pieces : Bool
 
 abbrev pub millimetres : Profile
-millimetres = record { version = pos 1; coordinate = 10 ^ 11; pixel_size = 10 ^ 9 }
+millimetres = record { version = pos 1; coordinate = 10 ^ 11; pixel_size = 10 ^ 9; matrix_pieces = false }
 
 abbrev pub micrometres : Profile
-micrometres = record { version = pos 2; coordinate = 10 ^ 14; pixel_size = 10 ^ 12 }
+micrometres = record { version = pos 2; coordinate = 10 ^ 14; pixel_size = 10 ^ 12; matrix_pieces = true }
+
+-- the profile in use, which a new package has and each command keeps
+abbrev pub current : Profile
+current = micrometres
 
 -- from low to high, both included
 abbrev pub IsFrom : ℤ → ℤ → ℤ → Type 0

@@ -14,6 +14,7 @@ use Rattle.mm_base.specs.declared.commands.RelationName.TheVariants as names
 use Rattle.mm_base.specs.declared.commands.Matrix.{Matrix}
 use Rattle.mm_base.specs.declared.commands.Command.{Command}
 use Rattle.mm_base.specs.declared.commands.Command.TheVariants as commands
+use Rattle.mm_base.specs.declared.commands.Piece.TheVariants as pieces
 use Rattle.mm_base.specs.declared.commands.Piece.TheVariants.{Tile, TileDrop, Row, RowDrop, Media, MediaDrop, Map, MapDrop}
 
 -- numbered reasons, each with whether it holds
@@ -54,35 +55,6 @@ lacks_medium p table id = has_kind p.kinds table kinds.Media && not (contains_ke
 abbrev pub outside : ℤ → ℤ → Grid → Bool
 outside column row g = int_le g.matrix_width column || int_le g.matrix_height row
 
-abbrev pub piece_reasons : Package → Piece → Reasons
-piece_reasons p (Tile table zoom column row bytes) =
-    no_table p table ∷ of_another_kind p table (is_pyramid p.kinds table)
-    ∷ (33, is_pyramid p.kinds table && not (contains_key p.matrices (level table (pos zoom))))
-    ∷ (34, at_value (outside (pos column) (pos row)) (get p.matrices (level table (pos zoom)))) ∷ []
-piece_reasons p (TileDrop table zoom column row) =
-    no_table p table ∷ of_another_kind p table (is_pyramid p.kinds table)
-    ∷ (35, is_pyramid p.kinds table && not (contains_key p.tiles (tile table (pos zoom) (pos column) (pos row)))) ∷ []
-piece_reasons p (Row table id title note amount) =
-    no_table p table ∷ of_another_kind p table (has_kind p.kinds table kinds.Attributes) ∷ []
-piece_reasons p (RowDrop table id) =
-    no_table p table ∷ of_another_kind p table (has_kind p.kinds table kinds.Attributes)
-    ∷ (40, has_kind p.kinds table kinds.Attributes && not (contains_key p.rows (item table id)))
-    ∷ (42, is_mapped p table id) ∷ []
-piece_reasons p (Media table id content_type bytes) =
-    no_table p table ∷ of_another_kind p table (has_kind p.kinds table kinds.Media) ∷ []
-piece_reasons p (MediaDrop table id) =
-    no_table p table ∷ of_another_kind p table (has_kind p.kinds table kinds.Media)
-    ∷ (41, has_kind p.kinds table kinds.Media && not (contains_key p.media (item table id)))
-    ∷ (42, is_mapped p table id) ∷ []
-piece_reasons p (Map mapping base_id related_id) =
-    (40, at_value (λ r. lacks_row p r.base base_id || lacks_row p r.related related_id) (get p.relations mapping))
-    ∷ (41, at_value (λ r. lacks_medium p r.base base_id || lacks_medium p r.related related_id) (get p.relations mapping))
-    ∷ (44, not (contains_key p.relations mapping))
-    ∷ (45, contains_key p.pairings (pairing mapping base_id related_id)) ∷ []
-piece_reasons p (MapDrop mapping base_id related_id) =
-    (44, not (contains_key p.relations mapping))
-    ∷ (46, contains_key p.relations mapping && not (contains_key p.pairings (pairing mapping base_id related_id))) ∷ []
-
 -- ---- matrices
 -- the numbers of a matrix, as its row holds them
 abbrev pub grid : Matrix → Grid
@@ -111,6 +83,41 @@ suits halved zoom g other h = (not (int_lt zoom other) || suits_above halved zoo
 -- some other zoom of the table has a matrix that this one doesn't suit
 abbrev pub clashes : Package → Text → ℤ → Grid → Bool
 clashes p table zoom g = some_entry (λ k h. same_text k.table table && not (suits (has_kind p.kinds table kinds.Two) zoom g k.zoom h)) p.matrices
+
+-- ---- pieces
+abbrev pub piece_reasons : Package → Piece → Reasons
+piece_reasons p (Tile table zoom column row bytes) =
+    no_table p table ∷ of_another_kind p table (is_pyramid p.kinds table)
+    ∷ (33, is_pyramid p.kinds table && not (contains_key p.matrices (level table (pos zoom))))
+    ∷ (34, at_value (outside (pos column) (pos row)) (get p.matrices (level table (pos zoom)))) ∷ []
+piece_reasons p (TileDrop table zoom column row) =
+    no_table p table ∷ of_another_kind p table (is_pyramid p.kinds table)
+    ∷ (35, is_pyramid p.kinds table && not (contains_key p.tiles (tile table (pos zoom) (pos column) (pos row)))) ∷ []
+piece_reasons p (Row table id title note amount) =
+    no_table p table ∷ of_another_kind p table (has_kind p.kinds table kinds.Attributes) ∷ []
+piece_reasons p (RowDrop table id) =
+    no_table p table ∷ of_another_kind p table (has_kind p.kinds table kinds.Attributes)
+    ∷ (40, has_kind p.kinds table kinds.Attributes && not (contains_key p.rows (item table id)))
+    ∷ (42, is_mapped p table id) ∷ []
+piece_reasons p (Media table id content_type bytes) =
+    no_table p table ∷ of_another_kind p table (has_kind p.kinds table kinds.Media) ∷ []
+piece_reasons p (MediaDrop table id) =
+    no_table p table ∷ of_another_kind p table (has_kind p.kinds table kinds.Media)
+    ∷ (41, has_kind p.kinds table kinds.Media && not (contains_key p.media (item table id)))
+    ∷ (42, is_mapped p table id) ∷ []
+piece_reasons p (Map mapping base_id related_id) =
+    (40, at_value (λ r. lacks_row p r.base base_id || lacks_row p r.related related_id) (get p.relations mapping))
+    ∷ (41, at_value (λ r. lacks_medium p r.base base_id || lacks_medium p r.related related_id) (get p.relations mapping))
+    ∷ (44, not (contains_key p.relations mapping))
+    ∷ (45, contains_key p.pairings (pairing mapping base_id related_id)) ∷ []
+piece_reasons p (MapDrop mapping base_id related_id) =
+    (44, not (contains_key p.relations mapping))
+    ∷ (46, contains_key p.relations mapping && not (contains_key p.pairings (pairing mapping base_id related_id))) ∷ []
+piece_reasons p (pieces.Matrix table zoom matrix) =
+    no_table p table ∷ of_another_kind p table (is_pyramid p.kinds table)
+    ∷ (30, is_pyramid p.kinds table && contains_key p.matrices (level table (pos zoom)))
+    ∷ (31, is_pyramid p.kinds table && at_value (λ s. not (is_product s.box (grid matrix))) (get p.sets table))
+    ∷ (32, is_pyramid p.kinds table && clashes p table (pos zoom) (grid matrix)) ∷ []
 
 -- ---- relations
 abbrev pub relation_text : RelationName → Text
@@ -159,11 +166,7 @@ own_reasons p (commands.Pyramid table identifier srs min_x min_y max_x max_y ste
     ∷ (23, is_taken p table)
     ∷ (24, is_identified p identifier)
     ∷ (27, int_le max_x min_x || int_le max_y min_y) ∷ []
-own_reasons p (commands.Matrix table zoom matrix) =
-    no_table p table ∷ of_another_kind p table (is_pyramid p.kinds table)
-    ∷ (30, is_pyramid p.kinds table && contains_key p.matrices (level table (pos zoom)))
-    ∷ (31, is_pyramid p.kinds table && at_value (λ s. not (is_product s.box (grid matrix))) (get p.sets table))
-    ∷ (32, is_pyramid p.kinds table && clashes p table (pos zoom) (grid matrix)) ∷ []
+own_reasons p (commands.Matrix table zoom matrix) = piece_reasons p (pieces.Matrix table zoom matrix)
 own_reasons p (commands.Table table kind identifier) =
     (23, is_taken p table) ∷ (24, is_identified p identifier) ∷ []
 own_reasons p (commands.Drop table) =

@@ -14,6 +14,7 @@ use Rattle.mm_base.specs.declared.commands.Kind.TheVariants as kinds
 use Rattle.mm_base.specs.declared.commands.Command.{Command}
 use Rattle.mm_base.specs.declared.commands.Command.TheVariants as commands
 use Rattle.mm_base.specs.declared.commands.Piece.{Piece}
+use Rattle.mm_base.specs.declared.commands.Piece.TheVariants as pieces
 use Rattle.mm_base.specs.declared.commands.Piece.TheVariants.{Tile, TileDrop, Row, RowDrop, Media, MediaDrop, Map, MapDrop}
 
 -- the same, changed at this time
@@ -46,6 +47,8 @@ piece_effect p (Map mapping base_id related_id) stamp =
     record p { pairings = insert p.pairings (pairing mapping base_id related_id) tt }
 piece_effect p (MapDrop mapping base_id related_id) stamp =
     record p { pairings = remove p.pairings (pairing mapping base_id related_id) }
+piece_effect p (pieces.Matrix table zoom matrix) stamp =
+    touch (record p { matrices = insert p.matrices (level table (pos zoom)) (grid matrix) }) table stamp
 
 -- ---- by the other commands
 abbrev pub step_kind : Step → Kind
@@ -100,8 +103,7 @@ effect p (commands.Srs id name organization organization_id definition descripti
     record p { systems = insert p.systems id (record { name = name; organization = organization; organization_id = organization_id; definition = definition; description = description }) }
 effect p (commands.Pyramid table identifier srs min_x min_y max_x max_y step) stamp =
     with_zoom_row (with_pyramid p table identifier srs (record { min_x = min_x; min_y = min_y; max_x = max_x; max_y = max_y }) step stamp) table step
-effect p (commands.Matrix table zoom matrix) stamp =
-    touch (record p { matrices = insert p.matrices (level table (pos zoom)) (grid matrix) }) table stamp
+effect p (commands.Matrix table zoom matrix) stamp = piece_effect p (pieces.Matrix table zoom matrix) stamp
 effect p (commands.Table table kind identifier) stamp =
     record p {
       contents = insert p.contents table (record {

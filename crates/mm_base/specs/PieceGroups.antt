@@ -1,7 +1,7 @@
 -- The pieces in groups, by what they change.
 use Rattle.std.specs.Prelude.{Bool, true, false}
 use Rattle.mm_base.specs.declared.commands.Piece.{Piece}
-use Rattle.mm_base.specs.declared.commands.Piece.TheVariants.{Tile, TileDrop, Row, RowDrop, Media, MediaDrop, Map, MapDrop}
+use Rattle.mm_base.specs.declared.commands.Piece.TheVariants.{Tile, TileDrop, Row, RowDrop, Media, MediaDrop, Map, MapDrop, Matrix}
 
 -- it changes a tile
 abbrev pub changes_tile : Piece → Bool
@@ -22,3 +22,8 @@ abbrev pub changes_mapping : Piece → Bool
 changes_mapping (Map mapping base_id related_id) = true
 changes_mapping (MapDrop mapping base_id related_id) = true
 changes_mapping _ = false
+
+-- it puts a matrix
+abbrev pub puts_matrix : Piece → Bool
+puts_matrix (Matrix table zoom m) = true
+puts_matrix _ = false

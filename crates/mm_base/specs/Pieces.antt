@@ -5,9 +5,9 @@ use Rattle.mm_base.specs.Package.{PieceRow}
 use Rattle.mm_base.specs.declared.commands.Command.{Command}
 use Rattle.mm_base.specs.declared.commands.Command.TheVariants as commands
 use Rattle.mm_base.specs.declared.commands.Piece.{Piece}
-use Rattle.mm_base.specs.declared.commands.Piece.TheVariants.{Tile, TileDrop, Row, RowDrop, Media, MediaDrop, Map, MapDrop}
+use Rattle.mm_base.specs.declared.commands.Piece.TheVariants.{Tile, TileDrop, Row, RowDrop, Media, MediaDrop, Map, MapDrop, Matrix}
 
--- a row of this kind; the columns that no kind uses are 0
+-- a row of this kind; the columns that matrices alone use are 0
 abbrev pub piece_of : Text → Text → ℤ → ℤ → ℤ → Text → Text → List ℕ → PieceRow
 piece_of kind name k1 k2 k3 t1 t2 bytes = record { kind = kind; name = name; k1 = k1; k2 = k2; k3 = k3; k4 = pos 0; k5 = pos 0; k6 = pos 0; k7 = pos 0; t1 = t1; t2 = t2; bytes = bytes }
 
@@ -20,6 +20,20 @@ piece_row (Media table id content_type bytes) = piece_of (codes "media") table i
 piece_row (MediaDrop table id) = piece_of (codes "media-drop") table id (pos 0) (pos 0) [] [] []
 piece_row (Map mapping base_id related_id) = piece_of (codes "map") mapping base_id related_id (pos 0) [] [] []
 piece_row (MapDrop mapping base_id related_id) = piece_of (codes "map-drop") mapping base_id related_id (pos 0) [] [] []
+piece_row (Matrix table zoom m) = record {
+  kind = codes "matrix";
+  name = table;
+  k1 = pos zoom;
+  k2 = pos m.mw;
+  k3 = pos m.mh;
+  k4 = pos m.tw;
+  k5 = pos m.th;
+  k6 = m.px;
+  k7 = m.py;
+  t1 = [];
+  t2 = [];
+  bytes = [];
+}
 
 -- two rows of pieces that are equal in each column
 abbrev pub same_piece : PieceRow → PieceRow → Bool
@@ -38,7 +52,8 @@ piece_by_kind r =
     else (if same_text r.kind (codes "media-drop") then Some (MediaDrop r.name r.k1)
     else (if same_text r.kind (codes "map") then Some (Map r.name r.k1 r.k2)
     else (if same_text r.kind (codes "map-drop") then Some (MapDrop r.name r.k1 r.k2)
-    else None)))))))
+    else (if same_text r.kind (codes "matrix") then Some (Matrix r.name (unsigned_abs r.k1) (record { mw = unsigned_abs r.k2; mh = unsigned_abs r.k3; tw = unsigned_abs r.k4; th = unsigned_abs r.k5; px = r.k6; py = r.k7 }))
+    else None))))))))
 
 -- where all columns are as that piece's row has them
 abbrev pub if_spelled : PieceRow → Option Piece → Option Piece
@@ -59,3 +74,4 @@ piece_command (Media table id content_type bytes) = commands.Media table id cont
 piece_command (MediaDrop table id) = commands.MediaDrop table id
 piece_command (Map mapping base_id related_id) = commands.Map mapping base_id related_id
 piece_command (MapDrop mapping base_id related_id) = commands.MapDrop mapping base_id related_id
+piece_command (Matrix table zoom m) = commands.Matrix table zoom m

@@ -8,6 +8,7 @@ use Rattle.mm_base.specs.Effects.{step_kind, plain_kind}
 use Rattle.mm_base.specs.Conditions.{relation_text}
 use Rattle.mm_base.specs.declared.commands.Matrix.{Matrix}
 use Rattle.mm_base.specs.declared.commands.Piece.{Piece}
+use Rattle.mm_base.specs.declared.commands.Piece.TheVariants as pieces
 use Rattle.mm_base.specs.declared.commands.Piece.TheVariants.{Tile, TileDrop, Row, RowDrop, Media, MediaDrop, Map, MapDrop}
 use Rattle.mm_base.specs.declared.commands.Command.{Command}
 use Rattle.mm_base.specs.declared.commands.Command.TheVariants as commands
@@ -50,17 +51,26 @@ media_form = AName ∷ id_field ∷ AContentType ∷ BytesTo 4194304 ∷ []
 abbrev pub map_form : Form
 map_form = AName ∷ id_field ∷ id_field ∷ []
 
-abbrev pub piece_forms : List (Text × Form)
-piece_forms =
+abbrev pub pixel_size : Profile → Field
+pixel_size profile = NumberFrom (pos 1) (pos profile.pixel_size)
+
+abbrev pub matrix_side : Field
+matrix_side = NumberFrom (pos 1) (pos (2 ^ 30))
+
+abbrev pub tile_side : Field
+tile_side = NumberFrom (pos 1) (pos 4096)
+
+abbrev pub matrix_form : Profile → Form
+matrix_form profile = AName ∷ zoom_field ∷ matrix_side ∷ matrix_side ∷ tile_side ∷ tile_side ∷ pixel_size profile ∷ pixel_size profile ∷ []
+
+abbrev pub piece_forms : Profile → List (Text × Form)
+piece_forms profile =
     (codes "tile", tile_form) ∷ (codes "tile-drop", tile_drop_form) ∷ (codes "row", row_form) ∷ (codes "row-drop", item_form)
-    ∷ (codes "media", media_form) ∷ (codes "media-drop", item_form) ∷ (codes "map", map_form) ∷ (codes "map-drop", map_form) ∷ []
+    ∷ (codes "media", media_form) ∷ (codes "media-drop", item_form) ∷ (codes "map", map_form) ∷ (codes "map-drop", map_form) ∷ (codes "matrix", matrix_form profile) ∷ []
 
 -- ---- the records of the other commands
 abbrev pub coordinate : Profile → Field
 coordinate profile = NumberFrom (neg_ℤ (pos profile.coordinate)) (pos profile.coordinate)
-
-abbrev pub pixel_size : Profile → Field
-pixel_size profile = NumberFrom (pos 1) (pos profile.pixel_size)
 
 abbrev pub step_words : Field
 step_words = OneOf (codes "two" ∷ codes "other" ∷ [])
@@ -89,15 +99,6 @@ pyramid_form profile =
     AName ∷ AnIdentifier ∷ named_system ∷ coordinate profile ∷ coordinate profile ∷ coordinate profile ∷ coordinate profile
     ∷ step_words ∷ []
 
-abbrev pub matrix_side : Field
-matrix_side = NumberFrom (pos 1) (pos (2 ^ 30))
-
-abbrev pub tile_side : Field
-tile_side = NumberFrom (pos 1) (pos 4096)
-
-abbrev pub matrix_form : Profile → Form
-matrix_form profile = AName ∷ zoom_field ∷ matrix_side ∷ matrix_side ∷ tile_side ∷ tile_side ∷ pixel_size profile ∷ pixel_size profile ∷ []
-
 abbrev pub table_form : Form
 table_form = AName ∷ kind_words ∷ AnIdentifier ∷ []
 
@@ -110,7 +111,7 @@ name_form = AName ∷ []
 
 abbrev pub other_forms : Profile → List (Text × Form)
 other_forms profile =
-    (codes "srs", srs_form) ∷ (codes "pyramid", pyramid_form profile) ∷ (codes "matrix", matrix_form profile) ∷ (codes "table", table_form) ∷ (codes "drop", name_form)
+    (codes "srs", srs_form) ∷ (codes "pyramid", pyramid_form profile) ∷ (codes "table", table_form) ∷ (codes "drop", name_form)
     ∷ (codes "relation", relation_form) ∷ (codes "relation-drop", name_form) ∷ (codes "edition", name_form) ∷ (codes "discard", name_form)
     ∷ (codes "publish", name_form) ∷ (codes "rehearse", name_form) ∷ []
 
@@ -119,22 +120,22 @@ abbrev pub form_of : List (Text × Form) → Text → Option Form
 form_of [] word = None
 form_of (entry ∷ entries) word = if bytes_eq word entry.0 then Some entry.1 else form_of entries word
 
-abbrev pub piece_form : List Text → Option Form
-piece_form [] = None
-piece_form (word ∷ texts) = form_of piece_forms word
+abbrev pub piece_form : Profile → List Text → Option Form
+piece_form profile [] = None
+piece_form profile (word ∷ texts) = form_of (piece_forms profile) word
 
 -- a `stage` record is an edition, a number and the record of a piece, whose word is known already
 abbrev pub with_piece : Option Form → Text → Option Form
 with_piece None word = None
 with_piece (Some form) word = Some (AName ∷ id_field ∷ OneOf (word ∷ []) ∷ form)
 
-abbrev pub stage_form : List Text → Option Form
-stage_form (edition ∷ number ∷ word ∷ texts) = with_piece (form_of piece_forms word) word
-stage_form _ = None
+abbrev pub stage_form : Profile → List Text → Option Form
+stage_form profile (edition ∷ number ∷ word ∷ texts) = with_piece (form_of (piece_forms profile) word) word
+stage_form profile _ = None
 
 abbrev pub record_form : Profile → List Text → Option Form
 record_form profile [] = None
-record_form profile (word ∷ texts) = if bytes_eq word (codes "stage") then stage_form texts else form_of (piece_forms ++ other_forms profile) word
+record_form profile (word ∷ texts) = if bytes_eq word (codes "stage") then stage_form profile texts else form_of (piece_forms profile ++ other_forms profile) word
 
 -- ---- the record that a command is spelled by
 abbrev pub piece_word : Piece → Text
@@ -146,6 +147,10 @@ piece_word (Media table id content_type bytes) = codes "media"
 piece_word (MediaDrop table id) = codes "media-drop"
 piece_word (Map mapping base_id related_id) = codes "map"
 piece_word (MapDrop mapping base_id related_id) = codes "map-drop"
+piece_word (pieces.Matrix table zoom matrix) = codes "matrix"
+
+abbrev pub matrix_values : Matrix → List Value
+matrix_values m = Whole (pos m.mw) ∷ Whole (pos m.mh) ∷ Whole (pos m.tw) ∷ Whole (pos m.th) ∷ Whole m.px ∷ Whole m.py ∷ []
 
 abbrev pub piece_values : Piece → List Value
 piece_values (Tile table zoom column row bytes) = Plain table ∷ Whole (pos zoom) ∷ Whole (pos column) ∷ Whole (pos row) ∷ Plain bytes ∷ []
@@ -156,11 +161,12 @@ piece_values (Media table id content_type bytes) = Plain table ∷ Whole id ∷ 
 piece_values (MediaDrop table id) = Plain table ∷ Whole id ∷ []
 piece_values (Map mapping base_id related_id) = Plain mapping ∷ Whole base_id ∷ Whole related_id ∷ []
 piece_values (MapDrop mapping base_id related_id) = Plain mapping ∷ Whole base_id ∷ Whole related_id ∷ []
+piece_values (pieces.Matrix table zoom matrix) = Plain table ∷ Whole (pos zoom) ∷ matrix_values matrix
 
 abbrev pub command_word : Command → Text
 command_word (commands.Srs id name organization organization_id definition description) = codes "srs"
 command_word (commands.Pyramid table identifier srs min_x min_y max_x max_y step) = codes "pyramid"
-command_word (commands.Matrix table zoom matrix) = codes "matrix"
+command_word (commands.Matrix table zoom matrix) = piece_word (pieces.Matrix table zoom matrix)
 command_word (commands.Table table kind identifier) = codes "table"
 command_word (commands.Drop table) = codes "drop"
 command_word (commands.Tile table zoom column row bytes) = piece_word (Tile table zoom column row bytes)
@@ -179,15 +185,12 @@ command_word (commands.Stage edition number piece) = codes "stage"
 command_word (commands.Publish edition) = codes "publish"
 command_word (commands.Rehearse edition) = codes "rehearse"
 
-abbrev pub matrix_values : Matrix → List Value
-matrix_values m = Whole (pos m.mw) ∷ Whole (pos m.mh) ∷ Whole (pos m.tw) ∷ Whole (pos m.th) ∷ Whole m.px ∷ Whole m.py ∷ []
-
 abbrev pub command_values : Command → List Value
 command_values (commands.Srs id name organization organization_id definition description) =
     Whole id ∷ Plain name ∷ Plain organization ∷ Whole organization_id ∷ Plain definition ∷ Plain description ∷ []
 command_values (commands.Pyramid table identifier srs min_x min_y max_x max_y step) =
     Plain table ∷ Plain identifier ∷ Whole srs ∷ Whole min_x ∷ Whole min_y ∷ Whole max_x ∷ Whole max_y ∷ Plain (kind_text (step_kind step)) ∷ []
-command_values (commands.Matrix table zoom matrix) = Plain table ∷ Whole (pos zoom) ∷ matrix_values matrix
+command_values (commands.Matrix table zoom matrix) = piece_values (pieces.Matrix table zoom matrix)
 command_values (commands.Table table kind identifier) = Plain table ∷ Plain (kind_text (plain_kind kind)) ∷ Plain identifier ∷ []
 command_values (commands.Drop table) = Plain table ∷ []
 command_values (commands.Tile table zoom column row bytes) = piece_values (Tile table zoom column row bytes)
@@ -217,13 +220,13 @@ abbrev pub IsUnmet : Option Form → List Text → ℕ → Type 0
 IsUnmet None texts n = n ≡ 10
 IsUnmet (Some form) texts n = IsAgainstSome form texts n
 
-abbrev pub SpellsPiece : List Text → Piece → Type 0
-SpellsPiece [] q = ⊥
-SpellsPiece (word ∷ texts) q = (word ≡ piece_word q) × IsMet (piece_form (word ∷ texts)) texts (piece_values q)
+abbrev pub SpellsPiece : Profile → List Text → Piece → Type 0
+SpellsPiece profile [] q = ⊥
+SpellsPiece profile (word ∷ texts) q = (word ≡ piece_word q) × IsMet (piece_form profile (word ∷ texts)) texts (piece_values q)
 
-abbrev pub HoldsAgainstPiece : List Text → ℕ → Type 0
-HoldsAgainstPiece [] n = n ≡ 10
-HoldsAgainstPiece (word ∷ texts) n = IsUnmet (piece_form (word ∷ texts)) texts n
+abbrev pub HoldsAgainstPiece : Profile → List Text → ℕ → Type 0
+HoldsAgainstPiece profile [] n = n ≡ 10
+HoldsAgainstPiece profile (word ∷ texts) n = IsUnmet (piece_form profile (word ∷ texts)) texts n
 
 abbrev pub Spells : Profile → List Text → Command → Type 0
 Spells profile [] c = ⊥

@@ -6,7 +6,7 @@ use Rattle.mm_base.specs.Keys.{Text, Level, level, TileKey, Item, item, Pairing,
 use Rattle.mm_base.specs.Parts.{Each, Has, Stands}
 use Rattle.mm_base.specs.Package.{Package, System, Contents, Box, MatrixSet, Grid, AttributeRow, Medium, Relation, PieceRow, SystemsPart, ContentsPart, Kinds, SetsPart, MatricesPart, ExtensionsPart, TilesPart, RowsPart, MediaPart, RelationsPart, PairingsPart, EditionsPart, PiecesPart, HasKind, IsPyramid, general_extension, mapping_extension, zoom_extension, open_state, published_state}
 use Rattle.mm_base.specs.Pieces.{piece_row}
-use Rattle.mm_base.specs.Within.{IsPieceWithin}
+use Rattle.mm_base.specs.Within.{IsPieceWithin, Takes}
 use Rattle.mm_base.specs.Stamp.{IsSomeStamp}
 use Rattle.mm_base.specs.declared.commands.Kind.{Kind}
 use Rattle.mm_base.specs.declared.commands.Kind.TheVariants.{Two, Other, Attributes, Media}
@@ -162,15 +162,15 @@ pub record ExactExtensions (kinds : Kinds) (relations : RelationsPart) (extensio
 abbrev pub IsNumbered : PiecesPart → Text → ℕ → Type 0
 IsNumbered pieces edition n = (number : ℤ) → (Stands pieces (piece edition number) → IsFrom (pos 1) (pos n) number) × (IsFrom (pos 1) (pos n) number → Stands pieces (piece edition number))
 
--- the row spells a piece whose fields are within their limits
-abbrev pub IsSpelled : PieceRow → Type 0
-IsSpelled r = (q : Piece) × (r ≡ piece_row q) × IsPieceWithin q
+-- the row spells a piece that the profile takes, and whose fields are within their limits
+abbrev pub IsSpelled : Profile → PieceRow → Type 0
+IsSpelled profile r = (q : Piece) × (r ≡ piece_row q) × IsPieceWithin profile q × Takes profile q
 
-pub record Editions (editions : EditionsPart) (pieces : PiecesPart) : Type 0 where
+pub record Editions (profile : Profile) (editions : EditionsPart) (pieces : PiecesPart) : Type 0 where
   pub states : Each editions (λ _ state. (state ≡ open_state) ⊎ (state ≡ published_state))
   pub numbered : (edition : Text) → Has editions edition open_state → (n : ℕ) × (n ≤ MostPieces) × IsNumbered pieces edition n
   pub of_open : Each pieces (λ k _. Has editions k.edition open_state)
-  pub spelled : Each pieces (λ _ r. IsSpelled r)
+  pub spelled : Each pieces (λ _ r. IsSpelled profile r)
 
 -- ---- 16: every name, number, text and length is within its limits
 -- the number of one of the three given systems
@@ -304,5 +304,5 @@ pub record Meets (profile : Profile) (p : Package) : Type 0 where
   pub q12 : RelationsSuited p.kinds p.relations
   pub q13 : PairingsJoin p.rows p.media p.relations p.pairings
   pub q14 : ExactExtensions p.kinds p.relations p.extensions
-  pub q15 : Editions p.editions p.pieces
+  pub q15 : Editions profile p.editions p.pieces
   pub q16 : Limits profile p

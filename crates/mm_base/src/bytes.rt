@@ -6,6 +6,7 @@ ghost use Rattle.mm_base.specs.Bounds.{IsLong};
 ghost use Rattle.mm_base.specs.Reading.{ReadsTo, refuses_bytes, reads_bytes};
 
 use crate::answers::ReadFault;
+use crate::limits::{MOST_MEDIA_BYTES, MOST_TILE_BYTES};
 use hex::FromHexError;
 use std::alloc::{AllocError, Global};
 use std::marker::Model;
@@ -28,10 +29,10 @@ impl<const MOST: usize> Model for Bytes<MOST> {
 }
 
 /// The bytes of a tile.
-pub type TileBytes = Bytes<1_048_576>;
+pub type TileBytes = Bytes<MOST_TILE_BYTES>;
 
 /// The bytes of a media item.
-pub type MediaBytes = Bytes<4_194_304>;
+pub type MediaBytes = Bytes<MOST_MEDIA_BYTES>;
 
 /// The bytes that a text spells in hexadecimal digits of either case, or None where it spells none.
 fn decoded(alloc: Global, text: &str) -> Result<Option<Vec<u8>>, AllocError>

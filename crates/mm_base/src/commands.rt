@@ -58,7 +58,7 @@ pub enum RelationName {
 }
 
 /// A tile matrix: its width and height in tiles (`mw`, `mh`), the width and height of a tile in pixels (`tw`, `th`),
-/// and the size of a pixel in millimetres (`px`, `py`).
+/// and the size of a pixel in micrometres (`px`, `py`).
 #[derive(Clone, Copy, Debug, PartialEq, Eq)]
 pub struct Matrix {
     pub mw: u32,
@@ -115,6 +115,11 @@ pub enum Piece {
         mapping: Name,
         base_id: i64,
         related_id: i64,
+    },
+    Matrix {
+        table: Name,
+        zoom: u8,
+        matrix: Matrix,
     },
 }
 

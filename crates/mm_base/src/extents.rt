@@ -1,15 +1,13 @@
 //! Extents, and whether a matrix covers one exactly.
 
 ghost use Rattle.std.specs.Prelude.{◌≡◌, ◌↔◌, ℕ, pos, ◌<ℤ◌, ◌-ℤ◌, ◌*ℤ◌, IsSome, IfSome, IsTrue};
-ghost use Rattle.mm_base.specs.Bounds.{IsCoordinate, millimetres};
+ghost use Rattle.mm_base.specs.Bounds.{IsCoordinate, current};
 ghost use Rattle.mm_base.specs.Checks.{IsExtent, box_of};
 ghost use Rattle.mm_base.specs.Rules.{Fits};
 ghost use Rattle.mm_base.specs.Conditions.{grid};
 
 use crate::commands::Matrix;
-
-/// The farthest coordinate, in either direction, in millimetres.
-pub const FARTHEST: i64 = 100_000_000_000;
+use crate::limits::FARTHEST;
 
 /// A bounding box that is not empty.
 #[derive(Clone, Copy, Debug, PartialEq, Eq)]
@@ -21,7 +19,7 @@ pub struct Extent {
 }
 
 fn is_coordinate(number: i64) -> bool
-    ensures { IsTrue result ↔ IsCoordinate millimetres number }
+    ensures { IsTrue result ↔ IsCoordinate current number }
 {
     -FARTHEST <= number && number <= FARTHEST
 }
@@ -31,7 +29,7 @@ impl Extent {
 
     /// The extent with these bounds, where they are within the limits and it is not empty.
     pub fn new(min_x: i64, min_y: i64, max_x: i64, max_y: i64) -> Option<Extent>
-        ensures within { IsSome result ↔ IsExtent millimetres (record { min_x = min_x; min_y = min_y; max_x = max_x; max_y = max_y }) }
+        ensures within { IsSome result ↔ IsExtent current (record { min_x = min_x; min_y = min_y; max_x = max_x; max_y = max_y }) }
         ensures value { IfSome result (λ e. e ≡ record { min_x = min_x; min_y = min_y; max_x = max_x; max_y = max_y }) }
     {
         if !is_coordinate(min_x) {

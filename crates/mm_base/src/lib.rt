@@ -12,12 +12,14 @@ pub mod content_types;
 pub mod entries;
 pub mod extents;
 pub mod identifiers;
+pub mod limits;
 pub mod matrices;
 pub mod moments;
 pub mod names;
 pub mod numbers;
 pub mod streams;
 pub mod texts;
+pub mod units;
 
 pub use answers::{
     Answer, Fault, KitFault, Open, Outcome, PageFault, ReadFault, Refusal, RunFault, Staged, Tally,
@@ -34,3 +36,4 @@ pub use names::{Name, is_name};
 pub use numbers::read_number;
 pub use streams::Io;
 pub use texts::{Definition, Remark, SystemName, Text};
+pub use units::Unit;

@@ -1,5 +1,5 @@
 -- What the queries of editions and pieces show, and rule 15.
-use Rattle.std.proofs.Common.{◌≡◌, ◌↔◌, ◌⊎◌, inl, inr, true, ◌&&◌, ℕ, suc, zero, ℤ, pos, negsuc, ◌-ℤ◌, ◌≤ℤ◌, ◌<◌, ◌^◌, nat_lt, unsigned_abs, [], ◌∷◌, List, Option, Some, is_some, IsTrue, refl, sym, ap, ap₂, subst, arith}
+use Rattle.std.proofs.Common.{codes, ◌≡◌, ◌↔◌, ◌⊎◌, inl, inr, true, ◌&&◌, ℕ, suc, zero, ℤ, pos, negsuc, ◌-ℤ◌, ◌≤ℤ◌, ◌<◌, ◌^◌, nat_lt, unsigned_abs, [], ◌∷◌, List, Option, Some, is_some, IsTrue, refl, sym, ap, ap₂, subst, arith}
 use Rattle.std.proofs.lemmas.Bool.{and_parts, and_from}
 use Rattle.std.proofs.lemmas.Bool.Decides.{nat_tests}
 use Rattle.std.proofs.lemmas.Int.{ints}
@@ -14,17 +14,17 @@ use Rattle.sqlite_sql.specs.Numeral.{fits_i64}
 use Rattle.sqlite_sql.specs.Term.{col}
 use Rattle.sqlite_sql.specs.Query.{inner, left, end}
 use Rattle.sqlite_schema.specs.Rules.{equal}
-use Rattle.mm_base.specs.Bounds.{millimetres, IsId, IsFrom, IsZoom, IsTilePlace, MostPieces}
+use Rattle.mm_base.specs.Bounds.{Profile, IsName, IsMatrixSide, IsTileSide, IsId, IsFrom, IsZoom, IsTilePlace, MostPieces}
 use Rattle.mm_base.specs.Keys.{Text, PieceKey, piece}
 use Rattle.mm_base.specs.Package.{Package, PieceRow, open_state}
 use Rattle.mm_base.specs.Pieces.{piece_row}
-use Rattle.mm_base.specs.Within.{IsPieceWithin}
+use Rattle.mm_base.specs.Within.{IsPieceWithin, Takes}
 use Rattle.mm_base.specs.Rules.{Limits, Editions, IsSpelled}
 use Rattle.mm_base.specs.declared.commands.Piece.{Piece}
-use Rattle.mm_base.specs.declared.commands.Piece.TheVariants.{Tile, TileDrop, Row as RowPiece, RowDrop, Media, MediaDrop, Map, MapDrop}
+use Rattle.mm_base.specs.declared.commands.Piece.TheVariants.{Tile, TileDrop, Row as RowPiece, RowDrop, Media, MediaDrop, Map, MapDrop, Matrix}
 use Rattle.mm_base.proofs.Parts.{same_some, some_of}
 use Rattle.mm_store.specs.Rows.{edition_row, staged_row}
-use Rattle.mm_check.specs.PieceRows.{IsStateRow, IsOpenRow, IsNumberedRow, IsSpelledRow, IsPut, IsDrop}
+use Rattle.mm_check.specs.PieceRows.{IsContent, IsMatrix, IsStateRow, IsOpenRow, IsNumberedRow, IsSpelledRow, IsPut, IsDrop}
 use Rattle.mm_rules.specs.Parts.{EditionStates, PiecesOfOpen, PiecesNumbered, PiecesSpelled}
 use Rattle.mm_rules.proofs.Joined.{after_rowid, covered, each_row, each_row_in, joined}
 use Rattle.mm_rules.proofs.Keys.{name_is, texts_are, ints_are, same}
@@ -39,15 +39,15 @@ number_inside e = cc
 bytes_inside : {x y : List ℕ} → ◌≡◌ {A = Option (List ℕ)} (Some x) (Some y) → x ≡ y
 bytes_inside e = cc
 
-pub edition_states : Says [] (inner 23 end) [] (col 1 2 ∷ []) IsStateRow (λ p. Limits millimetres p) EditionStates
-edition_states version db p stands known =
+pub edition_states : (profile : Profile) → Says [] (inner 23 end) [] (col 1 2 ∷ []) IsStateRow (λ p. Limits profile p) EditionStates
+edition_states profile version db p stands known =
     each_row after_rowid edition_row (db 23) p.editions (covered (λ k v. (_, _, refl)) stands.holds.editions) _ _ (λ k v x. (
       λ h. elim h [ inl is ↦ inl (same_some is) | inr is ↦ inr (same_some is) ],
       λ h. elim h [ inl is ↦ inl (ap Some is) | inr is ↦ inr (ap Some is) ],
     ))
 
-pub pieces_of_open : Says [] (inner 25 (left 23 (equals 2 1 1 1 ∷ []) end)) [] (col 2 2 ∷ []) IsOpenRow (λ p. Limits millimetres p) PiecesOfOpen
-pieces_of_open version db p stands known =
+pub pieces_of_open : (profile : Profile) → Says [] (inner 25 (left 23 (equals 2 1 1 1 ∷ []) end)) [] (col 2 2 ∷ []) IsOpenRow (λ p. Limits profile p) PiecesOfOpen
+pieces_of_open profile version db p stands known =
     each_row after_rowid staged_row (db 25) p.pieces (covered (λ k v. (_, _, refl)) stands.holds.pieces) _ _
     (λ k v x. joined after_rowid edition_row (db 23) p.editions (covered (λ l s. (_, _, refl)) stands.holds.editions) _ k.edition (λ l s y. name_is l k.edition) _ (λ o. o ≡ Some open_state) same (λ s y. same))
 
@@ -83,8 +83,8 @@ first_is z A = (
   λ h. (h.0, elim h.1 [ inl is ↦ inl (ap Some is) | inr a ↦ inr a ]),
 )
 
-pub pieces_numbered : Says [] (inner 25 (left 25 (equals 2 1 1 1 ∷ follows 2 2 1 2 ∷ []) end)) [] (col 1 2 ∷ col 2 2 ∷ []) IsNumberedRow (λ p. Limits millimetres p) PiecesNumbered
-pieces_numbered version db p stands known =
+pub pieces_numbered : (profile : Profile) → Says [] (inner 25 (left 25 (equals 2 1 1 1 ∷ follows 2 2 1 2 ∷ []) end)) [] (col 1 2 ∷ col 2 2 ∷ []) IsNumberedRow (λ p. Limits profile p) PiecesNumbered
+pieces_numbered profile version db p stands known =
     let here = covered (λ k v. (_, _, refl)) stands.holds.pieces in
     each_row_in after_rowid staged_row (db 25) p.pieces here _ _
     (λ k v x is. joined after_rowid staged_row (db 25) p.pieces here _ (piece k.edition (k.number -ℤ pos 1)) (λ l w y. before_is l k (known.12 k v is).1) _
@@ -102,58 +102,78 @@ same_row : (v : PieceRow) (kind : Text) (k1 k2 k3 : ℤ) (t1 t2 : Text) (bytes :
     → v ≡ record { kind = kind; name = v.name; k1 = k1; k2 = k2; k3 = k3; k4 = pos 0; k5 = pos 0; k6 = pos 0; k7 = pos 0; t1 = t1; t2 = t2; bytes = bytes }
 same_row v kind k1 k2 k3 t1 t2 bytes a b c d e f g h s t u = λ i. record { kind = a i; name = v.name; k1 = b i; k2 = c i; k3 = d i; k4 = e i; k5 = f i; k6 = g i; k7 = h i; t1 = s i; t2 = t i; bytes = u i }
 
-to_spelled : (v : PieceRow) → IsSpelledRow (shown v) → IsSpelled v
-to_spelled v h = go h.form
+to_content : (profile : Profile) (v : PieceRow) → IsName v.name → IsContent (shown v) → IsSpelled profile v
+to_content profile v named h = go h.1
   where
     z4 : v.k4 ≡ pos 0
-    z4 = number_inside h.unused.0
+    z4 = number_inside h.0.0
 
     z5 : v.k5 ≡ pos 0
-    z5 = number_inside h.unused.1
+    z5 = number_inside h.0.1
 
     z6 : v.k6 ≡ pos 0
-    z6 = number_inside h.unused.2
+    z6 = number_inside h.0.2
 
     z7 : v.k7 ≡ pos 0
-    z7 = number_inside h.unused.3
+    z7 = number_inside h.0.3
 
-    go : IsPut (shown v) ⊎ IsDrop (shown v) → IsSpelled v
+    go : IsPut (shown v) ⊎ IsDrop (shown v) → IsSpelled profile v
     go (inl (inl (is, (zoom, column, row), (a, b), bytes))) =
         let z = natural v.k1 zoom.0 in let c = natural v.k2 column.0 in let r = natural v.k3 row.0 in
-        (Tile v.name (unsigned_abs v.k1) (unsigned_abs v.k2) (unsigned_abs v.k3) v.bytes, same_row v _ _ _ _ _ _ _ (same_some is) z c r z4 z5 z6 z7 (same_some a) (same_some b) refl, (h.name.1, subst IsZoom z zoom, subst IsTilePlace c column, subst IsTilePlace r row, bytes))
+        (Tile v.name (unsigned_abs v.k1) (unsigned_abs v.k2) (unsigned_abs v.k3) v.bytes, same_row v _ _ _ _ _ _ _ (same_some is) z c r z4 z5 z6 z7 (same_some a) (same_some b) refl, (named, subst IsZoom z zoom, subst IsTilePlace c column, subst IsTilePlace r row, bytes), tt)
     go (inl (inr (inl (is, id, amount, zero_is, title, note, none)))) =
-        (RowPiece v.name v.k1 v.t1 v.t2 v.k2, same_row v _ _ _ _ _ _ _ (same_some is) refl refl (number_inside zero_is) z4 z5 z6 z7 refl refl (bytes_inside none), (h.name.1, id, title.1, note.1, amount))
+        (RowPiece v.name v.k1 v.t1 v.t2 v.k2, same_row v _ _ _ _ _ _ _ (same_some is) refl refl (number_inside zero_is) z4 z5 z6 z7 refl refl (bytes_inside none), (named, id, title.1, note.1, amount), tt)
     go (inl (inr (inr (inl (is, (id, a, b), content_type, c, bytes))))) =
-        (Media v.name v.k1 v.t1 v.bytes, same_row v _ _ _ _ _ _ _ (same_some is) refl (number_inside a) (number_inside b) z4 z5 z6 z7 refl (same_some c) refl, (h.name.1, id, content_type.1, bytes))
+        (Media v.name v.k1 v.t1 v.bytes, same_row v _ _ _ _ _ _ _ (same_some is) refl (number_inside a) (number_inside b) z4 z5 z6 z7 refl (same_some c) refl, (named, id, content_type.1, bytes), tt)
     go (inl (inr (inr (inr (is, (base, related, a), (b, c), none))))) =
-        (Map v.name v.k1 v.k2, same_row v _ _ _ _ _ _ _ (same_some is) refl refl (number_inside a) z4 z5 z6 z7 (same_some b) (same_some c) (bytes_inside none), (h.name.1, base, related))
+        (Map v.name v.k1 v.k2, same_row v _ _ _ _ _ _ _ (same_some is) refl refl (number_inside a) z4 z5 z6 z7 (same_some b) (same_some c) (bytes_inside none), (named, base, related), tt)
     go (inr (inl (is, (zoom, column, row), (a, b), none))) =
         let z = natural v.k1 zoom.0 in let c = natural v.k2 column.0 in let r = natural v.k3 row.0 in
-        (TileDrop v.name (unsigned_abs v.k1) (unsigned_abs v.k2) (unsigned_abs v.k3), same_row v _ _ _ _ _ _ _ (same_some is) z c r z4 z5 z6 z7 (same_some a) (same_some b) (bytes_inside none), (h.name.1, subst IsZoom z zoom, subst IsTilePlace c column, subst IsTilePlace r row))
+        (TileDrop v.name (unsigned_abs v.k1) (unsigned_abs v.k2) (unsigned_abs v.k3), same_row v _ _ _ _ _ _ _ (same_some is) z c r z4 z5 z6 z7 (same_some a) (same_some b) (bytes_inside none), (named, subst IsZoom z zoom, subst IsTilePlace c column, subst IsTilePlace r row), tt)
     go (inr (inr (inl (is, (id, a, b), (c, d), none)))) =
-        (RowDrop v.name v.k1, same_row v _ _ _ _ _ _ _ (same_some is) refl (number_inside a) (number_inside b) z4 z5 z6 z7 (same_some c) (same_some d) (bytes_inside none), (h.name.1, id))
+        (RowDrop v.name v.k1, same_row v _ _ _ _ _ _ _ (same_some is) refl (number_inside a) (number_inside b) z4 z5 z6 z7 (same_some c) (same_some d) (bytes_inside none), (named, id), tt)
     go (inr (inr (inr (inl (is, (id, a, b), (c, d), none))))) =
-        (MediaDrop v.name v.k1, same_row v _ _ _ _ _ _ _ (same_some is) refl (number_inside a) (number_inside b) z4 z5 z6 z7 (same_some c) (same_some d) (bytes_inside none), (h.name.1, id))
+        (MediaDrop v.name v.k1, same_row v _ _ _ _ _ _ _ (same_some is) refl (number_inside a) (number_inside b) z4 z5 z6 z7 (same_some c) (same_some d) (bytes_inside none), (named, id), tt)
     go (inr (inr (inr (inr (is, (base, related, a), (b, c), none))))) =
-        (MapDrop v.name v.k1 v.k2, same_row v _ _ _ _ _ _ _ (same_some is) refl refl (number_inside a) z4 z5 z6 z7 (same_some b) (same_some c) (bytes_inside none), (h.name.1, base, related))
+        (MapDrop v.name v.k1 v.k2, same_row v _ _ _ _ _ _ _ (same_some is) refl refl (number_inside a) z4 z5 z6 z7 (same_some b) (same_some c) (bytes_inside none), (named, base, related), tt)
 
-of_piece : (q : Piece) → IsPieceWithin q → IsSpelledRow (shown (piece_row q))
-of_piece (Tile table zoom column row bytes) w = record { name = (name_utf8 table w.0, w.0); unused = (refl, refl, refl, refl); form = inl (inl (refl, (w.1, w.2, w.3), (refl, refl), w.4)) }
-of_piece (TileDrop table zoom column row) w = record { name = (name_utf8 table w.0, w.0); unused = (refl, refl, refl, refl); form = inr (inl (refl, (w.1, w.2, w.3), (refl, refl), refl)) }
-of_piece (RowPiece table id title note amount) w = record { name = (name_utf8 table w.0, w.0); unused = (refl, refl, refl, refl); form = inl (inr (inl (refl, w.1, w.4, refl, (w.2.clean.utf8, w.2), (w.3.clean.utf8, w.3), refl))) }
-of_piece (RowDrop table id) w = record { name = (name_utf8 table w.0, w.0); unused = (refl, refl, refl, refl); form = inr (inr (inl (refl, (w.1, refl, refl), (refl, refl), refl))) }
-of_piece (Media table id content_type bytes) w = record { name = (name_utf8 table w.0, w.0); unused = (refl, refl, refl, refl); form = inl (inr (inr (inl (refl, (w.1, refl, refl), (content_type_utf8 content_type w.2, w.2), refl, w.3)))) }
-of_piece (MediaDrop table id) w = record { name = (name_utf8 table w.0, w.0); unused = (refl, refl, refl, refl); form = inr (inr (inr (inl (refl, (w.1, refl, refl), (refl, refl), refl)))) }
-of_piece (Map mapping base_id related_id) w = record { name = (name_utf8 mapping w.0, w.0); unused = (refl, refl, refl, refl); form = inl (inr (inr (inr (refl, (w.1, w.2, refl), (refl, refl), refl)))) }
-of_piece (MapDrop mapping base_id related_id) w = record { name = (name_utf8 mapping w.0, w.0); unused = (refl, refl, refl, refl); form = inr (inr (inr (inr (refl, (w.1, w.2, refl), (refl, refl), refl)))) }
+matrix_row : (v : PieceRow) (k1 k2 k3 k4 k5 : ℤ) → v.kind ≡ codes "matrix" → v.k1 ≡ k1 → v.k2 ≡ k2 → v.k3 ≡ k3 → v.k4 ≡ k4 → v.k5 ≡ k5 → v.t1 ≡ [] → v.t2 ≡ [] → v.bytes ≡ []
+    → v ≡ record { kind = codes "matrix"; name = v.name; k1 = k1; k2 = k2; k3 = k3; k4 = k4; k5 = k5; k6 = v.k6; k7 = v.k7; t1 = []; t2 = []; bytes = [] }
+matrix_row v k1 k2 k3 k4 k5 a b c d e f s t u = λ i. record { kind = a i; name = v.name; k1 = b i; k2 = c i; k3 = d i; k4 = e i; k5 = f i; k6 = v.k6; k7 = v.k7; t1 = s i; t2 = t i; bytes = u i }
 
-pub pieces_spelled : Says [] (inner 25 end) [] (col 1 3 ∷ col 1 4 ∷ col 1 5 ∷ col 1 6 ∷ col 1 7 ∷ col 1 8 ∷ col 1 9 ∷ col 1 10 ∷ col 1 11 ∷ col 1 12 ∷ col 1 13 ∷ col 1 14 ∷ []) IsSpelledRow (λ p. Limits millimetres p) PiecesSpelled
-pieces_spelled version db p stands known =
-    each_row after_rowid staged_row (db 25) p.pieces (covered (λ k v. (_, _, refl)) stands.holds.pieces) _ _ (λ k v x. (to_spelled v, λ s. subst (λ (y : PieceRow). IsSpelledRow (shown y)) (sym s.1) (of_piece s.0 s.2)))
+above_zero : (z : ℤ) → pos 1 ≤ℤ z → z ≡ pos (unsigned_abs z)
+above_zero z low = omega (arith, ints, low)
+
+to_matrix : (profile : Profile) (v : PieceRow) → IsName v.name → IsMatrix profile (shown v) → IsSpelled profile v
+to_matrix profile v named (takes, is, zoom, (mw, mh, tw, th), px, py, (a, b), none) =
+    let z = natural v.k1 zoom.0 in let w = above_zero v.k2 mw.0 in let h = above_zero v.k3 mh.0 in let x = above_zero v.k4 tw.0 in let y = above_zero v.k5 th.0 in (
+      Matrix v.name (unsigned_abs v.k1) (record { mw = unsigned_abs v.k2; mh = unsigned_abs v.k3; tw = unsigned_abs v.k4; th = unsigned_abs v.k5; px = v.k6; py = v.k7 }),
+      matrix_row v _ _ _ _ _ (same_some is) z w h x y (same_some a) (same_some b) (bytes_inside none),
+      (named, subst IsZoom z zoom, record { mw = subst IsMatrixSide w mw; mh = subst IsMatrixSide h mh; tw = subst IsTileSide x tw; th = subst IsTileSide y th; px = px; py = py }),
+      takes,
+    )
+
+to_spelled : (profile : Profile) (v : PieceRow) → IsSpelledRow profile (shown v) → IsSpelled profile v
+to_spelled profile v h = elim h.form [ inl content ↦ to_content profile v h.name.1 content | inr matrix ↦ to_matrix profile v h.name.1 matrix ]
+
+of_piece : (profile : Profile) (q : Piece) → IsPieceWithin profile q → Takes profile q → IsSpelledRow profile (shown (piece_row q))
+of_piece profile (Tile table zoom column row bytes) w takes = record { name = (name_utf8 table w.0, w.0); form = inl ((refl, refl, refl, refl), inl (inl (refl, (w.1, w.2, w.3), (refl, refl), w.4))) }
+of_piece profile (TileDrop table zoom column row) w takes = record { name = (name_utf8 table w.0, w.0); form = inl ((refl, refl, refl, refl), inr (inl (refl, (w.1, w.2, w.3), (refl, refl), refl))) }
+of_piece profile (RowPiece table id title note amount) w takes = record { name = (name_utf8 table w.0, w.0); form = inl ((refl, refl, refl, refl), inl (inr (inl (refl, w.1, w.4, refl, (w.2.clean.utf8, w.2), (w.3.clean.utf8, w.3), refl)))) }
+of_piece profile (RowDrop table id) w takes = record { name = (name_utf8 table w.0, w.0); form = inl ((refl, refl, refl, refl), inr (inr (inl (refl, (w.1, refl, refl), (refl, refl), refl)))) }
+of_piece profile (Media table id content_type bytes) w takes = record { name = (name_utf8 table w.0, w.0); form = inl ((refl, refl, refl, refl), inl (inr (inr (inl (refl, (w.1, refl, refl), (content_type_utf8 content_type w.2, w.2), refl, w.3))))) }
+of_piece profile (MediaDrop table id) w takes = record { name = (name_utf8 table w.0, w.0); form = inl ((refl, refl, refl, refl), inr (inr (inr (inl (refl, (w.1, refl, refl), (refl, refl), refl))))) }
+of_piece profile (Map mapping base_id related_id) w takes = record { name = (name_utf8 mapping w.0, w.0); form = inl ((refl, refl, refl, refl), inl (inr (inr (inr (refl, (w.1, w.2, refl), (refl, refl), refl))))) }
+of_piece profile (MapDrop mapping base_id related_id) w takes = record { name = (name_utf8 mapping w.0, w.0); form = inl ((refl, refl, refl, refl), inr (inr (inr (inr (refl, (w.1, w.2, refl), (refl, refl), refl))))) }
+of_piece profile (Matrix table zoom m) w takes = record { name = (name_utf8 table w.0, w.0); form = inr (takes, refl, w.1, (w.2.mw, w.2.mh, w.2.tw, w.2.th), w.2.px, w.2.py, (refl, refl), refl) }
+
+pub pieces_spelled : (profile : Profile) → Says [] (inner 25 end) [] (col 1 3 ∷ col 1 4 ∷ col 1 5 ∷ col 1 6 ∷ col 1 7 ∷ col 1 8 ∷ col 1 9 ∷ col 1 10 ∷ col 1 11 ∷ col 1 12 ∷ col 1 13 ∷ col 1 14 ∷ []) (IsSpelledRow profile) (λ p. Limits profile p) (PiecesSpelled profile)
+pieces_spelled profile version db p stands known =
+    each_row after_rowid staged_row (db 25) p.pieces (covered (λ k v. (_, _, refl)) stands.holds.pieces) _ _ (λ k v x. (to_spelled profile v, λ s. subst (λ (y : PieceRow). IsSpelledRow profile (shown y)) (sym s.1) (of_piece profile s.0 s.2 s.3)))
 
 -- ---- all of rule 15
-pub all_editions : (p : Package) → (EditionStates p × (PiecesOfOpen p × (PiecesSpelled p × PiecesNumbered p))) ↔ Editions p.editions p.pieces
-all_editions p = (
+pub all_editions : (profile : Profile) (p : Package) → (EditionStates p × (PiecesOfOpen p × (PiecesSpelled profile p × PiecesNumbered p))) ↔ Editions profile p.editions p.pieces
+all_editions profile p = (
   λ h. record {
     states = h.0;
     of_open = h.1.0;

@@ -4,7 +4,7 @@ use Rattle.std.specs.Prelude.{⊤, IfSome}
 use Rattle.sqlite_sql.specs.Term.{col}
 use Rattle.sqlite_sql.specs.Query.{inner, end}
 use Rattle.mm_base.specs.Keys.{Text}
-use Rattle.mm_base.specs.Bounds.{millimetres, IsCoordinate, IsSystemNumber, IsClean}
+use Rattle.mm_base.specs.Bounds.{Profile, IsCoordinate, IsSystemNumber, IsClean}
 use Rattle.mm_base.proofs.Parts.{same_some}
 use Rattle.mm_store.specs.Rows.{maybe, maybe_words, system_row, contents_row, kind_row, set_row, grid_row, extension_row, tile_row, attribute_row, medium_row, relation_row, pairing_row, edition_row, staged_row}
 use Rattle.mm_check.specs.LimitRows.{number_if_any, text_if_any, IsSystemWithinRow, IsContentsWithinRow, IsKindWithinRow, IsSetWithinRow, IsMatrixWithinRow, IsExtensionWithinRow, IsTileWithinRow, IsAttributeWithinRow, IsMediumWithinRow, IsRelationWithinRow, IsPairingWithinRow, IsEditionWithinRow, IsPieceWithinRow, SystemsAreWithin, ContentsAreWithin, KindsAreWithin, SetsAreWithin, MatricesAreWithin, ExtensionsAreWithin, TilesAreWithin, RowsAreWithin, MediaAreWithin, RelationsAreWithin, PairingsAreWithin, EditionsAreWithin, PiecesAreWithin}
@@ -28,11 +28,11 @@ systems_within version db p stands known =
       λ w. record { numbers = w.numbers; name = (w.name.clean.utf8, w.name); organization = (w.organization.clean.utf8, w.organization); definition = (w.definition.clean.utf8, w.definition); description = (w.description.clean.utf8, w.description) },
     ))
 
-pub contents_within : Says [] (inner 1 end) [] (col 1 1 ∷ col 1 2 ∷ col 1 3 ∷ col 1 4 ∷ col 1 5 ∷ col 1 6 ∷ col 1 7 ∷ col 1 8 ∷ col 1 9 ∷ col 1 10 ∷ []) IsContentsWithinRow (λ _. ⊤) ContentsAreWithin
-contents_within version db p stands known =
+pub contents_within : (profile : Profile) → Says [] (inner 1 end) [] (col 1 1 ∷ col 1 2 ∷ col 1 3 ∷ col 1 4 ∷ col 1 5 ∷ col 1 6 ∷ col 1 7 ∷ col 1 8 ∷ col 1 9 ∷ col 1 10 ∷ []) (IsContentsWithinRow profile) (λ _. ⊤) (ContentsAreWithin profile)
+contents_within profile version db p stands known =
     each_row after_rowid contents_row (db 1) p.contents (covered (λ k v. (_, _, refl)) stands.holds.contents) _ _ (λ k v x. (
-      λ h. record { table = h.table.1; data_type = h.data_type.1; identifier = h.identifier.1; description = same_some h.description; last_change = h.last_change.1; min_x = (number_is (IsCoordinate millimetres) v.min_x).0 h.min_x; min_y = (number_is (IsCoordinate millimetres) v.min_y).0 h.min_y; max_x = (number_is (IsCoordinate millimetres) v.max_x).0 h.max_x; max_y = (number_is (IsCoordinate millimetres) v.max_y).0 h.max_y; system = (number_is IsSystemNumber v.system).0 h.system },
-      λ w. record { table = (name_utf8 _ w.table, w.table); data_type = (w.data_type.utf8, w.data_type); identifier = (w.identifier.utf8, w.identifier); description = ap Some w.description; last_change = (stamp_is_utf8 _ w.last_change, w.last_change); min_x = (number_is (IsCoordinate millimetres) v.min_x).1 w.min_x; min_y = (number_is (IsCoordinate millimetres) v.min_y).1 w.min_y; max_x = (number_is (IsCoordinate millimetres) v.max_x).1 w.max_x; max_y = (number_is (IsCoordinate millimetres) v.max_y).1 w.max_y; system = (number_is IsSystemNumber v.system).1 w.system },
+      λ h. record { table = h.table.1; data_type = h.data_type.1; identifier = h.identifier.1; description = same_some h.description; last_change = h.last_change.1; min_x = (number_is (IsCoordinate profile) v.min_x).0 h.min_x; min_y = (number_is (IsCoordinate profile) v.min_y).0 h.min_y; max_x = (number_is (IsCoordinate profile) v.max_x).0 h.max_x; max_y = (number_is (IsCoordinate profile) v.max_y).0 h.max_y; system = (number_is IsSystemNumber v.system).0 h.system },
+      λ w. record { table = (name_utf8 _ w.table, w.table); data_type = (w.data_type.utf8, w.data_type); identifier = (w.identifier.utf8, w.identifier); description = ap Some w.description; last_change = (stamp_is_utf8 _ w.last_change, w.last_change); min_x = (number_is (IsCoordinate profile) v.min_x).1 w.min_x; min_y = (number_is (IsCoordinate profile) v.min_y).1 w.min_y; max_x = (number_is (IsCoordinate profile) v.max_x).1 w.max_x; max_y = (number_is (IsCoordinate profile) v.max_y).1 w.max_y; system = (number_is IsSystemNumber v.system).1 w.system },
     ))
 
 pub kinds_within : Says [] (inner 13 end) [] (col 1 1 ∷ col 1 2 ∷ []) IsKindWithinRow (λ _. ⊤) KindsAreWithin
@@ -42,15 +42,15 @@ kinds_within version db p stands known =
       λ w. record { table = (name_utf8 _ w.0, w.0); kind = (w.1.utf8, w.1) },
     ))
 
-pub sets_within : Says [] (inner 4 end) [] (col 1 1 ∷ col 1 2 ∷ col 1 3 ∷ col 1 4 ∷ col 1 5 ∷ col 1 6 ∷ []) IsSetWithinRow (λ _. ⊤) SetsAreWithin
-sets_within version db p stands known =
+pub sets_within : (profile : Profile) → Says [] (inner 4 end) [] (col 1 1 ∷ col 1 2 ∷ col 1 3 ∷ col 1 4 ∷ col 1 5 ∷ col 1 6 ∷ []) (IsSetWithinRow profile) (λ _. ⊤) (SetsAreWithin profile)
+sets_within profile version db p stands known =
     each_row after_rowid set_row (db 4) p.sets (covered (λ k v. (_, _, refl)) stands.holds.sets) _ _ (λ k v x. (
       λ h. record { table = h.table.1; system = h.system; box = record { min_x = h.min_x; min_y = h.min_y; max_x = h.max_x; max_y = h.max_y } },
       λ w. record { table = (name_utf8 _ w.table, w.table); system = w.system; min_x = w.box.min_x; min_y = w.box.min_y; max_x = w.box.max_x; max_y = w.box.max_y },
     ))
 
-pub matrices_within : Says [] (inner 6 end) [] (col 1 1 ∷ col 1 2 ∷ col 1 3 ∷ col 1 4 ∷ col 1 5 ∷ col 1 6 ∷ col 1 7 ∷ col 1 8 ∷ []) IsMatrixWithinRow (λ _. ⊤) MatricesAreWithin
-matrices_within version db p stands known =
+pub matrices_within : (profile : Profile) → Says [] (inner 6 end) [] (col 1 1 ∷ col 1 2 ∷ col 1 3 ∷ col 1 4 ∷ col 1 5 ∷ col 1 6 ∷ col 1 7 ∷ col 1 8 ∷ []) (IsMatrixWithinRow profile) (λ _. ⊤) (MatricesAreWithin profile)
+matrices_within profile version db p stands known =
     each_row after_rowid grid_row (db 6) p.matrices (covered (λ k v. (_, _, refl)) stands.holds.matrices) _ _ (λ k v x. (
       λ h. record { table = h.table.1; zoom = h.zoom; matrix_width = h.matrix_width; matrix_height = h.matrix_height; tile_width = h.tile_width; tile_height = h.tile_height; pixel_x_size = h.pixel_x_size; pixel_y_size = h.pixel_y_size },
       λ w. record { table = (name_utf8 _ w.table, w.table); zoom = w.zoom; matrix_width = w.matrix_width; matrix_height = w.matrix_height; tile_width = w.tile_width; tile_height = w.tile_height; pixel_x_size = w.pixel_x_size; pixel_y_size = w.pixel_y_size },

@@ -4,7 +4,7 @@ use Rattle.std.specs.Prelude.{⊤}
 use Rattle.std.proofs.lemmas.Bool.{cases_Bool}
 use Rattle.std.proofs.lemmas.Bool.Decides.{nat_tests}
 use Rattle.sqlite.specs.State.{State, HasCleanDisk}
-use Rattle.mm_base.specs.Bounds.{Profile, millimetres}
+use Rattle.mm_base.specs.Bounds.{Profile}
 use Rattle.mm_base.specs.Package.{Package}
 use Rattle.mm_base.specs.Rules.{Meets, Limits}
 use Rattle.mm_base.specs.declared.answers.Fault.{Fault}
@@ -22,17 +22,17 @@ one_more profile p k low before here = (
   ],
 )
 
-module _ (old new : State) where
-  pub limits_pass : (r : Result Bool Fault) {b : Bool} → r ≡ Ok b → b ≡ true → IsCheck millimetres old new (λ _. ⊤) (λ p. Limits millimetres p) r → HasPassed millimetres old new 1
+module _ (profile : Profile) (old new : State) where
+  pub limits_pass : (r : Result Bool Fault) {b : Bool} → r ≡ Ok b → b ≡ true → IsCheck profile old new (λ _. ⊤) (λ p. Limits profile p) r → HasPassed profile old new 1
   unfolding rule
   limits_pass r {b} is told h =
-      let c = as_told millimetres old new (λ _. ⊤) (λ p. Limits millimetres p) r b true is told h in
+      let c = as_told profile old new (λ _. ⊤) (λ p. Limits profile p) r b true is told h in
       record { mode = c.mode; survives = c.survives; settled = c.settled; says = λ clean p s. ((c.says clean p s tt).0 refl, λ j from to. absurd (omega (arith, from, to))) }
 
-  pub limits_stop : (r : Result Bool Fault) {b : Bool} → r ≡ Ok b → b ≡ false → IsCheck millimetres old new (λ _. ⊤) (λ p. Limits millimetres p) r → IsVerified millimetres old new (Ok (Some 16))
+  pub limits_stop : (r : Result Bool Fault) {b : Bool} → r ≡ Ok b → b ≡ false → IsCheck profile old new (λ _. ⊤) (λ p. Limits profile p) r → IsVerified profile old new (Ok (Some 16))
   unfolding rule
   limits_stop r {b} is told h =
-      let c = as_told millimetres old new (λ _. ⊤) (λ p. Limits millimetres p) r b false is told h in
+      let c = as_told profile old new (λ _. ⊤) (λ p. Limits profile p) r b false is told h in
       record {
         mode = c.mode;
         survives = c.survives;
@@ -41,15 +41,15 @@ module _ (old new : State) where
         faults = tt;
       }
 
-  pub limits_fail : (r : Result Bool Fault) (fault : Fault) → r ≡ Err fault → IsCheck millimetres old new (λ _. ⊤) (λ p. Limits millimetres p) r → IsVerified millimetres old new (Err fault)
+  pub limits_fail : (r : Result Bool Fault) (fault : Fault) → r ≡ Err fault → IsCheck profile old new (λ _. ⊤) (λ p. Limits profile p) r → IsVerified profile old new (Err fault)
   limits_fail r fault is h =
-      let c = subst (IsCheck millimetres old new (λ _. ⊤) (λ p. Limits millimetres p)) is h in
+      let c = subst (IsCheck profile old new (λ _. ⊤) (λ p. Limits profile p)) is h in
       record { mode = c.mode; survives = c.survives; settled = c.settled; says = λ clean p s. tt; faults = c.faults }
 
-module _ (old mid new : State) (k : ℕ) (low : 1 ≤ k) (high : k < 16) (so_far : HasPassed millimetres old mid k) where
-  pub next_passes : (r : Result Bool Fault) {b : Bool} → r ≡ Ok b → b ≡ true → IsCheck millimetres mid new (Before millimetres k) (rule millimetres k) r → HasPassed millimetres old new (k + 1)
+module _ (profile : Profile) (old mid new : State) (k : ℕ) (low : 1 ≤ k) (high : k < 16) (so_far : HasPassed profile old mid k) where
+  pub next_passes : (r : Result Bool Fault) {b : Bool} → r ≡ Ok b → b ≡ true → IsCheck profile mid new (Before profile k) (rule profile k) r → HasPassed profile old new (k + 1)
   next_passes r {b} is told h =
-      let c = as_told millimetres mid new (Before millimetres k) (rule millimetres k) r b true is told h in
+      let c = as_told profile mid new (Before profile k) (rule profile k) r b true is told h in
       record {
         mode = λ idle. c.mode (so_far.mode idle);
         survives = quiet_then old mid new so_far.survives c.survives;
@@ -57,12 +57,12 @@ module _ (old mid new : State) (k : ℕ) (low : 1 ≤ k) (high : k < 16) (so_far
         says = λ clean p s.
             let early : HasCleanDisk mid = omega (arith, c.survives.clean) in
             let before = so_far.says early p s in
-            one_more millimetres p k low before ((c.says clean p (so_far.settled early p s) before).0 refl);
+            one_more profile p k low before ((c.says clean p (so_far.settled early p s) before).0 refl);
       }
 
-  pub next_stops : (r : Result Bool Fault) {b : Bool} → r ≡ Ok b → b ≡ false → IsCheck millimetres mid new (Before millimetres k) (rule millimetres k) r → IsVerified millimetres old new (Ok (Some k))
+  pub next_stops : (r : Result Bool Fault) {b : Bool} → r ≡ Ok b → b ≡ false → IsCheck profile mid new (Before profile k) (rule profile k) r → IsVerified profile old new (Ok (Some k))
   next_stops r {b} is told h =
-      let c = as_told millimetres mid new (Before millimetres k) (rule millimetres k) r b false is told h in
+      let c = as_told profile mid new (Before profile k) (rule profile k) r b false is told h in
       record {
         mode = λ idle. c.mode (so_far.mode idle);
         survives = quiet_then old mid new so_far.survives c.survives;
@@ -74,9 +74,9 @@ module _ (old mid new : State) (k : ℕ) (low : 1 ≤ k) (high : k < 16) (so_far
         faults = tt;
       }
 
-  pub next_fails : (r : Result Bool Fault) (fault : Fault) → r ≡ Err fault → IsCheck millimetres mid new (Before millimetres k) (rule millimetres k) r → IsVerified millimetres old new (Err fault)
+  pub next_fails : (r : Result Bool Fault) (fault : Fault) → r ≡ Err fault → IsCheck profile mid new (Before profile k) (rule profile k) r → IsVerified profile old new (Err fault)
   next_fails r fault is h =
-      let c = subst (IsCheck millimetres mid new (Before millimetres k) (rule millimetres k)) is h in
+      let c = subst (IsCheck profile mid new (Before profile k) (rule profile k)) is h in
       record {
         mode = λ idle. c.mode (so_far.mode idle);
         survives = quiet_then old mid new so_far.survives c.survives;
@@ -85,9 +85,9 @@ module _ (old mid new : State) (k : ℕ) (low : 1 ≤ k) (high : k < 16) (so_far
         faults = c.faults;
       }
 
-each_meets : (p : Package) → Before millimetres 16 p → Meets millimetres p
+each_meets : (profile : Profile) (p : Package) → Before profile 16 p → Meets profile p
 unfolding rule
-each_meets p t = record {
+each_meets profile p t = record {
   q1 = t.1 1 (omega arith) (omega arith);
   q2 = t.1 2 (omega arith) (omega arith);
   q3 = t.1 3 (omega arith) (omega arith);
@@ -107,13 +107,13 @@ each_meets p t = record {
 }
 
 -- each has passed
-pub all_pass : (old new : State) (k : ℕ) → k ≡ 16 → HasPassed millimetres old new k → IsVerified millimetres old new (Ok None)
-all_pass old new k is passed = whole (subst (HasPassed millimetres old new) is passed)
+pub all_pass : (profile : Profile) (old new : State) (k : ℕ) → k ≡ 16 → HasPassed profile old new k → IsVerified profile old new (Ok None)
+all_pass profile old new k is passed = whole (subst (HasPassed profile old new) is passed)
   where
-    whole : HasPassed millimetres old new 16 → IsVerified millimetres old new (Ok None)
-    whole h = record { mode = h.mode; survives = h.survives; settled = h.settled; says = λ clean p s. each_meets p (h.says clean p s); faults = tt }
+    whole : HasPassed profile old new 16 → IsVerified profile old new (Ok None)
+    whole h = record { mode = h.mode; survives = h.survives; settled = h.settled; says = λ clean p s. each_meets profile p (h.says clean p s); faults = tt }
 
-pub as_rule : (old new : State) (Known : Package → Type 0) (Rule : Package → Type 0) (k n : ℕ) → k ≡ n → ((p : Package) → Before millimetres n p → Known p) → ((p : Package) → Rule p ↔ rule millimetres n p) → (r : Result Bool Fault) → IsCheck millimetres old new Known Rule r
-    → IsCheck millimetres old new (Before millimetres k) (rule millimetres k) r
-as_rule old new Known Rule k n is knows same r h =
-    subst (λ m. IsCheck millimetres old new (Before millimetres m) (rule millimetres m) r) (sym is) (same_rule millimetres old new Known (Before millimetres n) Rule (rule millimetres n) knows (λ p _. same p) r h)
+pub as_rule : (profile : Profile) (old new : State) (Known : Package → Type 0) (Rule : Package → Type 0) (k n : ℕ) → k ≡ n → ((p : Package) → Before profile n p → Known p) → ((p : Package) → Rule p ↔ rule profile n p) → (r : Result Bool Fault) → IsCheck profile old new Known Rule r
+    → IsCheck profile old new (Before profile k) (rule profile k) r
+as_rule profile old new Known Rule k n is knows same r h =
+    subst (λ m. IsCheck profile old new (Before profile m) (rule profile m) r) (sym is) (same_rule profile old new Known (Before profile n) Rule (rule profile n) knows (λ p _. same p) r h)

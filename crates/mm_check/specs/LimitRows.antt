@@ -3,7 +3,7 @@ use Rattle.std.specs.Prelude.{◌≡◌, ℤ, List, [], ℕ, Option, Some, IfSom
 use Rattle.std.specs.Str.{IsUtf8}
 use Rattle.sqlite.specs.Order.{Row, column}
 use Rattle.sqlite.specs.declared.types.Value.{Value}
-use Rattle.mm_base.specs.Bounds.{millimetres, IsCoordinate, IsPixelSize, IsZoom, IsMatrixSide, IsTileSide, IsTilePlace, IsId, IsSystemNumber, IsAmount, IsTileBytes, IsMediaBytes, IsName, IsClean, IsIdentifier, IsSystemName, IsDefinition, IsRemark, IsContentType}
+use Rattle.mm_base.specs.Bounds.{Profile, IsCoordinate, IsPixelSize, IsZoom, IsMatrixSide, IsTileSide, IsTilePlace, IsId, IsSystemNumber, IsAmount, IsTileBytes, IsMediaBytes, IsName, IsClean, IsIdentifier, IsSystemName, IsDefinition, IsRemark, IsContentType}
 use Rattle.mm_base.specs.Parts.{Each}
 use Rattle.mm_base.specs.Package.{Package}
 use Rattle.mm_base.specs.Rules.{AreSystemNumbers, SystemWithin, ContentsWithin, KindWithin, SetWithin, MatrixWithin, ExtensionWithin, TileWithin, RowWithin, MediumWithin, RelationWithin, PairingWithin, EditionWithin, PieceWithin}
@@ -38,39 +38,39 @@ pub record IsSystemWithinRow (r : Row) : Type 0 where
   pub definition : text_by IsDefinition (column r 4)
   pub description : text_by IsRemark (column r 5)
 
-pub record IsContentsWithinRow (r : Row) : Type 0 where
+pub record IsContentsWithinRow (profile : Profile) (r : Row) : Type 0 where
   pub table : text_by IsName (column r 0)
   pub data_type : text_by IsClean (column r 1)
   pub identifier : text_by IsIdentifier (column r 2)
   pub description : words_of (column r 3) ≡ Some []
   pub last_change : text_by IsSomeStamp (column r 4)
-  pub min_x : number_if_any (IsCoordinate millimetres) (column r 5)
-  pub min_y : number_if_any (IsCoordinate millimetres) (column r 6)
-  pub max_x : number_if_any (IsCoordinate millimetres) (column r 7)
-  pub max_y : number_if_any (IsCoordinate millimetres) (column r 8)
+  pub min_x : number_if_any (IsCoordinate profile) (column r 5)
+  pub min_y : number_if_any (IsCoordinate profile) (column r 6)
+  pub max_x : number_if_any (IsCoordinate profile) (column r 7)
+  pub max_y : number_if_any (IsCoordinate profile) (column r 8)
   pub system : number_if_any IsSystemNumber (column r 9)
 
 pub record IsKindWithinRow (r : Row) : Type 0 where
   pub table : text_by IsName (column r 0)
   pub kind : text_by IsClean (column r 1)
 
-pub record IsSetWithinRow (r : Row) : Type 0 where
+pub record IsSetWithinRow (profile : Profile) (r : Row) : Type 0 where
   pub table : text_by IsName (column r 0)
   pub system : number_by IsSystemNumber (column r 1)
-  pub min_x : number_by (IsCoordinate millimetres) (column r 2)
-  pub min_y : number_by (IsCoordinate millimetres) (column r 3)
-  pub max_x : number_by (IsCoordinate millimetres) (column r 4)
-  pub max_y : number_by (IsCoordinate millimetres) (column r 5)
+  pub min_x : number_by (IsCoordinate profile) (column r 2)
+  pub min_y : number_by (IsCoordinate profile) (column r 3)
+  pub max_x : number_by (IsCoordinate profile) (column r 4)
+  pub max_y : number_by (IsCoordinate profile) (column r 5)
 
-pub record IsMatrixWithinRow (r : Row) : Type 0 where
+pub record IsMatrixWithinRow (profile : Profile) (r : Row) : Type 0 where
   pub table : text_by IsName (column r 0)
   pub zoom : number_by IsZoom (column r 1)
   pub matrix_width : number_by IsMatrixSide (column r 2)
   pub matrix_height : number_by IsMatrixSide (column r 3)
   pub tile_width : number_by IsTileSide (column r 4)
   pub tile_height : number_by IsTileSide (column r 5)
-  pub pixel_x_size : number_by (IsPixelSize millimetres) (column r 6)
-  pub pixel_y_size : number_by (IsPixelSize millimetres) (column r 7)
+  pub pixel_x_size : number_by (IsPixelSize profile) (column r 6)
+  pub pixel_y_size : number_by (IsPixelSize profile) (column r 7)
 
 pub record IsExtensionWithinRow (r : Row) : Type 0 where
   pub table : text_if_any IsClean (column r 0)
@@ -124,17 +124,17 @@ pub record IsPieceWithinRow (r : Row) : Type 0 where
 abbrev pub SystemsAreWithin : Package → Type 0
 SystemsAreWithin p = Each p.systems SystemWithin
 
-abbrev pub ContentsAreWithin : Package → Type 0
-ContentsAreWithin p = Each p.contents (ContentsWithin millimetres)
+abbrev pub ContentsAreWithin : Profile → Package → Type 0
+ContentsAreWithin profile p = Each p.contents (ContentsWithin profile)
 
 abbrev pub KindsAreWithin : Package → Type 0
 KindsAreWithin p = Each p.kinds KindWithin
 
-abbrev pub SetsAreWithin : Package → Type 0
-SetsAreWithin p = Each p.sets (SetWithin millimetres)
+abbrev pub SetsAreWithin : Profile → Package → Type 0
+SetsAreWithin profile p = Each p.sets (SetWithin profile)
 
-abbrev pub MatricesAreWithin : Package → Type 0
-MatricesAreWithin p = Each p.matrices (MatrixWithin millimetres)
+abbrev pub MatricesAreWithin : Profile → Package → Type 0
+MatricesAreWithin profile p = Each p.matrices (MatrixWithin profile)
 
 abbrev pub ExtensionsAreWithin : Package → Type 0
 ExtensionsAreWithin p = Each p.extensions ExtensionWithin
@@ -182,14 +182,14 @@ FromTiles p = TilesAreWithin p × FromRows p
 abbrev pub FromExtensions : Package → Type 0
 FromExtensions p = ExtensionsAreWithin p × FromTiles p
 
-abbrev pub FromMatrices : Package → Type 0
-FromMatrices p = MatricesAreWithin p × FromExtensions p
+abbrev pub FromMatrices : Profile → Package → Type 0
+FromMatrices profile p = MatricesAreWithin profile p × FromExtensions p
 
-abbrev pub FromSets : Package → Type 0
-FromSets p = SetsAreWithin p × FromMatrices p
+abbrev pub FromSets : Profile → Package → Type 0
+FromSets profile p = SetsAreWithin profile p × FromMatrices profile p
 
-abbrev pub FromKinds : Package → Type 0
-FromKinds p = KindsAreWithin p × FromSets p
+abbrev pub FromKinds : Profile → Package → Type 0
+FromKinds profile p = KindsAreWithin p × FromSets profile p
 
-abbrev pub FromContents : Package → Type 0
-FromContents p = ContentsAreWithin p × FromKinds p
+abbrev pub FromContents : Profile → Package → Type 0
+FromContents profile p = ContentsAreWithin profile p × FromKinds profile p

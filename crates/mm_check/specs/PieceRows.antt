@@ -1,7 +1,7 @@
 -- What the tests of rows of editions and of staged pieces ask.
 use Rattle.std.specs.Prelude.{◌≡◌, ◌⊎◌, ℕ, pos, List, [], codes, Some, IsTrue}
 use Rattle.sqlite.specs.Order.{Row, column}
-use Rattle.mm_base.specs.Bounds.{IsFrom, MostPieces, IsName, IsZoom, IsTilePlace, IsId, IsAmount, IsRemark, IsContentType, IsTileBytes, IsMediaBytes}
+use Rattle.mm_base.specs.Bounds.{Profile, IsMatrixSide, IsTileSide, IsPixelSize, IsFrom, MostPieces, IsName, IsZoom, IsTilePlace, IsId, IsAmount, IsRemark, IsContentType, IsTileBytes, IsMediaBytes}
 use Rattle.mm_rules.specs.Columns.{number_of, words_of, bytes_of, is_there}
 use Rattle.mm_check.specs.LimitRows.{text_by, number_by, bytes_by}
 
@@ -65,7 +65,18 @@ IsPut r = IsTile r ⊎ (IsRow r ⊎ (IsMedia r ⊎ IsMap (codes "map") r))
 abbrev pub IsDrop : Row → Type 0
 IsDrop r = IsTileDrop r ⊎ (IsItemDrop (codes "row-drop") r ⊎ (IsItemDrop (codes "media-drop") r ⊎ IsMap (codes "map-drop") r))
 
-pub record IsSpelledRow (r : Row) : Type 0 where
+-- one of the eight kinds that leave four numbers unused
+abbrev pub IsContent : Row → Type 0
+IsContent r = AreUnused r × (IsPut r ⊎ IsDrop r)
+
+abbrev pub AreSides : Row → Type 0
+AreSides r = number_by IsMatrixSide (column r 3) × number_by IsMatrixSide (column r 4) × number_by IsTileSide (column r 5) × number_by IsTileSide (column r 6)
+
+abbrev pub IsMatrix : Profile → Row → Type 0
+IsMatrix profile r =
+    IsTrue profile.matrix_pieces × IsOfKind (codes "matrix") r × number_by IsZoom (column r 2) × AreSides r
+    × number_by (IsPixelSize profile) (column r 7) × number_by (IsPixelSize profile) (column r 8) × HasNoTexts r × HasNoBytes r
+
+pub record IsSpelledRow (profile : Profile) (r : Row) : Type 0 where
   pub name : text_by IsName (column r 1)
-  pub unused : AreUnused r
-  pub form : IsPut r ⊎ IsDrop r
+  pub form : IsContent r ⊎ IsMatrix profile r

@@ -30,7 +30,7 @@ rule profile k p =
     (either (k == 12) (RelationsSuited p.kinds p.relations)
     (either (k == 13) (PairingsJoin p.rows p.media p.relations p.pairings)
     (either (k == 14) (ExactExtensions p.kinds p.relations p.extensions)
-    (either (k == 15) (Editions p.editions p.pieces)
+    (either (k == 15) (Editions profile p.editions p.pieces)
     (Limits profile p)))))))))))))))
 
 -- rule 16 holds, and each from 1 to k - 1

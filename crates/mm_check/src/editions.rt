@@ -3,18 +3,23 @@
 ghost use Rattle.std.specs.Prelude.{◌≡◌, ◌⊎◌, ◌↔◌, [], Some, codes, pos, IsTrue};
 ghost use Rattle.sqlite.specs.Held.{state};
 ghost use Rattle.sqlite.specs.Order.{column};
-ghost use Rattle.mm_base.specs.Bounds.{millimetres};
+ghost use Rattle.mm_base.specs.Bounds.{Profile};
 ghost use Rattle.mm_base.specs.Rules.{Editions, Limits};
 ghost use Rattle.mm_rules.specs.Check.{IsCheck};
 ghost use Rattle.mm_rules.specs.Columns.{bytes_of};
 ghost use Rattle.mm_rules.specs.Parts.{EditionStates, PiecesOfOpen, PiecesNumbered, PiecesSpelled};
-ghost use Rattle.mm_check.specs.PieceRows.{IsStateRow, IsOpenRow, IsNumberedRow, IsSpelledRow, IsOfKind, AreUnused, HasNoTexts, HasNoBytes, IsPlace, IsItem, IsPair, IsTile, IsTileDrop, IsRow, IsItemDrop, IsMedia, IsMap, IsPut, IsDrop};
+ghost use Rattle.mm_base.specs.Units.{profile_of};
+ghost use Rattle.mm_check.specs.PieceRows.{IsStateRow, IsOpenRow, IsNumberedRow, IsSpelledRow, IsOfKind, AreSides, AreUnused, IsContent, IsMatrix, HasNoTexts, HasNoBytes, IsPlace, IsItem, IsPair, IsTile, IsTileDrop, IsRow, IsItemDrop, IsMedia, IsMap, IsPut, IsDrop};
 
 use crate::limits::{
-    LAST_ID, MOST_AMOUNT, MOST_TILES, is_blob_within, is_content_type_at, is_name_at, is_text_at,
-    is_within,
+    is_blob_within, is_content_type_at, is_name_at, is_pixel_size, is_text_at, is_within,
 };
 use mm_base::answers::Fault;
+use mm_base::limits::{
+    LAST_ID, LAST_PLACE, LAST_ZOOM, MOST_AMOUNT, MOST_MEDIA_BYTES, MOST_PIECES, MOST_PIXELS,
+    MOST_TILE_BYTES, MOST_TILES,
+};
+use mm_base::units::Unit;
 use mm_rules::columns::{blob, number_is, stands, text_is};
 use mm_walk::row_tests::{RowTest, each_passes};
 use sqlite::{Alter, Connection, Row};
@@ -32,7 +37,7 @@ impl RowTest for State {
 
 /// Of rule 15, that each edition is open or published.
 pub fn edition_states<S: Alter>(conn: &mut Connection<S>) -> Result<bool, Fault>
-    ensures { IsCheck millimetres (state S.Store conn.old) (state S.Store conn.new) (λ p. Limits millimetres p) (λ p. EditionStates p) result }
+    ensures { (profile : Profile) → IsCheck profile (state S.Store conn.old) (state S.Store conn.new) (λ p. Limits profile p) (λ p. EditionStates p) result }
 {
     each_passes(
         conn,
@@ -55,7 +60,7 @@ impl RowTest for OfOpen {
 
 /// Of rule 15, that each piece is one of an open edition.
 pub fn pieces_of_open<S: Alter>(conn: &mut Connection<S>) -> Result<bool, Fault>
-    ensures { IsCheck millimetres (state S.Store conn.old) (state S.Store conn.new) (λ p. Limits millimetres p) (λ p. PiecesOfOpen p) result }
+    ensures { (profile : Profile) → IsCheck profile (state S.Store conn.old) (state S.Store conn.new) (λ p. Limits profile p) (λ p. PiecesOfOpen p) result }
 {
     each_passes(
         conn,
@@ -72,13 +77,13 @@ impl RowTest for Numbered {
     ghost good = { λ _ row. IsNumberedRow row };
 
     fn passes(&self, row: &Row) -> bool {
-        is_within(row, 0, 1, 4096) && (number_is(row, 0, 1) || stands(row, 1))
+        is_within(row, 0, 1, MOST_PIECES as i64) && (number_is(row, 0, 1) || stands(row, 1))
     }
 }
 
 /// Of rule 15, where rule 16 holds, that each piece follows another or is the first, and is one of the first 4,096.
 pub fn pieces_numbered<S: Alter>(conn: &mut Connection<S>) -> Result<bool, Fault>
-    ensures { IsCheck millimetres (state S.Store conn.old) (state S.Store conn.new) (λ p. Limits millimetres p) (λ p. PiecesNumbered p) result }
+    ensures { (profile : Profile) → IsCheck profile (state S.Store conn.old) (state S.Store conn.new) (λ p. Limits profile p) (λ p. PiecesNumbered p) result }
 {
     each_passes(
         conn,
@@ -118,9 +123,9 @@ fn has_no_bytes(row: &Row) -> bool
 fn is_place(row: &Row) -> bool
     ensures { IsTrue result ↔ IsPlace row.now }
 {
-    is_within(row, 2, 0, 30)
-        && is_within(row, 3, 0, MOST_TILES - 1)
-        && is_within(row, 4, 0, MOST_TILES - 1)
+    is_within(row, 2, 0, LAST_ZOOM as i64)
+        && is_within(row, 3, 0, LAST_PLACE as i64)
+        && is_within(row, 4, 0, LAST_PLACE as i64)
 }
 
 fn is_item(row: &Row) -> bool
@@ -141,7 +146,7 @@ fn is_tile(row: &Row) -> bool
     text_is(row, 0, "tile")
         && is_place(row)
         && has_no_texts(row)
-        && is_blob_within(row, 11, 1_048_576)
+        && is_blob_within(row, 11, MOST_TILE_BYTES)
 }
 
 fn is_tile_drop(row: &Row) -> bool
@@ -175,7 +180,7 @@ fn is_media(row: &Row) -> bool
         && is_item(row)
         && is_content_type_at(row, 9)
         && text_is(row, 10, "")
-        && is_blob_within(row, 11, 4_194_304)
+        && is_blob_within(row, 11, MOST_MEDIA_BYTES)
 }
 
 fn is_map(row: &Row, kind: &str) -> bool
@@ -199,34 +204,65 @@ fn is_drop(row: &Row) -> bool
         || is_map(row, "map-drop")
 }
 
+fn is_content(row: &Row) -> bool
+    ensures { IsTrue result ↔ IsContent row.now }
+{
+    are_unused(row) && (is_put(row) || is_drop(row))
+}
+
+fn are_sides(row: &Row) -> bool
+    ensures { IsTrue result ↔ AreSides row.now }
+{
+    is_within(row, 3, 1, MOST_TILES as i64)
+        && is_within(row, 4, 1, MOST_TILES as i64)
+        && is_within(row, 5, 1, MOST_PIXELS as i64)
+        && is_within(row, 6, 1, MOST_PIXELS as i64)
+}
+
+fn is_matrix(row: &Row, unit: Unit) -> bool
+    ensures { IsTrue result ↔ IsMatrix (profile_of unit) row.now }
+{
+    unit.takes_matrices()
+        && text_is(row, 0, "matrix")
+        && is_within(row, 2, 0, LAST_ZOOM as i64)
+        && are_sides(row)
+        && is_pixel_size(row, 7, unit)
+        && is_pixel_size(row, 8, unit)
+        && has_no_texts(row)
+        && has_no_bytes(row)
+}
+
 /// A row of a staged piece, column by column.
-struct Spelled;
+#[derive(Clone, Copy)]
+struct Spelled {
+    unit: Unit,
+}
 
 impl RowTest for Spelled {
-    ghost good = { λ _ row. IsSpelledRow row };
+    ghost good = { λ it row. IsSpelledRow (profile_of it.unit) row };
 
     fn passes(&self, row: &Row) -> bool {
-        is_name_at(row, 1) && are_unused(row) && (is_put(row) || is_drop(row))
+        is_name_at(row, 1) && (is_content(row) || is_matrix(row, self.unit))
     }
 }
 
 /// Of rule 15, that each row spells a piece within the limits.
-pub fn pieces_spelled<S: Alter>(conn: &mut Connection<S>) -> Result<bool, Fault>
-    ensures { IsCheck millimetres (state S.Store conn.old) (state S.Store conn.new) (λ p. Limits millimetres p) (λ p. PiecesSpelled p) result }
+pub fn pieces_spelled<S: Alter>(conn: &mut Connection<S>, unit: Unit) -> Result<bool, Fault>
+    ensures { IsCheck (profile_of unit) (state S.Store conn.old) (state S.Store conn.new) (λ p. Limits (profile_of unit) p) (λ p. PiecesSpelled (profile_of unit) p) result }
 {
     each_passes(
         conn,
         "SELECT p.kind, p.name, p.k1, p.k2, p.k3, p.k4, p.k5, p.k6, p.k7, p.t1, p.t2, p.data FROM mm_pieces AS p ORDER BY p.edition, p.piece_no",
         &[],
-        &Spelled,
+        &Spelled { unit },
     )
 }
 
 /// Of rule 15, what it asks of each piece but its edition.
-pub fn pieces_alone<S: Alter>(conn: &mut Connection<S>) -> Result<bool, Fault>
-    ensures { IsCheck millimetres (state S.Store conn.old) (state S.Store conn.new) (λ p. Limits millimetres p) (λ p. PiecesSpelled p × PiecesNumbered p) result }
+pub fn pieces_alone<S: Alter>(conn: &mut Connection<S>, unit: Unit) -> Result<bool, Fault>
+    ensures { IsCheck (profile_of unit) (state S.Store conn.old) (state S.Store conn.new) (λ p. Limits (profile_of unit) p) (λ p. PiecesSpelled (profile_of unit) p × PiecesNumbered p) result }
 {
-    match pieces_spelled(conn) {
+    match pieces_spelled(conn, unit) {
         Ok(true) => pieces_numbered(conn),
         Ok(false) => Ok(false),
         Err(fault) => Err(fault),
@@ -234,22 +270,22 @@ pub fn pieces_alone<S: Alter>(conn: &mut Connection<S>) -> Result<bool, Fault>
 }
 
 /// Of rule 15, what it asks of each piece.
-pub fn pieces<S: Alter>(conn: &mut Connection<S>) -> Result<bool, Fault>
-    ensures { IsCheck millimetres (state S.Store conn.old) (state S.Store conn.new) (λ p. Limits millimetres p) (λ p. PiecesOfOpen p × (PiecesSpelled p × PiecesNumbered p)) result }
+pub fn pieces<S: Alter>(conn: &mut Connection<S>, unit: Unit) -> Result<bool, Fault>
+    ensures { IsCheck (profile_of unit) (state S.Store conn.old) (state S.Store conn.new) (λ p. Limits (profile_of unit) p) (λ p. PiecesOfOpen p × (PiecesSpelled (profile_of unit) p × PiecesNumbered p)) result }
 {
     match pieces_of_open(conn) {
-        Ok(true) => pieces_alone(conn),
+        Ok(true) => pieces_alone(conn, unit),
         Ok(false) => Ok(false),
         Err(fault) => Err(fault),
     }
 }
 
 /// Rule 15, where rule 16 holds: editions are open or published, and the pieces of open ones are numbered from 1 and spell what they should.
-pub fn editions<S: Alter>(conn: &mut Connection<S>) -> Result<bool, Fault>
-    ensures { IsCheck millimetres (state S.Store conn.old) (state S.Store conn.new) (λ p. Limits millimetres p) (λ p. Editions p.editions p.pieces) result }
+pub fn editions<S: Alter>(conn: &mut Connection<S>, unit: Unit) -> Result<bool, Fault>
+    ensures { IsCheck (profile_of unit) (state S.Store conn.old) (state S.Store conn.new) (λ p. Limits (profile_of unit) p) (λ p. Editions (profile_of unit) p.editions p.pieces) result }
 {
     match edition_states(conn) {
-        Ok(true) => pieces(conn),
+        Ok(true) => pieces(conn, unit),
         Ok(false) => Ok(false),
         Err(fault) => Err(fault),
     }

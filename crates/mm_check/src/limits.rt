@@ -4,37 +4,28 @@ ghost use Rattle.std.specs.Prelude.{⊤, ◌≡◌, ◌↔◌, ◌⊎◌, Some, 
 ghost use Rattle.std.specs.Str.{IsUtf8};
 ghost use Rattle.sqlite.specs.Order.{column};
 ghost use Rattle.sqlite.specs.Held.{state};
-ghost use Rattle.mm_base.specs.Bounds.{IsFrom, IsLong, IsText, IsName, IsClean, IsIdentifier, IsContentType, millimetres};
+ghost use Rattle.mm_base.specs.Bounds.{IsCoordinate, IsPixelSize, IsFrom, IsLong, IsText, IsName, IsClean, IsIdentifier, IsContentType, Profile};
 ghost use Rattle.mm_base.specs.Bounds as bounds;
 ghost use Rattle.mm_base.specs.Rules.{IsGiven, Limits};
 ghost use Rattle.mm_base.specs.Stamp.{IsSomeStamp};
 ghost use Rattle.mm_rules.specs.Check.{IsCheck};
 ghost use Rattle.mm_rules.specs.Columns.{number_of, words_of};
+ghost use Rattle.mm_base.specs.Units.{profile_of};
 ghost use Rattle.mm_check.specs.LimitRows.{text_by, text_if_any, number_by, number_if_any, bytes_by, numbers_by, IsSystemWithinRow, IsContentsWithinRow, IsKindWithinRow, IsSetWithinRow, IsMatrixWithinRow, IsExtensionWithinRow, IsTileWithinRow, IsAttributeWithinRow, IsMediumWithinRow, IsRelationWithinRow, IsPairingWithinRow, IsEditionWithinRow, IsPieceWithinRow, SystemsAreWithin, ContentsAreWithin, KindsAreWithin, SetsAreWithin, MatricesAreWithin, ExtensionsAreWithin, TilesAreWithin, RowsAreWithin, MediaAreWithin, RelationsAreWithin, PairingsAreWithin, EditionsAreWithin, PiecesAreWithin, FromContents, FromKinds, FromSets, FromMatrices, FromExtensions, FromTiles, FromRows, FromMedia, FromRelations, FromPairings, FromEditions};
 
 use mm_base::answers::Fault;
 use mm_base::content_types::is_content_type;
 use mm_base::identifiers::is_identifier;
+use mm_base::limits::{
+    LAST_ID, LAST_PLACE, LAST_ZOOM, MOST_AMOUNT, MOST_MEDIA_BYTES, MOST_PIXELS, MOST_TILE_BYTES,
+    MOST_TILES,
+};
 use mm_base::moments::is_stamp;
 use mm_base::names::is_name;
+use mm_base::units::Unit;
 use mm_rules::columns::{blob, number, text, text_is, words};
 use mm_walk::row_tests::{RowTest, each_passes};
 use sqlite::{Alter, Connection, Row};
-
-/// The largest coordinate, either way.
-const FARTHEST: i64 = 100_000_000_000;
-
-/// The largest pixel size.
-const LARGEST_PIXEL: i64 = 1_000_000_000;
-
-/// The most tiles a matrix has across or down.
-pub(crate) const MOST_TILES: i64 = 1_073_741_824;
-
-/// The largest amount of an attribute row, either way.
-pub(crate) const MOST_AMOUNT: i64 = 1_000_000_000_000_000;
-
-/// The largest number of a row, a medium, a piece or a reference system.
-pub(crate) const LAST_ID: i64 = 9_007_199_254_740_992;
 
 fn has_zero(text: &str) -> bool
     ensures { result ≡ bounds.has_zero text.now }
@@ -163,6 +154,24 @@ fn is_within_if_any(row: &Row, at: usize, low: i64, high: i64) -> bool
     }
 }
 
+fn is_coordinate(row: &Row, at: usize, unit: Unit) -> bool
+    ensures { IsTrue result ↔ number_by (IsCoordinate (profile_of unit)) (column row.now at) }
+{
+    is_within(row, at, -unit.farthest(), unit.farthest())
+}
+
+fn is_coordinate_if_any(row: &Row, at: usize, unit: Unit) -> bool
+    ensures { IsTrue result ↔ number_if_any (IsCoordinate (profile_of unit)) (column row.now at) }
+{
+    is_within_if_any(row, at, -unit.farthest(), unit.farthest())
+}
+
+pub(crate) fn is_pixel_size(row: &Row, at: usize, unit: Unit) -> bool
+    ensures { IsTrue result ↔ number_by (IsPixelSize (profile_of unit)) (column row.now at) }
+{
+    is_within(row, at, 1, unit.largest_pixel())
+}
+
 fn is_long(bytes: &[u8], most: usize) -> bool
     ensures { IsTrue result ↔ IsLong 1 most bytes.now }
 {
@@ -215,7 +224,7 @@ impl RowTest for System {
 
 /// Of rule 16, what it asks of reference systems.
 pub fn systems_within<S: Alter>(conn: &mut Connection<S>) -> Result<bool, Fault>
-    ensures { IsCheck millimetres (state S.Store conn.old) (state S.Store conn.new) (λ _. ⊤) (λ p. SystemsAreWithin p) result }
+    ensures { (profile : Profile) → IsCheck profile (state S.Store conn.old) (state S.Store conn.new) (λ _. ⊤) (λ p. SystemsAreWithin p) result }
 {
     each_passes(
         conn,
@@ -226,10 +235,13 @@ pub fn systems_within<S: Alter>(conn: &mut Connection<S>) -> Result<bool, Fault>
 }
 
 /// A row of contents, column by column.
-struct Contents;
+#[derive(Clone, Copy)]
+struct Contents {
+    unit: Unit,
+}
 
 impl RowTest for Contents {
-    ghost good = { λ _ row. IsContentsWithinRow row };
+    ghost good = { λ it row. IsContentsWithinRow (profile_of it.unit) row };
 
     fn passes(&self, row: &Row) -> bool {
         is_name_at(row, 0)
@@ -237,23 +249,23 @@ impl RowTest for Contents {
             && is_identifier_at(row, 2)
             && text_is(row, 3, "")
             && is_stamp_at(row, 4)
-            && is_within_if_any(row, 5, -FARTHEST, FARTHEST)
-            && is_within_if_any(row, 6, -FARTHEST, FARTHEST)
-            && is_within_if_any(row, 7, -FARTHEST, FARTHEST)
-            && is_within_if_any(row, 8, -FARTHEST, FARTHEST)
+            && is_coordinate_if_any(row, 5, self.unit)
+            && is_coordinate_if_any(row, 6, self.unit)
+            && is_coordinate_if_any(row, 7, self.unit)
+            && is_coordinate_if_any(row, 8, self.unit)
             && is_within_if_any(row, 9, -1, LAST_ID)
     }
 }
 
 /// Of rule 16, what it asks of contents.
-pub fn contents_within<S: Alter>(conn: &mut Connection<S>) -> Result<bool, Fault>
-    ensures { IsCheck millimetres (state S.Store conn.old) (state S.Store conn.new) (λ _. ⊤) (λ p. ContentsAreWithin p) result }
+pub fn contents_within<S: Alter>(conn: &mut Connection<S>, unit: Unit) -> Result<bool, Fault>
+    ensures { IsCheck (profile_of unit) (state S.Store conn.old) (state S.Store conn.new) (λ _. ⊤) (λ p. ContentsAreWithin (profile_of unit) p) result }
 {
     each_passes(
         conn,
         "SELECT t.table_name, t.data_type, t.identifier, t.description, t.last_change, t.min_x, t.min_y, t.max_x, t.max_y, t.srs_id FROM gpkg_contents AS t ORDER BY t.table_name",
         &[],
-        &Contents,
+        &Contents { unit },
     )
 }
 
@@ -270,7 +282,7 @@ impl RowTest for Kind {
 
 /// Of rule 16, what it asks of the registry.
 pub fn kinds_within<S: Alter>(conn: &mut Connection<S>) -> Result<bool, Fault>
-    ensures { IsCheck millimetres (state S.Store conn.old) (state S.Store conn.new) (λ _. ⊤) (λ p. KindsAreWithin p) result }
+    ensures { (profile : Profile) → IsCheck profile (state S.Store conn.old) (state S.Store conn.new) (λ _. ⊤) (λ p. KindsAreWithin p) result }
 {
     each_passes(
         conn,
@@ -281,60 +293,66 @@ pub fn kinds_within<S: Alter>(conn: &mut Connection<S>) -> Result<bool, Fault>
 }
 
 /// A row of matrix sets, column by column.
-struct MatrixSet;
+#[derive(Clone, Copy)]
+struct MatrixSet {
+    unit: Unit,
+}
 
 impl RowTest for MatrixSet {
-    ghost good = { λ _ row. IsSetWithinRow row };
+    ghost good = { λ it row. IsSetWithinRow (profile_of it.unit) row };
 
     fn passes(&self, row: &Row) -> bool {
         is_name_at(row, 0)
             && is_within(row, 1, -1, LAST_ID)
-            && is_within(row, 2, -FARTHEST, FARTHEST)
-            && is_within(row, 3, -FARTHEST, FARTHEST)
-            && is_within(row, 4, -FARTHEST, FARTHEST)
-            && is_within(row, 5, -FARTHEST, FARTHEST)
+            && is_coordinate(row, 2, self.unit)
+            && is_coordinate(row, 3, self.unit)
+            && is_coordinate(row, 4, self.unit)
+            && is_coordinate(row, 5, self.unit)
     }
 }
 
 /// Of rule 16, what it asks of matrix sets.
-pub fn sets_within<S: Alter>(conn: &mut Connection<S>) -> Result<bool, Fault>
-    ensures { IsCheck millimetres (state S.Store conn.old) (state S.Store conn.new) (λ _. ⊤) (λ p. SetsAreWithin p) result }
+pub fn sets_within<S: Alter>(conn: &mut Connection<S>, unit: Unit) -> Result<bool, Fault>
+    ensures { IsCheck (profile_of unit) (state S.Store conn.old) (state S.Store conn.new) (λ _. ⊤) (λ p. SetsAreWithin (profile_of unit) p) result }
 {
     each_passes(
         conn,
         "SELECT t.table_name, t.srs_id, t.min_x, t.min_y, t.max_x, t.max_y FROM gpkg_tile_matrix_set AS t ORDER BY t.table_name",
         &[],
-        &MatrixSet,
+        &MatrixSet { unit },
     )
 }
 
 /// A row of matrices, column by column.
-struct Matrix;
+#[derive(Clone, Copy)]
+struct Matrix {
+    unit: Unit,
+}
 
 impl RowTest for Matrix {
-    ghost good = { λ _ row. IsMatrixWithinRow row };
+    ghost good = { λ it row. IsMatrixWithinRow (profile_of it.unit) row };
 
     fn passes(&self, row: &Row) -> bool {
         is_name_at(row, 0)
-            && is_within(row, 1, 0, 30)
-            && is_within(row, 2, 1, MOST_TILES)
-            && is_within(row, 3, 1, MOST_TILES)
-            && is_within(row, 4, 1, 4096)
-            && is_within(row, 5, 1, 4096)
-            && is_within(row, 6, 1, LARGEST_PIXEL)
-            && is_within(row, 7, 1, LARGEST_PIXEL)
+            && is_within(row, 1, 0, LAST_ZOOM as i64)
+            && is_within(row, 2, 1, MOST_TILES as i64)
+            && is_within(row, 3, 1, MOST_TILES as i64)
+            && is_within(row, 4, 1, MOST_PIXELS as i64)
+            && is_within(row, 5, 1, MOST_PIXELS as i64)
+            && is_pixel_size(row, 6, self.unit)
+            && is_pixel_size(row, 7, self.unit)
     }
 }
 
 /// Of rule 16, what it asks of matrices.
-pub fn matrices_within<S: Alter>(conn: &mut Connection<S>) -> Result<bool, Fault>
-    ensures { IsCheck millimetres (state S.Store conn.old) (state S.Store conn.new) (λ _. ⊤) (λ p. MatricesAreWithin p) result }
+pub fn matrices_within<S: Alter>(conn: &mut Connection<S>, unit: Unit) -> Result<bool, Fault>
+    ensures { IsCheck (profile_of unit) (state S.Store conn.old) (state S.Store conn.new) (λ _. ⊤) (λ p. MatricesAreWithin (profile_of unit) p) result }
 {
     each_passes(
         conn,
         "SELECT t.table_name, t.zoom_level, t.matrix_width, t.matrix_height, t.tile_width, t.tile_height, t.pixel_x_size, t.pixel_y_size FROM gpkg_tile_matrix AS t ORDER BY t.table_name, t.zoom_level",
         &[],
-        &Matrix,
+        &Matrix { unit },
     )
 }
 
@@ -355,7 +373,7 @@ impl RowTest for Extension {
 
 /// Of rule 16, what it asks of extension rows.
 pub fn extensions_within<S: Alter>(conn: &mut Connection<S>) -> Result<bool, Fault>
-    ensures { IsCheck millimetres (state S.Store conn.old) (state S.Store conn.new) (λ _. ⊤) (λ p. ExtensionsAreWithin p) result }
+    ensures { (profile : Profile) → IsCheck profile (state S.Store conn.old) (state S.Store conn.new) (λ _. ⊤) (λ p. ExtensionsAreWithin p) result }
 {
     each_passes(
         conn,
@@ -373,16 +391,16 @@ impl RowTest for Tile {
 
     fn passes(&self, row: &Row) -> bool {
         is_name_at(row, 0)
-            && is_within(row, 1, 0, 30)
-            && is_within(row, 2, 0, MOST_TILES - 1)
-            && is_within(row, 3, 0, MOST_TILES - 1)
-            && is_blob_within(row, 4, 1_048_576)
+            && is_within(row, 1, 0, LAST_ZOOM as i64)
+            && is_within(row, 2, 0, LAST_PLACE as i64)
+            && is_within(row, 3, 0, LAST_PLACE as i64)
+            && is_blob_within(row, 4, MOST_TILE_BYTES)
     }
 }
 
 /// Of rule 16, what it asks of tiles.
 pub fn tiles_within<S: Alter>(conn: &mut Connection<S>) -> Result<bool, Fault>
-    ensures { IsCheck millimetres (state S.Store conn.old) (state S.Store conn.new) (λ _. ⊤) (λ p. TilesAreWithin p) result }
+    ensures { (profile : Profile) → IsCheck profile (state S.Store conn.old) (state S.Store conn.new) (λ _. ⊤) (λ p. TilesAreWithin p) result }
 {
     each_passes(
         conn,
@@ -409,7 +427,7 @@ impl RowTest for Item {
 
 /// Of rule 16, what it asks of attribute rows.
 pub fn rows_within<S: Alter>(conn: &mut Connection<S>) -> Result<bool, Fault>
-    ensures { IsCheck millimetres (state S.Store conn.old) (state S.Store conn.new) (λ _. ⊤) (λ p. RowsAreWithin p) result }
+    ensures { (profile : Profile) → IsCheck profile (state S.Store conn.old) (state S.Store conn.new) (λ _. ⊤) (λ p. RowsAreWithin p) result }
 {
     each_passes(
         conn,
@@ -428,14 +446,14 @@ impl RowTest for Medium {
     fn passes(&self, row: &Row) -> bool {
         is_name_at(row, 0)
             && is_within(row, 1, 1, LAST_ID)
-            && is_blob_within(row, 2, 4_194_304)
+            && is_blob_within(row, 2, MOST_MEDIA_BYTES)
             && is_content_type_at(row, 3)
     }
 }
 
 /// Of rule 16, what it asks of media.
 pub fn media_within<S: Alter>(conn: &mut Connection<S>) -> Result<bool, Fault>
-    ensures { IsCheck millimetres (state S.Store conn.old) (state S.Store conn.new) (λ _. ⊤) (λ p. MediaAreWithin p) result }
+    ensures { (profile : Profile) → IsCheck profile (state S.Store conn.old) (state S.Store conn.new) (λ _. ⊤) (λ p. MediaAreWithin p) result }
 {
     each_passes(
         conn,
@@ -463,7 +481,7 @@ impl RowTest for Relation {
 
 /// Of rule 16, what it asks of relations.
 pub fn relations_within<S: Alter>(conn: &mut Connection<S>) -> Result<bool, Fault>
-    ensures { IsCheck millimetres (state S.Store conn.old) (state S.Store conn.new) (λ _. ⊤) (λ p. RelationsAreWithin p) result }
+    ensures { (profile : Profile) → IsCheck profile (state S.Store conn.old) (state S.Store conn.new) (λ _. ⊤) (λ p. RelationsAreWithin p) result }
 {
     each_passes(
         conn,
@@ -486,7 +504,7 @@ impl RowTest for Pairing {
 
 /// Of rule 16, what it asks of mapping rows.
 pub fn pairings_within<S: Alter>(conn: &mut Connection<S>) -> Result<bool, Fault>
-    ensures { IsCheck millimetres (state S.Store conn.old) (state S.Store conn.new) (λ _. ⊤) (λ p. PairingsAreWithin p) result }
+    ensures { (profile : Profile) → IsCheck profile (state S.Store conn.old) (state S.Store conn.new) (λ _. ⊤) (λ p. PairingsAreWithin p) result }
 {
     each_passes(
         conn,
@@ -509,7 +527,7 @@ impl RowTest for Edition {
 
 /// Of rule 16, what it asks of editions.
 pub fn editions_within<S: Alter>(conn: &mut Connection<S>) -> Result<bool, Fault>
-    ensures { IsCheck millimetres (state S.Store conn.old) (state S.Store conn.new) (λ _. ⊤) (λ p. EditionsAreWithin p) result }
+    ensures { (profile : Profile) → IsCheck profile (state S.Store conn.old) (state S.Store conn.new) (λ _. ⊤) (λ p. EditionsAreWithin p) result }
 {
     each_passes(
         conn,
@@ -532,7 +550,7 @@ impl RowTest for Piece {
 
 /// Of rule 16, what it asks of staged pieces.
 pub fn pieces_within<S: Alter>(conn: &mut Connection<S>) -> Result<bool, Fault>
-    ensures { IsCheck millimetres (state S.Store conn.old) (state S.Store conn.new) (λ _. ⊤) (λ p. PiecesAreWithin p) result }
+    ensures { (profile : Profile) → IsCheck profile (state S.Store conn.old) (state S.Store conn.new) (λ _. ⊤) (λ p. PiecesAreWithin p) result }
 {
     each_passes(
         conn,
@@ -544,7 +562,7 @@ pub fn pieces_within<S: Alter>(conn: &mut Connection<S>) -> Result<bool, Fault>
 
 /// Of rule 16, what it asks of editions and of the parts after them.
 fn from_editions<S: Alter>(conn: &mut Connection<S>) -> Result<bool, Fault>
-    ensures { IsCheck millimetres (state S.Store conn.old) (state S.Store conn.new) (λ _. ⊤) (λ p. FromEditions p) result }
+    ensures { (profile : Profile) → IsCheck profile (state S.Store conn.old) (state S.Store conn.new) (λ _. ⊤) (λ p. FromEditions p) result }
 {
     match editions_within(conn) {
         Ok(true) => pieces_within(conn),
@@ -555,7 +573,7 @@ fn from_editions<S: Alter>(conn: &mut Connection<S>) -> Result<bool, Fault>
 
 /// Of rule 16, what it asks of mapping rows and of the parts after them.
 fn from_pairings<S: Alter>(conn: &mut Connection<S>) -> Result<bool, Fault>
-    ensures { IsCheck millimetres (state S.Store conn.old) (state S.Store conn.new) (λ _. ⊤) (λ p. FromPairings p) result }
+    ensures { (profile : Profile) → IsCheck profile (state S.Store conn.old) (state S.Store conn.new) (λ _. ⊤) (λ p. FromPairings p) result }
 {
     match pairings_within(conn) {
         Ok(true) => from_editions(conn),
@@ -566,7 +584,7 @@ fn from_pairings<S: Alter>(conn: &mut Connection<S>) -> Result<bool, Fault>
 
 /// Of rule 16, what it asks of relations and of the parts after them.
 fn from_relations<S: Alter>(conn: &mut Connection<S>) -> Result<bool, Fault>
-    ensures { IsCheck millimetres (state S.Store conn.old) (state S.Store conn.new) (λ _. ⊤) (λ p. FromRelations p) result }
+    ensures { (profile : Profile) → IsCheck profile (state S.Store conn.old) (state S.Store conn.new) (λ _. ⊤) (λ p. FromRelations p) result }
 {
     match relations_within(conn) {
         Ok(true) => from_pairings(conn),
@@ -577,7 +595,7 @@ fn from_relations<S: Alter>(conn: &mut Connection<S>) -> Result<bool, Fault>
 
 /// Of rule 16, what it asks of media and of the parts after them.
 fn from_media<S: Alter>(conn: &mut Connection<S>) -> Result<bool, Fault>
-    ensures { IsCheck millimetres (state S.Store conn.old) (state S.Store conn.new) (λ _. ⊤) (λ p. FromMedia p) result }
+    ensures { (profile : Profile) → IsCheck profile (state S.Store conn.old) (state S.Store conn.new) (λ _. ⊤) (λ p. FromMedia p) result }
 {
     match media_within(conn) {
         Ok(true) => from_relations(conn),
@@ -588,7 +606,7 @@ fn from_media<S: Alter>(conn: &mut Connection<S>) -> Result<bool, Fault>
 
 /// Of rule 16, what it asks of attribute rows and of the parts after them.
 fn from_rows<S: Alter>(conn: &mut Connection<S>) -> Result<bool, Fault>
-    ensures { IsCheck millimetres (state S.Store conn.old) (state S.Store conn.new) (λ _. ⊤) (λ p. FromRows p) result }
+    ensures { (profile : Profile) → IsCheck profile (state S.Store conn.old) (state S.Store conn.new) (λ _. ⊤) (λ p. FromRows p) result }
 {
     match rows_within(conn) {
         Ok(true) => from_media(conn),
@@ -599,7 +617,7 @@ fn from_rows<S: Alter>(conn: &mut Connection<S>) -> Result<bool, Fault>
 
 /// Of rule 16, what it asks of tiles and of the parts after them.
 fn from_tiles<S: Alter>(conn: &mut Connection<S>) -> Result<bool, Fault>
-    ensures { IsCheck millimetres (state S.Store conn.old) (state S.Store conn.new) (λ _. ⊤) (λ p. FromTiles p) result }
+    ensures { (profile : Profile) → IsCheck profile (state S.Store conn.old) (state S.Store conn.new) (λ _. ⊤) (λ p. FromTiles p) result }
 {
     match tiles_within(conn) {
         Ok(true) => from_rows(conn),
@@ -610,7 +628,7 @@ fn from_tiles<S: Alter>(conn: &mut Connection<S>) -> Result<bool, Fault>
 
 /// Of rule 16, what it asks of extension rows and of the parts after them.
 fn from_extensions<S: Alter>(conn: &mut Connection<S>) -> Result<bool, Fault>
-    ensures { IsCheck millimetres (state S.Store conn.old) (state S.Store conn.new) (λ _. ⊤) (λ p. FromExtensions p) result }
+    ensures { (profile : Profile) → IsCheck profile (state S.Store conn.old) (state S.Store conn.new) (λ _. ⊤) (λ p. FromExtensions p) result }
 {
     match extensions_within(conn) {
         Ok(true) => from_tiles(conn),
@@ -620,10 +638,10 @@ fn from_extensions<S: Alter>(conn: &mut Connection<S>) -> Result<bool, Fault>
 }
 
 /// Of rule 16, what it asks of matrices and of the parts after them.
-fn from_matrices<S: Alter>(conn: &mut Connection<S>) -> Result<bool, Fault>
-    ensures { IsCheck millimetres (state S.Store conn.old) (state S.Store conn.new) (λ _. ⊤) (λ p. FromMatrices p) result }
+fn from_matrices<S: Alter>(conn: &mut Connection<S>, unit: Unit) -> Result<bool, Fault>
+    ensures { IsCheck (profile_of unit) (state S.Store conn.old) (state S.Store conn.new) (λ _. ⊤) (λ p. FromMatrices (profile_of unit) p) result }
 {
-    match matrices_within(conn) {
+    match matrices_within(conn, unit) {
         Ok(true) => from_extensions(conn),
         Ok(false) => Ok(false),
         Err(fault) => Err(fault),
@@ -631,44 +649,44 @@ fn from_matrices<S: Alter>(conn: &mut Connection<S>) -> Result<bool, Fault>
 }
 
 /// Of rule 16, what it asks of matrix sets and of the parts after them.
-fn from_sets<S: Alter>(conn: &mut Connection<S>) -> Result<bool, Fault>
-    ensures { IsCheck millimetres (state S.Store conn.old) (state S.Store conn.new) (λ _. ⊤) (λ p. FromSets p) result }
+fn from_sets<S: Alter>(conn: &mut Connection<S>, unit: Unit) -> Result<bool, Fault>
+    ensures { IsCheck (profile_of unit) (state S.Store conn.old) (state S.Store conn.new) (λ _. ⊤) (λ p. FromSets (profile_of unit) p) result }
 {
-    match sets_within(conn) {
-        Ok(true) => from_matrices(conn),
+    match sets_within(conn, unit) {
+        Ok(true) => from_matrices(conn, unit),
         Ok(false) => Ok(false),
         Err(fault) => Err(fault),
     }
 }
 
 /// Of rule 16, what it asks of the registry and of the parts after them.
-fn from_kinds<S: Alter>(conn: &mut Connection<S>) -> Result<bool, Fault>
-    ensures { IsCheck millimetres (state S.Store conn.old) (state S.Store conn.new) (λ _. ⊤) (λ p. FromKinds p) result }
+fn from_kinds<S: Alter>(conn: &mut Connection<S>, unit: Unit) -> Result<bool, Fault>
+    ensures { IsCheck (profile_of unit) (state S.Store conn.old) (state S.Store conn.new) (λ _. ⊤) (λ p. FromKinds (profile_of unit) p) result }
 {
     match kinds_within(conn) {
-        Ok(true) => from_sets(conn),
+        Ok(true) => from_sets(conn, unit),
         Ok(false) => Ok(false),
         Err(fault) => Err(fault),
     }
 }
 
 /// Of rule 16, what it asks of contents and of the parts after them.
-fn from_contents<S: Alter>(conn: &mut Connection<S>) -> Result<bool, Fault>
-    ensures { IsCheck millimetres (state S.Store conn.old) (state S.Store conn.new) (λ _. ⊤) (λ p. FromContents p) result }
+fn from_contents<S: Alter>(conn: &mut Connection<S>, unit: Unit) -> Result<bool, Fault>
+    ensures { IsCheck (profile_of unit) (state S.Store conn.old) (state S.Store conn.new) (λ _. ⊤) (λ p. FromContents (profile_of unit) p) result }
 {
-    match contents_within(conn) {
-        Ok(true) => from_kinds(conn),
+    match contents_within(conn, unit) {
+        Ok(true) => from_kinds(conn, unit),
         Ok(false) => Ok(false),
         Err(fault) => Err(fault),
     }
 }
 
 /// Rule 16: every name, number, text and length is within its limits.
-pub fn limits<S: Alter>(conn: &mut Connection<S>) -> Result<bool, Fault>
-    ensures { IsCheck millimetres (state S.Store conn.old) (state S.Store conn.new) (λ _. ⊤) (λ p. Limits millimetres p) result }
+pub fn limits<S: Alter>(conn: &mut Connection<S>, unit: Unit) -> Result<bool, Fault>
+    ensures { IsCheck (profile_of unit) (state S.Store conn.old) (state S.Store conn.new) (λ _. ⊤) (λ p. Limits (profile_of unit) p) result }
 {
     match systems_within(conn) {
-        Ok(true) => from_contents(conn),
+        Ok(true) => from_contents(conn, unit),
         Ok(false) => Ok(false),
         Err(fault) => Err(fault),
     }

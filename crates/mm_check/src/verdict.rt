@@ -2,20 +2,21 @@
 
 ghost use Rattle.std.specs.Prelude.{◌≤◌, ◌<◌};
 ghost use Rattle.sqlite.specs.Held.{state};
-ghost use Rattle.mm_base.specs.Bounds.{millimetres};
 ghost use Rattle.mm_rules.specs.Check.{IsCheck};
+ghost use Rattle.mm_base.specs.Units.{profile_of};
 ghost use Rattle.mm_check.specs.Verdict.{rule, Before, IsVerified};
 
 use crate::{editions, limits};
 use mm_base::answers::Fault;
+use mm_base::units::Unit;
 use mm_rules::{contents, extensions, items, matrices, systems, tiles};
 use sqlite::{Alter, Connection};
 
 /// Rule k of those from 1 to 15, where rule 16 and all before it hold.
-fn one_rule<S: Alter>(conn: &mut Connection<S>, k: u8) -> Result<bool, Fault>
+fn one_rule<S: Alter>(conn: &mut Connection<S>, unit: Unit, k: u8) -> Result<bool, Fault>
     requires low { 1 ≤ k }
     requires high { k < 16 }
-    ensures { IsCheck millimetres (state S.Store conn.old) (state S.Store conn.new) (Before millimetres k) (rule millimetres k) result }
+    ensures { IsCheck (profile_of unit) (state S.Store conn.old) (state S.Store conn.new) (Before (profile_of unit) k) (rule (profile_of unit) k) result }
 {
     match k {
         1 => systems::given_systems(conn),
@@ -32,7 +33,7 @@ fn one_rule<S: Alter>(conn: &mut Connection<S>, k: u8) -> Result<bool, Fault>
         12 => items::relations_suited(conn),
         13 => items::pairings_join(conn),
         14 => extensions::extensions(conn),
-        15 => editions::editions(conn),
+        15 => editions::editions(conn, unit),
         _ => unreachable!(),
     }
 }
@@ -40,16 +41,16 @@ fn one_rule<S: Alter>(conn: &mut Connection<S>, k: u8) -> Result<bool, Fault>
 /// The whole check of the package that a connection with no transaction shows, whatever that package is: None where it
 /// meets all sixteen rules, 16 where rule 16 fails, else the least rule that fails. It writes nothing. A fault is 90 where
 /// memory was refused and 91 where the store failed, and never stands for a rule that fails.
-pub fn verify<S: Alter>(conn: &mut Connection<S>) -> Result<Option<u8>, Fault>
-    ensures { IsVerified millimetres (state S.Store conn.old) (state S.Store conn.new) result }
+pub fn verify<S: Alter>(conn: &mut Connection<S>, unit: Unit) -> Result<Option<u8>, Fault>
+    ensures { IsVerified (profile_of unit) (state S.Store conn.old) (state S.Store conn.new) result }
 {
-    match limits::limits(conn) {
+    match limits::limits(conn, unit) {
         Ok(true) => {}
         Ok(false) => return Ok(Some(16)),
         Err(fault) => return Err(fault),
     }
     'rules: for k in 1..16u8 {
-        match one_rule(conn, k) {
+        match one_rule(conn, unit, k) {
             Ok(true) => {}
             Ok(false) => return Ok(Some(k)),
             Err(fault) => return Err(fault),

@@ -1,7 +1,7 @@
 -- A connection that is looked at and then checked is settled as it was before.
 use Rattle.std.proofs.Common.{inl, inr, Some, None, Ok, Err, refl, sym, subst, ◌∙◌, arith}
 use Rattle.sqlite.specs.State.{State, HasCleanDisk}
-use Rattle.mm_base.specs.Bounds.{millimetres}
+use Rattle.mm_base.specs.Bounds.{current}
 use Rattle.mm_base.specs.Package.{Package}
 use Rattle.mm_base.specs.declared.answers.Fault.{Fault}
 use Rattle.mm_base.specs.declared.answers.Open.{Open}
@@ -15,14 +15,14 @@ use Rattle.mm_check.specs.Verdict.{IsVerified}
 use Rattle.mm_core.specs.Adopted.{IsAdopted, Declines, TellsProfile, IsNotAdopted}
 use Rattle.std.specs.Prelude.{ℕ, pos}
 
-looked_settled : (old new : State) (p : Package) → IsLooked old new (Ok tt) → HasCleanDisk new → IsSettled millimetres old p → IsSettled millimetres new p
+looked_settled : (old new : State) (p : Package) → IsLooked old new (Ok tt) → HasCleanDisk new → IsSettled current old p → IsSettled current new p
 looked_settled old new p looked clean settled = kept (looked.answers clean)
   where
-    kept : Answers old new (Ok tt) → IsSettled millimetres new p
+    kept : Answers old new (Ok tt) → IsSettled current new p
     kept (inl it) = let shows = it.2.0 in record {
       mode = shows.mode ∙ settled.mode;
-      back = λ up. subst (λ db. ReadsAs millimetres.version db p) (sym shows.committed_is) (settled.back shows.was_open);
-      reads = λ up. subst (λ db. ReadsAs millimetres.version db p) (sym shows.now_is) (settled.reads shows.was_open);
+      back = λ up. subst (λ db. ReadsAs current.version db p) (sym shows.committed_is) (settled.back shows.was_open);
+      reads = λ up. subst (λ db. ReadsAs current.version db p) (sym shows.now_is) (settled.reads shows.was_open);
       left = λ db may. elim (looked.survives.crash clean db may) [ inl before ↦ settled.left db before | inr none ↦ absurd none ];
     }
     kept (inr it) = absurd it.2
@@ -38,7 +38,7 @@ profile_told old new (opens.Rule rule) (inr it) = absurd it.2
 profile_told old new (opens.Fault fault) (inl it) = inl it.3
 profile_told old new (opens.Fault fault) (inr it) = told_fault it.0 fault it.2.1
 
-declined : (p : Package) (why : Open) → Agrees (pos 1) (Err why) → Declines p why
+declined : (p : Package) (why : Open) → Agrees current.version (Err why) → Declines p why
 declined p (opens.Version version) it = absurd (it.1 refl)
 declined p opens.NoProfile it = absurd it
 declined p opens.BadProfile it = absurd it
@@ -49,13 +49,13 @@ pub look_failed : (old new : State) (why : Open) → IsLooked old new (Err why) 
 look_failed old new why looked = record {
   survives = looked.survives;
   profile = λ clean. profile_told old new why (looked.answers clean);
-  declines = λ clean p s. declined p why (looked.agrees clean (pos 1) p s.reads);
+  declines = λ clean p s. declined p why (looked.agrees clean current.version p s.reads);
 }
 
 -- ---- the check was done
 
 module _ (old mid new : State) (looked : IsLooked old mid (Ok tt)) where
-  pub adopts : IsVerified millimetres mid new (Ok None) → IsAdopted old new
+  pub adopts : IsVerified current mid new (Ok None) → IsAdopted old new
   adopts verified =
       let early : HasCleanDisk new → HasCleanDisk mid = λ clean. omega (arith, clean, verified.survives.clean) in
       record {
@@ -66,7 +66,7 @@ module _ (old mid new : State) (looked : IsLooked old mid (Ok tt)) where
         meets = λ clean p s. verified.says clean p (looked_settled old mid p looked (early clean) s);
       }
 
-  pub rule_fails : (rule : ℕ) → IsVerified millimetres mid new (Ok (Some rule)) → IsNotAdopted old new (opens.Rule rule)
+  pub rule_fails : (rule : ℕ) → IsVerified current mid new (Ok (Some rule)) → IsNotAdopted old new (opens.Rule rule)
   rule_fails rule verified =
       let early : HasCleanDisk new → HasCleanDisk mid = λ clean. omega (arith, clean, verified.survives.clean) in
       record {
@@ -75,7 +75,7 @@ module _ (old mid new : State) (looked : IsLooked old mid (Ok tt)) where
         declines = λ clean p s. verified.says clean p (looked_settled old mid p looked (early clean) s);
       }
 
-  pub check_failed : (fault : Fault) → IsVerified millimetres mid new (Err fault) → IsNotAdopted old new (opens.Fault fault)
+  pub check_failed : (fault : Fault) → IsVerified current mid new (Err fault) → IsNotAdopted old new (opens.Fault fault)
   check_failed fault verified = record {
     survives = quiet_then old mid new looked.survives verified.survives;
     profile = λ clean. verified.faults;

@@ -1,7 +1,7 @@
 -- A session as a thing that commands are applied to.
 use Rattle.std.proofs.Common.{◌≡◌, inl, ℕ, Bool, true, false, refl, subst, arith}
 use Rattle.sqlite.specs.State.{State, HasCleanDisk}
-use Rattle.mm_base.specs.Bounds.{millimetres}
+use Rattle.mm_base.specs.Bounds.{current}
 use Rattle.mm_base.specs.Package.{Package}
 use Rattle.mm_base.specs.Rules.{Meets}
 use Rattle.mm_base.specs.Within.{IsWithin}
@@ -14,8 +14,8 @@ use Rattle.mm_core.specs.Applied.{IsApplied, Stands}
 
 module _ (old new : State) (c : Command) (moment : ℕ) (a : Answer) where
   pub applied_so : (failed : Bool) → (failed ≡ true → (a ≡ answer.Fault (record { 0 = 92 })) × (new ≡ old)) → (failed ≡ false → IsApplied c moment old new a)
-      → HasCleanDisk new → (p : Package) → IsSettled millimetres old p → Meets millimetres p → IsWithin millimetres c
-      → run.IsApplied p c moment a (IsSettled millimetres new) new.may_leave Stands
+      → HasCleanDisk new → (p : Package) → IsSettled current old p → Meets current p → IsWithin current c
+      → run.IsApplied p c moment a (IsSettled current new) new.may_leave Stands
   applied_so true ended applied clean p settled meets within =
       let it = ended refl in
       rw it.0 (λ db may. inl (settled.left db (subst (λ (s : State). s.may_leave db) it.1 may)))

@@ -7,7 +7,7 @@ use Rattle.sqlite.specs.Held.{Held, state}
 use Rattle.sqlite.specs.Store.{Ghosts}
 use Rattle.sqlite.proofs.StateLemmas.{survives_then, survives_weaker}
 use Rattle.sqlite.proofs.Callers.{survives_begin}
-use Rattle.mm_base.specs.Bounds.{millimetres}
+use Rattle.mm_base.specs.Bounds.{current}
 use Rattle.mm_base.specs.Package.{Package}
 use Rattle.mm_base.specs.Step.{refusal, step}
 use Rattle.mm_base.specs.declared.answers.Answer.TheVariants as answer
@@ -28,15 +28,15 @@ use Rattle.mm_edition.specs.Rehearsals.{IsRehearsal}
 use Rattle.mm_core.specs.Applied.{IsApplied, IsReady, MayCommit, Stands}
 
 module _ {S : Type 0} (g : Ghosts S) (was now : Held S) (begun : now ≡ record was { in_transaction = true }) (ended last : State)
-    (c : Command) (moment : ℕ) (result : Result Outcome Fault) (tried : IsTried millimetres c moment (state g now) ended result) where
+    (c : Command) (moment : ℕ) (result : Result Outcome Fault) (tried : IsTried current c moment (state g now) ended result) where
   abbrev old : State
   old = state g was
 
-  put : (p : Package) → IsReady old c p → IsPut millimetres c (state g now) (ground_of old) p
+  put : (p : Package) → IsReady old c p → IsPut current c (state g now) (ground_of old) p
   put p it = record { within = it.within; meets = it.meets; inside = rw begun (record { mode = refl; back = λ is_open. (refl, is_open); reads = it.settled.reads }) }
 
   module _ (is : result ≡ Ok Done) where
-    done : HasCleanDisk ended → (p : Package) → IsReady old c p → (refusal p c ≡ None) × IsTrue ended.is_open × IsInside millimetres ended (ground_of old) (step p c moment)
+    done : HasCleanDisk ended → (p : Package) → IsReady old c p → (refusal p c ≡ None) × IsTrue ended.is_open × IsInside current ended (ground_of old) (step p c moment)
     done clean p it = (rw is at tried.tries) clean (ground_of old) p (put p it)
 
     commits : Survives ended last (λ db. db ≡ ended.now.trees) → Survives old last (MayCommit old c moment)
@@ -47,7 +47,7 @@ module _ {S : Type 0} (g : Ghosts S) (was now : Held S) (begun : now ≡ record 
         → IsApplied c moment old last answer.Ok
     committed law h shows = record {
       survives = commits h;
-      answers = λ clean p it. let its = done (omega (arith, h.clean)) p it in (its.0, settles millimetres ended last (ground_of old) (step p c moment) law (shows clean) its.2);
+      answers = λ clean p it. let its = done (omega (arith, h.clean)) p it in (its.0, settles current ended last (ground_of old) (step p c moment) law (shows clean) its.2);
     }
 
     pub in_doubt : (fault : Fault) → Survives ended last (λ db. db ≡ ended.now.trees) → IsApplied c moment old last (answer.Fault fault)
@@ -69,7 +69,7 @@ module _ {S : Type 0} (g : Ghosts S) (was now : Held S) (begun : now ≡ record 
       survives = survives_weaker old last (λ _. ⊥) (MayCommit old c moment) (λ _ db none. absurd none) quiet;
       answers = λ clean p it. (
         (rw is at tried.tries) (omega (arith, two.clean)) (ground_of old) p (put p it),
-        rolled_back g was now begun ended last tried.survives two millimetres p it.settled clean (undone clean) (tried.on (omega (arith, two.clean)) (ground_of old) p (put p it)),
+        rolled_back g was now begun ended last tried.survives two current p it.settled clean (undone clean) (tried.on (omega (arith, two.clean)) (ground_of old) p (put p it)),
       );
     }
 
@@ -97,25 +97,25 @@ store_fault result fault is h = either (rw is at h)
 -- ---- a rehearsal
 
 module _ (old new : State) (edition : Text) (moment : ℕ) (result : Result Outcome Fault) where
-  quietly : IsRehearsal millimetres edition old new result → Survives old new (MayCommit old (commands.Rehearse edition) moment)
+  quietly : IsRehearsal current edition old new result → Survives old new (MayCommit old (commands.Rehearse edition) moment)
   quietly it = survives_weaker old new (λ _. ⊥) (MayCommit old (commands.Rehearse edition) moment) (λ _ db none. absurd none) it.survives
 
-  pub rehearsed_well : result ≡ Ok Done → IsRehearsal millimetres edition old new result → IsApplied (commands.Rehearse edition) moment old new answer.Ok
+  pub rehearsed_well : result ≡ Ok Done → IsRehearsal current edition old new result → IsApplied (commands.Rehearse edition) moment old new answer.Ok
   rehearsed_well is it = record {
     survives = quietly it;
     answers = λ clean p ready. (
       (rw is at it.answers) clean p ready.within ready.meets ready.settled,
-      subst (IsSettled millimetres new) (sym (rehearse_same p edition moment)) (it.settled clean p ready.within ready.meets ready.settled),
+      subst (IsSettled current new) (sym (rehearse_same p edition moment)) (it.settled clean p ready.within ready.meets ready.settled),
     );
   }
 
-  pub rehearsed_refused : (why : Refusal) → result ≡ Ok (Refused why) → IsRehearsal millimetres edition old new result → IsApplied (commands.Rehearse edition) moment old new (answer.Refused why)
+  pub rehearsed_refused : (why : Refusal) → result ≡ Ok (Refused why) → IsRehearsal current edition old new result → IsApplied (commands.Rehearse edition) moment old new (answer.Refused why)
   rehearsed_refused why is it = record {
     survives = quietly it;
     answers = λ clean p ready. ((rw is at it.answers) clean p ready.within ready.meets ready.settled, it.settled clean p ready.within ready.meets ready.settled);
   }
 
-  pub rehearsed_in_vain : (fault : Fault) → IsRehearsal millimetres edition old new result → IsApplied (commands.Rehearse edition) moment old new (answer.Fault fault)
+  pub rehearsed_in_vain : (fault : Fault) → IsRehearsal current edition old new result → IsApplied (commands.Rehearse edition) moment old new (answer.Fault fault)
   rehearsed_in_vain fault it = record {
     survives = quietly it;
     answers = λ clean p ready db may. inl ((it.settled clean p ready.within ready.meets ready.settled).left db may);

@@ -1,7 +1,7 @@
 -- What becomes of a connection that is to be adopted.
 use Rattle.std.specs.Prelude.{◌≡◌, ⊤, ℤ, pos, Err, IsTrue}
 use Rattle.sqlite.specs.State.{State, HasCleanDisk}
-use Rattle.mm_base.specs.Bounds.{millimetres}
+use Rattle.mm_base.specs.Bounds.{current}
 use Rattle.mm_base.specs.Package.{Package}
 use Rattle.mm_base.specs.Rules.{Meets}
 use Rattle.mm_base.specs.declared.answers.Open.{Open}
@@ -14,26 +14,26 @@ use Rattle.mm_check.specs.Verdict.{IsFailing}
 
 -- no package of another version is read
 abbrev pub IsOfThisVersion : State → Type 0
-IsOfThisVersion s = (version : ℤ) (p : Package) → (IsTrue s.is_open → ReadsAs version s.now p) → version ≡ pos 1
+IsOfThisVersion s = (version : ℤ) (p : Package) → (IsTrue s.is_open → ReadsAs version s.now p) → version ≡ current.version
 
 -- It wrote nothing, and the profile's table shows this profile's row alone. Settled for a package, it is settled for it
 -- still, and the package meets the rules.
 pub record IsAdopted (old new : State) : Type 0 where
   pub survives : CommitsNothing old new
-  pub row : HasCleanDisk new → ShowsProfile (pos 1) old
+  pub row : HasCleanDisk new → ShowsProfile current.version old
   pub profile : HasCleanDisk new → IsOfThisVersion old
-  pub settled : HasCleanDisk new → (p : Package) → IsSettled millimetres old p → IsSettled millimetres new p
-  pub meets : HasCleanDisk new → (p : Package) → IsSettled millimetres old p → Meets millimetres p
+  pub settled : HasCleanDisk new → (p : Package) → IsSettled current old p → IsSettled current new p
+  pub meets : HasCleanDisk new → (p : Package) → IsSettled current old p → Meets current p
 
 -- A package that is not adopted breaks the rule that is told, or there was a fault.
 abbrev pub Declines : Package → Open → Type 0
-Declines p (opens.Rule rule) = IsFailing millimetres p rule
+Declines p (opens.Rule rule) = IsFailing current p rule
 Declines p (opens.Fault fault) = ⊤
 Declines p _ = ⊥
 
 -- An opening number tells of the profile's row; a rule is told of a package of this version alone.
 abbrev pub TellsProfile : State → State → Open → Type 0
-TellsProfile old new (opens.Rule rule) = ShowsProfile (pos 1) old × IsOfThisVersion old
+TellsProfile old new (opens.Rule rule) = ShowsProfile current.version old × IsOfThisVersion old
 TellsProfile old new (opens.Fault fault) = IsStoreFault fault
 TellsProfile old new why = Answers old new (Err why)
 
@@ -41,4 +41,4 @@ TellsProfile old new why = Answers old new (Err why)
 pub record IsNotAdopted (old new : State) (why : Open) : Type 0 where
   pub survives : CommitsNothing old new
   pub profile : HasCleanDisk new → TellsProfile old new why
-  pub declines : HasCleanDisk new → (p : Package) → IsSettled millimetres old p → Declines p why
+  pub declines : HasCleanDisk new → (p : Package) → IsSettled current old p → Declines p why

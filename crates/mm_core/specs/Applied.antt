@@ -2,7 +2,7 @@
 use Rattle.std.specs.Prelude.{◌≡◌, ℕ, None}
 use Rattle.sqlite.specs.Tree.{Trees}
 use Rattle.sqlite.specs.State.{State, HasCleanDisk, Survives}
-use Rattle.mm_base.specs.Bounds.{millimetres}
+use Rattle.mm_base.specs.Bounds.{current}
 use Rattle.mm_base.specs.Package.{Package}
 use Rattle.mm_base.specs.Rules.{Meets}
 use Rattle.mm_base.specs.Step.{refusal, step}
@@ -14,13 +14,13 @@ use Rattle.mm_run.specs.Applied as run
 
 -- the database stands for the package, in the profile of this program
 abbrev pub Stands : Trees → Package → Type 0
-Stands db p = StandsFor millimetres.version db p
+Stands db p = StandsFor current.version db p
 
 -- settled for a package that meets the rules, and a command within the limits
 pub record IsReady (old : State) (c : Command) (p : Package) : Type 0 where
-  pub settled : IsSettled millimetres old p
-  pub meets : Meets millimetres p
-  pub within : IsWithin millimetres c
+  pub settled : IsSettled current old p
+  pub meets : Meets current p
+  pub within : IsWithin current c
 
 -- what the call may commit
 abbrev pub MayCommit : State → Command → ℕ → Trees → Type 0
@@ -30,4 +30,4 @@ MayCommit old c moment db = (p : Package) → IsReady old c p → (refusal p c �
 -- left stands for the one or, where nothing refuses the command, for the other.
 pub record IsApplied (c : Command) (moment : ℕ) (old new : State) (answer : Answer) : Type 0 where
   pub survives : Survives old new (MayCommit old c moment)
-  pub answers : HasCleanDisk new → (p : Package) → IsReady old c p → run.IsApplied p c moment answer (IsSettled millimetres new) new.may_leave Stands
+  pub answers : HasCleanDisk new → (p : Package) → IsReady old c p → run.IsApplied p c moment answer (IsSettled current new) new.may_leave Stands

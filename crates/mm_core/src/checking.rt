@@ -2,13 +2,14 @@
 
 use crate::session::Session;
 use mm_base::answers::Fault;
+use mm_base::units::CURRENT;
 use mm_check::verify;
 use sqlite::Alter;
 
 impl<S: Alter> Session<S> {
     ghost use Rattle.std.specs.Prelude.{◌≡◌, Err, false, true};
     ghost use Rattle.sqlite.specs.Held.{state};
-    ghost use Rattle.mm_base.specs.Bounds.{millimetres};
+    ghost use Rattle.mm_base.specs.Bounds.{current};
     ghost use Rattle.mm_check.specs.Verdict.{IsVerified};
     ghost use Rattle.mm_core.specs.Parts.{held, has_failed};
 
@@ -20,11 +21,11 @@ impl<S: Alter> Session<S> {
     pub fn check(&mut self) -> Result<Option<u8>, Fault>
         ensures ended { has_failed self.old ≡ true → (result ≡ Err (record { 0 = 92 })) × (self.new ≡ self.old) }
         ensures same { has_failed self.new ≡ has_failed self.old }
-        ensures checked { has_failed self.old ≡ false → IsVerified millimetres (state S.Store (held self.old)) (state S.Store (held self.new)) result }
+        ensures checked { has_failed self.old ≡ false → IsVerified current (state S.Store (held self.old)) (state S.Store (held self.new)) result }
     {
         if self.failed {
             return Err(Fault(92));
         }
-        verify(&mut self.conn)
+        verify(&mut self.conn, CURRENT)
     }
 }

@@ -2,7 +2,7 @@
 
 ghost use Rattle.std.specs.Prelude.{◌≡◌, ℕ, false, true};
 ghost use Rattle.sqlite.specs.Held.{state};
-ghost use Rattle.mm_base.specs.Bounds.{millimetres};
+ghost use Rattle.mm_base.specs.Bounds.{current};
 ghost use Rattle.mm_base.specs.Stamp.{IsStamp};
 ghost use Rattle.mm_store.specs.Shapes.{IsLent, IsTried};
 ghost use Rattle.mm_core.specs.Groups.{lays_out, lays_out_pyramid, changes_tile, changes_item, relates, prepares_edition, rehearses};
@@ -25,7 +25,7 @@ fn lay_out<S: Alter>(
 ) -> Result<Outcome, Fault>
     requires { lays_out command.now ≡ true }
     ensures same_reference { tx.new.conn.ghost_name ≡ tx.old.conn.ghost_name }
-    ensures lent { (moment : ℕ) → IsStamp moment at.now → IsLent millimetres command.now moment (state S.Store tx.old.conn.now) (state S.Store tx.new.conn.now) result }
+    ensures lent { (moment : ℕ) → IsStamp moment at.now → IsLent current command.now moment (state S.Store tx.old.conn.now) (state S.Store tx.new.conn.now) result }
 {
     match command {
         Command::Srs {
@@ -62,7 +62,7 @@ fn lay_out_pyramid<S: Alter>(
 ) -> Result<Outcome, Fault>
     requires { lays_out_pyramid command.now ≡ true }
     ensures same_reference { tx.new.conn.ghost_name ≡ tx.old.conn.ghost_name }
-    ensures lent { (moment : ℕ) → IsStamp moment at.now → IsLent millimetres command.now moment (state S.Store tx.old.conn.now) (state S.Store tx.new.conn.now) result }
+    ensures lent { (moment : ℕ) → IsStamp moment at.now → IsLent current command.now moment (state S.Store tx.old.conn.now) (state S.Store tx.new.conn.now) result }
 {
     match command {
         Command::Pyramid {
@@ -103,7 +103,7 @@ fn change_tile<S: Alter>(
 ) -> Result<Outcome, Fault>
     requires { changes_tile command.now ≡ true }
     ensures same_reference { tx.new.conn.ghost_name ≡ tx.old.conn.ghost_name }
-    ensures lent { (moment : ℕ) → IsStamp moment at.now → IsLent millimetres command.now moment (state S.Store tx.old.conn.now) (state S.Store tx.new.conn.now) result }
+    ensures lent { (moment : ℕ) → IsStamp moment at.now → IsLent current command.now moment (state S.Store tx.old.conn.now) (state S.Store tx.new.conn.now) result }
 {
     match command {
         Command::Tile {
@@ -139,7 +139,7 @@ fn change_item<S: Alter>(
 ) -> Result<Outcome, Fault>
     requires { changes_item command.now ≡ true }
     ensures same_reference { tx.new.conn.ghost_name ≡ tx.old.conn.ghost_name }
-    ensures lent { (moment : ℕ) → IsStamp moment at.now → IsLent millimetres command.now moment (state S.Store tx.old.conn.now) (state S.Store tx.new.conn.now) result }
+    ensures lent { (moment : ℕ) → IsStamp moment at.now → IsLent current command.now moment (state S.Store tx.old.conn.now) (state S.Store tx.new.conn.now) result }
 {
     match command {
         Command::Row {
@@ -180,7 +180,7 @@ fn change_item<S: Alter>(
 fn relate<S: Alter>(tx: &mut Transaction<'_, S>, command: &Command) -> Result<Outcome, Fault>
     requires { relates command.now ≡ true }
     ensures same_reference { tx.new.conn.ghost_name ≡ tx.old.conn.ghost_name }
-    ensures lent { (moment : ℕ) → IsLent millimetres command.now moment (state S.Store tx.old.conn.now) (state S.Store tx.new.conn.now) result }
+    ensures lent { (moment : ℕ) → IsLent current command.now moment (state S.Store tx.old.conn.now) (state S.Store tx.new.conn.now) result }
 {
     match command {
         Command::Relation {
@@ -211,7 +211,7 @@ fn prepare_edition<S: Alter>(
 ) -> Result<Outcome, Fault>
     requires { prepares_edition command.now ≡ true }
     ensures same_reference { tx.new.conn.ghost_name ≡ tx.old.conn.ghost_name }
-    ensures lent { (moment : ℕ) → IsLent millimetres command.now moment (state S.Store tx.old.conn.now) (state S.Store tx.new.conn.now) result }
+    ensures lent { (moment : ℕ) → IsLent current command.now moment (state S.Store tx.old.conn.now) (state S.Store tx.new.conn.now) result }
 {
     match command {
         Command::Edition { name } => open_edition(tx, name.as_str()),
@@ -233,7 +233,7 @@ pub(crate) fn run_command<S: Alter>(
 ) -> Result<Outcome, Fault>
     requires { rehearses command.now ≡ false }
     ensures same_reference { tx.new.conn.ghost_name ≡ tx.old.conn.ghost_name }
-    ensures tried { (moment : ℕ) → IsStamp moment at.now → IsTried millimetres command.now moment (state S.Store tx.old.conn.now) (state S.Store tx.new.conn.now) result }
+    ensures tried { (moment : ℕ) → IsStamp moment at.now → IsTried current command.now moment (state S.Store tx.old.conn.now) (state S.Store tx.new.conn.now) result }
 {
     match command {
         Command::Srs { .. } | Command::Table { .. } | Command::Drop { .. } => {

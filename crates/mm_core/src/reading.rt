@@ -13,7 +13,7 @@ impl<S: Alter> Session<S> {
     ghost use Rattle.std.specs.Prelude.{◌≡◌, pos, Err, false, true, option_map};
     ghost use Rattle.std.specs.FinMap.{get};
     ghost use Rattle.sqlite.specs.Held.{state};
-    ghost use Rattle.mm_base.specs.Bounds.{millimetres};
+    ghost use Rattle.mm_base.specs.Bounds.{current};
     ghost use Rattle.mm_base.specs.Keys as keys;
     ghost use Rattle.mm_base.specs.Keys.{item};
     ghost use Rattle.mm_store.specs.Shapes.{IsRead};
@@ -37,7 +37,7 @@ impl<S: Alter> Session<S> {
     ) -> Result<Option<Vec<u8>>, Fault>
         ensures ended { has_failed self.old ≡ true → (result ≡ Err (record { 0 = 92 })) × (self.new ≡ self.old) }
         ensures same { has_failed self.new ≡ has_failed self.old }
-        ensures read { has_failed self.old ≡ false → IsRead millimetres (state S.Store (held self.old)) (state S.Store (held self.new)) (λ p found. TellsBytes (get p.tiles (keys.tile table.now (pos zoom) (pos column) (pos row))) found) result }
+        ensures read { has_failed self.old ≡ false → IsRead current (state S.Store (held self.old)) (state S.Store (held self.new)) (λ p found. TellsBytes (get p.tiles (keys.tile table.now (pos zoom) (pos column) (pos row))) found) result }
     {
         if self.failed {
             return Err(Fault(92));
@@ -52,7 +52,7 @@ impl<S: Alter> Session<S> {
     pub fn media(&mut self, table: &Name, id: i64) -> Result<Option<Media>, Fault>
         ensures ended { has_failed self.old ≡ true → (result ≡ Err (record { 0 = 92 })) × (self.new ≡ self.old) }
         ensures same { has_failed self.new ≡ has_failed self.old }
-        ensures read { has_failed self.old ≡ false → IsRead millimetres (state S.Store (held self.old)) (state S.Store (held self.new)) (λ p found. get p.media (item table.now id) ≡ option_map medium_of found) result }
+        ensures read { has_failed self.old ≡ false → IsRead current (state S.Store (held self.old)) (state S.Store (held self.new)) (λ p found. get p.media (item table.now id) ≡ option_map medium_of found) result }
     {
         if self.failed {
             return Err(Fault(92));
@@ -67,7 +67,7 @@ impl<S: Alter> Session<S> {
     pub fn row(&mut self, table: &Name, id: i64) -> Result<Option<Row>, Fault>
         ensures ended { has_failed self.old ≡ true → (result ≡ Err (record { 0 = 92 })) × (self.new ≡ self.old) }
         ensures same { has_failed self.new ≡ has_failed self.old }
-        ensures read { has_failed self.old ≡ false → IsRead millimetres (state S.Store (held self.old)) (state S.Store (held self.new)) (λ p found. get p.rows (item table.now id) ≡ option_map row_of found) result }
+        ensures read { has_failed self.old ≡ false → IsRead current (state S.Store (held self.old)) (state S.Store (held self.new)) (λ p found. get p.rows (item table.now id) ≡ option_map row_of found) result }
     {
         if self.failed {
             return Err(Fault(92));
@@ -83,7 +83,7 @@ impl<S: Alter> Session<S> {
     pub fn contents(&mut self) -> Result<Vec<Entry>, Fault>
         ensures ended { has_failed self.old ≡ true → (result ≡ Err (record { 0 = 92 })) × (self.new ≡ self.old) }
         ensures same { has_failed self.new ≡ has_failed self.old }
-        ensures read { has_failed self.old ≡ false → IsRead millimetres (state S.Store (held self.old)) (state S.Store (held self.new)) (λ p tables. Lists p tables.items) result }
+        ensures read { has_failed self.old ≡ false → IsRead current (state S.Store (held self.old)) (state S.Store (held self.new)) (λ p tables. Lists p tables.items) result }
     {
         if self.failed {
             return Err(Fault(92));
@@ -99,7 +99,7 @@ impl<S: Alter> Session<S> {
     pub fn related(&mut self, table: &Name, id: i64) -> Result<Option<Vec<Related>>, Fault>
         ensures ended { has_failed self.old ≡ true → (result ≡ Err (record { 0 = 92 })) × (self.new ≡ self.old) }
         ensures same { has_failed self.new ≡ has_failed self.old }
-        ensures read { has_failed self.old ≡ false → IsRead millimetres (state S.Store (held self.old)) (state S.Store (held self.new)) (λ p found. Tells p table.now id found) result }
+        ensures read { has_failed self.old ≡ false → IsRead current (state S.Store (held self.old)) (state S.Store (held self.new)) (λ p found. Tells p table.now id found) result }
     {
         if self.failed {
             return Err(Fault(92));
@@ -114,7 +114,7 @@ impl<S: Alter> Session<S> {
     pub fn edition(&mut self, name: &Name) -> Result<Option<EditionState>, Fault>
         ensures ended { has_failed self.old ≡ true → (result ≡ Err (record { 0 = 92 })) × (self.new ≡ self.old) }
         ensures same { has_failed self.new ≡ has_failed self.old }
-        ensures read { has_failed self.old ≡ false → IsRead millimetres (state S.Store (held self.old)) (state S.Store (held self.new)) (λ p found. TellsState p name.now found) result }
+        ensures read { has_failed self.old ≡ false → IsRead current (state S.Store (held self.old)) (state S.Store (held self.new)) (λ p found. TellsState p name.now found) result }
     {
         if self.failed {
             return Err(Fault(92));

@@ -1,6 +1,6 @@
 //! The run of a list on a session.
 
-ghost use Rattle.mm_base.specs.Bounds.{millimetres};
+ghost use Rattle.mm_base.specs.Bounds.{current};
 ghost use Rattle.mm_store.specs.Stands.{IsSettled};
 ghost use Rattle.mm_core.specs.Applied.{Stands};
 ghost use Rattle.mm_core.specs.Parts.{held};
@@ -26,7 +26,7 @@ impl<S: Alter> Apply for Session<S> {
 
     ghost is_clean = { λ s. HasCleanDisk (state S.Store (held s)) };
 
-    ghost settled = { λ s p. IsSettled millimetres (state S.Store (held s)) p };
+    ghost settled = { λ s p. IsSettled current (state S.Store (held s)) p };
 
     ghost has_failed = { λ s. parts.has_failed s };
 

@@ -7,8 +7,10 @@ use mm_base::answers::{Answer, Fault, Open, RunFault, Tally};
 use mm_base::commands::Command;
 use mm_base::moments::Moment;
 use mm_base::streams::Io;
+use mm_base::units::CURRENT;
 use mm_check::verify;
 use mm_meta::{init, look};
+use mm_migrate::migrate;
 use mm_run::run_list;
 use sqlite::{Alter, Connection};
 use std::alloc::Global;
@@ -25,10 +27,11 @@ pub struct Session<S: Alter> {
 }
 
 impl<S: Alter> Session<S> {
-    ghost use Rattle.std.specs.Prelude.{◌≡◌, ◌⊎◌, IfOk, IfErr, false, true};
+    ghost use Rattle.std.specs.Prelude.{◌≡◌, ◌⊎◌, Ok, Err, IfOk, IfErr, false, true};
     ghost use Rattle.sqlite.specs.Held.{state};
     ghost use Rattle.mm_core.specs.Adopted.{IsAdopted, IsNotAdopted};
     ghost use Rattle.mm_core.specs.Sessions.{IsCreated, IsNotCreated};
+    ghost use Rattle.mm_migrate.specs.Migrations.{IsMigration};
     ghost use Rattle.mm_core.specs.Parts.{held, has_failed};
 
     /// Makes a new package on a connection whose database has no table, in one commit. On a fault the connection is
@@ -38,6 +41,7 @@ impl<S: Alter> Session<S> {
         ensures working { IfOk result (λ session. has_failed session ≡ false) }
         ensures created { IfOk result (λ session. IsCreated (state S.Store conn) (state S.Store (held session))) }
         ensures faults { IfErr result (λ e. (e.1.0 ≡ 90) ⊎ (e.1.0 ≡ 91)) }
+        ensures handed_back { IfErr result (λ e. e.0.in_transaction ≡ false) }
         ensures not_created { IfErr result (λ e. IsNotCreated (state S.Store conn) (state S.Store e.0)) }
     {
         let mut conn = conn;
@@ -63,6 +67,7 @@ impl<S: Alter> Session<S> {
         requires { conn.in_transaction ≡ false }
         ensures working { IfOk result (λ session. has_failed session ≡ false) }
         ensures adopted { IfOk result (λ session. IsAdopted (state S.Store conn) (state S.Store (held session))) }
+        ensures handed_back { IfErr result (λ e. e.0.in_transaction ≡ false) }
         ensures not_adopted { IfErr result (λ e. IsNotAdopted (state S.Store conn) (state S.Store e.0) e.1) }
     {
         let mut conn = conn;
@@ -70,7 +75,7 @@ impl<S: Alter> Session<S> {
             Ok(()) => {}
             Err(open) => return Err((conn, open)),
         }
-        match verify(&mut conn) {
+        match verify(&mut conn, CURRENT) {
             Ok(None) => Ok(Session {
                 conn,
                 alloc,
@@ -78,6 +83,31 @@ impl<S: Alter> Session<S> {
             }),
             Ok(Some(rule)) => Err((conn, Open::Rule(rule))),
             Err(fault) => Err((conn, Open::Fault(fault))),
+        }
+    }
+
+    /// Takes a connection to a package as `adopt` does, one of profile 1 too: that is checked by the rules of its own
+    /// profile, and then told in micrometres in one transaction, whose commit is the last call of the store.
+    ///
+    /// # Errors
+    ///
+    /// The connection is handed back, with no transaction open on it, with 93 for any other version, 94 or 95 as `look`
+    /// tells them, with `Open::Rule` for the rule that fails of the package in its own unit, and nothing has changed; or
+    /// with a fault, and each database that may be left stands for the package as it was or wholly for it in micrometres.
+    pub fn migrate(alloc: Global, conn: Connection<S>) -> Result<Session<S>, (Connection<S>, Open)>
+        requires { conn.in_transaction ≡ false }
+        ensures working { IfOk result (λ session. has_failed session ≡ false) }
+        ensures migrated { IfOk result (λ session. IsMigration (state S.Store conn) (state S.Store (held session)) (Ok tt)) }
+        ensures handed_back { IfErr result (λ e. e.0.in_transaction ≡ false) }
+        ensures not_migrated { IfErr result (λ e. IsMigration (state S.Store conn) (state S.Store e.0) (Err e.1)) }
+    {
+        match migrate(conn) {
+            Ok(conn) => Ok(Session {
+                conn,
+                alloc,
+                failed: false,
+            }),
+            Err(e) => Err(e),
         }
     }
 
@@ -126,7 +156,7 @@ impl<S: Alter> Session<S> {
     ghost use Rattle.std.specs.Io.KnownBytes.{IsAtEnd};
     ghost use Rattle.sqlite.specs.Held.{state};
     ghost use Rattle.sqlite.specs.State.{HasCleanDisk};
-    ghost use Rattle.mm_base.specs.Bounds.{millimetres};
+    ghost use Rattle.mm_base.specs.Bounds.{current};
     ghost use Rattle.mm_base.specs.Streams.{inside};
     ghost use Rattle.mm_base.specs.Streams as streams;
     ghost use Rattle.mm_store.specs.Stands.{IsSettled};
@@ -149,11 +179,11 @@ impl<S: Alter> Session<S> {
         at: Moment,
     ) -> Result<Tally, RunFault>
         ensures clean { HasCleanDisk (state S.Store (held self.new)) → HasCleanDisk (state S.Store (held self.old)) }
-        ensures done { IfOk result (λ t. OnRun (HasCleanDisk (state S.Store (held self.new))) (λ p. IsSettled millimetres (state S.Store (held self.old)) p) (R.remaining (inside reader.old))
-            (λ p bytes. RanAll p at bytes (λ q. IsSettled millimetres (state S.Store (held self.new)) q) (λ db. (state S.Store (held self.new)).may_leave db) Stands (W.contents (inside writer.old)) (W.contents (inside writer.new)) t)) }
+        ensures done { IfOk result (λ t. OnRun (HasCleanDisk (state S.Store (held self.new))) (λ p. IsSettled current (state S.Store (held self.old)) p) (R.remaining (inside reader.old))
+            (λ p bytes. RanAll p at bytes (λ q. IsSettled current (state S.Store (held self.new)) q) (λ db. (state S.Store (held self.new)).may_leave db) Stands (W.contents (inside writer.old)) (W.contents (inside writer.new)) t)) }
         ensures end { OnOk result (IsAtEnd (R.remaining (inside reader.new))) }
         ensures working { OnOk result (streams.has_failed writer.new ≡ streams.has_failed writer.old) }
-        ensures stopped { IfErr result (λ e. OnRun (HasCleanDisk (state S.Store (held self.new))) (λ p. IsSettled millimetres (state S.Store (held self.old)) p) (R.remaining (inside reader.old))
+        ensures stopped { IfErr result (λ e. OnRun (HasCleanDisk (state S.Store (held self.new))) (λ p. IsSettled current (state S.Store (held self.old)) p) (R.remaining (inside reader.old))
             (λ p bytes. RanSome p at bytes (λ db. (state S.Store (held self.new)).may_leave db) Stands (W.contents (inside writer.old)) (W.contents (inside writer.new)) e)) }
         ensures near { IfErr result (λ e. IsNear e.tally) }
         ensures session { TellsFailureOf (has_failed self.old) (has_failed self.new) (self.new ≡ self.old) result }

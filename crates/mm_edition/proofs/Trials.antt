@@ -39,6 +39,7 @@ piece_apart p (pieces.Media table id content_type bytes) at = touched_apart _ ta
 piece_apart p (pieces.MediaDrop table id) at = touched_apart _ table at (get p.contents table)
 piece_apart p (pieces.Map mapping base_id related_id) at = (refl, refl)
 piece_apart p (pieces.MapDrop mapping base_id related_id) at = (refl, refl)
+piece_apart p (pieces.Matrix table zoom m) at = touched_apart _ table at (get p.contents table)
 
 one_after : (n : ℕ) → suc n ≡ n + 1
 one_after n = omega arith

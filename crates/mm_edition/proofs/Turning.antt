@@ -41,6 +41,7 @@ piece_refusal p (pieces.Media table id content_type bytes) = refl
 piece_refusal p (pieces.MediaDrop table id) = refl
 piece_refusal p (pieces.Map mapping base_id related_id) = refl
 piece_refusal p (pieces.MapDrop mapping base_id related_id) = refl
+piece_refusal p (pieces.Matrix table zoom m) = refl
 
 piece_done : (p : Package) (q : Piece) (at : Text) → done p (piece_command q) at ≡ piece_effect p q at
 piece_done p (pieces.Tile table zoom column row bytes) at = refl
@@ -51,6 +52,7 @@ piece_done p (pieces.Media table id content_type bytes) at = refl
 piece_done p (pieces.MediaDrop table id) at = refl
 piece_done p (pieces.Map mapping base_id related_id) at = refl
 piece_done p (pieces.MapDrop mapping base_id related_id) at = refl
+piece_done p (pieces.Matrix table zoom m) at = refl
 
 no_reason : (v : Option ℕ) → refusal_of v None ≡ None → v ≡ None
 no_reason None e = refl
@@ -61,8 +63,8 @@ its_reason None why e = absurd (let f : ◌≡◌ {A = Option Refusal} None (Som
 its_reason (Some n) why e = ap Some (ap (λ (r : Refusal). r.number) (same_some e))
 
 -- a piece that stands in a package of the rules is within the limits
-stands_within : (q : Piece) → IsSpelled (piece_row q) → IsPieceWithin q
-stands_within q is = subst IsPieceWithin (same_some (sym (by_kind is.0) ∙ ap piece_by_kind (sym is.1) ∙ by_kind q)) is.2
+stands_within : (profile : Profile) (q : Piece) → IsSpelled profile (piece_row q) → IsPieceWithin profile q
+stands_within profile q is = subst (IsPieceWithin profile) (same_some (sym (by_kind is.0) ∙ ap piece_by_kind (sym is.1) ∙ by_kind q)) is.2
 
 module _ (profile : Profile) (edition : Text) (number moment : ℕ) where
   abbrev Found : Package → Option Piece → Type 0
@@ -86,7 +88,7 @@ module _ (profile : Profile) (edition : Text) (number moment : ℕ) where
     put : (at : State) (ground : Ground) (p : Package) → IsReady profile old ground p → IsInside profile mid ground p → Found p found → IsPut profile (piece_command q) mid ground p
     put at ground p it inside says =
         let there = says it.meets ∙ ap (option_map piece_row) is in
-        record { within = (same_limits q profile).1 (stands_within q (it.meets.q15.spelled _ _ there)); meets = it.meets; inside = inside }
+        record { within = (same_limits q profile).1 (stands_within profile q (it.meets.q15.spelled _ _ there)); meets = it.meets; inside = inside }
 
     module _ (result : Result Outcome Fault) (lent : IsLent profile (piece_command q) moment mid new result) where
       pub turn_done : (at : Text) → IsStamp moment at → result ≡ Ok outcome.Done → IsTurn profile edition number moment old new (Ok Done)
@@ -98,7 +100,7 @@ module _ (profile : Profile) (edition : Text) (number moment : ℕ) where
         takes = λ clean ground p it.
             let seen = look.looked (omega (arith, lent.survives.clean)) ground p it.inside in
             let there = seen.2 it.meets ∙ ap (option_map piece_row) is in
-            let within = stands_within q (it.meets.q15.spelled _ _ there) in
+            let within = stands_within profile q (it.meets.q15.spelled _ _ there) in
             let end = (rw done_is at lent.answers) clean ground p (put mid ground p it seen.1 seen.2) in
             let none = no_reason (least (piece_reasons p q)) (sym (piece_refusal p q) ∙ end.0) in
             let next : step p (piece_command q) moment ≡ piece_effect p q (stamp moment) = ap (λ r. unless_refused r (done p (piece_command q) (stamp moment)) p) end.0 ∙ piece_done p q (stamp moment) in

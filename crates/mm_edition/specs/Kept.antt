@@ -1,9 +1,8 @@
 -- A staged piece as its row holds it, and what a row shows of it.
-use Rattle.std.specs.Prelude.{◌≡◌, pos, string_bytes, Option, Some, None, ⊤}
+use Rattle.std.specs.Prelude.{◌≡◌, string_bytes, Option, Some, None, ⊤}
 use Rattle.sqlite.specs.declared.types.Value.TheVariants.{Int, Text as Words, Blob}
 use Rattle.sqlite.specs.Order.{Row, column}
 use Rattle.mm_base.specs.Package.{PieceRow}
-use Rattle.mm_base.specs.Pieces.{piece_of}
 use Rattle.mm_edition.specs.declared.kept.Numbers.{Numbers}
 use Rattle.mm_edition.specs.declared.kept.Kept.{Kept}
 use Rattle.mm_edition.specs.declared.kept.Written.{Written}
@@ -26,11 +25,24 @@ kept_row k = record {
 
 -- the row that is to be written
 abbrev pub written_row : Written → PieceRow
-written_row w = piece_of w.kind.now w.name.now w.k1 w.k2 w.k3 w.t1.now w.t2.now w.bytes.now
+written_row w = record {
+  kind = w.kind.now;
+  name = w.name.now;
+  k1 = w.k1;
+  k2 = w.k2;
+  k3 = w.k3;
+  k4 = w.k4;
+  k5 = w.k5;
+  k6 = w.k6;
+  k7 = w.k7;
+  t1 = w.t1.now;
+  t2 = w.t2.now;
+  bytes = w.bytes.now;
+}
 
 -- the numbers are those that are to be written
 abbrev pub AreNumbers : Numbers → Written → Type 0
-AreNumbers n w = (n.k1 ≡ w.k1) × (n.k2 ≡ w.k2) × (n.k3 ≡ w.k3) × (n.k4 ≡ pos 0) × (n.k5 ≡ pos 0) × (n.k6 ≡ pos 0) × (n.k7 ≡ pos 0)
+AreNumbers n w = (n.k1 ≡ w.k1) × (n.k2 ≡ w.k2) × (n.k3 ≡ w.k3) × (n.k4 ≡ w.k4) × (n.k5 ≡ w.k5) × (n.k6 ≡ w.k6) × (n.k7 ≡ w.k7)
 
 -- the columns from the third on hold the numbers
 pub record HasNumbers (shown : Row) (n : Numbers) : Type 0 where

@@ -1,14 +1,14 @@
 //! A staged piece as its row holds it.
 
 ghost use Rattle.std.specs.Prelude.{◌≡◌, ◌↔◌, IfOk, IsTrue, true, pos, []};
-ghost use Rattle.mm_base.specs.PieceGroups.{changes_tile, changes_item, changes_mapping};
+ghost use Rattle.mm_base.specs.PieceGroups.{changes_tile, changes_item, changes_mapping, puts_matrix};
 ghost use Rattle.mm_base.specs.Pieces.{piece_of, piece_row};
 ghost use Rattle.mm_edition.specs.Kept.{kept_row, written_row, HasNumbers, AreNumbers, Shows};
 
 use mm_base::commands::Piece;
 use sqlite::{Error, Row};
 
-/// The number columns of a piece. The last four are 0 in each kind of piece.
+/// The number columns of a piece. The last four are 0 in each kind of piece but a matrix.
 #[derive(Clone, Copy, Debug, PartialEq, Eq)]
 pub(crate) struct Numbers {
     pub(crate) k1: i64,
@@ -39,6 +39,10 @@ pub(crate) struct Written<'a> {
     pub(crate) k1: i64,
     pub(crate) k2: i64,
     pub(crate) k3: i64,
+    pub(crate) k4: i64,
+    pub(crate) k5: i64,
+    pub(crate) k6: i64,
+    pub(crate) k7: i64,
     pub(crate) t1: &'a str,
     pub(crate) t2: &'a str,
     pub(crate) bytes: &'a [u8],
@@ -80,10 +84,10 @@ fn are_written(numbers: Numbers, written: Written<'_>) -> bool
     numbers.k1 == written.k1
         && numbers.k2 == written.k2
         && numbers.k3 == written.k3
-        && numbers.k4 == 0
-        && numbers.k5 == 0
-        && numbers.k6 == 0
-        && numbers.k7 == 0
+        && numbers.k4 == written.k4
+        && numbers.k5 == written.k5
+        && numbers.k6 == written.k6
+        && numbers.k7 == written.k7
 }
 
 /// Whether a row holds exactly what would be written of a piece.
@@ -108,6 +112,10 @@ fn numbered<'a>(kind: &'a str, name: &'a str, k1: i64, k2: i64) -> Written<'a>
         k1,
         k2,
         k3: 0,
+        k4: 0,
+        k5: 0,
+        k6: 0,
+        k7: 0,
         t1: "",
         t2: "",
         bytes: b"",
@@ -132,6 +140,10 @@ fn written_tile(piece: &Piece) -> Written<'_>
             k1: i64::from(*zoom),
             k2: i64::from(*column),
             k3: i64::from(*row),
+            k4: 0,
+            k5: 0,
+            k6: 0,
+            k7: 0,
             t1: "",
             t2: "",
             bytes: bytes.as_slice(),
@@ -147,6 +159,10 @@ fn written_tile(piece: &Piece) -> Written<'_>
             k1: i64::from(*zoom),
             k2: i64::from(*column),
             k3: i64::from(*row),
+            k4: 0,
+            k5: 0,
+            k6: 0,
+            k7: 0,
             t1: "",
             t2: "",
             bytes: b"",
@@ -173,6 +189,10 @@ fn written_item(piece: &Piece) -> Written<'_>
             k1: *id,
             k2: *amount,
             k3: 0,
+            k4: 0,
+            k5: 0,
+            k6: 0,
+            k7: 0,
             t1: title.as_str(),
             t2: note.as_str(),
             bytes: b"",
@@ -189,6 +209,10 @@ fn written_item(piece: &Piece) -> Written<'_>
             k1: *id,
             k2: 0,
             k3: 0,
+            k4: 0,
+            k5: 0,
+            k6: 0,
+            k7: 0,
             t1: content_type.as_str(),
             t2: "",
             bytes: bytes.as_slice(),
@@ -218,6 +242,34 @@ fn written_mapping(piece: &Piece) -> Written<'_>
     }
 }
 
+/// What is written of a piece that puts a matrix.
+fn written_matrix(piece: &Piece) -> Written<'_>
+    requires { puts_matrix piece.now ≡ true }
+    ensures { written_row result ≡ piece_row piece.now }
+{
+    match piece {
+        Piece::Matrix {
+            table,
+            zoom,
+            matrix,
+        } => Written {
+            kind: "matrix",
+            name: table.as_str(),
+            k1: i64::from(*zoom),
+            k2: i64::from(matrix.mw),
+            k3: i64::from(matrix.mh),
+            k4: i64::from(matrix.tw),
+            k5: i64::from(matrix.th),
+            k6: matrix.px,
+            k7: matrix.py,
+            t1: "",
+            t2: "",
+            bytes: b"",
+        },
+        _ => unreachable!(),
+    }
+}
+
 /// What is written of a piece.
 pub(crate) fn as_written(piece: &Piece) -> Written<'_>
     ensures { written_row result ≡ piece_row piece.now }
@@ -227,5 +279,6 @@ pub(crate) fn as_written(piece: &Piece) -> Written<'_>
         Piece::Row { .. } | Piece::RowDrop { .. } | Piece::Media { .. } | Piece::MediaDrop { .. } =>
             written_item(piece),
         Piece::Map { .. } | Piece::MapDrop { .. } => written_mapping(piece),
+        Piece::Matrix { .. } => written_matrix(piece),
     }
 }

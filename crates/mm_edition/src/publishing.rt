@@ -16,11 +16,12 @@ ghost use Rattle.mm_edition.specs.Turns.{IsTrial};
 use crate::editions::closed_refusal;
 use crate::running::{Turn, try_piece};
 use mm_base::answers::{Fault, Outcome, Refusal};
+use mm_base::limits::MOST_PIECES;
 use mm_store::statements::run;
 use sqlite::{Alter, Transaction, params};
 
 /// No open edition has a piece of this number, so publishing comes to its end there at the latest.
-const PAST_THE_LAST: u32 = 4097;
+const PAST_THE_LAST: u32 = MOST_PIECES + 1;
 
 /// Does what the pieces of an edition say, in rising number, to the first that is refused, which is told with its number
 /// and its refusal. One piece is held at a time. `at` is the stamp of the moment.

@@ -3,7 +3,7 @@
 ghost use Rattle.std.specs.Prelude.{◌≡◌, ℕ, true};
 ghost use Rattle.sqlite.specs.Held.{state};
 ghost use Rattle.mm_base.specs.Bounds.{Profile};
-ghost use Rattle.mm_base.specs.PieceGroups.{changes_tile, changes_item, changes_mapping};
+ghost use Rattle.mm_base.specs.PieceGroups.{changes_tile, changes_item, changes_mapping, puts_matrix};
 ghost use Rattle.mm_base.specs.Pieces.{piece_command};
 ghost use Rattle.mm_base.specs.Stamp.{IsStamp};
 ghost use Rattle.mm_store.specs.Shapes.{IsLent};
@@ -14,6 +14,7 @@ use crate::pieces::piece;
 use mm_base::answers::{Fault, Outcome};
 use mm_base::commands::Piece;
 use mm_content::{drop_media, drop_row, drop_tile, put_media, put_row, put_tile};
+use mm_matrices::add_matrix;
 use mm_relate::{add_map, drop_map};
 use sqlite::{Alter, Transaction};
 
@@ -129,6 +130,27 @@ fn run_mapping<S: Alter>(tx: &mut Transaction<'_, S>, piece: &Piece) -> Result<O
     }
 }
 
+/// Puts the matrix of a piece. `at` is the stamp of the moment.
+fn run_matrix<S: Alter>(
+    tx: &mut Transaction<'_, S>,
+    piece: &Piece,
+    at: &str,
+) -> Result<Outcome, Fault>
+    requires { puts_matrix piece.now ≡ true }
+    ensures same_reference { tx.new.conn.ghost_name ≡ tx.old.conn.ghost_name }
+    ensures any_text { IsQuiet (state S.Store tx.old.conn.now) (state S.Store tx.new.conn.now) result }
+    ensures lent { (profile : Profile) (moment : ℕ) → IsStamp moment at.now → IsLent profile (piece_command piece.now) moment (state S.Store tx.old.conn.now) (state S.Store tx.new.conn.now) result }
+{
+    match piece {
+        Piece::Matrix {
+            table,
+            zoom,
+            matrix,
+        } => add_matrix(tx, table.as_str(), *zoom, matrix, at),
+        _ => unreachable!(),
+    }
+}
+
 /// Does what a piece says within the transaction. `at` is the stamp of the moment.
 fn run_piece<S: Alter>(
     tx: &mut Transaction<'_, S>,
@@ -144,6 +166,7 @@ fn run_piece<S: Alter>(
         Piece::Row { .. } | Piece::RowDrop { .. } | Piece::Media { .. } | Piece::MediaDrop { .. } =>
             run_item(tx, piece, at),
         Piece::Map { .. } | Piece::MapDrop { .. } => run_mapping(tx, piece),
+        Piece::Matrix { .. } => run_matrix(tx, piece, at),
     }
 }
 

@@ -7,7 +7,7 @@ ghost use Rattle.mm_edition.specs.Kept.{kept_row};
 
 use crate::kept::{Kept, Numbers};
 use mm_base::bytes::Bytes;
-use mm_base::commands::Piece;
+use mm_base::commands::{Matrix, Piece};
 use mm_base::content_types::ContentType;
 use mm_base::names::Name;
 use mm_base::texts::Text;
@@ -83,6 +83,50 @@ fn media_in(table: Name, kept: Kept) -> Option<Piece>
     })
 }
 
+/// The sides of a matrix in tiles, and those of its tiles in pixels, where four numbers are such.
+fn sides_in(numbers: Numbers) -> Option<(u32, u32, u32, u32)>
+    ensures { IfSome result (λ sides. (unsigned_abs numbers.k2 ≡ sides.0) × (unsigned_abs numbers.k3 ≡ sides.1) × (unsigned_abs numbers.k4 ≡ sides.2) × (unsigned_abs numbers.k5 ≡ sides.3)) }
+{
+    match (
+        u32::try_from(numbers.k2),
+        u32::try_from(numbers.k3),
+        u32::try_from(numbers.k4),
+        u32::try_from(numbers.k5),
+    ) {
+        (Ok(mw), Ok(mh), Ok(tw), Ok(th)) => Some((mw, mh, tw, th)),
+        _ => None,
+    }
+}
+
+fn zoom_in(numbers: Numbers) -> Option<u8>
+    ensures { IfSome result (λ zoom. unsigned_abs numbers.k1 ≡ zoom) }
+{
+    match u8::try_from(numbers.k1) {
+        Ok(zoom) => Some(zoom),
+        Err(_) => None,
+    }
+}
+
+/// The matrix that a row of the kind `matrix` spells.
+fn matrix_in(table: Name, kept: Kept) -> Option<Piece>
+    ensures { IfSome result (λ piece. piece ≡ pieces.Matrix table (unsigned_abs kept.numbers.k1) (record { mw = unsigned_abs kept.numbers.k2; mh = unsigned_abs kept.numbers.k3; tw = unsigned_abs kept.numbers.k4; th = unsigned_abs kept.numbers.k5; px = kept.numbers.k6; py = kept.numbers.k7 })) }
+{
+    let zoom = zoom_in(kept.numbers)?;
+    let (mw, mh, tw, th) = sides_in(kept.numbers)?;
+    Some(Piece::Matrix {
+        table,
+        zoom,
+        matrix: Matrix {
+            mw,
+            mh,
+            tw,
+            th,
+            px: kept.numbers.k6,
+            py: kept.numbers.k7,
+        },
+    })
+}
+
 /// The piece that a row spells, by its kind.
 pub(crate) fn spelled(kept: Kept) -> Option<Piece>
     ensures { IfSome result (λ piece. piece_by_kind (kept_row kept) ≡ Some piece) }
@@ -114,6 +158,7 @@ pub(crate) fn spelled(kept: Kept) -> Option<Piece>
             base_id: kept.numbers.k1,
             related_id: kept.numbers.k2,
         }),
+        "matrix" => matrix_in(name, kept),
         _ => None,
     }
 }

@@ -16,10 +16,8 @@ use crate::kept::{Kept, Written, as_written, is_written};
 use crate::pieces::{has_piece, insert_piece, kept_piece};
 use mm_base::answers::{Fault, Outcome, Refusal};
 use mm_base::commands::Piece;
+use mm_base::limits::MOST_PIECES;
 use sqlite::{Alter, Transaction};
-
-/// An edition has so many pieces at most.
-const MOST_PIECES: i64 = 4096;
 
 /// What staging a piece under a number comes to.
 pub(crate) enum Place {
@@ -34,7 +32,7 @@ pub(crate) enum Place {
 fn next_place(number: i64) -> Place
     ensures { IsRoom number result }
 {
-    if number > MOST_PIECES {
+    if number > MOST_PIECES as i64 {
         Place::Refused(54)
     } else {
         Place::Next

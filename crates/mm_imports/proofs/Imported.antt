@@ -1,7 +1,7 @@
 -- The import of a kit on a package that was adopted.
 use Rattle.std.proofs.Common.{Option, Result, Ok, Err, IfOk, IfErr}
 use Rattle.sqlite.specs.State.{State, HasCleanDisk}
-use Rattle.mm_base.specs.Bounds.{millimetres}
+use Rattle.mm_base.specs.Bounds.{current}
 use Rattle.mm_base.specs.Keys.{Text}
 use Rattle.mm_base.specs.declared.answers.Staged.{Staged}
 use Rattle.mm_base.specs.declared.answers.KitFault.{KitFault}
@@ -14,8 +14,8 @@ use Rattle.mm_imports.specs.Kits.{IsImport}
 
 module _ (old mid new : State) (adopted : IsAdopted old mid) (early : HasCleanDisk new → HasCleanDisk mid) (told : Option Files) (name : Text) where
   pub imports : (import : Result Staged KitFault)
-      → IfOk import (λ a. OnKit (HasCleanDisk new) (λ p. IsSettled millimetres mid p) told (λ files p. IsAnswered files name p (λ q. IsSettled millimetres new q) a))
-      → IfErr import (λ e. OnKit (HasCleanDisk new) (λ p. IsSettled millimetres mid p) told (λ files p. IsStopped files name p (λ db. new.may_leave db) Stands e.staged))
-      → OnKit (HasCleanDisk new) (λ p. IsSettled millimetres old p) told (λ files p. IsImport files name p new import)
+      → IfOk import (λ a. OnKit (HasCleanDisk new) (λ p. IsSettled current mid p) told (λ files p. IsAnswered files name p (λ q. IsSettled current new q) a))
+      → IfErr import (λ e. OnKit (HasCleanDisk new) (λ p. IsSettled current mid p) told (λ files p. IsStopped files name p (λ db. new.may_leave db) Stands e.staged))
+      → OnKit (HasCleanDisk new) (λ p. IsSettled current old p) told (λ files p. IsImport files name p new import)
   imports (Ok answer) answered stopped clean p sound files is = answered clean p (adopted.settled (early clean) p sound.0, sound.1) files is
   imports (Err fault) answered stopped clean p sound files is = stopped clean p (adopted.settled (early clean) p sound.0, sound.1) files is

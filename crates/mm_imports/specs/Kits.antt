@@ -1,7 +1,7 @@
 -- What the import of a kit comes to, and what is printed of it.
 use Rattle.std.specs.Prelude.{ℕ, List, ◌++◌, Result, Ok, Err, codes, decimal}
 use Rattle.sqlite.specs.State.{State}
-use Rattle.mm_base.specs.Bounds.{millimetres}
+use Rattle.mm_base.specs.Bounds.{current}
 use Rattle.mm_base.specs.Keys.{Text}
 use Rattle.mm_base.specs.Package.{Package}
 use Rattle.mm_base.specs.declared.answers.Staged.{Staged}
@@ -14,7 +14,7 @@ use Rattle.mm_kit.specs.Imports.{IsAnswered, IsStopped}
 
 -- answered, and the connection is settled for the package after it; or stopped by a fault, and so much may be left
 abbrev pub IsImport : Files → Text → Package → State → Result Staged KitFault → Type 0
-IsImport files name p new (Ok answer) = IsAnswered files name p (λ q. IsSettled millimetres new q) answer
+IsImport files name p new (Ok answer) = IsAnswered files name p (λ q. IsSettled current new q) answer
 IsImport files name p new (Err stopped) = IsStopped files name p (λ db. new.may_leave db) Stands stopped.staged
 
 abbrev pub staged_text : Staged → List ℕ

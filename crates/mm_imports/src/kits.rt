@@ -3,7 +3,7 @@
 ghost use Rattle.std.specs.Prelude.{◌≡◌, ◌++◌, ◌+◌, ◌≤◌, codes, decimal, false, length, IfOk};
 ghost use Rattle.sqlite.specs.Held.{state};
 ghost use Rattle.sqlite.specs.State.{HasCleanDisk};
-ghost use Rattle.mm_base.specs.Bounds.{millimetres};
+ghost use Rattle.mm_base.specs.Bounds.{current};
 ghost use Rattle.mm_base.specs.Streams.{has_failed, inside};
 ghost use Rattle.mm_store.specs.Stands.{IsSettled};
 ghost use Rattle.mm_core.specs.Applied.{Stands};
@@ -35,7 +35,7 @@ pub fn import_package<S: Alter + Drop, F: Folder>(
     at: Moment,
 ) -> Result<(Connection<S>, Import), Stop>
     requires { conn.in_transaction ≡ false }
-    ensures imported { IfOk result (λ done. OnKit (HasCleanDisk (state S.Store done.0)) (λ p. IsSettled millimetres (state S.Store conn) p) (F.files folder.old)
+    ensures imported { IfOk result (λ done. OnKit (HasCleanDisk (state S.Store done.0)) (λ p. IsSettled current (state S.Store conn) p) (F.files folder.old)
         (λ files p. IsImport files name.now p (state S.Store done.0) done.1)) }
 {
     match adopt_package(alloc, conn) {

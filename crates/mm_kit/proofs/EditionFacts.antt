@@ -2,7 +2,7 @@
 use Rattle.std.proofs.Common.{◌≡◌, ◌∙◌, ◌≤◌, ◌+◌, inl, inr, ℕ, zero, suc, pos, ◌≤ℤ◌, List, [], ◌∷◌, ◌++◌, length, length-append, Option, Some, None, ap, refl, sym, subst, arith}
 use Rattle.std.proofs.lemmas.Int.{ints}
 use Rattle.std.specs.FinMap.{get}
-use Rattle.mm_base.specs.Bounds.{millimetres}
+use Rattle.mm_base.specs.Bounds.{current}
 use Rattle.mm_base.specs.Conditions.{piece_count}
 use Rattle.mm_base.specs.Keys.{Text, piece}
 use Rattle.mm_base.specs.Package.{Package, open_state}
@@ -14,7 +14,7 @@ use Rattle.mm_laws.proofs.Counted.{piece_count-is}
 use Rattle.mm_kit.specs.Editions.{HasPieces, numbered}
 use Rattle.mm_kit.proofs.StageFacts.{numbered-more}
 
-module _ (p : Package) (name : Text) (meets : Meets millimetres p) (n : ℕ) (numbers : IsNumbered p.pieces name n) where
+module _ (p : Package) (name : Text) (meets : Meets current p) (n : ℕ) (numbers : IsNumbered p.pieces name n) where
   in_range : (m : ℕ) → m + 1 ≤ n → (pos 1 ≤ℤ pos (m + 1)) × (pos (m + 1) ≤ℤ pos n)
   in_range m h = (omega (arith, ints), omega (arith, ints, h))
 
@@ -35,7 +35,7 @@ module _ (p : Package) (name : Text) (meets : Meets millimetres p) (n : ℕ) (nu
       )
 
 -- an open edition has its pieces, as many as the read tells
-pub open_has : (p : Package) (name : Text) (count : ℕ) → Meets millimetres p → get p.editions name ≡ Some open_state → piece_count p name ≡ count → (list : List Piece) × HasPieces p name list × (length list ≡ count)
+pub open_has : (p : Package) (name : Text) (count : ℕ) → Meets current p → get p.editions name ≡ Some open_state → piece_count p name ≡ count → (list : List Piece) × HasPieces p name list × (length list ≡ count)
 open_has p name count meets open_is is =
     let it = meets.q15.numbered name open_is in
     let (list, size, each) = first_pieces p name meets it.0 it.2 it.0 (omega arith) in

@@ -1,4 +1,5 @@
 -- The entry of a record, and the least number that is against it.
+use Rattle.mm_base.specs.Bounds.{current}
 use Rattle.std.proofs.Common.{◌≡◌, ◌∙◌, ◌⊎◌, inl, inr, ◌<◌, ◌≤◌, ◌-◌, ℕ, ℤ, pos, ◌≤ℤ◌, List, [], ◌∷◌, length, take, drop, Option, Result, Ok, Err, Bool, true, false, refl, sym, ap, subst, arith, length-drop}
 use Rattle.std.specs.Borrow.{Bor}
 use Rattle.std.proofs.lemmas.List.{take_all}
@@ -29,8 +30,8 @@ low_number : (word : Text) (n : ℕ) → IsAgainst id_field word n → n ≤ 11
 low_number word n (inl h) = omega (arith, h.0)
 low_number word n (inr h) = omega (arith, h.0)
 
-low_piece : (r : Record) (n : ℕ) → HoldsAgainstPiece r n → n ≤ 12
-low_piece r n h = by (piece_number r n h)
+low_piece : (r : Record) (n : ℕ) → HoldsAgainstPiece current r n → n ≤ 12
+low_piece r n h = by (piece_number current r n h)
   where
     by : (n ≡ 10) ⊎ (n ≡ 11) ⊎ (n ≡ 12) → n ≤ 12
     by (inl e) = omega (arith, e)
@@ -42,7 +43,7 @@ module _ (place : ℕ) (word : Text) (r : Record) where
   Held = HoldsAgainstEntry place (word ∷ r)
 
   -- a number that is low enough and below those against the number and the piece is below all
-  below_all : (n : ℕ) → n ≤ 54 → ((m : ℕ) → IsAgainst id_field word m → n ≤ m) → ((m : ℕ) → HoldsAgainstPiece (shown r) m → n ≤ m) → (m : ℕ) → Held m → n ≤ m
+  below_all : (n : ℕ) → n ≤ 54 → ((m : ℕ) → IsAgainst id_field word m → n ≤ m) → ((m : ℕ) → HoldsAgainstPiece current (shown r) m → n ≤ m) → (m : ℕ) → Held m → n ≤ m
   below_all n low one two m (inl h) = one m h
   below_all n low one two m (inr (inl h)) = two m h
   below_all n low one two m (inr (inr (inl h))) = omega (arith, low, h.0)
@@ -52,13 +53,13 @@ module _ (place : ℕ) (word : Text) (r : Record) where
   same_or_less : (a n m : ℕ) → n ≤ a → m ≡ a → n ≤ m
   same_or_less a n m h e = omega (arith, h, e)
 
-  pub number_first : (a b : ℕ) → IsAgainst id_field word a → IsLeast (HoldsAgainstPiece (shown r)) b → a ≤ b → IsLeast Held a
+  pub number_first : (a b : ℕ) → IsAgainst id_field word a → IsLeast (HoldsAgainstPiece current (shown r)) b → a ≤ b → IsLeast Held a
   number_first a b h l le = record {
     is_held = inl h;
     is_least = below_all a (omega (arith, low_number word a h)) (λ m k. same_or_less a a m (omega arith) (one_against id_field word m a k h)) (λ m k. omega (arith, le, l.is_least m k));
   }
 
-  pub piece_first : (a b : ℕ) → IsAgainst id_field word a → IsLeast (HoldsAgainstPiece (shown r)) b → b ≤ a → IsLeast Held b
+  pub piece_first : (a b : ℕ) → IsAgainst id_field word a → IsLeast (HoldsAgainstPiece current (shown r)) b → b ≤ a → IsLeast Held b
   piece_first a b h l le = record {
     is_held = inr (inl l.is_held);
     is_least = below_all b (omega (arith, low_piece (shown r) b l.is_held)) (λ m k. same_or_less a b m le (one_against id_field word m a k h)) l.is_least;
@@ -68,14 +69,14 @@ module _ (place : ℕ) (word : Text) (r : Record) where
     number_free : (m : ℕ) → IsAgainst id_field word m → ⊥
     number_free m h = not_against id_field word (Whole z) m (spells, (low, high)) h
 
-    pub piece_alone : (b : ℕ) → IsLeast (HoldsAgainstPiece (shown r)) b → IsLeast Held b
+    pub piece_alone : (b : ℕ) → IsLeast (HoldsAgainstPiece current (shown r)) b → IsLeast Held b
     piece_alone b l = record { is_held = inr (inl l.is_held); is_least = below_all b (omega (arith, low_piece (shown r) b l.is_held)) (λ m k. absurd (number_free m k)) l.is_least }
 
-    module _ (q : Piece) (is : SpellsPiece (shown r) q) where
+    module _ (q : Piece) (is : SpellsPiece current (shown r) q) where
       pub placed_least : (n : ℕ) → IsPlaced place z (file_of r) (Err n) → IsLeast Held n
       placed_least n (inl h) = record {
         is_held = inr (inr (inl h));
-        is_least = below_all n (omega (arith, h.0)) (λ m k. absurd (number_free m k)) (λ m k. absurd (none_against_piece (shown r) q m is k));
+        is_least = below_all n (omega (arith, h.0)) (λ m k. absurd (number_free m k)) (λ m k. absurd (none_against_piece current (shown r) q m is k));
       }
       placed_least n (inr (inl h)) = record {
         is_held = inr (inr (inr (inl (h.0, λ s. h.2 (spells_one word z (pos place) spells s)))));
@@ -84,7 +85,7 @@ module _ (place : ℕ) (word : Text) (r : Record) where
         where
           least : (m : ℕ) → Held m → n ≤ m
           least m (inl k) = absurd (number_free m k)
-          least m (inr (inl k)) = absurd (none_against_piece (shown r) q m is k)
+          least m (inr (inl k)) = absurd (none_against_piece current (shown r) q m is k)
           least m (inr (inr (inl k))) = absurd (omega (arith, k.1, h.1))
           least m (inr (inr (inr (inl k)))) = omega (arith, h.0, k.0)
           least m (inr (inr (inr (inr k)))) = omega (arith, h.0, k.0)
@@ -95,7 +96,7 @@ module _ (place : ℕ) (word : Text) (r : Record) where
         where
           least : (m : ℕ) → Held m → n ≤ m
           least m (inl k) = absurd (number_free m k)
-          least m (inr (inl k)) = absurd (none_against_piece (shown r) q m is k)
+          least m (inr (inl k)) = absurd (none_against_piece current (shown r) q m is k)
           least m (inr (inr (inl k))) = absurd (omega (arith, k.1, h.1))
           least m (inr (inr (inr (inl k)))) = absurd (k.1 (subst (Spells word) h.2 spells))
           least m (inr (inr (inr (inr k)))) = omega (arith, h.0, k.0)
@@ -103,14 +104,14 @@ module _ (place : ℕ) (word : Text) (r : Record) where
       pub placed_entry : (file : Option Text) → IsPlaced place z (file_of r) (Ok file) → IsEntry place (word ∷ r) (entry_of q file)
       placed_entry file h = (subst (Spells word) h.1 spells, h.0, h.3, q, is, ap (entry_of q) h.2)
 
-  pub number_alone : (a : ℕ) (q : Piece) → IsAgainst id_field word a → SpellsPiece (shown r) q → IsLeast Held a
+  pub number_alone : (a : ℕ) (q : Piece) → IsAgainst id_field word a → SpellsPiece current (shown r) q → IsLeast Held a
   number_alone a q h is = record {
     is_held = inl h;
-    is_least = below_all a (omega (arith, low_number word a h)) (λ m k. same_or_less a a m (omega arith) (one_against id_field word m a k h)) (λ m k. absurd (none_against_piece (shown r) q m is k));
+    is_least = below_all a (omega (arith, low_number word a h)) (λ m k. same_or_less a a m (omega arith) (one_against id_field word m a k h)) (λ m k. absurd (none_against_piece current (shown r) q m is k));
   }
 
   -- whose number is refused
-  pub number_refused : (n : ℕ) (piece : Result Piece ReadFault) → IsAgainst id_field word n → ReadsTo (SpellsPiece (shown r)) (IsLeast (HoldsAgainstPiece (shown r))) piece
+  pub number_refused : (n : ℕ) (piece : Result Piece ReadFault) → IsAgainst id_field word n → ReadsTo (SpellsPiece current (shown r)) (IsLeast (HoldsAgainstPiece current (shown r))) piece
       → ReadsTo {A = Entry} (IsEntry place (word ∷ r)) (IsLeast Held) (Err (least_fault n piece))
   number_refused n (Ok q) h reads = (refl, number_alone n q h reads)
   number_refused n (Err faults.Memory) h reads = tt
@@ -125,7 +126,7 @@ module _ (place : ℕ) (word : Text) (r : Record) where
 
   -- whose number is read
   module _ (z : ℤ) (spells : Spells word z) (low : pos 1 ≤ℤ z) (high : z ≤ℤ pos 9007199254740992) where
-    pub piece_refused : (fault : ReadFault) → ReadsTo (SpellsPiece (shown r)) (IsLeast (HoldsAgainstPiece (shown r))) (Err fault) → ReadsTo {A = Entry} (IsEntry place (word ∷ r)) (IsLeast Held) (Err fault)
+    pub piece_refused : (fault : ReadFault) → ReadsTo (SpellsPiece current (shown r)) (IsLeast (HoldsAgainstPiece current (shown r))) (Err fault) → ReadsTo {A = Entry} (IsEntry place (word ∷ r)) (IsLeast Held) (Err fault)
     piece_refused faults.Memory reads = tt
     piece_refused (faults.Refused why) reads = (reads.0, piece_alone z spells low high why.number reads.1)
 

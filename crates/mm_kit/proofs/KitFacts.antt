@@ -2,7 +2,7 @@
 use Rattle.std.proofs.Common.{◌≡◌, ◌∙◌, ◌⊎◌, inl, inr, ℕ, ◌≤◌, ◌<◌, ◌+◌, List, length, Option, Some, None, Result, Ok, Err, refl, sym, ap, arith}
 use Rattle.std.proofs.Math.Nat.{max-eq_left}
 use Rattle.std.specs.FinMap.{get}
-use Rattle.mm_base.specs.Bounds.{millimetres}
+use Rattle.mm_base.specs.Bounds.{current}
 use Rattle.mm_base.specs.Keys.{Text}
 use Rattle.mm_base.specs.Package.{Package, published_state}
 use Rattle.mm_base.specs.Rules.{Meets}
@@ -34,7 +34,7 @@ pub as_it_was : (name : Text) (p : Package) → IsCounted 0 name p p
 as_it_was name p old has = (old, has, inl (sym (max-eq_left (zero_le (length old)))))
 
 -- each edition is absent, open or published
-pub some_edition : (p : Package) (name : Text) → Meets millimetres p → (edition : Option Edition) × IsEdition p name edition
+pub some_edition : (p : Package) (name : Text) → Meets current p → (edition : Option Edition) × IsEdition p name edition
 some_edition p name meets = by (get p.editions name) refl
   where
     by : (v : Option Text) → get p.editions name ≡ v → (edition : Option Edition) × IsEdition p name edition
@@ -84,10 +84,10 @@ module _ (files : Files) (name : Text) (p : Package) where
       let (q, stands, meets, grows, counted) = left db may in
       (q, stands, meets, along (Ok entries) read q grows, counted)
 
-  pub stopped_at_once : {D : Type 0} (may_leave : D → Type 0) (stands_for : D → Package → Type 0) → Meets millimetres p → ((db : D) → may_leave db → stands_for db p) → IsStopped files name p may_leave stands_for 0
+  pub stopped_at_once : {D : Type 0} (may_leave : D → Type 0) (stands_for : D → Package → Type 0) → Meets current p → ((db : D) → may_leave db → stands_for db p) → IsStopped files name p may_leave stands_for 0
   stopped_at_once may_leave stands_for meets left db may = (p, left db may, meets, inl refl, as_it_was name p)
 
-  pub staged_at_once : {D : Type 0} (entries : List Entry) (may_leave : D → Type 0) (stands_for : D → Package → Type 0) → Meets millimetres p → ((db : D) → may_leave db → stands_for db p) → MayBeStaged files name entries p may_leave stands_for 0
+  pub staged_at_once : {D : Type 0} (entries : List Entry) (may_leave : D → Type 0) (stands_for : D → Package → Type 0) → Meets current p → ((db : D) → may_leave db → stands_for db p) → MayBeStaged files name entries p may_leave stands_for 0
   staged_at_once entries may_leave stands_for meets left db may = (p, left db may, meets, inl refl, as_it_was name p)
 
   -- ---- the import of the entries, by how the edition stands

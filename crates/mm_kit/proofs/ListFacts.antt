@@ -1,4 +1,5 @@
 -- The entries of a list, record by record.
+use Rattle.mm_base.specs.Bounds.{current}
 use Rattle.std.proofs.Common.{◌≡◌, ◌∙◌, ◌≤◌, ◌+◌, ◌++◌, ℕ, List, [], ◌∷◌, take, drop, length, Option, Some, None, Ok, Err, true, false, refl, sym, ap, subst, arith, length-append, append_assoc}
 use Rattle.std.specs.Prelude.{⊤}
 use Rattle.std.proofs.lemmas.List.{take-append-drop}
@@ -19,7 +20,7 @@ use Rattle.mm_kit.specs.declared.entries.Entry.{Entry}
 
 -- ---- entries are few, and within the limits
 
-of_within : (q : Piece) (file : Option Text) → IsPieceWithin q → IsEntryWithin (entry_of q file)
+of_within : (q : Piece) (file : Option Text) → IsPieceWithin current q → IsEntryWithin (entry_of q file)
 of_within (pieces.Tile table zoom column row bytes) None h = h
 of_within (pieces.Tile table zoom column row bytes) (Some file) h = (h.0, h.1, h.2, h.3)
 of_within (pieces.TileDrop table zoom column row) file h = h
@@ -30,6 +31,7 @@ of_within (pieces.Media table id content_type bytes) (Some file) h = (h.0, h.1, 
 of_within (pieces.MediaDrop table id) file h = h
 of_within (pieces.Map mapping base_id related_id) file h = h
 of_within (pieces.MapDrop mapping base_id related_id) file h = h
+of_within (pieces.Matrix table zoom m) file h = h
 
 entry_within : (place : ℕ) (r : Record) (e : Entry) → IsEntry place r e → IsEntryWithin e
 entry_within place [] e h = absurd h

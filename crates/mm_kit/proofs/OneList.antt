@@ -1,7 +1,7 @@
 -- A folder has one list.
 use Rattle.std.proofs.Common.{◌≡◌, ◌∙◌, ◌⊎◌, inl, inr, ◌≤◌, ◌+◌, ◌++◌, ℕ, pos, List, [], ◌∷◌, length, Option, Some, None, Result, Ok, Err, refl, sym, ap, subst, arith}
 use Rattle.std.proofs.lemmas.Int.{ints}
-use Rattle.mm_base.specs.Bounds.{IsId}
+use Rattle.mm_base.specs.Bounds.{current, IsId}
 use Rattle.mm_base.specs.Fields.{Whole}
 use Rattle.mm_base.specs.Records.{id_field}
 use Rattle.mm_base.proofs.ReadingFacts.{not_against}
@@ -15,7 +15,7 @@ use Rattle.mm_kit.specs.declared.entries.Entry.{Entry}
 
 one_entry : (place : ℕ) (r : Record) (a b : Entry) → IsEntry place r a → IsEntry place r b → a ≡ b
 one_entry place [] a b h k = absurd h
-one_entry place (number ∷ r) a b h k = h.5 ∙ ap (λ q. entry_of q (file_of r)) (one_piece (shown r) h.3 k.3 h.4 k.4) ∙ sym k.5
+one_entry place (number ∷ r) a b h k = h.5 ∙ ap (λ q. entry_of q (file_of r)) (one_piece current (shown r) h.3 k.3 h.4 k.4) ∙ sym k.5
 
 in_range : (place : ℕ) → 1 ≤ place → place ≤ 4096 → IsId (pos place)
 in_range place a b = (omega (arith, ints, a), omega (arith, ints, b))
@@ -24,7 +24,7 @@ in_range place a b = (omega (arith, ints, a), omega (arith, ints, b))
 none_against : (place : ℕ) (r : Record) (e : Entry) (n : ℕ) → 1 ≤ place → IsEntry place r e → HoldsAgainstEntry place r n → ⊥
 none_against place [] e n low h k = h
 none_against place (number ∷ r) e n low h (inl k) = not_against id_field number (Whole (pos place)) n (h.0, in_range place low h.1) k
-none_against place (number ∷ r) e n low h (inr (inl k)) = none_against_piece (shown r) h.3 n h.4 k
+none_against place (number ∷ r) e n low h (inr (inl k)) = none_against_piece current (shown r) h.3 n h.4 k
 none_against place (number ∷ r) e n low h (inr (inr (inl k))) = absurd (omega (arith, k.1, h.1))
 none_against place (number ∷ r) e n low h (inr (inr (inr (inl k)))) = k.1 h.0
 none_against place (number ∷ r) e n low h (inr (inr (inr (inr k)))) = k.1 h.2

@@ -7,7 +7,7 @@ use Rattle.std.proofs.Math.Nat.{max-eq_left, max-eq_right}
 use Rattle.std.proofs.Math.Dec.{leb}
 use Rattle.std.proofs.lemmas.Bool.Decides.{leb_tells}
 use Rattle.std.specs.FinMap.{get, insert, contains_key}
-use Rattle.mm_base.specs.Bounds.{IsFrom, IsId, millimetres}
+use Rattle.mm_base.specs.Bounds.{IsFrom, IsId, current}
 use Rattle.mm_base.specs.Keys.{Text, PieceKey, piece}
 use Rattle.mm_base.specs.Package.{Package, PieceRow}
 use Rattle.mm_base.specs.Parts.{Stands}
@@ -128,7 +128,7 @@ has_one p name a b h k =
 -- ---- staging beside the pieces that stand
 
 -- so many at most, by the rules
-pub few : (p : Package) (name : Text) (list : List Piece) → Meets millimetres p → HasPieces p name list → length list ≤ 4096
+pub few : (p : Package) (name : Text) (list : List Piece) → Meets current p → HasPieces p name list → length list ≤ 4096
 few p name list meets h =
     let it = meets.q15.numbered name h.is_open in
     let same : length list ≡ it.0 = sym (piece_count-is p name (length list) h.numbers) ∙ piece_count-is p name it.0 it.2 in
@@ -143,7 +143,7 @@ at_most n h = omega (arith, ints, h)
 past_last : (n : ℕ) → pos (n + 1) ≤ℤ pos n → ⊥
 past_last n h = omega (arith, ints, h)
 
-module _ (p : Package) (name : Text) (list : List Piece) (meets : Meets millimetres p) (h : HasPieces p name list) (x : Piece) where
+module _ (p : Package) (name : Text) (list : List Piece) (meets : Meets current p) (h : HasPieces p name list) (x : Piece) where
   gone : get p.pieces (piece name (pos (length list + 1))) ≡ None
   gone = by (get p.pieces (piece name (pos (length list + 1)))) refl
     where
@@ -258,7 +258,7 @@ same_or_other x y = by (same_piece (piece_row x) (piece_row y)) refl
     by true e = inl (same_piece_of x y (same_row (piece_row x) (piece_row y) e), ap (λ b. if b then None else Some 52) e)
     by false e = inr (λ s. let f : true ≡ false = sym (row_itself (piece_row x)) ∙ ap (same_piece (piece_row x)) s ∙ e in cc, ap (λ b. if b then None else Some 52) e)
 
-module _ (name : Text) (p q : Package) (old done : List Piece) (before : HasPieces p name old) (meets : Meets millimetres q) (x : Piece) where
+module _ (name : Text) (p q : Package) (old done : List Piece) (before : HasPieces p name old) (meets : Meets current q) (x : Piece) where
   abbrev c : Command
   c = commands.Stage name (pos (length done + 1)) x
 
@@ -331,7 +331,7 @@ so_far-none files name entries p old = record {
 }
 
 module _ (files : Files) (name : Text) (entries : List Entry) (p : Package) (old : List Piece) (before : HasPieces p name old) where
-  pub so_far-more : (left : List Entry) (e : Entry) (x : Piece) (k : ℕ) (q : Package) → IsSoFar files name entries (e ∷ left) p old k q → filled files e ≡ Ok x → k < 4096 → Meets millimetres q
+  pub so_far-more : (left : List Entry) (e : Entry) (x : Piece) (k : ℕ) (q : Package) → IsSoFar files name entries (e ∷ left) p old k q → filled files e ≡ Ok x → k < 4096 → Meets current q
       → (moment : ℕ) → refusal q (commands.Stage name (pos (k + 1)) x) ≡ None → IsSoFar files name entries left p old (k + 1) (step q (commands.Stage name (pos (k + 1)) x) moment)
   unfolding first_number kit_pieces
   so_far-more left e x k q s full less meets moment ok =
@@ -379,7 +379,7 @@ module _ (files : Files) (name : Text) (entries : List Entry) (p : Package) (old
       by new all (inl it) = inl (all ∙ max-eq_left it.1 ∙ sym (max-eq_left (omega (arith, it.1))))
 
   -- ---- the answers
-  pub number_refused : (left : List Entry) (e : Entry) (x : Piece) (k : ℕ) (q : Package) → IsSoFar files name entries (e ∷ left) p old k q → filled files e ≡ Ok x → k < 4096 → Meets millimetres q
+  pub number_refused : (left : List Entry) (e : Entry) (x : Piece) (k : ℕ) (q : Package) → IsSoFar files name entries (e ∷ left) p old k q → filled files e ≡ Ok x → k < 4096 → Meets current q
       → (why : Refusal) → refusal q (commands.Stage name (pos (k + 1)) x) ≡ Some why → (first_number (against files old) 1 entries ≡ Some (k + 1, why.number)) × (why.number ≡ 52)
   unfolding first_number
   number_refused left e x k q s full less meets why bad =
@@ -418,10 +418,10 @@ module _ (files : Files) (name : Text) (entries : List Entry) (p : Package) (old
       (s.answer, record { whole = s.whole; pieces = subst (HasPieces q name) (sym kit) (all_staged s.done q s.passed (omega (arith, s.count, most))); count = ap length kit ∙ s.count })
 
   -- ---- a command in doubt
-  pub left_in_doubt : {D : Type 0} (stands_for : D → Package → Type 0) (db : D) (left : List Entry) (e : Entry) (x : Piece) (k : ℕ) (q : Package) → IsSoFar files name entries (e ∷ left) p old k q → filled files e ≡ Ok x → k < 4096 → Meets millimetres q
-      → (moment : ℕ) → Meets millimetres (step q (commands.Stage name (pos (k + 1)) x) moment)
+  pub left_in_doubt : {D : Type 0} (stands_for : D → Package → Type 0) (db : D) (left : List Entry) (e : Entry) (x : Piece) (k : ℕ) (q : Package) → IsSoFar files name entries (e ∷ left) p old k q → filled files e ≡ Ok x → k < 4096 → Meets current q
+      → (moment : ℕ) → Meets current (step q (commands.Stage name (pos (k + 1)) x) moment)
       → stands_for db q ⊎ ((refusal q (commands.Stage name (pos (k + 1)) x) ≡ None) × stands_for db (step q (commands.Stage name (pos (k + 1)) x) moment))
-      → (r : Package) × stands_for db r × Meets millimetres r × OnlyGrows name (kit_pieces files entries) p r × IsCounted k name p r
+      → (r : Package) × stands_for db r × Meets current r × OnlyGrows name (kit_pieces files entries) p r × IsCounted k name p r
   left_in_doubt stands_for db left e x k q s full less meets moment next_meets (inl stands) = (q, stands, meets, grows (e ∷ left) k q s, counted (e ∷ left) k q s)
   left_in_doubt stands_for db left e x k q s full less meets moment next_meets (inr (good, stands)) =
       let next = so_far-more left e x k q s full less meets moment good in

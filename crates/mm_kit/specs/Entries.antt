@@ -1,5 +1,6 @@
 -- A record of a kit's list: its number, and the record of a piece, in which the last field of a tile or a media item is the
 -- name of the file that holds the bytes.
+use Rattle.mm_base.specs.Bounds.{current}
 use Rattle.std.specs.Prelude.{◌≡◌, ◌≢◌, ◌⊎◌, ◌≤◌, ◌<◌, ◌-◌, ℕ, ℤ, pos, Bool, false, ◌||◌, length, take, get_or, if◌then◌else◌, [], ◌∷◌, ◌++◌, Option, Some, None, Result, Ok, Err, codes, bytes_eq, nat_lt, ⊤}
 use Rattle.std.specs.Borrow.{Bor}
 use Rattle.csv.specs.Records.{AllText}
@@ -42,14 +43,14 @@ IsInForm (Some name) = IsFileName name
 -- the record at this place of the list is this entry
 abbrev pub IsEntry : ℕ → Record → Entry → Type 0
 IsEntry place [] e = ⊥
-IsEntry place (number ∷ r) e = Spells number (pos place) × (place ≤ 4096) × IsInForm (file_of r) × (q : Piece) × SpellsPiece (shown r) q × (e ≡ entry_of q (file_of r))
+IsEntry place (number ∷ r) e = Spells number (pos place) × (place ≤ 4096) × IsInForm (file_of r) × (q : Piece) × SpellsPiece current (shown r) q × (e ≡ entry_of q (file_of r))
 
 -- The numbers against the record at this place: 10 to 12 as against every record of a piece, 54 where there are too many
 -- records, 56 where its number isn't its place, 57 where the file's name is out of form.
 abbrev pub HoldsAgainstEntry : ℕ → Record → ℕ → Type 0
 HoldsAgainstEntry place [] n = n ≡ 10
 HoldsAgainstEntry place (number ∷ r) n =
-    IsAgainst id_field number n ⊎ HoldsAgainstPiece (shown r) n ⊎ ((n ≡ 54) × (4096 < place)) ⊎ ((n ≡ 56) × ¬ (Spells number (pos place))) ⊎ ((n ≡ 57) × ¬ (IsInForm (file_of r)))
+    IsAgainst id_field number n ⊎ HoldsAgainstPiece current (shown r) n ⊎ ((n ≡ 54) × (4096 < place)) ⊎ ((n ≡ 56) × ¬ (Spells number (pos place))) ⊎ ((n ≡ 57) × ¬ (IsInForm (file_of r)))
 
 -- The entry, or the least number that is against the record. One with a field that isn't text is refused 10.
 abbrev pub IsReadAs : ℕ → Record → Result Entry ℕ → Type 0

@@ -4,7 +4,7 @@ use Rattle.std.specs.FinMap.{get}
 use Rattle.mm_base.specs.Keys.{Text, PieceKey}
 use Rattle.mm_base.specs.Package.{Package}
 use Rattle.mm_base.specs.Rules.{Meets}
-use Rattle.mm_base.specs.Bounds.{millimetres}
+use Rattle.mm_base.specs.Bounds.{current}
 use Rattle.mm_base.specs.declared.commands.Piece.{Piece}
 use Rattle.mm_base.specs.declared.answers.Staged.{Staged}
 use Rattle.mm_base.specs.declared.answers.Staged.TheVariants.{Complete, Refused}
@@ -83,7 +83,7 @@ GrowsAlong files name p q = (q ≡ p) ⊎ ((list : Result (List Entry) (ℕ × �
 -- each database that may be left stands for such a package, which meets the rules
 abbrev pub IsStopped : {D : Type 0} → Files → Text → Package → (D → Type 0) → (D → Package → Type 0) → ℕ → Type 0
 IsStopped {D} files name p may_leave stands_for s =
-    (db : D) → may_leave db → (q : Package) × stands_for db q × Meets millimetres q × GrowsAlong files name p q × IsCounted s name p q
+    (db : D) → may_leave db → (q : Package) × stands_for db q × Meets current q × GrowsAlong files name p q × IsCounted s name p q
 
 -- ---- what is promised where
 
@@ -125,7 +125,7 @@ pub record AreStaged (files : Files) (name : Text) (entries : List Entry) (p : P
 
 abbrev pub MayBeStaged : {D : Type 0} → Files → Text → List Entry → Package → (D → Type 0) → (D → Package → Type 0) → ℕ → Type 0
 MayBeStaged {D} files name entries p may_leave stands_for s =
-    (db : D) → may_leave db → (q : Package) × stands_for db q × Meets millimetres q × OnlyGrows name (kit_pieces files entries) p q × IsCounted s name p q
+    (db : D) → may_leave db → (q : Package) × stands_for db q × Meets current q × OnlyGrows name (kit_pieces files entries) p q × IsCounted s name p q
 
 -- what the import of the entries comes to
 pub record AreImported (files : Files) (name : Text) (entries : List Entry) (p : Package) (settled : Package → Type 0) (answer : Staged) : Type 0 where

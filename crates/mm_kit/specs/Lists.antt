@@ -5,7 +5,7 @@ use Rattle.csv.specs.declared.parser.State.{State}
 use Rattle.csv.specs.declared.parser.State.TheVariants as states
 use Rattle.mm_base.specs.declared.answers.ReadFault.{ReadFault}
 use Rattle.mm_base.specs.declared.answers.ReadFault.TheVariants as faults
-use Rattle.mm_base.specs.Bounds.{IsName, IsZoom, IsTilePlace, IsId, IsContentType}
+use Rattle.mm_base.specs.Bounds.{current, IsName, IsZoom, IsTilePlace, IsId, IsContentType}
 use Rattle.mm_base.specs.Within.{IsPieceWithin}
 use Rattle.mm_lines.specs.Records.{Record, records_of}
 use Rattle.mm_kit.specs.Entries.{IsReadAs}
@@ -58,7 +58,7 @@ IsRead place r (Err faults.Memory) = ⊤
 
 -- an entry within the limits, but for the bytes of its file
 abbrev pub IsEntryWithin : Entry → Type 0
-IsEntryWithin (Ready q) = IsPieceWithin q
+IsEntryWithin (Ready q) = IsPieceWithin current q
 IsEntryWithin (Tile table zoom column row file) = IsName table × IsZoom (pos zoom) × IsTilePlace (pos column) × IsTilePlace (pos row)
 IsEntryWithin (Media table id content_type file) = IsName table × IsId id × IsContentType content_type
 

@@ -1,7 +1,7 @@
 //! What a kit is imported on.
 
 ghost use Rattle.std.specs.Prelude.{◌≡◌, ◌⊎◌, Err, IfOk, IfErr, false, true};
-ghost use Rattle.mm_base.specs.Bounds.{millimetres};
+ghost use Rattle.mm_base.specs.Bounds.{current};
 ghost use Rattle.mm_base.specs.Package.{Package};
 ghost use Rattle.mm_base.specs.Rules.{Meets};
 ghost use Rattle.mm_edition.specs.States.{TellsState};
@@ -19,6 +19,6 @@ pub trait Desk: Apply {
         ensures faults { Self.has_failed self.old ≡ false → IfErr result (λ fault. (fault.0 ≡ 90) ⊎ (fault.0 ≡ 91)) }
         ensures same { Self.has_failed self.new ≡ Self.has_failed self.old }
         ensures clean { Self.is_clean self.new → Self.is_clean self.old }
-        ensures settled { Self.is_clean self.new → (p : Package) → Self.settled self.old p → Meets millimetres p → Self.settled self.new p }
-        ensures tells { IfOk result (λ found. Self.is_clean self.new → (p : Package) → Self.settled self.old p → Meets millimetres p → TellsState p name.now found) };
+        ensures settled { Self.is_clean self.new → (p : Package) → Self.settled self.old p → Meets current p → Self.settled self.new p }
+        ensures tells { IfOk result (λ found. Self.is_clean self.new → (p : Package) → Self.settled self.old p → Meets current p → TellsState p name.now found) };
 }

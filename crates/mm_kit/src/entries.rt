@@ -12,6 +12,7 @@ use crate::file_names::FileName;
 use mm_base::answers::ReadFault;
 use mm_base::commands::Piece;
 use mm_base::content_types::ContentType;
+use mm_base::limits::LAST_ID;
 use mm_base::names::Name;
 use mm_base::numbers::read_number;
 use mm_records::read_piece;
@@ -149,7 +150,7 @@ fn read_record(alloc: Global, place: u32, number: &str, rest: Vec<&str>) -> Resu
         return Err(ReadFault::Memory);
     };
     let piece = read_piece(alloc, fields.as_slice());
-    match read_number(number, 1, 9_007_199_254_740_992) {
+    match read_number(number, 1, LAST_ID) {
         Ok(number) => match piece {
             Ok(piece) => match place_record(place, number, file) {
                 Ok(file) => Ok(place_entry(piece, file)),

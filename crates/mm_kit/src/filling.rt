@@ -1,5 +1,6 @@
 //! A piece with the bytes of its file.
 
+ghost use Rattle.mm_base.specs.Bounds.{current};
 ghost use Rattle.std.specs.Prelude.{◌≡◌, ◌≤◌, List, Option, IfOk, IfErr, IfSome, ℕ, true};
 ghost use Rattle.mm_kit.specs.Folders.{Files};
 ghost use Rattle.mm_kit.specs.Kits.{filled, made, with_file};
@@ -44,7 +45,7 @@ pub(crate) fn fill<F: Folder>(
     entry: Entry,
 ) -> Result<Result<Piece, u8>, FolderFault>
     ensures fills { IfOk result (λ r. IfSome (F.files folder.old) (λ these. r ≡ filled these entry)) }
-    ensures within { IfOk result (λ r. IfOk r (λ piece. IsEntryWithin entry → IsPieceWithin piece)) }
+    ensures within { IfOk result (λ r. IfOk r (λ piece. IsEntryWithin entry → IsPieceWithin current piece)) }
     ensures stays { F.files folder.new ≡ F.files folder.old }
     ensures fails { IfErr result (λ e. e ≡ folder_fault.Failed → F.has_failed folder.new ≡ true) }
 {

@@ -3,7 +3,7 @@
 ghost use Rattle.std.specs.Prelude.{◌≡◌, ◌⊎◌, IfOk, IfErr, true};
 ghost use Rattle.sqlite.specs.Held.{state};
 ghost use Rattle.sqlite.specs.State.{HasCleanDisk};
-ghost use Rattle.mm_base.specs.Bounds.{millimetres};
+ghost use Rattle.mm_base.specs.Bounds.{current};
 ghost use Rattle.mm_store.specs.Stands.{IsSettled};
 ghost use Rattle.mm_core.specs.Applied.{Stands};
 ghost use Rattle.mm_core.specs.Parts.{held, has_failed};
@@ -47,11 +47,11 @@ pub fn import_kit<S: Alter, F: Folder>(
     ensures clean { HasCleanDisk (state S.Store (held session.new)) → HasCleanDisk (state S.Store (held session.old)) }
 
     // The answer is that of the kit on the package, and the session is settled for one whose edition has grown along the kit.
-    ensures answered { IfOk result (λ a. OnKit (HasCleanDisk (state S.Store (held session.new))) (λ p. IsSettled millimetres (state S.Store (held session.old)) p) (F.files folder.old)
-        (λ files p. IsAnswered files name.now p (λ q. IsSettled millimetres (state S.Store (held session.new)) q) a)) }
+    ensures answered { IfOk result (λ a. OnKit (HasCleanDisk (state S.Store (held session.new))) (λ p. IsSettled current (state S.Store (held session.old)) p) (F.files folder.old)
+        (λ files p. IsAnswered files name.now p (λ q. IsSettled current (state S.Store (held session.new)) q) a)) }
 
     // With a fault each database that may be left stands for such a package, with as many pieces as were answered ok, or one more.
-    ensures stopped { IfErr result (λ e. OnKit (HasCleanDisk (state S.Store (held session.new))) (λ p. IsSettled millimetres (state S.Store (held session.old)) p) (F.files folder.old)
+    ensures stopped { IfErr result (λ e. OnKit (HasCleanDisk (state S.Store (held session.new))) (λ p. IsSettled current (state S.Store (held session.old)) p) (F.files folder.old)
         (λ files p. IsStopped files name.now p (λ db. (state S.Store (held session.new)).may_leave db) Stands e.staged)) }
 
     // A session that has to be opened again is left as it was, and 92 comes only there.

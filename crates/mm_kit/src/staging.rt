@@ -1,7 +1,7 @@
 //! The staging of a kit's pieces, one after another.
 
 ghost use Rattle.std.specs.Prelude.{◌≡◌, ◌≢◌, ◌≤◌, ◌⊎◌, List, length, pos, IfOk, IfErr, false, true};
-ghost use Rattle.mm_base.specs.Bounds.{IsMoment, IsName, millimetres};
+ghost use Rattle.mm_base.specs.Bounds.{IsMoment, IsName, current};
 ghost use Rattle.mm_base.specs.Package.{Package};
 ghost use Rattle.mm_base.specs.Rules.{Meets};
 ghost use Rattle.mm_base.specs.Within.{IsWithin};
@@ -63,7 +63,7 @@ fn stage_piece<A: Apply>(
     ensures working { A.has_failed desk.old ≡ false → OnFault result (λ fault. fault ≢ 92) }
     ensures fails { A.has_failed desk.old ≡ false → A.has_failed desk.new ≡ is_fault result }
     ensures clean { A.is_clean desk.new → A.is_clean desk.old }
-    ensures applied { A.is_clean desk.new → (p : Package) → A.settled desk.old p → Meets millimetres p → IsWithin millimetres (commands.Stage edition.now (pos number) piece)
+    ensures applied { A.is_clean desk.new → (p : Package) → A.settled desk.old p → Meets current p → IsWithin current (commands.Stage edition.now (pos number) piece)
         → IsApplied p (commands.Stage edition.now (pos number) piece) at result (A.settled desk.new) (A.may_leave desk.new) A.stands_for }
 {
     // The proof reads from this that the moment is within its limits.

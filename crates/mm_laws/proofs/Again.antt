@@ -84,6 +84,7 @@ same_reasons (pieces.Media table id content_type bytes) p = refl
 same_reasons (pieces.MediaDrop table id) p = refl
 same_reasons (pieces.Map mapping base_id related_id) p = refl
 same_reasons (pieces.MapDrop mapping base_id related_id) p = refl
+same_reasons (pieces.Matrix table zoom m) p = refl
 
 pub same_effect : (q : Piece) (p : Package) (stamp : Text) → effect p (piece_command q) stamp ≡ piece_effect p q stamp
 same_effect (pieces.Tile table zoom column row bytes) p stamp = refl
@@ -94,8 +95,9 @@ same_effect (pieces.Media table id content_type bytes) p stamp = refl
 same_effect (pieces.MediaDrop table id) p stamp = refl
 same_effect (pieces.Map mapping base_id related_id) p stamp = refl
 same_effect (pieces.MapDrop mapping base_id related_id) p stamp = refl
+same_effect (pieces.Matrix table zoom m) p stamp = refl
 
-pub same_limits : (q : Piece) (profile : Profile) → IsWithin profile (piece_command q) ↔ IsPieceWithin q
+pub same_limits : (q : Piece) (profile : Profile) → IsWithin profile (piece_command q) ↔ IsPieceWithin profile q
 same_limits (pieces.Tile table zoom column row bytes) profile = (λ h. h, λ h. h)
 same_limits (pieces.TileDrop table zoom column row) profile = (λ h. h, λ h. h)
 same_limits (pieces.Row table id title note amount) profile = (λ h. h, λ h. h)
@@ -104,3 +106,4 @@ same_limits (pieces.Media table id content_type bytes) profile = (λ h. h, λ h.
 same_limits (pieces.MediaDrop table id) profile = (λ h. h, λ h. h)
 same_limits (pieces.Map mapping base_id related_id) profile = (λ h. h, λ h. h)
 same_limits (pieces.MapDrop mapping base_id related_id) profile = (λ h. h, λ h. h)
+same_limits (pieces.Matrix table zoom m) profile = (λ h. h, λ h. h)

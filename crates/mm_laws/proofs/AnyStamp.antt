@@ -62,6 +62,7 @@ effect_alike (pieces.Media table id content_type bytes) q c s r same = touched_a
 effect_alike (pieces.MediaDrop table id) q c s r same = touched_alike _ c table s r same
 effect_alike (pieces.Map mapping base_id related_id) q c s r same = record { contents = c; is = refl; keys = same }
 effect_alike (pieces.MapDrop mapping base_id related_id) q c s r same = record { contents = c; is = refl; keys = same }
+effect_alike (pieces.Matrix table zoom m) q c s r same = touched_alike _ c table s r same
 
 reasons_alike : (x : Piece) (q : Package) (c : ContentsPart) → SameKeys c q.contents → piece_reasons (with_contents q c) x ≡ piece_reasons q x
 reasons_alike (pieces.Tile table zoom column row bytes) q c same = let e = same table in cc
@@ -72,6 +73,7 @@ reasons_alike (pieces.Media table id content_type bytes) q c same = let e = same
 reasons_alike (pieces.MediaDrop table id) q c same = let e = same table in cc
 reasons_alike (pieces.Map mapping base_id related_id) q c same = refl
 reasons_alike (pieces.MapDrop mapping base_id related_id) q c same = refl
+reasons_alike (pieces.Matrix table zoom m) q c same = let e = same table in cc
 
 by_answer : (p q : Package) (number : ℕ) (x : Piece) (s r : Text) (on to : Package → Result Package PieceRefusal)
     → refused_piece (on (piece_effect p x s)) ≡ refused_piece (to (piece_effect q x r))

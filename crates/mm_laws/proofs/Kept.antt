@@ -18,5 +18,5 @@ Keeps c = (profile : Profile) (p : Package) (moment : ℕ) (stamp : Text) → Me
 
 -- the same of a piece
 abbrev pub PieceKeeps : Piece → Type 0
-PieceKeeps q = (profile : Profile) (p : Package) (moment : ℕ) (stamp : Text) → Meets profile p → IsPieceWithin q → IsMoment moment → IsStamp moment stamp
+PieceKeeps q = (profile : Profile) (p : Package) (moment : ℕ) (stamp : Text) → Meets profile p → IsPieceWithin profile q → IsMoment moment → IsStamp moment stamp
     → least (piece_reasons p q) ≡ None → Meets profile (piece_effect p q stamp)

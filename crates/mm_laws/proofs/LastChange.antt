@@ -48,6 +48,7 @@ piece_sets (pieces.Media table id content_type bytes) p stamp t r e = touch_sets
 piece_sets (pieces.MediaDrop table id) p stamp t r e = touch_sets _ table stamp t r e
 piece_sets (pieces.Map mapping base_id related_id) p stamp t r e = inr (refl, e)
 piece_sets (pieces.MapDrop mapping base_id related_id) p stamp t r e = inr (refl, e)
+piece_sets (pieces.Matrix table zoom m) p stamp t r e = touch_sets _ table stamp t r e
 
 -- set by the first or by what follows, or by neither
 either_sets : (a b : Bool) (stamp t : Text) (first middle : ContentsPart) (row : Contents)

@@ -173,8 +173,8 @@ made_by_word P (entry ∷ entries) h word ts vs met = by (bytes_eq word entry.0)
 abbrev IsPieceMade : Text → List Value → Type 0
 IsPieceMade word vs = (q : Piece) × (word ≡ piece_word q) × (vs ≡ piece_values q)
 
-pieces_made : AllMade IsPieceMade piece_forms
-pieces_made = (
+pieces_made : (profile : Profile) → AllMade IsPieceMade (piece_forms profile)
+pieces_made profile = (
   λ ts vs h. (piece_of (codes "tile") vs, refl, shaped_as tile_shapes ts vs h),
   (
     λ ts vs h. (piece_of (codes "tile-drop") vs, refl, shaped_as tile_drop_shapes ts vs h),
@@ -188,7 +188,10 @@ pieces_made = (
             λ ts vs h. (piece_of (codes "media-drop") vs, refl, shaped_as item_shapes ts vs h),
             (
               λ ts vs h. (piece_of (codes "map") vs, refl, shaped_as map_shapes ts vs h),
-              (λ ts vs h. (piece_of (codes "map-drop") vs, refl, shaped_as map_shapes ts vs h), tt),
+              (
+                λ ts vs h. (piece_of (codes "map-drop") vs, refl, shaped_as map_shapes ts vs h),
+                (λ ts vs h. (piece_of (codes "matrix") vs, refl, shaped_as (matrix_shapes profile) ts vs h), tt),
+              ),
             ),
           ),
         ),
@@ -197,14 +200,14 @@ pieces_made = (
   ),
 )
 
-piece_made : (word : Text) (ts : List Text) (vs : List Value) → IsMet (form_of piece_forms word) ts vs → IsPieceMade word vs
-piece_made = made_by_word IsPieceMade piece_forms pieces_made
+piece_made : (profile : Profile) (word : Text) (ts : List Text) (vs : List Value) → IsMet (form_of (piece_forms profile) word) ts vs → IsPieceMade word vs
+piece_made profile = made_by_word IsPieceMade (piece_forms profile) (pieces_made profile)
 
 -- ---- commands
 abbrev IsCommandMade : Text → List Value → Type 0
 IsCommandMade word vs = (c : Command) × (word ≡ command_word c) × (vs ≡ command_values c)
 
-commands_made : (profile : Profile) → AllMade IsCommandMade (piece_forms ++ other_forms profile)
+commands_made : (profile : Profile) → AllMade IsCommandMade (piece_forms profile ++ other_forms profile)
 commands_made profile = (
   λ ts vs h. (command_of (codes "tile") vs, refl, shaped_as tile_shapes ts vs h),
   (
@@ -222,11 +225,11 @@ commands_made profile = (
               (
                 λ ts vs h. (command_of (codes "map-drop") vs, refl, shaped_as map_shapes ts vs h),
                 (
-                  λ ts vs h. (command_of (codes "srs") vs, refl, shaped_as srs_shapes ts vs h),
+                  λ ts vs h. (command_of (codes "matrix") vs, refl, shaped_as (matrix_shapes profile) ts vs h),
                   (
-                    λ ts vs h. (command_of (codes "pyramid") vs, refl, shaped_as (pyramid_shapes profile) ts vs h),
+                    λ ts vs h. (command_of (codes "srs") vs, refl, shaped_as srs_shapes ts vs h),
                     (
-                      λ ts vs h. (command_of (codes "matrix") vs, refl, shaped_as (matrix_shapes profile) ts vs h),
+                      λ ts vs h. (command_of (codes "pyramid") vs, refl, shaped_as (pyramid_shapes profile) ts vs h),
                       (
                         λ ts vs h. (command_of (codes "table") vs, refl, shaped_as table_shapes ts vs h),
                         (
@@ -273,25 +276,25 @@ staged_made a b word ts v w x vs h k l (q, is, are) =
     by (Plain y) l = ap Plain (l.0 ∙ is)
     by (Whole z) l = absurd l
 
-stage_made : (ts : List Text) (vs : List Value) → IsMet (stage_form ts) ts vs → IsCommandMade (codes "stage") vs
-stage_made [] vs h = absurd h
-stage_made (a ∷ []) vs h = absurd h
-stage_made (a ∷ b ∷ []) vs h = absurd h
-stage_made (a ∷ b ∷ word ∷ ts) vs h = by (form_of piece_forms word) refl vs h
+stage_made : (profile : Profile) (ts : List Text) (vs : List Value) → IsMet (stage_form profile ts) ts vs → IsCommandMade (codes "stage") vs
+stage_made profile [] vs h = absurd h
+stage_made profile (a ∷ []) vs h = absurd h
+stage_made profile (a ∷ b ∷ []) vs h = absurd h
+stage_made profile (a ∷ b ∷ word ∷ ts) vs h = by (form_of (piece_forms profile) word) refl vs h
   where
-    by : (o : Option Form) → form_of piece_forms word ≡ o → (vs : List Value) → IsMet (with_piece o word) (a ∷ b ∷ word ∷ ts) vs → IsCommandMade (codes "stage") vs
+    by : (o : Option Form) → form_of (piece_forms profile) word ≡ o → (vs : List Value) → IsMet (with_piece o word) (a ∷ b ∷ word ∷ ts) vs → IsCommandMade (codes "stage") vs
     by None e vs h = absurd h
     by (Some form) e [] h = absurd h
     by (Some form) e (v ∷ []) h = absurd h.1
     by (Some form) e (v ∷ w ∷ []) h = absurd h.1.1
-    by (Some form) e (v ∷ w ∷ x ∷ vs) h = staged_made a b word ts v w x vs h.0 h.1.0 h.1.1.0 (piece_made word ts vs (subst (λ o. IsMet o ts vs) (sym e) h.1.1.1))
+    by (Some form) e (v ∷ w ∷ x ∷ vs) h = staged_made a b word ts v w x vs h.0 h.1.0 h.1.1.0 (piece_made profile word ts vs (subst (λ o. IsMet o ts vs) (sym e) h.1.1.1))
 
 command_made : (profile : Profile) (word : Text) (ts : List Text) (vs : List Value) → IsMet (record_form profile (word ∷ ts)) ts vs → IsCommandMade word vs
 command_made profile word ts vs met = by (bytes_eq word (codes "stage")) refl met
   where
-    by : (v : Bool) → bytes_eq word (codes "stage") ≡ v → IsMet (if v then stage_form ts else form_of (piece_forms ++ other_forms profile) word) ts vs → IsCommandMade word vs
-    by true e met = subst (λ w. IsCommandMade w vs) (sym ((bytes_eq-Decides word (codes "stage")).0 e)) (stage_made ts vs met)
-    by false e met = made_by_word IsCommandMade (piece_forms ++ other_forms profile) (commands_made profile) word ts vs met
+    by : (v : Bool) → bytes_eq word (codes "stage") ≡ v → IsMet (if v then stage_form profile ts else form_of (piece_forms profile ++ other_forms profile) word) ts vs → IsCommandMade word vs
+    by true e met = subst (λ w. IsCommandMade w vs) (sym ((bytes_eq-Decides word (codes "stage")).0 e)) (stage_made profile ts vs met)
+    by false e met = made_by_word IsCommandMade (piece_forms profile ++ other_forms profile) (commands_made profile) word ts vs met
 
 -- ---- a record spells a command, or a number is against it
 met_or_unmet : (o : Option Form) (ts : List Text) → ((vs : List Value) × IsMet o ts vs) ⊎ ((n : ℕ) × IsLeast (IsUnmet o ts) n)
@@ -310,14 +313,14 @@ command_or_number profile (word ∷ ts) = by (met_or_unmet (record_form profile 
     by (inl h) = inl (spelled h.0 h.1 (command_made profile word ts h.0 h.1))
     by (inr l) = inr l
 
-pub piece_or_number : (texts : List Text) → ((q : Piece) × SpellsPiece texts q) ⊎ ((n : ℕ) × IsLeast (HoldsAgainstPiece texts) n)
-piece_or_number [] = inr (10, record { is_held = refl; is_least = λ m e. omega (arith, e) })
-piece_or_number (word ∷ ts) = by (met_or_unmet (form_of piece_forms word) ts)
+pub piece_or_number : (profile : Profile) (texts : List Text) → ((q : Piece) × SpellsPiece profile texts q) ⊎ ((n : ℕ) × IsLeast (HoldsAgainstPiece profile texts) n)
+piece_or_number profile [] = inr (10, record { is_held = refl; is_least = λ m e. omega (arith, e) })
+piece_or_number profile (word ∷ ts) = by (met_or_unmet (form_of (piece_forms profile) word) ts)
   where
-    spelled : (vs : List Value) → IsMet (form_of piece_forms word) ts vs → IsPieceMade word vs → (q : Piece) × SpellsPiece (word ∷ ts) q
-    spelled vs met (q, is, are) = (q, (is, subst (IsMet (form_of piece_forms word) ts) are met))
+    spelled : (vs : List Value) → IsMet (form_of (piece_forms profile) word) ts vs → IsPieceMade word vs → (q : Piece) × SpellsPiece profile (word ∷ ts) q
+    spelled vs met (q, is, are) = (q, (is, subst (IsMet (form_of (piece_forms profile) word) ts) are met))
 
-    by : ((vs : List Value) × IsMet (form_of piece_forms word) ts vs) ⊎ ((n : ℕ) × IsLeast (IsUnmet (form_of piece_forms word) ts) n)
-        → ((q : Piece) × SpellsPiece (word ∷ ts) q) ⊎ ((n : ℕ) × IsLeast (HoldsAgainstPiece (word ∷ ts)) n)
-    by (inl h) = inl (spelled h.0 h.1 (piece_made word ts h.0 h.1))
+    by : ((vs : List Value) × IsMet (form_of (piece_forms profile) word) ts vs) ⊎ ((n : ℕ) × IsLeast (IsUnmet (form_of (piece_forms profile) word) ts) n)
+        → ((q : Piece) × SpellsPiece profile (word ∷ ts) q) ⊎ ((n : ℕ) × IsLeast (HoldsAgainstPiece profile (word ∷ ts)) n)
+    by (inl h) = inl (spelled h.0 h.1 (piece_made profile word ts h.0 h.1))
     by (inr l) = inr l

@@ -21,6 +21,7 @@ use Rattle.mm_base.proofs.KeyLaws.{texts, numbers, piece_keys}
 use Rattle.mm_base.proofs.Listed.{along_entries}
 use Rattle.mm_laws.proofs.Kept.{PieceKeeps}
 use Rattle.mm_laws.proofs.KindFacts.{differ}
+use Rattle.mm_laws.proofs.Matrices.{matrix}
 use Rattle.mm_laws.proofs.Contents as contents
 use Rattle.mm_laws.proofs.Relations.{other_tells, numbered_still}
 
@@ -33,6 +34,7 @@ piece_keeps (pieces.Media table id content_type bytes) = contents.media_put tabl
 piece_keeps (pieces.MediaDrop table id) = contents.media_drop table id
 piece_keeps (pieces.Map mapping base_id related_id) = contents.map_put mapping base_id related_id
 piece_keeps (pieces.MapDrop mapping base_id related_id) = contents.map_drop mapping base_id related_id
+piece_keeps (pieces.Matrix table zoom m) = matrix table zoom m
 
 -- the row of a piece is read as that piece
 both : (a b : Bool) → a ≡ true → b ≡ true → (a && b) ≡ true
@@ -54,18 +56,19 @@ by_kind (pieces.Media table id content_type bytes) = refl
 by_kind (pieces.MediaDrop table id) = refl
 by_kind (pieces.Map mapping base_id related_id) = refl
 by_kind (pieces.MapDrop mapping base_id related_id) = refl
+by_kind (pieces.Matrix table zoom m) = refl
 
 pub read_back : (q : Piece) → row_piece (piece_row q) ≡ Some q
 read_back q = ap (if_spelled (piece_row q)) (by_kind q) ∙ ap (λ b. if b then Some q else None) (row_itself (piece_row q))
 
-row_within : (r : PieceRow) → IsSpelled r → (q : Piece) → row_piece r ≡ Some q → IsPieceWithin q
-row_within r s q e = subst IsPieceWithin (same_some (sym (ap row_piece s.1 ∙ read_back s.0) ∙ e)) s.2
+row_within : (profile : Profile) (r : PieceRow) → IsSpelled profile r → (q : Piece) → row_piece r ≡ Some q → IsPieceWithin profile q
+row_within profile r s q e = subst (IsPieceWithin profile) (same_some (sym (ap row_piece s.1 ∙ read_back s.0) ∙ e)) s.2
 
 pub same_ok : {a b : Package} → ◌≡◌ {A = Result Package PieceRefusal} (Ok a) (Ok b) → a ≡ b
 same_ok e = cc
 
 module _ (profile : Profile) (moment : ℕ) (stamp : Text) (low : IsMoment moment) (is : IsStamp moment stamp) where
-  by_reason : (p next : Package) (number : ℕ) (q : Piece) (rest : Package → Result Package PieceRefusal) → Meets profile p → IsPieceWithin q
+  by_reason : (p next : Package) (number : ℕ) (q : Piece) (rest : Package → Result Package PieceRefusal) → Meets profile p → IsPieceWithin profile q
       → ((p : Package) → Meets profile p → rest p ≡ Ok next → Meets profile next)
       → (v : Option ℕ) → least (piece_reasons p q) ≡ v → after_trial (decided p number q stamp v) rest ≡ Ok next → Meets profile next
   by_reason p next number q rest h within on None none f = on (piece_effect p q stamp) (piece_keeps q profile p moment stamp h within low is none) f
@@ -73,14 +76,14 @@ module _ (profile : Profile) (moment : ℕ) (stamp : Text) (low : IsMoment momen
 
   by_piece : (p next : Package) (number : ℕ) (rest : Package → Result Package PieceRefusal) → Meets profile p
       → ((p : Package) → Meets profile p → rest p ≡ Ok next → Meets profile next)
-      → (v : Option Piece) → ((q : Piece) → v ≡ Some q → IsPieceWithin q) → after_trial (piece_trial p number stamp v) rest ≡ Ok next → Meets profile next
+      → (v : Option Piece) → ((q : Piece) → v ≡ Some q → IsPieceWithin profile q) → after_trial (piece_trial p number stamp v) rest ≡ Ok next → Meets profile next
   by_piece p next number rest h on None within f = on p h f
   by_piece p next number rest h on (Some q) within f = by_reason p next number q rest h (within q refl) on (least (piece_reasons p q)) refl f
 
-  trial_keeps : (es : List (PieceKey × PieceRow)) → AllByRecursion (λ e. IsSpelled e.1) es → (next p : Package) → Meets profile p → trial es p stamp ≡ Ok next → Meets profile next
+  trial_keeps : (es : List (PieceKey × PieceRow)) → AllByRecursion (λ e. IsSpelled profile e.1) es → (next p : Package) → Meets profile p → trial es p stamp ≡ Ok next → Meets profile next
   trial_keeps [] spelled next p h e = subst (Meets profile) (same_ok e) h
   trial_keeps (e ∷ es) spelled next p h f =
-      by_piece p next (unsigned_abs e.0.number) (λ q. trial es q stamp) h (λ q. trial_keeps es spelled.1 next q) (row_piece e.1) (row_within e.1 spelled.0) f
+      by_piece p next (unsigned_abs e.0.number) (λ q. trial es q stamp) h (λ q. trial_keeps es spelled.1 next q) (row_piece e.1) (row_within profile e.1 spelled.0) f
 
   -- the edition is published, and its pieces go
   closed_keeps : (edition : Text) → IsName edition → (p : Package) → Meets profile p → Meets profile (closed edition p)
@@ -108,7 +111,7 @@ module _ (profile : Profile) (moment : ℕ) (stamp : Text) (low : IsMoment momen
             | inr n ↦ let was = h.q15.numbered e n.1 in (was.0, was.1, numbered_still p edition e was.0 n.0 was.2)
           ];
           of_open = λ k r e. let was = after_retain piece_keys p.pieces test k r e in beside_put texts p.editions edition published_state k.edition (other_tells edition k.edition was.0) ∙ h.q15.of_open k r was.1;
-          spelled = each_retain piece_keys p.pieces test (λ _ r. IsSpelled r) h.q15.spelled;
+          spelled = each_retain piece_keys p.pieces test (λ _ r. IsSpelled profile r) h.q15.spelled;
         };
         q16 = (
           h.q16.0,
@@ -130,7 +133,7 @@ module _ (profile : Profile) (moment : ℕ) (stamp : Text) (low : IsMoment momen
   closed_by_keeps : (edition : Text) → IsName edition → (p : Package) → Meets profile p → (v : Result Package PieceRefusal) → edition_trial p edition stamp ≡ v → Meets profile (closed_by edition v p)
   closed_by_keeps edition named p h (Ok next) e =
       closed_keeps edition named next (trial_keeps (pieces_of p edition)
-      (along_entries piece_keys (λ _ r. IsSpelled r) (retain_keys p.pieces (λ k. same_text k.edition edition)) (each_retain piece_keys p.pieces (λ k. same_text k.edition edition) (λ _ r. IsSpelled r) h.q15.spelled))
+      (along_entries piece_keys (λ _ r. IsSpelled profile r) (retain_keys p.pieces (λ k. same_text k.edition edition)) (each_retain piece_keys p.pieces (λ k. same_text k.edition edition) (λ _ r. IsSpelled profile r) h.q15.spelled))
       next p h e)
   closed_by_keeps edition named p h (Err r) e = h
 

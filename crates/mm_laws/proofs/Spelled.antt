@@ -16,6 +16,7 @@ use Rattle.mm_base.specs.declared.commands.RelationName.{RelationName}
 use Rattle.mm_base.specs.declared.commands.RelationName.TheVariants as names
 use Rattle.mm_base.specs.declared.commands.Matrix.{Matrix}
 use Rattle.mm_base.specs.declared.commands.Piece.{Piece}
+use Rattle.mm_base.specs.declared.commands.Piece.TheVariants as pieces
 use Rattle.mm_base.specs.declared.commands.Piece.TheVariants.{Tile, TileDrop, Row, RowDrop, Media, MediaDrop, Map, MapDrop}
 use Rattle.mm_base.specs.declared.commands.Command.{Command}
 use Rattle.mm_base.specs.declared.commands.Command.TheVariants as commands
@@ -102,6 +103,9 @@ kind_of t = if bytes_eq t (codes "attributes") then plain_kinds.Attributes else 
 abbrev pub relation_of : Text → RelationName
 relation_of t = if bytes_eq t (codes "media") then names.Media else names.SimpleAttributes
 
+abbrev matrix_of : List Value → Matrix
+matrix_of vs = record { mw = count_of vs 2; mh = count_of vs 3; tw = count_of vs 4; th = count_of vs 5; px = number_of vs 6; py = number_of vs 7 }
+
 abbrev pub piece_of : Text → List Value → Piece
 piece_of word vs =
     if bytes_eq word (codes "tile") then Tile (text_of vs 0) (count_of vs 1) (count_of vs 2) (count_of vs 3) (text_of vs 4) else
@@ -111,16 +115,13 @@ piece_of word vs =
     (if bytes_eq word (codes "media") then Media (text_of vs 0) (number_of vs 1) (text_of vs 2) (text_of vs 3) else
     (if bytes_eq word (codes "media-drop") then MediaDrop (text_of vs 0) (number_of vs 1) else
     (if bytes_eq word (codes "map") then Map (text_of vs 0) (number_of vs 1) (number_of vs 2) else
-    MapDrop (text_of vs 0) (number_of vs 1) (number_of vs 2)))))))
-
-abbrev matrix_of : List Value → Matrix
-matrix_of vs = record { mw = count_of vs 2; mh = count_of vs 3; tw = count_of vs 4; th = count_of vs 5; px = number_of vs 6; py = number_of vs 7 }
+    (if bytes_eq word (codes "map-drop") then MapDrop (text_of vs 0) (number_of vs 1) (number_of vs 2) else
+    pieces.Matrix (text_of vs 0) (count_of vs 1) (matrix_of vs))))))))
 
 abbrev pub command_of : Text → List Value → Command
 command_of word vs =
     if bytes_eq word (codes "srs") then commands.Srs (number_of vs 0) (text_of vs 1) (text_of vs 2) (number_of vs 3) (text_of vs 4) (text_of vs 5) else
     (if bytes_eq word (codes "pyramid") then commands.Pyramid (text_of vs 0) (text_of vs 1) (number_of vs 2) (number_of vs 3) (number_of vs 4) (number_of vs 5) (number_of vs 6) (step_of (text_of vs 7)) else
-    (if bytes_eq word (codes "matrix") then commands.Matrix (text_of vs 0) (count_of vs 1) (matrix_of vs) else
     (if bytes_eq word (codes "table") then commands.Table (text_of vs 0) (kind_of (text_of vs 1)) (text_of vs 2) else
     (if bytes_eq word (codes "drop") then commands.Drop (text_of vs 0) else
     (if bytes_eq word (codes "relation") then commands.Relation (text_of vs 0) (text_of vs 1) (text_of vs 2) (relation_of (text_of vs 3)) else
@@ -130,7 +131,7 @@ command_of word vs =
     (if bytes_eq word (codes "publish") then commands.Publish (text_of vs 0) else
     (if bytes_eq word (codes "rehearse") then commands.Rehearse (text_of vs 0) else
     (if bytes_eq word (codes "stage") then commands.Stage (text_of vs 0) (number_of vs 1) (piece_of (text_of vs 2) (tail (tail (tail vs)))) else
-    piece_command (piece_of word vs))))))))))))
+    piece_command (piece_of word vs)))))))))))
 
 pub piece_back : (q : Piece) → piece_of (piece_word q) (piece_values q) ≡ q
 piece_back (Tile table zoom column row bytes) = refl
@@ -141,6 +142,7 @@ piece_back (Media table id content_type bytes) = refl
 piece_back (MediaDrop table id) = refl
 piece_back (Map mapping base_id related_id) = refl
 piece_back (MapDrop mapping base_id related_id) = refl
+piece_back (pieces.Matrix table zoom matrix) = refl
 
 pub command_back : (c : Command) → command_of (command_word c) (command_values c) ≡ c
 command_back (commands.Srs id name organization organization_id definition description) = refl
@@ -175,11 +177,11 @@ one_command profile (word ∷ ts) c d h k =
     let values : command_values c ≡ command_values d = met_one (record_form profile (word ∷ ts)) ts (command_values c) (command_values d) h.1 k.1 in
     sym (command_back c) ∙ ap (λ w. command_of w (command_values c)) words ∙ ap (λ vs. command_of (command_word d) vs) values ∙ command_back d
 
-pub one_piece : (texts : List Text) (q r : Piece) → SpellsPiece texts q → SpellsPiece texts r → q ≡ r
-one_piece [] q r h k = absurd h
-one_piece (word ∷ ts) q r h k =
+pub one_piece : (profile : Profile) (texts : List Text) (q r : Piece) → SpellsPiece profile texts q → SpellsPiece profile texts r → q ≡ r
+one_piece profile [] q r h k = absurd h
+one_piece profile (word ∷ ts) q r h k =
     let words : piece_word q ≡ piece_word r = sym h.0 ∙ k.0 in
-    let values : piece_values q ≡ piece_values r = met_one (piece_form (word ∷ ts)) ts (piece_values q) (piece_values r) h.1 k.1 in
+    let values : piece_values q ≡ piece_values r = met_one (piece_form profile (word ∷ ts)) ts (piece_values q) (piece_values r) h.1 k.1 in
     sym (piece_back q) ∙ ap (λ w. piece_of w (piece_values q)) words ∙ ap (λ vs. piece_of (piece_word r) vs) values ∙ piece_back r
 
 not_unmet : (o : Option Form) (ts : List Text) (vs : List Value) (n : ℕ) → IsMet o ts vs → IsUnmet o ts n → ⊥
@@ -190,9 +192,9 @@ pub none_against_command : (profile : Profile) (texts : List Text) (c : Command)
 none_against_command profile [] c n h a = h
 none_against_command profile (word ∷ ts) c n h a = not_unmet (record_form profile (word ∷ ts)) ts (command_values c) n h.1 a
 
-pub none_against_piece : (texts : List Text) (q : Piece) (n : ℕ) → SpellsPiece texts q → HoldsAgainstPiece texts n → ⊥
-none_against_piece [] q n h a = h
-none_against_piece (word ∷ ts) q n h a = not_unmet (piece_form (word ∷ ts)) ts (piece_values q) n h.1 a
+pub none_against_piece : (profile : Profile) (texts : List Text) (q : Piece) (n : ℕ) → SpellsPiece profile texts q → HoldsAgainstPiece profile texts n → ⊥
+none_against_piece profile [] q n h a = h
+none_against_piece profile (word ∷ ts) q n h a = not_unmet (piece_form profile (word ∷ ts)) ts (piece_values q) n h.1 a
 
 -- ---- the numbers
 pub one_least : (Held : ℕ → Type 0) (n m : ℕ) → IsLeast Held n → IsLeast Held m → n ≡ m
@@ -224,6 +226,6 @@ pub command_number : (profile : Profile) (texts : List Text) (n : ℕ) → Holds
 command_number profile [] n a = inl a
 command_number profile (word ∷ ts) n a = unmet_number (record_form profile (word ∷ ts)) ts n a
 
-pub piece_number : (texts : List Text) (n : ℕ) → HoldsAgainstPiece texts n → IsReadingNumber n
-piece_number [] n a = inl a
-piece_number (word ∷ ts) n a = unmet_number (piece_form (word ∷ ts)) ts n a
+pub piece_number : (profile : Profile) (texts : List Text) (n : ℕ) → HoldsAgainstPiece profile texts n → IsReadingNumber n
+piece_number profile [] n a = inl a
+piece_number profile (word ∷ ts) n a = unmet_number (piece_form profile (word ∷ ts)) ts n a

@@ -115,7 +115,7 @@ stage edition number q profile p moment stamp h within low is none =
           | inr s ↦ let m = h.q15.numbered e f in (m.0, m.1, numbered_beside p.pieces edition e number m.0 row s.0 m.2)
         ];
         of_open = each_put piece_keys p.pieces key row (λ k _. Has p.editions k.edition open_state) h.q15.of_open has;
-        spelled = each_put piece_keys p.pieces key row (λ _ s. IsSpelled s) h.q15.spelled (q, refl, within.2);
+        spelled = each_put piece_keys p.pieces key row (λ _ s. IsSpelled profile s) h.q15.spelled (q, refl, within.2, within.3);
       };
       q16 = (
         h.q16.0,

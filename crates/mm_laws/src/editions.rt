@@ -25,7 +25,7 @@ pub fn a_new_edition_is_open_and_holds_no_pieces()
 pub fn a_piece_is_its_command()
     ensures reasons { (p : Package) (q : Piece) → own_reasons p (piece_command q) ≡ piece_reasons p q }
     ensures effects { (p : Package) (q : Piece) (stamp : Text) → effect p (piece_command q) stamp ≡ piece_effect p q stamp }
-    ensures limits { (profile : Profile) (q : Piece) → IsWithin profile (piece_command q) ↔ IsPieceWithin q }
+    ensures limits { (profile : Profile) (q : Piece) → IsWithin profile (piece_command q) ↔ IsPieceWithin profile q }
 {}
 
 /// A row spells a piece exactly where it is the row in which that piece is kept, column for column.

@@ -8,5 +8,6 @@ pub mod records;
 pub mod refusals;
 pub mod rules;
 pub mod runs;
+pub mod scale;
 pub mod stamps;
 pub mod zooms;

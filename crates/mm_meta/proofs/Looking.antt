@@ -24,6 +24,7 @@ use Rattle.sql_forms.proofs.Lists.{same_value, has_permuted}
 use Rattle.sql_forms.proofs.Selects.{selects_all}
 use Rattle.mm_schema.specs.Statements.{profile_rows}
 use Rattle.mm_schema.proofs.Selecting as statement
+use Rattle.mm_base.specs.Bounds.{current}
 use Rattle.mm_base.specs.Package.{Package}
 use Rattle.mm_base.specs.declared.answers.Open.{Open}
 use Rattle.mm_base.specs.declared.answers.Open.TheVariants as opens
@@ -78,7 +79,7 @@ module _ (old new : State) where
       let it = subst (ShowsRows old new profile_rows h.0 (timed [] h.0.formats h.1.now) rows) none h.2 in
       (h.0, h.1, subst (ShowsRows old old profile_rows h.0 (timed [] h.0.formats h.1.now) rows) (sym none) (it.0, it.1, it.2, unchanged_still it.3))
 
-  pub shows_profile : Answers old new (Ok tt) → ShowsProfile (pos 1) old
+  pub shows_profile : Answers old new (Ok tt) → ShowsProfile current.version old
   shows_profile (inl it) = (it.0, asked_still it.0 it.1, it.3)
   shows_profile (inr it) = absurd it.2
 
@@ -108,8 +109,8 @@ module _ (old new : State) (version : ℤ) where
       let e : version ≡ other = cc in sym e
 
   agreed : (result : Result (Unit {0}) Open) → Judges (shown ∷ []) result → Agrees version result
-  agreed (Ok u) h = sym (same_version (pos 1) h)
-  agreed (Err (opens.Version other)) h = let same = same_version other h.0 in (same, subst (λ v. v ≢ pos 1) same h.1)
+  agreed (Ok u) h = sym (same_version current.version h)
+  agreed (Err (opens.Version other)) h = let same = same_version other h.0 in (same, subst (λ v. v ≢ current.version) same h.1)
   agreed (Err opens.BadProfile) h = h version (shown, refl, refl, refl)
   agreed (Err (opens.Fault fault)) h = tt
   agreed (Err opens.NoProfile) h = absurd h

@@ -6,6 +6,7 @@ use Rattle.sqlite.specs.declared.error.ErrorCode.TheVariants.{OutOfMemory, Syste
 use Rattle.sqlite.specs.declared.types.Value.TheVariants.{Int}
 use Rattle.sqlite.specs.Order.{Row, column}
 use Rattle.sqlite.specs.State.{State, HasCleanDisk, IsUnchanged, FailsToQuery, Shown}
+use Rattle.mm_base.specs.Bounds.{current}
 use Rattle.mm_base.specs.Package.{Package}
 use Rattle.mm_base.specs.declared.answers.Open.{Open}
 use Rattle.mm_base.specs.declared.answers.Open.TheVariants as opens
@@ -34,8 +35,8 @@ ShowsProfile version s = (rows : List Row) × Shown profile_rows [] s s rows × 
 
 -- how the rows of the profile's table are judged
 abbrev pub Judges : List Row → Result (Unit {0}) Open → Type 0
-Judges rows (Ok _) = IsProfile (pos 1) rows
-Judges rows (Err (opens.Version version)) = IsProfile version rows × (version ≢ pos 1)
+Judges rows (Ok _) = IsProfile current.version rows
+Judges rows (Err (opens.Version version)) = IsProfile version rows × (version ≢ current.version)
 Judges rows (Err opens.BadProfile) = (version : ℤ) → IsProfile version rows → ⊥
 Judges rows (Err (opens.Fault fault)) = fault ≡ memory
 Judges rows (Err opens.NoProfile) = ⊥
@@ -55,8 +56,8 @@ Answers old new result =
 
 -- what is answered of a database that stands for a package under a version, unless a fault is
 abbrev pub Agrees : ℤ → Result (Unit {0}) Open → Type 0
-Agrees version (Ok _) = version ≡ pos 1
-Agrees version (Err (opens.Version other)) = (other ≡ version) × (version ≢ pos 1)
+Agrees version (Ok _) = version ≡ current.version
+Agrees version (Err (opens.Version other)) = (other ≡ version) × (version ≢ current.version)
 Agrees version (Err (opens.Fault fault)) = ⊤
 Agrees version (Err opens.NoProfile) = ⊥
 Agrees version (Err opens.BadProfile) = ⊥

@@ -3,7 +3,7 @@
 ghost use Rattle.std.specs.Prelude.{◌≡◌, false, IfOk, IfErr};
 ghost use Rattle.sqlite.specs.Held.{state};
 ghost use Rattle.sqlite.specs.Steps.{over_memory};
-ghost use Rattle.mm_base.specs.Bounds.{millimetres};
+ghost use Rattle.mm_base.specs.Bounds.{current};
 ghost use Rattle.mm_base.specs.Opening.{opening};
 ghost use Rattle.mm_store.specs.Faults.{IsStoreFault};
 ghost use Rattle.mm_store.specs.Stands.{IsSettled};
@@ -25,7 +25,7 @@ fn blank(alloc: Global) -> Result<Connection<MemStore>, AllocError>
 /// A new package in memory.
 pub fn create_in_memory(alloc: Global) -> Result<Connection<MemStore>, Fault>
     ensures mode { IfOk result (λ conn. conn.in_transaction ≡ false) }
-    ensures settled { IfOk result (λ conn. IsSettled millimetres (state over_memory conn) opening) }
+    ensures settled { IfOk result (λ conn. IsSettled current (state over_memory conn) opening) }
     ensures faults { IfErr result IsStoreFault }
 {
     let Ok(mut conn) = blank(alloc) else {

@@ -2,7 +2,7 @@
 
 ghost use Rattle.std.specs.Prelude.{◌≡◌, false};
 ghost use Rattle.sqlite.specs.Held.{state};
-ghost use Rattle.mm_base.specs.Bounds.{Profile, millimetres};
+ghost use Rattle.mm_base.specs.Bounds.{Profile, current};
 ghost use Rattle.mm_base.specs.Opening.{opening};
 ghost use Rattle.mm_schema.specs.Made.{first_of};
 ghost use Rattle.mm_meta.specs.Opening.{IsMaking, IsInit, given_systems};
@@ -18,9 +18,9 @@ use sqlite::{Alter, Connection, Transaction};
 /// Puts the profile's row and the three given systems into tables without a row.
 fn put_systems<S: Alter>(tx: &mut Transaction<'_, S>) -> Result<(), Fault>
     ensures same_reference { tx.new.conn.ghost_name ≡ tx.old.conn.ghost_name }
-    ensures made { IsMaking (first_of 14) (state S.Store tx.old.conn.now) (state S.Store tx.new.conn.now) millimetres given_systems result }
+    ensures made { IsMaking (first_of 14) (state S.Store tx.old.conn.now) (state S.Store tx.new.conn.now) current given_systems result }
 {
-    match insert_profile(tx, 1) {
+    match insert_profile(tx, 2) {
         Ok(()) => {}
         Err(fault) => return Err(fault),
     }
@@ -62,7 +62,7 @@ fn put_systems<S: Alter>(tx: &mut Transaction<'_, S>) -> Result<(), Fault>
 /// Makes the tables where there is none, and puts what every package has into them.
 fn make<S: Alter>(tx: &mut Transaction<'_, S>) -> Result<(), Fault>
     ensures same_reference { tx.new.conn.ghost_name ≡ tx.old.conn.ghost_name }
-    ensures made { IsMaking (first_of 0) (state S.Store tx.old.conn.now) (state S.Store tx.new.conn.now) millimetres opening result }
+    ensures made { IsMaking (first_of 0) (state S.Store tx.old.conn.now) (state S.Store tx.new.conn.now) current opening result }
 {
     match create_tables(tx) {
         Ok(()) => {}
@@ -81,7 +81,7 @@ fn make<S: Alter>(tx: &mut Transaction<'_, S>) -> Result<(), Fault>
 pub fn init<S: Alter>(conn: &mut Connection<S>) -> Result<(), Fault>
     requires { conn.old.in_transaction ≡ false }
     ensures mode { conn.new.in_transaction ≡ false }
-    ensures init { IsInit millimetres (state S.Store conn.old) (state S.Store conn.new) result }
+    ensures init { IsInit current (state S.Store conn.old) (state S.Store conn.new) result }
 {
     let mut tx = conn.transaction();
     match make(&mut tx) {

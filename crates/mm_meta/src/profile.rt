@@ -47,7 +47,7 @@ fn number_in(row: &Row, at: usize) -> Result<Option<i64>, Fault>
     }
 }
 
-/// Whether the rows are the one row (1, 1).
+/// Whether the rows are the one row (1, 2).
 fn judge(rows: &[Row]) -> Result<(), Open>
     ensures { Judges rows.now result }
 {
@@ -65,7 +65,7 @@ fn judge(rows: &[Row]) -> Result<(), Open>
     }
     match number_in(row, 1) {
         Ok(Some(version)) => {
-            if version == 1 {
+            if version == 2 {
                 Ok(())
             } else {
                 Err(Open::Version(version))
@@ -104,7 +104,7 @@ fn refusal_of(error: Error) -> Result<(), Open>
     }
 }
 
-/// Whether the database holds a package of this profile: `Ok` where the profile's table has exactly the row (1, 1), 93
+/// Whether the database holds a package of this profile: `Ok` where the profile's table has exactly the row (1, 2), 93
 /// where it has exactly the row (1, v) with another v, 95 where it answers otherwise, and 94 where the query is refused for
 /// another cause than memory, the disk or a limit on steps. It writes nothing.
 pub fn look<S: Alter>(conn: &mut Connection<S>) -> Result<(), Open>

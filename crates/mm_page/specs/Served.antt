@@ -2,7 +2,7 @@
 use Rattle.std.specs.Prelude.{◌≡◌, ◌⊎◌, ◌≤◌, ℕ, Bool, true, false, Option, Some, Result, Ok, Err, length, take, ⊤}
 use Rattle.std.specs.Io.KnownBytes.{Appends, Keeps}
 use Rattle.sqlite.specs.State.{State, HasCleanDisk}
-use Rattle.mm_base.specs.Bounds.{millimetres}
+use Rattle.mm_base.specs.Bounds.{current}
 use Rattle.mm_base.specs.Keys.{Text}
 use Rattle.mm_base.specs.Package.{Package}
 use Rattle.mm_base.specs.Rules.{Meets}
@@ -16,11 +16,11 @@ use Rattle.mm_page.specs.Page.{Page}
 -- It goes on as settled for a package as it was, and what a crash may leave is what it might have left before.
 pub record LeavesPackage (old new : State) : Type 0 where
   pub survives : CommitsNothing old new
-  pub settled : HasCleanDisk new → (p : Package) → Meets millimetres p → IsSettled millimetres old p → IsSettled millimetres new p
+  pub settled : HasCleanDisk new → (p : Package) → Meets current p → IsSettled current old p → IsSettled current new p
 
 -- The session is settled for a package that meets the rules. Of one that has failed nothing is asked: it reads no package.
 abbrev pub IsOn : Bool → State → State → Package → Type 0
-IsOn failed old new p = failed ≡ false → HasCleanDisk new × Meets millimetres p × IsSettled millimetres old p
+IsOn failed old new p = failed ≡ false → HasCleanDisk new × Meets current p × IsSettled current old p
 
 -- an answer shows that part of each package that the session is on
 abbrev pub Gives : {A B : Type 0} → (A → B) → B → Result A Fault → Type 0

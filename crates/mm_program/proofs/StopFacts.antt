@@ -4,6 +4,7 @@ use Rattle.sqlite.specs.State.{State}
 use Rattle.mm_base.specs.declared.answers.Open.{Open}
 use Rattle.mm_base.specs.declared.answers.Open.TheVariants as opens
 use Rattle.mm_work.specs.Declined.{IsDeclined, stop_of}
+use Rattle.mm_work.specs.Migrated.{IsUnmigrated}
 use Rattle.mm_work.specs.Told.{stop_status}
 use Rattle.mm_work.specs.declared.stop.Stop.{Stop}
 use Rattle.mm_work.specs.declared.stop.Stop.TheVariants as stops
@@ -28,6 +29,9 @@ stops_of (opens.Fault fault) = tt
 
 pub declines : (old new : State) (why : Stop) → IsDeclined old new why → StopsCheck why
 declines old new why (cause, declined, told) = subst StopsCheck (sym told) (stops_of cause)
+
+pub unmigrated : (old new : State) (why : Stop) → IsUnmigrated old new why → StopsCheck why
+unmigrated old new why (cause, declined, told) = subst StopsCheck (sym told) (stops_of cause)
 
 -- ---- the close
 

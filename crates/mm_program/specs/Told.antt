@@ -6,6 +6,7 @@ use Rattle.mm_base.specs.declared.answers.KitFault.{KitFault}
 use Rattle.mm_base.specs.declared.answers.Staged.{Staged}
 use Rattle.mm_imports.specs.Kits.{kit_status, kit_text}
 use Rattle.mm_work.specs.Looked.{check_status, check_text}
+use Rattle.mm_work.specs.Migrated.{migrate_status, migrate_text}
 use Rattle.mm_work.specs.Told.{IsTold, init_status, init_text, stop_status, stop_text}
 use Rattle.mm_work.specs.declared.stop.Stop.{Stop}
 use Rattle.mm_work.specs.declared.stop.Stop.TheVariants as stops
@@ -18,7 +19,7 @@ use Rattle.mm_arguments.specs.declared.requests.Request.TheVariants as asked
 use Rattle.mm_program.specs.Files.{StopsNew}
 use Rattle.mm_program.specs.Served.{TellsServe}
 
--- the check of a file never tells that it is not empty
+-- the check or the migration of a file never tells that it is not empty
 abbrev pub StopsCheck : Stop → Type 0
 StopsCheck stops.NotEmpty = ⊥
 StopsCheck (stops.NotPackage number) = (number ≡ 93) ⊎ (number ≡ 94) ⊎ (number ≡ 95)
@@ -34,6 +35,10 @@ module _ (old new : Option (List ℕ)) (before failed : Bool) (result : ℕ) whe
   -- so does `check`
   abbrev pub TellsCheck : Type 0
   TellsCheck = (outcome : Result (Unit {0}) Stop) × IfErr outcome StopsCheck × IsTold old new before failed (check_text outcome) (check_status outcome) result
+
+  -- so does `migrate`
+  abbrev pub TellsMigrate : Type 0
+  TellsMigrate = (outcome : Result (Unit {0}) Stop) × IfErr outcome StopsCheck × IsTold old new before failed (migrate_text outcome) (migrate_status outcome) result
 
   -- Status 4 goes with why the file is no package, and with nothing else.
   abbrev pub TellsDecline : Type 0
@@ -62,6 +67,7 @@ TellsRequest (asked.Run file at) old new before failed result = TellsDecline old
 TellsRequest (asked.Kit file edition folder at) old new before failed result = TellsKit edition.now at old new before failed result
 TellsRequest (asked.Check file) old new before failed result = TellsCheck old new before failed result
 TellsRequest (asked.List file) old new before failed result = TellsDecline old new before failed result
+TellsRequest (asked.Migrate file) old new before failed result = TellsMigrate old new before failed result
 TellsRequest (asked.Serve file port count) old new before failed result = TellsServe port count old new before failed result
 
 -- Want of memory is a fault. Help and usage are printed as `clap` has them, with their status, or with 3 where the writer failed.

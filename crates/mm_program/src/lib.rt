@@ -3,6 +3,7 @@
 //! - `subcommands`: what each subcommand does.
 //! - `kits`: a folder of the system, and the import of its kit.
 //! - `looking`: those that change nothing.
+//! - `migrating`: the one that brings a package of profile 1 to micrometres.
 //! - `files`: the package's file and its journal.
 //! - `serving`: the page served over sockets.
 //! - `clock`: the moment of a run that names none.
@@ -12,6 +13,7 @@ mod clock;
 mod files;
 mod kits;
 mod looking;
+mod migrating;
 mod serving;
 mod subcommands;
 

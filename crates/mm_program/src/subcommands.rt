@@ -12,6 +12,7 @@ use crate::clock::{Now, moment_of};
 use crate::files::{close_after, close_files, open_new, open_old};
 use crate::kits::kit_told;
 use crate::looking::{check_told, list_told};
+use crate::migrating::migrate_told;
 use crate::serving::serve_told;
 use mm_arguments::{Request, read_arguments, status_of};
 use mm_base::answers::Fault;
@@ -111,6 +112,7 @@ pub fn program<R: Read, W: Write>(
         Ok(Request::Run { file, at }) => run_told(rt, file, at, input, output),
         Ok(Request::Check { file }) => check_told(rt, file, output),
         Ok(Request::List { file }) => list_told(rt, file, output),
+        Ok(Request::Migrate { file }) => migrate_told(rt, file, output),
         Ok(Request::Serve { file, port, count }) => serve_told(rt, file, port, count, output),
         Ok(
             Request::Kit {

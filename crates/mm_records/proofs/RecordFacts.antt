@@ -5,16 +5,17 @@ use Rattle.std.specs.Borrow.{Bor}
 use Rattle.std.proofs.lemmas.List.{take_all}
 use Rattle.std.proofs.lemmas.Slice.Eq.{bytes_eq-Decides}
 use Rattle.mm_base.specs.Keys.{Text}
-use Rattle.mm_base.specs.Bounds.{IsFrom, IsLong, IsText, IsIdentifier, IsContentType, IsName, millimetres}
+use Rattle.mm_base.specs.Bounds.{IsFrom, IsLong, IsText, IsIdentifier, IsContentType, IsName, current}
 use Rattle.mm_base.specs.Reading.{ReadsTo}
 use Rattle.mm_base.specs.Fields.{Field, OneOf, NumberFrom, BytesTo, TextOf, AnIdentifier, AContentType, AName, Value, Whole, Plain, Holds, AllHold, IsAgainstSome}
 use Rattle.mm_base.specs.Records.{Form, form_of, piece_forms, piece_form, other_forms, record_form, stage_form, with_piece, id_field, IsLeast, IsMet, IsUnmet, SpellsPiece, HoldsAgainstPiece, Spells, HoldsAgainst, piece_word, piece_values, command_word, command_values}
 use Rattle.mm_base.specs.Records as forms
 use Rattle.mm_base.specs.Pieces.{piece_command}
-use Rattle.mm_base.specs.Within.{IsWithin, IsPieceWithin}
+use Rattle.mm_base.specs.Within.{IsWithin, IsPieceWithin, Takes}
 use Rattle.mm_base.specs.declared.answers.ReadFault.{ReadFault}
 use Rattle.mm_base.specs.declared.answers.ReadFault.TheVariants as faults
 use Rattle.mm_base.specs.declared.commands.Piece.{Piece}
+use Rattle.mm_base.specs.declared.commands.Piece.TheVariants as pieces
 use Rattle.mm_base.specs.declared.commands.Piece.TheVariants.{Tile, TileDrop, Row, RowDrop, Media, MediaDrop, Map, MapDrop}
 use Rattle.mm_base.specs.declared.commands.Command.{Command}
 use Rattle.mm_base.specs.declared.commands.Command.TheVariants as commands
@@ -31,26 +32,26 @@ first_and_rest xs some = one_more xs 0 some ∙ ap (λ l. text_at xs 0 ∷ texts
 begins : (xs : List (Bor Text)) (word : Text) → 1 ≤ length xs → text_at xs 0 ≡ word → texts_of xs ≡ word ∷ texts_of (rest_of xs)
 begins xs word some is = first_and_rest xs some ∙ ap (λ w. w ∷ texts_of (rest_of xs)) is
 
-pub piece_arm : (r : Result Piece ReadFault) (xs : List (Bor Text)) (word : Text) (form : Form) → 1 ≤ length xs → text_at xs 0 ≡ word → form_of piece_forms word ≡ Some form
+pub piece_arm : (r : Result Piece ReadFault) (xs : List (Bor Text)) (word : Text) (form : Form) → 1 ≤ length xs → text_at xs 0 ≡ word → form_of (piece_forms current) word ≡ Some form
     → ReadsTo (λ q. (piece_word q ≡ word) × AllHold form (texts_of (rest_of xs)) (piece_values q)) (IsLeast (IsAgainstSome form (texts_of (rest_of xs)))) r
-    → ReadsTo (SpellsPiece (texts_of xs)) (IsLeast (HoldsAgainstPiece (texts_of xs))) r
+    → ReadsTo (SpellsPiece current (texts_of xs)) (IsLeast (HoldsAgainstPiece current (texts_of xs))) r
 piece_arm r xs word form some is known h =
-    subst (λ ts. ReadsTo (SpellsPiece ts) (IsLeast (HoldsAgainstPiece ts)) r) (sym (begins xs word some is)) (by r h)
+    subst (λ ts. ReadsTo (SpellsPiece current ts) (IsLeast (HoldsAgainstPiece current ts)) r) (sym (begins xs word some is)) (by r h)
   where
     by : (r : Result Piece ReadFault) → ReadsTo (λ q. (piece_word q ≡ word) × AllHold form (texts_of (rest_of xs)) (piece_values q)) (IsLeast (IsAgainstSome form (texts_of (rest_of xs)))) r
-        → ReadsTo (SpellsPiece (word ∷ texts_of (rest_of xs))) (IsLeast (HoldsAgainstPiece (word ∷ texts_of (rest_of xs)))) r
+        → ReadsTo (SpellsPiece current (word ∷ texts_of (rest_of xs))) (IsLeast (HoldsAgainstPiece current (word ∷ texts_of (rest_of xs)))) r
     by (Ok q) h = (sym h.0, subst (λ o. IsMet o (texts_of (rest_of xs)) (piece_values q)) (sym known) h.1)
     by (Err faults.Memory) h = tt
     by (Err (faults.Refused x)) h = (h.0, subst (λ o. IsLeast (IsUnmet o (texts_of (rest_of xs))) x.number) (sym known) h.1)
 
-pub command_arm : (r : Result Command ReadFault) (xs : List (Bor Text)) (word : Text) (form : Option Form) → 1 ≤ length xs → text_at xs 0 ≡ word → record_form millimetres (word ∷ texts_of (rest_of xs)) ≡ form
+pub command_arm : (r : Result Command ReadFault) (xs : List (Bor Text)) (word : Text) (form : Option Form) → 1 ≤ length xs → text_at xs 0 ≡ word → record_form current (word ∷ texts_of (rest_of xs)) ≡ form
     → ReadsTo (λ c. (command_word c ≡ word) × IsMet form (texts_of (rest_of xs)) (command_values c)) (IsLeast (IsUnmet form (texts_of (rest_of xs)))) r
-    → ReadsTo (Spells millimetres (texts_of xs)) (IsLeast (HoldsAgainst millimetres (texts_of xs))) r
+    → ReadsTo (Spells current (texts_of xs)) (IsLeast (HoldsAgainst current (texts_of xs))) r
 command_arm r xs word form some is known h =
-    subst (λ ts. ReadsTo (Spells millimetres ts) (IsLeast (HoldsAgainst millimetres ts)) r) (sym (begins xs word some is)) (by r h)
+    subst (λ ts. ReadsTo (Spells current ts) (IsLeast (HoldsAgainst current ts)) r) (sym (begins xs word some is)) (by r h)
   where
     by : (r : Result Command ReadFault) → ReadsTo (λ c. (command_word c ≡ word) × IsMet form (texts_of (rest_of xs)) (command_values c)) (IsLeast (IsUnmet form (texts_of (rest_of xs)))) r
-        → ReadsTo (Spells millimetres (word ∷ texts_of (rest_of xs))) (IsLeast (HoldsAgainst millimetres (word ∷ texts_of (rest_of xs)))) r
+        → ReadsTo (Spells current (word ∷ texts_of (rest_of xs))) (IsLeast (HoldsAgainst current (word ∷ texts_of (rest_of xs)))) r
     by (Ok c) h = (sym h.0, subst (λ o. IsMet o (texts_of (rest_of xs)) (command_values c)) (sym known) h.1)
     by (Err faults.Memory) h = tt
     by (Err (faults.Refused x)) h = (h.0, subst (λ o. IsLeast (IsUnmet o (texts_of (rest_of xs))) x.number) (sym known) h.1)
@@ -85,6 +86,7 @@ same_word (Media table id content_type bytes) = refl
 same_word (MediaDrop table id) = refl
 same_word (Map mapping base_id related_id) = refl
 same_word (MapDrop mapping base_id related_id) = refl
+same_word (pieces.Matrix table zoom matrix) = refl
 
 same_values : (q : Piece) → command_values (piece_command q) ≡ piece_values q
 same_values (Tile table zoom column row bytes) = refl
@@ -95,29 +97,30 @@ same_values (Media table id content_type bytes) = refl
 same_values (MediaDrop table id) = refl
 same_values (Map mapping base_id related_id) = refl
 same_values (MapDrop mapping base_id related_id) = refl
+same_values (pieces.Matrix table zoom matrix) = refl
 
-same_form : (word : Text) (texts : List Text) → (word ≡ codes "stage" → ⊥) → Differs (other_forms millimetres) word → record_form millimetres (word ∷ texts) ≡ form_of piece_forms word
-same_form word texts stage others = rw (differs word (codes "stage") stage) (no_more_forms piece_forms (other_forms millimetres) word (no_form (other_forms millimetres) word others))
+same_form : (word : Text) (texts : List Text) → (word ≡ codes "stage" → ⊥) → Differs (other_forms current) word → record_form current (word ∷ texts) ≡ form_of (piece_forms current) word
+same_form word texts stage others = rw (differs word (codes "stage") stage) (no_more_forms (piece_forms current) (other_forms current) word (no_form (other_forms current) word others))
 
-pub edit_arm : (r : Result Command ReadFault) (xs : List (Bor Text)) → 1 ≤ length xs → (text_at xs 0 ≡ codes "stage" → ⊥) → Differs (other_forms millimetres) (text_at xs 0)
-    → ReadsTo (λ c. (q : Piece) × (c ≡ piece_command q) × SpellsPiece (texts_of xs) q) (IsLeast (HoldsAgainstPiece (texts_of xs))) r
-    → ReadsTo (Spells millimetres (texts_of xs)) (IsLeast (HoldsAgainst millimetres (texts_of xs))) r
+pub edit_arm : (r : Result Command ReadFault) (xs : List (Bor Text)) → 1 ≤ length xs → (text_at xs 0 ≡ codes "stage" → ⊥) → Differs (other_forms current) (text_at xs 0)
+    → ReadsTo (λ c. (q : Piece) × (c ≡ piece_command q) × SpellsPiece current (texts_of xs) q) (IsLeast (HoldsAgainstPiece current (texts_of xs))) r
+    → ReadsTo (Spells current (texts_of xs)) (IsLeast (HoldsAgainst current (texts_of xs))) r
 edit_arm r xs some stage others h =
-    subst (λ ts. ReadsTo (Spells millimetres ts) (IsLeast (HoldsAgainst millimetres ts)) r) (sym whole)
-    (by r (subst (λ ts. ReadsTo (λ c. (q : Piece) × (c ≡ piece_command q) × SpellsPiece ts q) (IsLeast (HoldsAgainstPiece ts)) r) whole h))
+    subst (λ ts. ReadsTo (Spells current ts) (IsLeast (HoldsAgainst current ts)) r) (sym whole)
+    (by r (subst (λ ts. ReadsTo (λ c. (q : Piece) × (c ≡ piece_command q) × SpellsPiece current ts q) (IsLeast (HoldsAgainstPiece current ts)) r) whole h))
   where
     whole : texts_of xs ≡ text_at xs 0 ∷ texts_of (rest_of xs)
     whole = first_and_rest xs some
 
-    same : record_form millimetres (text_at xs 0 ∷ texts_of (rest_of xs)) ≡ form_of piece_forms (text_at xs 0)
+    same : record_form current (text_at xs 0 ∷ texts_of (rest_of xs)) ≡ form_of (piece_forms current) (text_at xs 0)
     same = same_form (text_at xs 0) (texts_of (rest_of xs)) stage others
 
     by : (r : Result Command ReadFault)
-        → ReadsTo (λ c. (q : Piece) × (c ≡ piece_command q) × SpellsPiece (text_at xs 0 ∷ texts_of (rest_of xs)) q) (IsLeast (HoldsAgainstPiece (text_at xs 0 ∷ texts_of (rest_of xs)))) r
-        → ReadsTo (Spells millimetres (text_at xs 0 ∷ texts_of (rest_of xs))) (IsLeast (HoldsAgainst millimetres (text_at xs 0 ∷ texts_of (rest_of xs)))) r
+        → ReadsTo (λ c. (q : Piece) × (c ≡ piece_command q) × SpellsPiece current (text_at xs 0 ∷ texts_of (rest_of xs)) q) (IsLeast (HoldsAgainstPiece current (text_at xs 0 ∷ texts_of (rest_of xs)))) r
+        → ReadsTo (Spells current (text_at xs 0 ∷ texts_of (rest_of xs))) (IsLeast (HoldsAgainst current (text_at xs 0 ∷ texts_of (rest_of xs)))) r
     by (Ok c) (q, is, (word, met)) = (
       word ∙ sym (same_word q) ∙ ap command_word (sym is),
-      subst (λ vs. IsMet (record_form millimetres (text_at xs 0 ∷ texts_of (rest_of xs))) (texts_of (rest_of xs)) vs) (sym (same_values q) ∙ ap command_values (sym is))
+      subst (λ vs. IsMet (record_form current (text_at xs 0 ∷ texts_of (rest_of xs))) (texts_of (rest_of xs)) vs) (sym (same_values q) ∙ ap command_values (sym is))
           (subst (λ o. IsMet o (texts_of (rest_of xs)) (piece_values q)) (sym same) met),
     )
     by (Err faults.Memory) h = tt
@@ -159,7 +162,7 @@ all_within (f ∷ fs) ts [] h = tt
 all_within (f ∷ fs) [] (v ∷ vs) h = absurd h
 all_within (f ∷ fs) (t ∷ ts) (v ∷ vs) h = (holds_within f t v h.0, all_within fs ts vs h.1)
 
-met_by_piece : (ts : List Text) (q : Piece) → IsMet (form_of piece_forms (piece_word q)) ts (piece_values q) → IsPieceWithin q
+met_by_piece : (ts : List Text) (q : Piece) → IsMet (form_of (piece_forms current) (piece_word q)) ts (piece_values q) → IsPieceWithin current q
 met_by_piece ts (Tile table zoom column row bytes) h = let a = all_within forms.tile_form ts (piece_values (Tile table zoom column row bytes)) h in (a.0, a.1.0, a.1.1.0, a.1.1.1.0, a.1.1.1.1.0)
 met_by_piece ts (TileDrop table zoom column row) h = let a = all_within forms.tile_drop_form ts (piece_values (TileDrop table zoom column row)) h in (a.0, a.1.0, a.1.1.0, a.1.1.1.0)
 met_by_piece ts (Row table id title note amount) h = let a = all_within forms.row_form ts (piece_values (Row table id title note amount)) h in (a.0, a.1.0, a.1.1.0, a.1.1.1.0, a.1.1.1.1.0)
@@ -168,16 +171,28 @@ met_by_piece ts (Media table id content_type bytes) h = let a = all_within forms
 met_by_piece ts (MediaDrop table id) h = let a = all_within forms.item_form ts (piece_values (MediaDrop table id)) h in (a.0, a.1.0)
 met_by_piece ts (Map mapping base_id related_id) h = let a = all_within forms.map_form ts (piece_values (Map mapping base_id related_id)) h in (a.0, a.1.0, a.1.1.0)
 met_by_piece ts (MapDrop mapping base_id related_id) h = let a = all_within forms.map_form ts (piece_values (MapDrop mapping base_id related_id)) h in (a.0, a.1.0, a.1.1.0)
+met_by_piece ts (pieces.Matrix table zoom matrix) h = let a = all_within (forms.matrix_form current) ts (piece_values (pieces.Matrix table zoom matrix)) h in (a.0, a.1.0, record { mw = a.1.1.0; mh = a.1.1.1.0; tw = a.1.1.1.1.0; th = a.1.1.1.1.1.0; px = a.1.1.1.1.1.1.0; py = a.1.1.1.1.1.1.1.0 })
 
-spelled_piece : (ts : List Text) (q : Piece) → SpellsPiece ts q → IsPieceWithin q
+spelled_piece : (ts : List Text) (q : Piece) → SpellsPiece current ts q → IsPieceWithin current q
 spelled_piece [] q h = absurd h
-spelled_piece (word ∷ ts) q h = met_by_piece ts q (subst (λ w. IsMet (form_of piece_forms w) ts (piece_values q)) h.0 h.1)
+spelled_piece (word ∷ ts) q h = met_by_piece ts q (subst (λ w. IsMet (form_of (piece_forms current) w) ts (piece_values q)) h.0 h.1)
 
-pub piece_within : (r : Result Piece ReadFault) (N : ℕ → Type 0) (ts : List Text) → ReadsTo (SpellsPiece ts) N r → IfOk r IsPieceWithin
+pub piece_within : (r : Result Piece ReadFault) (N : ℕ → Type 0) (ts : List Text) → ReadsTo (SpellsPiece current ts) N r → IfOk r (IsPieceWithin current)
 piece_within (Ok q) N ts h = spelled_piece ts q h
 piece_within (Err fault) N ts h = tt
 
-met_by_command : (ts : List Text) (c : Command) → IsMet (record_form millimetres (command_word c ∷ ts)) ts (command_values c) → IsWithin millimetres c
+taken : (q : Piece) → Takes current q
+taken (Tile table zoom column row bytes) = tt
+taken (TileDrop table zoom column row) = tt
+taken (Row table id title note amount) = tt
+taken (RowDrop table id) = tt
+taken (Media table id content_type bytes) = tt
+taken (MediaDrop table id) = tt
+taken (Map mapping base_id related_id) = tt
+taken (MapDrop mapping base_id related_id) = tt
+taken (pieces.Matrix table zoom matrix) = refl
+
+met_by_command : (ts : List Text) (c : Command) → IsMet (record_form current (command_word c ∷ ts)) ts (command_values c) → IsWithin current c
 met_by_command ts (commands.Tile table zoom column row bytes) h = met_by_piece ts (Tile table zoom column row bytes) h
 met_by_command ts (commands.TileDrop table zoom column row) h = met_by_piece ts (TileDrop table zoom column row) h
 met_by_command ts (commands.Row table id title note amount) h = met_by_piece ts (Row table id title note amount) h
@@ -187,8 +202,8 @@ met_by_command ts (commands.MediaDrop table id) h = met_by_piece ts (MediaDrop t
 met_by_command ts (commands.Map mapping base_id related_id) h = met_by_piece ts (Map mapping base_id related_id) h
 met_by_command ts (commands.MapDrop mapping base_id related_id) h = met_by_piece ts (MapDrop mapping base_id related_id) h
 met_by_command ts (commands.Srs id name organization organization_id definition description) h = let a = all_within forms.srs_form ts (command_values (commands.Srs id name organization organization_id definition description)) h in (a.0, a.1.0, a.1.1.0, a.1.1.1.0, a.1.1.1.1.0, a.1.1.1.1.1.0)
-met_by_command ts (commands.Pyramid table identifier srs min_x min_y max_x max_y step) h = let a = all_within (forms.pyramid_form millimetres) ts (command_values (commands.Pyramid table identifier srs min_x min_y max_x max_y step)) h in (a.0, a.1.0, a.1.1.0, a.1.1.1.0, a.1.1.1.1.0, a.1.1.1.1.1.0, a.1.1.1.1.1.1.0)
-met_by_command ts (commands.Matrix table zoom matrix) h = let a = all_within (forms.matrix_form millimetres) ts (command_values (commands.Matrix table zoom matrix)) h in (a.0, a.1.0, record { mw = a.1.1.0; mh = a.1.1.1.0; tw = a.1.1.1.1.0; th = a.1.1.1.1.1.0; px = a.1.1.1.1.1.1.0; py = a.1.1.1.1.1.1.1.0 })
+met_by_command ts (commands.Pyramid table identifier srs min_x min_y max_x max_y step) h = let a = all_within (forms.pyramid_form current) ts (command_values (commands.Pyramid table identifier srs min_x min_y max_x max_y step)) h in (a.0, a.1.0, a.1.1.0, a.1.1.1.0, a.1.1.1.1.0, a.1.1.1.1.1.0, a.1.1.1.1.1.1.0)
+met_by_command ts (commands.Matrix table zoom matrix) h = met_by_piece ts (pieces.Matrix table zoom matrix) h
 met_by_command ts (commands.Table table kind identifier) h = let a = all_within forms.table_form ts (command_values (commands.Table table kind identifier)) h in (a.0, a.1.1.0)
 met_by_command ts (commands.Drop table) h = let a = all_within forms.name_form ts (command_values (commands.Drop table)) h in a.0
 met_by_command ts (commands.Relation mapping base related name) h = let a = all_within forms.relation_form ts (command_values (commands.Relation mapping base related name)) h in (a.0, a.1.0, a.1.1.0)
@@ -200,23 +215,24 @@ met_by_command ts (commands.Rehearse edition) h = let a = all_within forms.name_
 met_by_command [] (commands.Stage edition number q) h = absurd h
 met_by_command (a ∷ []) (commands.Stage edition number q) h = absurd h
 met_by_command (a ∷ b ∷ []) (commands.Stage edition number q) h = absurd h
-met_by_command (a ∷ b ∷ word ∷ ts) (commands.Stage edition number q) h = met_by_stage a b word ts edition number q (form_of piece_forms word) refl h
+met_by_command (a ∷ b ∷ word ∷ ts) (commands.Stage edition number q) h = met_by_stage a b word ts edition number q (form_of (piece_forms current) word) refl h
   where
-    met_by_stage : (a b word : Text) (ts : List Text) (edition : Text) (number : ℤ) (q : Piece) (o : Option Form) → form_of piece_forms word ≡ o
-        → IsMet (with_piece o word) (a ∷ b ∷ word ∷ ts) (Plain edition ∷ Whole number ∷ Plain (piece_word q) ∷ piece_values q) → IsWithin millimetres (commands.Stage edition number q)
+    met_by_stage : (a b word : Text) (ts : List Text) (edition : Text) (number : ℤ) (q : Piece) (o : Option Form) → form_of (piece_forms current) word ≡ o
+        → IsMet (with_piece o word) (a ∷ b ∷ word ∷ ts) (Plain edition ∷ Whole number ∷ Plain (piece_word q) ∷ piece_values q) → IsWithin current (commands.Stage edition number q)
     met_by_stage a b word ts edition number q None e h = absurd h
     met_by_stage a b word ts edition number q (Some form) e (named, (counted, (choice, met))) =
-        let same : form_of piece_forms (piece_word q) ≡ Some form = ap (form_of piece_forms) choice.0 ∙ e in (
+        let same : form_of (piece_forms current) (piece_word q) ≡ Some form = ap (form_of (piece_forms current)) choice.0 ∙ e in (
           subst IsName (sym named.0) named.1,
           counted.1,
           met_by_piece ts q (subst (λ o. IsMet o ts (piece_values q)) (sym same) met),
+          taken q,
         )
 
-spelled : (ts : List Text) (c : Command) → Spells millimetres ts c → IsWithin millimetres c
+spelled : (ts : List Text) (c : Command) → Spells current ts c → IsWithin current c
 spelled [] c h = absurd h
-spelled (word ∷ ts) c h = met_by_command ts c (subst (λ w. IsMet (record_form millimetres (w ∷ ts)) ts (command_values c)) h.0 h.1)
+spelled (word ∷ ts) c h = met_by_command ts c (subst (λ w. IsMet (record_form current (w ∷ ts)) ts (command_values c)) h.0 h.1)
 
-pub command_within : (r : Result Command ReadFault) (N : ℕ → Type 0) (ts : List Text) → ReadsTo (Spells millimetres ts) N r → IfOk r (IsWithin millimetres)
+pub command_within : (r : Result Command ReadFault) (N : ℕ → Type 0) (ts : List Text) → ReadsTo (Spells current ts) N r → IfOk r (IsWithin current)
 command_within (Ok c) N ts h = spelled ts c h
 command_within (Err fault) N ts h = tt
 
@@ -228,7 +244,7 @@ piece_fields_of (Some form) word = OneOf (word ∷ []) ∷ form
 
 abbrev pub staged : List Text → Form
 staged [] = OneOf [] ∷ []
-staged (word ∷ ts) = piece_fields_of (form_of piece_forms word) word
+staged (word ∷ ts) = piece_fields_of (form_of (piece_forms current) word) word
 
 -- only 10 holds, and it is the least
 pub only_ten : (fs : Form) (ts : List Text) (n : ℕ) → IsAgainstSome fs ts 10 → IsLeast (IsAgainstSome fs ts) n → IsLeast (λ m. m ≡ 10) n
@@ -243,12 +259,12 @@ no_word word ts n l = record {
   is_least = λ m a. omega (arith, l.is_held, all_at_least_ten (OneOf [] ∷ []) (word ∷ ts) m a);
 }
 
-pub staged_reads : (ts : List Text) (r : Result Piece ReadFault) → ReadsTo (SpellsPiece ts) (IsLeast (HoldsAgainstPiece ts)) r
+pub staged_reads : (ts : List Text) (r : Result Piece ReadFault) → ReadsTo (SpellsPiece current ts) (IsLeast (HoldsAgainstPiece current ts)) r
     → ReadsTo (λ q. AllHold (staged ts) ts (Plain (piece_word q) ∷ piece_values q)) (IsLeast (IsAgainstSome (staged ts) ts)) r
 staged_reads [] (Ok q) h = absurd h
 staged_reads [] (Err faults.Memory) h = tt
 staged_reads [] (Err (faults.Refused x)) h = h
-staged_reads (word ∷ ts) r h = by (form_of piece_forms word) r h
+staged_reads (word ∷ ts) r h = by (form_of (piece_forms current) word) r h
   where
     by : (o : Option Form) (r : Result Piece ReadFault) → ReadsTo (λ q. (word ≡ piece_word q) × IsMet o ts (piece_values q)) (IsLeast (IsUnmet o ts)) r
         → ReadsTo (λ q. AllHold (piece_fields_of o word) (word ∷ ts) (Plain (piece_word q) ∷ piece_values q)) (IsLeast (IsAgainstSome (piece_fields_of o word) (word ∷ ts))) r
@@ -259,22 +275,22 @@ staged_reads (word ∷ ts) r h = by (form_of piece_forms word) r h
     by (Some form) (Err faults.Memory) h = tt
     by (Some form) (Err (faults.Refused x)) h = (h.0, first_holds (OneOf (word ∷ [])) form word ts (Plain word) x.number (refl, inl refl) h.1)
 
-abbrev pub piece_fields : (ts : List Text) (r : Result Piece ReadFault) → ReadsTo (SpellsPiece ts) (IsLeast (HoldsAgainstPiece ts)) r → AreFields (staged ts) ts r
+abbrev pub piece_fields : (ts : List Text) (r : Result Piece ReadFault) → ReadsTo (SpellsPiece current ts) (IsLeast (HoldsAgainstPiece current ts)) r → AreFields (staged ts) ts r
 piece_fields ts r h = record { values = λ q. Plain (piece_word q) ∷ piece_values q; reads = staged_reads ts r h }
 
 pub stage_met : (a b : Text) (ts : List Text) (v w x : Value) (vs : List Value) → AllHold (AName ∷ id_field ∷ staged ts) (a ∷ b ∷ ts) (v ∷ w ∷ x ∷ vs)
-    → IsMet (stage_form (a ∷ b ∷ ts)) (a ∷ b ∷ ts) (v ∷ w ∷ x ∷ vs)
+    → IsMet (stage_form current (a ∷ b ∷ ts)) (a ∷ b ∷ ts) (v ∷ w ∷ x ∷ vs)
 stage_met a b [] v w x vs h = absurd h.1.1
-stage_met a b (word ∷ ts) v w x vs h = by (form_of piece_forms word) x h
+stage_met a b (word ∷ ts) v w x vs h = by (form_of (piece_forms current) word) x h
   where
     by : (o : Option Form) (x : Value) → AllHold (AName ∷ id_field ∷ piece_fields_of o word) (a ∷ b ∷ word ∷ ts) (v ∷ w ∷ x ∷ vs) → IsMet (with_piece o word) (a ∷ b ∷ word ∷ ts) (v ∷ w ∷ x ∷ vs)
     by None (Whole z) h = absurd h.1.1.0
     by None (Plain y) h = absurd h.1.1.0.1
     by (Some form) x h = h
 
-pub stage_unmet : (a b : Text) (ts : List Text) (n : ℕ) → IsLeast (IsAgainstSome (AName ∷ id_field ∷ staged ts) (a ∷ b ∷ ts)) n → IsLeast (IsUnmet (stage_form (a ∷ b ∷ ts)) (a ∷ b ∷ ts)) n
+pub stage_unmet : (a b : Text) (ts : List Text) (n : ℕ) → IsLeast (IsAgainstSome (AName ∷ id_field ∷ staged ts) (a ∷ b ∷ ts)) n → IsLeast (IsUnmet (stage_form current (a ∷ b ∷ ts)) (a ∷ b ∷ ts)) n
 stage_unmet a b [] n l = only_ten (AName ∷ id_field ∷ staged []) (a ∷ b ∷ []) n (inr (inr refl)) l
-stage_unmet a b (word ∷ ts) n l = by (form_of piece_forms word) l
+stage_unmet a b (word ∷ ts) n l = by (form_of (piece_forms current) word) l
   where
     by : (o : Option Form) → IsLeast (IsAgainstSome (AName ∷ id_field ∷ piece_fields_of o word) (a ∷ b ∷ word ∷ ts)) n → IsLeast (IsUnmet (with_piece o word) (a ∷ b ∷ word ∷ ts)) n
     by None l = only_ten (AName ∷ id_field ∷ piece_fields_of None word) (a ∷ b ∷ word ∷ ts) n (inr (inr (inl (refl, λ a. a)))) l
@@ -291,14 +307,14 @@ two_and_rest xs some =
 
 pub stage_refuses : {A : Type 0} {r : Result A ReadFault} {fault : ReadFault} (xs : List (Bor Text)) → 2 ≤ length xs → r ≡ Err fault
     → AreFields (AName ∷ id_field ∷ staged (texts_of (after_two xs))) (text_at xs 0 ∷ text_at xs 1 ∷ texts_of (after_two xs)) r
-    → ReadsTo {A = ⊤} (λ _. ⊤) (IsLeast (IsUnmet (stage_form (texts_of xs)) (texts_of xs))) (Err fault)
+    → ReadsTo {A = ⊤} (λ _. ⊤) (IsLeast (IsUnmet (stage_form current (texts_of xs)) (texts_of xs))) (Err fault)
 stage_refuses {fault = fault} xs some e h =
-    subst (λ ts. ReadsTo {A = ⊤} (λ _. ⊤) (IsLeast (IsUnmet (stage_form ts) ts)) (Err fault)) (sym (two_and_rest xs some))
+    subst (λ ts. ReadsTo {A = ⊤} (λ _. ⊤) (IsLeast (IsUnmet (stage_form current ts) ts)) (Err fault)) (sym (two_and_rest xs some))
     (by fault (subst (ReadsTo (λ x. AllHold (AName ∷ id_field ∷ staged (texts_of (after_two xs))) (text_at xs 0 ∷ text_at xs 1 ∷ texts_of (after_two xs)) (h.values x))
     (IsLeast (IsAgainstSome (AName ∷ id_field ∷ staged (texts_of (after_two xs))) (text_at xs 0 ∷ text_at xs 1 ∷ texts_of (after_two xs))))) e h.reads))
   where
     by : (fault : ReadFault)
         → ReadsTo {A = ⊤} (λ _. ⊤) (IsLeast (IsAgainstSome (AName ∷ id_field ∷ staged (texts_of (after_two xs))) (text_at xs 0 ∷ text_at xs 1 ∷ texts_of (after_two xs)))) (Err fault)
-        → ReadsTo {A = ⊤} (λ _. ⊤) (IsLeast (IsUnmet (stage_form (text_at xs 0 ∷ text_at xs 1 ∷ texts_of (after_two xs))) (text_at xs 0 ∷ text_at xs 1 ∷ texts_of (after_two xs)))) (Err fault)
+        → ReadsTo {A = ⊤} (λ _. ⊤) (IsLeast (IsUnmet (stage_form current (text_at xs 0 ∷ text_at xs 1 ∷ texts_of (after_two xs))) (text_at xs 0 ∷ text_at xs 1 ∷ texts_of (after_two xs)))) (Err fault)
     by faults.Memory h = tt
     by (faults.Refused x) h = (h.0, stage_unmet (text_at xs 0) (text_at xs 1) (texts_of (after_two xs)) x.number h.1)

@@ -11,6 +11,7 @@ ghost use Rattle.mm_base.specs.Records as forms;
 
 use mm_base::answers::ReadFault;
 use mm_base::commands::{PlainKind, RelationName, Step};
+use mm_base::limits::{LAST_ID, LAST_ZOOM};
 use mm_base::names::Name;
 use mm_base::numbers::read_number;
 
@@ -60,14 +61,14 @@ pub(crate) fn number_field(text: &str, least: i64, most: i64) -> Result<i64, Rea
 pub(crate) fn id_field(text: &str) -> Result<i64, ReadFault>
     ensures { ReadsTo (λ z. Holds forms.id_field text.now (Whole z)) (IsAgainst forms.id_field text.now) result }
 {
-    number_field(text, 1, 9_007_199_254_740_992)
+    number_field(text, 1, LAST_ID)
 }
 
 /// A zoom level, 0 to 30.
 pub(crate) fn zoom_field(text: &str) -> Result<u8, ReadFault>
     ensures { ReadsTo (λ z. Holds forms.zoom_field text.now (Whole (pos z))) (IsAgainst forms.zoom_field text.now) result }
 {
-    match number_field(text, 0, 30) {
+    match number_field(text, 0, LAST_ZOOM as i64) {
         Ok(number) => Ok(number as u8),
         Err(fault) => Err(fault),
     }

@@ -1,6 +1,7 @@
 //! Readers of the records of pieces.
 
 ghost use Rattle.std.specs.Prelude.{◌≡◌, IfOk, map, codes};
+ghost use Rattle.mm_base.specs.Bounds.{current};
 ghost use Rattle.mm_base.specs.Reading.{ReadsTo};
 ghost use Rattle.mm_base.specs.Fields.{AllHold, IsAgainstSome};
 ghost use Rattle.mm_base.specs.Records.{IsLeast, piece_values, piece_word, SpellsPiece, HoldsAgainstPiece};
@@ -10,16 +11,11 @@ ghost use Rattle.mm_base.specs.Within.{IsPieceWithin};
 use crate::fields::{both, count_field, id_field, name_field, number_field, zoom_field};
 use mm_base::answers::ReadFault;
 use mm_base::bytes::{MediaBytes, TileBytes};
-use mm_base::commands::Piece;
+use mm_base::commands::{Matrix, Piece};
 use mm_base::content_types::ContentType;
+use mm_base::limits::{LARGEST_PIXEL, LAST_PLACE, MOST_AMOUNT, MOST_PIXELS, MOST_TILES};
 use mm_base::texts::Remark;
 use std::alloc::Global;
-
-/// The last column or row that a tile may have.
-const LAST_PLACE: u32 = 1_073_741_823;
-
-/// The largest amount of an attribute row, either way.
-const MOST_AMOUNT: i64 = 1_000_000_000_000_000;
 
 /// `tile,TABLE,Z,C,R,HEX`
 fn read_tile(alloc: Global, fields: &[&str]) -> Result<Piece, ReadFault>
@@ -227,9 +223,57 @@ fn read_map_drop(fields: &[&str]) -> Result<Piece, ReadFault>
     }
 }
 
-/// The piece that a record of one of the eight kinds spells.
+/// `matrix,TABLE,Z,MW,MH,TW,TH,PX,PY`
+fn read_matrix(fields: &[&str]) -> Result<Piece, ReadFault>
+    ensures { ReadsTo (λ c. (piece_word c ≡ codes "matrix") × AllHold (forms.matrix_form current) (map (λ f. f.now) fields.now) (piece_values c)) (IsLeast (IsAgainstSome (forms.matrix_form current) (map (λ f. f.now) fields.now))) result }
+{
+    let [table, zoom, mw, mh, tw, th, px, py] = fields else {
+        return Err(ReadFault::refused(10));
+    };
+    match both(
+        name_field(table),
+        both(
+            zoom_field(zoom),
+            both(
+                count_field(mw, 1, MOST_TILES),
+                both(
+                    count_field(mh, 1, MOST_TILES),
+                    both(
+                        count_field(tw, 1, MOST_PIXELS),
+                        both(
+                            count_field(th, 1, MOST_PIXELS),
+                            both(
+                                number_field(px, 1, LARGEST_PIXEL),
+                                number_field(py, 1, LARGEST_PIXEL),
+                            ),
+                        ),
+                    ),
+                ),
+            ),
+        ),
+    ) {
+        Ok(read) => {
+            let (table, (zoom, (mw, (mh, (tw, (th, (px, py))))))) = read;
+            Ok(Piece::Matrix {
+                table,
+                zoom,
+                matrix: Matrix {
+                    mw,
+                    mh,
+                    tw,
+                    th,
+                    px,
+                    py,
+                },
+            })
+        }
+        Err(fault) => Err(fault),
+    }
+}
+
+/// The piece that a record of one of the nine kinds spells.
 fn piece_of(alloc: Global, fields: &[&str]) -> Result<Piece, ReadFault>
-    ensures { ReadsTo (SpellsPiece (map (λ f. f.now) fields.now)) (IsLeast (HoldsAgainstPiece (map (λ f. f.now) fields.now))) result }
+    ensures { ReadsTo (SpellsPiece current (map (λ f. f.now) fields.now)) (IsLeast (HoldsAgainstPiece current (map (λ f. f.now) fields.now))) result }
 {
     let [word, rest @ ..] = fields else {
         return Err(ReadFault::refused(10));
@@ -243,6 +287,7 @@ fn piece_of(alloc: Global, fields: &[&str]) -> Result<Piece, ReadFault>
         "media-drop" => read_media_drop(rest),
         "map" => read_map(rest),
         "map-drop" => read_map_drop(rest),
+        "matrix" => read_matrix(rest),
         _ => Err(ReadFault::refused(10)),
     }
 }
@@ -251,8 +296,8 @@ fn piece_of(alloc: Global, fields: &[&str]) -> Result<Piece, ReadFault>
 /// of no piece, 11 where a number or length is outside its limits, 12 where a name is none. Memory is answered only
 /// for want of memory.
 pub fn read_piece(alloc: Global, fields: &[&str]) -> Result<Piece, ReadFault>
-    ensures reads { ReadsTo (SpellsPiece (map (λ f. f.now) fields.now)) (IsLeast (HoldsAgainstPiece (map (λ f. f.now) fields.now))) result }
-    ensures within { IfOk result IsPieceWithin }
+    ensures reads { ReadsTo (SpellsPiece current (map (λ f. f.now) fields.now)) (IsLeast (HoldsAgainstPiece current (map (λ f. f.now) fields.now))) result }
+    ensures within { IfOk result (IsPieceWithin current) }
 {
     piece_of(alloc, fields)
 }

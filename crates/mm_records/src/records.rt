@@ -1,39 +1,26 @@
 //! Readers of the records of commands.
 
 ghost use Rattle.std.specs.Prelude.{◌≡◌, true, IfOk, map, codes};
-ghost use Rattle.mm_base.specs.Bounds.{millimetres};
+ghost use Rattle.mm_base.specs.Bounds.{current};
 ghost use Rattle.mm_base.specs.Reading.{ReadsTo};
 ghost use Rattle.mm_base.specs.Fields.{AllHold, IsAgainstSome};
 ghost use Rattle.mm_base.specs.Records.{IsLeast, command_values, command_word, Spells, HoldsAgainst, HoldsAgainstPiece, SpellsPiece, IsMet, IsUnmet, stage_form};
-ghost use Rattle.mm_base.specs.PieceGroups.{changes_tile, changes_item, changes_mapping};
+ghost use Rattle.mm_base.specs.PieceGroups.{changes_tile, changes_item, changes_mapping, puts_matrix};
 ghost use Rattle.mm_base.specs.Pieces.{piece_command};
 ghost use Rattle.mm_base.specs.declared.commands.Piece.{Piece};
 ghost use Rattle.mm_base.specs.Records as forms;
 ghost use Rattle.mm_base.specs.Within.{IsWithin};
 
 use crate::fields::{
-    both, count_field, id_field, kind_field, name_field, number_field, relation_field, step_field,
-    zoom_field,
+    both, id_field, kind_field, name_field, number_field, relation_field, step_field,
 };
 use crate::pieces::read_piece;
 use mm_base::answers::ReadFault;
-use mm_base::commands::{Command, Matrix, Piece};
-use mm_base::extents::FARTHEST;
+use mm_base::commands::{Command, Piece};
 use mm_base::identifiers::Identifier;
+use mm_base::limits::{FARTHEST, LAST_ID};
 use mm_base::texts::{Definition, Remark, SystemName};
 use std::alloc::Global;
-
-/// The most tiles that a matrix may have in a row or column.
-const MOST_TILES: u32 = 1_073_741_824;
-
-/// The most pixels that a tile may have in a row or column.
-const MOST_PIXELS: u32 = 4096;
-
-/// The largest size of a pixel, in millimetres.
-const LARGEST_PIXEL: i64 = 1_000_000_000;
-
-/// The largest number of a reference system.
-const MOST_ID: i64 = 9_007_199_254_740_992;
 
 /// `srs,ID,NAME,ORG,ORGID,DEFINITION,DESCRIPTION`
 fn read_srs(alloc: Global, fields: &[&str]) -> Result<Command, ReadFault>
@@ -83,7 +70,7 @@ fn read_srs(alloc: Global, fields: &[&str]) -> Result<Command, ReadFault>
 
 /// `pyramid,TABLE,IDENTIFIER,SRS,MINX,MINY,MAXX,MAXY,STEP`
 fn read_pyramid(alloc: Global, fields: &[&str]) -> Result<Command, ReadFault>
-    ensures { ReadsTo (λ c. (command_word c ≡ codes "pyramid") × AllHold (forms.pyramid_form millimetres) (map (λ f. f.now) fields.now) (command_values c)) (IsLeast (IsAgainstSome (forms.pyramid_form millimetres) (map (λ f. f.now) fields.now))) result }
+    ensures { ReadsTo (λ c. (command_word c ≡ codes "pyramid") × AllHold (forms.pyramid_form current) (map (λ f. f.now) fields.now) (command_values c)) (IsLeast (IsAgainstSome (forms.pyramid_form current) (map (λ f. f.now) fields.now))) result }
 {
     let [table, identifier, srs, min_x, min_y, max_x, max_y, step] = fields else {
         return Err(ReadFault::refused(10));
@@ -93,7 +80,7 @@ fn read_pyramid(alloc: Global, fields: &[&str]) -> Result<Command, ReadFault>
         both(
             Identifier::read(alloc, identifier),
             both(
-                number_field(srs, -1, MOST_ID),
+                number_field(srs, -1, LAST_ID),
                 both(
                     number_field(min_x, -FARTHEST, FARTHEST),
                     both(
@@ -118,54 +105,6 @@ fn read_pyramid(alloc: Global, fields: &[&str]) -> Result<Command, ReadFault>
                 max_x,
                 max_y,
                 step,
-            })
-        }
-        Err(fault) => Err(fault),
-    }
-}
-
-/// `matrix,TABLE,Z,MW,MH,TW,TH,PX,PY`
-fn read_matrix(fields: &[&str]) -> Result<Command, ReadFault>
-    ensures { ReadsTo (λ c. (command_word c ≡ codes "matrix") × AllHold (forms.matrix_form millimetres) (map (λ f. f.now) fields.now) (command_values c)) (IsLeast (IsAgainstSome (forms.matrix_form millimetres) (map (λ f. f.now) fields.now))) result }
-{
-    let [table, zoom, mw, mh, tw, th, px, py] = fields else {
-        return Err(ReadFault::refused(10));
-    };
-    match both(
-        name_field(table),
-        both(
-            zoom_field(zoom),
-            both(
-                count_field(mw, 1, MOST_TILES),
-                both(
-                    count_field(mh, 1, MOST_TILES),
-                    both(
-                        count_field(tw, 1, MOST_PIXELS),
-                        both(
-                            count_field(th, 1, MOST_PIXELS),
-                            both(
-                                number_field(px, 1, LARGEST_PIXEL),
-                                number_field(py, 1, LARGEST_PIXEL),
-                            ),
-                        ),
-                    ),
-                ),
-            ),
-        ),
-    ) {
-        Ok(read) => {
-            let (table, (zoom, (mw, (mh, (tw, (th, (px, py))))))) = read;
-            Ok(Command::Matrix {
-                table,
-                zoom,
-                matrix: Matrix {
-                    mw,
-                    mh,
-                    tw,
-                    th,
-                    px,
-                    py,
-                },
             })
         }
         Err(fault) => Err(fault),
@@ -302,7 +241,7 @@ fn read_rehearse(fields: &[&str]) -> Result<Command, ReadFault>
 
 /// `stage,EDITION,NO,PIECE..`
 fn read_stage(alloc: Global, fields: &[&str]) -> Result<Command, ReadFault>
-    ensures { ReadsTo (λ c. (command_word c ≡ codes "stage") × IsMet (stage_form (map (λ f. f.now) fields.now)) (map (λ f. f.now) fields.now) (command_values c)) (IsLeast (IsUnmet (stage_form (map (λ f. f.now) fields.now)) (map (λ f. f.now) fields.now))) result }
+    ensures { ReadsTo (λ c. (command_word c ≡ codes "stage") × IsMet (stage_form current (map (λ f. f.now) fields.now)) (map (λ f. f.now) fields.now) (command_values c)) (IsLeast (IsUnmet (stage_form current (map (λ f. f.now) fields.now)) (map (λ f. f.now) fields.now))) result }
 {
     let [edition, number, piece @ ..] = fields else {
         return Err(ReadFault::refused(10));
@@ -421,6 +360,25 @@ fn mapping_command(piece: Piece) -> Command
     }
 }
 
+/// The command that a piece is which puts a matrix.
+fn matrix_command(piece: Piece) -> Command
+    requires { puts_matrix piece ≡ true }
+    ensures { result ≡ piece_command piece }
+{
+    match piece {
+        Piece::Matrix {
+            table,
+            zoom,
+            matrix,
+        } => Command::Matrix {
+            table,
+            zoom,
+            matrix,
+        },
+        _ => unreachable!(),
+    }
+}
+
 /// The command that a piece is.
 fn command_of(piece: Piece) -> Command
     ensures { result ≡ piece_command piece }
@@ -430,12 +388,13 @@ fn command_of(piece: Piece) -> Command
         Piece::Row { .. } | Piece::RowDrop { .. } | Piece::Media { .. } | Piece::MediaDrop { .. } =>
             item_command(piece),
         Piece::Map { .. } | Piece::MapDrop { .. } => mapping_command(piece),
+        Piece::Matrix { .. } => matrix_command(piece),
     }
 }
 
 /// The command that the record of a piece spells.
 fn read_edit(alloc: Global, fields: &[&str]) -> Result<Command, ReadFault>
-    ensures { ReadsTo (λ c. (q : Piece) × (c ≡ piece_command q) × SpellsPiece (map (λ f. f.now) fields.now) q) (IsLeast (HoldsAgainstPiece (map (λ f. f.now) fields.now))) result }
+    ensures { ReadsTo (λ c. (q : Piece) × (c ≡ piece_command q) × SpellsPiece current (map (λ f. f.now) fields.now) q) (IsLeast (HoldsAgainstPiece current (map (λ f. f.now) fields.now))) result }
 {
     match read_piece(alloc, fields) {
         Ok(piece) => Ok(command_of(piece)),
@@ -445,7 +404,7 @@ fn read_edit(alloc: Global, fields: &[&str]) -> Result<Command, ReadFault>
 
 /// The command that a record spells.
 fn command_in(alloc: Global, fields: &[&str]) -> Result<Command, ReadFault>
-    ensures { ReadsTo (Spells millimetres (map (λ f. f.now) fields.now)) (IsLeast (HoldsAgainst millimetres (map (λ f. f.now) fields.now))) result }
+    ensures { ReadsTo (Spells current (map (λ f. f.now) fields.now)) (IsLeast (HoldsAgainst current (map (λ f. f.now) fields.now))) result }
 {
     let [word, rest @ ..] = fields else {
         return Err(ReadFault::refused(10));
@@ -454,7 +413,6 @@ fn command_in(alloc: Global, fields: &[&str]) -> Result<Command, ReadFault>
         "stage" => read_stage(alloc, rest),
         "srs" => read_srs(alloc, rest),
         "pyramid" => read_pyramid(alloc, rest),
-        "matrix" => read_matrix(rest),
         "table" => read_table(alloc, rest),
         "drop" => read_drop(rest),
         "relation" => read_relation(rest),
@@ -471,8 +429,8 @@ fn command_in(alloc: Global, fields: &[&str]) -> Result<Command, ReadFault>
 /// record of no command, 11 where a number or length is outside its limits, 12 where a name is none. Memory is
 /// answered only for want of memory.
 pub fn read_command(alloc: Global, fields: &[&str]) -> Result<Command, ReadFault>
-    ensures reads { ReadsTo (Spells millimetres (map (λ f. f.now) fields.now)) (IsLeast (HoldsAgainst millimetres (map (λ f. f.now) fields.now))) result }
-    ensures within { IfOk result (IsWithin millimetres) }
+    ensures reads { ReadsTo (Spells current (map (λ f. f.now) fields.now)) (IsLeast (HoldsAgainst current (map (λ f. f.now) fields.now))) result }
+    ensures within { IfOk result (IsWithin current) }
 {
     command_in(alloc, fields)
 }

@@ -10,6 +10,7 @@ ghost use Rattle.mm_routes.specs.Routes.{IsRow, Took, TookRow, TookTile, asked, 
 
 use matchit::{InsertError, Params, Router};
 use mm_base::answers::Fault;
+use mm_base::limits::{LAST_ID, LAST_PLACE, LAST_ZOOM};
 use mm_base::names::Name;
 use mm_base::numbers::read_number;
 use std::alloc::Global;
@@ -83,13 +84,13 @@ fn tile_wanted(params: &Params<'_, '_>) -> Option<Wanted>
     let Some(table) = name_of(params, "table") else {
         return None;
     };
-    let Some(zoom) = number_of(params, "z", 0, 30) else {
+    let Some(zoom) = number_of(params, "z", 0, LAST_ZOOM as i64) else {
         return None;
     };
-    let Some(column) = number_of(params, "c", 0, 1_073_741_823) else {
+    let Some(column) = number_of(params, "c", 0, LAST_PLACE as i64) else {
         return None;
     };
-    let Some(row) = number_of(params, "r", 0, 1_073_741_823) else {
+    let Some(row) = number_of(params, "r", 0, LAST_PLACE as i64) else {
         return None;
     };
     Some(Wanted::Tile {
@@ -106,7 +107,7 @@ fn row_wanted(params: &Params<'_, '_>) -> Option<(Name, i64)>
     let Some(table) = name_of(params, "table") else {
         return None;
     };
-    let Some(id) = number_of(params, "id", 1, 9_007_199_254_740_992) else {
+    let Some(id) = number_of(params, "id", 1, LAST_ID) else {
         return None;
     };
     Some((table, id))

@@ -4,7 +4,7 @@ use Rattle.std.specs.FinMap.{get}
 use Rattle.mm_base.specs.Parts.{Each, Has, Stands}
 use Rattle.mm_base.specs.Package.{Package, HasKind, open_state, published_state, general_extension, mapping_extension, zoom_extension}
 use Rattle.mm_base.specs.Rules.{MayName, Suits, IsOrdered, IsSpelled, IsWanted}
-use Rattle.mm_base.specs.Bounds.{IsFrom, MostPieces}
+use Rattle.mm_base.specs.Bounds.{Profile, IsFrom, MostPieces}
 use Rattle.mm_base.specs.Keys.{piece}
 use Rattle.mm_base.specs.declared.commands.Kind.{Kind}
 use Rattle.mm_base.specs.declared.commands.Kind.TheVariants.{Attributes, Media}
@@ -51,8 +51,8 @@ EditionStates p = Each p.editions (λ _ state. (state ≡ open_state) ⊎ (state
 abbrev pub PiecesOfOpen : Package → Type 0
 PiecesOfOpen p = Each p.pieces (λ k _. Has p.editions k.edition open_state)
 
-abbrev pub PiecesSpelled : Package → Type 0
-PiecesSpelled p = Each p.pieces (λ _ r. IsSpelled r)
+abbrev pub PiecesSpelled : Profile → Package → Type 0
+PiecesSpelled profile p = Each p.pieces (λ _ r. IsSpelled profile r)
 
 -- each is the first or follows another
 abbrev pub PiecesNumbered : Package → Type 0

@@ -2,7 +2,7 @@
 
 ghost use Rattle.std.specs.Prelude.{⊤, ◌↔◌, ℤ, IsTrue};
 ghost use Rattle.sqlite.specs.Held.{state};
-ghost use Rattle.mm_base.specs.Bounds.{millimetres};
+ghost use Rattle.mm_base.specs.Bounds.{Profile};
 ghost use Rattle.mm_base.specs.Rules.{NamedSystems, DistinctIdentifiers, Names, Registry, Extents, Limits, IsPlane, IsOrdered};
 ghost use Rattle.mm_rules.specs.Check.{IsCheck};
 ghost use Rattle.sqlite.specs.Order.{column};
@@ -38,7 +38,7 @@ impl RowTest for MayName {
 
 /// Of rule 2, what it asks of contents.
 pub fn contents_systems<S: Alter>(conn: &mut Connection<S>) -> Result<bool, Fault>
-    ensures { IsCheck millimetres (state S.Store conn.old) (state S.Store conn.new) (λ _. ⊤) (λ p. ContentsSystems p) result }
+    ensures { (profile : Profile) → IsCheck profile (state S.Store conn.old) (state S.Store conn.new) (λ _. ⊤) (λ p. ContentsSystems p) result }
 {
     each_passes(
         conn,
@@ -50,7 +50,7 @@ pub fn contents_systems<S: Alter>(conn: &mut Connection<S>) -> Result<bool, Faul
 
 /// Of rule 2, what it asks of matrix sets.
 pub fn set_systems<S: Alter>(conn: &mut Connection<S>) -> Result<bool, Fault>
-    ensures { IsCheck millimetres (state S.Store conn.old) (state S.Store conn.new) (λ _. ⊤) (λ p. SetSystems p) result }
+    ensures { (profile : Profile) → IsCheck profile (state S.Store conn.old) (state S.Store conn.new) (λ _. ⊤) (λ p. SetSystems p) result }
 {
     each_passes(
         conn,
@@ -62,7 +62,7 @@ pub fn set_systems<S: Alter>(conn: &mut Connection<S>) -> Result<bool, Fault>
 
 /// Rule 2: each system that is named stands, and no pyramid names a geographic one.
 pub fn named_systems<S: Alter>(conn: &mut Connection<S>) -> Result<bool, Fault>
-    ensures { IsCheck millimetres (state S.Store conn.old) (state S.Store conn.new) (λ _. ⊤) (λ p. NamedSystems p.systems p.contents p.kinds p.sets) result }
+    ensures { (profile : Profile) → IsCheck profile (state S.Store conn.old) (state S.Store conn.new) (λ _. ⊤) (λ p. NamedSystems p.systems p.contents p.kinds p.sets) result }
 {
     match contents_systems(conn) {
         Ok(true) => set_systems(conn),
@@ -84,7 +84,7 @@ impl RowTest for Same {
 
 /// Rule 3: identifiers differ.
 pub fn distinct_identifiers<S: Alter>(conn: &mut Connection<S>) -> Result<bool, Fault>
-    ensures { IsCheck millimetres (state S.Store conn.old) (state S.Store conn.new) (λ _. ⊤) (λ p. DistinctIdentifiers p.contents) result }
+    ensures { (profile : Profile) → IsCheck profile (state S.Store conn.old) (state S.Store conn.new) (λ _. ⊤) (λ p. DistinctIdentifiers p.contents) result }
 {
     each_passes(
         conn,
@@ -107,7 +107,7 @@ impl RowTest for Absent {
 
 /// Of rule 4, that no mapping has the name of a table.
 pub fn mapping_names<S: Alter>(conn: &mut Connection<S>) -> Result<bool, Fault>
-    ensures { IsCheck millimetres (state S.Store conn.old) (state S.Store conn.new) (λ _. ⊤) (λ p. MappingNames p) result }
+    ensures { (profile : Profile) → IsCheck profile (state S.Store conn.old) (state S.Store conn.new) (λ _. ⊤) (λ p. MappingNames p) result }
 {
     each_passes(
         conn,
@@ -119,7 +119,7 @@ pub fn mapping_names<S: Alter>(conn: &mut Connection<S>) -> Result<bool, Fault>
 
 /// Rule 4, where rule 16 holds: no mapping has the name of a table.
 pub fn names<S: Alter>(conn: &mut Connection<S>) -> Result<bool, Fault>
-    ensures { IsCheck millimetres (state S.Store conn.old) (state S.Store conn.new) (λ p. Limits millimetres p) (λ p. Names p.contents p.relations p.editions) result }
+    ensures { (profile : Profile) → IsCheck profile (state S.Store conn.old) (state S.Store conn.new) (λ p. Limits profile p) (λ p. Names p.contents p.relations p.editions) result }
 {
     mapping_names(conn)
 }
@@ -175,7 +175,7 @@ impl RowTest for Suited {
 
 /// Of rule 5, that each table has a kind that suits it.
 pub fn registered<S: Alter>(conn: &mut Connection<S>) -> Result<bool, Fault>
-    ensures { IsCheck millimetres (state S.Store conn.old) (state S.Store conn.new) (λ _. ⊤) (λ p. Registered p) result }
+    ensures { (profile : Profile) → IsCheck profile (state S.Store conn.old) (state S.Store conn.new) (λ _. ⊤) (λ p. Registered p) result }
 {
     each_passes(
         conn,
@@ -187,7 +187,7 @@ pub fn registered<S: Alter>(conn: &mut Connection<S>) -> Result<bool, Fault>
 
 /// Of rule 5, that each kind is that of a table.
 pub fn kinds_have_contents<S: Alter>(conn: &mut Connection<S>) -> Result<bool, Fault>
-    ensures { IsCheck millimetres (state S.Store conn.old) (state S.Store conn.new) (λ _. ⊤) (λ p. KindsHaveContents p) result }
+    ensures { (profile : Profile) → IsCheck profile (state S.Store conn.old) (state S.Store conn.new) (λ _. ⊤) (λ p. KindsHaveContents p) result }
 {
     each_passes(
         conn,
@@ -199,7 +199,7 @@ pub fn kinds_have_contents<S: Alter>(conn: &mut Connection<S>) -> Result<bool, F
 
 /// Of rule 5, that each matrix set is that of a table.
 pub fn sets_have_contents<S: Alter>(conn: &mut Connection<S>) -> Result<bool, Fault>
-    ensures { IsCheck millimetres (state S.Store conn.old) (state S.Store conn.new) (λ _. ⊤) (λ p. SetsHaveContents p) result }
+    ensures { (profile : Profile) → IsCheck profile (state S.Store conn.old) (state S.Store conn.new) (λ _. ⊤) (λ p. SetsHaveContents p) result }
 {
     each_passes(
         conn,
@@ -211,7 +211,7 @@ pub fn sets_have_contents<S: Alter>(conn: &mut Connection<S>) -> Result<bool, Fa
 
 /// Of rule 5, that kinds and matrix sets are those of tables.
 pub fn have_contents<S: Alter>(conn: &mut Connection<S>) -> Result<bool, Fault>
-    ensures { IsCheck millimetres (state S.Store conn.old) (state S.Store conn.new) (λ _. ⊤) (λ p. KindsHaveContents p × SetsHaveContents p) result }
+    ensures { (profile : Profile) → IsCheck profile (state S.Store conn.old) (state S.Store conn.new) (λ _. ⊤) (λ p. KindsHaveContents p × SetsHaveContents p) result }
 {
     match kinds_have_contents(conn) {
         Ok(true) => sets_have_contents(conn),
@@ -222,7 +222,7 @@ pub fn have_contents<S: Alter>(conn: &mut Connection<S>) -> Result<bool, Fault>
 
 /// Rule 5: the registry, the contents and the matrix sets speak of the same tables.
 pub fn registry<S: Alter>(conn: &mut Connection<S>) -> Result<bool, Fault>
-    ensures { IsCheck millimetres (state S.Store conn.old) (state S.Store conn.new) (λ _. ⊤) (λ p. Registry p.contents p.kinds p.sets) result }
+    ensures { (profile : Profile) → IsCheck profile (state S.Store conn.old) (state S.Store conn.new) (λ _. ⊤) (λ p. Registry p.contents p.kinds p.sets) result }
 {
     match registered(conn) {
         Ok(true) => have_contents(conn),
@@ -254,7 +254,7 @@ impl RowTest for Ordered {
 
 /// Of rule 6, what it asks of matrix sets.
 pub fn set_extents<S: Alter>(conn: &mut Connection<S>) -> Result<bool, Fault>
-    ensures { IsCheck millimetres (state S.Store conn.old) (state S.Store conn.new) (λ _. ⊤) (λ p. SetExtents p) result }
+    ensures { (profile : Profile) → IsCheck profile (state S.Store conn.old) (state S.Store conn.new) (λ _. ⊤) (λ p. SetExtents p) result }
 {
     each_passes(
         conn,
@@ -266,7 +266,7 @@ pub fn set_extents<S: Alter>(conn: &mut Connection<S>) -> Result<bool, Fault>
 
 /// Of rule 6, what it asks of contents.
 pub fn contents_extents<S: Alter>(conn: &mut Connection<S>) -> Result<bool, Fault>
-    ensures { IsCheck millimetres (state S.Store conn.old) (state S.Store conn.new) (λ _. ⊤) (λ p. ContentsExtents p) result }
+    ensures { (profile : Profile) → IsCheck profile (state S.Store conn.old) (state S.Store conn.new) (λ _. ⊤) (λ p. ContentsExtents p) result }
 {
     each_passes(
         conn,
@@ -278,7 +278,7 @@ pub fn contents_extents<S: Alter>(conn: &mut Connection<S>) -> Result<bool, Faul
 
 /// Rule 6: extents are not empty.
 pub fn extents<S: Alter>(conn: &mut Connection<S>) -> Result<bool, Fault>
-    ensures { IsCheck millimetres (state S.Store conn.old) (state S.Store conn.new) (λ _. ⊤) (λ p. Extents p.contents p.sets) result }
+    ensures { (profile : Profile) → IsCheck profile (state S.Store conn.old) (state S.Store conn.new) (λ _. ⊤) (λ p. Extents p.contents p.sets) result }
 {
     match set_extents(conn) {
         Ok(true) => contents_extents(conn),

@@ -2,7 +2,7 @@
 
 ghost use Rattle.std.specs.Prelude.{⊤, ◌↔◌, IsTrue};
 ghost use Rattle.sqlite.specs.Held.{state};
-ghost use Rattle.mm_base.specs.Bounds.{millimetres};
+ghost use Rattle.mm_base.specs.Bounds.{Profile};
 ghost use Rattle.mm_base.specs.Rules.{ExactExtensions};
 ghost use Rattle.mm_rules.specs.Check.{IsCheck};
 ghost use Rattle.mm_rules.specs.Parts.{ExtensionsWanted, ExtensionsOnce, GeneralExtension, MappingExtensions, ZoomExtensions};
@@ -46,7 +46,7 @@ impl RowTest for Wanted {
 
 /// Of rule 14, that each extension row is wanted.
 pub fn extensions_wanted<S: Alter>(conn: &mut Connection<S>) -> Result<bool, Fault>
-    ensures { IsCheck millimetres (state S.Store conn.old) (state S.Store conn.new) (λ _. ⊤) (λ p. ExtensionsWanted p) result }
+    ensures { (profile : Profile) → IsCheck profile (state S.Store conn.old) (state S.Store conn.new) (λ _. ⊤) (λ p. ExtensionsWanted p) result }
 {
     each_passes(
         conn,
@@ -69,7 +69,7 @@ impl RowTest for Never {
 
 /// Of rule 14, that no extension row stands twice.
 pub fn extensions_once<S: Alter>(conn: &mut Connection<S>) -> Result<bool, Fault>
-    ensures { IsCheck millimetres (state S.Store conn.old) (state S.Store conn.new) (λ _. ⊤) (λ p. ExtensionsOnce p) result }
+    ensures { (profile : Profile) → IsCheck profile (state S.Store conn.old) (state S.Store conn.new) (λ _. ⊤) (λ p. ExtensionsOnce p) result }
 {
     each_passes(
         conn,
@@ -92,7 +92,7 @@ impl RowTest for Standing {
 
 /// Of rule 14, that the row of related tables stands.
 pub fn general_extension<S: Alter>(conn: &mut Connection<S>) -> Result<bool, Fault>
-    ensures { IsCheck millimetres (state S.Store conn.old) (state S.Store conn.new) (λ _. ⊤) (λ p. GeneralExtension p) result }
+    ensures { (profile : Profile) → IsCheck profile (state S.Store conn.old) (state S.Store conn.new) (λ _. ⊤) (λ p. GeneralExtension p) result }
 {
     each_passes(
         conn,
@@ -104,7 +104,7 @@ pub fn general_extension<S: Alter>(conn: &mut Connection<S>) -> Result<bool, Fau
 
 /// Of rule 14, that each mapping has its row.
 pub fn mapping_extensions<S: Alter>(conn: &mut Connection<S>) -> Result<bool, Fault>
-    ensures { IsCheck millimetres (state S.Store conn.old) (state S.Store conn.new) (λ _. ⊤) (λ p. MappingExtensions p) result }
+    ensures { (profile : Profile) → IsCheck profile (state S.Store conn.old) (state S.Store conn.new) (λ _. ⊤) (λ p. MappingExtensions p) result }
 {
     each_passes(
         conn,
@@ -127,7 +127,7 @@ impl RowTest for Marked {
 
 /// Of rule 14, that each pyramid of kind `other` has its row.
 pub fn zoom_extensions<S: Alter>(conn: &mut Connection<S>) -> Result<bool, Fault>
-    ensures { IsCheck millimetres (state S.Store conn.old) (state S.Store conn.new) (λ _. ⊤) (λ p. ZoomExtensions p) result }
+    ensures { (profile : Profile) → IsCheck profile (state S.Store conn.old) (state S.Store conn.new) (λ _. ⊤) (λ p. ZoomExtensions p) result }
 {
     each_passes(
         conn,
@@ -139,7 +139,7 @@ pub fn zoom_extensions<S: Alter>(conn: &mut Connection<S>) -> Result<bool, Fault
 
 /// Of rule 14, that each mapping and each pyramid of kind `other` has its row.
 pub fn pyramids_marked<S: Alter>(conn: &mut Connection<S>) -> Result<bool, Fault>
-    ensures { IsCheck millimetres (state S.Store conn.old) (state S.Store conn.new) (λ _. ⊤) (λ p. MappingExtensions p × ZoomExtensions p) result }
+    ensures { (profile : Profile) → IsCheck profile (state S.Store conn.old) (state S.Store conn.new) (λ _. ⊤) (λ p. MappingExtensions p × ZoomExtensions p) result }
 {
     match mapping_extensions(conn) {
         Ok(true) => zoom_extensions(conn),
@@ -150,7 +150,7 @@ pub fn pyramids_marked<S: Alter>(conn: &mut Connection<S>) -> Result<bool, Fault
 
 /// Of rule 14, that each row that is wanted stands.
 pub fn all_stand<S: Alter>(conn: &mut Connection<S>) -> Result<bool, Fault>
-    ensures { IsCheck millimetres (state S.Store conn.old) (state S.Store conn.new) (λ _. ⊤) (λ p. GeneralExtension p × (MappingExtensions p × ZoomExtensions p)) result }
+    ensures { (profile : Profile) → IsCheck profile (state S.Store conn.old) (state S.Store conn.new) (λ _. ⊤) (λ p. GeneralExtension p × (MappingExtensions p × ZoomExtensions p)) result }
 {
     match general_extension(conn) {
         Ok(true) => pyramids_marked(conn),
@@ -161,7 +161,7 @@ pub fn all_stand<S: Alter>(conn: &mut Connection<S>) -> Result<bool, Fault>
 
 /// Of rule 14, that each row that is wanted stands, and no row twice.
 pub fn all_stand_once<S: Alter>(conn: &mut Connection<S>) -> Result<bool, Fault>
-    ensures { IsCheck millimetres (state S.Store conn.old) (state S.Store conn.new) (λ _. ⊤) (λ p. ExtensionsOnce p × (GeneralExtension p × (MappingExtensions p × ZoomExtensions p))) result }
+    ensures { (profile : Profile) → IsCheck profile (state S.Store conn.old) (state S.Store conn.new) (λ _. ⊤) (λ p. ExtensionsOnce p × (GeneralExtension p × (MappingExtensions p × ZoomExtensions p))) result }
 {
     match extensions_once(conn) {
         Ok(true) => all_stand(conn),
@@ -172,7 +172,7 @@ pub fn all_stand_once<S: Alter>(conn: &mut Connection<S>) -> Result<bool, Fault>
 
 /// Rule 14: the extension rows are exactly those that are wanted, each once.
 pub fn extensions<S: Alter>(conn: &mut Connection<S>) -> Result<bool, Fault>
-    ensures { IsCheck millimetres (state S.Store conn.old) (state S.Store conn.new) (λ _. ⊤) (λ p. ExactExtensions p.kinds p.relations p.extensions) result }
+    ensures { (profile : Profile) → IsCheck profile (state S.Store conn.old) (state S.Store conn.new) (λ _. ⊤) (λ p. ExactExtensions p.kinds p.relations p.extensions) result }
 {
     match extensions_wanted(conn) {
         Ok(true) => all_stand_once(conn),

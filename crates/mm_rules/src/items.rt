@@ -2,7 +2,7 @@
 
 ghost use Rattle.std.specs.Prelude.{⊤, ◌≡◌, ◌⊎◌, ◌↔◌, codes, Some, IsTrue};
 ghost use Rattle.sqlite.specs.Held.{state};
-ghost use Rattle.mm_base.specs.Bounds.{millimetres};
+ghost use Rattle.mm_base.specs.Bounds.{Profile};
 ghost use Rattle.mm_base.specs.Rules.{Items, RelationsSuited, PairingsJoin};
 ghost use Rattle.mm_rules.specs.Check.{IsCheck};
 ghost use Rattle.sqlite.specs.Order.{column};
@@ -28,7 +28,7 @@ impl RowTest for OfAttributes {
 
 /// Of rule 11, what it asks of attribute rows.
 pub fn rows_in_tables<S: Alter>(conn: &mut Connection<S>) -> Result<bool, Fault>
-    ensures { IsCheck millimetres (state S.Store conn.old) (state S.Store conn.new) (λ _. ⊤) (λ p. RowsInTables p) result }
+    ensures { (profile : Profile) → IsCheck profile (state S.Store conn.old) (state S.Store conn.new) (λ _. ⊤) (λ p. RowsInTables p) result }
 {
     each_passes(
         conn,
@@ -51,7 +51,7 @@ impl RowTest for OfMedia {
 
 /// Of rule 11, what it asks of media.
 pub fn media_in_tables<S: Alter>(conn: &mut Connection<S>) -> Result<bool, Fault>
-    ensures { IsCheck millimetres (state S.Store conn.old) (state S.Store conn.new) (λ _. ⊤) (λ p. MediaInTables p) result }
+    ensures { (profile : Profile) → IsCheck profile (state S.Store conn.old) (state S.Store conn.new) (λ _. ⊤) (λ p. MediaInTables p) result }
 {
     each_passes(
         conn,
@@ -63,7 +63,7 @@ pub fn media_in_tables<S: Alter>(conn: &mut Connection<S>) -> Result<bool, Fault
 
 /// Rule 11: rows and media belong to tables of their kind.
 pub fn items<S: Alter>(conn: &mut Connection<S>) -> Result<bool, Fault>
-    ensures { IsCheck millimetres (state S.Store conn.old) (state S.Store conn.new) (λ _. ⊤) (λ p. Items p.kinds p.rows p.media) result }
+    ensures { (profile : Profile) → IsCheck profile (state S.Store conn.old) (state S.Store conn.new) (λ _. ⊤) (λ p. Items p.kinds p.rows p.media) result }
 {
     match rows_in_tables(conn) {
         Ok(true) => media_in_tables(conn),
@@ -100,7 +100,7 @@ impl RowTest for Suited {
 
 /// Rule 12: relations join tables of the kinds that their names ask for.
 pub fn relations_suited<S: Alter>(conn: &mut Connection<S>) -> Result<bool, Fault>
-    ensures { IsCheck millimetres (state S.Store conn.old) (state S.Store conn.new) (λ _. ⊤) (λ p. RelationsSuited p.kinds p.relations) result }
+    ensures { (profile : Profile) → IsCheck profile (state S.Store conn.old) (state S.Store conn.new) (λ _. ⊤) (λ p. RelationsSuited p.kinds p.relations) result }
 {
     each_passes(
         conn,
@@ -123,7 +123,7 @@ impl RowTest for Joined {
 
 /// Rule 13: each mapping row names a relation, and both its ends stand.
 pub fn pairings_join<S: Alter>(conn: &mut Connection<S>) -> Result<bool, Fault>
-    ensures { IsCheck millimetres (state S.Store conn.old) (state S.Store conn.new) (λ _. ⊤) (λ p. PairingsJoin p.rows p.media p.relations p.pairings) result }
+    ensures { (profile : Profile) → IsCheck profile (state S.Store conn.old) (state S.Store conn.new) (λ _. ⊤) (λ p. PairingsJoin p.rows p.media p.relations p.pairings) result }
 {
     each_passes(
         conn,

@@ -2,7 +2,7 @@
 
 ghost use Rattle.std.specs.Prelude.{⊤, ◌≡◌, ◌↔◌, pos, ◌+ℤ◌, ◌-ℤ◌, ◌*ℤ◌, IsTrue, MatchOption, FitsSigned};
 ghost use Rattle.sqlite.specs.Held.{state};
-ghost use Rattle.mm_base.specs.Bounds.{millimetres};
+ghost use Rattle.mm_base.specs.Bounds.{Profile};
 ghost use Rattle.mm_base.specs.Rules.{MatricesFit, HigherIsFiner, NextIsHalved};
 ghost use Rattle.mm_rules.specs.Check.{IsCheck};
 ghost use Rattle.std.specs.Int.{w128};
@@ -74,7 +74,7 @@ impl RowTest for Fitting {
 
 /// Rule 7: each matrix belongs to a pyramid and covers its extent exactly.
 pub fn matrices_fit<S: Alter>(conn: &mut Connection<S>) -> Result<bool, Fault>
-    ensures { IsCheck millimetres (state S.Store conn.old) (state S.Store conn.new) (λ _. ⊤) (λ p. MatricesFit p.kinds p.sets p.matrices) result }
+    ensures { (profile : Profile) → IsCheck profile (state S.Store conn.old) (state S.Store conn.new) (λ _. ⊤) (λ p. MatricesFit p.kinds p.sets p.matrices) result }
 {
     each_passes(
         conn,
@@ -104,7 +104,7 @@ impl RowTest for Finer {
 
 /// Rule 8: of any two zooms of a pyramid the higher has the smaller pixels.
 pub fn higher_is_finer<S: Alter>(conn: &mut Connection<S>) -> Result<bool, Fault>
-    ensures { IsCheck millimetres (state S.Store conn.old) (state S.Store conn.new) (λ _. ⊤) (λ p. HigherIsFiner p.matrices) result }
+    ensures { (profile : Profile) → IsCheck profile (state S.Store conn.old) (state S.Store conn.new) (λ _. ⊤) (λ p. HigherIsFiner p.matrices) result }
 {
     each_passes(
         conn,
@@ -163,7 +163,7 @@ impl RowTest for Halved {
 
 /// Rule 9: in a pyramid of kind `two` the next zoom halves the pixels.
 pub fn next_is_halved<S: Alter>(conn: &mut Connection<S>) -> Result<bool, Fault>
-    ensures { IsCheck millimetres (state S.Store conn.old) (state S.Store conn.new) (λ _. ⊤) (λ p. NextIsHalved p.kinds p.matrices) result }
+    ensures { (profile : Profile) → IsCheck profile (state S.Store conn.old) (state S.Store conn.new) (λ _. ⊤) (λ p. NextIsHalved p.kinds p.matrices) result }
 {
     each_passes(
         conn,

@@ -3,7 +3,7 @@
 ghost use Rattle.std.specs.Prelude.{⊤, ◌↔◌, IsTrue};
 ghost use Rattle.sqlite.specs.Held.{state};
 ghost use Rattle.sqlite.specs.Order.{column};
-ghost use Rattle.mm_base.specs.Bounds.{millimetres};
+ghost use Rattle.mm_base.specs.Bounds.{Profile};
 ghost use Rattle.mm_base.specs.Rules.{GivenSystems, geographic, undefined_cartesian, undefined_geographic};
 ghost use Rattle.mm_rules.specs.Check.{IsCheck};
 ghost use Rattle.mm_rules.specs.SystemRows.{IsGivenRow, shows_by};
@@ -59,7 +59,7 @@ impl RowTest for Given {
 
 /// Rule 1: the three given systems stand as they were given.
 pub fn given_systems<S: Alter>(conn: &mut Connection<S>) -> Result<bool, Fault>
-    ensures { IsCheck millimetres (state S.Store conn.old) (state S.Store conn.new) (λ _. ⊤) (λ p. GivenSystems p.systems) result }
+    ensures { (profile : Profile) → IsCheck profile (state S.Store conn.old) (state S.Store conn.new) (λ _. ⊤) (λ p. GivenSystems p.systems) result }
 {
     each_passes(
         conn,

@@ -2,7 +2,7 @@
 
 ghost use Rattle.std.specs.Prelude.{⊤};
 ghost use Rattle.sqlite.specs.Held.{state};
-ghost use Rattle.mm_base.specs.Bounds.{millimetres};
+ghost use Rattle.mm_base.specs.Bounds.{Profile};
 ghost use Rattle.mm_base.specs.Rules.{TilesInside};
 ghost use Rattle.mm_rules.specs.Check.{IsCheck};
 ghost use Rattle.mm_rules.specs.TileRows.{IsInsideRow};
@@ -32,7 +32,7 @@ impl RowTest for Inside {
 
 /// Rule 10: each tile lies in the matrix at its zoom.
 pub fn tiles_inside<S: Alter>(conn: &mut Connection<S>) -> Result<bool, Fault>
-    ensures { IsCheck millimetres (state S.Store conn.old) (state S.Store conn.new) (λ _. ⊤) (λ p. TilesInside p.matrices p.tiles) result }
+    ensures { (profile : Profile) → IsCheck profile (state S.Store conn.old) (state S.Store conn.new) (λ _. ⊤) (λ p. TilesInside p.matrices p.tiles) result }
 {
     each_passes(
         conn,

@@ -2,7 +2,7 @@
 use Rattle.std.proofs.Common.{◌≡◌, inr, ℕ, List, Option, Some, None, Ok, Err, true, sym, ap, subst}
 use Rattle.csv.specs.Reading.{ReadRecord}
 use Rattle.csv.specs.declared.reader.Reader.{Reader}
-use Rattle.mm_base.specs.Bounds.{IsMoment, millimetres}
+use Rattle.mm_base.specs.Bounds.{IsMoment, current}
 use Rattle.mm_base.specs.Package.{Package}
 use Rattle.mm_base.specs.Rules.{Meets}
 use Rattle.mm_base.specs.declared.answers.Refusal.{Refusal}
@@ -19,7 +19,7 @@ use Rattle.mm_run.proofs.Keeps.{spelled_within, step_meets}
 
 module _ {D : Type 0} (fields : Record) (p : Package) (moment : ℕ) (settled : Package → Type 0) (may_leave : D → Type 0) (stands_for : D → Package → Type 0) where
   -- a command was applied
-  pub answered_command : (c : Command) (a : Answer) → IsReadAs fields (Ok c) → IsMoment moment → Meets millimetres p
+  pub answered_command : (c : Command) (a : Answer) → IsReadAs fields (Ok c) → IsMoment moment → Meets current p
       → IsApplied p c moment a settled may_leave stands_for → IsAnswered fields p moment a settled may_leave stands_for
   answered_command c answers.Ok read low meets h =
       (Ok c, read, ap answer_of (sym h.0), (h.1, step_meets p c moment low meets (spelled_within fields c read.1)))

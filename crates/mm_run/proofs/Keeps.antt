@@ -1,6 +1,6 @@
 -- A command that was read and applied keeps the rules.
 use Rattle.std.proofs.Common.{ℕ, Ok}
-use Rattle.mm_base.specs.Bounds.{IsMoment, millimetres}
+use Rattle.mm_base.specs.Bounds.{IsMoment, current}
 use Rattle.mm_base.specs.Package.{Package}
 use Rattle.mm_base.specs.Records.{HoldsAgainst, Spells}
 use Rattle.mm_base.specs.Rules.{Meets}
@@ -11,8 +11,8 @@ use Rattle.mm_records.proofs.RecordFacts.{command_within}
 use Rattle.mm_laws.proofs.Steps.{step_keeps}
 use Rattle.mm_lines.specs.Records.{Record}
 
-pub spelled_within : (fields : Record) (c : Command) → Spells millimetres fields c → IsWithin millimetres c
-spelled_within fields c h = command_within (Ok c) (HoldsAgainst millimetres fields) fields h
+pub spelled_within : (fields : Record) (c : Command) → Spells current fields c → IsWithin current c
+spelled_within fields c h = command_within (Ok c) (HoldsAgainst current fields) fields h
 
-pub step_meets : (p : Package) (c : Command) (moment : ℕ) → IsMoment moment → Meets millimetres p → IsWithin millimetres c → Meets millimetres (step p c moment)
-step_meets p c moment low meets within = step_keeps millimetres p c moment meets within low
+pub step_meets : (p : Package) (c : Command) (moment : ℕ) → IsMoment moment → Meets current p → IsWithin current c → Meets current (step p c moment)
+step_meets p c moment low meets within = step_keeps current p c moment meets within low

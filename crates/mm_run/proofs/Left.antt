@@ -6,7 +6,7 @@ use Rattle.csv.specs.Reading.{Reached, ReadRecord, default_config, source_of}
 use Rattle.csv.specs.declared.parser.State.{State}
 use Rattle.csv.specs.declared.reader.Reader.{Reader}
 use Rattle.csv.proofs.ReadFacts.{rows-end, rows-more}
-use Rattle.mm_base.specs.Bounds.{millimetres}
+use Rattle.mm_base.specs.Bounds.{current}
 use Rattle.mm_base.specs.Package.{Package}
 use Rattle.mm_base.specs.Rules.{Meets}
 use Rattle.mm_base.specs.Runs.{run, IsFirstPart}
@@ -58,7 +58,7 @@ whole_of p moment given readings were = front_of p moment given readings [] were
 
 module _ {D : Type 0} (p : Package) (moment : ℕ) (may_leave : D → Type 0) (stands_for : D → Package → Type 0) where
   -- where all that may be left stands for the package after the records
-  pub parts-left : (readings : List Reading) (acknowledged : ℕ) → Leaves may_leave stands_for (run p (calls_of moment readings)) → Meets millimetres (run p (calls_of moment readings))
+  pub parts-left : (readings : List Reading) (acknowledged : ℕ) → Leaves may_leave stands_for (run p (calls_of moment readings)) → Meets current (run p (calls_of moment readings))
       → acknowledged ≤ accepted_of (answers_to p moment readings) → accepted_of (answers_to p moment readings) ≤ acknowledged + 1
       → AreFirstParts may_leave stands_for p (calls_of moment readings) acknowledged
   parts-left readings acknowledged leaves meets least most db may = (
@@ -71,7 +71,7 @@ module _ {D : Type 0} (p : Package) (moment : ℕ) (may_leave : D → Type 0) (s
   module _ (xs : List ℕ) (s : State) (given : List Answer) where
     -- all the records were answered, or all that were read
     some-of : (rows : List Record) (state : State) (rest : List ℕ) (readings : List Reading) (w : ℕ) → Reached default_config s xs rows state rest → AreReadAs rows readings
-        → given ≡ answers_to p moment readings → Leaves may_leave stands_for (run p (calls_of moment readings)) → Meets millimetres (run p (calls_of moment readings))
+        → given ≡ answers_to p moment readings → Leaves may_leave stands_for (run p (calls_of moment readings)) → Meets current (run p (calls_of moment readings))
         → accepted_of (take w given) ≤ accepted_of given → accepted_of given ≤ accepted_of (take w given) + 1
         → IsSome p moment xs s may_leave stands_for given w
     some-of rows state rest readings w reached read were leaves meets least most =
@@ -156,7 +156,7 @@ module _ {D T : Type 0} (remaining : T → Option (List ℕ)) (a b : Reader T) (
 
   -- it may have been done
   some-doubt : (w : ℕ) → length given ≤ w → (fields : Record) → ReadRecord remaining a b true fields → (command : Command) → IsReadAs fields (Ok command)
-      → Meets millimetres (step here command moment) → LeavesEither may_leave stands_for here command moment → IsSome p moment xs s may_leave stands_for given w
+      → Meets current (step here command moment) → LeavesEither may_leave stands_for here command moment → IsSome p moment xs s may_leave stands_for given w
   some-doubt w enough fields read command is meets either =
       let front = whole_front p moment may_leave stands_for xs s given w enough in
       let count : accepted_of given ≡ accepted_of (answers_to p moment h.readings) = ap accepted_of h.were in
@@ -178,7 +178,7 @@ module _ {D T : Type 0} (remaining : T → Option (List ℕ)) (a b : Reader T) (
     where
       done : (db : D) → refusal here command ≡ None → stands_for db (step here command moment) → accepted_of (take w given) ≡ accepted_of given
           → accepted_of given ≡ accepted_of (answers_to p moment h.readings) → run p (calls_of moment (h.readings ++ Ok command ∷ [])) ≡ step here command moment
-          → (q : Package) × stands_for db q × IsFirstPart p (calls_of moment (h.readings ++ Ok command ∷ [])) (accepted_of (take w given)) q × Meets millimetres q
+          → (q : Package) × stands_for db q × IsFirstPart p (calls_of moment (h.readings ++ Ok command ∷ [])) (accepted_of (take w given)) q × Meets current q
       done db none stands front count after_it =
           let more : answers_to p moment (h.readings ++ Ok command ∷ []) ≡ answers_to p moment h.readings ++ answers.Ok ∷ [] =
           answers-more p moment h.readings (Ok command) ∙ ap (λ r. answers_to p moment h.readings ++ answer_of r ∷ []) none in

@@ -1,6 +1,6 @@
 -- What a command that is applied does.
 use Rattle.std.specs.Prelude.{◌≡◌, ◌⊎◌, ℕ, Bool, true, false, Some, None, ⊤}
-use Rattle.mm_base.specs.Bounds.{millimetres}
+use Rattle.mm_base.specs.Bounds.{current}
 use Rattle.mm_base.specs.Package.{Package}
 use Rattle.mm_base.specs.Rules.{Meets}
 use Rattle.mm_base.specs.Step.{refusal, step}
@@ -10,7 +10,7 @@ use Rattle.mm_base.specs.declared.commands.Command.{Command}
 
 -- settled for a package that meets the rules
 abbrev pub IsSound : (Package → Type 0) → Package → Type 0
-IsSound settled p = settled p × Meets millimetres p
+IsSound settled p = settled p × Meets current p
 
 -- each database that may be left stands for this package
 abbrev pub Leaves : {D : Type 0} → (D → Type 0) → (D → Package → Type 0) → Package → Type 0

@@ -1,7 +1,7 @@
 -- What a record is read as.
 use Rattle.std.specs.Prelude.{◌≡◌, ◌⊎◌, ℕ, List, [], ◌∷◌, None, Result, Ok, Err, true, false, ⊤}
 use Rattle.csv.specs.Records.{AllText}
-use Rattle.mm_base.specs.Bounds.{millimetres}
+use Rattle.mm_base.specs.Bounds.{current}
 use Rattle.mm_base.specs.Records.{Spells, HoldsAgainst, IsLeast}
 use Rattle.mm_base.specs.declared.commands.Command.{Command}
 use Rattle.mm_base.specs.declared.answers.ReadFault.{ReadFault}
@@ -15,9 +15,9 @@ Reading = Result Command ℕ
 -- The command that the fields spell, or the least number that holds against them. A record with a field that isn't
 -- text is refused 10.
 abbrev pub IsReadAs : Record → Reading → Type 0
-IsReadAs fields (Ok command) = AllText fields × Spells millimetres fields command
+IsReadAs fields (Ok command) = AllText fields × Spells current fields command
 IsReadAs fields (Err number) =
-    (AllText fields × IsLeast (HoldsAgainst millimetres fields) number)
+    (AllText fields × IsLeast (HoldsAgainst current fields) number)
     ⊎ (¬ (AllText fields) × (number ≡ 10))
 
 -- each record in turn

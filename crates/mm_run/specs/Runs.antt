@@ -5,7 +5,7 @@ use Rattle.std.specs.Io.KnownBytes.{Appends}
 use Rattle.csv.specs.Reading.{AreRecords, Reached, ReadRecord, default_config}
 use Rattle.csv.specs.declared.parser.State.{State}
 use Rattle.csv.specs.declared.reader.Reader.{Reader}
-use Rattle.mm_base.specs.Bounds.{millimetres}
+use Rattle.mm_base.specs.Bounds.{current}
 use Rattle.mm_base.specs.Package.{Package}
 use Rattle.mm_base.specs.Rules.{Meets}
 use Rattle.mm_base.specs.Runs.{Call, run, IsFirstPart}
@@ -30,7 +30,7 @@ IsRunFault fault failed = IsApplyFault fault ⊎ ((fault ≡ 96) × (failed ≡ 
 -- package meets the rules.
 abbrev pub AreFirstParts : {D : Type 0} → (D → Type 0) → (D → Package → Type 0) → Package → List Call → ℕ → Type 0
 AreFirstParts {D} may_leave stands_for p calls acknowledged =
-    (db : D) → may_leave db → (q : Package) × stands_for db q × IsFirstPart p calls acknowledged q × Meets millimetres q
+    (db : D) → may_leave db → (q : Package) × stands_for db q × IsFirstPart p calls acknowledged q × Meets current q
 
 -- the answers that were given: those to the records that were counted
 abbrev pub given_of : Package → ℕ → List Reading → Tally → List Answer
@@ -79,7 +79,7 @@ TellsFailureOf before failed same (Err e) =
 abbrev pub IsAnswered : {D : Type 0} → Record → Package → ℕ → Answer → (Package → Type 0) → (D → Type 0) → (D → Package → Type 0) → Type 0
 IsAnswered fields p moment (answers.Fault fault) settled may_leave stands_for =
     Leaves may_leave stands_for p
-    ⊎ ((command : Command) × IsReadAs fields (Ok command) × Meets millimetres (step p command moment) × LeavesEither may_leave stands_for p command moment)
+    ⊎ ((command : Command) × IsReadAs fields (Ok command) × Meets current (step p command moment) × LeavesEither may_leave stands_for p command moment)
 IsAnswered fields p moment answers.Ok settled may_leave stands_for =
     (reading : Reading) × IsReadAs fields reading × (answers.Ok ≡ answer_to p reading) × IsSound settled (after p moment reading)
 IsAnswered fields p moment (answers.Refused why) settled may_leave stands_for =

@@ -93,6 +93,22 @@ fn imported<F: Folder>(
     format!(in alloc; "{}, {}", import.as_str(), state.as_str()).ok()
 }
 
+/// Five pieces, three of them with files.
+const FIVE: &str = "1,tile,base,1,0,0,a.bin
+2,tile,base,1,1,0,b.bin
+3,row,spots,8,Gate,,0
+4,media,photos,4,image/png,c.bin
+5,map,spot_photos,8,4
+";
+
+/// The list that a line tells: the one of five pieces by a word, or its records with a semicolon between each two.
+fn list_of(alloc: Global, words: &str) -> Option<String> {
+    match words {
+        "five" => text_of(alloc, FIVE.as_bytes()),
+        _ => words.replace(alloc, ';', "\n").ok(),
+    }
+}
+
 /// The bytes of `b.bin` by a word, where it is there.
 fn second_of(word: &str) -> Option<&'static [u8]> {
     match word {
@@ -103,13 +119,12 @@ fn second_of(word: &str) -> Option<&'static [u8]> {
     }
 }
 
-/// The import that a line `EDITION SECOND FAILING LIST` tells: the word of `b.bin`, the number of the read that fails or 0,
-/// and the records of the list, with a semicolon between each two.
+/// The import that a line `EDITION SECOND FAILING LIST` tells: the word of `b.bin`, and the number of the read that fails or 0.
 fn imported_line(alloc: Global, session: &mut Session<MemStore>, line: &str) -> Option<String> {
     let (edition, rest) = line.split_once(' ')?;
     let (second, rest) = rest.split_once(' ')?;
     let (failing, list) = rest.split_once(' ')?;
-    let list = list.replace(alloc, ';', "\n").ok()?;
+    let list = list_of(alloc, list)?;
     let shelf = shelf_of(alloc, list.as_bytes(), second_of(second))?;
     let mut folder = torn_folder(shelf, failing.parse().ok()?);
     let told = imported(alloc, session, edition, &mut folder)?;
@@ -149,14 +164,13 @@ fn imports(alloc: Global, lines: &str) -> Option<String> {
 }
 
 // The fourth read is that of `c.bin`, for the fourth piece.
-const STOPPED: &str =
-    "k 02 4 1,tile,base,1,0,0,a.bin;2,tile,base,1,1,0,b.bin;3,row,spots,8,Gate,,0;4,media,photos,4,image/png,c.bin;5,map,spot_photos,8,4 > fault 96 after 3, open 3
-k 02 0 1,tile,base,1,0,0,a.bin;2,tile,base,1,1,0,b.bin;3,row,spots,8,Gate,,0;4,media,photos,4,image/png,c.bin;5,map,spot_photos,8,4 > complete 5, open 5
-k 02 0 1,tile,base,1,0,0,a.bin;2,tile,base,1,1,0,b.bin;3,row,spots,8,Gate,,0;4,media,photos,4,image/png,c.bin;5,map,spot_photos,8,4 > complete 5, open 5
-k 09 0 1,tile,base,1,0,0,a.bin;2,tile,base,1,1,0,b.bin;3,row,spots,8,Gate,,0;4,media,photos,4,image/png,c.bin;5,map,spot_photos,8,4 > refused 2 52, open 5
-none 02 0 1,tile,base,1,0,0,a.bin;2,tile,base,1,1,0,b.bin;3,row,spots,8,Gate,,0;4,media,photos,4,image/png,c.bin;5,map,spot_photos,8,4 > refused 0 51, absent
+const STOPPED: &str = "k 02 4 five > fault 96 after 3, open 3
+k 02 0 five > complete 5, open 5
+k 02 0 five > complete 5, open 5
+k 09 0 five > refused 2 52, open 5
+none 02 0 five > refused 0 51, absent
 publish,k > ok
-k 02 0 1,tile,base,1,0,0,a.bin;2,tile,base,1,1,0,b.bin;3,row,spots,8,Gate,,0;4,media,photos,4,image/png,c.bin;5,map,spot_photos,8,4 > refused 0 55, published
+k 02 0 five > refused 0 55, published
 ";
 
 #[test]
@@ -221,10 +235,10 @@ fn refuses_a_record_that_is_no_text(rt: HostRuntime) -> Result<(), Fail> {
 }
 
 const FILES: &str = "k 02 0  > complete 0, open 0
-k 02 1 1,tile,base,1,0,0,a.bin;2,tile,base,1,1,0,b.bin;3,row,spots,8,Gate,,0;4,media,photos,4,image/png,c.bin;5,map,spot_photos,8,4 > fault 96 after 0, open 0
-k none 0 1,tile,base,1,0,0,a.bin;2,tile,base,1,1,0,b.bin;3,row,spots,8,Gate,,0;4,media,photos,4,image/png,c.bin;5,map,spot_photos,8,4 > refused 2 57, open 1
-k empty 0 1,tile,base,1,0,0,a.bin;2,tile,base,1,1,0,b.bin;3,row,spots,8,Gate,,0;4,media,photos,4,image/png,c.bin;5,map,spot_photos,8,4 > refused 2 11, open 1
-k 02 3 1,tile,base,1,0,0,a.bin;2,tile,base,1,1,0,b.bin;3,row,spots,8,Gate,,0;4,media,photos,4,image/png,c.bin;5,map,spot_photos,8,4 > fault 96 after 1, open 1
+k 02 1 five > fault 96 after 0, open 0
+k none 0 five > refused 2 57, open 1
+k empty 0 five > refused 2 11, open 1
+k 02 3 five > fault 96 after 1, open 1
 k 02 0  > refused 1 52, open 1
 k 02 0 1,tile,base,1,0,0,a.bin;2,tile,base,1,0,0,a..b > complete 2, open 2
 ";

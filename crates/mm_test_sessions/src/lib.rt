@@ -8,6 +8,7 @@
 //! - `kits`: imports of folders in memory.
 //! - `pages`: requests and their responses.
 //! - `recovery`: disks that stop.
+//! - `migrations`: disks that stop while a package of profile 1 is migrated.
 //! - `streams`: what stands where a reader or a writer failed.
 #![tactic(auto)]
 
@@ -15,6 +16,8 @@
 mod fakes;
 #[cfg(test)]
 mod kits;
+#[cfg(test)]
+mod migrations;
 #[cfg(test)]
 mod packages;
 #[cfg(test)]

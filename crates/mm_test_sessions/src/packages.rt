@@ -4,19 +4,20 @@ use mm_base::answers::{RunFault, Tally};
 use mm_base::moments::Moment;
 use mm_base::streams::Io;
 use mm_core::Session;
-use sqlite::{Alter, Connection, MemStore};
+use sqlite::{Alter, Connection, FileStore, Files, MemStore, Options};
+use sqlite_disk::Disk;
 use std::alloc::Global;
 use std::io::{Read, Write};
 use std::str::from_utf8;
 
 /// A pyramid with its coarsest matrix.
 pub(crate) const PYRAMID: &str = "srs,25832,ETRS89 / UTM zone 32N,EPSG,25832,projected metres,
-pyramid,base,Base map,25832,500000000,5600000000,501024000,5601024000,two
-matrix,base,0,1,1,256,256,4000,4000
+pyramid,base,Base map,25832,500000000000,5600000000000,501024000000,5601024000000,two
+matrix,base,0,1,1,256,256,4000000,4000000
 ";
 
 /// The next finer matrix of the pyramid.
-pub(crate) const FINER: &str = "matrix,base,1,2,2,256,256,2000,2000\n";
+pub(crate) const FINER: &str = "matrix,base,1,2,2,256,256,2000000,2000000\n";
 
 /// A row that is related to a medium.
 pub(crate) const RELATED: &str = "table,spots,attributes,Spots
@@ -27,13 +28,34 @@ relation,spot_photos,spots,photos,media
 map,spot_photos,7,3
 ";
 
-/// A session on a new package in memory.
-pub(crate) fn new_session(alloc: Global) -> Option<Session<MemStore>> {
-    let conn = Connection::open_in_memory(alloc).ok()?;
+/// A connection to the database in two files.
+pub(crate) fn open<D: Disk + Drop>(
+    alloc: Global,
+    files: Files<D>,
+) -> Option<Connection<FileStore<D>>> {
+    if !files.may_be_used() {
+        return None;
+    }
+    match Connection::open_files(alloc, files, Options::new(7)) {
+        Ok(conn) => Some(conn),
+        Err(_) => None,
+    }
+}
+
+/// A session on a new package.
+pub(crate) fn create<S: Alter + Drop>(alloc: Global, conn: Connection<S>) -> Option<Session<S>> {
+    if !conn.is_autocommit() {
+        return None;
+    }
     match Session::create(alloc, conn) {
         Ok(session) => Some(session),
         Err(_) => None,
     }
+}
+
+/// A session on a new package in memory.
+pub(crate) fn new_session(alloc: Global) -> Option<Session<MemStore>> {
+    create(alloc, Connection::open_in_memory(alloc).ok()?)
 }
 
 /// Runs the records that the reader gives, each at this moment.

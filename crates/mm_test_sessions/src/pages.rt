@@ -34,10 +34,10 @@ const EMPTY_LIST: &[u8] =
     b"HTTP/1.1 200 OK\r\nContent-Type: application/json\r\nContent-Length: 2\r\nConnection: close\r\n\r\n[]";
 
 const ONE_TABLE: &[u8] =
-    b"HTTP/1.1 200 OK\r\nContent-Type: application/json\r\nContent-Length: 184\r\nConnection: close\r\n\r\n[{\"data_type\":\"tiles\",\"extent\":[500000000,5600000000,501024000,5601024000],\"identifier\":\"Base map\",\"kind\":\"two\",\"last_change\":\"1970-01-01T00:00:00.000Z\",\"srs_id\":25832,\"table\":\"base\"}]";
+    b"HTTP/1.1 200 OK\r\nContent-Type: application/json\r\nContent-Length: 196\r\nConnection: close\r\n\r\n[{\"data_type\":\"tiles\",\"extent\":[500000000000,5600000000000,501024000000,5601024000000],\"identifier\":\"Base map\",\"kind\":\"two\",\"last_change\":\"1970-01-01T00:00:00.000Z\",\"srs_id\":25832,\"table\":\"base\"}]";
 
 const THREE_TABLES: &[u8] =
-    b"HTTP/1.1 200 OK\r\nContent-Type: application/json\r\nContent-Length: 431\r\nConnection: close\r\n\r\n[{\"data_type\":\"tiles\",\"extent\":[500000000,5600000000,501024000,5601024000],\"identifier\":\"Base map\",\"kind\":\"two\",\"last_change\":\"1970-01-01T00:00:00.000Z\",\"srs_id\":25832,\"table\":\"base\"},{\"data_type\":\"attributes\",\"identifier\":\"Photos\",\"kind\":\"media\",\"last_change\":\"1970-01-01T00:00:00.000Z\",\"table\":\"photos\"},{\"data_type\":\"attributes\",\"identifier\":\"Spots\",\"kind\":\"attributes\",\"last_change\":\"1970-01-01T00:00:00.000Z\",\"table\":\"spots\"}]";
+    b"HTTP/1.1 200 OK\r\nContent-Type: application/json\r\nContent-Length: 443\r\nConnection: close\r\n\r\n[{\"data_type\":\"tiles\",\"extent\":[500000000000,5600000000000,501024000000,5601024000000],\"identifier\":\"Base map\",\"kind\":\"two\",\"last_change\":\"1970-01-01T00:00:00.000Z\",\"srs_id\":25832,\"table\":\"base\"},{\"data_type\":\"attributes\",\"identifier\":\"Photos\",\"kind\":\"media\",\"last_change\":\"1970-01-01T00:00:00.000Z\",\"table\":\"photos\"},{\"data_type\":\"attributes\",\"identifier\":\"Spots\",\"kind\":\"attributes\",\"last_change\":\"1970-01-01T00:00:00.000Z\",\"table\":\"spots\"}]";
 
 const RESPONSES: [(&str, &[u8]); 9] = [
     ("bad request", BAD_REQUEST),

@@ -1,68 +1,68 @@
 //! Disks in memory that stop, and the package that is found when they are opened again.
 
-use crate::packages::{run, text_of};
+use crate::packages::{FINER, answers, create, open, run, text_of};
 use mm_base::moments::Moment;
 use mm_base::names::Name;
 use mm_base::streams::Io;
 use mm_core::Session;
 use mm_recovery::run_and_recover;
-use sqlite::{Connection, FileStore, Files, Options};
-use sqlite_disk::{Fuse, Memory};
+use sqlite::{Alter, FileStore, Files, Options};
+use sqlite_disk::{Crash, Fuse, Memory};
 use std::alloc::Global;
 use std::fmt::Write;
 use std::test::Fail;
 
-/// A session on a package over two files in memory.
-type OnFiles = Session<FileStore<Fuse<Memory>>>;
-
-/// A session on a new package in the files of a connection.
-fn create(alloc: Global, conn: Connection<FileStore<Fuse<Memory>>>) -> Option<OnFiles> {
-    if !conn.is_autocommit() {
-        return None;
-    }
-    match Session::create(alloc, conn) {
-        Ok(session) => Some(session),
-        Err(_) => None,
-    }
-}
-
-/// A session on a new package; the log takes so many calls and then none.
-fn new_session(alloc: Global, calls: u64) -> Option<OnFiles> {
-    let files = Files {
+/// Two files in memory; the log takes so many calls and then none.
+pub(crate) fn files_of(alloc: Global, calls: u64) -> Files<Fuse<Memory>> {
+    Files {
         log: Fuse::new(Memory::new(alloc), calls),
         db: Fuse::new(Memory::new(alloc), u64::MAX),
-    };
-    if !files.may_be_used() {
-        return None;
-    }
-    match Connection::open_files(alloc, files, Options::new(7)) {
-        Ok(conn) => create(alloc, conn),
-        Err(_) => None,
     }
 }
 
 const RECORDS: &[u8] = b"table,spots,attributes,Spots
+srs,25832,ETRS89 / UTM zone 32N,EPSG,25832,projected metres,
+pyramid,base,Base map,25832,500000000000,5600000000000,501024000000,5601024000000,two
+matrix,base,0,1,1,256,256,4000000,4000000
 edition,e
 stage,e,1,row,spots,1,Well,,3
-stage,e,2,row,spots,2,Gate,,0
+stage,e,2,matrix,base,1,2,2,256,256,2000000,2000000
+stage,e,3,tile,base,1,1,1,aa
+stage,e,4,row,spots,2,Gate,,0
 publish,e
 ";
 
-/// How many tables there are after so many of the records, and whether each of the edition's rows stands.
-fn stands_after(done: u64) -> (usize, bool, bool) {
-    (usize::from(done > 0), done > 4, done > 4)
+/// How many tables there are after so many of the records, and how many of the four pieces of the edition are done.
+fn stands_after(done: u64) -> (usize, usize) {
+    let tables = usize::from(done > 0) + usize::from(done > 2);
+    (tables, if done > 9 { 4 } else { 0 })
+}
+
+/// Whether the pyramid has the finer matrix: where it has none, this puts it.
+fn has_finer<S: Alter>(alloc: Global, session: &mut Session<S>) -> Option<bool> {
+    let told = answers(alloc, session, FINER.as_bytes())?;
+    Some(told.as_str() == "1 refused 30\n")
 }
 
 /// The same of a session's package.
-fn found_in(session: &mut OnFiles) -> Option<(usize, bool, bool)> {
+fn found_in<S: Alter + Drop>(alloc: Global, session: Session<S>) -> Option<(usize, usize)> {
+    let mut session = session;
     let spots = Name::read("spots")?;
+    let base = Name::read("base")?;
+    let tables = session.contents().ok()?.len();
     let first = session.row(&spots, 1).ok()?.is_some();
     let second = session.row(&spots, 2).ok()?.is_some();
-    Some((session.contents().ok()?.len(), first, second))
+    let tile = session.tile(&base, 1, 1, 1).ok()?.is_some();
+    let matrix = has_finer(alloc, &mut session)?;
+    let rows = usize::from(first) + usize::from(second);
+    Some((tables, rows + usize::from(tile) + usize::from(matrix)))
 }
 
 /// A run whose files then crash: how many records it acknowledged, whether it met no stop, and the session that is then adopted.
-fn run_and_crash(alloc: Global, session: OnFiles) -> Option<(u64, bool, OnFiles)> {
+fn run_and_crash<D: Crash + Drop>(
+    alloc: Global,
+    session: Session<FileStore<D>>,
+) -> Option<(u64, bool, Session<FileStore<D>>)> {
     let mut reader = Io::new(RECORDS);
     let mut writer = Io::new(Vec::new(alloc));
     let at = Moment::new(0)?;
@@ -80,57 +80,74 @@ fn run_and_crash(alloc: Global, session: OnFiles) -> Option<(u64, bool, OnFiles)
     }
 }
 
-/// Whether the package that is found after a run is that of the records that were acknowledged, or of one more; and whether
-/// the run met no stop.
-fn finds_first_part(alloc: Global, session: OnFiles) -> Option<(bool, bool)> {
-    let (done, ended, again) = run_and_crash(alloc, session)?;
-    let mut again = again;
-    let found = found_in(&mut again)?;
-    let is_first = found == stands_after(done) || found == stands_after(done.saturating_add(1));
-    Some((is_first, ended))
+/// Whether so many acknowledged records, or one more, make what is found.
+fn is_first_part(done: u64, found: Option<(usize, usize)>) -> bool {
+    match found {
+        Some(found) => found == stands_after(done) || found == stands_after(done.saturating_add(1)),
+        None => false,
+    }
 }
 
-/// The stops that left something else than a first part, then how many there were, up to the first run that met none.
-fn stops(alloc: Global) -> Option<String> {
+/// What is found after a run on a log that takes so many calls, and whether the run met no stop; None where it takes no package.
+fn found_after(alloc: Global, calls: u64) -> Option<(&'static str, bool)> {
+    let session = create(alloc, open(alloc, files_of(alloc, calls))?)?;
+    let Some((done, ended, again)) = run_and_crash(alloc, session) else {
+        return Some(("no package", false));
+    };
+    if is_first_part(done, found_in(alloc, again)) {
+        Some(("a first part", ended))
+    } else {
+        Some(("no first part", false))
+    }
+}
+
+/// What is found after runs on logs that take more and more calls, each new finding on a line, up to the first that meets no stop.
+fn findings(alloc: Global) -> Option<String> {
     let mut text = String::new(alloc);
-    let mut stops = 0u32;
-    for calls in 0..200u64 {
-        if let Some(session) = new_session(alloc, calls) {
-            let (is_first, ended) = finds_first_part(alloc, session)?;
-            if !is_first {
-                writeln!(text, "no first part at {calls}").ok()?;
+    for calls in 0..2000u64 {
+        if let Some((found, ended)) = found_after(alloc, calls) {
+            let line = format!(in alloc; "{found}, ended: {ended}\n").ok()?;
+            if !text.ends_with(line.as_str()) {
+                text.push_str(line.as_str()).ok()?;
             }
             if ended {
-                writeln!(text, "{}", if stops > 0 { "stops" } else { "no stop" }).ok()?;
                 return Some(text);
             }
-            stops = stops.saturating_add(1);
         }
     }
     None
 }
 
+const FINDINGS: &str = "a first part, ended: false
+a first part, ended: true
+";
+
 #[test]
 fn finds_a_first_part_after_each_stop(rt: HostRuntime) -> Result<(), Fail> {
-    let told = stops(rt.alloc()).expect(&rt, "a run that ends");
-    assert_eq!(rt; told.as_str(), "stops\n");
+    let told = findings(rt.alloc()).expect(&rt, "a run that ends");
+    assert_eq!(rt; told.as_str(), FINDINGS);
     Ok(())
 }
 
 /// What a run of one record answers, whether it meets a fault or not.
-fn answer(alloc: Global, session: &mut OnFiles) -> Option<String> {
+fn answer<S: Alter>(alloc: Global, session: &mut Session<S>) -> Option<String> {
     let mut reader = Io::new(b"srs,5001,A,NONE,1,undefined,\n".as_slice());
     let mut writer = Io::new(Vec::new(alloc));
     let _ = run(session, &mut reader, &mut writer, 0)?;
     text_of(alloc, writer.into_inner().as_slice())
 }
 
-/// What a run of a record and then another answer on a disk whose log takes so many calls; None where it takes no package.
-fn answers_within(alloc: Global, calls: u64) -> Option<String> {
-    let mut session = new_session(alloc, calls)?;
+/// What a run of a record and then another answer on a session.
+fn answer_twice<S: Alter + Drop>(alloc: Global, session: Session<S>) -> Option<String> {
+    let mut session = session;
     let first = answer(alloc, &mut session)?;
     let second = answer(alloc, &mut session)?;
     format!(in alloc; "{}{}", first.as_str(), second.as_str()).ok()
+}
+
+/// The same on a log that takes so many calls; None where it takes no package.
+fn answers_within(alloc: Global, calls: u64) -> Option<String> {
+    answer_twice(alloc, create(alloc, open(alloc, files_of(alloc, calls))?)?)
 }
 
 /// What is answered on disks that take more and more calls, one answer a text, up to the first that meets no fault.

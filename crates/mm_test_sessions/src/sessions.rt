@@ -27,7 +27,8 @@ srs,5001,A,NONE,1,undefined,
 srs,007,B,NONE,1,undefined,
 \xff\xfe,1
 edition,\"a\"\"b\"
-edition,a\r
+edition,a
+edition,b\r
 edition,\"a";
 
 const ANSWERS: &str = "1 ok
@@ -43,7 +44,8 @@ const ANSWERS: &str = "1 ok
 11 refused 10
 12 refused 12
 13 ok
-14 refused 50
+14 ok
+15 refused 50
 ";
 
 /// What a session on a new package answers.
@@ -137,7 +139,7 @@ fn broken_rules(alloc: Global, lines: &str) -> Option<String> {
 const BROKEN: &str = "none:
 1:DELETE FROM gpkg_spatial_ref_sys WHERE srs_id = 0
 5:DELETE FROM mm_tables WHERE table_name = 'base'
-7:UPDATE gpkg_tile_matrix SET pixel_x_size = 1999 WHERE zoom_level = 1
+7:UPDATE gpkg_tile_matrix SET pixel_x_size = 1999000 WHERE zoom_level = 1
 10:INSERT INTO mm_tiles VALUES ('base', 1, 2, 0, x'00')
 14:UPDATE mm_tables SET kind = 'other'
 14:INSERT INTO gpkg_extensions VALUES ('gpkgext_relations', NULL, 'gpkg_related_tables', 'OGC 18-000', 'read-write')

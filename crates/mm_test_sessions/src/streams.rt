@@ -1,51 +1,34 @@
 //! What stands where a reader or a writer failed, once the files are closed and opened again; and a print that fails.
 
 use crate::fakes::{Short, broken_reader, short_writer};
+use crate::packages::open;
 use mm_base::moments::Moment;
 use mm_base::streams::Io;
 use mm_recovery::open_after_close;
 use mm_work::{DONE, FAULT, Stop, make_package, run_package, tell_init, tell_stop, tell_text};
-use sqlite::{Connection, FileStore, Files, Options};
-use sqlite_disk::Memory;
+use sqlite::{Alter, Connection, FileStore, Files, Options};
+use sqlite_disk::{Disk, Memory};
 use std::alloc::Global;
 use std::fmt::Write;
 use std::io;
 use std::io::Read;
 use std::test::Fail;
 
-/// A connection to two files in memory.
-type OnFiles = Connection<FileStore<Memory>>;
-
-/// A connection to a new package in its files.
-fn make(alloc: Global, conn: OnFiles) -> Option<OnFiles> {
+/// A connection to a new package.
+fn make<S: Alter + Drop>(alloc: Global, conn: Connection<S>) -> Option<Connection<S>> {
     if !conn.is_autocommit() {
         return None;
     }
     make_package(alloc, conn).ok()
 }
 
-/// A connection to a new package.
-fn new_package(alloc: Global) -> Option<OnFiles> {
-    let files = Files {
-        log: Memory::new(alloc),
-        db: Memory::new(alloc),
-    };
-    if !files.may_be_used() {
-        return None;
-    }
-    match Connection::open_files(alloc, files, Options::new(7)) {
-        Ok(conn) => make(alloc, conn),
-        Err(_) => None,
-    }
-}
-
 /// The status of a run, and the connection.
-fn run<R: Read, W: io::Write>(
+fn run<S: Alter + Drop, R: Read, W: io::Write>(
     alloc: Global,
-    conn: OnFiles,
+    conn: Connection<S>,
     reader: &mut Io<R>,
     writer: &mut Io<W>,
-) -> Option<(OnFiles, u8)> {
+) -> Option<(Connection<S>, u8)> {
     if !conn.is_autocommit() {
         return None;
     }
@@ -57,23 +40,35 @@ const RECORD: &[u8] = b"srs,5001,A,NONE,1,undefined,\n";
 const TWO_EQUAL: &[u8] = b"srs,5001,A,NONE,1,undefined,\nsrs,5001,A,NONE,1,undefined,\n";
 
 /// The connection once its files are closed and opened again.
-fn reopened(alloc: Global, conn: OnFiles) -> Option<OnFiles> {
+fn reopened<D: Disk + Drop>(
+    alloc: Global,
+    conn: Connection<FileStore<D>>,
+) -> Option<Connection<FileStore<D>>> {
     open_after_close(alloc, conn, Options::new(7)).ok()
 }
 
-/// What a run of the first record answers, once the files are closed and opened again.
-fn again(alloc: Global, conn: OnFiles) -> Option<Vec<u8>> {
-    let conn = reopened(alloc, conn)?;
+/// What a run of the first record answers.
+fn answer<S: Alter + Drop>(alloc: Global, conn: Connection<S>) -> Option<Vec<u8>> {
     let mut writer = Io::new(Vec::new(alloc));
     run(alloc, conn, &mut Io::new(RECORD), &mut writer)?;
     Some(writer.into_inner())
 }
 
-/// The status of a run and what its writer took of its answers, and what the first record is answered after it.
+/// The status of a run on a new package and what its writer took of its answers; and what the first record is answered once the
+/// files are closed and opened again.
 fn told<R: Read>(alloc: Global, reader: &mut Io<R>, left: usize) -> Option<(String, Vec<u8>)> {
+    let files = Files {
+        log: Memory::new(alloc),
+        db: Memory::new(alloc),
+    };
     let mut writer = short_writer(alloc, left);
-    let (conn, status) = run(alloc, new_package(alloc)?, reader, &mut writer)?;
-    let found = again(alloc, conn)?;
+    let (conn, status) = run(
+        alloc,
+        make(alloc, open(alloc, files)?)?,
+        reader,
+        &mut writer,
+    )?;
+    let found = answer(alloc, reopened(alloc, conn)?)?;
     let Short { taken, .. } = writer.into_inner();
     let text = format!(in alloc; "{status} {}", taken.as_slice().escape_ascii()).ok()?;
     Some((text, found))

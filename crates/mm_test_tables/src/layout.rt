@@ -7,12 +7,12 @@ use crate::scripts::told_on;
 /// Pyramids and tables have their rows.
 const ROWS: &str = "\
 ? SELECT table_name, data_type, identifier, description, last_change, min_x, min_y, max_x, max_y, srs_id FROM gpkg_contents WHERE table_name IN ('base', 'loose', 'spots') ORDER BY table_name
-base|tiles|Base map||1970-01-01T00:00:00.000Z|500000000|5600000000|501024000|5601024000|25832|
-loose|tiles|Loose||1970-01-01T00:00:00.000Z|-5|-10|5|10|25832|
+base|tiles|Base map||1970-01-01T00:00:00.000Z|500000000000|5600000000000|501024000000|5601024000000|25832|
+loose|tiles|Loose||1970-01-01T00:00:00.000Z|-5000|-10000|5000|10000|25832|
 spots|attributes|Spots||1970-01-01T00:00:00.000Z|null|null|null|null|null|
 ? SELECT table_name, srs_id, min_x, min_y, max_x, max_y FROM gpkg_tile_matrix_set WHERE table_name IN ('base', 'loose') ORDER BY table_name
-base|25832|500000000|5600000000|501024000|5601024000|
-loose|25832|-5|-10|5|10|
+base|25832|500000000000|5600000000000|501024000000|5601024000000|
+loose|25832|-5000|-10000|5000|10000|
 ? SELECT table_name, kind FROM mm_tables ORDER BY table_name
 base|two|
 free|other|
@@ -29,14 +29,14 @@ loose|tile_data|gpkg_zoom_other|OGC 12-128r17|read-write|
 
 /// A pyramid is refused with the least number.
 const REFUSED_PYRAMIDS: &str = "\
-21 pyramid,p,P,31467,0,0,1000,1000,two
-22 pyramid,p,P,4326,0,0,1000,1000,two
-22 pyramid,p,P,0,0,0,1000,1000,two
-23 pyramid,base,Base map,25832,0,0,0,10,two
-24 pyramid,p,Base map,25832,0,0,0,10,two
-27 pyramid,p,P,25832,5,0,5,10,two
-27 pyramid,p,P,25832,0,11,5,10,two
-0 pyramid,p,P,-1,0,0,1,1,two
+21 pyramid,p,P,31467,0,0,1000000,1000000,two
+22 pyramid,p,P,4326,0,0,1000000,1000000,two
+22 pyramid,p,P,0,0,0,1000000,1000000,two
+23 pyramid,base,Base map,25832,0,0,0,10000,two
+24 pyramid,p,Base map,25832,0,0,0,10000,two
+27 pyramid,p,P,25832,5000,0,5000,10000,two
+27 pyramid,p,P,25832,0,11000,5000,10000,two
+0 pyramid,p,P,-1,0,0,1000,1000,two
 ";
 
 /// A table is refused with the least number, and dropped where nothing names it.
@@ -54,27 +54,27 @@ const REFUSED_TABLES: &str = "\
 
 /// A matrix covers its pyramid, and suits the nearest zooms.
 const MATRICES: &str = "\
-25 matrix,none,0,1,1,256,256,4000,4000
-26 matrix,spots,0,1,1,256,256,4000,4000
-0 matrix,base,0,1,1,256,256,4000,4000
-31 matrix,base,1,2,2,256,256,1999,1999
-0 matrix,base,2,4,4,256,256,1000,1000
-32 matrix,base,1,8,8,32,32,4000,4000
-0 matrix,base,1,2,2,256,256,2000,2000
-30 matrix,base,1,2,2,256,256,2000,2000
-31 matrix,base,3,1073741824,1073741824,4096,4096,1000000000,1000000000
-0 matrix,gap,0,1,1,256,256,4000,4000
-0 matrix,gap,2,2,2,256,256,2000,2000
-32 matrix,gap,1,2,2,256,256,2000,2000
-31 matrix,wide,0,1073741824,1073741824,18,18,954437177,954437177
-0 matrix,free,0,1,1,100,100,10,10
-0 matrix,free,1,5,5,100,100,2,2
+25 matrix,none,0,1,1,256,256,4000000,4000000
+26 matrix,spots,0,1,1,256,256,4000000,4000000
+0 matrix,base,0,1,1,256,256,4000000,4000000
+31 matrix,base,1,2,2,256,256,1999000,1999000
+0 matrix,base,2,4,4,256,256,1000000,1000000
+32 matrix,base,1,8,8,32,32,4000000,4000000
+0 matrix,base,1,2,2,256,256,2000000,2000000
+30 matrix,base,1,2,2,256,256,2000000,2000000
+31 matrix,base,3,1073741824,1073741824,4096,4096,1000000000000,1000000000000
+0 matrix,gap,0,1,1,256,256,4000000,4000000
+0 matrix,gap,2,2,2,256,256,2000000,2000000
+32 matrix,gap,1,2,2,256,256,2000000,2000000
+31 matrix,wide,0,1073741824,1073741824,18,18,954437177000,954437177000
+0 matrix,free,0,1,1,100,100,10000,10000
+0 matrix,free,1,5,5,100,100,2000,2000
 ? SELECT table_name, zoom_level, matrix_width, matrix_height, tile_width, tile_height, pixel_x_size, pixel_y_size FROM gpkg_tile_matrix WHERE table_name IN ('base', 'free') ORDER BY table_name, zoom_level
-base|0|1|1|256|256|4000|4000|
-base|1|2|2|256|256|2000|2000|
-base|2|4|4|256|256|1000|1000|
-free|0|1|1|100|100|10|10|
-free|1|5|5|100|100|2|2|
+base|0|1|1|256|256|4000000|4000000|
+base|1|2|2|256|256|2000000|2000000|
+base|2|4|4|256|256|1000000|1000000|
+free|0|1|1|100|100|10000|10000|
+free|1|5|5|100|100|2000|2000|
 ? SELECT table_name, last_change FROM gpkg_contents WHERE table_name IN ('free', 'wide') ORDER BY table_name
 free|2000-02-29T23:59:59.999Z|
 wide|1970-01-01T00:00:00.000Z|
@@ -90,7 +90,7 @@ base|
 
 /// A dropped pyramid leaves its staged pieces alone.
 const DROPPED: &str = "\
-0 matrix,free,0,1,1,100,100,10,10
+0 matrix,free,0,1,1,100,100,10000,10000
 ! INSERT INTO mm_tiles (table_name, zoom_level, tile_column, tile_row, tile_data) VALUES ('free', 0, 0, 0, x'aa')
 ! INSERT INTO mm_editions (name, state) VALUES ('spring', 'open')
 ! INSERT INTO mm_pieces (edition, piece_no, kind, name, k1, k2, k3, k4, k5, k6, k7, t1, t2, data) VALUES ('spring', 1, 'tile-drop', 'free', 0, 0, 0, 0, 0, 0, 0, '', '', x'')

@@ -15,7 +15,7 @@ WGS 84 geographic|4326|EPSG|4326|EPSG:4326|longitude and latitude|
 Undefined geographic|0|NONE|0|undefined|undefined geographic coordinates|
 Undefined Cartesian|-1|NONE|-1|undefined|undefined Cartesian coordinates|
 ? SELECT id, version FROM mm_profile
-1|1|
+1|2|
 ? SELECT table_name, column_name, extension_name, definition, scope FROM gpkg_extensions
 gpkgext_relations|null|gpkg_related_tables|OGC 18-000|read-write|
 = look

@@ -3,9 +3,9 @@
 /// The pyramid `base`, whose zooms 0 and 1 have 1 by 1 and 2 by 2 tiles, and the tables `spots` and `photos`.
 pub(crate) const BASE: &str = "\
 0 srs,25832,ETRS89 / UTM zone 32N,EPSG,25832,projected metres,
-0 pyramid,base,Base map,25832,500000000,5600000000,501024000,5601024000,two
-0 matrix,base,0,1,1,256,256,4000,4000
-0 matrix,base,1,2,2,256,256,2000,2000
+0 pyramid,base,Base map,25832,500000000000,5600000000000,501024000000,5601024000000,two
+0 matrix,base,0,1,1,256,256,4000000,4000000
+0 matrix,base,1,2,2,256,256,2000000,2000000
 0 table,spots,attributes,Spots
 0 table,photos,media,Photos
 ";
@@ -22,11 +22,11 @@ pub(crate) const MAPPED: &str = "\
 /// with a matrix, and the tables `spots` and `photos`.
 pub(crate) const PYRAMIDS: &str = "\
 0 srs,25832,ETRS89 / UTM zone 32N,EPSG,25832,projected metres,
-0 pyramid,base,Base map,25832,500000000,5600000000,501024000,5601024000,two
-0 pyramid,gap,Gap,25832,500000000,5600000000,501024000,5601024000,two
-0 pyramid,wide,Wide,25832,0,0,2147483648,2147483648,two
-0 pyramid,free,Free,25832,0,0,1000,1000,other
-0 pyramid,loose,Loose,25832,-5,-10,5,10,other
+0 pyramid,base,Base map,25832,500000000000,5600000000000,501024000000,5601024000000,two
+0 pyramid,gap,Gap,25832,500000000000,5600000000000,501024000000,5601024000000,two
+0 pyramid,wide,Wide,25832,0,0,2147483648000,2147483648000,two
+0 pyramid,free,Free,25832,0,0,1000000,1000000,other
+0 pyramid,loose,Loose,25832,-5000,-10000,5000,10000,other
 0 table,spots,attributes,Spots
 0 table,photos,media,Photos
 ";
@@ -35,11 +35,11 @@ pub(crate) const PYRAMIDS: &str = "\
 pub(crate) const UNORDERED: &str = "\
 ! INSERT INTO gpkg_spatial_ref_sys (srs_name, srs_id, organization, organization_coordsys_id, definition, description) VALUES ('UTM 32', 25832, 'EPSG', 25832, 'metres', '')
 ! INSERT INTO gpkg_contents (table_name, data_type, identifier, description, last_change) VALUES ('spots', 'attributes', 'Spots', '', '2000-02-29T23:59:59.999Z')
-! INSERT INTO gpkg_contents (table_name, data_type, identifier, description, last_change, min_x, min_y, max_x, max_y, srs_id) VALUES ('base', 'tiles', 'Base map', '', '1970-01-01T00:00:00.000Z', 500000000, 5600000000, 501024000, 5601024000, 25832)
+! INSERT INTO gpkg_contents (table_name, data_type, identifier, description, last_change, min_x, min_y, max_x, max_y, srs_id) VALUES ('base', 'tiles', 'Base map', '', '1970-01-01T00:00:00.000Z', 500000000000, 5600000000000, 501024000000, 5601024000000, 25832)
 ! INSERT INTO gpkg_contents (table_name, data_type, identifier, description, last_change) VALUES ('photos', 'attributes', 'Photos', '', '1970-01-01T00:00:00.000Z')
 ! INSERT INTO mm_tables (table_name, kind) VALUES ('photos', 'media'), ('base', 'two'), ('spots', 'attributes')
-! INSERT INTO gpkg_tile_matrix_set (table_name, srs_id, min_x, min_y, max_x, max_y) VALUES ('base', 25832, 500000000, 5600000000, 501024000, 5601024000)
-! INSERT INTO gpkg_tile_matrix (table_name, zoom_level, matrix_width, matrix_height, tile_width, tile_height, pixel_x_size, pixel_y_size) VALUES ('base', 1, 2, 2, 256, 256, 2000, 2000)
+! INSERT INTO gpkg_tile_matrix_set (table_name, srs_id, min_x, min_y, max_x, max_y) VALUES ('base', 25832, 500000000000, 5600000000000, 501024000000, 5601024000000)
+! INSERT INTO gpkg_tile_matrix (table_name, zoom_level, matrix_width, matrix_height, tile_width, tile_height, pixel_x_size, pixel_y_size) VALUES ('base', 1, 2, 2, 256, 256, 2000000, 2000000)
 ! INSERT INTO mm_tiles (table_name, zoom_level, tile_column, tile_row, tile_data) VALUES ('base', 1, 0, 1, x'ffd8'), ('base', 1, 1, 1, x'aa'), ('base', 1, 1, 0, x'89504e')
 ! INSERT INTO mm_rows (table_name, id, title, note, amount) VALUES ('spots', 7, 'Well', '', 3), ('spots', 8, 'Gate', 'shut', -1000000000000000), ('photos', 7, 'X', '', 0)
 ! INSERT INTO mm_media (table_name, id, data, content_type) VALUES ('photos', 3, x'ffd8ff', 'image/jpeg'), ('photos', 4, x'01', 'image/png'), ('spots', 3, x'00', 'text/plain')

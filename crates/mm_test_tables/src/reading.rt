@@ -49,7 +49,7 @@ none|
 /// The tables are listed by name.
 const CONTENTS: &str = "\
 = contents
-base|two|1970-01-01T00:00:00.000Z|Base map|25832|500000000|5600000000|501024000|5601024000|
+base|two|1970-01-01T00:00:00.000Z|Base map|25832|500000000000|5600000000000|501024000000|5601024000000|
 photos|media|1970-01-01T00:00:00.000Z|Photos|
 spots|attributes|2000-02-29T23:59:59.999Z|Spots|
 ";

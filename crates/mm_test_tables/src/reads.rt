@@ -5,6 +5,7 @@ use crate::rows::add_bytes;
 use mm_base::answers::{Fault, Open};
 use mm_base::commands::Kind;
 use mm_base::entries::{Entry, Media, Related, Row};
+use mm_base::units::CURRENT;
 use mm_check::verify;
 use mm_meta::{init, look};
 use mm_reads::{contents, media, row, tile};
@@ -202,7 +203,7 @@ fn ask_whole<S: Alter>(
         "contents" => add_contents(text, &contents(alloc, conn)),
         "look" => add_look(text, look(conn)),
         "init" => add_made(text, init(conn)),
-        "verify" => add_verdict(text, verify(conn)),
+        "verify" => add_verdict(text, verify(conn, CURRENT)),
         _ => None,
     }
 }

@@ -119,7 +119,7 @@ const FIVE: &str = "\
 0 media,photos,4,image/png,01
 0 map,spot_photos,9,4
 0 tile,base,1,0,0,aa
-0 matrix,base,2,4,4,256,256,1000,1000
+0 matrix,base,2,4,4,256,256,1000000,1000000
 ";
 
 const LEFT: &str = "\

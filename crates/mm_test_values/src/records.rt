@@ -61,8 +61,8 @@ fn told(alloc: Global, list: &str) -> Option<String> {
 /// the least of several numbers; both sides of each limit of a number; texts and content types; names.
 const RECORDS: &str = "\
 0 srs,25832,ETRS89 / UTM zone 32N,EPSG,25832,projected metres,\n\
-0 pyramid,base,Base map,25832,500000000,5600000000,501024000,5601024000,two\n\
-0 matrix,base,0,1,1,256,256,4000,4000\n\
+0 pyramid,base,Base map,25832,500000000000,5600000000000,501024000000,5601024000000,two\n\
+0 matrix,base,0,1,1,256,256,4000000,4000000\n\
 0 table,spots,attributes,Spots\n\
 0 drop,base\n\
 0 tile,base,1,0,1,89504e\n\
@@ -89,7 +89,7 @@ const RECORDS: &str = "\
 10 drop\n\
 10 srs,007,B,NONE,1,undefined,\n\
 10 row,spots,7,Well,,+3\n\
-10 pyramid,p,P,25832,-0,0,10,10,two\n\
+10 pyramid,p,P,25832,-0,0,10000,10000,two\n\
 10 row-drop,spots, 7\n\
 10 row-drop,spots,\n\
 10 row-drop,spots,-\n\
@@ -109,20 +109,20 @@ const RECORDS: &str = "\
 11 srs,9007199254740993,A,NONE,1,undefined,\n\
 11 srs,5,A,NONE,0,undefined,\n\
 11 srs,99999999999999999999999999,A,NONE,1,undefined,\n\
-0 pyramid,p,P,-1,0,0,10,10,two\n\
-11 pyramid,p,P,-2,0,0,10,10,two\n\
-0 pyramid,p,P,25832,-100000000000,0,100000000000,10,other\n\
-11 pyramid,p,P,25832,-100000000001,0,10,10,two\n\
-11 pyramid,p,P,25832,0,0,100000000001,10,two\n\
-0 matrix,base,30,1073741824,1,4096,1,1000000000,1\n\
-11 matrix,base,31,1,1,256,256,4000,4000\n\
-11 matrix,base,-1,1,1,256,256,4000,4000\n\
-11 matrix,base,0,1073741825,1,256,256,4000,4000\n\
-11 matrix,base,0,1,0,256,256,4000,4000\n\
-11 matrix,base,0,1,1,4097,256,4000,4000\n\
-11 matrix,base,0,1,1,256,0,4000,4000\n\
-11 matrix,base,0,1,1,256,256,0,4000\n\
-11 matrix,base,0,1,1,256,256,4000,1000000001\n\
+0 pyramid,p,P,-1,0,0,10000,10000,two\n\
+11 pyramid,p,P,-2,0,0,10000,10000,two\n\
+0 pyramid,p,P,25832,-100000000000000,0,100000000000000,10000,other\n\
+11 pyramid,p,P,25832,-100000000000001,0,10000,10000,two\n\
+11 pyramid,p,P,25832,0,0,100000000000001,10000,two\n\
+0 matrix,base,30,1073741824,1,4096,1,1000000000000,1\n\
+11 matrix,base,31,1,1,256,256,4000000,4000000\n\
+11 matrix,base,-1,1,1,256,256,4000000,4000000\n\
+11 matrix,base,0,1073741825,1,256,256,4000000,4000000\n\
+11 matrix,base,0,1,0,256,256,4000000,4000000\n\
+11 matrix,base,0,1,1,4097,256,4000000,4000000\n\
+11 matrix,base,0,1,1,256,0,4000000,4000000\n\
+11 matrix,base,0,1,1,256,256,0,4000000\n\
+11 matrix,base,0,1,1,256,256,4000000,1000000000001\n\
 0 tile,base,30,1073741823,0,00\n\
 11 tile,base,30,1073741824,0,00\n\
 11 tile,base,31,0,0,aa\n\

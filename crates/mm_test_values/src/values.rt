@@ -159,27 +159,27 @@ is_stamp 1970-1-01T00:00:00.0000Z: false
 
 /// The product of the fourth line is 2 to the power of 64 too large.
 const EXTENTS: &str = "\
-fits 500000000 5600000000 501024000 5601024000 1 1 256 256 4000 4000: true
-fits 500000000 5600000000 501024000 5601024000 2 2 256 256 1999 1999: false
-fits 500000000 5600000000 501024000 5601024000 1 1 256 256 4000 4001: false
-fits 0 0 2147483648 2147483648 1073741824 1073741824 18 18 954437177 954437177: false
-extent 0 0 10 10: true
-extent 5 0 5 10: false
-extent 0 0 10 100000000001: false
+fits 500000000000 5600000000000 501024000000 5601024000000 1 1 256 256 4000000 4000000: true
+fits 500000000000 5600000000000 501024000000 5601024000000 2 2 256 256 1999000 1999000: false
+fits 500000000000 5600000000000 501024000000 5601024000000 1 1 256 256 4000000 4001000: false
+fits 0 0 2147483648000 2147483648000 1073741824 1073741824 18 18 954437177000 954437177000: false
+extent 0 0 10000 10000: true
+extent 5000 0 5000 10000: false
+extent 0 0 10000 100000000000001: false
 ";
 
 const ZOOMS: &str = "\
-neighbours - 1/2000 - two: true
-neighbours 0/4000 1/2000 - two: true
-neighbours 0/4000 1/1999 - two: false
-neighbours 0/4000 1/1999 - other: true
-neighbours 0/4000 1/4000 - other: false
-neighbours 0/4000 2/2000 - two: true
-neighbours 0/4000 1/2000 2/1000 two: true
-neighbours 0/4000 1/2000 2/2000 two: false
-neighbours - 1/2000 2/2000 other: false
-neighbours - 1/2000 3/1 two: true
-neighbours - 1/2000 2/1 two: false
+neighbours - 1/2000000 - two: true
+neighbours 0/4000000 1/2000000 - two: true
+neighbours 0/4000000 1/1999000 - two: false
+neighbours 0/4000000 1/1999000 - other: true
+neighbours 0/4000000 1/4000000 - other: false
+neighbours 0/4000000 2/2000000 - two: true
+neighbours 0/4000000 1/2000000 2/1000000 two: true
+neighbours 0/4000000 1/2000000 2/2000000 two: false
+neighbours - 1/2000000 2/2000000 other: false
+neighbours - 1/2000000 3/1 two: true
+neighbours - 1/2000000 2/1 two: false
 ";
 
 const NUMBERS: &str = "\

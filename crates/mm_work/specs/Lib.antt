@@ -3,4 +3,5 @@ pub mod Told
 pub mod Looked
 pub mod Pages
 pub mod Declined
+pub mod Migrated
 pub mod Stops

@@ -2,7 +2,7 @@
 use Rattle.std.specs.Prelude.{ℕ, List, Option, Result, Ok, Err, codes}
 use Rattle.std.specs.Io.KnownBytes.{Appends}
 use Rattle.sqlite.specs.State.{State, HasCleanDisk}
-use Rattle.mm_base.specs.Bounds.{millimetres}
+use Rattle.mm_base.specs.Bounds.{current}
 use Rattle.mm_base.specs.Package.{Package}
 use Rattle.mm_base.specs.Rules.{Meets}
 use Rattle.mm_store.specs.Stands.{IsSettled}
@@ -22,6 +22,6 @@ check_status (Err why) = stop_status why
 -- It wrote nothing to the package, which meets the rules, and the listing of it was printed.
 pub record IsListing (old new : State) (held holds : Option (List ℕ)) : Type 0 where
   pub survives : CommitsNothing old new
-  pub settled : HasCleanDisk new → (p : Package) → IsSettled millimetres old p → IsSettled millimetres new p
-  pub meets : HasCleanDisk new → (p : Package) → IsSettled millimetres old p → Meets millimetres p
-  pub printed : HasCleanDisk new → (p : Package) → IsSettled millimetres old p → Appends held holds (listing p)
+  pub settled : HasCleanDisk new → (p : Package) → IsSettled current old p → IsSettled current new p
+  pub meets : HasCleanDisk new → (p : Package) → IsSettled current old p → Meets current p
+  pub printed : HasCleanDisk new → (p : Package) → IsSettled current old p → Appends held holds (listing p)

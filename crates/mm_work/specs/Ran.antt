@@ -1,7 +1,7 @@
 -- What a run comes to, by its exit status.
 use Rattle.std.specs.Prelude.{◌≡◌, ◌≢◌, ◌⊎◌, ℕ, List, Option}
 use Rattle.sqlite.specs.State.{State}
-use Rattle.mm_base.specs.Bounds.{millimetres}
+use Rattle.mm_base.specs.Bounds.{current}
 use Rattle.mm_base.specs.Package.{Package}
 use Rattle.mm_base.specs.declared.answers.Tally.{Tally}
 use Rattle.mm_base.specs.declared.answers.RunFault.{RunFault}
@@ -16,5 +16,5 @@ IsStatusOf refused status = ((refused ≡ 0) × (status ≡ 0)) ⊎ ((refused �
 -- All records were answered, with status 0 or 1; or a fault ended the run, with status 3.
 abbrev pub IsRun : Package → ℕ → List ℕ → State → Option (List ℕ) → Option (List ℕ) → ℕ → Type 0
 IsRun p moment bytes end old new status =
-    ((t : Tally) × RanAll p moment bytes (λ q. IsSettled millimetres end q) (λ db. end.may_leave db) Stands old new t × IsStatusOf t.refused status)
+    ((t : Tally) × RanAll p moment bytes (λ q. IsSettled current end q) (λ db. end.may_leave db) Stands old new t × IsStatusOf t.refused status)
     ⊎ ((e : RunFault) × RanSome p moment bytes (λ db. end.may_leave db) Stands old new e × (status ≡ 3))

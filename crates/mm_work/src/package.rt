@@ -3,7 +3,7 @@
 ghost use Rattle.std.specs.Prelude.{◌≡◌, ◌≤◌, ◌⊎◌, false, IfOk, IfErr};
 ghost use Rattle.sqlite.specs.Held.{state};
 ghost use Rattle.sqlite.specs.State.{HasCleanDisk};
-ghost use Rattle.mm_base.specs.Bounds.{millimetres};
+ghost use Rattle.mm_base.specs.Bounds.{current};
 ghost use Rattle.mm_base.specs.Streams.{has_failed, inside};
 ghost use Rattle.mm_store.specs.Stands.{IsSettled};
 ghost use Rattle.mm_run.specs.Runs.{OnRun};
@@ -42,7 +42,7 @@ pub fn make_package<S: Alter + Drop>(
 }
 
 /// Why a connection is not adopted, as it is told.
-fn stop_of(cause: Open) -> Stop
+pub(crate) fn stop_of(cause: Open) -> Stop
     ensures { result ≡ declined.stop_of cause }
 {
     match cause {
@@ -80,7 +80,7 @@ fn run_session<S: Alter, R: Read, W: Write>(
     ensures status { result ≤ 3 }
     ensures working { (result ≡ 3) ⊎ (has_failed output.new ≡ has_failed output.old) }
     ensures clean { HasCleanDisk (state S.Store (held session.new)) → HasCleanDisk (state S.Store (held session.old)) }
-    ensures ran { OnRun (HasCleanDisk (state S.Store (held session.new))) (λ p. IsSettled millimetres (state S.Store (held session.old)) p) (R.remaining (inside input.old))
+    ensures ran { OnRun (HasCleanDisk (state S.Store (held session.new))) (λ p. IsSettled current (state S.Store (held session.old)) p) (R.remaining (inside input.old))
         (λ p bytes. IsRun p at bytes (state S.Store (held session.new)) (W.contents (inside output.old)) (W.contents (inside output.new)) result) }
 {
     match session.run_list(input, output, at) {
@@ -102,7 +102,7 @@ pub fn run_package<S: Alter + Drop, R: Read, W: Write>(
     requires { conn.in_transaction ≡ false }
     ensures status { IfOk result (λ ran. ran.1 ≤ 3) }
     ensures working { IfOk result (λ ran. (ran.1 ≡ 3) ⊎ (has_failed output.new ≡ has_failed output.old)) }
-    ensures ran { IfOk result (λ ran. OnRun (HasCleanDisk (state S.Store ran.0)) (λ p. IsSettled millimetres (state S.Store conn) p) (R.remaining (inside input.old))
+    ensures ran { IfOk result (λ ran. OnRun (HasCleanDisk (state S.Store ran.0)) (λ p. IsSettled current (state S.Store conn) p) (R.remaining (inside input.old))
         (λ p bytes. IsRun p at bytes (state S.Store ran.0) (W.contents (inside output.old)) (W.contents (inside output.new)) ran.1)) }
     ensures unused { IfErr result (λ why. output.new ≡ output.old) }
 {

@@ -21,4 +21,5 @@ returns c =
     let with_kit = adds _ _ _ _ _ with_run c.in_ok-kit_command.ensures c.in_ok-subcommand-3.ensures in
     let with_check = adds _ _ _ _ _ with_kit c.in_ok-check_command.ensures c.in_ok-subcommand-4.ensures in
     let with_list = adds _ _ _ _ _ with_check c.in_ok-list_command.ensures c.in_ok-subcommand-5.ensures in
-    IfOk-weaker c.subcommand-6.result _ _ (λ whole added. adds _ _ _ _ _ with_list c.in_ok-serve_command.ensures added) c.subcommand-6.ensures
+    let with_serve = adds _ _ _ _ _ with_list c.in_ok-serve_command.ensures c.in_ok-subcommand-6.ensures in
+    IfOk-weaker c.subcommand-7.result _ _ (λ whole added. adds _ _ _ _ _ with_serve c.in_ok-migrate_command.ensures added) c.subcommand-7.ensures

@@ -1,6 +1,5 @@
 use Rattle.std.proofs.Common.{[], refl}
 use Rattle.sqlite.specs.Held.{state}
-use Rattle.mm_base.specs.Bounds.{millimetres}
 use Rattle.mm_rules.specs.Parts.{EditionStates}
 use Rattle.mm_base.specs.Rules.{Limits}
 use Rattle.mm_rules.specs.Texts as text
@@ -11,6 +10,6 @@ use Rattle.mm_check.proofs.EditionRules as rule
 use Rattle.mm_check.proofs.editions.edition_states.Goals as goal
 
 pub returns : goal.returns
-returns g c =
-    checks text.edition_states [] IsStateRow _ _ _ _ _ query.edition_states query.quiet_edition_states (λ p. Limits millimetres p) (λ p. EditionStates p) rule.edition_states millimetres
+returns g c profile =
+    checks text.edition_states [] IsStateRow _ _ _ _ _ query.edition_states query.quiet_edition_states (λ p. Limits profile p) (λ p. EditionStates p) (rule.edition_states profile) profile
     (state g.S.Store c.args.conn.now) (state g.S.Store c.each_passes.new.conn) [] refl c.each_passes.result c.each_passes.ensures

@@ -1,6 +1,5 @@
 use Rattle.std.proofs.Common.{[], refl}
 use Rattle.sqlite.specs.Held.{state}
-use Rattle.mm_base.specs.Bounds.{millimetres}
 use Rattle.mm_rules.specs.Parts.{PiecesNumbered}
 use Rattle.mm_base.specs.Rules.{Limits}
 use Rattle.mm_rules.specs.Texts as text
@@ -11,6 +10,6 @@ use Rattle.mm_check.proofs.EditionRules as rule
 use Rattle.mm_check.proofs.editions.pieces_numbered.Goals as goal
 
 pub returns : goal.returns
-returns g c =
-    checks text.pieces_numbered [] IsNumberedRow _ _ _ _ _ query.pieces_numbered query.quiet_pieces_numbered (λ p. Limits millimetres p) (λ p. PiecesNumbered p) rule.pieces_numbered millimetres
+returns g c profile =
+    checks text.pieces_numbered [] IsNumberedRow _ _ _ _ _ query.pieces_numbered query.quiet_pieces_numbered (λ p. Limits profile p) (λ p. PiecesNumbered p) (rule.pieces_numbered profile) profile
     (state g.S.Store c.args.conn.now) (state g.S.Store c.each_passes.new.conn) [] refl c.each_passes.result c.each_passes.ensures

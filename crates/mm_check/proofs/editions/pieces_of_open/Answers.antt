@@ -1,6 +1,5 @@
 use Rattle.std.proofs.Common.{[], refl}
 use Rattle.sqlite.specs.Held.{state}
-use Rattle.mm_base.specs.Bounds.{millimetres}
 use Rattle.mm_rules.specs.Parts.{PiecesOfOpen}
 use Rattle.mm_base.specs.Rules.{Limits}
 use Rattle.mm_rules.specs.Texts as text
@@ -11,6 +10,6 @@ use Rattle.mm_check.proofs.EditionRules as rule
 use Rattle.mm_check.proofs.editions.pieces_of_open.Goals as goal
 
 pub returns : goal.returns
-returns g c =
-    checks text.pieces_of_open [] IsOpenRow _ _ _ _ _ query.pieces_of_open query.quiet_pieces_of_open (λ p. Limits millimetres p) (λ p. PiecesOfOpen p) rule.pieces_of_open millimetres
+returns g c profile =
+    checks text.pieces_of_open [] IsOpenRow _ _ _ _ _ query.pieces_of_open query.quiet_pieces_of_open (λ p. Limits profile p) (λ p. PiecesOfOpen p) (rule.pieces_of_open profile) profile
     (state g.S.Store c.args.conn.now) (state g.S.Store c.each_passes.new.conn) [] refl c.each_passes.result c.each_passes.ensures

@@ -1,6 +1,6 @@
+use Rattle.mm_base.specs.Units.{profile_of}
 use Rattle.std.proofs.Common.{[], refl}
 use Rattle.sqlite.specs.Held.{state}
-use Rattle.mm_base.specs.Bounds.{millimetres}
 use Rattle.mm_rules.specs.Parts.{PiecesSpelled}
 use Rattle.mm_base.specs.Rules.{Limits}
 use Rattle.mm_rules.specs.Texts as text
@@ -12,5 +12,5 @@ use Rattle.mm_check.proofs.editions.pieces_spelled.Goals as goal
 
 pub returns : goal.returns
 returns g c =
-    checks text.pieces_spelled [] IsSpelledRow _ _ _ _ _ query.pieces_spelled query.quiet_pieces_spelled (λ p. Limits millimetres p) (λ p. PiecesSpelled p) rule.pieces_spelled millimetres
+    checks text.pieces_spelled [] (IsSpelledRow (profile_of c.args.unit)) _ _ _ _ _ query.pieces_spelled query.quiet_pieces_spelled (λ p. Limits (profile_of c.args.unit) p) (λ p. PiecesSpelled (profile_of c.args.unit) p) (rule.pieces_spelled (profile_of c.args.unit)) (profile_of c.args.unit)
     (state g.S.Store c.args.conn.now) (state g.S.Store c.each_passes.new.conn) [] refl c.each_passes.result c.each_passes.ensures

@@ -1,7 +1,6 @@
 use Rattle.std.specs.Prelude.{⊤}
 use Rattle.std.proofs.Common.{[], refl}
 use Rattle.sqlite.specs.Held.{state}
-use Rattle.mm_base.specs.Bounds.{millimetres}
 use Rattle.mm_check.specs.LimitRows.{ExtensionsAreWithin}
 use Rattle.mm_rules.specs.Texts as text
 use Rattle.mm_check.specs.LimitRows.{IsExtensionWithinRow}
@@ -11,6 +10,6 @@ use Rattle.mm_check.proofs.LimitRules as rule
 use Rattle.mm_check.proofs.limits.extensions_within.Goals as goal
 
 pub returns : goal.returns
-returns g c =
-    checks text.extensions_within [] IsExtensionWithinRow _ _ _ _ _ query.extensions_within query.quiet_extensions_within (λ _. ⊤) (λ p. ExtensionsAreWithin p) rule.extensions_within millimetres
+returns g c profile =
+    checks text.extensions_within [] IsExtensionWithinRow _ _ _ _ _ query.extensions_within query.quiet_extensions_within (λ _. ⊤) (λ p. ExtensionsAreWithin p) rule.extensions_within profile
     (state g.S.Store c.args.conn.now) (state g.S.Store c.each_passes.new.conn) [] refl c.each_passes.result c.each_passes.ensures

@@ -1,18 +1,17 @@
 use Rattle.std.specs.Prelude.{⊤}
 use Rattle.sqlite.specs.Held.{state}
-use Rattle.mm_base.specs.Bounds.{millimetres}
 use Rattle.mm_check.specs.LimitRows.{EditionsAreWithin, FromEditions, PiecesAreWithin}
 use Rattle.mm_rules.proofs.Compose.{goes_on, stops, gives_up}
 use Rattle.mm_check.proofs.limits.from_editions.Goals as goal
 
 pub returns-in-Ok-true : goal.returns-in-Ok-true
-returns-in-Ok-true g c =
-    goes_on millimetres (state g.S.Store c.args.conn.now) (state g.S.Store c.editions_within.new.conn) (state g.S.Store c.pieces_within.new.conn) (λ _. ⊤) (λ p. EditionsAreWithin p) (λ p. PiecesAreWithin p) (λ p. FromEditions p) (λ p. (λ a. a, λ a. a)) c.editions_within.result c.pieces_within.result c.in-Ok-true.is c.in-Ok-true.field-0-test c.editions_within.ensures c.pieces_within.ensures
+returns-in-Ok-true g c profile =
+    goes_on profile (state g.S.Store c.args.conn.now) (state g.S.Store c.editions_within.new.conn) (state g.S.Store c.pieces_within.new.conn) (λ _. ⊤) (λ p. EditionsAreWithin p) (λ p. PiecesAreWithin p) (λ p. FromEditions p) (λ p. (λ a. a, λ a. a)) c.editions_within.result c.pieces_within.result c.in-Ok-true.is c.in-Ok-true.field-0-test (c.editions_within.ensures profile) (c.pieces_within.ensures profile)
 
 pub returns-in-Ok-false : goal.returns-in-Ok-false
-returns-in-Ok-false g c =
-    stops millimetres (state g.S.Store c.args.conn.now) (state g.S.Store c.editions_within.new.conn) (λ _. ⊤) (λ p. EditionsAreWithin p) (λ p. PiecesAreWithin p) (λ p. FromEditions p) (λ p. (λ a. a, λ a. a)) c.editions_within.result c.in-Ok-false.is c.in-Ok-false.field-0-test c.editions_within.ensures
+returns-in-Ok-false g c profile =
+    stops profile (state g.S.Store c.args.conn.now) (state g.S.Store c.editions_within.new.conn) (λ _. ⊤) (λ p. EditionsAreWithin p) (λ p. PiecesAreWithin p) (λ p. FromEditions p) (λ p. (λ a. a, λ a. a)) c.editions_within.result c.in-Ok-false.is c.in-Ok-false.field-0-test (c.editions_within.ensures profile)
 
 pub returns-in-Err : goal.returns-in-Err
-returns-in-Err g c =
-    gives_up millimetres (state g.S.Store c.args.conn.now) (state g.S.Store c.editions_within.new.conn) (λ _. ⊤) (λ _. ⊤) (λ p. EditionsAreWithin p) (λ p. FromEditions p) c.editions_within.result c.in-Err.fault c.in-Err.is c.editions_within.ensures
+returns-in-Err g c profile =
+    gives_up profile (state g.S.Store c.args.conn.now) (state g.S.Store c.editions_within.new.conn) (λ _. ⊤) (λ _. ⊤) (λ p. EditionsAreWithin p) (λ p. FromEditions p) c.editions_within.result c.in-Err.fault c.in-Err.is (c.editions_within.ensures profile)

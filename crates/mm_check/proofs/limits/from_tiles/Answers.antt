@@ -1,18 +1,17 @@
 use Rattle.std.specs.Prelude.{⊤}
 use Rattle.sqlite.specs.Held.{state}
-use Rattle.mm_base.specs.Bounds.{millimetres}
 use Rattle.mm_check.specs.LimitRows.{FromRows, FromTiles, TilesAreWithin}
 use Rattle.mm_rules.proofs.Compose.{goes_on, stops, gives_up}
 use Rattle.mm_check.proofs.limits.from_tiles.Goals as goal
 
 pub returns-in-Ok-true : goal.returns-in-Ok-true
-returns-in-Ok-true g c =
-    goes_on millimetres (state g.S.Store c.args.conn.now) (state g.S.Store c.tiles_within.new.conn) (state g.S.Store c.from_rows.new.conn) (λ _. ⊤) (λ p. TilesAreWithin p) (λ p. FromRows p) (λ p. FromTiles p) (λ p. (λ a. a, λ a. a)) c.tiles_within.result c.from_rows.result c.in-Ok-true.is c.in-Ok-true.field-0-test c.tiles_within.ensures c.from_rows.ensures
+returns-in-Ok-true g c profile =
+    goes_on profile (state g.S.Store c.args.conn.now) (state g.S.Store c.tiles_within.new.conn) (state g.S.Store c.from_rows.new.conn) (λ _. ⊤) (λ p. TilesAreWithin p) (λ p. FromRows p) (λ p. FromTiles p) (λ p. (λ a. a, λ a. a)) c.tiles_within.result c.from_rows.result c.in-Ok-true.is c.in-Ok-true.field-0-test (c.tiles_within.ensures profile) (c.from_rows.ensures profile)
 
 pub returns-in-Ok-false : goal.returns-in-Ok-false
-returns-in-Ok-false g c =
-    stops millimetres (state g.S.Store c.args.conn.now) (state g.S.Store c.tiles_within.new.conn) (λ _. ⊤) (λ p. TilesAreWithin p) (λ p. FromRows p) (λ p. FromTiles p) (λ p. (λ a. a, λ a. a)) c.tiles_within.result c.in-Ok-false.is c.in-Ok-false.field-0-test c.tiles_within.ensures
+returns-in-Ok-false g c profile =
+    stops profile (state g.S.Store c.args.conn.now) (state g.S.Store c.tiles_within.new.conn) (λ _. ⊤) (λ p. TilesAreWithin p) (λ p. FromRows p) (λ p. FromTiles p) (λ p. (λ a. a, λ a. a)) c.tiles_within.result c.in-Ok-false.is c.in-Ok-false.field-0-test (c.tiles_within.ensures profile)
 
 pub returns-in-Err : goal.returns-in-Err
-returns-in-Err g c =
-    gives_up millimetres (state g.S.Store c.args.conn.now) (state g.S.Store c.tiles_within.new.conn) (λ _. ⊤) (λ _. ⊤) (λ p. TilesAreWithin p) (λ p. FromTiles p) c.tiles_within.result c.in-Err.fault c.in-Err.is c.tiles_within.ensures
+returns-in-Err g c profile =
+    gives_up profile (state g.S.Store c.args.conn.now) (state g.S.Store c.tiles_within.new.conn) (λ _. ⊤) (λ _. ⊤) (λ p. TilesAreWithin p) (λ p. FromTiles p) c.tiles_within.result c.in-Err.fault c.in-Err.is (c.tiles_within.ensures profile)

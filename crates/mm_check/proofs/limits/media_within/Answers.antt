@@ -1,7 +1,6 @@
 use Rattle.std.specs.Prelude.{⊤}
 use Rattle.std.proofs.Common.{[], refl}
 use Rattle.sqlite.specs.Held.{state}
-use Rattle.mm_base.specs.Bounds.{millimetres}
 use Rattle.mm_check.specs.LimitRows.{MediaAreWithin}
 use Rattle.mm_rules.specs.Texts as text
 use Rattle.mm_check.specs.LimitRows.{IsMediumWithinRow}
@@ -11,6 +10,6 @@ use Rattle.mm_check.proofs.LimitRules as rule
 use Rattle.mm_check.proofs.limits.media_within.Goals as goal
 
 pub returns : goal.returns
-returns g c =
-    checks text.media_within [] IsMediumWithinRow _ _ _ _ _ query.media_within query.quiet_media_within (λ _. ⊤) (λ p. MediaAreWithin p) rule.media_within millimetres
+returns g c profile =
+    checks text.media_within [] IsMediumWithinRow _ _ _ _ _ query.media_within query.quiet_media_within (λ _. ⊤) (λ p. MediaAreWithin p) rule.media_within profile
     (state g.S.Store c.args.conn.now) (state g.S.Store c.each_passes.new.conn) [] refl c.each_passes.result c.each_passes.ensures

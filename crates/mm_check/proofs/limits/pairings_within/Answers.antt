@@ -1,7 +1,6 @@
 use Rattle.std.specs.Prelude.{⊤}
 use Rattle.std.proofs.Common.{[], refl}
 use Rattle.sqlite.specs.Held.{state}
-use Rattle.mm_base.specs.Bounds.{millimetres}
 use Rattle.mm_check.specs.LimitRows.{PairingsAreWithin}
 use Rattle.mm_rules.specs.Texts as text
 use Rattle.mm_check.specs.LimitRows.{IsPairingWithinRow}
@@ -11,6 +10,6 @@ use Rattle.mm_check.proofs.LimitRules as rule
 use Rattle.mm_check.proofs.limits.pairings_within.Goals as goal
 
 pub returns : goal.returns
-returns g c =
-    checks text.pairings_within [] IsPairingWithinRow _ _ _ _ _ query.pairings_within query.quiet_pairings_within (λ _. ⊤) (λ p. PairingsAreWithin p) rule.pairings_within millimetres
+returns g c profile =
+    checks text.pairings_within [] IsPairingWithinRow _ _ _ _ _ query.pairings_within query.quiet_pairings_within (λ _. ⊤) (λ p. PairingsAreWithin p) rule.pairings_within profile
     (state g.S.Store c.args.conn.now) (state g.S.Store c.each_passes.new.conn) [] refl c.each_passes.result c.each_passes.ensures

@@ -1,7 +1,6 @@
 use Rattle.std.specs.Prelude.{⊤}
 use Rattle.std.proofs.Common.{[], refl}
 use Rattle.sqlite.specs.Held.{state}
-use Rattle.mm_base.specs.Bounds.{millimetres}
 use Rattle.mm_check.specs.LimitRows.{PiecesAreWithin}
 use Rattle.mm_rules.specs.Texts as text
 use Rattle.mm_check.specs.LimitRows.{IsPieceWithinRow}
@@ -11,6 +10,6 @@ use Rattle.mm_check.proofs.LimitRules as rule
 use Rattle.mm_check.proofs.limits.pieces_within.Goals as goal
 
 pub returns : goal.returns
-returns g c =
-    checks text.pieces_within [] IsPieceWithinRow _ _ _ _ _ query.pieces_within query.quiet_pieces_within (λ _. ⊤) (λ p. PiecesAreWithin p) rule.pieces_within millimetres
+returns g c profile =
+    checks text.pieces_within [] IsPieceWithinRow _ _ _ _ _ query.pieces_within query.quiet_pieces_within (λ _. ⊤) (λ p. PiecesAreWithin p) rule.pieces_within profile
     (state g.S.Store c.args.conn.now) (state g.S.Store c.each_passes.new.conn) [] refl c.each_passes.result c.each_passes.ensures

@@ -1,7 +1,6 @@
 use Rattle.std.specs.Prelude.{⊤}
 use Rattle.std.proofs.Common.{[], refl}
 use Rattle.sqlite.specs.Held.{state}
-use Rattle.mm_base.specs.Bounds.{millimetres}
 use Rattle.mm_check.specs.LimitRows.{RelationsAreWithin}
 use Rattle.mm_rules.specs.Texts as text
 use Rattle.mm_check.specs.LimitRows.{IsRelationWithinRow}
@@ -11,6 +10,6 @@ use Rattle.mm_check.proofs.LimitRules as rule
 use Rattle.mm_check.proofs.limits.relations_within.Goals as goal
 
 pub returns : goal.returns
-returns g c =
-    checks text.relations_within [] IsRelationWithinRow _ _ _ _ _ query.relations_within query.quiet_relations_within (λ _. ⊤) (λ p. RelationsAreWithin p) rule.relations_within millimetres
+returns g c profile =
+    checks text.relations_within [] IsRelationWithinRow _ _ _ _ _ query.relations_within query.quiet_relations_within (λ _. ⊤) (λ p. RelationsAreWithin p) rule.relations_within profile
     (state g.S.Store c.args.conn.now) (state g.S.Store c.each_passes.new.conn) [] refl c.each_passes.result c.each_passes.ensures

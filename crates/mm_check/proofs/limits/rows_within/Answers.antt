@@ -1,7 +1,6 @@
 use Rattle.std.specs.Prelude.{⊤}
 use Rattle.std.proofs.Common.{[], refl}
 use Rattle.sqlite.specs.Held.{state}
-use Rattle.mm_base.specs.Bounds.{millimetres}
 use Rattle.mm_check.specs.LimitRows.{RowsAreWithin}
 use Rattle.mm_rules.specs.Texts as text
 use Rattle.mm_check.specs.LimitRows.{IsAttributeWithinRow}
@@ -11,6 +10,6 @@ use Rattle.mm_check.proofs.LimitRules as rule
 use Rattle.mm_check.proofs.limits.rows_within.Goals as goal
 
 pub returns : goal.returns
-returns g c =
-    checks text.rows_within [] IsAttributeWithinRow _ _ _ _ _ query.rows_within query.quiet_rows_within (λ _. ⊤) (λ p. RowsAreWithin p) rule.rows_within millimetres
+returns g c profile =
+    checks text.rows_within [] IsAttributeWithinRow _ _ _ _ _ query.rows_within query.quiet_rows_within (λ _. ⊤) (λ p. RowsAreWithin p) rule.rows_within profile
     (state g.S.Store c.args.conn.now) (state g.S.Store c.each_passes.new.conn) [] refl c.each_passes.result c.each_passes.ensures

@@ -1,7 +1,7 @@
 use Rattle.std.specs.Prelude.{⊤}
 use Rattle.std.proofs.Common.{[], refl}
 use Rattle.sqlite.specs.Held.{state}
-use Rattle.mm_base.specs.Bounds.{millimetres}
+use Rattle.mm_base.specs.Units.{profile_of}
 use Rattle.mm_check.specs.LimitRows.{SetsAreWithin}
 use Rattle.mm_rules.specs.Texts as text
 use Rattle.mm_check.specs.LimitRows.{IsSetWithinRow}
@@ -12,5 +12,5 @@ use Rattle.mm_check.proofs.limits.sets_within.Goals as goal
 
 pub returns : goal.returns
 returns g c =
-    checks text.sets_within [] IsSetWithinRow _ _ _ _ _ query.sets_within query.quiet_sets_within (λ _. ⊤) (λ p. SetsAreWithin p) rule.sets_within millimetres
+    checks text.sets_within [] (IsSetWithinRow (profile_of c.args.unit)) _ _ _ _ _ query.sets_within query.quiet_sets_within (λ _. ⊤) (λ p. SetsAreWithin (profile_of c.args.unit) p) (rule.sets_within (profile_of c.args.unit)) (profile_of c.args.unit)
     (state g.S.Store c.args.conn.now) (state g.S.Store c.each_passes.new.conn) [] refl c.each_passes.result c.each_passes.ensures

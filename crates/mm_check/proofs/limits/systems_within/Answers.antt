@@ -1,7 +1,6 @@
 use Rattle.std.specs.Prelude.{⊤}
 use Rattle.std.proofs.Common.{[], refl}
 use Rattle.sqlite.specs.Held.{state}
-use Rattle.mm_base.specs.Bounds.{millimetres}
 use Rattle.mm_check.specs.LimitRows.{SystemsAreWithin}
 use Rattle.mm_rules.specs.Texts as text
 use Rattle.mm_check.specs.LimitRows.{IsSystemWithinRow}
@@ -11,6 +10,6 @@ use Rattle.mm_check.proofs.LimitRules as rule
 use Rattle.mm_check.proofs.limits.systems_within.Goals as goal
 
 pub returns : goal.returns
-returns g c =
-    checks text.systems_within [] IsSystemWithinRow _ _ _ _ _ query.systems_within query.quiet_systems_within (λ _. ⊤) (λ p. SystemsAreWithin p) rule.systems_within millimetres
+returns g c profile =
+    checks text.systems_within [] IsSystemWithinRow _ _ _ _ _ query.systems_within query.quiet_systems_within (λ _. ⊤) (λ p. SystemsAreWithin p) rule.systems_within profile
     (state g.S.Store c.args.conn.now) (state g.S.Store c.each_passes.new.conn) [] refl c.each_passes.result c.each_passes.ensures

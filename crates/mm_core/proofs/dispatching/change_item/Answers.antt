@@ -1,6 +1,6 @@
 use Rattle.std.proofs.Common.{rules, w64}
 use Rattle.std.proofs.lemmas.Int.{to_z-of_z}
-use Rattle.mm_base.specs.Bounds.{millimetres}
+use Rattle.mm_base.specs.Bounds.{current}
 use mir.Val.{SFits}
 use Rattle.mm_core.proofs.dispatching.change_item.Goals as goal
 
@@ -8,23 +8,23 @@ pub returns-in-Row-clause-lent : goal.returns-in-Row-clause-lent
 returns-in-Row-clause-lent g c moment stamped =
     let id_fits : SFits w64 c.in-Row.id = search rules in
     let amount_fits : SFits w64 c.in-Row.amount = search rules in
-    let lent = simp to_z-of_z at (rw (c.as_str.ensures.text, c.as_str-in-Row.ensures.text, c.as_str-in-Row-2.ensures.text) at (c.put_row.ensures.lent millimetres moment stamped)) in
+    let lent = simp to_z-of_z at (rw (c.as_str.ensures.text, c.as_str-in-Row.ensures.text, c.as_str-in-Row-2.ensures.text) at (c.put_row.ensures.lent current moment stamped)) in
     rw c.in-Row.is lent
 
 pub returns-in-RowDrop-clause-lent : goal.returns-in-RowDrop-clause-lent
 returns-in-RowDrop-clause-lent g c moment stamped =
     let id_fits : SFits w64 c.in-RowDrop.id = search rules in
-    let lent = simp to_z-of_z at (rw c.as_str-in-RowDrop.ensures.text at (c.drop_row.ensures.lent millimetres moment stamped)) in
+    let lent = simp to_z-of_z at (rw c.as_str-in-RowDrop.ensures.text at (c.drop_row.ensures.lent current moment stamped)) in
     rw c.in-RowDrop.is lent
 
 pub returns-in-Media-clause-lent : goal.returns-in-Media-clause-lent
 returns-in-Media-clause-lent g c moment stamped =
     let id_fits : SFits w64 c.in-Media.id = search rules in
-    let lent = simp to_z-of_z at (rw (c.as_str-in-Media.ensures.text, c.as_str-in-Media-2.ensures.text, c.as_slice.ensures.bytes) at (c.put_media.ensures.lent millimetres moment stamped)) in
+    let lent = simp to_z-of_z at (rw (c.as_str-in-Media.ensures.text, c.as_str-in-Media-2.ensures.text, c.as_slice.ensures.bytes) at (c.put_media.ensures.lent current moment stamped)) in
     rw c.in-Media.is lent
 
 pub returns-in-MediaDrop-clause-lent : goal.returns-in-MediaDrop-clause-lent
 returns-in-MediaDrop-clause-lent g c moment stamped =
     let id_fits : SFits w64 c.in-MediaDrop.id = search rules in
-    let lent = simp to_z-of_z at (rw c.as_str-in-MediaDrop.ensures.text at (c.drop_media.ensures.lent millimetres moment stamped)) in
+    let lent = simp to_z-of_z at (rw c.as_str-in-MediaDrop.ensures.text at (c.drop_media.ensures.lent current moment stamped)) in
     rw c.in-MediaDrop.is lent

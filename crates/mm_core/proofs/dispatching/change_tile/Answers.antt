@@ -1,15 +1,15 @@
 use Rattle.std.proofs.Common.{rules, w64}
 use Rattle.std.proofs.lemmas.Int.{to_z-of_z}
-use Rattle.mm_base.specs.Bounds.{millimetres}
+use Rattle.mm_base.specs.Bounds.{current}
 use mir.Val.{SFits}
 use Rattle.mm_core.proofs.dispatching.change_tile.Goals as goal
 
 pub returns-in-Tile-clause-lent : goal.returns-in-Tile-clause-lent
 returns-in-Tile-clause-lent g c moment stamped =
-    let lent = rw (c.as_str.ensures.text, c.as_slice.ensures.bytes) at (c.put_tile.ensures.lent millimetres moment stamped) in
+    let lent = rw (c.as_str.ensures.text, c.as_slice.ensures.bytes) at (c.put_tile.ensures.lent current moment stamped) in
     rw c.in-Tile.is lent
 
 pub returns-in-TileDrop-clause-lent : goal.returns-in-TileDrop-clause-lent
 returns-in-TileDrop-clause-lent g c moment stamped =
-    let lent = rw c.as_str-in-TileDrop.ensures.text at (c.drop_tile.ensures.lent millimetres moment stamped) in
+    let lent = rw c.as_str-in-TileDrop.ensures.text at (c.drop_tile.ensures.lent current moment stamped) in
     rw c.in-TileDrop.is lent

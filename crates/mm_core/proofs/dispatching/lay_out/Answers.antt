@@ -1,6 +1,6 @@
 use Rattle.std.proofs.Common.{rules, w64}
 use Rattle.std.proofs.lemmas.Int.{to_z-of_z}
-use Rattle.mm_base.specs.Bounds.{millimetres}
+use Rattle.mm_base.specs.Bounds.{current}
 use mir.Val.{SFits}
 use Rattle.mm_core.proofs.dispatching.lay_out.Goals as goal
 
@@ -8,15 +8,15 @@ pub returns-in-Srs-clause-lent : goal.returns-in-Srs-clause-lent
 returns-in-Srs-clause-lent g c moment stamped =
     let id_fits : SFits w64 c.in-Srs.id = search rules in
     let organization_fits : SFits w64 c.in-Srs.organization_id = search rules in
-    let lent = simp to_z-of_z at (rw (c.as_str.ensures.text, c.as_str-in-Srs.ensures.text, c.as_str-in-Srs-2.ensures.text, c.as_str-in-Srs-3.ensures.text) at (c.add_srs.ensures.lent millimetres moment)) in
+    let lent = simp to_z-of_z at (rw (c.as_str.ensures.text, c.as_str-in-Srs.ensures.text, c.as_str-in-Srs-2.ensures.text, c.as_str-in-Srs-3.ensures.text) at (c.add_srs.ensures.lent current moment)) in
     rw c.in-Srs.is lent
 
 pub returns-in-Table-clause-lent : goal.returns-in-Table-clause-lent
 returns-in-Table-clause-lent g c moment stamped =
-    let lent = rw (c.as_str-in-Table.ensures.text, c.as_str-in-Table-2.ensures.text) at (c.add_table.ensures.lent millimetres moment stamped) in
+    let lent = rw (c.as_str-in-Table.ensures.text, c.as_str-in-Table-2.ensures.text) at (c.add_table.ensures.lent current moment stamped) in
     rw c.in-Table.is lent
 
 pub returns-in-Drop-clause-lent : goal.returns-in-Drop-clause-lent
 returns-in-Drop-clause-lent g c moment stamped =
-    let lent = rw c.as_str-in-Drop.ensures.text at (c.drop_table.ensures.lent millimetres moment) in
+    let lent = rw c.as_str-in-Drop.ensures.text at (c.drop_table.ensures.lent current moment) in
     rw c.in-Drop.is lent

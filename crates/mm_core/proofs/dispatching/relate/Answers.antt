@@ -1,29 +1,29 @@
 use Rattle.std.proofs.Common.{rules, w64}
 use Rattle.std.proofs.lemmas.Int.{to_z-of_z}
-use Rattle.mm_base.specs.Bounds.{millimetres}
+use Rattle.mm_base.specs.Bounds.{current}
 use mir.Val.{SFits}
 use Rattle.mm_core.proofs.dispatching.relate.Goals as goal
 
 pub returns-in-Relation-clause-lent : goal.returns-in-Relation-clause-lent
 returns-in-Relation-clause-lent g c moment =
-    let lent = rw (c.as_str.ensures.text, c.as_str-in-Relation.ensures.text, c.as_str-in-Relation-2.ensures.text) at (c.add_relation.ensures.lent millimetres moment) in
+    let lent = rw (c.as_str.ensures.text, c.as_str-in-Relation.ensures.text, c.as_str-in-Relation-2.ensures.text) at (c.add_relation.ensures.lent current moment) in
     rw c.in-Relation.is lent
 
 pub returns-in-RelationDrop-clause-lent : goal.returns-in-RelationDrop-clause-lent
 returns-in-RelationDrop-clause-lent g c moment =
-    let lent = rw c.as_str-in-RelationDrop.ensures.text at (c.drop_relation.ensures.lent millimetres moment) in
+    let lent = rw c.as_str-in-RelationDrop.ensures.text at (c.drop_relation.ensures.lent current moment) in
     rw c.in-RelationDrop.is lent
 
 pub returns-in-Map-clause-lent : goal.returns-in-Map-clause-lent
 returns-in-Map-clause-lent g c moment =
     let base_fits : SFits w64 c.in-Map.base_id = search rules in
     let related_fits : SFits w64 c.in-Map.related_id = search rules in
-    let lent = simp to_z-of_z at (rw c.as_str-in-Map.ensures.text at (c.add_map.ensures.lent millimetres moment)) in
+    let lent = simp to_z-of_z at (rw c.as_str-in-Map.ensures.text at (c.add_map.ensures.lent current moment)) in
     rw c.in-Map.is lent
 
 pub returns-in-MapDrop-clause-lent : goal.returns-in-MapDrop-clause-lent
 returns-in-MapDrop-clause-lent g c moment =
     let base_fits : SFits w64 c.in-MapDrop.base_id = search rules in
     let related_fits : SFits w64 c.in-MapDrop.related_id = search rules in
-    let lent = simp to_z-of_z at (rw c.as_str-in-MapDrop.ensures.text at (c.drop_map.ensures.lent millimetres moment)) in
+    let lent = simp to_z-of_z at (rw c.as_str-in-MapDrop.ensures.text at (c.drop_map.ensures.lent current moment)) in
     rw c.in-MapDrop.is lent

@@ -14,7 +14,7 @@ returns-in-Some-clause-look g c profile =
     look_as profile _ _ _ _ ((rw is at (rw (to_z-of_z fits) at c.in-Ok-Some.ensures.look)) profile)
     (λ p says meets.
     let there = says ∙ ap (option_map kept_row) c.in-Ok-Some.field-0-is in
-    there ∙ ap Some (spelled_row _ c.in-Some.piece (meets.q15.spelled _ _ there) c.in-Some.ensures))
+    there ∙ ap Some (spelled_row profile _ c.in-Some.piece (meets.q15.spelled _ _ there) c.in-Some.ensures))
 
 pub returns-in-None-clause-look : goal.returns-in-None-clause-look
 returns-in-None-clause-look g c profile = look_denied profile _ _ _ (c.in-Ok-Some.ensures.look profile)

@@ -1,26 +1,26 @@
 use Rattle.mm_edition.proofs.Tries.{closed_tried, look_tried_in_vain, publish_53, publish_gave_up, publish_done, publish_half_closed}
-use Rattle.mm_base.specs.Bounds.{millimetres}
+use Rattle.mm_base.specs.Bounds.{current}
 use Rattle.mm_store.proofs.Shapes.{quiet_then}
 use Rattle.mm_edition.proofs.Quieting.{look_quiet, change_quiet, answered, faulted, quietly_then}
 use Rattle.mm_edition.proofs.publishing.publish.Goals as goal
 
 pub returns-in-Ok-Some-clause-any_text : goal.returns-in-Ok-Some-clause-any_text
-returns-in-Ok-Some-clause-any_text g c = answered _ _ _ _ (look_quiet millimetres _ _ _ (c.in-Ok-Some.ensures.look millimetres))
+returns-in-Ok-Some-clause-any_text g c = answered _ _ _ _ (look_quiet current _ _ _ (c.in-Ok-Some.ensures.look current))
 
 pub returns-in-Err-clause-any_text : goal.returns-in-Err-clause-any_text
-returns-in-Err-clause-any_text g c = faulted _ _ _ (look_quiet millimetres _ _ _ (c.in-Err.ensures.look millimetres))
+returns-in-Err-clause-any_text g c = faulted _ _ _ (look_quiet current _ _ _ (c.in-Err.ensures.look current))
 
 pub returns-in-Ok-Some-try_pieces-clause-any_text : goal.returns-in-Ok-Some-try_pieces-clause-any_text
-returns-in-Ok-Some-try_pieces-clause-any_text g c = answered _ _ _ _ (quietly_then _ _ _ _ (c.in-Ok-None.ensures.look millimetres).survives c.in-Ok-Some-try_pieces.ensures.any_text)
+returns-in-Ok-Some-try_pieces-clause-any_text g c = answered _ _ _ _ (quietly_then _ _ _ _ (c.in-Ok-None.ensures.look current).survives c.in-Ok-Some-try_pieces.ensures.any_text)
 
 pub returns-in-Err-try_pieces-clause-any_text : goal.returns-in-Err-try_pieces-clause-any_text
-returns-in-Err-try_pieces-clause-any_text g c = faulted _ _ _ (quietly_then _ _ _ _ (c.in-Ok-None.ensures.look millimetres).survives c.in-Err-try_pieces.ensures.any_text)
+returns-in-Err-try_pieces-clause-any_text g c = faulted _ _ _ (quietly_then _ _ _ _ (c.in-Ok-None.ensures.look current).survives c.in-Err-try_pieces.ensures.any_text)
 
 pub returns-in-Ok-clause-any_text : goal.returns-in-Ok-clause-any_text
-returns-in-Ok-clause-any_text g c = answered _ _ _ _ (quietly_then _ _ _ _ (quiet_then _ _ _ (c.in-Ok-None.ensures.look millimetres).survives c.in-Ok-None-try_pieces.ensures.any_text.survives) (change_quiet millimetres _ _ _ (c.in-Ok.ensures.change millimetres)))
+returns-in-Ok-clause-any_text g c = answered _ _ _ _ (quietly_then _ _ _ _ (quiet_then _ _ _ (c.in-Ok-None.ensures.look current).survives c.in-Ok-None-try_pieces.ensures.any_text.survives) (change_quiet current _ _ _ (c.in-Ok.ensures.change current)))
 
 pub returns-in-Err-close_edition-clause-any_text : goal.returns-in-Err-close_edition-clause-any_text
-returns-in-Err-close_edition-clause-any_text g c = faulted _ _ _ (quietly_then _ _ _ _ (quiet_then _ _ _ (c.in-Ok-None.ensures.look millimetres).survives c.in-Ok-None-try_pieces.ensures.any_text.survives) (change_quiet millimetres _ _ _ (c.in-Err-close_edition.ensures.change millimetres)))
+returns-in-Err-close_edition-clause-any_text g c = faulted _ _ _ (quietly_then _ _ _ _ (quiet_then _ _ _ (c.in-Ok-None.ensures.look current).survives c.in-Ok-None-try_pieces.ensures.any_text.survives) (change_quiet current _ _ _ (c.in-Err-close_edition.ensures.change current)))
 
 pub returns-in-Ok-Some-clause-tried : goal.returns-in-Ok-Some-clause-tried
 returns-in-Ok-Some-clause-tried g c profile moment stamped = closed_tried profile _ moment _ _ _ c.in-Ok-Some.number c.in-Ok-Some.field-0-is (c.in-Ok-Some.ensures.look profile)

@@ -1,21 +1,21 @@
 use Rattle.std.proofs.Common.{rules, w64}
 use Rattle.std.proofs.lemmas.Int.{to_z-of_z}
 use mir.Val.{SFits}
-use Rattle.mm_base.specs.Bounds.{millimetres}
+use Rattle.mm_base.specs.Bounds.{current}
 use Rattle.mm_edition.proofs.Quieting.{lent_at_quiet}
 use Rattle.mm_edition.proofs.running.run_item.Goals as goal
 
 pub returns-in-Row-clause-any_text : goal.returns-in-Row-clause-any_text
-returns-in-Row-clause-any_text g c = lent_at_quiet millimetres _ _ _ _ _ (c.put_row.ensures.any_text millimetres)
+returns-in-Row-clause-any_text g c = lent_at_quiet current _ _ _ _ _ (c.put_row.ensures.any_text current)
 
 pub returns-in-RowDrop-clause-any_text : goal.returns-in-RowDrop-clause-any_text
-returns-in-RowDrop-clause-any_text g c = lent_at_quiet millimetres _ _ _ _ _ (c.drop_row.ensures.any_text millimetres)
+returns-in-RowDrop-clause-any_text g c = lent_at_quiet current _ _ _ _ _ (c.drop_row.ensures.any_text current)
 
 pub returns-in-Media-clause-any_text : goal.returns-in-Media-clause-any_text
-returns-in-Media-clause-any_text g c = lent_at_quiet millimetres _ _ _ _ _ (c.put_media.ensures.any_text millimetres)
+returns-in-Media-clause-any_text g c = lent_at_quiet current _ _ _ _ _ (c.put_media.ensures.any_text current)
 
 pub returns-in-MediaDrop-clause-any_text : goal.returns-in-MediaDrop-clause-any_text
-returns-in-MediaDrop-clause-any_text g c = lent_at_quiet millimetres _ _ _ _ _ (c.drop_media.ensures.any_text millimetres)
+returns-in-MediaDrop-clause-any_text g c = lent_at_quiet current _ _ _ _ _ (c.drop_media.ensures.any_text current)
 
 pub returns-in-Row-clause-lent : goal.returns-in-Row-clause-lent
 returns-in-Row-clause-lent g c profile moment stamped =

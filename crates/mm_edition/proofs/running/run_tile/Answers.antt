@@ -1,12 +1,12 @@
-use Rattle.mm_base.specs.Bounds.{millimetres}
+use Rattle.mm_base.specs.Bounds.{current}
 use Rattle.mm_edition.proofs.Quieting.{lent_at_quiet}
 use Rattle.mm_edition.proofs.running.run_tile.Goals as goal
 
 pub returns-in-Tile-clause-any_text : goal.returns-in-Tile-clause-any_text
-returns-in-Tile-clause-any_text g c = lent_at_quiet millimetres _ _ _ _ _ (c.put_tile.ensures.any_text millimetres)
+returns-in-Tile-clause-any_text g c = lent_at_quiet current _ _ _ _ _ (c.put_tile.ensures.any_text current)
 
 pub returns-in-TileDrop-clause-any_text : goal.returns-in-TileDrop-clause-any_text
-returns-in-TileDrop-clause-any_text g c = lent_at_quiet millimetres _ _ _ _ _ (c.drop_tile.ensures.any_text millimetres)
+returns-in-TileDrop-clause-any_text g c = lent_at_quiet current _ _ _ _ _ (c.drop_tile.ensures.any_text current)
 
 pub returns-in-Tile-clause-lent : goal.returns-in-Tile-clause-lent
 returns-in-Tile-clause-lent g c profile moment stamped =

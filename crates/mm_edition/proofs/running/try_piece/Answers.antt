@@ -1,23 +1,23 @@
 use Rattle.std.proofs.Common.{Ok, ap, ◌∙◌}
 use Rattle.mm_edition.proofs.Turning.{turn_ends, turn_looked_in_vain, turn_done, turn_refused, turn_gave_up}
-use Rattle.mm_base.specs.Bounds.{millimetres}
+use Rattle.mm_base.specs.Bounds.{current}
 use Rattle.mm_edition.proofs.Quieting.{look_quiet, answered, faulted, quietly_then}
 use Rattle.mm_edition.proofs.running.try_piece.Goals as goal
 
 pub returns-in-Ok-None-clause-any_text : goal.returns-in-Ok-None-clause-any_text
-returns-in-Ok-None-clause-any_text g c = answered _ _ _ _ (look_quiet millimetres _ _ _ (c.in-Ok-None.ensures.look millimetres))
+returns-in-Ok-None-clause-any_text g c = answered _ _ _ _ (look_quiet current _ _ _ (c.in-Ok-None.ensures.look current))
 
 pub returns-in-Err-clause-any_text : goal.returns-in-Err-clause-any_text
-returns-in-Err-clause-any_text g c = faulted _ _ _ (look_quiet millimetres _ _ _ (c.in-Err.ensures.look millimetres))
+returns-in-Err-clause-any_text g c = faulted _ _ _ (look_quiet current _ _ _ (c.in-Err.ensures.look current))
 
 pub returns-in-Ok-Done-clause-any_text : goal.returns-in-Ok-Done-clause-any_text
-returns-in-Ok-Done-clause-any_text g c = answered _ _ _ _ (quietly_then _ _ _ _ (c.in-Ok-Some.ensures.look millimetres).survives c.run_piece.ensures.any_text)
+returns-in-Ok-Done-clause-any_text g c = answered _ _ _ _ (quietly_then _ _ _ _ (c.in-Ok-Some.ensures.look current).survives c.run_piece.ensures.any_text)
 
 pub returns-in-Ok-Refused-clause-any_text : goal.returns-in-Ok-Refused-clause-any_text
-returns-in-Ok-Refused-clause-any_text g c = answered _ _ _ _ (quietly_then _ _ _ _ (c.in-Ok-Some.ensures.look millimetres).survives c.run_piece.ensures.any_text)
+returns-in-Ok-Refused-clause-any_text g c = answered _ _ _ _ (quietly_then _ _ _ _ (c.in-Ok-Some.ensures.look current).survives c.run_piece.ensures.any_text)
 
 pub returns-clause-any_text : goal.returns-clause-any_text
-returns-clause-any_text g c = faulted _ _ _ (quietly_then _ _ _ _ (c.in-Ok-Some.ensures.look millimetres).survives c.in-Err-run_piece.ensures.any_text)
+returns-clause-any_text g c = faulted _ _ _ (quietly_then _ _ _ _ (c.in-Ok-Some.ensures.look current).survives c.in-Err-run_piece.ensures.any_text)
 
 pub returns-in-Ok-None-clause-turn : goal.returns-in-Ok-None-clause-turn
 returns-in-Ok-None-clause-turn g c profile moment stamped = turn_ends profile _ _ moment _ _ _ c.in-Ok-None.field-0-is (c.in-Ok-None.ensures.look profile)

@@ -1,3 +1,4 @@
+use Rattle.mm_base.specs.Bounds.{current}
 use Rattle.std.proofs.Common.{refl, subst, rules, w64, Ok, Err, map}
 use Rattle.std.proofs.Math.Facts.{to_z-of_z}
 use mir.Val.{SFits}
@@ -19,7 +20,7 @@ pub returns-in-Ok-read_number : goal.returns-in-Ok-read_number
 returns-in-Ok-read_number c =
     let (spells, low, high) = c.in-Ok-read_number.ensures.ok in
     let reads = rw (c.as_slice.ensures.value, c.in-Ok.ensures.shown) at c.read_piece-piece.ensures.reads in
-    piece_refused c.args.place c.args.number.now (map (λ f. f.now) c.args.rest.items) c.in-Ok-read_number.number spells low high c.in-Err-piece.fault (subst (ReadsTo (SpellsPiece (shown (map (λ f. f.now) c.args.rest.items))) (IsLeast (HoldsAgainstPiece (shown (map (λ f. f.now) c.args.rest.items))))) c.in-Err-piece.is reads)
+    piece_refused c.args.place c.args.number.now (map (λ f. f.now) c.args.rest.items) c.in-Ok-read_number.number spells low high c.in-Err-piece.fault (subst (ReadsTo (SpellsPiece current (shown (map (λ f. f.now) c.args.rest.items))) (IsLeast (HoldsAgainstPiece current (shown (map (λ f. f.now) c.args.rest.items))))) c.in-Err-piece.is reads)
 
 pub returns-in-Ok-place_record : goal.returns-in-Ok-place_record
 returns-in-Ok-place_record c =

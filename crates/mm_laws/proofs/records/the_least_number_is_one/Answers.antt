@@ -5,5 +5,5 @@ use Rattle.mm_laws.proofs.records.the_least_number_is_one.Goals as goal
 pub returns : goal.returns
 returns c = record {
   commands = λ profile texts n m. one_least (HoldsAgainst profile texts) n m;
-  pieces = λ texts n m. one_least (HoldsAgainstPiece texts) n m;
+  pieces = λ profile texts n m. one_least (HoldsAgainstPiece profile texts) n m;
 }

@@ -1,4 +1,5 @@
 use Rattle.std.proofs.Common.{codes, refl}
+use Rattle.mm_base.specs.Bounds.{current}
 use Rattle.mm_base.specs.Records as forms
 use Rattle.mm_records.proofs.RecordFacts.{piece_arm}
 use Rattle.mm_records.proofs.pieces.piece_of.Goals as goal
@@ -26,3 +27,6 @@ returns-in-map c = piece_arm _ c.args.fields.now (codes "map") forms.map_form c.
 
 pub returns-in-text-4 : goal.returns-in-text-4
 returns-in-text-4 c = piece_arm _ c.args.fields.now (codes "map-drop") forms.map_form c.in-len1-up.len_at_least c.in-text-4.is refl c.read_map_drop.ensures
+
+pub returns-in-matrix : goal.returns-in-matrix
+returns-in-matrix c = piece_arm _ c.args.fields.now (codes "matrix") (forms.matrix_form current) c.in-len1-up.len_at_least c.in-matrix.is refl c.read_matrix.ensures

@@ -1,21 +1,18 @@
 use Rattle.std.proofs.Common.{codes, refl, Some}
-use Rattle.mm_base.specs.Bounds.{millimetres}
+use Rattle.mm_base.specs.Bounds.{current}
 use Rattle.mm_base.specs.Records as forms
 use Rattle.mm_base.proofs.ReadingFacts.{texts_of}
 use Rattle.mm_records.proofs.RecordFacts.{command_arm, edit_arm, rest_of}
 use Rattle.mm_records.proofs.records.command_in.Goals as goal
 
 pub returns-in-stage : goal.returns-in-stage
-returns-in-stage c = command_arm _ c.args.fields.now (codes "stage") (forms.stage_form (texts_of (rest_of c.args.fields.now))) c.in-len1-up.len_at_least c.in-stage.is refl c.read_stage.ensures
+returns-in-stage c = command_arm _ c.args.fields.now (codes "stage") (forms.stage_form current (texts_of (rest_of c.args.fields.now))) c.in-len1-up.len_at_least c.in-stage.is refl c.read_stage.ensures
 
 pub returns-in-srs : goal.returns-in-srs
 returns-in-srs c = command_arm _ c.args.fields.now (codes "srs") (Some forms.srs_form) c.in-len1-up.len_at_least c.in-srs.is refl c.read_srs.ensures
 
 pub returns-in-pyramid : goal.returns-in-pyramid
-returns-in-pyramid c = command_arm _ c.args.fields.now (codes "pyramid") (Some (forms.pyramid_form millimetres)) c.in-len1-up.len_at_least c.in-pyramid.is refl c.read_pyramid.ensures
-
-pub returns-in-matrix : goal.returns-in-matrix
-returns-in-matrix c = command_arm _ c.args.fields.now (codes "matrix") (Some (forms.matrix_form millimetres)) c.in-len1-up.len_at_least c.in-matrix.is refl c.read_matrix.ensures
+returns-in-pyramid c = command_arm _ c.args.fields.now (codes "pyramid") (Some (forms.pyramid_form current)) c.in-len1-up.len_at_least c.in-pyramid.is refl c.read_pyramid.ensures
 
 pub returns-in-table : goal.returns-in-table
 returns-in-table c = command_arm _ c.args.fields.now (codes "table") (Some forms.table_form) c.in-len1-up.len_at_least c.in-table.is refl c.read_table.ensures
@@ -45,5 +42,5 @@ pub returns-in_default-word : goal.returns-in_default-word
 returns-in_default-word c =
     let n = c.in_default-word in
     edit_arm _ c.args.fields.now c.in-len1-up.len_at_least n.not-stage
-    (n.not-srs, (n.not-pyramid, (n.not-matrix, (n.not-table, (n.not-drop, (n.not-relation, (n.not-text, (n.not-edition, (n.not-discard, (n.not-publish, (n.not-rehearse, tt)))))))))))
+    (n.not-srs, (n.not-pyramid, (n.not-table, (n.not-drop, (n.not-relation, (n.not-text, (n.not-edition, (n.not-discard, (n.not-publish, (n.not-rehearse, tt))))))))))
     c.read_edit.ensures

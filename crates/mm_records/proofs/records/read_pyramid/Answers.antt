@@ -1,7 +1,7 @@
 use Rattle.std.proofs.Common.{arith, refl}
 use Rattle.mm_base.specs.Fields.{AName, AnIdentifier, Plain, Whole}
 use Rattle.mm_base.specs.Records.{coordinate, named_system, step_words}
-use Rattle.mm_base.specs.Bounds.{millimetres}
+use Rattle.mm_base.specs.Bounds.{current}
 use Rattle.mm_base.specs.Package.{kind_text}
 use Rattle.mm_base.specs.Effects.{step_kind}
 use Rattle.mm_base.proofs.ReadingFacts.{text_at, and_then, the_last, texts_are, holds, refuses, coordinate_kept, system_kept}
@@ -14,10 +14,10 @@ returns-in-Err c =
     (and_then AName (t 0) (record { value = Plain; reads = c.name_field.ensures }) c.both-7.ensures
     (and_then AnIdentifier (t 1) (record { value = Plain; reads = c.read.ensures }) c.both-6.ensures
     (and_then named_system (t 2) (record { value = Whole; reads = c.number_field.ensures }) c.both-5.ensures
-    (and_then (coordinate millimetres) (t 3) (record { value = Whole; reads = c.number_field-2.ensures }) c.both-4.ensures
-    (and_then (coordinate millimetres) (t 4) (record { value = Whole; reads = c.number_field-3.ensures }) c.both-3.ensures
-    (and_then (coordinate millimetres) (t 5) (record { value = Whole; reads = c.number_field-4.ensures }) c.both-2.ensures
-    (and_then (coordinate millimetres) (t 6) (record { value = Whole; reads = c.number_field-5.ensures }) c.both.ensures
+    (and_then (coordinate current) (t 3) (record { value = Whole; reads = c.number_field-2.ensures }) c.both-4.ensures
+    (and_then (coordinate current) (t 4) (record { value = Whole; reads = c.number_field-3.ensures }) c.both-3.ensures
+    (and_then (coordinate current) (t 5) (record { value = Whole; reads = c.number_field-4.ensures }) c.both-2.ensures
+    (and_then (coordinate current) (t 6) (record { value = Whole; reads = c.number_field-5.ensures }) c.both.ensures
     (the_last step_words (t 7) (record { value = λ step. Plain (kind_text (step_kind step)); reads = c.step_field.ensures })))))))))
 
 pub returns-in-Ok : goal.returns-in-Ok
@@ -28,10 +28,10 @@ returns-in-Ok c =
     (and_then AName (t 0) (record { value = Plain; reads = c.name_field.ensures }) c.both-7.ensures
     (and_then AnIdentifier (t 1) (record { value = Plain; reads = c.read.ensures }) c.both-6.ensures
     (and_then named_system (t 2) (record { value = Whole; reads = c.number_field.ensures }) c.both-5.ensures
-    (and_then (coordinate millimetres) (t 3) (record { value = Whole; reads = c.number_field-2.ensures }) c.both-4.ensures
-    (and_then (coordinate millimetres) (t 4) (record { value = Whole; reads = c.number_field-3.ensures }) c.both-3.ensures
-    (and_then (coordinate millimetres) (t 5) (record { value = Whole; reads = c.number_field-4.ensures }) c.both-2.ensures
-    (and_then (coordinate millimetres) (t 6) (record { value = Whole; reads = c.number_field-5.ensures }) c.both.ensures
+    (and_then (coordinate current) (t 3) (record { value = Whole; reads = c.number_field-2.ensures }) c.both-4.ensures
+    (and_then (coordinate current) (t 4) (record { value = Whole; reads = c.number_field-3.ensures }) c.both-3.ensures
+    (and_then (coordinate current) (t 5) (record { value = Whole; reads = c.number_field-4.ensures }) c.both-2.ensures
+    (and_then (coordinate current) (t 6) (record { value = Whole; reads = c.number_field-5.ensures }) c.both.ensures
     (the_last step_words (t 7) (record { value = λ step. Plain (kind_text (step_kind step)); reads = c.step_field.ensures }))))))))) in
     let kept0 = system_kept c.in-Ok.read.1.1.0 all.1.1.0.1 in
     let kept1 = coordinate_kept c.in-Ok.read.1.1.1.0 all.1.1.1.0.1 in

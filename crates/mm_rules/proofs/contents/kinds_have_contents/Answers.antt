@@ -1,7 +1,6 @@
 use Rattle.std.specs.Prelude.{⊤}
 use Rattle.std.proofs.Common.{[], refl}
 use Rattle.sqlite.specs.Held.{state}
-use Rattle.mm_base.specs.Bounds.{millimetres}
 use Rattle.mm_rules.specs.Parts.{KindsHaveContents}
 use Rattle.mm_rules.specs.Texts as text
 use Rattle.mm_rules.specs.ContentsRows.{IsThereRow}
@@ -11,6 +10,6 @@ use Rattle.mm_rules.proofs.ContentsRules as rule
 use Rattle.mm_rules.proofs.contents.kinds_have_contents.Goals as goal
 
 pub returns : goal.returns
-returns g c =
-    checks text.kinds_have_contents [] IsThereRow _ _ _ _ _ query.kinds_have_contents query.quiet_kinds_have_contents (λ _. ⊤) (λ p. KindsHaveContents p) rule.kinds_have_contents millimetres
+returns g c profile =
+    checks text.kinds_have_contents [] IsThereRow _ _ _ _ _ query.kinds_have_contents query.quiet_kinds_have_contents (λ _. ⊤) (λ p. KindsHaveContents p) rule.kinds_have_contents profile
     (state g.S.Store c.args.conn.now) (state g.S.Store c.each_passes.new.conn) [] refl c.each_passes.result c.each_passes.ensures

@@ -1,7 +1,6 @@
 use Rattle.std.specs.Prelude.{⊤}
 use Rattle.std.proofs.Common.{[], refl}
 use Rattle.sqlite.specs.Held.{state}
-use Rattle.mm_base.specs.Bounds.{millimetres}
 use Rattle.mm_rules.specs.Parts.{MappingNames}
 use Rattle.mm_rules.specs.Texts as text
 use Rattle.mm_rules.specs.ContentsRows.{IsAbsentRow}
@@ -11,6 +10,6 @@ use Rattle.mm_rules.proofs.ContentsRules as rule
 use Rattle.mm_rules.proofs.contents.mapping_names.Goals as goal
 
 pub returns : goal.returns
-returns g c =
-    checks text.mapping_names [] IsAbsentRow _ _ _ _ _ query.mapping_names query.quiet_mapping_names (λ _. ⊤) (λ p. MappingNames p) rule.mapping_names millimetres
+returns g c profile =
+    checks text.mapping_names [] IsAbsentRow _ _ _ _ _ query.mapping_names query.quiet_mapping_names (λ _. ⊤) (λ p. MappingNames p) rule.mapping_names profile
     (state g.S.Store c.args.conn.now) (state g.S.Store c.each_passes.new.conn) [] refl c.each_passes.result c.each_passes.ensures

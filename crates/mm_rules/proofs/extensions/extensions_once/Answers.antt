@@ -1,7 +1,6 @@
 use Rattle.std.specs.Prelude.{⊤}
 use Rattle.std.proofs.Common.{[], refl}
 use Rattle.sqlite.specs.Held.{state}
-use Rattle.mm_base.specs.Bounds.{millimetres}
 use Rattle.mm_rules.specs.Parts.{ExtensionsOnce}
 use Rattle.mm_rules.specs.Texts as text
 use Rattle.mm_rules.specs.ExtensionRows.{NoRow}
@@ -11,6 +10,6 @@ use Rattle.mm_rules.proofs.ExtensionRules as rule
 use Rattle.mm_rules.proofs.extensions.extensions_once.Goals as goal
 
 pub returns : goal.returns
-returns g c =
-    checks text.extensions_once [] NoRow _ _ _ _ _ query.extensions_once query.quiet_extensions_once (λ _. ⊤) (λ p. ExtensionsOnce p) rule.extensions_once millimetres
+returns g c profile =
+    checks text.extensions_once [] NoRow _ _ _ _ _ query.extensions_once query.quiet_extensions_once (λ _. ⊤) (λ p. ExtensionsOnce p) rule.extensions_once profile
     (state g.S.Store c.args.conn.now) (state g.S.Store c.each_passes.new.conn) [] refl c.each_passes.result c.each_passes.ensures

@@ -1,5 +1,5 @@
-use Rattle.mm_base.specs.Bounds.{millimetres}
+use Rattle.mm_base.specs.Bounds.{current}
 use Rattle.mm_core.proofs.session.Session.list.Goals as goal
 
 pub returns-clause-listed : goal.returns-clause-listed
-returns-clause-listed g c working = c.list.ensures.listed millimetres
+returns-clause-listed g c working = c.list.ensures.listed current

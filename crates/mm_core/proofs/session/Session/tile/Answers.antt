@@ -1,5 +1,5 @@
-use Rattle.mm_base.specs.Bounds.{millimetres}
+use Rattle.mm_base.specs.Bounds.{current}
 use Rattle.mm_core.proofs.session.Session.tile.Goals as goal
 
 pub returns-clause-read : goal.returns-clause-read
-returns-clause-read g c working = rw c.as_str.ensures.text at (c.tile.ensures.read millimetres)
+returns-clause-read g c working = rw c.as_str.ensures.text at (c.tile.ensures.read current)

@@ -1,0 +1,199 @@
+-- How a migration comes to its ends.
+use Rattle.std.proofs.Common.{◌≡◌, ◌≢◌, inl, inr, ℕ, ℤ, pos, Bool, true, false, Option, Some, None, Result, Ok, Err, OnOk, IfOk, IsTrue, refl, sym, ap, subst, ◌∙◌, arith}
+use Rattle.std.specs.Prelude.{⊤}
+use Rattle.sqlite.specs.Tree.{Trees}
+use Rattle.sqlite.specs.State.{State, HasCleanDisk, Survives, IsUnchanged}
+use Rattle.sqlite.proofs.StateLemmas.{survives_then, survives_weaker}
+use Rattle.mm_base.specs.Bounds.{Profile, millimetres, micrometres}
+use Rattle.mm_base.specs.Package.{Package}
+use Rattle.mm_base.specs.Rules.{Meets}
+use Rattle.mm_base.specs.declared.answers.Fault.{Fault}
+use Rattle.mm_base.specs.declared.answers.Open.{Open}
+use Rattle.mm_base.specs.declared.answers.Open.TheVariants as opens
+use Rattle.mm_base.specs.Scale.{scale}
+use Rattle.mm_laws.proofs.Scaled.{scaled}
+use Rattle.mm_store.specs.Stands.{StandsFor, ReadsAs, IsSettled}
+use Rattle.mm_store.specs.Statements.{CommitsNothing}
+use Rattle.mm_store.proofs.Asking.{told_fault}
+use Rattle.mm_store.proofs.Shapes.{quiet_then}
+use Rattle.mm_meta.specs.Look.{Answers, IsLooked, Agrees}
+use Rattle.mm_check.specs.Verdict.{IsVerified}
+use Rattle.mm_scaling.specs.Moves.{MayScale, StandsForEither, IsRescaled}
+use Rattle.mm_migrate.specs.Migrations.{Judged, IsChecked, Adopts, Migrates, TellsNumber, NoNumber, OnlyStoreFaults, IsMigration, IsOlder}
+
+-- ---- the check
+
+module _ (profile : Profile) (old new : State) where
+  pub checked_well : IsVerified profile old new (Ok None) → IsChecked profile old new (Ok tt)
+  checked_well it = record { mode = it.mode; survives = it.survives; settled = it.settled; says = it.says; no_number = tt; faults = tt }
+
+  pub rule_told : (rule : ℕ) → IsVerified profile old new (Ok (Some rule)) → IsChecked profile old new (Err (opens.Rule rule))
+  rule_told rule it = record { mode = it.mode; survives = it.survives; settled = it.settled; says = it.says; no_number = tt; faults = tt }
+
+-- ---- what may be left
+
+abbrev Scaled : State → Trees → Type 0
+Scaled old db = (p : Package) → MayScale old p → StandsFor micrometres.version db (scale p)
+
+left_before : (profile : Profile) (old new : State) (p : Package) → CommitsNothing old new → HasCleanDisk new → IsSettled profile old p → (db : Trees) → new.may_leave db → StandsFor profile.version db p
+left_before profile old new p quiet clean it db may = elim (quiet.crash clean db may) [ inl before ↦ it.left db before | inr none ↦ absurd none ]
+
+unchanged_settled : (profile : Profile) (old new : State) (p : Package) → CommitsNothing old new → HasCleanDisk new → IsUnchanged old new → IsSettled profile old p → IsSettled profile new p
+unchanged_settled profile old new p quiet clean same it = let shows = same.0 in record {
+  mode = shows.mode ∙ it.mode;
+  back = λ up. subst (λ db. ReadsAs profile.version db p) (sym shows.committed_is) (it.back shows.was_open);
+  reads = λ up. subst (λ db. ReadsAs profile.version db p) (sym shows.now_is) (it.reads shows.was_open);
+  left = left_before profile old new p quiet clean it;
+}
+
+-- ---- a package in millimetres
+
+module _ (old mid : State) where
+  quietly : CommitsNothing old mid → Survives old mid (Scaled old)
+  quietly h = survives_weaker old mid (λ _. ⊥) (Scaled old) (λ _ db none. absurd none) h
+
+  stopped_by : (why : Open) (p : Package) → CommitsNothing old mid → HasCleanDisk mid → IsSettled millimetres old p → IsSettled millimetres mid p → Judged millimetres p (Err why) → Migrates p mid (Err why)
+  stopped_by (opens.Rule rule) p quiet clean was it judged = (it, judged)
+  stopped_by (opens.Fault fault) p quiet clean was it judged = λ db may. inl (left_before millimetres old mid p quiet clean was db may)
+  stopped_by (opens.Version version) p quiet clean was it judged = absurd judged
+  stopped_by opens.NoProfile p quiet clean was it judged = absurd judged
+  stopped_by opens.BadProfile p quiet clean was it judged = absurd judged
+
+  pub stopped : (why : Open) → IsChecked millimetres old mid (Err why) → IsOlder old mid (Err why)
+  stopped why it = record {
+    survives = quietly it.survives;
+    migrates = λ clean p s. stopped_by why p it.survives clean s (it.settled clean p s) (it.says clean p s);
+    no_number = it.no_number;
+    faults = it.faults;
+  }
+
+  module _ (new : State) (checked : IsChecked millimetres old mid (Ok tt)) where
+    may : HasCleanDisk mid → (p : Package) → MayScale old p → MayScale mid p
+    may clean p it = (checked.settled clean p it.0, it.1)
+
+    survived : Survives mid new (Scaled mid) → Survives old new (Scaled old)
+    survived h = survives_then old mid new _ _ (Scaled old) (λ _ db none. absurd none) (λ clean db it p s. it p (may (omega (arith, clean, h.clean)) p s)) checked.survives h
+
+    limits : HasCleanDisk mid → (p : Package) → IsSettled millimetres old p → MayScale old p
+    limits clean p s = (s, (checked.says clean p s).q16)
+
+    pub done : IsRescaled mid new (Ok tt) → IsOlder old new (Ok tt)
+    done it = record {
+      survives = survived it.survives;
+      migrates = λ clean p s.
+          let early : HasCleanDisk mid = omega (arith, clean, it.survives.clean) in
+          (it.done clean p (may early p (limits early p s)), scaled p (checked.says early p s));
+      no_number = tt;
+      faults = tt;
+    }
+
+    pub in_doubt : (fault : Fault) → IsRescaled mid new (Err fault) → IsOlder old new (Err (opens.Fault fault))
+    in_doubt fault it = record {
+      survives = survived it.survives;
+      migrates = λ clean p s. let early : HasCleanDisk mid = omega (arith, clean, it.survives.clean) in it.left clean p (may early p (limits early p s));
+      no_number = tt;
+      faults = it.faults;
+    }
+
+-- ---- by what the look at the profile's row answers
+
+other_versions : millimetres.version ≡ micrometres.version → ⊥
+other_versions e = absurd (cc)
+
+module _ (old mid : State) where
+  in_micrometres : (result : Result (Unit {0}) Open) (new : State) (p : Package) → CommitsNothing old new → HasCleanDisk new → IsSettled micrometres old p → IsSettled micrometres new p → Judged micrometres p result → Adopts p new result
+  in_micrometres (Ok u) new p quiet clean was it judged = (it, judged)
+  in_micrometres (Err (opens.Rule rule)) new p quiet clean was it judged = (it, judged)
+  in_micrometres (Err (opens.Fault fault)) new p quiet clean was it judged = left_before micrometres old new p quiet clean was
+  in_micrometres (Err (opens.Version version)) new p quiet clean was it judged = absurd judged
+  in_micrometres (Err opens.NoProfile) new p quiet clean was it judged = absurd judged
+  in_micrometres (Err opens.BadProfile) new p quiet clean was it judged = absurd judged
+
+  no_telling : (new : State) (result : Result (Unit {0}) Open) → NoNumber result → TellsNumber old new result
+  no_telling new (Ok u) h = tt
+  no_telling new (Err (opens.Version version)) h = absurd h
+  no_telling new (Err opens.NoProfile) h = absurd h
+  no_telling new (Err opens.BadProfile) h = absurd h
+  no_telling new (Err (opens.Rule rule)) h = tt
+  no_telling new (Err (opens.Fault fault)) h = tt
+
+  looked_well : IsLooked old mid (Ok tt) → HasCleanDisk mid → (p : Package) → IsSettled micrometres old p → IsSettled micrometres mid p
+  looked_well looked clean p it = go (looked.answers clean)
+    where
+      go : Answers old mid (Ok tt) → IsSettled micrometres mid p
+      go (inl a) = unchanged_settled micrometres old mid p looked.survives clean a.2 it
+      go (inr a) = absurd a.2
+
+  pub adopted : (new : State) (result : Result (Unit {0}) Open) → IsLooked old mid (Ok tt) → IsChecked micrometres mid new result → IsMigration old new result
+  adopted new result looked checked =
+      let quiet = quiet_then old mid new looked.survives checked.survives in
+      let early : HasCleanDisk new → HasCleanDisk mid = λ clean. omega (arith, clean, checked.survives.clean) in
+      record {
+        survives = quietly old new quiet;
+        adopts = λ clean p s. let it = looked_well looked (early clean) p s in in_micrometres result new p quiet clean s (checked.settled clean p it) (checked.says clean p it);
+        migrates = λ clean p s. absurd (other_versions (looked.agrees (early clean) millimetres.version p s.reads));
+        tells = λ clean. no_telling new result checked.no_number;
+        faults = λ clean. checked.faults;
+      }
+
+  looked_older : IsLooked old mid (Err (opens.Version millimetres.version)) → HasCleanDisk mid → (p : Package) → IsSettled millimetres old p → IsSettled millimetres mid p
+  looked_older looked clean p it = go (looked.answers clean)
+    where
+      go : Answers old mid (Err (opens.Version millimetres.version)) → IsSettled millimetres mid p
+      go (inl a) = unchanged_settled millimetres old mid p looked.survives clean a.2 it
+      go (inr a) = absurd a.2
+
+  pub older : (new : State) (why : Open) (result : Result (Unit {0}) Open) → IsLooked old mid (Err why) → why ≡ opens.Version millimetres.version → IsOlder mid new result → IsMigration old new result
+  older new why result looked is it =
+      let at : IsLooked old mid (Err (opens.Version millimetres.version)) = subst (λ w. IsLooked old mid (Err w)) is looked in
+      let early : HasCleanDisk new → HasCleanDisk mid = λ clean. omega (arith, clean, it.survives.clean) in
+      record {
+        survives = survives_then old mid new _ _ (Scaled old) (λ _ db none. absurd none) (λ clean db all p s. all p (looked_older at (early_from it clean) p s.0, s.1)) at.survives it.survives;
+        adopts = λ clean p s. absurd (other_versions (at.agrees (early clean) micrometres.version p s.reads).0);
+        migrates = λ clean p s. it.migrates clean p (looked_older at (early clean) p s);
+        tells = λ clean. no_telling new result it.no_number;
+        faults = λ clean. it.faults;
+      }
+    where
+      early_from : IsOlder mid new result → HasCleanDisk new → HasCleanDisk mid
+      early_from it clean = omega (arith, clean, it.survives.clean)
+
+  -- ---- any other answer of the look
+
+  told : (why : Open) → why ≢ opens.Version millimetres.version → Answers old mid (Err why) → TellsNumber old mid (Err why)
+  told (opens.Version version) other it = (it, λ e. other (ap opens.Version e))
+  told opens.NoProfile other it = it
+  told opens.BadProfile other it = it
+  told (opens.Rule rule) other it = tt
+  told (opens.Fault fault) other it = tt
+
+  not_adopted : (why : Open) (p : Package) → CommitsNothing old mid → HasCleanDisk mid → IsSettled micrometres old p → Agrees micrometres.version (Err why) → Adopts p mid (Err why)
+  not_adopted (opens.Version version) p quiet clean s it = absurd (it.1 refl)
+  not_adopted opens.NoProfile p quiet clean s it = absurd it
+  not_adopted opens.BadProfile p quiet clean s it = absurd it
+  not_adopted (opens.Rule rule) p quiet clean s it = absurd it
+  not_adopted (opens.Fault fault) p quiet clean s it = left_before micrometres old mid p quiet clean s
+
+  not_migrated : (why : Open) (p : Package) → why ≢ opens.Version millimetres.version → CommitsNothing old mid → HasCleanDisk mid → IsSettled millimetres old p → Agrees millimetres.version (Err why) → Migrates p mid (Err why)
+  not_migrated (opens.Version version) p other quiet clean s it = absurd (other (ap opens.Version it.0))
+  not_migrated opens.NoProfile p other quiet clean s it = absurd it
+  not_migrated opens.BadProfile p other quiet clean s it = absurd it
+  not_migrated (opens.Rule rule) p other quiet clean s it = absurd it
+  not_migrated (opens.Fault fault) p other quiet clean s it = λ db may. inl (left_before millimetres old mid p quiet clean s db may)
+
+  fault_told : (why : Open) → Answers old mid (Err why) → OnlyStoreFaults (Err why)
+  fault_told (opens.Version version) it = tt
+  fault_told opens.NoProfile it = tt
+  fault_told opens.BadProfile it = tt
+  fault_told (opens.Rule rule) it = tt
+  fault_told (opens.Fault fault) (inl it) = inl it.3
+  fault_told (opens.Fault fault) (inr it) = told_fault it.0 fault it.2.1
+
+  pub refused : (why : Open) → IsLooked old mid (Err why) → why ≢ opens.Version millimetres.version → IsMigration old mid (Err why)
+  refused why looked other = record {
+    survives = quietly old mid looked.survives;
+    adopts = λ clean p s. not_adopted why p looked.survives clean s (looked.agrees clean micrometres.version p s.reads);
+    migrates = λ clean p s. not_migrated why p other looked.survives clean s (looked.agrees clean millimetres.version p s.reads);
+    tells = λ clean. told why other (looked.answers clean);
+    faults = λ clean. fault_told why (looked.answers clean);
+  }

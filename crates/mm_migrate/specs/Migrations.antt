@@ -1,0 +1,80 @@
+-- What becomes of a connection whose package is to be told in micrometres.
+use Rattle.std.specs.Prelude.{◌≡◌, ◌≢◌, ⊤, ℤ, pos, Bool, false, Result, Ok, Err, IsTrue}
+use Rattle.sqlite.specs.Tree.{Trees}
+use Rattle.sqlite.specs.State.{State, HasCleanDisk, Survives}
+use Rattle.mm_base.specs.Bounds.{Profile, millimetres, micrometres}
+use Rattle.mm_base.specs.Package.{Package}
+use Rattle.mm_base.specs.Rules.{Meets}
+use Rattle.mm_base.specs.declared.answers.Open.{Open}
+use Rattle.mm_base.specs.declared.answers.Open.TheVariants as opens
+use Rattle.mm_base.specs.Scale.{scale}
+use Rattle.mm_store.specs.Stands.{StandsFor, IsSettled}
+use Rattle.mm_store.specs.Faults.{IsStoreFault}
+use Rattle.mm_store.specs.Statements.{CommitsNothing}
+use Rattle.mm_meta.specs.Look.{Answers}
+use Rattle.mm_check.specs.Verdict.{IsFailing}
+use Rattle.mm_scaling.specs.Moves.{MayScale, StandsForEither}
+
+-- what the whole check tells of a package: it meets the rules, or this one fails
+abbrev pub Judged : Profile → Package → Result (Unit {0}) Open → Type 0
+Judged profile p (Ok _) = Meets profile p
+Judged profile p (Err (opens.Rule rule)) = IsFailing profile p rule
+Judged profile p (Err (opens.Fault fault)) = ⊤
+Judged profile p (Err _) = ⊥
+
+-- the fault of a result, if it is one, is the store's
+abbrev pub OnlyStoreFaults : Result (Unit {0}) Open → Type 0
+OnlyStoreFaults (Err (opens.Fault fault)) = IsStoreFault fault
+OnlyStoreFaults _ = ⊤
+
+-- it is no opening number
+abbrev pub NoNumber : Result (Unit {0}) Open → Type 0
+NoNumber (Err (opens.Version version)) = ⊥
+NoNumber (Err opens.NoProfile) = ⊥
+NoNumber (Err opens.BadProfile) = ⊥
+NoNumber _ = ⊤
+
+-- It wrote nothing, leaves the connection as settled as before, and answers what the whole check tells.
+pub record IsChecked (profile : Profile) (old new : State) (result : Result (Unit {0}) Open) : Type 0 where
+  pub mode : old.in_transaction ≡ false → new.in_transaction ≡ false
+  pub survives : CommitsNothing old new
+  pub settled : HasCleanDisk new → (p : Package) → IsSettled profile old p → IsSettled profile new p
+  pub says : HasCleanDisk new → (p : Package) → IsSettled profile old p → Judged profile p result
+  pub no_number : NoNumber result
+  pub faults : OnlyStoreFaults result
+
+-- ---- of a package that is in micrometres already, as of one that is adopted
+abbrev pub Adopts : Package → State → Result (Unit {0}) Open → Type 0
+Adopts p new (Ok _) = IsSettled micrometres new p × Meets micrometres p
+Adopts p new (Err (opens.Rule rule)) = IsSettled micrometres new p × IsFailing micrometres p rule
+Adopts p new (Err (opens.Fault fault)) = (db : Trees) → new.may_leave db → StandsFor micrometres.version db p
+Adopts p new (Err _) = ⊥
+
+-- ---- of a package in millimetres: it is told in micrometres; or it is as it was, and breaks this rule; or there was a fault,
+-- and each database that may be left stands for it as it was or wholly for it in micrometres
+abbrev pub Migrates : Package → State → Result (Unit {0}) Open → Type 0
+Migrates p new (Ok _) = IsSettled micrometres new (scale p) × Meets micrometres (scale p)
+Migrates p new (Err (opens.Rule rule)) = IsSettled millimetres new p × IsFailing millimetres p rule
+Migrates p new (Err (opens.Fault fault)) = (db : Trees) → new.may_leave db → StandsForEither db p
+Migrates p new (Err _) = ⊥
+
+-- an opening number is as the look at the profile's row gives it, and another version than these two
+abbrev pub TellsNumber : State → State → Result (Unit {0}) Open → Type 0
+TellsNumber old new (Err (opens.Version version)) = Answers old new (Err (opens.Version version)) × (version ≢ millimetres.version)
+TellsNumber old new (Err opens.NoProfile) = Answers old new (Err opens.NoProfile)
+TellsNumber old new (Err opens.BadProfile) = Answers old new (Err opens.BadProfile)
+TellsNumber old new _ = ⊤
+
+pub record IsMigration (old new : State) (result : Result (Unit {0}) Open) : Type 0 where
+  pub survives : Survives old new (λ db. (p : Package) → MayScale old p → StandsFor micrometres.version db (scale p))
+  pub adopts : HasCleanDisk new → (p : Package) → IsSettled micrometres old p → Adopts p new result
+  pub migrates : HasCleanDisk new → (p : Package) → IsSettled millimetres old p → Migrates p new result
+  pub tells : HasCleanDisk new → TellsNumber old new result
+  pub faults : HasCleanDisk new → OnlyStoreFaults result
+
+-- the same of a database that is known to be of the older profile
+pub record IsOlder (old new : State) (result : Result (Unit {0}) Open) : Type 0 where
+  pub survives : Survives old new (λ db. (p : Package) → MayScale old p → StandsFor micrometres.version db (scale p))
+  pub migrates : HasCleanDisk new → (p : Package) → IsSettled millimetres old p → Migrates p new result
+  pub no_number : NoNumber result
+  pub faults : OnlyStoreFaults result

@@ -1,0 +1,35 @@
+-- A statement that takes a transaction from one profile to another.
+use Rattle.std.specs.Prelude.{◌⊎◌, Result, OnOk, IfErr, IsTrue}
+use Rattle.sqlite.specs.Tree.{Trees}
+use Rattle.sqlite.specs.State.{State, HasCleanDisk, Survives}
+use Rattle.mm_base.specs.Bounds.{Profile, millimetres, micrometres}
+use Rattle.mm_base.specs.Package.{Package}
+use Rattle.mm_base.specs.Rules.{Limits}
+use Rattle.mm_base.specs.declared.answers.Fault.{Fault}
+use Rattle.mm_base.specs.Scale.{scale}
+use Rattle.mm_store.specs.Stands.{StandsFor, Ground, StandsOn, IsInside, IsSettled}
+use Rattle.mm_store.specs.Faults.{IsStoreFault}
+use Rattle.mm_store.specs.Statements.{CommitsNothing}
+
+-- a call that makes of a package under one profile a package under another, where it may
+pub record IsMove (from to : Profile) (old new : State) (When : Package → Type 0) (next : Package → Package) {T : Type 0} (result : Result T Fault) : Type 0 where
+  pub survives : CommitsNothing old new
+  pub on : HasCleanDisk new → (ground : Ground) (p : Package) → IsInside from old ground p → When p → StandsOn new ground
+  pub made : HasCleanDisk new → (ground : Ground) (p : Package) → IsInside from old ground p → When p → OnOk result (IsTrue new.is_open × IsInside to new ground (next p))
+  pub faults : IfErr result IsStoreFault
+
+-- the package in millimetres, whose numbers are within the limits
+abbrev pub MayScale : State → Package → Type 0
+MayScale s p = IsSettled millimetres s p × Limits millimetres p
+
+-- the database stands for the package in the one unit, or for it in the other
+abbrev pub StandsForEither : Trees → Package → Type 0
+StandsForEither db p = StandsFor millimetres.version db p ⊎ StandsFor micrometres.version db (scale p)
+
+-- `Ok` settles the connection for the package in micrometres; in each case a database that may be left stands for the one or
+-- wholly for the other.
+pub record IsRescaled (old new : State) (result : Result (Unit {0}) Fault) : Type 0 where
+  pub survives : Survives old new (λ db. (p : Package) → MayScale old p → StandsFor micrometres.version db (scale p))
+  pub done : HasCleanDisk new → (p : Package) → MayScale old p → OnOk result (IsSettled micrometres new (scale p))
+  pub left : HasCleanDisk new → (p : Package) → MayScale old p → (db : Trees) → new.may_leave db → StandsForEither db p
+  pub faults : IfErr result IsStoreFault

@@ -16,10 +16,11 @@ use Rattle.mm_store.specs.Stands.{StandsFor, ReadsAs, IsSettled}
 use Rattle.mm_store.specs.Statements.{CommitsNothing}
 use Rattle.mm_store.proofs.Asking.{told_fault}
 use Rattle.mm_store.proofs.Shapes.{quiet_then}
-use Rattle.mm_meta.specs.Look.{Answers, IsLooked, Agrees}
+use Rattle.mm_meta.specs.Look.{Answers, IsLooked, Agrees, ShowsProfile}
+use Rattle.mm_meta.proofs.Looking.{asked_still}
 use Rattle.mm_check.specs.Verdict.{IsVerified}
 use Rattle.mm_scaling.specs.Moves.{MayScale, StandsForEither, IsRescaled}
-use Rattle.mm_migrate.specs.Migrations.{Judged, IsChecked, Adopts, Migrates, TellsNumber, NoNumber, OnlyStoreFaults, IsMigration, IsOlder}
+use Rattle.mm_migrate.specs.Migrations.{Judged, IsChecked, Adopts, Migrates, TellsNumber, NoNumber, OnlyStoreFaults, IsRefusal, MayCommit, IsMigration, IsOlder}
 
 -- ---- the check
 
@@ -62,6 +63,7 @@ module _ (old mid : State) where
   pub stopped : (why : Open) → IsChecked millimetres old mid (Err why) → IsOlder old mid (Err why)
   stopped why it = record {
     survives = quietly it.survives;
+    refused = λ _. it.survives;
     migrates = λ clean p s. stopped_by why p it.survives clean s (it.settled clean p s) (it.says clean p s);
     no_number = it.no_number;
     faults = it.faults;
@@ -80,6 +82,7 @@ module _ (old mid : State) where
     pub done : IsRescaled mid new (Ok tt) → IsOlder old new (Ok tt)
     done it = record {
       survives = survived it.survives;
+      refused = λ none. absurd none;
       migrates = λ clean p s.
           let early : HasCleanDisk mid = omega (arith, clean, it.survives.clean) in
           (it.done clean p (may early p (limits early p s)), scaled p (checked.says early p s));
@@ -90,12 +93,16 @@ module _ (old mid : State) where
     pub in_doubt : (fault : Fault) → IsRescaled mid new (Err fault) → IsOlder old new (Err (opens.Fault fault))
     in_doubt fault it = record {
       survives = survived it.survives;
+      refused = λ none. absurd none;
       migrates = λ clean p s. let early : HasCleanDisk mid = omega (arith, clean, it.survives.clean) in it.left clean p (may early p (limits early p s));
       no_number = tt;
       faults = it.faults;
     }
 
 -- ---- by what the look at the profile's row answers
+
+committing_nothing : (old new : State) → CommitsNothing old new → Survives old new (MayCommit old)
+committing_nothing old new h = survives_weaker old new (λ _. ⊥) (MayCommit old) (λ _ db none. absurd none) h
 
 other_versions : millimetres.version ≡ micrometres.version → ⊥
 other_versions e = absurd (cc)
@@ -129,7 +136,8 @@ module _ (old mid : State) where
       let quiet = quiet_then old mid new looked.survives checked.survives in
       let early : HasCleanDisk new → HasCleanDisk mid = λ clean. omega (arith, clean, checked.survives.clean) in
       record {
-        survives = quietly old new quiet;
+        survives = committing_nothing old new quiet;
+        refused = λ _. quiet;
         adopts = λ clean p s. let it = looked_well looked (early clean) p s in in_micrometres result new p quiet clean s (checked.settled clean p it) (checked.says clean p it);
         migrates = λ clean p s. absurd (other_versions (looked.agrees (early clean) millimetres.version p s.reads));
         tells = λ clean. no_telling new result checked.no_number;
@@ -143,12 +151,18 @@ module _ (old mid : State) where
       go (inl a) = unchanged_settled millimetres old mid p looked.survives clean a.2 it
       go (inr a) = absurd a.2
 
+  shows_version : Answers old mid (Err (opens.Version millimetres.version)) → ShowsProfile millimetres.version old
+  shows_version (inl it) = (it.0, asked_still old mid it.0 it.1, it.3.0)
+  shows_version (inr it) = absurd it.2
+
   pub older : (new : State) (why : Open) (result : Result (Unit {0}) Open) → IsLooked old mid (Err why) → why ≡ opens.Version millimetres.version → IsOlder mid new result → IsMigration old new result
   older new why result looked is it =
       let at : IsLooked old mid (Err (opens.Version millimetres.version)) = subst (λ w. IsLooked old mid (Err w)) is looked in
       let early : HasCleanDisk new → HasCleanDisk mid = λ clean. omega (arith, clean, it.survives.clean) in
       record {
-        survives = survives_then old mid new _ _ (Scaled old) (λ _ db none. absurd none) (λ clean db all p s. all p (looked_older at (early_from it clean) p s.0, s.1)) at.survives it.survives;
+        survives = survives_then old mid new _ _ (MayCommit old) (λ _ db none. absurd none)
+            (λ clean db all. (shows_version (at.answers (early_from it clean)), λ p s. all p (looked_older at (early_from it clean) p s.0, s.1))) at.survives it.survives;
+        refused = λ is. quiet_then old mid new at.survives (it.refused is);
         adopts = λ clean p s. absurd (other_versions (at.agrees (early clean) micrometres.version p s.reads).0);
         migrates = λ clean p s. it.migrates clean p (looked_older at (early clean) p s);
         tells = λ clean. no_telling new result it.no_number;
@@ -191,7 +205,8 @@ module _ (old mid : State) where
 
   pub refused : (why : Open) → IsLooked old mid (Err why) → why ≢ opens.Version millimetres.version → IsMigration old mid (Err why)
   refused why looked other = record {
-    survives = quietly old mid looked.survives;
+    survives = committing_nothing old mid looked.survives;
+    refused = λ _. looked.survives;
     adopts = λ clean p s. not_adopted why p looked.survives clean s (looked.agrees clean micrometres.version p s.reads);
     migrates = λ clean p s. not_migrated why p other looked.survives clean s (looked.agrees clean millimetres.version p s.reads);
     tells = λ clean. told why other (looked.answers clean);

@@ -11,7 +11,7 @@ use Rattle.mm_base.specs.Scale.{scale}
 use Rattle.mm_store.specs.Stands.{StandsFor, IsSettled}
 use Rattle.mm_store.specs.Faults.{IsStoreFault}
 use Rattle.mm_store.specs.Statements.{CommitsNothing}
-use Rattle.mm_meta.specs.Look.{Answers}
+use Rattle.mm_meta.specs.Look.{Answers, ShowsProfile}
 use Rattle.mm_check.specs.Verdict.{IsFailing}
 use Rattle.mm_scaling.specs.Moves.{MayScale, StandsForEither}
 
@@ -65,8 +65,19 @@ TellsNumber old new (Err opens.NoProfile) = Answers old new (Err opens.NoProfile
 TellsNumber old new (Err opens.BadProfile) = Answers old new (Err opens.BadProfile)
 TellsNumber old new _ = ⊤
 
+-- what may be committed: of a database whose profile's table shows that of millimetres, the package in micrometres; of others nothing
+abbrev pub MayCommit : State → Trees → Type 0
+MayCommit old db = ShowsProfile millimetres.version old × ((p : Package) → MayScale old p → StandsFor micrometres.version db (scale p))
+
+-- an opening number or a rule
+abbrev pub IsRefusal : Result (Unit {0}) Open → Type 0
+IsRefusal (Ok _) = ⊥
+IsRefusal (Err (opens.Fault fault)) = ⊥
+IsRefusal (Err _) = ⊤
+
 pub record IsMigration (old new : State) (result : Result (Unit {0}) Open) : Type 0 where
-  pub survives : Survives old new (λ db. (p : Package) → MayScale old p → StandsFor micrometres.version db (scale p))
+  pub survives : Survives old new (MayCommit old)
+  pub refused : IsRefusal result → CommitsNothing old new
   pub adopts : HasCleanDisk new → (p : Package) → IsSettled micrometres old p → Adopts p new result
   pub migrates : HasCleanDisk new → (p : Package) → IsSettled millimetres old p → Migrates p new result
   pub tells : HasCleanDisk new → TellsNumber old new result
@@ -75,6 +86,7 @@ pub record IsMigration (old new : State) (result : Result (Unit {0}) Open) : Typ
 -- the same of a database that is known to be of the older profile
 pub record IsOlder (old new : State) (result : Result (Unit {0}) Open) : Type 0 where
   pub survives : Survives old new (λ db. (p : Package) → MayScale old p → StandsFor micrometres.version db (scale p))
+  pub refused : IsRefusal result → CommitsNothing old new
   pub migrates : HasCleanDisk new → (p : Package) → IsSettled millimetres old p → Migrates p new result
   pub no_number : NoNumber result
   pub faults : OnlyStoreFaults result

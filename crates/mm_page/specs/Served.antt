@@ -1,5 +1,5 @@
 -- What serving a request does to a session, a reader and a writer.
-use Rattle.std.specs.Prelude.{◌≡◌, ◌⊎◌, ◌≤◌, ℕ, Bool, true, false, Option, Some, Result, Ok, Err, length, take, ⊤}
+use Rattle.std.specs.Prelude.{◌≡◌, ◌⊎◌, ◌≤◌, ℕ, Bool, true, false, Option, Some, Result, Ok, Err, codes, length, take, ⊤}
 use Rattle.std.specs.Io.KnownBytes.{Appends, Keeps}
 use Rattle.sqlite.specs.State.{State, HasCleanDisk}
 use Rattle.mm_base.specs.Bounds.{current}
@@ -9,7 +9,10 @@ use Rattle.mm_base.specs.Rules.{Meets}
 use Rattle.mm_base.specs.declared.answers.Fault.{Fault}
 use Rattle.mm_store.specs.Stands.{IsSettled}
 use Rattle.mm_store.specs.Statements.{CommitsNothing}
-use Rattle.mm_page.specs.Page.{Page}
+use Rattle.httparse.specs.Grammar.{RequestHead}
+use Rattle.mm_routes.specs.Asked.{Asks, Wanted}
+use Rattle.mm_routes.specs.Heads.{IsHead}
+use Rattle.mm_page.specs.Page.{Page, path_of}
 
 -- ---- the session
 
@@ -52,3 +55,9 @@ Stopped failed on source reading old new writing fault =
     ⊎ ((fault.0 ≡ 96) × (reading ≡ true) × Keeps old new)
     ⊎ ((fault.0 ≡ 97) × (writing ≡ true) × (response : Text) × Served on source response
     × (k : ℕ) × (k ≤ length response) × Appends old new (take k response))
+
+-- ---- what is asked for
+
+-- the input asks for a part of the package
+abbrev pub AsksForPart : Option Text → Type 0
+AsksForPart source = (input : Text) → source ≡ Some input → (h : RequestHead) × IsHead 8192 64 input h × (h.method ≡ codes "GET") × (w : Wanted) × Asks (path_of h.target) w

@@ -9,7 +9,9 @@ ghost use Rattle.mm_base.specs.Streams as streams;
 ghost use Rattle.mm_core.specs.Parts.{held, has_failed};
 ghost use Rattle.mm_page.specs.Page.{Page, Writes, WritesTo};
 ghost use Rattle.mm_page.specs.Page as page;
-ghost use Rattle.mm_page.specs.Served.{IsOn, IsPageFault, LeavesPackage, Served, ServedTo, Stopped};
+ghost use Rattle.mm_routes.specs.Asked.{Asks, Wanted};
+ghost use Rattle.mm_routes.specs.Heads.{ReadsNoMore};
+ghost use Rattle.mm_page.specs.Served.{AsksForPart, IsOn, IsPageFault, LeavesPackage, Served, ServedTo, Stopped};
 
 use crate::replies::{printed, reply};
 use http::Method;
@@ -49,6 +51,7 @@ fn path_response<S: Alter>(
     ensures same { has_failed session.new ≡ has_failed session.old }
     ensures kept { LeavesPackage (state S.Store (held session.old)) (state S.Store (held session.new)) }
     ensures response { (p : Package) → IsOn (has_failed session.old) (state S.Store (held session.old)) (state S.Store (held session.new)) p → IfOk result (λ v. WritesTo p path.now v.items) }
+    ensures needed { IfErr result (λ fault. fault.0 ≡ 92 → (w : Wanted) × Asks path.now w) }
     ensures fault { IfErr result (IsPageFault (has_failed session.old)) }
 {
     match read_path(alloc, path) {
@@ -69,6 +72,7 @@ fn head_response<S: Alter>(
     ensures same { has_failed session.new ≡ has_failed session.old }
     ensures kept { LeavesPackage (state S.Store (held session.old)) (state S.Store (held session.new)) }
     ensures response { (p : Package) → IsOn (has_failed session.old) (state S.Store (held session.old)) (state S.Store (held session.new)) p → IfOk result (λ v. Writes p method.now target.now v.items) }
+    ensures needed { IfErr result (λ fault. fault.0 ≡ 92 → (method.now ≡ codes "GET") × (w : Wanted) × Asks (page.path_of target.now) w) }
     ensures fault { IfErr result (IsPageFault (has_failed session.old)) }
 {
     if !is_get(method) {
@@ -89,6 +93,9 @@ fn respond<S: Alter, R: Read>(
     ensures same { has_failed session.new ≡ has_failed session.old }
     ensures kept { LeavesPackage (state S.Store (held session.old)) (state S.Store (held session.new)) }
     ensures response { IfOk result (λ v. Served (IsOn (has_failed session.old) (state S.Store (held session.old)) (state S.Store (held session.new))) (R.remaining (inside reader.old)) v.items) }
+    ensures frugal { OnOk result (ReadsNoMore 8192 (R.remaining (inside reader.old)) (R.remaining (inside reader.new))) }
+    ensures frugal_fault { IfErr result (λ fault. (fault.0 ≡ 96) ⊎ ReadsNoMore 8192 (R.remaining (inside reader.old)) (R.remaining (inside reader.new))) }
+    ensures needed { IfErr result (λ fault. fault.0 ≡ 92 → AsksForPart (R.remaining (inside reader.old))) }
     ensures fault { IfErr result (λ fault. IsPageFault (has_failed session.old) fault ⊎ ((fault.0 ≡ 96) × (streams.has_failed reader.new ≡ true))) }
 {
     let mut buf = [0; 8192];
@@ -106,6 +113,8 @@ fn respond<S: Alter, R: Read>(
 /// Reads the head of one request and writes one response, which is made whole before its first byte is written. What was written
 /// is the page of the package and of all that the reader had still to give, however it is cut.
 ///
+/// No more is read than the head needs, so a client that keeps its side open is answered at once.
+///
 /// A fault ends it. With 90 want of memory, 91 the store, 92 where the package is needed and the session has to be opened again,
 /// and 96 where the reader fails, nothing was written; with 97, where the writer fails, a front of the response was. The session
 /// stays as it is.
@@ -120,6 +129,9 @@ pub fn serve_one<S: Alter, R: Read, W: Write>(
     ensures served { OnOk result (ServedTo (IsOn (has_failed session.old) (state S.Store (held session.old)) (state S.Store (held session.new)))
         (R.remaining (inside reader.old)) (W.contents (inside writer.old)) (W.contents (inside writer.new))) }
     ensures working { OnOk result (streams.has_failed writer.new ≡ streams.has_failed writer.old) }
+    ensures frugal { OnOk result (ReadsNoMore 8192 (R.remaining (inside reader.old)) (R.remaining (inside reader.new))) }
+    ensures frugal_fault { IfErr result (λ e. (e.0.0 ≡ 96) ⊎ ReadsNoMore 8192 (R.remaining (inside reader.old)) (R.remaining (inside reader.new))) }
+    ensures needed { IfErr result (λ e. e.0.0 ≡ 92 → AsksForPart (R.remaining (inside reader.old))) }
     ensures stopped { IfErr result (λ e. Stopped (has_failed session.old) (IsOn (has_failed session.old) (state S.Store (held session.old)) (state S.Store (held session.new)))
         (R.remaining (inside reader.old)) (streams.has_failed reader.new) (W.contents (inside writer.old)) (W.contents (inside writer.new)) (streams.has_failed writer.new) e.0) }
 {

@@ -1,6 +1,7 @@
 -- The head of a request at the front of some bytes, by `httparse`'s grammar.
-use Rattle.std.specs.Prelude.{ℕ, ◌≤◌, List, length, take, Option, None, Some, ⊤}
-use Rattle.httparse.specs.Grammar.{ReadsRequest, RequestHead, print_request}
+use Rattle.std.specs.Prelude.{ℕ, ◌≡◌, ◌≤◌, ◌<◌, ◌⊎◌, List, [], ◌++◌, length, take, Option, None, Some, ⊤}
+use Rattle.std.specs.Io.KnownBytes.{Consumes}
+use Rattle.httparse.specs.Grammar.{HasNoRequest, ReadsRequest, RequestHead, print_request}
 use Rattle.httparse.specs.Spans.{IsRequestAt, IsRequestOf, IsRequestWithin}
 use Rattle.httparse.specs.declared.spans.HeaderSpan.{HeaderSpan}
 use Rattle.httparse.specs.declared.spans.RequestSpans.{RequestSpans}
@@ -22,3 +23,11 @@ Heads limit room input buf headers (Some (n, spans)) = (n ≤ length buf) × IsR
 abbrev pub Lies : List ℕ → List HeaderSpan → Option (ℕ × RequestSpans) → Type 0
 Lies buf headers None = ⊤
 Lies buf headers (Some (n, spans)) = (n ≤ length buf) × IsRequestWithin (take n buf) headers spans × IsRequestOf (take n buf) headers spans
+
+-- No more was read than a head needs: nothing, or what one read gave behind bytes that held no head and left room for more.
+abbrev pub IsNeeded : ℕ → List ℕ → Type 0
+IsNeeded limit read = (read ≡ []) ⊎ ((before last : List ℕ) × (read ≡ before ++ last) × (length before < limit) × HasNoRequest before)
+
+-- so much was read, and no more
+abbrev pub ReadsNoMore : ℕ → Option (List ℕ) → Option (List ℕ) → Type 0
+ReadsNoMore limit old now = (read : List ℕ) × Consumes old now read × IsNeeded limit read

@@ -1,9 +1,11 @@
-use Rattle.std.proofs.Common.{◌∙◌, inl, subst}
+use Rattle.std.proofs.Common.{◌∙◌, inl, subst, sym}
+use Rattle.std.proofs.lemmas.Result.{IfErr-weaker}
 use Rattle.sqlite.specs.Held.{state}
 use Rattle.mm_base.specs.Package.{Package}
 use Rattle.mm_base.specs.Streams.{inside}
 use Rattle.mm_core.specs.Parts.{held, has_failed}
-use Rattle.mm_page.specs.Page.{Writes}
+use Rattle.mm_routes.specs.Asked.{Asks}
+use Rattle.mm_page.specs.Page.{Writes, path_of}
 use Rattle.mm_page.specs.Served.{IsOn, Served}
 use Rattle.mm_page.proofs.ServeFacts.{under, weaker}
 use Rattle.mm_page.proofs.serving.respond.Goals as goal
@@ -20,3 +22,12 @@ returns-in-Ok-Some-clause-response g c =
     let target = c.of-in-Ok-Some.ensures ∙ at.path in
     inl (h, is, subst (λ t. Writes p h.method t v.items) target (subst (λ m. Writes p m c.of-in-Ok-Some.result.now v.items) method (w (p, st)))))
     all
+
+pub returns-in-Ok-Some-clause-needed : goal.returns-in-Ok-Some-clause-needed
+returns-in-Ok-Some-clause-needed g c =
+    IfErr-weaker c.head_response.result _ _
+    (λ fault asked is input e.
+    let (fits, within, h, head, at) = rw (e, c.in-Ok-Some.field-0-is) at c.in-Ok-Some.ensures.head in
+    let it = asked is in
+    (h, head, sym (c.of.ensures ∙ at.method) ∙ it.0, it.1, subst (λ t. Asks (path_of t) it.1) (c.of-in-Ok-Some.ensures ∙ at.path) it.2))
+    c.head_response.ensures.needed

@@ -1,4 +1,4 @@
-use Rattle.std.proofs.Common.{◌≡◌, ◌≤◌, arith, length, take}
+use Rattle.std.proofs.Common.{◌≡◌, ◌≤◌, inr, arith, length, take}
 use Rattle.std.proofs.lemmas.List.{length-take}
 use Rattle.std.proofs.KnownBytes.{Consumes-trans}
 use Rattle.mm_routes.proofs.HeadFacts.{complete, from_consumed, full, taken, within_buffer}
@@ -32,5 +32,12 @@ pieces-preserved g c =
     let fits : c.in-Ok.n ≤ length c.read.new.buf = c.in-Ok.ensures.bound.0 in
     record {
       in_range = within_buffer c.pieces.len c.in-Ok.n _ c.pieces.buf c.read.new.buf inv.in_range fits;
+      needed = inr (
+        take c.pieces.len c.pieces.buf,
+        take c.in-Ok.n c.read.new.buf,
+        taken c.pieces.len c.in-Ok.n _ c.pieces.buf c.read.new.buf inv.in_range fits,
+        omega (arith, length-take c.pieces.len c.pieces.buf, c.if-len-buf.false),
+        rw (c.in-Ok-Partial.is, c.in-Ok-Partial.field-0-is) at c.parse_request.ensures.partial,
+      );
       read = rw (taken c.pieces.len c.in-Ok.n _ c.pieces.buf c.read.new.buf inv.in_range fits) (Consumes-trans _ _ _ _ _ inv.read c.in-Ok.ensures.bytes.0);
     }

@@ -1,11 +1,13 @@
 use Rattle.std.proofs.Common.{◌≤◌, ◌-◌, length, take}
 use Rattle.std.specs.Io.KnownBytes.{Consumes}
 use Rattle.mm_base.specs.Streams.{inside}
+use Rattle.mm_routes.specs.Heads.{IsNeeded}
 use Rattle.mm_routes.proofs.heads.read_head.Given as goal
 
 abbrev pub invariant-pieces : goal.invariant-pieces
 invariant-pieces g l = record {
   in_range : l.len ≤ length l.buf;
+  needed : IsNeeded (length l.buf) (take l.len l.buf);
   read : Consumes (g.R.Read.remaining (inside l.fn.reader)) (g.R.Read.remaining (inside l.reader)) (take l.len l.buf);
 }
 

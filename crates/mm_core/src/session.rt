@@ -161,13 +161,14 @@ impl<S: Alter> Session<S> {
     ghost use Rattle.mm_base.specs.Streams as streams;
     ghost use Rattle.mm_store.specs.Stands.{IsSettled};
     ghost use Rattle.mm_run.specs.Told.{IsNear};
-    ghost use Rattle.mm_run.specs.Runs.{IsRunFault, OnRun, RanAll, RanSome, TellsFailureOf};
+    ghost use Rattle.mm_run.specs.Runs.{IsRunFault, OnRun, RanAll, RanSome, TellsFailureOf, TellsWriter, WorksOn};
     ghost use Rattle.mm_core.specs.Applied.{Stands};
     ghost use Rattle.mm_core.specs.Parts.{held, has_failed};
 
     /// Reads records to the end and answers each with a line, which is written and flushed before the next record is
     /// read. Each command is applied at the moment that is handed in. At each exit every database that may be left is
-    /// that of a first part of the accepted commands, with every acknowledged one in it.
+    /// that of a first part of the accepted commands, with every acknowledged one in it. Unless a command failed, the
+    /// session works on: it is settled for the package after the answers that were given, and can run a second list.
     ///
     /// A fault ends the run, with the line of the next record's number where it can be written: 90 want of memory, 91
     /// the store, 92 where the session has to be opened again, 96 where the reader fails, and 97, without a line, where
@@ -184,10 +185,10 @@ impl<S: Alter> Session<S> {
         ensures end { OnOk result (IsAtEnd (R.remaining (inside reader.new))) }
         ensures working { OnOk result (streams.has_failed writer.new ≡ streams.has_failed writer.old) }
         ensures stopped { IfErr result (λ e. OnRun (HasCleanDisk (state S.Store (held self.new))) (λ p. IsSettled current (state S.Store (held self.old)) p) (R.remaining (inside reader.old))
-            (λ p bytes. RanSome p at bytes (λ db. (state S.Store (held self.new)).may_leave db) Stands (W.contents (inside writer.old)) (W.contents (inside writer.new)) e)) }
+            (λ p bytes. RanSome p at bytes (WorksOn (has_failed self.old) (has_failed self.new) (λ q. IsSettled current (state S.Store (held self.new)) q)) (has_failed self.new ≡ true) (λ db. (state S.Store (held self.new)).may_leave db) Stands (W.contents (inside writer.old)) (W.contents (inside writer.new)) e)) }
         ensures near { IfErr result (λ e. IsNear e.tally) }
         ensures session { TellsFailureOf (has_failed self.old) (has_failed self.new) (self.new ≡ self.old) result }
-        ensures writer { IfErr result (λ e. e.fault.0 ≡ 97 → streams.has_failed writer.new ≡ true) }
+        ensures writer { IfErr result (TellsWriter (streams.has_failed writer.old) (streams.has_failed writer.new)) }
         ensures why { IfErr result (λ e. (e.fault.0 ≡ 97) ⊎ IsRunFault e.fault.0 (streams.has_failed reader.new)) }
     {
         let alloc = self.alloc;

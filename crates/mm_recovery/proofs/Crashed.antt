@@ -17,7 +17,7 @@ use Rattle.sqlite_trees.proofs.Doubt.{no_doubt}
 use Rattle.sqlite.specs.State.{HasCleanDisk}
 use Rattle.sqlite.proofs.Theorems.{next_run}
 use Rattle.mm_recovery.specs.Found.{FindsLeft}
-use Rattle.mm_recovery.proofs.Opened.{OnlyCommitted, opened_settles}
+use Rattle.mm_recovery.proofs.Opened.{OnlyCommitted, opened_blank, opened_settles}
 
 -- what is no more than nothing is nothing
 nothing_less : (a b : ℕ) → a ≤ b → b ≡ 0 → a ≡ 0
@@ -56,4 +56,5 @@ module _ {D : Type 0} {g : Ghosts D} where
             (record { holds = (finds clean).holds; reads = (finds clean).reads }))
             (λ may. quiet.outcomes _ may);
         settled = λ clean. opened_settles (file_state new) (opened clean).0 (opened clean).1 (only_committed new stays);
+        blank = λ clean. opened_blank (file_state new) (opened clean).0 (opened clean).1 (only_committed new stays);
       }

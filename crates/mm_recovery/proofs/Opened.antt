@@ -11,7 +11,9 @@ use Rattle.mm_schema.specs.Tables as tables
 use Rattle.mm_base.specs.Bounds.{current}
 use Rattle.mm_base.specs.Package.{Package}
 use Rattle.mm_store.specs.Stands.{StandsFor, ReadsAs}
-use Rattle.mm_recovery.specs.Found.{IsSettledByFound}
+use Rattle.mm_schema.specs.Made.{no_schema}
+use Rattle.mm_meta.specs.Opening.{HasNoTable}
+use Rattle.mm_recovery.specs.Found.{IsSettledByFound, IsBlankByFound}
 
 -- nothing but the last commit may be left
 abbrev pub OnlyCommitted : State → Type 0
@@ -33,4 +35,17 @@ opened_settles s opens live law p stands =
       back = λ _. reads;
       reads = λ _. subst (λ d. ReadsAs current.version d p) (sym opens.clean) reads;
       left = λ db may. subst (λ t. StandsFor current.version t p) (sym (law db opens.is_open may)) stands;
+    }
+
+-- one that lists no table has the empty schema
+none_by : (db : Database) → IsDatabase db → HasNoTable db.trees → db.schema ≡ no_schema
+none_by db sound none = ∥∥₁_elim none (Coded-set schema.the_row.coded db.schema no_schema) (λ empty. lists_once _ db.schema no_schema sound.lists empty.lists)
+
+pub opened_blank : (s : State) → Opens s → IsLive s → OnlyCommitted s → IsBlankByFound s
+opened_blank s opens live law none =
+    let now = live opens.is_open in
+    record {
+      mode = opens.autocommit;
+      schema_is = λ _. subst (λ d. d.schema ≡ no_schema) (sym opens.clean) (none_by s.committed now.1 none);
+      left = λ db may. subst HasNoTable (sym (law db opens.is_open may)) none;
     }

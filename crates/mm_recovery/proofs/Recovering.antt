@@ -1,5 +1,5 @@
 -- What an adopted session is settled for, and why a package that was left is never declined.
-use Rattle.std.proofs.Common.{IfOk, IfErr, List, Option, Result, ◌≡◌, ◌==◌, ℕ, Bool, true, false, inl, inr, Ok, Err, Some, None, refl, arith}
+use Rattle.std.proofs.Common.{IfOk, IfErr, List, Option, Result, ◌≡◌, ◌==◌, ◌+◌, ℕ, Bool, true, false, inl, inr, Ok, Err, Some, None, refl, sym, subst, arith}
 use Rattle.std.proofs.lemmas.Bool.{both_ways}
 use Rattle.std.proofs.Math.Logic.{∥∥₁_elim, ∥∥₁_map}
 use Rattle.sqlite.specs.Tree.{Trees}
@@ -16,10 +16,14 @@ use Rattle.mm_base.specs.Runs.{run}
 use Rattle.mm_base.specs.declared.answers.Tally.{Tally}
 use Rattle.mm_base.specs.declared.answers.RunFault.{RunFault}
 use Rattle.mm_run.specs.Answers.{calls_of}
-use Rattle.mm_run.specs.Runs.{OnRun, RanAll, RanSome}
+use Rattle.mm_run.specs.Runs.{OnRun, RanAll, RanSome, WorksOn}
+use Rattle.mm_run.proofs.Reports.{stops-behind}
 use Rattle.mm_store.specs.Stands.{IsSettled}
-use Rattle.mm_recovery.specs.Found.{FindsLeft}
-use Rattle.mm_recovery.specs.Recovered.{IsRecovered, LeavesPackages, IsFault, RanAndFound, IsRunRecovered, IsNotRecovered, IsRunNotRecovered}
+use Rattle.mm_base.specs.Opening.{opening}
+use Rattle.mm_base.specs.declared.answers.Fault.{Fault}
+use Rattle.mm_core.specs.Sessions.{IsCreated, IsNotCreated}
+use Rattle.mm_recovery.specs.Found.{FindsCommitted, FindsLeft}
+use Rattle.mm_recovery.specs.Recovered.{IsRecovered, IsReopened, IsMakingRecovered, LeavesPackages, IsFault, RanAndFound, IsRunRecovered, IsNotRecovered, IsRunNotRecovered}
 use Rattle.sqlite.specs.Held.{Held}
 use Rattle.sqlite_store.specs.declared.store.FileStore.{FileStore}
 use Rattle.sqlite_disk.specs.declared.Disk.{Ghosts}
@@ -84,6 +88,50 @@ module _ (old mid new : State) (finds : FindsLeft old mid) where
   pub declines_by : (why : Open) → IsNotAdopted mid new why → (HasCleanDisk new → HasCleanDisk old) × (HasCleanDisk new → LeavesPackages old → IsFault why)
   declines_by why declined = ((λ clean. finds.clean (omega (arith, clean, declined.survives.clean))), declines why declined)
 
+-- ---- a session that is closed
+
+pub reopens_by : (old mid new : State) → FindsCommitted old mid → IsAdopted mid new → IsReopened old new
+reopens_by old mid new finds adopted =
+    let early : HasCleanDisk new → HasCleanDisk mid = λ clean. omega (arith, clean, adopted.survives.clean) in
+    record {
+      clean = λ clean. finds.clean (early clean);
+      settled = λ clean p stands.
+          let was = finds.settled (early clean) p (subst (λ db. Stands db p) (sym (finds.found (early clean))) stands) in (adopted.settled clean p was, adopted.meets clean p was);
+    }
+
+module _ (old mid new : State) (finds : FindsCommitted old mid) where
+  refuses : (why : Open) → IsNotAdopted mid new why → is_fault why ≡ false → HasCleanDisk new → (p : Package) → Stands old.committed.trees p → Meets current p → ⊥
+  refuses why declined other clean p stands meets =
+      let early : HasCleanDisk mid = omega (arith, clean, declined.survives.clean) in
+      let was = finds.settled early p (subst (λ db. Stands db p) (sym (finds.found early)) stands) in
+      none_is_declined p why meets (declined.declines clean p was) other
+
+  refused_for : (why : Open) → IsNotAdopted mid new why → HasCleanDisk new → (p : Package) → Stands old.committed.trees p → Meets current p → IsFault why
+  refused_for (opens.Fault fault) declined clean p stands meets = declined.profile clean
+  refused_for (opens.Rule k) declined clean p stands meets = refuses (opens.Rule k) declined refl clean p stands meets
+  refused_for (opens.Version version) declined clean p stands meets = refuses (opens.Version version) declined refl clean p stands meets
+  refused_for opens.NoProfile declined clean p stands meets = refuses opens.NoProfile declined refl clean p stands meets
+  refused_for opens.BadProfile declined clean p stands meets = refuses opens.BadProfile declined refl clean p stands meets
+
+  pub not_reopened_by : (why : Open) → IsNotAdopted mid new why → (HasCleanDisk new → HasCleanDisk old) × (HasCleanDisk new → (p : Package) → Stands old.committed.trees p → Meets current p → IsFault why)
+  not_reopened_by why declined = ((λ clean. finds.clean (omega (arith, clean, declined.survives.clean))), refused_for why declined)
+
+-- ---- the making of a package, and then a crash
+
+module _ (old mid new : State) (finds : FindsLeft mid new) where
+  pub made_then_found : IsCreated old mid → IsMakingRecovered old new (Ok tt)
+  made_then_found created clean blank =
+      let early = finds.clean clean in
+      ∥∥₁_map (finds.found clean) (λ may. finds.settled clean opening ((created early blank).left new.committed.trees may))
+
+  pub stopped_then_found : (fault : Fault) → IsNotCreated old mid → IsMakingRecovered old new (Err fault)
+  stopped_then_found fault stopped clean blank =
+      let early = finds.clean clean in
+      ∥∥₁_map (finds.found clean) (λ may. elim (stopped early blank new.committed.trees may) [
+        | inl none ↦ inl (finds.blank clean none)
+        | inr made ↦ inr (finds.settled clean opening made)
+      ])
+
 -- ---- the run of a list, and then a crash
 
 module _ (mid again : State) (recovered : IsRecovered mid again) (clean : HasCleanDisk again) (p : Package) (moment : ℕ) (bytes : List ℕ) (old new : Option (List ℕ)) where
@@ -101,10 +149,11 @@ module _ (mid again : State) (recovered : IsRecovered mid again) (clean : HasCle
         left = λ _ may. (left.0, (found.2 left.0 left.1).0, left.2, left.3);
       })
 
-  found_after_some : (e : RunFault) → RanSome p moment bytes (λ db. mid.may_leave db) Stands old new e → ∥ RanAndFound again p moment bytes old new (Err e) ∥₁
-  found_after_some e it = ∥∥₁_map (recovered.found clean) (λ found.
+  found_after_some : (before failed : Bool) (e : RunFault) → RanSome p moment bytes (WorksOn before failed (λ q. IsSettled current mid q)) (failed ≡ true) (λ db. mid.may_leave db) Stands old new e → ∥ RanAndFound again p moment bytes old new (Err e) ∥₁
+  found_after_some before failed e it = ∥∥₁_map (recovered.found clean) (λ found.
       let left = it.left found.0 found.1 in
       record {
+        session = stops-behind p moment it.readings (e.tally.accepted + e.tally.refused) _ _ _ _ (λ (q : Package) (works : WorksOn before failed (λ r. IsSettled current mid r) q). (found.2 q (works.1.0.left found.0 found.1)).0) (λ _. tt) it.session;
         readings = it.readings;
         read = it.read;
         text = it.text;
@@ -112,11 +161,11 @@ module _ (mid again : State) (recovered : IsRecovered mid again) (clean : HasCle
         left = λ _ may. (left.0, (found.2 left.0 left.1).0, left.2, left.3);
       })
 
-module _ (old mid : State) (source : Option (List ℕ)) (moment : ℕ) (text text_now : Option (List ℕ)) where
+module _ (old mid : State) (source : Option (List ℕ)) (moment : ℕ) (text text_now : Option (List ℕ)) (before failed : Bool) where
   abbrev pub RunTells : Result Tally RunFault → Type 0
   RunTells ran =
       IfOk ran (λ t. OnRun (HasCleanDisk mid) (λ p. IsSettled current old p) source (λ p bytes. RanAll p moment bytes (λ q. IsSettled current mid q) (λ db. mid.may_leave db) Stands text text_now t))
-      × IfErr ran (λ e. OnRun (HasCleanDisk mid) (λ p. IsSettled current old p) source (λ p bytes. RanSome p moment bytes (λ db. mid.may_leave db) Stands text text_now e))
+      × IfErr ran (λ e. OnRun (HasCleanDisk mid) (λ p. IsSettled current old p) source (λ p bytes. RanSome p moment bytes (WorksOn before failed (λ q. IsSettled current mid q)) (failed ≡ true) (λ db. mid.may_leave db) Stands text text_now e))
 
   left_by : (ran : Result Tally RunFault) → RunTells ran → OnRun (HasCleanDisk mid) (λ p. IsSettled current old p) source (λ p bytes. LeavesPackages mid)
   left_by (Ok t) told clean p sound bytes is = λ db may. let left = (told.0 clean p sound bytes is).left db may in (left.0, left.1, left.3)
@@ -124,7 +173,7 @@ module _ (old mid : State) (source : Option (List ℕ)) (moment : ℕ) (text tex
 
   pub run_recovers : (again : State) (ran : Result Tally RunFault) → RunTells ran → IsRecovered mid again → IsRunRecovered old again source text text_now moment ran
   run_recovers again (Ok t) told recovered clean p sound bytes is = found_after_all mid again recovered clean p moment bytes text text_now t (told.0 (recovered.clean clean) p sound bytes is)
-  run_recovers again (Err e) told recovered clean p sound bytes is = found_after_some mid again recovered clean p moment bytes text text_now e (told.1 (recovered.clean clean) p sound bytes is)
+  run_recovers again (Err e) told recovered clean p sound bytes is = found_after_some mid again recovered clean p moment bytes text text_now before failed e (told.1 (recovered.clean clean) p sound bytes is)
 
   pub run_declines : {D : Type 0} {g : Ghosts D} (conn : Option (Held (FileStore D g))) (why : Open) (ran : Result Tally RunFault) → RunTells ran → IsNotRecovered mid conn why → IsRunNotRecovered old source conn why
   run_declines {D} {g} None why ran told it = it

@@ -1,5 +1,5 @@
 -- What becomes of a session whose files crash.
-use Rattle.std.specs.Prelude.{ℕ, ⊤, List, Option, Some, None, Result, Ok, Err}
+use Rattle.std.specs.Prelude.{ℕ, ⊤, ◌⊎◌, List, Option, Some, None, Result, Ok, Err}
 use Rattle.sqlite.specs.Tree.{Trees}
 use Rattle.sqlite.specs.Held.{Held}
 use Rattle.sqlite.specs.Files.{file_state}
@@ -7,14 +7,17 @@ use Rattle.sqlite.specs.State.{State, HasCleanDisk}
 use Rattle.sqlite_store.specs.declared.store.FileStore.{FileStore}
 use Rattle.sqlite_disk.specs.declared.Disk.{Ghosts}
 use Rattle.mm_base.specs.Bounds.{current}
+use Rattle.mm_base.specs.Opening.{opening}
 use Rattle.mm_base.specs.Package.{Package}
 use Rattle.mm_base.specs.Rules.{Meets}
+use Rattle.mm_base.specs.declared.answers.Fault.{Fault}
 use Rattle.mm_base.specs.declared.answers.Open.{Open}
 use Rattle.mm_base.specs.declared.answers.Open.TheVariants as opens
 use Rattle.mm_base.specs.declared.answers.Tally.{Tally}
 use Rattle.mm_base.specs.declared.answers.RunFault.{RunFault}
 use Rattle.mm_store.specs.Faults.{IsStoreFault}
 use Rattle.mm_store.specs.Stands.{IsSettled}
+use Rattle.mm_meta.specs.Opening.{IsBlank}
 use Rattle.mm_run.specs.Runs.{OnRun, RanAll, RanSome}
 use Rattle.mm_core.specs.Applied.{Stands}
 
@@ -47,12 +50,36 @@ module _ {D : Type 0} {g : Ghosts D} where
   IsRunNotRecovered old source None why = IsFault why
   IsRunNotRecovered old source (Some conn) why = OnRun (HasCleanDisk (file_state conn)) (λ p. IsSettled current old p) source (λ p bytes. IsFault why)
 
+-- ---- the making of a package, and then a crash
+
+-- where the connection had no table: after `Ok` it is settled for the new package; after a fault it is, or has no table still
+abbrev pub IsMakingRecovered : State → State → Result (Unit {0}) Fault → Type 0
+IsMakingRecovered old new (Ok made) = HasCleanDisk new → IsBlank old → ∥ IsSettled current new opening ∥₁
+IsMakingRecovered old new (Err fault) = HasCleanDisk new → IsBlank old → ∥ (IsBlank new ⊎ IsSettled current new opening) ∥₁
+
+-- ---- a session that is closed
+
+-- The database of the last commit was found, and the session is settled for what it stands for.
+pub record IsReopened (old new : State) : Type 0 where
+  pub clean : HasCleanDisk new → HasCleanDisk old
+  pub settled : HasCleanDisk new → (p : Package) → Stands old.committed.trees p → IsSoundOn new p
+
+module _ {D : Type 0} {g : Ghosts D} where
+  -- The files could not be opened; or they were, and then it is a fault where a package that meets the rules was committed last.
+  abbrev pub IsNotReopened : State → Option (Held (FileStore D g)) → Open → Type 0
+  IsNotReopened old None why = IsFault why
+  IsNotReopened old (Some conn) why = (HasCleanDisk (file_state conn) → HasCleanDisk old)
+      × (HasCleanDisk (file_state conn) → (p : Package) → Stands old.committed.trees p → Meets current p → IsFault why)
+
+-- ---- the run of a list, and then a crash
+
 -- What the run of a list tells (`RanAll`, `RanSome`: the records that were read, the text that was written, the tally), with the
 -- session that is then adopted in place of each database that a crash might leave: it is settled for the package of a first
--- part of the accepted commands, with every one in it whose line was written whole.
+-- part of the accepted commands, with every one in it whose line was written whole. Unless a command failed, that is the package
+-- after the answers that were given.
 abbrev pub RanAndFound : State → Package → ℕ → List ℕ → Option (List ℕ) → Option (List ℕ) → Result Tally RunFault → Type 0
 RanAndFound again p moment bytes old new (Ok tally) = RanAll {D = Unit {0}} p moment bytes (IsSettled current again) (λ _. ⊤) (λ _ q. IsSettled current again q) old new tally
-RanAndFound again p moment bytes old new (Err stopped) = RanSome {D = Unit {0}} p moment bytes (λ _. ⊤) (λ _ q. IsSettled current again q) old new stopped
+RanAndFound again p moment bytes old new (Err stopped) = RanSome {D = Unit {0}} p moment bytes (IsSettled current again) ⊤ (λ _. ⊤) (λ _ q. IsSettled current again q) old new stopped
 
 -- After the run of a list on a session that was settled for a package that meets the rules, by what the writer held before and after.
 abbrev pub IsRunRecovered : State → State → Option (List ℕ) → Option (List ℕ) → Option (List ℕ) → ℕ → Result Tally RunFault → Type 0

@@ -4,11 +4,17 @@
 //! no matter of a contract; here a disk stands for them that can be made to crash.
 //!
 //! - `files`: a connection's two files.
+//! - `making`: a new package on them.
 //! - `sessions`: a session on them, and the run of a list.
+//! - `closing`: a session that is closed.
 #![tactic(auto)]
 
+mod closing;
 mod files;
+mod making;
 mod sessions;
 
+pub use closing::close_and_adopt;
 pub use files::{open_after_close, open_after_crash};
+pub use making::create_and_recover;
 pub use sessions::{NotRecovered, recover_after_crash, run_and_recover};

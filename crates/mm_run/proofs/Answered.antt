@@ -1,5 +1,5 @@
 -- One record: what its answer says.
-use Rattle.std.proofs.Common.{◌≡◌, inr, ℕ, List, Option, Some, None, Ok, Err, true, sym, ap, subst}
+use Rattle.std.proofs.Common.{◌≡◌, inr, ℕ, List, Bool, Option, Some, None, Ok, Err, true, false, refl, sym, ap, subst}
 use Rattle.csv.specs.Reading.{ReadRecord}
 use Rattle.csv.specs.declared.reader.Reader.{Reader}
 use Rattle.mm_base.specs.Bounds.{IsMoment, current}
@@ -11,25 +11,32 @@ use Rattle.mm_base.specs.declared.answers.Answer.TheVariants as answers
 use Rattle.mm_base.specs.declared.commands.Command.{Command}
 use Rattle.mm_lines.specs.Records.{Record}
 use Rattle.mm_run.specs.Readings.{Reading, IsReadAs}
-use Rattle.mm_run.specs.Answers.{answer_of, answer_to, after, plain}
-use Rattle.mm_run.specs.Applied.{IsApplied, IsSound, IsAnswer}
+use Rattle.mm_run.specs.Answers.{answer_of, answer_to, after, plain, is_fault}
+use Rattle.mm_run.specs.Applied.{IsApplied, IsSound, IsAnswer, OnFault}
 use Rattle.mm_run.specs.Runs.{IsAnswered, Turns}
 use Rattle.mm_laws.proofs.RunFacts.{refused_same}
 use Rattle.mm_run.proofs.Keeps.{spelled_within, step_meets}
 
-module _ {D : Type 0} (fields : Record) (p : Package) (moment : ℕ) (settled : Package → Type 0) (may_leave : D → Type 0) (stands_for : D → Package → Type 0) where
+-- a command that is answered with a fault has failed the session, or had before
+pub fault-fails : (before failed : Bool) (a : Answer) → (before ≡ true → failed ≡ true) → (before ≡ false → failed ≡ is_fault a) → OnFault a (λ _. failed ≡ true)
+fault-fails before failed answers.Ok ended fails = tt
+fault-fails before failed (answers.Refused why) ended fails = tt
+fault-fails true failed (answers.Fault f) ended fails = ended refl
+fault-fails false failed (answers.Fault f) ended fails = fails refl
+
+module _ {D : Type 0} (fields : Record) (p : Package) (moment : ℕ) (before failed : Bool) (settled : Package → Type 0) (may_leave : D → Type 0) (stands_for : D → Package → Type 0) where
   -- a command was applied
-  pub answered_command : (c : Command) (a : Answer) → IsReadAs fields (Ok c) → IsMoment moment → Meets current p
-      → IsApplied p c moment a settled may_leave stands_for → IsAnswered fields p moment a settled may_leave stands_for
-  answered_command c answers.Ok read low meets h =
+  pub answered_command : (c : Command) (a : Answer) → IsReadAs fields (Ok c) → IsMoment moment → Meets current p → OnFault a (λ _. failed ≡ true)
+      → IsApplied p c moment a settled may_leave stands_for → IsAnswered fields p moment before failed a settled may_leave stands_for
+  answered_command c answers.Ok read low meets fails h =
       (Ok c, read, ap answer_of (sym h.0), (h.1, step_meets p c moment low meets (spelled_within fields c read.1)))
-  answered_command c (answers.Refused why) read low meets h =
+  answered_command c (answers.Refused why) read low meets fails h =
       (Ok c, read, ap answer_of (sym h.0), subst (IsSound settled) (sym (refused_same p c moment why h.0)) (h.1, meets))
-  answered_command c (answers.Fault fault) read low meets h = inr (c, read, step_meets p c moment low meets (spelled_within fields c read.1), h)
+  answered_command c (answers.Fault fault) read low meets fails h = inr (fails, c, read, step_meets p c moment low meets (spelled_within fields c read.1), h)
 
   -- a record that spells no command
   pub answered_refusal : (why : Refusal) → why.piece ≡ None → IsReadAs fields (Err why.number) → IsSound settled p
-      → IsAnswered fields p moment (answers.Refused why) settled may_leave stands_for
+      → IsAnswered fields p moment before failed (answers.Refused why) settled may_leave stands_for
   answered_refusal why none read sound = (Err why.number, read, ap answers.Refused (whole why none), sound)
     where
       whole : (why : Refusal) → why.piece ≡ None → why ≡ plain why.number
@@ -37,15 +44,15 @@ module _ {D : Type 0} (fields : Record) (p : Package) (moment : ℕ) (settled : 
 
   -- a record was read and answered
   pub turned : {T : Type 0} (remaining : T → Option (List ℕ)) (a b : Reader T) (x : Answer) → ReadRecord remaining a b true fields
-      → IsAnswered fields p moment x settled may_leave stands_for → Turns remaining a b p moment (Some x) settled may_leave stands_for
+      → IsAnswered fields p moment before failed x settled may_leave stands_for → Turns remaining a b p moment before failed (Some x) settled may_leave stands_for
   turned remaining a b answers.Ok read h = (fields, read, h)
   turned remaining a b (answers.Refused why) read h = (fields, read, h)
   turned remaining a b (answers.Fault fault) read h = inr (fields, read, h)
 
 -- what an answer that is no fault says
-pub goes_on : {D T : Type 0} (remaining : T → Option (List ℕ)) (a b : Reader T) (p : Package) (moment : ℕ) (settled : Package → Type 0) (may_leave : D → Type 0) (stands_for : D → Package → Type 0)
-    (x : Answer) → IsAnswer x → Turns remaining a b p moment (Some x) settled may_leave stands_for
+pub goes_on : {D T : Type 0} (remaining : T → Option (List ℕ)) (a b : Reader T) (p : Package) (moment : ℕ) (before failed : Bool) (settled : Package → Type 0) (may_leave : D → Type 0) (stands_for : D → Package → Type 0)
+    (x : Answer) → IsAnswer x → Turns remaining a b p moment before failed (Some x) settled may_leave stands_for
     → (fields : Record) × ReadRecord remaining a b true fields × (reading : Reading) × IsReadAs fields reading × (x ≡ answer_to p reading) × IsSound settled (after p moment reading)
-goes_on remaining a b p moment settled may_leave stands_for answers.Ok good h = (h.0, h.1, h.2.0, h.2.1, h.2.2, h.2.3)
-goes_on remaining a b p moment settled may_leave stands_for (answers.Refused why) good h = (h.0, h.1, h.2.0, h.2.1, h.2.2, h.2.3)
-goes_on remaining a b p moment settled may_leave stands_for (answers.Fault fault) good h = absurd good
+goes_on remaining a b p moment before failed settled may_leave stands_for answers.Ok good h = (h.0, h.1, h.2.0, h.2.1, h.2.2, h.2.3)
+goes_on remaining a b p moment before failed settled may_leave stands_for (answers.Refused why) good h = (h.0, h.1, h.2.0, h.2.1, h.2.2, h.2.3)
+goes_on remaining a b p moment before failed settled may_leave stands_for (answers.Fault fault) good h = absurd good

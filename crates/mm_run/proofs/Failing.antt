@@ -42,12 +42,12 @@ goes-ended (answers.Refused why) before failed same t t2 good h was e = (h.1 was
 goes-ended (answers.Fault f) before failed same t t2 good h was e = absurd good
 
 -- a run stopped at the line of an answer
-accepted-stopped : (a : Answer) (t : Tally) (e : RunFault) (old new : Option (List ℕ)) (failed : Bool) (n : ℕ) → Stops old new failed n a t e → e.tally.accepted ≡ (with_answer a t).accepted
-accepted-stopped a t e old new failed n (inl h) = ap (λ (x : Tally). x.accepted) h.1
-accepted-stopped a t e old new failed n (inr (inl h)) = ap (λ (x : Tally). x.accepted) h.2
-accepted-stopped a t e old new failed n (inr (inr h)) = ap (λ (x : Tally). x.accepted) h.2
+accepted-stopped : (a : Answer) (t : Tally) (e : RunFault) (old new : Option (List ℕ)) (was failed : Bool) (n : ℕ) → Stops old new was failed n a t e → e.tally.accepted ≡ (with_answer a t).accepted
+accepted-stopped a t e old new was failed n (inl h) = ap (λ (x : Tally). x.accepted) h.2
+accepted-stopped a t e old new was failed n (inr (inl h)) = ap (λ (x : Tally). x.accepted) h.2
+accepted-stopped a t e old new was failed n (inr (inr h)) = ap (λ (x : Tally). x.accepted) h.2
 
-module _ {S : Type 0} (x y z : S) (first before failed : Bool) (t : Tally) (e : RunFault) (old new : Option (List ℕ)) (writer : Bool) (n : ℕ)
+module _ {S : Type 0} (x y z : S) (first before failed : Bool) (t : Tally) (e : RunFault) (old new : Option (List ℕ)) (was writer : Bool) (n : ℕ)
     (so_far : before ≡ first) (ended : first ≡ true → (y ≡ x) × (t.accepted ≡ 0)) where
   abbrev Result : Type 0
   Result = TellsFailureOf first failed (z ≡ x) (Err e)
@@ -70,7 +70,7 @@ module _ {S : Type 0} (x y z : S) (first before failed : Bool) (t : Tally) (e : 
   accepted_none : before ≡ false → first ≡ true → (z ≡ x) × (e.tally.accepted ≡ 0)
   accepted_none is was = absurd (let g : false ≡ true = sym is ∙ (so_far ∙ was) in cc)
 
-  by_answer : (a : Answer) → TellsFailure before failed (z ≡ y) a → Stops old new writer n a t e → e.tally.accepted ≡ (with_answer a t).accepted → Result
+  by_answer : (a : Answer) → TellsFailure before failed (z ≡ y) a → Stops old new was writer n a t e → e.tally.accepted ≡ (with_answer a t).accepted → Result
   by_answer answers.Ok h (inl s) count = absurd (let g : answers.Ok ≡ answers.Fault e.fault = s.0 in cc)
   by_answer answers.Ok h (inr (inl s)) count = at_writer s.0 (accepted_none h.0)
   by_answer answers.Ok h (inr (inr s)) count = at_writer s.0 (accepted_none h.0)
@@ -81,5 +81,5 @@ module _ {S : Type 0} (x y z : S) (first before failed : Bool) (t : Tally) (e : 
   by_answer (answers.Fault f) h (inr (inl s)) count = at_writer s.0 (kept-refused count h.3)
   by_answer (answers.Fault f) h (inr (inr s)) count = at_writer s.0 (kept-refused count h.3)
 
-  pub stops-failing : (a : Answer) → TellsFailure before failed (z ≡ y) a → Stops old new writer n a t e → Result
-  stops-failing a h s = by_answer a h s (accepted-stopped a t e old new writer n s)
+  pub stops-failing : (a : Answer) → TellsFailure before failed (z ≡ y) a → Stops old new was writer n a t e → Result
+  stops-failing a h s = by_answer a h s (accepted-stopped a t e old new was writer n s)

@@ -1,5 +1,5 @@
 -- The records so far, and what may be left of them.
-use Rattle.std.proofs.Common.{◌≡◌, ◌∙◌, ◌≤◌, ◌+◌, inl, inr, ℕ, zero, suc, List, [], ◌∷◌, ◌++◌, take, length, Option, Some, None, Ok, refl, sym, ap, subst, arith, true, false, append-nil}
+use Rattle.std.proofs.Common.{◌≡◌, ◌∙◌, ◌≤◌, ◌+◌, inl, inr, ℕ, zero, suc, List, [], ◌∷◌, ◌++◌, take, length, Bool, Option, Some, None, Ok, refl, sym, ap, subst, arith, true, false, append-nil}
 use Rattle.std.proofs.lemmas.List.{take_all}
 use Rattle.std.proofs.Math.Seq.{take-append_seam}
 use Rattle.csv.specs.Reading.{Reached, ReadRecord, default_config, source_of}
@@ -19,7 +19,7 @@ use Rattle.mm_lines.specs.Records.{Record}
 use Rattle.mm_run.specs.Readings.{Reading, IsReadAs, AreReadAs}
 use Rattle.mm_run.specs.Answers.{answer_of, answers_to, calls_of, is_fault, accepted_of}
 use Rattle.mm_run.specs.Applied.{IsSound, Leaves, LeavesEither, IsAnswer}
-use Rattle.mm_run.specs.Runs.{AreFirstParts, IsAll, IsSoFar, IsSome, Turns}
+use Rattle.mm_run.specs.Runs.{AreFirstParts, IsAll, IsSoFar, IsSome, StopsBehind, Turns, WorksOn}
 use Rattle.mm_run.proofs.Answered.{goes_on}
 use Rattle.mm_run.proofs.Lists.{accepted_of-more, answers-more, at_most_one, length-answers, none_read, part_of, read_more, run-more}
 
@@ -68,13 +68,13 @@ module _ {D : Type 0} (p : Package) (moment : ℕ) (may_leave : D → Type 0) (s
     meets,
   )
 
-  module _ (xs : List ℕ) (s : State) (given : List Answer) where
+  module _ (xs : List ℕ) (s : State) (before failed : Bool) (settled : Package → Type 0) (given : List Answer) where
     -- all the records were answered, or all that were read
     some-of : (rows : List Record) (state : State) (rest : List ℕ) (readings : List Reading) (w : ℕ) → Reached default_config s xs rows state rest → AreReadAs rows readings
-        → given ≡ answers_to p moment readings → Leaves may_leave stands_for (run p (calls_of moment readings)) → Meets current (run p (calls_of moment readings))
+        → given ≡ answers_to p moment readings → Leaves may_leave stands_for (run p (calls_of moment readings)) → WorksOn before failed settled (run p (calls_of moment readings))
         → accepted_of (take w given) ≤ accepted_of given → accepted_of given ≤ accepted_of (take w given) + 1
-        → IsSome p moment xs s may_leave stands_for given w
-    some-of rows state rest readings w reached read were leaves meets least most =
+        → IsSome p moment xs s before failed settled may_leave stands_for given w
+    some-of rows state rest readings w reached read were leaves works least most =
         let count : accepted_of given ≡ accepted_of (answers_to p moment readings) = ap accepted_of were in
         record {
           rows = rows;
@@ -84,45 +84,46 @@ module _ {D : Type 0} (p : Package) (moment : ℕ) (may_leave : D → Type 0) (s
           readings = readings;
           read = read;
           were = whole_of p moment given readings were;
-          left = parts-left readings (accepted_of (take w given)) leaves meets (omega (arith, count, least)) (omega (arith, count, most));
+          session = inl (sym (as_given p moment given readings were), works);
+          left = parts-left readings (accepted_of (take w given)) leaves works.1.1 (omega (arith, count, least)) (omega (arith, count, most));
         }
 
     whole_front : (w : ℕ) → length given ≤ w → accepted_of (take w given) ≡ accepted_of given
     whole_front w h = ap accepted_of (take_all w given h)
 
-    module _ (settled : Package → Type 0) (law : (q : Package) → settled q → Leaves may_leave stands_for q) where
+    module _ (law : (q : Package) → settled q → Leaves may_leave stands_for q) (same : failed ≡ before) where
       -- of a run that is at rest
       pub some-so_far : (source : Option (List ℕ)) (s2 : State) → IsSoFar p moment xs s source s2 settled given → (w : ℕ) → length given ≤ w
-          → IsSome p moment xs s may_leave stands_for given w
+          → IsSome p moment xs s before failed settled may_leave stands_for given w
       some-so_far source s2 h w enough =
           let front = whole_front w enough in
-          some-of h.rows s2 h.rest h.readings w h.reached h.read h.were (law (run p (calls_of moment h.readings)) h.stands.0) h.stands.1 (omega (arith, front)) (omega (arith, front))
+          some-of h.rows s2 h.rest h.readings w h.reached h.read h.were (law (run p (calls_of moment h.readings)) h.stands.0) (same, h.stands) (omega (arith, front)) (omega (arith, front))
 
-      pub some-all : IsAll p moment xs s settled given → (w : ℕ) → length given ≤ w → IsSome p moment xs s may_leave stands_for given w
+      pub some-all : IsAll p moment xs s settled given → (w : ℕ) → length given ≤ w → IsSome p moment xs s before failed settled may_leave stands_for given w
       some-all h w enough =
           let front = whole_front w enough in
-          some-of h.rows h.are.0 h.are.1 h.readings w h.are.2 h.read h.were (law (run p (calls_of moment h.readings)) h.stands.0) h.stands.1 (omega (arith, front)) (omega (arith, front))
+          some-of h.rows h.are.0 h.are.1 h.readings w h.are.2 h.read h.were (law (run p (calls_of moment h.readings)) h.stands.0) (same, h.stands) (omega (arith, front)) (omega (arith, front))
 
 -- the line of the last answer may be missing
-pub some-last : {D : Type 0} (p : Package) (moment : ℕ) (may_leave : D → Type 0) (stands_for : D → Package → Type 0) (xs : List ℕ) (s : State) (given : List Answer) (a : Answer)
-    (settled : Package → Type 0) → ((q : Package) → settled q → Leaves may_leave stands_for q) → (source : Option (List ℕ)) (s2 : State)
-    → IsSoFar p moment xs s source s2 settled (given ++ a ∷ []) → (w : ℕ) → length given ≤ w → IsSome p moment xs s may_leave stands_for (given ++ a ∷ []) w
-some-last p moment may_leave stands_for xs s given a settled law source s2 h w enough =
-    some-of p moment may_leave stands_for xs s (given ++ a ∷ []) h.rows s2 h.rest h.readings w h.reached h.read h.were
-    (law (run p (calls_of moment h.readings)) h.stands.0) h.stands.1 (accepted-front (given ++ a ∷ []) w) (accepted-last given a w enough)
+pub some-last : {D : Type 0} (p : Package) (moment : ℕ) (may_leave : D → Type 0) (stands_for : D → Package → Type 0) (xs : List ℕ) (s : State) (before failed : Bool) (settled : Package → Type 0)
+    (given : List Answer) (a : Answer) → ((q : Package) → settled q → Leaves may_leave stands_for q) → failed ≡ before → (source : Option (List ℕ)) (s2 : State)
+    → IsSoFar p moment xs s source s2 settled (given ++ a ∷ []) → (w : ℕ) → length given ≤ w → IsSome p moment xs s before failed settled may_leave stands_for (given ++ a ∷ []) w
+some-last p moment may_leave stands_for xs s before failed settled given a law same source s2 h w enough =
+    some-of p moment may_leave stands_for xs s before failed settled (given ++ a ∷ []) h.rows s2 h.rest h.readings w h.reached h.read h.were
+    (law (run p (calls_of moment h.readings)) h.stands.0) (same, h.stands) (accepted-front (given ++ a ∷ []) w) (accepted-last given a w enough)
 
 -- ---- one more record
 module _ {D T : Type 0} (remaining : T → Option (List ℕ)) (a b : Reader T) (p : Package) (moment : ℕ) (xs : List ℕ) (s : State) (settled settled2 : Package → Type 0)
-    (may_leave : D → Type 0) (stands_for : D → Package → Type 0) (given : List Answer) (config : a.config ≡ default_config)
+    (may_leave : D → Type 0) (stands_for : D → Package → Type 0) (first before failed : Bool) (given : List Answer) (config : a.config ≡ default_config)
     (h : IsSoFar p moment xs s (source_of remaining a) a.state settled given) where
   abbrev here : Package
   here = run p (calls_of moment h.readings)
 
   -- it was answered
-  pub so_far-more : (x : Answer) → ((q : Package) → IsSound settled q → Turns remaining a b q moment (Some x) settled2 may_leave stands_for) → IsAnswer x
+  pub so_far-more : (x : Answer) → ((q : Package) → IsSound settled q → Turns remaining a b q moment before failed (Some x) settled2 may_leave stands_for) → IsAnswer x
       → IsSoFar p moment xs s (source_of remaining b) b.state settled2 (given ++ x ∷ [])
   so_far-more x turn good =
-      let (fields, read, reading, is, same, sound) = goes_on remaining a b here moment settled2 may_leave stands_for x good (turn here h.stands) in
+      let (fields, read, reading, is, same, sound) = goes_on remaining a b here moment before failed settled2 may_leave stands_for x good (turn here h.stands) in
       let (zs, at, reached) = rows-more remaining a b fields default_config s xs h.rest h.rows config h.here h.reached read in
       record {
         rows = h.rows ++ fields ∷ [];
@@ -136,7 +137,7 @@ module _ {D T : Type 0} (remaining : T → Option (List ℕ)) (a b : Reader T) (
       }
 
   -- there was none
-  pub all-answered : ((q : Package) → IsSound settled q → Turns remaining a b q moment None settled2 may_leave stands_for) → IsAll p moment xs s settled2 given
+  pub all-answered : ((q : Package) → IsSound settled q → Turns remaining a b q moment before failed None settled2 may_leave stands_for) → IsAll p moment xs s settled2 given
   all-answered turn =
       let (fields, read, sound) = turn here h.stands in
       record {
@@ -148,63 +149,65 @@ module _ {D T : Type 0} (remaining : T → Option (List ℕ)) (a b : Reader T) (
         stands = sound;
       }
 
-  -- nothing of it was done
-  some-before : (w : ℕ) → length given ≤ w → Leaves may_leave stands_for here → IsSome p moment xs s may_leave stands_for given w
-  some-before w enough leaves =
-      let front = whole_front p moment may_leave stands_for xs s given w enough in
-      some-of p moment may_leave stands_for xs s given h.rows a.state h.rest h.readings w h.reached h.read h.were leaves h.stands.1 (omega (arith, front)) (omega (arith, front))
+  module _ (law : (q : Package) → settled2 q → Leaves may_leave stands_for q) (so_far : before ≡ first) where
+    -- nothing of it was done
+    some-before : (w : ℕ) → length given ≤ w → WorksOn before failed settled2 here → IsSome p moment xs s first failed settled2 may_leave stands_for given w
+    some-before w enough works =
+        let front = whole_front p moment may_leave stands_for xs s first failed settled2 given w enough in
+        some-of p moment may_leave stands_for xs s first failed settled2 given h.rows a.state h.rest h.readings w h.reached h.read h.were (law here works.1.0) (works.0 ∙ so_far, works.1) (omega (arith, front)) (omega (arith, front))
 
-  -- it may have been done
-  some-doubt : (w : ℕ) → length given ≤ w → (fields : Record) → ReadRecord remaining a b true fields → (command : Command) → IsReadAs fields (Ok command)
-      → Meets current (step here command moment) → LeavesEither may_leave stands_for here command moment → IsSome p moment xs s may_leave stands_for given w
-  some-doubt w enough fields read command is meets either =
-      let front = whole_front p moment may_leave stands_for xs s given w enough in
-      let count : accepted_of given ≡ accepted_of (answers_to p moment h.readings) = ap accepted_of h.were in
-      let (zs, at, reached) = rows-more remaining a b fields default_config s xs h.rest h.rows config h.here h.reached read in
-      let after_it : run p (calls_of moment (h.readings ++ Ok command ∷ [])) ≡ step here command moment = run-more p moment h.readings (Ok command) in
-      record {
-        rows = h.rows ++ fields ∷ [];
-        state = b.state;
-        rest = zs;
-        reached = reached;
-        readings = h.readings ++ Ok command ∷ [];
-        read = read_more h.rows h.readings fields (Ok command) h.read is;
-        were = front_of p moment given h.readings (Ok command ∷ []) h.were;
-        left = λ db may. elim (either db may) [
-          | inl before ↦ (here, before, part_of p moment h.readings (Ok command ∷ []) (accepted_of (take w given)) (omega (arith, front, count)) (omega (arith, front, count)), h.stands.1)
-          | inr next ↦ done db next.0 next.1 front count after_it
-        ];
-      }
-    where
-      done : (db : D) → refusal here command ≡ None → stands_for db (step here command moment) → accepted_of (take w given) ≡ accepted_of given
-          → accepted_of given ≡ accepted_of (answers_to p moment h.readings) → run p (calls_of moment (h.readings ++ Ok command ∷ [])) ≡ step here command moment
-          → (q : Package) × stands_for db q × IsFirstPart p (calls_of moment (h.readings ++ Ok command ∷ [])) (accepted_of (take w given)) q × Meets current q
-      done db none stands front count after_it =
-          let more : answers_to p moment (h.readings ++ Ok command ∷ []) ≡ answers_to p moment h.readings ++ answers.Ok ∷ [] =
-          answers-more p moment h.readings (Ok command) ∙ ap (λ r. answers_to p moment h.readings ++ answer_of r ∷ []) none in
-          let one : accepted_of (answers_to p moment (h.readings ++ Ok command ∷ [])) ≡ accepted_of (answers_to p moment h.readings) + 1 =
-          ap accepted_of more ∙ accepted_of-more (answers_to p moment h.readings) answers.Ok in
-          let first = part_of p moment (h.readings ++ Ok command ∷ []) [] (accepted_of (take w given)) (omega (arith, front, count, one)) (omega (arith, front, count, one)) in (
-            step here command moment,
-            stands,
-            subst (λ q. IsFirstPart p (calls_of moment (h.readings ++ Ok command ∷ [])) (accepted_of (take w given)) q) after_it
-                (subst (λ l. IsFirstPart p (calls_of moment l) (accepted_of (take w given)) (run p (calls_of moment (h.readings ++ Ok command ∷ [])))) (append-nil (h.readings ++ Ok command ∷ [])) first),
-            meets,
-          )
+    -- it may have been done
+    some-doubt : (w : ℕ) → length given ≤ w → (fields : Record) → ReadRecord remaining a b true fields → failed ≡ true → (command : Command) → IsReadAs fields (Ok command)
+        → Meets current (step here command moment) → LeavesEither may_leave stands_for here command moment → IsSome p moment xs s first failed settled2 may_leave stands_for given w
+    some-doubt w enough fields read down command is meets either =
+        let front = whole_front p moment may_leave stands_for xs s first failed settled2 given w enough in
+        let count : accepted_of given ≡ accepted_of (answers_to p moment h.readings) = ap accepted_of h.were in
+        let (zs, at, reached) = rows-more remaining a b fields default_config s xs h.rest h.rows config h.here h.reached read in
+        let after_it : run p (calls_of moment (h.readings ++ Ok command ∷ [])) ≡ step here command moment = run-more p moment h.readings (Ok command) in
+        record {
+          rows = h.rows ++ fields ∷ [];
+          state = b.state;
+          rest = zs;
+          reached = reached;
+          readings = h.readings ++ Ok command ∷ [];
+          read = read_more h.rows h.readings fields (Ok command) h.read is;
+          were = front_of p moment given h.readings (Ok command ∷ []) h.were;
+          session = inr (down, h.readings, command, refl, sym (as_given p moment given h.readings h.were));
+          left = λ db may. elim (either db may) [
+            | inl before ↦ (here, before, part_of p moment h.readings (Ok command ∷ []) (accepted_of (take w given)) (omega (arith, front, count)) (omega (arith, front, count)), h.stands.1)
+            | inr next ↦ done db next.0 next.1 front count after_it
+          ];
+        }
+      where
+        done : (db : D) → refusal here command ≡ None → stands_for db (step here command moment) → accepted_of (take w given) ≡ accepted_of given
+            → accepted_of given ≡ accepted_of (answers_to p moment h.readings) → run p (calls_of moment (h.readings ++ Ok command ∷ [])) ≡ step here command moment
+            → (q : Package) × stands_for db q × IsFirstPart p (calls_of moment (h.readings ++ Ok command ∷ [])) (accepted_of (take w given)) q × Meets current q
+        done db none stands front count after_it =
+            let more : answers_to p moment (h.readings ++ Ok command ∷ []) ≡ answers_to p moment h.readings ++ answers.Ok ∷ [] =
+            answers-more p moment h.readings (Ok command) ∙ ap (λ r. answers_to p moment h.readings ++ answer_of r ∷ []) none in
+            let one : accepted_of (answers_to p moment (h.readings ++ Ok command ∷ [])) ≡ accepted_of (answers_to p moment h.readings) + 1 =
+            ap accepted_of more ∙ accepted_of-more (answers_to p moment h.readings) answers.Ok in
+            let first = part_of p moment (h.readings ++ Ok command ∷ []) [] (accepted_of (take w given)) (omega (arith, front, count, one)) (omega (arith, front, count, one)) in (
+              step here command moment,
+              stands,
+              subst (λ q. IsFirstPart p (calls_of moment (h.readings ++ Ok command ∷ [])) (accepted_of (take w given)) q) after_it
+                  (subst (λ l. IsFirstPart p (calls_of moment l) (accepted_of (take w given)) (run p (calls_of moment (h.readings ++ Ok command ∷ [])))) (append-nil (h.readings ++ Ok command ∷ [])) first),
+              meets,
+            )
 
-  -- it was answered with a fault
-  some-fault : (fault : Fault) → ((q : Package) → IsSound settled q → Turns remaining a b q moment (Some (answers.Fault fault)) settled2 may_leave stands_for)
-      → (w : ℕ) → length given ≤ w → IsSome p moment xs s may_leave stands_for given w
-  some-fault fault turn w enough = elim (turn here h.stands) [
-    | inl leaves ↦ some-before w enough leaves
-    | inr tried ↦ elim tried.2 [
-      | inl leaves ↦ some-before w enough leaves
-      | inr doubt ↦ some-doubt w enough tried.0 tried.1 doubt.0 doubt.1 doubt.2 doubt.3
+    -- it was answered with a fault
+    some-fault : (fault : Fault) → ((q : Package) → IsSound settled q → Turns remaining a b q moment before failed (Some (answers.Fault fault)) settled2 may_leave stands_for)
+        → (w : ℕ) → length given ≤ w → IsSome p moment xs s first failed settled2 may_leave stands_for given w
+    some-fault fault turn w enough = elim (turn here h.stands) [
+      | inl works ↦ some-before w enough works
+      | inr tried ↦ elim tried.2 [
+        | inl works ↦ some-before w enough works
+        | inr doubt ↦ some-doubt w enough tried.0 tried.1 doubt.0 doubt.1 doubt.2 doubt.3 doubt.4
+      ]
     ]
-  ]
 
-  pub some-faulted : (x : Answer) → is_fault x ≡ true → ((q : Package) → IsSound settled q → Turns remaining a b q moment (Some x) settled2 may_leave stands_for)
-      → (w : ℕ) → length given ≤ w → IsSome p moment xs s may_leave stands_for given w
-  some-faulted answers.Ok faulted turn w enough = absurd (let e : false ≡ true = faulted in cc)
-  some-faulted (answers.Refused why) faulted turn w enough = absurd (let e : false ≡ true = faulted in cc)
-  some-faulted (answers.Fault fault) faulted turn w enough = some-fault fault turn w enough
+    pub some-faulted : (x : Answer) → is_fault x ≡ true → ((q : Package) → IsSound settled q → Turns remaining a b q moment before failed (Some x) settled2 may_leave stands_for)
+        → (w : ℕ) → length given ≤ w → IsSome p moment xs s first failed settled2 may_leave stands_for given w
+    some-faulted answers.Ok faulted turn w enough = absurd (let e : false ≡ true = faulted in cc)
+    some-faulted (answers.Refused why) faulted turn w enough = absurd (let e : false ≡ true = faulted in cc)
+    some-faulted (answers.Fault fault) faulted turn w enough = some-fault fault turn w enough

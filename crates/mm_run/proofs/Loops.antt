@@ -16,7 +16,7 @@ use Rattle.mm_lines.specs.Records.{IsReadFault}
 use Rattle.mm_run.specs.Answers.{is_accepted, is_refused, accepted_of, refused_of, is_fault}
 use Rattle.mm_run.specs.Applied.{IsAnswer, OnFault}
 use Rattle.mm_run.specs.Told.{AreCounted, AreTold, Goes, IsCutAt, Stops, with_answer, with_line}
-use Rattle.mm_run.specs.Runs.{IsRunFault, IsStopped}
+use Rattle.mm_run.specs.Runs.{IsRunFault, IsStopped, TellsWriter}
 use Rattle.mm_run.proofs.Lists.{accepted_of-more, length-lines_from, lines_from-more, refused_of-more, text-more}
 
 -- ---- what was told
@@ -101,46 +101,49 @@ cut-counted given a n t e old mid new d (inl h) = rw h.0 (counted-more given a t
 cut-counted given a n t e old mid new d (inr h) = rw h.0 (counted-more given a t d.0)
 
 -- the cases of a stop, with what is known of the answers given and of how many lines are whole
-module _ (P : List Answer → ℕ → Type 0) (given : List Answer) (n : ℕ) (t : Tally) (e : RunFault) (old mid new : Option (List ℕ)) (failed : Bool)
-    (m : length given + 1 ≡ n) (d : AreTold given t old mid) where
+module _ (P : List Answer → ℕ → Type 0) (given : List Answer) (n : ℕ) (t : Tally) (e : RunFault) (old mid new : Option (List ℕ)) (before was failed : Bool)
+    (m : length given + 1 ≡ n) (d : AreTold given t old mid) (working : was ≡ before) where
   abbrev Result : Type 0
-  Result = (told : List Answer) × IsStopped told e old new failed × P told e.tally.written
+  Result = (told : List Answer) × IsStopped told e old new before failed × P told e.tally.written
+
+  by_writer : e.fault.0 ≡ 97 → failed ≡ true → TellsWriter before failed e
+  by_writer is down = (λ _. down, λ other. absurd (other is))
 
   -- at the line of an answer, because the writer failed
   at_answer : (a : Answer) → (e.fault.0 ≡ 97) → failed ≡ true → IsCut mid new n a t e → ((w : ℕ) → length given ≤ w → P (given ++ a ∷ []) w) → Result
   at_answer a is down cut more =
       let (bytes, wrote, at) = cut-stopped given a n t e old mid new m d cut in
-      (given ++ a ∷ [], (cut-counted given a n t e old mid new d cut, inr (is, given ++ a ∷ [], inl refl, bytes, wrote, at), λ _. down), more e.tally.written (cut-written given a n t e old mid new d cut).0)
+      (given ++ a ∷ [], (cut-counted given a n t e old mid new d cut, inr (is, given ++ a ∷ [], inl refl, bytes, wrote, at), by_writer is down), more e.tally.written (cut-written given a n t e old mid new d cut).0)
 
   -- at the line of a fault, because the writer failed
   fault_cut : (f : Fault) → (e.fault.0 ≡ 97) → failed ≡ true → IsCut mid new n (answers.Fault f) t e → ((w : ℕ) → length given ≤ w → P given w) → Result
   fault_cut f is down cut here =
       let (bytes, wrote, at) = cut-stopped given (answers.Fault f) n t e old mid new m d cut in
-      (given, (same cut, inr (is, given ++ answers.Fault f ∷ [], inr (f, refl), bytes, wrote, at), λ _. down), here e.tally.written (cut-written given (answers.Fault f) n t e old mid new d cut).0)
+      (given, (same cut, inr (is, given ++ answers.Fault f ∷ [], inr (f, refl), bytes, wrote, at), by_writer is down), here e.tally.written (cut-written given (answers.Fault f) n t e old mid new d cut).0)
     where
       same : IsCut mid new n (answers.Fault f) t e → AreCounted e.tally given
       same (inl h) = rw h.0 d.0
       same (inr h) = rw h.0 d.0
 
-  pub stopped-answer : (a : Answer) → IsAnswer a → Stops mid new failed n a t e → ((w : ℕ) → length given ≤ w → P (given ++ a ∷ []) w) → Result
+  pub stopped-answer : (a : Answer) → IsAnswer a → Stops mid new was failed n a t e → ((w : ℕ) → length given ≤ w → P (given ++ a ∷ []) w) → Result
   stopped-answer a good (inl h) more = absurd (subst IsAnswer h.0 good)
   stopped-answer a good (inr (inl h)) more = at_answer a h.0 h.1 (inl (h.2, h.3)) more
   stopped-answer a good (inr (inr h)) more = at_answer a h.0 h.1 (inr (h.2, h.3, h.4, h.5)) more
 
-  pub stopped-fault : (f : Fault) → f.0 ≢ 97 → Stops mid new failed n (answers.Fault f) t e → ((w : ℕ) → length given ≤ w → P given w) → Result
+  pub stopped-fault : (f : Fault) → f.0 ≢ 97 → Stops mid new was failed n (answers.Fault f) t e → ((w : ℕ) → length given ≤ w → P given w) → Result
   stopped-fault f other (inl h) here =
       let same : f ≡ e.fault = cc (h.0) in
-      let at : e.tally.written ≡ length given + 1 = rw h.1 (ap (λ k. k + 1) d.1) in
+      let at : e.tally.written ≡ length given + 1 = rw h.2 (ap (λ k. k + 1) d.1) in
       let not_writer : e.fault.0 ≢ 97 = rw (← same) other in (
         given,
-        (rw h.1 d.0, inl (not_writer, at, rw (← h.0, text-more given (answers.Fault f) n m) (Appends-trans _ _ _ _ _ d.2 h.2)), λ is. absurd (not_writer is)),
+        (rw h.2 d.0, inl (not_writer, at, rw (← h.0, text-more given (answers.Fault f) n m) (Appends-trans _ _ _ _ _ d.2 h.3)), (λ is. absurd (not_writer is), λ _. h.1 ∙ working)),
         here e.tally.written (omega arith),
       )
   stopped-fault f other (inr (inl h)) here = fault_cut f h.0 h.1 (inl (h.2, h.3)) here
   stopped-fault f other (inr (inr h)) here = fault_cut f h.0 h.1 (inr (h.2, h.3, h.4, h.5)) here
 
   -- whichever it was
-  pub stopped-with : (a : Answer) → OnFault a (λ f. f ≢ 97) → Stops mid new failed n a t e → (is_fault a ≡ true → (w : ℕ) → length given ≤ w → P given w)
+  pub stopped-with : (a : Answer) → OnFault a (λ f. f ≢ 97) → Stops mid new was failed n a t e → (is_fault a ≡ true → (w : ℕ) → length given ≤ w → P given w)
       → (IsAnswer a → (w : ℕ) → length given ≤ w → P (given ++ a ∷ []) w) → Result
   stopped-with answers.Ok other s here more = stopped-answer answers.Ok tt s (more tt)
   stopped-with (answers.Refused why) other s here more = stopped-answer (answers.Refused why) tt s (more tt)

@@ -1,5 +1,5 @@
 -- What a run reports of all the records of its bytes.
-use Rattle.std.proofs.Common.{◌≡◌, ◌∙◌, ◌+◌, ℕ, List, length, take, Option, sym, ap, subst, arith}
+use Rattle.std.proofs.Common.{◌≡◌, ◌∙◌, ◌+◌, ℕ, Bool, true, List, length, take, Option, inl, inr, sym, ap, subst, arith}
 use Rattle.csv.specs.Reading.{strip_bom}
 use Rattle.csv.specs.declared.parser.State.TheVariants as states
 use Rattle.mm_base.specs.Package.{Package}
@@ -9,11 +9,11 @@ use Rattle.mm_base.specs.declared.answers.RunFault.{RunFault}
 use Rattle.mm_base.specs.declared.answers.Tally.{Tally}
 use Rattle.mm_lines.specs.Records.{records_of}
 use Rattle.mm_lines.proofs.RecordsFacts.{records-all, records-first}
-use Rattle.mm_run.specs.Readings.{AreReadAs}
+use Rattle.mm_run.specs.Readings.{Reading, AreReadAs}
 use Rattle.mm_run.specs.Answers.{answers_to, calls_of, accepted_of, refused_of}
 use Rattle.mm_run.specs.Applied.{Leaves}
 use Rattle.mm_run.specs.Told.{AreTold}
-use Rattle.mm_run.specs.Runs.{AreFirstParts, IsAll, IsSome, IsStopped, RanAll, RanSome, given_of}
+use Rattle.mm_run.specs.Runs.{AreFirstParts, IsAll, IsSome, IsStopped, RanAll, RanSome, StopsBehind, WorksOn, given_of}
 use Rattle.mm_run.proofs.Left.{parts-left}
 use Rattle.mm_run.proofs.Lists.{as_many, counted-answers, length-answers}
 
@@ -37,10 +37,28 @@ ran-all p moment bytes settled may_leave stands_for old new t given law told all
       left = parts-left p moment may_leave stands_for readings t.accepted (law (run p (calls_of moment readings)) all.stands.0) all.stands.1 (omega (arith, a)) (omega (arith, a));
     }
 
-pub ran-some : {D : Type 0} (p : Package) (moment : ℕ) (bytes : List ℕ) (may_leave : D → Type 0) (stands_for : D → Package → Type 0) (old new : Option (List ℕ)) (failed : _) (e : RunFault)
-    (given : List Answer) → IsStopped given e old new failed → IsSome p moment (strip_bom bytes) states.StartRecord may_leave stands_for given e.tally.written
-    → RanSome p moment bytes may_leave stands_for old new e
-ran-some p moment bytes may_leave stands_for old new failed e given stopped some =
+-- where a run stopped, told of less
+pub stops-behind : (p : Package) (moment : ℕ) (readings : List Reading) (answered : ℕ) (works works2 : Package → Type 0) (failed failed2 : Type 0)
+    → ((q : Package) → works q → works2 q) → (failed → failed2) → StopsBehind works failed p moment readings answered → StopsBehind works2 failed2 p moment readings answered
+stops-behind p moment readings answered works works2 failed failed2 on down (inl it) = inl (it.0, on (run p (calls_of moment readings)) it.1)
+stops-behind p moment readings answered works works2 failed failed2 on down (inr it) = inr (down it.0, it.1, it.2, it.3, it.4)
+
+pub ran-some-less : {D : Type 0} (p : Package) (moment : ℕ) (bytes : List ℕ) (works works2 : Package → Type 0) (failed failed2 : Type 0) (may_leave : D → Type 0) (stands_for : D → Package → Type 0)
+    (old new : Option (List ℕ)) (e : RunFault) → ((q : Package) → works q → works2 q) → (failed → failed2)
+    → RanSome p moment bytes works failed may_leave stands_for old new e → RanSome p moment bytes works2 failed2 may_leave stands_for old new e
+ran-some-less p moment bytes works works2 failed failed2 may_leave stands_for old new e on down it = record {
+  readings = it.readings;
+  read = it.read;
+  text = it.text;
+  counted = it.counted;
+  session = stops-behind p moment it.readings (e.tally.accepted + e.tally.refused) works works2 failed failed2 on down it.session;
+  left = it.left;
+}
+
+pub ran-some : {D : Type 0} (p : Package) (moment : ℕ) (bytes : List ℕ) (before failed : Bool) (settled : Package → Type 0) (may_leave : D → Type 0) (stands_for : D → Package → Type 0) (old new : Option (List ℕ))
+    (was down : Bool) (e : RunFault) (given : List Answer) → IsStopped given e old new was down → IsSome p moment (strip_bom bytes) states.StartRecord before failed settled may_leave stands_for given e.tally.written
+    → RanSome p moment bytes (WorksOn before failed settled) (failed ≡ true) may_leave stands_for old new e
+ran-some p moment bytes before failed settled may_leave stands_for old new was down e given stopped some =
     let readings = some.readings in
     let first : some.rows ≡ take (length some.rows) (records_of bytes) = records-first some.state (strip_bom bytes) some.rest some.rows some.reached in
     let size : length some.rows ≡ length readings = as_many some.rows readings some.read in
@@ -55,5 +73,6 @@ ran-some p moment bytes may_leave stands_for old new failed e given stopped some
       read = subst (λ l. AreReadAs l readings) rows some.read;
       text = rw same stopped.1;
       counted = rw same stopped.0;
+      session = subst (λ n. StopsBehind (WorksOn before failed settled) (failed ≡ true) p moment readings n) (sym count) some.session;
       left = subst (λ n. AreFirstParts may_leave stands_for p (calls_of moment readings) n) (ap (λ l. accepted_of (take e.tally.written l)) (sym same)) some.left;
     }

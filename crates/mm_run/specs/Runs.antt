@@ -1,5 +1,5 @@
 -- The run of a list of records.
-use Rattle.std.specs.Prelude.{ℕ, ◌+◌, ◌≡◌, ◌⊎◌, List, Bool, true, false, Option, Some, None, Result, Ok, Err, length, take}
+use Rattle.std.specs.Prelude.{ℕ, ◌+◌, ◌≡◌, ◌≢◌, ◌⊎◌, List, [], ◌∷◌, ◌++◌, Bool, true, false, Option, Some, None, Result, Ok, Err, length, take}
 use Rattle.std.specs.List.{concat}
 use Rattle.std.specs.Io.KnownBytes.{Appends}
 use Rattle.csv.specs.Reading.{AreRecords, Reached, ReadRecord, default_config}
@@ -40,6 +40,17 @@ given_of p moment readings t = answers_to p moment (take (t.accepted + t.refused
 abbrev pub acknowledged_of : Package → ℕ → List Reading → Tally → ℕ
 acknowledged_of p moment readings t = accepted_of (take t.written (given_of p moment readings t))
 
+-- Where a run stopped. All that was read was answered, and the session works on with the package after it; or one more command
+-- was read, and has failed.
+abbrev pub StopsBehind : (Package → Type 0) → Type 0 → Package → ℕ → List Reading → ℕ → Type 0
+StopsBehind works failed p moment readings answered =
+    ((length readings ≡ answered) × works (run p (calls_of moment readings)))
+    ⊎ (failed × (first : List Reading) × (command : Command) × (readings ≡ first ++ Ok command ∷ []) × (length first ≡ answered))
+
+-- the session works as it did, settled for this package
+abbrev pub WorksOn : Bool → Bool → (Package → Type 0) → Package → Type 0
+WorksOn before failed settled p = (failed ≡ before) × IsSound settled p
+
 -- What holds for a package that the session was settled for and for the bytes that the reader had still to give, where
 -- the store was clean.
 abbrev pub OnRun : Type 0 → (Package → Type 0) → Option (List ℕ) → (Package → List ℕ → Type 0) → Type 0
@@ -58,12 +69,13 @@ pub record RanAll {D : Type 0} (p : Package) (moment : ℕ) (bytes : List ℕ) (
   pub left : AreFirstParts may_leave stands_for p (calls_of moment readings) t.accepted
 
 -- A run with a fault: the first records are answered, and what may be left is a first part of what was read.
-pub record RanSome {D : Type 0} (p : Package) (moment : ℕ) (bytes : List ℕ) (may_leave : D → Type 0) (stands_for : D → Package → Type 0)
+pub record RanSome {D : Type 0} (p : Package) (moment : ℕ) (bytes : List ℕ) (works : Package → Type 0) (failed : Type 0) (may_leave : D → Type 0) (stands_for : D → Package → Type 0)
     (old new : Option (List ℕ)) (e : RunFault) : Type 0 where
   pub readings : List Reading
   pub read : AreReadAs (take (length readings) (records_of bytes)) readings
   pub text : IsStoppedText (given_of p moment readings e.tally) e old new
   pub counted : AreCounted e.tally (given_of p moment readings e.tally)
+  pub session : StopsBehind works failed p moment readings (e.tally.accepted + e.tally.refused)
   pub left : AreFirstParts may_leave stands_for p (calls_of moment readings) (acknowledged_of p moment readings e.tally)
 
 -- What a run tells of a session that has to be opened again. One that had to before is the same after the run, and
@@ -74,30 +86,34 @@ TellsFailureOf before failed same (Err e) =
     (e.fault.0 ≡ 92 → before ≡ true) × (e.fault.0 ≡ 91 → (before ≡ false) × (failed ≡ true)) × (e.fault.0 ≡ 96 → failed ≡ before)
     × (before ≡ true → same × (e.tally.accepted ≡ 0))
 
+-- 97 is told where the writer has failed, and any other fault only where it has not failed in this run.
+abbrev pub TellsWriter : Bool → Bool → RunFault → Type 0
+TellsWriter before failed e = (e.fault.0 ≡ 97 → failed ≡ true) × (e.fault.0 ≢ 97 → failed ≡ before)
+
 -- ---- inside a run
 -- the answer to a record, and what then is settled or may be left
-abbrev pub IsAnswered : {D : Type 0} → Record → Package → ℕ → Answer → (Package → Type 0) → (D → Type 0) → (D → Package → Type 0) → Type 0
-IsAnswered fields p moment (answers.Fault fault) settled may_leave stands_for =
-    Leaves may_leave stands_for p
-    ⊎ ((command : Command) × IsReadAs fields (Ok command) × Meets current (step p command moment) × LeavesEither may_leave stands_for p command moment)
-IsAnswered fields p moment answers.Ok settled may_leave stands_for =
+abbrev pub IsAnswered : {D : Type 0} → Record → Package → ℕ → Bool → Bool → Answer → (Package → Type 0) → (D → Type 0) → (D → Package → Type 0) → Type 0
+IsAnswered fields p moment before failed (answers.Fault fault) settled may_leave stands_for =
+    WorksOn before failed settled p
+    ⊎ ((failed ≡ true) × (command : Command) × IsReadAs fields (Ok command) × Meets current (step p command moment) × LeavesEither may_leave stands_for p command moment)
+IsAnswered fields p moment before failed answers.Ok settled may_leave stands_for =
     (reading : Reading) × IsReadAs fields reading × (answers.Ok ≡ answer_to p reading) × IsSound settled (after p moment reading)
-IsAnswered fields p moment (answers.Refused why) settled may_leave stands_for =
+IsAnswered fields p moment before failed (answers.Refused why) settled may_leave stands_for =
     (reading : Reading) × IsReadAs fields reading × (answers.Refused why ≡ answer_to p reading) × IsSound settled (after p moment reading)
 
 -- a record was read and answered, or couldn't be read, or the end was reached
-abbrev pub Turns : {D T : Type 0} → (T → Option (List ℕ)) → Reader T → Reader T → Package → ℕ → Option Answer → (Package → Type 0) → (D → Type 0) → (D → Package → Type 0) → Type 0
-Turns remaining old new p moment None settled may_leave stands_for = (fields : Record) × ReadRecord remaining old new false fields × IsSound settled p
-Turns remaining old new p moment (Some answers.Ok) settled may_leave stands_for =
-    (fields : Record) × ReadRecord remaining old new true fields × IsAnswered fields p moment answers.Ok settled may_leave stands_for
-Turns remaining old new p moment (Some (answers.Refused why)) settled may_leave stands_for =
-    (fields : Record) × ReadRecord remaining old new true fields × IsAnswered fields p moment (answers.Refused why) settled may_leave stands_for
-Turns remaining old new p moment (Some (answers.Fault fault)) settled may_leave stands_for =
-    Leaves may_leave stands_for p ⊎ ((fields : Record) × ReadRecord remaining old new true fields × IsAnswered fields p moment (answers.Fault fault) settled may_leave stands_for)
+abbrev pub Turns : {D T : Type 0} → (T → Option (List ℕ)) → Reader T → Reader T → Package → ℕ → Bool → Bool → Option Answer → (Package → Type 0) → (D → Type 0) → (D → Package → Type 0) → Type 0
+Turns remaining old new p moment before failed None settled may_leave stands_for = (fields : Record) × ReadRecord remaining old new false fields × IsSound settled p
+Turns remaining old new p moment before failed (Some answers.Ok) settled may_leave stands_for =
+    (fields : Record) × ReadRecord remaining old new true fields × IsAnswered fields p moment before failed answers.Ok settled may_leave stands_for
+Turns remaining old new p moment before failed (Some (answers.Refused why)) settled may_leave stands_for =
+    (fields : Record) × ReadRecord remaining old new true fields × IsAnswered fields p moment before failed (answers.Refused why) settled may_leave stands_for
+Turns remaining old new p moment before failed (Some (answers.Fault fault)) settled may_leave stands_for =
+    WorksOn before failed settled p ⊎ ((fields : Record) × ReadRecord remaining old new true fields × IsAnswered fields p moment before failed (answers.Fault fault) settled may_leave stands_for)
 
--- Some answers, counted and told up to the end of a run that a fault stopped. At 97 the writer tells that it failed.
-abbrev pub IsStopped : List Answer → RunFault → Option (List ℕ) → Option (List ℕ) → Bool → Type 0
-IsStopped given e old new failed = AreCounted e.tally given × IsStoppedText given e old new × (e.fault.0 ≡ 97 → failed ≡ true)
+-- Some answers, counted and told up to the end of a run that a fault stopped.
+abbrev pub IsStopped : List Answer → RunFault → Option (List ℕ) → Option (List ℕ) → Bool → Bool → Type 0
+IsStopped given e old new before failed = AreCounted e.tally given × IsStoppedText given e old new × TellsWriter before failed e
 
 -- the records so far are these, read so and answered so; the package after them is settled, and the reader stands behind them
 pub record IsSoFar (p : Package) (moment : ℕ) (xs : List ℕ) (s : State) (source : Option (List ℕ)) (s2 : State) (settled : Package → Type 0) (given : List Answer) : Type 0 where
@@ -120,7 +136,8 @@ pub record IsAll (p : Package) (moment : ℕ) (xs : List ℕ) (s : State) (settl
   pub stands : IsSound settled (run p (calls_of moment readings))
 
 -- the first records are these, the first answers those given, and so much may be left
-pub record IsSome {D : Type 0} (p : Package) (moment : ℕ) (xs : List ℕ) (s : State) (may_leave : D → Type 0) (stands_for : D → Package → Type 0) (given : List Answer) (written : ℕ) : Type 0 where
+pub record IsSome {D : Type 0} (p : Package) (moment : ℕ) (xs : List ℕ) (s : State) (before failed : Bool) (settled : Package → Type 0) (may_leave : D → Type 0) (stands_for : D → Package → Type 0)
+    (given : List Answer) (written : ℕ) : Type 0 where
   pub rows : List Record
   pub state : State
   pub rest : List ℕ
@@ -128,4 +145,5 @@ pub record IsSome {D : Type 0} (p : Package) (moment : ℕ) (xs : List ℕ) (s :
   pub readings : List Reading
   pub read : AreReadAs rows readings
   pub were : given ≡ answers_to p moment (take (length given) readings)
+  pub session : StopsBehind (WorksOn before failed settled) (failed ≡ true) p moment readings (length given)
   pub left : AreFirstParts may_leave stands_for p (calls_of moment readings) (accepted_of (take written given))

@@ -29,10 +29,10 @@ AreCounted t given = (t.accepted ≡ accepted_of given) × (t.refused ≡ refuse
 abbrev pub Goes : Option (List ℕ) → Option (List ℕ) → Bool → Bool → ℕ → Answer → Tally → Tally → Type 0
 Goes old new before failed n a t t2 = IsAnswer a × (t2 ≡ with_line (with_answer a t)) × Appends old new (line n a) × (failed ≡ before)
 
--- the line of a fault was written whole; or the writer failed behind the line, or inside it
-abbrev pub Stops : Option (List ℕ) → Option (List ℕ) → Bool → ℕ → Answer → Tally → RunFault → Type 0
-Stops old new failed n a t e =
-    ((a ≡ answers.Fault e.fault) × (e.tally ≡ with_line (with_answer a t)) × Appends old new (line n a))
+-- the line of a fault was written whole, and the writer has not failed; or it did behind the line, or inside it
+abbrev pub Stops : Option (List ℕ) → Option (List ℕ) → Bool → Bool → ℕ → Answer → Tally → RunFault → Type 0
+Stops old new before failed n a t e =
+    ((a ≡ answers.Fault e.fault) × (failed ≡ before) × (e.tally ≡ with_line (with_answer a t)) × Appends old new (line n a))
     ⊎ ((e.fault.0 ≡ 97) × (failed ≡ true) × (e.tally ≡ with_line (with_answer a t)) × Appends old new (line n a))
     ⊎ ((e.fault.0 ≡ 97) × (failed ≡ true) × (e.tally ≡ with_answer a t) × (taken : ℕ) × (taken < length (line n a)) × Appends old new (take taken (line n a)))
 

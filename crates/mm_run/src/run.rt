@@ -9,7 +9,7 @@ ghost use Rattle.mm_base.specs.Streams as streams;
 ghost use Rattle.mm_base.specs.declared.answers.Answer.{Answer};
 ghost use Rattle.mm_lines.specs.Records.{IsSetUp};
 ghost use Rattle.mm_run.specs.Told.{AreTold, IsNear};
-ghost use Rattle.mm_run.specs.Runs.{IsAll, IsRunFault, IsSome, IsStopped, OnRun, RanAll, RanSome, TellsFailureOf};
+ghost use Rattle.mm_run.specs.Runs.{IsAll, IsRunFault, IsSome, IsStopped, OnRun, RanAll, RanSome, TellsFailureOf, TellsWriter, WorksOn};
 
 use crate::answering::turn;
 use crate::apply::Apply;
@@ -35,8 +35,8 @@ fn run_rows<A: Apply, T: Read + Tells, W: Write>(
     ensures clean { A.is_clean session.new → A.is_clean session.old }
     ensures done { IfOk result (λ t. (given : List Answer) × AreTold given t (W.contents (inside writer.old)) (W.contents (inside writer.new))
         × OnRun (A.is_clean session.new) (A.settled session.old) (source_of T.remaining rows.old) (λ p xs. IsAll p at xs (reader_state rows.old) (A.settled session.new) given)) }
-    ensures stopped { IfErr result (λ e. (given : List Answer) × IsStopped given e (W.contents (inside writer.old)) (W.contents (inside writer.new)) (streams.has_failed writer.new)
-        × OnRun (A.is_clean session.new) (A.settled session.old) (source_of T.remaining rows.old) (λ p xs. IsSome p at xs (reader_state rows.old) (A.may_leave session.new) A.stands_for given e.tally.written)) }
+    ensures stopped { IfErr result (λ e. (given : List Answer) × IsStopped given e (W.contents (inside writer.old)) (W.contents (inside writer.new)) (streams.has_failed writer.old) (streams.has_failed writer.new)
+        × OnRun (A.is_clean session.new) (A.settled session.old) (source_of T.remaining rows.old) (λ p xs. IsSome p at xs (reader_state rows.old) (A.has_failed session.old) (A.has_failed session.new) (A.settled session.new) (A.may_leave session.new) A.stands_for given e.tally.written)) }
     ensures working { OnOk result (streams.has_failed writer.new ≡ streams.has_failed writer.old) }
     ensures small { IfOk result (λ t. (t.accepted + t.refused ≡ t.written) × (t.written + 1 < 2 ^ 64)) }
     ensures near { IfErr result (λ e. IsNear e.tally) }
@@ -77,8 +77,8 @@ fn run_held<'a, A: Apply, R: Read, W: Write, K: Lender>(
     ensures clean { A.is_clean session.new → A.is_clean session.old }
     ensures done { IfOk result.1 (λ t. (given : List Answer) × AreTold given t (W.contents (inside writer.old)) (W.contents (inside writer.new))
         × OnRun (A.is_clean session.new) (A.settled session.old) (option_map strip_bom (R.remaining (inside held.entry.reader.now))) (λ p xs. IsAll p at xs states.StartRecord (A.settled session.new) given)) }
-    ensures stopped { IfErr result.1 (λ e. (given : List Answer) × IsStopped given e (W.contents (inside writer.old)) (W.contents (inside writer.new)) (streams.has_failed writer.new)
-        × OnRun (A.is_clean session.new) (A.settled session.old) (option_map strip_bom (R.remaining (inside held.entry.reader.now))) (λ p xs. IsSome p at xs states.StartRecord (A.may_leave session.new) A.stands_for given e.tally.written)) }
+    ensures stopped { IfErr result.1 (λ e. (given : List Answer) × IsStopped given e (W.contents (inside writer.old)) (W.contents (inside writer.new)) (streams.has_failed writer.old) (streams.has_failed writer.new)
+        × OnRun (A.is_clean session.new) (A.settled session.old) (option_map strip_bom (R.remaining (inside held.entry.reader.now))) (λ p xs. IsSome p at xs states.StartRecord (A.has_failed session.old) (A.has_failed session.new) (A.settled session.new) (A.may_leave session.new) A.stands_for given e.tally.written)) }
     ensures working { OnOk result.1 (streams.has_failed writer.new ≡ streams.has_failed writer.old) }
     ensures small { IfOk result.1 (λ t. (t.accepted + t.refused ≡ t.written) × (t.written + 1 < 2 ^ 64)) }
     ensures near { IfErr result.1 (λ e. IsNear e.tally) }
@@ -106,8 +106,8 @@ fn run_told<A: Apply, R: Read, W: Write>(
     ensures clean { A.is_clean session.new → A.is_clean session.old }
     ensures done { IfOk result (λ t. (given : List Answer) × AreTold given t (W.contents (inside writer.old)) (W.contents (inside writer.new))
         × OnRun (A.is_clean session.new) (A.settled session.old) (option_map strip_bom (R.remaining (inside reader.old))) (λ p xs. IsAll p at xs states.StartRecord (A.settled session.new) given)) }
-    ensures stopped { IfErr result (λ e. (given : List Answer) × IsStopped given e (W.contents (inside writer.old)) (W.contents (inside writer.new)) (streams.has_failed writer.new)
-        × OnRun (A.is_clean session.new) (A.settled session.old) (option_map strip_bom (R.remaining (inside reader.old))) (λ p xs. IsSome p at xs states.StartRecord (A.may_leave session.new) A.stands_for given e.tally.written)) }
+    ensures stopped { IfErr result (λ e. (given : List Answer) × IsStopped given e (W.contents (inside writer.old)) (W.contents (inside writer.new)) (streams.has_failed writer.old) (streams.has_failed writer.new)
+        × OnRun (A.is_clean session.new) (A.settled session.old) (option_map strip_bom (R.remaining (inside reader.old))) (λ p xs. IsSome p at xs states.StartRecord (A.has_failed session.old) (A.has_failed session.new) (A.settled session.new) (A.may_leave session.new) A.stands_for given e.tally.written)) }
     ensures end { OnOk result (IsAtEnd (R.remaining (inside reader.new))) }
     ensures working { OnOk result (streams.has_failed writer.new ≡ streams.has_failed writer.old) }
     ensures near { IfErr result (λ e. IsNear e.tally) }
@@ -157,16 +157,17 @@ pub fn run_list<A: Apply, R: Read, W: Write>(
     ensures end { OnOk result (IsAtEnd (R.remaining (inside reader.new))) }
     ensures working { OnOk result (streams.has_failed writer.new ≡ streams.has_failed writer.old) }
 
-    // With one the first records are, and what may be left is a first part of the accepted commands.
+    // With one the first records are, and what may be left is a first part of the accepted commands. Where no command failed the
+    // session works on, settled for the package after them.
     ensures stopped { IfErr result (λ e. OnRun (A.is_clean session.new) (A.settled session.old) (R.remaining (inside reader.old))
-        (λ p bytes. RanSome p at bytes (A.may_leave session.new) A.stands_for (W.contents (inside writer.old)) (W.contents (inside writer.new)) e)) }
+        (λ p bytes. RanSome p at bytes (WorksOn (A.has_failed session.old) (A.has_failed session.new) (A.settled session.new)) (A.has_failed session.new ≡ true) (A.may_leave session.new) A.stands_for (W.contents (inside writer.old)) (W.contents (inside writer.new)) e)) }
     ensures near { IfErr result (λ e. IsNear e.tally) }
 
     // One that has to be opened again is left as it was; 92 comes only there.
     ensures session { TellsFailureOf (A.has_failed session.old) (A.has_failed session.new) (session.new ≡ session.old) result }
 
-    // 97 is the writer's and 96 the reader's; the others are faults of commands and of reading.
-    ensures writer { IfErr result (λ e. e.fault.0 ≡ 97 → streams.has_failed writer.new ≡ true) }
+    // 97 is the writer's, and told wherever it fails; 96 is the reader's; the others are faults of commands and of reading.
+    ensures writer { IfErr result (TellsWriter (streams.has_failed writer.old) (streams.has_failed writer.new)) }
     ensures why { IfErr result (λ e. (e.fault.0 ≡ 97) ⊎ IsRunFault e.fault.0 (streams.has_failed reader.new)) }
 {
     match run_told(alloc, session, reader, writer, at) {

@@ -38,7 +38,7 @@ pub(crate) fn tell<W: Write>(
     requires { (tally.accepted + tally.refused + 1 ≡ n) × (tally.written + 1 ≡ n) }
     ensures goes { IfOk result (λ t. Goes (W.contents (inside writer.old)) (W.contents (inside writer.new)) (has_failed writer.old) (has_failed writer.new) n answer tally t) }
     ensures near { IfErr result (λ e. IsNear e.tally) }
-    ensures stops { IfErr result (λ e. Stops (W.contents (inside writer.old)) (W.contents (inside writer.new)) (has_failed writer.new) n answer tally e) }
+    ensures stops { IfErr result (λ e. Stops (W.contents (inside writer.old)) (W.contents (inside writer.new)) (has_failed writer.old) (has_failed writer.new) n answer tally e) }
 {
     let mut tally = counted(tally, answer);
     match send(writer, answer_line(n, answer).as_slice()) {

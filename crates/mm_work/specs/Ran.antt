@@ -1,5 +1,5 @@
 -- What a run comes to, by its exit status.
-use Rattle.std.specs.Prelude.{◌≡◌, ◌≢◌, ◌⊎◌, ℕ, List, Option}
+use Rattle.std.specs.Prelude.{◌≡◌, ◌≢◌, ◌⊎◌, ℕ, List, Option, ⊤}
 use Rattle.sqlite.specs.State.{State}
 use Rattle.mm_base.specs.Bounds.{current}
 use Rattle.mm_base.specs.Package.{Package}
@@ -17,4 +17,4 @@ IsStatusOf refused status = ((refused ≡ 0) × (status ≡ 0)) ⊎ ((refused �
 abbrev pub IsRun : Package → ℕ → List ℕ → State → Option (List ℕ) → Option (List ℕ) → ℕ → Type 0
 IsRun p moment bytes end old new status =
     ((t : Tally) × RanAll p moment bytes (λ q. IsSettled current end q) (λ db. end.may_leave db) Stands old new t × IsStatusOf t.refused status)
-    ⊎ ((e : RunFault) × RanSome p moment bytes (λ db. end.may_leave db) Stands old new e × (status ≡ 3))
+    ⊎ ((e : RunFault) × RanSome p moment bytes (IsSettled current end) ⊤ (λ db. end.may_leave db) Stands old new e × (status ≡ 3))

@@ -14,4 +14,4 @@ pub returns-in-Err-clause-stopped : goal.returns-in-Err-clause-stopped
 returns-in-Err-clause-stopped g c clean p sound bytes here =
     let (given, stopped, some) = c.in-Err.ensures.stopped in
     let new = c.run_told.new.session in
-    ran-some p c.args.at bytes (g.A.Apply.may_leave new) g.A.Apply.stands_for _ _ _ c.in-Err.e given stopped (some clean p sound (strip_bom bytes) (ap (option_map strip_bom) here))
+    ran-some p c.args.at bytes (g.A.Apply.has_failed c.args.session.now) (g.A.Apply.has_failed new) (g.A.Apply.settled new) (g.A.Apply.may_leave new) g.A.Apply.stands_for _ _ _ _ c.in-Err.e given stopped (some clean p sound (strip_bom bytes) (ap (option_map strip_bom) here))

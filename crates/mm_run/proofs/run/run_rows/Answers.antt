@@ -26,7 +26,8 @@ returns-in-None-clause-done g c =
       told,
       λ clean p sound xs here.
           all-answered g.T.Read.remaining c.loop-n.rows c.turn.new.rows p c.args.at xs c.args.rows.now.state (g.A.Apply.settled c.loop-n.session) (g.A.Apply.settled c.turn.new.session)
-          (g.A.Apply.may_leave c.turn.new.session) g.A.Apply.stands_for given inv.set_up.config (so_far (c.turn.ensures.clean clean) p sound xs here)
+          (g.A.Apply.may_leave c.turn.new.session) g.A.Apply.stands_for (g.A.Apply.has_failed c.args.session.now) (g.A.Apply.has_failed c.loop-n.session) (g.A.Apply.has_failed c.turn.new.session)
+          given inv.set_up.config (so_far (c.turn.ensures.clean clean) p sound xs here)
           (λ q sound. rw c.in-None.is at (c.turn.ensures.turns clean q sound)),
     )
 
@@ -54,7 +55,8 @@ loop-n-preserved g c =
         told-more given c.in-Some.answer c.loop-n.tally c.in-Ok.next c.loop-n.n _ _ _ _ _ told goes at,
         λ clean p sound xs here.
             so_far-more g.T.Read.remaining c.loop-n.rows c.turn.new.rows p c.args.at xs c.args.rows.now.state (g.A.Apply.settled c.loop-n.session) (g.A.Apply.settled c.turn.new.session)
-            (g.A.Apply.may_leave c.turn.new.session) g.A.Apply.stands_for given inv.set_up.config (so_far (c.turn.ensures.clean clean) p sound xs here) c.in-Some.answer
+            (g.A.Apply.may_leave c.turn.new.session) g.A.Apply.stands_for (g.A.Apply.has_failed c.args.session.now) (g.A.Apply.has_failed c.loop-n.session) (g.A.Apply.has_failed c.turn.new.session)
+            given inv.set_up.config (so_far (c.turn.ensures.clean clean) p sound xs here) c.in-Some.answer
             (λ q sound. rw c.in-Some.is at (c.turn.ensures.turns clean q sound)) goes.0,
       );
     }
@@ -63,26 +65,29 @@ pub returns-in-Err-clause-session : goal.returns-in-Err-clause-session
 returns-in-Err-clause-session g c =
     let inv = c.loop-n.invariant in
     stops-failing c.args.session.now c.loop-n.session c.turn.new.session (g.A.Apply.has_failed c.args.session.now) (g.A.Apply.has_failed c.loop-n.session) (g.A.Apply.has_failed c.turn.new.session)
-    c.loop-n.tally c.in-Err.e _ _ _ _ inv.same inv.ended c.in-Some.answer c.in-Some.ensures.going c.in-Err.ensures.stops
+    c.loop-n.tally c.in-Err.e _ _ _ _ _ inv.same inv.ended c.in-Some.answer c.in-Some.ensures.going c.in-Err.ensures.stops
 
 pub returns-in-Err-clause-stopped : goal.returns-in-Err-clause-stopped
 returns-in-Err-clause-stopped g c =
     let inv = c.loop-n.invariant in
     let (given, told, so_far) = inv.given in
     let at : length given + 1 ≡ c.loop-n.n = omega (arith, told.1) in
+    let first = g.A.Apply.has_failed c.args.session.now in
+    let before = g.A.Apply.has_failed c.loop-n.session in
+    let failed = g.A.Apply.has_failed c.turn.new.session in
     stopped-with
     (λ told w. OnRun (g.A.Apply.is_clean c.turn.new.session) (g.A.Apply.settled c.args.session.now) (source_of g.T.Read.remaining c.args.rows.now)
-    (λ p xs. IsSome p c.args.at xs c.args.rows.now.state (g.A.Apply.may_leave c.turn.new.session) g.A.Apply.stands_for told w))
-    given c.loop-n.n c.loop-n.tally c.in-Err.e _ _ _ _ at told c.in-Some.answer (no-writer-fault c.in-Some.answer _ c.in-Some.ensures.faults) c.in-Err.ensures.stops
+    (λ p xs. IsSome p c.args.at xs c.args.rows.now.state first failed (g.A.Apply.settled c.turn.new.session) (g.A.Apply.may_leave c.turn.new.session) g.A.Apply.stands_for told w))
+    given c.loop-n.n c.loop-n.tally c.in-Err.e _ _ _ _ _ _ at told inv.working c.in-Some.answer (no-writer-fault c.in-Some.answer _ c.in-Some.ensures.faults) c.in-Err.ensures.stops
     (λ faulted w enough clean p sound xs here.
     some-faulted g.T.Read.remaining c.loop-n.rows c.turn.new.rows p c.args.at xs c.args.rows.now.state (g.A.Apply.settled c.loop-n.session) (g.A.Apply.settled c.turn.new.session)
-    (g.A.Apply.may_leave c.turn.new.session) g.A.Apply.stands_for given inv.set_up.config (so_far (c.turn.ensures.clean clean) p sound xs here) c.in-Some.answer faulted
-    (λ q sound. rw c.in-Some.is at (c.turn.ensures.turns clean q sound)) w enough)
+    (g.A.Apply.may_leave c.turn.new.session) g.A.Apply.stands_for first before failed given inv.set_up.config (so_far (c.turn.ensures.clean clean) p sound xs here)
+    (g.met.A.Apply.leaves_settled c.turn.new.session) inv.same c.in-Some.answer faulted (λ q sound. rw c.in-Some.is at (c.turn.ensures.turns clean q sound)) w enough)
     (λ good w enough clean p sound xs here.
-    some-last p c.args.at (g.A.Apply.may_leave c.turn.new.session) g.A.Apply.stands_for xs c.args.rows.now.state given c.in-Some.answer (g.A.Apply.settled c.turn.new.session)
-    (g.met.A.Apply.leaves_settled c.turn.new.session) _ _
+    some-last p c.args.at (g.A.Apply.may_leave c.turn.new.session) g.A.Apply.stands_for xs c.args.rows.now.state first failed (g.A.Apply.settled c.turn.new.session) given c.in-Some.answer
+    (g.met.A.Apply.leaves_settled c.turn.new.session) (goes-same c.in-Some.answer _ _ _ good c.in-Some.ensures.going ∙ inv.same) _ _
     (so_far-more g.T.Read.remaining c.loop-n.rows c.turn.new.rows p c.args.at xs c.args.rows.now.state (g.A.Apply.settled c.loop-n.session) (g.A.Apply.settled c.turn.new.session)
-    (g.A.Apply.may_leave c.turn.new.session) g.A.Apply.stands_for given inv.set_up.config (so_far (c.turn.ensures.clean clean) p sound xs here) c.in-Some.answer
+    (g.A.Apply.may_leave c.turn.new.session) g.A.Apply.stands_for first before failed given inv.set_up.config (so_far (c.turn.ensures.clean clean) p sound xs here) c.in-Some.answer
     (λ q sound. rw c.in-Some.is at (c.turn.ensures.turns clean q sound)) good) w enough)
 
 pub returns-in-Err-tell-clause-stopped : goal.returns-in-Err-tell-clause-stopped
@@ -91,10 +96,12 @@ returns-in-Err-tell-clause-stopped g c =
     let (given, told, so_far) = inv.given in
     let end : c.loop-n.n ≡ 2 ^ 64 - 1 = omega (arith, c.loop-n-test.false) in
     let at : length given + 1 ≡ 2 ^ 64 - 1 = omega (arith, told.1) in
+    let first = g.A.Apply.has_failed c.args.session.now in
+    let failed = g.A.Apply.has_failed c.loop-n.session in
     stopped-fault
     (λ told w. OnRun (g.A.Apply.is_clean c.loop-n.session) (g.A.Apply.settled c.args.session.now) (source_of g.T.Read.remaining c.args.rows.now)
-    (λ p xs. IsSome p c.args.at xs c.args.rows.now.state (g.A.Apply.may_leave c.loop-n.session) g.A.Apply.stands_for told w))
-    given (2 ^ 64 - 1) c.loop-n.tally c.in-Err-tell.e _ _ _ _ at told (record { 0 = 90 }) (λ e. absurd (omega arith)) c.in-Err-tell.ensures.stops
+    (λ p xs. IsSome p c.args.at xs c.args.rows.now.state first failed (g.A.Apply.settled c.loop-n.session) (g.A.Apply.may_leave c.loop-n.session) g.A.Apply.stands_for told w))
+    given (2 ^ 64 - 1) c.loop-n.tally c.in-Err-tell.e _ _ _ _ _ _ at told inv.working (record { 0 = 90 }) (λ e. absurd (omega arith)) c.in-Err-tell.ensures.stops
     (λ w enough clean p sound xs here.
-    some-so_far p c.args.at (g.A.Apply.may_leave c.loop-n.session) g.A.Apply.stands_for xs c.args.rows.now.state given (g.A.Apply.settled c.loop-n.session)
-    (g.met.A.Apply.leaves_settled c.loop-n.session) _ _ (so_far clean p sound xs here) w enough)
+    some-so_far p c.args.at (g.A.Apply.may_leave c.loop-n.session) g.A.Apply.stands_for xs c.args.rows.now.state first failed (g.A.Apply.settled c.loop-n.session) given
+    (g.met.A.Apply.leaves_settled c.loop-n.session) inv.same _ _ (so_far clean p sound xs here) w enough)

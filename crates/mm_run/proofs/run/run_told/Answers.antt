@@ -14,9 +14,11 @@ returns-in-Err-tell-clause-stopped g c =
     let (given, told, all) = rw c.in-Ok.is at c.run_held-held.ensures.done in
     let at : length given + 1 ≡ t.written + 1 = omega (arith, told.1) in
     let fault = c.in-Err-drain.fault in
+    let first = g.A.Apply.has_failed c.args.session.now in
+    let same = (rw c.in-Ok.is at c.run_held-held.ensures.session).0 in
     stopped-fault
     (λ told w. OnRun (g.A.Apply.is_clean new) (g.A.Apply.settled c.args.session.now) (option_map strip_bom (g.R.Read.remaining (inside c.args.reader.now)))
-    (λ p xs. IsSome p c.args.at xs states.StartRecord (g.A.Apply.may_leave new) g.A.Apply.stands_for told w))
-    given (t.written + 1) t c.in-Err-tell.e _ _ _ _ at told fault (read_not_writer fault.0 _ c.in-Err-drain.ensures.fault) c.in-Err-tell.ensures.stops
+    (λ p xs. IsSome p c.args.at xs states.StartRecord first (g.A.Apply.has_failed new) (g.A.Apply.settled new) (g.A.Apply.may_leave new) g.A.Apply.stands_for told w))
+    given (t.written + 1) t c.in-Err-tell.e _ _ _ _ _ _ at told (rw c.in-Ok.is at c.run_held-held.ensures.working) fault (read_not_writer fault.0 _ c.in-Err-drain.ensures.fault) c.in-Err-tell.ensures.stops
     (λ w enough clean p sound xs here.
-    some-all p c.args.at (g.A.Apply.may_leave new) g.A.Apply.stands_for xs states.StartRecord given (g.A.Apply.settled new) (g.met.A.Apply.leaves_settled new) (all clean p sound xs here) w enough)
+    some-all p c.args.at (g.A.Apply.may_leave new) g.A.Apply.stands_for xs states.StartRecord first (g.A.Apply.has_failed new) (g.A.Apply.settled new) given (g.met.A.Apply.leaves_settled new) same (all clean p sound xs here) w enough)

@@ -1,16 +1,17 @@
 -- What the growth of an edition comes to, in each case.
-use Rattle.std.proofs.Common.{◌≡◌, ◌∙◌, inl, inr, ◌+◌, ◌-◌, ℕ, suc, pos, ◌≤ℤ◌, List, [], ◌∷◌, ◌++◌, length, Option, Some, None, is_some, refl, sym, ap, subst, arith, append_assoc, append-nil, false}
+use Rattle.std.proofs.Common.{◌≡◌, ◌∙◌, inl, inr, ◌+◌, ◌-◌, ℕ, suc, pos, ℤ, zero, negsuc, ◌≤ℤ◌, ◌≤◌, List, [], ◌∷◌, ◌++◌, length, Option, Some, None, is_some, refl, sym, ap, subst, arith, append_assoc, append-nil, false}
 use Rattle.std.specs.Prelude.{◌==◌}
 use Rattle.std.proofs.lemmas.Int.{ints}
 use Rattle.std.proofs.lemmas.Bool.{ne_eqb}
-use Rattle.std.specs.FinMap.{get}
+use Rattle.std.specs.FinMap.{get, same_map}
 use Rattle.mm_base.specs.Conditions.{pieces_of}
 use Rattle.mm_base.specs.Editions.{edition_trial, trial}
 use Rattle.mm_base.specs.Keys.{Text, PieceKey, piece}
 use Rattle.mm_base.specs.Package.{Package, PieceRow, PiecesPart}
 use Rattle.mm_base.specs.Pieces.{piece_row}
 use Rattle.mm_base.specs.declared.commands.Piece.{Piece}
-use Rattle.mm_base.proofs.Parts.{not_none, same_some}
+use Rattle.mm_base.proofs.KeyLaws.{piece_keys, texts}
+use Rattle.mm_base.proofs.Parts.{not_none, same_key, same_some}
 use Rattle.mm_edition.proofs.InOrder.{AreFrom, pieces_in_order}
 use Rattle.mm_kit.specs.Editions.{HasPieces, numbered, rows_from}
 use Rattle.mm_kit.specs.Imports.{AreRepeats, IsFirstOf, OnlyGrows, SameBut}
@@ -46,6 +47,56 @@ pub repeated : (name : Text) (kit : List Piece) (p q : Package) (stops : List Pa
 unfolding AreRepeats
 repeated name kit p q [] same = subst (SameBut name p) (sym same) (record { parts = refl; others = λ k d. refl })
 repeated name kit p q (r ∷ rest) h = both name p r q (one name kit p r h.0) (repeated name kit r q rest h.1)
+
+-- ---- a package by its edition's pieces
+
+numbered-in : (list : List Piece) (i : ℕ) → 1 ≤ i → i ≤ length list → (x : Piece) × (numbered list i ≡ Some x)
+unfolding numbered
+numbered-in [] i a b = absurd (omega (arith, a, b))
+numbered-in (x ∷ xs) zero a b = absurd (omega (arith, a))
+numbered-in (x ∷ xs) (suc zero) a b = (x, refl)
+numbered-in (x ∷ xs) (suc (suc n)) a b =
+    let apart : (suc (suc n) == 1) ≡ false = ne_eqb _ _ (λ s. absurd (omega (arith, s))) in
+    let back : suc (suc n) - 1 ≡ suc n = omega arith in
+    rw (apart, back) (numbered-in xs (suc n) (omega arith) (omega (arith, b)))
+
+module _ (name : Text) (list : List Piece) (q r : Package) (one : HasPieces q name list) (two : HasPieces r name list) where
+  in_range : (n : ℤ) → pos 1 ≤ℤ n → n ≤ℤ pos (length list) → get q.pieces (piece name n) ≡ get r.pieces (piece name n)
+  in_range (pos i) a b = let (x, e) = numbered-in list i (omega (arith, ints, a)) (omega (arith, ints, b)) in one.each i x e ∙ sym (two.each i x e)
+  in_range (negsuc i) a b = absurd (omega (arith, ints, a))
+
+  of_name : (n : ℤ) → get q.pieces (piece name n) ≡ get r.pieces (piece name n)
+  of_name n = by (get q.pieces (piece name n)) (get r.pieces (piece name n)) refl refl
+    where
+      by : (v w : Option PieceRow) → get q.pieces (piece name n) ≡ v → get r.pieces (piece name n) ≡ w → get q.pieces (piece name n) ≡ get r.pieces (piece name n)
+      by (Some a) w e f = let range = (one.numbers n).0 (ap is_some e) in in_range n range.0 range.1
+      by None (Some b) e f = let range = (two.numbers n).0 (ap is_some f) in in_range n range.0 range.1
+      by None None e f = e ∙ sym f
+
+  -- packages that differ in these pieces at most are one
+  same_kit : (p : Package) → SameBut name p q → SameBut name p r → q ≡ r
+  same_kit p s t = s.parts ∙ ap (λ m. record p { pieces = m }) (same_map piece_keys.total piece_keys.exact q.pieces r.pieces at_key) ∙ sym t.parts
+    where
+      at_key : (k : PieceKey) → get q.pieces k ≡ get r.pieces k
+      at_key k = elim (same_key texts k.edition name) as (λ _. get q.pieces k ≡ get r.pieces k) [
+        | inl is ↦ subst (λ n. get q.pieces (piece n k.number) ≡ get r.pieces (piece n k.number)) (sym is.0) (of_name k.number)
+        | inr other ↦ s.others k other.0 ∙ sym (t.others k other.0)
+      ]
+
+pub by_any_stops : (name : Text) (kit : List Piece) (p q r : Package) (stops others : List Package) → AreRepeats name kit p stops q → AreRepeats name kit p others r
+    → HasPieces q name kit → HasPieces r name kit → q ≡ r
+by_any_stops name kit p q r stops others h k one two = same_kit name kit q r one two p (repeated name kit p q stops h) (repeated name kit p r others k)
+
+none_before : (a b : List Piece) → [] ≡ a ++ b → a ≡ []
+none_before [] b e = refl
+none_before (x ∷ xs) b e = absurd cc
+
+pub no_kit : (name : Text) (p q : Package) → OnlyGrows name [] p q → q ≡ p
+no_kit name p q (inl same) = same
+no_kit name p q (inr it) =
+    let new : it.new ≡ [] = none_before it.new it.of_kit.0 it.of_kit.1 in
+    let old : it.old ≡ [] = none_before it.old it.more.0 (sym new ∙ it.more.1) in
+    same_kit name [] q p (subst (HasPieces q name) new it.after) (subst (HasPieces p name) old it.before) p it.same (record { parts = refl; others = λ k d. refl })
 
 -- ---- the pieces that publishing goes along
 

@@ -95,6 +95,10 @@ OnKit clean settled told P = clean → (p : Package) → IsSound settled p → (
 abbrev pub IsKitFault : ℕ → Bool → Type 0
 IsKitFault fault failed = (fault ≡ 90) ⊎ (fault ≡ 91) ⊎ (fault ≡ 92) ⊎ ((fault ≡ 96) × (failed ≡ true))
 
+-- the list of the folder is a kit's, so its pieces are to be staged
+abbrev pub AsksForPackage : Option Files → Type 0
+AsksForPackage told = (files : Files) → told ≡ Some files → (entries : List Entry) × IsKitList files (Ok entries)
+
 -- What an import tells of a session that has to be opened again: it is as it was, nothing is staged, and 92 comes only there.
 abbrev pub TellsFailureOf : Bool → Bool → Type 0 → Result Staged KitFault → Type 0
 TellsFailureOf before failed same (Ok a) = (failed ≡ before) × (before ≡ true → same)

@@ -3,7 +3,7 @@
 ghost use Rattle.std.specs.Prelude.{◌≡◌, ◌≢◌, ◌⊎◌, IfOk, IfErr, Some, false, true};
 ghost use Rattle.mm_base.specs.Package.{Package};
 ghost use Rattle.mm_kit.specs.Folders.{Files};
-ghost use Rattle.mm_kit.specs.Imports.{AreImported, IsAnswered, IsKitFault, IsStopped, MayBeStaged, OnKit, TellsFailureOf};
+ghost use Rattle.mm_kit.specs.Imports.{AreImported, AsksForPackage, IsAnswered, IsKitFault, IsStopped, MayBeStaged, OnKit, TellsFailureOf};
 ghost use Rattle.mm_kit.specs.Lists.{AreFine, AreSound, IsKitList, listing};
 ghost use Rattle.mm_kit.specs.declared.folders.FolderFault.TheVariants as folder_faults;
 
@@ -97,6 +97,7 @@ pub(crate) fn import_folder<A: Desk, F: Folder>(
     ensures stopped { IfErr result (λ e. OnKit (A.is_clean desk.new) (A.settled desk.old) (F.files folder.old)
         (λ files p. IsStopped files name.now p (A.may_leave desk.new) A.stands_for e.staged)) }
     ensures session { TellsFailureOf (A.has_failed desk.old) (A.has_failed desk.new) (desk.new ≡ desk.old) result }
+    ensures needed { IfErr result (λ e. e.fault.0 ≡ 92 → AsksForPackage (F.files folder.old)) }
     ensures why { IfErr result (λ e. IsKitFault e.fault.0 (F.has_failed folder.new)) }
 {
     match find_list(alloc, folder) {

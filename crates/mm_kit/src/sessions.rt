@@ -7,7 +7,7 @@ ghost use Rattle.mm_base.specs.Bounds.{current};
 ghost use Rattle.mm_store.specs.Stands.{IsSettled};
 ghost use Rattle.mm_core.specs.Applied.{Stands};
 ghost use Rattle.mm_core.specs.Parts.{held, has_failed};
-ghost use Rattle.mm_kit.specs.Imports.{IsAnswered, IsKitFault, IsStopped, OnKit, TellsFailureOf};
+ghost use Rattle.mm_kit.specs.Imports.{AsksForPackage, IsAnswered, IsKitFault, IsStopped, OnKit, TellsFailureOf};
 
 use crate::desk::Desk;
 use crate::folders::Folder;
@@ -56,6 +56,9 @@ pub fn import_kit<S: Alter, F: Folder>(
 
     // A session that has to be opened again is left as it was, and 92 comes only there.
     ensures session { TellsFailureOf (has_failed session.old) (has_failed session.new) (session.new ≡ session.old) result }
+
+    // The package is asked only where the list is a kit's.
+    ensures needed { IfErr result (λ e. e.fault.0 ≡ 92 → AsksForPackage (F.files folder.old)) }
 
     // 96 is the folder's, and the folder tells it.
     ensures why { IfErr result (λ e. IsKitFault e.fault.0 (F.has_failed folder.new)) }

@@ -13,6 +13,9 @@ returns-in-Err-import_entries-clause-stopped g c clean p sound these tells =
     let is : IsKitList these (Ok c.in-Ok-Entries.entries.items) = rw c.in-Ok-Entries.field-0-is at (c.in-Ok-Entries.ensures.lists these tells) in
     stopped_some these c.args.name.now p _ _ g.A.Apply.stands_for c.in-Err-import_entries.e.staged is (c.in-Err-import_entries.ensures.stopped clean p sound these (c.in-Ok-Entries.ensures.stays ∙ tells))
 
+pub returns-in-Err-import_entries-clause-needed : goal.returns-in-Err-import_entries-clause-needed
+returns-in-Err-import_entries-clause-needed g c is these tells = (c.in-Ok-Entries.entries.items, rw c.in-Ok-Entries.field-0-is at (c.in-Ok-Entries.ensures.lists these tells))
+
 pub returns-in-Ok-Refused-clause-answered : goal.returns-in-Ok-Refused-clause-answered
 returns-in-Ok-Refused-clause-answered g c clean p sound these tells =
     let is : IsKitList these (Err (c.in-Ok-Refused.piece, c.in-Ok-Refused.number)) = rw c.in-Ok-Refused.field-0-is at (c.in-Ok-Refused.ensures.lists these tells) in

@@ -1,6 +1,6 @@
 -- What is printed while a package is served, and the exit status that goes with it.
 use Rattle.std.specs.Prelude.{◌≡◌, ◌≢◌, ◌⊎◌, ℕ, List, Option, Bool, true, false}
-use Rattle.mm_work.specs.Pages.{IsPrinted, IsServed, serving_text}
+use Rattle.mm_work.specs.Pages.{IsPrinted, IsServed, Outcome, serving_text}
 use Rattle.mm_work.specs.Told.{IsTold, stop_status, stop_text}
 use Rattle.mm_work.specs.declared.stop.Stop.{Stop}
 
@@ -8,7 +8,8 @@ use Rattle.mm_work.specs.declared.stop.Stop.{Stop}
 abbrev pub IsServing : ℕ → ℕ → Option (List ℕ) → Option (List ℕ) → Bool → Bool → ℕ → Type 0
 IsServing port count old new before failed status =
     (IsPrinted old new before failed (serving_text port) false × (status ≡ 3))
-    ⊎ ((held : Option (List ℕ)) × (between : Bool) × IsPrinted old held before between (serving_text port) true × IsServed count held new between failed status)
+    ⊎ ((held : Option (List ℕ)) × (between : Bool) × IsPrinted old held before between (serving_text port) true
+    × (outcomes : List Outcome) × IsServed count outcomes held new between failed status)
 
 -- so many connections were served, and no fault ended it
 abbrev pub WasServed : ℕ → ℕ → Option (List ℕ) → Option (List ℕ) → Bool → Bool → Type 0

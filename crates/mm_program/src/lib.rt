@@ -5,11 +5,13 @@
 //! - `looking`: those that change nothing.
 //! - `migrating`: the one that brings a package of profile 1 to micrometres.
 //! - `files`: the package's file and its journal.
+//! - `connections`: the page served to one connection after another.
 //! - `serving`: the page served over sockets.
 //! - `clock`: the moment of a run that names none.
 #![tactic(auto)]
 
 mod clock;
+mod connections;
 mod files;
 mod kits;
 mod looking;
@@ -17,6 +19,6 @@ mod migrating;
 mod serving;
 mod subcommands;
 
+pub use connections::{Serves, serve_on};
 pub use files::{close_files, open_new, open_old};
-pub use serving::serve_on;
 pub use subcommands::program;

@@ -1,21 +1,18 @@
 //! The page served over sockets.
 
-ghost use Rattle.std.specs.Prelude.{◌≡◌, ◌≤◌, ◌⊎◌, IfErr, IfOk};
-ghost use Rattle.sqlite.specs.Held.{state};
+ghost use Rattle.std.specs.Prelude.{◌≡◌, ◌≤◌, ◌⊎◌, IfErr, IfOk, None};
 ghost use Rattle.mm_base.specs.Streams.{inside};
 ghost use Rattle.mm_base.specs.Streams as streams;
-ghost use Rattle.mm_core.specs.Parts.{held, has_failed};
-ghost use Rattle.mm_page.specs.Served.{LeavesPackage};
-ghost use Rattle.mm_work.specs.Pages.{IsServed, IsServiceFault};
 ghost use Rattle.mm_work.specs.Told.{TellsFailure};
 ghost use Rattle.mm_program.specs.Served.{IsQuiet, IsServing, TellsServe, WasServed};
 
+use crate::connections::{Serves, serve_on};
 use crate::files::{close_after, close_files, open_old};
 use mm_base::answers::{Fault, PageFault};
 use mm_base::streams::Io;
 use mm_core::Session;
 use mm_page::serve_one;
-use mm_work::{DONE, FAULT, Stop, adopt_package, tell_page_fault, tell_serving, tell_stop};
+use mm_work::{FAULT, Stop, adopt_package, tell_serving, tell_stop};
 use sqlite::{Alter, Start, Wary};
 use std::alloc::Global;
 use std::io;
@@ -35,48 +32,18 @@ fn next_stream(listener: &TcpListener) -> io::Result<TcpStream> {
     Ok(stream)
 }
 
-/// Serves the next connection. 96 where there is none to be had.
-fn serve_next<S: Alter>(
-    alloc: Global,
-    session: &mut Session<S>,
-    listener: &TcpListener,
-) -> Result<(), PageFault>
-    ensures same { has_failed session.new ≡ has_failed session.old }
-    ensures kept { LeavesPackage (state S.Store (held session.old)) (state S.Store (held session.new)) }
-    ensures fault { IfErr result (λ why. IsServiceFault why.0) }
-{
-    let Ok(stream) = next_stream(listener) else {
-        return Err(PageFault(Fault(96)));
-    };
-    let mut reader = Io::new(&stream);
-    let mut writer = Io::new(&stream);
-    serve_one(alloc, session, &mut reader, &mut writer)
-}
+impl<S: Alter> Serves<S> for TcpListener {
+    ghost outcomes = { λ listener. None };
 
-/// Serves so many connections, one after another. The fault of a connection is printed as `page fault NUMBER`, and the next is
-/// served. It answers the exit status: 0, or 3 where a connection met a fault, or where a fault couldn't be printed, which ends it.
-/// The session stays as it is.
-pub fn serve_on<S: Alter, W: Write>(
-    alloc: Global,
-    session: &mut Session<S>,
-    listener: &TcpListener,
-    count: u32,
-    output: &mut Io<W>,
-) -> u8
-    ensures same { has_failed session.new ≡ has_failed session.old }
-    ensures kept { LeavesPackage (state S.Store (held session.old)) (state S.Store (held session.new)) }
-    ensures served { IsServed count (W.contents (inside output.old)) (W.contents (inside output.new)) (streams.has_failed output.old) (streams.has_failed output.new) result }
-{
-    let mut status = DONE;
-    for served in 0..count {
-        if let Err(fault) = serve_next(alloc, session, listener) {
-            if !tell_page_fault(output, fault) {
-                return FAULT;
-            }
-            status = FAULT;
-        }
+    /// Serves the next connection. 96 where there is none to be had.
+    fn serve_next(&mut self, alloc: Global, session: &mut Session<S>) -> Result<(), PageFault> {
+        let Ok(stream) = next_stream(self) else {
+            return Err(PageFault(Fault(96)));
+        };
+        let mut reader = Io::new(&stream);
+        let mut writer = Io::new(&stream);
+        serve_one(alloc, session, &mut reader, &mut writer)
     }
-    status
 }
 
 /// Binds the port on the loopback address, and serves so many connections on it. 96 where it can't be bound.
@@ -92,13 +59,13 @@ fn serve_port<S: Alter, W: Write>(
     ensures served { IfOk result (IsServing port count (W.contents (inside output.old)) (W.contents (inside output.new)) (streams.has_failed output.old) (streams.has_failed output.new)) }
     ensures unused { IfErr result (λ why. output.new ≡ output.old) }
 {
-    let Ok(listener) = TcpListener::bind(rt, (Ipv4Addr::LOCALHOST, port)) else {
+    let Ok(mut listener) = TcpListener::bind(rt, (Ipv4Addr::LOCALHOST, port)) else {
         return Err(Stop::Fault(Fault(96)));
     };
     if !tell_serving(output, port) {
         return Ok(FAULT);
     }
-    Ok(serve_on(rt.alloc(), session, &listener, count, output))
+    Ok(serve_on(rt.alloc(), session, &mut listener, count, output))
 }
 
 /// Serves the package of a file. The port is bound once the file is adopted.

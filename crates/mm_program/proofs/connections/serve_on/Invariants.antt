@@ -5,11 +5,11 @@ use Rattle.mm_base.specs.Streams as streams
 use Rattle.mm_core.specs.Parts.{held, has_failed}
 use Rattle.mm_page.specs.Served.{LeavesPackage}
 use Rattle.mm_program.proofs.ServiceFacts.{Told}
-use Rattle.mm_program.proofs.serving.serve_on.Given as goal
+use Rattle.mm_program.proofs.connections.serve_on.Given as goal
 
 abbrev pub invariant-loop-served : goal.invariant-loop-served
 invariant-loop-served g l = record {
   same : has_failed l.session ≡ has_failed l.fn.session;
   kept : LeavesPackage (state g.S.Store (held l.fn.session)) (state g.S.Store (held l.session));
-  told : Told l.served (g.W.Write.contents (inside l.fn.output)) (g.W.Write.contents (inside l.output)) (streams.has_failed l.fn.output) (streams.has_failed l.output) l.status;
+  told : Told l.served (g.L.Serves.outcomes l.fn.listener) (g.L.Serves.outcomes l.listener) (g.W.Write.contents (inside l.fn.output)) (g.W.Write.contents (inside l.output)) (streams.has_failed l.fn.output) (streams.has_failed l.output) l.status;
 }

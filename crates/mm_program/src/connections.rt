@@ -1,0 +1,60 @@
+//! Connections that are served one after another.
+
+ghost use Rattle.std.specs.Prelude.{◌≡◌, ◌∷◌, [], IfErr, List, Option};
+ghost use Rattle.sqlite.specs.Held.{state};
+ghost use Rattle.mm_base.specs.Streams.{inside};
+ghost use Rattle.mm_base.specs.Streams as streams;
+ghost use Rattle.mm_core.specs.Parts.{held, has_failed};
+ghost use Rattle.mm_page.specs.Served.{LeavesPackage};
+ghost use Rattle.mm_work.specs.Pages.{IsServed, IsServiceFault, Outcome, TellsMore};
+
+use mm_base::answers::PageFault;
+use mm_base::streams::Io;
+use mm_core::Session;
+use mm_work::{DONE, FAULT, tell_page_fault};
+use sqlite::Alter;
+use std::alloc::Global;
+use std::io::Write;
+
+/// A thing that serves the page to one connection after another.
+pub trait Serves<S: Alter> {
+    // What became of the connections that were served, where it tells.
+    ghost outcomes: { Self → Option (List Outcome) };
+
+    /// Serves the next connection; the session stays as it is.
+    fn serve_next(&mut self, alloc: Global, session: &mut Session<S>) -> Result<(), PageFault>
+        ensures same { has_failed session.new ≡ has_failed session.old }
+        ensures kept { LeavesPackage (state S.Store (held session.old)) (state S.Store (held session.new)) }
+        ensures fault { IfErr result (λ why. IsServiceFault why.0) }
+        ensures told { TellsMore (outcomes self.old) (outcomes self.new) (result ∷ []) };
+}
+
+/// Serves so many connections, one after another. The fault of a connection is printed as `page fault NUMBER`, and the next is
+/// served. It answers the exit status: 0, or 3 where a connection met a fault, or where a fault couldn't be printed, which ends it.
+/// The session stays as it is.
+pub fn serve_on<S: Alter, L: Serves<S>, W: Write>(
+    alloc: Global,
+    session: &mut Session<S>,
+    listener: &mut L,
+    count: u32,
+    output: &mut Io<W>,
+) -> u8
+    ensures same { has_failed session.new ≡ has_failed session.old }
+    ensures kept { LeavesPackage (state S.Store (held session.old)) (state S.Store (held session.new)) }
+    ensures served { (outcomes : List Outcome) × TellsMore (L.outcomes listener.old) (L.outcomes listener.new) outcomes
+        × IsServed count outcomes (W.contents (inside output.old)) (W.contents (inside output.new)) (streams.has_failed output.old) (streams.has_failed output.new) result }
+{
+    let mut status = DONE;
+    for served in 0..count {
+        match listener.serve_next(alloc, session) {
+            Ok(()) => {}
+            Err(fault) => {
+                if !tell_page_fault(output, fault) {
+                    return FAULT;
+                }
+                status = FAULT;
+            }
+        }
+    }
+    status
+}

@@ -1,13 +1,13 @@
 //! Imports of kits in memory into the edition of a package in memory.
 
 use crate::fakes::torn_folder;
-use crate::packages::{FINER, PYRAMID, RELATED, answers, session_after, text_of};
 use mm_base::answers::{KitFault, Staged};
 use mm_base::entries::EditionState;
 use mm_base::moments::Moment;
 use mm_base::names::Name;
 use mm_core::Session;
 use mm_kit::{Folder, Shelf, ShelfFile, import_kit};
+use mm_test_packages::{FINER, PYRAMID, RELATED, answers, session_after, text_of};
 use sqlite::MemStore;
 use std::alloc::Global;
 use std::fmt::Write;

@@ -1,10 +1,10 @@
 //! Requests and their responses, as docs/FORMATS.md describes the page.
 
 use crate::fakes::{Short, broken_reader, short_writer, slow_reader};
-use crate::packages::{FINER, PYRAMID, RELATED, new_session, session_at};
 use mm_base::streams::Io;
 use mm_core::Session;
 use mm_page::serve_one;
+use mm_test_packages::{FINER, PYRAMID, RELATED, new_session, session_at};
 use sqlite::MemStore;
 use std::alloc::Global;
 use std::fmt::Write;

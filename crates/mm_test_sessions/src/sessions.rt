@@ -1,13 +1,13 @@
 //! What sessions on packages in memory answer, adopt, check and list.
 
 use crate::fakes::{Short, short_writer};
-use crate::packages::{
-    FINER, PYRAMID, RELATED, answers, new_session, session_after, session_at, text_of,
-};
 use mm_base::answers::{Fault, Open};
 use mm_base::streams::Io;
 use mm_core::Session;
 use mm_meta::create_in_memory;
+use mm_test_packages::{
+    FINER, PYRAMID, RELATED, answers, new_session, session_after, session_at, text_of,
+};
 use sqlite::{Connection, MemStore};
 use std::alloc::Global;
 use std::fmt::Write;

@@ -1,10 +1,10 @@
 //! What stands where a reader or a writer failed, once the files are closed and opened again; and a print that fails.
 
 use crate::fakes::{Short, broken_reader, short_writer};
-use crate::packages::open;
 use mm_base::moments::Moment;
 use mm_base::streams::Io;
 use mm_recovery::open_after_close;
+use mm_test_packages::open;
 use mm_work::{DONE, FAULT, Stop, make_package, run_package, tell_init, tell_stop, tell_text};
 use sqlite::{Alter, Connection, FileStore, Files, Options};
 use sqlite_disk::{Disk, Memory};

@@ -1,12 +1,12 @@
 //! Disks in memory that stop, and the package that is found when they are opened again.
 
-use crate::packages::{FINER, answers, create, open, run, text_of};
 use mm_base::moments::Moment;
 use mm_base::names::Name;
 use mm_base::streams::Io;
 use mm_core::Session;
-use mm_recovery::run_and_recover;
-use sqlite::{Alter, FileStore, Files, Options};
+use mm_recovery::{close_and_adopt, create_and_recover, run_and_recover};
+use mm_test_packages::{FINER, answers, create, open, run, text_of};
+use sqlite::{Alter, Connection, FileStore, Files, Options};
 use sqlite_disk::{Crash, Fuse, Memory};
 use std::alloc::Global;
 use std::fmt::Write;
@@ -173,5 +173,76 @@ fn answers_92_after_a_fault(rt: HostRuntime) -> Result<(), Fail> {
         told.as_str(),
         "1 fault 91\n1 fault 92\n1 ok\n1 refused 20\n"
     );
+    Ok(())
+}
+
+/// What stands on a connection: a package, or nothing, on which one is then made.
+fn standing<S: Alter + Drop>(alloc: Global, conn: Connection<S>) -> &'static str {
+    if !conn.is_autocommit() {
+        return "a transaction";
+    }
+    match Session::adopt(alloc, conn) {
+        Ok(_) => "a package",
+        Err((conn, _)) => match create(alloc, conn) {
+            Some(_) => "nothing",
+            None => "neither",
+        },
+    }
+}
+
+/// Whether the making of a package ended on a log that takes so many calls, and what is found after a crash; None where no file is opened.
+fn made_within(alloc: Global, calls: u64) -> Option<(bool, &'static str)> {
+    let conn = open(alloc, files_of(alloc, calls))?;
+    if !conn.is_autocommit() {
+        return None;
+    }
+    let (made, left) = create_and_recover(alloc, conn, Options::new(7));
+    match left {
+        Ok(conn) => Some((made.is_ok(), standing(alloc, conn))),
+        Err(_) => Some((made.is_ok(), "no file")),
+    }
+}
+
+/// What is found of packages that are made on logs that take more and more calls, each new finding on a line, up to the first that is made.
+fn makings(alloc: Global) -> Option<String> {
+    let mut text = String::new(alloc);
+    for calls in 0..2000u64 {
+        if let Some((made, found)) = made_within(alloc, calls) {
+            let line = format!(in alloc; "{found}, made: {made}\n").ok()?;
+            if !text.ends_with(line.as_str()) {
+                text.push_str(line.as_str()).ok()?;
+            }
+            if made {
+                return Some(text);
+            }
+        }
+    }
+    None
+}
+
+#[test]
+fn makes_a_package_or_nothing(rt: HostRuntime) -> Result<(), Fail> {
+    let told = makings(rt.alloc()).expect(&rt, "a package that is made");
+    assert_eq!(rt;
+        told.as_str(),
+        "nothing, made: false\na package, made: true\n"
+    );
+    Ok(())
+}
+
+/// What is found of a package after all the records, once its files are closed and opened again.
+fn found_closed(alloc: Global) -> Option<(usize, usize)> {
+    let mut session = create(alloc, open(alloc, files_of(alloc, u64::MAX))?)?;
+    answers(alloc, &mut session, RECORDS)?;
+    match close_and_adopt(alloc, session, Options::new(7)) {
+        Ok(again) => found_in(alloc, again),
+        Err(_) => None,
+    }
+}
+
+#[test]
+fn adopts_what_was_closed(rt: HostRuntime) -> Result<(), Fail> {
+    let found = found_closed(rt.alloc()).expect(&rt, "a package");
+    assert_eq!(rt; found, stands_after(10));
     Ok(())
 }

@@ -1,4 +1,5 @@
-//! What the tests begin with, and what a run on it answers.
+//! What tests of sessions begin with, and what a run on it answers. Nothing here promises more than that it ends well, or with None.
+#![tactic(auto)]
 
 use mm_base::answers::{RunFault, Tally};
 use mm_base::moments::Moment;
@@ -11,16 +12,16 @@ use std::io::{Read, Write};
 use std::str::from_utf8;
 
 /// A pyramid with its coarsest matrix.
-pub(crate) const PYRAMID: &str = "srs,25832,ETRS89 / UTM zone 32N,EPSG,25832,projected metres,
+pub const PYRAMID: &str = "srs,25832,ETRS89 / UTM zone 32N,EPSG,25832,projected metres,
 pyramid,base,Base map,25832,500000000000,5600000000000,501024000000,5601024000000,two
 matrix,base,0,1,1,256,256,4000000,4000000
 ";
 
 /// The next finer matrix of the pyramid.
-pub(crate) const FINER: &str = "matrix,base,1,2,2,256,256,2000000,2000000\n";
+pub const FINER: &str = "matrix,base,1,2,2,256,256,2000000,2000000\n";
 
 /// A row that is related to a medium.
-pub(crate) const RELATED: &str = "table,spots,attributes,Spots
+pub const RELATED: &str = "table,spots,attributes,Spots
 table,photos,media,Photos
 row,spots,7,Well,,3
 media,photos,3,image/jpeg,ffd8ff
@@ -29,10 +30,7 @@ map,spot_photos,7,3
 ";
 
 /// A connection to the database in two files.
-pub(crate) fn open<D: Disk + Drop>(
-    alloc: Global,
-    files: Files<D>,
-) -> Option<Connection<FileStore<D>>> {
+pub fn open<D: Disk + Drop>(alloc: Global, files: Files<D>) -> Option<Connection<FileStore<D>>> {
     if !files.may_be_used() {
         return None;
     }
@@ -43,7 +41,7 @@ pub(crate) fn open<D: Disk + Drop>(
 }
 
 /// A session on a new package.
-pub(crate) fn create<S: Alter + Drop>(alloc: Global, conn: Connection<S>) -> Option<Session<S>> {
+pub fn create<S: Alter + Drop>(alloc: Global, conn: Connection<S>) -> Option<Session<S>> {
     if !conn.is_autocommit() {
         return None;
     }
@@ -54,12 +52,12 @@ pub(crate) fn create<S: Alter + Drop>(alloc: Global, conn: Connection<S>) -> Opt
 }
 
 /// A session on a new package in memory.
-pub(crate) fn new_session(alloc: Global) -> Option<Session<MemStore>> {
+pub fn new_session(alloc: Global) -> Option<Session<MemStore>> {
     create(alloc, Connection::open_in_memory(alloc).ok()?)
 }
 
 /// Runs the records that the reader gives, each at this moment.
-pub(crate) fn run<S: Alter, R: Read, W: Write>(
+pub fn run<S: Alter, R: Read, W: Write>(
     session: &mut Session<S>,
     reader: &mut Io<R>,
     writer: &mut Io<W>,
@@ -81,14 +79,14 @@ fn is_whole(outcome: Result<Tally, RunFault>) -> bool {
 }
 
 /// The text of bytes.
-pub(crate) fn text_of(alloc: Global, bytes: &[u8]) -> Option<String> {
+pub fn text_of(alloc: Global, bytes: &[u8]) -> Option<String> {
     let mut text = String::new(alloc);
     text.push_str(from_utf8(bytes).ok()?).ok()?;
     Some(text)
 }
 
 /// What a run of these records answers, each at this moment.
-pub(crate) fn answers_at<S: Alter>(
+pub fn answers_at<S: Alter>(
     alloc: Global,
     session: &mut Session<S>,
     records: &[u8],
@@ -105,7 +103,7 @@ pub(crate) fn answers_at<S: Alter>(
 }
 
 /// What a run of these records answers.
-pub(crate) fn answers<S: Alter>(
+pub fn answers<S: Alter>(
     alloc: Global,
     session: &mut Session<S>,
     records: &[u8],
@@ -114,11 +112,7 @@ pub(crate) fn answers<S: Alter>(
 }
 
 /// A session on a new package after these records at this moment, each of which is accepted.
-pub(crate) fn session_at(
-    alloc: Global,
-    records: &str,
-    milliseconds: i64,
-) -> Option<Session<MemStore>> {
+pub fn session_at(alloc: Global, records: &str, milliseconds: i64) -> Option<Session<MemStore>> {
     let mut session = new_session(alloc)?;
     let told = answers_at(alloc, &mut session, records.as_bytes(), milliseconds)?;
     if told.contains("refused") {
@@ -129,7 +123,7 @@ pub(crate) fn session_at(
 }
 
 /// A session on a new package after these records, each of which is accepted.
-pub(crate) fn session_after(alloc: Global, parts: &[&str]) -> Option<Session<MemStore>> {
+pub fn session_after(alloc: Global, parts: &[&str]) -> Option<Session<MemStore>> {
     let mut records = String::new(alloc);
     for part in parts {
         records.push_str(part).ok()?;

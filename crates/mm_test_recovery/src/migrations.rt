@@ -1,9 +1,9 @@
 //! A package of profile 1 on disks in memory that stop while it is migrated.
 
-use crate::packages::{FINER, PYRAMID, answers, create, open};
 use crate::recovery::files_of;
 use mm_core::Session;
 use mm_recovery::open_after_crash;
+use mm_test_packages::{FINER, PYRAMID, answers, create, open};
 use sqlite::{Alter, Connection, FileStore, Options};
 use sqlite_disk::{Crash, Fuse, Memory};
 use std::alloc::Global;

@@ -11,7 +11,7 @@ with # are comments. A step that runs the program is the line '$ WORDS', the wor
     >*                   it may print more
     = STATUS             its exit status, where that is not 0
     <- TEXT, >- TEXT     the same without the end of the line
-    <1..9 TEXT           a line for each number from 1 to 9, which is \# in it (>1..9 TEXT too)
+    <1..9 TEXT           a line for each number from 1 to 9, which is \# in it (>1..9 TEXT too, and >-1..9 TEXT without their ends)
     @ open, @ shut       a connection to the port while the program runs: '<' is sent and '>' must come back before it is closed;
                          'shut' ends what is sent. All connections are made and sent to before the first is read.
 
@@ -66,14 +66,13 @@ def bytes_of(text):
     return re.sub(rb"\\x([0-9a-f]{2})(?:\.\.\\x([0-9a-f]{2}))?", run_of, text.encode())
 
 
-def lines_of(form, text):
-    """Returns the bytes of a line, or of the lines of a range of numbers."""
-    if form == "-":
-        return bytes_of(text)
-    if form is None:
-        return bytes_of(text) + b"\n"
-    first, last = map(int, form.split(".."))
-    return b"".join(bytes_of(text.replace(r"\#", str(number))) + b"\n" for number in range(first, last + 1))
+def lines_of(has_end, numbers, text):
+    """Returns the bytes of a line, or of the lines of a range of numbers, with the end of each or without it."""
+    end = b"\n" if has_end else b""
+    if numbers is None:
+        return bytes_of(text) + end
+    first, last = map(int, numbers.split(".."))
+    return b"".join(bytes_of(text.replace(r"\#", str(number))) + end for number in range(first, last + 1))
 
 
 class Step:
@@ -87,7 +86,7 @@ class Step:
 
     def take(self, line):
         """Takes a line that stands behind the step's own."""
-        found = re.fullmatch(r"([<>])(-|\d+\.\.\d+)?(?: (.*))?", line)
+        found = re.fullmatch(r"([<>])(-)?(\d+\.\.\d+)?(?: (.*))?", line)
         if line[0] not in TAKEN.get(self.verb, ""):
             raise Failed(f"no such line behind {self.line}: {line}")
         if line == ">*":
@@ -95,9 +94,9 @@ class Step:
         elif re.fullmatch(r"= \d+", line):
             self.status = int(line[2:])
         elif found and found[1] == "<":
-            self.given += lines_of(found[2], found[3] or "")
+            self.given += lines_of(not found[2], found[3], found[4] or "")
         elif found:
-            self.wanted += lines_of(found[2], found[3] or "")
+            self.wanted += lines_of(not found[2], found[3], found[4] or "")
         else:
             raise Failed(f"no such line: {line}")
 

@@ -243,22 +243,3 @@ is_ten fs xs h = record {
 -- the fields are those that the form asks
 pub holds : {A : Type 0} {fs : List Field} {ts : List Text} {r : Result A ReadFault} {v : A} → r ≡ Ok v → (h : AreFields fs ts r) → AllHold fs ts (h.values v)
 holds {fs = fs} {ts = ts} e h = subst (ReadsTo (λ x. AllHold fs ts (h.values x)) (IsLeast (IsAgainstSome fs ts))) e h.reads
-
--- ---- a number within these limits is the one that its 64 bits hold
-kept : (z : ℤ) → neg_ℤ (pos (10 ^ 16)) ≤ℤ z → z ≤ℤ pos (10 ^ 16) → to_z w64 (of_z w64 z) ≡ z
-kept z low high = omega (arith, ints)
-
-pub id_kept : (z : ℤ) → IsId z → to_z w64 (of_z w64 z) ≡ z
-id_kept z h = kept z (omega (arith, ints, h.0)) (omega (arith, ints, h.1))
-
-pub system_kept : (z : ℤ) → IsSystemNumber z → to_z w64 (of_z w64 z) ≡ z
-system_kept z h = kept z (omega (arith, ints, h.0)) (omega (arith, ints, h.1))
-
-pub coordinate_kept : (z : ℤ) → IsCoordinate current z → to_z w64 (of_z w64 z) ≡ z
-coordinate_kept z h = kept z (omega (arith, ints, h.0)) (omega (arith, ints, h.1))
-
-pub pixel_size_kept : (z : ℤ) → IsPixelSize current z → to_z w64 (of_z w64 z) ≡ z
-pixel_size_kept z h = kept z (omega (arith, ints, h.0)) (omega (arith, ints, h.1))
-
-pub amount_kept : (z : ℤ) → IsAmount z → to_z w64 (of_z w64 z) ≡ z
-amount_kept z h = kept z (omega (arith, ints, h.0)) (omega (arith, ints, h.1))

@@ -4,6 +4,9 @@ ghost use Rattle.std.specs.Prelude.{◌≡◌, ◌≢◌, MatchOption};
 ghost use Rattle.mm_base.specs.Package.{kind_text};
 ghost use Rattle.mm_base.specs.declared.commands.Kind.{Kind as KindValue};
 
+use crate::bounded::{
+    Amount, Coordinate, Id, MatrixSide, PixelSize, Place, SystemNumber, TileSide, Zoom,
+};
 use crate::bytes::{MediaBytes, TileBytes};
 use crate::content_types::ContentType;
 use crate::identifiers::Identifier;
@@ -61,12 +64,12 @@ pub enum RelationName {
 /// and the size of a pixel in micrometres (`px`, `py`).
 #[derive(Clone, Copy, Debug, PartialEq, Eq)]
 pub struct Matrix {
-    pub mw: u32,
-    pub mh: u32,
-    pub tw: u32,
-    pub th: u32,
-    pub px: i64,
-    pub py: i64,
+    pub mw: MatrixSide,
+    pub mh: MatrixSide,
+    pub tw: TileSide,
+    pub th: TileSide,
+    pub px: PixelSize,
+    pub py: PixelSize,
 }
 
 /// A command that an edition can hold, with the fields of its record.
@@ -74,51 +77,51 @@ pub struct Matrix {
 pub enum Piece {
     Tile {
         table: Name,
-        zoom: u8,
-        column: u32,
-        row: u32,
+        zoom: Zoom,
+        column: Place,
+        row: Place,
         bytes: TileBytes,
     },
     TileDrop {
         table: Name,
-        zoom: u8,
-        column: u32,
-        row: u32,
+        zoom: Zoom,
+        column: Place,
+        row: Place,
     },
     Row {
         table: Name,
-        id: i64,
+        id: Id,
         title: Remark,
         note: Remark,
-        amount: i64,
+        amount: Amount,
     },
     RowDrop {
         table: Name,
-        id: i64,
+        id: Id,
     },
     Media {
         table: Name,
-        id: i64,
+        id: Id,
         content_type: ContentType,
         bytes: MediaBytes,
     },
     MediaDrop {
         table: Name,
-        id: i64,
+        id: Id,
     },
     Map {
         mapping: Name,
-        base_id: i64,
-        related_id: i64,
+        base_id: Id,
+        related_id: Id,
     },
     MapDrop {
         mapping: Name,
-        base_id: i64,
-        related_id: i64,
+        base_id: Id,
+        related_id: Id,
     },
     Matrix {
         table: Name,
-        zoom: u8,
+        zoom: Zoom,
         matrix: Matrix,
     },
 }
@@ -127,26 +130,26 @@ pub enum Piece {
 #[derive(Drop)]
 pub enum Command {
     Srs {
-        id: i64,
+        id: Id,
         name: SystemName,
         organization: SystemName,
-        organization_id: i64,
+        organization_id: Id,
         definition: Definition,
         description: Remark,
     },
     Pyramid {
         table: Name,
         identifier: Identifier,
-        srs: i64,
-        min_x: i64,
-        min_y: i64,
-        max_x: i64,
-        max_y: i64,
+        srs: SystemNumber,
+        min_x: Coordinate,
+        min_y: Coordinate,
+        max_x: Coordinate,
+        max_y: Coordinate,
         step: Step,
     },
     Matrix {
         table: Name,
-        zoom: u8,
+        zoom: Zoom,
         matrix: Matrix,
     },
     Table {
@@ -159,37 +162,37 @@ pub enum Command {
     },
     Tile {
         table: Name,
-        zoom: u8,
-        column: u32,
-        row: u32,
+        zoom: Zoom,
+        column: Place,
+        row: Place,
         bytes: TileBytes,
     },
     TileDrop {
         table: Name,
-        zoom: u8,
-        column: u32,
-        row: u32,
+        zoom: Zoom,
+        column: Place,
+        row: Place,
     },
     Row {
         table: Name,
-        id: i64,
+        id: Id,
         title: Remark,
         note: Remark,
-        amount: i64,
+        amount: Amount,
     },
     RowDrop {
         table: Name,
-        id: i64,
+        id: Id,
     },
     Media {
         table: Name,
-        id: i64,
+        id: Id,
         content_type: ContentType,
         bytes: MediaBytes,
     },
     MediaDrop {
         table: Name,
-        id: i64,
+        id: Id,
     },
     Relation {
         mapping: Name,
@@ -202,13 +205,13 @@ pub enum Command {
     },
     Map {
         mapping: Name,
-        base_id: i64,
-        related_id: i64,
+        base_id: Id,
+        related_id: Id,
     },
     MapDrop {
         mapping: Name,
-        base_id: i64,
-        related_id: i64,
+        base_id: Id,
+        related_id: Id,
     },
     Edition {
         name: Name,
@@ -218,7 +221,7 @@ pub enum Command {
     },
     Stage {
         edition: Name,
-        number: i64,
+        number: Id,
         piece: Piece,
     },
     Publish {

@@ -6,6 +6,7 @@ ghost use Rattle.mm_base.specs.Checks.{IsExtent, box_of};
 ghost use Rattle.mm_base.specs.Rules.{Fits};
 ghost use Rattle.mm_base.specs.Conditions.{grid};
 
+use crate::bounded::{MatrixSide, PixelSize, TileSide};
 use crate::commands::Matrix;
 use crate::limits::FARTHEST;
 
@@ -21,7 +22,7 @@ pub struct Extent {
 fn is_coordinate(number: i64) -> bool
     ensures { IsTrue result ↔ IsCoordinate current number }
 {
-    -FARTHEST <= number && number <= FARTHEST
+    number.unsigned_abs() <= FARTHEST
 }
 
 impl Extent {
@@ -58,11 +59,18 @@ impl Extent {
 }
 
 /// What so many tiles of so many pixels of that size measure.
-fn measure(tiles: u32, pixels: u32, size: i64) -> i128
+fn product(tiles: u32, pixels: u32, size: i64) -> i128
     ensures { result ≡ (pos tiles *ℤ pos pixels) *ℤ size }
 {
     let count = tiles as u64 * pixels as u64;
     count as i128 * size as i128
+}
+
+/// What a side of a matrix measures.
+fn measure(tiles: MatrixSide, pixels: TileSide, size: PixelSize) -> i128
+    ensures { result ≡ (pos tiles *ℤ pos pixels) *ℤ size }
+{
+    product(tiles.get(), pixels.get(), size.get())
 }
 
 /// How far apart two coordinates are.

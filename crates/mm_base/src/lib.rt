@@ -6,6 +6,7 @@
 #![tactic(auto)]
 
 pub mod answers;
+pub mod bounded;
 pub mod bytes;
 pub mod commands;
 pub mod content_types;
@@ -20,9 +21,14 @@ pub mod numbers;
 pub mod streams;
 pub mod texts;
 pub mod units;
+pub mod within;
 
 pub use answers::{
     Answer, Fault, KitFault, Open, Outcome, PageFault, ReadFault, Refusal, RunFault, Staged, Tally,
+};
+pub use bounded::{
+    Amount, Coordinate, Count, Id, MatrixSide, PixelSize, Place, Positive, Signed, SystemNumber,
+    TileSide, Zoom,
 };
 pub use bytes::{Bytes, MediaBytes, TileBytes};
 pub use commands::{Command, Kind, Matrix, Piece, PlainKind, RelationName, Step};

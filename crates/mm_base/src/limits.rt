@@ -1,16 +1,16 @@
 //! The limits of numbers and lengths. Each stands here alone.
 
 /// The farthest coordinate in either direction, in millimetres: the limit of profile 1.
-pub const FARTHEST_IN_MILLIMETRES: i64 = 100_000_000_000;
+pub const FARTHEST_IN_MILLIMETRES: u64 = 100_000_000_000;
 
 /// The farthest coordinate in either direction, in micrometres.
-pub const FARTHEST: i64 = 100_000_000_000_000;
+pub const FARTHEST: u64 = 100_000_000_000_000;
 
 /// The largest size of a pixel, in millimetres: the limit of profile 1.
-pub const LARGEST_PIXEL_IN_MILLIMETRES: i64 = 1_000_000_000;
+pub const LARGEST_PIXEL_IN_MILLIMETRES: u64 = 1_000_000_000;
 
 /// The largest size of a pixel, in micrometres.
-pub const LARGEST_PIXEL: i64 = 1_000_000_000_000;
+pub const LARGEST_PIXEL: u64 = 1_000_000_000_000;
 
 /// The highest zoom level.
 pub const LAST_ZOOM: u8 = 30;
@@ -25,10 +25,10 @@ pub const LAST_PLACE: u32 = 1_073_741_823;
 pub const MOST_PIXELS: u32 = 4096;
 
 /// The largest number of a row, a medium, a piece or a reference system.
-pub const LAST_ID: i64 = 9_007_199_254_740_992;
+pub const LAST_ID: u64 = 9_007_199_254_740_992;
 
 /// The largest amount of an attribute row, either way.
-pub const MOST_AMOUNT: i64 = 1_000_000_000_000_000;
+pub const MOST_AMOUNT: u64 = 1_000_000_000_000_000;
 
 /// The most pieces that an edition has.
 pub const MOST_PIECES: u32 = 4096;

@@ -13,7 +13,7 @@ use crate::commands::{Matrix, Step};
 fn is_finer(coarse: &Matrix, fine: &Matrix) -> bool
     ensures { result ≡ conditions.is_finer (grid coarse.now) (grid fine.now) }
 {
-    fine.px < coarse.px && fine.py < coarse.py
+    fine.px.get() < coarse.px.get() && fine.py.get() < coarse.py.get()
 }
 
 /// Whether one size is twice the other.
@@ -27,7 +27,7 @@ fn is_twice(size: i64, half: i64) -> bool
 fn is_double(coarse: &Matrix, fine: &Matrix) -> bool
     ensures { result ≡ conditions.is_double (grid coarse.now) (grid fine.now) }
 {
-    is_twice(coarse.px, fine.px) && is_twice(coarse.py, fine.py)
+    is_twice(coarse.px.get(), fine.px.get()) && is_twice(coarse.py.get(), fine.py.get())
 }
 
 /// Whether the second zoom is the one after the first.

@@ -28,8 +28,8 @@ impl Unit {
         ensures { result ≡ pos (profile_of self).coordinate }
     {
         match self {
-            Unit::Millimetre => FARTHEST_IN_MILLIMETRES,
-            Unit::Micrometre => FARTHEST,
+            Unit::Millimetre => FARTHEST_IN_MILLIMETRES as i64,
+            Unit::Micrometre => FARTHEST as i64,
         }
     }
 
@@ -38,8 +38,8 @@ impl Unit {
         ensures { result ≡ pos (profile_of self).pixel_size }
     {
         match self {
-            Unit::Millimetre => LARGEST_PIXEL_IN_MILLIMETRES,
-            Unit::Micrometre => LARGEST_PIXEL,
+            Unit::Millimetre => LARGEST_PIXEL_IN_MILLIMETRES as i64,
+            Unit::Micrometre => LARGEST_PIXEL as i64,
         }
     }
 

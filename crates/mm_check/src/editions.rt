@@ -131,13 +131,15 @@ fn is_place(row: &Row) -> bool
 fn is_item(row: &Row) -> bool
     ensures { IsTrue result ↔ IsItem row.now }
 {
-    is_within(row, 2, 1, LAST_ID) && number_is(row, 3, 0) && number_is(row, 4, 0)
+    is_within(row, 2, 1, LAST_ID as i64) && number_is(row, 3, 0) && number_is(row, 4, 0)
 }
 
 fn is_pair(row: &Row) -> bool
     ensures { IsTrue result ↔ IsPair row.now }
 {
-    is_within(row, 2, 1, LAST_ID) && is_within(row, 3, 1, LAST_ID) && number_is(row, 4, 0)
+    is_within(row, 2, 1, LAST_ID as i64)
+        && is_within(row, 3, 1, LAST_ID as i64)
+        && number_is(row, 4, 0)
 }
 
 fn is_tile(row: &Row) -> bool
@@ -159,8 +161,8 @@ fn is_row(row: &Row) -> bool
     ensures { IsTrue result ↔ IsRow row.now }
 {
     text_is(row, 0, "row")
-        && is_within(row, 2, 1, LAST_ID)
-        && is_within(row, 3, -MOST_AMOUNT, MOST_AMOUNT)
+        && is_within(row, 2, 1, LAST_ID as i64)
+        && is_within(row, 3, -(MOST_AMOUNT as i64), MOST_AMOUNT as i64)
         && number_is(row, 4, 0)
         && is_text_at(row, 9, 0, 1000)
         && is_text_at(row, 10, 0, 1000)

@@ -200,8 +200,8 @@ fn are_system_numbers(row: &Row) -> bool
 {
     match (number(row, 0), number(row, 3)) {
         (Some(id), Some(organization_id)) => {
-            is_from(id, 1, LAST_ID) && is_from(organization_id, 1, LAST_ID)
-                || is_given(id) && is_from(organization_id, -1, LAST_ID)
+            is_from(id, 1, LAST_ID as i64) && is_from(organization_id, 1, LAST_ID as i64)
+                || is_given(id) && is_from(organization_id, -1, LAST_ID as i64)
         }
         _ => false,
     }
@@ -253,7 +253,7 @@ impl RowTest for Contents {
             && is_coordinate_if_any(row, 6, self.unit)
             && is_coordinate_if_any(row, 7, self.unit)
             && is_coordinate_if_any(row, 8, self.unit)
-            && is_within_if_any(row, 9, -1, LAST_ID)
+            && is_within_if_any(row, 9, -1, LAST_ID as i64)
     }
 }
 
@@ -303,7 +303,7 @@ impl RowTest for MatrixSet {
 
     fn passes(&self, row: &Row) -> bool {
         is_name_at(row, 0)
-            && is_within(row, 1, -1, LAST_ID)
+            && is_within(row, 1, -1, LAST_ID as i64)
             && is_coordinate(row, 2, self.unit)
             && is_coordinate(row, 3, self.unit)
             && is_coordinate(row, 4, self.unit)
@@ -418,10 +418,10 @@ impl RowTest for Item {
 
     fn passes(&self, row: &Row) -> bool {
         is_name_at(row, 0)
-            && is_within(row, 1, 1, LAST_ID)
+            && is_within(row, 1, 1, LAST_ID as i64)
             && is_text_at(row, 2, 0, 1000)
             && is_text_at(row, 3, 0, 1000)
-            && is_within(row, 4, -MOST_AMOUNT, MOST_AMOUNT)
+            && is_within(row, 4, -(MOST_AMOUNT as i64), MOST_AMOUNT as i64)
     }
 }
 
@@ -445,7 +445,7 @@ impl RowTest for Medium {
 
     fn passes(&self, row: &Row) -> bool {
         is_name_at(row, 0)
-            && is_within(row, 1, 1, LAST_ID)
+            && is_within(row, 1, 1, LAST_ID as i64)
             && is_blob_within(row, 2, MOST_MEDIA_BYTES)
             && is_content_type_at(row, 3)
     }
@@ -498,7 +498,9 @@ impl RowTest for Pairing {
     ghost good = { λ _ row. IsPairingWithinRow row };
 
     fn passes(&self, row: &Row) -> bool {
-        is_name_at(row, 0) && is_within(row, 1, 1, LAST_ID) && is_within(row, 2, 1, LAST_ID)
+        is_name_at(row, 0)
+            && is_within(row, 1, 1, LAST_ID as i64)
+            && is_within(row, 2, 1, LAST_ID as i64)
     }
 }
 
@@ -544,7 +546,7 @@ impl RowTest for Piece {
     ghost good = { λ _ row. IsPieceWithinRow row };
 
     fn passes(&self, row: &Row) -> bool {
-        is_name_at(row, 0) && is_within(row, 1, 1, LAST_ID)
+        is_name_at(row, 0) && is_within(row, 1, 1, LAST_ID as i64)
     }
 }
 

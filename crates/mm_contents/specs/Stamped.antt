@@ -19,6 +19,6 @@ step_at p c at = unless_refused (refusal p c) (done p c at) p
 
 pub record IsLentAt (profile : Profile) (c : Command) (at : Text) (old new : State) (result : Result Outcome Fault) : Type 0 where
   pub survives : CommitsNothing old new
-  pub on : HasCleanDisk new → (ground : Ground) (p : Package) → IsPut profile c old ground p → StandsOn new ground
-  pub answers : HasCleanDisk new → (ground : Ground) (p : Package) → IsPut profile c old ground p → Answers profile new ground p (refusal p c) (step_at p c at) result
+  pub on : HasCleanDisk new → (ground : Ground) (p : Package) → IsPut profile old ground p → StandsOn new ground
+  pub answers : HasCleanDisk new → (ground : Ground) (p : Package) → IsPut profile old ground p → Answers profile new ground p (refusal p c) (step_at p c at) result
   pub faults : IfErr result IsStoreFault

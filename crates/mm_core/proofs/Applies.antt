@@ -4,7 +4,6 @@ use Rattle.sqlite.specs.State.{State, HasCleanDisk}
 use Rattle.mm_base.specs.Bounds.{current}
 use Rattle.mm_base.specs.Package.{Package}
 use Rattle.mm_base.specs.Rules.{Meets}
-use Rattle.mm_base.specs.Within.{IsWithin}
 use Rattle.mm_base.specs.declared.answers.Answer.{Answer}
 use Rattle.mm_base.specs.declared.answers.Answer.TheVariants as answer
 use Rattle.mm_base.specs.declared.commands.Command.{Command}
@@ -14,12 +13,12 @@ use Rattle.mm_core.specs.Applied.{IsApplied, Stands}
 
 module _ (old new : State) (c : Command) (moment : ℕ) (a : Answer) where
   pub applied_so : (failed : Bool) → (failed ≡ true → (a ≡ answer.Fault (record { 0 = 92 })) × (new ≡ old)) → (failed ≡ false → IsApplied c moment old new a)
-      → HasCleanDisk new → (p : Package) → IsSettled current old p → Meets current p → IsWithin current c
+      → HasCleanDisk new → (p : Package) → IsSettled current old p → Meets current p
       → run.IsApplied p c moment a (IsSettled current new) new.may_leave Stands
-  applied_so true ended applied clean p settled meets within =
+  applied_so true ended applied clean p settled meets =
       let it = ended refl in
       rw it.0 (λ db may. inl (settled.left db (subst (λ (s : State). s.may_leave db) it.1 may)))
-  applied_so false ended applied clean p settled meets within = (applied refl).answers clean p (record { settled = settled; meets = meets; within = within })
+  applied_so false ended applied clean p settled meets = (applied refl).answers clean p (record { settled = settled; meets = meets })
 
   pub clean_so : (failed : Bool) → (failed ≡ true → new ≡ old) → (failed ≡ false → IsApplied c moment old new a) → HasCleanDisk new → HasCleanDisk old
   clean_so true ended applied clean = subst HasCleanDisk (ended refl) clean

@@ -32,11 +32,11 @@ module _ {S : Type 0} (g : Ghosts S) (was now : Held S) (begun : now ≡ record 
   abbrev old : State
   old = state g was
 
-  put : (p : Package) → IsReady old c p → IsPut current c (state g now) (ground_of old) p
-  put p it = record { within = it.within; meets = it.meets; inside = rw begun (record { mode = refl; back = λ is_open. (refl, is_open); reads = it.settled.reads }) }
+  put : (p : Package) → IsReady old p → IsPut current (state g now) (ground_of old) p
+  put p it = record { meets = it.meets; inside = rw begun (record { mode = refl; back = λ is_open. (refl, is_open); reads = it.settled.reads }) }
 
   module _ (is : result ≡ Ok Done) where
-    done : HasCleanDisk ended → (p : Package) → IsReady old c p → (refusal p c ≡ None) × IsTrue ended.is_open × IsInside current ended (ground_of old) (step p c moment)
+    done : HasCleanDisk ended → (p : Package) → IsReady old p → (refusal p c ≡ None) × IsTrue ended.is_open × IsInside current ended (ground_of old) (step p c moment)
     done clean p it = (rw is at tried.tries) clean (ground_of old) p (put p it)
 
     commits : Survives ended last (λ db. db ≡ ended.now.trees) → Survives old last (MayCommit old c moment)
@@ -47,12 +47,14 @@ module _ {S : Type 0} (g : Ghosts S) (was now : Held S) (begun : now ≡ record 
         → IsApplied c moment old last answer.Ok
     committed law h shows = record {
       survives = commits h;
+      stays_open = λ clean lasting. (shows clean).is_open;
       answers = λ clean p it. let its = done (omega (arith, h.clean)) p it in (its.0, settles current ended last (ground_of old) (step p c moment) law (shows clean) its.2);
     }
 
     pub in_doubt : (fault : Fault) → Survives ended last (λ db. db ≡ ended.now.trees) → IsApplied c moment old last (answer.Fault fault)
     in_doubt fault h = record {
       survives = commits h;
+      stays_open = λ clean. tt;
       answers = λ clean p it db may. elim ((commits h).crash clean db may) [ inl before ↦ inl (it.settled.left db before) | inr new ↦ inr (new p it) ];
     }
 
@@ -61,12 +63,13 @@ module _ {S : Type 0} (g : Ghosts S) (was now : Held S) (begun : now ≡ record 
     quiet : CommitsNothing old last
     quiet = rolled_quiet g was now begun ended last tried.survives two
 
-    left_before : HasCleanDisk last → (p : Package) → IsReady old c p → (db : Trees) → last.may_leave db → Stands db p
+    left_before : HasCleanDisk last → (p : Package) → IsReady old p → (db : Trees) → last.may_leave db → Stands db p
     left_before clean p it db may = elim (quiet.crash clean db may) [ inl before ↦ it.settled.left db before | inr none ↦ absurd none ]
 
     pub refused : (why : Refusal) → result ≡ Ok (Refused why) → (HasCleanDisk last → IsRolledBack ended last) → IsApplied c moment old last (answer.Refused why)
     refused why is undone = record {
       survives = survives_weaker old last (λ _. ⊥) (MayCommit old c moment) (λ _ db none. absurd none) quiet;
+      stays_open = λ clean. tt;
       answers = λ clean p it. (
         (rw is at tried.tries) (omega (arith, two.clean)) (ground_of old) p (put p it),
         rolled_back g was now begun ended last tried.survives two current p it.settled clean (undone clean) (tried.on (omega (arith, two.clean)) (ground_of old) p (put p it)),
@@ -76,6 +79,7 @@ module _ {S : Type 0} (g : Ghosts S) (was now : Held S) (begun : now ≡ record 
     pub gave_up : (fault : Fault) → IsApplied c moment old last (answer.Fault fault)
     gave_up fault = record {
       survives = survives_weaker old last (λ _. ⊥) (MayCommit old c moment) (λ _ db none. absurd none) quiet;
+      stays_open = λ clean. tt;
       answers = λ clean p it db may. inl (left_before clean p it db may);
     }
 
@@ -83,6 +87,7 @@ module _ {S : Type 0} (g : Ghosts S) (was now : Held S) (begun : now ≡ record 
 pub not_begun : (before : State) (c : Command) (moment : ℕ) (fault : Fault) → IsApplied c moment before before (answer.Fault fault)
 not_begun before c moment fault = record {
   survives = record { clean = le_refl _; shield = λ s. s; counts = le_refl _; limit = refl; closes = λ clean is_open. inl is_open; crash = λ clean db may. inl may };
+  stays_open = λ clean. tt;
   answers = λ clean p it db may. inl (it.settled.left db may);
 }
 
@@ -103,20 +108,23 @@ module _ (old new : State) (edition : Text) (moment : ℕ) (result : Result Outc
   pub rehearsed_well : result ≡ Ok Done → IsRehearsal current edition old new result → IsApplied (commands.Rehearse edition) moment old new answer.Ok
   rehearsed_well is it = record {
     survives = quietly it;
+    stays_open = λ clean lasting. absurd (let e : true ≡ false = lasting in cc);
     answers = λ clean p ready. (
-      (rw is at it.answers) clean p ready.within ready.meets ready.settled,
-      subst (IsSettled current new) (sym (rehearse_same p edition moment)) (it.settled clean p ready.within ready.meets ready.settled),
+      (rw is at it.answers) clean p ready.meets ready.settled,
+      subst (IsSettled current new) (sym (rehearse_same p edition moment)) (it.settled clean p ready.meets ready.settled),
     );
   }
 
   pub rehearsed_refused : (why : Refusal) → result ≡ Ok (Refused why) → IsRehearsal current edition old new result → IsApplied (commands.Rehearse edition) moment old new (answer.Refused why)
   rehearsed_refused why is it = record {
     survives = quietly it;
-    answers = λ clean p ready. ((rw is at it.answers) clean p ready.within ready.meets ready.settled, it.settled clean p ready.within ready.meets ready.settled);
+    stays_open = λ clean. tt;
+    answers = λ clean p ready. ((rw is at it.answers) clean p ready.meets ready.settled, it.settled clean p ready.meets ready.settled);
   }
 
   pub rehearsed_in_vain : (fault : Fault) → IsRehearsal current edition old new result → IsApplied (commands.Rehearse edition) moment old new (answer.Fault fault)
   rehearsed_in_vain fault it = record {
     survives = quietly it;
-    answers = λ clean p ready db may. inl ((it.settled clean p ready.within ready.meets ready.settled).left db may);
+    stays_open = λ clean. tt;
+    answers = λ clean p ready db may. inl ((it.settled clean p ready.meets ready.settled).left db may);
   }

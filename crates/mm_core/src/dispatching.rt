@@ -37,10 +37,10 @@ fn lay_out<S: Alter>(
             description,
         } => add_srs(
             tx,
-            *id,
+            id.get(),
             name.as_str(),
             organization.as_str(),
-            *organization_id,
+            organization_id.get(),
             definition.as_str(),
             description.as_str(),
         ),
@@ -78,11 +78,11 @@ fn lay_out_pyramid<S: Alter>(
             tx,
             table.as_str(),
             identifier.as_str(),
-            *srs,
-            *min_x,
-            *min_y,
-            *max_x,
-            *max_y,
+            srs.get(),
+            min_x.get(),
+            min_y.get(),
+            max_x.get(),
+            max_y.get(),
             *step,
             at,
         ),
@@ -90,7 +90,7 @@ fn lay_out_pyramid<S: Alter>(
             table,
             zoom,
             matrix,
-        } => add_matrix(tx, table.as_str(), *zoom, matrix, at),
+        } => add_matrix(tx, table.as_str(), zoom.get(), matrix, at),
         _ => unreachable!(),
     }
 }
@@ -115,9 +115,9 @@ fn change_tile<S: Alter>(
         } => put_tile(
             tx,
             table.as_str(),
-            *zoom,
-            *column,
-            *row,
+            zoom.get(),
+            column.get(),
+            row.get(),
             bytes.as_slice(),
             at,
         ),
@@ -126,7 +126,7 @@ fn change_tile<S: Alter>(
             zoom,
             column,
             row,
-        } => drop_tile(tx, table.as_str(), *zoom, *column, *row, at),
+        } => drop_tile(tx, table.as_str(), zoom.get(), column.get(), row.get(), at),
         _ => unreachable!(),
     }
 }
@@ -151,13 +151,13 @@ fn change_item<S: Alter>(
         } => put_row(
             tx,
             table.as_str(),
-            *id,
+            id.get(),
             title.as_str(),
             note.as_str(),
-            *amount,
+            amount.get(),
             at,
         ),
-        Command::RowDrop { table, id } => drop_row(tx, table.as_str(), *id, at),
+        Command::RowDrop { table, id } => drop_row(tx, table.as_str(), id.get(), at),
         Command::Media {
             table,
             id,
@@ -166,12 +166,12 @@ fn change_item<S: Alter>(
         } => put_media(
             tx,
             table.as_str(),
-            *id,
+            id.get(),
             content_type.as_str(),
             bytes.as_slice(),
             at,
         ),
-        Command::MediaDrop { table, id } => drop_media(tx, table.as_str(), *id, at),
+        Command::MediaDrop { table, id } => drop_media(tx, table.as_str(), id.get(), at),
         _ => unreachable!(),
     }
 }
@@ -188,18 +188,18 @@ fn relate<S: Alter>(tx: &mut Transaction<'_, S>, command: &Command) -> Result<Ou
             base,
             related,
             name,
-        } => add_relation(tx, mapping.as_str(), base.as_str(), related.as_str(), *name),
+        } => add_relation(tx, mapping, base, related, *name),
         Command::RelationDrop { mapping } => drop_relation(tx, mapping.as_str()),
         Command::Map {
             mapping,
             base_id,
             related_id,
-        } => add_map(tx, mapping.as_str(), *base_id, *related_id),
+        } => add_map(tx, mapping.as_str(), base_id.get(), related_id.get()),
         Command::MapDrop {
             mapping,
             base_id,
             related_id,
-        } => drop_map(tx, mapping.as_str(), *base_id, *related_id),
+        } => drop_map(tx, mapping.as_str(), base_id.get(), related_id.get()),
         _ => unreachable!(),
     }
 }
@@ -220,7 +220,7 @@ fn prepare_edition<S: Alter>(
             edition,
             number,
             piece,
-        } => stage(tx, edition.as_str(), *number, piece),
+        } => stage(tx, edition, *number, piece),
         _ => unreachable!(),
     }
 }

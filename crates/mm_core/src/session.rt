@@ -127,6 +127,10 @@ impl<S: Alter> Session<S> {
 impl<S: Alter> Session<S> {
     ghost use Rattle.std.specs.Prelude.{◌≡◌, ◌⊎◌, None, false, true};
     ghost use Rattle.sqlite.specs.Held.{state};
+    ghost use Rattle.mm_base.specs.Bounds.{current};
+    ghost use Rattle.mm_base.specs.Package.{Package};
+    ghost use Rattle.mm_base.specs.Rules.{Meets};
+    ghost use Rattle.mm_base.specs.Step.{step};
     ghost use Rattle.mm_run.specs.Answers.{is_fault};
     ghost use Rattle.mm_run.specs.Applied.{OnFault};
     ghost use Rattle.mm_core.specs.Applied.{IsApplied};
@@ -135,13 +139,18 @@ impl<S: Alter> Session<S> {
     /// Applies one command at a moment, in one transaction whose commit is the last call of the store; that of a
     /// rehearsal is rolled back. `Ok` where it is
     /// done for good, `Refused` where nothing changed. A fault, 90 or 91, ends the session: each later call is answered
-    /// 92 and makes no call of the store.
+    /// 92 and makes no call of the store. The fields of each command are within their limits, by their types, so that the
+    /// package after it keeps the rules.
     pub fn apply(&mut self, command: &Command, at: Moment) -> Answer
         ensures ended { has_failed self.old ≡ true → (result ≡ Answer.Fault (record { 0 = 92 })) × (self.new ≡ self.old) }
         ensures working { has_failed self.old ≡ false → OnFault result (λ fault. (fault ≡ 90) ⊎ (fault ≡ 91)) }
         ensures fails { has_failed self.old ≡ false → has_failed self.new ≡ is_fault result }
         ensures applied { has_failed self.old ≡ false → IsApplied command.now at (state S.Store (held self.old)) (state S.Store (held self.new)) result }
+        ensures keeps { (p : Package) → Meets current p → Meets current (step p command.now at) }
     {
+        // The proof reads from these that the moment and the command are within their limits.
+        let _milliseconds = at.milliseconds();
+        command.is_within();
         if self.failed {
             return Answer::Fault(Fault(92));
         }
@@ -161,7 +170,7 @@ impl<S: Alter> Session<S> {
     ghost use Rattle.mm_base.specs.Streams as streams;
     ghost use Rattle.mm_store.specs.Stands.{IsSettled};
     ghost use Rattle.mm_run.specs.Told.{IsNear};
-    ghost use Rattle.mm_run.specs.Runs.{IsRunFault, OnRun, RanAll, RanSome, TellsFailureOf, TellsWriter, WorksOn};
+    ghost use Rattle.mm_run.specs.Runs.{IsRunFault, OnRun, RanAll, RanSome, TellsFailureOf, TellsFlush, TellsWriter, WorksOn};
     ghost use Rattle.mm_core.specs.Applied.{Stands};
     ghost use Rattle.mm_core.specs.Parts.{held, has_failed};
 
@@ -184,6 +193,7 @@ impl<S: Alter> Session<S> {
             (λ p bytes. RanAll p at bytes (λ q. IsSettled current (state S.Store (held self.new)) q) (λ db. (state S.Store (held self.new)).may_leave db) Stands (W.contents (inside writer.old)) (W.contents (inside writer.new)) t)) }
         ensures end { OnOk result (IsAtEnd (R.remaining (inside reader.new))) }
         ensures working { OnOk result (streams.has_failed writer.new ≡ streams.has_failed writer.old) }
+        ensures flushed { TellsFlush (streams.is_flushed writer.old) (streams.is_flushed writer.new) result }
         ensures stopped { IfErr result (λ e. OnRun (HasCleanDisk (state S.Store (held self.new))) (λ p. IsSettled current (state S.Store (held self.old)) p) (R.remaining (inside reader.old))
             (λ p bytes. RanSome p at bytes (WorksOn (has_failed self.old) (has_failed self.new) (λ q. IsSettled current (state S.Store (held self.new)) q)) (has_failed self.new ≡ true) (λ db. (state S.Store (held self.new)).may_leave db) Stands (W.contents (inside writer.old)) (W.contents (inside writer.new)) e)) }
         ensures near { IfErr result (λ e. IsNear e.tally) }

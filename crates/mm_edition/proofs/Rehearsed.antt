@@ -3,7 +3,7 @@ use Rattle.std.proofs.Common.{◌≡◌, ℕ, true, Result, Ok, Err, refl, arith
 use Rattle.sqlite.specs.State.{State, HasCleanDisk, IsRolledBack}
 use Rattle.sqlite.specs.Held.{Held, state}
 use Rattle.sqlite.specs.Store.{Ghosts}
-use Rattle.mm_base.specs.Bounds.{Profile, IsName}
+use Rattle.mm_base.specs.Bounds.{Profile}
 use Rattle.mm_base.specs.Keys.{Text}
 use Rattle.mm_base.specs.Package.{Package}
 use Rattle.mm_base.specs.Rules.{Meets}
@@ -21,8 +21,8 @@ use Rattle.mm_edition.specs.Rehearsals.{TellsRefusal, IsRehearsal}
 
 module _ {S : Type 0} (g : Ghosts S) (was now : Held S) (begun : now ≡ record was { in_transaction = true }) (ended last : State) (profile : Profile) (edition : Text) (moment : ℕ)
     (result : Result Outcome Fault) (tried : IsTried profile (commands.Publish edition) moment (state g now) ended result) (two : CommitsNothing ended last) (undone : HasCleanDisk last → IsRolledBack ended last) where
-  put : (p : Package) → IsName edition → Meets profile p → IsSettled profile (state g was) p → IsPut profile (commands.Publish edition) (state g now) (ground_of (state g was)) p
-  put p named meets settled = record { within = named; meets = meets; inside = rw begun (record { mode = refl; back = λ is_open. (refl, is_open); reads = settled.reads }) }
+  put : (p : Package) → Meets profile p → IsSettled profile (state g was) p → IsPut profile (state g now) (ground_of (state g was)) p
+  put p meets settled = record { meets = meets; inside = rw begun (record { mode = refl; back = λ is_open. (refl, is_open); reads = settled.reads }) }
 
   tells : (p next : Package) (r : Result Outcome Fault) → Tries profile ended (ground_of (state g was)) p (refusal p (commands.Publish edition)) next r → TellsRefusal p edition r
   tells p next (Ok Done) h = h.0
@@ -32,10 +32,10 @@ module _ {S : Type 0} (g : Ghosts S) (was now : Held S) (begun : now ≡ record 
   pub rehearsed : IsRehearsal profile edition (state g was) last result
   rehearsed = record {
     survives = rolled_quiet g was now begun ended last tried.survives two;
-    settled = λ clean p named meets settled.
-        rolled_back g was now begun ended last tried.survives two profile p settled clean (undone clean) (tried.on (omega (arith, two.clean)) (ground_of (state g was)) p (put p named meets settled));
-    answers = λ clean p named meets settled.
-        tells p (step p (commands.Publish edition) moment) result (tried.tries (omega (arith, two.clean)) (ground_of (state g was)) p (put p named meets settled));
+    settled = λ clean p meets settled.
+        rolled_back g was now begun ended last tried.survives two profile p settled clean (undone clean) (tried.on (omega (arith, two.clean)) (ground_of (state g was)) p (put p meets settled));
+    answers = λ clean p meets settled.
+        tells p (step p (commands.Publish edition) moment) result (tried.tries (omega (arith, two.clean)) (ground_of (state g was)) p (put p meets settled));
     faults = tried.faults;
   }
 

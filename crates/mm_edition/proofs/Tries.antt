@@ -92,7 +92,7 @@ module _ (profile : Profile) (edition : Text) where
 
     module _ (why : Option ℕ) (none : why ≡ None) (look : IsLook profile old mid Why (Ok why)) (new : State) where
       -- the trial begins on the same package, whose edition is open
-      ready : HasCleanDisk mid → (ground : Ground) (p : Package) → IsPut profile (commands.Publish edition) old ground p → IsReady profile mid ground p × (get p.editions edition ≡ Some open_state)
+      ready : HasCleanDisk mid → (ground : Ground) (p : Package) → IsPut profile old ground p → IsReady profile mid ground p × (get p.editions edition ≡ Some open_state)
       ready clean ground p it =
           let found = look.looked clean ground p it.inside in
           (record { meets = it.meets; inside = found.1 }, stands_open p it.meets (sym none ∙ found.2))
@@ -118,7 +118,7 @@ module _ (profile : Profile) (edition : Text) where
 
       -- the edition is closed behind the trial
       module _ (piece : Option PieceRefusal) (went : piece ≡ None) (trial : IsTrial profile edition moment mid new (Ok piece)) (end : State) where
-        edited : HasCleanDisk new → (ground : Ground) (p : Package) → IsPut profile (commands.Publish edition) old ground p
+        edited : HasCleanDisk new → (ground : Ground) (p : Package) → IsPut profile old ground p
             → (q : Package) × (edition_trial p edition (stamp moment) ≡ Ok q) × IsInside profile new ground q × (contains_key q.editions edition ≡ true) × (get p.editions edition ≡ Some open_state)
         edited clean ground p it =
             let at = ready (omega (arith, trial.survives.clean)) ground p it in

@@ -85,10 +85,10 @@ module _ (profile : Profile) (edition : Text) (number moment : ℕ) where
 
   module _ (old mid new : State) (found : Option Piece) (q : Piece) (is : found ≡ Some q) (look : IsLook profile old mid Found (Ok found)) where
     -- the piece's command comes to the transaction behind the look
-    put : (at : State) (ground : Ground) (p : Package) → IsReady profile old ground p → IsInside profile mid ground p → Found p found → IsPut profile (piece_command q) mid ground p
+    put : (at : State) (ground : Ground) (p : Package) → IsReady profile old ground p → IsInside profile mid ground p → Found p found → IsPut profile mid ground p
     put at ground p it inside says =
         let there = says it.meets ∙ ap (option_map piece_row) is in
-        record { within = (same_limits q profile).1 (stands_within profile q (it.meets.q15.spelled _ _ there)); meets = it.meets; inside = inside }
+        record { meets = it.meets; inside = inside }
 
     module _ (result : Result Outcome Fault) (lent : IsLent profile (piece_command q) moment mid new result) where
       pub turn_done : (at : Text) → IsStamp moment at → result ≡ Ok outcome.Done → IsTurn profile edition number moment old new (Ok Done)

@@ -1,7 +1,7 @@
 -- What a rehearsal answers, and that it changes nothing.
 use Rattle.std.specs.Prelude.{◌≡◌, Some, None, Result, Ok, Err, IfErr, ⊤}
 use Rattle.sqlite.specs.State.{State, HasCleanDisk}
-use Rattle.mm_base.specs.Bounds.{Profile, IsName}
+use Rattle.mm_base.specs.Bounds.{Profile}
 use Rattle.mm_base.specs.Keys.{Text}
 use Rattle.mm_base.specs.Package.{Package}
 use Rattle.mm_base.specs.Rules.{Meets}
@@ -22,6 +22,6 @@ TellsRefusal p edition (Err fault) = ⊤
 
 pub record IsRehearsal (profile : Profile) (edition : Text) (old new : State) (result : Result Outcome Fault) : Type 0 where
   pub survives : CommitsNothing old new
-  pub settled : HasCleanDisk new → (p : Package) → IsName edition → Meets profile p → IsSettled profile old p → IsSettled profile new p
-  pub answers : HasCleanDisk new → (p : Package) → IsName edition → Meets profile p → IsSettled profile old p → TellsRefusal p edition result
+  pub settled : HasCleanDisk new → (p : Package) → Meets profile p → IsSettled profile old p → IsSettled profile new p
+  pub answers : HasCleanDisk new → (p : Package) → Meets profile p → IsSettled profile old p → TellsRefusal p edition result
   pub faults : IfErr result IsStoreFault

@@ -47,9 +47,9 @@ fn run_tile<S: Alter>(
         } => put_tile(
             tx,
             table.as_str(),
-            *zoom,
-            *column,
-            *row,
+            zoom.get(),
+            column.get(),
+            row.get(),
             bytes.as_slice(),
             at,
         ),
@@ -58,7 +58,7 @@ fn run_tile<S: Alter>(
             zoom,
             column,
             row,
-        } => drop_tile(tx, table.as_str(), *zoom, *column, *row, at),
+        } => drop_tile(tx, table.as_str(), zoom.get(), column.get(), row.get(), at),
         _ => unreachable!(),
     }
 }
@@ -84,13 +84,13 @@ fn run_item<S: Alter>(
         } => put_row(
             tx,
             table.as_str(),
-            *id,
+            id.get(),
             title.as_str(),
             note.as_str(),
-            *amount,
+            amount.get(),
             at,
         ),
-        Piece::RowDrop { table, id } => drop_row(tx, table.as_str(), *id, at),
+        Piece::RowDrop { table, id } => drop_row(tx, table.as_str(), id.get(), at),
         Piece::Media {
             table,
             id,
@@ -99,12 +99,12 @@ fn run_item<S: Alter>(
         } => put_media(
             tx,
             table.as_str(),
-            *id,
+            id.get(),
             content_type.as_str(),
             bytes.as_slice(),
             at,
         ),
-        Piece::MediaDrop { table, id } => drop_media(tx, table.as_str(), *id, at),
+        Piece::MediaDrop { table, id } => drop_media(tx, table.as_str(), id.get(), at),
         _ => unreachable!(),
     }
 }
@@ -120,12 +120,12 @@ fn run_mapping<S: Alter>(tx: &mut Transaction<'_, S>, piece: &Piece) -> Result<O
             mapping,
             base_id,
             related_id,
-        } => add_map(tx, mapping.as_str(), *base_id, *related_id),
+        } => add_map(tx, mapping.as_str(), base_id.get(), related_id.get()),
         Piece::MapDrop {
             mapping,
             base_id,
             related_id,
-        } => drop_map(tx, mapping.as_str(), *base_id, *related_id),
+        } => drop_map(tx, mapping.as_str(), base_id.get(), related_id.get()),
         _ => unreachable!(),
     }
 }
@@ -146,7 +146,7 @@ fn run_matrix<S: Alter>(
             table,
             zoom,
             matrix,
-        } => add_matrix(tx, table.as_str(), *zoom, matrix, at),
+        } => add_matrix(tx, table.as_str(), zoom.get(), matrix, at),
         _ => unreachable!(),
     }
 }

@@ -15,8 +15,10 @@ use crate::editions::{Standing, standing_of};
 use crate::kept::{Kept, Written, as_written, is_written};
 use crate::pieces::{has_piece, insert_piece, kept_piece};
 use mm_base::answers::{Fault, Outcome, Refusal};
+use mm_base::bounded::Id;
 use mm_base::commands::Piece;
 use mm_base::limits::MOST_PIECES;
+use mm_base::names::Name;
 use sqlite::{Alter, Transaction};
 
 /// What staging a piece under a number comes to.
@@ -112,15 +114,14 @@ fn place_of<S: Alter>(
     }
 }
 
-/// The command `stage`: keeps a piece in an open edition under the next number. An equal piece under a number that stands
-/// is accepted and changes nothing. Refused 51 where no edition has the name, 52 where the number isn't the next and no
-/// equal piece has it, 54 where the edition has 4,096 pieces, 55 where it is published.
-pub fn stage<S: Alter>(
+/// Keeps a piece under a number of an edition.
+fn stage_at<S: Alter>(
     tx: &mut Transaction<'_, S>,
     edition: &str,
     number: i64,
     piece: &Piece,
 ) -> Result<Outcome, Fault>
+    requires { IsId number }
     ensures same_reference { tx.new.conn.ghost_name ≡ tx.old.conn.ghost_name }
     ensures lent { (profile : Profile) (moment : ℕ) → IsLent profile (commands.Stage edition.now number piece.now) moment (state S.Store tx.old.conn.now) (state S.Store tx.new.conn.now) result }
 {
@@ -140,4 +141,19 @@ pub fn stage<S: Alter>(
         Ok(()) => Ok(Outcome::Done),
         Err(fault) => Err(fault),
     }
+}
+
+/// The command `stage`: keeps a piece in an open edition under the next number. An equal piece under a number that stands
+/// is accepted and changes nothing. Refused 51 where no edition has the name, 52 where the number isn't the next and no
+/// equal piece has it, 54 where the edition has 4,096 pieces, 55 where it is published.
+pub fn stage<S: Alter>(
+    tx: &mut Transaction<'_, S>,
+    edition: &Name,
+    number: Id,
+    piece: &Piece,
+) -> Result<Outcome, Fault>
+    ensures same_reference { tx.new.conn.ghost_name ≡ tx.old.conn.ghost_name }
+    ensures lent { (profile : Profile) (moment : ℕ) → IsLent profile (commands.Stage edition.now number piece.now) moment (state S.Store tx.old.conn.now) (state S.Store tx.new.conn.now) result }
+{
+    stage_at(tx, edition.as_str(), number.get(), piece)
 }

@@ -1,5 +1,4 @@
 pub mod EntryFacts
-pub mod Within
 pub mod StageFacts
 pub mod EditionFacts
 pub mod KitFacts

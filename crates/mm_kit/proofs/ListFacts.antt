@@ -7,55 +7,23 @@ use Rattle.csv.specs.Reading.{Reached, ReadRecord, default_config, records, sour
 use Rattle.csv.specs.declared.parser.State.TheVariants as states
 use Rattle.csv.specs.declared.reader.Reader.{Reader}
 use Rattle.csv.proofs.ReadFacts.{rows-end, rows-more}
-use Rattle.mm_base.specs.Within.{IsPieceWithin}
 use Rattle.mm_base.specs.declared.commands.Piece.{Piece}
 use Rattle.mm_base.specs.declared.commands.Piece.TheVariants as pieces
 use Rattle.mm_base.specs.Keys.{Text}
 use Rattle.mm_lines.specs.Records.{Record}
 use Rattle.mm_lines.proofs.RecordsFacts.{records-all, records-first}
-use Rattle.mm_records.proofs.RecordFacts.{piece_within}
 use Rattle.mm_kit.specs.Entries.{IsEntry, IsReadAs, entry_of, file_of}
-use Rattle.mm_kit.specs.Lists.{AreEntries, AreFine, AreSoFar, AreWithin, IsEntryWithin, IsFirstRefused}
+use Rattle.mm_kit.specs.Lists.{AreEntries, AreSoFar, IsFirstRefused}
 use Rattle.mm_kit.specs.declared.entries.Entry.{Entry}
 
--- ---- entries are few, and within the limits
-
-of_within : (q : Piece) (file : Option Text) → IsPieceWithin current q → IsEntryWithin (entry_of q file)
-of_within (pieces.Tile table zoom column row bytes) None h = h
-of_within (pieces.Tile table zoom column row bytes) (Some file) h = (h.0, h.1, h.2, h.3)
-of_within (pieces.TileDrop table zoom column row) file h = h
-of_within (pieces.Row table id title note amount) file h = h
-of_within (pieces.RowDrop table id) file h = h
-of_within (pieces.Media table id content_type bytes) None h = h
-of_within (pieces.Media table id content_type bytes) (Some file) h = (h.0, h.1, h.2)
-of_within (pieces.MediaDrop table id) file h = h
-of_within (pieces.Map mapping base_id related_id) file h = h
-of_within (pieces.MapDrop mapping base_id related_id) file h = h
-of_within (pieces.Matrix table zoom m) file h = h
-
-entry_within : (place : ℕ) (r : Record) (e : Entry) → IsEntry place r e → IsEntryWithin e
-entry_within place [] e h = absurd h
-entry_within place (number ∷ r) e h =
-    subst IsEntryWithin (sym h.5) (of_within h.3 (file_of r) (piece_within (Ok h.3) (λ n. ⊤) _ h.4))
+-- ---- entries are few
 
 entry_few : (place : ℕ) (r : Record) (e : Entry) → IsEntry place r e → place ≤ 4096
 entry_few place [] e h = absurd h
 entry_few place (number ∷ r) e h = h.1
 
-within_more : (entries : List Entry) (e : Entry) → AreWithin entries → IsEntryWithin e → AreWithin (entries ++ e ∷ [])
-unfolding AreWithin
-within_more [] e h w = (w, tt)
-within_more (x ∷ xs) e h w = (h.0, within_more xs e h.1 w)
-
-pub fine-none : AreFine []
-unfolding AreWithin
-fine-none = (omega arith, tt)
-
 pub read_few : (place : ℕ) (r : Record) (e : Entry) → IsReadAs place r (Ok e) → place ≤ 4096
 read_few place r e h = entry_few place r e h.1
-
-pub fine-more : (entries : List Entry) (r : Record) (e : Entry) → AreFine entries → IsReadAs (length entries + 1) r (Ok e) → AreFine (entries ++ e ∷ [])
-fine-more entries r e h read = (omega (arith, length-append entries (e ∷ []), entry_few (length entries + 1) r e read.1), within_more entries e h.1 (entry_within (length entries + 1) r e read.1))
 
 -- ---- one more record
 

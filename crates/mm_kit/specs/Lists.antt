@@ -6,7 +6,6 @@ use Rattle.csv.specs.declared.parser.State.TheVariants as states
 use Rattle.mm_base.specs.declared.answers.ReadFault.{ReadFault}
 use Rattle.mm_base.specs.declared.answers.ReadFault.TheVariants as faults
 use Rattle.mm_base.specs.Bounds.{current, IsName, IsZoom, IsTilePlace, IsId, IsContentType}
-use Rattle.mm_base.specs.Within.{IsPieceWithin}
 use Rattle.mm_lines.specs.Records.{Record, records_of}
 use Rattle.mm_kit.specs.Entries.{IsReadAs}
 use Rattle.mm_kit.specs.Folders.{Files}
@@ -56,22 +55,12 @@ IsRead place r (Ok e) = IsReadAs place r (Ok e)
 IsRead place r (Err (faults.Refused why)) = (why.piece ≡ None) × IsReadAs place r (Err why.number)
 IsRead place r (Err faults.Memory) = ⊤
 
--- an entry within the limits, but for the bytes of its file
-abbrev pub IsEntryWithin : Entry → Type 0
-IsEntryWithin (Ready q) = IsPieceWithin current q
-IsEntryWithin (Tile table zoom column row file) = IsName table × IsZoom (pos zoom) × IsTilePlace (pos column) × IsTilePlace (pos row)
-IsEntryWithin (Media table id content_type file) = IsName table × IsId id × IsContentType content_type
-
-unfoldable pub AreWithin : List Entry → Type 0
-AreWithin [] = ⊤
-AreWithin (e ∷ es) = IsEntryWithin e × AreWithin es
-
--- not too many entries, each within the limits
-abbrev pub AreFine : List Entry → Type 0
-AreFine entries = (length entries ≤ 4096) × AreWithin entries
+-- not too many entries
+abbrev pub AreFew : List Entry → Type 0
+AreFew entries = length entries ≤ 4096
 
 abbrev pub AreSound : Listed → Type 0
-AreSound (Entries entries) = AreFine entries.items
+AreSound (Entries entries) = AreFew entries.items
 AreSound (Refused place number) = ⊤
 
 -- the records so far are these entries, and the reader stands behind them

@@ -10,6 +10,7 @@ ghost use Rattle.mm_kit.specs.Entries.{HoldsAgainstEntry, IsEntry, IsInForm, IsP
 
 use crate::file_names::FileName;
 use mm_base::answers::ReadFault;
+use mm_base::bounded::{Id, Place, Zoom};
 use mm_base::commands::Piece;
 use mm_base::content_types::ContentType;
 use mm_base::limits::LAST_ID;
@@ -24,14 +25,14 @@ pub enum Entry {
     Ready(Piece),
     Tile {
         table: Name,
-        zoom: u8,
-        column: u32,
-        row: u32,
+        zoom: Zoom,
+        column: Place,
+        row: Place,
         file: FileName,
     },
     Media {
         table: Name,
-        id: i64,
+        id: Id,
         content_type: ContentType,
         file: FileName,
     },
@@ -150,7 +151,7 @@ fn read_record(alloc: Global, place: u32, number: &str, rest: Vec<&str>) -> Resu
         return Err(ReadFault::Memory);
     };
     let piece = read_piece(alloc, fields.as_slice());
-    match read_number(number, 1, LAST_ID) {
+    match read_number(number, 1, LAST_ID as i64) {
         Ok(number) => match piece {
             Ok(piece) => match place_record(place, number, file) {
                 Ok(file) => Ok(place_entry(piece, file)),

@@ -4,8 +4,6 @@ ghost use Rattle.mm_base.specs.Bounds.{current};
 ghost use Rattle.std.specs.Prelude.{◌≡◌, ◌≤◌, List, Option, IfOk, IfErr, IfSome, ℕ, true};
 ghost use Rattle.mm_kit.specs.Folders.{Files};
 ghost use Rattle.mm_kit.specs.Kits.{filled, made, with_file};
-ghost use Rattle.mm_kit.specs.Lists.{IsEntryWithin};
-ghost use Rattle.mm_base.specs.Within.{IsPieceWithin};
 ghost use Rattle.mm_base.specs.declared.commands.Piece.{Piece as SpecPiece};
 ghost use Rattle.mm_kit.specs.declared.folders.FolderFault.TheVariants as folder_fault;
 
@@ -45,7 +43,6 @@ pub(crate) fn fill<F: Folder>(
     entry: Entry,
 ) -> Result<Result<Piece, u8>, FolderFault>
     ensures fills { IfOk result (λ r. IfSome (F.files folder.old) (λ these. r ≡ filled these entry)) }
-    ensures within { IfOk result (λ r. IfOk r (λ piece. IsEntryWithin entry → IsPieceWithin current piece)) }
     ensures stays { F.files folder.new ≡ F.files folder.old }
     ensures fails { IfErr result (λ e. e ≡ folder_fault.Failed → F.has_failed folder.new ≡ true) }
 {

@@ -4,7 +4,7 @@ ghost use Rattle.std.specs.Prelude.{◌≡◌, ◌≢◌, ◌⊎◌, IfOk, IfErr
 ghost use Rattle.mm_base.specs.Package.{Package};
 ghost use Rattle.mm_kit.specs.Folders.{Files};
 ghost use Rattle.mm_kit.specs.Imports.{AreImported, AsksForPackage, IsAnswered, IsKitFault, IsStopped, MayBeStaged, OnKit, TellsFailureOf};
-ghost use Rattle.mm_kit.specs.Lists.{AreFine, AreSound, IsKitList, listing};
+ghost use Rattle.mm_kit.specs.Lists.{AreFew, AreSound, IsKitList, listing};
 ghost use Rattle.mm_kit.specs.declared.folders.FolderFault.TheVariants as folder_faults;
 
 use crate::desk::Desk;
@@ -48,7 +48,7 @@ fn import_entries<A: Desk, F: Folder>(
     entries: Vec<Entry>,
     at: Moment,
 ) -> Result<Staged, KitFault>
-    requires { AreFine entries.items }
+    requires { AreFew entries.items }
     ensures clean { A.is_clean desk.new → A.is_clean desk.old }
     ensures answered { IfOk result (λ a. OnKit (A.is_clean desk.new) (A.settled desk.old) (F.files folder.old)
         (λ files p. AreImported files name.now entries.items p (A.settled desk.new) a)) }

@@ -1,10 +1,10 @@
 //! The staging of a kit's pieces, one after another.
 
-ghost use Rattle.std.specs.Prelude.{◌≡◌, ◌≢◌, ◌≤◌, ◌⊎◌, List, length, pos, IfOk, IfErr, false, true};
-ghost use Rattle.mm_base.specs.Bounds.{IsMoment, IsName, current};
+ghost use Rattle.std.specs.Prelude.{◌≡◌, ◌≢◌, ◌<◌, ◌≤◌, ◌⊎◌, List, length, pos, IfOk, IfErr, false, true};
+ghost use Rattle.mm_base.specs.Bounds.{IsName, current};
 ghost use Rattle.mm_base.specs.Package.{Package};
 ghost use Rattle.mm_base.specs.Rules.{Meets};
-ghost use Rattle.mm_base.specs.Within.{IsWithin};
+ghost use Rattle.mm_base.specs.Step.{step};
 ghost use Rattle.mm_base.specs.declared.answers.Answer.TheVariants as answers;
 ghost use Rattle.mm_base.specs.declared.commands.Command.TheVariants as commands;
 ghost use Rattle.mm_base.specs.declared.commands.Piece.{Piece as SpecPiece};
@@ -13,7 +13,7 @@ ghost use Rattle.mm_run.specs.Applied.{IsApplied, IsApplyFault, IsSound, OnFault
 ghost use Rattle.mm_kit.specs.Editions.{HasPieces};
 ghost use Rattle.mm_kit.specs.Folders.{Files};
 ghost use Rattle.mm_kit.specs.Imports.{AreStaged, IsKitFault, MayBeStaged, OnKit, TellsFailureOf};
-ghost use Rattle.mm_kit.specs.Lists.{AreFine};
+ghost use Rattle.mm_kit.specs.Lists.{AreFew};
 ghost use Rattle.mm_kit.specs.declared.folders.FolderFault.TheVariants as folder_fault;
 
 use crate::desk::Desk;
@@ -21,6 +21,7 @@ use crate::entries::Entry;
 use crate::filling::fill;
 use crate::folders::{Folder, FolderFault};
 use mm_base::answers::{Answer, Fault, KitFault, Staged};
+use mm_base::bounded::Id;
 use mm_base::commands::{Command, Piece};
 use mm_base::moments::Moment;
 use mm_base::names::Name;
@@ -48,6 +49,17 @@ pub(crate) fn folder_fault(fault: FolderFault) -> Fault
     }
 }
 
+/// The number of a piece.
+fn id_of(number: u32) -> Id
+    requires { 0 < number }
+    ensures { result ≡ pos number }
+{
+    match Id::new(i64::from(number)) {
+        Some(id) => id,
+        None => unreachable!(),
+    }
+}
+
 /// The command that stages one piece.
 fn stage_piece<A: Apply>(
     desk: &mut A,
@@ -56,23 +68,24 @@ fn stage_piece<A: Apply>(
     piece: Piece,
     at: Moment,
 ) -> Answer
-    ensures named { IsName edition.now }
-    ensures moment { IsMoment at }
+    requires { 0 < number }
+    ensures keeps { (p : Package) → Meets current p → Meets current (step p (commands.Stage edition.now (pos number) piece) at) }
     ensures faults { OnFault result IsApplyFault }
     ensures ended { A.has_failed desk.old ≡ true → (result ≡ answers.Fault (record { 0 = 92 })) × (desk.new ≡ desk.old) }
     ensures working { A.has_failed desk.old ≡ false → OnFault result (λ fault. fault ≢ 92) }
     ensures fails { A.has_failed desk.old ≡ false → A.has_failed desk.new ≡ is_fault result }
     ensures clean { A.is_clean desk.new → A.is_clean desk.old }
-    ensures applied { A.is_clean desk.new → (p : Package) → A.settled desk.old p → Meets current p → IsWithin current (commands.Stage edition.now (pos number) piece)
+    ensures applied { A.is_clean desk.new → (p : Package) → A.settled desk.old p → Meets current p
         → IsApplied p (commands.Stage edition.now (pos number) piece) at result (A.settled desk.new) (A.may_leave desk.new) A.stands_for }
 {
-    // The proof reads from this that the moment is within its limits.
+    // The proof reads from these that the moment and the command are within their limits.
     let _milliseconds = at.milliseconds();
     let command = Command::Stage {
         edition: same_name(edition),
-        number: i64::from(number),
+        number: id_of(number),
         piece,
     };
+    command.is_within();
     desk.apply(&command, at)
 }
 
@@ -85,7 +98,7 @@ pub(crate) fn stage_all<A: Desk, F: Folder>(
     entries: Vec<Entry>,
     at: Moment,
 ) -> Result<Staged, KitFault>
-    requires fine { AreFine entries.items }
+    requires few { AreFew entries.items }
     requires working { A.has_failed desk.old ≡ false }
     ensures clean { A.is_clean desk.new → A.is_clean desk.old }
     ensures answered { IfOk result (λ a. OnKit (A.is_clean desk.new) (A.settled desk.old) (F.files folder.old)

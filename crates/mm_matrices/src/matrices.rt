@@ -51,12 +51,12 @@ fn insert_matrix<S: Alter>(
         params![
             table,
             u32::from(zoom),
-            matrix.mw,
-            matrix.mh,
-            matrix.tw,
-            matrix.th,
-            matrix.px,
-            matrix.py
+            matrix.mw.get(),
+            matrix.mh.get(),
+            matrix.tw.get(),
+            matrix.th.get(),
+            matrix.px.get(),
+            matrix.py.get()
         ],
     )
 }

@@ -15,12 +15,13 @@ ghost use Rattle.mm_store.specs.Statements.{IsAsked};
 ghost use Rattle.mm_matrices.specs.Shown.{ShowsMatrix, ShowsZoomed, GivesZoomed};
 
 use mm_base::answers::Fault;
+use mm_base::bounded::{Count, PixelSize};
 use mm_base::commands::{Matrix, Step};
 use mm_base::matrices::neighbours;
 use mm_store::faults::fault_of;
 use mm_store::statements::first;
 use sqlite::types::ValueRef;
-use sqlite::{Alter, Error, Row, Transaction, params};
+use sqlite::{Alter, Row, Transaction, params};
 
 /// The zoom in the first column of a row. One above 255 is a fault, 91.
 fn zoom_in(row: &Row) -> Result<u8, Fault>
@@ -37,17 +38,54 @@ fn zoom_in(row: &Row) -> Result<u8, Fault>
     }
 }
 
+/// The whole number at a place of a row.
+fn number_at(row: &Row, place: usize) -> Result<i64, Fault>
+    ensures number { IfOk result (λ number. column row.now place ≡ Int number) }
+    ensures faults { IfErr result IsStoreFault }
+{
+    match row.get(place) {
+        Ok(number) => Ok(number),
+        Err(error) => Err(fault_of(error)),
+    }
+}
+
+/// The number of tiles or pixels at a place of a row. One outside its limits is a fault, 91.
+fn count_at<const LEAST: u32, const MOST: u32>(
+    row: &Row,
+    place: usize,
+) -> Result<Count<LEAST, MOST>, Fault>
+    ensures count { IfOk result (λ count. column row.now place ≡ Int (pos count)) }
+    ensures faults { IfErr result IsStoreFault }
+{
+    match Count::new(number_at(row, place)?) {
+        Some(count) => Ok(count),
+        None => Err(Fault(91)),
+    }
+}
+
+/// The size of a pixel at a place of a row. One outside its limits is a fault, 91.
+fn pixel_at(row: &Row, place: usize) -> Result<PixelSize, Fault>
+    ensures size { IfOk result (λ size. column row.now place ≡ Int size) }
+    ensures faults { IfErr result IsStoreFault }
+{
+    match PixelSize::new(number_at(row, place)?) {
+        Some(size) => Ok(size),
+        None => Err(Fault(91)),
+    }
+}
+
 /// The matrix in the columns after the zoom.
-fn matrix_in(row: &Row) -> Result<Matrix, Error>
-    ensures { IfOk result (λ m. ShowsMatrix row.now m) }
+fn matrix_in(row: &Row) -> Result<Matrix, Fault>
+    ensures matrix { IfOk result (λ m. ShowsMatrix row.now m) }
+    ensures faults { IfErr result IsStoreFault }
 {
     Ok(Matrix {
-        mw: row.get(1)?,
-        mh: row.get(2)?,
-        tw: row.get(3)?,
-        th: row.get(4)?,
-        px: row.get(5)?,
-        py: row.get(6)?,
+        mw: count_at(row, 1)?,
+        mh: count_at(row, 2)?,
+        tw: count_at(row, 3)?,
+        th: count_at(row, 4)?,
+        px: pixel_at(row, 5)?,
+        py: pixel_at(row, 6)?,
     })
 }
 
@@ -62,7 +100,7 @@ fn zoomed_in(row: &Row) -> Result<(u8, Matrix), Fault>
     };
     match matrix_in(row) {
         Ok(matrix) => Ok((zoom, matrix)),
-        Err(error) => Err(fault_of(error)),
+        Err(fault) => Err(fault),
     }
 }
 

@@ -1,6 +1,6 @@
 //! Readers of one field of a record. Each answers 10, 11 or 12 where the field is refused.
 
-ghost use Rattle.std.specs.Prelude.{◌≡◌, pos};
+ghost use Rattle.std.specs.Prelude.{◌≡◌, ◌<◌, ◌^◌, pos, neg_ℤ};
 ghost use Rattle.mm_base.specs.Reading.{ReadsTo, both_of};
 ghost use Rattle.mm_base.specs.Fields.{Holds, IsAgainst, Plain, Whole, NumberFrom, AName};
 ghost use Rattle.mm_base.specs.Package.{kind_text};
@@ -10,6 +10,7 @@ ghost use Rattle.mm_base.specs.Records.{step_words, kind_words, relation_words};
 ghost use Rattle.mm_base.specs.Records as forms;
 
 use mm_base::answers::ReadFault;
+use mm_base::bounded::{Count, Positive, Signed, SystemNumber, Zoom};
 use mm_base::commands::{PlainKind, RelationName, Step};
 use mm_base::limits::{LAST_ID, LAST_ZOOM};
 use mm_base::names::Name;
@@ -48,7 +49,7 @@ pub(crate) fn name_field(text: &str) -> Result<Name, ReadFault>
 }
 
 /// A number from `least` to `most`: 10 where it is none, 11 where it lies outside.
-pub(crate) fn number_field(text: &str, least: i64, most: i64) -> Result<i64, ReadFault>
+fn number_field(text: &str, least: i64, most: i64) -> Result<i64, ReadFault>
     ensures { ReadsTo (λ z. Holds (NumberFrom least most) text.now (Whole z)) (IsAgainst (NumberFrom least most) text.now) result }
 {
     match read_number(text, least, most) {
@@ -57,29 +58,71 @@ pub(crate) fn number_field(text: &str, least: i64, most: i64) -> Result<i64, Rea
     }
 }
 
-/// The number of a row, a media item, a piece or a reference system.
-pub(crate) fn id_field(text: &str) -> Result<i64, ReadFault>
-    ensures { ReadsTo (λ z. Holds forms.id_field text.now (Whole z)) (IsAgainst forms.id_field text.now) result }
+/// A number from 1 to `MOST`.
+pub(crate) fn positive_field<const MOST: u64>(text: &str) -> Result<Positive<MOST>, ReadFault>
+    requires { MOST < 2 ^ 63 }
+    ensures { ReadsTo (λ z. Holds (NumberFrom (pos 1) (pos MOST)) text.now (Whole z)) (IsAgainst (NumberFrom (pos 1) (pos MOST)) text.now) result }
 {
-    number_field(text, 1, LAST_ID)
-}
-
-/// A zoom level, 0 to 30.
-pub(crate) fn zoom_field(text: &str) -> Result<u8, ReadFault>
-    ensures { ReadsTo (λ z. Holds forms.zoom_field text.now (Whole (pos z))) (IsAgainst forms.zoom_field text.now) result }
-{
-    match number_field(text, 0, LAST_ZOOM as i64) {
-        Ok(number) => Ok(number as u8),
+    match number_field(text, 1, MOST as i64) {
+        Ok(number) => match Positive::new(number) {
+            Some(number) => Ok(number),
+            None => unreachable!(),
+        },
         Err(fault) => Err(fault),
     }
 }
 
-/// A number of tiles or pixels from `least` to `most`.
-pub(crate) fn count_field(text: &str, least: u32, most: u32) -> Result<u32, ReadFault>
-    ensures { ReadsTo (λ n. Holds (NumberFrom (pos least) (pos most)) text.now (Whole (pos n))) (IsAgainst (NumberFrom (pos least) (pos most)) text.now) result }
+/// A number that is at most `MOST` away from 0.
+pub(crate) fn signed_field<const MOST: u64>(text: &str) -> Result<Signed<MOST>, ReadFault>
+    requires { MOST < 2 ^ 63 }
+    ensures { ReadsTo (λ z. Holds (NumberFrom (neg_ℤ (pos MOST)) (pos MOST)) text.now (Whole z)) (IsAgainst (NumberFrom (neg_ℤ (pos MOST)) (pos MOST)) text.now) result }
 {
-    match number_field(text, least as i64, most as i64) {
-        Ok(number) => Ok(number as u32),
+    match number_field(text, -(MOST as i64), MOST as i64) {
+        Ok(number) => match Signed::new(number) {
+            Some(number) => Ok(number),
+            None => unreachable!(),
+        },
+        Err(fault) => Err(fault),
+    }
+}
+
+/// The number of any reference system.
+pub(crate) fn system_field(text: &str) -> Result<SystemNumber, ReadFault>
+    ensures { ReadsTo (λ z. Holds forms.named_system text.now (Whole z)) (IsAgainst forms.named_system text.now) result }
+{
+    match number_field(text, -1, LAST_ID as i64) {
+        Ok(number) => match SystemNumber::new(number) {
+            Some(number) => Ok(number),
+            None => unreachable!(),
+        },
+        Err(fault) => Err(fault),
+    }
+}
+
+/// A zoom level.
+pub(crate) fn zoom_field(text: &str) -> Result<Zoom, ReadFault>
+    ensures { ReadsTo (λ z. Holds forms.zoom_field text.now (Whole (pos z))) (IsAgainst forms.zoom_field text.now) result }
+{
+    match number_field(text, 0, LAST_ZOOM as i64) {
+        Ok(number) => match Zoom::new(number) {
+            Some(number) => Ok(number),
+            None => unreachable!(),
+        },
+        Err(fault) => Err(fault),
+    }
+}
+
+/// A number of tiles or pixels from `LEAST` to `MOST`, or a place among so many.
+pub(crate) fn count_field<const LEAST: u32, const MOST: u32>(
+    text: &str,
+) -> Result<Count<LEAST, MOST>, ReadFault>
+    ensures { ReadsTo (λ n. Holds (NumberFrom (pos LEAST) (pos MOST)) text.now (Whole (pos n))) (IsAgainst (NumberFrom (pos LEAST) (pos MOST)) text.now) result }
+{
+    match number_field(text, LEAST as i64, MOST as i64) {
+        Ok(number) => match Count::new(number) {
+            Some(number) => Ok(number),
+            None => unreachable!(),
+        },
         Err(fault) => Err(fault),
     }
 }

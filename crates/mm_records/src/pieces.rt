@@ -8,12 +8,11 @@ ghost use Rattle.mm_base.specs.Records.{IsLeast, piece_values, piece_word, Spell
 ghost use Rattle.mm_base.specs.Records as forms;
 ghost use Rattle.mm_base.specs.Within.{IsPieceWithin};
 
-use crate::fields::{both, count_field, id_field, name_field, number_field, zoom_field};
+use crate::fields::{both, count_field, name_field, positive_field, signed_field, zoom_field};
 use mm_base::answers::ReadFault;
 use mm_base::bytes::{MediaBytes, TileBytes};
 use mm_base::commands::{Matrix, Piece};
 use mm_base::content_types::ContentType;
-use mm_base::limits::{LARGEST_PIXEL, LAST_PLACE, MOST_AMOUNT, MOST_PIXELS, MOST_TILES};
 use mm_base::texts::Remark;
 use std::alloc::Global;
 
@@ -29,11 +28,8 @@ fn read_tile(alloc: Global, fields: &[&str]) -> Result<Piece, ReadFault>
         both(
             zoom_field(zoom),
             both(
-                count_field(column, 0, LAST_PLACE),
-                both(
-                    count_field(row, 0, LAST_PLACE),
-                    TileBytes::read(alloc, bytes),
-                ),
+                count_field(column),
+                both(count_field(row), TileBytes::read(alloc, bytes)),
             ),
         ),
     ) {
@@ -62,10 +58,7 @@ fn read_tile_drop(fields: &[&str]) -> Result<Piece, ReadFault>
         name_field(table),
         both(
             zoom_field(zoom),
-            both(
-                count_field(column, 0, LAST_PLACE),
-                count_field(row, 0, LAST_PLACE),
-            ),
+            both(count_field(column), count_field(row)),
         ),
     ) {
         Ok(read) => {
@@ -91,13 +84,10 @@ fn read_row(alloc: Global, fields: &[&str]) -> Result<Piece, ReadFault>
     match both(
         name_field(table),
         both(
-            id_field(id),
+            positive_field(id),
             both(
                 Remark::read(alloc, title),
-                both(
-                    Remark::read(alloc, note),
-                    number_field(amount, -MOST_AMOUNT, MOST_AMOUNT),
-                ),
+                both(Remark::read(alloc, note), signed_field(amount)),
             ),
         ),
     ) {
@@ -122,7 +112,7 @@ fn read_row_drop(fields: &[&str]) -> Result<Piece, ReadFault>
     let [table, id] = fields else {
         return Err(ReadFault::refused(10));
     };
-    match both(name_field(table), id_field(id)) {
+    match both(name_field(table), positive_field(id)) {
         Ok(read) => {
             let (table, id) = read;
             Ok(Piece::RowDrop { table, id })
@@ -141,7 +131,7 @@ fn read_media(alloc: Global, fields: &[&str]) -> Result<Piece, ReadFault>
     match both(
         name_field(table),
         both(
-            id_field(id),
+            positive_field(id),
             both(
                 ContentType::read(alloc, content_type),
                 MediaBytes::read(alloc, bytes),
@@ -168,7 +158,7 @@ fn read_media_drop(fields: &[&str]) -> Result<Piece, ReadFault>
     let [table, id] = fields else {
         return Err(ReadFault::refused(10));
     };
-    match both(name_field(table), id_field(id)) {
+    match both(name_field(table), positive_field(id)) {
         Ok(read) => {
             let (table, id) = read;
             Ok(Piece::MediaDrop { table, id })
@@ -186,7 +176,7 @@ fn read_map(fields: &[&str]) -> Result<Piece, ReadFault>
     };
     match both(
         name_field(mapping),
-        both(id_field(base_id), id_field(related_id)),
+        both(positive_field(base_id), positive_field(related_id)),
     ) {
         Ok(read) => {
             let (mapping, (base_id, related_id)) = read;
@@ -209,7 +199,7 @@ fn read_map_drop(fields: &[&str]) -> Result<Piece, ReadFault>
     };
     match both(
         name_field(mapping),
-        both(id_field(base_id), id_field(related_id)),
+        both(positive_field(base_id), positive_field(related_id)),
     ) {
         Ok(read) => {
             let (mapping, (base_id, related_id)) = read;
@@ -235,17 +225,14 @@ fn read_matrix(fields: &[&str]) -> Result<Piece, ReadFault>
         both(
             zoom_field(zoom),
             both(
-                count_field(mw, 1, MOST_TILES),
+                count_field(mw),
                 both(
-                    count_field(mh, 1, MOST_TILES),
+                    count_field(mh),
                     both(
-                        count_field(tw, 1, MOST_PIXELS),
+                        count_field(tw),
                         both(
-                            count_field(th, 1, MOST_PIXELS),
-                            both(
-                                number_field(px, 1, LARGEST_PIXEL),
-                                number_field(py, 1, LARGEST_PIXEL),
-                            ),
+                            count_field(th),
+                            both(positive_field(px), positive_field(py)),
                         ),
                     ),
                 ),

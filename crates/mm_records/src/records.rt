@@ -12,13 +12,13 @@ ghost use Rattle.mm_base.specs.Records as forms;
 ghost use Rattle.mm_base.specs.Within.{IsWithin};
 
 use crate::fields::{
-    both, id_field, kind_field, name_field, number_field, relation_field, step_field,
+    both, kind_field, name_field, positive_field, relation_field, signed_field, step_field,
+    system_field,
 };
 use crate::pieces::read_piece;
 use mm_base::answers::ReadFault;
 use mm_base::commands::{Command, Piece};
 use mm_base::identifiers::Identifier;
-use mm_base::limits::{FARTHEST, LAST_ID};
 use mm_base::texts::{Definition, Remark, SystemName};
 use std::alloc::Global;
 
@@ -38,13 +38,13 @@ fn read_srs(alloc: Global, fields: &[&str]) -> Result<Command, ReadFault>
         return Err(ReadFault::refused(10));
     };
     match both(
-        id_field(id),
+        positive_field(id),
         both(
             SystemName::read(alloc, name),
             both(
                 SystemName::read(alloc, organization),
                 both(
-                    id_field(organization_id),
+                    positive_field(organization_id),
                     both(
                         Definition::read(alloc, definition),
                         Remark::read(alloc, description),
@@ -80,14 +80,14 @@ fn read_pyramid(alloc: Global, fields: &[&str]) -> Result<Command, ReadFault>
         both(
             Identifier::read(alloc, identifier),
             both(
-                number_field(srs, -1, LAST_ID),
+                system_field(srs),
                 both(
-                    number_field(min_x, -FARTHEST, FARTHEST),
+                    signed_field(min_x),
                     both(
-                        number_field(min_y, -FARTHEST, FARTHEST),
+                        signed_field(min_y),
                         both(
-                            number_field(max_x, -FARTHEST, FARTHEST),
-                            both(number_field(max_y, -FARTHEST, FARTHEST), step_field(step)),
+                            signed_field(max_x),
+                            both(signed_field(max_y), step_field(step)),
                         ),
                     ),
                 ),
@@ -248,7 +248,7 @@ fn read_stage(alloc: Global, fields: &[&str]) -> Result<Command, ReadFault>
     };
     match both(
         name_field(edition),
-        both(id_field(number), read_piece(alloc, piece)),
+        both(positive_field(number), read_piece(alloc, piece)),
     ) {
         Ok(read) => {
             let (edition, (number, piece)) = read;

@@ -3,7 +3,7 @@
 ghost use Rattle.std.specs.Prelude.{◌≡◌, ◌&&◌, ◌||◌, ℕ, None, ⊤};
 ghost use Rattle.std.specs.FinMap.{get, insert};
 ghost use Rattle.sqlite.specs.Held.{state};
-ghost use Rattle.mm_base.specs.Bounds.{Profile};
+ghost use Rattle.mm_base.specs.Bounds.{IsName, Profile};
 ghost use Rattle.mm_base.specs.Conditions.{least, own_reasons, related_kind, relation_text};
 ghost use Rattle.mm_base.specs.Keys.{same_text};
 ghost use Rattle.mm_base.specs.Package.{kind_text};
@@ -17,6 +17,7 @@ ghost use Rattle.mm_relate.specs.Relations.{new_relation};
 use crate::extensions::delete_related_row;
 use mm_base::answers::{Fault, Outcome, Refusal};
 use mm_base::commands::{Kind, RelationName};
+use mm_base::names::Name;
 use mm_contents::{has_relation, is_taken, kind_of};
 use mm_meta::insert_related_row;
 use mm_store::statements::run;
@@ -98,16 +99,15 @@ fn insert_relation<S: Alter>(
     )
 }
 
-/// The command `relation`: adds a relation of two tables, under the name of its mapping, with its extension row. Refused 25
-/// where one of the two is no table, 43 where a table or mapping has the mapping's name, 47 where the kinds of the two
-/// tables do not suit the relation's name. (Extended Relations Table.)
-pub fn add_relation<S: Alter>(
+/// Keeps a relation under the name of its mapping.
+fn relate<S: Alter>(
     tx: &mut Transaction<'_, S>,
     mapping: &str,
     base: &str,
     related: &str,
     name: RelationName,
 ) -> Result<Outcome, Fault>
+    requires { IsName mapping.now }
     ensures same_reference { tx.new.conn.ghost_name ≡ tx.old.conn.ghost_name }
     ensures lent { (profile : Profile) (moment : ℕ) → IsLent profile (commands.Relation mapping.now base.now related.now name) moment (state S.Store tx.old.conn.now) (state S.Store tx.new.conn.now) result }
 {
@@ -129,6 +129,22 @@ pub fn add_relation<S: Alter>(
         Ok(()) => Ok(Outcome::Done),
         Err(fault) => Err(fault),
     }
+}
+
+/// The command `relation`: adds a relation of two tables, under the name of its mapping, with its extension row. Refused 25
+/// where one of the two is no table, 43 where a table or mapping has the mapping's name, 47 where the kinds of the two
+/// tables do not suit the relation's name. (Extended Relations Table.)
+pub fn add_relation<S: Alter>(
+    tx: &mut Transaction<'_, S>,
+    mapping: &Name,
+    base: &Name,
+    related: &Name,
+    name: RelationName,
+) -> Result<Outcome, Fault>
+    ensures same_reference { tx.new.conn.ghost_name ≡ tx.old.conn.ghost_name }
+    ensures lent { (profile : Profile) (moment : ℕ) → IsLent profile (commands.Relation mapping.now base.now related.now name) moment (state S.Store tx.old.conn.now) (state S.Store tx.new.conn.now) result }
+{
+    relate(tx, mapping.as_str(), base.as_str(), related.as_str(), name)
 }
 
 /// Removes a relation, and by their key its mapping rows.

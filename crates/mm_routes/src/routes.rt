@@ -107,7 +107,7 @@ fn row_wanted(params: &Params<'_, '_>) -> Option<(Name, i64)>
     let Some(table) = name_of(params, "table") else {
         return None;
     };
-    let Some(id) = number_of(params, "id", 1, LAST_ID) else {
+    let Some(id) = number_of(params, "id", 1, LAST_ID as i64) else {
         return None;
     };
     Some((table, id))

@@ -4,7 +4,6 @@ ghost use Rattle.std.specs.Prelude.{◌≡◌, ◌≢◌, Bool, true, false};
 ghost use Rattle.mm_base.specs.Bounds.{current};
 ghost use Rattle.mm_base.specs.Package.{Package};
 ghost use Rattle.mm_base.specs.Rules.{Meets};
-ghost use Rattle.mm_base.specs.Within.{IsWithin};
 ghost use Rattle.mm_run.specs.Answers.{is_fault};
 ghost use Rattle.mm_run.specs.Applied.{IsApplied, IsApplyFault, OnFault};
 
@@ -39,7 +38,7 @@ pub trait Apply {
         ensures working { has_failed self.old ≡ false → OnFault result (λ fault. fault ≢ 92) }
         ensures fails { has_failed self.old ≡ false → has_failed self.new ≡ is_fault result }
         ensures clean { is_clean self.new → is_clean self.old }
-        ensures applied { is_clean self.new → (p : Package) → settled self.old p → Meets current p → IsWithin current command.now
+        ensures applied { is_clean self.new → (p : Package) → settled self.old p → Meets current p
             → IsApplied p command.now at result (settled self.new) (may_leave self.new) stands_for };
 
     ghost leaves_settled: { (s : Self) (p : Package) → settled s p → (db : Database) → may_leave s db → stands_for db p };

@@ -7,7 +7,6 @@ use Rattle.mm_base.specs.Package.{Package}
 use Rattle.mm_base.specs.Rules.{Meets}
 use Rattle.mm_base.specs.Stamp.{stamp}
 use Rattle.mm_base.specs.Step.{refusal, done, step, unless_refused}
-use Rattle.mm_base.specs.Within.{IsWithin}
 use Rattle.mm_base.specs.declared.answers.Fault.{Fault}
 use Rattle.mm_base.specs.declared.answers.Outcome.{Outcome}
 use Rattle.mm_base.specs.declared.answers.Outcome.TheVariants.{Done, Refused}
@@ -111,11 +110,11 @@ module _ (profile : Profile) where
   module _ (c : Command) (moment : ℕ) where
     -- the look finds the refusal
     pub refuses : {T : Type 0} {Says : Package → T → Type 0} (old new : State) (x : T) (why : Refusal) → IsLook profile old new Says (Ok x)
-        → ((p : Package) → IsWithin profile c → Meets profile p → Says p x → refusal p c ≡ Some why) → IsLent profile c moment old new (Ok (Refused why))
+        → ((p : Package) → Meets profile p → Says p x → refusal p c ≡ Some why) → IsLent profile c moment old new (Ok (Refused why))
     refuses old new x why look finds = record {
       survives = look.survives;
       on = λ clean ground p it. look.on clean ground p it.inside;
-      answers = λ clean ground p it. let found = look.looked clean ground p it.inside in (finds p it.within it.meets found.2, found.1);
+      answers = λ clean ground p it. let found = look.looked clean ground p it.inside in (finds p it.meets found.2, found.1);
       faults = tt;
     }
 
@@ -125,22 +124,22 @@ module _ (profile : Profile) where
     -- the look finds no refusal, and the change is made
     module _ {T U : Type 0} {Says : Package → T → Type 0} {When : Package → Type 0} {change : Package → Package} (old mid new : State) (x : T) (look : IsLook profile old mid Says (Ok x)) where
       pub accepts : (u : U) → IsChange profile mid new When change (Ok u)
-          → ((p : Package) → IsWithin profile c → Meets profile p → Says p x → When p × (refusal p c ≡ None) × (done p c (stamp moment) ≡ change p)) → IsLent profile c moment old new (Ok Done)
+          → ((p : Package) → Meets profile p → Says p x → When p × (refusal p c ≡ None) × (done p c (stamp moment) ≡ change p)) → IsLent profile c moment old new (Ok Done)
       accepts u made finds = record {
         survives = quiet_then old mid new look.survives made.survives;
-        on = λ clean ground p it. let found = look.looked (omega (arith, made.survives.clean)) ground p it.inside in made.on clean ground p found.1 (finds p it.within it.meets found.2).0;
+        on = λ clean ground p it. let found = look.looked (omega (arith, made.survives.clean)) ground p it.inside in made.on clean ground p found.1 (finds p it.meets found.2).0;
         answers = λ clean ground p it.
             let found = look.looked (omega (arith, made.survives.clean)) ground p it.inside in
-            let f = finds p it.within it.meets found.2 in
+            let f = finds p it.meets found.2 in
             let end = made.made clean ground p found.1 f.0 in
             (f.1, end.0, subst (IsInside profile new ground) (sym (step_done p c moment f.1 ∙ f.2)) end.1);
         faults = tt;
       }
 
-      pub change_gave_up : (e : Fault) → IsChange profile {T = U} mid new When change (Err e) → ((p : Package) → IsWithin profile c → Meets profile p → Says p x → When p) → IsLent profile c moment old new (Err e)
+      pub change_gave_up : (e : Fault) → IsChange profile {T = U} mid new When change (Err e) → ((p : Package) → Meets profile p → Says p x → When p) → IsLent profile c moment old new (Err e)
       change_gave_up e made finds = record {
         survives = quiet_then old mid new look.survives made.survives;
-        on = λ clean ground p it. let found = look.looked (omega (arith, made.survives.clean)) ground p it.inside in made.on clean ground p found.1 (finds p it.within it.meets found.2);
+        on = λ clean ground p it. let found = look.looked (omega (arith, made.survives.clean)) ground p it.inside in made.on clean ground p found.1 (finds p it.meets found.2);
         answers = λ clean ground p it. tt;
         faults = made.faults;
       }

@@ -5,7 +5,6 @@ use Rattle.mm_base.specs.Bounds.{Profile}
 use Rattle.mm_base.specs.Package.{Package}
 use Rattle.mm_base.specs.Rules.{Meets}
 use Rattle.mm_base.specs.Step.{refusal, step}
-use Rattle.mm_base.specs.Within.{IsWithin}
 use Rattle.mm_base.specs.declared.answers.Fault.{Fault}
 use Rattle.mm_base.specs.declared.answers.Outcome.{Outcome}
 use Rattle.mm_base.specs.declared.answers.Outcome.TheVariants.{Done, Refused}
@@ -51,9 +50,8 @@ Tries profile new ground p refusal next (Ok Done) = IsDone profile new ground re
 Tries profile new ground p refusal next (Ok (Refused why)) = refusal ≡ Some why
 Tries profile new ground p refusal next (Err fault) = ⊤
 
--- The command comes with fields within the limits, to a transaction that stands for a package that meets the rules.
-pub record IsPut (profile : Profile) (c : Command) (s : State) (ground : Ground) (p : Package) : Type 0 where
-  pub within : IsWithin profile c
+-- The command comes to a transaction that stands for a package that meets the rules.
+pub record IsPut (profile : Profile) (s : State) (ground : Ground) (p : Package) : Type 0 where
   pub meets : Meets profile p
   pub inside : IsInside profile s ground p
 
@@ -61,15 +59,15 @@ module _ (profile : Profile) (c : Command) (moment : ℕ) (old new : State) (res
   -- The shape of each command that is lent a transaction.
   pub record IsLent : Type 0 where
     pub survives : CommitsNothing old new
-    pub on : HasCleanDisk new → (ground : Ground) (p : Package) → IsPut profile c old ground p → StandsOn new ground
-    pub answers : HasCleanDisk new → (ground : Ground) (p : Package) → IsPut profile c old ground p → Answers profile new ground p (refusal p c) (step p c moment) result
+    pub on : HasCleanDisk new → (ground : Ground) (p : Package) → IsPut profile old ground p → StandsOn new ground
+    pub answers : HasCleanDisk new → (ground : Ground) (p : Package) → IsPut profile old ground p → Answers profile new ground p (refusal p c) (step p c moment) result
     pub faults : IfErr result IsStoreFault
 
   -- The weaker shape of a command of many steps, whose transaction is rolled back after a refusal.
   pub record IsTried : Type 0 where
     pub survives : CommitsNothing old new
-    pub on : HasCleanDisk new → (ground : Ground) (p : Package) → IsPut profile c old ground p → StandsOn new ground
-    pub tries : HasCleanDisk new → (ground : Ground) (p : Package) → IsPut profile c old ground p → Tries profile new ground p (refusal p c) (step p c moment) result
+    pub on : HasCleanDisk new → (ground : Ground) (p : Package) → IsPut profile old ground p → StandsOn new ground
+    pub tries : HasCleanDisk new → (ground : Ground) (p : Package) → IsPut profile old ground p → Tries profile new ground p (refusal p c) (step p c moment) result
     pub faults : IfErr result IsStoreFault
 
 -- ---- a read on a connection with no transaction: after a fault too it is as settled as before

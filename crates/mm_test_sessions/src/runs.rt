@@ -55,10 +55,10 @@ impl Desk {
         self.left -= 1;
         match command {
             Command::Srs { id, .. } => {
-                if self.systems.contains(id) {
+                if self.systems.contains(&id.get()) {
                     return refused(20);
                 }
-                if self.systems.push(*id).is_err() {
+                if self.systems.push(id.get()).is_err() {
                     return Answer::Fault(Fault(91));
                 }
                 Answer::Ok

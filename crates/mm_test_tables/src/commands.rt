@@ -1,8 +1,10 @@
 //! Records, and the calls of their commands.
 
 use mm_base::answers::{Fault, Outcome};
+use mm_base::bounded::{MatrixSide, PixelSize, TileSide};
 use mm_base::bytes::{MediaBytes, TileBytes};
 use mm_base::commands::{Matrix, PlainKind, RelationName, Step};
+use mm_base::names::Name;
 use mm_content::{drop_media, drop_row, drop_tile, put_media, put_row, put_tile};
 use mm_contents::{add_pyramid, add_table, drop_table, touch};
 use mm_matrices::add_matrix;
@@ -77,12 +79,12 @@ fn matrix(fields: &[&str]) -> Option<Matrix> {
         return None;
     };
     Some(Matrix {
-        mw: count(mw)?,
-        mh: count(mh)?,
-        tw: count(tw)?,
-        th: count(th)?,
-        px: number(px)?,
-        py: number(py)?,
+        mw: MatrixSide::new(number(mw)?)?,
+        mh: MatrixSide::new(number(mh)?)?,
+        tw: TileSide::new(number(tw)?)?,
+        th: TileSide::new(number(th)?)?,
+        px: PixelSize::new(number(px)?)?,
+        py: PixelSize::new(number(py)?)?,
     })
 }
 
@@ -208,7 +210,10 @@ fn call_relation<S: Alter>(tx: &mut Transaction<'_, S>, fields: &[&str]) -> Opti
         return None;
     };
     let name = relation_name(name)?;
-    number_of(add_relation(tx, mapping, base, related, name))
+    let mapping = Name::read(mapping)?;
+    let base = Name::read(base)?;
+    let related = Name::read(related)?;
+    number_of(add_relation(tx, &mapping, &base, &related, name))
 }
 
 fn call_map<S: Alter>(tx: &mut Transaction<'_, S>, word: &str, fields: &[&str]) -> Option<u8> {

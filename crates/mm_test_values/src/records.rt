@@ -240,10 +240,10 @@ fn is_the_well(read: &Result<Command, ReadFault>) -> bool {
             },
         ) => {
             table.as_str() == "spots"
-                && *id == 7
+                && id.get() == 7
                 && title.as_str() == "Well"
                 && note.as_str() == "deep"
-                && *amount == -3
+                && amount.get() == -3
         }
         _ => false,
     }
@@ -261,9 +261,9 @@ fn is_the_tile(read: &Result<Piece, ReadFault>) -> bool {
             },
         ) => {
             table.as_str() == "base"
-                && *zoom == 1
-                && *column == 2
-                && *row == 3
+                && zoom.get() == 1
+                && column.get() == 2
+                && row.get() == 3
                 && bytes.as_slice() == b"\xff\xd8".as_slice()
         }
         _ => false,

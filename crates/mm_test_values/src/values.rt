@@ -1,6 +1,7 @@
 //! Worked values from outside: stamps, products and numbers at their limits. A list has a line `QUESTION: ANSWER` each.
 
-use crate::lines::{count, fields_of, number};
+use crate::lines::{fields_of, number};
+use mm_base::bounded::{MatrixSide, PixelSize, TileSide};
 use mm_base::commands::{Matrix, Step};
 use mm_base::extents::{Extent, fits};
 use mm_base::matrices::neighbours;
@@ -21,25 +22,25 @@ fn extent(fields: &[&str]) -> Option<Extent> {
 /// The matrix that the fields from the fifth on spell.
 fn matrix(fields: &[&str]) -> Option<Matrix> {
     Some(Matrix {
-        mw: count(fields, 4)?,
-        mh: count(fields, 5)?,
-        tw: count(fields, 6)?,
-        th: count(fields, 7)?,
-        px: number(fields, 8)?,
-        py: number(fields, 9)?,
+        mw: MatrixSide::new(number(fields, 4)?)?,
+        mh: MatrixSide::new(number(fields, 5)?)?,
+        tw: TileSide::new(number(fields, 6)?)?,
+        th: TileSide::new(number(fields, 7)?)?,
+        px: PixelSize::new(number(fields, 8)?)?,
+        py: PixelSize::new(number(fields, 9)?)?,
     })
 }
 
 /// A matrix of one tile with pixels of a size.
-fn one_tile(pixel: i64) -> Matrix {
-    Matrix {
-        mw: 1,
-        mh: 1,
-        tw: 256,
-        th: 256,
-        px: pixel,
-        py: pixel,
-    }
+fn one_tile(pixel: i64) -> Option<Matrix> {
+    Some(Matrix {
+        mw: MatrixSide::new(1)?,
+        mh: MatrixSide::new(1)?,
+        tw: TileSide::new(256)?,
+        th: TileSide::new(256)?,
+        px: PixelSize::new(pixel)?,
+        py: PixelSize::new(pixel)?,
+    })
 }
 
 /// `ZOOM/PIXEL` is a zoom of one tile, and `-` is none.
@@ -47,7 +48,7 @@ fn zoom(text: &str) -> Option<(u8, Matrix)> {
     let (level, pixel) = text.split_once('/')?;
     Some((
         level.parse::<u8>().ok()?,
-        one_tile(pixel.parse::<i64>().ok()?),
+        one_tile(pixel.parse::<i64>().ok()?)?,
     ))
 }
 

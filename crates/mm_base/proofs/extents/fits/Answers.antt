@@ -7,12 +7,10 @@ pub returns-then-across : goal.returns-then-across
 returns-then-across c =
     let e = c.args.extent.now in
     let m = c.args.matrix.now in
-    let px : to_z w64 (of_z w64 m.px) ≡ m.px = search (rules, ints) in
-    let py : to_z w64 (of_z w64 m.py) ≡ m.py = search (rules, ints) in
     let wide : c.distance.result ≡ e.max_x -ℤ e.min_x = omega (arith, ints) in
     let high : c.distance-2.result ≡ e.max_y -ℤ e.min_y = omega (arith, ints) in
-    let broad : c.measure.result ≡ pos (m.mw * m.tw) *ℤ m.px = c.measure.ensures ∙ ap (λ z. pos (m.mw * m.tw) *ℤ z) px in
-    let long : c.measure-2.result ≡ pos (m.mh * m.th) *ℤ m.py = c.measure-2.ensures ∙ ap (λ z. pos (m.mh * m.th) *ℤ z) py in
+    let broad : c.measure.result ≡ pos (m.mw * m.tw) *ℤ m.px = c.measure.ensures in
+    let long : c.measure-2.result ≡ pos (m.mh * m.th) *ℤ m.py = c.measure-2.ensures in
     let same : c.distance.result ≡ c.measure.result = let h = c.is_same-across.ensures.0 c.if-across.true in omega (arith, ints, h) in (
       λ t. record {
         across = sym wide ∙ same ∙ broad;

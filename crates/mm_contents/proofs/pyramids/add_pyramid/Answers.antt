@@ -15,7 +15,7 @@ pub returns-in-Ok-Some-clause-any_text : goal.returns-in-Ok-Some-clause-any_text
 returns-in-Ok-Some-clause-any_text g c profile =
     let r = c.ranges in
     refuses_at profile _ _ _ _ _ (refused c.in-Ok-Some.number) ((rw (to_z-of_z r.srs, to_z-of_z r.min_x, to_z-of_z r.min_y, to_z-of_z r.max_x, to_z-of_z r.max_y) at c.in-Ok-Some.ensures.look) profile)
-    (λ p within meets says. refused_for _ c.in-Ok-Some.number (sym (says c.args.step) ∙ c.in-Ok-Some.field-0-is))
+    (λ p meets says. refused_for _ c.in-Ok-Some.number (sym (says c.args.step) ∙ c.in-Ok-Some.field-0-is))
 
 pub returns-in-Err-clause-any_text : goal.returns-in-Err-clause-any_text
 returns-in-Err-clause-any_text g c profile = look_gave_up_at profile _ _ _ _ _ (c.in-Err.ensures.look profile)
@@ -26,7 +26,7 @@ returns-in-Err-insert_pyramid-clause-any_text g c profile =
     let r = c.ranges in
     change_gave_up_at profile _ _ _ _ _ _ ((rw (to_z-of_z r.srs, to_z-of_z r.min_x, to_z-of_z r.min_y, to_z-of_z r.max_x, to_z-of_z r.max_y) at c.in-Ok-None.ensures.look) profile) _
     (c.in-Err-insert_pyramid.ensures.change profile)
-    (λ p within meets says. unregistered profile p meets a.table.now (pyramid_is_new p a.table.now a.identifier.now a.srs a.min_x a.min_y a.max_x a.max_y a.step (sym c.in-Ok-None.field-0-is ∙ says a.step)))
+    (λ p meets says. unregistered profile p meets a.table.now (pyramid_is_new p a.table.now a.identifier.now a.srs a.min_x a.min_y a.max_x a.max_y a.step (sym c.in-Ok-None.field-0-is ∙ says a.step)))
 
 pub returns-in-Two-clause-any_text : goal.returns-in-Two-clause-any_text
 returns-in-Two-clause-any_text g c profile =
@@ -35,7 +35,7 @@ returns-in-Two-clause-any_text g c profile =
     let bounds : Box = record { min_x = a.min_x; min_y = a.min_y; max_x = a.max_x; max_y = a.max_y } in
     accepts_at profile _ _ _ _ _ _ ((rw (to_z-of_z r.srs, to_z-of_z r.min_x, to_z-of_z r.min_y, to_z-of_z r.max_x, to_z-of_z r.max_y) at c.in-Ok-None.ensures.look) profile) _
     ((rw (to_z-of_z r.srs, to_z-of_z r.min_x, to_z-of_z r.min_y, to_z-of_z r.max_x, to_z-of_z r.max_y) at c.in-Ok.ensures.change) profile)
-    (λ p within meets says.
+    (λ p meets says.
     let none = sym c.in-Ok-None.field-0-is ∙ says a.step in (
       unregistered profile p meets a.table.now (pyramid_is_new p a.table.now a.identifier.now a.srs a.min_x a.min_y a.max_x a.max_y a.step none),
       accepted_for _ (sym none),
@@ -52,7 +52,7 @@ returns-in-Ok-insert_zoom_row-clause-any_text g c profile =
     (change_where profile (λ p. IsUnregistered a.table.now p × (get p.extensions (zoom_extension a.table.now) ≡ None)) _ _ _
     ((rw (to_z-of_z r.srs, to_z-of_z r.min_x, to_z-of_z r.min_y, to_z-of_z r.max_x, to_z-of_z r.max_y) at c.in-Ok.ensures.change) profile) (λ p new. new.0))
     (c.in-Ok-insert_zoom_row.ensures.change profile) (λ p new. new.1))
-    (λ p within meets says.
+    (λ p meets says.
     let none = sym c.in-Ok-None.field-0-is ∙ says a.step in
     let new = pyramid_is_new p a.table.now a.identifier.now a.srs a.min_x a.min_y a.max_x a.max_y a.step none in (
       (unregistered profile p meets a.table.now new, no_zoom_row profile p meets a.table.now new),
@@ -69,7 +69,7 @@ returns-in-Err-insert_zoom_row-clause-any_text g c profile =
     (change_where profile (λ p. IsUnregistered a.table.now p × (get p.extensions (zoom_extension a.table.now) ≡ None)) _ _ _
     ((rw (to_z-of_z r.srs, to_z-of_z r.min_x, to_z-of_z r.min_y, to_z-of_z r.max_x, to_z-of_z r.max_y) at c.in-Ok.ensures.change) profile) (λ p new. new.0))
     (c.in-Err-insert_zoom_row.ensures.change profile) (λ p new. new.1))
-    (λ p within meets says.
+    (λ p meets says.
     let none = sym c.in-Ok-None.field-0-is ∙ says a.step in
     let new = pyramid_is_new p a.table.now a.identifier.now a.srs a.min_x a.min_y a.max_x a.max_y a.step none in
     (unregistered profile p meets a.table.now new, no_zoom_row profile p meets a.table.now new))

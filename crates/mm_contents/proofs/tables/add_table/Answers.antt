@@ -10,7 +10,7 @@ use Rattle.mm_contents.proofs.tables.add_table.Goals as goal
 pub returns-in-Ok-Some-clause-any_text : goal.returns-in-Ok-Some-clause-any_text
 returns-in-Ok-Some-clause-any_text g c profile =
     refuses_at profile _ _ _ _ _ (refused c.in-Ok-Some.number) (c.in-Ok-Some.ensures.look profile)
-    (λ p within meets says. refused_for _ c.in-Ok-Some.number (sym (says c.args.kind) ∙ c.in-Ok-Some.field-0-is))
+    (λ p meets says. refused_for _ c.in-Ok-Some.number (sym (says c.args.kind) ∙ c.in-Ok-Some.field-0-is))
 
 pub returns-in-Err-clause-any_text : goal.returns-in-Err-clause-any_text
 returns-in-Err-clause-any_text g c profile = look_gave_up_at profile _ _ _ _ _ (c.in-Err.ensures.look profile)
@@ -20,7 +20,7 @@ returns-in-Err-insert_plain_contents-clause-any_text g c profile =
     let a = c.args in
     change_gave_up_at profile _ _ _ _ _ _ (c.in-Ok-None.ensures.look profile) _
     (change_where profile (IsUnregistered a.table.now) _ _ _ (c.in-Err-insert_plain_contents.ensures.change profile) (λ p new. new.0))
-    (λ p within meets says. unregistered profile p meets a.table.now (table_is_new p a.table.now a.identifier.now a.kind (sym c.in-Ok-None.field-0-is ∙ says a.kind)))
+    (λ p meets says. unregistered profile p meets a.table.now (table_is_new p a.table.now a.identifier.now a.kind (sym c.in-Ok-None.field-0-is ∙ says a.kind)))
 
 pub returns-in-Ok-insert_kind-clause-any_text : goal.returns-in-Ok-insert_kind-clause-any_text
 returns-in-Ok-insert_kind-clause-any_text g c profile =
@@ -28,7 +28,7 @@ returns-in-Ok-insert_kind-clause-any_text g c profile =
     accepts_at profile _ _ _ _ _ _ (c.in-Ok-None.ensures.look profile) _
     (changes_then profile _ _ _ _ _ (change_where profile (IsUnregistered a.table.now) _ _ _ (c.in-Ok.ensures.change profile) (λ p new. new.0))
     ((rw c.text_of_kind.ensures at c.in-Ok-insert_kind.ensures.change) profile) (λ p new. new.1))
-    (λ p within meets says.
+    (λ p meets says.
     let none = sym c.in-Ok-None.field-0-is ∙ says a.kind in (
       unregistered profile p meets a.table.now (table_is_new p a.table.now a.identifier.now a.kind none),
       accepted_for _ (sym none),
@@ -41,7 +41,7 @@ returns-in-Err-insert_kind-clause-any_text g c profile =
     change_gave_up_at profile _ _ _ _ _ _ (c.in-Ok-None.ensures.look profile) _
     (changes_then profile _ _ _ _ _ (change_where profile (IsUnregistered a.table.now) _ _ _ (c.in-Ok.ensures.change profile) (λ p new. new.0))
     (c.in-Err-insert_kind.ensures.change profile) (λ p new. new.1))
-    (λ p within meets says. unregistered profile p meets a.table.now (table_is_new p a.table.now a.identifier.now a.kind (sym c.in-Ok-None.field-0-is ∙ says a.kind)))
+    (λ p meets says. unregistered profile p meets a.table.now (table_is_new p a.table.now a.identifier.now a.kind (sym c.in-Ok-None.field-0-is ∙ says a.kind)))
 
 -- ---- at the stamp of a moment
 

@@ -6,10 +6,10 @@ use Rattle.mm_core.proofs.dispatching.lay_out.Goals as goal
 
 pub returns-in-Srs-clause-lent : goal.returns-in-Srs-clause-lent
 returns-in-Srs-clause-lent g c moment stamped =
-    let id_fits : SFits w64 c.in-Srs.id = search rules in
-    let organization_fits : SFits w64 c.in-Srs.organization_id = search rules in
+    let id_fits : SFits w64 c.get.result = search rules in
+    let organization_fits : SFits w64 c.get-in-Srs.result = search rules in
     let lent = simp to_z-of_z at (rw (c.as_str.ensures.text, c.as_str-in-Srs.ensures.text, c.as_str-in-Srs-2.ensures.text, c.as_str-in-Srs-3.ensures.text) at (c.add_srs.ensures.lent current moment)) in
-    rw c.in-Srs.is lent
+    rw c.in-Srs.is (rw (c.get.ensures.number, c.get-in-Srs.ensures.number) at lent)
 
 pub returns-in-Table-clause-lent : goal.returns-in-Table-clause-lent
 returns-in-Table-clause-lent g c moment stamped =

@@ -1,7 +1,4 @@
-use Rattle.std.proofs.Common.{rules, w64}
-use Rattle.std.proofs.lemmas.Int.{to_z-of_z}
 use Rattle.mm_base.specs.Bounds.{current}
-use mir.Val.{SFits}
 use Rattle.mm_core.proofs.dispatching.prepare_edition.Goals as goal
 
 pub returns-in-Edition-clause-lent : goal.returns-in-Edition-clause-lent
@@ -16,6 +13,4 @@ returns-in-Discard-clause-lent g c moment =
 
 pub returns-in-Stage-clause-lent : goal.returns-in-Stage-clause-lent
 returns-in-Stage-clause-lent g c moment =
-    let number_fits : SFits w64 c.in-Stage.number = search rules in
-    let lent = simp to_z-of_z at (rw c.as_str-in-Stage.ensures.text at (c.stage.ensures.lent current moment)) in
-    rw c.in-Stage.is lent
+    rw c.in-Stage.is (c.stage.ensures.lent current moment)

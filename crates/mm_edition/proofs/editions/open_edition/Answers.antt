@@ -8,7 +8,7 @@ use Rattle.mm_edition.proofs.editions.open_edition.Goals as goal
 pub returns-in-Ok-Some-clause-lent : goal.returns-in-Ok-Some-clause-lent
 returns-in-Ok-Some-clause-lent g c profile moment =
     refuses profile _ moment _ _ _ (refused 50) (c.in-Ok-Some.ensures.look profile)
-    (λ p within meets says. refused_for _ 50 (taken_50 p c.args.edition.now (says ∙ ap (option_map standing_text) c.in-Ok-Some.field-0-is)))
+    (λ p meets says. refused_for _ 50 (taken_50 p c.args.edition.now (says ∙ ap (option_map standing_text) c.in-Ok-Some.field-0-is)))
 
 pub returns-in-Err-clause-lent : goal.returns-in-Err-clause-lent
 returns-in-Err-clause-lent g c profile moment = look_gave_up profile _ moment _ _ _ (c.in-Err.ensures.look profile)
@@ -16,9 +16,9 @@ returns-in-Err-clause-lent g c profile moment = look_gave_up profile _ moment _ 
 pub returns-in-Ok-clause-lent : goal.returns-in-Ok-clause-lent
 returns-in-Ok-clause-lent g c profile moment =
     accepts profile _ moment _ _ _ _ (c.in-Ok-None.ensures.look profile) _ (c.in-Ok.ensures.change profile)
-    (λ p within meets says. let none = says ∙ ap (option_map standing_text) c.in-Ok-None.field-0-is in (none, accepted_for _ (free_50 p c.args.edition.now none), refl))
+    (λ p meets says. let none = says ∙ ap (option_map standing_text) c.in-Ok-None.field-0-is in (none, accepted_for _ (free_50 p c.args.edition.now none), refl))
 
 pub returns-in-Err-insert_edition-clause-lent : goal.returns-in-Err-insert_edition-clause-lent
 returns-in-Err-insert_edition-clause-lent g c profile moment =
     change_gave_up profile _ moment _ _ _ _ (c.in-Ok-None.ensures.look profile) _ (c.in-Err-insert_edition.ensures.change profile)
-    (λ p within meets says. says ∙ ap (option_map standing_text) c.in-Ok-None.field-0-is)
+    (λ p meets says. says ∙ ap (option_map standing_text) c.in-Ok-None.field-0-is)

@@ -3,7 +3,7 @@ use Rattle.std.specs.Result.{is_ok}
 use Rattle.std.specs.Prelude.{Ok, Err}
 use Rattle.csv.specs.Records.{fields_of}
 use Rattle.mm_kit.specs.Entries.{IsReadAs}
-use Rattle.mm_kit.proofs.ListFacts.{all-read, fine-more, fine-none, one-refused, read_few, so_far-more, so_far-none}
+use Rattle.mm_kit.proofs.ListFacts.{all-read, one-refused, read_few, so_far-more, so_far-none}
 use Rattle.mm_kit.proofs.lists.read_rows.Goals as goal
 
 pub loop-place-init : goal.loop-place-init
@@ -13,7 +13,6 @@ loop-place-init g c =
       set_up = c.requires;
       few = omega arith;
       count = rw none refl;
-      fine = rw none fine-none;
       so_far = λ bytes tells starts. rw (starts, none) (so_far-none bytes _ tells);
     }
 
@@ -42,6 +41,5 @@ loop-place-preserved g c =
       set_up = rw c.in-Ok-Some.field-0-is at c.in-Ok-Some.ensures.stays;
       few = omega (arith, few);
       count = omega (arith, ap length items, length-append at.entries.items (c.in-Ok.entry ∷ []), at.invariant.count);
-      fine = rw items (fine-more at.entries.items _ c.in-Ok.entry at.invariant.fine (subst (λ k. IsReadAs k (fields_of c.in-Ok-Some.row) (Ok c.in-Ok.entry)) (sym at.invariant.count) good));
       so_far = λ bytes tells starts. rw items (so_far-more g.T.Read.remaining at.rows c.next_record.new.rows bytes _ c.in-Ok.entry at.entries.items at.place at.invariant.set_up.config (at.invariant.so_far bytes tells starts) read good);
     }

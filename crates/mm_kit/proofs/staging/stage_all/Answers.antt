@@ -3,8 +3,6 @@ use Rattle.std.specs.Vec.Iter.{into_iter_items}
 use Rattle.mm_base.specs.Step.{step}
 use Rattle.mm_base.specs.declared.commands.Command.TheVariants as commands
 use Rattle.mm_kit.specs.Kits.{filled}
-use Rattle.mm_kit.specs.Lists.{AreWithin}
-use Rattle.mm_kit.proofs.Within.{entry_at, stage_within, step_meets}
 use Rattle.mm_kit.proofs.StageFacts.{counted, grows, left_in_doubt, has_first, has_whole, number_refused, number_unfilled, so_far-more, so_far-none}
 use Rattle.mm_kit.proofs.staging.stage_all.Goals as goal
 
@@ -63,10 +61,8 @@ returns-in-Refused-clause-answered g c clean p sound these tells old before most
     let (q, stands, here) = at.invariant.so_far (c.in-Refused.ensures.clean clean) p sound these tells old before in
     let so = rw steps at here in
     let full : filled these c.in-Some.entry ≡ Ok c.in-Ok-Ok.piece = sym (rw (at.invariant.files, tells, c.in-Ok-Ok.field-0-is) at c.in-Ok-Ok.ensures.fills) in
-    let less : length at.yielded < 4096 = inside _ _ _ _ (rw steps at at.invariant.items) c.requires.fine.0 in
-    let filled_within = rw c.in-Ok-Ok.field-0-is at c.in-Ok-Ok.ensures.within in
-    let within = stage_within _ _ _ c.in-Refused.ensures.named less (filled_within (entry_at _ _ _ (subst AreWithin (sym (rw steps at at.invariant.items)) c.requires.fine.1))) in
-    let (bad, stays) = (rw at.invariant.count at c.in-Refused.ensures.applied) clean q stands.0 stands.1 within in
+    let less : length at.yielded < 4096 = inside _ _ _ _ (rw steps at at.invariant.items) c.requires.few in
+    let (bad, stays) = (rw at.invariant.count at c.in-Refused.ensures.applied) clean q stands.0 stands.1 in
     let (first, is) = number_refused these _ _ p old before _ _ _ _ q so full less stands.1 _ bad in
     record {
       answer_is = rw (first, at.invariant.count) refl;
@@ -83,11 +79,9 @@ returns-in-Fault-clause-stopped g c clean p sound these tells old before db may 
     let (q, stands, here) = at.invariant.so_far (c.in-Fault.ensures.clean clean) p sound these tells old before in
     let so = rw steps at here in
     let full : filled these c.in-Some.entry ≡ Ok c.in-Ok-Ok.piece = sym (rw (at.invariant.files, tells, c.in-Ok-Ok.field-0-is) at c.in-Ok-Ok.ensures.fills) in
-    let less : length at.yielded < 4096 = inside _ _ _ _ (rw steps at at.invariant.items) c.requires.fine.0 in
-    let filled_within = rw c.in-Ok-Ok.field-0-is at c.in-Ok-Ok.ensures.within in
-    let within = stage_within _ _ _ c.in-Fault.ensures.named less (filled_within (entry_at _ _ _ (subst AreWithin (sym (rw steps at at.invariant.items)) c.requires.fine.1))) in
-    let either = (rw at.invariant.count at c.in-Fault.ensures.applied) clean q stands.0 stands.1 within db may in
-    rw at.invariant.count (left_in_doubt these _ _ p old before g.A.Apply.stands_for db _ _ _ _ q so full less stands.1 c.args.at (step_meets q _ _ _ c.args.at c.in-Fault.ensures.moment stands.1 within) either)
+    let less : length at.yielded < 4096 = inside _ _ _ _ (rw steps at at.invariant.items) c.requires.few in
+    let either = (rw at.invariant.count at c.in-Fault.ensures.applied) clean q stands.0 stands.1 db may in
+    rw at.invariant.count (left_in_doubt these _ _ p old before g.A.Apply.stands_for db _ _ _ _ q so full less stands.1 c.args.at ((rw at.invariant.count at c.in-Fault.ensures.keeps) q stands.1) either)
 
 pub loop-entry-preserved : goal.loop-entry-preserved
 loop-entry-preserved g c =
@@ -107,12 +101,10 @@ loop-entry-preserved g c =
           let (q, stands, here) = at.invariant.so_far (c.in-Ok.ensures.clean clean) p sound these tells old before in
           let so = rw steps at here in
           let full : filled these c.in-Some.entry ≡ Ok c.in-Ok-Ok.piece = sym (rw (at.invariant.files, tells, c.in-Ok-Ok.field-0-is) at c.in-Ok-Ok.ensures.fills) in
-          let less : length at.yielded < 4096 = inside _ _ _ _ (rw steps at at.invariant.items) c.requires.fine.0 in
-          let filled_within = rw c.in-Ok-Ok.field-0-is at c.in-Ok-Ok.ensures.within in
-          let within = stage_within _ _ _ c.in-Ok.ensures.named less (filled_within (entry_at _ _ _ (subst AreWithin (sym (rw steps at at.invariant.items)) c.requires.fine.1))) in
-          let (good, goes) = (rw at.invariant.count at c.in-Ok.ensures.applied) clean q stands.0 stands.1 within in (
+          let less : length at.yielded < 4096 = inside _ _ _ _ (rw steps at at.invariant.items) c.requires.few in
+          let (good, goes) = (rw at.invariant.count at c.in-Ok.ensures.applied) clean q stands.0 stands.1 in (
             step q (commands.Stage c.args.edition.now (pos (length at.yielded + 1)) c.in-Ok-Ok.piece) c.args.at,
-            (goes, step_meets q _ _ _ c.args.at c.in-Ok.ensures.moment stands.1 within),
+            (goes, (rw at.invariant.count at c.in-Ok.ensures.keeps) q stands.1),
             rw (length-append at.yielded (c.in-Some.entry ∷ [])) (so_far-more these _ _ p old before _ _ _ _ q so full less stands.1 c.args.at good),
           );
     }

@@ -7,7 +7,7 @@ use Rattle.mm_matrices.proofs.matrices.add_matrix.Goals as goal
 
 pub returns-in-Ok-Some-clause-any_text : goal.returns-in-Ok-Some-clause-any_text
 returns-in-Ok-Some-clause-any_text g c profile =
-    refuses_at profile _ _ _ _ _ (refused c.in-Ok-Some.number) (c.in-Ok-Some.ensures.look profile) (λ p within meets says. refused_for _ c.in-Ok-Some.number (sym (says meets) ∙ c.in-Ok-Some.field-0-is))
+    refuses_at profile _ _ _ _ _ (refused c.in-Ok-Some.number) (c.in-Ok-Some.ensures.look profile) (λ p meets says. refused_for _ c.in-Ok-Some.number (sym (says meets) ∙ c.in-Ok-Some.field-0-is))
 
 pub returns-in-Err-clause-any_text : goal.returns-in-Err-clause-any_text
 returns-in-Err-clause-any_text g c profile = look_gave_up_at profile _ _ _ _ _ (c.in-Err.ensures.look profile)
@@ -16,13 +16,13 @@ pub returns-in-Err-insert_matrix-clause-any_text : goal.returns-in-Err-insert_ma
 returns-in-Err-insert_matrix-clause-any_text g c profile =
     let a = c.args in
     change_gave_up_at profile _ _ _ _ _ _ (c.in-Ok-None.ensures.look profile) _ (c.in-Err-insert_matrix.ensures.change profile)
-    (λ p within meets says. matrix_is_new p a.table.now a.zoom a.matrix.now (sym c.in-Ok-None.field-0-is ∙ says meets))
+    (λ p meets says. matrix_is_new p a.table.now a.zoom a.matrix.now (sym c.in-Ok-None.field-0-is ∙ says meets))
 
 pub returns-in-Ok-touch-clause-any_text : goal.returns-in-Ok-touch-clause-any_text
 returns-in-Ok-touch-clause-any_text g c profile =
     let a = c.args in
     accepts_at profile _ _ _ _ _ _ (c.in-Ok-None.ensures.look profile) _ (changes_then profile _ _ _ _ _ (c.in-Ok.ensures.change profile) (c.in-Ok-touch.ensures.change profile) (λ p new. tt))
-    (λ p within meets says.
+    (λ p meets says.
     let none = sym c.in-Ok-None.field-0-is ∙ says meets in
     (matrix_is_new p a.table.now a.zoom a.matrix.now none, accepted_for _ (sym none), refl))
 
@@ -30,7 +30,7 @@ pub returns-in-Err-touch-clause-any_text : goal.returns-in-Err-touch-clause-any_
 returns-in-Err-touch-clause-any_text g c profile =
     let a = c.args in
     change_gave_up_at profile _ _ _ _ _ _ (c.in-Ok-None.ensures.look profile) _ (changes_then profile _ _ _ _ _ (c.in-Ok.ensures.change profile) (c.in-Err-touch.ensures.change profile) (λ p new. tt))
-    (λ p within meets says. matrix_is_new p a.table.now a.zoom a.matrix.now (sym c.in-Ok-None.field-0-is ∙ says meets))
+    (λ p meets says. matrix_is_new p a.table.now a.zoom a.matrix.now (sym c.in-Ok-None.field-0-is ∙ says meets))
 
 -- ---- at the stamp of a moment
 

@@ -1,7 +1,7 @@
 use Rattle.std.proofs.Common.{arith, refl}
 use Rattle.mm_base.specs.Fields.{AName, Plain, Whole}
 use Rattle.mm_base.specs.Records.{id_field}
-use Rattle.mm_base.proofs.ReadingFacts.{text_at, and_then, the_last, texts_are, holds, refuses, id_kept}
+use Rattle.mm_base.proofs.ReadingFacts.{text_at, and_then, the_last, texts_are, holds, refuses}
 use Rattle.mm_records.proofs.pieces.read_map_drop.Goals as goal
 
 pub returns-in-Err : goal.returns-in-Err
@@ -9,8 +9,8 @@ returns-in-Err c =
     let t = text_at c.args.fields.now in
     refuses c.args.fields.now 3 (omega arith) (omega arith) c.in-Err.is
     (and_then AName (t 0) (record { value = Plain; reads = c.name_field.ensures }) c.both-2.ensures
-    (and_then id_field (t 1) (record { value = Whole; reads = c.id_field.ensures }) c.both.ensures
-    (the_last id_field (t 2) (record { value = Whole; reads = c.id_field-2.ensures }))))
+    (and_then id_field (t 1) (record { value = Whole; reads = c.positive_field.ensures }) c.both.ensures
+    (the_last id_field (t 2) (record { value = Whole; reads = c.positive_field-2.ensures }))))
 
 pub returns-in-Ok : goal.returns-in-Ok
 returns-in-Ok c =
@@ -18,8 +18,6 @@ returns-in-Ok c =
     let all =
     holds c.in-Ok.is
     (and_then AName (t 0) (record { value = Plain; reads = c.name_field.ensures }) c.both-2.ensures
-    (and_then id_field (t 1) (record { value = Whole; reads = c.id_field.ensures }) c.both.ensures
-    (the_last id_field (t 2) (record { value = Whole; reads = c.id_field-2.ensures })))) in
-    let kept0 = id_kept c.in-Ok.read.1.0 all.1.0.1 in
-    let kept1 = id_kept c.in-Ok.read.1.1 all.1.1.0.1 in
-    rw (texts_are c.args.fields.now 3 (omega arith) (omega arith)) (simp (kept0, kept1) (refl, all))
+    (and_then id_field (t 1) (record { value = Whole; reads = c.positive_field.ensures }) c.both.ensures
+    (the_last id_field (t 2) (record { value = Whole; reads = c.positive_field-2.ensures })))) in
+    rw (texts_are c.args.fields.now 3 (omega arith) (omega arith)) (refl, all)

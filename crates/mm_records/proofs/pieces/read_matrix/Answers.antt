@@ -2,7 +2,7 @@ use Rattle.std.proofs.Common.{pos, arith, refl}
 use Rattle.mm_base.specs.Fields.{AName, Plain, Whole}
 use Rattle.mm_base.specs.Records.{matrix_side, pixel_size, tile_side, zoom_field}
 use Rattle.mm_base.specs.Bounds.{current}
-use Rattle.mm_base.proofs.ReadingFacts.{text_at, and_then, the_last, texts_are, holds, refuses, pixel_size_kept}
+use Rattle.mm_base.proofs.ReadingFacts.{text_at, and_then, the_last, texts_are, holds, refuses}
 use Rattle.mm_records.proofs.pieces.read_matrix.Goals as goal
 
 pub returns-in-Err : goal.returns-in-Err
@@ -15,8 +15,8 @@ returns-in-Err c =
     (and_then matrix_side (t 3) (record { value = λ z. Whole (pos z); reads = c.count_field-2.ensures }) c.both-4.ensures
     (and_then tile_side (t 4) (record { value = λ z. Whole (pos z); reads = c.count_field-3.ensures }) c.both-3.ensures
     (and_then tile_side (t 5) (record { value = λ z. Whole (pos z); reads = c.count_field-4.ensures }) c.both-2.ensures
-    (and_then (pixel_size current) (t 6) (record { value = Whole; reads = c.number_field.ensures }) c.both.ensures
-    (the_last (pixel_size current) (t 7) (record { value = Whole; reads = c.number_field-2.ensures })))))))))
+    (and_then (pixel_size current) (t 6) (record { value = Whole; reads = c.positive_field.ensures }) c.both.ensures
+    (the_last (pixel_size current) (t 7) (record { value = Whole; reads = c.positive_field-2.ensures })))))))))
 
 pub returns-in-Ok : goal.returns-in-Ok
 returns-in-Ok c =
@@ -29,8 +29,6 @@ returns-in-Ok c =
     (and_then matrix_side (t 3) (record { value = λ z. Whole (pos z); reads = c.count_field-2.ensures }) c.both-4.ensures
     (and_then tile_side (t 4) (record { value = λ z. Whole (pos z); reads = c.count_field-3.ensures }) c.both-3.ensures
     (and_then tile_side (t 5) (record { value = λ z. Whole (pos z); reads = c.count_field-4.ensures }) c.both-2.ensures
-    (and_then (pixel_size current) (t 6) (record { value = Whole; reads = c.number_field.ensures }) c.both.ensures
-    (the_last (pixel_size current) (t 7) (record { value = Whole; reads = c.number_field-2.ensures }))))))))) in
-    let kept0 = pixel_size_kept c.in-Ok.read.1.1.1.1.1.1.0 all.1.1.1.1.1.1.0.1 in
-    let kept1 = pixel_size_kept c.in-Ok.read.1.1.1.1.1.1.1 all.1.1.1.1.1.1.1.0.1 in
-    rw (texts_are c.args.fields.now 8 (omega arith) (omega arith)) (simp (kept0, kept1) (refl, all))
+    (and_then (pixel_size current) (t 6) (record { value = Whole; reads = c.positive_field.ensures }) c.both.ensures
+    (the_last (pixel_size current) (t 7) (record { value = Whole; reads = c.positive_field-2.ensures }))))))))) in
+    rw (texts_are c.args.fields.now 8 (omega arith) (omega arith)) (refl, all)

@@ -4,7 +4,7 @@ use Rattle.mm_base.specs.Records.{coordinate, named_system, step_words}
 use Rattle.mm_base.specs.Bounds.{current}
 use Rattle.mm_base.specs.Package.{kind_text}
 use Rattle.mm_base.specs.Effects.{step_kind}
-use Rattle.mm_base.proofs.ReadingFacts.{text_at, and_then, the_last, texts_are, holds, refuses, coordinate_kept, system_kept}
+use Rattle.mm_base.proofs.ReadingFacts.{text_at, and_then, the_last, texts_are, holds, refuses}
 use Rattle.mm_records.proofs.records.read_pyramid.Goals as goal
 
 pub returns-in-Err : goal.returns-in-Err
@@ -13,11 +13,11 @@ returns-in-Err c =
     refuses c.args.fields.now 8 (omega arith) (omega arith) c.in-Err.is
     (and_then AName (t 0) (record { value = Plain; reads = c.name_field.ensures }) c.both-7.ensures
     (and_then AnIdentifier (t 1) (record { value = Plain; reads = c.read.ensures }) c.both-6.ensures
-    (and_then named_system (t 2) (record { value = Whole; reads = c.number_field.ensures }) c.both-5.ensures
-    (and_then (coordinate current) (t 3) (record { value = Whole; reads = c.number_field-2.ensures }) c.both-4.ensures
-    (and_then (coordinate current) (t 4) (record { value = Whole; reads = c.number_field-3.ensures }) c.both-3.ensures
-    (and_then (coordinate current) (t 5) (record { value = Whole; reads = c.number_field-4.ensures }) c.both-2.ensures
-    (and_then (coordinate current) (t 6) (record { value = Whole; reads = c.number_field-5.ensures }) c.both.ensures
+    (and_then named_system (t 2) (record { value = Whole; reads = c.system_field.ensures }) c.both-5.ensures
+    (and_then (coordinate current) (t 3) (record { value = Whole; reads = c.signed_field.ensures }) c.both-4.ensures
+    (and_then (coordinate current) (t 4) (record { value = Whole; reads = c.signed_field-2.ensures }) c.both-3.ensures
+    (and_then (coordinate current) (t 5) (record { value = Whole; reads = c.signed_field-3.ensures }) c.both-2.ensures
+    (and_then (coordinate current) (t 6) (record { value = Whole; reads = c.signed_field-4.ensures }) c.both.ensures
     (the_last step_words (t 7) (record { value = λ step. Plain (kind_text (step_kind step)); reads = c.step_field.ensures })))))))))
 
 pub returns-in-Ok : goal.returns-in-Ok
@@ -27,15 +27,10 @@ returns-in-Ok c =
     holds c.in-Ok.is
     (and_then AName (t 0) (record { value = Plain; reads = c.name_field.ensures }) c.both-7.ensures
     (and_then AnIdentifier (t 1) (record { value = Plain; reads = c.read.ensures }) c.both-6.ensures
-    (and_then named_system (t 2) (record { value = Whole; reads = c.number_field.ensures }) c.both-5.ensures
-    (and_then (coordinate current) (t 3) (record { value = Whole; reads = c.number_field-2.ensures }) c.both-4.ensures
-    (and_then (coordinate current) (t 4) (record { value = Whole; reads = c.number_field-3.ensures }) c.both-3.ensures
-    (and_then (coordinate current) (t 5) (record { value = Whole; reads = c.number_field-4.ensures }) c.both-2.ensures
-    (and_then (coordinate current) (t 6) (record { value = Whole; reads = c.number_field-5.ensures }) c.both.ensures
+    (and_then named_system (t 2) (record { value = Whole; reads = c.system_field.ensures }) c.both-5.ensures
+    (and_then (coordinate current) (t 3) (record { value = Whole; reads = c.signed_field.ensures }) c.both-4.ensures
+    (and_then (coordinate current) (t 4) (record { value = Whole; reads = c.signed_field-2.ensures }) c.both-3.ensures
+    (and_then (coordinate current) (t 5) (record { value = Whole; reads = c.signed_field-3.ensures }) c.both-2.ensures
+    (and_then (coordinate current) (t 6) (record { value = Whole; reads = c.signed_field-4.ensures }) c.both.ensures
     (the_last step_words (t 7) (record { value = λ step. Plain (kind_text (step_kind step)); reads = c.step_field.ensures }))))))))) in
-    let kept0 = system_kept c.in-Ok.read.1.1.0 all.1.1.0.1 in
-    let kept1 = coordinate_kept c.in-Ok.read.1.1.1.0 all.1.1.1.0.1 in
-    let kept2 = coordinate_kept c.in-Ok.read.1.1.1.1.0 all.1.1.1.1.0.1 in
-    let kept3 = coordinate_kept c.in-Ok.read.1.1.1.1.1.0 all.1.1.1.1.1.0.1 in
-    let kept4 = coordinate_kept c.in-Ok.read.1.1.1.1.1.1.0 all.1.1.1.1.1.1.0.1 in
-    rw (texts_are c.args.fields.now 8 (omega arith) (omega arith)) (simp (kept0, kept1, kept2, kept3, kept4) (refl, all))
+    rw (texts_are c.args.fields.now 8 (omega arith) (omega arith)) (refl, all)

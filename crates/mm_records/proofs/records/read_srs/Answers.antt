@@ -1,17 +1,17 @@
 use Rattle.std.proofs.Common.{arith, refl}
 use Rattle.mm_base.specs.Fields.{Plain, Whole}
 use Rattle.mm_base.specs.Records.{definition_field, id_field, remark_field, system_name}
-use Rattle.mm_base.proofs.ReadingFacts.{text_at, and_then, the_last, texts_are, holds, refuses, id_kept}
+use Rattle.mm_base.proofs.ReadingFacts.{text_at, and_then, the_last, texts_are, holds, refuses}
 use Rattle.mm_records.proofs.records.read_srs.Goals as goal
 
 pub returns-in-Err : goal.returns-in-Err
 returns-in-Err c =
     let t = text_at c.args.fields.now in
     refuses c.args.fields.now 6 (omega arith) (omega arith) c.in-Err.is
-    (and_then id_field (t 0) (record { value = Whole; reads = c.id_field.ensures }) c.both-5.ensures
+    (and_then id_field (t 0) (record { value = Whole; reads = c.positive_field.ensures }) c.both-5.ensures
     (and_then system_name (t 1) (record { value = Plain; reads = c.read.ensures }) c.both-4.ensures
     (and_then system_name (t 2) (record { value = Plain; reads = c.read-2.ensures }) c.both-3.ensures
-    (and_then id_field (t 3) (record { value = Whole; reads = c.id_field-2.ensures }) c.both-2.ensures
+    (and_then id_field (t 3) (record { value = Whole; reads = c.positive_field-2.ensures }) c.both-2.ensures
     (and_then definition_field (t 4) (record { value = Plain; reads = c.read-3.ensures }) c.both.ensures
     (the_last remark_field (t 5) (record { value = Plain; reads = c.read-4.ensures })))))))
 
@@ -20,12 +20,10 @@ returns-in-Ok c =
     let t = text_at c.args.fields.now in
     let all =
     holds c.in-Ok.is
-    (and_then id_field (t 0) (record { value = Whole; reads = c.id_field.ensures }) c.both-5.ensures
+    (and_then id_field (t 0) (record { value = Whole; reads = c.positive_field.ensures }) c.both-5.ensures
     (and_then system_name (t 1) (record { value = Plain; reads = c.read.ensures }) c.both-4.ensures
     (and_then system_name (t 2) (record { value = Plain; reads = c.read-2.ensures }) c.both-3.ensures
-    (and_then id_field (t 3) (record { value = Whole; reads = c.id_field-2.ensures }) c.both-2.ensures
+    (and_then id_field (t 3) (record { value = Whole; reads = c.positive_field-2.ensures }) c.both-2.ensures
     (and_then definition_field (t 4) (record { value = Plain; reads = c.read-3.ensures }) c.both.ensures
     (the_last remark_field (t 5) (record { value = Plain; reads = c.read-4.ensures }))))))) in
-    let kept0 = id_kept c.in-Ok.read.0 all.0.1 in
-    let kept1 = id_kept c.in-Ok.read.1.1.1.0 all.1.1.1.0.1 in
-    rw (texts_are c.args.fields.now 6 (omega arith) (omega arith)) (simp (kept0, kept1) (refl, all))
+    rw (texts_are c.args.fields.now 6 (omega arith) (omega arith)) (refl, all)

@@ -1,7 +1,7 @@
 use Rattle.std.proofs.Common.{refl}
 use Rattle.mm_base.specs.Fields.{AName, Plain, Whole}
 use Rattle.mm_base.specs.Records.{id_field}
-use Rattle.mm_base.proofs.ReadingFacts.{text_at, texts_of, and_then, holds, id_kept}
+use Rattle.mm_base.proofs.ReadingFacts.{text_at, texts_of, and_then, holds}
 use Rattle.mm_records.proofs.RecordFacts.{after_two, piece_fields, stage_met, stage_refuses, two_and_rest}
 use Rattle.mm_records.proofs.records.read_stage.Goals as goal
 
@@ -10,7 +10,7 @@ returns-in-Err c =
     let xs = c.args.fields.now in
     stage_refuses xs c.in-len2-up.len_at_least c.in-Err.is
     (and_then AName (text_at xs 0) (record { value = Plain; reads = c.name_field.ensures }) c.both-2.ensures
-    (and_then id_field (text_at xs 1) (record { value = Whole; reads = c.id_field.ensures }) c.both.ensures
+    (and_then id_field (text_at xs 1) (record { value = Whole; reads = c.positive_field.ensures }) c.both.ensures
     (piece_fields (texts_of (after_two xs)) c.read_piece.result c.read_piece.ensures.reads)))
 
 pub returns-in-Ok : goal.returns-in-Ok
@@ -19,7 +19,6 @@ returns-in-Ok c =
     let all =
     holds c.in-Ok.is
     (and_then AName (text_at xs 0) (record { value = Plain; reads = c.name_field.ensures }) c.both-2.ensures
-    (and_then id_field (text_at xs 1) (record { value = Whole; reads = c.id_field.ensures }) c.both.ensures
+    (and_then id_field (text_at xs 1) (record { value = Whole; reads = c.positive_field.ensures }) c.both.ensures
     (piece_fields (texts_of (after_two xs)) c.read_piece.result c.read_piece.ensures.reads))) in
-    let kept0 = id_kept c.in-Ok.read.1.0 all.1.0.1 in
-    rw (two_and_rest xs c.in-len2-up.len_at_least) (rw kept0 (refl, stage_met _ _ (texts_of (after_two xs)) _ _ _ _ all))
+    rw (two_and_rest xs c.in-len2-up.len_at_least) (refl, stage_met _ _ (texts_of (after_two xs)) _ _ _ _ all)

@@ -1,7 +1,6 @@
 use Rattle.std.proofs.Common.{◌∙◌, ap}
 use Rattle.csv.specs.Records.{fields_of}
 use Rattle.mm_run.proofs.Answered.{answered_command, answered_refusal, fault-fails}
-use Rattle.mm_run.proofs.Keeps.{spelled_within}
 use Rattle.mm_run.proofs.answering.answer_row.Goals as goal
 
 pub returns-in-Ok-clause-answered : goal.returns-in-Ok-clause-answered
@@ -12,7 +11,7 @@ returns-in-Ok-clause-answered g c clean p sound =
     answered_command (fields_of c.args.row) p c.args.at before failed (g.A.Apply.settled c.apply.new.self) (g.A.Apply.may_leave c.apply.new.self) g.A.Apply.stands_for
     c.in-Ok.command c.apply.result read c.milliseconds-milliseconds.ensures.within sound.1
     (fault-fails before failed c.apply.result (λ was. ap g.A.Apply.has_failed (c.apply.ensures.ended was).1 ∙ was) c.apply.ensures.fails)
-    (c.apply.ensures.applied clean p sound.0 sound.1 (spelled_within (fields_of c.args.row) c.in-Ok.command read.1))
+    (c.apply.ensures.applied clean p sound.0 sound.1)
 
 pub returns-in-Err-Refused-clause-answered : goal.returns-in-Err-Refused-clause-answered
 returns-in-Err-Refused-clause-answered g c clean p sound =

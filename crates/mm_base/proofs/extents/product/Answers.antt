@@ -1,7 +1,7 @@
 use Rattle.std.proofs.Common.{ℕ, pos, ◌-◌, ◌*◌, ◌*ℤ◌, ◌^◌, ◌<◌, w64, arith, to_z, of_z, FitsSigned, ◌≡◌, ap, ◌∙◌}
 use Rattle.std.specs.Int.{w128}
 use Rattle.std.proofs.lemmas.Int.{ints, fits_signed_mul, to_z-of_z}
-use Rattle.mm_base.proofs.extents.measure.Goals as goal
+use Rattle.mm_base.proofs.extents.product.Goals as goal
 
 below : (a b : ℕ) → a < 2 ^ 32 → b < 2 ^ 32 → a * b < 2 ^ 64
 below a b h k = grind arith

@@ -9,3 +9,7 @@ inside io = io.inner
 -- a read, write or flush through it answered an error
 abbrev pub has_failed : {T : Type 0} → Io T → Bool
 has_failed io = io.failed
+
+-- nothing was written through it since it was made or last flushed
+abbrev pub is_flushed : {T : Type 0} → Io T → Bool
+is_flushed io = io.flushed

@@ -2,7 +2,8 @@
 
 ghost use Rattle.std.specs.Prelude.{◌≡◌, false, IfOk, IfErr};
 ghost use Rattle.sqlite.specs.Files.{file_state};
-ghost use Rattle.mm_base.specs.Streams.{inside};
+ghost use Rattle.mm_base.specs.Streams.{inside, is_flushed};
+ghost use Rattle.mm_run.specs.Runs.{TellsFlush};
 ghost use Rattle.mm_core.specs.Parts.{held, has_failed};
 ghost use Rattle.mm_recovery.specs.Recovered.{IsRecovered, IsNotRecovered, IsRunRecovered, IsRunNotRecovered};
 
@@ -58,6 +59,7 @@ pub fn run_and_recover<D: Crash + Drop, R: Read, W: Write>(
     Result<Tally, RunFault>,
     Result<Session<FileStore<D>>, NotRecovered<D>>,
 )
+    ensures flushed { TellsFlush (is_flushed writer.old) (is_flushed writer.new) result.0 }
     ensures working { IfOk result.1 (λ again. has_failed again ≡ false) }
     ensures recovered { IfOk result.1 (λ again. IsRunRecovered (file_state (held session)) (file_state (held again)) (R.remaining (inside reader.old)) (W.contents (inside writer.old)) (W.contents (inside writer.new)) at result.0) }
     ensures not_recovered { IfErr result.1 (λ e. IsRunNotRecovered (file_state (held session)) (R.remaining (inside reader.old)) e.0 e.1) }

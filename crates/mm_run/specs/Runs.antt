@@ -90,6 +90,11 @@ TellsFailureOf before failed same (Err e) =
 abbrev pub TellsWriter : Bool → Bool → RunFault → Type 0
 TellsWriter before failed e = (e.fault.0 ≡ 97 → failed ≡ true) × (e.fault.0 ≢ 97 → failed ≡ before)
 
+-- All that was written was flushed, where it was before; after a fault, where that is not the writer's.
+abbrev pub TellsFlush : Bool → Bool → Result Tally RunFault → Type 0
+TellsFlush before flushed (Ok t) = before ≡ true → flushed ≡ true
+TellsFlush before flushed (Err e) = e.fault.0 ≢ 97 → flushed ≡ true
+
 -- ---- inside a run
 -- the answer to a record, and what then is settled or may be left
 abbrev pub IsAnswered : {D : Type 0} → Record → Package → ℕ → Bool → Bool → Answer → (Package → Type 0) → (D → Type 0) → (D → Package → Type 0) → Type 0

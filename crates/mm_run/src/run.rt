@@ -9,7 +9,7 @@ ghost use Rattle.mm_base.specs.Streams as streams;
 ghost use Rattle.mm_base.specs.declared.answers.Answer.{Answer};
 ghost use Rattle.mm_lines.specs.Records.{IsSetUp};
 ghost use Rattle.mm_run.specs.Told.{AreTold, IsNear};
-ghost use Rattle.mm_run.specs.Runs.{IsAll, IsRunFault, IsSome, IsStopped, OnRun, RanAll, RanSome, TellsFailureOf, TellsWriter, WorksOn};
+ghost use Rattle.mm_run.specs.Runs.{IsAll, IsRunFault, IsSome, IsStopped, OnRun, RanAll, RanSome, TellsFailureOf, TellsFlush, TellsWriter, WorksOn};
 
 use crate::answering::turn;
 use crate::apply::Apply;
@@ -38,6 +38,7 @@ fn run_rows<A: Apply, T: Read + Tells, W: Write>(
     ensures stopped { IfErr result (λ e. (given : List Answer) × IsStopped given e (W.contents (inside writer.old)) (W.contents (inside writer.new)) (streams.has_failed writer.old) (streams.has_failed writer.new)
         × OnRun (A.is_clean session.new) (A.settled session.old) (source_of T.remaining rows.old) (λ p xs. IsSome p at xs (reader_state rows.old) (A.has_failed session.old) (A.has_failed session.new) (A.settled session.new) (A.may_leave session.new) A.stands_for given e.tally.written)) }
     ensures working { OnOk result (streams.has_failed writer.new ≡ streams.has_failed writer.old) }
+    ensures flushed { TellsFlush (streams.is_flushed writer.old) (streams.is_flushed writer.new) result }
     ensures small { IfOk result (λ t. (t.accepted + t.refused ≡ t.written) × (t.written + 1 < 2 ^ 64)) }
     ensures near { IfErr result (λ e. IsNear e.tally) }
     ensures session { TellsFailureOf (A.has_failed session.old) (A.has_failed session.new) (session.new ≡ session.old) result }
@@ -80,6 +81,7 @@ fn run_held<'a, A: Apply, R: Read, W: Write, K: Lender>(
     ensures stopped { IfErr result.1 (λ e. (given : List Answer) × IsStopped given e (W.contents (inside writer.old)) (W.contents (inside writer.new)) (streams.has_failed writer.old) (streams.has_failed writer.new)
         × OnRun (A.is_clean session.new) (A.settled session.old) (option_map strip_bom (R.remaining (inside held.entry.reader.now))) (λ p xs. IsSome p at xs states.StartRecord (A.has_failed session.old) (A.has_failed session.new) (A.settled session.new) (A.may_leave session.new) A.stands_for given e.tally.written)) }
     ensures working { OnOk result.1 (streams.has_failed writer.new ≡ streams.has_failed writer.old) }
+    ensures flushed { TellsFlush (streams.is_flushed writer.old) (streams.is_flushed writer.new) result.1 }
     ensures small { IfOk result.1 (λ t. (t.accepted + t.refused ≡ t.written) × (t.written + 1 < 2 ^ 64)) }
     ensures near { IfErr result.1 (λ e. IsNear e.tally) }
     ensures session { TellsFailureOf (A.has_failed session.old) (A.has_failed session.new) (session.new ≡ session.old) result.1 }
@@ -110,6 +112,7 @@ fn run_told<A: Apply, R: Read, W: Write>(
         × OnRun (A.is_clean session.new) (A.settled session.old) (option_map strip_bom (R.remaining (inside reader.old))) (λ p xs. IsSome p at xs states.StartRecord (A.has_failed session.old) (A.has_failed session.new) (A.settled session.new) (A.may_leave session.new) A.stands_for given e.tally.written)) }
     ensures end { OnOk result (IsAtEnd (R.remaining (inside reader.new))) }
     ensures working { OnOk result (streams.has_failed writer.new ≡ streams.has_failed writer.old) }
+    ensures flushed { TellsFlush (streams.is_flushed writer.old) (streams.is_flushed writer.new) result }
     ensures near { IfErr result (λ e. IsNear e.tally) }
     ensures session { TellsFailureOf (A.has_failed session.old) (A.has_failed session.new) (session.new ≡ session.old) result }
     ensures why { IfErr result (λ e. (e.fault.0 ≡ 97) ⊎ IsRunFault e.fault.0 (streams.has_failed reader.new)) }
@@ -156,6 +159,7 @@ pub fn run_list<A: Apply, R: Read, W: Write>(
         (λ p bytes. RanAll p at bytes (A.settled session.new) (A.may_leave session.new) A.stands_for (W.contents (inside writer.old)) (W.contents (inside writer.new)) t)) }
     ensures end { OnOk result (IsAtEnd (R.remaining (inside reader.new))) }
     ensures working { OnOk result (streams.has_failed writer.new ≡ streams.has_failed writer.old) }
+    ensures flushed { TellsFlush (streams.is_flushed writer.old) (streams.is_flushed writer.new) result }
 
     // With one the first records are, and what may be left is a first part of the accepted commands. Where no command failed the
     // session works on, settled for the package after them.

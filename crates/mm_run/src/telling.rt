@@ -1,7 +1,7 @@
 //! Telling an answer: its line is written and counted.
 
-ghost use Rattle.std.specs.Prelude.{◌≡◌, ◌+◌, ◌<◌, ◌^◌, IfOk, IfErr};
-ghost use Rattle.mm_base.specs.Streams.{has_failed, inside};
+ghost use Rattle.std.specs.Prelude.{◌≡◌, ◌≢◌, ◌+◌, ◌<◌, ◌^◌, IfOk, IfErr, true};
+ghost use Rattle.mm_base.specs.Streams.{has_failed, inside, is_flushed};
 ghost use Rattle.mm_run.specs.Told.{Goes, IsNear, Stops, with_answer};
 
 use mm_base::answers::{Answer, Fault, RunFault, Tally};
@@ -39,6 +39,8 @@ pub(crate) fn tell<W: Write>(
     ensures goes { IfOk result (λ t. Goes (W.contents (inside writer.old)) (W.contents (inside writer.new)) (has_failed writer.old) (has_failed writer.new) n answer tally t) }
     ensures near { IfErr result (λ e. IsNear e.tally) }
     ensures stops { IfErr result (λ e. Stops (W.contents (inside writer.old)) (W.contents (inside writer.new)) (has_failed writer.old) (has_failed writer.new) n answer tally e) }
+    ensures flushed { IfOk result (λ t. is_flushed writer.new ≡ true) }
+    ensures told { IfErr result (λ e. e.fault.0 ≢ 97 → is_flushed writer.new ≡ true) }
 {
     let mut tally = counted(tally, answer);
     match send(writer, answer_line(n, answer).as_slice()) {

@@ -4,5 +4,5 @@ use Rattle.mm_listing.proofs.listing.send_line.Goals as goal
 
 pub returns-in-Cut : goal.returns-in-Cut
 returns-in-Cut g c =
-    let cut = c.in-Cut.ensures in
+    let cut = c.in-Cut.ensures.sent in
     (refl, cut.0, (take cut.1 c.args.line.now, drop cut.1 c.args.line.now, sym (take-append-drop cut.1 c.args.line.now), cut.3))

@@ -1,6 +1,6 @@
 use Rattle.std.proofs.Common.{◌≡◌, ◌+◌, List, true}
 use Rattle.csv.specs.Reading.{source_of}
-use Rattle.mm_base.specs.Streams.{has_failed, inside}
+use Rattle.mm_base.specs.Streams.{has_failed, inside, is_flushed}
 use Rattle.mm_base.specs.declared.answers.Answer.{Answer}
 use Rattle.mm_lines.specs.Records.{IsSetUp}
 use Rattle.mm_run.specs.Told.{AreTold}
@@ -12,6 +12,7 @@ invariant-loop-n g l = record {
   set_up : IsSetUp l.rows;
   counted : l.tally.accepted + l.tally.refused + 1 ≡ l.n;
   numbered : l.tally.written + 1 ≡ l.n;
+  flushed : is_flushed l.fn.writer ≡ true → is_flushed l.writer ≡ true;
   working : has_failed l.writer ≡ has_failed l.fn.writer;
   clean : g.A.Apply.is_clean l.session → g.A.Apply.is_clean l.fn.session;
   same : g.A.Apply.has_failed l.session ≡ g.A.Apply.has_failed l.fn.session;

@@ -80,14 +80,20 @@ def opening(program, file, folder):
     return measured([program, "check", copy], status=4)
 
 
-def main():
-    given = common.words_of(__doc__, tiles=(100000, "tiles in the end, at most 160,000"), bytes=(200, "bytes of a tile"))
+def new_package(given, folder):
+    """Makes a package with an empty pyramid in a file of the folder, whose path it returns."""
     if given.tiles > SIDE * SIDE:
         raise SystemExit(f"at most {SIDE * SIDE} tiles")
+    file = os.path.join(folder, "bench.gpkg")
+    common.make_package(given.program, file, common.layout(SIDE))
+    return file
+
+
+def main():
+    given = common.words_of(__doc__, tiles=(100000, "tiles in the end, at most 160,000"), bytes=(200, "bytes of a tile"))
     with tempfile.TemporaryDirectory(dir=given.folder) as folder:
-        file = os.path.join(folder, "bench.gpkg")
+        file = new_package(given, folder)
         other = os.path.join(folder, "other.db")
-        common.make_package(given.program, file, common.layout(SIDE))
         taken = []
         for start, end in ((0, given.tiles // 2), (given.tiles // 2, given.tiles)):
             fill(given.program, file, folder, start, end, given.bytes)

@@ -7,13 +7,12 @@ A package of one pyramid is filled, and put back to profile 1 by scripts/make_pr
 peak memory of `migrate`, of `migrate` again, which only checks, and of `check`; and how much of the file migrating changed.
 """
 
-import os
 import pathlib
 import sys
 import tempfile
 
 import common
-from check import SIDE, fill, measured
+from check import fill, measured, new_package
 
 sys.path.insert(0, str(pathlib.Path(__file__).resolve().parent.parent / "scripts"))
 from make_profile_1 import put_back  # noqa: E402
@@ -28,11 +27,8 @@ def changed(before, after):
 
 def main():
     given = common.words_of(__doc__, tiles=(100000, "tiles, at most 160,000"), bytes=(200, "bytes of a tile"))
-    if given.tiles > SIDE * SIDE:
-        raise SystemExit(f"at most {SIDE * SIDE} tiles")
     with tempfile.TemporaryDirectory(dir=given.folder) as folder:
-        file = os.path.join(folder, "bench.gpkg")
-        common.make_package(given.program, file, common.layout(SIDE))
+        file = new_package(given, folder)
         fill(given.program, file, folder, 0, given.tiles, given.bytes)
         if not put_back(file):
             raise SystemExit("no form in profile 1")

@@ -1,7 +1,7 @@
 #!/usr/bin/env bash
 # What the built program shows from outside, by programs that share no code with this repository: the example with its output, the tables
-# of the file, the page by curl, refused growths of memory, random lists against a model, and the border to the standard where GDAL is
-# installed. The last line is 'N passed, M failed'.
+# of the file, the page by curl, a machine's clock at its ends, refused growths of memory, random lists against a model, and the border to
+# the standard where GDAL is installed. The last line is 'N passed, M failed'.
 #
 #     scripts/outside.sh [PROGRAM]
 #
@@ -54,6 +54,7 @@ want sqlite3:sqlite3 curl:curl xxd:xxd cc:gcc python3:python3
 try 'the example' example
 try 'the tables of its file' scripts/compare_schema.sh "$folder/example.gpkg"
 try 'the page' scripts/page_curl.sh
+try 'the clock' scripts/clock.sh
 try 'refused growths of memory' scripts/refuse_memory.py "$MMPKG" "${STRIDE:-97}"
 try 'random lists' scripts/random_lists.py
 try 'the border to the standard' scripts/border.sh

@@ -5,6 +5,7 @@ ghost use Rattle.std.specs.Time.{system_time_nanos};
 ghost use Rattle.mm_program.specs.Clock.{IsNow};
 
 use mm_base::moments::Moment;
+use std::io;
 use std::time::SystemTime;
 
 /// What the clock says.
@@ -33,10 +34,11 @@ fn moment_at(time: SystemTime) -> Now
     }
 }
 
-/// The moment of the clock, asked once. What a clock shows is no matter of a contract.
+/// The moment of the clock, asked once; one before 1970 is invalid data to the library. What a clock shows is no matter of a contract.
 fn time_now(rt: &HostRuntime) -> Now {
     match SystemTime::now(rt) {
         Ok(time) => moment_at(time),
+        Err(error) if error.kind() == io::ErrorKind::InvalidData => Now::Outside,
         Err(_) => Now::Unread,
     }
 }

@@ -30,6 +30,11 @@ NextRow remaining old new (Some row) = ReadRecord remaining old new true (fields
 abbrev pub IsReadFault : ℕ → Bool → Type 0
 IsReadFault fault failed = (fault ≡ 90) ⊎ ((fault ≡ 96) × (failed ≡ true))
 
+-- which of the two it is: the reader's where it tells that it has failed
+abbrev pub read_fault : Bool → ℕ
+read_fault true = 96
+read_fault false = 90
+
 -- at least so many of the known bytes were read
 abbrev pub ReadAtLeast : ℕ → Option (List ℕ) → Option (List ℕ) → Type 0
 ReadAtLeast n None new = ⊤

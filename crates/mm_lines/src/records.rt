@@ -4,7 +4,7 @@ ghost use Rattle.std.specs.Prelude.{◌≡◌, IfOk, IfErr, OnSome, map, option_
 ghost use Rattle.csv.specs.Reading.{reader_source, reader_state, source_of, strip_bom};
 ghost use Rattle.csv.specs.Records.{fields_of};
 ghost use Rattle.csv.specs.declared.parser.State.TheVariants as states;
-ghost use Rattle.mm_lines.specs.Records.{IsReadFault, IsSetUp, NextRow};
+ghost use Rattle.mm_lines.specs.Records.{IsReadFault, IsSetUp, NextRow, read_fault};
 
 use crate::lending::Tells;
 use csv::{ByteRecord, Reader, ReaderBuilder, StringRecord};
@@ -40,13 +40,14 @@ pub fn next_row<T: Read + Tells>(
     ensures stays { IfOk result (λ o. OnSome o (IsSetUp rows.new)) }
     ensures reads { IfOk result (λ o. NextRow T.remaining rows.old rows.new o) }
     ensures fault { IfErr result (λ f. IsReadFault f.0 (T.has_failed (reader_source rows.new))) }
+    ensures number { IfErr result (λ f. f.0 ≡ read_fault (T.has_failed (reader_source rows.new))) }
 {
     let mut row = ByteRecord::new(alloc);
     match rows.read_byte_record(&mut row) {
         Ok(true) => Ok(Some(row)),
         Ok(false) => Ok(None),
-        Err(e) => {
-            if e.is_io_error() && rows.get_ref().failed() {
+        Err(_) => {
+            if rows.get_ref().failed() {
                 Err(Fault(96))
             } else {
                 Err(Fault(90))

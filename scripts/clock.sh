@@ -1,7 +1,7 @@
 #!/usr/bin/env bash
 # The moment of a run that names none, by a machine whose clock shows what this script says: a library in front of the C library's
-# answers `clock_gettime`. A moment at the ends of the limits becomes the last_change; one outside them is `refused 11`, and a clock
-# that can't be read is `fault 96`, both before the file is opened.
+# answers `clock_gettime`. A moment at the ends of the limits becomes the last_change; one outside them is `refused 11`, and a clock that
+# can't be read is `fault 96`, both before the file is opened. Where a moment is given the clock makes no difference.
 #
 #     scripts/clock.sh [PROGRAM]
 set -eu -o pipefail
@@ -33,22 +33,26 @@ int clock_gettime(clockid_t id, struct timespec *at) {
 C
 cc -shared -fPIC -o clock.so clock.c
 
-# Runs a table's record on a new package by a clock: WANTED STATUS LAST_CHANGE SETTING..
+# Runs a table's record on a new package by a clock: WANTED STATUS LAST_CHANGE SETTING.. [--at MOMENT]
 run() {
-    local wanted=$1 status=$2 change=$3 said got=0
+    local wanted=$1 status=$2 change=$3 settings=() said got=0
     shift 3
+    while [ $# -gt 0 ] && [ "$1" != --at ]; do
+        settings+=("$1")
+        shift
+    done
     rm -f a.gpkg a.gpkg-wal
     "$program" init a.gpkg
     cp a.gpkg before.gpkg
-    said=$(echo table,spots,attributes,Spots | env "$@" LD_PRELOAD="$folder/clock.so" "$program" run a.gpkg) || got=$?
+    said=$(echo table,spots,attributes,Spots | env "${settings[@]}" LD_PRELOAD="$folder/clock.so" "$program" run a.gpkg "$@") || got=$?
     if [ "$said" != "$wanted" ] || [ "$got" != "$status" ]; then
-        echo "$*: '$said', status $got; wanted '$wanted', status $status"
+        echo "${settings[*]} $*: '$said', status $got; wanted '$wanted', status $status"
         exit 1
     fi
     if [ "$change" = same ]; then
         cmp a.gpkg before.gpkg
     elif [ "$(sqlite3 a.gpkg 'SELECT last_change FROM gpkg_contents')" != "$change" ]; then
-        echo "$*: the last_change is $(sqlite3 a.gpkg 'SELECT last_change FROM gpkg_contents'); wanted $change"
+        echo "${settings[*]} $*: the last_change is $(sqlite3 a.gpkg 'SELECT last_change FROM gpkg_contents'); wanted $change"
         exit 1
     fi
 }
@@ -59,4 +63,6 @@ run '1 ok' 0 9999-12-31T23:59:59.999Z CLOCK_SECONDS=253402300799 CLOCK_NANOSECON
 run 'refused 11' 1 same CLOCK_SECONDS=253402300800 CLOCK_NANOSECONDS=0
 run 'refused 11' 1 same CLOCK_SECONDS=-1 CLOCK_NANOSECONDS=999999999
 run 'fault 96' 3 same CLOCK_NANOSECONDS=0
-echo "three moments, two outside the limits, and a clock that can't be read"
+run '1 ok' 0 1970-01-02T00:00:00.000Z CLOCK_SECONDS=0 CLOCK_NANOSECONDS=0 --at 86400000
+run '1 ok' 0 1970-01-02T00:00:00.000Z CLOCK_NANOSECONDS=0 --at 86400000
+echo "three moments, two outside the limits, a clock that can't be read, and a moment that is given"

@@ -50,7 +50,7 @@ repeated name kit p q (r ∷ rest) h = both name p r q (one name kit p r h.0) (r
 
 -- ---- a package by its edition's pieces
 
-numbered-in : (list : List Piece) (i : ℕ) → 1 ≤ i → i ≤ length list → (x : Piece) × (numbered list i ≡ Some x)
+pub numbered-in : (list : List Piece) (i : ℕ) → 1 ≤ i → i ≤ length list → (x : Piece) × (numbered list i ≡ Some x)
 unfolding numbered
 numbered-in [] i a b = absurd (omega (arith, a, b))
 numbered-in (x ∷ xs) zero a b = absurd (omega (arith, a))

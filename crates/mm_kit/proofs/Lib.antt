@@ -7,3 +7,5 @@ pub mod ReadFacts
 pub mod LawFacts
 pub mod ShelfFacts
 pub mod OneList
+pub mod KeptFacts
+pub mod FolderFacts

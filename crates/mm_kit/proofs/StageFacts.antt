@@ -170,10 +170,10 @@ module _ (p : Package) (name : Text) (list : List Piece) (meets : Meets current 
   end_free : length list < 4096 → refusal p (commands.Stage name (pos (length list + 1)) x) ≡ None
   end_free less = accepted_for _ (stage_next p name (pos (length list + 1)) x (length list) (few p name list meets h) h.numbers (low_id (length list + 1) (omega arith) (omega (arith, less))) h.is_open gone behind (at_most (length list) less))
 
-  end_step : length list < 4096 → (moment : ℕ) → step p (commands.Stage name (pos (length list + 1)) x) moment ≡ record p { pieces = insert p.pieces (piece name (pos (length list + 1))) (piece_row x) }
+  pub end_step : length list < 4096 → (moment : ℕ) → step p (commands.Stage name (pos (length list + 1)) x) moment ≡ record p { pieces = insert p.pieces (piece name (pos (length list + 1))) (piece_row x) }
   end_step less moment = ap (λ v. unless_refused v (done p (commands.Stage name (pos (length list + 1)) x) (stamp moment)) p) (end_free less)
 
-  abbrev grown : Package
+  abbrev pub grown : Package
   grown = record p { pieces = insert p.pieces (piece name (pos (length list + 1))) (piece_row x) }
 
   length_more : length (list ++ x ∷ []) ≡ length list + 1
@@ -206,7 +206,7 @@ module _ (p : Package) (name : Text) (list : List Piece) (meets : Meets current 
         )
   ])
 
-  has_grown : HasPieces grown name (list ++ x ∷ [])
+  pub has_grown : HasPieces grown name (list ++ x ∷ [])
   has_grown = record {
     is_open = h.is_open;
     numbers = grown_numbers;
@@ -221,7 +221,7 @@ module _ (p : Package) (name : Text) (list : List Piece) (meets : Meets current 
       past : {i : ℕ} → i ≤ length list → i ≡ length list + 1 → ⊥
       past a b = omega (arith, a, b)
 
-  same_grown : (o : Package) → SameBut name o p → SameBut name o grown
+  pub same_grown : (o : Package) → SameBut name o p → SameBut name o grown
   same_grown o s = record {
     parts = ap (λ (q : Package). record q { pieces = grown.pieces }) s.parts;
     others = λ k d. beside_put piece_keys p.pieces (piece name (pos (length list + 1))) (piece_row x) k (λ e. d (ap (λ (c : PieceKey). c.edition) e)) ∙ s.others k d;
@@ -238,10 +238,10 @@ module _ (p : Package) (name : Text) (list : List Piece) (meets : Meets current 
     equal_free : x ≡ y → refusal p (commands.Stage name (pos i) x) ≡ None
     equal_free e = accepted_for _ (stage_equal p name (pos i) x (length list) (few p name list meets h) h.numbers low h.is_open (piece_row y) there (ap piece_row e)).0
 
-    equal_step : x ≡ y → (moment : ℕ) → step p (commands.Stage name (pos i) x) moment ≡ p
+    pub equal_step : x ≡ y → (moment : ℕ) → step p (commands.Stage name (pos i) x) moment ≡ p
     equal_step e moment = again p name (pos i) x moment (equal_free e) (there ∙ ap (λ q. Some (piece_row q)) (sym e))
 
-    other_refused : piece_row x ≢ piece_row y → refusal p (commands.Stage name (pos i) x) ≡ Some (refused 52)
+    pub other_refused : piece_row x ≢ piece_row y → refusal p (commands.Stage name (pos i) x) ≡ Some (refused 52)
     other_refused d = refused_for _ 52 (stage_other p name (pos i) x (length list) (few p name list meets h) h.numbers low h.is_open (piece_row y) there d)
 
 -- ---- a turn
@@ -251,7 +251,7 @@ none_beside : (y x : Piece) → x ≡ y → beside (Some y) x ≡ None
 none_beside y x e = ap (λ b. if b then None else Some 52) (ap (λ q. same_piece (piece_row x) (piece_row q)) (sym e) ∙ row_itself (piece_row x))
 
 -- a piece is the one that stands, or another
-same_or_other : (x y : Piece) → ((x ≡ y) × (beside (Some y) x ≡ None)) ⊎ ((piece_row x ≢ piece_row y) × (beside (Some y) x ≡ Some 52))
+pub same_or_other : (x y : Piece) → ((x ≡ y) × (beside (Some y) x ≡ None)) ⊎ ((piece_row x ≢ piece_row y) × (beside (Some y) x ≡ Some 52))
 same_or_other x y = by (same_piece (piece_row x) (piece_row y)) refl
   where
     by : (b : Bool) → same_piece (piece_row x) (piece_row y) ≡ b → ((x ≡ y) × (beside (Some y) x ≡ None)) ⊎ ((piece_row x ≢ piece_row y) × (beside (Some y) x ≡ Some 52))

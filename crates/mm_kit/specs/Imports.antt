@@ -1,5 +1,5 @@
 -- What an import of a kit does.
-use Rattle.std.specs.Prelude.{◌≡◌, ◌≢◌, ◌≤◌, ◌⊎◌, ◌+◌, ℕ, max, length, Bool, true, List, [], ◌∷◌, ◌++◌, Option, Some, Result, Ok, Err, ⊤}
+use Rattle.std.specs.Prelude.{◌≡◌, ◌≢◌, ◌≤◌, ◌⊎◌, ◌+◌, ◌==◌, ◌||◌, ℕ, max, length, Bool, true, false, List, [], ◌∷◌, ◌++◌, Option, Some, Result, Ok, Err, ⊤}
 use Rattle.std.specs.FinMap.{get}
 use Rattle.mm_base.specs.Keys.{Text, PieceKey}
 use Rattle.mm_base.specs.Package.{Package}
@@ -91,9 +91,37 @@ IsStopped {D} files name p may_leave stands_for s =
 abbrev pub OnKit : Type 0 → (Package → Type 0) → Option Files → (Files → Package → Type 0) → Type 0
 OnKit clean settled told P = clean → (p : Package) → IsSound settled p → (files : Files) → told ≡ Some files → P files p
 
--- a fault of an import: 90 want of memory, 91 the store, 92 open again, or 96, which the folder tells
-abbrev pub IsKitFault : ℕ → Bool → Type 0
-IsKitFault fault failed = (fault ≡ 90) ⊎ (fault ≡ 91) ⊎ (fault ≡ 92) ⊎ ((fault ≡ 96) × (failed ≡ true))
+-- a fault of an import: 90 want of memory, 91 the store, 92 open again, or 96 the folder
+abbrev pub IsKitFault : ℕ → Type 0
+IsKitFault fault = (fault ≡ 90) ⊎ (fault ≡ 91) ⊎ (fault ≡ 92) ⊎ (fault ≡ 96)
+
+-- an import told that the folder failed
+abbrev pub is_folders : Result Staged KitFault → Bool
+is_folders (Ok a) = false
+is_folders (Err e) = e.fault.0 == 96
+
+-- the folder has failed where it had before, or where 96 is told, and nowhere else
+abbrev pub TellsFolder : Bool → Bool → Result Staged KitFault → Type 0
+TellsFolder before failed result = failed ≡ (before || is_folders result)
+
+-- ---- what is promised of every folder, one that tells nothing too
+
+-- of a session that is settled for a package of the rules, where the store was clean
+abbrev pub OnAnyFolder : Type 0 → (Package → Type 0) → (Package → Type 0) → Type 0
+OnAnyFolder clean settled P = clean → (p : Package) → IsSound settled p → P p
+
+-- the edition has no fewer pieces than it had: these come first
+abbrev pub KeepsPieces : Text → Package → Package → Type 0
+KeepsPieces name p q = (old : List Piece) → HasPieces p name old → (new : List Piece) × HasPieces q name new × IsFirstOf old new
+
+-- nothing but the edition's pieces differs, and those that it had stand
+abbrev pub Keeps : Text → Package → Package → Type 0
+Keeps name p q = SameBut name p q × KeepsPieces name p q
+
+-- The session is settled for such a package, or each database that may be left stands for one, and it meets the rules.
+abbrev pub IsKept : {D : Type 0} → Text → Package → (Package → Type 0) → (D → Type 0) → (D → Package → Type 0) → Result Staged KitFault → Type 0
+IsKept name p settled may_leave stands_for (Ok a) = (q : Package) × IsSound settled q × Keeps name p q
+IsKept {D} name p settled may_leave stands_for (Err e) = (db : D) → may_leave db → (q : Package) × stands_for db q × Meets current q × Keeps name p q
 
 -- the list of the folder is a kit's, so its pieces are to be staged
 abbrev pub AsksForPackage : Option Files → Type 0
@@ -109,6 +137,10 @@ TellsFailureOf before failed same (Err e) = (e.fault.0 ≡ 92 → before ≡ tru
 -- done are the pieces of the entries so far: they are passed over while they stand, or they are all that stands
 abbrev pub IsPassed : Text → Package → List Piece → List Piece → Package → Type 0
 IsPassed name p old done q = ((q ≡ p) × IsFirstOf done old) ⊎ (IsFirstOf old done × HasPieces q name done × SameBut name p q)
+
+-- so many pieces stand, and those that stood before come first
+abbrev pub IsPassedBy : ℕ → Text → Package → List Piece → Package → Type 0
+IsPassedBy k name p old q = (new : List Piece) × HasPieces q name new × (k ≤ length new) × IsFirstOf old new × SameBut name p q
 
 -- After k entries, where these are left: what is still to be staged, and the answer, are those of the entries left.
 pub record IsSoFar (files : Files) (name : Text) (entries left : List Entry) (p : Package) (old : List Piece) (k : ℕ) (q : Package) : Type 0 where

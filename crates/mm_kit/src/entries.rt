@@ -13,7 +13,7 @@ use mm_base::answers::ReadFault;
 use mm_base::bounded::{Id, Place, Zoom};
 use mm_base::commands::Piece;
 use mm_base::content_types::ContentType;
-use mm_base::limits::LAST_ID;
+use mm_base::limits::{LAST_ID, MOST_PIECES};
 use mm_base::names::Name;
 use mm_base::numbers::read_number;
 use mm_records::read_piece;
@@ -37,9 +37,6 @@ pub enum Entry {
         file: FileName,
     },
 }
-
-/// A kit has so many pieces at most.
-const MOST_RECORDS: u32 = 4_096;
 
 /// Takes out the last field where the record is one of a tile or a media item, and puts `00` in its place.
 fn show<'a>(fields: &mut Vec<&'a str>) -> Result<Option<&'a str>, AllocError>
@@ -113,7 +110,7 @@ fn read_file(field: Option<&str>) -> Result<Option<FileName>, u8>
 fn place_record(place: u32, number: i64, field: Option<&str>) -> Result<Option<FileName>, u8>
     ensures { IsPlaced place number (text_of field.entry) result }
 {
-    if place > MOST_RECORDS {
+    if place > MOST_PIECES {
         return Err(54);
     }
     if number != i64::from(place) {

@@ -1,11 +1,10 @@
 //! A piece with the bytes of its file.
 
 ghost use Rattle.mm_base.specs.Bounds.{current};
-ghost use Rattle.std.specs.Prelude.{◌≡◌, ◌≤◌, List, Option, IfOk, IfErr, IfSome, ℕ, true};
-ghost use Rattle.mm_kit.specs.Folders.{Files};
+ghost use Rattle.std.specs.Prelude.{◌≡◌, ◌≤◌, ◌||◌, List, Option, IfOk, IfSome, ℕ};
+ghost use Rattle.mm_kit.specs.Folders.{Files, is_failure};
 ghost use Rattle.mm_kit.specs.Kits.{filled, made, with_file};
 ghost use Rattle.mm_base.specs.declared.commands.Piece.{Piece as SpecPiece};
-ghost use Rattle.mm_kit.specs.declared.folders.FolderFault.TheVariants as folder_fault;
 
 use crate::entries::Entry;
 use crate::file_names::FileName;
@@ -22,7 +21,7 @@ fn read_bytes<const MOST: usize, F: Folder>(
 ) -> Result<Result<Bytes<MOST>, u8>, FolderFault>
     ensures reads { IfOk result (λ r. IfSome (F.files folder.old) (λ these. (make : List ℕ → SpecPiece) → made make r ≡ with_file MOST make (these name.now))) }
     ensures stays { F.files folder.new ≡ F.files folder.old }
-    ensures fails { IfErr result (λ e. e ≡ folder_fault.Failed → F.has_failed folder.new ≡ true) }
+    ensures fails { F.has_failed folder.new ≡ (F.has_failed folder.old || is_failure result) }
 {
     match folder.read(alloc, name.as_str(), MOST as u64) {
         Ok(Found::Bytes(bytes)) => match Bytes::new(bytes) {
@@ -44,7 +43,7 @@ pub(crate) fn fill<F: Folder>(
 ) -> Result<Result<Piece, u8>, FolderFault>
     ensures fills { IfOk result (λ r. IfSome (F.files folder.old) (λ these. r ≡ filled these entry)) }
     ensures stays { F.files folder.new ≡ F.files folder.old }
-    ensures fails { IfErr result (λ e. e ≡ folder_fault.Failed → F.has_failed folder.new ≡ true) }
+    ensures fails { F.has_failed folder.new ≡ (F.has_failed folder.old || is_failure result) }
 {
     match entry {
         Entry::Ready(piece) => Ok(Ok(piece)),

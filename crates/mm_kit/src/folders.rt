@@ -1,8 +1,7 @@
 //! Where a kit's files lie.
 
-ghost use Rattle.std.specs.Prelude.{◌≡◌, Bool, Option, IfOk, IfErr, IfSome, true};
-ghost use Rattle.mm_kit.specs.Folders.{Files, Finds};
-ghost use Rattle.mm_kit.specs.declared.folders.FolderFault.TheVariants as folder_fault;
+ghost use Rattle.std.specs.Prelude.{◌≡◌, ◌||◌, Bool, Option, IfOk, IfSome};
+ghost use Rattle.mm_kit.specs.Folders.{Files, Finds, is_failure};
 
 use std::alloc::Global;
 
@@ -36,7 +35,7 @@ pub trait Folder {
     fn read(&mut self, alloc: Global, name: &str, most: u64) -> Result<Found, FolderFault>
         ensures finds { IfOk result (λ found. IfSome (files self.old) (λ these. Finds (these name.now) most found)) }
         ensures stays { files self.new ≡ files self.old }
-        ensures fails { IfErr result (λ fault. fault ≡ folder_fault.Failed → has_failed self.new ≡ true) };
+        ensures fails { has_failed self.new ≡ (has_failed self.old || is_failure result) };
 
     /// Whether a read has answered `Failed`.
     fn failed(&self) -> bool

@@ -1,11 +1,10 @@
 //! The import of a kit, in the order of its steps.
 
-ghost use Rattle.std.specs.Prelude.{◌≡◌, ◌≢◌, ◌⊎◌, IfOk, IfErr, Some, false, true};
+ghost use Rattle.std.specs.Prelude.{◌≡◌, ◌≢◌, ◌⊎◌, ◌||◌, IfOk, IfErr, Some, false, true};
 ghost use Rattle.mm_base.specs.Package.{Package};
-ghost use Rattle.mm_kit.specs.Folders.{Files};
-ghost use Rattle.mm_kit.specs.Imports.{AreImported, AsksForPackage, IsAnswered, IsKitFault, IsStopped, MayBeStaged, OnKit, TellsFailureOf};
+ghost use Rattle.mm_kit.specs.Folders.{Files, is_failure};
+ghost use Rattle.mm_kit.specs.Imports.{AreImported, AsksForPackage, IsAnswered, IsKept, IsKitFault, IsStopped, MayBeStaged, OnAnyFolder, OnKit, TellsFailureOf, TellsFolder};
 ghost use Rattle.mm_kit.specs.Lists.{AreFew, AreSound, IsKitList, listing};
-ghost use Rattle.mm_kit.specs.declared.folders.FolderFault.TheVariants as folder_faults;
 
 use crate::desk::Desk;
 use crate::entries::Entry;
@@ -26,7 +25,7 @@ fn find_list<F: Folder>(alloc: Global, folder: &mut F) -> Result<Listed, FolderF
     ensures lists { IfOk result (λ l. (files : Files) → F.files folder.old ≡ Some files → IsKitList files (listing l)) }
     ensures sound { IfOk result AreSound }
     ensures stays { F.files folder.new ≡ F.files folder.old }
-    ensures fails { IfErr result (λ e. e ≡ folder_faults.Failed → F.has_failed folder.new ≡ true) }
+    ensures fails { F.has_failed folder.new ≡ (F.has_failed folder.old || is_failure result) }
 {
     match folder.read(alloc, "kit.csv", MOST_BYTES) {
         Ok(Found::Bytes(list)) => match read_list(alloc, list.as_slice()) {
@@ -55,7 +54,9 @@ fn import_entries<A: Desk, F: Folder>(
     ensures stopped { IfErr result (λ e. OnKit (A.is_clean desk.new) (A.settled desk.old) (F.files folder.old)
         (λ files p. MayBeStaged files name.now entries.items p (A.may_leave desk.new) A.stands_for e.staged)) }
     ensures session { TellsFailureOf (A.has_failed desk.old) (A.has_failed desk.new) (desk.new ≡ desk.old) result }
-    ensures why { IfErr result (λ e. IsKitFault e.fault.0 (F.has_failed folder.new)) }
+    ensures kept { OnAnyFolder (A.is_clean desk.new) (A.settled desk.old) (λ p. IsKept name.now p (A.settled desk.new) (A.may_leave desk.new) A.stands_for result) }
+    ensures folder { TellsFolder (F.has_failed folder.old) (F.has_failed folder.new) result }
+    ensures why { IfErr result (λ e. IsKitFault e.fault.0) }
 {
     let records = entries.len() as u32;
     match desk.edition(name) {
@@ -98,7 +99,9 @@ pub(crate) fn import_folder<A: Desk, F: Folder>(
         (λ files p. IsStopped files name.now p (A.may_leave desk.new) A.stands_for e.staged)) }
     ensures session { TellsFailureOf (A.has_failed desk.old) (A.has_failed desk.new) (desk.new ≡ desk.old) result }
     ensures needed { IfErr result (λ e. e.fault.0 ≡ 92 → AsksForPackage (F.files folder.old)) }
-    ensures why { IfErr result (λ e. IsKitFault e.fault.0 (F.has_failed folder.new)) }
+    ensures kept { OnAnyFolder (A.is_clean desk.new) (A.settled desk.old) (λ p. IsKept name.now p (A.settled desk.new) (A.may_leave desk.new) A.stands_for result) }
+    ensures folder { TellsFolder (F.has_failed folder.old) (F.has_failed folder.new) result }
+    ensures why { IfErr result (λ e. IsKitFault e.fault.0) }
 {
     match find_list(alloc, folder) {
         Ok(Listed::Entries(entries)) => {

@@ -11,6 +11,7 @@ ghost use Rattle.mm_kit.specs.Lists.{AreSound, IsListed, IsRead, listing};
 use crate::entries::{Entry, read_entry};
 use csv::{ByteRecord, Reader, StringRecord};
 use mm_base::answers::ReadFault;
+use mm_base::limits::MOST_PIECES;
 use mm_lines::{open_rows, text_fields};
 use std::alloc::{AllocError, Global};
 use std::io::Read;
@@ -60,7 +61,7 @@ fn read_rows<T: Read>(alloc: Global, rows: &mut Reader<T>) -> Result<Listed, All
     ensures sound { IfOk result AreSound }
 {
     let mut entries = Vec::new(alloc);
-    for place in 1..4_098u32 {
+    for place in 1..MOST_PIECES + 2 {
         match next_record(alloc, rows) {
             Ok(Some(row)) => match read_row(alloc, place, row) {
                 Ok(entry) => {

@@ -7,7 +7,7 @@ ghost use Rattle.mm_base.specs.Bounds.{current};
 ghost use Rattle.mm_store.specs.Stands.{IsSettled};
 ghost use Rattle.mm_core.specs.Applied.{Stands};
 ghost use Rattle.mm_core.specs.Parts.{held, has_failed};
-ghost use Rattle.mm_kit.specs.Imports.{AsksForPackage, IsAnswered, IsKitFault, IsStopped, OnKit, TellsFailureOf};
+ghost use Rattle.mm_kit.specs.Imports.{AsksForPackage, IsAnswered, IsKept, IsKitFault, IsStopped, OnAnyFolder, OnKit, TellsFailureOf, TellsFolder};
 
 use crate::desk::Desk;
 use crate::folders::Folder;
@@ -60,8 +60,13 @@ pub fn import_kit<S: Alter, F: Folder>(
     // The package is asked only where the list is a kit's.
     ensures needed { IfErr result (λ e. e.fault.0 ≡ 92 → AsksForPackage (F.files folder.old)) }
 
+    // Of every folder, one that tells nothing too: the rules hold, and nothing but the edition's pieces has changed, of which none is lost.
+    ensures kept { OnAnyFolder (HasCleanDisk (state S.Store (held session.new))) (λ p. IsSettled current (state S.Store (held session.old)) p)
+        (λ p. IsKept name.now p (λ q. IsSettled current (state S.Store (held session.new)) q) (λ db. (state S.Store (held session.new)).may_leave db) Stands result) }
+
     // 96 is the folder's, and the folder tells it.
-    ensures why { IfErr result (λ e. IsKitFault e.fault.0 (F.has_failed folder.new)) }
+    ensures folder { TellsFolder (F.has_failed folder.old) (F.has_failed folder.new) result }
+    ensures why { IfErr result (λ e. IsKitFault e.fault.0) }
 {
     match import_folder(alloc, session, name, folder, at) {
         Ok(answer) => Ok(answer),

@@ -11,10 +11,9 @@ ghost use Rattle.mm_base.specs.declared.commands.Piece.{Piece as SpecPiece};
 ghost use Rattle.mm_run.specs.Answers.{is_fault};
 ghost use Rattle.mm_run.specs.Applied.{IsApplied, IsApplyFault, IsSound, OnFault};
 ghost use Rattle.mm_kit.specs.Editions.{HasPieces};
-ghost use Rattle.mm_kit.specs.Folders.{Files};
-ghost use Rattle.mm_kit.specs.Imports.{AreStaged, IsKitFault, MayBeStaged, OnKit, TellsFailureOf};
+ghost use Rattle.mm_kit.specs.Folders.{Files, number_of};
+ghost use Rattle.mm_kit.specs.Imports.{AreStaged, IsKept, IsKitFault, MayBeStaged, OnAnyFolder, OnKit, TellsFailureOf, TellsFolder};
 ghost use Rattle.mm_kit.specs.Lists.{AreFew};
-ghost use Rattle.mm_kit.specs.declared.folders.FolderFault.TheVariants as folder_fault;
 
 use crate::desk::Desk;
 use crate::entries::Entry;
@@ -41,7 +40,7 @@ fn same_name(name: &Name) -> Name
 
 /// A folder's fault as one of the import.
 pub(crate) fn folder_fault(fault: FolderFault) -> Fault
-    ensures { (result.0 ≡ 90) ⊎ ((result.0 ≡ 96) × (fault ≡ folder_fault.Failed)) }
+    ensures { result.0 ≡ number_of fault }
 {
     match fault {
         FolderFault::Memory => Fault(90),
@@ -107,7 +106,9 @@ pub(crate) fn stage_all<A: Desk, F: Folder>(
         (λ files p. (old : List SpecPiece) → HasPieces p edition.now old → MayBeStaged files edition.now entries.items p (A.may_leave desk.new) A.stands_for e.staged)) }
     ensures session { IfOk result (λ a. A.has_failed desk.new ≡ false) }
     ensures fault { IfErr result (λ e. (e.fault.0 ≢ 92) × (e.fault.0 ≡ 96 → A.has_failed desk.new ≡ false)) }
-    ensures why { IfErr result (λ e. IsKitFault e.fault.0 (F.has_failed folder.new)) }
+    ensures kept { OnAnyFolder (A.is_clean desk.new) (A.settled desk.old) (λ p. (old : List SpecPiece) → HasPieces p edition.now old → IsKept edition.now p (A.settled desk.new) (A.may_leave desk.new) A.stands_for result) }
+    ensures folder { TellsFolder (F.has_failed folder.old) (F.has_failed folder.new) result }
+    ensures why { IfErr result (λ e. IsKitFault e.fault.0) }
 {
     let mut staged = 0u32;
     for entry in entries {

@@ -3,6 +3,8 @@ use Rattle.mm_base.specs.declared.entries.EditionState.TheVariants as states
 use Rattle.mm_edition.specs.States.{TellsState}
 use Rattle.mm_kit.proofs.EditionFacts.{open_has}
 use Rattle.mm_kit.proofs.KitFacts.{imported_longer, imported_none, imported_open, imported_published, staged_at_once}
+use Rattle.mm_kit.proofs.KeptFacts.{keeps_itself}
+use Rattle.mm_kit.proofs.FolderFacts.{as_before, desk_fault, still_told}
 use Rattle.mm_kit.proofs.importing.import_entries.Goals as goal
 
 pub returns-in-Ok-clause-answered : goal.returns-in-Ok-clause-answered
@@ -41,3 +43,35 @@ pub returns-in-Err-clause-stopped : goal.returns-in-Err-clause-stopped
 returns-in-Err-clause-stopped g c clean p sound these tells =
     let settled = c.in-Err.ensures.settled clean p sound.0 sound.1 in
     staged_at_once these c.args.name.now p c.args.entries.items _ g.A.Apply.stands_for sound.1 (λ db may. g.met.A.Apply.leaves_settled _ p settled db may)
+
+-- ---- what is kept on any folder
+pub returns-in-Ok-clause-kept : goal.returns-in-Ok-clause-kept
+returns-in-Ok-clause-kept g c clean p sound =
+    let before = c.in-Ok.ensures.clean clean in
+    let says : TellsState p c.args.name.now (Some (states.Open c.in-Ok-Some-Open.pieces)) = rw (c.in-Ok-Some-Open.field-0-is, c.in-Ok-Some-Open.field-0-0-is) at (c.in-Ok-Some-Open.ensures.tells before p sound.0 sound.1) in
+    let (old, has, size) = open_has p _ _ sound.1 says.0 says.1 in
+    c.in-Ok.ensures.kept clean p (c.in-Ok-Some-Open.ensures.settled before p sound.0 sound.1, sound.1) old has
+
+pub returns-in-Err-stage_all-clause-kept : goal.returns-in-Err-stage_all-clause-kept
+returns-in-Err-stage_all-clause-kept g c clean p sound =
+    let before = c.in-Err-stage_all.ensures.clean clean in
+    let says : TellsState p c.args.name.now (Some (states.Open c.in-Ok-Some-Open.pieces)) = rw (c.in-Ok-Some-Open.field-0-is, c.in-Ok-Some-Open.field-0-0-is) at (c.in-Ok-Some-Open.ensures.tells before p sound.0 sound.1) in
+    let (old, has, size) = open_has p _ _ sound.1 says.0 says.1 in
+    c.in-Err-stage_all.ensures.kept clean p (c.in-Ok-Some-Open.ensures.settled before p sound.0 sound.1, sound.1) old has
+
+pub returns-then-records-pieces-clause-kept : goal.returns-then-records-pieces-clause-kept
+returns-then-records-pieces-clause-kept g c clean p sound =
+    (p, (c.in-Ok-Some-Open.ensures.settled clean p sound.0 sound.1, sound.1), keeps_itself c.args.name.now p)
+
+pub returns-in-Ok-Some-Published-clause-kept : goal.returns-in-Ok-Some-Published-clause-kept
+returns-in-Ok-Some-Published-clause-kept g c clean p sound =
+    (p, (c.in-Ok-Some-Published.ensures.settled clean p sound.0 sound.1, sound.1), keeps_itself c.args.name.now p)
+
+pub returns-in-Ok-None-clause-kept : goal.returns-in-Ok-None-clause-kept
+returns-in-Ok-None-clause-kept g c clean p sound =
+    (p, (c.in-Ok-None.ensures.settled clean p sound.0 sound.1, sound.1), keeps_itself c.args.name.now p)
+
+pub returns-in-Err-clause-kept : goal.returns-in-Err-clause-kept
+returns-in-Err-clause-kept g c clean p sound db may =
+    let settled = c.in-Err.ensures.settled clean p sound.0 sound.1 in
+    (p, g.met.A.Apply.leaves_settled _ p settled db may, sound.1, keeps_itself c.args.name.now p)

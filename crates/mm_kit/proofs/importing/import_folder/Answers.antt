@@ -1,6 +1,8 @@
 use Rattle.std.proofs.Common.{◌∙◌, Ok, Err}
 use Rattle.mm_kit.specs.Lists.{IsKitList}
 use Rattle.mm_kit.proofs.KitFacts.{imported, no_kit, stopped_at_once, stopped_some}
+use Rattle.mm_kit.proofs.KeptFacts.{keeps_itself}
+use Rattle.mm_kit.proofs.FolderFacts.{kit_fault, told}
 use Rattle.mm_kit.proofs.importing.import_folder.Goals as goal
 
 pub returns-in-Ok-clause-answered : goal.returns-in-Ok-clause-answered
@@ -24,3 +26,16 @@ returns-in-Ok-Refused-clause-answered g c clean p sound these tells =
 pub returns-in-Err-clause-stopped : goal.returns-in-Err-clause-stopped
 returns-in-Err-clause-stopped g c clean p sound these tells =
     stopped_at_once these c.args.name.now p _ g.A.Apply.stands_for sound.1 (λ db may. g.met.A.Apply.leaves_settled _ p sound.0 db may)
+
+-- ---- what is kept on any folder
+pub returns-in-Ok-Refused-clause-kept : goal.returns-in-Ok-Refused-clause-kept
+returns-in-Ok-Refused-clause-kept g c clean p sound = (p, sound, keeps_itself c.args.name.now p)
+
+pub returns-in-Err-clause-kept : goal.returns-in-Err-clause-kept
+returns-in-Err-clause-kept g c clean p sound db may = (p, g.met.A.Apply.leaves_settled _ p sound.0 db may, sound.1, keeps_itself c.args.name.now p)
+
+pub returns-in-Err-clause-folder : goal.returns-in-Err-clause-folder
+returns-in-Err-clause-folder g c = told _ _ c.in-Err.fault _ c.folder_fault.ensures c.in-Err.ensures.fails
+
+pub returns-in-Err-clause-why : goal.returns-in-Err-clause-why
+returns-in-Err-clause-why g c = kit_fault c.in-Err.fault _ c.folder_fault.ensures

@@ -5,7 +5,7 @@ use Rattle.mm_base.specs.declared.commands.Piece.{Piece}
 use Rattle.mm_run.specs.Applied.{IsSound}
 use Rattle.mm_kit.specs.Editions.{HasPieces}
 use Rattle.mm_kit.specs.Folders.{Files}
-use Rattle.mm_kit.specs.Imports.{IsSoFar}
+use Rattle.mm_kit.specs.Imports.{IsPassedBy, IsSoFar}
 use Rattle.mm_kit.proofs.staging.stage_all.Given as goal
 
 abbrev pub invariant-loop-entry : goal.invariant-loop-entry
@@ -17,7 +17,10 @@ invariant-loop-entry g l = record {
   len : into_iter_len l.entry-iterator ≡ length (into_iter_items l.entry-iterator);
   clean : g.A.Apply.is_clean l.desk → g.A.Apply.is_clean l.fn.desk;
   working : g.A.Apply.has_failed l.desk ≡ false;
+  folder : g.F.Folder.has_failed l.folder ≡ g.F.Folder.has_failed l.fn.folder;
   files : g.F.Folder.files l.folder ≡ g.F.Folder.files l.fn.folder;
+  kept : g.A.Apply.is_clean l.desk → (p : Package) → IsSound (g.A.Apply.settled l.fn.desk) p → (old : List Piece) → HasPieces p l.fn.edition old
+      → (q : Package) × IsSound (g.A.Apply.settled l.desk) q × IsPassedBy (length l.yielded) l.fn.edition p old q;
   so_far : g.A.Apply.is_clean l.desk → (p : Package) → IsSound (g.A.Apply.settled l.fn.desk) p → (these : Files) → g.F.Folder.files l.fn.folder ≡ Some these
       → (old : List Piece) → HasPieces p l.fn.edition old
       → (q : Package) × IsSound (g.A.Apply.settled l.desk) q × IsSoFar these l.fn.edition l.fn.entries.items (into_iter_items l.entry-iterator) p old (length l.yielded) q;

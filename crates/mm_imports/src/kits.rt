@@ -7,7 +7,7 @@ ghost use Rattle.mm_base.specs.Bounds.{current};
 ghost use Rattle.mm_base.specs.Streams.{has_failed, inside};
 ghost use Rattle.mm_store.specs.Stands.{IsSettled};
 ghost use Rattle.mm_core.specs.Applied.{Stands};
-ghost use Rattle.mm_kit.specs.Imports.{OnKit};
+ghost use Rattle.mm_kit.specs.Imports.{IsKept, OnAnyFolder, OnKit, TellsFolder};
 ghost use Rattle.mm_imports.specs.Kits.{IsImport, kit_status, kit_text, staged_status, staged_text};
 ghost use Rattle.mm_work.specs.Told.{IsTold};
 
@@ -37,6 +37,9 @@ pub fn import_package<S: Alter + Drop, F: Folder>(
     requires { conn.in_transaction ≡ false }
     ensures imported { IfOk result (λ done. OnKit (HasCleanDisk (state S.Store done.0)) (λ p. IsSettled current (state S.Store conn) p) (F.files folder.old)
         (λ files p. IsImport files name.now p (state S.Store done.0) done.1)) }
+    ensures kept { IfOk result (λ done. OnAnyFolder (HasCleanDisk (state S.Store done.0)) (λ p. IsSettled current (state S.Store conn) p)
+        (λ p. IsKept name.now p (λ q. IsSettled current (state S.Store done.0) q) (λ db. (state S.Store done.0).may_leave db) Stands done.1)) }
+    ensures folder { IfOk result (λ done. TellsFolder (F.has_failed folder.old) (F.has_failed folder.new) done.1) }
 {
     match adopt_package(alloc, conn) {
         Ok(session) => {

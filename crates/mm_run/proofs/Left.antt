@@ -19,7 +19,7 @@ use Rattle.mm_lines.specs.Records.{Record}
 use Rattle.mm_run.specs.Readings.{Reading, IsReadAs, AreReadAs}
 use Rattle.mm_run.specs.Answers.{answer_of, answers_to, calls_of, is_fault, accepted_of}
 use Rattle.mm_run.specs.Applied.{IsSound, Leaves, LeavesEither, IsAnswer}
-use Rattle.mm_run.specs.Runs.{AreFirstParts, IsAll, IsSoFar, IsSome, StopsBehind, Turns, WorksOn}
+use Rattle.mm_run.specs.Runs.{AreFirstParts, IsAll, IsSoFar, IsSome, Turns, WorksOn}
 use Rattle.mm_run.proofs.Answered.{goes_on}
 use Rattle.mm_run.proofs.Lists.{accepted_of-more, answers-more, at_most_one, length-answers, none_read, part_of, read_more, run-more}
 

@@ -5,3 +5,4 @@ pub mod Loops
 pub mod Left
 pub mod Reports
 pub mod Failing
+pub mod Ended

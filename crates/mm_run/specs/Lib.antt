@@ -3,3 +3,4 @@ pub mod Answers
 pub mod Applied
 pub mod Told
 pub mod Runs
+pub mod Ended

@@ -1,5 +1,5 @@
 -- What a record is read as.
-use Rattle.std.specs.Prelude.{◌≡◌, ◌⊎◌, ℕ, List, [], ◌∷◌, None, Result, Ok, Err, true, false, ⊤}
+use Rattle.std.specs.Prelude.{◌≡◌, ◌⊎◌, ℕ, List, [], ◌∷◌, None, Result, Ok, Err, ⊤}
 use Rattle.csv.specs.Records.{AllText}
 use Rattle.mm_base.specs.Bounds.{current}
 use Rattle.mm_base.specs.Records.{Spells, HoldsAgainst, IsLeast}

@@ -19,7 +19,7 @@ use Rattle.mm_lines.specs.Lines.{lines}
 use Rattle.mm_lines.specs.Records.{Record, records_of}
 use Rattle.mm_run.specs.Readings.{Reading, IsReadAs, AreReadAs}
 use Rattle.mm_run.specs.Answers.{answer_to, after, answers_to, calls_of, accepted_of}
-use Rattle.mm_run.specs.Applied.{IsSound, Leaves, LeavesEither, IsApplyFault}
+use Rattle.mm_run.specs.Applied.{IsSound, LeavesEither, IsApplyFault}
 use Rattle.mm_run.specs.Told.{AreCounted, IsStoppedText}
 
 -- a fault that has a line of its own: of a command, or of the reader, which tells it

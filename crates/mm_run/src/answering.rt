@@ -1,11 +1,12 @@
 //! Answering a record.
 
-ghost use Rattle.std.specs.Prelude.{◌≡◌, IfNone, IfSome};
+ghost use Rattle.std.specs.Prelude.{◌≡◌, IfNone, IfSome, true};
 ghost use Rattle.csv.specs.Reading.{reader_source};
 ghost use Rattle.csv.specs.Records.{fields_of};
 ghost use Rattle.mm_base.specs.Package.{Package};
 ghost use Rattle.mm_lines.specs.Records.{IsSetUp};
 ghost use Rattle.mm_run.specs.Applied.{IsAnswer, IsApplyFault, IsSound, OnFault, TellsFailure};
+ghost use Rattle.mm_run.specs.Ended.{IsEnded, IsEndedTurn};
 ghost use Rattle.mm_run.specs.Runs.{IsAnswered, IsRunFault, Turns};
 
 use crate::apply::Apply;
@@ -24,6 +25,7 @@ fn answer_row<A: Apply>(alloc: Global, session: &mut A, row: ByteRecord, at: Mom
     ensures clean { A.is_clean session.new → A.is_clean session.old }
     ensures answered { A.is_clean session.new → (p : Package) → IsSound (A.settled session.old) p
         → IsAnswered (fields_of row) p at (A.has_failed session.old) (A.has_failed session.new) result (A.settled session.new) (A.may_leave session.new) A.stands_for }
+    ensures ended { A.has_failed session.old ≡ true → IsEnded (fields_of row) result }
 {
     // The proof reads from this that the moment is within its limits.
     let _milliseconds = at.milliseconds();
@@ -49,6 +51,7 @@ pub(crate) fn turn<A: Apply, T: Read + Tells>(
     ensures clean { A.is_clean session.new → A.is_clean session.old }
     ensures turns { A.is_clean session.new → (p : Package) → IsSound (A.settled session.old) p
         → Turns T.remaining rows.old rows.new p at (A.has_failed session.old) (A.has_failed session.new) result (A.settled session.new) (A.may_leave session.new) A.stands_for }
+    ensures ended { A.has_failed session.old ≡ true → IsEndedTurn T.remaining rows.old rows.new result }
 {
     match next_row(alloc, rows) {
         Ok(Some(row)) => Some(answer_row(alloc, session, row, at)),

@@ -2,6 +2,7 @@ use Rattle.std.proofs.Common.{◌≡◌, ◌+◌, ◌-◌, ◌^◌, ◌∙◌, [
 use Rattle.csv.specs.Reading.{source_of}
 use Rattle.mm_run.specs.Runs.{IsSome, OnRun}
 use Rattle.mm_run.proofs.Loops.{counted-once, no-writer-fault, stopped-fault, stopped-with, told-more, told-none, written-once}
+use Rattle.mm_run.proofs.Ended.{ended-all, ended-behind, ended-more, ended-none, ended-stopped}
 use Rattle.mm_run.proofs.Left.{all-answered, so_far-more, so_far-none, some-faulted, some-last, some-so_far}
 use Rattle.mm_run.proofs.Failing.{goes-ended, goes-same, stops-failing}
 use Rattle.mm_run.proofs.run.run_rows.Goals as goal
@@ -17,6 +18,7 @@ loop-n-init g c = record {
   same = refl;
   ended = λ was. (refl, refl);
   given = ([], told-none _ _ refl refl refl, λ clean p sound xs here. so_far-none p c.args.at xs _ _ (g.A.Apply.settled c.args.session.now) here sound);
+  refused = λ was xs here. ended-none xs _ _ _ _ here (told-none _ _ refl refl refl);
 }
 
 pub returns-in-None-clause-done : goal.returns-in-None-clause-done
@@ -61,6 +63,9 @@ loop-n-preserved g c =
             given inv.set_up.config (so_far (c.turn.ensures.clean clean) p sound xs here) c.in-Some.answer
             (λ q sound. rw c.in-Some.is at (c.turn.ensures.turns clean q sound)) goes.0,
       );
+      refused = λ was xs here.
+          ended-more g.T.Read.remaining c.loop-n.rows c.turn.new.rows xs c.args.rows.now.state c.loop-n.tally _ _ inv.set_up.config (inv.refused was xs here)
+          c.in-Some.answer c.in-Ok.next c.loop-n.n _ _ _ (rw c.in-Some.is at (c.turn.ensures.ended (inv.same ∙ was))) goes inv.numbered;
     }
 
 pub returns-in-Err-clause-session : goal.returns-in-Err-clause-session
@@ -107,3 +112,24 @@ returns-in-Err-tell-clause-stopped g c =
     (λ w enough clean p sound xs here.
     some-so_far p c.args.at (g.A.Apply.may_leave c.loop-n.session) g.A.Apply.stands_for xs c.args.rows.now.state first failed (g.A.Apply.settled c.loop-n.session) given
     (g.met.A.Apply.leaves_settled c.loop-n.session) inv.same _ _ (so_far clean p sound xs here) w enough)
+
+pub returns-in-None-clause-ended : goal.returns-in-None-clause-ended
+returns-in-None-clause-ended g c was xs here =
+    let inv = c.loop-n.invariant in
+    ended-all g.T.Read.remaining c.loop-n.rows c.turn.new.rows xs c.args.rows.now.state c.loop-n.tally _ _ inv.set_up.config (inv.refused was xs here)
+    (rw c.in-None.is at (c.turn.ensures.ended (inv.same ∙ was)))
+
+pub returns-in-Err-clause-ended : goal.returns-in-Err-clause-ended
+returns-in-Err-clause-ended g c was xs here =
+    let inv = c.loop-n.invariant in
+    ended-stopped g.T.Read.remaining c.loop-n.rows c.turn.new.rows xs c.args.rows.now.state c.loop-n.tally _ _ inv.set_up.config (inv.refused was xs here)
+    c.in-Err.e c.loop-n.n _ _ _ _ inv.working c.in-Some.answer (no-writer-fault c.in-Some.answer _ c.in-Some.ensures.faults)
+    (rw c.in-Some.is at (c.turn.ensures.ended (inv.same ∙ was))) c.in-Err.ensures.stops inv.numbered
+
+pub returns-in-Err-tell-clause-ended : goal.returns-in-Err-tell-clause-ended
+returns-in-Err-tell-clause-ended g c was xs here =
+    let inv = c.loop-n.invariant in
+    let h = inv.refused was xs here in
+    let end : c.loop-n.n ≡ 2 ^ 64 - 1 = omega (arith, c.loop-n-test.false) in
+    ended-behind xs c.args.rows.now.state c.loop-n.tally c.in-Err-tell.e (2 ^ 64 - 1) _ _ _ _ _ _ inv.working h.numbers h.rows c.loop-n.rows.state h.rest h.reached h.read h.told
+    (inv.numbered ∙ end) (record { 0 = 90 }) (λ e. absurd (omega arith)) (λ e. absurd (omega arith)) c.in-Err-tell.ensures.stops

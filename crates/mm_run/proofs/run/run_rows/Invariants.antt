@@ -4,6 +4,7 @@ use Rattle.mm_base.specs.Streams.{has_failed, inside, is_flushed}
 use Rattle.mm_base.specs.declared.answers.Answer.{Answer}
 use Rattle.mm_lines.specs.Records.{IsSetUp}
 use Rattle.mm_run.specs.Told.{AreTold}
+use Rattle.mm_run.specs.Ended.{AreRefusedSoFar, OnEnded}
 use Rattle.mm_run.specs.Runs.{IsSoFar, OnRun}
 use Rattle.mm_run.proofs.run.run_rows.Given as goal
 
@@ -20,4 +21,6 @@ invariant-loop-n g l = record {
   given : (given : List Answer) × AreTold given l.tally (g.W.Write.contents (inside l.fn.writer)) (g.W.Write.contents (inside l.writer))
       × OnRun (g.A.Apply.is_clean l.session) (g.A.Apply.settled l.fn.session) (source_of g.T.Read.remaining l.fn.rows)
       (λ p xs. IsSoFar p l.at xs l.fn.rows.state (source_of g.T.Read.remaining l.rows) l.rows.state (g.A.Apply.settled l.session) given);
+  refused : OnEnded (g.A.Apply.has_failed l.fn.session) (source_of g.T.Read.remaining l.fn.rows)
+      (λ xs. AreRefusedSoFar xs l.fn.rows.state (source_of g.T.Read.remaining l.rows) l.rows.state l.tally (g.W.Write.contents (inside l.fn.writer)) (g.W.Write.contents (inside l.writer)));
 }

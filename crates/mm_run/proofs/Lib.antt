@@ -5,4 +5,5 @@ pub mod Loops
 pub mod Left
 pub mod Reports
 pub mod Failing
+pub mod Kept
 pub mod Ended

@@ -56,6 +56,17 @@ WorksOn before failed settled p = (failed ≡ before) × IsSound settled p
 abbrev pub OnRun : Type 0 → (Package → Type 0) → Option (List ℕ) → (Package → List ℕ → Type 0) → Type 0
 OnRun clean settled source P = clean → (p : Package) → IsSound settled p → (bytes : List ℕ) → source ≡ Some bytes → P p bytes
 
+-- What holds for a session that was settled for a package of the rules, where the store was clean, whatever the reader tells.
+abbrev pub OnSound : Type 0 → (Package → Type 0) → Type 0 → Type 0
+OnSound clean settled P = clean → (p : Package) → IsSound settled p → P
+
+-- Each database that may be left stands for a package that meets the rules; and a session that has not failed in between is
+-- settled for one.
+abbrev pub IsKept : {D : Type 0} → Bool → Bool → (Package → Type 0) → (D → Type 0) → (D → Package → Type 0) → Type 0
+IsKept {D} before failed settled may_leave stands_for =
+    ((db : D) → may_leave db → (q : Package) × stands_for db q × Meets current q)
+    × (failed ≡ before → (q : Package) × IsSound settled q)
+
 -- A run without a fault: each record of the bytes is answered, and all that is accepted stands.
 pub record RanAll {D : Type 0} (p : Package) (moment : ℕ) (bytes : List ℕ) (settled : Package → Type 0) (may_leave : D → Type 0) (stands_for : D → Package → Type 0)
     (old new : Option (List ℕ)) (t : Tally) : Type 0 where

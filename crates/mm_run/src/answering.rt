@@ -7,7 +7,7 @@ ghost use Rattle.mm_base.specs.Package.{Package};
 ghost use Rattle.mm_lines.specs.Records.{IsSetUp};
 ghost use Rattle.mm_run.specs.Applied.{IsAnswer, IsApplyFault, IsSound, OnFault, TellsFailure};
 ghost use Rattle.mm_run.specs.Ended.{IsEnded, IsEndedTurn};
-ghost use Rattle.mm_run.specs.Runs.{IsAnswered, IsRunFault, Turns};
+ghost use Rattle.mm_run.specs.Runs.{IsAnswered, IsKept, IsRunFault, OnSound, Turns};
 
 use crate::apply::Apply;
 use crate::reading::read_row;
@@ -25,6 +25,7 @@ fn answer_row<A: Apply>(alloc: Global, session: &mut A, row: ByteRecord, at: Mom
     ensures clean { A.is_clean session.new → A.is_clean session.old }
     ensures answered { A.is_clean session.new → (p : Package) → IsSound (A.settled session.old) p
         → IsAnswered (fields_of row) p at (A.has_failed session.old) (A.has_failed session.new) result (A.settled session.new) (A.may_leave session.new) A.stands_for }
+    ensures kept { OnSound (A.is_clean session.new) (A.settled session.old) (IsKept (A.has_failed session.old) (A.has_failed session.new) (A.settled session.new) (A.may_leave session.new) A.stands_for) }
     ensures ended { A.has_failed session.old ≡ true → IsEnded (fields_of row) result }
 {
     // The proof reads from this that the moment is within its limits.
@@ -51,6 +52,7 @@ pub(crate) fn turn<A: Apply, T: Read + Tells>(
     ensures clean { A.is_clean session.new → A.is_clean session.old }
     ensures turns { A.is_clean session.new → (p : Package) → IsSound (A.settled session.old) p
         → Turns T.remaining rows.old rows.new p at (A.has_failed session.old) (A.has_failed session.new) result (A.settled session.new) (A.may_leave session.new) A.stands_for }
+    ensures kept { OnSound (A.is_clean session.new) (A.settled session.old) (IsKept (A.has_failed session.old) (A.has_failed session.new) (A.settled session.new) (A.may_leave session.new) A.stands_for) }
     ensures ended { A.has_failed session.old ≡ true → IsEndedTurn T.remaining rows.old rows.new result }
 {
     match next_row(alloc, rows) {

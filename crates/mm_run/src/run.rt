@@ -10,7 +10,7 @@ ghost use Rattle.mm_base.specs.declared.answers.Answer.{Answer};
 ghost use Rattle.mm_lines.specs.Records.{IsSetUp};
 ghost use Rattle.mm_run.specs.Told.{AreTold, IsNear};
 ghost use Rattle.mm_run.specs.Ended.{IsEndedRun, OnEnded, RanEnded};
-ghost use Rattle.mm_run.specs.Runs.{IsAll, IsRunFault, IsSome, IsStopped, OnRun, RanAll, RanSome, TellsFailureOf, TellsFlush, TellsWriter, WorksOn};
+ghost use Rattle.mm_run.specs.Runs.{IsAll, IsKept, IsRunFault, IsSome, IsStopped, OnRun, OnSound, RanAll, RanSome, TellsFailureOf, TellsFlush, TellsWriter, WorksOn};
 
 use crate::answering::turn;
 use crate::apply::Apply;
@@ -44,6 +44,7 @@ fn run_rows<A: Apply, T: Read + Tells, W: Write>(
     ensures near { IfErr result (λ e. IsNear e.tally) }
     ensures session { TellsFailureOf (A.has_failed session.old) (A.has_failed session.new) (session.new ≡ session.old) result }
     ensures why { IfErr result (λ e. (e.fault.0 ≡ 97) ⊎ IsRunFault e.fault.0 (T.has_failed (reader_source rows.new))) }
+    ensures kept { OnSound (A.is_clean session.new) (A.settled session.old) (IsKept (A.has_failed session.old) (A.has_failed session.new) (A.settled session.new) (A.may_leave session.new) A.stands_for) }
     ensures ended { OnEnded (A.has_failed session.old) (source_of T.remaining rows.old) (λ xs. IsEndedRun xs (reader_state rows.old) (W.contents (inside writer.old)) (W.contents (inside writer.new)) result) }
 {
     let mut tally = Tally {
@@ -88,6 +89,7 @@ fn run_held<'a, A: Apply, R: Read, W: Write, K: Lender>(
     ensures near { IfErr result.1 (λ e. IsNear e.tally) }
     ensures session { TellsFailureOf (A.has_failed session.old) (A.has_failed session.new) (session.new ≡ session.old) result.1 }
     ensures why { IfErr result.1 (λ e. (e.fault.0 ≡ 97) ⊎ IsRunFault e.fault.0 (streams.has_failed result.0.reader.now)) }
+    ensures kept { OnSound (A.is_clean session.new) (A.settled session.old) (IsKept (A.has_failed session.old) (A.has_failed session.new) (A.settled session.new) (A.may_leave session.new) A.stands_for) }
     ensures ended { OnEnded (A.has_failed session.old) (option_map strip_bom (R.remaining (inside held.entry.reader.now))) (λ xs. IsEndedRun xs states.StartRecord (W.contents (inside writer.old)) (W.contents (inside writer.new)) result.1) }
 {
     let source = Source::<'a, R, K> {
@@ -119,6 +121,7 @@ fn run_told<A: Apply, R: Read, W: Write>(
     ensures near { IfErr result (λ e. IsNear e.tally) }
     ensures session { TellsFailureOf (A.has_failed session.old) (A.has_failed session.new) (session.new ≡ session.old) result }
     ensures why { IfErr result (λ e. (e.fault.0 ≡ 97) ⊎ IsRunFault e.fault.0 (streams.has_failed reader.new)) }
+    ensures kept { OnSound (A.is_clean session.new) (A.settled session.old) (IsKept (A.has_failed session.old) (A.has_failed session.new) (A.settled session.new) (A.may_leave session.new) A.stands_for) }
     ensures ended { OnEnded (A.has_failed session.old) (option_map strip_bom (R.remaining (inside reader.old))) (λ xs. IsEndedRun xs states.StartRecord (W.contents (inside writer.old)) (W.contents (inside writer.new)) result) }
 {
     let (held, outcome) = run_held::<A, R, W, Brand>(alloc, session, Held { reader }, writer, at);
@@ -177,6 +180,9 @@ pub fn run_list<A: Apply, R: Read, W: Write>(
     // 97 is the writer's, and told wherever it fails; 96 is the reader's; the others are faults of commands and of reading.
     ensures writer { IfErr result (TellsWriter (streams.has_failed writer.old) (streams.has_failed writer.new)) }
     ensures why { IfErr result (λ e. (e.fault.0 ≡ 97) ⊎ IsRunFault e.fault.0 (streams.has_failed reader.new)) }
+
+    // Whatever the reader tells: the package that a crash may leave, and the one that the session goes on with, meet the rules.
+    ensures kept { OnSound (A.is_clean session.new) (A.settled session.old) (IsKept (A.has_failed session.old) (A.has_failed session.new) (A.settled session.new) (A.may_leave session.new) A.stands_for) }
 
     // One that has to be opened again answers the records that spell no command, and 92 for the first that spells one.
     ensures ended { OnEnded (A.has_failed session.old) (R.remaining (inside reader.old)) (λ bytes. RanEnded bytes (W.contents (inside writer.old)) (W.contents (inside writer.new)) result) }

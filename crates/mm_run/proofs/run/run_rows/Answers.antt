@@ -2,6 +2,7 @@ use Rattle.std.proofs.Common.{◌≡◌, ◌+◌, ◌-◌, ◌^◌, ◌∙◌, [
 use Rattle.csv.specs.Reading.{source_of}
 use Rattle.mm_run.specs.Runs.{IsSome, OnRun}
 use Rattle.mm_run.proofs.Loops.{counted-once, no-writer-fault, stopped-fault, stopped-with, told-more, told-none, written-once}
+use Rattle.mm_run.proofs.Kept.{kept-more, kept-sound}
 use Rattle.mm_run.proofs.Ended.{ended-all, ended-behind, ended-more, ended-none, ended-stopped}
 use Rattle.mm_run.proofs.Left.{all-answered, so_far-more, so_far-none, some-faulted, some-last, some-so_far}
 use Rattle.mm_run.proofs.Failing.{goes-ended, goes-same, stops-failing}
@@ -18,6 +19,9 @@ loop-n-init g c = record {
   same = refl;
   ended = λ was. (refl, refl);
   given = ([], told-none _ _ refl refl refl, λ clean p sound xs here. so_far-none p c.args.at xs _ _ (g.A.Apply.settled c.args.session.now) here sound);
+  kept = λ clean p sound.
+      kept-sound (g.A.Apply.settled c.args.session.now) (g.A.Apply.may_leave c.args.session.now) g.A.Apply.stands_for (g.met.A.Apply.leaves_settled c.args.session.now)
+      (g.A.Apply.has_failed c.args.session.now) (g.A.Apply.has_failed c.args.session.now) p sound;
   refused = λ was xs here. ended-none xs _ _ _ _ here (told-none _ _ refl refl refl);
 }
 
@@ -63,6 +67,11 @@ loop-n-preserved g c =
             given inv.set_up.config (so_far (c.turn.ensures.clean clean) p sound xs here) c.in-Some.answer
             (λ q sound. rw c.in-Some.is at (c.turn.ensures.turns clean q sound)) goes.0,
       );
+      kept =
+          kept-more (g.A.Apply.is_clean c.loop-n.session) (g.A.Apply.is_clean c.turn.new.session)
+          (g.A.Apply.has_failed c.args.session.now) (g.A.Apply.has_failed c.loop-n.session) (g.A.Apply.has_failed c.turn.new.session)
+          (g.A.Apply.settled c.args.session.now) (g.A.Apply.settled c.loop-n.session) (g.A.Apply.settled c.turn.new.session)
+          (g.A.Apply.may_leave c.loop-n.session) (g.A.Apply.may_leave c.turn.new.session) g.A.Apply.stands_for c.turn.ensures.clean inv.same inv.kept c.turn.ensures.kept;
       refused = λ was xs here.
           ended-more g.T.Read.remaining c.loop-n.rows c.turn.new.rows xs c.args.rows.now.state c.loop-n.tally _ _ inv.set_up.config (inv.refused was xs here)
           c.in-Some.answer c.in-Ok.next c.loop-n.n _ _ _ (rw c.in-Some.is at (c.turn.ensures.ended (inv.same ∙ was))) goes inv.numbered;
@@ -112,6 +121,22 @@ returns-in-Err-tell-clause-stopped g c =
     (λ w enough clean p sound xs here.
     some-so_far p c.args.at (g.A.Apply.may_leave c.loop-n.session) g.A.Apply.stands_for xs c.args.rows.now.state first failed (g.A.Apply.settled c.loop-n.session) given
     (g.met.A.Apply.leaves_settled c.loop-n.session) inv.same _ _ (so_far clean p sound xs here) w enough)
+
+pub returns-in-None-clause-kept : goal.returns-in-None-clause-kept
+returns-in-None-clause-kept g c =
+    let inv = c.loop-n.invariant in
+    kept-more (g.A.Apply.is_clean c.loop-n.session) (g.A.Apply.is_clean c.turn.new.session)
+    (g.A.Apply.has_failed c.args.session.now) (g.A.Apply.has_failed c.loop-n.session) (g.A.Apply.has_failed c.turn.new.session)
+    (g.A.Apply.settled c.args.session.now) (g.A.Apply.settled c.loop-n.session) (g.A.Apply.settled c.turn.new.session)
+    (g.A.Apply.may_leave c.loop-n.session) (g.A.Apply.may_leave c.turn.new.session) g.A.Apply.stands_for c.turn.ensures.clean inv.same inv.kept c.turn.ensures.kept
+
+pub returns-in-Err-clause-kept : goal.returns-in-Err-clause-kept
+returns-in-Err-clause-kept g c =
+    let inv = c.loop-n.invariant in
+    kept-more (g.A.Apply.is_clean c.loop-n.session) (g.A.Apply.is_clean c.turn.new.session)
+    (g.A.Apply.has_failed c.args.session.now) (g.A.Apply.has_failed c.loop-n.session) (g.A.Apply.has_failed c.turn.new.session)
+    (g.A.Apply.settled c.args.session.now) (g.A.Apply.settled c.loop-n.session) (g.A.Apply.settled c.turn.new.session)
+    (g.A.Apply.may_leave c.loop-n.session) (g.A.Apply.may_leave c.turn.new.session) g.A.Apply.stands_for c.turn.ensures.clean inv.same inv.kept c.turn.ensures.kept
 
 pub returns-in-None-clause-ended : goal.returns-in-None-clause-ended
 returns-in-None-clause-ended g c was xs here =

@@ -5,7 +5,7 @@ use Rattle.mm_base.specs.declared.answers.Answer.{Answer}
 use Rattle.mm_lines.specs.Records.{IsSetUp}
 use Rattle.mm_run.specs.Told.{AreTold}
 use Rattle.mm_run.specs.Ended.{AreRefusedSoFar, OnEnded}
-use Rattle.mm_run.specs.Runs.{IsSoFar, OnRun}
+use Rattle.mm_run.specs.Runs.{IsKept, IsSoFar, OnRun, OnSound}
 use Rattle.mm_run.proofs.run.run_rows.Given as goal
 
 abbrev pub invariant-loop-n : goal.invariant-loop-n
@@ -21,6 +21,8 @@ invariant-loop-n g l = record {
   given : (given : List Answer) × AreTold given l.tally (g.W.Write.contents (inside l.fn.writer)) (g.W.Write.contents (inside l.writer))
       × OnRun (g.A.Apply.is_clean l.session) (g.A.Apply.settled l.fn.session) (source_of g.T.Read.remaining l.fn.rows)
       (λ p xs. IsSoFar p l.at xs l.fn.rows.state (source_of g.T.Read.remaining l.rows) l.rows.state (g.A.Apply.settled l.session) given);
+  kept : OnSound (g.A.Apply.is_clean l.session) (g.A.Apply.settled l.fn.session)
+      (IsKept (g.A.Apply.has_failed l.fn.session) (g.A.Apply.has_failed l.session) (g.A.Apply.settled l.session) (g.A.Apply.may_leave l.session) g.A.Apply.stands_for);
   refused : OnEnded (g.A.Apply.has_failed l.fn.session) (source_of g.T.Read.remaining l.fn.rows)
       (λ xs. AreRefusedSoFar xs l.fn.rows.state (source_of g.T.Read.remaining l.rows) l.rows.state l.tally (g.W.Write.contents (inside l.fn.writer)) (g.W.Write.contents (inside l.writer)));
 }

@@ -170,7 +170,8 @@ impl<S: Alter> Session<S> {
     ghost use Rattle.mm_base.specs.Streams as streams;
     ghost use Rattle.mm_store.specs.Stands.{IsSettled};
     ghost use Rattle.mm_run.specs.Told.{IsNear};
-    ghost use Rattle.mm_run.specs.Runs.{IsRunFault, OnRun, RanAll, RanSome, TellsFailureOf, TellsFlush, TellsWriter, WorksOn};
+    ghost use Rattle.mm_run.specs.Ended.{OnEnded, RanEnded};
+    ghost use Rattle.mm_run.specs.Runs.{IsKept, IsRunFault, OnRun, OnSound, RanAll, RanSome, TellsFailureOf, TellsFlush, TellsWriter, WorksOn};
     ghost use Rattle.mm_core.specs.Applied.{Stands};
     ghost use Rattle.mm_core.specs.Parts.{held, has_failed};
 
@@ -181,7 +182,8 @@ impl<S: Alter> Session<S> {
     ///
     /// A fault ends the run, with the line of the next record's number where it can be written: 90 want of memory, 91
     /// the store, 92 where the session has to be opened again, 96 where the reader fails, and 97, without a line, where
-    /// the writer does.
+    /// the writer does. A session that has to be opened again still answers the records that spell no command, and tells
+    /// 92 for the first that spells one.
     pub fn run_list<R: Read, W: Write>(
         &mut self,
         reader: &mut Io<R>,
@@ -200,6 +202,9 @@ impl<S: Alter> Session<S> {
         ensures session { TellsFailureOf (has_failed self.old) (has_failed self.new) (self.new ≡ self.old) result }
         ensures writer { IfErr result (TellsWriter (streams.has_failed writer.old) (streams.has_failed writer.new)) }
         ensures why { IfErr result (λ e. (e.fault.0 ≡ 97) ⊎ IsRunFault e.fault.0 (streams.has_failed reader.new)) }
+        ensures kept { OnSound (HasCleanDisk (state S.Store (held self.new))) (λ p. IsSettled current (state S.Store (held self.old)) p)
+            (IsKept (has_failed self.old) (has_failed self.new) (λ q. IsSettled current (state S.Store (held self.new)) q) (λ db. (state S.Store (held self.new)).may_leave db) Stands) }
+        ensures ended { OnEnded (has_failed self.old) (R.remaining (inside reader.old)) (λ bytes. RanEnded bytes (W.contents (inside writer.old)) (W.contents (inside writer.new)) result) }
     {
         let alloc = self.alloc;
         run_list(alloc, self, reader, writer, at)

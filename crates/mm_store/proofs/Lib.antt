@@ -12,3 +12,4 @@ pub mod Removals
 pub mod Entries
 pub mod Changes
 pub mod Lookups
+pub mod Seen

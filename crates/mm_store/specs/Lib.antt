@@ -4,3 +4,4 @@ pub mod Faults
 pub mod Statements
 pub mod Shapes
 pub mod Removals
+pub mod Seen

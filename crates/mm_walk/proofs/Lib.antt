@@ -3,3 +3,4 @@ pub mod Walking
 pub mod Matches
 pub mod Testing
 pub mod Quiet
+pub mod Resting

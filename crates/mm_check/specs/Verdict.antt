@@ -6,6 +6,7 @@ use Rattle.mm_base.specs.Package.{Package}
 use Rattle.mm_base.specs.Rules.{Meets, GivenSystems, NamedSystems, DistinctIdentifiers, Names, Registry, Extents, MatricesFit, HigherIsFiner, NextIsHalved, TilesInside, Items, RelationsSuited, PairingsJoin, ExactExtensions, Editions, Limits}
 use Rattle.mm_base.specs.declared.answers.Fault.{Fault}
 use Rattle.mm_store.specs.Faults.{IsStoreFault}
+use Rattle.mm_store.specs.Seen.{IsSeenAs}
 use Rattle.mm_store.specs.Stands.{IsSettled}
 use Rattle.mm_store.specs.Statements.{CommitsNothing}
 
@@ -45,17 +46,20 @@ abbrev pub IsVerdict : Profile → Package → Option ℕ → Type 0
 IsVerdict profile p None = Meets profile p
 IsVerdict profile p (Some k) = IsFailing profile p k
 
--- It opens no transaction, writes nothing, leaves the connection as settled as before, and answers which rule the package breaks. No fault is a rule's.
+-- It opens no transaction, writes nothing, and leaves the connection reading as before, and settled where it was. It answers which rule the
+-- package breaks that the connection reads as. No fault is a rule's.
 pub record IsVerified (profile : Profile) (old new : State) (result : Result (Option ℕ) Fault) : Type 0 where
   pub mode : old.in_transaction ≡ false → new.in_transaction ≡ false
   pub survives : CommitsNothing old new
+  pub seen : HasCleanDisk new → (p : Package) → IsSeenAs profile old p → IsSeenAs profile new p
   pub settled : HasCleanDisk new → (p : Package) → IsSettled profile old p → IsSettled profile new p
-  pub says : HasCleanDisk new → (p : Package) → IsSettled profile old p → IfOk result (IsVerdict profile p)
+  pub says : HasCleanDisk new → (p : Package) → IsSeenAs profile old p → IfOk result (IsVerdict profile p)
   pub faults : IfErr result IsStoreFault
 
 -- so far each rule holds
 pub record HasPassed (profile : Profile) (old now : State) (k : ℕ) : Type 0 where
   pub mode : old.in_transaction ≡ false → now.in_transaction ≡ false
   pub survives : CommitsNothing old now
+  pub seen : HasCleanDisk now → (p : Package) → IsSeenAs profile old p → IsSeenAs profile now p
   pub settled : HasCleanDisk now → (p : Package) → IsSettled profile old p → IsSettled profile now p
-  pub says : HasCleanDisk now → (p : Package) → IsSettled profile old p → Before profile k p
+  pub says : HasCleanDisk now → (p : Package) → IsSeenAs profile old p → Before profile k p

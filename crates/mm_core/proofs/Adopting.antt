@@ -8,6 +8,7 @@ use Rattle.mm_base.specs.declared.answers.Open.{Open}
 use Rattle.mm_base.specs.declared.answers.Open.TheVariants as opens
 use Rattle.mm_store.specs.Stands.{ReadsAs, IsSettled}
 use Rattle.mm_store.proofs.Asking.{told_fault}
+use Rattle.mm_store.proofs.Seen.{seen_of}
 use Rattle.mm_store.proofs.Shapes.{quiet_then}
 use Rattle.mm_meta.specs.Look.{Answers, IsLooked, Agrees}
 use Rattle.mm_meta.proofs.Looking.{shows_profile}
@@ -63,7 +64,7 @@ module _ (old mid new : State) (looked : IsLooked old mid (Ok tt)) where
         row = λ clean. shows_profile old mid (looked.answers (early clean));
         profile = λ clean. looked.agrees (early clean);
         settled = λ clean p s. verified.settled clean p (looked_settled old mid p looked (early clean) s);
-        meets = λ clean p s. verified.says clean p (looked_settled old mid p looked (early clean) s);
+        meets = λ clean p s. verified.says clean p (seen_of current mid p (looked_settled old mid p looked (early clean) s));
       }
 
   pub rule_fails : (rule : ℕ) → IsVerified current mid new (Ok (Some rule)) → IsNotAdopted old new (opens.Rule rule)
@@ -72,7 +73,7 @@ module _ (old mid new : State) (looked : IsLooked old mid (Ok tt)) where
       record {
         survives = quiet_then old mid new looked.survives verified.survives;
         profile = λ clean. (shows_profile old mid (looked.answers (early clean)), looked.agrees (early clean));
-        declines = λ clean p s. verified.says clean p (looked_settled old mid p looked (early clean) s);
+        declines = λ clean p s. verified.says clean p (seen_of current mid p (looked_settled old mid p looked (early clean) s));
       }
 
   pub check_failed : (fault : Fault) → IsVerified current mid new (Err fault) → IsNotAdopted old new (opens.Fault fault)

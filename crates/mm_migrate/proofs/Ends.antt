@@ -15,6 +15,7 @@ use Rattle.mm_laws.proofs.Scaled.{scaled}
 use Rattle.mm_store.specs.Stands.{StandsFor, ReadsAs, IsSettled}
 use Rattle.mm_store.specs.Statements.{CommitsNothing}
 use Rattle.mm_store.proofs.Asking.{told_fault}
+use Rattle.mm_store.proofs.Seen.{seen_of}
 use Rattle.mm_store.proofs.Shapes.{quiet_then}
 use Rattle.mm_meta.specs.Look.{Answers, IsLooked, Agrees, ShowsProfile}
 use Rattle.mm_meta.proofs.Looking.{asked_still}
@@ -26,10 +27,10 @@ use Rattle.mm_migrate.specs.Migrations.{Judged, IsChecked, Adopts, Migrates, Tel
 
 module _ (profile : Profile) (old new : State) where
   pub checked_well : IsVerified profile old new (Ok None) → IsChecked profile old new (Ok tt)
-  checked_well it = record { mode = it.mode; survives = it.survives; settled = it.settled; says = it.says; no_number = tt; faults = tt }
+  checked_well it = record { mode = it.mode; survives = it.survives; settled = it.settled; says = λ clean p s. it.says clean p (seen_of profile old p s); no_number = tt; faults = tt }
 
   pub rule_told : (rule : ℕ) → IsVerified profile old new (Ok (Some rule)) → IsChecked profile old new (Err (opens.Rule rule))
-  rule_told rule it = record { mode = it.mode; survives = it.survives; settled = it.settled; says = it.says; no_number = tt; faults = tt }
+  rule_told rule it = record { mode = it.mode; survives = it.survives; settled = it.settled; says = λ clean p s. it.says clean p (seen_of profile old p s); no_number = tt; faults = tt }
 
 -- ---- what may be left
 

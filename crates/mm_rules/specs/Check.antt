@@ -5,14 +5,16 @@ use Rattle.mm_base.specs.Bounds.{Profile}
 use Rattle.mm_base.specs.Package.{Package}
 use Rattle.mm_base.specs.declared.answers.Fault.{Fault}
 use Rattle.mm_store.specs.Faults.{IsStoreFault}
+use Rattle.mm_store.specs.Seen.{IsSeenAs}
 use Rattle.mm_store.specs.Stands.{IsSettled}
 use Rattle.mm_store.specs.Statements.{CommitsNothing}
 
--- It opens no transaction, writes nothing and leaves the connection as settled as before, and it tells whether the rule holds of a package that
--- is known to meet `Known`. Its faults are the store's, and none is a rule's.
+-- It opens no transaction, writes nothing, and leaves the connection reading as before, and settled where it was. It tells whether the rule holds
+-- of the package that the connection reads as, which is known to meet `Known`. Its faults are the store's, and none is a rule's.
 pub record IsCheck (profile : Profile) (old new : State) (Known Rule : Package → Type 0) (result : Result Bool Fault) : Type 0 where
   pub mode : old.in_transaction ≡ false → new.in_transaction ≡ false
   pub survives : CommitsNothing old new
+  pub seen : HasCleanDisk new → (p : Package) → IsSeenAs profile old p → IsSeenAs profile new p
   pub settled : HasCleanDisk new → (p : Package) → IsSettled profile old p → IsSettled profile new p
-  pub says : HasCleanDisk new → (p : Package) → IsSettled profile old p → Known p → IfOk result (λ b. IsTrue b ↔ Rule p)
+  pub says : HasCleanDisk new → (p : Package) → IsSeenAs profile old p → Known p → IfOk result (λ b. IsTrue b ↔ Rule p)
   pub faults : IfErr result IsStoreFault

@@ -14,7 +14,7 @@ use Rattle.mm_schema.specs.Tables.{schema}
 use Rattle.mm_base.specs.Bounds.{Profile}
 use Rattle.mm_base.specs.Package.{Package}
 use Rattle.mm_base.specs.declared.answers.Fault.{Fault}
-use Rattle.mm_store.specs.Stands.{IsSettled}
+use Rattle.mm_store.specs.Seen.{IsSeenAs}
 use Rattle.mm_walk.specs.Walk.{Ends, IsWalk}
 use Rattle.mm_walk.proofs.Quiet.{IsQuiet, only_asks}
 use Rattle.mm_listing.specs.Listing.{tables, editions}
@@ -36,7 +36,7 @@ quiet_editions = λ schema base. refl
 
 module _ {V : Type 0} (takes : V → Row → V → Result Bool Fault → Type 0) (held : V → Option (List ℕ)) (failed : V → Bool) where
   module _ (writes : (v u : V) (row : Row) (result : Result Bool Fault) → takes v row u result → TakesLine ShowsTable (held v) (held u) (failed v) (failed u) row result) (old new : State) (v w : V) (profile : Profile) where
-    tables_written : (p : Package) → IsSettled profile old p → (result : Result Bool Fault) → Ends takes tables_text [] old new v w result → IsWritten (held v) (held w) (tables p) (done_of result)
+    tables_written : (p : Package) → IsSeenAs profile old p → (result : Result Bool Fault) → Ends takes tables_text [] old new v w result → IsWritten (held v) (held w) (tables p) (done_of result)
     tables_written p s result =
         written ShowsTable takes held failed writes tables_text old new v w (IsAnswer (query table.joined [] table.shown table.by_name no_limit) (overlay old.now.trees []) [])
         (λ up rows shown. (reads_as tables_text [] old new schema (s.reads up).schema_is _ list_tables.compiled list_tables.plain list_tables.unlisted rows shown).answer Null)
@@ -51,7 +51,7 @@ module _ {V : Type 0} (takes : V → Row → V → Result Bool Fault → Type 0)
     tables_listed result it = listed ShowsTable takes held failed writes tables_text old new v w profile tables (only_asks tables_text quiet_tables old.now.schema) tables_written result it
 
   module _ (writes : (v u : V) (row : Row) (result : Result Bool Fault) → takes v row u result → TakesLine ShowsEdition (held v) (held u) (failed v) (failed u) row result) (old new : State) (v w : V) (profile : Profile) where
-    editions_written : (p : Package) → IsSettled profile old p → (result : Result Bool Fault) → Ends takes editions_text [] old new v w result → IsWritten (held v) (held w) (editions p) (done_of result)
+    editions_written : (p : Package) → IsSeenAs profile old p → (result : Result Bool Fault) → Ends takes editions_text [] old new v w result → IsWritten (held v) (held w) (editions p) (done_of result)
     editions_written p s result =
         written ShowsEdition takes held failed writes editions_text old new v w (IsAnswer (query edition.joined [] edition.shown table.by_name no_limit) (overlay old.now.trees []) [])
         (λ up rows shown. (reads_as editions_text [] old new schema (s.reads up).schema_is _ list_editions.compiled list_editions.plain list_editions.unlisted rows shown).answer Null)

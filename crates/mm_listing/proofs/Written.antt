@@ -7,10 +7,11 @@ use Rattle.mm_base.specs.Bounds.{Profile}
 use Rattle.mm_base.specs.Package.{Package}
 use Rattle.mm_base.specs.declared.answers.Fault.{Fault}
 use Rattle.mm_store.specs.Faults.{IsStoreFault}
-use Rattle.mm_store.specs.Stands.{IsSettled}
+use Rattle.mm_store.specs.Seen.{IsSeenAs}
+use Rattle.mm_store.proofs.Seen.{settled_still}
 use Rattle.mm_store.proofs.Shapes.{quiet_then}
-use Rattle.mm_walk.specs.Walk.{OnlyAsks, Rests, Takes, Ends, IsWalk}
-use Rattle.mm_reads.proofs.Reading.{settled_still}
+use Rattle.mm_walk.specs.Walk.{OnlyAsks, Takes, Ends, IsWalk}
+use Rattle.mm_walk.proofs.Resting.{seen_still, ends_rest}
 use Rattle.mm_listing.specs.Writing.{IsBegun, TakesLine, IsWritten, TellsWriter, IsListed}
 use Rattle.mm_listing.proofs.Fronts.{ShowsEach, Fronts}
 
@@ -67,12 +68,6 @@ module _ (Shows : Row → List ℕ → Type 0) where
     -- ---- what was written
 
     module _ (sql : List ℕ) (old new : State) (v w : V) where
-      rests : (result : Result Bool Fault) → Ends takes sql [] old new v w result → Rests old new
-      rests (Ok true) it = inl it.same
-      rests (Ok false) it = inl it.same
-      rests (Err fault) (inl it) = inl it.same
-      rests (Err fault) (inr it) = it.rests
-
       module _ (Answer : List Row → Type 0) (shows : IsTrue old.is_open → (rows : List Row) → Shown sql [] old new rows → Answer rows) (begins : IsTrue old.is_open → (rows : List Row) → Begins sql [] old rows → (tail : List Row) × Answer (rows ++ tail)) (whole : List ℕ)
           (front : IsTrue old.is_open → (rows tail : List Row) → Answer (rows ++ tail) → (text : List ℕ) → ShowsEach Shows rows text → Fronts whole text tail) where
         pub written : (result : Result Bool Fault) → Ends takes sql [] old new v w result → IsWritten (held v) (held w) whole (done_of result)
@@ -106,11 +101,12 @@ module _ (Shows : Row → List ℕ → Type 0) where
 
       -- ---- the whole walk
 
-      pub listed : (profile : Profile) (text : Package → List ℕ) → OnlyAsks old.now.schema sql → ((p : Package) → IsSettled profile old p → (result : Result Bool Fault) → Ends takes sql [] old new v w result → IsWritten (held v) (held w) (text p) (done_of result)) → (result : Result Bool Fault)
+      pub listed : (profile : Profile) (text : Package → List ℕ) → OnlyAsks old.now.schema sql → ((p : Package) → IsSeenAs profile old p → (result : Result Bool Fault) → Ends takes sql [] old new v w result → IsWritten (held v) (held w) (text p) (done_of result)) → (result : Result Bool Fault)
           → IsWalk takes sql [] old new v w result → IsListed profile text old new (held v) (held w) (failed v) (failed w) (done_of result)
       listed profile text asks says result it = record {
         survives = it.survives asks;
-        settled = λ clean p s. settled_still profile old new p (it.survives asks) clean (rests result (it.walked clean asks)) s;
+        seen = λ clean p. seen_still profile old new p (ends_rest takes sql [] old new v w result (it.walked clean asks));
+        settled = λ clean p. settled_still profile old new p (it.survives asks) clean (seen_still profile old new p (ends_rest takes sql [] old new v w result (it.walked clean asks)));
         written = λ clean p s. says p s result (it.walked clean asks);
         writer = tells_writer v w result it.faults it.visits;
       }
@@ -140,8 +136,9 @@ module _ (profile : Profile) (first second : Package → List ℕ) (old mid new 
       let early : HasCleanDisk new → HasCleanDisk mid = λ clean. omega (arith, clean, two.survives.clean) in
       record {
         survives = quiet_then old mid new one.survives two.survives;
+        seen = λ clean p s. two.seen clean p (one.seen (early clean) p s);
         settled = λ clean p s. two.settled clean p (one.settled (early clean) p s);
-        written = λ clean p s. written_then (first p) (second p) result (one.written (early clean) p s) (two.written clean p (one.settled (early clean) p s));
+        written = λ clean p s. written_then (first p) (second p) result (one.written (early clean) p s) (two.written clean p (one.seen (early clean) p s));
         writer = tells_then one.writer result two.writer;
       }
 
@@ -149,6 +146,7 @@ pub listed_failed : (profile : Profile) (first second : Package → List ℕ) (o
     → IsListed profile (λ p. first p ++ second p) old new held holds before failed (Err fault)
 listed_failed profile first second old new held holds before failed fault it = record {
   survives = it.survives;
+  seen = it.seen;
   settled = it.settled;
   written = λ clean p s. more (second p) (it.written clean p s);
   writer = it.writer;

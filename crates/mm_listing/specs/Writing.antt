@@ -7,6 +7,7 @@ use Rattle.mm_base.specs.Bounds.{Profile}
 use Rattle.mm_base.specs.Package.{Package}
 use Rattle.mm_base.specs.declared.answers.Fault.{Fault}
 use Rattle.mm_store.specs.Faults.{IsStoreFault}
+use Rattle.mm_store.specs.Seen.{IsSeenAs}
 use Rattle.mm_store.specs.Stands.{IsSettled}
 use Rattle.mm_store.specs.Statements.{CommitsNothing}
 
@@ -42,9 +43,10 @@ abbrev pub TellsWriter : Bool → Bool → Result (Unit {0}) Fault → Type 0
 TellsWriter before failed (Ok done) = failed ≡ before
 TellsWriter before failed (Err fault) = (IsStoreFault fault × (failed ≡ before)) ⊎ ((fault ≡ unwritten) × (failed ≡ true))
 
--- It commits nothing and leaves the connection as settled as it was, and writes the text of the package that it is settled for.
+-- It commits nothing, leaves the connection reading as before, and settled where it was, and writes the text of the package that it reads as.
 pub record IsListed (profile : Profile) (text : Package → List ℕ) (old new : State) (held holds : Option (List ℕ)) (before failed : Bool) (result : Result (Unit {0}) Fault) : Type 0 where
   pub survives : CommitsNothing old new
+  pub seen : HasCleanDisk new → (p : Package) → IsSeenAs profile old p → IsSeenAs profile new p
   pub settled : HasCleanDisk new → (p : Package) → IsSettled profile old p → IsSettled profile new p
-  pub written : HasCleanDisk new → (p : Package) → IsSettled profile old p → IsWritten held holds (text p) result
+  pub written : HasCleanDisk new → (p : Package) → IsSeenAs profile old p → IsWritten held holds (text p) result
   pub writer : TellsWriter before failed result

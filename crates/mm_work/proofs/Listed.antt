@@ -2,6 +2,7 @@
 use Rattle.std.proofs.Common.{ℕ, Bool, List, Option, Ok, arith}
 use Rattle.sqlite.specs.State.{State, HasCleanDisk}
 use Rattle.mm_base.specs.Bounds.{current}
+use Rattle.mm_store.proofs.Seen.{seen_of}
 use Rattle.mm_store.proofs.Shapes.{quiet_then}
 use Rattle.mm_core.specs.Adopted.{IsAdopted}
 use Rattle.mm_listing.specs.Listing.{listing}
@@ -15,5 +16,5 @@ lists old mid new held holds before failed done adopted listed =
       survives = quiet_then old mid new adopted.survives listed.survives;
       settled = λ clean p s. listed.settled clean p (adopted.settled (early clean) p s);
       meets = λ clean p s. adopted.meets (early clean) p s;
-      printed = λ clean p s. listed.written clean p (adopted.settled (early clean) p s);
+      printed = λ clean p s. listed.written clean p (seen_of current mid p (adopted.settled (early clean) p s));
     }

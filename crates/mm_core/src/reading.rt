@@ -16,7 +16,7 @@ impl<S: Alter> Session<S> {
     ghost use Rattle.mm_base.specs.Bounds.{current};
     ghost use Rattle.mm_base.specs.Keys as keys;
     ghost use Rattle.mm_base.specs.Keys.{item};
-    ghost use Rattle.mm_store.specs.Shapes.{IsRead};
+    ghost use Rattle.mm_store.specs.Seen.{IsRead};
     ghost use Rattle.mm_reads.specs.Told.{TellsBytes, medium_of, row_of};
     ghost use Rattle.mm_reads.specs.Listing.{Lists};
     ghost use Rattle.mm_related.specs.Related.{Tells};

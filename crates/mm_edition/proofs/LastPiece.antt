@@ -37,7 +37,7 @@ use Rattle.mm_base.proofs.KeyLaws.{texts}
 use Rattle.mm_laws.proofs.Counted.{piece_count-is}
 use Rattle.mm_laws.proofs.KindFacts.{are_same}
 use Rattle.mm_store.specs.Rows.{past_rowid, staged_row}
-use Rattle.mm_store.specs.Shapes.{IsRead}
+use Rattle.mm_store.specs.Seen.{IsRead}
 use Rattle.mm_edition.specs.States.{GivesNumber, IsLast}
 
 not_less : (a b : ℤ) → is_lt (int_cmp a b) ≡ false → b ≤ℤ a
@@ -136,6 +136,7 @@ under A B (Err e) h a = tt
 pub read_of_rules : {T : Type 0} (profile : Profile) (old new : State) (Says : Package → T → Type 0) (r : Result T Fault) → IsRead profile old new (λ p x. Meets profile p → Says p x) r → IsRead profile old new Says r
 read_of_rules profile old new Says r it = record {
   survives = it.survives;
+  seen = it.seen;
   settled = it.settled;
   says = λ clean p meets was. under (Meets profile p) (Says p) r (it.says clean p meets was) meets;
   faults = it.faults;

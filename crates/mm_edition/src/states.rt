@@ -5,7 +5,8 @@ ghost use Rattle.sqlite.specs.Values.{bound};
 ghost use Rattle.sqlite.specs.Held.{state};
 ghost use Rattle.mm_base.specs.Bounds.{Profile};
 ghost use Rattle.mm_base.specs.Rules.{Meets};
-ghost use Rattle.mm_store.specs.Shapes.{IsLook, IsRead};
+ghost use Rattle.mm_store.specs.Seen.{IsRead};
+ghost use Rattle.mm_store.specs.Shapes.{IsLook};
 ghost use Rattle.mm_store.specs.Statements.{IsAsked};
 ghost use Rattle.mm_edition.specs.States.{GivesNumber, IsLast, TellsState};
 

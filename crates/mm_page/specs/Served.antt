@@ -7,6 +7,7 @@ use Rattle.mm_base.specs.Keys.{Text}
 use Rattle.mm_base.specs.Package.{Package}
 use Rattle.mm_base.specs.Rules.{Meets}
 use Rattle.mm_base.specs.declared.answers.Fault.{Fault}
+use Rattle.mm_store.specs.Seen.{IsSeenAs}
 use Rattle.mm_store.specs.Stands.{IsSettled}
 use Rattle.mm_store.specs.Statements.{CommitsNothing}
 use Rattle.httparse.specs.Grammar.{RequestHead}
@@ -16,14 +17,15 @@ use Rattle.mm_page.specs.Page.{Page, path_of}
 
 -- ---- the session
 
--- It goes on as settled for a package as it was, and what a crash may leave is what it might have left before.
+-- It reads as the package that it read as, is settled where it was, and what a crash may leave is what it might have left before.
 pub record LeavesPackage (old new : State) : Type 0 where
   pub survives : CommitsNothing old new
-  pub settled : HasCleanDisk new → (p : Package) → Meets current p → IsSettled current old p → IsSettled current new p
+  pub seen : HasCleanDisk new → (p : Package) → IsSeenAs current old p → IsSeenAs current new p
+  pub settled : HasCleanDisk new → (p : Package) → IsSettled current old p → IsSettled current new p
 
--- The session is settled for a package that meets the rules. Of one that has failed nothing is asked: it reads no package.
+-- The session reads as a package that meets the rules. Of one that has failed nothing is asked: it reads no package.
 abbrev pub IsOn : Bool → State → State → Package → Type 0
-IsOn failed old new p = failed ≡ false → HasCleanDisk new × Meets current p × IsSettled current old p
+IsOn failed old new p = failed ≡ false → HasCleanDisk new × Meets current p × IsSeenAs current old p
 
 -- an answer shows that part of each package that the session is on
 abbrev pub Gives : {A B : Type 0} → (A → B) → B → Result A Fault → Type 0

@@ -12,29 +12,13 @@ use Rattle.mm_base.specs.Package.{Package}
 use Rattle.mm_base.specs.declared.answers.Fault.{Fault}
 use Rattle.mm_base.specs.declared.entries.Entry.{Entry}
 use Rattle.mm_store.specs.Faults.{IsStoreFault}
-use Rattle.mm_store.specs.Stands.{ReadsAs, IsSettled}
-use Rattle.mm_store.specs.Statements.{CommitsNothing}
-use Rattle.mm_store.specs.Shapes.{IsRead}
-use Rattle.mm_walk.specs.Walk.{Rests, Takes, Ends, IsWalk}
+use Rattle.mm_store.specs.Seen.{IsSeenAs, IsRead}
+use Rattle.mm_store.proofs.Seen.{settled_still}
+use Rattle.mm_walk.specs.Walk.{Takes, Ends, IsWalk}
+use Rattle.mm_walk.proofs.Resting.{seen_still, ends_rest}
 use Rattle.mm_reads.specs.Listing.{Gathers, Lists}
 use Rattle.mm_reads.proofs.Asking.{list_asks}
 use Rattle.mm_reads.proofs.Listed.{list_text, list_tables, ShowsAll, lists_tables}
-
--- ---- a connection that rests is as settled as before
-
-pub settled_still : (profile : Profile) (old new : State) (p : Package) → CommitsNothing old new → HasCleanDisk new → Rests old new → IsSettled profile old p → IsSettled profile new p
-settled_still profile old new p quiet clean (inl same) it = record {
-  mode = same.0.mode ∙ it.mode;
-  back = λ up. subst (λ d. ReadsAs profile.version d p) (sym same.0.committed_is) (it.back same.0.was_open);
-  reads = λ up. subst (λ d. ReadsAs profile.version d p) (sym same.0.now_is) (it.reads same.0.was_open);
-  left = λ db may. elim (quiet.crash clean db may) [ inl before ↦ it.left db before | inr none ↦ absurd none ];
-}
-settled_still profile old new p quiet clean (inr undone) it = record {
-  mode = undone.autocommit;
-  back = λ up. subst (λ d. ReadsAs profile.version d p) (sym (undone.undone up).1) (it.back (undone.was_open up));
-  reads = λ up. subst (λ d. ReadsAs profile.version d p) (sym (undone.undone up).0) (it.back (undone.was_open up));
-  left = λ db may. elim (quiet.crash clean db may) [ inl before ↦ it.left db before | inr none ↦ absurd none ];
-}
 
 -- ---- the walk of a visitor that keeps what it gathers
 
@@ -47,14 +31,8 @@ module _ {V : Type 0} (takes : V → Row → V → Result Bool Fault → Type 0)
       (one.1 ∷ rest.0, rest.1 ∙ ap (λ es. es ++ rest.0) one.3 ∙ append_assoc (items v) (one.1 ∷ []) rest.0, (one.2, rest.2))
 
   module _ (old new : State) (v w : V) (empty : items v ≡ []) where
-    rests : (result : Result Bool Fault) → Ends takes list_text [] old new v w result → Rests old new
-    rests (Ok true) it = inl it.same
-    rests (Ok false) it = inl it.same
-    rests (Err fault) (inl it) = inl it.same
-    rests (Err fault) (inr it) = it.rests
-
     module _ (profile : Profile) where
-      tables_told : (p : Package) → IsSettled profile old p → (result : Result Bool Fault) → Ends takes list_text [] old new v w result → IfOk result (λ _. Lists p (items w))
+      tables_told : (p : Package) → IsSeenAs profile old p → (result : Result Bool Fault) → Ends takes list_text [] old new v w result → IfOk result (λ _. Lists p (items w))
       tables_told p it (Err fault) h = tt
       tables_told p it (Ok false) h = absurd (let e : false ≡ true = (gathers h.before w h.last (Ok false) h.ends).0 in cc)
       tables_told p it (Ok true) h =
@@ -75,11 +53,15 @@ module _ {V : Type 0} (takes : V → Row → V → Result Bool Fault → Type 0)
       pub read_by_walk : (result : Result Bool Fault) (last : Result (Vec Entry Global) Fault) → IsWalk takes list_text [] old new v w result → Found result last → IsRead profile old new (λ p (tables : Vec Entry Global). Lists p tables.items) last
       read_by_walk result last it found = record {
         survives = it.survives (list_asks old.now.schema);
-        settled = λ clean p meets was. settled_still profile old new p (it.survives (list_asks old.now.schema)) clean (rests result (it.walked clean (list_asks old.now.schema))) was;
+        seen = seen;
+        settled = λ clean p was. settled_still profile old new p (it.survives (list_asks old.now.schema)) clean (seen clean p) was;
         says = λ clean p meets was. says p result last found (tables_told p was result (it.walked clean (list_asks old.now.schema)));
         faults = faults result last found it.faults;
       }
         where
+          seen : HasCleanDisk new → (p : Package) → IsSeenAs profile old p → IsSeenAs profile new p
+          seen clean p = seen_still profile old new p (ends_rest takes list_text [] old new v w result (it.walked clean (list_asks old.now.schema)))
+
           says : (p : Package) (result : Result Bool Fault) (last : Result (Vec Entry Global) Fault) → Found result last → IfOk result (λ _. Lists p (items w)) → IfOk last (λ tables. Lists p tables.items)
           says p (Ok goes) (Ok entries) same h = subst (Lists p) (sym same) h
           says p (Err fault) (Ok entries) none h = absurd none

@@ -7,7 +7,7 @@ ghost use Rattle.sqlite.specs.declared.types.Value.TheVariants.{Text as Words};
 ghost use Rattle.mm_base.specs.Bounds.{Profile};
 ghost use Rattle.mm_base.specs.Package.{kind_text};
 ghost use Rattle.mm_store.specs.Faults.{IsStoreFault};
-ghost use Rattle.mm_store.specs.Shapes.{IsRead};
+ghost use Rattle.mm_store.specs.Seen.{IsRead};
 ghost use Rattle.mm_reads.specs.Listing.{ShowsPlace, ShowsPlaceOf, ShowsEntry, Gathers, Lists};
 
 use mm_base::answers::Fault;

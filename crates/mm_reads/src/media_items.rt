@@ -7,7 +7,8 @@ ghost use Rattle.sqlite.specs.Held.{state};
 ghost use Rattle.mm_base.specs.Bounds.{Profile};
 ghost use Rattle.mm_base.specs.Keys.{item};
 ghost use Rattle.mm_store.specs.Faults.{IsStoreFault};
-ghost use Rattle.mm_store.specs.Shapes.{IsLook, IsRead};
+ghost use Rattle.mm_store.specs.Seen.{IsRead};
+ghost use Rattle.mm_store.specs.Shapes.{IsLook};
 ghost use Rattle.mm_store.specs.Statements.{IsAsked};
 ghost use Rattle.mm_reads.specs.Told.{Gives, ShowsMedium, medium_of};
 

@@ -14,32 +14,16 @@ use Rattle.mm_base.specs.Package.{Package}
 use Rattle.mm_base.specs.declared.answers.Fault.{Fault}
 use Rattle.mm_base.specs.declared.entries.Related.{Related}
 use Rattle.mm_store.specs.Faults.{IsStoreFault}
-use Rattle.mm_store.specs.Stands.{ReadsAs, IsSettled}
-use Rattle.mm_store.specs.Statements.{CommitsNothing}
-use Rattle.mm_store.specs.Shapes.{IsRead}
+use Rattle.mm_store.specs.Seen.{IsSeenAs, IsRead}
+use Rattle.mm_store.proofs.Seen.{settled_still}
 use Rattle.mm_store.proofs.Shapes.{quiet_then}
-use Rattle.mm_walk.specs.Walk.{Rests, Takes, Ends, IsWalk}
+use Rattle.mm_walk.specs.Walk.{Takes, Ends, IsWalk}
+use Rattle.mm_walk.proofs.Resting.{seen_still, ends_rest}
 use Rattle.mm_related.specs.Related.{Gathers, Lists}
 use Rattle.mm_related.proofs.Asked as asked
 use Rattle.mm_related.proofs.Asked.{listed_text}
 use Rattle.mm_related.proofs.OnlyAsks.{only_asks}
 use Rattle.mm_related.proofs.Listed.{ShowsAll, lists_mates}
-
--- ---- a connection that rests is as settled as before
-
-settled_still : (profile : Profile) (old new : State) (p : Package) → CommitsNothing old new → HasCleanDisk new → Rests old new → IsSettled profile old p → IsSettled profile new p
-settled_still profile old new p quiet clean (inl same) it = record {
-  mode = same.0.mode ∙ it.mode;
-  back = λ up. subst (λ d. ReadsAs profile.version d p) (sym same.0.committed_is) (it.back same.0.was_open);
-  reads = λ up. subst (λ d. ReadsAs profile.version d p) (sym same.0.now_is) (it.reads same.0.was_open);
-  left = λ db may. elim (quiet.crash clean db may) [ inl before ↦ it.left db before | inr none ↦ absurd none ];
-}
-settled_still profile old new p quiet clean (inr undone) it = record {
-  mode = undone.autocommit;
-  back = λ up. subst (λ d. ReadsAs profile.version d p) (sym (undone.undone up).1) (it.back (undone.was_open up));
-  reads = λ up. subst (λ d. ReadsAs profile.version d p) (sym (undone.undone up).0) (it.back (undone.was_open up));
-  left = λ db may. elim (quiet.crash clean db may) [ inl before ↦ it.left db before | inr none ↦ absurd none ];
-}
 
 -- ---- the walk of a visitor that keeps what it gathers
 
@@ -59,14 +43,8 @@ module _ {V : Type 0} (takes : V → Row → V → Result Bool Fault → Type 0)
       (one.1 ∷ rest.0, rest.1 ∙ ap (λ found. found ++ rest.0) one.3 ∙ append_assoc (items v) (one.1 ∷ []) rest.0, (one.2, rest.2))
 
   module _ (table : Text) (id : ℤ) (given : Row) (same : given ≡ Words table ∷ Int id ∷ []) (old new : State) (v w : V) (empty : items v ≡ []) where
-    rests : (result : Result Bool Fault) → Ends takes listed_text given old new v w result → Rests old new
-    rests (Ok true) it = inl it.same
-    rests (Ok false) it = inl it.same
-    rests (Err fault) (inl it) = inl it.same
-    rests (Err fault) (inr it) = it.rests
-
     module _ (profile : Profile) where
-      items_told : (p : Package) → IsSettled profile old p → (result : Result Bool Fault) → Ends takes listed_text given old new v w result → IfOk result (λ _. Lists p table id (items w))
+      items_told : (p : Package) → IsSeenAs profile old p → (result : Result Bool Fault) → Ends takes listed_text given old new v w result → IfOk result (λ _. Lists p table id (items w))
       items_told p it (Err fault) h = tt
       items_told p it (Ok false) h = absurd (let e : false ≡ true = (gathers h.before w h.last (Ok false) h.ends).0 in cc)
       items_told p it (Ok true) h =
@@ -81,11 +59,15 @@ module _ {V : Type 0} (takes : V → Row → V → Result Bool Fault → Type 0)
       pub read_by_walk : (result : Result Bool Fault) (last : Result (Vec Related Global) Fault) → IsWalk takes listed_text given old new v w result → Found (items w) result last → IsRead profile old new (λ p (found : Vec Related Global). Lists p table id found.items) last
       read_by_walk result last it found = record {
         survives = it.survives (only_asks old.now.schema);
-        settled = λ clean p meets was. settled_still profile old new p (it.survives (only_asks old.now.schema)) clean (rests result (it.walked clean (only_asks old.now.schema))) was;
+        seen = seen;
+        settled = λ clean p was. settled_still profile old new p (it.survives (only_asks old.now.schema)) clean (seen clean p) was;
         says = λ clean p meets was. says p result last found (items_told p was result (it.walked clean (only_asks old.now.schema)));
         faults = faults result last found it.faults;
       }
         where
+          seen : HasCleanDisk new → (p : Package) → IsSeenAs profile old p → IsSeenAs profile new p
+          seen clean p = seen_still profile old new p (ends_rest takes listed_text given old new v w result (it.walked clean (only_asks old.now.schema)))
+
           says : (p : Package) (result : Result Bool Fault) (last : Result (Vec Related Global) Fault) → Found (items w) result last → IfOk result (λ _. Lists p table id (items w)) → IfOk last (λ found. Lists p table id found.items)
           says p (Ok goes) (Ok found) same h = subst (Lists p table id) (sym same) h
           says p (Err fault) (Ok found) none h = absurd none
@@ -101,17 +83,18 @@ module _ {V : Type 0} (takes : V → Row → V → Result Bool Fault → Type 0)
 
 module _ (profile : Profile) {T U : Type 0} where
   pub read_as : {Says : Package → T → Type 0} {Less : Package → U → Type 0} (old new : State) (x : T) (y : U) → IsRead profile old new Says (Ok x) → ((p : Package) → Says p x → Less p y) → IsRead profile old new Less (Ok y)
-  read_as old new x y read so = record { survives = read.survives; settled = read.settled; says = λ clean p meets it. so p (read.says clean p meets it); faults = tt }
+  read_as old new x y read so = record { survives = read.survives; seen = read.seen; settled = read.settled; says = λ clean p meets it. so p (read.says clean p meets it); faults = tt }
 
   pub read_failed : {Says : Package → T → Type 0} {Less : Package → U → Type 0} (old new : State) (e : Fault) → IsRead profile old new Says (Err e) → IsRead profile old new Less (Err e)
-  read_failed old new e read = record { survives = read.survives; settled = read.settled; says = λ clean p meets it. tt; faults = read.faults }
+  read_failed old new e read = record { survives = read.survives; seen = read.seen; settled = read.settled; says = λ clean p meets it. tt; faults = read.faults }
 
   -- one read, then another
   pub reads_then : {Says : Package → T → Type 0} {More : Package → U → Type 0} (a b c : State) (x : T) (r : Result U Fault) → IsRead profile a b Says (Ok x) → IsRead profile b c More r → IsRead profile a c (λ p y. Says p x × More p y) r
   reads_then {Says} {More} a b c x r one two = record {
     survives = quiet_then a b c one.survives two.survives;
-    settled = λ clean p meets it. two.settled clean p meets (one.settled (omega (arith, two.survives.clean)) p meets it);
-    says = λ clean p meets it. let early = one.settled (omega (arith, two.survives.clean)) p meets it in both p (one.says (omega (arith, two.survives.clean)) p meets it) r (two.says clean p meets early);
+    seen = λ clean p it. two.seen clean p (one.seen (omega (arith, two.survives.clean)) p it);
+    settled = λ clean p it. two.settled clean p (one.settled (omega (arith, two.survives.clean)) p it);
+    says = λ clean p meets it. let early = one.seen (omega (arith, two.survives.clean)) p it in both p (one.says (omega (arith, two.survives.clean)) p meets it) r (two.says clean p meets early);
     faults = two.faults;
   }
     where

@@ -3,7 +3,8 @@
 ghost use Rattle.std.specs.Prelude.{◌≡◌, false};
 ghost use Rattle.sqlite.specs.Held.{state};
 ghost use Rattle.mm_base.specs.Bounds.{Profile};
-ghost use Rattle.mm_store.specs.Shapes.{IsLook, IsRead};
+ghost use Rattle.mm_store.specs.Seen.{IsRead};
+ghost use Rattle.mm_store.specs.Shapes.{IsLook};
 ghost use Rattle.mm_related.specs.Related.{is_item};
 
 use mm_base::answers::Fault;

@@ -4,7 +4,7 @@ ghost use Rattle.std.specs.Prelude.{◌≡◌, false, IfOk, IfErr};
 ghost use Rattle.sqlite.specs.Held.{state};
 ghost use Rattle.mm_base.specs.Bounds.{Profile};
 ghost use Rattle.mm_store.specs.Faults.{IsStoreFault};
-ghost use Rattle.mm_store.specs.Shapes.{IsRead};
+ghost use Rattle.mm_store.specs.Seen.{IsRead};
 ghost use Rattle.mm_related.specs.Related.{ShowsRelated, Gathers, Lists, Tells};
 
 use crate::items::stands;

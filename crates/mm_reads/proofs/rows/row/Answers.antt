@@ -3,8 +3,8 @@ use Rattle.std.proofs.Math.Facts.{to_z-of_z}
 use Rattle.std.specs.FinMap.{get}
 use Rattle.sqlite.specs.Held.{state}
 use Rattle.mm_base.specs.Keys.{item}
-use Rattle.mm_store.specs.Shapes.{IsRead}
-use Rattle.mm_store.proofs.Transactions.{reads}
+use Rattle.mm_store.specs.Seen.{IsRead}
+use Rattle.mm_store.proofs.Seen.{reads}
 use Rattle.mm_reads.specs.Told.{row_of}
 use Rattle.mm_reads.proofs.rows.row.Goals as goal
 
@@ -16,4 +16,5 @@ returns-clause-read g c profile =
     let look = (rw (to_z-of_z c.ranges.id) at c.row_at-found.ensures.look) profile in
     let it : IsRead profile (state g.S.Store a.conn.now) (state g.S.Store end) (λ p found. get p.rows (item a.table.now a.id) ≡ option_map row_of found) c.row_at-found.result =
     reads g.S.Store a.conn.now c.transaction-tx.result.conn.now c.transaction-tx.ensures.begun (state g.S.Store looked) (state g.S.Store end) look.survives c.rollback.ensures.survives profile _ c.row_at-found.result look c.rollback.ensures.undone in
-    search rules
+    let same : end ≡ c.conn-1.given.0 = search rules in
+    rw same at it

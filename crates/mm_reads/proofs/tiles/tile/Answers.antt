@@ -1,9 +1,9 @@
-use Rattle.std.proofs.Common.{pos, rules}
+use Rattle.std.proofs.Common.{◌≡◌, pos, rules}
 use Rattle.std.specs.FinMap.{get}
 use Rattle.sqlite.specs.Held.{state}
 use Rattle.mm_base.specs.Keys.{tile}
-use Rattle.mm_store.specs.Shapes.{IsRead}
-use Rattle.mm_store.proofs.Transactions.{reads}
+use Rattle.mm_store.specs.Seen.{IsRead}
+use Rattle.mm_store.proofs.Seen.{reads}
 use Rattle.mm_reads.specs.Told.{TellsBytes}
 use Rattle.mm_reads.proofs.tiles.tile.Goals as goal
 
@@ -15,4 +15,5 @@ returns-clause-read g c profile =
     let look = c.bytes_at-found.ensures.look profile in
     let it : IsRead profile (state g.S.Store a.conn.now) (state g.S.Store end) (λ p found. TellsBytes (get p.tiles (tile a.table.now (pos a.zoom) (pos a.column) (pos a.row))) found) c.bytes_at-found.result =
     reads g.S.Store a.conn.now c.transaction-tx.result.conn.now c.transaction-tx.ensures.begun (state g.S.Store looked) (state g.S.Store end) look.survives c.rollback.ensures.survives profile _ c.bytes_at-found.result look c.rollback.ensures.undone in
-    search rules
+    let same : end ≡ c.conn-1.given.0 = search rules in
+    rw same at it

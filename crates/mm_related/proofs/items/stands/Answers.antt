@@ -1,8 +1,8 @@
 use Rattle.std.proofs.Common.{◌≡◌, rules}
 use Rattle.std.proofs.Math.Facts.{to_z-of_z}
 use Rattle.sqlite.specs.Held.{state}
-use Rattle.mm_store.specs.Shapes.{IsRead}
-use Rattle.mm_store.proofs.Transactions.{reads}
+use Rattle.mm_store.specs.Seen.{IsRead}
+use Rattle.mm_store.proofs.Seen.{reads}
 use Rattle.mm_related.specs.Related.{is_item}
 use Rattle.mm_related.proofs.items.stands.Goals as goal
 
@@ -14,4 +14,5 @@ returns-clause-read g c profile =
     let look = (rw (to_z-of_z c.ranges.id) at c.has_item-found.ensures.look) profile in
     let it : IsRead profile (state g.S.Store a.conn.now) (state g.S.Store end) (λ p found. found ≡ is_item p a.table.now a.id) c.has_item-found.result =
     reads g.S.Store a.conn.now c.transaction-tx.result.conn.now c.transaction-tx.ensures.begun (state g.S.Store looked) (state g.S.Store end) look.survives c.rollback.ensures.survives profile _ c.has_item-found.result look c.rollback.ensures.undone in
-    search rules
+    let same : end ≡ c.conn-1.given.0 = search rules in
+    rw same at it

@@ -27,7 +27,7 @@ module _ (profile : Profile) (old new : State) where
   unfolding rule
   limits_pass r {b} is told h =
       let c = as_told profile old new (λ _. ⊤) (λ p. Limits profile p) r b true is told h in
-      record { mode = c.mode; survives = c.survives; seen = c.seen; settled = c.settled; says = λ clean p s. ((c.says clean p s tt).0 refl, λ j from to. absurd (omega (arith, from, to))) }
+      record { mode = c.mode; survives = c.survives; is_open = c.is_open; seen = c.seen; settled = c.settled; says = λ clean p s. ((c.says clean p s tt).0 refl, λ j from to. absurd (omega (arith, from, to))) }
 
   pub limits_stop : (r : Result Bool Fault) {b : Bool} → r ≡ Ok b → b ≡ false → IsCheck profile old new (λ _. ⊤) (λ p. Limits profile p) r → IsVerified profile old new (Ok (Some 16))
   unfolding rule
@@ -36,6 +36,7 @@ module _ (profile : Profile) (old new : State) where
       record {
         mode = c.mode;
         survives = c.survives;
+        is_open = c.is_open;
         seen = c.seen;
         settled = c.settled;
         says = λ clean p s. inl (refl, λ it. let e : false ≡ true = (c.says clean p s tt).1 it in absurd (let f : false ≡ true = e in cc));
@@ -45,7 +46,7 @@ module _ (profile : Profile) (old new : State) where
   pub limits_fail : (r : Result Bool Fault) (fault : Fault) → r ≡ Err fault → IsCheck profile old new (λ _. ⊤) (λ p. Limits profile p) r → IsVerified profile old new (Err fault)
   limits_fail r fault is h =
       let c = subst (IsCheck profile old new (λ _. ⊤) (λ p. Limits profile p)) is h in
-      record { mode = c.mode; survives = c.survives; seen = c.seen; settled = c.settled; says = λ clean p s. tt; faults = c.faults }
+      record { mode = c.mode; survives = c.survives; is_open = λ clean. tt; seen = c.seen; settled = c.settled; says = λ clean p s. tt; faults = c.faults }
 
 module _ (profile : Profile) (old mid new : State) (k : ℕ) (low : 1 ≤ k) (high : k < 16) (so_far : HasPassed profile old mid k) where
   pub next_passes : (r : Result Bool Fault) {b : Bool} → r ≡ Ok b → b ≡ true → IsCheck profile mid new (Before profile k) (rule profile k) r → HasPassed profile old new (k + 1)
@@ -54,6 +55,7 @@ module _ (profile : Profile) (old mid new : State) (k : ℕ) (low : 1 ≤ k) (hi
       record {
         mode = λ idle. c.mode (so_far.mode idle);
         survives = quiet_then old mid new so_far.survives c.survives;
+        is_open = c.is_open;
         seen = λ clean p s. c.seen clean p (so_far.seen (omega (arith, c.survives.clean)) p s);
         settled = λ clean p s. c.settled clean p (so_far.settled (omega (arith, c.survives.clean)) p s);
         says = λ clean p s.
@@ -68,6 +70,7 @@ module _ (profile : Profile) (old mid new : State) (k : ℕ) (low : 1 ≤ k) (hi
       record {
         mode = λ idle. c.mode (so_far.mode idle);
         survives = quiet_then old mid new so_far.survives c.survives;
+        is_open = c.is_open;
         seen = λ clean p s. c.seen clean p (so_far.seen (omega (arith, c.survives.clean)) p s);
         settled = λ clean p s. c.settled clean p (so_far.settled (omega (arith, c.survives.clean)) p s);
         says = λ clean p s.
@@ -83,6 +86,7 @@ module _ (profile : Profile) (old mid new : State) (k : ℕ) (low : 1 ≤ k) (hi
       record {
         mode = λ idle. c.mode (so_far.mode idle);
         survives = quiet_then old mid new so_far.survives c.survives;
+        is_open = c.is_open;
         seen = λ clean p s. c.seen clean p (so_far.seen (omega (arith, c.survives.clean)) p s);
         settled = λ clean p s. c.settled clean p (so_far.settled (omega (arith, c.survives.clean)) p s);
         says = λ clean p s. tt;
@@ -115,7 +119,7 @@ pub all_pass : (profile : Profile) (old new : State) (k : ℕ) → k ≡ 16 → 
 all_pass profile old new k is passed = whole (subst (HasPassed profile old new) is passed)
   where
     whole : HasPassed profile old new 16 → IsVerified profile old new (Ok None)
-    whole h = record { mode = h.mode; survives = h.survives; seen = h.seen; settled = h.settled; says = λ clean p s. each_meets profile p (h.says clean p s); faults = tt }
+    whole h = record { mode = h.mode; survives = h.survives; is_open = h.is_open; seen = h.seen; settled = h.settled; says = λ clean p s. each_meets profile p (h.says clean p s); faults = tt }
 
 pub as_rule : (profile : Profile) (old new : State) (Known : Package → Type 0) (Rule : Package → Type 0) (k n : ℕ) → k ≡ n → ((p : Package) → Before profile n p → Known p) → ((p : Package) → Rule p ↔ rule profile n p) → (r : Result Bool Fault) → IsCheck profile old new Known Rule r
     → IsCheck profile old new (Before profile k) (rule profile k) r

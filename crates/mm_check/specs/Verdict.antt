@@ -1,5 +1,5 @@
 -- Which rule a package breaks first, and what the whole check answers.
-use Rattle.std.specs.Prelude.{◌≡◌, ◌⊎◌, ℕ, ◌≤◌, ◌<◌, ◌==◌, Bool, true, false, Option, Some, None, Result, IfOk, IfErr}
+use Rattle.std.specs.Prelude.{◌≡◌, ◌⊎◌, ℕ, ◌≤◌, ◌<◌, ◌==◌, Bool, true, false, Option, Some, None, Result, IfOk, IfErr, OnOk, IsTrue}
 use Rattle.sqlite.specs.State.{State, HasCleanDisk}
 use Rattle.mm_base.specs.Bounds.{Profile}
 use Rattle.mm_base.specs.Package.{Package}
@@ -47,19 +47,21 @@ IsVerdict profile p None = Meets profile p
 IsVerdict profile p (Some k) = IsFailing profile p k
 
 -- It opens no transaction, writes nothing, and leaves the connection reading as before, and settled where it was. It answers which rule the
--- package breaks that the connection reads as. No fault is a rule's.
+-- package breaks that the connection reads as; where it does, the store is open. No fault is a rule's.
 pub record IsVerified (profile : Profile) (old new : State) (result : Result (Option ℕ) Fault) : Type 0 where
   pub mode : old.in_transaction ≡ false → new.in_transaction ≡ false
   pub survives : CommitsNothing old new
+  pub is_open : HasCleanDisk new → OnOk result (IsTrue new.is_open)
   pub seen : HasCleanDisk new → (p : Package) → IsSeenAs profile old p → IsSeenAs profile new p
   pub settled : HasCleanDisk new → (p : Package) → IsSettled profile old p → IsSettled profile new p
   pub says : HasCleanDisk new → (p : Package) → IsSeenAs profile old p → IfOk result (IsVerdict profile p)
   pub faults : IfErr result IsStoreFault
 
--- so far each rule holds
+-- so far each rule holds, and the store is open
 pub record HasPassed (profile : Profile) (old now : State) (k : ℕ) : Type 0 where
   pub mode : old.in_transaction ≡ false → now.in_transaction ≡ false
   pub survives : CommitsNothing old now
+  pub is_open : HasCleanDisk now → IsTrue now.is_open
   pub seen : HasCleanDisk now → (p : Package) → IsSeenAs profile old p → IsSeenAs profile now p
   pub settled : HasCleanDisk now → (p : Package) → IsSettled profile old p → IsSettled profile now p
   pub says : HasCleanDisk now → (p : Package) → IsSeenAs profile old p → Before profile k p

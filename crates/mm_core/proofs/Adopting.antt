@@ -1,32 +1,51 @@
 -- A connection that is looked at and then checked is settled as it was before.
-use Rattle.std.proofs.Common.{inl, inr, Some, None, Ok, Err, refl, sym, subst, ◌∙◌, arith}
+use Rattle.std.proofs.Common.{◌≡◌, ℕ, inl, inr, Option, Some, None, Result, Ok, Err, refl, sym, subst, ◌∙◌, arith}
 use Rattle.sqlite.specs.State.{State, HasCleanDisk}
-use Rattle.mm_base.specs.Bounds.{current}
+use Rattle.mm_base.specs.Bounds.{Profile, current}
 use Rattle.mm_base.specs.Package.{Package}
 use Rattle.mm_base.specs.declared.answers.Fault.{Fault}
 use Rattle.mm_base.specs.declared.answers.Open.{Open}
 use Rattle.mm_base.specs.declared.answers.Open.TheVariants as opens
-use Rattle.mm_store.specs.Stands.{ReadsAs, IsSettled}
+use Rattle.mm_store.specs.Stands.{StandsFor, ReadsAs, IsSettled}
 use Rattle.mm_store.proofs.Asking.{told_fault}
-use Rattle.mm_store.proofs.Seen.{seen_of}
+use Rattle.mm_store.proofs.Seen.{seen_of, settled_still}
 use Rattle.mm_store.proofs.Shapes.{quiet_then}
-use Rattle.mm_meta.specs.Look.{Answers, IsLooked, Agrees}
-use Rattle.mm_meta.proofs.Looking.{shows_profile}
+use Rattle.mm_meta.specs.Opening.{IsBlank}
+use Rattle.mm_meta.specs.Look.{Answers, FindsNone, IsLooked, Agrees}
+use Rattle.mm_meta.proofs.Looking.{shows_profile, still_blank}
+use Rattle.mm_walk.proofs.Resting.{seen_still}
 use Rattle.mm_check.specs.Verdict.{IsVerified}
-use Rattle.mm_core.specs.Adopted.{IsAdopted, Declines, TellsProfile, IsNotAdopted}
+use Rattle.mm_core.specs.Adopted.{IsAdopted, Declines, DeclinesNone, TellsProfile, IsNotAdopted}
 use Rattle.std.specs.Prelude.{ℕ, pos}
 
-looked_settled : (old new : State) (p : Package) → IsLooked old new (Ok tt) → HasCleanDisk new → IsSettled current old p → IsSettled current new p
-looked_settled old new p looked clean settled = kept (looked.answers clean)
-  where
-    kept : Answers old new (Ok tt) → IsSettled current new p
-    kept (inl it) = let shows = it.2.0 in record {
-      mode = shows.mode ∙ settled.mode;
-      back = λ up. subst (λ db. ReadsAs current.version db p) (sym shows.committed_is) (settled.back shows.was_open);
-      reads = λ up. subst (λ db. ReadsAs current.version db p) (sym shows.now_is) (settled.reads shows.was_open);
-      left = λ db may. elim (looked.survives.crash clean db may) [ inl before ↦ settled.left db before | inr none ↦ absurd none ];
-    }
-    kept (inr it) = absurd it.2
+module _ (old new : State) {result : Result (Unit {0}) Open} (looked : IsLooked old new result) (clean : HasCleanDisk new) where
+  looked_settled : (profile : Profile) (p : Package) → IsSettled profile old p → IsSettled profile new p
+  looked_settled profile p settled = settled_still profile old new p looked.survives clean (seen_still profile old new p (looked.rests clean)) settled
+
+none_declined : (old new : State) (why : Open) → IsLooked old new (Err why) → HasCleanDisk new → IsBlank old → FindsNone old new (Err why) → DeclinesNone new why
+none_declined old new opens.NoProfile looked clean it same = still_blank old new looked.survives same clean it
+none_declined old new (opens.Fault fault) looked clean it same = tt
+none_declined old new (opens.Version version) looked clean it same = absurd same
+none_declined old new opens.BadProfile looked clean it same = absurd same
+none_declined old new (opens.Rule rule) looked clean it same = absurd same
+
+-- ---- a package that reads under a version and passes the look is of this profile
+
+same_settled : (profile : Profile) (s : State) (p : Package) → profile.version ≡ current.version → IsSettled profile s p → IsSettled current s p
+same_settled profile s p is it = record {
+  mode = it.mode;
+  back = λ up. subst (λ v. ReadsAs v s.committed p) is (it.back up);
+  reads = λ up. subst (λ v. ReadsAs v s.now p) is (it.reads up);
+  left = λ db may. subst (λ v. StandsFor v db p) is (it.left db may);
+}
+
+settled_same : (profile : Profile) (s : State) (p : Package) → profile.version ≡ current.version → IsSettled current s p → IsSettled profile s p
+settled_same profile s p is it = record {
+  mode = it.mode;
+  back = λ up. subst (λ v. ReadsAs v s.committed p) (sym is) (it.back up);
+  reads = λ up. subst (λ v. ReadsAs v s.now p) (sym is) (it.reads up);
+  left = λ db may. subst (λ v. StandsFor v db p) (sym is) (it.left db may);
+}
 
 -- ---- the profile's row stopped it
 
@@ -50,21 +69,32 @@ pub look_failed : (old new : State) (why : Open) → IsLooked old new (Err why) 
 look_failed old new why looked = record {
   survives = looked.survives;
   profile = λ clean. profile_told old new why (looked.answers clean);
+  settled = looked_settled old new looked;
   declines = λ clean p s. declined p why (looked.agrees clean current.version p s.reads);
+  none = λ clean it. none_declined old new why looked clean it (looked.none clean it);
 }
 
 -- ---- the check was done
 
 module _ (old mid new : State) (looked : IsLooked old mid (Ok tt)) where
+  still_settled_then : {r : Result (Option ℕ) Fault} → IsVerified current mid new r → HasCleanDisk new → (profile : Profile) (p : Package) → IsSettled profile old p → IsSettled profile new p
+  still_settled_then verified clean profile p s =
+      let early : HasCleanDisk mid = omega (arith, clean, verified.survives.clean) in
+      let is = looked.agrees early profile.version p s.reads in
+      let was = looked_settled old mid looked early profile p s in
+      settled_same profile new p is (verified.settled clean p (same_settled profile mid p is was))
+
   pub adopts : IsVerified current mid new (Ok None) → IsAdopted old new
   adopts verified =
       let early : HasCleanDisk new → HasCleanDisk mid = λ clean. omega (arith, clean, verified.survives.clean) in
       record {
         survives = quiet_then old mid new looked.survives verified.survives;
+        is_open = verified.is_open;
         row = λ clean. shows_profile old mid (looked.answers (early clean));
+        some = λ clean it. looked.none (early clean) it;
         profile = λ clean. looked.agrees (early clean);
-        settled = λ clean p s. verified.settled clean p (looked_settled old mid p looked (early clean) s);
-        meets = λ clean p s. verified.says clean p (seen_of current mid p (looked_settled old mid p looked (early clean) s));
+        settled = λ clean p s. verified.settled clean p (looked_settled old mid looked (early clean) current p s);
+        meets = λ clean p s. verified.says clean p (seen_of current mid p (looked_settled old mid looked (early clean) current p s));
       }
 
   pub rule_fails : (rule : ℕ) → IsVerified current mid new (Ok (Some rule)) → IsNotAdopted old new (opens.Rule rule)
@@ -73,12 +103,16 @@ module _ (old mid new : State) (looked : IsLooked old mid (Ok tt)) where
       record {
         survives = quiet_then old mid new looked.survives verified.survives;
         profile = λ clean. (shows_profile old mid (looked.answers (early clean)), looked.agrees (early clean));
-        declines = λ clean p s. verified.says clean p (seen_of current mid p (looked_settled old mid p looked (early clean) s));
+        settled = still_settled_then verified;
+        none = λ clean it. absurd (looked.none (early clean) it);
+        declines = λ clean p s. verified.says clean p (seen_of current mid p (looked_settled old mid looked (early clean) current p s));
       }
 
   pub check_failed : (fault : Fault) → IsVerified current mid new (Err fault) → IsNotAdopted old new (opens.Fault fault)
   check_failed fault verified = record {
     survives = quiet_then old mid new looked.survives verified.survives;
     profile = λ clean. verified.faults;
+    settled = still_settled_then verified;
+    none = λ clean it. tt;
     declines = λ clean p s. tt;
   }

@@ -1,3 +1,4 @@
 pub mod Adopting
+pub mod Creating
 pub mod Turns
 pub mod Applies

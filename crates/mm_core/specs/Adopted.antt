@@ -1,7 +1,7 @@
 -- What becomes of a connection that is to be adopted.
 use Rattle.std.specs.Prelude.{◌≡◌, ⊤, ℤ, pos, Err, IsTrue}
 use Rattle.sqlite.specs.State.{State, HasCleanDisk}
-use Rattle.mm_base.specs.Bounds.{current}
+use Rattle.mm_base.specs.Bounds.{Profile, current}
 use Rattle.mm_base.specs.Package.{Package}
 use Rattle.mm_base.specs.Rules.{Meets}
 use Rattle.mm_base.specs.declared.answers.Open.{Open}
@@ -9,6 +9,7 @@ use Rattle.mm_base.specs.declared.answers.Open.TheVariants as opens
 use Rattle.mm_store.specs.Stands.{ReadsAs, IsSettled}
 use Rattle.mm_store.specs.Statements.{CommitsNothing}
 use Rattle.mm_store.specs.Faults.{IsStoreFault}
+use Rattle.mm_meta.specs.Opening.{IsBlank}
 use Rattle.mm_meta.specs.Look.{ShowsProfile, Answers}
 use Rattle.mm_check.specs.Verdict.{IsFailing}
 
@@ -16,11 +17,13 @@ use Rattle.mm_check.specs.Verdict.{IsFailing}
 abbrev pub IsOfThisVersion : State → Type 0
 IsOfThisVersion s = (version : ℤ) (p : Package) → (IsTrue s.is_open → ReadsAs version s.now p) → version ≡ current.version
 
--- It wrote nothing, and the profile's table shows this profile's row alone. Settled for a package, it is settled for it
+-- It wrote nothing, the store is open, and the profile's table shows this profile's row alone, so there is a table. Settled for a package, it is settled for it
 -- still, and the package meets the rules.
 pub record IsAdopted (old new : State) : Type 0 where
   pub survives : CommitsNothing old new
+  pub is_open : HasCleanDisk new → IsTrue new.is_open
   pub row : HasCleanDisk new → ShowsProfile current.version old
+  pub some : HasCleanDisk new → IsBlank old → ⊥
   pub profile : HasCleanDisk new → IsOfThisVersion old
   pub settled : HasCleanDisk new → (p : Package) → IsSettled current old p → IsSettled current new p
   pub meets : HasCleanDisk new → (p : Package) → IsSettled current old p → Meets current p
@@ -37,8 +40,16 @@ TellsProfile old new (opens.Rule rule) = ShowsProfile current.version old × IsO
 TellsProfile old new (opens.Fault fault) = IsStoreFault fault
 TellsProfile old new why = Answers old new (Err why)
 
--- It wrote nothing, and tells why it adopts no package.
+-- Where there was no table, there is none still, and it is told that there is no profile; or there was a fault.
+abbrev pub DeclinesNone : State → Open → Type 0
+DeclinesNone new opens.NoProfile = IsBlank new
+DeclinesNone new (opens.Fault fault) = ⊤
+DeclinesNone new _ = ⊥
+
+-- It wrote nothing, and tells why it adopts no package. Settled for a package, in whatever profile, it is settled for it still.
 pub record IsNotAdopted (old new : State) (why : Open) : Type 0 where
   pub survives : CommitsNothing old new
   pub profile : HasCleanDisk new → TellsProfile old new why
+  pub settled : HasCleanDisk new → (profile : Profile) (p : Package) → IsSettled profile old p → IsSettled profile new p
   pub declines : HasCleanDisk new → (p : Package) → IsSettled current old p → Declines p why
+  pub none : HasCleanDisk new → IsBlank old → DeclinesNone new why

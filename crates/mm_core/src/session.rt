@@ -34,8 +34,8 @@ impl<S: Alter> Session<S> {
     ghost use Rattle.mm_migrate.specs.Migrations.{IsMigration};
     ghost use Rattle.mm_core.specs.Parts.{held, has_failed};
 
-    /// Makes a new package on a connection whose database has no table, in one commit. On a fault the connection is
-    /// handed back, and each database that may be left has no table or stands for the new package.
+    /// Makes a new package on a connection whose database has no table, in one commit that is the last call of the store. On a
+    /// fault the connection is handed back, and each database that may be left has no table or stands for the new package.
     pub fn create(alloc: Global, conn: Connection<S>) -> Result<Session<S>, (Connection<S>, Fault)>
         requires { conn.in_transaction ≡ false }
         ensures working { IfOk result (λ session. has_failed session ≡ false) }

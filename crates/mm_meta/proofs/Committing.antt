@@ -23,10 +23,11 @@ module _ (profile : Profile) {S : Type 0} (g : Ghosts S) (was now : Held S) (beg
   begins_blank it = rw begun (record { mode = refl; back = λ is_open. (refl, is_open); bare = λ up. record { schema_is = it.schema_is up; empty = tt } })
 
   -- each database that may be left was there before, or stands for the opening package
-  whole : (result : Result (Unit {0}) Fault) → Survives old last (λ db. IsBlank old → StandsFor profile.version db opening) → (HasCleanDisk last → IsBlank old → OnOk result (IsSettled profile last opening)) → IfErr result IsStoreFault
+  whole : (result : Result (Unit {0}) Fault) → Survives old last (λ db. IsBlank old → StandsFor profile.version db opening) → (HasCleanDisk last → OnOk result (IsTrue last.is_open)) → (HasCleanDisk last → IsBlank old → OnOk result (IsSettled profile last opening)) → IfErr result IsStoreFault
       → IsInit profile old last result
-  whole result survives made faults = record {
+  whole result survives is_open made faults = record {
     survives = survives;
+    is_open = is_open;
     made = made;
     left = λ clean it db may. elim (survives.crash clean db may) [ inl before ↦ inl (it.left db before) | inr new ↦ inr (new it) ];
     faults = faults;
@@ -36,7 +37,7 @@ module _ (profile : Profile) {S : Type 0} (g : Ghosts S) (was now : Held S) (beg
   pub init_undone : {T : Type 0} (fault : Fault) → IsMaking {T = T} (first_of 0) (state g now) ended profile opening (Err fault) → CommitsNothing ended last → IsInit profile old last (Err fault)
   init_undone fault making h =
       whole (Err fault) (survives_begin g was last _ (rw begun at (survives_then (state g now) ended last _ _ (λ db. IsBlank old → StandsFor profile.version db opening) (λ _ db none. absurd none) (λ _ db none. absurd none) making.survives h)))
-      (λ clean it. tt) making.faults
+      (λ clean. tt) (λ clean it. tt) making.faults
 
   module _ {T : Type 0} (t : T) (making : IsMaking (first_of 0) (state g now) ended profile opening (Ok t)) (h : Survives ended last (λ db. db ≡ ended.now.trees)) where
     done : HasCleanDisk ended → IsBlank old → IsTrue ended.is_open × IsInside profile ended (ground_of old) opening
@@ -47,7 +48,7 @@ module _ (profile : Profile) {S : Type 0} (g : Ghosts S) (was now : Held S) (beg
         (λ clean db same it. let its = done (omega (arith, h.clean)) it in subst (λ t. StandsFor profile.version t opening) (sym same) (its.1.reads its.0).stands) making.survives h))
 
     pub init_made : OnlyCommitted last → (HasCleanDisk last → Shows ended last ended.now ended.now false) → IsInit profile old last (Ok tt)
-    init_made law shows = whole (Ok tt) commits (λ clean it. settles profile ended last (ground_of old) opening law (shows clean) (done (omega (arith, h.clean)) it).1) tt
+    init_made law shows = whole (Ok tt) commits (λ clean. (shows clean).is_open) (λ clean it. settles profile ended last (ground_of old) opening law (shows clean) (done (omega (arith, h.clean)) it).1) tt
 
     pub init_in_doubt : (fault : Fault) → IsStoreFault fault → IsInit profile old last (Err fault)
-    init_in_doubt fault is = whole (Err fault) commits (λ clean it. tt) is
+    init_in_doubt fault is = whole (Err fault) commits (λ clean. tt) (λ clean it. tt) is

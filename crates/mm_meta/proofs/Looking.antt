@@ -1,5 +1,5 @@
 -- What the query of the profile's table tells.
-use Rattle.std.proofs.Common.{◌≡◌, ◌≢◌, inl, inr, ℤ, pos, true, false, List, [], ◌∷◌, Option, Some, None, Result, Ok, Err, IsTrue, refl, sym, ap, subst, ◌∙◌, arith}
+use Rattle.std.proofs.Common.{◌≡◌, ◌≢◌, ◌⊎◌, inl, inr, ℤ, pos, Bool, true, false, true≢false, List, [], ◌∷◌, Option, Some, None, Result, Ok, Err, IsTrue, refl, sym, ap, subst, ◌∙◌, arith}
 use Rattle.std.specs.Prelude.{if◌then◌else◌, IsSome}
 use Rattle.std.specs.List.Sorted.{IsPermutation}
 use Rattle.std.proofs.lemmas.List.Sorted.{length_permutation}
@@ -15,10 +15,11 @@ use Rattle.sqlite_resolve.specs.declared.error.CompileError.TheVariants.{NoSuchT
 use Rattle.sqlite_resolve.specs.Compile.{compiled}
 use Rattle.sqlite_resolve.specs.Lowering.{and_then}
 use Rattle.sqlite_resolve.specs.Scope.{Name}
+use Rattle.sqlite.specs.Effect.{Database}
 use Rattle.sqlite.specs.Clock.{timed}
 use Rattle.sqlite.specs.Listing.{understood, listing_schema, reads_listing, if_select}
 use Rattle.sqlite_tied.specs.Compute.{everything}
-use Rattle.sqlite.specs.State.{State, HasCleanDisk, IsUnchanged, FailsToQuery, Shown, ShowsRows, Survives, CommitsShowing}
+use Rattle.sqlite.specs.State.{State, HasCleanDisk, IsUnchanged, IsRolledBack, IsNotRun, FailsToQuery, FailsToShow, Shown, ShowsRows, Survives, CommitsShowing}
 use Rattle.sqlite.proofs.StateLemmas.{survives_weaker}
 use Rattle.sql_forms.proofs.Lists.{same_value, has_permuted}
 use Rattle.sql_forms.proofs.Selects.{selects_all}
@@ -30,8 +31,10 @@ use Rattle.mm_base.specs.declared.answers.Open.{Open}
 use Rattle.mm_base.specs.declared.answers.Open.TheVariants as opens
 use Rattle.mm_store.specs.Stands.{ReadsAs}
 use Rattle.mm_store.specs.Statements.{CommitsNothing}
-use Rattle.mm_meta.proofs.Refusing.{never_refused}
-use Rattle.mm_meta.specs.Look.{stops, IsProfile, ShowsProfile, Judges, Tells, Answers, Agrees, IsLooked}
+use Rattle.mm_meta.proofs.Refusing.{stopped, never_refused}
+use Rattle.mm_schema.specs.Made.{no_schema}
+use Rattle.mm_meta.specs.Opening.{IsBlank}
+use Rattle.mm_meta.specs.Look.{stops, IsProfile, ShowsProfile, Judges, Tells, Answers, Agrees, FindsNone, IsLooked}
 
 -- ---- The text is a query, whatever the schema.
 
@@ -116,6 +119,60 @@ module _ (old new : State) (version : ℤ) where
   agreed (Err opens.NoProfile) h = absurd h
   agreed (Err (opens.Rule rule)) h = absurd h
 
+-- ---- a connection after the look is as it was, or was rolled back
+
+refused_rests : (old new : State) (e : Error) → FailsToQuery profile_rows [] old new e → IsUnchanged old new ⊎ IsRolledBack old new
+unfolding FailsToQuery IsNotRun
+refused_rests old new e (inl (inl h)) = inl h.1
+refused_rests old new e (inl (inr h)) = inr h.3
+refused_rests old new e (inr h) =
+    let shows = subst (FailsToShow old new profile_rows h.0 (timed [] h.0.formats h.1.now) e) (returns_nothing old.now.schema h.0 h.1.is) h.2 in
+    inl shows.3
+
+-- where the store did not fail, it is as it was
+refused_as_was : (old new : State) (e : Error) → stops e ≡ false → FailsToQuery profile_rows [] old new e → IsUnchanged old new
+unfolding FailsToQuery IsNotRun
+refused_as_was old new e goes (inl (inl h)) = h.1
+refused_as_was old new e goes (inl (inr h)) = absurd (stopped old new e goes h.0 h.1 h.2)
+refused_as_was old new e goes (inr h) =
+    let shows = subst (FailsToShow old new profile_rows h.0 (timed [] h.0.formats h.1.now) e) (returns_nothing old.now.schema h.0 h.1.is) h.2 in
+    shows.3
+
+-- ---- a database that has no table
+
+abbrev is_compiled : Result Compiled CompileError → Bool
+is_compiled (Ok c) = true
+is_compiled (Err e) = false
+
+unread : is_compiled (understood no_schema profile_rows) ≡ false
+unfolding understood everything listing_schema
+unread = refl
+
+module _ (old new : State) (it : IsBlank old) where
+  none_shown : (rows : List Row) → Shown profile_rows [] old new rows → ⊥
+  unfolding Shown
+  none_shown rows h = by_schema (it.schema_is (unchanged old new rows h).0.was_open) h
+    where
+      by_schema : old.now.schema ≡ no_schema → Shown profile_rows [] old new rows → ⊥
+      by_schema is h = true≢false (sym (ap is_compiled (sym (ap (λ s. understood s profile_rows) is) ∙ h.1.is)) ∙ unread)
+
+  none_told : (result : Result (Unit {0}) Open) → Answers old new result → FindsNone old new result
+  none_told result (inl h) = absurd (none_shown h.0 h.1)
+  none_told (Err opens.NoProfile) (inr h) = refused_as_was old new h.0 h.2 h.1
+  none_told (Err (opens.Fault fault)) (inr h) = tt
+  none_told (Err (opens.Version version)) (inr h) = absurd h.2
+  none_told (Err opens.BadProfile) (inr h) = absurd h.2
+  none_told (Err (opens.Rule rule)) (inr h) = absurd h.2
+  none_told (Ok u) (inr h) = absurd h.2
+
+-- as it was, it has no table still
+pub still_blank : (old new : State) → CommitsNothing old new → IsUnchanged old new → HasCleanDisk new → IsBlank old → IsBlank new
+still_blank old new survives same clean it = record {
+  mode = same.0.mode ∙ it.mode;
+  schema_is = λ up. subst (λ (db : Database). db.schema ≡ no_schema) (sym same.0.now_is) (it.schema_is same.0.was_open);
+  left = λ db may. elim (survives.crash clean db may) [ inl before ↦ it.left db before | inr none ↦ absurd none ];
+}
+
 untold : (version : ℤ) (e : Error) (result : Result (Unit {0}) Open) → (stops e ≡ false → ⊥) → Tells e result → Agrees version result
 untold version e (Ok u) stopped h = absurd h
 untold version e (Err (opens.Version other)) stopped h = absurd h
@@ -128,13 +185,17 @@ module _ (old new : State) (h : Survives old new (CommitsShowing profile_rows []
   pub judged : (rows : List Row) → (HasCleanDisk new → Shown profile_rows [] old new rows) → Judges rows result → IsLooked old new result
   judged rows shows judges = record {
     survives = quiet old new h;
+    rests = λ clean. inl (unchanged old new rows (shows clean));
     answers = λ clean. inl (rows, shows clean, unchanged old new rows (shows clean), judges);
     agrees = λ clean version p reads. agreed old new version result (subst (λ rs. Judges rs result) (rows_are old new version p rows reads (shows clean)) judges);
+    none = λ clean it. none_told old new it result (inl (rows, shows clean, unchanged old new rows (shows clean), judges));
   }
 
   pub refused : (e : Error) → (HasCleanDisk new → FailsToQuery profile_rows [] old new e) → Tells e result → IsLooked old new result
   refused e fails tells = record {
     survives = quiet old new h;
+    rests = λ clean. refused_rests old new e (fails clean);
     answers = λ clean. inr (e, fails clean, tells);
     agrees = λ clean version p reads. untold version e result (λ goes. never_refused old new e goes (λ up. (reads up).schema_is) (returns_nothing old.now.schema) (fails clean)) tells;
+    none = λ clean it. none_told old new it result (inr (e, fails clean, tells));
   }

@@ -44,7 +44,7 @@ unfolding everything
 accepted = refl
 
 module _ (old new : State) (e : Error) (goes : stops e ≡ false) where
-  stopped : (cause : StoreError) → e ≡ store_error cause → HasCause old new ⊥ cause → ⊥
+  pub stopped : (cause : StoreError) → e ≡ store_error cause → HasCause old new ⊥ cause → ⊥
   stopped OutOfMemory is has_cause = true≢false (sym (ap stops is) ∙ goes)
   stopped Io is has_cause = true≢false (sym (ap stops is) ∙ goes)
   stopped Corrupt is has_cause = true≢false (sym (ap stops is) ∙ goes)

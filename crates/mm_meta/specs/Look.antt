@@ -5,7 +5,7 @@ use Rattle.sqlite.specs.declared.error.Error.TheVariants.{SqliteFailure}
 use Rattle.sqlite.specs.declared.error.ErrorCode.TheVariants.{OutOfMemory, SystemIoFailure, DatabaseCorrupt, DiskFull, Closed, OperationInterrupted}
 use Rattle.sqlite.specs.declared.types.Value.TheVariants.{Int}
 use Rattle.sqlite.specs.Order.{Row, column}
-use Rattle.sqlite.specs.State.{State, HasCleanDisk, IsUnchanged, FailsToQuery, Shown}
+use Rattle.sqlite.specs.State.{State, HasCleanDisk, IsUnchanged, IsRolledBack, FailsToQuery, Shown}
 use Rattle.mm_base.specs.Bounds.{current}
 use Rattle.mm_base.specs.Package.{Package}
 use Rattle.mm_base.specs.declared.answers.Open.{Open}
@@ -14,6 +14,7 @@ use Rattle.mm_schema.specs.Statements.{profile_rows}
 use Rattle.mm_store.specs.Faults.{memory, told_as}
 use Rattle.mm_store.specs.Stands.{ReadsAs}
 use Rattle.mm_store.specs.Statements.{CommitsNothing}
+use Rattle.mm_meta.specs.Opening.{IsBlank}
 
 -- memory, the disk or a limit on steps stopped the query
 abbrev pub stops : Error → Bool
@@ -63,7 +64,16 @@ Agrees version (Err opens.NoProfile) = ⊥
 Agrees version (Err opens.BadProfile) = ⊥
 Agrees version (Err (opens.Rule rule)) = ⊥
 
+-- of a database that has no table it is told that it has no profile, and all is as it was; or there was a fault
+abbrev pub FindsNone : State → State → Result (Unit {0}) Open → Type 0
+FindsNone old new (Err opens.NoProfile) = IsUnchanged old new
+FindsNone old new (Err (opens.Fault fault)) = ⊤
+FindsNone old new _ = ⊥
+
+-- It commits nothing, and all is as it was, or the store failed and undid the transaction. It answers as the profile's row tells.
 pub record IsLooked (old new : State) (result : Result (Unit {0}) Open) : Type 0 where
   pub survives : CommitsNothing old new
+  pub rests : HasCleanDisk new → IsUnchanged old new ⊎ IsRolledBack old new
   pub answers : HasCleanDisk new → Answers old new result
   pub agrees : HasCleanDisk new → (version : ℤ) (p : Package) → (IsTrue old.is_open → ReadsAs version old.now p) → Agrees version result
+  pub none : HasCleanDisk new → IsBlank old → FindsNone old new result

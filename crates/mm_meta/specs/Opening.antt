@@ -70,10 +70,11 @@ pub record IsBlank (s : State) : Type 0 where
   pub schema_is : IsTrue s.is_open → s.now.schema ≡ no_schema
   pub left : (db : Trees) → s.may_leave db → HasNoTable db
 
--- `Ok` only where the database then stands for the opening package, and nothing else may be left. In each case, after a crash
+-- `Ok` only where the store is open, the database then stands for the opening package, and nothing else may be left. In each case, after a crash
 -- or a fault too, each database that may be left was there before or stands for it; so it has no table or stands for it.
 pub record IsInit (profile : Profile) (old new : State) (result : Result (Unit {0}) Fault) : Type 0 where
   pub survives : Survives old new (λ db. IsBlank old → StandsFor profile.version db opening)
+  pub is_open : HasCleanDisk new → OnOk result (IsTrue new.is_open)
   pub made : HasCleanDisk new → IsBlank old → OnOk result (IsSettled profile new opening)
   pub left : HasCleanDisk new → IsBlank old → (db : Trees) → new.may_leave db → HasNoTable db ⊎ StandsFor profile.version db opening
   pub faults : IfErr result IsStoreFault

@@ -122,12 +122,12 @@ module _ (old mid new : State) (finds : FindsLeft mid new) where
   pub made_then_found : IsCreated old mid → IsMakingRecovered old new (Ok tt)
   made_then_found created clean blank =
       let early = finds.clean clean in
-      ∥∥₁_map (finds.found clean) (λ may. finds.settled clean opening ((created early blank).left new.committed.trees may))
+      ∥∥₁_map (finds.found clean) (λ may. finds.settled clean opening ((created.settled early blank).left new.committed.trees may))
 
   pub stopped_then_found : (fault : Fault) → IsNotCreated old mid → IsMakingRecovered old new (Err fault)
   stopped_then_found fault stopped clean blank =
       let early = finds.clean clean in
-      ∥∥₁_map (finds.found clean) (λ may. elim (stopped early blank new.committed.trees may) [
+      ∥∥₁_map (finds.found clean) (λ may. elim (stopped.left early blank new.committed.trees may) [
         | inl none ↦ inl (finds.blank clean none)
         | inr made ↦ inr (finds.settled clean opening made)
       ])

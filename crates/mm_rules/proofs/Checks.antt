@@ -1,11 +1,11 @@
 -- A check by a walk.
-use Rattle.std.proofs.Common.{◌≡◌, ◌↔◌, ℕ, List, Bool, IsTrue, Result, Ok, Err, IfOk, subst}
+use Rattle.std.proofs.Common.{◌≡◌, ◌↔◌, ℕ, List, Bool, IsTrue, Result, Ok, Err, IfOk, OnOk, subst}
 use Rattle.sqlite_value.specs.declared.keys.Key.{Key}
 use Rattle.sqlite.specs.Order.{Row}
 use Rattle.sqlite_sql.specs.Term.{Term}
 use Rattle.sqlite_sql.specs.Query.{Join}
 use Rattle.sqlite.specs.Tree.{Trees}
-use Rattle.sqlite.specs.State.{State, HasCleanDisk}
+use Rattle.sqlite.specs.State.{State, HasCleanDisk, IsUnchanged}
 use Rattle.mm_base.specs.Bounds.{Profile}
 use Rattle.mm_base.specs.Package.{Package}
 use Rattle.mm_base.specs.declared.answers.Fault.{Fault}
@@ -34,12 +34,17 @@ module _ (sql : List ℕ) (params : Row) (good : Row → Type 0) (from : Join) (
       let r = says profile.version old.now.trees p at.stands known in
       (λ e. r.0 (t.0 e), λ rule. t.1 (r.1 rule))
 
+  still_open : (result : Result Bool Fault) → OnOk result (IsUnchanged old new) → OnOk result (IsTrue new.is_open)
+  still_open (Ok b) same = same.0.is_open
+  still_open (Err fault) same = tt
+
   pub checked : (result : Result Bool Fault) → TellsAll sql params good old new result → IsCheck profile old new Known Rule result
   checked result h =
       let asks = only_asks sql quiet old.now.schema in
       record {
         mode = h.mode;
         survives = h.survives asks;
+        is_open = λ clean. still_open result (h.same clean asks);
         seen = λ clean p. seen_still profile old new p (h.rests clean asks);
         settled = λ clean p. settled_still profile old new p (h.survives asks) clean (seen_still profile old new p (h.rests clean asks));
         says = told result h;

@@ -13,12 +13,13 @@ module _ (profile : Profile) where
   same_rule old new Known More Rule Other knows same (Ok b) h = record {
     mode = h.mode;
     survives = h.survives;
+    is_open = h.is_open;
     seen = h.seen;
     settled = h.settled;
     says = λ clean p s more. let t = h.says clean p s (knows p more) in let i = same p more in (λ e. i.0 (t.0 e), λ o. t.1 (i.1 o));
     faults = h.faults;
   }
-  same_rule old new Known More Rule Other knows same (Err fault) h = record { mode = h.mode; survives = h.survives; seen = h.seen; settled = h.settled; says = λ clean p s more. tt; faults = h.faults }
+  same_rule old new Known More Rule Other knows same (Err fault) h = record { mode = h.mode; survives = h.survives; is_open = λ clean. tt; seen = h.seen; settled = h.settled; says = λ clean p s more. tt; faults = h.faults }
 
   -- a check whose answer was matched
   pub as_told : (old new : State) (Known Rule : Package → Type 0) (r : Result Bool Fault) (b told : Bool) → r ≡ Ok b → b ≡ told → IsCheck profile old new Known Rule r → IsCheck profile old new Known Rule (Ok told)
@@ -28,6 +29,7 @@ module _ (profile : Profile) where
   then_check old mid new Known A B C same one (Ok b) two = record {
     mode = λ idle. two.mode (one.mode idle);
     survives = quiet_then old mid new one.survives two.survives;
+    is_open = two.is_open;
     seen = λ clean p s. two.seen clean p (one.seen (omega (arith, two.survives.clean)) p s);
     settled = λ clean p s. two.settled clean p (one.settled (omega (arith, two.survives.clean)) p s);
     says = λ clean p s known.
@@ -40,6 +42,7 @@ module _ (profile : Profile) where
   then_check old mid new Known A B C same one (Err fault) two = record {
     mode = λ idle. two.mode (one.mode idle);
     survives = quiet_then old mid new one.survives two.survives;
+    is_open = two.is_open;
     seen = λ clean p s. two.seen clean p (one.seen (omega (arith, two.survives.clean)) p s);
     settled = λ clean p s. two.settled clean p (one.settled (omega (arith, two.survives.clean)) p s);
     says = λ clean p s known. tt;
@@ -57,6 +60,7 @@ module _ (profile : Profile) where
       record {
         mode = h.mode;
         survives = h.survives;
+        is_open = h.is_open;
         seen = h.seen;
         settled = h.settled;
         says = λ clean p s known. let t = h.says clean p s known in (λ e. absurd (let f : false ≡ true = e in cc), λ o. t.1 ((same p).1 o).0);
@@ -64,4 +68,4 @@ module _ (profile : Profile) where
       }
 
   pub gives_up : (old new : State) (Known More A C : Package → Type 0) (r : Result Bool Fault) (fault : Fault) → r ≡ Err fault → IsCheck profile old new Known A r → IsCheck profile old new More C (Err fault)
-  gives_up old new Known More A C r fault is one = let h = subst (IsCheck profile old new Known A) is one in record { mode = h.mode; survives = h.survives; seen = h.seen; settled = h.settled; says = λ clean p s known. tt; faults = h.faults }
+  gives_up old new Known More A C r fault is one = let h = subst (IsCheck profile old new Known A) is one in record { mode = h.mode; survives = h.survives; is_open = λ clean. tt; seen = h.seen; settled = h.settled; says = λ clean p s known. tt; faults = h.faults }

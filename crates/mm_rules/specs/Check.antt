@@ -1,5 +1,5 @@
 -- What a check of a rule does.
-use Rattle.std.specs.Prelude.{◌≡◌, ◌↔◌, Bool, false, IsTrue, Result, IfOk, IfErr}
+use Rattle.std.specs.Prelude.{◌≡◌, ◌↔◌, Bool, false, IsTrue, Result, IfOk, IfErr, OnOk}
 use Rattle.sqlite.specs.State.{State, HasCleanDisk}
 use Rattle.mm_base.specs.Bounds.{Profile}
 use Rattle.mm_base.specs.Package.{Package}
@@ -10,10 +10,12 @@ use Rattle.mm_store.specs.Stands.{IsSettled}
 use Rattle.mm_store.specs.Statements.{CommitsNothing}
 
 -- It opens no transaction, writes nothing, and leaves the connection reading as before, and settled where it was. It tells whether the rule holds
--- of the package that the connection reads as, which is known to meet `Known`. Its faults are the store's, and none is a rule's.
+-- of the package that the connection reads as, which is known to meet `Known`; where it does, the store is open. Its faults are the store's,
+-- and none is a rule's.
 pub record IsCheck (profile : Profile) (old new : State) (Known Rule : Package → Type 0) (result : Result Bool Fault) : Type 0 where
   pub mode : old.in_transaction ≡ false → new.in_transaction ≡ false
   pub survives : CommitsNothing old new
+  pub is_open : HasCleanDisk new → OnOk result (IsTrue new.is_open)
   pub seen : HasCleanDisk new → (p : Package) → IsSeenAs profile old p → IsSeenAs profile new p
   pub settled : HasCleanDisk new → (p : Package) → IsSettled profile old p → IsSettled profile new p
   pub says : HasCleanDisk new → (p : Package) → IsSeenAs profile old p → Known p → IfOk result (λ b. IsTrue b ↔ Rule p)

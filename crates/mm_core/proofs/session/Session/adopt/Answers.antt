@@ -1,5 +1,5 @@
 use Rattle.sqlite.specs.Held.{state}
-use Rattle.mm_core.proofs.Adopting.{adopts, rule_fails, look_failed}
+use Rattle.mm_core.proofs.Adopting.{adopts, rule_fails, check_failed, look_failed}
 use Rattle.mm_core.proofs.session.Session.adopt.Goals as goal
 
 pub returns-in-Err-clause-not_adopted : goal.returns-in-Err-clause-not_adopted
@@ -12,3 +12,7 @@ returns-in-Ok-None-clause-adopted g c =
 pub returns-in-Ok-Some-clause-not_adopted : goal.returns-in-Ok-Some-clause-not_adopted
 returns-in-Ok-Some-clause-not_adopted g c =
     rule_fails (state g.S.Store c.args.conn) (state g.S.Store c.look.new.conn) (state g.S.Store c.verify.new.conn) c.in-Ok.ensures.looked c.in-Ok-Some.rule (rw c.in-Ok-Some.field-0-is at c.in-Ok-Some.ensures)
+
+pub returns-in-Err-verify-clause-not_adopted : goal.returns-in-Err-verify-clause-not_adopted
+returns-in-Err-verify-clause-not_adopted g c =
+    check_failed (state g.S.Store c.args.conn) (state g.S.Store c.look.new.conn) (state g.S.Store c.verify.new.conn) c.in-Ok.ensures.looked c.in-Err-verify.fault c.in-Err-verify.ensures

@@ -4,6 +4,9 @@ use Rattle.mm_program.proofs.ServiceFacts.{served, told_cut, told_more, told_non
 use Rattle.mm_program.proofs.connections.serve_on.Goals as goal
 use Rattle.mm_program.proofs.connections.serve_on.Goals.{in-Err+else-not-tell_page_fault, in-Ok}
 
+pub returns-then-not-tell_page_fault-clause-kept : goal.returns-then-not-tell_page_fault-clause-kept
+returns-then-not-tell_page_fault-clause-kept g c = leaves_then _ _ _ c.loop-served.invariant.kept c.serve_next.ensures.kept
+
 pub returns-then-not-tell_page_fault-clause-served : goal.returns-then-not-tell_page_fault-clause-served
 returns-then-not-tell_page_fault-clause-served g c =
     told_cut _ _ _ _ _ _ _ _ _ _ _ _ _ c.loop-served-test.true c.loop-served.invariant.told (rw c.in-Err.is at c.serve_next.ensures.told) c.in-Err.ensures.fault

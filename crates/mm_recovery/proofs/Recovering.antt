@@ -44,11 +44,11 @@ none_fails : (p : Package) (k : ℕ) → Meets current p → IsFailing current p
 none_fails p k m (inl it) = it.1 (rule_holds p 16 m)
 none_fails p k m (inr it) = it.3 (rule_holds p k m)
 
-abbrev is_fault : Open → Bool
+abbrev pub is_fault : Open → Bool
 is_fault (opens.Fault fault) = true
 is_fault _ = false
 
-none_is_declined : (p : Package) (why : Open) → Meets current p → Declines p why → is_fault why ≡ false → ⊥
+pub none_is_declined : (p : Package) (why : Open) → Meets current p → Declines p why → is_fault why ≡ false → ⊥
 none_is_declined p (opens.Rule k) m it other = none_fails p k m it
 none_is_declined p (opens.Fault fault) m it other = both_ways true other refl
 none_is_declined p (opens.Version version) m it other = it
@@ -61,6 +61,7 @@ recovers_by old mid new finds adopted =
     let early : HasCleanDisk new → HasCleanDisk mid = λ clean. omega (arith, clean, adopted.survives.clean) in
     record {
       clean = λ clean. finds.clean (early clean);
+      is_open = adopted.is_open;
       found = λ clean. ∥∥₁_map (finds.found (early clean)) (λ may. (
         mid.committed.trees,
         may,
@@ -95,6 +96,7 @@ reopens_by old mid new finds adopted =
     let early : HasCleanDisk new → HasCleanDisk mid = λ clean. omega (arith, clean, adopted.survives.clean) in
     record {
       clean = λ clean. finds.clean (early clean);
+      is_open = adopted.is_open;
       settled = λ clean p stands.
           let was = finds.settled (early clean) p (subst (λ db. Stands db p) (sym (finds.found (early clean))) stands) in (adopted.settled clean p was, adopted.meets clean p was);
     }

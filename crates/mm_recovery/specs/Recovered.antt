@@ -1,5 +1,5 @@
 -- What becomes of a session whose files crash.
-use Rattle.std.specs.Prelude.{ℕ, ⊤, ◌⊎◌, List, Option, Some, None, Result, Ok, Err}
+use Rattle.std.specs.Prelude.{ℕ, ⊤, ◌⊎◌, List, Option, Some, None, Result, Ok, Err, IsTrue}
 use Rattle.sqlite.specs.Tree.{Trees}
 use Rattle.sqlite.specs.Held.{Held}
 use Rattle.sqlite.specs.Files.{file_state}
@@ -25,9 +25,10 @@ use Rattle.mm_core.specs.Applied.{Stands}
 abbrev pub IsSoundOn : State → Package → Type 0
 IsSoundOn s p = IsSettled current s p × Meets current p
 
--- One of the databases that might be left was found, and the session is settled for what it stands for.
+-- One of the databases that might be left was found, and the session is open, and settled for what it stands for.
 pub record IsRecovered (old new : State) : Type 0 where
   pub clean : HasCleanDisk new → HasCleanDisk old
+  pub is_open : HasCleanDisk new → IsTrue new.is_open
   pub found : HasCleanDisk new → ∥ ((db : Trees) × old.may_leave db × ((p : Package) → Stands db p → IsSoundOn new p)) ∥₁
 
 -- each database that may be left stands for a package that meets the rules
@@ -59,9 +60,10 @@ IsMakingRecovered old new (Err fault) = HasCleanDisk new → IsBlank old → ∥
 
 -- ---- a session that is closed
 
--- The database of the last commit was found, and the session is settled for what it stands for.
+-- The database of the last commit was found, and the session is open, and settled for what it stands for.
 pub record IsReopened (old new : State) : Type 0 where
   pub clean : HasCleanDisk new → HasCleanDisk old
+  pub is_open : HasCleanDisk new → IsTrue new.is_open
   pub settled : HasCleanDisk new → (p : Package) → Stands old.committed.trees p → IsSoundOn new p
 
 module _ {D : Type 0} {g : Ghosts D} where

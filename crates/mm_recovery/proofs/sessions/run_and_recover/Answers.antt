@@ -9,3 +9,6 @@ returns-clause-recovered g c =
 pub returns-clause-not_recovered : goal.returns-clause-not_recovered
 returns-clause-not_recovered g c =
     IfErr-weaker c.recover_after_crash.result _ _ (λ e not_recovered. run_declines _ _ _ _ _ _ _ _ e.0 e.1 c.run_list-ran.result (c.run_list-ran.ensures.done, c.run_list-ran.ensures.stopped) not_recovered) c.recover_after_crash.ensures.not_recovered
+
+pub returns-clause-is_open : goal.returns-clause-is_open
+returns-clause-is_open g c = IfOk-weaker c.recover_after_crash.result _ _ (λ again recovered. recovered.is_open) c.recover_after_crash.ensures.recovered

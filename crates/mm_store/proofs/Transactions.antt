@@ -1,5 +1,5 @@
 -- From the beginning of a transaction to its end.
-use Rattle.std.proofs.Common.{◌≡◌, inl, inr, false, true, Result, Ok, Err, IfOk, IsTrue, refl, sym, subst, ◌∙◌, arith}
+use Rattle.std.proofs.Common.{◌≡◌, inl, inr, false, true, IsTrue, refl, sym, subst, ◌∙◌}
 use Rattle.sqlite.specs.Tree.{Trees}
 use Rattle.sqlite.specs.State.{State, HasCleanDisk, Shows, IsRolledBack}
 use Rattle.sqlite.specs.Held.{Held, state}
@@ -8,10 +8,8 @@ use Rattle.sqlite.proofs.StateLemmas.{survives_then}
 use Rattle.sqlite.proofs.Callers.{survives_begin}
 use Rattle.mm_base.specs.Bounds.{Profile}
 use Rattle.mm_base.specs.Package.{Package}
-use Rattle.mm_base.specs.declared.answers.Fault.{Fault}
 use Rattle.mm_store.specs.Stands.{StandsFor, ReadsAs, Ground, ground_of, StandsOn, IsInside, IsSettled}
 use Rattle.mm_store.specs.Statements.{CommitsNothing}
-use Rattle.mm_store.specs.Shapes.{IsLook, IsRead}
 
 -- what is committed is all that a crash leaves, while the store is open
 abbrev pub OnlyCommitted : State → Type 0
@@ -41,17 +39,4 @@ module _ {S : Type 0} (g : Ghosts S) (was now : Held S) (begun : now ≡ record 
     back = λ up. let on = stands (back.was_open up) in subst (λ d. ReadsAs profile.version d p) (sym ((back.undone up).1 ∙ on.0)) (it.back on.1);
     reads = λ up. let on = stands (back.was_open up) in subst (λ d. ReadsAs profile.version d p) (sym ((back.undone up).0 ∙ on.0)) (it.back on.1);
     left = λ db may. elim (rolled_quiet.crash clean db may) [ inl before ↦ it.left db before | inr none ↦ absurd none ];
-  }
-
-  told : {T : Type 0} (A C : Type 0) (B : T → Type 0) (result : Result T Fault) → IfOk result (λ it. A × C × B it) → IfOk result B
-  told A C B (Ok it) h = h.2
-  told A C B (Err fault) h = tt
-
-  -- a look in a transaction of its own is a read
-  pub reads : (profile : Profile) {T : Type 0} (Says : Package → T → Type 0) (result : Result T Fault) → IsLook profile (state g now) ended Says result → (HasCleanDisk last → IsRolledBack ended last) → IsRead profile (state g was) last Says result
-  reads profile Says result look undone = record {
-    survives = rolled_quiet;
-    settled = λ clean p meets it. rolled_back profile p it clean (undone clean) (look.on (omega (arith, two.clean)) (ground_of (state g was)) p (begins profile p it));
-    says = λ clean p meets it. told _ _ (λ it. Says p it) result (look.looked (omega (arith, two.clean)) (ground_of (state g was)) p (begins profile p it));
-    faults = look.faults;
   }

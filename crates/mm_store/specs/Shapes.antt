@@ -1,4 +1,4 @@
--- What a call does that is lent a transaction on a package, and what one that reads on a connection does.
+-- What a call does that is lent a transaction on a package.
 use Rattle.std.specs.Prelude.{◌≡◌, ℕ, ⊤, Option, Some, None, Result, Ok, Err, OnOk, IfOk, IfErr, IsTrue}
 use Rattle.sqlite.specs.State.{State, HasCleanDisk}
 use Rattle.mm_base.specs.Bounds.{Profile}
@@ -10,7 +10,7 @@ use Rattle.mm_base.specs.declared.answers.Outcome.{Outcome}
 use Rattle.mm_base.specs.declared.answers.Outcome.TheVariants.{Done, Refused}
 use Rattle.mm_base.specs.declared.answers.Refusal.{Refusal}
 use Rattle.mm_base.specs.declared.commands.Command.{Command}
-use Rattle.mm_store.specs.Stands.{Ground, StandsOn, IsInside, IsSettled}
+use Rattle.mm_store.specs.Stands.{Ground, StandsOn, IsInside}
 use Rattle.mm_store.specs.Faults.{IsStoreFault}
 use Rattle.mm_store.specs.Statements.{CommitsNothing}
 
@@ -69,11 +69,3 @@ module _ (profile : Profile) (c : Command) (moment : ℕ) (old new : State) (res
     pub on : HasCleanDisk new → (ground : Ground) (p : Package) → IsPut profile old ground p → StandsOn new ground
     pub tries : HasCleanDisk new → (ground : Ground) (p : Package) → IsPut profile old ground p → Tries profile new ground p (refusal p c) (step p c moment) result
     pub faults : IfErr result IsStoreFault
-
--- ---- a read on a connection with no transaction: after a fault too it is as settled as before
-
-pub record IsRead (profile : Profile) {T : Type 0} (old new : State) (Says : Package → T → Type 0) (result : Result T Fault) : Type 0 where
-  pub survives : CommitsNothing old new
-  pub settled : HasCleanDisk new → (p : Package) → Meets profile p → IsSettled profile old p → IsSettled profile new p
-  pub says : HasCleanDisk new → (p : Package) → Meets profile p → IsSettled profile old p → IfOk result (λ it. Says p it)
-  pub faults : IfErr result IsStoreFault

@@ -27,10 +27,10 @@ use Rattle.mm_migrate.specs.Migrations.{Judged, IsChecked, Adopts, Migrates, Tel
 
 module _ (profile : Profile) (old new : State) where
   pub checked_well : IsVerified profile old new (Ok None) → IsChecked profile old new (Ok tt)
-  checked_well it = record { mode = it.mode; survives = it.survives; settled = it.settled; says = λ clean p s. it.says clean p (seen_of profile old p s); no_number = tt; faults = tt }
+  checked_well it = record { mode = it.mode; survives = it.survives; is_open = it.is_open; settled = it.settled; says = λ clean p s. it.says clean p (seen_of profile old p s); no_number = tt; faults = tt }
 
   pub rule_told : (rule : ℕ) → IsVerified profile old new (Ok (Some rule)) → IsChecked profile old new (Err (opens.Rule rule))
-  rule_told rule it = record { mode = it.mode; survives = it.survives; settled = it.settled; says = λ clean p s. it.says clean p (seen_of profile old p s); no_number = tt; faults = tt }
+  rule_told rule it = record { mode = it.mode; survives = it.survives; is_open = λ clean. tt; settled = it.settled; says = λ clean p s. it.says clean p (seen_of profile old p s); no_number = tt; faults = tt }
 
 -- ---- what may be left
 
@@ -64,6 +64,7 @@ module _ (old mid : State) where
   pub stopped : (why : Open) → IsChecked millimetres old mid (Err why) → IsOlder old mid (Err why)
   stopped why it = record {
     survives = quietly it.survives;
+    is_open = λ clean. tt;
     refused = λ _. it.survives;
     migrates = λ clean p s. stopped_by why p it.survives clean s (it.settled clean p s) (it.says clean p s);
     no_number = it.no_number;
@@ -83,6 +84,7 @@ module _ (old mid : State) where
     pub done : IsRescaled mid new (Ok tt) → IsOlder old new (Ok tt)
     done it = record {
       survives = survived it.survives;
+      is_open = it.is_open;
       refused = λ none. absurd none;
       migrates = λ clean p s.
           let early : HasCleanDisk mid = omega (arith, clean, it.survives.clean) in
@@ -94,6 +96,7 @@ module _ (old mid : State) where
     pub in_doubt : (fault : Fault) → IsRescaled mid new (Err fault) → IsOlder old new (Err (opens.Fault fault))
     in_doubt fault it = record {
       survives = survived it.survives;
+      is_open = λ clean. tt;
       refused = λ none. absurd none;
       migrates = λ clean p s. let early : HasCleanDisk mid = omega (arith, clean, it.survives.clean) in it.left clean p (may early p (limits early p s));
       no_number = tt;
@@ -138,6 +141,7 @@ module _ (old mid : State) where
       let early : HasCleanDisk new → HasCleanDisk mid = λ clean. omega (arith, clean, checked.survives.clean) in
       record {
         survives = committing_nothing old new quiet;
+        is_open = checked.is_open;
         refused = λ _. quiet;
         adopts = λ clean p s. let it = looked_well looked (early clean) p s in in_micrometres result new p quiet clean s (checked.settled clean p it) (checked.says clean p it);
         migrates = λ clean p s. absurd (other_versions (looked.agrees (early clean) millimetres.version p s.reads));
@@ -163,6 +167,7 @@ module _ (old mid : State) where
       record {
         survives = survives_then old mid new _ _ (MayCommit old) (λ _ db none. absurd none)
             (λ clean db all. (shows_version (at.answers (early_from it clean)), λ p s. all p (looked_older at (early_from it clean) p s.0, s.1))) at.survives it.survives;
+        is_open = it.is_open;
         refused = λ is. quiet_then old mid new at.survives (it.refused is);
         adopts = λ clean p s. absurd (other_versions (at.agrees (early clean) micrometres.version p s.reads).0);
         migrates = λ clean p s. it.migrates clean p (looked_older at (early clean) p s);
@@ -207,6 +212,7 @@ module _ (old mid : State) where
   pub refused : (why : Open) → IsLooked old mid (Err why) → why ≢ opens.Version millimetres.version → IsMigration old mid (Err why)
   refused why looked other = record {
     survives = committing_nothing old mid looked.survives;
+    is_open = λ clean. tt;
     refused = λ _. looked.survives;
     adopts = λ clean p s. not_adopted why p looked.survives clean s (looked.agrees clean micrometres.version p s.reads);
     migrates = λ clean p s. not_migrated why p other looked.survives clean s (looked.agrees clean millimetres.version p s.reads);

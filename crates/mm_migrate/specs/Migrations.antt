@@ -1,5 +1,5 @@
 -- What becomes of a connection whose package is to be told in micrometres.
-use Rattle.std.specs.Prelude.{◌≡◌, ◌≢◌, ⊤, ℤ, pos, Bool, false, Result, Ok, Err, IsTrue}
+use Rattle.std.specs.Prelude.{◌≡◌, ◌≢◌, ⊤, ℤ, pos, Bool, false, Result, Ok, Err, OnOk, IsTrue}
 use Rattle.sqlite.specs.Tree.{Trees}
 use Rattle.sqlite.specs.State.{State, HasCleanDisk, Survives}
 use Rattle.mm_base.specs.Bounds.{Profile, millimetres, micrometres}
@@ -34,10 +34,11 @@ NoNumber (Err opens.NoProfile) = ⊥
 NoNumber (Err opens.BadProfile) = ⊥
 NoNumber _ = ⊤
 
--- It wrote nothing, leaves the connection as settled as before, and answers what the whole check tells.
+-- It wrote nothing, leaves the connection as settled as before and, at `Ok`, the store open, and answers what the whole check tells.
 pub record IsChecked (profile : Profile) (old new : State) (result : Result (Unit {0}) Open) : Type 0 where
   pub mode : old.in_transaction ≡ false → new.in_transaction ≡ false
   pub survives : CommitsNothing old new
+  pub is_open : HasCleanDisk new → OnOk result (IsTrue new.is_open)
   pub settled : HasCleanDisk new → (p : Package) → IsSettled profile old p → IsSettled profile new p
   pub says : HasCleanDisk new → (p : Package) → IsSettled profile old p → Judged profile p result
   pub no_number : NoNumber result
@@ -75,8 +76,10 @@ IsRefusal (Ok _) = ⊥
 IsRefusal (Err (opens.Fault fault)) = ⊥
 IsRefusal (Err _) = ⊤
 
+-- `Ok` leaves the store open. What may be left, and what is told, is as the profile of the package has it.
 pub record IsMigration (old new : State) (result : Result (Unit {0}) Open) : Type 0 where
   pub survives : Survives old new (MayCommit old)
+  pub is_open : HasCleanDisk new → OnOk result (IsTrue new.is_open)
   pub refused : IsRefusal result → CommitsNothing old new
   pub adopts : HasCleanDisk new → (p : Package) → IsSettled micrometres old p → Adopts p new result
   pub migrates : HasCleanDisk new → (p : Package) → IsSettled millimetres old p → Migrates p new result
@@ -86,6 +89,7 @@ pub record IsMigration (old new : State) (result : Result (Unit {0}) Open) : Typ
 -- the same of a database that is known to be of the older profile
 pub record IsOlder (old new : State) (result : Result (Unit {0}) Open) : Type 0 where
   pub survives : Survives old new (λ db. (p : Package) → MayScale old p → StandsFor micrometres.version db (scale p))
+  pub is_open : HasCleanDisk new → OnOk result (IsTrue new.is_open)
   pub refused : IsRefusal result → CommitsNothing old new
   pub migrates : HasCleanDisk new → (p : Package) → IsSettled millimetres old p → Migrates p new result
   pub no_number : NoNumber result

@@ -1,11 +1,9 @@
 -- An UPDATE of every row of a table changes each value of the map that the rows hold.
-use Rattle.std.proofs.Common.{◌≡◌, List, map, Option, Some, option_map, refl, sym, ap, ◌∙◌}
+use Rattle.std.proofs.Common.{◌≡◌, List, map, option_map, sym, ap, ◌∙◌}
 use Rattle.std.specs.declared.cmp.Ordering.{Ordering}
-use Rattle.std.specs.FinMap.{FinMap, get}
+use Rattle.std.specs.FinMap.{FinMap}
 use Rattle.sqlite.specs.Order.{Row}
-use Rattle.sqlite_rules.specs.Lists.{Has}
 use Rattle.sqlite_rules.proofs.ProbeLemmas.{has_mapped, mapped_has}
-use Rattle.sql_forms.specs.Tables.{with_changed}
 use Rattle.sql_forms.specs.Maps.{Holds}
 use Rattle.mm_base.specs.Parts.{Each}
 use Rattle.mm_base.specs.Parts.{change_values}

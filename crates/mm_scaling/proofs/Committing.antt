@@ -13,7 +13,7 @@ use Rattle.mm_base.specs.Scale.{scale}
 use Rattle.mm_store.specs.Faults.{IsStoreFault}
 use Rattle.mm_store.specs.Stands.{StandsFor, ground_of, IsInside, IsSettled}
 use Rattle.mm_store.specs.Statements.{CommitsNothing}
-use Rattle.mm_store.proofs.Transactions.{OnlyCommitted, settles, begins}
+use Rattle.mm_store.proofs.Transactions.{OnlyCommitted, settles}
 use Rattle.mm_scaling.specs.Moves.{IsMove, IsRescaled, MayScale}
 
 module _ {S : Type 0} (g : Ghosts S) (was now : Held S) (begun : now ≡ record was { in_transaction = true }) (ended last : State) where
@@ -23,10 +23,12 @@ module _ {S : Type 0} (g : Ghosts S) (was now : Held S) (begun : now ≡ record 
   inside : (p : Package) → MayScale old p → IsInside millimetres (state g now) (ground_of old) p
   inside p it = rw begun (record { mode = refl; back = λ is_open. (refl, is_open); reads = it.0.reads })
 
-  whole : (result : Result (Unit {0}) Fault) → Survives old last (λ db. (p : Package) → MayScale old p → StandsFor micrometres.version db (scale p)) → (HasCleanDisk last → (p : Package) → MayScale old p → OnOk result (IsSettled micrometres last (scale p)))
+  whole : (result : Result (Unit {0}) Fault) → Survives old last (λ db. (p : Package) → MayScale old p → StandsFor micrometres.version db (scale p))
+      → (HasCleanDisk last → OnOk result (IsTrue last.is_open)) → (HasCleanDisk last → (p : Package) → MayScale old p → OnOk result (IsSettled micrometres last (scale p)))
       → IfErr result IsStoreFault → IsRescaled old last result
-  whole result survives done faults = record {
+  whole result survives is_open done faults = record {
     survives = survives;
+    is_open = is_open;
     done = done;
     left = λ clean p it db may. elim (survives.crash clean db may) [ inl before ↦ inl (it.0.left db before) | inr new ↦ inr (new p it) ];
     faults = faults;
@@ -36,7 +38,7 @@ module _ {S : Type 0} (g : Ghosts S) (was now : Held S) (begun : now ≡ record 
   pub undone : {T : Type 0} (fault : Fault) → IsMove millimetres micrometres (state g now) ended (λ p. Limits millimetres p) scale {T = T} (Err fault) → CommitsNothing ended last → IsRescaled old last (Err fault)
   undone fault moved h =
       whole (Err fault) (survives_begin g was last _ (rw begun at (survives_then (state g now) ended last _ _ (λ db. (p : Package) → MayScale old p → StandsFor micrometres.version db (scale p)) (λ _ db none. absurd none) (λ _ db none. absurd none) moved.survives h)))
-      (λ clean p it. tt) moved.faults
+      (λ clean. tt) (λ clean p it. tt) moved.faults
 
   module _ {T : Type 0} (t : T) (moved : IsMove millimetres micrometres (state g now) ended (λ p. Limits millimetres p) scale (Ok t)) (h : Survives ended last (λ db. db ≡ ended.now.trees)) where
     done : HasCleanDisk ended → (p : Package) → MayScale old p → IsTrue ended.is_open × IsInside micrometres ended (ground_of old) (scale p)
@@ -47,7 +49,7 @@ module _ {S : Type 0} (g : Ghosts S) (was now : Held S) (begun : now ≡ record 
         (λ clean db same p it. let its = done (omega (arith, h.clean)) p it in subst (λ t. StandsFor micrometres.version t (scale p)) (sym same) (its.1.reads its.0).stands) moved.survives h))
 
     pub committed : OnlyCommitted last → (HasCleanDisk last → Shows ended last ended.now ended.now false) → IsRescaled old last (Ok tt)
-    committed law shows = whole (Ok tt) commits (λ clean p it. settles micrometres ended last (ground_of old) (scale p) law (shows clean) (done (omega (arith, h.clean)) p it).1) tt
+    committed law shows = whole (Ok tt) commits (λ clean. (shows clean).is_open) (λ clean p it. settles micrometres ended last (ground_of old) (scale p) law (shows clean) (done (omega (arith, h.clean)) p it).1) tt
 
     pub in_doubt : (fault : Fault) → IsStoreFault fault → IsRescaled old last (Err fault)
-    in_doubt fault is = whole (Err fault) commits (λ clean p it. tt) is
+    in_doubt fault is = whole (Err fault) commits (λ clean. tt) (λ clean p it. tt) is

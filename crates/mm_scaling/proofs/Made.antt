@@ -1,12 +1,12 @@
 -- What the four statements make of a package.
-use Rattle.std.proofs.Common.{◌≡◌, ℤ, pos, Bool, if◌then◌else◌, List, [], ◌∷◌, map, Option, Some, None, refl, sym, ap, subst, ◌∙◌}
+use Rattle.std.proofs.Common.{◌≡◌, ℤ, pos, [], ◌∷◌, map, refl, ap, ◌∙◌}
 use Rattle.sqlite.specs.declared.types.Value.TheVariants.{Null, Int}
 use Rattle.sqlite.specs.Order.{Row}
 use Rattle.sqlite.specs.Tree.{Trees, with_tree}
 use Rattle.sql_forms.proofs.Casts.{cast_row_is}
 use Rattle.sql_forms.proofs.Updates.{updated}
 use Rattle.mm_schema.specs.Tables.{gpkg_contents, gpkg_tile_matrix_set, gpkg_tile_matrix, mm_profile}
-use Rattle.mm_base.specs.Bounds.{millimetres, micrometres}
+use Rattle.mm_base.specs.Bounds.{millimetres}
 use Rattle.mm_base.specs.Parts.{Each}
 use Rattle.mm_base.specs.Package.{Package}
 use Rattle.mm_base.specs.Rules.{ContentsWithin, SetWithin, MatrixWithin}

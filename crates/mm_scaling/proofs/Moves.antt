@@ -1,17 +1,15 @@
 -- From one profile to another within a transaction.
 use Rattle.std.specs.Prelude.{⊤}
-use Rattle.std.proofs.Common.{◌≡◌, ℕ, List, Option, Result, Ok, Err, IfOk, OnOk, IsTrue, sym, subst, ◌∙◌, arith}
+use Rattle.std.proofs.Common.{ℕ, List, Result, Ok, Err, OnOk, IsTrue, sym, subst, ◌∙◌, arith}
 use Rattle.sqlite.specs.Order.{Row}
 use Rattle.sqlite.specs.Tree.{Trees}
-use Rattle.sqlite.specs.State.{State, HasCleanDisk, ExecutesInside}
+use Rattle.sqlite.specs.State.{State, ExecutesInside}
 use Rattle.sqlite_catalog.specs.Listing.{IsSound}
-use Rattle.sql_forms.specs.Tables.{AreTables, IsReady, Leaves}
+use Rattle.sql_forms.specs.Tables.{IsReady, Leaves}
 use Rattle.mm_schema.specs.Tables.{schema}
-use Rattle.mm_base.specs.Bounds.{Profile, millimetres, micrometres}
+use Rattle.mm_base.specs.Bounds.{Profile}
 use Rattle.mm_base.specs.Package.{Package}
-use Rattle.mm_base.specs.Rules.{Limits}
 use Rattle.mm_base.specs.declared.answers.Fault.{Fault}
-use Rattle.mm_base.specs.Scale.{scale}
 use Rattle.mm_store.specs.Stands.{Holding, Ground, IsInside}
 use Rattle.mm_store.specs.Statements.{IsRun}
 use Rattle.mm_store.specs.Shapes.{IsChange}

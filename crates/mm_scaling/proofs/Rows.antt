@@ -1,11 +1,10 @@
 -- What each of the statements makes of a row.
-use Rattle.std.proofs.Common.{◌≡◌, ℤ, pos, true, List, [], ◌∷◌, Option, Some, None, refl, sym, ap, ◌∙◌}
-use Rattle.sqlite.specs.declared.types.Value.TheVariants.{Int, Text as Words}
+use Rattle.std.proofs.Common.{◌≡◌, [], refl}
 use Rattle.sqlite.specs.Order.{Row}
 use Rattle.sql_forms.proofs.Casts.{cast_all_is}
 use Rattle.sql_forms.proofs.Keys.{columns_are}
 use Rattle.sql_forms.proofs.Updates.{updated}
-use Rattle.mm_schema.specs.Tables.{gpkg_contents, gpkg_tile_matrix_set, gpkg_tile_matrix, mm_profile}
+use Rattle.mm_schema.specs.Tables.{gpkg_contents, gpkg_tile_matrix_set, gpkg_tile_matrix}
 use Rattle.mm_base.specs.Bounds.{millimetres}
 use Rattle.mm_base.specs.Keys.{Text, Level}
 use Rattle.mm_base.specs.Package.{Contents, MatrixSet, Grid}

@@ -1,5 +1,5 @@
 -- The forms of the four statements.
-use Rattle.std.proofs.Common.{[], ◌∷◌, codes, refl}
+use Rattle.std.proofs.Common.{[], refl}
 use Rattle.sqlite.specs.Listing.{understood}
 use Rattle.sqlite_tied.specs.Compute.{everything}
 use Rattle.sql_forms.proofs.Updates.{IsUpdate}

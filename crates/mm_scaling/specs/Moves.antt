@@ -26,10 +26,11 @@ MayScale s p = IsSettled millimetres s p × Limits millimetres p
 abbrev pub StandsForEither : Trees → Package → Type 0
 StandsForEither db p = StandsFor millimetres.version db p ⊎ StandsFor micrometres.version db (scale p)
 
--- `Ok` settles the connection for the package in micrometres; in each case a database that may be left stands for the one or
+-- `Ok` leaves the store open, and settles the connection for the package in micrometres; in each case a database that may be left stands for the one or
 -- wholly for the other.
 pub record IsRescaled (old new : State) (result : Result (Unit {0}) Fault) : Type 0 where
   pub survives : Survives old new (λ db. (p : Package) → MayScale old p → StandsFor micrometres.version db (scale p))
+  pub is_open : HasCleanDisk new → OnOk result (IsTrue new.is_open)
   pub done : HasCleanDisk new → (p : Package) → MayScale old p → OnOk result (IsSettled micrometres new (scale p))
   pub left : HasCleanDisk new → (p : Package) → MayScale old p → (db : Trees) → new.may_leave db → StandsForEither db p
   pub faults : IfErr result IsStoreFault

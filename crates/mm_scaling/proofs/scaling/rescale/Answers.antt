@@ -2,7 +2,7 @@ use Rattle.std.proofs.Common.{rules, Ok, Err}
 use Rattle.sqlite.specs.Held.{state}
 use Rattle.mm_store.proofs.Asking.{told_fault}
 use Rattle.mm_scaling.specs.Moves.{IsRescaled}
-use Rattle.mm_scaling.proofs.Committing.{committed, in_doubt, undone}
+use Rattle.mm_scaling.proofs.Committing.{committed, in_doubt}
 use Rattle.mm_scaling.proofs.scaling.rescale.Goals as goal
 
 pub returns-in-Ok-commit-clause-rescaled : goal.returns-in-Ok-commit-clause-rescaled

@@ -1,4 +1,3 @@
-use Rattle.std.proofs.Common.{sym}
 use Rattle.mm_base.specs.Bounds.{millimetres}
 use Rattle.mm_base.specs.Rules.{Limits}
 use Rattle.mm_store.proofs.Shapes.{changes_then, change_failed, change_where}

@@ -1,4 +1,4 @@
-use Rattle.std.proofs.Common.{[], ◌∷◌, map, Ok, rules}
+use Rattle.std.proofs.Common.{[], map, Ok, rules}
 use Rattle.std.specs.Prelude.{⊤}
 use Rattle.sqlite.specs.Tree.{with_tree}
 use Rattle.sqlite.specs.Held.{state}

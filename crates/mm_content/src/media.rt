@@ -16,7 +16,7 @@ use crate::kinds::plain_refusal;
 use crate::mapped::is_mapped;
 use mm_base::answers::{Fault, Outcome, Refusal};
 use mm_base::commands::PlainKind;
-use mm_contents::{has_medium, touch};
+use mm_contents::{has_medium, set_last_change};
 use mm_store::statements::run;
 use sqlite::{Alter, Transaction, params};
 
@@ -106,7 +106,7 @@ pub fn put_media<S: Alter>(
         Ok(()) => {}
         Err(fault) => return Err(fault),
     }
-    match touch(tx, table, at) {
+    match set_last_change(tx, table, at) {
         Ok(()) => Ok(Outcome::Done),
         Err(fault) => Err(fault),
     }
@@ -179,7 +179,7 @@ pub fn drop_media<S: Alter>(
         Ok(()) => {}
         Err(fault) => return Err(fault),
     }
-    match touch(tx, table, at) {
+    match set_last_change(tx, table, at) {
         Ok(()) => Ok(Outcome::Done),
         Err(fault) => Err(fault),
     }

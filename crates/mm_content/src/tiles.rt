@@ -15,7 +15,7 @@ ghost use Rattle.mm_contents.specs.Stamped.{IsLentAt};
 
 use crate::kinds::pyramid_refusal;
 use mm_base::answers::{Fault, Outcome, Refusal};
-use mm_contents::touch;
+use mm_contents::set_last_change;
 use mm_store::statements::{exists, first_pair, run};
 use sqlite::{Alter, Transaction, params};
 
@@ -200,7 +200,7 @@ pub fn put_tile<S: Alter>(
         Ok(()) => {}
         Err(fault) => return Err(fault),
     }
-    match touch(tx, table, at) {
+    match set_last_change(tx, table, at) {
         Ok(()) => Ok(Outcome::Done),
         Err(fault) => Err(fault),
     }
@@ -259,7 +259,7 @@ pub fn drop_tile<S: Alter>(
         Ok(()) => {}
         Err(fault) => return Err(fault),
     }
-    match touch(tx, table, at) {
+    match set_last_change(tx, table, at) {
         Ok(()) => Ok(Outcome::Done),
         Err(fault) => Err(fault),
     }

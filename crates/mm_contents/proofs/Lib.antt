@@ -4,3 +4,4 @@ pub mod Registered
 pub mod Touching
 pub mod Looking
 pub mod Stamping
+pub mod Touched

@@ -9,9 +9,11 @@ ghost use Rattle.mm_base.specs.Conditions as conditions;
 ghost use Rattle.mm_base.specs.Effects as effects;
 ghost use Rattle.mm_store.specs.Shapes.{IsLook, IsChange};
 ghost use Rattle.mm_contents.specs.Rows.{plain_contents};
+ghost use Rattle.mm_contents.specs.Touched.{IsTouched};
 
 use crate::relations::has_relation;
-use mm_base::answers::Fault;
+use mm_base::answers::{Fault, Outcome, Refusal};
+use mm_base::names::Name;
 use mm_store::statements::{exists, run};
 use sqlite::{Alter, Transaction, params};
 
@@ -55,8 +57,12 @@ pub fn is_taken<S: Alter>(tx: &mut Transaction<'_, S>, name: &str) -> Result<boo
 }
 
 /// Sets last_change of a table to this text, the stamp of a moment, and changes nothing else. Where no table has the name,
-/// nothing is changed at all. (Contents: last_change.)
-pub fn touch<S: Alter>(tx: &mut Transaction<'_, S>, table: &str, at: &str) -> Result<(), Fault>
+/// nothing is changed at all. It is for commands that have looked at the table. (Contents: last_change.)
+pub fn set_last_change<S: Alter>(
+    tx: &mut Transaction<'_, S>,
+    table: &str,
+    at: &str,
+) -> Result<(), Fault>
     ensures same_reference { tx.new.conn.ghost_name ≡ tx.old.conn.ghost_name }
     ensures change { (profile : Profile) → IsChange profile (state S.Store tx.old.conn.now) (state S.Store tx.new.conn.now) (λ p. ⊤) (λ p. effects.touch p table.now at.now) result }
 {
@@ -65,6 +71,33 @@ pub fn touch<S: Alter>(tx: &mut Transaction<'_, S>, table: &str, at: &str) -> Re
         "UPDATE gpkg_contents SET last_change = ?2 WHERE table_name = ?1",
         params![table, at],
     )
+}
+
+/// Sets last_change of a table to this text, the stamp of a moment, and changes nothing else. Refused 25 where no table has
+/// the name. (Contents: last_change.)
+pub fn touch<S: Alter>(
+    tx: &mut Transaction<'_, S>,
+    table: &Name,
+    at: &str,
+) -> Result<Outcome, Fault>
+    ensures same_reference { tx.new.conn.ghost_name ≡ tx.old.conn.ghost_name }
+    ensures touched { (profile : Profile) → IsTouched profile table.now at.now (state S.Store tx.old.conn.now) (state S.Store tx.new.conn.now) result }
+{
+    let table = table.as_str();
+    match has_table(tx, table) {
+        Ok(true) => {}
+        Ok(false) => {
+            return Ok(Outcome::Refused(Refusal {
+                number: 25,
+                piece: None,
+            }));
+        }
+        Err(fault) => return Err(fault),
+    }
+    match set_last_change(tx, table, at) {
+        Ok(()) => Ok(Outcome::Done),
+        Err(fault) => Err(fault),
+    }
 }
 
 /// Puts the contents row of a new table that is no pyramid.

@@ -1,6 +1,6 @@
 //! The contents of a package: tables and tile pyramids are added and removed, and noted as changed.
 //!
-//! - `contents`: the rows of `gpkg_contents`, `touch` and `is_taken`.
+//! - `contents`: the rows of `gpkg_contents`, `touch`, `set_last_change` and `is_taken`.
 //! - `kinds`: the registry of the kinds of tables, and `kind_of`.
 //! - `tables`: `add_table` and `drop_table`.
 //! - `pyramids`: `add_pyramid`.
@@ -19,7 +19,7 @@ mod relations;
 mod systems;
 mod tables;
 
-pub use contents::{is_taken, touch};
+pub use contents::{is_taken, set_last_change, touch};
 pub use items::{has_medium, has_row};
 pub use kinds::kind_of;
 pub use pyramids::add_pyramid;

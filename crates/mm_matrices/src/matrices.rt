@@ -18,7 +18,7 @@ use crate::extents::fits_pyramid;
 use crate::zooms::suits_zooms;
 use mm_base::answers::{Fault, Outcome, Refusal};
 use mm_base::commands::{Kind, Matrix, Step};
-use mm_contents::{kind_of, touch};
+use mm_contents::{kind_of, set_last_change};
 use mm_store::statements::{exists, run};
 use sqlite::{Alter, Transaction, params};
 
@@ -137,7 +137,7 @@ pub fn add_matrix<S: Alter>(
         Ok(()) => {}
         Err(fault) => return Err(fault),
     }
-    match touch(tx, table, at) {
+    match set_last_change(tx, table, at) {
         Ok(()) => Ok(Outcome::Done),
         Err(fault) => Err(fault),
     }

@@ -240,10 +240,7 @@ fn call_named<S: Alter>(
     match word {
         "drop" => number_of(drop_table(tx, name)),
         "relation-drop" => number_of(drop_relation(tx, name)),
-        "touch" => match touch(tx, name, at) {
-            Ok(()) => Some(0),
-            Err(fault) => Some(fault.0),
-        },
+        "touch" => number_of(touch(tx, &Name::read(name)?, at)),
         _ => None,
     }
 }

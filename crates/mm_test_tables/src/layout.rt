@@ -80,9 +80,9 @@ free|2000-02-29T23:59:59.999Z|
 wide|1970-01-01T00:00:00.000Z|
 ";
 
-/// A touch changes one table alone.
+/// A touch changes one table alone, and is refused where no table has the name.
 const TOUCHED: &str = "\
-0 touch,none
+25 touch,none
 0 touch,base
 ? SELECT table_name FROM gpkg_contents WHERE last_change = '2000-02-29T23:59:59.999Z'
 base|

@@ -15,15 +15,15 @@ returns-in-Err-clause-any_text g c profile = look_gave_up_at profile _ _ _ _ _ (
 pub returns-in-Err-delete_medium-clause-any_text : goal.returns-in-Err-delete_medium-clause-any_text
 returns-in-Err-delete_medium-clause-any_text g c profile = change_gave_up_at profile _ _ _ _ _ _ (c.in-Ok-None.ensures.look profile) _ (c.in-Err-delete_medium.ensures.change profile) (λ p meets says. tt)
 
-pub returns-in-Ok-touch-clause-any_text : goal.returns-in-Ok-touch-clause-any_text
-returns-in-Ok-touch-clause-any_text g c profile =
+pub returns-in-Ok-set_last_change-clause-any_text : goal.returns-in-Ok-set_last_change-clause-any_text
+returns-in-Ok-set_last_change-clause-any_text g c profile =
     accepts_at profile _ _ _ _ _ _ ((rw (to_z-of_z c.ranges.id) at c.in-Ok-None.ensures.look) profile) _
-    (changes_then profile _ _ _ _ _ ((rw (to_z-of_z c.ranges.id) at c.in-Ok.ensures.change) profile) (c.in-Ok-touch.ensures.change profile) (λ p any. tt))
+    (changes_then profile _ _ _ _ _ ((rw (to_z-of_z c.ranges.id) at c.in-Ok.ensures.change) profile) (c.in-Ok-set_last_change.ensures.change profile) (λ p any. tt))
     (λ p meets says. (tt, accepted_for _ (sym (says meets) ∙ c.in-Ok-None.field-0-is), refl))
 
-pub returns-in-Err-touch-clause-any_text : goal.returns-in-Err-touch-clause-any_text
-returns-in-Err-touch-clause-any_text g c profile =
-    change_gave_up_at profile _ _ _ _ _ _ (c.in-Ok-None.ensures.look profile) _ (changes_then profile _ _ _ _ _ (c.in-Ok.ensures.change profile) (c.in-Err-touch.ensures.change profile) (λ p any. tt)) (λ p meets says. tt)
+pub returns-in-Err-set_last_change-clause-any_text : goal.returns-in-Err-set_last_change-clause-any_text
+returns-in-Err-set_last_change-clause-any_text g c profile =
+    change_gave_up_at profile _ _ _ _ _ _ (c.in-Ok-None.ensures.look profile) _ (changes_then profile _ _ _ _ _ (c.in-Ok.ensures.change profile) (c.in-Err-set_last_change.ensures.change profile) (λ p any. tt)) (λ p meets says. tt)
 
 -- ---- at the stamp of a moment
 
@@ -36,8 +36,8 @@ returns-in-Err-clause-lent g c profile = at_moment profile _ _ _ _ _ (returns-in
 pub returns-in-Err-delete_medium-clause-lent : goal.returns-in-Err-delete_medium-clause-lent
 returns-in-Err-delete_medium-clause-lent g c profile = at_moment profile _ _ _ _ _ (returns-in-Err-delete_medium-clause-any_text g c profile)
 
-pub returns-in-Ok-touch-clause-lent : goal.returns-in-Ok-touch-clause-lent
-returns-in-Ok-touch-clause-lent g c profile = at_moment profile _ _ _ _ _ (returns-in-Ok-touch-clause-any_text g c profile)
+pub returns-in-Ok-set_last_change-clause-lent : goal.returns-in-Ok-set_last_change-clause-lent
+returns-in-Ok-set_last_change-clause-lent g c profile = at_moment profile _ _ _ _ _ (returns-in-Ok-set_last_change-clause-any_text g c profile)
 
-pub returns-in-Err-touch-clause-lent : goal.returns-in-Err-touch-clause-lent
-returns-in-Err-touch-clause-lent g c profile = at_moment profile _ _ _ _ _ (returns-in-Err-touch-clause-any_text g c profile)
+pub returns-in-Err-set_last_change-clause-lent : goal.returns-in-Err-set_last_change-clause-lent
+returns-in-Err-set_last_change-clause-lent g c profile = at_moment profile _ _ _ _ _ (returns-in-Err-set_last_change-clause-any_text g c profile)

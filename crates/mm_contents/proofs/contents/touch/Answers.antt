@@ -1,21 +1,16 @@
-use Rattle.std.proofs.Common.{[], ◌∷◌, Ok, rules}
-use Rattle.std.specs.Prelude.{⊤}
-use Rattle.sqlite.specs.declared.types.Value.TheVariants.{Text as Words}
-use Rattle.sqlite.specs.Tree.{with_tree}
-use Rattle.sqlite.specs.Held.{state}
-use Rattle.sql_forms.proofs.Updates.{has_changed}
-use Rattle.mm_base.specs.Effects.{touch}
-use Rattle.mm_schema.proofs.Updating as statement
-use Rattle.mm_store.proofs.Steps.{changes, seen}
-use Rattle.mm_contents.proofs.Touching.{touched_rows, touches}
+use Rattle.mm_contents.proofs.Touched.{refused_25, look_failed, touched, change_failed}
 use Rattle.mm_contents.proofs.contents.touch.Goals as goal
 
-pub returns-clause-change : goal.returns-clause-change
-returns-clause-change g c profile =
-    let old = state g.S.Store c.args.tx.now.conn.now in
-    let new = state g.S.Store c.run.new.tx.conn.now in
-    let table = c.args.table.now in
-    let at = c.args.at.now in
-    changes profile old new _ _ (λ db. with_tree db 1 (touched_rows table at db)) (λ p. ⊤) (λ p. touch p table at) c.run.result c.run.ensures.run
-    (λ count ready h. has_changed _ _ _ _ _ _ statement.touch old new ready (Words table ∷ Words at ∷ []) _ (Ok count) (search rules) h)
-    (λ p rows h any. touches profile.version (seen old) p h table at)
+pub returns-in-Ok-false-clause-touched : goal.returns-in-Ok-false-clause-touched
+returns-in-Ok-false-clause-touched g c profile = rw (← c.as_str-table.ensures.text) (refused_25 profile _ _ _ _ _ c.in-Ok-false.field-0-test (c.in-Ok-false.ensures.look profile))
+
+pub returns-in-Err-clause-touched : goal.returns-in-Err-clause-touched
+returns-in-Err-clause-touched g c profile = rw (← c.as_str-table.ensures.text) (look_failed profile _ _ _ _ _ (c.in-Err.ensures.look profile))
+
+pub returns-in-Ok-clause-touched : goal.returns-in-Ok-clause-touched
+returns-in-Ok-clause-touched g c profile =
+    rw (← c.as_str-table.ensures.text) (touched profile _ _ _ _ _ (c.in-Ok-true.ensures.look profile) _ _ c.in-Ok-true.field-0-test (c.in-Ok.ensures.change profile))
+
+pub returns-in-Err-set_last_change-clause-touched : goal.returns-in-Err-set_last_change-clause-touched
+returns-in-Err-set_last_change-clause-touched g c profile =
+    rw (← c.as_str-table.ensures.text) (change_failed profile _ _ _ _ _ (c.in-Ok-true.ensures.look profile) _ _ (c.in-Err-set_last_change.ensures.change profile))

@@ -18,18 +18,18 @@ returns-in-Err-insert_matrix-clause-any_text g c profile =
     change_gave_up_at profile _ _ _ _ _ _ (c.in-Ok-None.ensures.look profile) _ (c.in-Err-insert_matrix.ensures.change profile)
     (λ p meets says. matrix_is_new p a.table.now a.zoom a.matrix.now (sym c.in-Ok-None.field-0-is ∙ says meets))
 
-pub returns-in-Ok-touch-clause-any_text : goal.returns-in-Ok-touch-clause-any_text
-returns-in-Ok-touch-clause-any_text g c profile =
+pub returns-in-Ok-set_last_change-clause-any_text : goal.returns-in-Ok-set_last_change-clause-any_text
+returns-in-Ok-set_last_change-clause-any_text g c profile =
     let a = c.args in
-    accepts_at profile _ _ _ _ _ _ (c.in-Ok-None.ensures.look profile) _ (changes_then profile _ _ _ _ _ (c.in-Ok.ensures.change profile) (c.in-Ok-touch.ensures.change profile) (λ p new. tt))
+    accepts_at profile _ _ _ _ _ _ (c.in-Ok-None.ensures.look profile) _ (changes_then profile _ _ _ _ _ (c.in-Ok.ensures.change profile) (c.in-Ok-set_last_change.ensures.change profile) (λ p new. tt))
     (λ p meets says.
     let none = sym c.in-Ok-None.field-0-is ∙ says meets in
     (matrix_is_new p a.table.now a.zoom a.matrix.now none, accepted_for _ (sym none), refl))
 
-pub returns-in-Err-touch-clause-any_text : goal.returns-in-Err-touch-clause-any_text
-returns-in-Err-touch-clause-any_text g c profile =
+pub returns-in-Err-set_last_change-clause-any_text : goal.returns-in-Err-set_last_change-clause-any_text
+returns-in-Err-set_last_change-clause-any_text g c profile =
     let a = c.args in
-    change_gave_up_at profile _ _ _ _ _ _ (c.in-Ok-None.ensures.look profile) _ (changes_then profile _ _ _ _ _ (c.in-Ok.ensures.change profile) (c.in-Err-touch.ensures.change profile) (λ p new. tt))
+    change_gave_up_at profile _ _ _ _ _ _ (c.in-Ok-None.ensures.look profile) _ (changes_then profile _ _ _ _ _ (c.in-Ok.ensures.change profile) (c.in-Err-set_last_change.ensures.change profile) (λ p new. tt))
     (λ p meets says. matrix_is_new p a.table.now a.zoom a.matrix.now (sym c.in-Ok-None.field-0-is ∙ says meets))
 
 -- ---- at the stamp of a moment
@@ -43,8 +43,8 @@ returns-in-Err-clause-lent g c profile = at_moment profile _ _ _ _ _ (returns-in
 pub returns-in-Err-insert_matrix-clause-lent : goal.returns-in-Err-insert_matrix-clause-lent
 returns-in-Err-insert_matrix-clause-lent g c profile = at_moment profile _ _ _ _ _ (returns-in-Err-insert_matrix-clause-any_text g c profile)
 
-pub returns-in-Ok-touch-clause-lent : goal.returns-in-Ok-touch-clause-lent
-returns-in-Ok-touch-clause-lent g c profile = at_moment profile _ _ _ _ _ (returns-in-Ok-touch-clause-any_text g c profile)
+pub returns-in-Ok-set_last_change-clause-lent : goal.returns-in-Ok-set_last_change-clause-lent
+returns-in-Ok-set_last_change-clause-lent g c profile = at_moment profile _ _ _ _ _ (returns-in-Ok-set_last_change-clause-any_text g c profile)
 
-pub returns-in-Err-touch-clause-lent : goal.returns-in-Err-touch-clause-lent
-returns-in-Err-touch-clause-lent g c profile = at_moment profile _ _ _ _ _ (returns-in-Err-touch-clause-any_text g c profile)
+pub returns-in-Err-set_last_change-clause-lent : goal.returns-in-Err-set_last_change-clause-lent
+returns-in-Err-set_last_change-clause-lent g c profile = at_moment profile _ _ _ _ _ (returns-in-Err-set_last_change-clause-any_text g c profile)

@@ -16,6 +16,7 @@ use crate::kinds::plain_refusal;
 use crate::mapped::is_mapped;
 use mm_base::answers::{Fault, Outcome, Refusal};
 use mm_base::commands::PlainKind;
+use mm_base::names::Name;
 use mm_contents::{has_medium, set_last_change};
 use mm_store::statements::run;
 use sqlite::{Alter, Transaction, params};
@@ -82,7 +83,7 @@ fn write_medium<S: Alter>(
 /// no media table. (Media.)
 pub fn put_media<S: Alter>(
     tx: &mut Transaction<'_, S>,
-    table: &str,
+    table: &Name,
     id: i64,
     content_type: &str,
     bytes: &[u8],
@@ -92,6 +93,7 @@ pub fn put_media<S: Alter>(
     ensures any_text { (profile : Profile) → IsLentAt profile (commands.Media table.now id content_type.now bytes.now) at.now (state S.Store tx.old.conn.now) (state S.Store tx.new.conn.now) result }
     ensures lent { (profile : Profile) (moment : ℕ) → IsStamp moment at.now → IsLent profile (commands.Media table.now id content_type.now bytes.now) moment (state S.Store tx.old.conn.now) (state S.Store tx.new.conn.now) result }
 {
+    let table = table.as_str();
     match plain_refusal(tx, table, PlainKind::Media) {
         Ok(None) => {}
         Ok(Some(number)) => {
@@ -157,7 +159,7 @@ fn medium_drop_refusal<S: Alter>(
 /// medium of the id, 42 where a mapping row has the medium as an end. (Media; User Defined Mapping Tables.)
 pub fn drop_media<S: Alter>(
     tx: &mut Transaction<'_, S>,
-    table: &str,
+    table: &Name,
     id: i64,
     at: &str,
 ) -> Result<Outcome, Fault>
@@ -165,6 +167,7 @@ pub fn drop_media<S: Alter>(
     ensures any_text { (profile : Profile) → IsLentAt profile (commands.MediaDrop table.now id) at.now (state S.Store tx.old.conn.now) (state S.Store tx.new.conn.now) result }
     ensures lent { (profile : Profile) (moment : ℕ) → IsStamp moment at.now → IsLent profile (commands.MediaDrop table.now id) moment (state S.Store tx.old.conn.now) (state S.Store tx.new.conn.now) result }
 {
+    let table = table.as_str();
     match medium_drop_refusal(tx, table, id) {
         Ok(None) => {}
         Ok(Some(number)) => {

@@ -16,6 +16,7 @@ use crate::kinds::plain_refusal;
 use crate::mapped::is_mapped;
 use mm_base::answers::{Fault, Outcome, Refusal};
 use mm_base::commands::PlainKind;
+use mm_base::names::Name;
 use mm_contents::{has_row, set_last_change};
 use mm_store::statements::run;
 use sqlite::{Alter, Transaction, params};
@@ -85,7 +86,7 @@ fn write_row<S: Alter>(
 /// no attribute table. (Attributes.)
 pub fn put_row<S: Alter>(
     tx: &mut Transaction<'_, S>,
-    table: &str,
+    table: &Name,
     id: i64,
     title: &str,
     note: &str,
@@ -96,6 +97,7 @@ pub fn put_row<S: Alter>(
     ensures any_text { (profile : Profile) → IsLentAt profile (commands.Row table.now id title.now note.now amount) at.now (state S.Store tx.old.conn.now) (state S.Store tx.new.conn.now) result }
     ensures lent { (profile : Profile) (moment : ℕ) → IsStamp moment at.now → IsLent profile (commands.Row table.now id title.now note.now amount) moment (state S.Store tx.old.conn.now) (state S.Store tx.new.conn.now) result }
 {
+    let table = table.as_str();
     match plain_refusal(tx, table, PlainKind::Attributes) {
         Ok(None) => {}
         Ok(Some(number)) => {
@@ -161,7 +163,7 @@ fn row_drop_refusal<S: Alter>(
 /// row of the id, 42 where a mapping row has the row as an end. (Attributes; User Defined Mapping Tables.)
 pub fn drop_row<S: Alter>(
     tx: &mut Transaction<'_, S>,
-    table: &str,
+    table: &Name,
     id: i64,
     at: &str,
 ) -> Result<Outcome, Fault>
@@ -169,6 +171,7 @@ pub fn drop_row<S: Alter>(
     ensures any_text { (profile : Profile) → IsLentAt profile (commands.RowDrop table.now id) at.now (state S.Store tx.old.conn.now) (state S.Store tx.new.conn.now) result }
     ensures lent { (profile : Profile) (moment : ℕ) → IsStamp moment at.now → IsLent profile (commands.RowDrop table.now id) moment (state S.Store tx.old.conn.now) (state S.Store tx.new.conn.now) result }
 {
+    let table = table.as_str();
     match row_drop_refusal(tx, table, id) {
         Ok(None) => {}
         Ok(Some(number)) => {

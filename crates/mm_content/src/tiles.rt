@@ -15,6 +15,7 @@ ghost use Rattle.mm_contents.specs.Stamped.{IsLentAt};
 
 use crate::kinds::pyramid_refusal;
 use mm_base::answers::{Fault, Outcome, Refusal};
+use mm_base::names::Name;
 use mm_contents::set_last_change;
 use mm_store::statements::{exists, first_pair, run};
 use sqlite::{Alter, Transaction, params};
@@ -175,7 +176,7 @@ fn tile_refusal<S: Alter>(
 /// matrix. (Tile Matrix; Tile Pyramid User Data Tables.)
 pub fn put_tile<S: Alter>(
     tx: &mut Transaction<'_, S>,
-    table: &str,
+    table: &Name,
     zoom: u8,
     column: u32,
     row: u32,
@@ -186,6 +187,7 @@ pub fn put_tile<S: Alter>(
     ensures any_text { (profile : Profile) → IsLentAt profile (commands.Tile table.now zoom column row bytes.now) at.now (state S.Store tx.old.conn.now) (state S.Store tx.new.conn.now) result }
     ensures lent { (profile : Profile) (moment : ℕ) → IsStamp moment at.now → IsLent profile (commands.Tile table.now zoom column row bytes.now) moment (state S.Store tx.old.conn.now) (state S.Store tx.new.conn.now) result }
 {
+    let table = table.as_str();
     match tile_refusal(tx, table, zoom, column, row) {
         Ok(None) => {}
         Ok(Some(number)) => {
@@ -235,7 +237,7 @@ fn tile_drop_refusal<S: Alter>(
 /// column and the row. (Tile Pyramid User Data Tables.)
 pub fn drop_tile<S: Alter>(
     tx: &mut Transaction<'_, S>,
-    table: &str,
+    table: &Name,
     zoom: u8,
     column: u32,
     row: u32,
@@ -245,6 +247,7 @@ pub fn drop_tile<S: Alter>(
     ensures any_text { (profile : Profile) → IsLentAt profile (commands.TileDrop table.now zoom column row) at.now (state S.Store tx.old.conn.now) (state S.Store tx.new.conn.now) result }
     ensures lent { (profile : Profile) (moment : ℕ) → IsStamp moment at.now → IsLent profile (commands.TileDrop table.now zoom column row) moment (state S.Store tx.old.conn.now) (state S.Store tx.new.conn.now) result }
 {
+    let table = table.as_str();
     match tile_drop_refusal(tx, table, zoom, column, row) {
         Ok(None) => {}
         Ok(Some(number)) => {

@@ -21,6 +21,7 @@ use crate::systems::is_geographic;
 use mm_base::answers::{Fault, Outcome, Refusal};
 use mm_base::commands::Step;
 use mm_base::extents::Extent;
+use mm_base::names::Name;
 use mm_store::statements::run;
 use mm_store::systems::has_system;
 use sqlite::{Alter, Transaction, params};
@@ -157,7 +158,7 @@ fn pyramid_refusal<S: Alter>(
 /// empty. (Tile Matrix Set; Zoom Other Intervals.)
 pub fn add_pyramid<S: Alter>(
     tx: &mut Transaction<'_, S>,
-    table: &str,
+    table: &Name,
     identifier: &str,
     srs: i64,
     min_x: i64,
@@ -172,6 +173,7 @@ pub fn add_pyramid<S: Alter>(
     ensures lent { (profile : Profile) (moment : ℕ) → IsStamp moment at.now
         → IsLent profile (commands.Pyramid table.now identifier.now srs min_x min_y max_x max_y step) moment (state S.Store tx.old.conn.now) (state S.Store tx.new.conn.now) result }
 {
+    let table = table.as_str();
     match pyramid_refusal(tx, table, identifier, srs, min_x, min_y, max_x, max_y) {
         Ok(None) => {}
         Ok(Some(number)) => {

@@ -21,6 +21,7 @@ use crate::kinds::{insert_kind, text_of_kind};
 use crate::relations::uses_table;
 use mm_base::answers::{Fault, Outcome, Refusal};
 use mm_base::commands::PlainKind;
+use mm_base::names::Name;
 use mm_store::statements::run;
 use sqlite::{Alter, Transaction, params};
 
@@ -49,7 +50,7 @@ fn table_refusal<S: Alter>(
 /// last_change. Refused 23 where a table or mapping has the name, 24 where a table has the identifier.
 pub fn add_table<S: Alter>(
     tx: &mut Transaction<'_, S>,
-    table: &str,
+    table: &Name,
     kind: PlainKind,
     identifier: &str,
     at: &str,
@@ -58,6 +59,7 @@ pub fn add_table<S: Alter>(
     ensures any_text { (profile : Profile) → IsLentAt profile (commands.Table table.now kind identifier.now) at.now (state S.Store tx.old.conn.now) (state S.Store tx.new.conn.now) result }
     ensures lent { (profile : Profile) (moment : ℕ) → IsStamp moment at.now → IsLent profile (commands.Table table.now kind identifier.now) moment (state S.Store tx.old.conn.now) (state S.Store tx.new.conn.now) result }
 {
+    let table = table.as_str();
     match table_refusal(tx, table, identifier) {
         Ok(None) => {}
         Ok(Some(number)) => {
@@ -110,10 +112,11 @@ fn drop_refusal<S: Alter>(tx: &mut Transaction<'_, S>, table: &str) -> Result<Op
 
 /// The command `drop`: removes a table or pyramid with all that is kept under its name. Staged pieces stay. Refused 25
 /// where no table has the name, 48 where a relation uses the table.
-pub fn drop_table<S: Alter>(tx: &mut Transaction<'_, S>, table: &str) -> Result<Outcome, Fault>
+pub fn drop_table<S: Alter>(tx: &mut Transaction<'_, S>, table: &Name) -> Result<Outcome, Fault>
     ensures same_reference { tx.new.conn.ghost_name ≡ tx.old.conn.ghost_name }
     ensures lent { (profile : Profile) (moment : ℕ) → IsLent profile (commands.Drop table.now) moment (state S.Store tx.old.conn.now) (state S.Store tx.new.conn.now) result }
 {
+    let table = table.as_str();
     match drop_refusal(tx, table) {
         Ok(None) => {}
         Ok(Some(number)) => {

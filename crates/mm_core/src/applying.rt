@@ -12,6 +12,7 @@ use crate::dispatching::run_command;
 use mm_base::answers::{Answer, Fault, Outcome};
 use mm_base::commands::Command;
 use mm_base::moments::{Moment, stamp};
+use mm_base::names::Name;
 use mm_edition::rehearse;
 use mm_store::faults::fault_of;
 use sqlite::{Alter, Connection};
@@ -52,7 +53,7 @@ fn run_transaction<S: Alter>(
 /// A rehearsal, whose transaction is rolled back. `at` is the stamp of the moment.
 fn rehearse_once<S: Alter>(
     conn: &mut Connection<S>,
-    edition: &str,
+    edition: &Name,
     moment: Moment,
     at: &str,
 ) -> Answer
@@ -87,9 +88,7 @@ pub(crate) fn apply_once<S: Alter>(
         Err(_) => return Answer::Fault(Fault(90)),
     };
     match command {
-        Command::Rehearse { edition } => {
-            rehearse_once(conn, edition.as_str(), moment, at.as_str())
-        }
+        Command::Rehearse { edition } => rehearse_once(conn, edition, moment, at.as_str()),
         _ => run_transaction(conn, command, moment, at.as_str()),
     }
 }

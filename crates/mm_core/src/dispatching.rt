@@ -48,8 +48,8 @@ fn lay_out<S: Alter>(
             table,
             kind,
             identifier,
-        } => add_table(tx, table.as_str(), *kind, identifier.as_str(), at),
-        Command::Drop { table } => drop_table(tx, table.as_str()),
+        } => add_table(tx, table, *kind, identifier.as_str(), at),
+        Command::Drop { table } => drop_table(tx, table),
         _ => unreachable!(),
     }
 }
@@ -76,7 +76,7 @@ fn lay_out_pyramid<S: Alter>(
             step,
         } => add_pyramid(
             tx,
-            table.as_str(),
+            table,
             identifier.as_str(),
             srs.get(),
             min_x.get(),
@@ -90,7 +90,7 @@ fn lay_out_pyramid<S: Alter>(
             table,
             zoom,
             matrix,
-        } => add_matrix(tx, table.as_str(), zoom.get(), matrix, at),
+        } => add_matrix(tx, table, zoom.get(), matrix, at),
         _ => unreachable!(),
     }
 }
@@ -114,7 +114,7 @@ fn change_tile<S: Alter>(
             bytes,
         } => put_tile(
             tx,
-            table.as_str(),
+            table,
             zoom.get(),
             column.get(),
             row.get(),
@@ -126,7 +126,7 @@ fn change_tile<S: Alter>(
             zoom,
             column,
             row,
-        } => drop_tile(tx, table.as_str(), zoom.get(), column.get(), row.get(), at),
+        } => drop_tile(tx, table, zoom.get(), column.get(), row.get(), at),
         _ => unreachable!(),
     }
 }
@@ -150,14 +150,14 @@ fn change_item<S: Alter>(
             amount,
         } => put_row(
             tx,
-            table.as_str(),
+            table,
             id.get(),
             title.as_str(),
             note.as_str(),
             amount.get(),
             at,
         ),
-        Command::RowDrop { table, id } => drop_row(tx, table.as_str(), id.get(), at),
+        Command::RowDrop { table, id } => drop_row(tx, table, id.get(), at),
         Command::Media {
             table,
             id,
@@ -165,13 +165,13 @@ fn change_item<S: Alter>(
             bytes,
         } => put_media(
             tx,
-            table.as_str(),
+            table,
             id.get(),
             content_type.as_str(),
             bytes.as_slice(),
             at,
         ),
-        Command::MediaDrop { table, id } => drop_media(tx, table.as_str(), id.get(), at),
+        Command::MediaDrop { table, id } => drop_media(tx, table, id.get(), at),
         _ => unreachable!(),
     }
 }
@@ -189,17 +189,17 @@ fn relate<S: Alter>(tx: &mut Transaction<'_, S>, command: &Command) -> Result<Ou
             related,
             name,
         } => add_relation(tx, mapping, base, related, *name),
-        Command::RelationDrop { mapping } => drop_relation(tx, mapping.as_str()),
+        Command::RelationDrop { mapping } => drop_relation(tx, mapping),
         Command::Map {
             mapping,
             base_id,
             related_id,
-        } => add_map(tx, mapping.as_str(), base_id.get(), related_id.get()),
+        } => add_map(tx, mapping, base_id.get(), related_id.get()),
         Command::MapDrop {
             mapping,
             base_id,
             related_id,
-        } => drop_map(tx, mapping.as_str(), base_id.get(), related_id.get()),
+        } => drop_map(tx, mapping, base_id.get(), related_id.get()),
         _ => unreachable!(),
     }
 }
@@ -214,8 +214,8 @@ fn prepare_edition<S: Alter>(
     ensures lent { (moment : ℕ) → IsLent current command.now moment (state S.Store tx.old.conn.now) (state S.Store tx.new.conn.now) result }
 {
     match command {
-        Command::Edition { name } => open_edition(tx, name.as_str()),
-        Command::Discard { name } => discard(tx, name.as_str()),
+        Command::Edition { name } => open_edition(tx, name),
+        Command::Discard { name } => discard(tx, name),
         Command::Stage {
             edition,
             number,
@@ -252,7 +252,7 @@ pub(crate) fn run_command<S: Alter>(
         Command::Edition { .. } | Command::Discard { .. } | Command::Stage { .. } => {
             prepare_edition(tx, command)
         }
-        Command::Publish { edition } => publish(tx, edition.as_str(), at),
+        Command::Publish { edition } => publish(tx, edition, at),
         Command::Rehearse { .. } => unreachable!(),
     }
 }

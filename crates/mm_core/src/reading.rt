@@ -42,7 +42,7 @@ impl<S: Alter> Session<S> {
         if self.failed {
             return Err(Fault(92));
         }
-        tile(&mut self.conn, table.as_str(), zoom, column, row)
+        tile(&mut self.conn, table, zoom, column, row)
     }
 
     /// The medium of a media table that has an id, or None where none has it. (Media.)
@@ -57,7 +57,7 @@ impl<S: Alter> Session<S> {
         if self.failed {
             return Err(Fault(92));
         }
-        media(&mut self.conn, table.as_str(), id)
+        media(&mut self.conn, table, id)
     }
 
     /// The row of an attribute table that has an id, or None where none has it. (Attributes.)
@@ -72,7 +72,7 @@ impl<S: Alter> Session<S> {
         if self.failed {
             return Err(Fault(92));
         }
-        row(&mut self.conn, table.as_str(), id)
+        row(&mut self.conn, table, id)
     }
 
     /// The tables of the contents by rising name, each with its kind, identifier and last_change, and exactly the pyramids with
@@ -104,7 +104,7 @@ impl<S: Alter> Session<S> {
         if self.failed {
             return Err(Fault(92));
         }
-        related(self.alloc, &mut self.conn, table.as_str(), id)
+        related(self.alloc, &mut self.conn, table, id)
     }
 
     /// How an edition stands, or None where none has the name: open with so many pieces, or published.
@@ -119,6 +119,6 @@ impl<S: Alter> Session<S> {
         if self.failed {
             return Err(Fault(92));
         }
-        edition(&mut self.conn, name.as_str())
+        edition(&mut self.conn, name)
     }
 }

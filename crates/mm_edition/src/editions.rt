@@ -12,6 +12,7 @@ ghost use Rattle.mm_store.specs.Shapes.{IsLook, IsChange, IsLent};
 ghost use Rattle.mm_edition.specs.Standings.{standing_text};
 
 use mm_base::answers::{Fault, Outcome, Refusal};
+use mm_base::names::Name;
 use mm_store::statements::{first_text, run};
 use sqlite::{Alter, Transaction, params};
 
@@ -80,10 +81,11 @@ fn insert_edition<S: Alter>(tx: &mut Transaction<'_, S>, edition: &str) -> Resul
 }
 
 /// The command `edition`: opens an edition without pieces. Refused 50 where one has the name, open or published.
-pub fn open_edition<S: Alter>(tx: &mut Transaction<'_, S>, edition: &str) -> Result<Outcome, Fault>
+pub fn open_edition<S: Alter>(tx: &mut Transaction<'_, S>, edition: &Name) -> Result<Outcome, Fault>
     ensures same_reference { tx.new.conn.ghost_name ≡ tx.old.conn.ghost_name }
     ensures lent { (profile : Profile) (moment : ℕ) → IsLent profile (commands.Edition edition.now) moment (state S.Store tx.old.conn.now) (state S.Store tx.new.conn.now) result }
 {
+    let edition = edition.as_str();
     match standing_of(tx, edition) {
         Ok(None) => {}
         Ok(Some(_)) => {
@@ -131,10 +133,11 @@ pub(crate) fn closed_refusal<S: Alter>(
 
 /// The command `discard`: removes an open edition and its pieces. Refused 51 where no edition has the name, 55 where it is
 /// published.
-pub fn discard<S: Alter>(tx: &mut Transaction<'_, S>, edition: &str) -> Result<Outcome, Fault>
+pub fn discard<S: Alter>(tx: &mut Transaction<'_, S>, edition: &Name) -> Result<Outcome, Fault>
     ensures same_reference { tx.new.conn.ghost_name ≡ tx.old.conn.ghost_name }
     ensures lent { (profile : Profile) (moment : ℕ) → IsLent profile (commands.Discard edition.now) moment (state S.Store tx.old.conn.now) (state S.Store tx.new.conn.now) result }
 {
+    let edition = edition.as_str();
     match closed_refusal(tx, edition) {
         Ok(None) => {}
         Ok(Some(number)) => {

@@ -14,6 +14,7 @@ use crate::kept::{Kept, Written, kept_in};
 use crate::spelling::spelled;
 use mm_base::answers::Fault;
 use mm_base::commands::Piece;
+use mm_base::names::Name;
 use mm_store::faults::fault_of;
 use mm_store::statements::{exists, first, run};
 use sqlite::{Alter, Row, Transaction, params};
@@ -72,12 +73,13 @@ pub(crate) fn kept_piece<S: Alter>(
 /// The piece of a number, if the edition has one. A row that spells none is a fault, 91.
 pub fn piece<S: Alter>(
     tx: &mut Transaction<'_, S>,
-    edition: &str,
+    edition: &Name,
     number: u32,
 ) -> Result<Option<Piece>, Fault>
     ensures same_reference { tx.new.conn.ghost_name ≡ tx.old.conn.ghost_name }
     ensures look { (profile : Profile) → IsLook profile (state S.Store tx.old.conn.now) (state S.Store tx.new.conn.now) (λ p found. Meets profile p → get p.pieces (keys.piece edition.now (pos number)) ≡ option_map piece_row found) result }
 {
+    let edition = edition.as_str();
     match kept_piece(tx, edition, i64::from(number)) {
         Ok(Some(kept)) => match spelled(kept) {
             Some(piece) => Ok(Some(piece)),

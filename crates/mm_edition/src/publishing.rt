@@ -17,6 +17,7 @@ use crate::editions::closed_refusal;
 use crate::running::{Turn, try_piece};
 use mm_base::answers::{Fault, Outcome, Refusal};
 use mm_base::limits::MOST_PIECES;
+use mm_base::names::Name;
 use mm_store::statements::run;
 use sqlite::{Alter, Transaction, params};
 
@@ -27,7 +28,7 @@ const PAST_THE_LAST: u32 = MOST_PIECES + 1;
 /// and its refusal. One piece is held at a time. `at` is the stamp of the moment.
 pub(crate) fn try_pieces<S: Alter>(
     tx: &mut Transaction<'_, S>,
-    edition: &str,
+    edition: &Name,
     at: &str,
 ) -> Result<Option<(u32, u8)>, Fault>
     ensures same_reference { tx.new.conn.ghost_name ≡ tx.old.conn.ghost_name }
@@ -88,14 +89,15 @@ fn close_edition<S: Alter>(tx: &mut Transaction<'_, S>, edition: &str) -> Result
 /// 53 with the number and the refusal of the first piece that is refused; the caller rolls the transaction back then.
 pub fn publish<S: Alter>(
     tx: &mut Transaction<'_, S>,
-    edition: &str,
+    edition: &Name,
     at: &str,
 ) -> Result<Outcome, Fault>
     ensures same_reference { tx.new.conn.ghost_name ≡ tx.old.conn.ghost_name }
     ensures any_text { IsQuiet (state S.Store tx.old.conn.now) (state S.Store tx.new.conn.now) result }
     ensures tried { (profile : Profile) (moment : ℕ) → IsStamp moment at.now → IsTried profile (commands.Publish edition.now) moment (state S.Store tx.old.conn.now) (state S.Store tx.new.conn.now) result }
 {
-    match closed_refusal(tx, edition) {
+    let name = edition.as_str();
+    match closed_refusal(tx, name) {
         Ok(None) => {}
         Ok(Some(number)) => {
             return Ok(Outcome::Refused(Refusal {
@@ -115,7 +117,7 @@ pub fn publish<S: Alter>(
         }
         Err(fault) => return Err(fault),
     }
-    match close_edition(tx, edition) {
+    match close_edition(tx, name) {
         Ok(()) => Ok(Outcome::Done),
         Err(fault) => Err(fault),
     }

@@ -9,13 +9,14 @@ ghost use Rattle.mm_edition.specs.Rehearsals.{IsRehearsal};
 
 use crate::publishing::publish;
 use mm_base::answers::{Fault, Outcome};
+use mm_base::names::Name;
 use sqlite::{Alter, Connection};
 
 /// The command `rehearse`: answers what `publish` would, and changes nothing, since the transaction that it publishes in is
 /// rolled back. `at` is the stamp of any moment.
 pub fn rehearse<S: Alter>(
     conn: &mut Connection<S>,
-    edition: &str,
+    edition: &Name,
     at: &str,
 ) -> Result<Outcome, Fault>
     requires idle { conn.old.in_transaction ≡ false }

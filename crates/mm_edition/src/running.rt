@@ -13,6 +13,7 @@ ghost use Rattle.mm_edition.specs.Turns.{IsTurn};
 use crate::pieces::piece;
 use mm_base::answers::{Fault, Outcome};
 use mm_base::commands::Piece;
+use mm_base::names::Name;
 use mm_content::{drop_media, drop_row, drop_tile, put_media, put_row, put_tile};
 use mm_matrices::add_matrix;
 use mm_relate::{add_map, drop_map};
@@ -46,7 +47,7 @@ fn run_tile<S: Alter>(
             bytes,
         } => put_tile(
             tx,
-            table.as_str(),
+            table,
             zoom.get(),
             column.get(),
             row.get(),
@@ -58,7 +59,7 @@ fn run_tile<S: Alter>(
             zoom,
             column,
             row,
-        } => drop_tile(tx, table.as_str(), zoom.get(), column.get(), row.get(), at),
+        } => drop_tile(tx, table, zoom.get(), column.get(), row.get(), at),
         _ => unreachable!(),
     }
 }
@@ -83,14 +84,14 @@ fn run_item<S: Alter>(
             amount,
         } => put_row(
             tx,
-            table.as_str(),
+            table,
             id.get(),
             title.as_str(),
             note.as_str(),
             amount.get(),
             at,
         ),
-        Piece::RowDrop { table, id } => drop_row(tx, table.as_str(), id.get(), at),
+        Piece::RowDrop { table, id } => drop_row(tx, table, id.get(), at),
         Piece::Media {
             table,
             id,
@@ -98,13 +99,13 @@ fn run_item<S: Alter>(
             bytes,
         } => put_media(
             tx,
-            table.as_str(),
+            table,
             id.get(),
             content_type.as_str(),
             bytes.as_slice(),
             at,
         ),
-        Piece::MediaDrop { table, id } => drop_media(tx, table.as_str(), id.get(), at),
+        Piece::MediaDrop { table, id } => drop_media(tx, table, id.get(), at),
         _ => unreachable!(),
     }
 }
@@ -120,12 +121,12 @@ fn run_mapping<S: Alter>(tx: &mut Transaction<'_, S>, piece: &Piece) -> Result<O
             mapping,
             base_id,
             related_id,
-        } => add_map(tx, mapping.as_str(), base_id.get(), related_id.get()),
+        } => add_map(tx, mapping, base_id.get(), related_id.get()),
         Piece::MapDrop {
             mapping,
             base_id,
             related_id,
-        } => drop_map(tx, mapping.as_str(), base_id.get(), related_id.get()),
+        } => drop_map(tx, mapping, base_id.get(), related_id.get()),
         _ => unreachable!(),
     }
 }
@@ -146,7 +147,7 @@ fn run_matrix<S: Alter>(
             table,
             zoom,
             matrix,
-        } => add_matrix(tx, table.as_str(), zoom.get(), matrix, at),
+        } => add_matrix(tx, table, zoom.get(), matrix, at),
         _ => unreachable!(),
     }
 }
@@ -173,7 +174,7 @@ fn run_piece<S: Alter>(
 /// Does what the piece of a number says, if the edition has one. `at` is the stamp of the moment.
 pub(crate) fn try_piece<S: Alter>(
     tx: &mut Transaction<'_, S>,
-    edition: &str,
+    edition: &Name,
     number: u32,
     at: &str,
 ) -> Result<Turn, Fault>

@@ -13,6 +13,7 @@ ghost use Rattle.mm_edition.specs.States.{GivesNumber, IsLast, TellsState};
 use crate::editions::{Standing, standing_of};
 use mm_base::answers::Fault;
 use mm_base::entries::EditionState;
+use mm_base::names::Name;
 use mm_store::faults::fault_of;
 use mm_store::statements::first;
 use sqlite::types::ValueRef;
@@ -74,14 +75,14 @@ fn state_of<S: Alter>(
 /// before.
 pub fn edition<S: Alter>(
     conn: &mut Connection<S>,
-    edition: &str,
+    edition: &Name,
 ) -> Result<Option<EditionState>, Fault>
     requires idle { conn.old.in_transaction ≡ false }
     ensures mode { conn.new.in_transaction ≡ false }
     ensures read { (profile : Profile) → IsRead profile (state S.Store conn.old) (state S.Store conn.new) (λ p found. TellsState p edition.now found) result }
 {
     let mut tx = conn.transaction();
-    let found = state_of(&mut tx, edition);
+    let found = state_of(&mut tx, edition.as_str());
     tx.rollback();
     found
 }

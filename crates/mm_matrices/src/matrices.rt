@@ -18,6 +18,7 @@ use crate::extents::fits_pyramid;
 use crate::zooms::suits_zooms;
 use mm_base::answers::{Fault, Outcome, Refusal};
 use mm_base::commands::{Kind, Matrix, Step};
+use mm_base::names::Name;
 use mm_contents::{kind_of, set_last_change};
 use mm_store::statements::{exists, run};
 use sqlite::{Alter, Transaction, params};
@@ -114,7 +115,7 @@ fn matrix_refusal<S: Alter>(
 /// another zoom or, in a pyramid of kind `two`, not in ratio 2 to those of the next. (Tile Matrix; Zoom Levels.)
 pub fn add_matrix<S: Alter>(
     tx: &mut Transaction<'_, S>,
-    table: &str,
+    table: &Name,
     zoom: u8,
     matrix: &Matrix,
     at: &str,
@@ -123,6 +124,7 @@ pub fn add_matrix<S: Alter>(
     ensures any_text { (profile : Profile) → IsLentAt profile (commands.Matrix table.now zoom matrix.now) at.now (state S.Store tx.old.conn.now) (state S.Store tx.new.conn.now) result }
     ensures lent { (profile : Profile) (moment : ℕ) → IsStamp moment at.now → IsLent profile (commands.Matrix table.now zoom matrix.now) moment (state S.Store tx.old.conn.now) (state S.Store tx.new.conn.now) result }
 {
+    let table = table.as_str();
     match matrix_refusal(tx, table, zoom, matrix) {
         Ok(None) => {}
         Ok(Some(number)) => {

@@ -16,6 +16,7 @@ use mm_base::answers::Fault;
 use mm_base::bytes::MediaBytes;
 use mm_base::content_types::ContentType;
 use mm_base::entries::Media;
+use mm_base::names::Name;
 use mm_store::faults::fault_of;
 use mm_store::statements::first;
 use sqlite::types::ValueRef;
@@ -89,7 +90,7 @@ fn medium_at<S: Alter>(
 /// else 91, also where bytes or a content type stand that no package has; the connection is then as settled as before.
 pub fn media<S: Alter>(
     conn: &mut Connection<S>,
-    table: &str,
+    table: &Name,
     id: i64,
 ) -> Result<Option<Media>, Fault>
     requires { conn.old.in_transaction ≡ false }
@@ -97,7 +98,7 @@ pub fn media<S: Alter>(
     ensures read { (profile : Profile) → IsRead profile (state S.Store conn.old) (state S.Store conn.new) (λ p found. get p.media (item table.now id) ≡ option_map medium_of found) result }
 {
     let mut tx = conn.transaction();
-    let found = medium_at(&mut tx, table, id);
+    let found = medium_at(&mut tx, table.as_str(), id);
     tx.rollback();
     found
 }

@@ -14,6 +14,7 @@ ghost use Rattle.mm_reads.specs.Told.{Gives, ShowsRow, row_of};
 
 use mm_base::answers::Fault;
 use mm_base::entries::Row;
+use mm_base::names::Name;
 use mm_store::columns::{number_in, remark_in};
 use mm_store::statements::first;
 use sqlite::types::ValueRef;
@@ -69,13 +70,13 @@ fn row_at<S: Alter>(tx: &mut Transaction<'_, S>, table: &str, id: i64) -> Result
 
 /// The row of an attribute table that has an id, or None where none has it. (Attributes.) A fault is 90 where memory was refused,
 /// and else 91, also where a text stands that no package has; the connection is then as settled as before.
-pub fn row<S: Alter>(conn: &mut Connection<S>, table: &str, id: i64) -> Result<Option<Row>, Fault>
+pub fn row<S: Alter>(conn: &mut Connection<S>, table: &Name, id: i64) -> Result<Option<Row>, Fault>
     requires { conn.old.in_transaction ≡ false }
     ensures mode { conn.new.in_transaction ≡ false }
     ensures read { (profile : Profile) → IsRead profile (state S.Store conn.old) (state S.Store conn.new) (λ p found. get p.rows (item table.now id) ≡ option_map row_of found) result }
 {
     let mut tx = conn.transaction();
-    let found = row_at(&mut tx, table, id);
+    let found = row_at(&mut tx, table.as_str(), id);
     tx.rollback();
     found
 }

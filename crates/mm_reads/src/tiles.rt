@@ -12,6 +12,7 @@ ghost use Rattle.mm_store.specs.Statements.{IsAsked};
 ghost use Rattle.mm_reads.specs.Told.{TellsBytes, Gives, ShowsBytes};
 
 use mm_base::answers::Fault;
+use mm_base::names::Name;
 use mm_store::faults::fault_of;
 use mm_store::statements::first;
 use sqlite::types::ValueRef;
@@ -59,7 +60,7 @@ fn bytes_at<S: Alter>(
 /// Tables.) A fault is 90 where memory was refused, and else 91; the connection is then as settled as before.
 pub fn tile<S: Alter>(
     conn: &mut Connection<S>,
-    table: &str,
+    table: &Name,
     zoom: u8,
     column: u32,
     row: u32,
@@ -70,7 +71,7 @@ pub fn tile<S: Alter>(
         (λ p found. TellsBytes (get p.tiles (tile table.now (pos zoom) (pos column) (pos row))) found) result }
 {
     let mut tx = conn.transaction();
-    let found = bytes_at(&mut tx, table, zoom, column, row);
+    let found = bytes_at(&mut tx, table.as_str(), zoom, column, row);
     tx.rollback();
     found
 }

@@ -11,6 +11,7 @@ ghost use Rattle.mm_store.specs.Shapes.{IsLook, IsChange, IsLent};
 
 use crate::ends::{ends_of, ends_refusal};
 use mm_base::answers::{Fault, Outcome, Refusal};
+use mm_base::names::Name;
 use mm_contents::has_relation;
 use mm_store::statements::{exists, run};
 use sqlite::{Alter, Transaction, params};
@@ -84,13 +85,14 @@ fn insert_pairing<S: Alter>(
 /// relation has the mapping's name, 45 where the mapping row stands already. (User Defined Mapping Tables.)
 pub fn add_map<S: Alter>(
     tx: &mut Transaction<'_, S>,
-    mapping: &str,
+    mapping: &Name,
     base_id: i64,
     related_id: i64,
 ) -> Result<Outcome, Fault>
     ensures same_reference { tx.new.conn.ghost_name ≡ tx.old.conn.ghost_name }
     ensures lent { (profile : Profile) (moment : ℕ) → IsLent profile (commands.Map mapping.now base_id related_id) moment (state S.Store tx.old.conn.now) (state S.Store tx.new.conn.now) result }
 {
+    let mapping = mapping.as_str();
     match map_refusal(tx, mapping, base_id, related_id) {
         Ok(None) => {}
         Ok(Some(number)) => {
@@ -152,13 +154,14 @@ fn delete_pairing<S: Alter>(
 /// row. (User Defined Mapping Tables.)
 pub fn drop_map<S: Alter>(
     tx: &mut Transaction<'_, S>,
-    mapping: &str,
+    mapping: &Name,
     base_id: i64,
     related_id: i64,
 ) -> Result<Outcome, Fault>
     ensures same_reference { tx.new.conn.ghost_name ≡ tx.old.conn.ghost_name }
     ensures lent { (profile : Profile) (moment : ℕ) → IsLent profile (commands.MapDrop mapping.now base_id related_id) moment (state S.Store tx.old.conn.now) (state S.Store tx.new.conn.now) result }
 {
+    let mapping = mapping.as_str();
     match map_drop_refusal(tx, mapping, base_id, related_id) {
         Ok(None) => {}
         Ok(Some(number)) => {

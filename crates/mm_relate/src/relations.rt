@@ -161,10 +161,14 @@ fn delete_relation<S: Alter>(tx: &mut Transaction<'_, S>, mapping: &str) -> Resu
 
 /// The command `relation-drop`: removes a relation with its mapping rows and its extension row. Refused 44 where no relation
 /// has the mapping's name. (Extended Relations Table.)
-pub fn drop_relation<S: Alter>(tx: &mut Transaction<'_, S>, mapping: &str) -> Result<Outcome, Fault>
+pub fn drop_relation<S: Alter>(
+    tx: &mut Transaction<'_, S>,
+    mapping: &Name,
+) -> Result<Outcome, Fault>
     ensures same_reference { tx.new.conn.ghost_name ≡ tx.old.conn.ghost_name }
     ensures lent { (profile : Profile) (moment : ℕ) → IsLent profile (commands.RelationDrop mapping.now) moment (state S.Store tx.old.conn.now) (state S.Store tx.new.conn.now) result }
 {
+    let mapping = mapping.as_str();
     match has_relation(tx, mapping) {
         Ok(true) => {}
         Ok(false) => {

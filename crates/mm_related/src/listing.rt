@@ -10,6 +10,7 @@ ghost use Rattle.mm_related.specs.Related.{ShowsRelated, Gathers, Lists, Tells};
 use crate::items::stands;
 use mm_base::answers::Fault;
 use mm_base::entries::Related;
+use mm_base::names::Name;
 use mm_store::columns::{name_in, number_in, remark_in};
 use mm_walk::walk::{Visitor, walk};
 use sqlite::{Alter, Connection, Row, params};
@@ -89,13 +90,14 @@ fn listed<S: Alter>(
 pub fn related<S: Alter>(
     alloc: Global,
     conn: &mut Connection<S>,
-    table: &str,
+    table: &Name,
     id: i64,
 ) -> Result<Option<Vec<Related>>, Fault>
     requires { conn.old.in_transaction ≡ false }
     ensures mode { conn.new.in_transaction ≡ false }
     ensures read { (profile : Profile) → IsRead profile (state S.Store conn.old) (state S.Store conn.new) (λ p found. Tells p table.now id found) result }
 {
+    let table = table.as_str();
     match stands(conn, table, id) {
         Ok(true) => {}
         Ok(false) => return Ok(None),

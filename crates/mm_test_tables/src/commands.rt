@@ -121,8 +121,9 @@ fn call_pyramid<S: Alter>(tx: &mut Transaction<'_, S>, fields: &[&str], at: &str
     let (min_x, min_y) = (number(min_x)?, number(min_y)?);
     let (max_x, max_y) = (number(max_x)?, number(max_y)?);
     let kind = step(kind)?;
+    let table = Name::read(table)?;
     number_of(add_pyramid(
-        tx, table, identifier, srs, min_x, min_y, max_x, max_y, kind, at,
+        tx, &table, identifier, srs, min_x, min_y, max_x, max_y, kind, at,
     ))
 }
 
@@ -132,7 +133,7 @@ fn call_matrix<S: Alter>(tx: &mut Transaction<'_, S>, fields: &[&str], at: &str)
     };
     let level = zoom(level)?;
     let matrix = matrix(sizes)?;
-    number_of(add_matrix(tx, table, level, &matrix, at))
+    number_of(add_matrix(tx, &Name::read(table)?, level, &matrix, at))
 }
 
 fn call_table<S: Alter>(tx: &mut Transaction<'_, S>, fields: &[&str], at: &str) -> Option<u8> {
@@ -140,7 +141,7 @@ fn call_table<S: Alter>(tx: &mut Transaction<'_, S>, fields: &[&str], at: &str) 
         return None;
     };
     let kind = plain_kind(kind)?;
-    number_of(add_table(tx, table, kind, identifier, at))
+    number_of(add_table(tx, &Name::read(table)?, kind, identifier, at))
 }
 
 fn call_tile<S: Alter>(
@@ -155,7 +156,8 @@ fn call_tile<S: Alter>(
     let level = zoom(level)?;
     let (column, row) = (count(column)?, count(row)?);
     let bytes = TileBytes::read(alloc, bytes).ok()?;
-    number_of(put_tile(tx, table, level, column, row, bytes.as_slice(), at))
+    let table = Name::read(table)?;
+    number_of(put_tile(tx, &table, level, column, row, bytes.as_slice(), at))
 }
 
 fn call_tile_drop<S: Alter>(tx: &mut Transaction<'_, S>, fields: &[&str], at: &str) -> Option<u8> {
@@ -164,7 +166,8 @@ fn call_tile_drop<S: Alter>(tx: &mut Transaction<'_, S>, fields: &[&str], at: &s
     };
     let level = zoom(level)?;
     let (column, row) = (count(column)?, count(row)?);
-    number_of(drop_tile(tx, table, level, column, row, at))
+    let table = Name::read(table)?;
+    number_of(drop_tile(tx, &table, level, column, row, at))
 }
 
 fn call_row<S: Alter>(tx: &mut Transaction<'_, S>, fields: &[&str], at: &str) -> Option<u8> {
@@ -172,7 +175,7 @@ fn call_row<S: Alter>(tx: &mut Transaction<'_, S>, fields: &[&str], at: &str) ->
         return None;
     };
     let (id, amount) = (number(id)?, number(amount)?);
-    number_of(put_row(tx, table, id, title, note, amount, at))
+    number_of(put_row(tx, &Name::read(table)?, id, title, note, amount, at))
 }
 
 fn call_media<S: Alter>(
@@ -186,7 +189,8 @@ fn call_media<S: Alter>(
     };
     let id = number(id)?;
     let bytes = MediaBytes::read(alloc, bytes).ok()?;
-    number_of(put_media(tx, table, id, content_type, bytes.as_slice(), at))
+    let table = Name::read(table)?;
+    number_of(put_media(tx, &table, id, content_type, bytes.as_slice(), at))
 }
 
 fn call_item_drop<S: Alter>(
@@ -199,9 +203,10 @@ fn call_item_drop<S: Alter>(
         return None;
     };
     let id = number(id)?;
+    let table = Name::read(table)?;
     match word {
-        "row-drop" => number_of(drop_row(tx, table, id, at)),
-        _ => number_of(drop_media(tx, table, id, at)),
+        "row-drop" => number_of(drop_row(tx, &table, id, at)),
+        _ => number_of(drop_media(tx, &table, id, at)),
     }
 }
 
@@ -221,9 +226,10 @@ fn call_map<S: Alter>(tx: &mut Transaction<'_, S>, word: &str, fields: &[&str]) 
         return None;
     };
     let (base, related) = (number(base)?, number(related)?);
+    let mapping = Name::read(mapping)?;
     match word {
-        "map" => number_of(add_map(tx, mapping, base, related)),
-        _ => number_of(drop_map(tx, mapping, base, related)),
+        "map" => number_of(add_map(tx, &mapping, base, related)),
+        _ => number_of(drop_map(tx, &mapping, base, related)),
     }
 }
 
@@ -237,10 +243,11 @@ fn call_named<S: Alter>(
     let [name] = fields else {
         return None;
     };
+    let name = Name::read(name)?;
     match word {
-        "drop" => number_of(drop_table(tx, name)),
-        "relation-drop" => number_of(drop_relation(tx, name)),
-        "touch" => number_of(touch(tx, &Name::read(name)?, at)),
+        "drop" => number_of(drop_table(tx, &name)),
+        "relation-drop" => number_of(drop_relation(tx, &name)),
+        "touch" => number_of(touch(tx, &name, at)),
         _ => None,
     }
 }

@@ -5,6 +5,7 @@ use crate::rows::add_bytes;
 use mm_base::answers::{Fault, Open};
 use mm_base::commands::Kind;
 use mm_base::entries::{Entry, Media, Related, Row};
+use mm_base::names::Name;
 use mm_base::units::CURRENT;
 use mm_check::verify;
 use mm_meta::{init, look};
@@ -160,10 +161,11 @@ fn ask_tile<S: Alter>(conn: &mut Connection<S>, fields: &[&str], text: &mut Stri
     };
     let level = zoom(level)?;
     let (column, line) = (count(column)?, count(line)?);
+    let table = Name::read(table)?;
     if !conn.is_autocommit() {
         return None;
     }
-    add_tile(text, &tile(conn, table, level, column, line))
+    add_tile(text, &tile(conn, &table, level, column, line))
 }
 
 /// The answer to a question about an attribute row or a medium.
@@ -178,13 +180,14 @@ fn ask_item<S: Alter>(
         return None;
     };
     let id = number(id)?;
+    let table = Name::read(table)?;
     if !conn.is_autocommit() {
         return None;
     }
     match word {
-        "row" => add_row(text, &row(conn, table, id)),
-        "media" => add_medium(text, &media(conn, table, id)),
-        "related" => add_related(text, &related(alloc, conn, table, id)),
+        "row" => add_row(text, &row(conn, &table, id)),
+        "media" => add_medium(text, &media(conn, &table, id)),
+        "related" => add_related(text, &related(alloc, conn, &table, id)),
         _ => None,
     }
 }

@@ -6,23 +6,28 @@ use Rattle.mm_content.proofs.tiles.put_tile.Goals as goal
 
 pub returns-in-Ok-Some-clause-any_text : goal.returns-in-Ok-Some-clause-any_text
 returns-in-Ok-Some-clause-any_text g c profile =
-    refuses_at profile _ _ _ _ _ (refused c.in-Ok-Some.number) (c.in-Ok-Some.ensures.look profile) (λ p meets says. refused_for _ c.in-Ok-Some.number (sym (says meets c.args.bytes.now) ∙ c.in-Ok-Some.field-0-is))
+    rw (← c.as_str-table.ensures.text)
+    (refuses_at profile _ _ _ _ _ (refused c.in-Ok-Some.number) (c.in-Ok-Some.ensures.look profile) (λ p meets says. refused_for _ c.in-Ok-Some.number (sym (says meets c.args.bytes.now) ∙ c.in-Ok-Some.field-0-is)))
 
 pub returns-in-Err-clause-any_text : goal.returns-in-Err-clause-any_text
-returns-in-Err-clause-any_text g c profile = look_gave_up_at profile _ _ _ _ _ (c.in-Err.ensures.look profile)
+returns-in-Err-clause-any_text g c profile = rw (← c.as_str-table.ensures.text) (look_gave_up_at profile _ _ _ _ _ (c.in-Err.ensures.look profile))
 
 pub returns-in-Err-write_tile-clause-any_text : goal.returns-in-Err-write_tile-clause-any_text
-returns-in-Err-write_tile-clause-any_text g c profile = change_gave_up_at profile _ _ _ _ _ _ (c.in-Ok-None.ensures.look profile) _ (c.in-Err-write_tile.ensures.change profile) (λ p meets says. tt)
+returns-in-Err-write_tile-clause-any_text g c profile =
+    rw (← c.as_str-table.ensures.text)
+    (change_gave_up_at profile _ _ _ _ _ _ (c.in-Ok-None.ensures.look profile) _ (c.in-Err-write_tile.ensures.change profile) (λ p meets says. tt))
 
 pub returns-in-Ok-set_last_change-clause-any_text : goal.returns-in-Ok-set_last_change-clause-any_text
 returns-in-Ok-set_last_change-clause-any_text g c profile =
-    accepts_at profile _ _ _ _ _ _ (c.in-Ok-None.ensures.look profile) _
+    rw (← c.as_str-table.ensures.text)
+    (accepts_at profile _ _ _ _ _ _ (c.in-Ok-None.ensures.look profile) _
     (changes_then profile _ _ _ _ _ (c.in-Ok.ensures.change profile) (c.in-Ok-set_last_change.ensures.change profile) (λ p any. tt))
-    (λ p meets says. (tt, accepted_for _ (sym (says meets c.args.bytes.now) ∙ c.in-Ok-None.field-0-is), refl))
+    (λ p meets says. (tt, accepted_for _ (sym (says meets c.args.bytes.now) ∙ c.in-Ok-None.field-0-is), refl)))
 
 pub returns-in-Err-set_last_change-clause-any_text : goal.returns-in-Err-set_last_change-clause-any_text
 returns-in-Err-set_last_change-clause-any_text g c profile =
-    change_gave_up_at profile _ _ _ _ _ _ (c.in-Ok-None.ensures.look profile) _ (changes_then profile _ _ _ _ _ (c.in-Ok.ensures.change profile) (c.in-Err-set_last_change.ensures.change profile) (λ p any. tt)) (λ p meets says. tt)
+    rw (← c.as_str-table.ensures.text)
+    (change_gave_up_at profile _ _ _ _ _ _ (c.in-Ok-None.ensures.look profile) _ (changes_then profile _ _ _ _ _ (c.in-Ok.ensures.change profile) (c.in-Err-set_last_change.ensures.change profile) (λ p any. tt)) (λ p meets says. tt))
 
 -- ---- at the stamp of a moment
 

@@ -9,39 +9,46 @@ use Rattle.mm_contents.proofs.tables.add_table.Goals as goal
 
 pub returns-in-Ok-Some-clause-any_text : goal.returns-in-Ok-Some-clause-any_text
 returns-in-Ok-Some-clause-any_text g c profile =
-    refuses_at profile _ _ _ _ _ (refused c.in-Ok-Some.number) (c.in-Ok-Some.ensures.look profile)
-    (λ p meets says. refused_for _ c.in-Ok-Some.number (sym (says c.args.kind) ∙ c.in-Ok-Some.field-0-is))
+    rw (← c.as_str-table.ensures.text)
+    (refuses_at profile _ _ _ _ _ (refused c.in-Ok-Some.number) (c.in-Ok-Some.ensures.look profile)
+    (λ p meets says. refused_for _ c.in-Ok-Some.number (sym (says c.args.kind) ∙ c.in-Ok-Some.field-0-is)))
 
 pub returns-in-Err-clause-any_text : goal.returns-in-Err-clause-any_text
-returns-in-Err-clause-any_text g c profile = look_gave_up_at profile _ _ _ _ _ (c.in-Err.ensures.look profile)
+returns-in-Err-clause-any_text g c profile = rw (← c.as_str-table.ensures.text) (look_gave_up_at profile _ _ _ _ _ (c.in-Err.ensures.look profile))
 
 pub returns-in-Err-insert_plain_contents-clause-any_text : goal.returns-in-Err-insert_plain_contents-clause-any_text
 returns-in-Err-insert_plain_contents-clause-any_text g c profile =
     let a = c.args in
-    change_gave_up_at profile _ _ _ _ _ _ (c.in-Ok-None.ensures.look profile) _
-    (change_where profile (IsUnregistered a.table.now) _ _ _ (c.in-Err-insert_plain_contents.ensures.change profile) (λ p new. new.0))
-    (λ p meets says. unregistered profile p meets a.table.now (table_is_new p a.table.now a.identifier.now a.kind (sym c.in-Ok-None.field-0-is ∙ says a.kind)))
+    let table = c.as_str-table.result.now in
+    rw (← c.as_str-table.ensures.text)
+    (change_gave_up_at profile _ _ _ _ _ _ (c.in-Ok-None.ensures.look profile) _
+    (change_where profile (IsUnregistered table) _ _ _ (c.in-Err-insert_plain_contents.ensures.change profile) (λ p new. new.0))
+    (λ p meets says. unregistered profile p meets table (table_is_new p table a.identifier.now a.kind (sym c.in-Ok-None.field-0-is ∙ says a.kind))))
 
 pub returns-in-Ok-insert_kind-clause-any_text : goal.returns-in-Ok-insert_kind-clause-any_text
 returns-in-Ok-insert_kind-clause-any_text g c profile =
     let a = c.args in
-    accepts_at profile _ _ _ _ _ _ (c.in-Ok-None.ensures.look profile) _
-    (changes_then profile _ _ _ _ _ (change_where profile (IsUnregistered a.table.now) _ _ _ (c.in-Ok.ensures.change profile) (λ p new. new.0))
+    let table = c.as_str-table.result.now in
+    rw (← c.as_str-table.ensures.text)
+    (accepts_at profile _ _ _ _ _ _ (c.in-Ok-None.ensures.look profile) _
+    (changes_then profile _ _ _ _ _ (change_where profile (IsUnregistered table) _ _ _ (c.in-Ok.ensures.change profile) (λ p new. new.0))
     ((rw c.text_of_kind.ensures at c.in-Ok-insert_kind.ensures.change) profile) (λ p new. new.1))
     (λ p meets says.
     let none = sym c.in-Ok-None.field-0-is ∙ says a.kind in (
-      unregistered profile p meets a.table.now (table_is_new p a.table.now a.identifier.now a.kind none),
+      unregistered profile p meets table (table_is_new p table a.identifier.now a.kind none),
       accepted_for _ (sym none),
       refl,
-    ))
+    )))
 
 pub returns-in-Err-insert_kind-clause-any_text : goal.returns-in-Err-insert_kind-clause-any_text
 returns-in-Err-insert_kind-clause-any_text g c profile =
     let a = c.args in
-    change_gave_up_at profile _ _ _ _ _ _ (c.in-Ok-None.ensures.look profile) _
-    (changes_then profile _ _ _ _ _ (change_where profile (IsUnregistered a.table.now) _ _ _ (c.in-Ok.ensures.change profile) (λ p new. new.0))
+    let table = c.as_str-table.result.now in
+    rw (← c.as_str-table.ensures.text)
+    (change_gave_up_at profile _ _ _ _ _ _ (c.in-Ok-None.ensures.look profile) _
+    (changes_then profile _ _ _ _ _ (change_where profile (IsUnregistered table) _ _ _ (c.in-Ok.ensures.change profile) (λ p new. new.0))
     (c.in-Err-insert_kind.ensures.change profile) (λ p new. new.1))
-    (λ p meets says. unregistered profile p meets a.table.now (table_is_new p a.table.now a.identifier.now a.kind (sym c.in-Ok-None.field-0-is ∙ says a.kind)))
+    (λ p meets says. unregistered profile p meets table (table_is_new p table a.identifier.now a.kind (sym c.in-Ok-None.field-0-is ∙ says a.kind))))
 
 -- ---- at the stamp of a moment
 

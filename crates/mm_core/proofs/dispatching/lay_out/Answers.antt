@@ -13,10 +13,9 @@ returns-in-Srs-clause-lent g c moment stamped =
 
 pub returns-in-Table-clause-lent : goal.returns-in-Table-clause-lent
 returns-in-Table-clause-lent g c moment stamped =
-    let lent = rw (c.as_str-in-Table.ensures.text, c.as_str-in-Table-2.ensures.text) at (c.add_table.ensures.lent current moment stamped) in
+    let lent = rw c.as_str-in-Table.ensures.text at (c.add_table.ensures.lent current moment stamped) in
     rw c.in-Table.is lent
 
 pub returns-in-Drop-clause-lent : goal.returns-in-Drop-clause-lent
 returns-in-Drop-clause-lent g c moment stamped =
-    let lent = rw c.as_str-in-Drop.ensures.text at (c.drop_table.ensures.lent current moment) in
-    rw c.in-Drop.is lent
+    rw c.in-Drop.is (c.drop_table.ensures.lent current moment)

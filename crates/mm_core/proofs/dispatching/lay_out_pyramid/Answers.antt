@@ -11,11 +11,11 @@ returns-in-Pyramid-clause-lent g c moment stamped =
     let min_y_fits : SFits w64 c.get-in-Pyramid-2.result = search rules in
     let max_x_fits : SFits w64 c.get-in-Pyramid-3.result = search rules in
     let max_y_fits : SFits w64 c.get-in-Pyramid-4.result = search rules in
-    let lent = simp to_z-of_z at (rw (c.as_str.ensures.text, c.as_str-in-Pyramid.ensures.text) at (c.add_pyramid.ensures.lent current moment stamped)) in
+    let lent = simp to_z-of_z at (rw c.as_str.ensures.text at (c.add_pyramid.ensures.lent current moment stamped)) in
     rw c.in-Pyramid.is
     (rw (c.get.ensures.number, c.get-in-Pyramid.ensures.number, c.get-in-Pyramid-2.ensures.number, c.get-in-Pyramid-3.ensures.number, c.get-in-Pyramid-4.ensures.number) at lent)
 
 pub returns-in-Matrix-clause-lent : goal.returns-in-Matrix-clause-lent
 returns-in-Matrix-clause-lent g c moment stamped =
-    let lent = rw (c.as_str-in-Matrix.ensures.text, c.get-in-Matrix.ensures.number) at (c.add_matrix.ensures.lent current moment stamped) in
+    let lent = rw c.get-in-Matrix.ensures.number at (c.add_matrix.ensures.lent current moment stamped) in
     rw c.in-Matrix.is lent

@@ -3,13 +3,11 @@ use Rattle.mm_core.proofs.dispatching.prepare_edition.Goals as goal
 
 pub returns-in-Edition-clause-lent : goal.returns-in-Edition-clause-lent
 returns-in-Edition-clause-lent g c moment =
-    let lent = rw c.as_str.ensures.text at (c.open_edition.ensures.lent current moment) in
-    rw c.in-Edition.is lent
+    rw c.in-Edition.is (c.open_edition.ensures.lent current moment)
 
 pub returns-in-Discard-clause-lent : goal.returns-in-Discard-clause-lent
 returns-in-Discard-clause-lent g c moment =
-    let lent = rw c.as_str-in-Discard.ensures.text at (c.discard.ensures.lent current moment) in
-    rw c.in-Discard.is lent
+    rw c.in-Discard.is (c.discard.ensures.lent current moment)
 
 pub returns-in-Stage-clause-lent : goal.returns-in-Stage-clause-lent
 returns-in-Stage-clause-lent g c moment =

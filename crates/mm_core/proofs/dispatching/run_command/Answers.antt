@@ -21,4 +21,4 @@ pub returns-in-Edition-clause-tried : goal.returns-in-Edition-clause-tried
 returns-in-Edition-clause-tried g c moment stamped = lent_tried current _ _ _ _ _ (c.prepare_edition.ensures.lent moment)
 
 pub returns-in-Publish-clause-tried : goal.returns-in-Publish-clause-tried
-returns-in-Publish-clause-tried g c moment stamped = rw c.in-Publish.is (rw c.as_str.ensures.text at (c.publish.ensures.tried current moment stamped))
+returns-in-Publish-clause-tried g c moment stamped = rw c.in-Publish.is (c.publish.ensures.tried current moment stamped)

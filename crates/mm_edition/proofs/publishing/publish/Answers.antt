@@ -23,23 +23,23 @@ pub returns-in-Err-close_edition-clause-any_text : goal.returns-in-Err-close_edi
 returns-in-Err-close_edition-clause-any_text g c = faulted _ _ _ (quietly_then _ _ _ _ (quiet_then _ _ _ (c.in-Ok-None.ensures.look current).survives c.in-Ok-None-try_pieces.ensures.any_text.survives) (change_quiet current _ _ _ (c.in-Err-close_edition.ensures.change current)))
 
 pub returns-in-Ok-Some-clause-tried : goal.returns-in-Ok-Some-clause-tried
-returns-in-Ok-Some-clause-tried g c profile moment stamped = closed_tried profile _ moment _ _ _ c.in-Ok-Some.number c.in-Ok-Some.field-0-is (c.in-Ok-Some.ensures.look profile)
+returns-in-Ok-Some-clause-tried g c profile moment stamped = closed_tried profile _ moment _ _ _ c.in-Ok-Some.number c.in-Ok-Some.field-0-is (rw c.as_str-name.ensures.text at (c.in-Ok-Some.ensures.look profile))
 
 pub returns-in-Err-clause-tried : goal.returns-in-Err-clause-tried
-returns-in-Err-clause-tried g c profile moment stamped = look_tried_in_vain profile _ moment _ _ _ (c.in-Err.ensures.look profile)
+returns-in-Err-clause-tried g c profile moment stamped = look_tried_in_vain profile _ moment _ _ _ (rw c.as_str-name.ensures.text at (c.in-Err.ensures.look profile))
 
 pub returns-in-Ok-Some-try_pieces-clause-tried : goal.returns-in-Ok-Some-try_pieces-clause-tried
 returns-in-Ok-Some-try_pieces-clause-tried g c profile moment stamped =
-    publish_53 profile _ moment _ _ _ c.in-Ok-None.field-0-is (c.in-Ok-None.ensures.look profile) _ _ c.in-Ok-Some-try_pieces.piece c.in-Ok-Some-try_pieces.field-0-is (c.in-Ok-Some-try_pieces.ensures.trial profile moment stamped)
+    publish_53 profile _ moment _ _ _ c.in-Ok-None.field-0-is (rw c.as_str-name.ensures.text at (c.in-Ok-None.ensures.look profile)) _ _ c.in-Ok-Some-try_pieces.piece c.in-Ok-Some-try_pieces.field-0-is (c.in-Ok-Some-try_pieces.ensures.trial profile moment stamped)
 
 pub returns-in-Err-try_pieces-clause-tried : goal.returns-in-Err-try_pieces-clause-tried
 returns-in-Err-try_pieces-clause-tried g c profile moment stamped =
-    publish_gave_up profile _ moment _ _ _ c.in-Ok-None.field-0-is (c.in-Ok-None.ensures.look profile) _ _ (c.in-Err-try_pieces.ensures.trial profile moment stamped)
+    publish_gave_up profile _ moment _ _ _ c.in-Ok-None.field-0-is (rw c.as_str-name.ensures.text at (c.in-Ok-None.ensures.look profile)) _ _ (c.in-Err-try_pieces.ensures.trial profile moment stamped)
 
 pub returns-in-Ok-clause-tried : goal.returns-in-Ok-clause-tried
 returns-in-Ok-clause-tried g c profile moment stamped =
-    publish_done profile _ moment _ _ _ c.in-Ok-None.field-0-is (c.in-Ok-None.ensures.look profile) _ _ c.in-Ok-None-try_pieces.field-0-is (c.in-Ok-None-try_pieces.ensures.trial profile moment stamped) _ _ (c.in-Ok.ensures.change profile)
+    publish_done profile _ moment _ _ _ c.in-Ok-None.field-0-is (rw c.as_str-name.ensures.text at (c.in-Ok-None.ensures.look profile)) _ _ c.in-Ok-None-try_pieces.field-0-is (c.in-Ok-None-try_pieces.ensures.trial profile moment stamped) _ _ (rw c.as_str-name.ensures.text at (c.in-Ok.ensures.change profile))
 
 pub returns-in-Err-close_edition-clause-tried : goal.returns-in-Err-close_edition-clause-tried
 returns-in-Err-close_edition-clause-tried g c profile moment stamped =
-    publish_half_closed profile _ moment _ _ _ c.in-Ok-None.field-0-is (c.in-Ok-None.ensures.look profile) _ _ c.in-Ok-None-try_pieces.field-0-is (c.in-Ok-None-try_pieces.ensures.trial profile moment stamped) _ _ (c.in-Err-close_edition.ensures.change profile)
+    publish_half_closed profile _ moment _ _ _ c.in-Ok-None.field-0-is (rw c.as_str-name.ensures.text at (c.in-Ok-None.ensures.look profile)) _ _ c.in-Ok-None-try_pieces.field-0-is (c.in-Ok-None-try_pieces.ensures.trial profile moment stamped) _ _ (rw c.as_str-name.ensures.text at (c.in-Err-close_edition.ensures.change profile))

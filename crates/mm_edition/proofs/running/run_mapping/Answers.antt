@@ -7,13 +7,12 @@ pub returns-in-Map-clause-lent : goal.returns-in-Map-clause-lent
 returns-in-Map-clause-lent g c profile moment =
     let base_fits : SFits w64 c.get.result = search rules in
     let related_fits : SFits w64 c.get-in-Map.result = search rules in
-    let lent = rw (c.get.ensures.number, c.get-in-Map.ensures.number) at (simp to_z-of_z at (rw c.as_str.ensures.text at (c.add_map.ensures.lent profile moment))) in
+    let lent = rw (c.get.ensures.number, c.get-in-Map.ensures.number) at (simp to_z-of_z at (c.add_map.ensures.lent profile moment)) in
     rw c.in-Map.is lent
 
 pub returns-in-MapDrop-clause-lent : goal.returns-in-MapDrop-clause-lent
 returns-in-MapDrop-clause-lent g c profile moment =
     let base_fits : SFits w64 c.get-in-MapDrop.result = search rules in
     let related_fits : SFits w64 c.get-in-MapDrop-2.result = search rules in
-    let lent =
-    rw (c.get-in-MapDrop.ensures.number, c.get-in-MapDrop-2.ensures.number) at (simp to_z-of_z at (rw c.as_str-in-MapDrop.ensures.text at (c.drop_map.ensures.lent profile moment))) in
+    let lent = rw (c.get-in-MapDrop.ensures.number, c.get-in-MapDrop-2.ensures.number) at (simp to_z-of_z at (c.drop_map.ensures.lent profile moment)) in
     rw c.in-MapDrop.is lent

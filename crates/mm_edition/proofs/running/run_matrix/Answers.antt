@@ -7,5 +7,5 @@ returns-clause-any_text g c = lent_at_quiet current _ _ _ _ _ (c.add_matrix.ensu
 
 pub returns-clause-lent : goal.returns-clause-lent
 returns-clause-lent g c profile moment stamped =
-    let lent = rw (c.as_str.ensures.text, c.get.ensures.number) at (c.add_matrix.ensures.lent profile moment stamped) in
+    let lent = rw c.get.ensures.number at (c.add_matrix.ensures.lent profile moment stamped) in
     rw c.in-Matrix.is lent

@@ -11,10 +11,10 @@ use Rattle.mm_reads.proofs.rows.row.Goals as goal
 pub returns-clause-read : goal.returns-clause-read
 returns-clause-read g c profile =
     let end = c.rollback.new.self.0 in
+    let same : end ≡ c.conn-1.given.0 = search rules in
     let a = c.args in
     let looked = c.row_at-found.new.tx.conn.now in
-    let look = (rw (to_z-of_z c.ranges.id) at c.row_at-found.ensures.look) profile in
+    let look = (rw (c.as_str.ensures.text, to_z-of_z c.ranges.id) at c.row_at-found.ensures.look) profile in
     let it : IsRead profile (state g.S.Store a.conn.now) (state g.S.Store end) (λ p found. get p.rows (item a.table.now a.id) ≡ option_map row_of found) c.row_at-found.result =
     reads g.S.Store a.conn.now c.transaction-tx.result.conn.now c.transaction-tx.ensures.begun (state g.S.Store looked) (state g.S.Store end) look.survives c.rollback.ensures.survives profile _ c.row_at-found.result look c.rollback.ensures.undone in
-    let same : end ≡ c.conn-1.given.0 = search rules in
     rw same at it

@@ -12,7 +12,7 @@ returns-clause-read g c profile =
     let end = c.rollback.new.self.0 in
     let a = c.args in
     let looked = c.bytes_at-found.new.tx.conn.now in
-    let look = c.bytes_at-found.ensures.look profile in
+    let look = (rw c.as_str.ensures.text at c.bytes_at-found.ensures.look) profile in
     let it : IsRead profile (state g.S.Store a.conn.now) (state g.S.Store end) (λ p found. TellsBytes (get p.tiles (tile a.table.now (pos a.zoom) (pos a.column) (pos a.row))) found) c.bytes_at-found.result =
     reads g.S.Store a.conn.now c.transaction-tx.result.conn.now c.transaction-tx.ensures.begun (state g.S.Store looked) (state g.S.Store end) look.survives c.rollback.ensures.survives profile _ c.bytes_at-found.result look c.rollback.ensures.undone in
     let same : end ≡ c.conn-1.given.0 = search rules in

@@ -7,20 +7,24 @@ use Rattle.mm_relate.proofs.maps.drop_map.Goals as goal
 pub returns-in-Ok-Some-clause-lent : goal.returns-in-Ok-Some-clause-lent
 returns-in-Ok-Some-clause-lent g c profile moment =
     let r = c.ranges in
-    refuses profile _ moment _ _ _ (refused c.in-Ok-Some.number) ((rw (to_z-of_z r.base_id, to_z-of_z r.related_id) at c.in-Ok-Some.ensures.look) profile)
-    (λ p meets says. refused_for _ c.in-Ok-Some.number (sym says ∙ c.in-Ok-Some.field-0-is))
+    rw (← c.as_str-mapping.ensures.text)
+    (refuses profile _ moment _ _ _ (refused c.in-Ok-Some.number) ((rw (to_z-of_z r.base_id, to_z-of_z r.related_id) at c.in-Ok-Some.ensures.look) profile)
+    (λ p meets says. refused_for _ c.in-Ok-Some.number (sym says ∙ c.in-Ok-Some.field-0-is)))
 
 pub returns-in-Err-clause-lent : goal.returns-in-Err-clause-lent
-returns-in-Err-clause-lent g c profile moment = look_gave_up profile _ moment _ _ _ (c.in-Err.ensures.look profile)
+returns-in-Err-clause-lent g c profile moment =
+    rw (← c.as_str-mapping.ensures.text) (look_gave_up profile _ moment _ _ _ (c.in-Err.ensures.look profile))
 
 pub returns-in-Ok-clause-lent : goal.returns-in-Ok-clause-lent
 returns-in-Ok-clause-lent g c profile moment =
     let r = c.ranges in
-    accepts profile _ moment _ _ _ _ ((rw (to_z-of_z r.base_id, to_z-of_z r.related_id) at c.in-Ok-None.ensures.look) profile) _
+    rw (← c.as_str-mapping.ensures.text)
+    (accepts profile _ moment _ _ _ _ ((rw (to_z-of_z r.base_id, to_z-of_z r.related_id) at c.in-Ok-None.ensures.look) profile) _
     ((rw (to_z-of_z r.base_id, to_z-of_z r.related_id) at c.in-Ok.ensures.change) profile)
-    (λ p meets says. (tt, accepted_for _ (sym says ∙ c.in-Ok-None.field-0-is), refl))
+    (λ p meets says. (tt, accepted_for _ (sym says ∙ c.in-Ok-None.field-0-is), refl)))
 
 pub returns-in-Err-delete_pairing-clause-lent : goal.returns-in-Err-delete_pairing-clause-lent
 returns-in-Err-delete_pairing-clause-lent g c profile moment =
     let r = c.ranges in
-    change_gave_up profile _ moment _ _ _ _ (c.in-Ok-None.ensures.look profile) _ (c.in-Err-delete_pairing.ensures.change profile) (λ p meets says. tt)
+    rw (← c.as_str-mapping.ensures.text)
+    (change_gave_up profile _ moment _ _ _ _ (c.in-Ok-None.ensures.look profile) _ (c.in-Err-delete_pairing.ensures.change profile) (λ p meets says. tt))

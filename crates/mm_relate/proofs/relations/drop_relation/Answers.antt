@@ -6,22 +6,29 @@ use Rattle.mm_relate.proofs.relations.drop_relation.Goals as goal
 
 pub returns-in-Ok-false-clause-lent : goal.returns-in-Ok-false-clause-lent
 returns-in-Ok-false-clause-lent g c profile moment =
-    refuses profile _ moment _ _ _ (refused 44) (c.in-Ok-false.ensures.look profile)
-    (λ p meets says. refused_for _ 44 (relation_drop_44 p c.args.mapping.now (sym says ∙ c.in-Ok-false.field-0-test)))
+    let mapping = c.as_str-mapping.result.now in
+    rw (← c.as_str-mapping.ensures.text)
+    (refuses profile _ moment _ _ _ (refused 44) (c.in-Ok-false.ensures.look profile)
+    (λ p meets says. refused_for _ 44 (relation_drop_44 p mapping (sym says ∙ c.in-Ok-false.field-0-test))))
 
 pub returns-in-Err-clause-lent : goal.returns-in-Err-clause-lent
-returns-in-Err-clause-lent g c profile moment = look_gave_up profile _ moment _ _ _ (c.in-Err.ensures.look profile)
+returns-in-Err-clause-lent g c profile moment =
+    rw (← c.as_str-mapping.ensures.text) (look_gave_up profile _ moment _ _ _ (c.in-Err.ensures.look profile))
 
 pub returns-in-Err-delete_relation-clause-lent : goal.returns-in-Err-delete_relation-clause-lent
 returns-in-Err-delete_relation-clause-lent g c profile moment =
-    change_gave_up profile _ moment _ _ _ _ (c.in-Ok-true.ensures.look profile) _ (c.in-Err-delete_relation.ensures.change profile) (λ p meets says. tt)
+    rw (← c.as_str-mapping.ensures.text)
+    (change_gave_up profile _ moment _ _ _ _ (c.in-Ok-true.ensures.look profile) _ (c.in-Err-delete_relation.ensures.change profile) (λ p meets says. tt))
 
 pub returns-in-Ok-delete_related_row-clause-lent : goal.returns-in-Ok-delete_related_row-clause-lent
 returns-in-Ok-delete_related_row-clause-lent g c profile moment =
-    accepts profile _ moment _ _ _ _ (c.in-Ok-true.ensures.look profile) _ (changes_then profile _ _ _ _ _ (c.in-Ok.ensures.change profile) (c.in-Ok-delete_related_row.ensures.change profile) (λ p any. tt))
-    (λ p meets says. (tt, accepted_for _ (relation_drop_free p c.args.mapping.now (sym says ∙ c.in-Ok-true.field-0-test)), refl))
+    let mapping = c.as_str-mapping.result.now in
+    rw (← c.as_str-mapping.ensures.text)
+    (accepts profile _ moment _ _ _ _ (c.in-Ok-true.ensures.look profile) _ (changes_then profile _ _ _ _ _ (c.in-Ok.ensures.change profile) (c.in-Ok-delete_related_row.ensures.change profile) (λ p any. tt))
+    (λ p meets says. (tt, accepted_for _ (relation_drop_free p mapping (sym says ∙ c.in-Ok-true.field-0-test)), refl)))
 
 pub returns-in-Err-delete_related_row-clause-lent : goal.returns-in-Err-delete_related_row-clause-lent
 returns-in-Err-delete_related_row-clause-lent g c profile moment =
-    change_gave_up profile _ moment _ _ _ _ (c.in-Ok-true.ensures.look profile) _ (changes_then profile _ _ _ _ _ (c.in-Ok.ensures.change profile) (c.in-Err-delete_related_row.ensures.change profile) (λ p any. tt))
-    (λ p meets says. tt)
+    rw (← c.as_str-mapping.ensures.text)
+    (change_gave_up profile _ moment _ _ _ _ (c.in-Ok-true.ensures.look profile) _ (changes_then profile _ _ _ _ _ (c.in-Ok.ensures.change profile) (c.in-Err-delete_related_row.ensures.change profile) (λ p any. tt))
+    (λ p meets says. tt))

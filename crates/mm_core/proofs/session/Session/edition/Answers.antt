@@ -2,4 +2,4 @@ use Rattle.mm_base.specs.Bounds.{current}
 use Rattle.mm_core.proofs.session.Session.edition.Goals as goal
 
 pub returns-clause-read : goal.returns-clause-read
-returns-clause-read g c working = rw c.as_str.ensures.text at (c.edition.ensures.read current)
+returns-clause-read g c working = c.edition.ensures.read current

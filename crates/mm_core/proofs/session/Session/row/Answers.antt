@@ -3,4 +3,4 @@ use Rattle.mm_base.specs.Bounds.{current}
 use Rattle.mm_core.proofs.session.Session.row.Goals as goal
 
 pub returns-clause-read : goal.returns-clause-read
-returns-clause-read g c working = rw (c.as_str.ensures.text, to_z-of_z c.ranges.id) at (c.row.ensures.read current)
+returns-clause-read g c working = rw (to_z-of_z c.ranges.id) at (c.row.ensures.read current)

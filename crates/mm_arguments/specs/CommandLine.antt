@@ -66,10 +66,10 @@ serve = with_rule (with_rule (with_file (codes "serve")) port) count
 
 -- ---- the whole
 
--- without words it shows help, and a subcommand has to stand
+-- without words it shows help, a subcommand has to stand, and it has a version to show
 abbrev pub start : App
 start = record {
-  top = record (new_shape (codes "mmpkg")) { subcommand_required = true; arg_required_else_help = true };
+  top = record (new_shape (codes "mmpkg")) { subcommand_required = true; arg_required_else_help = true; has_version = true };
   subs = [];
 }
 

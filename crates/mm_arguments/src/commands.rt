@@ -4,6 +4,7 @@ ghost use Rattle.std.specs.Prelude.{IfOk, codes};
 ghost use Rattle.mm_arguments.specs.CommandLine as line;
 ghost use Rattle.mm_arguments.specs.CommandLine.{IsArgument, IsCommand};
 
+use crate::texts;
 use clap::{Arg, Command, value_parser};
 use std::alloc::{AllocError, Global};
 
@@ -70,6 +71,7 @@ fn init_command<'a>(alloc: Global) -> Result<Command<'a>, AllocError>
 {
     Command::new(alloc, "init")
         .about("Makes a new package with no table, in a file that is missing or empty")
+        .after_long_help(texts::INIT)
         .arg(file_argument(alloc))
 }
 
@@ -81,6 +83,7 @@ fn run_command<'a>(alloc: Global) -> Result<Command<'a>, AllocError>
         .after_help(
             "Example: mmpkg run map.gpkg < records.csv\nLine N answers record N: `N ok`, `N refused R`, or `N fault F`, which ends the run.",
         )
+        .after_long_help(texts::RUN)
         .arg(file_argument(alloc))?
         .arg(at_argument(alloc))
 }
@@ -95,6 +98,7 @@ fn kit_command<'a>(alloc: Global) -> Result<Command<'a>, AllocError>
         .after_help(
             "Example: mmpkg kit map.gpkg spring kits/spring\nPrints `kit complete N`, `kit refused PIECE R`, or `kit fault F`.",
         )
+        .after_long_help(texts::KIT)
         .arg(file_argument(alloc))?
         .arg(edition_argument(alloc))?
         .arg(folder_argument(alloc))?
@@ -107,6 +111,7 @@ fn check_command<'a>(alloc: Global) -> Result<Command<'a>, AllocError>
     Command::new(alloc, "check")
         .about("Checks the whole package against its rules, and changes nothing")
         .after_help("Prints `package ok`, or `rule Qk` for the rule that fails.")
+        .after_long_help(texts::CHECK)
         .arg(file_argument(alloc))
 }
 
@@ -142,6 +147,7 @@ fn serve_command<'a>(alloc: Global) -> Result<Command<'a>, AllocError>
         .after_help(
             "Example: mmpkg serve map.gpkg --port 8080 --count 1000\nRoutes: /tiles/TABLE/Z/COLUMN/ROW, /media/TABLE/ID, /related/TABLE/ID, /contents.",
         )
+        .after_long_help(texts::SERVE)
         .arg(file_argument(alloc))?
         .arg(port_argument(alloc))?
         .arg(count_argument(alloc))
@@ -152,6 +158,7 @@ pub(crate) fn command<'a>(alloc: Global) -> Result<Command<'a>, AllocError>
     ensures { IfOk result (IsCommand line.command_line) }
 {
     Command::new(alloc, "mmpkg")
+        .version(texts::VERSION)
         .about(
             "Edits offline map packages: GeoPackage tables with coordinates in whole micrometres",
         )

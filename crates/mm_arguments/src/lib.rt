@@ -4,5 +4,6 @@
 
 mod commands;
 mod requests;
+mod texts;
 
 pub use requests::{Request, read_arguments, status_of};

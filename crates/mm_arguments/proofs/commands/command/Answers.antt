@@ -10,10 +10,11 @@ use Rattle.mm_arguments.proofs.commands.command.Goals as goal
 
 pub returns : goal.returns
 returns c =
-    let shown = ap app_of_fields c.after_help.ensures ∙ ap app_of_fields c.about.ensures ∙ c.new.ensures.app in
+    let with_version = ap app_of_fields c.version.ensures ∙ ap (on_top (λ s. record s { has_version = true })) c.new.ensures.app in
+    let shown = ap app_of_fields c.after_help.ensures ∙ ap app_of_fields c.about.ensures ∙ with_version in
     let wanted = ap app_of_fields c.subcommand_required.ensures ∙ ap (on_top (λ s. record s { subcommand_required = true })) shown in
     let local = ap (λ (f : Command-F Command). f.has_globals) (c.arg_required_else_help.ensures) ∙ ap (λ (f : Command-F Command). f.has_globals) c.subcommand_required.ensures
-    ∙ ap (λ (f : Command-F Command). f.has_globals) c.after_help.ensures ∙ ap (λ (f : Command-F Command). f.has_globals) c.about.ensures ∙ c.new.ensures.local in
+    ∙ ap (λ (f : Command-F Command). f.has_globals) c.after_help.ensures ∙ ap (λ (f : Command-F Command). f.has_globals) c.about.ensures ∙ ap (λ (f : Command-F Command). f.has_globals) c.version.ensures ∙ c.new.ensures.local in
     let start : IsCommand line.start c.arg_required_else_help.result =
     (ap app_of_fields c.arg_required_else_help.ensures ∙ ap (on_top (λ s. record s { arg_required_else_help = true })) wanted, local) in
     let with_init = adds _ _ _ _ _ start c.in_ok-init_command.ensures c.in_ok-subcommand.ensures in

@@ -1,0 +1,98 @@
+//! The long texts behind the help of a subcommand: what a crew without a network looks up.
+
+/// What `--version` prints behind the program's name.
+pub(crate) const VERSION: &str = "0.2 (packages of profile 2)";
+
+/// Behind `help init`.
+pub(crate) const INIT: &str =
+    "Prints `init ok`. Prints `not empty`, and changes nothing, where FILE or its journal FILE-wal holds a byte: where a
+journal is left over from a package that was removed, remove it too. After a power loss during `init`, `check` tells
+whether the package stands; where it does not, remove both files and do it again.";
+
+/// Behind `help run`.
+pub(crate) const RUN: &str = "Example: mmpkg run map.gpkg < records.csv
+Line N answers record N: `N ok`, `N refused R`, or `N fault F`, which ends the run. What is `ok` stays, also after a power loss.
+
+Records, the fields parted by commas; a field may stand in double quotes:
+  srs,ID,NAME,ORGANIZATION,ORGANIZATION_ID,DEFINITION,DESCRIPTION
+  pyramid,TABLE,IDENTIFIER,SYSTEM,MIN_X,MIN_Y,MAX_X,MAX_Y,STEP     coordinates in micrometres; STEP is two or other
+  matrix,TABLE,ZOOM,WIDTH,HEIGHT,TILE_WIDTH,TILE_HEIGHT,PIXEL_X,PIXEL_Y     pixel sizes in micrometres
+  table,TABLE,KIND,IDENTIFIER     KIND is attributes or media
+  drop,TABLE
+  tile,TABLE,ZOOM,COLUMN,ROW,BYTES     bytes in hexadecimal
+  tile-drop,TABLE,ZOOM,COLUMN,ROW
+  row,TABLE,ID,TITLE,NOTE,AMOUNT
+  row-drop,TABLE,ID
+  media,TABLE,ID,CONTENT_TYPE,BYTES
+  media-drop,TABLE,ID
+  relation,MAPPING,BASE,RELATED,NAME     NAME is media or simple_attributes
+  relation-drop,MAPPING
+  map,MAPPING,BASE_ID,RELATED_ID
+  map-drop,MAPPING,BASE_ID,RELATED_ID
+  edition,EDITION
+  discard,EDITION
+  stage,EDITION,NUMBER,PIECE..     PIECE is a record of matrix, tile, tile-drop, row, row-drop, media, media-drop, map or map-drop
+  publish,EDITION     all pieces at once, or none: `N refused 53 PIECE R`
+  rehearse,EDITION     answers as publish would, and changes nothing
+
+Refusals, which change nothing:
+  10 no such record                        35 no such tile
+  11 a number or length is out of limits   40 no such row
+  12 a name is none                        41 no such media item
+  20 the system exists                     42 the row or item is still mapped
+  21 no such system                        43 the mapping's name is taken
+  22 a geographic system                   44 no such relation
+  23 the table's name is taken             45 the mapping row exists
+  24 the identifier is taken               46 no such mapping row
+  25 no such table                         47 the kinds do not suit the relation's name
+  26 the table is of another kind          48 a relation uses the table
+  27 the extent is empty                   50 the edition exists
+  30 the zoom has a matrix                 51 no such edition
+  31 the extent is not the product         52 not the next piece, and no equal one stands there
+  32 pixel sizes out of order              53 a piece is refused
+  33 no matrix at this zoom                54 too many pieces
+  34 outside the matrix                    55 published already
+
+Faults, which end the run; what was answered before stands:
+  90 memory was refused   91 the file could not be read or written   92 open the file again
+  96 the input failed     97 the output failed";
+
+/// Behind `help kit`.
+pub(crate) const KIT: &str = "Example: mmpkg kit map.gpkg spring kits/spring
+Prints `kit complete N`, `kit refused PIECE R`, or `kit fault F`; PIECE is a record's place in the list, 0 for none.
+
+Records of FOLDER/kit.csv, where NO is the record's place, counted from 1, and FILE a file of FOLDER:
+  NO,tile,TABLE,ZOOM,COLUMN,ROW,FILE
+  NO,media,TABLE,ID,CONTENT_TYPE,FILE
+  NO,matrix,..   NO,tile-drop,..   NO,row,..   NO,row-drop,..   NO,media-drop,..   NO,map,..   NO,map-drop,..     as `help run` has them
+
+Refusals beside those of `help run`:
+  11 the list or a file is too long, or a file is empty   51 no such edition
+  52 another piece stands there, or the edition has more than the kit
+  54 the record is past the 4,096th                       55 published already
+  56 NO is not the record's place                         57 a file is missing, or its name is out of form";
+
+/// Behind `help check`.
+pub(crate) const CHECK: &str =
+    "Prints `package ok`, or `rule Qk` for the rule that fails, or `not a package N`.
+
+Rules:
+  Q1 the three given systems stand               Q9 in a pyramid of kind two, the next zoom halves the pixel size
+  Q2 a table's system stands                     Q10 tiles lie in a matrix at their zoom
+  Q3 identifiers are distinct                    Q11 rows and media are of tables of their kind
+  Q4 names have their form                       Q12 relations suit the kinds of their tables
+  Q5 tables, kinds and matrix sets belong        Q13 mapping rows name what stands
+  Q6 extents are not empty                       Q14 the extension rows are those that are wanted
+  Q7 a matrix spans its pyramid's extent         Q15 pieces of open editions are numbered without a gap
+  Q8 a higher zoom has the smaller pixel size    Q16 numbers and texts are within their limits
+
+Not a package:
+  93 of another version (1: `mmpkg migrate`)   94 no package, or no such file   95 its version is told in another form";
+
+/// Behind `help serve`.
+pub(crate) const SERVE: &str = "Example: mmpkg serve map.gpkg --port 8080 --count 1000
+Routes: /tiles/TABLE/Z/COLUMN/ROW, /media/TABLE/ID, /related/TABLE/ID, /contents.
+
+It listens on 127.0.0.1 alone, so that only this machine sees the page. Prints `page fault F` for a connection that met a
+fault, and serves the next. A client that says nothing is given up after a second, one that stops after ten.
+One program at a time may have the file: end `serve` before `run`, `kit` or `migrate`.";

@@ -48,3 +48,8 @@ def times_by_kind(program, file, records):
                 raise SystemExit(f"{record}: {answer.decode()}")
         run.stdin.close()
     return times
+
+
+def tell_figure(what, figure, unit=""):
+    """Prints a figure of the table in bench/README.md, which bench/all.sh gathers."""
+    print(f"= {what}: {figure:.2f}{unit}")

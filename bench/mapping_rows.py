@@ -41,7 +41,7 @@ def main():
     first, last = statistics.median(times["map"][:1000]), statistics.median(times["map"][-1000:])
     print(f"map: {1e6 * first:.0f} us at first, {1e6 * last:.0f} us at last; ratio {last / first:.2f}")
     for kind in ("row-drop", "media-drop"):
-        print(f"{kind} beside {asked.rows} mapping rows: {1e6 * statistics.median(times[kind]):.0f} us")
+        common.tell_figure(f"{kind} beside {asked.rows:,} mapping rows", 1e6 * statistics.median(times[kind]), " us")
 
 
 if __name__ == "__main__":

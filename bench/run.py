@@ -97,6 +97,7 @@ def main():
     ratios = sorted(mine / other for (mine, _), (other, _) in zip(ours, theirs))
     print(f"time of mmpkg by that of sqlite3 ({sqlite3.sqlite_version}): {statistics.median(ratios):.2f} (rounds from {ratios[0]:.2f} to {ratios[-1]:.2f})")
     print(f"two synced writes by one, on the disk alone: {statistics.median(twice):.2f}")
+    common.tell_figure("srs", statistics.median(ratios))
 
 
 if __name__ == "__main__":

@@ -1,0 +1,51 @@
+#!/usr/bin/env python3
+"""Writes the tables of bench/README.md from what the benches printed: the figures on a disk in memory, those on a real disk, and what each
+command costs as a package grows.
+
+    bench/write_table.py MEMORY DISK SCALE
+"""
+
+import pathlib
+import re
+import sys
+
+README = pathlib.Path(__file__).resolve().parent / "README.md"
+# What is wanted of a figure, in memory and on a real disk.
+WANTED = {
+    "srs": "0.9 / 1.4",
+    "tile of 10,000 bytes": "1.5 / 1.4",
+    "piece of a kit, 20,000 bytes": "1.2",
+    "piece of a kit that stands already, 20,000 bytes": "0.75",
+    "publishing a piece": "1.2",
+    "opening and closing a package of ten tables": "4 ms",
+}
+
+
+def figures(path):
+    """The figures that the benches printed, each under what it is of."""
+    lines = pathlib.Path(path).read_text().splitlines()
+    return dict(line[2:].rsplit(": ", 1) for line in lines if line.startswith("= "))
+
+
+def table(memory, disk):
+    """The lines of the table of both disks."""
+    yield "| what | disk in memory | real disk | wanted, at most |"
+    yield "|---|---|---|---|"
+    for what, figure in memory.items():
+        yield f"| {what} | {figure} | {disk[what]} | {WANTED.get(what, '')} |"
+
+
+def put(text, name, lines):
+    """The text with these lines between the two marks of a name."""
+    begin, end = f"<!-- {name} -->", f"<!-- end of {name} -->"
+    return re.sub(f"{begin}\n.*?{end}", lambda _: "\n".join((begin, *lines, end)), text, count=1, flags=re.DOTALL)
+
+
+def main():
+    memory, disk, scale = sys.argv[1:]
+    text = put(README.read_text(), "figures", table(figures(memory), figures(disk)))
+    README.write_text(put(text, "scale", pathlib.Path(scale).read_text().splitlines()))
+
+
+if __name__ == "__main__":
+    main()

@@ -1,11 +1,12 @@
 #!/usr/bin/env bash
-# What the built program shows from outside, by programs that share no code with this repository: the example with its output, the tables
-# of the file, the page by curl, a machine's clock at its ends, refused growths of memory, random lists against a model, and the border to
+# What the built program shows from outside, by programs that share no code with this repository: the example with its output, the lines
+# of the documents, the tables of the file, the page by curl, a machine's clock at its ends, refused growths of memory, random lists against a model, and the border to
 # the standard where GDAL is installed. The last line is 'N passed, M failed'.
 #
 #     scripts/outside.sh [PROGRAM]
 #
-# PROGRAM is the built program: without it out/mmpkg, or else the one that the gate left in crates/mm_cli/out.
+# PROGRAM is the built program: without it out/mmpkg, or else the one that the gate left in crates/mm_cli/out. With WHOLE in the
+# environment each growth of memory is refused, else as many as three minutes allow.
 set -u -o pipefail
 
 cd "$(dirname "$0")/.."
@@ -52,10 +53,11 @@ example() {
 
 want sqlite3:sqlite3 curl:curl xxd:xxd cc:gcc python3:python3
 try 'the example' example
+try 'the documents' scripts/check_docs.py "$MMPKG"
 try 'the tables of its file' scripts/compare_schema.sh "$folder/example.gpkg"
 try 'the page' scripts/page_curl.sh
 try 'the clock' scripts/clock.sh
-try 'refused growths of memory' scripts/refuse_memory.py "$MMPKG" "${STRIDE:-97}"
+try 'refused growths of memory' scripts/refuse_memory.py ${WHOLE:+--whole} "$MMPKG"
 try 'random lists' scripts/random_lists.py
 try 'the border to the standard' scripts/border.sh
 echo "$passed passed, $failed failed"

@@ -1,26 +1,37 @@
 #!/usr/bin/env python3
-"""Refuses each growth of memory in turn, and looks at what the program answers.
+"""Refuses each growth of memory in turn, and looks at what the program answers and at what then stands.
 
-    scripts/build.sh && scripts/refuse_memory.py [out/mmpkg [STEP]]
+    scripts/refuse_memory.py [--seconds N | --whole] [PROGRAM]
 
-The program asks the C library for memory. A small library is loaded before it whose N-th call of malloc or realloc answers
-that there is none; N counts upwards, by STEP or else by one, until a run meets no refusal. The answer has to be that of ample memory, or fault 90.
-What was acknowledged has to stand afterwards. Needs cc. The gate doesn't run this.
+PROGRAM is the built program: without it the one of the environment's MMPKG, or out/mmpkg. The program asks the C library for
+memory. A small library is loaded before it whose N-th call of malloc or realloc answers that there is none; N counts upwards until a run
+meets no refusal. The answer has to be that of ample memory, or fault 90 behind what was answered before. What then stands in the file, its
+rows read by Python's sqlite3, has to be the package after the commands that were acknowledged, or after one more.
+
+Each subcommand is a case, and so is each command, accepted once, each kind of read through the page, and a list whose records can't be
+read. With --whole each growth of each case is refused; else every so many-th, as few left out as N seconds allow (120 unless given). The
+last line says how many runs there were. Needs cc.
 """
+
+import argparse
+import collections
+import concurrent.futures
+import contextlib
+import math
 import os
+import pathlib
+import socket
+import sqlite3
 import subprocess
 import sys
 import tempfile
+import time
 
-TOP = os.path.dirname(os.path.dirname(os.path.abspath(__file__)))
+from make_profile_1 import put_back
 
-# Each is accepted once, and refused where it stands already.
-RECORDS = b"""srs,5001,A,NONE,1,undefined,
-pyramid,base,Base map,5001,0,0,1024000000,1024000000,two
-matrix,base,0,1,1,256,256,4000000,4000000
-matrix,base,1,2,2,256,256,2000000,2000000
-table,spots,attributes,Spots
-"""
+TOP = pathlib.Path(__file__).resolve().parent.parent
+# How many seconds a run of the program may take.
+PATIENCE = 60
 
 REFUSER = r"""
 #define _GNU_SOURCE
@@ -28,10 +39,11 @@ REFUSER = r"""
 #include <stdlib.h>
 #include <unistd.h>
 static long calls, wanted = -1;
+static long number(const char *name) { const char *text = getenv(name); return text ? atol(text) : 0; }
 static int refuses(void) {
-    if (wanted < 0) { const char *text = getenv("REFUSE"); wanted = text ? atol(text) : 0; }
+    if (wanted < 0) wanted = number("REFUSE");
     if (++calls != wanted) return 0;
-    if (write(9, "x", 1) < 0) return 1;
+    if (write((int) number("REFUSE_TOLD"), "x", 1) < 0) return 1;
     return 1;
 }
 void *malloc(size_t size) {
@@ -46,73 +58,265 @@ void *realloc(void *old, size_t size) {
 }
 """
 
+PYRAMID = """srs,25832,ETRS89 / UTM zone 32N,EPSG,25832,projected metres,
+pyramid,base,Base map,25832,500000000000,5600000000000,501024000000,5601024000000,two
+matrix,base,0,1,1,256,256,4000000,4000000
+matrix,base,1,2,2,256,256,2000000,2000000
+"""
+FILLED = f"""{PYRAMID}table,spots,attributes,Spots
+table,photos,media,Photos
+row,spots,7,Well,,3
+row,spots,9,Gate,,0
+media,photos,3,image/jpeg,ffd8ff
+media,photos,5,image/png,01
+relation,spot_photos,spots,photos,media
+map,spot_photos,7,3
+tile,base,1,0,1,89504e
+edition,k
+"""
+STAGED = f"""{FILLED}stage,k,1,tile,base,1,0,0,01
+stage,k,2,tile,base,1,1,0,02
+stage,k,3,row,spots,8,Gate,,0
+stage,k,4,media,photos,4,image/png,03
+stage,k,5,map,spot_photos,8,4
+"""
+OUTSIDE = f"""{PYRAMID}edition,spring
+stage,spring,1,tile,base,1,0,0,01
+stage,spring,2,tile,base,1,2,0,02
+stage,spring,3,tile,base,1,0,1,03
+"""
+# Each command, accepted on the package that has all.
+COMMANDS = """srs,5001,A,NONE,1,undefined,
+pyramid,q,Q,25832,0,0,1000,1000,other
+matrix,base,2,4,4,256,256,1000000,1000000
+table,t,attributes,T
+drop,base
+tile,base,1,1,1,89504e
+tile-drop,base,1,0,1
+row,spots,10,Well,,3
+row-drop,spots,9
+media,photos,6,image/png,02
+media-drop,photos,5
+relation,rr,spots,spots,simple_attributes
+relation-drop,spot_photos
+map,spot_photos,9,5
+map-drop,spot_photos,7,3
+edition,m
+stage,k,6,row-drop,spots,9
+discard,k
+publish,k
+rehearse,k
+"""
+# Lines that are no records of commands, and two that are.
+UNREADABLE = b'srs,5001,A,NONE,1,undefined,\nsrs,007,B,NONE,1,undefined,\n\xff\xfe,1\nedition,a\nedition,"a'
+KIT = {
+    "kit.csv": b"1,tile,base,1,0,0,a.bin\n2,tile,base,1,1,0,b.bin\n3,row,spots,8,Gate,,0\n4,media,photos,4,image/png,c.bin\n5,map,spot_photos,8,4\n",
+    "a.bin": b"\x01",
+    "b.bin": b"\x02",
+    "c.bin": b"\x03",
+}
+PAGES = "/tiles/base/1/0/1", "/related/spots/7", "/media/photos/3", "/contents"
 
-def run(program, library, number, words, records):
-    """The status, the lines printed, and whether a growth was refused."""
-    reader, writer = os.pipe()
-    os.dup2(writer, 9, inheritable=True)
-    environment = dict(os.environ, LD_PRELOAD=library, REFUSE=str(number))
-    done = subprocess.run([program, *words], input=records, stdout=subprocess.PIPE, env=environment, pass_fds=(9,), check=False)
-    os.close(9)
-    os.close(writer)
-    refused = os.read(reader, 1) != b""
-    os.close(reader)
-    return done.returncode, done.stdout.decode().splitlines(), refused
+# A case: what stands before it (None: no file), the words with FILE left out, its input, and what is asked of the page.
+Case = collections.namedtuple("Case", "name start words input page", defaults=(b"", None))
+# What a run came to: its status, the lines that it printed, the page's response, and whether a growth was refused.
+Ran = collections.namedtuple("Ran", "status lines response refused")
+
+
+class Wrong(Exception):
+    """The program answered something else, or something else stands."""
+
+
+def cases():
+    """Yields each case."""
+    yield Case("init", None, ["init"])
+    for record in COMMANDS.splitlines(keepends=True):
+        yield Case(record.split(",")[0], STAGED, ["run", "--at", "0"], record.encode())
+    yield Case("publish a tile outside", OUTSIDE, ["run", "--at", "0"], b"rehearse,spring\npublish,spring\n")
+    yield Case("a list that can't be read", "", ["run", "--at", "0"], UNREADABLE)
+    yield Case("check", STAGED, ["check"])
+    yield Case("list", STAGED, ["list"])
+    yield Case("kit", FILLED, ["kit", "k", "kit", "--at", "0"])
+    yield Case("migrate", PYRAMID, ["migrate"])
+    for page in PAGES:
+        yield Case(f"GET {page}", FILLED, ["serve", "--count", "1"], b"", page)
+
+
+def build_refuser(folder):
+    """Builds the library that refuses a growth, and returns its path."""
+    source, library = folder / "refuser.c", folder / "refuser.so"
+    source.write_text(REFUSER)
+    subprocess.run(["cc", "-O2", "-shared", "-fPIC", "-o", library, source, "-ldl"], check=True)
+    return library
+
+
+def free_port():
+    with socket.socket() as it:
+        it.bind(("127.0.0.1", 0))
+        return it.getsockname()[1]
+
+
+def rows_in(file):
+    """Returns all rows of all tables of a package, and nothing of a file that has no table."""
+    with contextlib.closing(sqlite3.connect(file)) as it:
+        tables = [name for (name,) in it.execute("SELECT name FROM sqlite_schema WHERE type = 'table' ORDER BY name")]
+        return [(name, it.execute(f"SELECT * FROM {name}").fetchall()) for name in tables]
+
+
+def asked(running, port, page):
+    """Asks the page of a program that is running once it serves; returns what it printed, and the response."""
+    first = running.stdout.readline()
+    if not first.startswith(b"serving "):
+        return first + running.stdout.read(), b""
+    with socket.create_connection(("127.0.0.1", port), PATIENCE) as it:
+        it.sendall(f"GET {page} HTTP/1.1\r\n\r\n".encode())
+        response = b"".join(iter(lambda: it.recv(65536), b""))
+    return first + running.stdout.read(), response
+
+
+class Room:
+    """A folder of a case's own, in which the program is run from the same beginning again and again."""
+
+    def __init__(self, program, library, folder, case):
+        self.program, self.library, self.folder, self.case = program, library, folder, case
+        self.file, self.port = folder / "a.gpkg", free_port()
+        (folder / "kit").mkdir()
+        for name, it in KIT.items():
+            (folder / "kit" / name).write_bytes(it)
+        if case.start is not None:
+            self.make()
+        self.start = {it: it.read_bytes() for it in self.files() if it.exists()}
+
+    def files(self):
+        return [pathlib.Path(f"{self.file}{ending}") for ending in ("", "-wal", "-shm")]
+
+    def make(self):
+        """Makes the package that the case begins with."""
+        how = {"cwd": self.folder, "capture_output": True, "check": True, "timeout": PATIENCE}
+        subprocess.run([self.program, "init", self.file], **how)
+        subprocess.run([self.program, "run", self.file, "--at", "0"], input=self.case.start.encode(), **how)
+        if self.case.words[0] == "migrate" and not put_back(self.file):
+            raise Wrong("no package of profile 1 is made")
+
+    def put_start(self):
+        """Has the files be those that the case begins with."""
+        for it in self.files():
+            it.unlink(missing_ok=True)
+        for it, content in self.start.items():
+            it.write_bytes(content)
+
+    def run(self, number, given=None):
+        """Runs the program where its growth of this number is refused, and none with 0."""
+        self.put_start()
+        subcommand, *rest = self.case.words
+        words = [self.program, subcommand, self.file, *rest, *(["--port", str(self.port)] if self.case.page else [])]
+        reader, writer = os.pipe()
+        how = {"cwd": self.folder, "pass_fds": (writer,), "stdin": subprocess.PIPE, "stdout": subprocess.PIPE}
+        how["env"] = {"LD_PRELOAD": str(self.library), "REFUSE": str(number), "REFUSE_TOLD": str(writer)}
+        with open(reader, "rb") as told, subprocess.Popen(words, **how) as running:
+            os.close(writer)
+            if self.case.page:
+                printed, response = asked(running, self.port, self.case.page)
+            else:
+                printed, response = running.communicate(self.case.input if given is None else given, PATIENCE)[0], b""
+            return Ran(running.wait(PATIENCE), printed.splitlines(keepends=True), response, told.read() != b"")
+
+    def standings(self):
+        """Returns what stands with ample memory before the work and after each part of it that changes something."""
+        self.put_start()
+        found = [rows_in(self.file)]
+        for given in parts_of(self.case):
+            if self.case.words[0] == "kit":
+                (self.folder / "kit" / "kit.csv").write_bytes(given)
+            self.run(0, given)
+            rows = rows_in(self.file)
+            found += [rows] if rows != found[-1] else []
+        return found
+
+
+def parts_of(case):
+    """Yields the input of each first part of a case's work, or the list of each first part of its kit."""
+    text = KIT["kit.csv"] if case.words[0] == "kit" else case.input
+    lines = text.splitlines(keepends=True)
+    for end in range(1, max(1, len(lines)) + 1):
+        yield b"".join(lines[:end])
+
+
+def is_answer(case, ample, ran):
+    """Whether a run answers as one with ample memory does, or where a growth was refused as that one up to a fault 90."""
+    if (ran.status, ran.lines, ran.response) == ample[:3]:
+        return True
+    if not ran.refused or ran.status != 3 or not ran.lines or ran.response not in (b"", ample.response):
+        return False
+    *before, last = ran.lines
+    faults = {"run": b"%d fault 90\n" % len(ran.lines), "kit": b"kit fault 90\n", "serve": b"page fault 90\n"}
+    return before == ample.lines[: len(before)] and last in (b"fault 90\n", faults.get(case.words[0]))
+
+
+def may_stand(case, found, ample, ran):
+    """Returns what may stand after a run, of what stands after each part of the work."""
+    if ran.lines == ample.lines:
+        return found[-1:]
+    if case.words[0] != "run":
+        return found
+    done = sum(line.endswith(b" ok\n") for line in ran.lines)
+    return found[done : done + 2]
+
+
+def look(room, found, ample, number):
+    """Refuses a growth, and raises where the answer or what stands after it is wrong."""
+    ran = room.run(number)
+    if not is_answer(room.case, ample, ran):
+        raise Wrong(f"growth {number}: {ran}, and with ample memory {ample}")
+    if rows_in(room.file) not in may_stand(room.case, found, ample, ran):
+        raise Wrong(f"growth {number}: {ran}, and something else stands")
+
+
+def growths(room):
+    """Returns how many growths a run has: it meets no refusal of a later one."""
+    low, high = 0, 1
+    while room.run(high).refused:
+        low, high = high, high * 2
+    while high - low > 1:
+        middle = (low + high) // 2
+        low, high = (middle, high) if room.run(middle).refused else (low, middle)
+    return low
+
+
+def sweep(program, library, case, seconds):
+    """Refuses each growth of a case, or every so many-th as the seconds allow; returns how many there are, and that stride."""
+    with tempfile.TemporaryDirectory(prefix="refuse_") as folder:
+        room = Room(program, library, pathlib.Path(folder), case)
+        found = room.standings()
+        (room.folder / "kit" / "kit.csv").write_bytes(KIT["kit.csv"])
+        ample, count, began = room.run(0), growths(room), time.monotonic()
+        look(room, found, ample, count + 1)
+        stride = max(1, math.ceil(count * (time.monotonic() - began) / seconds))
+        for number in range(1, count + 1, stride):
+            look(room, found, ample, number)
+    return count, stride
 
 
 def main():
-    program = os.path.abspath(sys.argv[1] if len(sys.argv) > 1 else os.path.join(TOP, "out", "mmpkg"))
-    step = int(sys.argv[2]) if len(sys.argv) > 2 else 1
-    count = RECORDS.count(b"\n")
-    with tempfile.TemporaryDirectory() as folder:
-        source = os.path.join(folder, "refuser.c")
-        library = os.path.join(folder, "refuser.so")
-        with open(source, "w") as out:
-            out.write(REFUSER)
-        subprocess.run(["cc", "-O2", "-shared", "-fPIC", "-o", library, source, "-ldl"], check=True)
-        file = os.path.join(folder, "a.gpkg")
-
-        def fresh():
-            for path in (file, file + "-wal"):
-                if os.path.exists(path):
-                    os.remove(path)
-
-        # Making a package.
-        number, refused = 1 - step, True
-        while refused:
-            number += step
-            fresh()
-            status, lines, refused = run(program, library, number, ["init", file], b"")
-            if refused and (status, lines) == (3, ["fault 90"]):
-                continue
-            if (status, lines) != (0, ["init ok"]):
-                sys.exit(f"init at growth {number}: status {status}, {lines}")
-        print(f"init: of {number - 1} growths each that was refused: fault 90")
-
-        # A run: the answers of ample memory up to a fault 90, and what was acknowledged stands afterwards.
-        fresh()
-        run(program, library, 0, ["init", file], b"")
-        with open(file, "rb") as made:
-            empty = made.read()
-        _, ample, _ = run(program, library, 0, ["run", file, "--at", "0"], RECORDS)
-        number, refused = 1 - step, True
-        while refused:
-            number += step
-            fresh()
-            with open(file, "wb") as made:
-                made.write(empty)
-            status, lines, refused = run(program, library, number, ["run", file, "--at", "0"], RECORDS)
-            whole = [line for line in lines if "fault" not in line]
-            if whole != ample[: len(whole)]:
-                sys.exit(f"run at growth {number}: {lines}")
-            if len(whole) < count and (status != 3 or lines[len(whole):] not in ([f"{len(whole) + 1} fault 90"], ["fault 90"])):
-                sys.exit(f"run at growth {number}: status {status}, {lines}")
-            _, again, _ = run(program, library, 0, ["run", file, "--at", "0"], RECORDS)
-            first = [line for line in again if line.endswith(" ok")]
-            done = count - len(first)
-            if not len(whole) <= done <= len(whole) + 1:
-                sys.exit(f"run at growth {number}: {len(whole)} records were acknowledged and {done} stand")
-        print(f"run: of {number - 1} growths each that was refused: the answers before it, then fault 90, and what was acknowledged stands")
+    parser = argparse.ArgumentParser(description="Refuses each growth of memory in turn.")
+    parser.add_argument("program", nargs="?", default=os.environ.get("MMPKG", TOP / "out" / "mmpkg"))
+    parser.add_argument("--seconds", type=float, default=120)
+    parser.add_argument("--whole", action="store_true")
+    given = parser.parse_args()
+    program, all_cases, workers, tried = os.path.abspath(given.program), list(cases()), os.cpu_count() or 1, 0
+    seconds = math.inf if given.whole else given.seconds * workers / len(all_cases)
+    with tempfile.TemporaryDirectory() as folder, concurrent.futures.ProcessPoolExecutor(workers) as pool:
+        library = build_refuser(pathlib.Path(folder))
+        told = [(it, pool.submit(sweep, program, library, it, seconds)) for it in all_cases]
+        for case, answer in told:
+            try:
+                count, stride = answer.result()
+            except Wrong as why:
+                pool.shutdown(cancel_futures=True)
+                sys.exit(f"{case.name}: {why}")
+            tried += math.ceil(count / stride)
+            print(f"{case.name}: {count} growths, each {stride}-th refused", flush=True)
+    print(f"{tried} growths refused in {len(all_cases)} cases: each was answered as with ample memory or by 90, and no acknowledged command is lost")
 
 
 if __name__ == "__main__":

@@ -1,0 +1,161 @@
+#!/usr/bin/env python3
+"""Compares the documents with what they speak of.
+
+    scripts/check_docs.py [PROGRAM]     the last line is 'N passed, M failed'
+
+Each line '    $ COMMAND' of README.md and docs/TOUR.md is run in turn, in a new folder with the examples, and must print the lines that
+stand below it; 'cat' of a file that is not there makes it of them. Each must-fail edit is named in docs/PROOFS.md, and each name in
+backticks there that looks like one of the code stands in some crate, script or transcript. PROGRAM is the built program: without it
+out/mmpkg, or else the one that the gate left in crates/mm_cli/out.
+"""
+import os
+import re
+import shutil
+import socket
+import subprocess
+import sys
+import tempfile
+
+TOP = os.path.dirname(os.path.dirname(os.path.abspath(__file__)))
+TOURS = "README.md", "docs/TOUR.md"
+PROGRAMS = "out/mmpkg", "crates/mm_cli/out/mm_cli"
+PROMISES = "docs/PROOFS.md"
+PORT = "8090"
+SPOKEN_OF = (".rt", ".antt", ".edit", ".py", ".sh", ".case", ".steps")
+
+
+def text_of(path):
+    with open(path, encoding="utf-8") as it:
+        return it.read()
+
+
+def steps_of(text):
+    """Yields each command of a tour with the lines below it, which may be empty within."""
+    command, lines = None, []
+    for line in text.splitlines() + ["end"]:
+        if line.startswith("    $ "):
+            if command:
+                yield command, lines
+            command, lines = line[6:], []
+        elif line.startswith("    ") and command:
+            lines.append(line[4:])
+        elif line and command:
+            yield command, lines
+            command, lines = None, []
+
+
+def free_port():
+    with socket.socket() as it:
+        it.bind(("127.0.0.1", 0))
+        return str(it.getsockname()[1])
+
+
+class Tour:
+    """A folder in which the commands of a document are run."""
+
+    def __init__(self, folder, program):
+        self.folder = folder
+        self.port = free_port()
+        self.served = []
+        os.makedirs(f"{folder}/bin")
+        os.symlink(program, f"{folder}/bin/mmpkg")
+        for name in "examples", "scripts":
+            os.symlink(f"{TOP}/{name}", f"{folder}/{name}")
+        with open(f"{folder}/notes.gpkg", "w", encoding="utf-8") as it:
+            it.write("some notes")
+        self.environment = {**os.environ, "PATH": f"{folder}/bin:{os.environ['PATH']}", "LC_ALL": "C.UTF-8"}
+
+    def start(self, command):
+        """Starts a command that goes on behind the next, and returns the first line that it prints."""
+        ran = subprocess.Popen("exec " + command.rstrip("& "), shell=True, cwd=self.folder, env=self.environment, stdout=subprocess.PIPE, text=True)
+        self.served.append(ran)
+        return ran.stdout.readline()
+
+    def run(self, command):
+        command = command.replace(PORT, self.port)
+        if command.endswith("&"):
+            said = self.start(command)
+        else:
+            how = {"shell": True, "cwd": self.folder, "env": self.environment, "timeout": 60, "text": True}
+            said = subprocess.run(command, stdout=subprocess.PIPE, stderr=subprocess.STDOUT, check=False, **how).stdout
+        return [line.rstrip() for line in said.replace("\r", "").replace(self.port, PORT).splitlines()]
+
+    def step(self, command, lines):
+        """Runs a command, and returns whether it prints the lines."""
+        made = re.fullmatch(r"cat (\S+)", command)
+        if made and not os.path.exists(f"{self.folder}/{made[1]}"):
+            with open(f"{self.folder}/{made[1]}", "w", encoding="utf-8") as it:
+                it.writelines(f"{line}\n" for line in lines)
+            return True
+        wanted = [line.rstrip() for line in lines]
+        said = self.run(command)
+        while said and not said[-1]:
+            said.pop()
+        if said != wanted:
+            print(f"$ {command}", *said, "but the document has", *wanted, sep="\n  ")
+        return said == wanted
+
+    def end(self):
+        for ran in self.served:
+            ran.kill()
+            ran.wait()
+
+
+def tour_fits(path, program):
+    """Returns whether each command of a document prints what stands below it."""
+    with tempfile.TemporaryDirectory(prefix="mmpkg-docs-") as folder:
+        tour = Tour(folder, program)
+        try:
+            fits = all([tour.step(command, lines) for command, lines in steps_of(text_of(path))])
+        finally:
+            tour.end()
+    return fits
+
+
+def spoken_of():
+    """Returns all words of the code, and the names of its files."""
+    words = set()
+    for top in "crates", "scripts", "cases", "examples":
+        for below, folders, files in os.walk(top):
+            folders[:] = [it for it in folders if it != "out"]
+            words.update(folders)
+            for name in files:
+                words.update((name, name.split(".")[0]))
+                if name.endswith(SPOKEN_OF):
+                    words.update(re.findall(r"\w+", text_of(f"{below}/{name}")))
+    return words
+
+
+def edits_are_named():
+    named = set(re.findall(r"\w+", text_of(PROMISES)))
+    edits = [name[:-5] for below, _, files in os.walk("crates") for name in files if name.endswith(".edit") and "/out/" not in below]
+    missing = sorted(it for it in edits if it not in named)
+    for it in missing:
+        print(f"{PROMISES} does not name the edit {it}")
+    return not missing and bool(edits)
+
+
+def names_stand():
+    words = spoken_of()
+    named = {it for them in re.findall(r"`([^`\n]+)`", text_of(PROMISES)) for it in re.findall(r"[A-Za-z]\w*_\w+|Is[A-Z]\w+", them)}
+    missing = sorted(named - words)
+    for it in missing:
+        print(f"{PROMISES} names {it}, which stands nowhere")
+    return not missing and bool(named)
+
+
+def main():
+    os.chdir(TOP)
+    given = sys.argv[1:] or [it for it in PROGRAMS if os.path.exists(it)]
+    if not given:
+        print("there is no built program", file=sys.stderr)
+        return 1
+    program = os.path.realpath(given[0])
+    answers = [*(tour_fits(path, program) for path in TOURS), edits_are_named(), names_stand()]
+    passed = sum(answers)
+    print(f"{passed} passed, {len(answers) - passed} failed")
+    return 0 if all(answers) else 1
+
+
+if __name__ == "__main__":
+    sys.exit(main())

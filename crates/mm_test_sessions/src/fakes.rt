@@ -51,38 +51,37 @@ impl Write for Short {
     }
 }
 
-/// A reader that gives its bytes, so many at a time at most, and then ends or fails.
+/// A reader that gives its bytes, so many at a time at most, and one of whose reads fails, counted from 1.
 #[derive(Drop)]
 pub(crate) struct Slow<'a> {
     bytes: &'a [u8],
     most: usize,
-    fails: bool,
+    reads: u32,
+    failing: u32,
 }
 
-/// A reader that gives so many bytes at a time, and then fails.
-pub(crate) fn broken_reader(bytes: &[u8], most: usize) -> Io<Slow<'_>> {
+/// A reader that gives so many bytes at a time, whose read of this number fails.
+pub(crate) fn torn_reader(bytes: &[u8], most: usize, failing: u32) -> Io<Slow<'_>> {
     Io::new(Slow {
         bytes,
         most,
-        fails: true,
+        reads: 0,
+        failing,
     })
 }
 
 /// A reader that gives one byte at a time, and then ends.
 pub(crate) fn slow_reader(bytes: &[u8]) -> Io<Slow<'_>> {
-    Io::new(Slow {
-        bytes,
-        most: 1,
-        fails: false,
-    })
+    torn_reader(bytes, 1, 0)
 }
 
 impl Read for Slow<'_> {
     fn read(&mut self, buf: &mut [u8]) -> io::Result<usize> {
-        let n = self.bytes.len().min(buf.len()).min(self.most);
-        if n == 0 && self.fails {
+        self.reads = self.reads.wrapping_add(1);
+        if self.reads == self.failing {
             return Err(io::Error::from(ErrorKind::Other));
         }
+        let n = self.bytes.len().min(buf.len()).min(self.most);
         for i in 0..n {
             buf[i] = self.bytes[i];
         }

@@ -187,6 +187,7 @@ k 02 0 1,row,spots,8,Gate,,0;2,tile,base,1,1,0,a/b > refused 2 57, open 0
 k 02 0 1,row,spots,8,Gate,,0;2,tile,base,1,1,0,.a > refused 2 57, open 0
 k 02 0 1,row,spots,8,Gate,,0;2,tile,base,1,1,0, > refused 2 57, open 0
 k 02 0 1,row,spots,8,Gate,,0;2,tile,base,1,1,0,aaaaaaaaaaaaaaaaaaaaaaaaaaaaaaaaaaaaaaaaaaaaaaaaaaaaaaaaaaaaaaaaaaaaaaaaaaaaaaaaaaaaaaaaaaaaaaaaaaaaa > refused 2 57, open 0
+k 02 0 1,row,spots,8,Gate,,0;2,tile,base,1,1,0,a..b > complete 2, open 2
 ";
 
 #[test]
@@ -235,7 +236,6 @@ fn refuses_a_record_that_is_no_text(rt: HostRuntime) -> Result<(), Fail> {
 }
 
 const FILES: &str = "k 02 0  > complete 0, open 0
-k 02 1 five > fault 96 after 0, open 0
 k none 0 five > refused 2 57, open 1
 k empty 0 five > refused 2 11, open 1
 k 02 3 five > fault 96 after 1, open 1
@@ -247,6 +247,19 @@ k 02 0 1,tile,base,1,0,0,a.bin;2,tile,base,1,0,0,a..b > complete 2, open 2
 fn answers_by_the_files(rt: HostRuntime) -> Result<(), Fail> {
     let told = imports(rt.alloc(), FILES).expect(&rt, "imports");
     assert_eq!(rt; told.as_str(), FILES);
+    Ok(())
+}
+
+// The first read is that of the list, and the third that of `b.bin`, for the second piece.
+const BROKEN_READS: &str = "k 02 1 five > fault 96 after 0, open 0
+k 02 3 five > fault 96 after 1, open 1
+k 02 0 five > complete 5, open 5
+";
+
+#[test]
+fn keeps_what_was_staged_before_a_read_that_fails(rt: HostRuntime) -> Result<(), Fail> {
+    let told = imports(rt.alloc(), BROKEN_READS).expect(&rt, "imports");
+    assert_eq!(rt; told.as_str(), BROKEN_READS);
     Ok(())
 }
 

@@ -1,10 +1,10 @@
 //! Requests and their responses, as docs/FORMATS.md describes the page.
 
-use crate::fakes::{Short, broken_reader, short_writer, slow_reader};
+use crate::fakes::{Short, short_writer, slow_reader, torn_reader};
 use mm_base::streams::Io;
 use mm_core::Session;
 use mm_page::serve_one;
-use mm_test_packages::{FINER, PYRAMID, RELATED, new_session, session_at};
+use mm_test_packages::{FINER, PYRAMID, RELATED, new_session, session_after, session_at};
 use sqlite::MemStore;
 use std::alloc::Global;
 use std::fmt::Write;
@@ -115,16 +115,11 @@ bad request:
 not found: GET /tiles/base/1/1/1 HTTP/1.1||
 not found: GET /tiles/base/01/0/1 HTTP/1.1||
 not found: GET /tiles/base/31/0/1 HTTP/1.1||
-not found: GET /tiles/ba%73e/1/0/1 HTTP/1.1||
 medium: GET /media/photos/3 HTTP/1.1||
-not found: GET /media/photos/03 HTTP/1.1||
 not found: GET /media/photos/4 HTTP/1.1||
 mates: GET /related/spots/7 HTTP/1.1||
 not found: GET /related/spots/8 HTTP/1.1||
-not found: GET /related/spots/9007199254740993 HTTP/1.1||
 empty list: GET /related/photos/3 HTTP/1.1||
-three tables: GET /contents?x=1 HTTP/1.0||
-not found: GET //contents HTTP/1.1||
 not found: GET / HTTP/1.1||
 not allowed: HEAD /contents HTTP/1.1||
 empty list: GET /related/photos/3 HTTP/1.1||GET /contents HTTP/1.1||
@@ -139,6 +134,29 @@ fn all_pages(alloc: Global) -> Option<String> {
 fn serves_requests(rt: HostRuntime) -> Result<(), Fail> {
     let told = all_pages(rt.alloc()).expect(&rt, "responses");
     assert_eq!(rt; told.as_str(), PAGES);
+    Ok(())
+}
+
+// No header; another name of a table; an empty part of a path; an id above the limit; an id with a leading zero; two requests; nothing.
+const BROKEN_REQUESTS: &str = "three tables: GET /contents?x=1 HTTP/1.0||
+not found: GET /tiles/ba%73e/1/0/1 HTTP/1.1||
+not found: GET //contents HTTP/1.1||
+not found: GET /related/spots/9007199254740993 HTTP/1.1||
+not found: GET /media/photos/03 HTTP/1.1||
+mates: GET /related/spots/7 HTTP/1.1||GET /contents HTTP/1.1||
+bad request: 
+";
+
+/// What the requests are given on a package of three tables.
+fn broken_requests(alloc: Global) -> Option<String> {
+    let records = format!(in alloc; "{PYRAMID}{FINER}{RELATED}").ok()?;
+    pages(alloc, records.as_str(), BROKEN_REQUESTS)
+}
+
+#[test]
+fn answers_requests_at_the_edges_of_form(rt: HostRuntime) -> Result<(), Fail> {
+    let told = broken_requests(rt.alloc()).expect(&rt, "responses");
+    assert_eq!(rt; told.as_str(), BROKEN_REQUESTS);
     Ok(())
 }
 
@@ -171,7 +189,7 @@ fn long_head(alloc: Global, lines: usize, length: usize) -> Option<String> {
 
 /// What heads of so many header lines and bytes are given, a head a line.
 fn long_heads(alloc: Global) -> Option<String> {
-    let mut session = new_session(alloc)?;
+    let mut session = session_after(alloc, &[PYRAMID, FINER, RELATED])?;
     let mut text = String::new(alloc);
     for (lines, length) in [(64, 0), (65, 0), (1, 8192), (1, 8193)] {
         let head = long_head(alloc, lines, length)?;
@@ -182,9 +200,9 @@ fn long_heads(alloc: Global) -> Option<String> {
 }
 
 // A head has 64 header lines at most, and 8,192 bytes.
-const HEADS: &str = "64 lines, 409 bytes: empty list
+const HEADS: &str = "64 lines, 409 bytes: three tables
 65 lines, 415 bytes: bad request
-1 lines, 8192 bytes: empty list
+1 lines, 8192 bytes: three tables
 1 lines, 8193 bytes: bad request
 ";
 
@@ -197,7 +215,7 @@ fn limits_heads(rt: HostRuntime) -> Result<(), Fail> {
 
 /// The fault of a request or 0, where its writer takes so many bytes and takes that much of the response; else what it took.
 fn cut(alloc: Global, session: &mut Session<MemStore>, left: usize) -> Option<String> {
-    let mut reader = broken_reader(b"GET /tiles/base/1/0/1 HTTP/1.1\r\n\r\n", 1);
+    let mut reader = torn_reader(b"GET /tiles/base/1/0/1 HTTP/1.1\r\n\r\n", 1, 35);
     let mut writer = short_writer(alloc, left);
     let fault = serve(alloc, session, &mut reader, &mut writer);
     let Short { taken, .. } = writer.into_inner();
@@ -239,9 +257,12 @@ fn served<R: Read>(alloc: Global, reader: &mut Io<R>) -> Option<String> {
 
 /// What is written where a reader fails in a head, where it ends there, and where it fails after bytes of no head.
 fn broken_heads(alloc: Global) -> Option<String> {
-    let failed = served(alloc, &mut broken_reader(b"GET /contents HTTP/1.1\r\n", 1))?;
+    let failed = served(
+        alloc,
+        &mut torn_reader(b"GET /contents HTTP/1.1\r\n", 1, 25),
+    )?;
     let ended = served(alloc, &mut slow_reader(b"GET /contents HTTP/1.1\r\n"))?;
-    let no_head = served(alloc, &mut broken_reader(b"\0GET", 1))?;
+    let no_head = served(alloc, &mut torn_reader(b"\0GET", 1, 5))?;
     format!(in alloc;
         "{}, {}, {}",
         failed.as_str(),

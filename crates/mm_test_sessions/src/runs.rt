@@ -3,7 +3,7 @@
 ghost use Rattle.std.specs.Prelude.{◌≡◌};
 ghost use Rattle.mm_run.specs.Applied.{OnFault};
 
-use crate::fakes::{Short, broken_reader, short_writer, unflushed_writer};
+use crate::fakes::{Short, short_writer, torn_reader, unflushed_writer};
 use mm_base::answers::{Answer, Fault, Refusal, Tally};
 use mm_base::commands::Command;
 use mm_base::moments::Moment;
@@ -231,25 +231,25 @@ fn tells_where_a_flush_failed(rt: HostRuntime) -> Result<(), Fail> {
     Ok(())
 }
 
-/// What runs of the first bytes of two equal records come to where the reader then fails: after the first record, and three
-/// bytes later.
+/// What runs of two equal records come to where the reader gives a byte a read and then fails: after the first record of 29 bytes,
+/// and three bytes later. A run a line, behind the number of the read that fails.
 fn broken_runs(alloc: Global) -> Option<String> {
     let mut text = String::new(alloc);
-    for length in [29, 32] {
-        let mut reader = broken_reader(TWO_EQUAL.get(..length)?, 5);
+    for failing in [30, 33] {
+        let mut reader = torn_reader(TWO_EQUAL, 1, failing);
         let told = ran(
             alloc,
             &mut new_desk(alloc, 9),
             &mut reader,
             short_writer(alloc, 99),
         )?;
-        writeln!(text, "{length}: {}", told.as_str()).ok()?;
+        writeln!(text, "{failing}: {}", told.as_str()).ok()?;
     }
     Some(text)
 }
 
-const BROKEN: &str = r"29: 96 1 0 2 1 ok\n2 fault 96\n
-32: 96 1 0 2 1 ok\n2 fault 96\n
+const BROKEN: &str = r"30: 96 1 0 2 1 ok\n2 fault 96\n
+33: 96 1 0 2 1 ok\n2 fault 96\n
 ";
 
 #[test]

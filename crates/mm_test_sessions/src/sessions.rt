@@ -60,6 +60,43 @@ fn answers_each_record(rt: HostRuntime) -> Result<(), Fail> {
     Ok(())
 }
 
+/// What a session answers to a put of a tile of so many bytes.
+fn tile_answer(alloc: Global, session: &mut Session<MemStore>, length: usize) -> Option<String> {
+    let digits = "5a".repeat(alloc, length).ok()?;
+    let record = format!(in alloc; "tile,base,1,0,0,{}\n", digits.as_str()).ok()?;
+    answers(alloc, session, record.as_bytes())
+}
+
+/// What a session answers to a text with the byte 00, to tiles of the most bytes and of one more, to a name with quotes, and to a
+/// record whose line ends by CR LF.
+fn broken_record_answers(alloc: Global) -> Option<String> {
+    let mut session = session_after(alloc, &[PYRAMID, FINER, RELATED])?;
+    let text = answers(alloc, &mut session, b"row,spots,1,\0,,0\n")?;
+    let most = tile_answer(alloc, &mut session, 1048576)?;
+    let more = tile_answer(alloc, &mut session, 1048577)?;
+    let names = answers(alloc, &mut session, b"edition,\"a\"\"b\"\nedition,a\r\n")?;
+    let parts = [text, most, more, names];
+    let mut told = String::new(alloc);
+    for part in &parts {
+        told.push_str(part.as_str()).ok()?;
+    }
+    Some(told)
+}
+
+const BROKEN_RECORDS: &str = "1 refused 11
+1 ok
+1 refused 11
+1 refused 12
+2 ok
+";
+
+#[test]
+fn answers_records_at_the_edges_of_form(rt: HostRuntime) -> Result<(), Fail> {
+    let told = broken_record_answers(rt.alloc()).expect(&rt, "answers");
+    assert_eq!(rt; told.as_str(), BROKEN_RECORDS);
+    Ok(())
+}
+
 /// A session on the package of a connection that is in no transaction, or why there is none.
 fn adopt(alloc: Global, conn: Connection<MemStore>) -> Result<Session<MemStore>, Open> {
     if !conn.is_autocommit() {

@@ -1,10 +1,12 @@
-//! What stands where a reader or a writer failed, once the files are closed and opened again; and a print that fails.
+//! What stands where a reader or a writer failed, once the files are closed and opened again; how such a run ends; and a print that
+//! fails.
 
-use crate::fakes::{Short, broken_reader, short_writer};
+use crate::fakes::{Short, short_writer, torn_reader};
+use mm_base::answers::Tally;
 use mm_base::moments::Moment;
 use mm_base::streams::Io;
 use mm_recovery::open_after_close;
-use mm_test_packages::open;
+use mm_test_packages::{create, open};
 use mm_work::{DONE, FAULT, Stop, make_package, run_package, tell_init, tell_stop, tell_text};
 use sqlite::{Alter, Connection, FileStore, Files, Options};
 use sqlite_disk::{Disk, Memory};
@@ -35,9 +37,26 @@ fn run<S: Alter + Drop, R: Read, W: io::Write>(
     run_package(alloc, conn, reader, writer, Moment::new(0)?).ok()
 }
 
-const RECORD: &[u8] = b"srs,5001,A,NONE,1,undefined,\n";
+/// Runs the records that the reader gives on a new package: the connection, the fault or 0, and the tally.
+fn tallied<S: Alter + Drop, R: Read, W: io::Write>(
+    alloc: Global,
+    conn: Connection<S>,
+    reader: &mut Io<R>,
+    writer: &mut Io<W>,
+) -> Option<(Connection<S>, u8, Tally)> {
+    let mut session = create(alloc, conn)?;
+    let (fault, tally) = match mm_test_packages::run(&mut session, reader, writer, 0)? {
+        Ok(tally) => (0, tally),
+        Err(stopped) => (stopped.fault.0, stopped.tally),
+    };
+    Some((session.close(), fault, tally))
+}
 
-const TWO_EQUAL: &[u8] = b"srs,5001,A,NONE,1,undefined,\nsrs,5001,A,NONE,1,undefined,\n";
+const RECORD: &[u8] = b"srs,25832,ETRS89 / UTM zone 32N,EPSG,25832,projected metres,\n";
+
+const TWO_EQUAL: &[u8] = b"srs,25832,ETRS89 / UTM zone 32N,EPSG,25832,projected metres,
+srs,25832,ETRS89 / UTM zone 32N,EPSG,25832,projected metres,
+";
 
 /// The connection once its files are closed and opened again.
 fn reopened<D: Disk + Drop>(
@@ -54,93 +73,112 @@ fn answer<S: Alter + Drop>(alloc: Global, conn: Connection<S>) -> Option<Vec<u8>
     Some(writer.into_inner())
 }
 
-/// The status of a run on a new package and what its writer took of its answers; and what the first record is answered once the
-/// files are closed and opened again.
+/// What a run on a new package comes to and what its writer took of the answers, as `FAULT ACCEPTED REFUSED WRITTEN BYTES`; and what
+/// the first record is answered once the files are closed and opened again.
 fn told<R: Read>(alloc: Global, reader: &mut Io<R>, left: usize) -> Option<(String, Vec<u8>)> {
     let files = Files {
         log: Memory::new(alloc),
         db: Memory::new(alloc),
     };
     let mut writer = short_writer(alloc, left);
-    let (conn, status) = run(
-        alloc,
-        make(alloc, open(alloc, files)?)?,
-        reader,
-        &mut writer,
-    )?;
+    let (conn, fault, tally) = tallied(alloc, open(alloc, files)?, reader, &mut writer)?;
     let found = answer(alloc, reopened(alloc, conn)?)?;
+    let Tally {
+        accepted,
+        refused,
+        written,
+    } = tally;
     let Short { taken, .. } = writer.into_inner();
-    let text = format!(in alloc; "{status} {}", taken.as_slice().escape_ascii()).ok()?;
+    let bytes = taken.as_slice().escape_ascii();
+    let text = format!(in alloc; "{fault} {accepted} {refused} {written} {bytes}").ok()?;
     Some((text, found))
 }
 
-const CUT: &str = r"0: 3 
-1: 3 1
-2: 3 1 
-3: 3 1 o
-4: 3 1 ok
-5: 3 1 ok\n
-6: 3 1 ok\n2
-7: 3 1 ok\n2 
-8: 3 1 ok\n2 r
-9: 3 1 ok\n2 re
-10: 3 1 ok\n2 ref
-11: 3 1 ok\n2 refu
-12: 3 1 ok\n2 refus
-13: 3 1 ok\n2 refuse
-14: 3 1 ok\n2 refused
-15: 3 1 ok\n2 refused 
-16: 3 1 ok\n2 refused 2
-17: 3 1 ok\n2 refused 20
-18: 1 1 ok\n2 refused 20\n
+const CUT: &str = r"0: 97 1 0 0 
+1: 97 1 0 0 1
+2: 97 1 0 0 1 
+3: 97 1 0 0 1 o
+4: 97 1 0 0 1 ok
+5: 97 1 1 1 1 ok\n
+6: 97 1 1 1 1 ok\n2
+7: 97 1 1 1 1 ok\n2 
+8: 97 1 1 1 1 ok\n2 r
+9: 97 1 1 1 1 ok\n2 re
+10: 97 1 1 1 1 ok\n2 ref
+11: 97 1 1 1 1 ok\n2 refu
+12: 97 1 1 1 1 ok\n2 refus
+13: 97 1 1 1 1 ok\n2 refuse
+14: 97 1 1 1 1 ok\n2 refused
+15: 97 1 1 1 1 ok\n2 refused 
+16: 97 1 1 1 1 ok\n2 refused 2
+17: 97 1 1 1 1 ok\n2 refused 20
+18: 0 1 1 2 1 ok\n2 refused 20\n
 ";
 
-/// Whether what is then found is a first part: from the fifth byte on the first record is acknowledged.
-fn is_first_part(found: &[u8], left: usize) -> bool {
-    found == b"1 refused 20\n".as_slice() || (left < 5 && found == b"1 ok\n".as_slice())
-}
-
-/// Runs of two equal records whose writer takes 0 to 18 bytes, a run a line.
+/// Runs of two equal records whose writer takes 0 to 18 bytes, a run a line. The system stands behind each, also where the writer took
+/// less than the line that says so.
 fn cut_runs(alloc: Global) -> Option<String> {
     let mut text = String::new(alloc);
     for left in 0..=18 {
         let (told, found) = told(alloc, &mut Io::new(TWO_EQUAL), left)?;
         writeln!(text, "{left}: {}", told.as_str()).ok()?;
-        if !is_first_part(found.as_slice(), left) {
-            writeln!(text, "no first part: {}", found.as_slice().escape_ascii()).ok()?;
+        if found.as_slice() != b"1 refused 20\n".as_slice() {
+            writeln!(text, "then: {}", found.as_slice().escape_ascii()).ok()?;
         }
     }
     Some(text)
 }
 
 #[test]
-fn ends_where_the_writer_fails(rt: HostRuntime) -> Result<(), Fail> {
+fn keeps_what_was_done_before_a_write_that_fails(rt: HostRuntime) -> Result<(), Fail> {
     let told = cut_runs(rt.alloc()).expect(&rt, "runs");
     assert_eq!(rt; told.as_str(), CUT);
     Ok(())
 }
 
-/// Runs of the first bytes of two equal records, after which the reader fails, a run a line: after the first record, and three
-/// bytes later. Each line tells what the first record is answered after it.
+/// Runs of two equal records where the reader gives a byte a read and then fails: after the first record of 61 bytes, and three bytes
+/// later. A run a line, behind the number of the read that fails, with what the first record is answered after it.
 fn broken_runs(alloc: Global) -> Option<String> {
     let mut text = String::new(alloc);
-    for length in [29, 32] {
-        let mut reader = broken_reader(TWO_EQUAL.get(..length)?, 5);
+    for failing in [62, 65] {
+        let mut reader = torn_reader(TWO_EQUAL, 1, failing);
         let (told, found) = told(alloc, &mut reader, 99)?;
         let found = found.as_slice().escape_ascii();
-        writeln!(text, "{length}: {} > {found}", told.as_str()).ok()?;
+        writeln!(text, "{failing}: {} > {found}", told.as_str()).ok()?;
     }
     Some(text)
 }
 
-const BROKEN: &str = r"29: 3 1 ok\n2 fault 96\n > 1 refused 20\n
-32: 3 1 ok\n2 fault 96\n > 1 refused 20\n
+const BROKEN: &str = r"62: 96 1 0 2 1 ok\n2 fault 96\n > 1 refused 20\n
+65: 96 1 0 2 1 ok\n2 fault 96\n > 1 refused 20\n
 ";
 
 #[test]
-fn ends_where_the_reader_fails(rt: HostRuntime) -> Result<(), Fail> {
+fn keeps_what_was_done_before_a_read_that_fails(rt: HostRuntime) -> Result<(), Fail> {
     let told = broken_runs(rt.alloc()).expect(&rt, "runs");
     assert_eq!(rt; told.as_str(), BROKEN);
+    Ok(())
+}
+
+/// The status of a run on a new package in memory.
+fn status<R: Read>(alloc: Global, reader: &mut Io<R>, left: usize) -> Option<u8> {
+    let conn = make(alloc, Connection::open_in_memory(alloc).ok()?)?;
+    let (_, status) = run(alloc, conn, reader, &mut short_writer(alloc, left))?;
+    Some(status)
+}
+
+/// The statuses of runs of two equal records: where the writer takes four bytes, where the read behind the first record fails, and where nothing does.
+fn statuses(alloc: Global) -> [Option<u8>; 3] {
+    [
+        status(alloc, &mut Io::new(TWO_EQUAL), 4),
+        status(alloc, &mut torn_reader(TWO_EQUAL, 1, 62), 99),
+        status(alloc, &mut Io::new(TWO_EQUAL), 99),
+    ]
+}
+
+#[test]
+fn ends_with_the_status_of_a_fault(rt: HostRuntime) -> Result<(), Fail> {
+    assert_eq!(rt; statuses(rt.alloc()), [Some(FAULT), Some(FAULT), Some(1)]);
     Ok(())
 }
 

@@ -4,7 +4,10 @@ use mm_base::moments::Moment;
 use mm_base::names::Name;
 use mm_base::streams::Io;
 use mm_core::Session;
-use mm_recovery::{close_and_adopt, create_and_recover, run_and_recover};
+use mm_recovery::{
+    close_and_adopt, create_again, create_and_recover, create_on, create_or_adopt,
+    open_after_crash, run_and_recover,
+};
 use mm_test_packages::{FINER, answers, create, open, run, text_of};
 use sqlite::{Alter, Connection, FileStore, Files, Options};
 use sqlite_disk::{Crash, Fuse, Memory};
@@ -227,6 +230,68 @@ fn makes_a_package_or_nothing(rt: HostRuntime) -> Result<(), Fail> {
         told.as_str(),
         "nothing, made: false\na package, made: true\n"
     );
+    Ok(())
+}
+
+/// What a second making gives, after a crash of the files of the first.
+fn made_after<D: Crash + Drop>(alloc: Global, conn: Connection<FileStore<D>>) -> &'static str {
+    match open_after_crash(alloc, conn, Options::new(7)) {
+        Ok(left) => match create_or_adopt(alloc, left) {
+            Ok(_) => "made again",
+            Err(_) => "neither",
+        },
+        Err(_) => "no file",
+    }
+}
+
+/// What a making on new files gives.
+fn made_on<D: Crash + Drop>(alloc: Global, files: Files<D>) -> &'static str {
+    if !files.may_be_used() {
+        return "no files";
+    }
+    match create_on(alloc, files, Options::new(7)) {
+        Ok(_) => "made",
+        Err((Some(conn), _)) => made_after(alloc, conn),
+        Err((None, _)) => "no files",
+    }
+}
+
+/// What is given on logs that take more and more calls, each new answer on a line, up to the first on which a package is made at once.
+fn second_makings(alloc: Global) -> Option<String> {
+    let mut text = String::new(alloc);
+    for calls in 0..2000u64 {
+        let told = made_on(alloc, files_of(alloc, calls));
+        let line = format!(in alloc; "{told}\n").ok()?;
+        if !text.ends_with(line.as_str()) {
+            text.push_str(line.as_str()).ok()?;
+        }
+        if told == "made" {
+            return Some(text);
+        }
+    }
+    None
+}
+
+#[test]
+fn makes_again_what_was_stopped(rt: HostRuntime) -> Result<(), Fail> {
+    let told = second_makings(rt.alloc()).expect(&rt, "a package that is made");
+    assert_eq!(rt; told.as_str(), "no files\nmade again\nmade\n");
+    Ok(())
+}
+
+/// Whether a package is made on files, lost and made again.
+fn made_twice<D: Crash + Drop>(alloc: Global, files: Files<D>) -> Option<bool> {
+    let conn = open(alloc, files)?;
+    if !conn.is_autocommit() {
+        return None;
+    }
+    Some(create_again(alloc, conn, Options::new(7)).is_ok())
+}
+
+#[test]
+fn finds_what_was_made_before(rt: HostRuntime) -> Result<(), Fail> {
+    let told = made_twice(rt.alloc(), files_of(rt.alloc(), u64::MAX)).expect(&rt, "a connection");
+    assert_eq!(rt; told, true);
     Ok(())
 }
 

@@ -2,9 +2,9 @@
 use Rattle.std.proofs.Common.{◌≡◌, refl}
 use Rattle.sqlite.specs.Listing.{understood}
 use Rattle.sqlite_tied.specs.Compute.{everything}
-use Rattle.sql_forms.proofs.Creates.{IsCreate}
+use Rattle.sql_forms.proofs.Creates.{IsCreate, IsIndexing}
 use Rattle.mm_schema.specs.Tables as tables
-use Rattle.mm_schema.specs.Made.{first_of, unplaced}
+use Rattle.mm_schema.specs.Made.{first_of, unplaced, unplaced_index, with_digest, with_tiles, with_media, with_pieces}
 use Rattle.mm_schema.specs.Creates as texts
 
 pub gpkg_spatial_ref_sys : IsCreate (first_of 0) texts.gpkg_spatial_ref_sys (unplaced tables.gpkg_spatial_ref_sys) (first_of 1)
@@ -63,5 +63,27 @@ pub mm_pieces : IsCreate (first_of 13) texts.mm_pieces (unplaced tables.mm_piece
 unfolding understood everything
 mm_pieces = record { compiled = refl; said = refl; plain = (refl, refl); defined = refl; becomes = refl; uncounted = refl }
 
-pub all_made : first_of 14 ≡ tables.schema
+pub mm_blobs : IsCreate (first_of 14) texts.mm_blobs (unplaced tables.mm_blobs) (first_of 15)
+unfolding understood everything
+mm_blobs = record { compiled = refl; said = refl; plain = (refl, refl); defined = refl; becomes = refl; uncounted = refl }
+
+-- ---- the indexes
+
+pub mm_blobs_digest : IsIndexing (first_of 15) texts.mm_blobs_digest 14 tables.mm_blobs (unplaced_index tables.mm_blobs_digest) with_digest
+unfolding understood everything
+mm_blobs_digest = record { compiled = refl; said = refl; plain = (refl, refl); placed = refl; defined = refl; becomes = refl }
+
+pub mm_tiles_blob : IsIndexing with_digest texts.mm_tiles_blob 8 tables.mm_tiles (unplaced_index tables.mm_tiles_blob) with_tiles
+unfolding understood everything
+mm_tiles_blob = record { compiled = refl; said = refl; plain = (refl, refl); placed = refl; defined = refl; becomes = refl }
+
+pub mm_media_blob : IsIndexing with_tiles texts.mm_media_blob 10 tables.mm_media (unplaced_index tables.mm_media_blob) with_media
+unfolding understood everything
+mm_media_blob = record { compiled = refl; said = refl; plain = (refl, refl); placed = refl; defined = refl; becomes = refl }
+
+pub mm_pieces_blob : IsIndexing with_media texts.mm_pieces_blob 13 tables.mm_pieces (unplaced_index tables.mm_pieces_blob) with_pieces
+unfolding understood everything
+mm_pieces_blob = record { compiled = refl; said = refl; plain = (refl, refl); placed = refl; defined = refl; becomes = refl }
+
+pub all_made : with_pieces ≡ tables.schema
 all_made = refl

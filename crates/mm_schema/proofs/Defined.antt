@@ -60,3 +60,7 @@ mm_editions = refl
 pub mm_pieces : table_defined_by texts.mm_pieces ≡ Ok (record tables.mm_pieces { tree = 0 })
 unfolding everything
 mm_pieces = refl
+
+pub mm_blobs : table_defined_by texts.mm_blobs ≡ Ok (record tables.mm_blobs { tree = 0 })
+unfolding everything
+mm_blobs = refl

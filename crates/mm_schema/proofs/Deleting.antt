@@ -8,7 +8,7 @@ use Rattle.sqlite_tied.specs.Compute.{everything}
 use Rattle.sql_forms.specs.Cascade.{is_childless}
 use Rattle.sql_forms.specs.Forms.{equals, reads, is_absent}
 use Rattle.sql_forms.proofs.Deletes.{IsDelete}
-use Rattle.mm_schema.specs.Tables.{schema, gpkg_extensions, mm_tiles, mm_rows, mm_media, mm_map, mm_pieces}
+use Rattle.mm_schema.specs.Tables.{schema, gpkg_extensions, mm_tiles, mm_rows, mm_media, mm_map, mm_pieces, mm_blobs}
 use Rattle.mm_schema.specs.Statements as text
 
 childless_gpkg_extensions : is_childless schema Enforced gpkg_extensions.tree ≡ true
@@ -62,3 +62,11 @@ childless_mm_pieces = refl
 pub delete_pieces : IsDelete schema text.delete_pieces 13 mm_pieces (equals 1 0 ∷ [])
 unfolding understood everything
 delete_pieces = record { compiled = refl; plain = (refl, refl); placed = refl; childless = childless_mm_pieces }
+
+childless_mm_blobs : is_childless schema Enforced mm_blobs.tree ≡ true
+unfolding same_name joined first_key
+childless_mm_blobs = refl
+
+pub delete_blob : IsDelete schema text.delete_blob 14 mm_blobs (equals 0 0 ∷ [])
+unfolding understood everything
+delete_blob = record { compiled = refl; plain = (refl, refl); placed = refl; childless = childless_mm_blobs }

@@ -5,7 +5,7 @@ use Rattle.sqlite.specs.Term.{lit, col}
 use Rattle.sqlite.specs.Listing.{understood}
 use Rattle.sqlite_tied.specs.Compute.{everything}
 use Rattle.sql_forms.proofs.Inserts.{IsInsert}
-use Rattle.mm_schema.specs.Tables.{schema, gpkg_spatial_ref_sys, gpkg_contents, gpkg_tile_matrix_set, gpkg_tile_matrix, gpkg_extensions, gpkgext_relations, mm_profile, mm_tables, mm_tiles, mm_rows, mm_media, mm_map, mm_editions, mm_pieces}
+use Rattle.mm_schema.specs.Tables.{schema, gpkg_spatial_ref_sys, gpkg_contents, gpkg_tile_matrix_set, gpkg_tile_matrix, gpkg_extensions, gpkgext_relations, mm_profile, mm_tables, mm_tiles, mm_rows, mm_media, mm_map, mm_editions, mm_pieces, mm_blobs}
 use Rattle.mm_schema.specs.Statements as text
 
 pub insert_profile : IsInsert schema text.insert_profile 6 mm_profile (col 0 0 ∷ lit Null ∷ col 0 1 ∷ []) 3
@@ -71,3 +71,7 @@ insert_edition = record { compiled = refl; plain = (refl, refl); placed = refl; 
 pub insert_piece : IsInsert schema text.insert_piece 13 mm_pieces (lit Null ∷ col 0 0 ∷ col 0 1 ∷ col 0 2 ∷ col 0 3 ∷ col 0 4 ∷ col 0 5 ∷ col 0 6 ∷ col 0 7 ∷ col 0 8 ∷ col 0 9 ∷ col 0 10 ∷ col 0 11 ∷ col 0 12 ∷ col 0 13 ∷ []) 15
 unfolding understood everything
 insert_piece = record { compiled = refl; plain = (refl, refl); placed = refl; unstamped = λ params. refl; uncounted = refl; one = λ params. refl; idle = λ new. refl }
+
+pub insert_blob : IsInsert schema text.insert_blob 14 mm_blobs (lit Null ∷ lit Null ∷ col 0 0 ∷ col 0 1 ∷ []) 4
+unfolding understood everything
+insert_blob = record { compiled = refl; plain = (refl, refl); placed = refl; unstamped = λ params. refl; uncounted = refl; one = λ params. refl; idle = λ new. refl }

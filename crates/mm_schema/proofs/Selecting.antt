@@ -1,9 +1,13 @@
 -- The SELECT statements.
-use Rattle.std.proofs.Common.{[], ◌∷◌, codes, true, false, pos, refl}
+use Rattle.std.proofs.Common.{ℕ, [], ◌∷◌, codes, true, false, pos, refl}
 use Rattle.sqlite.specs.declared.types.Value.TheVariants.{Int}
 use Rattle.sqlite_value.specs.declared.keys.Collation.TheVariants.{Binary}
-use Rattle.sqlite_sql.specs.declared.ops.CompareOp.TheVariants.{Lt, Gt}
-use Rattle.sqlite.specs.Term.{Term, lit, col}
+use Rattle.sqlite_sql.specs.declared.ops.CompareOp.TheVariants.{Eq, Lt, Gt}
+use Rattle.sqlite.specs.Term.{Term, lit, col, op1, op2}
+use Rattle.sqlite.specs.Query.{inner, counted, end}
+use Rattle.sqlite_sql.specs.declared.ops.BinaryOp.TheVariants.{Compare}
+use Rattle.sqlite_sql.specs.declared.ops.UnaryOp.TheVariants.{Not}
+use Rattle.sql_forms.specs.Forms.{query, no_limit}
 use Rattle.sqlite.specs.Listing.{understood}
 use Rattle.sqlite_tied.specs.Compute.{everything}
 use Rattle.sql_forms.specs.Forms.{equals, compares, over, all_of}
@@ -58,9 +62,9 @@ pub has_tile : IsSelect schema text.has_tile 15 (all_of 15 (equals 1 0 ∷ equal
 unfolding understood everything
 has_tile = record { compiled = refl; plain = (refl, refl); unlisted = refl; listed = refl }
 
-pub tile_bytes : IsSelect schema text.tile_bytes 15 (all_of 15 (equals 1 0 ∷ equals 2 1 ∷ equals 3 2 ∷ equals 4 3 ∷ []) (col 1 5 ∷ [])) (codes "tile_data" ∷ [])
+pub blob_of_tile : IsSelect schema text.blob_of_tile 15 (all_of 15 (equals 1 0 ∷ equals 2 1 ∷ equals 3 2 ∷ equals 4 3 ∷ []) (col 1 5 ∷ [])) (codes "blob" ∷ [])
 unfolding understood everything
-tile_bytes = record { compiled = refl; plain = (refl, refl); unlisted = refl; listed = refl }
+blob_of_tile = record { compiled = refl; plain = (refl, refl); unlisted = refl; listed = refl }
 
 pub has_row : IsSelect schema text.has_row 17 (all_of 17 (equals 1 0 ∷ equals 2 1 ∷ []) (one ∷ [])) (codes "1" ∷ [])
 unfolding understood everything
@@ -74,7 +78,7 @@ pub has_medium : IsSelect schema text.has_medium 19 (all_of 19 (equals 1 0 ∷ e
 unfolding understood everything
 has_medium = record { compiled = refl; plain = (refl, refl); unlisted = refl; listed = refl }
 
-pub medium_values : IsSelect schema text.medium_values 19 (all_of 19 (equals 1 0 ∷ equals 2 1 ∷ []) (col 1 3 ∷ col 1 4 ∷ [])) (codes "data" ∷ codes "content_type" ∷ [])
+pub medium_values : IsSelect schema text.medium_values 19 (all_of 19 (equals 1 0 ∷ equals 2 1 ∷ []) (col 1 3 ∷ col 1 4 ∷ [])) (codes "blob" ∷ codes "content_type" ∷ [])
 unfolding understood everything
 medium_values = record { compiled = refl; plain = (refl, refl); unlisted = refl; listed = refl }
 
@@ -106,6 +110,46 @@ pub last_piece : IsSelect schema text.last_piece 25 (over 25 (equals 1 0 ∷ [])
 unfolding understood everything
 last_piece = record { compiled = refl; plain = (refl, refl); unlisted = refl; listed = refl }
 
-pub piece_values : IsSelect schema text.piece_values 25 (all_of 25 (equals 1 0 ∷ equals 2 1 ∷ []) (col 1 3 ∷ col 1 4 ∷ col 1 5 ∷ col 1 6 ∷ col 1 7 ∷ col 1 8 ∷ col 1 9 ∷ col 1 10 ∷ col 1 11 ∷ col 1 12 ∷ col 1 13 ∷ col 1 14 ∷ [])) (codes "kind" ∷ codes "name" ∷ codes "k1" ∷ codes "k2" ∷ codes "k3" ∷ codes "k4" ∷ codes "k5" ∷ codes "k6" ∷ codes "k7" ∷ codes "t1" ∷ codes "t2" ∷ codes "data" ∷ [])
+pub piece_values : IsSelect schema text.piece_values 25 (all_of 25 (equals 1 0 ∷ equals 2 1 ∷ []) (col 1 3 ∷ col 1 4 ∷ col 1 5 ∷ col 1 6 ∷ col 1 7 ∷ col 1 8 ∷ col 1 9 ∷ col 1 10 ∷ col 1 11 ∷ col 1 12 ∷ col 1 13 ∷ col 1 14 ∷ [])) (codes "kind" ∷ codes "name" ∷ codes "k1" ∷ codes "k2" ∷ codes "k3" ∷ codes "k4" ∷ codes "k5" ∷ codes "k6" ∷ codes "k7" ∷ codes "t1" ∷ codes "t2" ∷ codes "blob" ∷ [])
 unfolding understood everything
 piece_values = record { compiled = refl; plain = (refl, refl); unlisted = refl; listed = refl }
+
+pub blob_of_bytes : IsSelect schema text.blob_of_bytes 27 (all_of 27 (equals 2 0 ∷ equals 3 1 ∷ []) (col 1 0 ∷ [])) (codes "id" ∷ [])
+unfolding understood everything
+blob_of_bytes = record { compiled = refl; plain = (refl, refl); unlisted = refl; listed = refl }
+
+pub bytes_of_blob : IsSelect schema text.bytes_of_blob 27 (all_of 27 (equals 0 0 ∷ []) (col 1 3 ∷ [])) (codes "data" ∷ [])
+unfolding understood everything
+bytes_of_blob = record { compiled = refl; plain = (refl, refl); unlisted = refl; listed = refl }
+
+pub tile_of_blob : IsSelect schema text.tile_of_blob 15 (all_of 15 (equals 5 0 ∷ []) (one ∷ [])) (codes "1" ∷ [])
+unfolding understood everything
+tile_of_blob = record { compiled = refl; plain = (refl, refl); unlisted = refl; listed = refl }
+
+pub medium_of_blob : IsSelect schema text.medium_of_blob 19 (all_of 19 (equals 3 0 ∷ []) (one ∷ [])) (codes "1" ∷ [])
+unfolding understood everything
+medium_of_blob = record { compiled = refl; plain = (refl, refl); unlisted = refl; listed = refl }
+
+pub piece_of_blob : IsSelect schema text.piece_of_blob 25 (all_of 25 (equals 14 0 ∷ []) (one ∷ [])) (codes "1" ∷ [])
+unfolding understood everything
+piece_of_blob = record { compiled = refl; plain = (refl, refl); unlisted = refl; listed = refl }
+
+pub blobs_of_tiles : IsSelect schema text.blobs_of_tiles 15 (all_of 15 (equals 1 0 ∷ []) (col 1 5 ∷ [])) (codes "blob" ∷ [])
+unfolding understood everything
+blobs_of_tiles = record { compiled = refl; plain = (refl, refl); unlisted = refl; listed = refl }
+
+pub blobs_of_media : IsSelect schema text.blobs_of_media 19 (all_of 19 (equals 1 0 ∷ []) (col 1 3 ∷ [])) (codes "blob" ∷ [])
+unfolding understood everything
+blobs_of_media = record { compiled = refl; plain = (refl, refl); unlisted = refl; listed = refl }
+
+-- a column of a table against one of another
+abbrev same : ℕ → ℕ → ℕ → ℕ → Term
+same s c t d = op2 (Compare Eq Binary) (col s c) (col t d)
+
+pub equal_blobs : IsSelect schema text.equal_blobs 27 (query (inner 27 (inner 27 end)) (same 2 2 1 2 ∷ op2 (Compare Gt Binary) (col 2 0) (col 1 0) ∷ same 2 3 1 3 ∷ []) (col 1 0 ∷ []) [] no_limit) (codes "id" ∷ [])
+unfolding understood everything
+equal_blobs = record { compiled = refl; plain = (refl, refl); unlisted = refl; listed = refl }
+
+pub unnamed_blobs : IsSelect schema text.unnamed_blobs 27 (query (inner 27 (counted 1 (inner 15 end) (same 2 5 1 0 ∷ []) (counted 1 (inner 19 end) (same 3 3 1 0 ∷ []) (counted 1 (inner 25 end) (same 4 14 1 0 ∷ []) end)))) (op1 Not (col 2 0) ∷ op1 Not (col 3 0) ∷ op1 Not (col 4 0) ∷ []) (col 1 0 ∷ []) [] no_limit) (codes "id" ∷ [])
+unfolding understood everything
+unnamed_blobs = record { compiled = refl; plain = (refl, refl); unlisted = refl; listed = refl }

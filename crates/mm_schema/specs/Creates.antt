@@ -26,13 +26,13 @@ abbrev pub mm_tables : List ℕ
 mm_tables = codes "CREATE TABLE mm_tables (table_name TEXT NOT NULL PRIMARY KEY, kind TEXT NOT NULL, FOREIGN KEY (table_name) REFERENCES gpkg_contents (table_name) ON DELETE CASCADE) STRICT"
 
 abbrev pub mm_tiles : List ℕ
-mm_tiles = codes "CREATE TABLE mm_tiles (table_name TEXT NOT NULL, zoom_level INTEGER NOT NULL, tile_column INTEGER NOT NULL, tile_row INTEGER NOT NULL, tile_data BLOB NOT NULL, PRIMARY KEY (table_name, zoom_level, tile_column, tile_row), FOREIGN KEY (table_name, zoom_level) REFERENCES gpkg_tile_matrix (table_name, zoom_level) ON DELETE CASCADE) STRICT"
+mm_tiles = codes "CREATE TABLE mm_tiles (table_name TEXT NOT NULL, zoom_level INTEGER NOT NULL, tile_column INTEGER NOT NULL, tile_row INTEGER NOT NULL, blob INTEGER NOT NULL, PRIMARY KEY (table_name, zoom_level, tile_column, tile_row), FOREIGN KEY (table_name, zoom_level) REFERENCES gpkg_tile_matrix (table_name, zoom_level) ON DELETE CASCADE, FOREIGN KEY (blob) REFERENCES mm_blobs (id) ON DELETE RESTRICT) STRICT"
 
 abbrev pub mm_rows : List ℕ
 mm_rows = codes "CREATE TABLE mm_rows (table_name TEXT NOT NULL, id INTEGER NOT NULL, title TEXT NOT NULL, note TEXT NOT NULL, amount INTEGER NOT NULL, PRIMARY KEY (table_name, id), FOREIGN KEY (table_name) REFERENCES gpkg_contents (table_name) ON DELETE CASCADE) STRICT"
 
 abbrev pub mm_media : List ℕ
-mm_media = codes "CREATE TABLE mm_media (table_name TEXT NOT NULL, id INTEGER NOT NULL, data BLOB NOT NULL, content_type TEXT NOT NULL, PRIMARY KEY (table_name, id), FOREIGN KEY (table_name) REFERENCES gpkg_contents (table_name) ON DELETE CASCADE) STRICT"
+mm_media = codes "CREATE TABLE mm_media (table_name TEXT NOT NULL, id INTEGER NOT NULL, blob INTEGER NOT NULL, content_type TEXT NOT NULL, PRIMARY KEY (table_name, id), FOREIGN KEY (table_name) REFERENCES gpkg_contents (table_name) ON DELETE CASCADE, FOREIGN KEY (blob) REFERENCES mm_blobs (id) ON DELETE RESTRICT) STRICT"
 
 abbrev pub mm_map : List ℕ
 mm_map = codes "CREATE TABLE mm_map (mapping TEXT NOT NULL, base_id INTEGER NOT NULL, related_id INTEGER NOT NULL, PRIMARY KEY (mapping, base_id, related_id), FOREIGN KEY (mapping) REFERENCES gpkgext_relations (mapping_table_name) ON DELETE CASCADE) STRICT"
@@ -41,4 +41,21 @@ abbrev pub mm_editions : List ℕ
 mm_editions = codes "CREATE TABLE mm_editions (name TEXT NOT NULL PRIMARY KEY, state TEXT NOT NULL) STRICT"
 
 abbrev pub mm_pieces : List ℕ
-mm_pieces = codes "CREATE TABLE mm_pieces (edition TEXT NOT NULL, piece_no INTEGER NOT NULL, kind TEXT NOT NULL, name TEXT NOT NULL, k1 INTEGER NOT NULL, k2 INTEGER NOT NULL, k3 INTEGER NOT NULL, k4 INTEGER NOT NULL, k5 INTEGER NOT NULL, k6 INTEGER NOT NULL, k7 INTEGER NOT NULL, t1 TEXT NOT NULL, t2 TEXT NOT NULL, data BLOB NOT NULL, PRIMARY KEY (edition, piece_no), FOREIGN KEY (edition) REFERENCES mm_editions (name) ON DELETE CASCADE) STRICT"
+mm_pieces = codes "CREATE TABLE mm_pieces (edition TEXT NOT NULL, piece_no INTEGER NOT NULL, kind TEXT NOT NULL, name TEXT NOT NULL, k1 INTEGER NOT NULL, k2 INTEGER NOT NULL, k3 INTEGER NOT NULL, k4 INTEGER NOT NULL, k5 INTEGER NOT NULL, k6 INTEGER NOT NULL, k7 INTEGER NOT NULL, t1 TEXT NOT NULL, t2 TEXT NOT NULL, blob INTEGER, PRIMARY KEY (edition, piece_no), FOREIGN KEY (edition) REFERENCES mm_editions (name) ON DELETE CASCADE, FOREIGN KEY (blob) REFERENCES mm_blobs (id) ON DELETE RESTRICT) STRICT"
+
+abbrev pub mm_blobs : List ℕ
+mm_blobs = codes "CREATE TABLE mm_blobs (id INTEGER NOT NULL PRIMARY KEY, digest TEXT NOT NULL, data BLOB NOT NULL) STRICT"
+
+-- ---- indexes, each on a table that is there
+
+abbrev pub mm_blobs_digest : List ℕ
+mm_blobs_digest = codes "CREATE INDEX mm_blobs_digest ON mm_blobs (digest)"
+
+abbrev pub mm_tiles_blob : List ℕ
+mm_tiles_blob = codes "CREATE INDEX mm_tiles_blob ON mm_tiles (blob)"
+
+abbrev pub mm_media_blob : List ℕ
+mm_media_blob = codes "CREATE INDEX mm_media_blob ON mm_media (blob)"
+
+abbrev pub mm_pieces_blob : List ℕ
+mm_pieces_blob = codes "CREATE INDEX mm_pieces_blob ON mm_pieces (blob)"

@@ -3,8 +3,9 @@ use Rattle.std.specs.Prelude.{◌≡◌, ℕ, List, [], ◌∷◌, take, map, fo
 use Rattle.std.specs.List.{AllByRecursion}
 use Rattle.sqlite.specs.Table.{Table}
 use Rattle.sqlite.specs.Schema.{Schema}
-use Rattle.sqlite.specs.Change.{created}
-use Rattle.sqlite.specs.Compile.{table_defined_by}
+use Rattle.sqlite.specs.Change.{created, indexed}
+use Rattle.sqlite.specs.Compile.{table_defined_by, index_defined_by}
+use Rattle.sqlite_schema.specs.declared.schema.Index.{Index}
 use Rattle.mm_schema.specs.Tables as tables
 use Rattle.mm_schema.specs.Creates as creates
 
@@ -35,7 +36,8 @@ definitions =
     ∷ (creates.mm_media, tables.mm_media)
     ∷ (creates.mm_map, tables.mm_map)
     ∷ (creates.mm_editions, tables.mm_editions)
-    ∷ (creates.mm_pieces, tables.mm_pieces) ∷ []
+    ∷ (creates.mm_pieces, tables.mm_pieces)
+    ∷ (creates.mm_blobs, tables.mm_blobs) ∷ []
 
 -- the text defines the table
 abbrev pub Defines : List ℕ × Table → Type 0
@@ -43,3 +45,21 @@ Defines d = table_defined_by d.0 ≡ Ok (unplaced d.1)
 
 abbrev pub AllDefine : List (List ℕ × Table) → Type 0
 AllDefine = AllByRecursion Defines
+
+-- ---- the indexes that the texts make, behind all tables
+
+-- an index as its text defines it, before the database gives it a tree
+abbrev pub unplaced_index : Index → Index
+unplaced_index i = record i { tree = 0 }
+
+abbrev pub with_digest : Schema
+with_digest = indexed (first_of 15) tables.mm_blobs (unplaced_index tables.mm_blobs_digest)
+
+abbrev pub with_tiles : Schema
+with_tiles = indexed with_digest tables.mm_tiles (unplaced_index tables.mm_tiles_blob)
+
+abbrev pub with_media : Schema
+with_media = indexed with_tiles tables.mm_media (unplaced_index tables.mm_media_blob)
+
+abbrev pub with_pieces : Schema
+with_pieces = indexed with_media tables.mm_pieces (unplaced_index tables.mm_pieces_blob)

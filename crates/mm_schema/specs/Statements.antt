@@ -89,14 +89,14 @@ delete_zoom_row = codes "DELETE FROM gpkg_extensions WHERE table_name = ?1 AND c
 abbrev pub has_tile : List ℕ
 has_tile = codes "SELECT 1 FROM mm_tiles WHERE table_name = ?1 AND zoom_level = ?2 AND tile_column = ?3 AND tile_row = ?4"
 
-abbrev pub tile_bytes : List ℕ
-tile_bytes = codes "SELECT tile_data FROM mm_tiles WHERE table_name = ?1 AND zoom_level = ?2 AND tile_column = ?3 AND tile_row = ?4"
+abbrev pub blob_of_tile : List ℕ
+blob_of_tile = codes "SELECT blob FROM mm_tiles WHERE table_name = ?1 AND zoom_level = ?2 AND tile_column = ?3 AND tile_row = ?4"
 
 abbrev pub insert_tile : List ℕ
-insert_tile = codes "INSERT INTO mm_tiles (table_name, zoom_level, tile_column, tile_row, tile_data) VALUES (?1, ?2, ?3, ?4, ?5)"
+insert_tile = codes "INSERT INTO mm_tiles (table_name, zoom_level, tile_column, tile_row, blob) VALUES (?1, ?2, ?3, ?4, ?5)"
 
 abbrev pub update_tile : List ℕ
-update_tile = codes "UPDATE mm_tiles SET tile_data = ?5 WHERE table_name = ?1 AND zoom_level = ?2 AND tile_column = ?3 AND tile_row = ?4"
+update_tile = codes "UPDATE mm_tiles SET blob = ?5 WHERE table_name = ?1 AND zoom_level = ?2 AND tile_column = ?3 AND tile_row = ?4"
 
 abbrev pub delete_tile : List ℕ
 delete_tile = codes "DELETE FROM mm_tiles WHERE table_name = ?1 AND zoom_level = ?2 AND tile_column = ?3 AND tile_row = ?4"
@@ -124,13 +124,13 @@ abbrev pub has_medium : List ℕ
 has_medium = codes "SELECT 1 FROM mm_media WHERE table_name = ?1 AND id = ?2"
 
 abbrev pub medium_values : List ℕ
-medium_values = codes "SELECT data, content_type FROM mm_media WHERE table_name = ?1 AND id = ?2"
+medium_values = codes "SELECT blob, content_type FROM mm_media WHERE table_name = ?1 AND id = ?2"
 
 abbrev pub insert_medium : List ℕ
-insert_medium = codes "INSERT INTO mm_media (table_name, id, data, content_type) VALUES (?1, ?2, ?3, ?4)"
+insert_medium = codes "INSERT INTO mm_media (table_name, id, blob, content_type) VALUES (?1, ?2, ?3, ?4)"
 
 abbrev pub update_medium : List ℕ
-update_medium = codes "UPDATE mm_media SET data = ?3, content_type = ?4 WHERE table_name = ?1 AND id = ?2"
+update_medium = codes "UPDATE mm_media SET blob = ?3, content_type = ?4 WHERE table_name = ?1 AND id = ?2"
 
 abbrev pub delete_medium : List ℕ
 delete_medium = codes "DELETE FROM mm_media WHERE table_name = ?1 AND id = ?2"
@@ -186,10 +186,50 @@ abbrev pub last_piece : List ℕ
 last_piece = codes "SELECT piece_no FROM mm_pieces WHERE edition = ?1 ORDER BY piece_no DESC LIMIT 1"
 
 abbrev pub piece_values : List ℕ
-piece_values = codes "SELECT kind, name, k1, k2, k3, k4, k5, k6, k7, t1, t2, data FROM mm_pieces WHERE edition = ?1 AND piece_no = ?2"
+piece_values = codes "SELECT kind, name, k1, k2, k3, k4, k5, k6, k7, t1, t2, blob FROM mm_pieces WHERE edition = ?1 AND piece_no = ?2"
 
 abbrev pub insert_piece : List ℕ
-insert_piece = codes "INSERT INTO mm_pieces (edition, piece_no, kind, name, k1, k2, k3, k4, k5, k6, k7, t1, t2, data) VALUES (?1, ?2, ?3, ?4, ?5, ?6, ?7, ?8, ?9, ?10, ?11, ?12, ?13, ?14)"
+insert_piece = codes "INSERT INTO mm_pieces (edition, piece_no, kind, name, k1, k2, k3, k4, k5, k6, k7, t1, t2, blob) VALUES (?1, ?2, ?3, ?4, ?5, ?6, ?7, ?8, ?9, ?10, ?11, ?12, ?13, ?14)"
 
 abbrev pub delete_pieces : List ℕ
 delete_pieces = codes "DELETE FROM mm_pieces WHERE edition = ?1"
+
+-- ---- blobs
+
+abbrev pub blob_of_bytes : List ℕ
+blob_of_bytes = codes "SELECT id FROM mm_blobs WHERE digest = ?1 AND data = ?2"
+
+abbrev pub bytes_of_blob : List ℕ
+bytes_of_blob = codes "SELECT data FROM mm_blobs WHERE id = ?1"
+
+abbrev pub insert_blob : List ℕ
+insert_blob = codes "INSERT INTO mm_blobs (digest, data) VALUES (?1, ?2)"
+
+abbrev pub delete_blob : List ℕ
+delete_blob = codes "DELETE FROM mm_blobs WHERE id = ?1"
+
+abbrev pub tile_of_blob : List ℕ
+tile_of_blob = codes "SELECT 1 FROM mm_tiles WHERE blob = ?1"
+
+abbrev pub medium_of_blob : List ℕ
+medium_of_blob = codes "SELECT 1 FROM mm_media WHERE blob = ?1"
+
+abbrev pub piece_of_blob : List ℕ
+piece_of_blob = codes "SELECT 1 FROM mm_pieces WHERE blob = ?1"
+
+abbrev pub blobs_of_tiles : List ℕ
+blobs_of_tiles = codes "SELECT blob FROM mm_tiles WHERE table_name = ?1"
+
+abbrev pub blobs_of_media : List ℕ
+blobs_of_media = codes "SELECT blob FROM mm_media WHERE table_name = ?1"
+
+abbrev pub blobs_of_pieces : List ℕ
+blobs_of_pieces = codes "SELECT blob FROM mm_pieces WHERE edition = ?1 AND blob IS NOT NULL"
+
+-- the blobs that nothing names
+abbrev pub unnamed_blobs : List ℕ
+unnamed_blobs = codes "SELECT b.id FROM mm_blobs AS b WHERE NOT EXISTS (SELECT 1 FROM mm_tiles AS t WHERE t.blob = b.id) AND NOT EXISTS (SELECT 1 FROM mm_media AS m WHERE m.blob = b.id) AND NOT EXISTS (SELECT 1 FROM mm_pieces AS p WHERE p.blob = b.id)"
+
+-- blobs that hold the same
+abbrev pub equal_blobs : List ℕ
+equal_blobs = codes "SELECT a.id FROM mm_blobs AS a JOIN mm_blobs AS b ON b.digest = a.digest WHERE b.id > a.id AND b.data = a.data"

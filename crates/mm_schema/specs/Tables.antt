@@ -40,6 +40,10 @@ table name tree columns key primary uniques orders references = record {
   is_counted = false;
 }
 
+-- an index that a text makes, of a column that may hold a value more than once
+abbrev index_on : List ℕ → ℕ → Table → List ℕ → Index
+index_on name tree it columns = record { name = name; tree = tree; table = it.tree; columns = columns; order = plain; is_unique = false }
+
 -- the index of one of the table's keys
 abbrev unique : Table → ℕ → ℕ → Index
 unique it at tree = automatic it at (slice_index_or it.uniques at []) tree
@@ -151,10 +155,11 @@ mm_tiles = table (codes "mm_tiles") 15
     ∷ required (codes "zoom_level") Integer
     ∷ required (codes "tile_column") Integer
     ∷ required (codes "tile_row") Integer
-    ∷ required (codes "tile_data") Blob
+    ∷ required (codes "blob") Integer
     ∷ [])
     None (1 ∷ 2 ∷ 3 ∷ 4 ∷ []) ((1 ∷ 2 ∷ 3 ∷ 4 ∷ []) ∷ []) (plain ∷ [])
     (refers (1 ∷ 2 ∷ []) (codes "gpkg_tile_matrix") (codes "table_name" ∷ codes "zoom_level" ∷ []) Cascade
+    ∷ refers (5 ∷ []) (codes "mm_blobs") (codes "id" ∷ []) Restrict
     ∷ [])
 
 abbrev pub mm_rows : Table
@@ -173,11 +178,12 @@ abbrev pub mm_media : Table
 mm_media = table (codes "mm_media") 19
     (required (codes "table_name") Text
     ∷ required (codes "id") Integer
-    ∷ required (codes "data") Blob
+    ∷ required (codes "blob") Integer
     ∷ required (codes "content_type") Text
     ∷ [])
     None (1 ∷ 2 ∷ []) ((1 ∷ 2 ∷ []) ∷ []) (plain ∷ [])
     (refers (1 ∷ []) (codes "gpkg_contents") (codes "table_name" ∷ []) Cascade
+    ∷ refers (3 ∷ []) (codes "mm_blobs") (codes "id" ∷ []) Restrict
     ∷ [])
 
 abbrev pub mm_map : Table
@@ -213,17 +219,39 @@ mm_pieces = table (codes "mm_pieces") 25
     ∷ required (codes "k7") Integer
     ∷ required (codes "t1") Text
     ∷ required (codes "t2") Text
-    ∷ required (codes "data") Blob
+    ∷ optional (codes "blob") Integer
     ∷ [])
     None (1 ∷ 2 ∷ []) ((1 ∷ 2 ∷ []) ∷ []) (plain ∷ [])
     (refers (1 ∷ []) (codes "mm_editions") (codes "name" ∷ []) Cascade
+    ∷ refers (14 ∷ []) (codes "mm_blobs") (codes "id" ∷ []) Restrict
     ∷ [])
 
+abbrev pub mm_blobs : Table
+mm_blobs = table (codes "mm_blobs") 27
+    (required (codes "id") Integer
+    ∷ required (codes "digest") Text
+    ∷ required (codes "data") Blob
+    ∷ [])
+    (Some 0) (0 ∷ []) ([]) ([])
+    ([])
+
 abbrev pub tables : List Table
-tables = gpkg_spatial_ref_sys ∷ gpkg_contents ∷ gpkg_tile_matrix_set ∷ gpkg_tile_matrix ∷ gpkg_extensions ∷ gpkgext_relations ∷ mm_profile ∷ mm_tables ∷ mm_tiles ∷ mm_rows ∷ mm_media ∷ mm_map ∷ mm_editions ∷ mm_pieces ∷ []
+tables = gpkg_spatial_ref_sys ∷ gpkg_contents ∷ gpkg_tile_matrix_set ∷ gpkg_tile_matrix ∷ gpkg_extensions ∷ gpkgext_relations ∷ mm_profile ∷ mm_tables ∷ mm_tiles ∷ mm_rows ∷ mm_media ∷ mm_map ∷ mm_editions ∷ mm_pieces ∷ mm_blobs ∷ []
+
+abbrev pub mm_blobs_digest : Index
+mm_blobs_digest = index_on (codes "mm_blobs_digest") 28 mm_blobs (2 ∷ [])
+
+abbrev pub mm_tiles_blob : Index
+mm_tiles_blob = index_on (codes "mm_tiles_blob") 29 mm_tiles (5 ∷ [])
+
+abbrev pub mm_media_blob : Index
+mm_media_blob = index_on (codes "mm_media_blob") 30 mm_media (3 ∷ [])
+
+abbrev pub mm_pieces_blob : Index
+mm_pieces_blob = index_on (codes "mm_pieces_blob") 31 mm_pieces (14 ∷ [])
 
 abbrev pub indexes : List Index
-indexes = unique gpkg_contents 0 2 ∷ unique gpkg_contents 1 3 ∷ unique gpkg_tile_matrix_set 0 5 ∷ unique gpkg_tile_matrix 0 7 ∷ unique gpkg_extensions 0 9 ∷ unique gpkgext_relations 0 11 ∷ unique mm_tables 0 14 ∷ unique mm_tiles 0 16 ∷ unique mm_rows 0 18 ∷ unique mm_media 0 20 ∷ unique mm_map 0 22 ∷ unique mm_editions 0 24 ∷ unique mm_pieces 0 26 ∷ []
+indexes = unique gpkg_contents 0 2 ∷ unique gpkg_contents 1 3 ∷ unique gpkg_tile_matrix_set 0 5 ∷ unique gpkg_tile_matrix 0 7 ∷ unique gpkg_extensions 0 9 ∷ unique gpkgext_relations 0 11 ∷ unique mm_tables 0 14 ∷ unique mm_tiles 0 16 ∷ unique mm_rows 0 18 ∷ unique mm_media 0 20 ∷ unique mm_map 0 22 ∷ unique mm_editions 0 24 ∷ unique mm_pieces 0 26 ∷ mm_blobs_digest ∷ mm_tiles_blob ∷ mm_media_blob ∷ mm_pieces_blob ∷ []
 
 abbrev pub schema : Schema
 schema = record { tables = tables; indexes = indexes; views = [] }

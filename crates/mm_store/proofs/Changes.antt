@@ -1,6 +1,6 @@
 -- What each UPDATE makes of the row that it changes.
 use Rattle.std.proofs.Common.{◌≡◌, ℕ, ℤ, true, List, [], ◌∷◌, codes, Option, Some, None, refl}
-use Rattle.sqlite.specs.declared.types.Value.TheVariants.{Int, Text as Words, Blob}
+use Rattle.sqlite.specs.declared.types.Value.TheVariants.{Int, Text as Words}
 use Rattle.sqlite.specs.Kind.TheVariants.{Integer}
 use Rattle.sqlite.specs.Order.{Row}
 use Rattle.sqlite.specs.Term.{Term, lit, col}
@@ -9,15 +9,15 @@ use Rattle.sql_forms.proofs.Keys.{columns_are}
 use Rattle.sql_forms.proofs.Updates.{updated}
 use Rattle.mm_schema.specs.Tables.{gpkg_contents, mm_tiles, mm_rows, mm_media, mm_editions}
 use Rattle.mm_base.specs.Keys.{Text, TileKey, Item}
-use Rattle.mm_base.specs.Package.{Contents, AttributeRow, Medium}
+use Rattle.mm_base.specs.Package.{Contents, AttributeRow}
 use Rattle.mm_base.specs.Effects.{changed_at}
-use Rattle.mm_store.specs.Rows.{past_rowid, maybe, contents_row, tile_row, attribute_row, medium_row, edition_row}
+use Rattle.mm_store.specs.Rows.{past_rowid, maybe, contents_row, tile_row, attribute_row, MediumRow, medium_row, edition_row}
 
 abbrev pub tile_sets : List Term
 tile_sets = col 1 1 ∷ col 1 2 ∷ col 1 3 ∷ col 1 4 ∷ col 0 4 ∷ []
 
-pub tile_changed : (k : TileKey) (v w : List ℕ) (r : Row) → past_rowid r ≡ tile_row k v
-    → past_rowid (updated mm_tiles tile_sets (Words k.table ∷ Int k.zoom ∷ Int k.column ∷ Int k.row ∷ Blob w ∷ []) r) ≡ tile_row k w
+pub tile_changed : (k : TileKey) (v w : ℤ) (r : Row) → past_rowid r ≡ tile_row k v
+    → past_rowid (updated mm_tiles tile_sets (Words k.table ∷ Int k.zoom ∷ Int k.column ∷ Int k.row ∷ Int w ∷ []) r) ≡ tile_row k w
 tile_changed k v w r is =
     rw (columns_are r (tile_row k v) 0 is, columns_are r (tile_row k v) 1 is, columns_are r (tile_row k v) 2 is, columns_are r (tile_row k v) 3 is) (cast_all_is mm_tiles.columns (tile_row k w) refl)
 
@@ -31,7 +31,7 @@ row_changed k v w r is = rw (columns_are r (attribute_row k v) 0 is, columns_are
 abbrev pub medium_sets : List Term
 medium_sets = col 1 1 ∷ col 1 2 ∷ col 0 2 ∷ col 0 3 ∷ []
 
-pub medium_changed : (k : Item) (v w : Medium) (r : Row) → past_rowid r ≡ medium_row k v → past_rowid (updated mm_media medium_sets (Words k.table ∷ Int k.id ∷ Blob w.bytes ∷ Words w.content_type ∷ []) r) ≡ medium_row k w
+pub medium_changed : (k : Item) (v w : MediumRow) (r : Row) → past_rowid r ≡ medium_row k v → past_rowid (updated mm_media medium_sets (Words k.table ∷ Int k.id ∷ Int w.blob ∷ Words w.content_type ∷ []) r) ≡ medium_row k w
 medium_changed k v w r is = rw (columns_are r (medium_row k v) 0 is, columns_are r (medium_row k v) 1 is) (cast_all_is mm_media.columns (medium_row k w) refl)
 
 abbrev pub closed_sets : List Term

@@ -23,6 +23,7 @@ use Rattle.mm_base.specs.Keys.{Text, text_cmp, Level, level_cmp, level, TileKey,
 use Rattle.mm_base.specs.Package.{System}
 use Rattle.mm_base.proofs.KeyLaws.{numbers, texts, levels, items, tile_keys, pairing_keys, piece_keys}
 use Rattle.mm_store.specs.Rows.{whole, past_rowid, past_id, maybe, system_row, contents_row, kind_row, set_row, grid_row, tile_row, attribute_row, medium_row, relation_row, pairing_row, edition_row, staged_row}
+use Rattle.mm_store.specs.Blobs.{blob_row}
 use Rattle.mm_store.proofs.Parts.{IsPart}
 
 pub is_eq_then : (a b : Ordering) → is_eq (ordering_then a b) ≡ (is_eq a && is_eq b)
@@ -158,7 +159,7 @@ pub media : IsPart item_cmp past_rowid medium_row by_item
 media = record {
   order = items;
   key_is = λ k l v w e. let t : k.table ≡ l.table = cc in let z : k.id ≡ l.id = cc in λ i. item (t i) (z i);
-  value_is = λ k l v w e. let a : v.bytes ≡ w.bytes = cc in let b : v.content_type ≡ w.content_type = cc in λ i. record { bytes = a i; content_type = b i };
+  value_is = λ k l v w e. let a : v.blob ≡ w.blob = cc in let b : v.content_type ≡ w.content_type = cc in λ i. record { blob = a i; content_type = b i };
   decides = λ k r l v is. text_number k.table k.id r l.table l.id _ is;
 }
 
@@ -200,9 +201,17 @@ pieces = record {
   key_is = λ k l v w e. let t : k.edition ≡ l.edition = cc in let z : k.number ≡ l.number = cc in λ i. piece (t i) (z i);
   value_is = λ k l v w e.
       let a : v.kind ≡ w.kind = cc in let b : v.name ≡ w.name = cc in let k1 : v.k1 ≡ w.k1 = cc in let k2 : v.k2 ≡ w.k2 = cc in let k3 : v.k3 ≡ w.k3 = cc in let k4 : v.k4 ≡ w.k4 = cc in
-      let k5 : v.k5 ≡ w.k5 = cc in let k6 : v.k6 ≡ w.k6 = cc in let k7 : v.k7 ≡ w.k7 = cc in let t1 : v.t1 ≡ w.t1 = cc in let t2 : v.t2 ≡ w.t2 = cc in let d : v.bytes ≡ w.bytes = cc in
-      λ i. record { kind = a i; name = b i; k1 = k1 i; k2 = k2 i; k3 = k3 i; k4 = k4 i; k5 = k5 i; k6 = k6 i; k7 = k7 i; t1 = t1 i; t2 = t2 i; bytes = d i };
+      let k5 : v.k5 ≡ w.k5 = cc in let k6 : v.k6 ≡ w.k6 = cc in let k7 : v.k7 ≡ w.k7 = cc in let t1 : v.t1 ≡ w.t1 = cc in let t2 : v.t2 ≡ w.t2 = cc in let d : maybe v.blob ≡ maybe w.blob = cc in
+      λ i. record { kind = a i; name = b i; k1 = k1 i; k2 = k2 i; k3 = k3 i; k4 = k4 i; k5 = k5 i; k6 = k6 i; k7 = k7 i; t1 = t1 i; t2 = t2 i; blob = maybe_is v.blob w.blob d i };
   decides = λ k r l v is. text_number k.edition k.number r l.edition l.number _ is;
+}
+
+pub blobs : IsPart int_cmp whole blob_row by_number
+blobs = record {
+  order = numbers;
+  key_is = λ k l v w e. cc;
+  value_is = λ k l v w e. let a : v.digest ≡ w.digest = cc in let b : v.bytes ≡ w.bytes = cc in λ i. record { digest = a i; bytes = b i };
+  decides = λ id r l v is. ap (λ x. equal Binary (column x 0) (Int id) && true) is ∙ ap (λ b. b && true) (equal_int l id) ∙ and_true _;
 }
 
 -- ---- a system's number is its row's rowid

@@ -8,8 +8,8 @@ pub mod Shapes
 pub mod Refusals
 pub mod Transactions
 pub mod Extensions
-pub mod Removals
 pub mod Entries
 pub mod Changes
 pub mod Lookups
+pub mod Removals
 pub mod Seen

@@ -5,3 +5,5 @@ pub mod Statements
 pub mod Shapes
 pub mod Removals
 pub mod Seen
+pub mod Blobs
+pub mod Kept

@@ -7,7 +7,7 @@ use Rattle.sqlite.specs.declared.types.Value.TheVariants.{Null, Int, Text as Wor
 use Rattle.sqlite.specs.Order.{Row, column}
 use Rattle.sqlite_rules.specs.Lists.{Has}
 use Rattle.mm_base.specs.Keys.{Text, Level, TileKey, Item, Pairing, PieceKey, Extension, extension_cmp}
-use Rattle.mm_base.specs.Package.{System, Contents, MatrixSet, Grid, AttributeRow, Medium, Relation, PieceRow}
+use Rattle.mm_base.specs.Package.{System, Contents, MatrixSet, Grid, AttributeRow, Relation}
 
 -- what of a row counts: all of it, all but a rowid that the store chose, or all but an id that the store chose
 abbrev pub whole : Row → Row
@@ -43,14 +43,20 @@ set_row table s = Words table ∷ Int s.system ∷ Int s.box.min_x ∷ Int s.box
 abbrev pub grid_row : Level → Grid → Row
 grid_row k g = Words k.table ∷ Int k.zoom ∷ Int g.matrix_width ∷ Int g.matrix_height ∷ Int g.tile_width ∷ Int g.tile_height ∷ Int g.pixel_x_size ∷ Int g.pixel_y_size ∷ []
 
-abbrev pub tile_row : TileKey → List ℕ → Row
-tile_row k bytes = Words k.table ∷ Int k.zoom ∷ Int k.column ∷ Int k.row ∷ Blob bytes ∷ []
+-- a tile names its blob
+abbrev pub tile_row : TileKey → ℤ → Row
+tile_row k blob = Words k.table ∷ Int k.zoom ∷ Int k.column ∷ Int k.row ∷ Int blob ∷ []
 
 abbrev pub attribute_row : Item → AttributeRow → Row
 attribute_row k r = Words k.table ∷ Int k.id ∷ Words r.title ∷ Words r.note ∷ Int r.amount ∷ []
 
-abbrev pub medium_row : Item → Medium → Row
-medium_row k m = Words k.table ∷ Int k.id ∷ Blob m.bytes ∷ Words m.content_type ∷ []
+-- a medium as its row holds it
+pub record MediumRow : Type 0 where
+  pub blob : ℤ
+  pub content_type : Text
+
+abbrev pub medium_row : Item → MediumRow → Row
+medium_row k m = Words k.table ∷ Int k.id ∷ Int m.blob ∷ Words m.content_type ∷ []
 
 abbrev pub relation_row : Text → Relation → Row
 relation_row mapping r = Words r.base ∷ Words r.base_column ∷ Words r.related ∷ Words r.related_column ∷ Words r.name ∷ Words mapping ∷ []
@@ -61,9 +67,24 @@ pairing_row k v = Words k.mapping ∷ Int k.base_id ∷ Int k.related_id ∷ []
 abbrev pub edition_row : Text → Text → Row
 edition_row name state = Words name ∷ Words state ∷ []
 
-abbrev pub staged_row : PieceKey → PieceRow → Row
+-- a staged piece as its row holds it; no blob is no bytes
+pub record StagedRow : Type 0 where
+  pub kind : Text
+  pub name : Text
+  pub k1 : ℤ
+  pub k2 : ℤ
+  pub k3 : ℤ
+  pub k4 : ℤ
+  pub k5 : ℤ
+  pub k6 : ℤ
+  pub k7 : ℤ
+  pub t1 : Text
+  pub t2 : Text
+  pub blob : Option ℤ
+
+abbrev pub staged_row : PieceKey → StagedRow → Row
 staged_row k r =
-    Words k.edition ∷ Int k.number ∷ Words r.kind ∷ Words r.name ∷ Int r.k1 ∷ Int r.k2 ∷ Int r.k3 ∷ Int r.k4 ∷ Int r.k5 ∷ Int r.k6 ∷ Int r.k7 ∷ Words r.t1 ∷ Words r.t2 ∷ Blob r.bytes ∷ []
+    Words k.edition ∷ Int k.number ∷ Words r.kind ∷ Words r.name ∷ Int r.k1 ∷ Int r.k2 ∷ Int r.k3 ∷ Int r.k4 ∷ Int r.k5 ∷ Int r.k6 ∷ Int r.k7 ∷ Words r.t1 ∷ Words r.t2 ∷ maybe r.blob ∷ []
 
 -- ---- extension rows, of which there may be equal ones
 

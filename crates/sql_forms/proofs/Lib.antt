@@ -11,6 +11,7 @@ pub mod Orders
 pub mod Joins
 pub mod Writes
 pub mod Inserts
+pub mod Inserted
 pub mod Updates
 pub mod Actions
 pub mod Deletes

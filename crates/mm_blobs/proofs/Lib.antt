@@ -1,0 +1,4 @@
+pub mod DigestFacts
+pub mod Moving
+pub mod Keeping
+pub mod Opening

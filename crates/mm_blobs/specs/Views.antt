@@ -1,0 +1,55 @@
+-- A package together with how its bytes are kept.
+use Rattle.std.specs.Prelude.{◌≡◌, ◌≢◌, ◌⊎◌, ℕ, ℤ, Bool, true, false, ◌&&◌, ◌||◌, not, List, IsTrue, Option, Some, None}
+use Rattle.std.specs.FinMap.{get}
+use Rattle.sqlite.specs.Tree.{Trees}
+use Rattle.sqlite.specs.Effect.{Database}
+use Rattle.sqlite.specs.State.{State}
+use Rattle.sqlite_catalog.specs.Listing.{IsSound}
+use Rattle.sql_forms.specs.Tables.{tables_of, AreTables}
+use Rattle.mm_schema.specs.Tables.{schema}
+use Rattle.mm_base.specs.Bounds.{Profile}
+use Rattle.mm_base.specs.Keys.{same_number}
+use Rattle.mm_base.specs.Package.{Package}
+use Rattle.mm_store.specs.Blobs.{Blob, Shelf, bytes_at}
+use Rattle.mm_store.specs.Kept.{Kept, Spare, IsNamed}
+use Rattle.mm_store.specs.Stands.{HoldingBut, Ground, StandsOn}
+
+abbrev pub spare_too : ℤ → Spare → Spare
+spare_too id spare z = spare z || same_number z id
+
+abbrev pub spare_but : ℤ → Spare → Spare
+spare_but id spare z = spare z && not (same_number z id)
+
+pub record View : Type 0 where
+  pub content : Package
+  pub kept : Kept
+
+-- the tables hold the package, and keep its bytes so
+abbrev pub HoldsAs : Spare → ℤ → Trees → View → Type 0
+HoldsAs spare version tables x = (h : HoldingBut spare version tables x.content) × (h.kept ≡ x.kept)
+
+pub record Sees (spare : Spare) (version : ℤ) (db : Database) (x : View) : Type 0 where
+  pub schema_is : db.schema ≡ schema
+  pub sound : ∥ IsSound schema db.trees ∥₁
+  pub rows : AreTables schema db.trees
+  pub holds : HoldsAs spare version (tables_of schema db.trees) x
+
+-- a transaction is open on the ground, and sees the package kept so, but for these blobs
+pub record IsSeen (spare : Spare) (profile : Profile) (s : State) (ground : Ground) (x : View) : Type 0 where
+  pub mode : IsTrue s.in_transaction
+  pub back : StandsOn s ground
+  pub reads : IsTrue s.is_open → Sees spare profile.version s.now x
+
+-- ---- what is found
+
+-- no blob holds the bytes
+abbrev pub Lacks : Shelf → List ℕ → Type 0
+Lacks shelf bytes = (id : ℤ) (b : Blob) → get shelf id ≡ Some b → b.bytes ≢ bytes
+
+abbrev pub IsFound : Shelf → List ℕ → Option ℤ → Type 0
+IsFound shelf bytes None = Lacks shelf bytes
+IsFound shelf bytes (Some id) = bytes_at shelf id ≡ Some bytes
+
+abbrev pub TellsWhether : Type 0 → Bool → Type 0
+TellsWhether P true = P
+TellsWhether P false = ¬ P

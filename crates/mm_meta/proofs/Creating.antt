@@ -1,9 +1,10 @@
 -- One CREATE after another.
-use Rattle.std.proofs.Common.{ℕ, [], Result, Ok, Err, OnOk, IsTrue, ◌∙◌, arith, List}
+use Rattle.std.proofs.Common.{◌≡◌, ℕ, [], Result, Ok, Err, OnOk, IsTrue, ◌∙◌, arith, List}
 use Rattle.sqlite.specs.Schema.{Schema}
 use Rattle.sqlite.specs.Table.{Table}
+use Rattle.sqlite_schema.specs.declared.schema.Index.{Index}
 use Rattle.sqlite.specs.State.{State, ExecutesInside}
-use Rattle.sql_forms.proofs.Creates.{IsCreate, creates}
+use Rattle.sql_forms.proofs.Creates.{IsCreate, creates, IsIndexing, indexes}
 use Rattle.mm_base.specs.declared.answers.Fault.{Fault}
 use Rattle.mm_store.specs.Stands.{Ground}
 use Rattle.mm_store.specs.Statements.{IsRun}
@@ -22,6 +23,22 @@ creates_one old new sql table from to it result run = record { survives = run.su
             mode = ran.1.1.mode;
             back = λ _. let on = bare.back up in (ran.1.1.committed_is ∙ on.0, on.1);
             bare = λ _. (creates old new from sql table to it ran.0 (bare.bare up) ran.1.0).0;
+          },
+        )
+
+pub indexes_one : (old new : State) (sql : List ℕ) (at : ℕ) (table : Table) (index : Index) (from to : Schema) → IsIndexing from sql at table index to → to.tables ≡ from.tables → (result : Result (Unit {0}) Fault) → IsRun old new sql [] result
+    → IsCreating from old new to result
+indexes_one old new sql at table index from to it same result run = record { survives = run.survives; made = λ clean ground bare. go ground bare result (run.ran clean bare.mode); faults = run.faults }
+  where
+    go : (ground : Ground) → IsBareAt from old ground → (r : Result (Unit {0}) Fault) → OnOk r ((count : ℕ) × ExecutesInside 0 sql [] old new (Ok count)) → OnOk r (IsTrue new.is_open × IsBareAt to new ground)
+    go ground bare (Err e) ran = tt
+    go ground bare (Ok u) ran =
+        let up = ran.1.1.was_open in (
+          ran.1.1.is_open,
+          record {
+            mode = ran.1.1.mode;
+            back = λ _. let on = bare.back up in (ran.1.1.committed_is ∙ on.0, on.1);
+            bare = λ _. (indexes old new from sql at table index to it same ran.0 (bare.bare up) ran.1.0).0;
           },
         )
 

@@ -1,5 +1,6 @@
 -- From tables without a row to the opening package.
-use Rattle.std.proofs.Common.{◌≡◌, ◌≢◌, true≢false, negsuc, ℕ, ℤ, pos, true, false, List, None, Result, Ok, Err, OnOk, IsTrue, refl, sym, ap, subst, ◌∙◌, arith, []}
+use Rattle.std.proofs.Common.{◌≡◌, ◌≢◌, true≢false, negsuc, ℕ, ℤ, pos, true, false, List, Option, Some, None, Result, Ok, Err, OnOk, IsTrue, refl, sym, ap, subst, subst₂, ◌∙◌, arith, []}
+use Rattle.std.specs.declared.cmp.Ordering.{Ordering}
 use Rattle.std.specs.Ordering.{eq_by_cmp, int_cmp}
 use Rattle.std.specs.FinMap.{FinMap, get, insert, empty, get-empty}
 use Rattle.sqlite.specs.Order.{Row}
@@ -10,16 +11,16 @@ use Rattle.sqlite_catalog.specs.Listing.{IsSound}
 use Rattle.sql_forms.specs.Tables.{tables_of, IsBare, IsReady, Leaves}
 use Rattle.sql_forms.proofs.Tables.{bare_at, bare_rows}
 use Rattle.mm_schema.specs.Tables.{schema}
-use Rattle.mm_schema.specs.Made.{first_of}
-use Rattle.mm_schema.proofs.Creating.{all_made}
 use Rattle.mm_base.specs.Bounds.{Profile}
-use Rattle.mm_base.specs.Keys.{extension_cmp}
+use Rattle.mm_base.specs.Keys.{tile_cmp, item_cmp, piece_cmp, extension_cmp}
 use Rattle.mm_base.specs.Package.{Package, System, general_extension}
 use Rattle.mm_base.specs.Rules.{geographic, undefined_cartesian}
 use Rattle.mm_base.specs.declared.answers.Fault.{Fault}
 use Rattle.mm_base.proofs.Parts.{beside_put}
 use Rattle.mm_base.proofs.KeyLaws.{numbers}
 use Rattle.mm_store.specs.Rows.{Counts}
+use Rattle.mm_store.specs.Blobs.{Shelf, Told, Tells}
+use Rattle.mm_store.specs.Kept.{Kept, tile_id, tile_with, medium_id, medium_with, piece_id, piece_with}
 use Rattle.mm_store.specs.Stands.{Holding, Ground, IsInside, profile_row}
 use Rattle.mm_store.specs.Statements.{IsRun}
 use Rattle.mm_store.specs.Shapes.{IsChange}
@@ -30,7 +31,18 @@ use Rattle.mm_meta.specs.Opening.{nothing, IsBareAt, IsCreating, IsMaking}
 
 -- ---- the profile's row alone
 
+no_entry : {K X : Type 0} (R : K → K → Ordering) (k : K) (x : X) → get (empty {X = X} {R = R}) k ≡ Some x → ⊥
+no_entry R k x is = let e : None ≡ Some x = sym (get-empty R k) ∙ is in cc
+
+-- no entry tells none
+none_told : {K I V : Type 0} (R : K → K → Ordering) (id_of : I → Option ℤ) (filled : I → List ℕ → V) (shelf : Shelf) → Tells {R = R} id_of filled shelf empty empty
+none_told R id_of filled shelf k = subst₂ (Told id_of filled shelf) (sym (get-empty R k)) (sym (get-empty R k)) refl
+
+nothing_kept : Kept
+nothing_kept = record { tiles = empty; media = empty; pieces = empty; shelf = empty }
+
 pub nothing_holds : (version : ℤ) (db : Trees) → ((t : ℕ) → db t ≡ []) → Holding version (with_tree db 12 (put_row (profile_row version) (db 12))) nothing
+unfolding nothing_kept
 nothing_holds version db none = record {
   systems = holds_none parts.systems _ (none 0);
   contents = holds_none parts.contents _ (none 1);
@@ -38,13 +50,22 @@ nothing_holds version db none = record {
   sets = holds_none parts.sets _ (none 4);
   matrices = holds_none parts.matrices _ (none 6);
   extensions = subst (λ rs. Counts rs empty) (sym (none 8)) (record { sound = λ r there. absurd there; counted = λ e. get-empty extension_cmp e });
-  tiles = holds_none parts.tiles _ (none 15);
   rows = holds_none parts.rows _ (none 17);
-  media = holds_none parts.media _ (none 19);
   relations = holds_none parts.relations _ (none 10);
   pairings = holds_none parts.pairings _ (none 21);
   editions = holds_none parts.editions _ (none 23);
-  pieces = holds_none parts.pieces _ (none 25);
+  kept = nothing_kept;
+  keeps = record {
+    tiles = holds_none parts.tiles _ (none 15);
+    media = holds_none parts.media _ (none 19);
+    pieces = holds_none parts.pieces _ (none 25);
+    blobs = holds_none parts.blobs _ (none 27);
+    tiles_told = none_told tile_cmp tile_id tile_with empty;
+    media_told = none_told item_cmp medium_id medium_with empty;
+    pieces_told = none_told piece_cmp piece_id piece_with empty;
+    are = record { digested = λ id b is. absurd (no_entry int_cmp id b is); filled = λ id b is. absurd (no_entry int_cmp id b is); single = λ i j b c is js. absurd (no_entry int_cmp i b is) };
+    named = λ id b is. absurd (no_entry int_cmp id b is);
+  };
   profile = ap (put_row (profile_row version)) (none 12);
 }
 
@@ -52,14 +73,14 @@ module _ (profile : Profile) (old new : State) (sql : List ℕ) (given : Row) wh
   -- a statement that makes the tables so
   pub makes : (tables : Trees → Trees) (p : Package) (result : Result (Unit {0}) Fault) → IsRun old new sql given result
       → ((count : ℕ) → IsReady schema old → ExecutesInside 0 sql given old new (Ok count) → Leaves schema old new (tables (tables_of schema old.now.trees)))
-      → ((db : Trees) → ((t : ℕ) → db t ≡ []) → Holding profile.version (tables db) p) → IsMaking (first_of 14) old new profile p result
+      → ((db : Trees) → ((t : ℕ) → db t ≡ []) → Holding profile.version (tables db) p) → IsMaking schema old new profile p result
   makes tables p result run leaves holds = record { survives = run.survives; made = λ clean ground it. go ground it result (run.ran clean it.mode); faults = run.faults }
     where
-      go : (ground : Ground) → IsBareAt (first_of 14) old ground → (r : Result (Unit {0}) Fault) → OnOk r ((count : ℕ) × ExecutesInside 0 sql given old new (Ok count)) → OnOk r (IsTrue new.is_open × IsInside profile new ground p)
+      go : (ground : Ground) → IsBareAt schema old ground → (r : Result (Unit {0}) Fault) → OnOk r ((count : ℕ) × ExecutesInside 0 sql given old new (Ok count)) → OnOk r (IsTrue new.is_open × IsInside profile new ground p)
       go ground it (Err e) ran = tt
       go ground it (Ok u) ran =
           let up = ran.1.1.was_open in
-          let bare : IsBare schema old.now = subst (λ s. IsBare s old.now) all_made (it.bare up) in
+          let bare = it.bare up in
           let left = leaves ran.0 (record { schema_is = bare.schema_is; inside = it.mode; rows = bare_rows schema old.now bare }) ran.1 in (
             left.is_open,
             record {

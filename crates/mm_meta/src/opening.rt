@@ -4,6 +4,7 @@ ghost use Rattle.std.specs.Prelude.{◌≡◌, false};
 ghost use Rattle.sqlite.specs.Held.{state};
 ghost use Rattle.mm_base.specs.Bounds.{Profile, current};
 ghost use Rattle.mm_base.specs.Opening.{opening};
+ghost use Rattle.mm_schema.specs.Tables.{schema};
 ghost use Rattle.mm_schema.specs.Made.{first_of};
 ghost use Rattle.mm_meta.specs.Opening.{IsMaking, IsInit, given_systems};
 
@@ -18,7 +19,7 @@ use sqlite::{Alter, Connection, Transaction};
 /// Puts the profile's row and the three given systems into tables without a row.
 fn put_systems<S: Alter>(tx: &mut Transaction<'_, S>) -> Result<(), Fault>
     ensures same_reference { tx.new.conn.ghost_name ≡ tx.old.conn.ghost_name }
-    ensures made { IsMaking (first_of 14) (state S.Store tx.old.conn.now) (state S.Store tx.new.conn.now) current given_systems result }
+    ensures made { IsMaking schema (state S.Store tx.old.conn.now) (state S.Store tx.new.conn.now) current given_systems result }
 {
     match insert_profile(tx, 2) {
         Ok(()) => {}
@@ -75,8 +76,8 @@ fn make<S: Alter>(tx: &mut Transaction<'_, S>) -> Result<(), Fault>
     insert_related_row(tx, "gpkgext_relations")
 }
 
-/// Makes a package in a database that has no table: the 14 tables, the three given systems, the row of the profile and the
-/// extension row that always stands, in one commit. After a fault the database has no table; only a commit that answered
+/// Makes a package in a database that has no table: the 15 tables with their indexes, the three given systems, the row of the
+/// profile and the extension row that always stands, in one commit. After a fault the database has no table; only a commit that answered
 /// the fault may still survive a crash, as a whole.
 pub fn init<S: Alter>(conn: &mut Connection<S>) -> Result<(), Fault>
     requires { conn.old.in_transaction ≡ false }

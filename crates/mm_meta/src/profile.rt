@@ -5,7 +5,7 @@ ghost use Rattle.sqlite.specs.Held.{state};
 ghost use Rattle.sqlite.specs.Order.{column};
 ghost use Rattle.sqlite.specs.declared.types.Value.TheVariants.{Int};
 ghost use Rattle.mm_base.specs.Bounds.{Profile};
-ghost use Rattle.mm_schema.specs.Made.{first_of};
+ghost use Rattle.mm_schema.specs.Tables.{schema};
 ghost use Rattle.mm_store.specs.Faults.{memory};
 ghost use Rattle.mm_meta.specs.Opening.{nothing, IsMaking};
 ghost use Rattle.mm_meta.specs.Look.{Judges, Tells, IsLooked, stops};
@@ -21,7 +21,7 @@ pub(crate) fn insert_profile<S: Alter>(
     version: i64,
 ) -> Result<(), Fault>
     ensures same_reference { tx.new.conn.ghost_name ≡ tx.old.conn.ghost_name }
-    ensures made { (profile : Profile) → profile.version ≡ version → IsMaking (first_of 14) (state S.Store tx.old.conn.now) (state S.Store tx.new.conn.now) profile nothing result }
+    ensures made { (profile : Profile) → profile.version ≡ version → IsMaking schema (state S.Store tx.old.conn.now) (state S.Store tx.new.conn.now) profile nothing result }
 {
     run(
         tx,

@@ -2,6 +2,7 @@
 
 ghost use Rattle.std.specs.Prelude.{◌≡◌};
 ghost use Rattle.sqlite.specs.Held.{state};
+ghost use Rattle.mm_schema.specs.Tables.{schema};
 ghost use Rattle.mm_schema.specs.Made.{first_of};
 ghost use Rattle.mm_meta.specs.Opening.{IsCreating};
 
@@ -88,7 +89,7 @@ fn create_content_tables<S: Alter>(tx: &mut Transaction<'_, S>) -> Result<(), Fa
     }
     match run(
         tx,
-        "CREATE TABLE mm_tiles (table_name TEXT NOT NULL, zoom_level INTEGER NOT NULL, tile_column INTEGER NOT NULL, tile_row INTEGER NOT NULL, tile_data BLOB NOT NULL, PRIMARY KEY (table_name, zoom_level, tile_column, tile_row), FOREIGN KEY (table_name, zoom_level) REFERENCES gpkg_tile_matrix (table_name, zoom_level) ON DELETE CASCADE) STRICT",
+        "CREATE TABLE mm_tiles (table_name TEXT NOT NULL, zoom_level INTEGER NOT NULL, tile_column INTEGER NOT NULL, tile_row INTEGER NOT NULL, blob INTEGER NOT NULL, PRIMARY KEY (table_name, zoom_level, tile_column, tile_row), FOREIGN KEY (table_name, zoom_level) REFERENCES gpkg_tile_matrix (table_name, zoom_level) ON DELETE CASCADE, FOREIGN KEY (blob) REFERENCES mm_blobs (id) ON DELETE RESTRICT) STRICT",
         &[],
     ) {
         Ok(()) => {}
@@ -104,7 +105,7 @@ fn create_content_tables<S: Alter>(tx: &mut Transaction<'_, S>) -> Result<(), Fa
     }
     run(
         tx,
-        "CREATE TABLE mm_media (table_name TEXT NOT NULL, id INTEGER NOT NULL, data BLOB NOT NULL, content_type TEXT NOT NULL, PRIMARY KEY (table_name, id), FOREIGN KEY (table_name) REFERENCES gpkg_contents (table_name) ON DELETE CASCADE) STRICT",
+        "CREATE TABLE mm_media (table_name TEXT NOT NULL, id INTEGER NOT NULL, blob INTEGER NOT NULL, content_type TEXT NOT NULL, PRIMARY KEY (table_name, id), FOREIGN KEY (table_name) REFERENCES gpkg_contents (table_name) ON DELETE CASCADE, FOREIGN KEY (blob) REFERENCES mm_blobs (id) ON DELETE RESTRICT) STRICT",
         &[],
     )
 }
@@ -132,15 +133,59 @@ fn create_edition_tables<S: Alter>(tx: &mut Transaction<'_, S>) -> Result<(), Fa
     }
     run(
         tx,
-        "CREATE TABLE mm_pieces (edition TEXT NOT NULL, piece_no INTEGER NOT NULL, kind TEXT NOT NULL, name TEXT NOT NULL, k1 INTEGER NOT NULL, k2 INTEGER NOT NULL, k3 INTEGER NOT NULL, k4 INTEGER NOT NULL, k5 INTEGER NOT NULL, k6 INTEGER NOT NULL, k7 INTEGER NOT NULL, t1 TEXT NOT NULL, t2 TEXT NOT NULL, data BLOB NOT NULL, PRIMARY KEY (edition, piece_no), FOREIGN KEY (edition) REFERENCES mm_editions (name) ON DELETE CASCADE) STRICT",
+        "CREATE TABLE mm_pieces (edition TEXT NOT NULL, piece_no INTEGER NOT NULL, kind TEXT NOT NULL, name TEXT NOT NULL, k1 INTEGER NOT NULL, k2 INTEGER NOT NULL, k3 INTEGER NOT NULL, k4 INTEGER NOT NULL, k5 INTEGER NOT NULL, k6 INTEGER NOT NULL, k7 INTEGER NOT NULL, t1 TEXT NOT NULL, t2 TEXT NOT NULL, blob INTEGER, PRIMARY KEY (edition, piece_no), FOREIGN KEY (edition) REFERENCES mm_editions (name) ON DELETE CASCADE, FOREIGN KEY (blob) REFERENCES mm_blobs (id) ON DELETE RESTRICT) STRICT",
         &[],
     )
 }
 
-/// Makes the 14 tables where there is none.
+/// Makes the table of blobs, and the indexes that find a blob by its digest and what names it.
+fn create_blob_table<S: Alter>(tx: &mut Transaction<'_, S>) -> Result<(), Fault>
+    ensures same_reference { tx.new.conn.ghost_name ≡ tx.old.conn.ghost_name }
+    ensures made { IsCreating (first_of 14) (state S.Store tx.old.conn.now) (state S.Store tx.new.conn.now) schema result }
+{
+    match run(
+        tx,
+        "CREATE TABLE mm_blobs (id INTEGER NOT NULL PRIMARY KEY, digest TEXT NOT NULL, data BLOB NOT NULL) STRICT",
+        &[],
+    ) {
+        Ok(()) => {}
+        Err(fault) => return Err(fault),
+    }
+    match run(
+        tx,
+        "CREATE INDEX mm_blobs_digest ON mm_blobs (digest)",
+        &[],
+    ) {
+        Ok(()) => {}
+        Err(fault) => return Err(fault),
+    }
+    match run(
+        tx,
+        "CREATE INDEX mm_tiles_blob ON mm_tiles (blob)",
+        &[],
+    ) {
+        Ok(()) => {}
+        Err(fault) => return Err(fault),
+    }
+    match run(
+        tx,
+        "CREATE INDEX mm_media_blob ON mm_media (blob)",
+        &[],
+    ) {
+        Ok(()) => {}
+        Err(fault) => return Err(fault),
+    }
+    run(
+        tx,
+        "CREATE INDEX mm_pieces_blob ON mm_pieces (blob)",
+        &[],
+    )
+}
+
+/// Makes the 15 tables and the four indexes where there is none.
 pub(crate) fn create_tables<S: Alter>(tx: &mut Transaction<'_, S>) -> Result<(), Fault>
     ensures same_reference { tx.new.conn.ghost_name ≡ tx.old.conn.ghost_name }
-    ensures made { IsCreating (first_of 0) (state S.Store tx.old.conn.now) (state S.Store tx.new.conn.now) (first_of 14) result }
+    ensures made { IsCreating (first_of 0) (state S.Store tx.old.conn.now) (state S.Store tx.new.conn.now) schema result }
 {
     match create_pyramid_tables(tx) {
         Ok(()) => {}
@@ -154,5 +199,9 @@ pub(crate) fn create_tables<S: Alter>(tx: &mut Transaction<'_, S>) -> Result<(),
         Ok(()) => {}
         Err(fault) => return Err(fault),
     }
-    create_edition_tables(tx)
+    match create_edition_tables(tx) {
+        Ok(()) => {}
+        Err(fault) => return Err(fault),
+    }
+    create_blob_table(tx)
 }

@@ -6,4 +6,5 @@ returns-clause-made g c =
     let made_0 = c.in-Ok.ensures.made in
     let made_1 = creating_then _ _ _ _ _ _ _ _ made_0 c.in-Ok-create_further_tables.ensures.made in
     let made_2 = creating_then _ _ _ _ _ _ _ _ made_1 c.in-Ok-create_content_tables.ensures.made in
-    creating_then _ _ _ _ _ _ _ _ made_2 c.create_edition_tables.ensures.made
+    let made_3 = creating_then _ _ _ _ _ _ _ _ made_2 c.in-Ok-create_edition_tables.ensures.made in
+    creating_then _ _ _ _ _ _ _ _ made_3 c.create_blob_table.ensures.made

@@ -287,6 +287,9 @@ same_but_shelf x y p i = reshelved (p i) y.kept.shelf
 pub shelf_in : (x y z : View) (shelf : Shelf) → y ≡ x → z ≡ reshelved y shelf → z ≡ reshelved x z.kept.shelf
 shelf_in x y z shelf p q = (λ i. reshelved (q i) z.kept.shelf) ∙ (λ i. reshelved (p i) z.kept.shelf)
 
+pub shelf_again : (x y z : View) → y ≡ reshelved x y.kept.shelf → z ≡ reshelved y z.kept.shelf → z ≡ reshelved x z.kept.shelf
+shelf_again x y z p q = q ∙ (λ i. reshelved (p i) z.kept.shelf)
+
 -- where no tile and no medium names it, a staged piece does or nothing does
 pub none_of_three : (kept : Kept) (id : ℤ) (it : Bool) → ¬ Names tile_id kept.tiles id → ¬ Names medium_id kept.media id → TellsWhether (Names piece_id kept.pieces id) it → TellsWhether (IsNamed kept id) it
 none_of_three kept id true no_tile no_medium piece = inr (inr piece)

@@ -2,3 +2,9 @@ pub mod DigestFacts
 pub mod Moving
 pub mod Keeping
 pub mod Opening
+pub mod Releasing
+pub mod Listing
+pub mod Naming
+pub mod Reading
+pub mod Selecting
+pub mod Sweeping

@@ -2,14 +2,14 @@
 use Rattle.std.proofs.Common.{◌≡◌, ℕ, List, Option, Result, Ok, Err, IfOk, OnOk, IfErr, IsTrue, sym, ap, subst, ◌∙◌, arith, refl}
 use Rattle.sqlite.specs.Order.{Row}
 use Rattle.sqlite.specs.Tree.{Trees}
-use Rattle.sqlite.specs.State.{State, HasCleanDisk, ExecutesInside, IsUnchanged}
+use Rattle.sqlite.specs.State.{State, HasCleanDisk, Shown, ExecutesInside, IsUnchanged}
 use Rattle.sqlite_catalog.specs.Listing.{IsSound}
 use Rattle.sql_forms.specs.Tables.{tables_of, AreTables, IsReady, Leaves, IsFirstShown}
 use Rattle.sql_forms.proofs.States.{shown_open}
 use Rattle.mm_base.specs.declared.answers.Fault.{Fault}
 use Rattle.mm_store.specs.Faults.{IsStoreFault}
 use Rattle.mm_store.specs.Stands.{Ground, StandsOn}
-use Rattle.mm_store.specs.Statements.{CommitsNothing, KeepsGround, IsRun, IsAsked}
+use Rattle.mm_store.specs.Statements.{CommitsNothing, KeepsGround, IsRun, IsAsked, IsListed}
 use Rattle.mm_store.proofs.Shapes.{quiet_then}
 use Rattle.mm_schema.specs.Tables.{schema}
 use Rattle.mm_base.specs.Bounds.{Profile}
@@ -111,6 +111,25 @@ module _ (profile : Profile) (old new : State) (sql : List ℕ) (given : Row) (b
       faults = asked.faults;
     }
 
+  -- a query all of whose rows tell this
+  module _ {T : Type 0} (rows_of : T → List Row) (Says : View → T → Type 0) (result : Result T Fault) (listed : IsListed old new sql given rows_of result)
+      (finds : (t : T) → IsReady schema old → Shown sql given old new (rows_of t) → IsUnchanged old new × ((x : View) → HoldsAs before profile.version (seen old) x → Says x t)) where
+    shown : (ground : Ground) (x : View) → IsSeen before profile old ground x → (r : Result T Fault) → IfOk r (λ t. Shown sql given old new (rows_of t))
+        → IfOk r (λ t. IsTrue new.is_open × (y : View) × ((y ≡ x) × IsSeen before profile new ground y × Says y t))
+    shown ground x it (Err e) h = tt
+    shown ground x it (Ok t) h =
+        let up = shown_open sql given old new (rows_of t) h in
+        let found = finds t (ready_inside profile before old ground x it up) h in
+        (found.0.0.is_open, x, (refl, inside_same profile before old new ground x found.0 it, found.1 x (it.reads up).holds))
+
+    pub lists : IsMove old new (IsSeen before profile old) (λ ground x t y. (y ≡ x) × IsSeen before profile new ground y × Says y t) result
+    lists = record {
+      survives = listed.survives;
+      on = λ clean ground x it. listed.on clean it.mode ground it.back;
+      moved = λ clean ground x it. shown ground x it result (listed.lists clean);
+      faults = listed.faults;
+    }
+
 -- ---- one move after another
 
 after_ok : {T : Type 0} (A : T → Type 0) (B : T → Type 0) (r : Result T Fault) → IfOk r A → ((t : T) → A t → B t) → IfOk r B
@@ -118,17 +137,23 @@ after_ok A B (Ok t) h f = f t h
 after_ok A B (Err e) h f = tt
 
 module _ {X : Type 0} where
+  -- where the second move rests on it that the store is open
+  pub then_moves_open : {T U : Type 0} {First Second : Ground → X → Type 0} {Middle : Ground → X → T → X → Type 0} {Last : Ground → X → U → X → Type 0} (Whole : Ground → X → U → X → Type 0) (a b c : State) (t : T) (r : Result U Fault)
+      → IsMove a b First Middle (Ok t) → IsMove b c Second Last r → ((ground : Ground) (x y : X) → IsTrue b.is_open → First ground x → Middle ground x t y → Second ground y)
+      → ((ground : Ground) (x y z : X) (u : U) → First ground x → Middle ground x t y → Last ground y u z → Whole ground x u z) → IsMove a c First Whole r
+  then_moves_open Whole a b c t r one two leads joins = record {
+    survives = quiet_then a b c one.survives two.survives;
+    on = λ clean ground x it. let mid = one.moved (omega (arith, two.survives.clean)) ground x it in two.on clean ground mid.1 (leads ground x mid.1 mid.0 it mid.2);
+    moved = λ clean ground x it.
+        let mid = one.moved (omega (arith, two.survives.clean)) ground x it in
+        after_ok _ _ r (two.moved clean ground mid.1 (leads ground x mid.1 mid.0 it mid.2)) (λ u last. (last.0, last.1, joins ground x mid.1 last.1 u it mid.2 last.2));
+    faults = two.faults;
+  }
+
   pub then_moves : {T U : Type 0} {First Second : Ground → X → Type 0} {Middle : Ground → X → T → X → Type 0} {Last : Ground → X → U → X → Type 0} (Whole : Ground → X → U → X → Type 0) (a b c : State) (t : T) (r : Result U Fault)
       → IsMove a b First Middle (Ok t) → IsMove b c Second Last r → ((ground : Ground) (x y : X) → First ground x → Middle ground x t y → Second ground y)
       → ((ground : Ground) (x y z : X) (u : U) → First ground x → Middle ground x t y → Last ground y u z → Whole ground x u z) → IsMove a c First Whole r
-  then_moves Whole a b c t r one two leads joins = record {
-    survives = quiet_then a b c one.survives two.survives;
-    on = λ clean ground x it. let mid = one.moved (omega (arith, two.survives.clean)) ground x it in two.on clean ground mid.1 (leads ground x mid.1 it mid.2);
-    moved = λ clean ground x it.
-        let mid = one.moved (omega (arith, two.survives.clean)) ground x it in
-        after_ok _ _ r (two.moved clean ground mid.1 (leads ground x mid.1 it mid.2)) (λ u last. (last.0, last.1, joins ground x mid.1 last.1 u it mid.2 last.2));
-    faults = two.faults;
-  }
+  then_moves Whole a b c t r one two leads joins = then_moves_open Whole a b c t r one two (λ ground x y up it mid. leads ground x y it mid) joins
 
   -- a move where more is known to stand before
   pub moves_where : {T : Type 0} {First : Ground → X → Type 0} {Last : Ground → X → T → X → Type 0} (Where : Ground → X → Type 0) (a b : State) (r : Result T Fault) → IsMove a b First Last r → ((ground : Ground) (x : X) → Where ground x → First ground x)
@@ -137,6 +162,16 @@ module _ {X : Type 0} where
     survives = one.survives;
     on = λ clean ground x it. one.on clean ground x (leads ground x it);
     moved = λ clean ground x it. after_ok _ _ r (one.moved clean ground x (leads ground x it)) (λ t last. (last.0, last.1, (it, last.2)));
+    faults = one.faults;
+  }
+
+  -- the same move, of which less is told
+  pub moves_less : {T : Type 0} {First Where : Ground → X → Type 0} {Last : Ground → X → T → X → Type 0} (Less : Ground → X → T → X → Type 0) (a b : State) (r : Result T Fault) → IsMove a b First Last r → ((ground : Ground) (x : X) → Where ground x → First ground x)
+      → ((ground : Ground) (x y : X) (t : T) → Where ground x → Last ground x t y → Less ground x t y) → IsMove a b Where Less r
+  moves_less Less a b r one leads tells = record {
+    survives = one.survives;
+    on = λ clean ground x it. one.on clean ground x (leads ground x it);
+    moved = λ clean ground x it. after_ok _ _ r (one.moved clean ground x (leads ground x it)) (λ t last. (last.0, last.1, tells ground x last.1 t it last.2));
     faults = one.faults;
   }
 
@@ -153,6 +188,31 @@ module _ {X : Type 0} where
   pub move_failed : {T U : Type 0} {First Where : Ground → X → Type 0} {Last : Ground → X → T → X → Type 0} {Less : Ground → X → U → X → Type 0} (a b : State) (e : Fault) → IsMove a b First Last (Err e)
       → ((ground : Ground) (x : X) → Where ground x → First ground x) → IsMove a b Where Less (Err e)
   move_failed a b e one leads = record { survives = one.survives; on = λ clean ground x it. one.on clean ground x (leads ground x it); moved = λ clean ground x it. tt; faults = one.faults }
+
+  -- the first move, where the second failed
+  pub then_failed : {T U : Type 0} {First Second : Ground → X → Type 0} {Middle : Ground → X → T → X → Type 0} {Last : Ground → X → U → X → Type 0} (a b c : State) (t : T) (e : Fault)
+      → IsMove a b First Middle (Ok t) → IsMove b c Second Last (Err e) → ((ground : Ground) (x y : X) → IsTrue b.is_open → First ground x → Middle ground x t y → Second ground y)
+      → IsMove a c First (λ (ground : Ground) (x : X) (u : U) (y : X). ⊥) (Err e)
+  then_failed a b c t e one two leads = record {
+    survives = quiet_then a b c one.survives two.survives;
+    on = λ clean ground x it. let mid = one.moved (omega (arith, two.survives.clean)) ground x it in two.on clean ground mid.1 (leads ground x mid.1 mid.0 it mid.2);
+    moved = λ clean ground x it. tt;
+    faults = two.faults;
+  }
+
+  -- a move from whose answer another is made, or a fault
+  pub move_made : {T U : Type 0} {First : Ground → X → Type 0} {Last : Ground → X → T → X → Type 0} (Less : Ground → X → U → X → Type 0) (a b : State) (t : T) (r : Result U Fault) → IsMove a b First Last (Ok t) → IfErr r IsStoreFault
+      → IfOk r (λ u. (ground : Ground) (x y : X) → Last ground x t y → Less ground x u y) → IsMove a b First Less r
+  move_made {T} {U} {First} {Last} Less a b t r one faults tells = record {
+    survives = one.survives;
+    on = one.on;
+    moved = λ clean ground x it. let last = one.moved clean ground x it in after_ok _ _ r tells (λ u told. (last.0, last.1, told ground x last.1 last.2));
+    faults = faults;
+  }
+
+  -- a move whose answer could not be told
+  pub move_untold : {T U : Type 0} {First : Ground → X → Type 0} {Last : Ground → X → T → X → Type 0} {Less : Ground → X → U → X → Type 0} (a b : State) (t : T) (e : Fault) → IsMove a b First Last (Ok t) → IsStoreFault e → IsMove a b First Less (Err e)
+  move_untold a b t e one fault = record { survives = one.survives; on = one.on; moved = λ clean ground x it. tt; faults = fault }
 
 -- ---- from tiles with their blobs to tiles alone
 

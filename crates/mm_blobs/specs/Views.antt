@@ -1,11 +1,14 @@
 -- A package together with how its bytes are kept.
-use Rattle.std.specs.Prelude.{◌≡◌, ◌≢◌, ◌⊎◌, ℕ, ℤ, Bool, true, false, ◌&&◌, ◌||◌, not, List, IsTrue, Option, Some, None}
+use Rattle.std.specs.Prelude.{◌≡◌, ◌≢◌, ◌⊎◌, ℕ, ℤ, Bool, true, false, ◌&&◌, ◌||◌, not, List, [], ◌∷◌, IsTrue, Option, Some, None}
+use Rattle.std.specs.List.{list_any}
 use Rattle.std.specs.FinMap.{get}
+use Rattle.sqlite.specs.declared.types.Value.TheVariants.{Int}
+use Rattle.sqlite.specs.Order.{Row}
 use Rattle.sqlite.specs.Tree.{Trees}
 use Rattle.sqlite.specs.Effect.{Database}
 use Rattle.sqlite.specs.State.{State}
 use Rattle.sqlite_catalog.specs.Listing.{IsSound}
-use Rattle.sql_forms.specs.Tables.{tables_of, AreTables}
+use Rattle.sql_forms.specs.Tables.{tables_of, AreTables, has_key}
 use Rattle.mm_schema.specs.Tables.{schema}
 use Rattle.mm_base.specs.Bounds.{Profile}
 use Rattle.mm_base.specs.Keys.{same_number}
@@ -19,6 +22,10 @@ spare_too id spare z = spare z || same_number z id
 
 abbrev pub spare_but : ℤ → Spare → Spare
 spare_but id spare z = spare z && not (same_number z id)
+
+-- those too whose ids these rows begin with
+abbrev pub spare_each : List Row → Spare → Spare
+spare_each rows spare z = spare z || list_any (has_key (0 ∷ []) (Int z ∷ [])) rows
 
 pub record View : Type 0 where
   pub content : Package
@@ -53,3 +60,7 @@ IsFound shelf bytes (Some id) = bytes_at shelf id ≡ Some bytes
 abbrev pub TellsWhether : Type 0 → Bool → Type 0
 TellsWhether P true = P
 TellsWhether P false = ¬ P
+
+-- the rows begin with each of these ids
+abbrev pub ListsEach : List Row → (ℤ → Type 0) → Type 0
+ListsEach rows P = (z : ℤ) → P z → list_any (has_key (0 ∷ []) (Int z ∷ [])) rows ≡ true

@@ -1,26 +1,30 @@
 //! A blob is kept, and released where nothing names it.
 
-ghost use Rattle.std.specs.Prelude.{◌≡◌, ◌≢◌, IsUtf8, [], Some, None};
+ghost use Rattle.std.specs.Prelude.{◌≡◌, ◌≢◌, IsUtf8, IsTrue, IfOk, [], ◌∷◌, Some, None};
 ghost use Rattle.std.specs.FinMap.{get, insert, remove};
+ghost use Rattle.sqlite.specs.declared.types.Value.TheVariants.{Blob as Bytes};
+ghost use Rattle.sqlite.specs.Order.{column};
 ghost use Rattle.sqlite.specs.Values.{bound};
 ghost use Rattle.sqlite.specs.Held.{state};
 ghost use Rattle.mm_store.specs.Statements.{IsAsked};
 ghost use Rattle.mm_store.specs.Blobs.{blob_of, bytes_at, Names};
 ghost use Rattle.mm_store.specs.Blobs as spec;
 ghost use Rattle.mm_base.specs.Bounds.{Profile};
-ghost use Rattle.mm_store.specs.Kept.{Spare, IsNamed, tile_id, medium_id, piece_id};
-ghost use Rattle.mm_blobs.specs.Views.{spare_too, spare_but, IsSeen, Lacks, IsFound, TellsWhether};
-ghost use Rattle.mm_blobs.specs.Moves.{IsMove, GivesNumber};
+ghost use Rattle.mm_store.specs.Kept.{Spare, no_spare, IsNamed, tile_id, medium_id, piece_id};
+ghost use Rattle.mm_blobs.specs.Views.{spare_too, spare_but, spare_each, IsSeen, Lacks, IsFound, TellsWhether};
+ghost use Rattle.mm_blobs.specs.Entries.{spare_freed};
+ghost use Rattle.mm_blobs.specs.Moves.{IsMove, GivesNumber, ShowsBytes};
 
 use crate::digests::{digest_of, text_of};
 use mm_base::answers::Fault;
 use mm_store::columns::number_in;
-use mm_store::statements::{exists, first, run};
+use mm_store::faults::fault_of;
+use mm_store::statements::{all, exists, first, run};
 use sqlite::types::ValueRef;
-use sqlite::{Alter, Transaction, params};
+use sqlite::{Alter, Error, Row, Transaction, params};
 
 /// The number in the first column of the first row.
-pub(crate) fn first_number<S: Alter>(
+pub fn first_number<S: Alter>(
     tx: &mut Transaction<'_, S>,
     sql: &str,
     params: &[ValueRef<'_>],
@@ -94,6 +98,38 @@ pub fn keep<S: Alter>(tx: &mut Transaction<'_, S>, bytes: &[u8]) -> Result<i64, 
     }
 }
 
+/// The row of a blob, which shows its bytes, if one stands.
+fn row_of_blob<S: Alter>(tx: &mut Transaction<'_, S>, id: i64) -> Result<Option<Row>, Fault>
+    ensures same_reference { tx.new.conn.ghost_name ≡ tx.old.conn.ghost_name }
+    ensures shown { (profile : Profile) (spare : Spare) → IsMove (state S.Store tx.old.conn.now) (state S.Store tx.new.conn.now) (IsSeen spare profile (state S.Store tx.old.conn.now))
+        (λ base x row y. (y ≡ x) × IsSeen spare profile (state S.Store tx.new.conn.now) base y × ShowsBytes (bytes_at y.kept.shelf id) row) result }
+{
+    first(tx, "SELECT data FROM mm_blobs WHERE id = ?1", params![id])
+}
+
+/// The bytes in the first column of a row.
+fn bytes_in(row: &Row) -> Result<Vec<u8>, Error>
+    ensures { IfOk result (λ bytes. column row.now 0 ≡ Bytes bytes.items) }
+{
+    row.get(0)
+}
+
+/// The bytes of a blob that stands. Where none does, that is a fault, 91.
+pub fn bytes_of<S: Alter>(tx: &mut Transaction<'_, S>, id: i64) -> Result<Vec<u8>, Fault>
+    ensures same_reference { tx.new.conn.ghost_name ≡ tx.old.conn.ghost_name }
+    ensures told { (profile : Profile) (spare : Spare) → IsMove (state S.Store tx.old.conn.now) (state S.Store tx.new.conn.now) (IsSeen spare profile (state S.Store tx.old.conn.now))
+        (λ base x bytes y. (y ≡ x) × IsSeen spare profile (state S.Store tx.new.conn.now) base y × (bytes_at y.kept.shelf id ≡ Some bytes.items)) result }
+{
+    match row_of_blob(tx, id) {
+        Ok(Some(row)) => match bytes_in(&row) {
+            Ok(bytes) => Ok(bytes),
+            Err(error) => Err(fault_of(error)),
+        },
+        Ok(None) => Err(Fault(91)),
+        Err(fault) => Err(fault),
+    }
+}
+
 /// Whether a tile names a blob.
 fn tile_names<S: Alter>(tx: &mut Transaction<'_, S>, id: i64) -> Result<bool, Fault>
     ensures same_reference { tx.new.conn.ghost_name ≡ tx.old.conn.ghost_name }
@@ -158,6 +194,70 @@ pub fn release<S: Alter>(tx: &mut Transaction<'_, S>, id: i64) -> Result<(), Fau
     match is_named(tx, id) {
         Ok(true) => Ok(()),
         Ok(false) => delete_blob(tx, id),
+        Err(fault) => Err(fault),
+    }
+}
+
+/// Releases the blob that an entry named which went, if one stood.
+pub fn release_freed<S: Alter>(tx: &mut Transaction<'_, S>, freed: Option<i64>) -> Result<(), Fault>
+    ensures same_reference { tx.new.conn.ghost_name ≡ tx.old.conn.ghost_name }
+    ensures released { (profile : Profile) (spare : Spare) → IsMove (state S.Store tx.old.conn.now) (state S.Store tx.new.conn.now) (λ base x. IsTrue (state S.Store tx.old.conn.now).is_open × IsSeen (spare_freed freed spare) profile (state S.Store tx.old.conn.now) base x)
+        (λ base x _ y. (y ≡ record x { kept = record (x.kept) { shelf = y.kept.shelf } }) × IsSeen spare profile (state S.Store tx.new.conn.now) base y) result }
+{
+    match freed {
+        Some(id) => release(tx, id),
+        None => Ok(()),
+    }
+}
+
+/// Releases the blob whose id a row begins with.
+fn release_in<S: Alter>(tx: &mut Transaction<'_, S>, row: &Row) -> Result<(), Fault>
+    ensures same_reference { tx.new.conn.ghost_name ≡ tx.old.conn.ghost_name }
+    ensures released { (profile : Profile) (spare : Spare) → IsMove (state S.Store tx.old.conn.now) (state S.Store tx.new.conn.now) (IsSeen (spare_each (row.now ∷ []) spare) profile (state S.Store tx.old.conn.now))
+        (λ base x _ y. (y ≡ record x { kept = record (x.kept) { shelf = y.kept.shelf } }) × IsSeen spare profile (state S.Store tx.new.conn.now) base y) result }
+{
+    match number_in(row, 0) {
+        Ok(id) => release(tx, id),
+        Err(fault) => Err(fault),
+    }
+}
+
+/// Releases each of the blobs whose ids these rows begin with.
+pub fn release_each<S: Alter>(tx: &mut Transaction<'_, S>, rows: &[Row]) -> Result<(), Fault>
+    ensures same_reference { tx.new.conn.ghost_name ≡ tx.old.conn.ghost_name }
+    ensures released { (profile : Profile) (spare : Spare) → IsMove (state S.Store tx.old.conn.now) (state S.Store tx.new.conn.now) (λ base x. IsTrue (state S.Store tx.old.conn.now).is_open × IsSeen (spare_each rows.now spare) profile (state S.Store tx.old.conn.now) base x)
+        (λ base x _ y. (y ≡ record x { kept = record (x.kept) { shelf = y.kept.shelf } }) × IsSeen spare profile (state S.Store tx.new.conn.now) base y) result }
+{
+    for row in rows {
+        match release_in(tx, row) {
+            Ok(()) => {}
+            Err(fault) => return Err(fault),
+        }
+    }
+    Ok(())
+}
+
+/// The ids of the blobs that nothing names.
+fn unnamed<S: Alter>(tx: &mut Transaction<'_, S>) -> Result<Vec<Row>, Fault>
+    ensures same_reference { tx.new.conn.ghost_name ≡ tx.old.conn.ghost_name }
+    ensures listed { (profile : Profile) (spare : Spare) → IsMove (state S.Store tx.old.conn.now) (state S.Store tx.new.conn.now) (IsSeen spare profile (state S.Store tx.old.conn.now))
+        (λ base x rows y. (y ≡ x) × IsSeen (spare_each rows.items no_spare) profile (state S.Store tx.new.conn.now) base y) result }
+{
+    all(
+        tx,
+        "SELECT b.id FROM mm_blobs AS b WHERE NOT EXISTS (SELECT 1 FROM mm_tiles AS t WHERE t.blob = b.id) AND NOT EXISTS (SELECT 1 FROM mm_media AS m WHERE m.blob = b.id) AND NOT EXISTS (SELECT 1 FROM mm_pieces AS p WHERE p.blob = b.id)",
+        &[],
+    )
+}
+
+/// Removes every blob that nothing names.
+pub fn sweep<S: Alter>(tx: &mut Transaction<'_, S>) -> Result<(), Fault>
+    ensures same_reference { tx.new.conn.ghost_name ≡ tx.old.conn.ghost_name }
+    ensures swept { (profile : Profile) (spare : Spare) → IsMove (state S.Store tx.old.conn.now) (state S.Store tx.new.conn.now) (IsSeen spare profile (state S.Store tx.old.conn.now))
+        (λ base x _ y. (y ≡ record x { kept = record (x.kept) { shelf = y.kept.shelf } }) × IsSeen no_spare profile (state S.Store tx.new.conn.now) base y) result }
+{
+    match unnamed(tx) {
+        Ok(rows) => release_each(tx, rows.as_slice()),
         Err(fault) => Err(fault),
     }
 }

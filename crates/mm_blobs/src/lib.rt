@@ -2,8 +2,10 @@
 //! names it.
 //!
 //! - `digests`: the digest of bytes, as text.
-//! - `blobs`: `keep` and `release`.
+//! - `blobs`: `keep`, `release`, `sweep` and the bytes of a blob.
+//! - `entries`: which blob a tile or a medium names.
 #![tactic(auto)]
 
 pub mod blobs;
 pub mod digests;
+pub mod entries;

@@ -151,35 +151,19 @@ fn create_blob_table<S: Alter>(tx: &mut Transaction<'_, S>) -> Result<(), Fault>
         Ok(()) => {}
         Err(fault) => return Err(fault),
     }
-    match run(
-        tx,
-        "CREATE INDEX mm_blobs_digest ON mm_blobs (digest)",
-        &[],
-    ) {
+    match run(tx, "CREATE INDEX mm_blobs_digest ON mm_blobs (digest)", &[]) {
         Ok(()) => {}
         Err(fault) => return Err(fault),
     }
-    match run(
-        tx,
-        "CREATE INDEX mm_tiles_blob ON mm_tiles (blob)",
-        &[],
-    ) {
+    match run(tx, "CREATE INDEX mm_tiles_blob ON mm_tiles (blob)", &[]) {
         Ok(()) => {}
         Err(fault) => return Err(fault),
     }
-    match run(
-        tx,
-        "CREATE INDEX mm_media_blob ON mm_media (blob)",
-        &[],
-    ) {
+    match run(tx, "CREATE INDEX mm_media_blob ON mm_media (blob)", &[]) {
         Ok(()) => {}
         Err(fault) => return Err(fault),
     }
-    run(
-        tx,
-        "CREATE INDEX mm_pieces_blob ON mm_pieces (blob)",
-        &[],
-    )
+    run(tx, "CREATE INDEX mm_pieces_blob ON mm_pieces (blob)", &[])
 }
 
 /// Makes the 15 tables and the four indexes where there is none.

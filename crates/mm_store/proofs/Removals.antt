@@ -19,7 +19,7 @@ use Rattle.mm_store.specs.Rows.{past_rowid, past_id, relation_row, MediumRow, St
 use Rattle.mm_store.specs.Stands.{HoldingBut}
 use Rattle.mm_store.specs.Blobs.{Shelf, Blob, Told, Tells, Names}
 use Rattle.mm_store.specs.Kept.{Kept, Spare, Keeps, IsNamed, tile_id, tile_with, medium_id, medium_with, piece_id, piece_with}
-use Rattle.mm_store.specs.Removals.{without_table_rows, without_relation_rows, without_edition_rows}
+use Rattle.mm_store.specs.Removals.{without_table_rows, without_relation_rows, without_edition_rows, kept_without_table, kept_without_edition, Freed, FreedByTable, FreedByEdition}
 use Rattle.mm_store.proofs.Parts.{removes_where, retains}
 use Rattle.mm_store.proofs.Keys as parts
 use Rattle.mm_store.proofs.Keys.{columns_after}
@@ -35,7 +35,7 @@ module _ {K I V : Type 0} {R : K → K → Ordering} (o : IsKeyOrder R) (id_of :
   ]
 
   -- a blob that an entry names is named by one that is left, or freed by one that goes
-  pub named_left : (id : ℤ) → Names id_of ids id → Names id_of (retain_keys ids keep) id ⊎ ((k : K) × (i : I) × (keep k ≡ false) × (get ids k ≡ Some i) × (id_of i ≡ Some id))
+  pub named_left : (id : ℤ) → Names id_of ids id → Names id_of (retain_keys ids keep) id ⊎ Freed id_of ids keep id
   named_left id names = elim (true_or_false (keep names.0)) [
     | inl stays ↦ inl (names.0, names.1, kept o ids keep names.0 stays ∙ names.2, names.3)
     | inr goes ↦ inr (names.0, names.1, goes, names.2, names.3)
@@ -54,16 +54,8 @@ module _ (name : Text) where
   mapped : (r : Row) (l : Text) (v : Relation) → past_id r ≡ relation_row l v → has_at (Some 7) (Words name) r ≡ same_text l name
   mapped r l v is = ap (λ x. equal Binary x (Words name)) (columns_after r (relation_row l v) 5 is) ∙ equal_text l name
 
-  -- the blobs that the tiles and media of the table name
-  abbrev pub FreedByTable : Kept → ℤ → Type 0
-  FreedByTable kept id = ((k : TileKey) × (i : ℤ) × (is_other name k.table ≡ false) × (get kept.tiles k ≡ Some i) × (tile_id i ≡ Some id)) ⊎ ((k : Item) × (i : MediumRow) × (is_other name k.table ≡ false) × (get kept.media k ≡ Some i) × (medium_id i ≡ Some id))
-
-  -- the blobs that the pieces of the edition name
-  abbrev pub FreedByEdition : Kept → ℤ → Type 0
-  FreedByEdition kept id = (k : PieceKey) × (i : StagedRow) × (is_other name k.edition ≡ false) × (get kept.pieces k ≡ Some i) × (piece_id i ≡ Some id)
-
   module _ (spare more : Spare) (version : ℤ) (db : Trees) (p : Package) (h : HoldingBut spare version db p) (still : (z : ℤ) → spare z ≡ true → more z ≡ true) where
-    pub drops_table : ((z : ℤ) → FreedByTable h.kept z → more z ≡ true) → HoldingBut more version (cut table_place (Words name) db) (without_table_rows name p)
+    pub drops_table : ((z : ℤ) → FreedByTable name h.kept z → more z ≡ true) → HoldingBut more version (cut table_place (Words name) db) (without_table_rows name p)
     drops_table freed = record {
       systems = h.systems;
       contents = removes_where parts.contents (db 1) p.contents h.contents name names (λ r l v is. named r l _ is);
@@ -75,12 +67,7 @@ module _ (name : Text) where
       relations = h.relations;
       pairings = h.pairings;
       editions = h.editions;
-      kept = record {
-        tiles = retain_keys h.kept.tiles (λ k. is_other name k.table);
-        media = retain_keys h.kept.media (λ k. is_other name k.table);
-        pieces = h.kept.pieces;
-        shelf = h.kept.shelf;
-      };
+      kept = kept_without_table name h.kept;
       keeps = record {
         tiles = retains parts.tiles (db 15) h.kept.tiles h.keeps.tiles names (λ k. is_other name k.table) (λ r l v is. other r l.table _ is);
         media = retains parts.media (db 19) h.kept.media h.keeps.media names (λ k. is_other name k.table) (λ r l v is. other r l.table _ is);
@@ -104,6 +91,10 @@ module _ (name : Text) where
       profile = h.profile;
     }
 
+    pub drops_table_keeps : (freed : (z : ℤ) → FreedByTable name h.kept z → more z ≡ true) → (drops_table freed).kept ≡ kept_without_table name h.kept
+    unfolding drops_table
+    drops_table_keeps freed = refl
+
     pub drops_relation : HoldingBut spare version (cut mapping_place (Words name) db) (without_relation_rows name p)
     drops_relation = record {
       systems = h.systems;
@@ -121,7 +112,7 @@ module _ (name : Text) where
       profile = h.profile;
     }
 
-    pub drops_edition : ((z : ℤ) → FreedByEdition h.kept z → more z ≡ true) → HoldingBut more version (cut edition_place (Words name) db) (without_edition_rows name p)
+    pub drops_edition : ((z : ℤ) → FreedByEdition name h.kept z → more z ≡ true) → HoldingBut more version (cut edition_place (Words name) db) (without_edition_rows name p)
     drops_edition freed = record {
       systems = h.systems;
       contents = h.contents;
@@ -133,7 +124,7 @@ module _ (name : Text) where
       relations = h.relations;
       pairings = h.pairings;
       editions = removes_where parts.editions (db 23) p.editions h.editions name names (λ r l v is. named r l _ is);
-      kept = record { tiles = h.kept.tiles; media = h.kept.media; pieces = retain_keys h.kept.pieces (λ k. is_other name k.edition); shelf = h.kept.shelf };
+      kept = kept_without_edition name h.kept;
       keeps = record {
         tiles = h.keeps.tiles;
         media = h.keeps.media;
@@ -156,3 +147,7 @@ module _ (name : Text) where
       };
       profile = h.profile;
     }
+
+    pub drops_edition_keeps : (freed : (z : ℤ) → FreedByEdition name h.kept z → more z ≡ true) → (drops_edition freed).kept ≡ kept_without_edition name h.kept
+    unfolding drops_edition
+    drops_edition_keeps freed = refl

@@ -3,7 +3,7 @@ use Rattle.std.specs.Prelude.{◌≡◌, ℕ, ℤ, String, string_bytes, List, O
 use Rattle.sqlite.specs.declared.error.Error.{Error}
 use Rattle.sqlite.specs.declared.types.Value.TheVariants.{Int, Text as Words}
 use Rattle.sqlite.specs.Order.{Row, column}
-use Rattle.sqlite.specs.State.{State, HasCleanDisk, Survives, ExecutesInside}
+use Rattle.sqlite.specs.State.{State, HasCleanDisk, Survives, Shown, ExecutesInside}
 use Rattle.sql_forms.specs.Tables.{IsFirstShown}
 use Rattle.mm_base.specs.declared.answers.Fault.{Fault}
 use Rattle.mm_store.specs.Stands.{Ground, StandsOn}
@@ -31,6 +31,13 @@ module _ {T : Type 0} (old new : State) (sql : List ℕ) (params : Row) where
     pub survives : CommitsNothing old new
     pub on : KeepsGround old new
     pub gives : HasCleanDisk new → IfOk result (λ it. (first : Option Row) × IsFirstShown sql params old new first × Gives it first)
+    pub faults : IfErr result IsStoreFault
+
+  -- The query was asked, and shows all these rows.
+  pub record IsListed (rows_of : T → List Row) (result : Result T Fault) : Type 0 where
+    pub survives : CommitsNothing old new
+    pub on : KeepsGround old new
+    pub lists : HasCleanDisk new → IfOk result (λ it. Shown sql params old new (rows_of it))
     pub faults : IfErr result IsStoreFault
 
 -- the row has this text, or these two numbers, in its first columns

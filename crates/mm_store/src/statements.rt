@@ -7,7 +7,7 @@ ghost use Rattle.sqlite.specs.Order.{column};
 ghost use Rattle.sqlite.specs.State.{HasCleanDisk, FailsToQuery, IsTooLate};
 ghost use Rattle.sqlite.specs.declared.types.Value.TheVariants.{Int};
 ghost use Rattle.mm_store.specs.Faults.{told_as};
-ghost use Rattle.mm_store.specs.Statements.{IsRun, IsAsked, GivesText, GivesPair};
+ghost use Rattle.mm_store.specs.Statements.{IsRun, IsAsked, IsListed, GivesText, GivesPair};
 
 use crate::faults::fault_of;
 use mm_base::answers::Fault;
@@ -48,6 +48,22 @@ pub fn first<S: Alter>(
 {
     match tx.query_all(sql, params) {
         Ok(rows) => Ok(first_of(rows)),
+        Err(error) => Err(fault_of(error)),
+    }
+}
+
+/// All rows of a query.
+pub fn all<S: Alter>(
+    tx: &mut Transaction<'_, S>,
+    sql: &str,
+    params: &[ValueRef<'_>],
+) -> Result<Vec<Row>, Fault>
+    ensures same_reference { tx.new.conn.ghost_name ≡ tx.old.conn.ghost_name }
+    ensures listed { IsListed (state S.Store tx.old.conn.now) (state S.Store tx.new.conn.now) sql.now (bound params.now) (λ rows. rows.items) result }
+{
+    let shown = tx.query_all(sql, params);
+    match shown {
+        Ok(rows) => Ok(rows),
         Err(error) => Err(fault_of(error)),
     }
 }

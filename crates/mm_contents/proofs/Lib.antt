@@ -5,3 +5,4 @@ pub mod Touching
 pub mod Looking
 pub mod Stamping
 pub mod Touched
+pub mod Freeing

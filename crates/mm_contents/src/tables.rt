@@ -1,16 +1,19 @@
 //! Tables that are no pyramids, and the removal of any table.
 
-ghost use Rattle.std.specs.Prelude.{◌≡◌, ℕ, [], ◌∷◌, None, ⊤};
+ghost use Rattle.std.specs.Prelude.{◌≡◌, ℕ, ℤ, true, [], ◌∷◌, None, ⊤};
 ghost use Rattle.std.specs.FinMap.{get, insert};
 ghost use Rattle.sqlite.specs.Held.{state};
 ghost use Rattle.mm_base.specs.Bounds.{Profile};
 ghost use Rattle.mm_base.specs.Conditions.{least, own_reasons};
-ghost use Rattle.mm_base.specs.Effects.{plain_kind};
+ghost use Rattle.mm_base.specs.Effects.{plain_kind, is_other};
 ghost use Rattle.mm_base.specs.Effects as effects;
 ghost use Rattle.mm_base.specs.Package.{kind_text};
 ghost use Rattle.mm_base.specs.Stamp.{IsStamp};
 ghost use Rattle.mm_base.specs.declared.commands.Command.TheVariants as commands;
-ghost use Rattle.mm_store.specs.Removals.{without_table_rows};
+ghost use Rattle.mm_blobs.specs.Moves.{IsMove};
+ghost use Rattle.mm_blobs.specs.Views.{IsSeen, ListsEach};
+ghost use Rattle.mm_store.specs.Kept.{Spare, no_spare, tile_id, medium_id};
+ghost use Rattle.mm_store.specs.Removals.{without_table_rows, Freed, FreedByTable};
 ghost use Rattle.mm_store.specs.Shapes.{IsLook, IsChange, IsLent};
 ghost use Rattle.mm_contents.specs.Rows.{plain_contents};
 ghost use Rattle.mm_contents.specs.Stamped.{IsLentAt};
@@ -22,8 +25,9 @@ use crate::relations::uses_table;
 use mm_base::answers::{Fault, Outcome, Refusal};
 use mm_base::commands::PlainKind;
 use mm_base::names::Name;
-use mm_store::statements::run;
-use sqlite::{Alter, Transaction, params};
+use mm_blobs::blobs::release_each;
+use mm_store::statements::{all, run};
+use sqlite::{Alter, Row, Transaction, params};
 
 /// Why a table is not added, if it is not.
 fn table_refusal<S: Alter>(
@@ -80,17 +84,68 @@ pub fn add_table<S: Alter>(
     }
 }
 
-/// Removes the contents row of a table, and by its keys the rows of the registry, the matrix sets, the matrices, the tiles,
-/// the attribute rows and the media that have its name.
-fn delete_table<S: Alter>(tx: &mut Transaction<'_, S>, table: &str) -> Result<(), Fault>
+/// The ids of the blobs that the tiles of a table name.
+fn blobs_of_tiles<S: Alter>(tx: &mut Transaction<'_, S>, table: &str) -> Result<Vec<Row>, Fault>
     ensures same_reference { tx.new.conn.ghost_name ≡ tx.old.conn.ghost_name }
-    ensures change { (profile : Profile) → IsChange profile (state S.Store tx.old.conn.now) (state S.Store tx.new.conn.now) (λ p. ⊤) (without_table_rows table.now) result }
+    ensures listed { (profile : Profile) (spare : Spare) → IsMove (state S.Store tx.old.conn.now) (state S.Store tx.new.conn.now) (IsSeen spare profile (state S.Store tx.old.conn.now))
+        (λ base x rows y. (y ≡ x) × IsSeen spare profile (state S.Store tx.new.conn.now) base y × ListsEach rows.items (Freed tile_id y.kept.tiles (λ k. is_other table.now k.table))) result }
+{
+    all(
+        tx,
+        "SELECT blob FROM mm_tiles WHERE table_name = ?1",
+        params![table],
+    )
+}
+
+/// The ids of the blobs that the media of a table name.
+fn blobs_of_media<S: Alter>(tx: &mut Transaction<'_, S>, table: &str) -> Result<Vec<Row>, Fault>
+    ensures same_reference { tx.new.conn.ghost_name ≡ tx.old.conn.ghost_name }
+    ensures listed { (profile : Profile) (spare : Spare) → IsMove (state S.Store tx.old.conn.now) (state S.Store tx.new.conn.now) (IsSeen spare profile (state S.Store tx.old.conn.now))
+        (λ base x rows y. (y ≡ x) × IsSeen spare profile (state S.Store tx.new.conn.now) base y × ListsEach rows.items (Freed medium_id y.kept.media (λ k. is_other table.now k.table))) result }
+{
+    all(
+        tx,
+        "SELECT blob FROM mm_media WHERE table_name = ?1",
+        params![table],
+    )
+}
+
+/// Removes the contents row of a table, and by its keys the rows of the registry, the matrix sets, the matrices, the tiles,
+/// the attribute rows and the media that have its name. Blobs stay that nothing names any more.
+fn delete_contents<S: Alter>(tx: &mut Transaction<'_, S>, table: &str) -> Result<(), Fault>
+    ensures same_reference { tx.new.conn.ghost_name ≡ tx.old.conn.ghost_name }
+    ensures gone { (profile : Profile) (more : Spare) → IsMove (state S.Store tx.old.conn.now) (state S.Store tx.new.conn.now)
+        (λ base x. IsSeen no_spare profile (state S.Store tx.old.conn.now) base x × ((z : ℤ) → FreedByTable table.now x.kept z → more z ≡ true))
+        (λ base x _ y. (y.content ≡ without_table_rows table.now x.content) × IsSeen more profile (state S.Store tx.new.conn.now) base y) result }
 {
     run(
         tx,
         "DELETE FROM gpkg_contents WHERE table_name = ?1",
         params![table],
     )
+}
+
+/// Removes what `delete_contents` removes, and the blobs that nothing names any more.
+fn delete_table<S: Alter>(tx: &mut Transaction<'_, S>, table: &str) -> Result<(), Fault>
+    ensures same_reference { tx.new.conn.ghost_name ≡ tx.old.conn.ghost_name }
+    ensures change { (profile : Profile) → IsChange profile (state S.Store tx.old.conn.now) (state S.Store tx.new.conn.now) (λ p. ⊤) (without_table_rows table.now) result }
+{
+    let tiles = match blobs_of_tiles(tx, table) {
+        Ok(rows) => rows,
+        Err(fault) => return Err(fault),
+    };
+    let media = match blobs_of_media(tx, table) {
+        Ok(rows) => rows,
+        Err(fault) => return Err(fault),
+    };
+    match delete_contents(tx, table) {
+        Ok(()) => {}
+        Err(fault) => return Err(fault),
+    }
+    match release_each(tx, tiles.as_slice()) {
+        Ok(()) => release_each(tx, media.as_slice()),
+        Err(fault) => Err(fault),
+    }
 }
 
 /// Why a table is not removed, if it is not.

@@ -1,3 +1,4 @@
 pub mod Refusing
 pub mod Joining
 pub mod Ends
+pub mod Writing

@@ -1,7 +1,7 @@
 //! Media.
 
-ghost use Rattle.std.specs.Prelude.{◌≡◌, ℕ, None, true, ⊤};
-ghost use Rattle.std.specs.FinMap.{get, contains_key, insert, remove};
+ghost use Rattle.std.specs.Prelude.{◌≡◌, ℕ, ℤ, List, Option, Some, None, ⊤, option_map};
+ghost use Rattle.std.specs.FinMap.{get, insert, remove};
 ghost use Rattle.sqlite.specs.Held.{state};
 ghost use Rattle.mm_base.specs.Bounds.{Profile};
 ghost use Rattle.mm_base.specs.Conditions.{least, own_reasons};
@@ -9,7 +9,13 @@ ghost use Rattle.mm_base.specs.Keys.{item};
 ghost use Rattle.mm_base.specs.Rules.{Meets};
 ghost use Rattle.mm_base.specs.Stamp.{IsStamp};
 ghost use Rattle.mm_base.specs.declared.commands.Command.TheVariants as commands;
+ghost use Rattle.mm_store.specs.Blobs.{bytes_at};
+ghost use Rattle.mm_store.specs.Kept.{Spare};
+ghost use Rattle.mm_store.specs.Rows.{MediumRow};
 ghost use Rattle.mm_store.specs.Shapes.{IsLook, IsChange, IsLent};
+ghost use Rattle.mm_blobs.specs.Entries.{spare_freed, medium_of, with_medium, without_medium};
+ghost use Rattle.mm_blobs.specs.Moves.{IsMove};
+ghost use Rattle.mm_blobs.specs.Views.{IsSeen, spare_too, spare_but};
 ghost use Rattle.mm_contents.specs.Stamped.{IsLentAt};
 
 use crate::kinds::plain_refusal;
@@ -17,49 +23,75 @@ use crate::mapped::is_mapped;
 use mm_base::answers::{Fault, Outcome, Refusal};
 use mm_base::commands::PlainKind;
 use mm_base::names::Name;
+use mm_blobs::blobs::{keep, release_freed};
+use mm_blobs::entries::blob_of_medium;
 use mm_contents::{has_medium, set_last_change};
 use mm_store::statements::run;
 use sqlite::{Alter, Transaction, params};
 
-/// Puts a medium at an id that is free.
+/// Puts a medium that names a blob, at an id that is free.
 fn insert_medium<S: Alter>(
     tx: &mut Transaction<'_, S>,
     table: &str,
     id: i64,
     content_type: &str,
-    bytes: &[u8],
+    blob: i64,
 ) -> Result<(), Fault>
     ensures same_reference { tx.new.conn.ghost_name ≡ tx.old.conn.ghost_name }
-    ensures change { (profile : Profile) → IsChange profile (state S.Store tx.old.conn.now) (state S.Store tx.new.conn.now) (λ p. get p.media (item table.now id) ≡ None)
-        (λ p. record p { media = insert p.media (item table.now id) (record { bytes = bytes.now; content_type = content_type.now }) }) result }
+    ensures named { (profile : Profile) (spare : Spare) (bytes : List ℕ) → IsMove (state S.Store tx.old.conn.now) (state S.Store tx.new.conn.now)
+        (λ base x. IsSeen spare profile (state S.Store tx.old.conn.now) base x × ((bytes_at x.kept.shelf blob ≡ Some bytes) × (get x.kept.media (item table.now id) ≡ None)))
+        (λ base x _ y. (y ≡ with_medium (item table.now id) (medium_of blob content_type.now) bytes x) × IsSeen (spare_but blob spare) profile (state S.Store tx.new.conn.now) base y) result }
 {
     run(
         tx,
-        "INSERT INTO mm_media (table_name, id, data, content_type) VALUES (?1, ?2, ?3, ?4)",
-        params![table, id, bytes, content_type],
+        "INSERT INTO mm_media (table_name, id, blob, content_type) VALUES (?1, ?2, ?3, ?4)",
+        params![table, id, blob, content_type],
     )
 }
 
-/// Puts a medium in place of the one that stands.
+/// Lets a medium that stands name another blob, with another content type. The blob that it named may stand unnamed then.
 fn update_medium<S: Alter>(
     tx: &mut Transaction<'_, S>,
     table: &str,
     id: i64,
     content_type: &str,
-    bytes: &[u8],
+    blob: i64,
 ) -> Result<(), Fault>
     ensures same_reference { tx.new.conn.ghost_name ≡ tx.old.conn.ghost_name }
-    ensures change { (profile : Profile) → IsChange profile (state S.Store tx.old.conn.now) (state S.Store tx.new.conn.now) (λ p. contains_key p.media (item table.now id) ≡ true)
-        (λ p. record p { media = insert p.media (item table.now id) (record { bytes = bytes.now; content_type = content_type.now }) }) result }
+    ensures named { (profile : Profile) (spare : Spare) (bytes : List ℕ) (was : ℤ) → IsMove (state S.Store tx.old.conn.now) (state S.Store tx.new.conn.now)
+        (λ base x. IsSeen spare profile (state S.Store tx.old.conn.now) base x × ((bytes_at x.kept.shelf blob ≡ Some bytes) × (option_map (λ (m : MediumRow). m.blob) (get x.kept.media (item table.now id)) ≡ Some was)))
+        (λ base x _ y. (y ≡ with_medium (item table.now id) (medium_of blob content_type.now) bytes x) × IsSeen (spare_too was (spare_but blob spare)) profile (state S.Store tx.new.conn.now) base y) result }
 {
     run(
         tx,
-        "UPDATE mm_media SET data = ?3, content_type = ?4 WHERE table_name = ?1 AND id = ?2",
-        params![table, id, bytes, content_type],
+        "UPDATE mm_media SET blob = ?3, content_type = ?4 WHERE table_name = ?1 AND id = ?2",
+        params![table, id, blob, content_type],
     )
 }
 
-/// Puts a medium, in place of the one that stands or as a new one.
+/// Lets the medium of an id name a blob: the one that stands, which names `stands`, or a new one.
+fn name_medium<S: Alter>(
+    tx: &mut Transaction<'_, S>,
+    table: &str,
+    id: i64,
+    content_type: &str,
+    blob: i64,
+    stands: Option<i64>,
+) -> Result<(), Fault>
+    ensures same_reference { tx.new.conn.ghost_name ≡ tx.old.conn.ghost_name }
+    ensures named { (profile : Profile) (spare : Spare) (bytes : List ℕ) → IsMove (state S.Store tx.old.conn.now) (state S.Store tx.new.conn.now)
+        (λ base x. IsSeen spare profile (state S.Store tx.old.conn.now) base x × ((bytes_at x.kept.shelf blob ≡ Some bytes) × (option_map (λ (m : MediumRow). m.blob) (get x.kept.media (item table.now id)) ≡ stands)))
+        (λ base x _ y. (y ≡ with_medium (item table.now id) (medium_of blob content_type.now) bytes x) × IsSeen (spare_freed stands (spare_but blob spare)) profile (state S.Store tx.new.conn.now) base y) result }
+{
+    match stands {
+        Some(_was) => update_medium(tx, table, id, content_type, blob),
+        None => insert_medium(tx, table, id, content_type, blob),
+    }
+}
+
+/// Puts a medium, in place of the one that stands or as a new one: its bytes are kept, it names their blob, and the blob
+/// goes that it named before, if nothing else names it. No bytes are a fault, 91, since no command has a medium without
+/// them.
 fn write_medium<S: Alter>(
     tx: &mut Transaction<'_, S>,
     table: &str,
@@ -71,9 +103,19 @@ fn write_medium<S: Alter>(
     ensures change { (profile : Profile) → IsChange profile (state S.Store tx.old.conn.now) (state S.Store tx.new.conn.now) (λ p. ⊤)
         (λ p. record p { media = insert p.media (item table.now id) (record { bytes = bytes.now; content_type = content_type.now }) }) result }
 {
-    match has_medium(tx, table, id) {
-        Ok(true) => update_medium(tx, table, id, content_type, bytes),
-        Ok(false) => insert_medium(tx, table, id, content_type, bytes),
+    if bytes.is_empty() {
+        return Err(Fault(91));
+    }
+    let stands = match blob_of_medium(tx, table, id) {
+        Ok(stands) => stands,
+        Err(fault) => return Err(fault),
+    };
+    let blob = match keep(tx, bytes) {
+        Ok(blob) => blob,
+        Err(fault) => return Err(fault),
+    };
+    match name_medium(tx, table, id, content_type, blob, stands) {
+        Ok(()) => release_freed(tx, stands),
         Err(fault) => Err(fault),
     }
 }
@@ -114,17 +156,38 @@ pub fn put_media<S: Alter>(
     }
 }
 
-/// Removes the medium of an id.
-fn delete_medium<S: Alter>(tx: &mut Transaction<'_, S>, table: &str, id: i64) -> Result<(), Fault>
+/// Removes the row of a medium. The blob that it named may stand unnamed then.
+fn delete_medium_row<S: Alter>(
+    tx: &mut Transaction<'_, S>,
+    table: &str,
+    id: i64,
+) -> Result<(), Fault>
     ensures same_reference { tx.new.conn.ghost_name ≡ tx.old.conn.ghost_name }
-    ensures change { (profile : Profile) → IsChange profile (state S.Store tx.old.conn.now) (state S.Store tx.new.conn.now) (λ p. ⊤)
-        (λ p. record p { media = remove p.media (item table.now id) }) result }
+    ensures gone { (profile : Profile) (spare : Spare) (stands : Option ℤ) → IsMove (state S.Store tx.old.conn.now) (state S.Store tx.new.conn.now)
+        (λ base x. IsSeen spare profile (state S.Store tx.old.conn.now) base x × (option_map (λ (m : MediumRow). m.blob) (get x.kept.media (item table.now id)) ≡ stands))
+        (λ base x _ y. (y ≡ without_medium (item table.now id) x) × IsSeen (spare_freed stands spare) profile (state S.Store tx.new.conn.now) base y) result }
 {
     run(
         tx,
         "DELETE FROM mm_media WHERE table_name = ?1 AND id = ?2",
         params![table, id],
     )
+}
+
+/// Removes the medium of an id, and its blob if nothing else names it.
+fn delete_medium<S: Alter>(tx: &mut Transaction<'_, S>, table: &str, id: i64) -> Result<(), Fault>
+    ensures same_reference { tx.new.conn.ghost_name ≡ tx.old.conn.ghost_name }
+    ensures change { (profile : Profile) → IsChange profile (state S.Store tx.old.conn.now) (state S.Store tx.new.conn.now) (λ p. ⊤)
+        (λ p. record p { media = remove p.media (item table.now id) }) result }
+{
+    let stands = match blob_of_medium(tx, table, id) {
+        Ok(stands) => stands,
+        Err(fault) => return Err(fault),
+    };
+    match delete_medium_row(tx, table, id) {
+        Ok(()) => release_freed(tx, stands),
+        Err(fault) => Err(fault),
+    }
 }
 
 /// Why a medium is not removed, if it is not.

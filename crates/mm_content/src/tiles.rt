@@ -1,6 +1,6 @@
 //! Tiles.
 
-ghost use Rattle.std.specs.Prelude.{◌≡◌, ℕ, pos, int_le, ◌||◌, List, None, true, ⊤, option_map};
+ghost use Rattle.std.specs.Prelude.{◌≡◌, ℕ, ℤ, pos, int_le, ◌||◌, List, Option, Some, None, ⊤, option_map};
 ghost use Rattle.std.specs.FinMap.{get, contains_key, insert, remove};
 ghost use Rattle.sqlite.specs.Held.{state};
 ghost use Rattle.mm_base.specs.Bounds.{Profile};
@@ -10,12 +10,19 @@ ghost use Rattle.mm_base.specs.Package.{Grid};
 ghost use Rattle.mm_base.specs.Rules.{Meets};
 ghost use Rattle.mm_base.specs.Stamp.{IsStamp};
 ghost use Rattle.mm_base.specs.declared.commands.Command.TheVariants as commands;
+ghost use Rattle.mm_store.specs.Blobs.{bytes_at};
+ghost use Rattle.mm_store.specs.Kept.{Spare};
 ghost use Rattle.mm_store.specs.Shapes.{IsLook, IsChange, IsLent};
+ghost use Rattle.mm_blobs.specs.Entries.{spare_freed, with_tile, without_tile};
+ghost use Rattle.mm_blobs.specs.Moves.{IsMove};
+ghost use Rattle.mm_blobs.specs.Views.{IsSeen, spare_too, spare_but};
 ghost use Rattle.mm_contents.specs.Stamped.{IsLentAt};
 
 use crate::kinds::pyramid_refusal;
 use mm_base::answers::{Fault, Outcome, Refusal};
 use mm_base::names::Name;
+use mm_blobs::blobs::{keep, release_freed};
+use mm_blobs::entries::blob_of_tile;
 use mm_contents::set_last_change;
 use mm_store::statements::{exists, first_pair, run};
 use sqlite::{Alter, Transaction, params};
@@ -55,47 +62,71 @@ fn has_tile<S: Alter>(
     )
 }
 
-/// Puts a tile at a place that is free.
+/// Puts a tile that names a blob, at a place that is free.
 fn insert_tile<S: Alter>(
     tx: &mut Transaction<'_, S>,
     table: &str,
     zoom: u8,
     column: u32,
     row: u32,
-    bytes: &[u8],
+    blob: i64,
 ) -> Result<(), Fault>
     ensures same_reference { tx.new.conn.ghost_name ≡ tx.old.conn.ghost_name }
-    ensures change { (profile : Profile) → IsChange profile (state S.Store tx.old.conn.now) (state S.Store tx.new.conn.now) (λ p. get p.tiles (tile table.now (pos zoom) (pos column) (pos row)) ≡ None)
-        (λ p. record p { tiles = insert p.tiles (tile table.now (pos zoom) (pos column) (pos row)) bytes.now }) result }
+    ensures named { (profile : Profile) (spare : Spare) (bytes : List ℕ) → IsMove (state S.Store tx.old.conn.now) (state S.Store tx.new.conn.now)
+        (λ base x. IsSeen spare profile (state S.Store tx.old.conn.now) base x × ((bytes_at x.kept.shelf blob ≡ Some bytes) × (get x.kept.tiles (tile table.now (pos zoom) (pos column) (pos row)) ≡ None)))
+        (λ base x _ y. (y ≡ with_tile (tile table.now (pos zoom) (pos column) (pos row)) blob bytes x) × IsSeen (spare_but blob spare) profile (state S.Store tx.new.conn.now) base y) result }
 {
     run(
         tx,
-        "INSERT INTO mm_tiles (table_name, zoom_level, tile_column, tile_row, tile_data) VALUES (?1, ?2, ?3, ?4, ?5)",
-        params![table, u32::from(zoom), column, row, bytes],
+        "INSERT INTO mm_tiles (table_name, zoom_level, tile_column, tile_row, blob) VALUES (?1, ?2, ?3, ?4, ?5)",
+        params![table, u32::from(zoom), column, row, blob],
     )
 }
 
-/// Puts a tile in place of the one that stands.
+/// Lets a tile that stands name another blob. The one that it named may stand unnamed then.
 fn update_tile<S: Alter>(
     tx: &mut Transaction<'_, S>,
     table: &str,
     zoom: u8,
     column: u32,
     row: u32,
-    bytes: &[u8],
+    blob: i64,
 ) -> Result<(), Fault>
     ensures same_reference { tx.new.conn.ghost_name ≡ tx.old.conn.ghost_name }
-    ensures change { (profile : Profile) → IsChange profile (state S.Store tx.old.conn.now) (state S.Store tx.new.conn.now) (λ p. contains_key p.tiles (tile table.now (pos zoom) (pos column) (pos row)) ≡ true)
-        (λ p. record p { tiles = insert p.tiles (tile table.now (pos zoom) (pos column) (pos row)) bytes.now }) result }
+    ensures named { (profile : Profile) (spare : Spare) (bytes : List ℕ) (was : ℤ) → IsMove (state S.Store tx.old.conn.now) (state S.Store tx.new.conn.now)
+        (λ base x. IsSeen spare profile (state S.Store tx.old.conn.now) base x × ((bytes_at x.kept.shelf blob ≡ Some bytes) × (get x.kept.tiles (tile table.now (pos zoom) (pos column) (pos row)) ≡ Some was)))
+        (λ base x _ y. (y ≡ with_tile (tile table.now (pos zoom) (pos column) (pos row)) blob bytes x) × IsSeen (spare_too was (spare_but blob spare)) profile (state S.Store tx.new.conn.now) base y) result }
 {
     run(
         tx,
-        "UPDATE mm_tiles SET tile_data = ?5 WHERE table_name = ?1 AND zoom_level = ?2 AND tile_column = ?3 AND tile_row = ?4",
-        params![table, u32::from(zoom), column, row, bytes],
+        "UPDATE mm_tiles SET blob = ?5 WHERE table_name = ?1 AND zoom_level = ?2 AND tile_column = ?3 AND tile_row = ?4",
+        params![table, u32::from(zoom), column, row, blob],
     )
 }
 
-/// Puts a tile, in place of the one that stands or as a new one.
+/// Lets the tile at a place name a blob: the one that stands, which names `stands`, or a new one.
+fn name_tile<S: Alter>(
+    tx: &mut Transaction<'_, S>,
+    table: &str,
+    zoom: u8,
+    column: u32,
+    row: u32,
+    blob: i64,
+    stands: Option<i64>,
+) -> Result<(), Fault>
+    ensures same_reference { tx.new.conn.ghost_name ≡ tx.old.conn.ghost_name }
+    ensures named { (profile : Profile) (spare : Spare) (bytes : List ℕ) → IsMove (state S.Store tx.old.conn.now) (state S.Store tx.new.conn.now)
+        (λ base x. IsSeen spare profile (state S.Store tx.old.conn.now) base x × ((bytes_at x.kept.shelf blob ≡ Some bytes) × (get x.kept.tiles (tile table.now (pos zoom) (pos column) (pos row)) ≡ stands)))
+        (λ base x _ y. (y ≡ with_tile (tile table.now (pos zoom) (pos column) (pos row)) blob bytes x) × IsSeen (spare_freed stands (spare_but blob spare)) profile (state S.Store tx.new.conn.now) base y) result }
+{
+    match stands {
+        Some(_was) => update_tile(tx, table, zoom, column, row, blob),
+        None => insert_tile(tx, table, zoom, column, row, blob),
+    }
+}
+
+/// Puts a tile, in place of the one that stands or as a new one: its bytes are kept, it names their blob, and the blob goes
+/// that it named before, if nothing else names it. No bytes are a fault, 91, since no command has a tile without them.
 fn write_tile<S: Alter>(
     tx: &mut Transaction<'_, S>,
     table: &str,
@@ -108,14 +139,44 @@ fn write_tile<S: Alter>(
     ensures change { (profile : Profile) → IsChange profile (state S.Store tx.old.conn.now) (state S.Store tx.new.conn.now) (λ p. ⊤)
         (λ p. record p { tiles = insert p.tiles (tile table.now (pos zoom) (pos column) (pos row)) bytes.now }) result }
 {
-    match has_tile(tx, table, zoom, column, row) {
-        Ok(true) => update_tile(tx, table, zoom, column, row, bytes),
-        Ok(false) => insert_tile(tx, table, zoom, column, row, bytes),
+    if bytes.is_empty() {
+        return Err(Fault(91));
+    }
+    let stands = match blob_of_tile(tx, table, zoom, column, row) {
+        Ok(stands) => stands,
+        Err(fault) => return Err(fault),
+    };
+    let blob = match keep(tx, bytes) {
+        Ok(blob) => blob,
+        Err(fault) => return Err(fault),
+    };
+    match name_tile(tx, table, zoom, column, row, blob, stands) {
+        Ok(()) => release_freed(tx, stands),
         Err(fault) => Err(fault),
     }
 }
 
-/// Removes the tile at a place.
+/// Removes the row of a tile. The blob that it named may stand unnamed then.
+fn delete_tile_row<S: Alter>(
+    tx: &mut Transaction<'_, S>,
+    table: &str,
+    zoom: u8,
+    column: u32,
+    row: u32,
+) -> Result<(), Fault>
+    ensures same_reference { tx.new.conn.ghost_name ≡ tx.old.conn.ghost_name }
+    ensures gone { (profile : Profile) (spare : Spare) (stands : Option ℤ) → IsMove (state S.Store tx.old.conn.now) (state S.Store tx.new.conn.now)
+        (λ base x. IsSeen spare profile (state S.Store tx.old.conn.now) base x × (get x.kept.tiles (tile table.now (pos zoom) (pos column) (pos row)) ≡ stands))
+        (λ base x _ y. (y ≡ without_tile (tile table.now (pos zoom) (pos column) (pos row)) x) × IsSeen (spare_freed stands spare) profile (state S.Store tx.new.conn.now) base y) result }
+{
+    run(
+        tx,
+        "DELETE FROM mm_tiles WHERE table_name = ?1 AND zoom_level = ?2 AND tile_column = ?3 AND tile_row = ?4",
+        params![table, u32::from(zoom), column, row],
+    )
+}
+
+/// Removes the tile at a place, and its blob if nothing else names it.
 fn delete_tile<S: Alter>(
     tx: &mut Transaction<'_, S>,
     table: &str,
@@ -127,11 +188,14 @@ fn delete_tile<S: Alter>(
     ensures change { (profile : Profile) → IsChange profile (state S.Store tx.old.conn.now) (state S.Store tx.new.conn.now) (λ p. ⊤)
         (λ p. record p { tiles = remove p.tiles (tile table.now (pos zoom) (pos column) (pos row)) }) result }
 {
-    run(
-        tx,
-        "DELETE FROM mm_tiles WHERE table_name = ?1 AND zoom_level = ?2 AND tile_column = ?3 AND tile_row = ?4",
-        params![table, u32::from(zoom), column, row],
-    )
+    let stands = match blob_of_tile(tx, table, zoom, column, row) {
+        Ok(stands) => stands,
+        Err(fault) => return Err(fault),
+    };
+    match delete_tile_row(tx, table, zoom, column, row) {
+        Ok(()) => release_freed(tx, stands),
+        Err(fault) => Err(fault),
+    }
 }
 
 /// Whether a place is outside a matrix of this width and height.

@@ -5,9 +5,11 @@ use Rattle.sqlite.specs.Held.{state}
 use Rattle.sql_forms.proofs.Selects.{selects_any}
 use Rattle.mm_base.specs.Keys.{tile}
 use Rattle.mm_schema.proofs.Selecting as statement
+use Rattle.mm_store.specs.Kept.{tile_id, tile_with}
 use Rattle.mm_store.proofs.Parts.{found}
 use Rattle.mm_store.proofs.Keys as parts
 use Rattle.mm_store.proofs.Steps.{looks, seen}
+use Rattle.mm_blobs.proofs.Naming.{told_there}
 use Rattle.mm_content.proofs.tiles.has_tile.Goals as goal
 
 pub returns-clause-look : goal.returns-clause-look
@@ -17,4 +19,4 @@ returns-clause-look g c profile =
     let key = tile c.args.table.now (pos c.args.zoom) (pos c.args.column) (pos c.args.row) in
     looks profile old new _ _ _ (λ p found. found ≡ contains_key p.tiles key) c.exists.result c.exists.ensures.asked (λ x first ready shown gives.
     let read = selects_any _ _ _ _ _ _ statement.has_tile old new ready.schema_is (Words key.table ∷ Int key.zoom ∷ Int key.column ∷ Int key.row ∷ []) _ (search rules) first shown in
-    (read.0, λ p h. gives ∙ read.1 ∙ found parts.tiles (seen old 15) p.tiles h.tiles key))
+    (read.0, λ p h. gives ∙ read.1 ∙ found parts.tiles (seen old 15) h.kept.tiles h.keeps.tiles key ∙ told_there tile_id tile_with h.kept.shelf h.kept.tiles p.tiles h.keeps.tiles_told key))

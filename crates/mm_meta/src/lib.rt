@@ -6,6 +6,8 @@
 //! - `systems`: reference systems.
 //! - `extensions`: the rows of `gpkg_extensions`.
 //! - `memory`: a new package in memory.
+//!
+//! `keep` and `sweep`, by which bytes are kept once, are handed on.
 #![tactic(auto)]
 
 mod extensions;
@@ -17,6 +19,7 @@ mod systems;
 
 pub use extensions::insert_related_row;
 pub use memory::create_in_memory;
+pub use mm_blobs::blobs::{keep, sweep};
 pub use opening::init;
 pub use profile::look;
 pub use systems::add_srs;

@@ -2,29 +2,31 @@
 use Rattle.std.proofs.Common.{◌≡◌, ℕ, ℤ, Bool, List, [], ◌∷◌, Option, Some, None, option_map, Vec, sym, ap, subst, ◌∙◌}
 use Rattle.std.specs.declared.cmp.Ordering.{Ordering}
 use Rattle.std.specs.FinMap.{FinMap, get}
-use Rattle.sqlite.specs.declared.types.Value.TheVariants.{Int, Text as Words, Blob}
+use Rattle.sqlite.specs.declared.types.Value.TheVariants.{Int, Text as Words}
 use Rattle.sqlite.specs.Order.{Row}
 use Rattle.sqlite.specs.Term.{col}
 use Rattle.sql_forms.specs.Tables.{Finds}
 use Rattle.sql_forms.specs.Maps.{Holds}
 use Rattle.sql_forms.proofs.Keys.{columns_are}
 use Rattle.sql_forms.proofs.Selects.{shows}
-use Rattle.mm_base.specs.Keys.{Text, TileKey, Item}
+use Rattle.mm_base.specs.Keys.{Text, Item, item_cmp}
 use Rattle.mm_base.specs.Package.{AttributeRow, Medium}
 use Rattle.mm_base.specs.declared.entries.Media.{Media}
 use Rattle.mm_base.specs.declared.entries.Row.{Row as RowTold}
-use Rattle.mm_store.specs.Rows.{past_rowid, tile_row, attribute_row, medium_row}
+use Rattle.mm_base.proofs.Parts.{same_some}
+use Rattle.mm_store.specs.Blobs.{Shelf, Told, bytes_at}
+use Rattle.mm_store.specs.Kept.{tile_id, tile_with, medium_id, medium_with}
+use Rattle.mm_store.specs.Rows.{past_rowid, attribute_row, MediumRow, medium_row}
+use Rattle.mm_store.proofs.Keys as parts
+use Rattle.mm_store.proofs.Keys.{by_item}
 use Rattle.mm_store.proofs.Parts.{IsPart, finds_none, finds_some}
-use Rattle.mm_reads.specs.Told.{TellsBytes, Gives, ShowsBytes, ShowsMedium, ShowsRow, medium_of, row_of}
+use Rattle.mm_reads.specs.Told.{TellsBytes, Gives, ShowsMedium, IsRowOf, ShowsRow, medium_of, row_of}
 
 pub same_words : {a b : Text} → Words a ≡ Words b → a ≡ b
 same_words e = cc
 
 pub same_int : {a b : ℤ} → Int a ≡ Int b → a ≡ b
 same_int e = cc
-
-same_blob : {a b : List ℕ} → Blob a ≡ Blob b → a ≡ b
-same_blob e = cc
 
 -- what is told of the row that the query shows is the entry
 module _ {K V T : Type 0} {R : K → K → Ordering} {part : Row → Row} {row_of : K → V → Row} {test : K → Row → Bool} (it : IsPart R part row_of test) (rows : List Row) (m : FinMap R V) (h : Holds part row_of rows m) (k : K)
@@ -37,18 +39,40 @@ module _ {K V T : Type 0} {R : K → K → Ordering} {part : Row → Row} {row_o
 
 -- ---- the three parts
 
-pub bytes_told : {A : Type 0} (k : TileKey) (params r : Row) (v : List ℕ) (x : Vec ℕ A) → past_rowid r ≡ tile_row k v → ShowsBytes (shows (col 1 5 ∷ []) params r) x → v ≡ x.items
-bytes_told k params r v x is shown = same_blob (sym (columns_are r (tile_row k v) 4 is) ∙ shown)
-
 pub tells_bytes : {A : Type 0} (entry : Option (List ℕ)) (found : Option (Vec ℕ A)) → entry ≡ option_map (λ (v : Vec ℕ A). v.items) found → TellsBytes entry found
 tells_bytes entry None h = h
 tells_bytes entry (Some x) h = h
 
-pub medium_told : (k : Item) (params r : Row) (v : Medium) (x : Media) → past_rowid r ≡ medium_row k v → ShowsMedium (shows (col 1 3 ∷ col 1 4 ∷ []) params r) x → v ≡ medium_of x
-medium_told k params r v x is shown =
-    let a = same_blob (sym (columns_are r (medium_row k v) 2 is) ∙ shown.bytes) in
-    let b = same_words (sym (columns_are r (medium_row k v) 3 is) ∙ shown.content_type) in
-    λ i. record { bytes = a i; content_type = b i }
+-- the row of a medium that was looked up by its key
+module _ (rows : List Row) (ids : FinMap item_cmp MediumRow) (h : Holds past_rowid medium_row rows ids) (k : Item) (params : Row) where
+  abbrev medium_shown : Row → Row
+  medium_shown = shows (col 1 3 ∷ col 1 4 ∷ []) params
+
+  by_row : (first : Option Row) → Finds (by_item k) medium_shown rows first → IsRowOf (get ids k) first
+  by_row None found = subst (λ o. IsRowOf o None) (sym (finds_none parts.media rows ids h k medium_shown found)) tt
+  by_row (Some row) found =
+      let at = finds_some parts.media rows ids h k medium_shown row found in
+      subst (λ o. IsRowOf o (Some row)) (sym at.1) (subst (λ r. ShowsMedium r at.0) (sym at.4) (record { blob = columns_are at.2 (medium_row k at.0) 2 at.3; content_type = columns_are at.2 (medium_row k at.0) 3 at.3 }))
+
+  pub medium_found : (x first : Option Row) → x ≡ first → Finds (by_item k) medium_shown rows first → IsRowOf (get ids k) x
+  medium_found x first gives found = subst (IsRowOf (get ids k)) (sym gives) (by_row first found)
+
+-- the medium of a row, with the bytes of the blob that it names
+pub medium_told : (shelf : Shelf) (o : Option MediumRow) (entry : Option Medium) (row : Row) (m : Media) → IsRowOf o (Some row) → Told medium_id medium_with shelf o entry
+    → ((r : MediumRow) → ShowsMedium row r → (bytes_at shelf r.blob ≡ Some m.bytes) × (r.content_type ≡ m.content_type)) → entry ≡ Some (medium_of m)
+medium_told shelf None entry row m is told tells = absurd is
+medium_told shelf (Some r) entry row m is told tells =
+    let it = tells r is in
+    let bytes : told.0 ≡ m.bytes = same_some (sym told.1 ∙ it.0) in
+    told.2 ∙ (λ i. Some (record { bytes = bytes i; content_type = it.1 i }))
+
+pub no_medium : (shelf : Shelf) (o : Option MediumRow) (entry : Option Medium) → IsRowOf o None → Told medium_id medium_with shelf o entry → entry ≡ None
+no_medium shelf None entry is told = told
+no_medium shelf (Some r) entry is told = absurd is
+
+-- the bytes of a tile are those of the blob that it names
+pub tile_told : (shelf : Shelf) (id : ℤ) (entry : Option (List ℕ)) (bytes : List ℕ) → Told tile_id tile_with shelf (Some id) entry → bytes_at shelf id ≡ Some bytes → entry ≡ Some bytes
+tile_told shelf id entry bytes told is = told.2 ∙ ap Some (same_some (sym told.1 ∙ is))
 
 pub row_told : (k : Item) (params r : Row) (v : AttributeRow) (x : RowTold) → past_rowid r ≡ attribute_row k v → ShowsRow (shows (col 1 3 ∷ col 1 4 ∷ col 1 5 ∷ []) params r) x → v ≡ row_of x
 row_told k params r v x is shown =

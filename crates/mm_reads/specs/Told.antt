@@ -1,9 +1,10 @@
 -- What the reads tell of a package, and of the rows that they read it from.
-use Rattle.std.specs.Prelude.{◌≡◌, ℕ, List, Option, Some, None, MatchOption}
+use Rattle.std.specs.Prelude.{◌≡◌, ℕ, List, Option, Some, None, MatchOption, ⊤}
 use Rattle.std.specs.declared.vec.Vec.{Vec}
-use Rattle.sqlite.specs.declared.types.Value.TheVariants.{Int, Text as Words, Blob}
+use Rattle.sqlite.specs.declared.types.Value.TheVariants.{Int, Text as Words}
 use Rattle.sqlite.specs.Order.{Row, column}
 use Rattle.mm_base.specs.Package.{AttributeRow, Medium}
+use Rattle.mm_store.specs.Rows.{MediumRow}
 use Rattle.mm_base.specs.declared.entries.Media.{Media}
 use Rattle.mm_base.specs.declared.entries.Row.{Row as RowTold}
 
@@ -23,12 +24,15 @@ abbrev pub Gives : {T : Type 0} → (Row → T → Type 0) → Option T → Opti
 Gives Shows None first = first ≡ None
 Gives Shows (Some it) first = (row : Row) × (first ≡ Some row) × Shows row it
 
-abbrev pub ShowsBytes : {A : Type 0} → Row → Vec ℕ A → Type 0
-ShowsBytes row bytes = column row 0 ≡ Blob bytes.items
-
-pub record ShowsMedium (row : Row) (m : Media) : Type 0 where
-  pub bytes : column row 0 ≡ Blob m.bytes
+pub record ShowsMedium (row : Row) (m : MediumRow) : Type 0 where
+  pub blob : column row 0 ≡ Int m.blob
   pub content_type : column row 1 ≡ Words m.content_type
+
+-- a row that was asked for by its key shows the medium, and there is none where there is no medium
+abbrev pub IsRowOf : Option MediumRow → Option Row → Type 0
+IsRowOf None None = ⊤
+IsRowOf (Some m) (Some row) = ShowsMedium row m
+IsRowOf _ _ = ⊥
 
 pub record ShowsRow (row : Row) (r : RowTold) : Type 0 where
   pub title : column row 0 ≡ Words r.title

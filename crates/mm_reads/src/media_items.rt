@@ -1,25 +1,28 @@
 //! A medium.
 
-ghost use Rattle.std.specs.Prelude.{◌≡◌, false, option_map, string_bytes, IfOk, IfErr};
+ghost use Rattle.std.specs.Prelude.{◌≡◌, Some, false, option_map, string_bytes, IfOk, IfErr};
 ghost use Rattle.std.specs.FinMap.{get};
-ghost use Rattle.sqlite.specs.Values.{bound};
 ghost use Rattle.sqlite.specs.Held.{state};
 ghost use Rattle.mm_base.specs.Bounds.{Profile};
 ghost use Rattle.mm_base.specs.Keys.{item};
+ghost use Rattle.mm_store.specs.Blobs.{Told, bytes_at};
 ghost use Rattle.mm_store.specs.Faults.{IsStoreFault};
+ghost use Rattle.mm_store.specs.Kept.{Spare, medium_id, medium_with};
+ghost use Rattle.mm_store.specs.Rows.{MediumRow};
 ghost use Rattle.mm_store.specs.Seen.{IsRead};
 ghost use Rattle.mm_store.specs.Shapes.{IsLook};
-ghost use Rattle.mm_store.specs.Statements.{IsAsked};
-ghost use Rattle.mm_reads.specs.Told.{Gives, ShowsMedium, medium_of};
+ghost use Rattle.mm_blobs.specs.Moves.{IsMove};
+ghost use Rattle.mm_blobs.specs.Views.{IsSeen};
+ghost use Rattle.mm_reads.specs.Told.{ShowsMedium, IsRowOf, medium_of};
 
 use mm_base::answers::Fault;
 use mm_base::bytes::MediaBytes;
 use mm_base::content_types::ContentType;
 use mm_base::entries::Media;
 use mm_base::names::Name;
-use mm_store::faults::fault_of;
+use mm_blobs::blobs::bytes_of;
+use mm_store::columns::{number_in, text_in};
 use mm_store::statements::first;
-use sqlite::types::ValueRef;
 use sqlite::{Alter, Connection, Row, Transaction, params};
 
 /// The medium with these bytes and this content type. What no medium has is a fault, 91.
@@ -36,36 +39,40 @@ fn medium(bytes: Vec<u8>, content_type: String) -> Result<Media, Fault>
     }
 }
 
-/// The medium in the first two columns of a row.
-fn medium_in(row: &Row) -> Result<Media, Fault>
-    ensures shown { IfOk result (λ m. ShowsMedium row.now m) }
-    ensures fault { IfErr result IsStoreFault }
+/// The row of a medium: the blob that it names, and its content type.
+fn row_of_medium<S: Alter>(
+    tx: &mut Transaction<'_, S>,
+    table: &str,
+    id: i64,
+) -> Result<Option<Row>, Fault>
+    ensures same_reference { tx.new.conn.ghost_name ≡ tx.old.conn.ghost_name }
+    ensures shown { (profile : Profile) (spare : Spare) → IsMove (state S.Store tx.old.conn.now) (state S.Store tx.new.conn.now) (IsSeen spare profile (state S.Store tx.old.conn.now))
+        (λ base x row y. (y ≡ x) × IsSeen spare profile (state S.Store tx.new.conn.now) base y × IsRowOf (get y.kept.media (item table.now id)) row
+        × Told medium_id medium_with y.kept.shelf (get y.kept.media (item table.now id)) (get y.content.media (item table.now id))) result }
 {
-    let bytes = match row.get(0) {
-        Ok(bytes) => bytes,
-        Err(error) => return Err(fault_of(error)),
-    };
-    match row.get(1) {
-        Ok(content_type) => medium(bytes, content_type),
-        Err(error) => Err(fault_of(error)),
-    }
+    first(
+        tx,
+        "SELECT blob, content_type FROM mm_media WHERE table_name = ?1 AND id = ?2",
+        params![table, id],
+    )
 }
 
-/// The medium in the first row of a query.
-fn first_medium<S: Alter>(
-    tx: &mut Transaction<'_, S>,
-    sql: &str,
-    params: &[ValueRef<'_>],
-) -> Result<Option<Media>, Fault>
+/// The medium of a row, with the bytes of the blob that it names.
+fn medium_in<S: Alter>(tx: &mut Transaction<'_, S>, row: &Row) -> Result<Media, Fault>
     ensures same_reference { tx.new.conn.ghost_name ≡ tx.old.conn.ghost_name }
-    ensures asked { IsAsked (state S.Store tx.old.conn.now) (state S.Store tx.new.conn.now) sql.now (bound params.now) (λ it first. Gives ShowsMedium it first) result }
+    ensures told { (profile : Profile) (spare : Spare) → IsMove (state S.Store tx.old.conn.now) (state S.Store tx.new.conn.now) (IsSeen spare profile (state S.Store tx.old.conn.now))
+        (λ base x m y. (y ≡ x) × IsSeen spare profile (state S.Store tx.new.conn.now) base y × ((r : MediumRow) → ShowsMedium row.now r → (bytes_at y.kept.shelf r.blob ≡ Some m.bytes) × (r.content_type ≡ m.content_type))) result }
 {
-    match first(tx, sql, params) {
-        Ok(Some(row)) => match medium_in(&row) {
-            Ok(found) => Ok(Some(found)),
-            Err(fault) => Err(fault),
-        },
-        Ok(None) => Ok(None),
+    let blob = match number_in(row, 0) {
+        Ok(blob) => blob,
+        Err(fault) => return Err(fault),
+    };
+    let content_type = match text_in(row, 1) {
+        Ok(text) => text,
+        Err(fault) => return Err(fault),
+    };
+    match bytes_of(tx, blob) {
+        Ok(bytes) => medium(bytes, content_type),
         Err(fault) => Err(fault),
     }
 }
@@ -79,11 +86,14 @@ fn medium_at<S: Alter>(
     ensures same_reference { tx.new.conn.ghost_name ≡ tx.old.conn.ghost_name }
     ensures look { (profile : Profile) → IsLook profile (state S.Store tx.old.conn.now) (state S.Store tx.new.conn.now) (λ p found. get p.media (item table.now id) ≡ option_map medium_of found) result }
 {
-    first_medium(
-        tx,
-        "SELECT data, content_type FROM mm_media WHERE table_name = ?1 AND id = ?2",
-        params![table, id],
-    )
+    match row_of_medium(tx, table, id) {
+        Ok(Some(row)) => match medium_in(tx, &row) {
+            Ok(found) => Ok(Some(found)),
+            Err(fault) => Err(fault),
+        },
+        Ok(None) => Ok(None),
+        Err(fault) => Err(fault),
+    }
 }
 
 /// The medium of a media table that has an id, or None where none has it. (Media.) A fault is 90 where memory was refused, and

@@ -1,27 +1,55 @@
-use Rattle.std.proofs.Common.{[], ◌∷◌, ℕ, pos, Vec, Global, rules}
+use Rattle.std.proofs.Common.{◌≡◌, Ok, Some, None, pos, sym, subst, ◌∙◌, rules, w64, to_z, of_z, to_z-of_z}
 use Rattle.std.specs.FinMap.{get}
-use Rattle.sqlite.specs.declared.types.Value.TheVariants.{Int, Text as Words}
 use Rattle.sqlite.specs.Held.{state}
-use Rattle.sqlite.specs.Term.{col}
-use Rattle.sql_forms.proofs.Selects.{selects_one, shows}
 use Rattle.mm_base.specs.Keys.{tile}
-use Rattle.mm_schema.proofs.Selecting as statement
-use Rattle.mm_store.proofs.Keys as parts
-use Rattle.mm_store.proofs.Steps.{looks, seen}
-use Rattle.mm_reads.specs.Told.{TellsBytes, ShowsBytes}
-use Rattle.mm_reads.proofs.Found.{entry_found, bytes_told, tells_bytes}
+use Rattle.mm_store.specs.Blobs.{Told, bytes_at}
+use Rattle.mm_store.specs.Kept.{no_spare, tile_id, tile_with}
+use Rattle.mm_blobs.specs.Views.{View, IsSeen}
+use Rattle.mm_blobs.proofs.Moving.{then_moves, then_failed, moves_as}
+use Rattle.mm_blobs.proofs.Opening.{tells_of, tidy_untold}
+use Rattle.mm_reads.specs.Told.{TellsBytes}
+use Rattle.mm_reads.proofs.Found.{tile_told}
 use Rattle.mm_reads.proofs.tiles.bytes_at.Goals as goal
 
-pub returns-clause-look : goal.returns-clause-look
-returns-clause-look g c profile =
-    let old = state g.S.Store c.args.tx.now.conn.now in
-    let new = state g.S.Store c.first_bytes.new.tx.conn.now in
+pub returns-in-Ok-clause-look : goal.returns-in-Ok-clause-look
+returns-in-Ok-clause-look g c profile =
+    let a = c.args in
+    let s0 = state g.S.Store a.tx.now.conn.now in
+    let s1 = state g.S.Store c.blob_of_tile.new.tx.conn.now in
+    let s2 = state g.S.Store c.bytes_of.new.tx.conn.now in
+    let key = tile a.table.now (pos a.zoom) (pos a.column) (pos a.row) in
+    let it = c.in-Ok-Some.field-0 in
+    let blob = c.in-Ok-Some.blob in
+    let bytes = c.in-Ok.bytes in
+    let back : to_z w64 (of_z w64 blob) ≡ blob = search (rules, to_z-of_z) in
+    tells_of profile s0 s2 (Ok (Some bytes)) (λ p found. TellsBytes (get p.tiles key) found)
+    (moves_as {Less = λ base x found y. (y ≡ x) × IsSeen no_spare profile s2 base y × TellsBytes (get y.content.tiles key) found} s0 s2 bytes (Some bytes)
+    (then_moves (λ base x told y. (y ≡ x) × IsSeen no_spare profile s2 base y × TellsBytes (get y.content.tiles key) (Some told)) s0 s1 s2 it (Ok bytes) (c.in-Ok-Some.ensures.found profile no_spare) ((rw back at c.in-Ok.ensures.told) profile no_spare) (λ base x y o mid. mid.1)
+    (λ base x y z told o mid last. (
+      last.0 ∙ mid.0,
+      last.1,
+      subst (λ (v : View). get v.content.tiles key ≡ Some told.items) (sym last.0) (tile_told y.kept.shelf blob (get y.content.tiles key) told.items (subst (λ i. Told tile_id tile_with y.kept.shelf i (get y.content.tiles key)) c.in-Ok-Some.field-0-is mid.3) (subst (λ (v : View). bytes_at v.kept.shelf blob ≡ Some told.items) last.0 last.2)),
+    )))
+    (λ base x o. o) (λ base x y o last. last))
+
+pub returns-in-Err-bytes_of-clause-look : goal.returns-in-Err-bytes_of-clause-look
+returns-in-Err-bytes_of-clause-look g c profile =
     let a = c.args in
     let key = tile a.table.now (pos a.zoom) (pos a.column) (pos a.row) in
-    let params = Words key.table ∷ Int key.zoom ∷ Int key.column ∷ Int key.row ∷ [] in
-    looks profile old new _ _ _ (λ p found. TellsBytes (get p.tiles key) found) c.first_bytes.result c.first_bytes.ensures.asked (λ x first ready shown gives.
-    let read = selects_one _ _ _ _ _ _ statement.tile_bytes old new ready.schema_is params _ (search rules) first shown in (
-      read.0,
-      λ p h. tells_bytes (get p.tiles key) x
-          (entry_found parts.tiles (seen old 15) p.tiles h.tiles key (shows (col 1 5 ∷ []) params) ShowsBytes (λ (v : Vec ℕ Global). v.items) (bytes_told key params) x first gives read.1),
-    ))
+    tidy_untold profile _ _ (λ p found. TellsBytes (get p.tiles key) found) c.in-Err-bytes_of.fault (then_failed _ _ _ c.in-Ok-Some.field-0 c.in-Err-bytes_of.fault (c.in-Ok-Some.ensures.found profile no_spare) (c.in-Err-bytes_of.ensures.told profile no_spare) (λ base x y up it mid. mid.1))
+
+pub returns-in-Ok-None-clause-look : goal.returns-in-Ok-None-clause-look
+returns-in-Ok-None-clause-look g c profile =
+    let a = c.args in
+    let s0 = state g.S.Store a.tx.now.conn.now in
+    let s1 = state g.S.Store c.blob_of_tile.new.tx.conn.now in
+    let key = tile a.table.now (pos a.zoom) (pos a.column) (pos a.row) in
+    tells_of profile s0 s1 (Ok None) (λ p found. TellsBytes (get p.tiles key) found)
+    (moves_as {Less = λ base x found y. (y ≡ x) × IsSeen no_spare profile s1 base y × TellsBytes (get y.content.tiles key) found} s0 s1 c.in-Ok-None.field-0 None (c.in-Ok-None.ensures.found profile no_spare) (λ base x o. o)
+    (λ base x y o last. (last.0, last.1, subst (λ i. Told tile_id tile_with y.kept.shelf i (get y.content.tiles key)) c.in-Ok-None.field-0-is last.3)))
+
+pub returns-in-Err-clause-look : goal.returns-in-Err-clause-look
+returns-in-Err-clause-look g c profile =
+    let a = c.args in
+    let key = tile a.table.now (pos a.zoom) (pos a.column) (pos a.row) in
+    tidy_untold profile _ _ (λ p found. TellsBytes (get p.tiles key) found) c.in-Err.fault (c.in-Err.ensures.found profile no_spare)

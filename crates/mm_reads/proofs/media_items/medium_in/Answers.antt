@@ -1,0 +1,36 @@
+use Rattle.std.proofs.Common.{◌≡◌, Some, sym, ap, ◌∙◌, rules, w64, to_z, of_z, to_z-of_z}
+use Rattle.std.proofs.lemmas.Result.{IfOk-weaker}
+use Rattle.sqlite.specs.Held.{state}
+use Rattle.mm_store.specs.Blobs.{bytes_at}
+use Rattle.mm_store.specs.Rows.{MediumRow}
+use Rattle.mm_blobs.specs.Views.{IsSeen}
+use Rattle.mm_blobs.proofs.Moving.{move_made, move_failed}
+use Rattle.mm_blobs.proofs.Releasing.{commits_nothing}
+use Rattle.mm_reads.specs.Told.{ShowsMedium}
+use Rattle.mm_reads.proofs.Found.{same_words, same_int}
+use Rattle.mm_reads.proofs.media_items.medium_in.Goals as goal
+
+pub returns-in-Err-clause-told : goal.returns-in-Err-clause-told
+returns-in-Err-clause-told g c profile spare = record { survives = commits_nothing _; on = λ clean base x it. it.back; moved = λ clean base x it. tt; faults = c.in-Err.ensures.fault }
+
+pub returns-in-Err-text_in-clause-told : goal.returns-in-Err-text_in-clause-told
+returns-in-Err-text_in-clause-told g c profile spare = record { survives = commits_nothing _; on = λ clean base x it. it.back; moved = λ clean base x it. tt; faults = c.in-Err-text_in.ensures.fault }
+
+pub returns-in-Ok-bytes_of-clause-told : goal.returns-in-Ok-bytes_of-clause-told
+returns-in-Ok-bytes_of-clause-told g c profile spare =
+    let new = state g.S.Store c.bytes_of.new.tx.conn.now in
+    let row = c.args.row.now in
+    let blob = c.in-Ok.blob in
+    let back : to_z w64 (of_z w64 blob) ≡ blob = search (rules, to_z-of_z) in
+    let bytes = c.in-Ok-bytes_of.bytes in
+    move_made (λ base x m y. (y ≡ x) × IsSeen spare profile new base y × ((r : MediumRow) → ShowsMedium row r → (bytes_at y.kept.shelf r.blob ≡ Some m.bytes) × (r.content_type ≡ m.content_type))) _ new bytes c.medium.result ((rw back at c.in-Ok-bytes_of.ensures.told) profile spare) c.medium.ensures.fault
+    (IfOk-weaker c.medium.result _ _ (λ m made base x y last. (
+      last.0,
+      last.1,
+      λ r shown.
+          let named : r.blob ≡ blob = same_int (sym shown.blob ∙ c.in-Ok.ensures.shown) in
+          (ap (bytes_at y.kept.shelf) named ∙ last.2 ∙ ap Some (sym made.0), same_words (sym shown.content_type ∙ c.in-Ok-text_in.ensures.shown) ∙ sym made.1),
+    )) c.medium.ensures.shown)
+
+pub returns-in-Err-bytes_of-clause-told : goal.returns-in-Err-bytes_of-clause-told
+returns-in-Err-bytes_of-clause-told g c profile spare = move_failed _ _ _ (c.in-Err-bytes_of.ensures.told profile spare) (λ base x it. it)

@@ -7,6 +7,7 @@ use Rattle.sql_forms.proofs.Cascades.{cascaded}
 use Rattle.mm_schema.specs.Places.{mapping_place}
 use Rattle.mm_schema.proofs.Cascading as statement
 use Rattle.mm_store.specs.Removals.{without_relation_rows}
+use Rattle.mm_store.specs.Kept.{no_spare}
 use Rattle.mm_store.proofs.Removals.{drops_relation}
 use Rattle.mm_store.proofs.Steps.{changes, seen}
 use Rattle.mm_relate.proofs.relations.delete_relation.Goals as goal
@@ -18,4 +19,4 @@ returns-clause-change g c profile =
     let mapping = c.args.mapping.now in
     changes profile old new _ _ (cut mapping_place (Words mapping)) (λ p. ⊤) (without_relation_rows mapping) c.run.result c.run.ensures.run
     (λ count ready h. cascaded _ _ _ _ _ _ statement.delete_relation old new (Words mapping) _ (Ok count) ready (search rules) h)
-    (λ p rows h any. drops_relation mapping profile.version (seen old) p h)
+    (λ p rows h any. drops_relation mapping no_spare no_spare profile.version (seen old) p h (λ z spared. spared))

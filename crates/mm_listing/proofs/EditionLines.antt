@@ -24,16 +24,18 @@ use Rattle.mm_base.specs.Keys.{Text, text_cmp, same_text}
 use Rattle.mm_base.specs.Package.{Package, open_state, published_state}
 use Rattle.mm_base.specs.Conditions.{piece_count}
 use Rattle.mm_store.specs.Rows.{past_rowid, edition_row}
+use Rattle.mm_store.specs.Kept.{piece_id, piece_with}
 use Rattle.mm_store.specs.Stands.{Holding}
 use Rattle.mm_store.proofs.Keys as parts
 use Rattle.mm_store.proofs.Keys.{by_text}
+use Rattle.mm_blobs.proofs.Naming.{told_there}
 use Rattle.mm_reads.proofs.Found.{same_words}
 use Rattle.mm_reads.proofs.InOrder.{all_entered, entries_are}
 use Rattle.mm_reads.proofs.Listed.{joins, flat_single, in_order, InOrder}
 use Rattle.mm_listing.specs.Lines.{open_text, published_text}
 use Rattle.mm_listing.specs.Listing.{edition_line, editions}
 use Rattle.mm_listing.specs.Shown.{MostCounted, ShowsEdition}
-use Rattle.mm_listing.proofs.Counting.{count_is}
+use Rattle.mm_listing.proofs.Counting.{count_is, same_count}
 use Rattle.mm_listing.proofs.Fronts.{ShowsEach, Fronts, fronts}
 use Rattle.mm_listing.proofs.TableLines.{of_name, by_name, uncapped, passed, first_is}
 
@@ -67,7 +69,8 @@ module _ (version : ℤ) (p : Package) (trees : Trees) (h : Holding version tree
   pieces_are r k state is =
       passed (joins r) (λ s. of_edition r ++ s ∷ []) (db 25) ∙ ap (λ rows. length (filter (joins r) rows)) at_25
       ∙ ap (λ v. length (filter (λ s. equal Binary (column s 1) v && true) (trees 25))) (columns_are r (edition_row k state) 0 is)
-      ∙ count_is parts.pieces (trees 25) p.pieces h.pieces (up 25) (λ q. same_text q.edition k) (by_text k) (λ s l v it. first_is k s l.edition _ it) ∙ len-entries (retain_keys p.pieces (λ q. same_text q.edition k))
+      ∙ count_is parts.pieces (trees 25) h.kept.pieces h.keeps.pieces (up 25) (λ q. same_text q.edition k) (by_text k) (λ s l v it. first_is k s l.edition _ it)
+      ∙ same_count parts.pieces.order h.kept.pieces p.pieces (told_there piece_id piece_with h.kept.shelf h.kept.pieces p.pieces h.keeps.pieces_told) (λ q. same_text q.edition k) ∙ len-entries (retain_keys p.pieces (λ q. same_text q.edition k))
 
   line_told : (r : Row) (k state : Text) → past_rowid r ≡ edition_row k state → (line : List ℕ) → ShowsEdition (show db r) line → line ≡ edition_line p (k, state)
   line_told r k state is line (inl it) =

@@ -30,9 +30,11 @@ use Rattle.mm_base.specs.Keys.{Text, text_cmp, same_text}
 use Rattle.mm_base.specs.Package.{Package, Contents, kind_text}
 use Rattle.mm_base.specs.declared.commands.Kind.TheVariants.{Two, Other, Attributes, Media}
 use Rattle.mm_store.specs.Rows.{past_rowid, contents_row}
+use Rattle.mm_store.specs.Kept.{tile_id, tile_with, medium_id, medium_with}
 use Rattle.mm_store.specs.Stands.{Holding}
 use Rattle.mm_store.proofs.Keys as parts
 use Rattle.mm_store.proofs.Keys.{by_text}
+use Rattle.mm_blobs.proofs.Naming.{told_there}
 use Rattle.mm_reads.proofs.Found.{same_words}
 use Rattle.mm_reads.proofs.InOrder.{Picks, picked, all_entered, entries_are}
 use Rattle.mm_reads.proofs.Listed as reads
@@ -40,7 +42,7 @@ use Rattle.mm_reads.proofs.Listed.{joins, kind_at, flat_single, in_order, InOrde
 use Rattle.mm_listing.specs.Lines.{table_text}
 use Rattle.mm_listing.specs.Listing.{by_kind, tile_count, row_count, medium_count, kind_of, count_of, table_line, tables}
 use Rattle.mm_listing.specs.Shown.{MostCounted, IsCount, ShowsTable}
-use Rattle.mm_listing.proofs.Counting.{count_is}
+use Rattle.mm_listing.proofs.Counting.{count_is, same_count}
 use Rattle.mm_listing.proofs.Fronts.{ShowsEach, Fronts, fronts}
 
 -- ---- the query
@@ -124,7 +126,8 @@ module _ (version : ℤ) (p : Package) (trees : Trees) (h : Holding version tree
   tiles_are : (r : Row) (k : Text) (c : Contents) → past_rowid r ≡ contents_row k c → length (matches db (of_name 3) (inner 15 end) (with_kind kinds r)) ≡ tile_count p k
   tiles_are r k c is =
       passed (joins r) (λ s. with_kind kinds r ++ s ∷ []) (db 15) ∙ ap (λ rows. length (filter (joins r) rows)) at_15 ∙ ap length (same_filter (trees 15) r k c is)
-      ∙ count_is parts.tiles (trees 15) p.tiles h.tiles (up 15) (λ q. same_text q.table k) (by_text k) (λ s l v it. first_is k s l.table _ it)
+      ∙ count_is parts.tiles (trees 15) h.kept.tiles h.keeps.tiles (up 15) (λ q. same_text q.table k) (by_text k) (λ s l v it. first_is k s l.table _ it)
+      ∙ same_count parts.tiles.order h.kept.tiles p.tiles (told_there tile_id tile_with h.kept.shelf h.kept.tiles p.tiles h.keeps.tiles_told) (λ q. same_text q.table k)
 
   rows_are : (r : Row) (k : Text) (c : Contents) → past_rowid r ≡ contents_row k c → length (matches db (of_name 4) (inner 17 end) (with_tiles db kinds r)) ≡ row_count p k
   rows_are r k c is =
@@ -134,7 +137,8 @@ module _ (version : ℤ) (p : Package) (trees : Trees) (h : Holding version tree
   media_are : (r : Row) (k : Text) (c : Contents) → past_rowid r ≡ contents_row k c → length (matches db (of_name 5) (inner 19 end) (with_rows db kinds r)) ≡ medium_count p k
   media_are r k c is =
       passed (joins r) (λ s. with_rows db kinds r ++ s ∷ []) (db 19) ∙ ap (λ rows. length (filter (joins r) rows)) at_19 ∙ ap length (same_filter (trees 19) r k c is)
-      ∙ count_is parts.media (trees 19) p.media h.media (up 19) (λ q. same_text q.table k) (by_text k) (λ s l v it. first_is k s l.table _ it)
+      ∙ count_is parts.media (trees 19) h.kept.media h.keeps.media (up 19) (λ q. same_text q.table k) (by_text k) (λ s l v it. first_is k s l.table _ it)
+      ∙ same_count parts.media.order h.kept.media p.media (told_there medium_id medium_with h.kept.shelf h.kept.media p.media h.keeps.media_told) (λ q. same_text q.table k)
 
   -- the kind that a row shows is the registry's
   kind_told : (r : Row) (k : Text) (c : Contents) → past_rowid r ≡ contents_row k c → (kind : Text) → column (kind_at kinds r) 2 ≡ Words kind → get p.kinds k ≡ Some kind

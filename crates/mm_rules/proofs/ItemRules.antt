@@ -1,7 +1,7 @@
 -- What the queries of items, relations and mapping rows show, and rules 11 to 13.
-use Rattle.std.proofs.Common.{◌≡◌, ◌↔◌, ◌⊎◌, inl, inr, true, false, ◌&&◌, ℕ, ℤ, [], ◌∷◌, List, Option, Some, None, is_some, IsTrue, codes, filter, refl, ap}
+use Rattle.std.proofs.Common.{◌≡◌, ◌↔◌, ◌⊎◌, inl, inr, Bool, true, false, ◌&&◌, ℕ, ℤ, [], ◌∷◌, List, Option, Some, None, is_some, IsTrue, codes, filter, refl, ap, subst}
 use Rattle.std.specs.Prelude.{⊤}
-use Rattle.std.specs.FinMap.{get}
+use Rattle.std.specs.FinMap.{get, contains_key}
 use Rattle.sqlite.specs.Order.{Row, column}
 use Rattle.sqlite.specs.Tree.{Trees}
 use Rattle.sqlite.specs.declared.types.Value.{Value}
@@ -13,15 +13,18 @@ use Rattle.sqlite_schema.specs.Rules.{equal}
 use Rattle.sqlite_rules.specs.Lists as lists
 use Rattle.mm_base.specs.Keys.{Text, item}
 use Rattle.mm_base.specs.Parts.{Stands}
-use Rattle.mm_base.specs.Package.{Package, Relation, AttributeRow, Medium}
+use Rattle.mm_base.specs.Package.{Package, Relation, AttributeRow}
 use Rattle.mm_base.specs.Rules.{RelationsSuited, PairingsJoin, Joins}
 use Rattle.mm_base.proofs.Parts.{same_some}
-use Rattle.mm_store.specs.Rows.{kind_row, attribute_row, medium_row, relation_row, pairing_row}
+use Rattle.mm_store.specs.Rows.{kind_row, attribute_row, MediumRow, medium_row, relation_row, pairing_row}
+use Rattle.mm_store.specs.Kept.{medium_id, medium_with}
 use Rattle.mm_store.specs.Stands.{StandsFor}
 use Rattle.mm_rules.specs.Columns.{words_of, is_there}
 use Rattle.mm_rules.specs.ItemRows.{IsAttributesRow, IsMediaRow, IsSuitedRow, IsJoinedRow}
 use Rattle.mm_rules.specs.Parts.{RowsInTables, MediaInTables}
 use Rattle.mm_rules.proofs.Joined.{after_rowid, after_id, covered, covered_id, each_row, joined, some_joined}
+use Rattle.mm_blobs.proofs.Naming.{told_there}
+use Rattle.mm_rules.proofs.Named.{each_named}
 use Rattle.mm_rules.proofs.Keys.{name_is, item_is, same}
 use Rattle.mm_rules.proofs.Terms.{equals}
 use Rattle.mm_rules.proofs.Checks.{Says}
@@ -34,8 +37,9 @@ rows_in_tables version db p stands known =
 
 pub media_in_tables : Says [] (inner 19 (left 13 (equals 2 1 1 1 ∷ []) end)) [] (col 2 2 ∷ []) IsMediaRow (λ _. ⊤) MediaInTables
 media_in_tables version db p stands known =
-    each_row after_rowid medium_row (db 19) p.media (covered (λ k r. (_, _, refl)) stands.holds.media) _ _
-    (λ k r x. joined after_rowid kind_row (db 13) p.kinds (covered (λ m v. (_, _, refl)) stands.holds.kinds) _ k.table (λ m v y. name_is m k.table) _ (λ o. o ≡ Some (codes "media")) same (λ v y. same))
+    let h = stands.holds in
+    each_named medium_id medium_with h.kept.shelf h.kept.media p.media h.keeps.media_told after_rowid medium_row (db 19) (covered (λ k i. (_, _, refl)) h.keeps.media) _ _
+    (λ k i x bytes at named. joined after_rowid kind_row (db 13) p.kinds (covered (λ m v. (_, _, refl)) stands.holds.kinds) _ k.table (λ m v y. name_is m k.table) _ (λ o. o ≡ Some (codes "media")) same (λ v y. same))
 
 -- ---- rule 12
 -- a relation whose ends have these kinds
@@ -96,12 +100,15 @@ module _ (version : ℤ) (db : Trees) (p : Package) (stands : StandsFor version 
       → ((r : Row) → lists.Has (or_nulls (joining db 17 (Words t) id)) r → Q r) ↔ P (get p.rows (item t id))
   at_row Q P t id none some = joined after_rowid attribute_row (db 17) p.rows (covered (λ k v. (_, _, refl)) stands.holds.rows) _ (item t id) (λ l v y. item_is l t id) Q P none some
 
-  at_medium : (Q : Row → Type 0) (P : Option Medium → Type 0) (t : Text) (id : ℤ) → Q [] ↔ P None → ((v : Medium) (x : Value) → Q (x ∷ medium_row (item t id) v) ↔ P (Some v))
-      → ((r : Row) → lists.Has (or_nulls (joining db 19 (Words t) id)) r → Q r) ↔ P (get p.media (item t id))
-  at_medium Q P t id none some = joined after_rowid medium_row (db 19) p.media (covered (λ k v. (_, _, refl)) stands.holds.media) _ (item t id) (λ l v y. item_is l t id) Q P none some
+  at_medium : (Q : Row → Type 0) (P : Bool → Type 0) (t : Text) (id : ℤ) → Q [] ↔ P false → ((v : MediumRow) (x : Value) → Q (x ∷ medium_row (item t id) v) ↔ P true)
+      → ((r : Row) → lists.Has (or_nulls (joining db 19 (Words t) id)) r → Q r) ↔ P (contains_key p.media (item t id))
+  at_medium Q P t id none some =
+      let h = stands.holds in
+      subst (λ b. ((r : Row) → lists.Has (or_nulls (joining db 19 (Words t) id)) r → Q r) ↔ P b) (told_there medium_id medium_with h.kept.shelf h.kept.media p.media h.keeps.media_told (item t id))
+      (joined after_rowid medium_row (db 19) h.kept.media (covered (λ k v. (_, _, refl)) h.keeps.media) _ (item t id) (λ l v y. item_is l t id) Q (λ o. P (is_some o)) none some)
 
   last : (a b c : Value) → ((r : Row) → lists.Has (or_nulls (joining db 19 (Words related) related_id)) r → IsJoinedRow (w ∷ a ∷ b ∷ c ∷ column r 2 ∷ [])) ↔ Is (There a) (There b) (There c) (Stands p.media (item related related_id))
-  last a b c = at_medium _ (λ o. Is (There a) (There b) (There c) (IsTrue (is_some o))) related related_id same (λ v x. same)
+  last a b c = at_medium _ (λ t. Is (There a) (There b) (There c) (IsTrue t)) related related_id same (λ v x. same)
 
   abbrev Third : Value → Value → Value → Type 0
   Third a b c = (r : Row) → lists.Has (or_nulls (joining db 19 (Words related) related_id)) r → IsJoinedRow (w ∷ a ∷ b ∷ c ∷ column r 2 ∷ [])
@@ -113,7 +120,7 @@ module _ (version : ℤ) (db : Trees) (p : Package) (stands : StandsFor version 
   Second a b = (r : Row) → lists.Has (or_nulls (joining db 17 (Words related) related_id)) r → Third a b (column r 2)
 
   second : (a : Value) → ((r : Row) → lists.Has (or_nulls (joining db 19 (Words base) base_id)) r → Second a (column r 2)) ↔ Is (There a) (Stands p.media (item base base_id)) (Stands p.rows (item related related_id)) (Stands p.media (item related related_id))
-  second a = at_medium _ (λ o. Is (There a) (IsTrue (is_some o)) (Stands p.rows (item related related_id)) (Stands p.media (item related related_id))) base base_id (third a Null) (λ v x. third a (Int base_id))
+  second a = at_medium _ (λ t. Is (There a) (IsTrue t) (Stands p.rows (item related related_id)) (Stands p.media (item related related_id))) base base_id (third a Null) (λ v x. third a (Int base_id))
 
   abbrev First : Value → Type 0
   First a = (r : Row) → lists.Has (or_nulls (joining db 19 (Words base) base_id)) r → Second a (column r 2)

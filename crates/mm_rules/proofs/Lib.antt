@@ -8,6 +8,7 @@ pub mod Joined
 pub mod Checks
 pub mod Compose
 pub mod Keys
+pub mod Named
 pub mod Counted
 pub mod TileRules
 pub mod MatrixRules

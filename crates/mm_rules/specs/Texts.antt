@@ -71,13 +71,13 @@ abbrev pub extensions_within : List ℕ
 extensions_within = codes "SELECT t.table_name, t.column_name, t.extension_name, t.definition, t.scope FROM gpkg_extensions AS t"
 
 abbrev pub tiles_within : List ℕ
-tiles_within = codes "SELECT t.table_name, t.zoom_level, t.tile_column, t.tile_row, t.tile_data FROM mm_tiles AS t ORDER BY t.table_name, t.zoom_level, t.tile_column, t.tile_row"
+tiles_within = codes "SELECT t.table_name, t.zoom_level, t.tile_column, t.tile_row, b.data FROM mm_tiles AS t LEFT JOIN mm_blobs AS b ON b.id = t.blob ORDER BY t.table_name, t.zoom_level, t.tile_column, t.tile_row"
 
 abbrev pub rows_within : List ℕ
 rows_within = codes "SELECT t.table_name, t.id, t.title, t.note, t.amount FROM mm_rows AS t ORDER BY t.table_name, t.id"
 
 abbrev pub media_within : List ℕ
-media_within = codes "SELECT t.table_name, t.id, t.data, t.content_type FROM mm_media AS t ORDER BY t.table_name, t.id"
+media_within = codes "SELECT t.table_name, t.id, b.data, t.content_type FROM mm_media AS t LEFT JOIN mm_blobs AS b ON b.id = t.blob ORDER BY t.table_name, t.id"
 
 abbrev pub relations_within : List ℕ
 relations_within = codes "SELECT t.mapping_table_name, t.base_table_name, t.base_primary_column, t.related_table_name, t.related_primary_column, t.relation_name FROM gpkgext_relations AS t ORDER BY t.mapping_table_name"
@@ -104,7 +104,7 @@ abbrev pub pieces_numbered : List ℕ
 pieces_numbered = codes "SELECT p.piece_no, q.piece_no FROM mm_pieces AS p LEFT JOIN mm_pieces AS q ON q.edition = p.edition AND q.piece_no = p.piece_no - 1 ORDER BY p.edition, p.piece_no"
 
 abbrev pub pieces_spelled : List ℕ
-pieces_spelled = codes "SELECT p.kind, p.name, p.k1, p.k2, p.k3, p.k4, p.k5, p.k6, p.k7, p.t1, p.t2, p.data FROM mm_pieces AS p ORDER BY p.edition, p.piece_no"
+pieces_spelled = codes "SELECT p.kind, p.name, p.k1, p.k2, p.k3, p.k4, p.k5, p.k6, p.k7, p.t1, p.t2, b.data FROM mm_pieces AS p LEFT JOIN mm_blobs AS b ON b.id = p.blob ORDER BY p.edition, p.piece_no"
 
 abbrev pub extensions_wanted : List ℕ
 extensions_wanted = codes "SELECT e.table_name, e.column_name, e.extension_name, e.definition, e.scope, r.mapping_table_name, k.kind FROM gpkg_extensions AS e LEFT JOIN gpkgext_relations AS r ON r.mapping_table_name = e.table_name LEFT JOIN mm_tables AS k ON k.table_name = e.table_name"

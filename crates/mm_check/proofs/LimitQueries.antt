@@ -3,12 +3,13 @@ use Rattle.std.proofs.Common.{[], ◌∷◌, codes, refl}
 use Rattle.sqlite_value.specs.declared.keys.Collation.TheVariants.{Binary}
 use Rattle.sqlite_value.specs.Keys.{ascending}
 use Rattle.sqlite_sql.specs.Term.{col}
-use Rattle.sqlite_sql.specs.Query.{inner, end}
+use Rattle.sqlite_sql.specs.Query.{inner, left, end}
 use Rattle.sqlite.specs.Listing.{understood}
 use Rattle.sqlite_tied.specs.Compute.{everything}
 use Rattle.mm_walk.specs.RowTests.{IsQuery}
 use Rattle.mm_schema.specs.Tables.{schema}
 use Rattle.mm_rules.specs.Texts as text
+use Rattle.mm_rules.proofs.Terms.{equals}
 use Rattle.mm_walk.proofs.Quiet.{IsQuiet}
 
 pub systems_within : IsQuery schema text.systems_within (inner 0 end) [] (col 1 0 ∷ col 1 1 ∷ col 1 3 ∷ col 1 4 ∷ col 1 5 ∷ col 1 6 ∷ [])
@@ -65,8 +66,8 @@ pub quiet_extensions_within : IsQuiet text.extensions_within
 unfolding everything
 quiet_extensions_within = λ schema base. refl
 
-pub tiles_within : IsQuery schema text.tiles_within (inner 15 end) [] (col 1 1 ∷ col 1 2 ∷ col 1 3 ∷ col 1 4 ∷ col 1 5 ∷ [])
-    ((col 1 1, ascending Binary) ∷ (col 1 2, ascending Binary) ∷ (col 1 3, ascending Binary) ∷ (col 1 4, ascending Binary) ∷ []) (codes "table_name" ∷ codes "zoom_level" ∷ codes "tile_column" ∷ codes "tile_row" ∷ codes "tile_data" ∷ [])
+pub tiles_within : IsQuery schema text.tiles_within (inner 15 (left 27 (equals 2 0 1 5 ∷ []) end)) [] (col 1 1 ∷ col 1 2 ∷ col 1 3 ∷ col 1 4 ∷ col 2 3 ∷ [])
+    ((col 1 1, ascending Binary) ∷ (col 1 2, ascending Binary) ∷ (col 1 3, ascending Binary) ∷ (col 1 4, ascending Binary) ∷ []) (codes "table_name" ∷ codes "zoom_level" ∷ codes "tile_column" ∷ codes "tile_row" ∷ codes "data" ∷ [])
 unfolding understood everything
 tiles_within = record { compiled = refl; plain = (refl, refl); unlisted = refl }
 
@@ -83,7 +84,7 @@ pub quiet_rows_within : IsQuiet text.rows_within
 unfolding everything
 quiet_rows_within = λ schema base. refl
 
-pub media_within : IsQuery schema text.media_within (inner 19 end) [] (col 1 1 ∷ col 1 2 ∷ col 1 3 ∷ col 1 4 ∷ [])
+pub media_within : IsQuery schema text.media_within (inner 19 (left 27 (equals 2 0 1 3 ∷ []) end)) [] (col 1 1 ∷ col 1 2 ∷ col 2 3 ∷ col 1 4 ∷ [])
     ((col 1 1, ascending Binary) ∷ (col 1 2, ascending Binary) ∷ []) (codes "table_name" ∷ codes "id" ∷ codes "data" ∷ codes "content_type" ∷ [])
 unfolding understood everything
 media_within = record { compiled = refl; plain = (refl, refl); unlisted = refl }

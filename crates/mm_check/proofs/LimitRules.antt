@@ -2,14 +2,19 @@
 use Rattle.std.proofs.Common.{◌↔◌, ℕ, ℤ, [], ◌∷◌, Option, Some, None, refl, ap}
 use Rattle.std.specs.Prelude.{⊤, IfSome}
 use Rattle.sqlite_sql.specs.Term.{col}
-use Rattle.sqlite_sql.specs.Query.{inner, end}
+use Rattle.sqlite_sql.specs.Query.{inner, left, end}
+use Rattle.sqlite.specs.declared.types.Value.TheVariants.{Int, Text as Words}
 use Rattle.mm_base.specs.Keys.{Text}
 use Rattle.mm_base.specs.Bounds.{Profile, IsCoordinate, IsSystemNumber, IsClean}
+use Rattle.mm_base.specs.Rules.{TileWithin, MediumWithin, PieceWithin}
 use Rattle.mm_base.proofs.Parts.{same_some}
 use Rattle.mm_store.specs.Rows.{maybe, maybe_words, system_row, contents_row, kind_row, set_row, grid_row, extension_row, tile_row, attribute_row, medium_row, relation_row, pairing_row, edition_row, staged_row}
 use Rattle.mm_check.specs.LimitRows.{number_if_any, text_if_any, IsSystemWithinRow, IsContentsWithinRow, IsKindWithinRow, IsSetWithinRow, IsMatrixWithinRow, IsExtensionWithinRow, IsTileWithinRow, IsAttributeWithinRow, IsMediumWithinRow, IsRelationWithinRow, IsPairingWithinRow, IsEditionWithinRow, IsPieceWithinRow, SystemsAreWithin, ContentsAreWithin, KindsAreWithin, SetsAreWithin, MatricesAreWithin, ExtensionsAreWithin, TilesAreWithin, RowsAreWithin, MediaAreWithin, RelationsAreWithin, PairingsAreWithin, EditionsAreWithin, PiecesAreWithin}
+use Rattle.mm_store.specs.Kept.{tile_id, tile_with, medium_id, medium_with, piece_id, piece_with}
 use Rattle.mm_rules.proofs.Joined.{as_whole, after_rowid, after_id, covered, covered_whole, covered_id, each_row}
 use Rattle.mm_rules.proofs.Counted.{counts_cover}
+use Rattle.mm_rules.proofs.Named.{each_named, joined_blob, also}
+use Rattle.mm_rules.proofs.Terms.{equals}
 use Rattle.mm_check.proofs.Texts.{name_utf8, content_type_utf8, stamp_is_utf8}
 use Rattle.mm_rules.proofs.Checks.{Says}
 
@@ -63,10 +68,12 @@ extensions_within version db p stands known =
       λ w. record { table = (clean_is k.table).1 w.table; at_column = (clean_is k.column).1 w.column; name = (w.name.utf8, w.name); definition = (w.definition.utf8, w.definition); scope = (w.scope.utf8, w.scope) },
     ))
 
-pub tiles_within : Says [] (inner 15 end) [] (col 1 1 ∷ col 1 2 ∷ col 1 3 ∷ col 1 4 ∷ col 1 5 ∷ []) IsTileWithinRow (λ _. ⊤) TilesAreWithin
+pub tiles_within : Says [] (inner 15 (left 27 (equals 2 0 1 5 ∷ []) end)) [] (col 1 1 ∷ col 1 2 ∷ col 1 3 ∷ col 1 4 ∷ col 2 3 ∷ []) IsTileWithinRow (λ _. ⊤) TilesAreWithin
 tiles_within version db p stands known =
-    each_row after_rowid tile_row (db 15) p.tiles (covered (λ k v. (_, _, refl)) stands.holds.tiles) _ _ (λ k v x. (
-      λ h. record { table = h.table.1; zoom = h.zoom; column = h.at_column; row = h.at_row; bytes = h.bytes },
+    let h = stands.holds in
+    each_named tile_id tile_with h.kept.shelf h.kept.tiles p.tiles h.keeps.tiles_told after_rowid tile_row (db 15) (covered (λ k i. (_, _, refl)) h.keeps.tiles) _ TileWithin
+    (λ k i x bytes at named. also (joined_blob (db 27) h.kept.shelf h.keeps.blobs (λ v. IsTileWithinRow (Words k.table ∷ Int k.zoom ∷ Int k.column ∷ Int k.row ∷ v ∷ [])) (Some i) bytes named) (
+      λ row. record { table = row.table.1; zoom = row.zoom; column = row.at_column; row = row.at_row; bytes = row.bytes },
       λ w. record { table = (name_utf8 _ w.table, w.table); zoom = w.zoom; at_column = w.column; at_row = w.row; bytes = w.bytes },
     ))
 
@@ -77,10 +84,12 @@ rows_within version db p stands known =
       λ w. record { table = (name_utf8 _ w.table, w.table); id = w.id; title = (w.title.clean.utf8, w.title); note = (w.note.clean.utf8, w.note); amount = w.amount },
     ))
 
-pub media_within : Says [] (inner 19 end) [] (col 1 1 ∷ col 1 2 ∷ col 1 3 ∷ col 1 4 ∷ []) IsMediumWithinRow (λ _. ⊤) MediaAreWithin
+pub media_within : Says [] (inner 19 (left 27 (equals 2 0 1 3 ∷ []) end)) [] (col 1 1 ∷ col 1 2 ∷ col 2 3 ∷ col 1 4 ∷ []) IsMediumWithinRow (λ _. ⊤) MediaAreWithin
 media_within version db p stands known =
-    each_row after_rowid medium_row (db 19) p.media (covered (λ k v. (_, _, refl)) stands.holds.media) _ _ (λ k v x. (
-      λ h. record { table = h.table.1; id = h.id; bytes = h.bytes; content_type = h.content_type.1 },
+    let h = stands.holds in
+    each_named medium_id medium_with h.kept.shelf h.kept.media p.media h.keeps.media_told after_rowid medium_row (db 19) (covered (λ k i. (_, _, refl)) h.keeps.media) _ MediumWithin
+    (λ k i x bytes at named. also (joined_blob (db 27) h.kept.shelf h.keeps.blobs (λ v. IsMediumWithinRow (Words k.table ∷ Int k.id ∷ v ∷ Words i.content_type ∷ [])) (Some i.blob) bytes named) (
+      λ row. record { table = row.table.1; id = row.id; bytes = row.bytes; content_type = row.content_type.1 },
       λ w. record { table = (name_utf8 _ w.table, w.table); id = w.id; bytes = w.bytes; content_type = (content_type_utf8 _ w.content_type, w.content_type) },
     ))
 
@@ -107,7 +116,9 @@ editions_within version db p stands known =
 
 pub pieces_within : Says [] (inner 25 end) [] (col 1 1 ∷ col 1 2 ∷ []) IsPieceWithinRow (λ _. ⊤) PiecesAreWithin
 pieces_within version db p stands known =
-    each_row after_rowid staged_row (db 25) p.pieces (covered (λ k v. (_, _, refl)) stands.holds.pieces) _ _ (λ k v x. (
-      λ h. (h.edition.1, h.number),
+    let h = stands.holds in
+    each_named piece_id piece_with h.kept.shelf h.kept.pieces p.pieces h.keeps.pieces_told after_rowid staged_row (db 25) (covered (λ k i. (_, _, refl)) h.keeps.pieces) _ PieceWithin
+    (λ k i x bytes at named. (
+      λ row. (row.edition.1, row.number),
       λ w. record { edition = (name_utf8 _ w.0, w.0); number = w.1 },
     ))

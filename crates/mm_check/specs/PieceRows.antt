@@ -1,8 +1,8 @@
 -- What the tests of rows of editions and of staged pieces ask.
-use Rattle.std.specs.Prelude.{◌≡◌, ◌⊎◌, ℕ, pos, List, [], codes, Some, IsTrue}
+use Rattle.std.specs.Prelude.{◌≡◌, ◌⊎◌, ℕ, pos, false, List, [], codes, Some, IsTrue}
 use Rattle.sqlite.specs.Order.{Row, column}
 use Rattle.mm_base.specs.Bounds.{Profile, IsMatrixSide, IsTileSide, IsPixelSize, IsFrom, MostPieces, IsName, IsZoom, IsTilePlace, IsId, IsAmount, IsRemark, IsContentType, IsTileBytes, IsMediaBytes}
-use Rattle.mm_rules.specs.Columns.{number_of, words_of, bytes_of, is_there}
+use Rattle.mm_rules.specs.Columns.{number_of, words_of, is_there}
 use Rattle.mm_check.specs.LimitRows.{text_by, number_by, bytes_by}
 
 abbrev pub IsStateRow : Row → Type 0
@@ -15,7 +15,7 @@ IsOpenRow r = words_of (column r 0) ≡ Some (codes "open")
 abbrev pub IsNumberedRow : Row → Type 0
 IsNumberedRow r = number_by (IsFrom (pos 1) (pos MostPieces)) (column r 0) × ((number_of (column r 0) ≡ Some (pos 1)) ⊎ IsTrue (is_there (column r 1)))
 
--- ---- the columns of a piece: kind, name, seven numbers, two texts, bytes
+-- ---- the columns of a piece: kind, name, seven numbers, two texts, and the bytes of its blob
 abbrev pub IsZero : Row → ℕ → Type 0
 IsZero r at = number_of (column r at) ≡ Some (pos 0)
 
@@ -29,8 +29,9 @@ AreUnused r = IsZero r 5 × IsZero r 6 × IsZero r 7 × IsZero r 8
 abbrev pub HasNoTexts : Row → Type 0
 HasNoTexts r = (words_of (column r 9) ≡ Some []) × (words_of (column r 10) ≡ Some [])
 
+-- it names no blob
 abbrev pub HasNoBytes : Row → Type 0
-HasNoBytes r = bytes_of (column r 11) ≡ Some []
+HasNoBytes r = is_there (column r 11) ≡ false
 
 abbrev pub IsPlace : Row → Type 0
 IsPlace r = number_by IsZoom (column r 2) × number_by IsTilePlace (column r 3) × number_by IsTilePlace (column r 4)

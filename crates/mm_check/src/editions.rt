@@ -20,7 +20,7 @@ use mm_base::limits::{
     MOST_TILE_BYTES, MOST_TILES,
 };
 use mm_base::units::Unit;
-use mm_rules::columns::{blob, number_is, stands, text_is};
+use mm_rules::columns::{number_is, stands, text_is};
 use mm_walk::row_tests::{RowTest, each_passes};
 use sqlite::{Alter, Connection, Row};
 
@@ -105,19 +105,10 @@ fn has_no_texts(row: &Row) -> bool
     text_is(row, 9, "") && text_is(row, 10, "")
 }
 
-fn is_empty(bytes: &[u8]) -> bool
-    ensures { IsTrue result ↔ bytes.now ≡ [] }
-{
-    bytes.is_empty()
-}
-
 fn has_no_bytes(row: &Row) -> bool
     ensures { IsTrue result ↔ HasNoBytes row.now }
 {
-    match blob(row, 11) {
-        Some(bytes) => is_empty(bytes),
-        None => false,
-    }
+    !stands(row, 11)
 }
 
 fn is_place(row: &Row) -> bool
@@ -254,7 +245,7 @@ pub fn pieces_spelled<S: Alter>(conn: &mut Connection<S>, unit: Unit) -> Result<
 {
     each_passes(
         conn,
-        "SELECT p.kind, p.name, p.k1, p.k2, p.k3, p.k4, p.k5, p.k6, p.k7, p.t1, p.t2, p.data FROM mm_pieces AS p ORDER BY p.edition, p.piece_no",
+        "SELECT p.kind, p.name, p.k1, p.k2, p.k3, p.k4, p.k5, p.k6, p.k7, p.t1, p.t2, b.data FROM mm_pieces AS p LEFT JOIN mm_blobs AS b ON b.id = p.blob ORDER BY p.edition, p.piece_no",
         &[],
         &Spelled { unit },
     )

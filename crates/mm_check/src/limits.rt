@@ -404,7 +404,7 @@ pub fn tiles_within<S: Alter>(conn: &mut Connection<S>) -> Result<bool, Fault>
 {
     each_passes(
         conn,
-        "SELECT t.table_name, t.zoom_level, t.tile_column, t.tile_row, t.tile_data FROM mm_tiles AS t ORDER BY t.table_name, t.zoom_level, t.tile_column, t.tile_row",
+        "SELECT t.table_name, t.zoom_level, t.tile_column, t.tile_row, b.data FROM mm_tiles AS t LEFT JOIN mm_blobs AS b ON b.id = t.blob ORDER BY t.table_name, t.zoom_level, t.tile_column, t.tile_row",
         &[],
         &Tile,
     )
@@ -457,7 +457,7 @@ pub fn media_within<S: Alter>(conn: &mut Connection<S>) -> Result<bool, Fault>
 {
     each_passes(
         conn,
-        "SELECT t.table_name, t.id, t.data, t.content_type FROM mm_media AS t ORDER BY t.table_name, t.id",
+        "SELECT t.table_name, t.id, b.data, t.content_type FROM mm_media AS t LEFT JOIN mm_blobs AS b ON b.id = t.blob ORDER BY t.table_name, t.id",
         &[],
         &Medium,
     )

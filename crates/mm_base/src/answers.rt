@@ -24,6 +24,8 @@ pub enum Open {
     NoProfile,
     /// 95: its profile row is damaged.
     BadProfile,
+    /// 98: its bytes are not kept once each, in blobs that are named and have their digests.
+    BadBlobs,
     /// The rule that fails, from 1 to 16.
     Rule(u8),
     Fault(Fault),

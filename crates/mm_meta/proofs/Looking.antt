@@ -117,6 +117,7 @@ module _ (old new : State) (version : ℤ) where
   agreed (Err opens.BadProfile) h = h version (shown, refl, refl, refl)
   agreed (Err (opens.Fault fault)) h = tt
   agreed (Err opens.NoProfile) h = absurd h
+  agreed (Err opens.BadBlobs) h = absurd h
   agreed (Err (opens.Rule rule)) h = absurd h
 
 -- ---- a connection after the look is as it was, or was rolled back
@@ -162,6 +163,7 @@ module _ (old new : State) (it : IsBlank old) where
   none_told (Err (opens.Fault fault)) (inr h) = tt
   none_told (Err (opens.Version version)) (inr h) = absurd h.2
   none_told (Err opens.BadProfile) (inr h) = absurd h.2
+  none_told (Err opens.BadBlobs) (inr h) = absurd h.2
   none_told (Err (opens.Rule rule)) (inr h) = absurd h.2
   none_told (Ok u) (inr h) = absurd h.2
 
@@ -179,6 +181,7 @@ untold version e (Err (opens.Version other)) stopped h = absurd h
 untold version e (Err opens.BadProfile) stopped h = absurd h
 untold version e (Err (opens.Fault fault)) stopped h = tt
 untold version e (Err opens.NoProfile) stopped h = absurd (stopped h)
+untold version e (Err opens.BadBlobs) stopped h = absurd h
 untold version e (Err (opens.Rule rule)) stopped h = absurd h
 
 module _ (old new : State) (h : Survives old new (CommitsShowing profile_rows [] old)) (result : Result (Unit {0}) Open) where

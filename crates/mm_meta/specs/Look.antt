@@ -41,6 +41,7 @@ Judges rows (Err (opens.Version version)) = IsProfile version rows × (version �
 Judges rows (Err opens.BadProfile) = (version : ℤ) → IsProfile version rows → ⊥
 Judges rows (Err (opens.Fault fault)) = fault ≡ memory
 Judges rows (Err opens.NoProfile) = ⊥
+Judges rows (Err opens.BadBlobs) = ⊥
 Judges rows (Err (opens.Rule rule)) = ⊥
 
 -- how an error of the query is told
@@ -62,6 +63,7 @@ Agrees version (Err (opens.Version other)) = (other ≡ version) × (version ≢
 Agrees version (Err (opens.Fault fault)) = ⊤
 Agrees version (Err opens.NoProfile) = ⊥
 Agrees version (Err opens.BadProfile) = ⊥
+Agrees version (Err opens.BadBlobs) = ⊥
 Agrees version (Err (opens.Rule rule)) = ⊥
 
 -- of a database that has no table it is told that it has no profile, and all is as it was; or there was a fault

@@ -134,6 +134,7 @@ fn add_look(text: &mut String, found: Result<(), Open>) -> Option<()> {
         Err(Open::Version(version)) => writeln!(text, "version {version}|").ok(),
         Err(Open::NoProfile) => text.push_str("no profile|\n").ok(),
         Err(Open::BadProfile) => text.push_str("bad profile|\n").ok(),
+        Err(Open::BadBlobs) => text.push_str("bad blobs|\n").ok(),
         Err(Open::Rule(rule)) => writeln!(text, "rule {rule}|").ok(),
         Err(Open::Fault(fault)) => add_nothing(text, Some(fault)),
     }

@@ -3,6 +3,7 @@
 //! - `rows`: `put_row` and `drop_row`.
 //! - `media`: `put_media` and `drop_media`.
 //! - `tiles`: `put_tile` and `drop_tile`.
+//! - `staged`: `put_tile_of_piece` and `put_media_of_piece`, whose bytes are those of a staged piece.
 //! - `mapped`: whether a mapping row has an item as an end.
 //! - `kinds`: whether a table is of the kind that a command asks.
 #![tactic(auto)]
@@ -11,8 +12,10 @@ mod kinds;
 mod mapped;
 mod media;
 mod rows;
+mod staged;
 mod tiles;
 
 pub use media::{drop_media, put_media};
 pub use rows::{drop_row, put_row};
+pub use staged::{put_media_of_piece, put_tile_of_piece};
 pub use tiles::{drop_tile, put_tile};

@@ -89,9 +89,32 @@ fn name_medium<S: Alter>(
     }
 }
 
-/// Puts a medium, in place of the one that stands or as a new one: its bytes are kept, it names their blob, and the blob
-/// goes that it named before, if nothing else names it. No bytes are a fault, 91, since no command has a medium without
-/// them.
+/// Puts a medium that names a blob, in place of the one that stands or as a new one. The blob goes that the medium named
+/// before, if nothing else names it.
+pub(crate) fn give_medium<S: Alter>(
+    tx: &mut Transaction<'_, S>,
+    table: &str,
+    id: i64,
+    content_type: &str,
+    blob: i64,
+) -> Result<(), Fault>
+    ensures same_reference { tx.new.conn.ghost_name ≡ tx.old.conn.ghost_name }
+    ensures given { (profile : Profile) (spare : Spare) (bytes : List ℕ) → IsMove (state S.Store tx.old.conn.now) (state S.Store tx.new.conn.now)
+        (λ base x. IsSeen spare profile (state S.Store tx.old.conn.now) base x × (bytes_at x.kept.shelf blob ≡ Some bytes))
+        (λ base x _ y. (y.content ≡ record (x.content) { media = insert x.content.media (item table.now id) (record { bytes = bytes; content_type = content_type.now }) }) × IsSeen (spare_but blob spare) profile (state S.Store tx.new.conn.now) base y) result }
+{
+    let stands = match blob_of_medium(tx, table, id) {
+        Ok(stands) => stands,
+        Err(fault) => return Err(fault),
+    };
+    match name_medium(tx, table, id, content_type, blob, stands) {
+        Ok(()) => release_freed(tx, stands),
+        Err(fault) => Err(fault),
+    }
+}
+
+/// Puts a medium, in place of the one that stands or as a new one: its bytes are kept, and it names their blob. No bytes are
+/// a fault, 91, since no command has a medium without them.
 fn write_medium<S: Alter>(
     tx: &mut Transaction<'_, S>,
     table: &str,
@@ -106,16 +129,8 @@ fn write_medium<S: Alter>(
     if bytes.is_empty() {
         return Err(Fault(91));
     }
-    let stands = match blob_of_medium(tx, table, id) {
-        Ok(stands) => stands,
-        Err(fault) => return Err(fault),
-    };
-    let blob = match keep(tx, bytes) {
-        Ok(blob) => blob,
-        Err(fault) => return Err(fault),
-    };
-    match name_medium(tx, table, id, content_type, blob, stands) {
-        Ok(()) => release_freed(tx, stands),
+    match keep(tx, bytes) {
+        Ok(blob) => give_medium(tx, table, id, content_type, blob),
         Err(fault) => Err(fault),
     }
 }

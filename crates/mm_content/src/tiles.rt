@@ -125,8 +125,33 @@ fn name_tile<S: Alter>(
     }
 }
 
-/// Puts a tile, in place of the one that stands or as a new one: its bytes are kept, it names their blob, and the blob goes
-/// that it named before, if nothing else names it. No bytes are a fault, 91, since no command has a tile without them.
+/// Puts a tile that names a blob, in place of the one that stands or as a new one. The blob goes that the tile named before,
+/// if nothing else names it.
+pub(crate) fn give_tile<S: Alter>(
+    tx: &mut Transaction<'_, S>,
+    table: &str,
+    zoom: u8,
+    column: u32,
+    row: u32,
+    blob: i64,
+) -> Result<(), Fault>
+    ensures same_reference { tx.new.conn.ghost_name ≡ tx.old.conn.ghost_name }
+    ensures given { (profile : Profile) (spare : Spare) (bytes : List ℕ) → IsMove (state S.Store tx.old.conn.now) (state S.Store tx.new.conn.now)
+        (λ base x. IsSeen spare profile (state S.Store tx.old.conn.now) base x × (bytes_at x.kept.shelf blob ≡ Some bytes))
+        (λ base x _ y. (y.content ≡ record (x.content) { tiles = insert x.content.tiles (tile table.now (pos zoom) (pos column) (pos row)) bytes }) × IsSeen (spare_but blob spare) profile (state S.Store tx.new.conn.now) base y) result }
+{
+    let stands = match blob_of_tile(tx, table, zoom, column, row) {
+        Ok(stands) => stands,
+        Err(fault) => return Err(fault),
+    };
+    match name_tile(tx, table, zoom, column, row, blob, stands) {
+        Ok(()) => release_freed(tx, stands),
+        Err(fault) => Err(fault),
+    }
+}
+
+/// Puts a tile, in place of the one that stands or as a new one: its bytes are kept, and it names their blob. No bytes are a
+/// fault, 91, since no command has a tile without them.
 fn write_tile<S: Alter>(
     tx: &mut Transaction<'_, S>,
     table: &str,
@@ -142,16 +167,8 @@ fn write_tile<S: Alter>(
     if bytes.is_empty() {
         return Err(Fault(91));
     }
-    let stands = match blob_of_tile(tx, table, zoom, column, row) {
-        Ok(stands) => stands,
-        Err(fault) => return Err(fault),
-    };
-    let blob = match keep(tx, bytes) {
-        Ok(blob) => blob,
-        Err(fault) => return Err(fault),
-    };
-    match name_tile(tx, table, zoom, column, row, blob, stands) {
-        Ok(()) => release_freed(tx, stands),
+    match keep(tx, bytes) {
+        Ok(blob) => give_tile(tx, table, zoom, column, row, blob),
         Err(fault) => Err(fault),
     }
 }
@@ -206,7 +223,7 @@ fn is_outside(width: i64, height: i64, column: u32, row: u32) -> bool
 }
 
 /// Why a tile is not put, if it is not.
-fn tile_refusal<S: Alter>(
+pub(crate) fn tile_refusal<S: Alter>(
     tx: &mut Transaction<'_, S>,
     table: &str,
     zoom: u8,

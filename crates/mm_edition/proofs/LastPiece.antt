@@ -5,7 +5,7 @@ use Rattle.std.specs.declared.cmp.Ordering.{Ordering}
 use Rattle.std.specs.declared.cmp.Ordering.TheVariants.{Less, Equal, Greater}
 use Rattle.std.specs.Ordering.{MatchOrdering, is_lt, int_cmp}
 use Rattle.std.specs.Cmp.{int_ranks}
-use Rattle.std.specs.FinMap.{FinMap, get}
+use Rattle.std.specs.FinMap.{FinMap, get, contains_key}
 use Rattle.std.proofs.lemmas.Bool.{both_ways}
 use Rattle.sqlite.specs.declared.types.Value.TheVariants.{Int, Text as Words}
 use Rattle.sqlite.specs.State.{State}
@@ -28,7 +28,7 @@ use Rattle.sql_forms.proofs.Selects.{shows}
 use Rattle.mm_base.specs.Bounds.{Profile}
 use Rattle.mm_base.specs.Conditions.{piece_count}
 use Rattle.mm_base.specs.Keys.{Text, same_text, PieceKey, piece, piece_cmp}
-use Rattle.mm_base.specs.Package.{Package, PieceRow, PiecesPart, open_state}
+use Rattle.mm_base.specs.Package.{Package, PiecesPart, open_state}
 use Rattle.mm_base.specs.Parts.{Stands}
 use Rattle.mm_base.specs.Rules.{Meets, IsNumbered}
 use Rattle.mm_base.specs.declared.answers.Fault.{Fault}
@@ -36,7 +36,7 @@ use Rattle.mm_base.proofs.Parts.{some_of, same_itself}
 use Rattle.mm_base.proofs.KeyLaws.{texts}
 use Rattle.mm_laws.proofs.Counted.{piece_count-is}
 use Rattle.mm_laws.proofs.KindFacts.{are_same}
-use Rattle.mm_store.specs.Rows.{past_rowid, staged_row}
+use Rattle.mm_store.specs.Rows.{past_rowid, StagedRow, staged_row}
 use Rattle.mm_store.specs.Seen.{IsRead}
 use Rattle.mm_edition.specs.States.{GivesNumber, IsLast}
 
@@ -63,18 +63,18 @@ falling = record { collation = Binary; descending = true }
 abbrev pub of_edition : Text → Row
 of_edition edition = Words edition ∷ []
 
-module _ (rows : List Row) (m : FinMap piece_cmp PieceRow) (h : Holds past_rowid staged_row rows m) (edition : Text) where
-  tells : (r : Row) (k : PieceKey) (v : PieceRow) → past_rowid r ≡ staged_row k v → passes last_terms (of_edition edition) r ≡ same_text k.edition edition
+module _ (rows : List Row) (ids : FinMap piece_cmp StagedRow) (m : PiecesPart) (there : (k : PieceKey) → contains_key ids k ≡ contains_key m k) (h : Holds past_rowid staged_row rows ids) (edition : Text) where
+  tells : (r : Row) (k : PieceKey) (v : StagedRow) → past_rowid r ≡ staged_row k v → passes last_terms (of_edition edition) r ≡ same_text k.edition edition
   tells r k v is =
       ap (λ x. equal Binary x (Words edition) && true) (columns_are r (staged_row k v) 0 is) ∙ ap (λ b. b && true) (equal_text k.edition edition) ∙ and_true (same_text k.edition edition)
 
-  numbers : (r s : Row) (k l : PieceKey) (v w : PieceRow) → past_rowid r ≡ staged_row k v → past_rowid s ≡ staged_row l w → value_cmp (column r 2) (column s 2) ≡ int_cmp k.number l.number
+  numbers : (r s : Row) (k l : PieceKey) (v w : StagedRow) → past_rowid r ≡ staged_row k v → past_rowid s ≡ staged_row l w → value_cmp (column r 2) (column s 2) ≡ int_cmp k.number l.number
   numbers r s k l v w p q = ap (λ x. value_cmp x (column s 2)) (columns_are r (staged_row k v) 1 p) ∙ ap (value_cmp (Int k.number)) (columns_are s (staged_row l w) 1 q) ∙ value_cmp-Int k.number l.number
 
   -- the row of a piece of the edition
-  row_at : (number : ℤ) → Stands m (piece edition number) → (v : PieceRow) × (r : Row) × IsAmong rows r × (passes last_terms (of_edition edition) r ≡ true) × (past_rowid r ≡ staged_row (piece edition number) v)
+  row_at : (number : ℤ) → Stands m (piece edition number) → (v : StagedRow) × (r : Row) × IsAmong rows r × (passes last_terms (of_edition edition) r ≡ true) × (past_rowid r ≡ staged_row (piece edition number) v)
   row_at number stands =
-      let v = some_of (get m (piece edition number)) stands in
+      let v = some_of (get ids (piece edition number)) (there (piece edition number) ∙ stands) in
       let r = h.complete (piece edition number) v.0 v.1 in
       (v.0, r.0, r.1, tells r.0 (piece edition number) v.0 r.2 ∙ same_itself texts edition, r.2)
 
@@ -91,7 +91,7 @@ module _ (rows : List Row) (m : FinMap piece_cmp PieceRow) (h : Holds past_rowid
       let shown : column gives.0 0 ≡ Int at.0.number = ap (λ (r : Row). column r 0) some.3 ∙ columns_are some.0 (staged_row at.0 at.1) 1 at.3 in
       let number_is : at.0.number ≡ pos last = same_int (sym shown ∙ gives.2) in
       let key_is : at.0 ≡ piece edition (pos last) = λ i. piece (edition_is i) (number_is i) in (
-        ap is_some (ap (get m) (sym key_is) ∙ at.2),
+        sym (there (piece edition (pos last))) ∙ ap is_some (ap (get ids) (sym key_is) ∙ at.2),
         λ number stands.
             let r = row_at number stands in
             subst (λ z. number ≤ℤ z) number_is (not_less at.0.number number (sym (ap is_lt (numbers some.0 r.1 at.0 (piece edition number) at.1 r.0 at.3 r.4)) ∙ some.4 r.1 r.2 r.3)),

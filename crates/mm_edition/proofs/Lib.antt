@@ -12,3 +12,5 @@ pub mod Trials
 pub mod Tries
 pub mod Rehearsed
 pub mod LastPiece
+pub mod Naming
+pub mod Freeing

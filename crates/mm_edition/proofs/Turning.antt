@@ -1,5 +1,5 @@
 -- How the look for a piece and the call that it is taken as make one turn of publishing.
-use Rattle.std.proofs.Common.{◌≡◌, ℕ, pos, Option, Some, None, option_map, Result, Ok, Err, refl, sym, ap, subst, ◌∙◌, arith}
+use Rattle.std.proofs.Common.{◌≡◌, ℕ, ℤ, pos, List, Option, Some, None, option_map, Result, Ok, Err, refl, sym, ap, subst, ◌∙◌, arith}
 use Rattle.std.specs.FinMap.{get}
 use Rattle.sqlite.specs.State.{State}
 use Rattle.mm_base.specs.Bounds.{Profile}
@@ -16,6 +16,7 @@ use Rattle.mm_base.specs.declared.answers.Fault.{Fault}
 use Rattle.mm_base.specs.declared.answers.Outcome.{Outcome}
 use Rattle.mm_base.specs.declared.answers.Outcome.TheVariants as outcome
 use Rattle.mm_base.specs.declared.answers.Refusal.{Refusal}
+use Rattle.mm_base.specs.declared.commands.Command.{Command}
 use Rattle.mm_base.specs.declared.commands.Piece.{Piece}
 use Rattle.mm_base.specs.declared.commands.Piece.TheVariants as pieces
 use Rattle.mm_base.proofs.Parts.{same_some}
@@ -25,8 +26,9 @@ use Rattle.mm_laws.proofs.OneStamp.{stamped_moment}
 use Rattle.mm_laws.proofs.StampFound.{stamp_is}
 use Rattle.mm_store.specs.Stands.{Ground, IsInside}
 use Rattle.mm_store.specs.Shapes.{IsLook, IsLent, IsPut}
+use Rattle.mm_content.specs.Staged.{HasBytes, IsLentWhere}
 use Rattle.mm_store.proofs.Shapes.{quiet_then}
-use Rattle.mm_edition.specs.Turns.{IsReady, IsTurn}
+use Rattle.mm_edition.specs.Turns.{HoldsPiece, IsReady, IsTurn}
 use Rattle.mm_edition.specs.declared.running.Turn.TheVariants.{Done, End, Refused}
 
 -- ---- a piece as its command
@@ -66,6 +68,32 @@ its_reason (Some n) why e = ap Some (ap (λ (r : Refusal). r.number) (same_some 
 stands_within : (profile : Profile) (q : Piece) → IsSpelled profile (piece_row q) → IsPieceWithin profile q
 stands_within profile q is = subst (IsPieceWithin profile) (same_some (sym (by_kind is.0) ∙ ap piece_by_kind (sym is.1) ∙ by_kind q)) is.2
 
+-- a call that does the same whether this holds or not
+pub anywhere : (When : Package → Type 0) (profile : Profile) (c : Command) (moment : ℕ) (old new : State) (result : Result Outcome Fault) → IsLent profile c moment old new result → IsLentWhere When profile c (λ p. step p c moment) old new result
+anywhere When profile c moment old new result lent = record {
+  survives = lent.survives;
+  on = λ clean ground p it when. lent.on clean ground p it;
+  answers = λ clean ground p it when. lent.answers clean ground p it;
+  faults = lent.faults;
+}
+
+-- a call that is known to do so where more holds
+pub where_more : (When More : Package → Type 0) (profile : Profile) (c : Command) (after : Package → Package) (old new : State) (result : Result Outcome Fault) → ((p : Package) → More p → When p) → IsLentWhere When profile c after old new result
+    → IsLentWhere More profile c after old new result
+where_more When More profile c after old new result so lent = record {
+  survives = lent.survives;
+  on = λ clean ground p it more. lent.on clean ground p it (so p more);
+  answers = λ clean ground p it more. lent.answers clean ground p it (so p more);
+  faults = lent.faults;
+}
+
+-- the bytes of a piece that is a tile or a medium
+pub tile_bytes : (edition : Text) (number : ℕ) (table : Text) (zoom column row : ℕ) (bytes : List ℕ) (p : Package) → HoldsPiece edition number (pieces.Tile table zoom column row bytes) p → HasBytes edition number bytes p
+tile_bytes edition number table zoom column row bytes p holds = (piece_row (pieces.Tile table zoom column row bytes), holds, refl)
+
+pub medium_bytes : (edition : Text) (number : ℕ) (table : Text) (id : ℤ) (content_type : Text) (bytes : List ℕ) (p : Package) → HoldsPiece edition number (pieces.Media table id content_type bytes) p → HasBytes edition number bytes p
+medium_bytes edition number table id content_type bytes p holds = (piece_row (pieces.Media table id content_type bytes), holds, refl)
+
 module _ (profile : Profile) (edition : Text) (number moment : ℕ) where
   abbrev Found : Package → Option Piece → Type 0
   Found p found = Meets profile p → get p.pieces (piece edition (pos number)) ≡ option_map piece_row found
@@ -90,18 +118,21 @@ module _ (profile : Profile) (edition : Text) (number moment : ℕ) where
         let there = says it.meets ∙ ap (option_map piece_row) is in
         record { meets = it.meets; inside = inside }
 
-    module _ (result : Result Outcome Fault) (lent : IsLent profile (piece_command q) moment mid new result) where
+    found_there : (ground : Ground) (p : Package) → IsReady profile old ground p → Found p found → HoldsPiece edition number q p
+    found_there ground p it says = says it.meets ∙ ap (option_map piece_row) is
+
+    module _ (result : Result Outcome Fault) (lent : IsLentWhere (HoldsPiece edition number q) profile (piece_command q) (λ p. step p (piece_command q) moment) mid new result) where
       pub turn_done : (at : Text) → IsStamp moment at → result ≡ Ok outcome.Done → IsTurn profile edition number moment old new (Ok Done)
       turn_done at stamped done_is = record {
         survives = quiet_then old mid new look.survives lent.survives;
         on = λ clean ground p it.
             let seen = look.looked (omega (arith, lent.survives.clean)) ground p it.inside in
-            lent.on clean ground p (put mid ground p it seen.1 seen.2);
+            lent.on clean ground p (put mid ground p it seen.1 seen.2) (found_there ground p it seen.2);
         takes = λ clean ground p it.
             let seen = look.looked (omega (arith, lent.survives.clean)) ground p it.inside in
             let there = seen.2 it.meets ∙ ap (option_map piece_row) is in
             let within = stands_within profile q (it.meets.q15.spelled _ _ there) in
-            let end = (rw done_is at lent.answers) clean ground p (put mid ground p it seen.1 seen.2) in
+            let end = (rw done_is at lent.answers) clean ground p (put mid ground p it seen.1 seen.2) there in
             let none = no_reason (least (piece_reasons p q)) (sym (piece_refusal p q) ∙ end.0) in
             let next : step p (piece_command q) moment ≡ piece_effect p q (stamp moment) = ap (λ r. unless_refused r (done p (piece_command q) (stamp moment)) p) end.0 ∙ piece_done p q (stamp moment) in
             let low = stamped_moment moment at stamped in (
@@ -121,11 +152,11 @@ module _ (profile : Profile) (edition : Text) (number moment : ℕ) where
         survives = quiet_then old mid new look.survives lent.survives;
         on = λ clean ground p it.
             let seen = look.looked (omega (arith, lent.survives.clean)) ground p it.inside in
-            lent.on clean ground p (put mid ground p it seen.1 seen.2);
+            lent.on clean ground p (put mid ground p it seen.1 seen.2) (found_there ground p it seen.2);
         takes = λ clean ground p it.
             let seen = look.looked (omega (arith, lent.survives.clean)) ground p it.inside in
             let there = seen.2 it.meets ∙ ap (option_map piece_row) is in
-            let end = (rw refused_is at lent.answers) clean ground p (put mid ground p it seen.1 seen.2) in
+            let end = (rw refused_is at lent.answers) clean ground p (put mid ground p it seen.1 seen.2) there in
             (q, there, its_reason (least (piece_reasons p q)) why (sym (piece_refusal p q) ∙ end.0));
         faults = tt;
       }
@@ -135,7 +166,7 @@ module _ (profile : Profile) (edition : Text) (number moment : ℕ) where
         survives = quiet_then old mid new look.survives lent.survives;
         on = λ clean ground p it.
             let seen = look.looked (omega (arith, lent.survives.clean)) ground p it.inside in
-            lent.on clean ground p (put mid ground p it seen.1 seen.2);
+            lent.on clean ground p (put mid ground p it seen.1 seen.2) (found_there ground p it seen.2);
         takes = λ clean ground p it. tt;
         faults = rw fault_is at lent.faults;
       }

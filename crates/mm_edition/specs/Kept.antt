@@ -1,11 +1,20 @@
 -- A staged piece as its row holds it, and what a row shows of it.
-use Rattle.std.specs.Prelude.{◌≡◌, string_bytes, Option, Some, None, ⊤}
-use Rattle.sqlite.specs.declared.types.Value.TheVariants.{Int, Text as Words, Blob}
+use Rattle.std.specs.Prelude.{◌≡◌, ℕ, ℤ, List, [], string_bytes, Option, Some, None, ⊤}
+use Rattle.std.specs.declared.vec.Vec.{Vec}
+use Rattle.sqlite.specs.declared.types.Value.TheVariants.{Int, Text as Words}
 use Rattle.sqlite.specs.Order.{Row, column}
 use Rattle.mm_base.specs.Package.{PieceRow}
+use Rattle.mm_store.specs.Rows.{maybe, StagedRow}
+use Rattle.mm_store.specs.Kept.{Spare, piece_with}
+use Rattle.mm_blobs.specs.Views.{spare_but}
 use Rattle.mm_edition.specs.declared.kept.Numbers.{Numbers}
 use Rattle.mm_edition.specs.declared.kept.Kept.{Kept}
 use Rattle.mm_edition.specs.declared.kept.Written.{Written}
+
+-- no bytes where there are none
+abbrev pub plain : {A : Type 0} → Option (Vec ℕ A) → List ℕ
+plain None = []
+plain (Some bytes) = bytes.items
 
 abbrev pub kept_row : Kept → PieceRow
 kept_row k = record {
@@ -20,7 +29,7 @@ kept_row k = record {
   k7 = k.numbers.k7;
   t1 = string_bytes k.t1;
   t2 = string_bytes k.t2;
-  bytes = k.bytes.items;
+  bytes = plain k.bytes;
 }
 
 -- the row that is to be written
@@ -54,7 +63,7 @@ pub record HasNumbers (shown : Row) (n : Numbers) : Type 0 where
   pub k6 : column shown 7 ≡ Int n.k6
   pub k7 : column shown 8 ≡ Int n.k7
 
--- The row shows the piece, column by column.
+-- The row shows the piece, column by column, but for its bytes.
 pub record Shows (shown : Row) (r : PieceRow) : Type 0 where
   pub kind : column shown 0 ≡ Words r.kind
   pub name : column shown 1 ≡ Words r.name
@@ -67,10 +76,18 @@ pub record Shows (shown : Row) (r : PieceRow) : Type 0 where
   pub k7 : column shown 8 ≡ Int r.k7
   pub t1 : column shown 9 ≡ Words r.t1
   pub t2 : column shown 10 ≡ Words r.t2
-  pub bytes : column shown 11 ≡ Blob r.bytes
 
--- a row that was asked for by its key shows the piece, and none where there is none
-abbrev pub IsRowOf : Option PieceRow → Option Row → Type 0
+-- a row that was asked for by its key shows the piece and the blob that it names, and there is none where there is no piece
+abbrev pub IsRowOf : Option StagedRow → Option Row → Type 0
 IsRowOf None None = ⊤
-IsRowOf (Some r) (Some shown) = Shows shown r
+IsRowOf (Some r) (Some shown) = Shows shown (piece_with r []) × (column shown 11 ≡ maybe r.blob)
 IsRowOf _ _ = ⊥
+
+-- what is written of a piece, with the blob of its bytes
+abbrev pub staged_of : Written → Option ℤ → StagedRow
+staged_of w blob = record { kind = w.kind.now; name = w.name.now; k1 = w.k1; k2 = w.k2; k3 = w.k3; k4 = w.k4; k5 = w.k5; k6 = w.k6; k7 = w.k7; t1 = w.t1.now; t2 = w.t2.now; blob = blob }
+
+-- the blob of a piece that is named need not be spared any more
+abbrev pub spare_named : Option ℤ → Spare → Spare
+spare_named None spare = spare
+spare_named (Some id) spare = spare_but id spare

@@ -19,6 +19,10 @@ use Rattle.mm_store.specs.Statements.{CommitsNothing}
 use Rattle.mm_edition.specs.declared.running.Turn.{Turn}
 use Rattle.mm_edition.specs.declared.running.Turn.TheVariants.{Done, End, Refused}
 
+-- the edition's piece of the number is this one
+abbrev pub HoldsPiece : Text → ℕ → Piece → Package → Type 0
+HoldsPiece edition number q p = get p.pieces (piece edition (pos number)) ≡ Some (piece_row q)
+
 -- a transaction on a package that meets the rules
 pub record IsReady (profile : Profile) (s : State) (ground : Ground) (p : Package) : Type 0 where
   pub meets : Meets profile p

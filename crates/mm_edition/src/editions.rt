@@ -1,18 +1,23 @@
 //! How an edition stands, and the commands that open and discard one.
 
-ghost use Rattle.std.specs.Prelude.{◌≡◌, ℕ, None, IfSome, option_map, string_bytes, ⊤};
+ghost use Rattle.std.specs.Prelude.{◌≡◌, ℕ, ℤ, true, None, IfSome, option_map, string_bytes, ⊤};
 ghost use Rattle.std.specs.FinMap.{get, insert};
 ghost use Rattle.sqlite.specs.Held.{state};
 ghost use Rattle.mm_base.specs.Bounds.{Profile};
 ghost use Rattle.mm_base.specs.Conditions.{least, own_reasons};
 ghost use Rattle.mm_base.specs.Package.{open_state};
 ghost use Rattle.mm_base.specs.declared.commands.Command.TheVariants as commands;
-ghost use Rattle.mm_store.specs.Removals.{without_edition_rows};
+ghost use Rattle.mm_store.specs.Kept.{Spare, no_spare};
+ghost use Rattle.mm_store.specs.Removals.{without_edition_rows, FreedByEdition};
 ghost use Rattle.mm_store.specs.Shapes.{IsLook, IsChange, IsLent};
+ghost use Rattle.mm_blobs.specs.Moves.{IsMove};
+ghost use Rattle.mm_blobs.specs.Views.{IsSeen};
 ghost use Rattle.mm_edition.specs.Standings.{standing_text};
 
+use crate::pieces::blobs_of_pieces;
 use mm_base::answers::{Fault, Outcome, Refusal};
 use mm_base::names::Name;
+use mm_blobs::blobs::release_each;
 use mm_store::statements::{first_text, run};
 use sqlite::{Alter, Transaction, params};
 
@@ -102,16 +107,33 @@ pub fn open_edition<S: Alter>(tx: &mut Transaction<'_, S>, edition: &Name) -> Re
     }
 }
 
-/// Removes an edition, and by its key its pieces.
-fn delete_edition<S: Alter>(tx: &mut Transaction<'_, S>, edition: &str) -> Result<(), Fault>
+/// Removes the row of an edition, and by its key those of its pieces. Blobs stay that nothing names any more.
+fn delete_edition_rows<S: Alter>(tx: &mut Transaction<'_, S>, edition: &str) -> Result<(), Fault>
     ensures same_reference { tx.new.conn.ghost_name ≡ tx.old.conn.ghost_name }
-    ensures change { (profile : Profile) → IsChange profile (state S.Store tx.old.conn.now) (state S.Store tx.new.conn.now) (λ p. ⊤) (without_edition_rows edition.now) result }
+    ensures gone { (profile : Profile) (more : Spare) → IsMove (state S.Store tx.old.conn.now) (state S.Store tx.new.conn.now)
+        (λ base x. IsSeen no_spare profile (state S.Store tx.old.conn.now) base x × ((z : ℤ) → FreedByEdition edition.now x.kept z → more z ≡ true))
+        (λ base x _ y. (y.content ≡ without_edition_rows edition.now x.content) × IsSeen more profile (state S.Store tx.new.conn.now) base y) result }
 {
     run(
         tx,
         "DELETE FROM mm_editions WHERE name = ?1",
         params![edition],
     )
+}
+
+/// Removes an edition with its pieces, and the blobs that nothing names any more.
+fn delete_edition<S: Alter>(tx: &mut Transaction<'_, S>, edition: &str) -> Result<(), Fault>
+    ensures same_reference { tx.new.conn.ghost_name ≡ tx.old.conn.ghost_name }
+    ensures change { (profile : Profile) → IsChange profile (state S.Store tx.old.conn.now) (state S.Store tx.new.conn.now) (λ p. ⊤) (without_edition_rows edition.now) result }
+{
+    let blobs = match blobs_of_pieces(tx, edition) {
+        Ok(rows) => rows,
+        Err(fault) => return Err(fault),
+    };
+    match delete_edition_rows(tx, edition) {
+        Ok(()) => release_each(tx, blobs.as_slice()),
+        Err(fault) => Err(fault),
+    }
 }
 
 /// Why an edition is not one that takes and gives up pieces, if it is not: 51 where none has the name, 55 where it is

@@ -3,7 +3,7 @@
 ghost use Rattle.std.specs.Prelude.{◌≡◌, ◌↔◌, IfOk, IsTrue, true, pos, []};
 ghost use Rattle.mm_base.specs.PieceGroups.{changes_tile, changes_item, changes_mapping, puts_matrix};
 ghost use Rattle.mm_base.specs.Pieces.{piece_of, piece_row};
-ghost use Rattle.mm_edition.specs.Kept.{kept_row, written_row, HasNumbers, AreNumbers, Shows};
+ghost use Rattle.mm_edition.specs.Kept.{kept_row, written_row, plain, HasNumbers, AreNumbers, Shows};
 
 use mm_base::commands::Piece;
 use sqlite::{Error, Row};
@@ -20,7 +20,7 @@ pub(crate) struct Numbers {
     pub(crate) k7: i64,
 }
 
-/// A piece as a row holds it.
+/// A piece as a row holds it, with the bytes of the blob that it names, if it names one.
 #[derive(Drop)]
 pub(crate) struct Kept {
     pub(crate) kind: String,
@@ -28,7 +28,7 @@ pub(crate) struct Kept {
     pub(crate) numbers: Numbers,
     pub(crate) t1: String,
     pub(crate) t2: String,
-    pub(crate) bytes: Vec<u8>,
+    pub(crate) bytes: Option<Vec<u8>>,
 }
 
 /// What a row is to hold of a piece.
@@ -63,9 +63,10 @@ fn numbers_in(row: &Row) -> Result<Numbers, Error>
     })
 }
 
-/// The piece that a row shows: its kind, its name, the seven numbers, the two texts and the bytes.
-pub(crate) fn kept_in(row: &Row) -> Result<Kept, Error>
-    ensures { IfOk result (λ kept. Shows row.now (kept_row kept)) }
+/// The piece that a row shows: its kind, its name, the seven numbers and the two texts, with these bytes.
+pub(crate) fn kept_in(row: &Row, bytes: Option<Vec<u8>>) -> Result<Kept, Error>
+    ensures shown { IfOk result (λ kept. Shows row.now (kept_row kept)) }
+    ensures bytes { IfOk result (λ kept. kept.bytes ≡ bytes) }
 {
     Ok(Kept {
         kind: row.get(0)?,
@@ -73,7 +74,7 @@ pub(crate) fn kept_in(row: &Row) -> Result<Kept, Error>
         numbers: numbers_in(row)?,
         t1: row.get(9)?,
         t2: row.get(10)?,
-        bytes: row.get(11)?,
+        bytes,
     })
 }
 
@@ -90,6 +91,16 @@ fn are_written(numbers: Numbers, written: Written<'_>) -> bool
         && numbers.k7 == written.k7
 }
 
+/// Whether a piece has exactly these bytes.
+fn has_bytes(kept: &Kept, bytes: &[u8]) -> bool
+    ensures { IsTrue result ↔ (bytes.now ≡ plain kept.now.bytes) }
+{
+    match &kept.bytes {
+        Some(kept) => kept.as_slice() == bytes,
+        None => bytes.is_empty(),
+    }
+}
+
 /// Whether a row holds exactly what would be written of a piece.
 pub(crate) fn is_written(kept: &Kept, written: Written<'_>) -> bool
     ensures { IsTrue result ↔ (written_row written.entry ≡ kept_row kept.now) }
@@ -99,7 +110,7 @@ pub(crate) fn is_written(kept: &Kept, written: Written<'_>) -> bool
         && kept.name.as_str() == written.name
         && kept.t1.as_str() == written.t1
         && kept.t2.as_str() == written.t2
-        && kept.bytes.as_slice() == written.bytes
+        && has_bytes(kept, written.bytes)
 }
 
 /// What is written of a piece that has a name and at most two numbers.

@@ -1,22 +1,31 @@
 //! One staged piece by its number.
 
-ghost use Rattle.std.specs.Prelude.{◌≡◌, None, option_map, pos};
+ghost use Rattle.std.specs.Prelude.{◌≡◌, ℤ, Option, None, option_map, pos, IsTrue, IfOk, IfErr};
 ghost use Rattle.std.specs.FinMap.{get, contains_key, insert};
 ghost use Rattle.sqlite.specs.Held.{state};
 ghost use Rattle.mm_base.specs.Bounds.{Profile};
 ghost use Rattle.mm_base.specs.Keys as keys;
 ghost use Rattle.mm_base.specs.Pieces.{piece_row};
 ghost use Rattle.mm_base.specs.Rules.{Meets};
+ghost use Rattle.sqlite.specs.Order.{column};
+ghost use Rattle.mm_store.specs.Blobs.{StandsAt, Told};
+ghost use Rattle.mm_store.specs.Faults.{IsStoreFault};
+ghost use Rattle.mm_store.specs.Kept.{Spare, piece_id, piece_with};
+ghost use Rattle.mm_store.specs.Removals.{FreedByEdition};
+ghost use Rattle.mm_store.specs.Rows.{maybe};
 ghost use Rattle.mm_store.specs.Shapes.{IsLook, IsChange};
-ghost use Rattle.mm_edition.specs.Kept.{kept_row, written_row, IsRowOf};
+ghost use Rattle.mm_blobs.specs.Moves.{IsMove};
+ghost use Rattle.mm_blobs.specs.Views.{IsSeen, ListsEach};
+ghost use Rattle.mm_edition.specs.Kept.{kept_row, written_row, plain, spare_named, IsRowOf};
 
 use crate::kept::{Kept, Written, kept_in};
 use crate::spelling::spelled;
 use mm_base::answers::Fault;
 use mm_base::commands::Piece;
 use mm_base::names::Name;
+use mm_blobs::blobs::{bytes_of, keep};
 use mm_store::faults::fault_of;
-use mm_store::statements::{exists, first, run};
+use mm_store::statements::{all, exists, first, run};
 use sqlite::{Alter, Row, Transaction, params};
 
 /// Whether an edition has a piece of this number.
@@ -42,16 +51,46 @@ fn row_of_piece<S: Alter>(
     number: i64,
 ) -> Result<Option<Row>, Fault>
     ensures same_reference { tx.new.conn.ghost_name ≡ tx.old.conn.ghost_name }
-    ensures look { (profile : Profile) → IsLook profile (state S.Store tx.old.conn.now) (state S.Store tx.new.conn.now) (λ p row. IsRowOf (get p.pieces (keys.piece edition.now number)) row) result }
+    ensures shown { (profile : Profile) (spare : Spare) → IsMove (state S.Store tx.old.conn.now) (state S.Store tx.new.conn.now) (IsSeen spare profile (state S.Store tx.old.conn.now))
+        (λ base x row y. (y ≡ x) × IsSeen spare profile (state S.Store tx.new.conn.now) base y × IsRowOf (get y.kept.pieces (keys.piece edition.now number)) row
+        × Told piece_id piece_with y.kept.shelf (get y.kept.pieces (keys.piece edition.now number)) (get y.content.pieces (keys.piece edition.now number))) result }
 {
     first(
         tx,
-        "SELECT kind, name, k1, k2, k3, k4, k5, k6, k7, t1, t2, data FROM mm_pieces WHERE edition = ?1 AND piece_no = ?2",
+        "SELECT kind, name, k1, k2, k3, k4, k5, k6, k7, t1, t2, blob FROM mm_pieces WHERE edition = ?1 AND piece_no = ?2",
         params![edition, number],
     )
 }
 
-/// A piece by its number as its row holds it, if the edition has one.
+/// The blob that the row of a piece names, if it names one.
+fn blob_in(row: &Row) -> Result<Option<i64>, Fault>
+    ensures shown { IfOk result (λ blob. column row.now 11 ≡ maybe blob) }
+    ensures fault { IfErr result IsStoreFault }
+{
+    match row.get(11) {
+        Ok(Some(blob)) => Ok(Some(blob)),
+        Ok(None) => Ok(None),
+        Err(error) => Err(fault_of(error)),
+    }
+}
+
+/// The bytes of the blob that the row of a piece names, if it names one.
+fn bytes_of_row<S: Alter>(tx: &mut Transaction<'_, S>, row: &Row) -> Result<Option<Vec<u8>>, Fault>
+    ensures same_reference { tx.new.conn.ghost_name ≡ tx.old.conn.ghost_name }
+    ensures told { (profile : Profile) (spare : Spare) → IsMove (state S.Store tx.old.conn.now) (state S.Store tx.new.conn.now) (λ base x. IsTrue (state S.Store tx.old.conn.now).is_open × IsSeen spare profile (state S.Store tx.old.conn.now) base x)
+        (λ base x bytes y. (y ≡ x) × IsSeen spare profile (state S.Store tx.new.conn.now) base y × ((blob : Option ℤ) → column row.now 11 ≡ maybe blob → StandsAt y.kept.shelf blob (plain bytes))) result }
+{
+    match blob_in(row) {
+        Ok(Some(blob)) => match bytes_of(tx, blob) {
+            Ok(bytes) => Ok(Some(bytes)),
+            Err(fault) => Err(fault),
+        },
+        Ok(None) => Ok(None),
+        Err(fault) => Err(fault),
+    }
+}
+
+/// A piece by its number as its row holds it, if the edition has one, with its bytes.
 pub(crate) fn kept_piece<S: Alter>(
     tx: &mut Transaction<'_, S>,
     edition: &str,
@@ -60,13 +99,18 @@ pub(crate) fn kept_piece<S: Alter>(
     ensures same_reference { tx.new.conn.ghost_name ≡ tx.old.conn.ghost_name }
     ensures look { (profile : Profile) → IsLook profile (state S.Store tx.old.conn.now) (state S.Store tx.new.conn.now) (λ p kept. get p.pieces (keys.piece edition.now number) ≡ option_map kept_row kept) result }
 {
-    match row_of_piece(tx, edition, number) {
-        Ok(Some(row)) => match kept_in(&row) {
-            Ok(kept) => Ok(Some(kept)),
-            Err(error) => Err(fault_of(error)),
-        },
-        Ok(None) => Ok(None),
-        Err(fault) => Err(fault),
+    let row = match row_of_piece(tx, edition, number) {
+        Ok(Some(row)) => row,
+        Ok(None) => return Ok(None),
+        Err(fault) => return Err(fault),
+    };
+    let bytes = match bytes_of_row(tx, &row) {
+        Ok(bytes) => bytes,
+        Err(fault) => return Err(fault),
+    };
+    match kept_in(&row, bytes) {
+        Ok(kept) => Ok(Some(kept)),
+        Err(error) => Err(fault_of(error)),
     }
 }
 
@@ -90,20 +134,22 @@ pub fn piece<S: Alter>(
     }
 }
 
-/// Puts a piece at a number that is free.
-pub(crate) fn insert_piece<S: Alter>(
+/// Puts the row of a piece at a number that is free.
+fn insert_row<S: Alter>(
     tx: &mut Transaction<'_, S>,
     edition: &str,
     number: i64,
     written: Written<'_>,
+    blob: Option<i64>,
 ) -> Result<(), Fault>
     ensures same_reference { tx.new.conn.ghost_name ≡ tx.old.conn.ghost_name }
-    ensures change { (profile : Profile) → IsChange profile (state S.Store tx.old.conn.now) (state S.Store tx.new.conn.now) (λ p. get p.pieces (keys.piece edition.now number) ≡ None)
-        (λ p. record p { pieces = insert p.pieces (keys.piece edition.now number) (written_row written.entry) }) result }
+    ensures named { (profile : Profile) (spare : Spare) → IsMove (state S.Store tx.old.conn.now) (state S.Store tx.new.conn.now)
+        (λ base x. IsSeen spare profile (state S.Store tx.old.conn.now) base x × (StandsAt x.kept.shelf blob written.entry.bytes.now × (get x.content.pieces (keys.piece edition.now number) ≡ None)))
+        (λ base x _ y. (y.content ≡ record (x.content) { pieces = insert x.content.pieces (keys.piece edition.now number) (written_row written.entry) }) × IsSeen (spare_named blob spare) profile (state S.Store tx.new.conn.now) base y) result }
 {
     run(
         tx,
-        "INSERT INTO mm_pieces (edition, piece_no, kind, name, k1, k2, k3, k4, k5, k6, k7, t1, t2, data) VALUES (?1, ?2, ?3, ?4, ?5, ?6, ?7, ?8, ?9, ?10, ?11, ?12, ?13, ?14)",
+        "INSERT INTO mm_pieces (edition, piece_no, kind, name, k1, k2, k3, k4, k5, k6, k7, t1, t2, blob) VALUES (?1, ?2, ?3, ?4, ?5, ?6, ?7, ?8, ?9, ?10, ?11, ?12, ?13, ?14)",
         params![
             edition,
             number,
@@ -118,7 +164,43 @@ pub(crate) fn insert_piece<S: Alter>(
             written.k7,
             written.t1,
             written.t2,
-            written.bytes
+            blob
         ],
+    )
+}
+
+/// Puts a piece at a number that is free. Its bytes are kept, if it has any.
+pub(crate) fn insert_piece<S: Alter>(
+    tx: &mut Transaction<'_, S>,
+    edition: &str,
+    number: i64,
+    written: Written<'_>,
+) -> Result<(), Fault>
+    ensures same_reference { tx.new.conn.ghost_name ≡ tx.old.conn.ghost_name }
+    ensures change { (profile : Profile) → IsChange profile (state S.Store tx.old.conn.now) (state S.Store tx.new.conn.now) (λ p. get p.pieces (keys.piece edition.now number) ≡ None)
+        (λ p. record p { pieces = insert p.pieces (keys.piece edition.now number) (written_row written.entry) }) result }
+{
+    if written.bytes.is_empty() {
+        return insert_row(tx, edition, number, written, None);
+    }
+    match keep(tx, written.bytes) {
+        Ok(blob) => insert_row(tx, edition, number, written, Some(blob)),
+        Err(fault) => Err(fault),
+    }
+}
+
+/// The ids of the blobs that the pieces of an edition name.
+pub(crate) fn blobs_of_pieces<S: Alter>(
+    tx: &mut Transaction<'_, S>,
+    edition: &str,
+) -> Result<Vec<Row>, Fault>
+    ensures same_reference { tx.new.conn.ghost_name ≡ tx.old.conn.ghost_name }
+    ensures listed { (profile : Profile) (spare : Spare) → IsMove (state S.Store tx.old.conn.now) (state S.Store tx.new.conn.now) (IsSeen spare profile (state S.Store tx.old.conn.now))
+        (λ base x rows y. (y ≡ x) × IsSeen spare profile (state S.Store tx.new.conn.now) base y × ListsEach rows.items (FreedByEdition edition.now y.kept)) result }
+{
+    all(
+        tx,
+        "SELECT blob FROM mm_pieces WHERE edition = ?1 AND blob IS NOT NULL",
+        params![edition],
     )
 }

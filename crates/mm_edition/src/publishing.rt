@@ -1,6 +1,6 @@
 //! Publishing an edition.
 
-ghost use Rattle.std.specs.Prelude.{◌≡◌, ℕ, true, ⊤};
+ghost use Rattle.std.specs.Prelude.{◌≡◌, ℕ, ℤ, true, ⊤};
 ghost use Rattle.std.specs.FinMap.{contains_key, insert, retain_keys};
 ghost use Rattle.sqlite.specs.Held.{state};
 ghost use Rattle.mm_base.specs.Bounds.{Profile};
@@ -9,15 +9,21 @@ ghost use Rattle.mm_base.specs.Effects.{is_other};
 ghost use Rattle.mm_base.specs.Package.{published_state};
 ghost use Rattle.mm_base.specs.Stamp.{IsStamp};
 ghost use Rattle.mm_base.specs.declared.commands.Command.TheVariants as commands;
+ghost use Rattle.mm_store.specs.Kept.{Spare, no_spare};
+ghost use Rattle.mm_store.specs.Removals.{FreedByEdition};
 ghost use Rattle.mm_store.specs.Shapes.{IsChange, IsTried};
+ghost use Rattle.mm_blobs.specs.Moves.{IsMove};
+ghost use Rattle.mm_blobs.specs.Views.{IsSeen};
 ghost use Rattle.mm_edition.specs.Quiet.{IsQuiet};
 ghost use Rattle.mm_edition.specs.Turns.{IsTrial};
 
 use crate::editions::closed_refusal;
+use crate::pieces::blobs_of_pieces;
 use crate::running::{Turn, try_piece};
 use mm_base::answers::{Fault, Outcome, Refusal};
 use mm_base::limits::MOST_PIECES;
 use mm_base::names::Name;
+use mm_blobs::blobs::release_each;
 use mm_store::statements::run;
 use sqlite::{Alter, Transaction, params};
 
@@ -59,17 +65,34 @@ fn mark_published<S: Alter>(tx: &mut Transaction<'_, S>, edition: &str) -> Resul
     )
 }
 
-/// Removes the pieces of an edition.
-fn delete_pieces<S: Alter>(tx: &mut Transaction<'_, S>, edition: &str) -> Result<(), Fault>
+/// Removes the rows of the pieces of an edition. Blobs stay that nothing names any more.
+fn delete_piece_rows<S: Alter>(tx: &mut Transaction<'_, S>, edition: &str) -> Result<(), Fault>
     ensures same_reference { tx.new.conn.ghost_name ≡ tx.old.conn.ghost_name }
-    ensures change { (profile : Profile) → IsChange profile (state S.Store tx.old.conn.now) (state S.Store tx.new.conn.now) (λ p. ⊤)
-        (λ p. record p { pieces = retain_keys p.pieces (λ k. is_other edition.now k.edition) }) result }
+    ensures gone { (profile : Profile) (more : Spare) → IsMove (state S.Store tx.old.conn.now) (state S.Store tx.new.conn.now)
+        (λ base x. IsSeen no_spare profile (state S.Store tx.old.conn.now) base x × ((z : ℤ) → FreedByEdition edition.now x.kept z → more z ≡ true))
+        (λ base x _ y. (y.content ≡ record (x.content) { pieces = retain_keys x.content.pieces (λ k. is_other edition.now k.edition) }) × IsSeen more profile (state S.Store tx.new.conn.now) base y) result }
 {
     run(
         tx,
         "DELETE FROM mm_pieces WHERE edition = ?1",
         params![edition],
     )
+}
+
+/// Removes the pieces of an edition, and the blobs that nothing names any more.
+fn delete_pieces<S: Alter>(tx: &mut Transaction<'_, S>, edition: &str) -> Result<(), Fault>
+    ensures same_reference { tx.new.conn.ghost_name ≡ tx.old.conn.ghost_name }
+    ensures change { (profile : Profile) → IsChange profile (state S.Store tx.old.conn.now) (state S.Store tx.new.conn.now) (λ p. ⊤)
+        (λ p. record p { pieces = retain_keys p.pieces (λ k. is_other edition.now k.edition) }) result }
+{
+    let blobs = match blobs_of_pieces(tx, edition) {
+        Ok(rows) => rows,
+        Err(fault) => return Err(fault),
+    };
+    match delete_piece_rows(tx, edition) {
+        Ok(()) => release_each(tx, blobs.as_slice()),
+        Err(fault) => Err(fault),
+    }
 }
 
 /// Publishes an edition whose pieces were done, and removes them.

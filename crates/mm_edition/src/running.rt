@@ -6,15 +6,17 @@ ghost use Rattle.mm_base.specs.Bounds.{Profile};
 ghost use Rattle.mm_base.specs.PieceGroups.{changes_tile, changes_item, changes_mapping, puts_matrix};
 ghost use Rattle.mm_base.specs.Pieces.{piece_command};
 ghost use Rattle.mm_base.specs.Stamp.{IsStamp};
+ghost use Rattle.mm_base.specs.Step.{step};
 ghost use Rattle.mm_store.specs.Shapes.{IsLent};
+ghost use Rattle.mm_content.specs.Staged.{IsLentWhere};
 ghost use Rattle.mm_edition.specs.Quiet.{IsQuiet};
-ghost use Rattle.mm_edition.specs.Turns.{IsTurn};
+ghost use Rattle.mm_edition.specs.Turns.{HoldsPiece, IsTurn};
 
 use crate::pieces::piece;
 use mm_base::answers::{Fault, Outcome};
 use mm_base::commands::Piece;
 use mm_base::names::Name;
-use mm_content::{drop_media, drop_row, drop_tile, put_media, put_row, put_tile};
+use mm_content::{drop_media, drop_row, drop_tile, put_media_of_piece, put_row, put_tile_of_piece};
 use mm_matrices::add_matrix;
 use mm_relate::{add_map, drop_map};
 use sqlite::{Alter, Transaction};
@@ -27,16 +29,18 @@ pub(crate) enum Turn {
     Refused(u8),
 }
 
-/// Puts or removes the tile of a piece. `at` is the stamp of the moment.
+/// Puts or removes the tile of the piece of a number. One that is put names the piece's blob. `at` is the stamp of the moment.
 fn run_tile<S: Alter>(
     tx: &mut Transaction<'_, S>,
+    edition: &Name,
+    number: u32,
     piece: &Piece,
     at: &str,
 ) -> Result<Outcome, Fault>
     requires { changes_tile piece.now ≡ true }
     ensures same_reference { tx.new.conn.ghost_name ≡ tx.old.conn.ghost_name }
     ensures any_text { IsQuiet (state S.Store tx.old.conn.now) (state S.Store tx.new.conn.now) result }
-    ensures lent { (profile : Profile) (moment : ℕ) → IsStamp moment at.now → IsLent profile (piece_command piece.now) moment (state S.Store tx.old.conn.now) (state S.Store tx.new.conn.now) result }
+    ensures lent { (profile : Profile) (moment : ℕ) → IsStamp moment at.now → IsLentWhere (HoldsPiece edition.now number piece.now) profile (piece_command piece.now) (λ p. step p (piece_command piece.now) moment) (state S.Store tx.old.conn.now) (state S.Store tx.new.conn.now) result }
 {
     match piece {
         Piece::Tile {
@@ -44,14 +48,15 @@ fn run_tile<S: Alter>(
             zoom,
             column,
             row,
-            bytes,
-        } => put_tile(
+            bytes: _,
+        } => put_tile_of_piece(
             tx,
             table,
             zoom.get(),
             column.get(),
             row.get(),
-            bytes.as_slice(),
+            edition,
+            number,
             at,
         ),
         Piece::TileDrop {
@@ -64,16 +69,19 @@ fn run_tile<S: Alter>(
     }
 }
 
-/// Puts or removes the attribute row or medium of a piece. `at` is the stamp of the moment.
+/// Puts or removes the attribute row or medium of the piece of a number. A medium that is put names the piece's blob. `at` is
+/// the stamp of the moment.
 fn run_item<S: Alter>(
     tx: &mut Transaction<'_, S>,
+    edition: &Name,
+    number: u32,
     piece: &Piece,
     at: &str,
 ) -> Result<Outcome, Fault>
     requires { changes_item piece.now ≡ true }
     ensures same_reference { tx.new.conn.ghost_name ≡ tx.old.conn.ghost_name }
     ensures any_text { IsQuiet (state S.Store tx.old.conn.now) (state S.Store tx.new.conn.now) result }
-    ensures lent { (profile : Profile) (moment : ℕ) → IsStamp moment at.now → IsLent profile (piece_command piece.now) moment (state S.Store tx.old.conn.now) (state S.Store tx.new.conn.now) result }
+    ensures lent { (profile : Profile) (moment : ℕ) → IsStamp moment at.now → IsLentWhere (HoldsPiece edition.now number piece.now) profile (piece_command piece.now) (λ p. step p (piece_command piece.now) moment) (state S.Store tx.old.conn.now) (state S.Store tx.new.conn.now) result }
 {
     match piece {
         Piece::Row {
@@ -96,13 +104,14 @@ fn run_item<S: Alter>(
             table,
             id,
             content_type,
-            bytes,
-        } => put_media(
+            bytes: _,
+        } => put_media_of_piece(
             tx,
             table,
             id.get(),
             content_type.as_str(),
-            bytes.as_slice(),
+            edition,
+            number,
             at,
         ),
         Piece::MediaDrop { table, id } => drop_media(tx, table, id.get(), at),
@@ -152,20 +161,22 @@ fn run_matrix<S: Alter>(
     }
 }
 
-/// Does what a piece says within the transaction. `at` is the stamp of the moment.
+/// Does what the piece of a number says within the transaction. `at` is the stamp of the moment.
 fn run_piece<S: Alter>(
     tx: &mut Transaction<'_, S>,
+    edition: &Name,
+    number: u32,
     piece: &Piece,
     at: &str,
 ) -> Result<Outcome, Fault>
     ensures same_reference { tx.new.conn.ghost_name ≡ tx.old.conn.ghost_name }
     ensures any_text { IsQuiet (state S.Store tx.old.conn.now) (state S.Store tx.new.conn.now) result }
-    ensures lent { (profile : Profile) (moment : ℕ) → IsStamp moment at.now → IsLent profile (piece_command piece.now) moment (state S.Store tx.old.conn.now) (state S.Store tx.new.conn.now) result }
+    ensures lent { (profile : Profile) (moment : ℕ) → IsStamp moment at.now → IsLentWhere (HoldsPiece edition.now number piece.now) profile (piece_command piece.now) (λ p. step p (piece_command piece.now) moment) (state S.Store tx.old.conn.now) (state S.Store tx.new.conn.now) result }
 {
     match piece {
-        Piece::Tile { .. } | Piece::TileDrop { .. } => run_tile(tx, piece, at),
+        Piece::Tile { .. } | Piece::TileDrop { .. } => run_tile(tx, edition, number, piece, at),
         Piece::Row { .. } | Piece::RowDrop { .. } | Piece::Media { .. } | Piece::MediaDrop { .. } =>
-            run_item(tx, piece, at),
+            run_item(tx, edition, number, piece, at),
         Piece::Map { .. } | Piece::MapDrop { .. } => run_mapping(tx, piece),
         Piece::Matrix { .. } => run_matrix(tx, piece, at),
     }
@@ -187,7 +198,7 @@ pub(crate) fn try_piece<S: Alter>(
         Ok(None) => return Ok(Turn::End),
         Err(fault) => return Err(fault),
     };
-    match run_piece(tx, &found, at) {
+    match run_piece(tx, edition, number, &found, at) {
         Ok(Outcome::Done) => Ok(Turn::Done),
         Ok(Outcome::Refused(why)) => Ok(Turn::Refused(why.number)),
         Err(fault) => Err(fault),

@@ -1,21 +1,43 @@
-use Rattle.std.proofs.Common.{Ok, rules}
+use Rattle.std.proofs.Common.{◌≡◌, Ok, Err, sym, ap, subst, ◌∙◌}
 use Rattle.std.specs.Prelude.{⊤}
-use Rattle.sqlite.specs.declared.types.Value.TheVariants.{Text as Words}
-use Rattle.sqlite.specs.Held.{state}
-use Rattle.sql_forms.specs.Cascade.{cut}
-use Rattle.sql_forms.proofs.Cascades.{cascaded}
-use Rattle.mm_schema.specs.Places.{edition_place}
-use Rattle.mm_schema.proofs.Cascading as statement
 use Rattle.mm_store.specs.Removals.{without_edition_rows}
-use Rattle.mm_store.proofs.Removals.{drops_edition}
-use Rattle.mm_store.proofs.Steps.{changes, seen}
+use Rattle.sqlite.specs.Held.{state}
+use Rattle.mm_base.specs.Package.{Package}
+use Rattle.mm_store.specs.Kept.{no_spare}
+use Rattle.mm_blobs.specs.Views.{View, IsSeen, spare_each}
+use Rattle.mm_blobs.proofs.Moving.{then_moves, then_moves_open, then_failed}
+use Rattle.mm_blobs.proofs.Opening.{tidies, tidy_failed}
+use Rattle.mm_edition.proofs.Freeing.{listed_too}
 use Rattle.mm_edition.proofs.editions.delete_edition.Goals as goal
+
+pub returns-in-Err-clause-change : goal.returns-in-Err-clause-change
+returns-in-Err-clause-change g c profile =
+    let edition = c.args.edition.now in
+    tidy_failed profile _ _ (λ p. ⊤) (λ (p : Package). without_edition_rows edition p) c.in-Err.fault (c.in-Err.ensures.listed profile no_spare)
+
+pub returns-in-Ok-delete_edition_rows-clause-change : goal.returns-in-Ok-delete_edition_rows-clause-change
+returns-in-Ok-delete_edition_rows-clause-change g c profile =
+    let edition = c.args.edition.now in
+    let s0 = state g.S.Store c.args.tx.now.conn.now in
+    let s1 = state g.S.Store c.blobs_of_pieces.new.tx.conn.now in
+    let s2 = state g.S.Store c.delete_edition_rows.new.tx.conn.now in
+    let s3 = state g.S.Store c.release_each.new.tx.conn.now in
+    let next = λ (p : Package). without_edition_rows edition p in
+    let blobs = c.in-Ok.rows.items in
+    let more = spare_each blobs no_spare in
+    let gone = then_moves (λ base x _ y. (y.content ≡ next x.content) × IsSeen more profile s2 base y) s0 s1 s2 c.in-Ok.rows (Ok tt) (c.in-Ok.ensures.listed profile no_spare) (c.in-Ok-delete_edition_rows.ensures.gone profile more)
+    (λ base x y it mid. (mid.1, listed_too edition y.kept blobs mid.2)) (λ base x y z u it mid last. (last.0 ∙ ap (λ (v : View). next v.content) mid.0, last.1)) in
+    tidies profile s0 s3 c.release_each.result next
+    (then_moves_open (λ base x _ y. (y.content ≡ next x.content) × IsSeen no_spare profile s3 base y) s0 s2 s3 tt c.release_each.result gone (c.release_each.ensures.released profile no_spare)
+    (λ base x y up it mid. (up, subst (λ rs. IsSeen (spare_each rs no_spare) profile s2 base y) (sym c.as_slice.ensures.value) mid.1)) (λ base x y z u it mid last. (ap (λ (v : View). v.content) last.0 ∙ mid.0, last.1)))
+    (λ base x y t last. last)
 
 pub returns-clause-change : goal.returns-clause-change
 returns-clause-change g c profile =
-    let old = state g.S.Store c.args.tx.now.conn.now in
-    let new = state g.S.Store c.run.new.tx.conn.now in
     let edition = c.args.edition.now in
-    changes profile old new _ _ (cut edition_place (Words edition)) (λ p. ⊤) (without_edition_rows edition) c.run.result c.run.ensures.run
-    (λ count ready h. cascaded _ _ _ _ _ _ statement.delete_edition old new (Words edition) _ (Ok count) ready (search rules) h)
-    (λ p rows h any. drops_edition edition profile.version (seen old) p h)
+    let s0 = state g.S.Store c.args.tx.now.conn.now in
+    let s1 = state g.S.Store c.blobs_of_pieces.new.tx.conn.now in
+    let s2 = state g.S.Store c.delete_edition_rows.new.tx.conn.now in
+    let blobs = c.in-Ok.rows.items in
+    tidy_failed profile s0 s2 (λ p. ⊤) (λ (p : Package). without_edition_rows edition p) c.in-Err-delete_edition_rows.fault
+    (then_failed s0 s1 s2 c.in-Ok.rows c.in-Err-delete_edition_rows.fault (c.in-Ok.ensures.listed profile no_spare) (c.in-Err-delete_edition_rows.ensures.gone profile (spare_each blobs no_spare)) (λ base x y up it mid. (mid.1, listed_too edition y.kept blobs mid.2)))

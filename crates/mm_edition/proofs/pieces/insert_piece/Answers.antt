@@ -1,31 +1,51 @@
-use Rattle.std.proofs.Common.{◌≡◌, ◌∷◌, Ok, None, refl, rules}
+use Rattle.std.proofs.Common.{◌≡◌, [], length, Ok, Some, None, true, refl, sym, ap, subst, ◌∙◌, rules, w64, to_z, of_z, to_z-of_z}
 use Rattle.std.specs.FinMap.{get, insert}
-use Rattle.sqlite.specs.declared.types.Value.TheVariants.{Int, Null}
-use Rattle.sqlite.specs.Tree.{with_tree, put_row}
-use Rattle.sqlite.specs.Edit.{next_rowid}
+use Rattle.std.proofs.lemmas.List.{nil_from_length}
 use Rattle.sqlite.specs.Held.{state}
-use Rattle.sql_forms.proofs.Keys.{chosen_is_free}
-use Rattle.sql_forms.proofs.Inserts.{has_inserted}
 use Rattle.mm_base.specs.Keys.{piece}
-use Rattle.mm_base.specs.Package.{PieceRow}
-use Rattle.mm_schema.proofs.Inserting as statement
-use Rattle.mm_store.specs.Rows.{staged_row}
-use Rattle.mm_store.proofs.Parts.{puts}
-use Rattle.mm_store.proofs.Keys as parts
-use Rattle.mm_store.proofs.Puts.{put_pieces}
-use Rattle.mm_store.proofs.Steps.{changes, seen}
+use Rattle.mm_base.specs.Package.{Package}
+use Rattle.mm_store.specs.Blobs.{bytes_at}
+use Rattle.mm_store.specs.Kept.{no_spare}
+use Rattle.mm_blobs.specs.Views.{View, IsSeen, spare_too, spare_but}
+use Rattle.mm_blobs.proofs.Moving.{then_moves, moves_less}
+use Rattle.mm_blobs.proofs.Opening.{tidy_change, tidy_failed, seen_looser}
+use Rattle.mm_blobs.proofs.Naming.{named_again}
 use Rattle.mm_edition.specs.Kept.{written_row}
 use Rattle.mm_edition.proofs.pieces.insert_piece.Goals as goal
 
-pub returns-clause-change : goal.returns-clause-change
-returns-clause-change g c profile =
-    let old = state g.S.Store c.args.tx.now.conn.now in
-    let new = state g.S.Store c.run.new.tx.conn.now in
+pub returns-then-is_empty-clause-change : goal.returns-then-is_empty-clause-change
+returns-then-is_empty-clause-change g c profile =
+    let a = c.args in
+    let s0 = state g.S.Store a.tx.now.conn.now in
+    let s1 = state g.S.Store c.insert_row.new.tx.conn.now in
+    let key = piece a.edition.now a.number in
+    let next = λ (p : Package). record p { pieces = insert p.pieces key (written_row a.written) } in
+    let none : length a.written.bytes.now ≡ 0 = search (rules, c.if-is_empty.true, c.is_empty.ensures) in
+    let nothing : a.written.bytes.now ≡ [] = nil_from_length _ none in
+    tidy_change profile s0 s1 c.insert_row.result (λ p. get p.pieces key ≡ None) next
+    (moves_less (λ base x _ y. (y.content ≡ next x.content) × IsSeen no_spare profile s1 base y) s0 s1 c.insert_row.result ((rw (to_z-of_z c.ranges.number) at c.insert_row.ensures.named) profile no_spare) (λ base x it. (it.0, (nothing, it.1))) (λ base x y t it last. last))
+    (λ base x y t last. last)
+
+pub returns-in-Ok-clause-change : goal.returns-in-Ok-clause-change
+returns-in-Ok-clause-change g c profile =
+    let a = c.args in
+    let s0 = state g.S.Store a.tx.now.conn.now in
+    let s1 = state g.S.Store c.keep.new.tx.conn.now in
+    let s2 = state g.S.Store c.insert_row-in-Ok.new.tx.conn.now in
+    let key = piece a.edition.now a.number in
+    let blob = c.in-Ok.blob in
+    let back : to_z w64 (of_z w64 blob) ≡ blob = search (rules, to_z-of_z) in
+    let next = λ (p : Package). record p { pieces = insert p.pieces key (written_row a.written) } in
+    tidy_change profile s0 s2 c.insert_row-in-Ok.result (λ p. get p.pieces key ≡ None) next
+    (then_moves (λ base x _ y. (y.content ≡ next x.content) × IsSeen no_spare profile s2 base y) s0 s1 s2 blob c.insert_row-in-Ok.result
+    (moves_less (λ base x id y. (y.content ≡ x.content) × IsSeen (spare_too id no_spare) profile s1 base y × (bytes_at y.kept.shelf id ≡ Some a.written.bytes.now)) s0 s1 (Ok blob) (c.in-Ok.ensures.kept profile no_spare) (λ base x it. it.0) (λ base x y id it last. (ap (λ (v : View). v.content) last.0, last.1, last.2)))
+    ((rw (to_z-of_z c.ranges.number, back) at c.insert_row-in-Ok.ensures.named) profile (spare_too blob no_spare))
+    (λ base x y it mid. (mid.1, (mid.2, ap (λ (p : Package). get p.pieces key) mid.0 ∙ it.1)))
+    (λ base x y z u it mid last. (last.0 ∙ ap next mid.0, seen_looser (spare_but blob (spare_too blob no_spare)) no_spare profile s2 base z (named_again no_spare blob) last.1)))
+    (λ base x y t last. last)
+
+pub returns-in-Err-clause-change : goal.returns-in-Err-clause-change
+returns-in-Err-clause-change g c profile =
     let a = c.args in
     let key = piece a.edition.now a.number in
-    let value : PieceRow = written_row a.written in
-    let row = staged_row key value in
-    changes profile old new _ _ (λ db. with_tree db 25 (put_row (Int (next_rowid (db 25)) ∷ row) (db 25))) (λ p. get p.pieces key ≡ None) (λ p. record p { pieces = insert p.pieces key value })
-    c.run.result c.run.ensures.run (λ count ready h. has_inserted _ _ _ _ _ _ statement.insert_piece old new ready row _ (Ok count) Null row refl refl refl (search rules) h)
-    (λ p rows h free. put_pieces profile.version (seen old) p h _ _
-    (puts parts.pieces (seen old 25) p.pieces h.pieces key value (Int (next_rowid (seen old 25)) ∷ row) free refl (chosen_is_free (seen old 25) row (rows 25))))
+    tidy_failed profile _ _ (λ p. get p.pieces key ≡ None) (λ (p : Package). record p { pieces = insert p.pieces key (written_row a.written) }) c.in-Err.fault (c.in-Err.ensures.kept profile no_spare)

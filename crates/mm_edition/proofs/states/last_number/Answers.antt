@@ -3,6 +3,8 @@ use Rattle.sqlite.specs.Held.{state}
 use Rattle.sql_forms.proofs.Orders.{selects_first}
 use Rattle.mm_schema.proofs.Selecting as statement
 use Rattle.mm_store.proofs.Steps.{looks, seen}
+use Rattle.mm_store.specs.Kept.{piece_id, piece_with}
+use Rattle.mm_blobs.proofs.Naming.{told_there}
 use Rattle.mm_edition.specs.States.{IsLast}
 use Rattle.mm_edition.proofs.LastPiece.{last_found, of_edition}
 use Rattle.mm_edition.proofs.states.last_number.Goals as goal
@@ -14,4 +16,4 @@ returns-clause-look g c profile =
     let a = c.args in
     looks profile old new _ _ _ (λ p last. IsLast p.pieces a.edition.now last) c.first_number.result c.first_number.ensures.asked (λ x first ready shown gives.
     let read = selects_first _ _ _ _ _ _ _ _ old new ready.schema_is (of_edition a.edition.now) _ (search rules) statement.last_piece first shown in
-    (read.0, λ p h. last_found (seen old 25) p.pieces h.pieces a.edition.now x first gives read.1))
+    (read.0, λ p h. last_found (seen old 25) h.kept.pieces p.pieces (told_there piece_id piece_with h.kept.shelf h.kept.pieces p.pieces h.keeps.pieces_told) h.keeps.pieces a.edition.now x first gives read.1))

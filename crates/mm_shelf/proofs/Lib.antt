@@ -1,3 +1,4 @@
 pub mod Queries
 pub mod Rules
 pub mod Checks
+pub mod Reading

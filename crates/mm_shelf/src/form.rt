@@ -2,8 +2,9 @@
 
 ghost use Rattle.std.specs.Prelude.{◌≡◌, ◌≢◌, ◌↔◌, [], IsTrue};
 ghost use Rattle.sqlite.specs.Held.{state};
+ghost use Rattle.sqlite.specs.State.{HasCleanDisk};
 ghost use Rattle.mm_store.specs.Blobs as spec;
-ghost use Rattle.mm_shelf.specs.Form.{IsDigestedRow, AreDigested, AreApart, AreNamed, AreInForm, IsFormCheck};
+ghost use Rattle.mm_shelf.specs.Form.{IsDigestedRow, AreDigested, AreApart, AreNamed, AreInForm, IsFormCheck, DecidesReading};
 
 use mm_base::answers::Fault;
 use mm_blobs::digests::digest_of;
@@ -92,10 +93,12 @@ fn apart_and_named<S: Alter>(conn: &mut Connection<S>) -> Result<bool, Fault>
 }
 
 /// Whether the blobs of a database have their form: each digest is right, no blob is empty, no two hold the same bytes,
-/// and each is named. It looks at one blob at a time, and writes nothing. A fault is 90 where memory was refused and 91
+/// and each is named. Where all else of a database is as a package asks, that is exactly where it stands for the package.
+/// It looks at one blob at a time, and writes nothing. A fault is 90 where memory was refused and 91
 /// where the store failed, and never stands for a form that fails.
 pub fn blobs_stand<S: Alter>(conn: &mut Connection<S>) -> Result<bool, Fault>
-    ensures { IsFormCheck (state S.Store conn.old) (state S.Store conn.new) AreInForm result }
+    ensures form { IsFormCheck (state S.Store conn.old) (state S.Store conn.new) AreInForm result }
+    ensures decides { HasCleanDisk (state S.Store conn.new) → DecidesReading (state S.Store conn.old) (state S.Store conn.new) result }
 {
     match blobs_are_digested(conn) {
         Ok(true) => apart_and_named(conn),

@@ -98,10 +98,10 @@ pieces_numbered profile version db p stands known =
     let here = covered (λ k i. (_, _, refl)) h.keeps.pieces in
     each_named piece_id piece_with h.kept.shelf h.kept.pieces p.pieces h.keeps.pieces_told after_rowid staged_row (db 25) here _ _
     (λ k i x bytes at named.
-        let before = piece k.edition (k.number -ℤ pos 1) in
-        also (joined after_rowid staged_row (db 25) h.kept.pieces here _ before (λ l w y. before_is l k (known.12 k _ at).1) _
-        (λ o. IsFrom (pos 1) (pos MostPieces) k.number × ((k.number ≡ pos 1) ⊎ IsTrue (is_some o))) (first_is k.number _) (λ w y. first_is k.number _))
-        (there_too (told_there piece_id piece_with h.kept.shelf h.kept.pieces p.pieces h.keeps.pieces_told before)))
+    let before = piece k.edition (k.number -ℤ pos 1) in
+    also (joined after_rowid staged_row (db 25) h.kept.pieces here _ before (λ l w y. before_is l k (known.12 k _ at).1) _
+    (λ o. IsFrom (pos 1) (pos MostPieces) k.number × ((k.number ≡ pos 1) ⊎ IsTrue (is_some o))) (first_is k.number _) (λ w y. first_is k.number _))
+    (there_too (told_there piece_id piece_with h.kept.shelf h.kept.pieces p.pieces h.keeps.pieces_told before)))
 
 -- ---- what a row spells
 -- the data of the bytes: of none it is NULL
@@ -216,13 +216,13 @@ pieces_spelled profile version db p stands known =
     let h = stands.holds in
     each_named piece_id piece_with h.kept.shelf h.kept.pieces p.pieces h.keeps.pieces_told after_rowid staged_row (db 25) (covered (λ k i. (_, _, refl)) h.keeps.pieces) _ (λ _ r. IsSpelled profile r)
     (λ k i x bytes at named.
-        let v = piece_with i bytes in
-        let d = data_of i.blob bytes in
-        let data_is = is_data h.kept.shelf h.keeps.are i.blob bytes named in
-        also (joined_blob (db 27) h.kept.shelf h.keeps.blobs (λ shows. IsSpelledRow profile (shown v shows)) i.blob bytes named) (
-          to_spelled profile v d data_is,
-          λ s. subst (λ (y : PieceRow). IsSpelledRow profile (shown y d)) (sym s.1) (of_piece profile s.0 d (subst (λ (y : PieceRow). IsDataOf y.bytes d) s.1 data_is) s.2 s.3),
-        ))
+    let v = piece_with i bytes in
+    let d = data_of i.blob bytes in
+    let data_is = is_data h.kept.shelf h.keeps.are i.blob bytes named in
+    also (joined_blob (db 27) h.kept.shelf h.keeps.blobs (λ shows. IsSpelledRow profile (shown v shows)) i.blob bytes named) (
+      to_spelled profile v d data_is,
+      λ s. subst (λ (y : PieceRow). IsSpelledRow profile (shown y d)) (sym s.1) (of_piece profile s.0 d (subst (λ (y : PieceRow). IsDataOf y.bytes d) s.1 data_is) s.2 s.3),
+    ))
 
 -- ---- all of rule 15
 pub all_editions : (profile : Profile) (p : Package) → (EditionStates p × (PiecesOfOpen p × (PiecesSpelled profile p × PiecesNumbered p))) ↔ Editions profile p.editions p.pieces

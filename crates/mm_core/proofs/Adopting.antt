@@ -1,6 +1,6 @@
 -- A connection that is looked at and then checked is settled as it was before.
-use Rattle.std.proofs.Common.{◌≡◌, ℕ, inl, inr, Option, Some, None, Result, Ok, Err, refl, sym, subst, ◌∙◌, arith}
-use Rattle.sqlite.specs.State.{State, HasCleanDisk}
+use Rattle.std.proofs.Common.{◌≡◌, ℕ, inl, inr, Bool, true, false, Option, Some, None, Result, Ok, Err, refl, sym, subst, ◌∙◌, arith}
+use Rattle.sqlite.specs.State.{State, HasCleanDisk, IsUnchanged}
 use Rattle.mm_base.specs.Bounds.{Profile, current}
 use Rattle.mm_base.specs.Package.{Package}
 use Rattle.mm_base.specs.declared.answers.Fault.{Fault}
@@ -11,12 +11,24 @@ use Rattle.mm_store.proofs.Asking.{told_fault}
 use Rattle.mm_store.proofs.Seen.{seen_of, settled_still}
 use Rattle.mm_store.proofs.Shapes.{quiet_then}
 use Rattle.mm_meta.specs.Opening.{IsBlank}
-use Rattle.mm_meta.specs.Look.{Answers, FindsNone, IsLooked, Agrees}
+use Rattle.mm_store.specs.Statements.{CommitsNothing}
+use Rattle.mm_meta.specs.Look.{Answers, FindsNone, IsLooked, Agrees, ShowsProfile}
 use Rattle.mm_meta.proofs.Looking.{shows_profile, still_blank}
 use Rattle.mm_walk.proofs.Resting.{seen_still}
 use Rattle.mm_check.specs.Verdict.{IsVerified}
-use Rattle.mm_core.specs.Adopted.{IsAdopted, Declines, DeclinesNone, TellsProfile, IsNotAdopted}
+use Rattle.mm_shelf.specs.Form.{AreInForm, IsFormCheck, BlobsStand, TellsForm}
+use Rattle.mm_shelf.proofs.Reading.{asked_stands, asked_fails, stand_as_before, fail_as_before, formed_for}
+use Rattle.mm_core.specs.Adopted.{IsAdopted, IsOfThisVersion, Declines, DeclinesNone, TellsProfile, IsNotAdopted}
 use Rattle.std.specs.Prelude.{ℕ, pos}
+
+-- what is known of a database that passed the look and the form of its blobs
+pub record IsOpened (old new : State) : Type 0 where
+  pub survives : CommitsNothing old new
+  pub row : HasCleanDisk new → ShowsProfile current.version old
+  pub some : HasCleanDisk new → IsBlank old → ⊥
+  pub profile : HasCleanDisk new → IsOfThisVersion old
+  pub blobs : HasCleanDisk new → BlobsStand old
+  pub settled : HasCleanDisk new → (profile : Profile) (p : Package) → IsSettled profile old p → IsSettled profile new p
 
 module _ (old new : State) {result : Result (Unit {0}) Open} (looked : IsLooked old new result) (clean : HasCleanDisk new) where
   looked_settled : (profile : Profile) (p : Package) → IsSettled profile old p → IsSettled profile new p
@@ -27,6 +39,7 @@ none_declined old new opens.NoProfile looked clean it same = still_blank old new
 none_declined old new (opens.Fault fault) looked clean it same = tt
 none_declined old new (opens.Version version) looked clean it same = absurd same
 none_declined old new opens.BadProfile looked clean it same = absurd same
+none_declined old new opens.BadBlobs looked clean it same = absurd same
 none_declined old new (opens.Rule rule) looked clean it same = absurd same
 
 -- ---- a package that reads under a version and passes the look is of this profile
@@ -53,6 +66,8 @@ profile_told : (old new : State) (why : Open) → Answers old new (Err why) → 
 profile_told old new (opens.Version version) it = it
 profile_told old new opens.NoProfile it = it
 profile_told old new opens.BadProfile it = it
+profile_told old new opens.BadBlobs (inl it) = absurd it.3
+profile_told old new opens.BadBlobs (inr it) = absurd it.2
 profile_told old new (opens.Rule rule) (inl it) = absurd it.3
 profile_told old new (opens.Rule rule) (inr it) = absurd it.2
 profile_told old new (opens.Fault fault) (inl it) = inl it.3
@@ -62,56 +77,121 @@ declined : (p : Package) (why : Open) → Agrees current.version (Err why) → D
 declined p (opens.Version version) it = absurd (it.1 refl)
 declined p opens.NoProfile it = absurd it
 declined p opens.BadProfile it = absurd it
+declined p opens.BadBlobs it = absurd it
 declined p (opens.Rule rule) it = absurd it
 declined p (opens.Fault fault) it = tt
+
+-- the look tells nothing of the blobs
+form_untold : (old new : State) (why : Open) → Answers old new (Err why) → TellsForm old (Err why)
+form_untold old new (opens.Version version) it = tt
+form_untold old new opens.NoProfile it = tt
+form_untold old new opens.BadProfile it = tt
+form_untold old new opens.BadBlobs (inl it) = absurd it.3
+form_untold old new opens.BadBlobs (inr it) = absurd it.2
+form_untold old new (opens.Rule rule) (inl it) = absurd it.3
+form_untold old new (opens.Rule rule) (inr it) = absurd it.2
+form_untold old new (opens.Fault fault) it = tt
 
 pub look_failed : (old new : State) (why : Open) → IsLooked old new (Err why) → IsNotAdopted old new why
 look_failed old new why looked = record {
   survives = looked.survives;
   profile = λ clean. profile_told old new why (looked.answers clean);
+  blobs = λ clean. form_untold old new why (looked.answers clean);
   settled = looked_settled old new looked;
   declines = λ clean p s. declined p why (looked.agrees clean current.version p s.reads);
   none = λ clean it. none_declined old new why looked clean it (looked.none clean it);
 }
 
--- ---- the check was done
+-- ---- the form of the blobs was asked
+
+unchanged_by : (old new : State) → Answers old new (Ok tt) → IsUnchanged old new
+unchanged_by old new (inl it) = it.2
+unchanged_by old new (inr it) = absurd it.2
 
 module _ (old mid new : State) (looked : IsLooked old mid (Ok tt)) where
+  module _ {r : Result Bool Fault} (asked : IsFormCheck mid new AreInForm r) where
+    before : HasCleanDisk new → HasCleanDisk mid
+    before clean = omega (arith, clean, asked.survives.clean)
+
+    asked_settled : HasCleanDisk new → (profile : Profile) (p : Package) → IsSettled profile old p → IsSettled profile new p
+    asked_settled clean profile p s = asked.settled clean profile p (looked_settled old mid looked (before clean) profile p s)
+
+  pub form_failed : (fault : Fault) → IsFormCheck mid new AreInForm (Err fault) → IsNotAdopted old new (opens.Fault fault)
+  form_failed fault asked = record {
+    survives = quiet_then old mid new looked.survives asked.survives;
+    profile = λ clean. asked.faults;
+    blobs = λ clean. tt;
+    settled = asked_settled asked;
+    none = λ clean it. tt;
+    declines = λ clean p s. tt;
+  }
+
+  pub blobs_fail : IsFormCheck mid new AreInForm (Ok false) → IsNotAdopted old new opens.BadBlobs
+  blobs_fail asked =
+      let early = before asked in
+      record {
+        survives = quiet_then old mid new looked.survives asked.survives;
+        profile = λ clean. (shows_profile old mid (looked.answers (early clean)), looked.agrees (early clean));
+        blobs = λ clean. fail_as_before old mid (unchanged_by old mid (looked.answers (early clean))) (asked_fails mid new asked clean);
+        settled = asked_settled asked;
+        none = λ clean it. absurd (looked.none (early clean) it);
+        declines = λ clean p s. formed_for current.version mid p (looked_settled old mid looked (early clean) current p s).reads (asked_fails mid new asked clean) (asked.same clean).0;
+      }
+
+  -- a database of this profile whose blobs have their form
+  pub opened : IsFormCheck mid new AreInForm (Ok true) → IsOpened old new
+  opened asked =
+      let early = before asked in
+      record {
+        survives = quiet_then old mid new looked.survives asked.survives;
+        row = λ clean. shows_profile old mid (looked.answers (early clean));
+        some = λ clean it. looked.none (early clean) it;
+        profile = λ clean. looked.agrees (early clean);
+        blobs = λ clean. stand_as_before old mid (unchanged_by old mid (looked.answers (early clean))) (asked_stands mid new asked clean);
+        settled = asked_settled asked;
+      }
+
+-- ---- the check was done
+
+module _ (old mid new : State) (opened : IsOpened old mid) where
   still_settled_then : {r : Result (Option ℕ) Fault} → IsVerified current mid new r → HasCleanDisk new → (profile : Profile) (p : Package) → IsSettled profile old p → IsSettled profile new p
   still_settled_then verified clean profile p s =
       let early : HasCleanDisk mid = omega (arith, clean, verified.survives.clean) in
-      let is = looked.agrees early profile.version p s.reads in
-      let was = looked_settled old mid looked early profile p s in
+      let is = opened.profile early profile.version p s.reads in
+      let was = opened.settled early profile p s in
       settled_same profile new p is (verified.settled clean p (same_settled profile mid p is was))
 
   pub adopts : IsVerified current mid new (Ok None) → IsAdopted old new
   adopts verified =
       let early : HasCleanDisk new → HasCleanDisk mid = λ clean. omega (arith, clean, verified.survives.clean) in
       record {
-        survives = quiet_then old mid new looked.survives verified.survives;
+        survives = quiet_then old mid new opened.survives verified.survives;
         is_open = verified.is_open;
-        row = λ clean. shows_profile old mid (looked.answers (early clean));
-        some = λ clean it. looked.none (early clean) it;
-        profile = λ clean. looked.agrees (early clean);
-        settled = λ clean p s. verified.settled clean p (looked_settled old mid looked (early clean) current p s);
-        meets = λ clean p s. verified.says clean p (seen_of current mid p (looked_settled old mid looked (early clean) current p s));
+        row = λ clean. opened.row (early clean);
+        some = λ clean it. opened.some (early clean) it;
+        profile = λ clean. opened.profile (early clean);
+        blobs = λ clean. opened.blobs (early clean);
+        settled = λ clean p s. verified.settled clean p (opened.settled (early clean) current p s);
+        meets = λ clean p s. verified.says clean p (seen_of current mid p (opened.settled (early clean) current p s));
       }
 
   pub rule_fails : (rule : ℕ) → IsVerified current mid new (Ok (Some rule)) → IsNotAdopted old new (opens.Rule rule)
   rule_fails rule verified =
       let early : HasCleanDisk new → HasCleanDisk mid = λ clean. omega (arith, clean, verified.survives.clean) in
       record {
-        survives = quiet_then old mid new looked.survives verified.survives;
-        profile = λ clean. (shows_profile old mid (looked.answers (early clean)), looked.agrees (early clean));
+        survives = quiet_then old mid new opened.survives verified.survives;
+        profile = λ clean. (opened.row (early clean), opened.profile (early clean));
+        blobs = λ clean. opened.blobs (early clean);
         settled = still_settled_then verified;
-        none = λ clean it. absurd (looked.none (early clean) it);
-        declines = λ clean p s. verified.says clean p (seen_of current mid p (looked_settled old mid looked (early clean) current p s));
+        none = λ clean it. absurd (opened.some (early clean) it);
+        declines = λ clean p s. verified.says clean p (seen_of current mid p (opened.settled (early clean) current p s));
       }
 
   pub check_failed : (fault : Fault) → IsVerified current mid new (Err fault) → IsNotAdopted old new (opens.Fault fault)
   check_failed fault verified = record {
-    survives = quiet_then old mid new looked.survives verified.survives;
+    survives = quiet_then old mid new opened.survives verified.survives;
     profile = λ clean. verified.faults;
+    blobs = λ clean. tt;
     settled = still_settled_then verified;
     none = λ clean it. tt;
     declines = λ clean p s. tt;

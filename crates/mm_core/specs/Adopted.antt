@@ -12,19 +12,21 @@ use Rattle.mm_store.specs.Faults.{IsStoreFault}
 use Rattle.mm_meta.specs.Opening.{IsBlank}
 use Rattle.mm_meta.specs.Look.{ShowsProfile, Answers}
 use Rattle.mm_check.specs.Verdict.{IsFailing}
+use Rattle.mm_shelf.specs.Form.{BlobsStand, TellsForm}
 
 -- no package of another version is read
 abbrev pub IsOfThisVersion : State → Type 0
 IsOfThisVersion s = (version : ℤ) (p : Package) → (IsTrue s.is_open → ReadsAs version s.now p) → version ≡ current.version
 
--- It wrote nothing, the store is open, and the profile's table shows this profile's row alone, so there is a table. Settled for a package, it is settled for it
--- still, and the package meets the rules.
+-- It wrote nothing, the store is open, and the profile's table shows this profile's row alone, so there is a table. The blobs have their form. Settled for a
+-- package, it is settled for it still, and the package meets the rules.
 pub record IsAdopted (old new : State) : Type 0 where
   pub survives : CommitsNothing old new
   pub is_open : HasCleanDisk new → IsTrue new.is_open
   pub row : HasCleanDisk new → ShowsProfile current.version old
   pub some : HasCleanDisk new → IsBlank old → ⊥
   pub profile : HasCleanDisk new → IsOfThisVersion old
+  pub blobs : HasCleanDisk new → BlobsStand old
   pub settled : HasCleanDisk new → (p : Package) → IsSettled current old p → IsSettled current new p
   pub meets : HasCleanDisk new → (p : Package) → IsSettled current old p → Meets current p
 
@@ -34,8 +36,9 @@ Declines p (opens.Rule rule) = IsFailing current p rule
 Declines p (opens.Fault fault) = ⊤
 Declines p _ = ⊥
 
--- An opening number tells of the profile's row; a rule is told of a package of this version alone.
+-- 93, 94 and 95 tell of the profile's row; 98 and a rule are told of a database of this version alone.
 abbrev pub TellsProfile : State → State → Open → Type 0
+TellsProfile old new opens.BadBlobs = ShowsProfile current.version old × IsOfThisVersion old
 TellsProfile old new (opens.Rule rule) = ShowsProfile current.version old × IsOfThisVersion old
 TellsProfile old new (opens.Fault fault) = IsStoreFault fault
 TellsProfile old new why = Answers old new (Err why)
@@ -50,6 +53,7 @@ DeclinesNone new _ = ⊥
 pub record IsNotAdopted (old new : State) (why : Open) : Type 0 where
   pub survives : CommitsNothing old new
   pub profile : HasCleanDisk new → TellsProfile old new why
+  pub blobs : HasCleanDisk new → TellsForm old (Err why)
   pub settled : HasCleanDisk new → (profile : Profile) (p : Package) → IsSettled profile old p → IsSettled profile new p
   pub declines : HasCleanDisk new → (p : Package) → IsSettled current old p → Declines p why
   pub none : HasCleanDisk new → IsBlank old → DeclinesNone new why

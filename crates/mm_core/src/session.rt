@@ -12,6 +12,7 @@ use mm_check::verify;
 use mm_meta::{init, look};
 use mm_migrate::migrate;
 use mm_run::run_list;
+use mm_shelf::blobs_stand;
 use sqlite::{Alter, Connection};
 use std::alloc::Global;
 use std::io::{Read, Write};
@@ -56,13 +57,14 @@ impl<S: Alter> Session<S> {
     }
 
     /// Takes a connection to a package that meets all sixteen rules, and writes nothing: it asks for the profile's row,
-    /// and then checks the whole package. What may be left is as it was, so a connection that is settled for a package
-    /// gives a session that is settled for it.
+    /// then for the form of the blobs, and then checks the whole package. What may be left is as it was, so a connection
+    /// that is settled for a package gives a session that is settled for it.
     ///
     /// # Errors
     ///
-    /// The connection is handed back with 93, 94 or 95 as `look` tells them, with `Open::Rule` for the rule that fails
-    /// (16 where it fails, else the least), or with a fault: 90 where memory was refused, and else 91.
+    /// The connection is handed back with 93, 94 or 95 as `look` tells them, with 98 exactly where bytes are not kept once
+    /// each, with `Open::Rule` for the rule that fails (16 where it fails, else the least), or with a fault: 90 where
+    /// memory was refused, and else 91.
     pub fn adopt(alloc: Global, conn: Connection<S>) -> Result<Session<S>, (Connection<S>, Open)>
         requires { conn.in_transaction ≡ false }
         ensures working { IfOk result (λ session. has_failed session ≡ false) }
@@ -74,6 +76,11 @@ impl<S: Alter> Session<S> {
         match look(&mut conn) {
             Ok(()) => {}
             Err(open) => return Err((conn, open)),
+        }
+        match blobs_stand(&mut conn) {
+            Ok(true) => {}
+            Ok(false) => return Err((conn, Open::BadBlobs)),
+            Err(fault) => return Err((conn, Open::Fault(fault))),
         }
         match verify(&mut conn, CURRENT) {
             Ok(None) => Ok(Session {
@@ -92,8 +99,9 @@ impl<S: Alter> Session<S> {
     /// # Errors
     ///
     /// The connection is handed back, with no transaction open on it, with 93 for any other version, 94 or 95 as `look`
-    /// tells them, with `Open::Rule` for the rule that fails of the package in its own unit, and nothing has changed; or
-    /// with a fault, and each database that may be left stands for the package as it was or wholly for it in micrometres.
+    /// tells them, with 98 where bytes are not kept once each, with `Open::Rule` for the rule that fails of the package in
+    /// its own unit, and nothing has changed; or with a fault, and each database that may be left stands for the package as
+    /// it was or wholly for it in micrometres.
     pub fn migrate(alloc: Global, conn: Connection<S>) -> Result<Session<S>, (Connection<S>, Open)>
         requires { conn.in_transaction ≡ false }
         ensures working { IfOk result (λ session. has_failed session ≡ false) }

@@ -20,17 +20,72 @@ use Rattle.mm_store.proofs.Shapes.{quiet_then}
 use Rattle.mm_meta.specs.Look.{Answers, IsLooked, Agrees, ShowsProfile}
 use Rattle.mm_meta.proofs.Looking.{asked_still}
 use Rattle.mm_check.specs.Verdict.{IsVerified}
+use Rattle.mm_shelf.specs.Form.{AreInForm, IsFormCheck, TellsForm}
+use Rattle.mm_shelf.proofs.Reading.{asked_stands, asked_fails, told_as_before, formed_for}
 use Rattle.mm_scaling.specs.Moves.{MayScale, StandsForEither, IsRescaled}
 use Rattle.mm_migrate.specs.Migrations.{Judged, IsChecked, Adopts, Migrates, TellsNumber, NoNumber, OnlyStoreFaults, IsRefusal, MayCommit, IsMigration, IsOlder}
 
 -- ---- the check
 
 module _ (profile : Profile) (old new : State) where
-  pub checked_well : IsVerified profile old new (Ok None) → IsChecked profile old new (Ok tt)
-  checked_well it = record { mode = it.mode; survives = it.survives; is_open = it.is_open; settled = it.settled; says = λ clean p s. it.says clean p (seen_of profile old p s); no_number = tt; faults = tt }
+  pub blobs_told : IsFormCheck old new AreInForm (Ok false) → IsChecked profile old new (Err opens.BadBlobs)
+  blobs_told it = record {
+    mode = it.mode;
+    survives = it.survives;
+    is_open = λ clean. tt;
+    settled = λ clean p s. it.settled clean profile p s;
+    says = λ clean p s. formed_for profile.version old p s.reads (asked_fails old new it clean) (it.same clean).0;
+    blobs = λ clean. asked_fails old new it clean;
+    no_number = tt;
+    faults = tt;
+  }
 
-  pub rule_told : (rule : ℕ) → IsVerified profile old new (Ok (Some rule)) → IsChecked profile old new (Err (opens.Rule rule))
-  rule_told rule it = record { mode = it.mode; survives = it.survives; is_open = λ clean. tt; settled = it.settled; says = λ clean p s. it.says clean p (seen_of profile old p s); no_number = tt; faults = tt }
+  pub form_unknown : (fault : Fault) → IsFormCheck old new AreInForm (Err fault) → IsChecked profile old new (Err (opens.Fault fault))
+  form_unknown fault it = record { mode = it.mode; survives = it.survives; is_open = λ clean. tt; settled = λ clean p s. it.settled clean profile p s; says = λ clean p s. tt; blobs = λ clean. tt; no_number = tt; faults = it.faults }
+
+module _ (profile : Profile) (old mid new : State) (formed : IsFormCheck old mid AreInForm (Ok true)) where
+  module _ {r : Result (Option ℕ) Fault} (it : IsVerified profile mid new r) where
+    before : HasCleanDisk new → HasCleanDisk mid
+    before clean = omega (arith, clean, it.survives.clean)
+
+    formed_settled : HasCleanDisk new → (p : Package) → IsSettled profile old p → IsSettled profile mid p
+    formed_settled clean p s = formed.settled (before clean) profile p s
+
+  pub checked_well : IsVerified profile mid new (Ok None) → IsChecked profile old new (Ok tt)
+  checked_well it = record {
+    mode = λ none. it.mode (formed.mode none);
+    survives = quiet_then old mid new formed.survives it.survives;
+    is_open = it.is_open;
+    settled = λ clean p s. it.settled clean p (formed_settled it clean p s);
+    says = λ clean p s. it.says clean p (seen_of profile mid p (formed_settled it clean p s));
+    blobs = λ clean. asked_stands old mid formed (before it clean);
+    no_number = tt;
+    faults = tt;
+  }
+
+  pub rule_told : (rule : ℕ) → IsVerified profile mid new (Ok (Some rule)) → IsChecked profile old new (Err (opens.Rule rule))
+  rule_told rule it = record {
+    mode = λ none. it.mode (formed.mode none);
+    survives = quiet_then old mid new formed.survives it.survives;
+    is_open = λ clean. tt;
+    settled = λ clean p s. it.settled clean p (formed_settled it clean p s);
+    says = λ clean p s. it.says clean p (seen_of profile mid p (formed_settled it clean p s));
+    blobs = λ clean. asked_stands old mid formed (before it clean);
+    no_number = tt;
+    faults = tt;
+  }
+
+  pub check_stopped : (fault : Fault) → IsVerified profile mid new (Err fault) → IsChecked profile old new (Err (opens.Fault fault))
+  check_stopped fault it = record {
+    mode = λ none. it.mode (formed.mode none);
+    survives = quiet_then old mid new formed.survives it.survives;
+    is_open = λ clean. tt;
+    settled = λ clean p s. it.settled clean p (formed_settled it clean p s);
+    says = λ clean p s. tt;
+    blobs = λ clean. tt;
+    no_number = tt;
+    faults = it.faults;
+  }
 
 -- ---- what may be left
 
@@ -60,6 +115,7 @@ module _ (old mid : State) where
   stopped_by (opens.Version version) p quiet clean was it judged = absurd judged
   stopped_by opens.NoProfile p quiet clean was it judged = absurd judged
   stopped_by opens.BadProfile p quiet clean was it judged = absurd judged
+  stopped_by opens.BadBlobs p quiet clean was it judged = absurd judged
 
   pub stopped : (why : Open) → IsChecked millimetres old mid (Err why) → IsOlder old mid (Err why)
   stopped why it = record {
@@ -67,6 +123,7 @@ module _ (old mid : State) where
     is_open = λ clean. tt;
     refused = λ _. it.survives;
     migrates = λ clean p s. stopped_by why p it.survives clean s (it.settled clean p s) (it.says clean p s);
+    blobs = it.blobs;
     no_number = it.no_number;
     faults = it.faults;
   }
@@ -89,6 +146,7 @@ module _ (old mid : State) where
       migrates = λ clean p s.
           let early : HasCleanDisk mid = omega (arith, clean, it.survives.clean) in
           (it.done clean p (may early p (limits early p s)), scaled p (checked.says early p s));
+      blobs = λ clean. checked.blobs (omega (arith, clean, it.survives.clean));
       no_number = tt;
       faults = tt;
     }
@@ -99,6 +157,7 @@ module _ (old mid : State) where
       is_open = λ clean. tt;
       refused = λ none. absurd none;
       migrates = λ clean p s. let early : HasCleanDisk mid = omega (arith, clean, it.survives.clean) in it.left clean p (may early p (limits early p s));
+      blobs = λ clean. tt;
       no_number = tt;
       faults = it.faults;
     }
@@ -119,12 +178,14 @@ module _ (old mid : State) where
   in_micrometres (Err (opens.Version version)) new p quiet clean was it judged = absurd judged
   in_micrometres (Err opens.NoProfile) new p quiet clean was it judged = absurd judged
   in_micrometres (Err opens.BadProfile) new p quiet clean was it judged = absurd judged
+  in_micrometres (Err opens.BadBlobs) new p quiet clean was it judged = absurd judged
 
   no_telling : (new : State) (result : Result (Unit {0}) Open) → NoNumber result → TellsNumber old new result
   no_telling new (Ok u) h = tt
   no_telling new (Err (opens.Version version)) h = absurd h
   no_telling new (Err opens.NoProfile) h = absurd h
   no_telling new (Err opens.BadProfile) h = absurd h
+  no_telling new (Err opens.BadBlobs) h = tt
   no_telling new (Err (opens.Rule rule)) h = tt
   no_telling new (Err (opens.Fault fault)) h = tt
 
@@ -134,6 +195,10 @@ module _ (old mid : State) where
       go : Answers old mid (Ok tt) → IsSettled micrometres mid p
       go (inl a) = unchanged_settled micrometres old mid p looked.survives clean a.2 it
       go (inr a) = absurd a.2
+
+  unchanged_well : Answers old mid (Ok tt) → IsUnchanged old mid
+  unchanged_well (inl a) = a.2
+  unchanged_well (inr a) = absurd a.2
 
   pub adopted : (new : State) (result : Result (Unit {0}) Open) → IsLooked old mid (Ok tt) → IsChecked micrometres mid new result → IsMigration old new result
   adopted new result looked checked =
@@ -146,6 +211,7 @@ module _ (old mid : State) where
         adopts = λ clean p s. let it = looked_well looked (early clean) p s in in_micrometres result new p quiet clean s (checked.settled clean p it) (checked.says clean p it);
         migrates = λ clean p s. absurd (other_versions (looked.agrees (early clean) millimetres.version p s.reads));
         tells = λ clean. no_telling new result checked.no_number;
+        blobs = λ clean. told_as_before old mid (unchanged_well (looked.answers (early clean))) result (checked.blobs clean);
         faults = λ clean. checked.faults;
       }
 
@@ -160,6 +226,10 @@ module _ (old mid : State) where
   shows_version (inl it) = (it.0, asked_still old mid it.0 it.1, it.3.0)
   shows_version (inr it) = absurd it.2
 
+  unchanged_older : Answers old mid (Err (opens.Version millimetres.version)) → IsUnchanged old mid
+  unchanged_older (inl a) = a.2
+  unchanged_older (inr a) = absurd a.2
+
   pub older : (new : State) (why : Open) (result : Result (Unit {0}) Open) → IsLooked old mid (Err why) → why ≡ opens.Version millimetres.version → IsOlder mid new result → IsMigration old new result
   older new why result looked is it =
       let at : IsLooked old mid (Err (opens.Version millimetres.version)) = subst (λ w. IsLooked old mid (Err w)) is looked in
@@ -172,6 +242,7 @@ module _ (old mid : State) where
         adopts = λ clean p s. absurd (other_versions (at.agrees (early clean) micrometres.version p s.reads).0);
         migrates = λ clean p s. it.migrates clean p (looked_older at (early clean) p s);
         tells = λ clean. no_telling new result it.no_number;
+        blobs = λ clean. told_as_before old mid (unchanged_older (at.answers (early clean))) result (it.blobs clean);
         faults = λ clean. it.faults;
       }
     where
@@ -184,6 +255,7 @@ module _ (old mid : State) where
   told (opens.Version version) other it = (it, λ e. other (ap opens.Version e))
   told opens.NoProfile other it = it
   told opens.BadProfile other it = it
+  told opens.BadBlobs other it = tt
   told (opens.Rule rule) other it = tt
   told (opens.Fault fault) other it = tt
 
@@ -191,6 +263,7 @@ module _ (old mid : State) where
   not_adopted (opens.Version version) p quiet clean s it = absurd (it.1 refl)
   not_adopted opens.NoProfile p quiet clean s it = absurd it
   not_adopted opens.BadProfile p quiet clean s it = absurd it
+  not_adopted opens.BadBlobs p quiet clean s it = absurd it
   not_adopted (opens.Rule rule) p quiet clean s it = absurd it
   not_adopted (opens.Fault fault) p quiet clean s it = left_before micrometres old mid p quiet clean s
 
@@ -198,6 +271,7 @@ module _ (old mid : State) where
   not_migrated (opens.Version version) p other quiet clean s it = absurd (other (ap opens.Version it.0))
   not_migrated opens.NoProfile p other quiet clean s it = absurd it
   not_migrated opens.BadProfile p other quiet clean s it = absurd it
+  not_migrated opens.BadBlobs p other quiet clean s it = absurd it
   not_migrated (opens.Rule rule) p other quiet clean s it = absurd it
   not_migrated (opens.Fault fault) p other quiet clean s it = λ db may. inl (left_before millimetres old mid p quiet clean s db may)
 
@@ -205,9 +279,21 @@ module _ (old mid : State) where
   fault_told (opens.Version version) it = tt
   fault_told opens.NoProfile it = tt
   fault_told opens.BadProfile it = tt
+  fault_told opens.BadBlobs it = tt
   fault_told (opens.Rule rule) it = tt
   fault_told (opens.Fault fault) (inl it) = inl it.3
   fault_told (opens.Fault fault) (inr it) = told_fault it.0 fault it.2.1
+
+  -- the look tells nothing of the blobs
+  form_untold : (why : Open) → Answers old mid (Err why) → TellsForm old (Err why)
+  form_untold (opens.Version version) it = tt
+  form_untold opens.NoProfile it = tt
+  form_untold opens.BadProfile it = tt
+  form_untold opens.BadBlobs (inl it) = absurd it.3
+  form_untold opens.BadBlobs (inr it) = absurd it.2
+  form_untold (opens.Rule rule) (inl it) = absurd it.3
+  form_untold (opens.Rule rule) (inr it) = absurd it.2
+  form_untold (opens.Fault fault) it = tt
 
   pub refused : (why : Open) → IsLooked old mid (Err why) → why ≢ opens.Version millimetres.version → IsMigration old mid (Err why)
   refused why looked other = record {
@@ -217,5 +303,6 @@ module _ (old mid : State) where
     adopts = λ clean p s. not_adopted why p looked.survives clean s (looked.agrees clean micrometres.version p s.reads);
     migrates = λ clean p s. not_migrated why p other looked.survives clean s (looked.agrees clean millimetres.version p s.reads);
     tells = λ clean. told why other (looked.answers clean);
+    blobs = λ clean. form_untold why (looked.answers clean);
     faults = λ clean. fault_told why (looked.answers clean);
   }

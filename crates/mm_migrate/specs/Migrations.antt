@@ -13,9 +13,10 @@ use Rattle.mm_store.specs.Faults.{IsStoreFault}
 use Rattle.mm_store.specs.Statements.{CommitsNothing}
 use Rattle.mm_meta.specs.Look.{Answers, ShowsProfile}
 use Rattle.mm_check.specs.Verdict.{IsFailing}
+use Rattle.mm_shelf.specs.Form.{TellsForm}
 use Rattle.mm_scaling.specs.Moves.{MayScale, StandsForEither}
 
--- what the whole check tells of a package: it meets the rules, or this one fails
+-- what the whole check tells of a package: it meets the rules, or this one fails; a package's blobs have their form
 abbrev pub Judged : Profile → Package → Result (Unit {0}) Open → Type 0
 Judged profile p (Ok _) = Meets profile p
 Judged profile p (Err (opens.Rule rule)) = IsFailing profile p rule
@@ -27,20 +28,21 @@ abbrev pub OnlyStoreFaults : Result (Unit {0}) Open → Type 0
 OnlyStoreFaults (Err (opens.Fault fault)) = IsStoreFault fault
 OnlyStoreFaults _ = ⊤
 
--- it is no opening number
+-- it is no opening number that the profile's row gives
 abbrev pub NoNumber : Result (Unit {0}) Open → Type 0
 NoNumber (Err (opens.Version version)) = ⊥
 NoNumber (Err opens.NoProfile) = ⊥
 NoNumber (Err opens.BadProfile) = ⊥
 NoNumber _ = ⊤
 
--- It wrote nothing, leaves the connection as settled as before and, at `Ok`, the store open, and answers what the whole check tells.
+-- It wrote nothing, leaves the connection as settled as before and, at `Ok`, the store open, and answers what the form of the blobs and the whole check tell.
 pub record IsChecked (profile : Profile) (old new : State) (result : Result (Unit {0}) Open) : Type 0 where
   pub mode : old.in_transaction ≡ false → new.in_transaction ≡ false
   pub survives : CommitsNothing old new
   pub is_open : HasCleanDisk new → OnOk result (IsTrue new.is_open)
   pub settled : HasCleanDisk new → (p : Package) → IsSettled profile old p → IsSettled profile new p
   pub says : HasCleanDisk new → (p : Package) → IsSettled profile old p → Judged profile p result
+  pub blobs : HasCleanDisk new → TellsForm old result
   pub no_number : NoNumber result
   pub faults : OnlyStoreFaults result
 
@@ -59,7 +61,7 @@ Migrates p new (Err (opens.Rule rule)) = IsSettled millimetres new p × IsFailin
 Migrates p new (Err (opens.Fault fault)) = (db : Trees) → new.may_leave db → StandsForEither db p
 Migrates p new (Err _) = ⊥
 
--- an opening number is as the look at the profile's row gives it, and another version than these two
+-- 93, 94 and 95 are as the look at the profile's row gives it, and another version than these two
 abbrev pub TellsNumber : State → State → Result (Unit {0}) Open → Type 0
 TellsNumber old new (Err (opens.Version version)) = Answers old new (Err (opens.Version version)) × (version ≢ millimetres.version)
 TellsNumber old new (Err opens.NoProfile) = Answers old new (Err opens.NoProfile)
@@ -84,6 +86,7 @@ pub record IsMigration (old new : State) (result : Result (Unit {0}) Open) : Typ
   pub adopts : HasCleanDisk new → (p : Package) → IsSettled micrometres old p → Adopts p new result
   pub migrates : HasCleanDisk new → (p : Package) → IsSettled millimetres old p → Migrates p new result
   pub tells : HasCleanDisk new → TellsNumber old new result
+  pub blobs : HasCleanDisk new → TellsForm old result
   pub faults : HasCleanDisk new → OnlyStoreFaults result
 
 -- the same of a database that is known to be of the older profile
@@ -92,5 +95,6 @@ pub record IsOlder (old new : State) (result : Result (Unit {0}) Open) : Type 0 
   pub is_open : HasCleanDisk new → OnOk result (IsTrue new.is_open)
   pub refused : IsRefusal result → CommitsNothing old new
   pub migrates : HasCleanDisk new → (p : Package) → IsSettled millimetres old p → Migrates p new result
+  pub blobs : HasCleanDisk new → TellsForm old result
   pub no_number : NoNumber result
   pub faults : OnlyStoreFaults result

@@ -12,12 +12,18 @@ use mm_base::units::{CURRENT, Unit};
 use mm_check::verify;
 use mm_meta::look;
 use mm_scaling::scaling::rescale;
+use mm_shelf::blobs_stand;
 use sqlite::{Alter, Connection};
 
-/// The whole check in a unit, with the rule that fails told as an opening.
+/// The form of the blobs, and then the whole check in a unit, with what fails told as an opening: 98, or the rule.
 fn check_in<S: Alter>(conn: &mut Connection<S>, unit: Unit) -> Result<(), Open>
     ensures { IsChecked (profile_of unit) (state S.Store conn.old) (state S.Store conn.new) result }
 {
+    match blobs_stand(conn) {
+        Ok(true) => {}
+        Ok(false) => return Err(Open::BadBlobs),
+        Err(fault) => return Err(Open::Fault(fault)),
+    }
     match verify(conn, unit) {
         Ok(None) => Ok(()),
         Ok(Some(rule)) => Err(Open::Rule(rule)),
@@ -74,8 +80,8 @@ fn migrate_on<S: Alter>(conn: &mut Connection<S>) -> Result<(), Open>
 ///
 /// # Errors
 ///
-/// The connection is handed back with 93 for any other version, 94 or 95 as `look` tells them, with the rule that fails,
-/// or with a fault. After a fault each database that may be left stands for the package in the one unit or in the other.
+/// The connection is handed back with 93 for any other version, 94 or 95 as `look` tells them, with 98 where bytes are not
+/// kept once each, with the rule that fails, or with a fault. After a fault each database that may be left stands for the package in the one unit or in the other.
 pub fn migrate<S: Alter>(conn: Connection<S>) -> Result<Connection<S>, (Connection<S>, Open)>
     requires { conn.in_transaction ≡ false }
     ensures mode { IfOk result (λ now. now.in_transaction ≡ false) }

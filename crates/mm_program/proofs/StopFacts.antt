@@ -23,7 +23,8 @@ closes (Err (stops.Fault fault)) is = tt
 stops_of : (cause : Open) → StopsCheck (stop_of cause)
 stops_of (opens.Version version) = inl refl
 stops_of opens.NoProfile = inr (inl refl)
-stops_of opens.BadProfile = inr (inr refl)
+stops_of opens.BadProfile = inr (inr (inl refl))
+stops_of opens.BadBlobs = inr (inr (inr refl))
 stops_of (opens.Rule rule) = tt
 stops_of (opens.Fault fault) = tt
 

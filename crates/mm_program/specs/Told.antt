@@ -22,7 +22,7 @@ use Rattle.mm_program.specs.Served.{TellsServe}
 -- the check or the migration of a file never tells that it is not empty
 abbrev pub StopsCheck : Stop → Type 0
 StopsCheck stops.NotEmpty = ⊥
-StopsCheck (stops.NotPackage number) = (number ≡ 93) ⊎ (number ≡ 94) ⊎ (number ≡ 95)
+StopsCheck (stops.NotPackage number) = (number ≡ 93) ⊎ (number ≡ 94) ⊎ (number ≡ 95) ⊎ (number ≡ 98)
 StopsCheck (stops.Rule rule) = ⊤
 StopsCheck (stops.Fault fault) = ⊤
 

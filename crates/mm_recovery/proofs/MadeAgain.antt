@@ -53,6 +53,7 @@ only_fault old new (opens.Fault fault) it = it
 only_fault old new opens.NoProfile it = tt
 only_fault old new (opens.Version version) it = tt
 only_fault old new opens.BadProfile it = tt
+only_fault old new opens.BadBlobs it = tt
 only_fault old new (opens.Rule rule) it = tt
 
 other_is_fault : (old new : State) (why : Open) → IsNotAdopted old new why → (why ≡ opens.NoProfile → ⊥) → HasCleanDisk new → IsBlank old → IsFault why
@@ -60,6 +61,7 @@ other_is_fault old new (opens.Fault fault) it other clean blank = it.profile cle
 other_is_fault old new opens.NoProfile it other clean blank = absurd (other refl)
 other_is_fault old new (opens.Version version) it other clean blank = absurd (it.none clean blank)
 other_is_fault old new opens.BadProfile it other clean blank = absurd (it.none clean blank)
+other_is_fault old new opens.BadBlobs it other clean blank = absurd (it.none clean blank)
 other_is_fault old new (opens.Rule rule) it other clean blank = absurd (it.none clean blank)
 
 pub declined_by : (old new : State) (why : Open) → IsNotAdopted old new why → (why ≡ opens.NoProfile → ⊥) → IsNeither old new why
@@ -133,3 +135,4 @@ module _ (old mid : State) where
     not_made_again (opens.Version version) it clean blank = none_declined (opens.Version version) it refl (λ e. e) clean blank
     not_made_again opens.NoProfile it clean blank = none_declined opens.NoProfile it refl (λ e. e) clean blank
     not_made_again opens.BadProfile it clean blank = none_declined opens.BadProfile it refl (λ e. e) clean blank
+    not_made_again opens.BadBlobs it clean blank = none_declined opens.BadBlobs it refl (λ e. e) clean blank

@@ -54,6 +54,7 @@ none_is_declined p (opens.Fault fault) m it other = both_ways true other refl
 none_is_declined p (opens.Version version) m it other = it
 none_is_declined p opens.NoProfile m it other = it
 none_is_declined p opens.BadProfile m it other = it
+none_is_declined p opens.BadBlobs m it other = it
 
 -- an opened connection is adopted
 pub recovers_by : (old mid new : State) → FindsLeft old mid → IsAdopted mid new → IsRecovered old new
@@ -85,6 +86,7 @@ module _ (old mid new : State) (finds : FindsLeft old mid) where
   declines (opens.Version version) declined clean left = never (opens.Version version) declined refl clean left
   declines opens.NoProfile declined clean left = never opens.NoProfile declined refl clean left
   declines opens.BadProfile declined clean left = never opens.BadProfile declined refl clean left
+  declines opens.BadBlobs declined clean left = never opens.BadBlobs declined refl clean left
 
   pub declines_by : (why : Open) → IsNotAdopted mid new why → (HasCleanDisk new → HasCleanDisk old) × (HasCleanDisk new → LeavesPackages old → IsFault why)
   declines_by why declined = ((λ clean. finds.clean (omega (arith, clean, declined.survives.clean))), declines why declined)
@@ -114,6 +116,7 @@ module _ (old mid new : State) (finds : FindsCommitted old mid) where
   refused_for (opens.Version version) declined clean p stands meets = refuses (opens.Version version) declined refl clean p stands meets
   refused_for opens.NoProfile declined clean p stands meets = refuses opens.NoProfile declined refl clean p stands meets
   refused_for opens.BadProfile declined clean p stands meets = refuses opens.BadProfile declined refl clean p stands meets
+  refused_for opens.BadBlobs declined clean p stands meets = refuses opens.BadBlobs declined refl clean p stands meets
 
   pub not_reopened_by : (why : Open) → IsNotAdopted mid new why → (HasCleanDisk new → HasCleanDisk old) × (HasCleanDisk new → (p : Package) → Stands old.committed.trees p → Meets current p → IsFault why)
   not_reopened_by why declined = ((λ clean. finds.clean (omega (arith, clean, declined.survives.clean))), refused_for why declined)

@@ -39,13 +39,12 @@ module _ (version : ℤ) (db : Trees) (p : Package) (h : Holding version db p) w
     sets = h.sets;
     matrices = h.matrices;
     extensions = h.extensions;
-    tiles = h.tiles;
     rows = h.rows;
-    media = h.media;
     relations = h.relations;
     pairings = h.pairings;
     editions = h.editions;
-    pieces = h.pieces;
+    kept = h.kept;
+    keeps = record { tiles = h.keeps.tiles; media = h.keeps.media; pieces = h.keeps.pieces; blobs = h.keeps.blobs; tiles_told = h.keeps.tiles_told; media_told = h.keeps.media_told; pieces_told = h.keeps.pieces_told; are = h.keeps.are; named = h.keeps.named };
     profile = ap (map (updated mm_profile version_sets [])) h.profile ∙ became;
   }
     where

@@ -11,6 +11,7 @@ abbrev pub stop_of : Open → Stop
 stop_of (opens.Version version) = stops.NotPackage 93
 stop_of opens.NoProfile = stops.NotPackage 94
 stop_of opens.BadProfile = stops.NotPackage 95
+stop_of opens.BadBlobs = stops.NotPackage 98
 stop_of (opens.Rule rule) = stops.Rule rule
 stop_of (opens.Fault fault) = stops.Fault fault
 

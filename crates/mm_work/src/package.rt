@@ -49,6 +49,7 @@ pub(crate) fn stop_of(cause: Open) -> Stop
         Open::Version(_) => Stop::NotPackage(93),
         Open::NoProfile => Stop::NotPackage(94),
         Open::BadProfile => Stop::NotPackage(95),
+        Open::BadBlobs => Stop::NotPackage(98),
         Open::Rule(rule) => Stop::Rule(rule),
         Open::Fault(fault) => Stop::Fault(fault),
     }

@@ -7,7 +7,7 @@ use mm_base::answers::Fault;
 pub enum Stop {
     /// The file, or its journal, holds bytes where a new package is wanted.
     NotEmpty,
-    /// The file is no package of this profile: 93, 94 or 95.
+    /// The file is no package of this profile: 93, 94, 95 or 98.
     NotPackage(u8),
     /// The package breaks this rule.
     Rule(u8),

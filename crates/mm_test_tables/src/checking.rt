@@ -60,13 +60,13 @@ const MATRICES: &str = "\
 ";
 
 const TILES_AND_ITEMS: &str = "\
-! INSERT INTO mm_tiles VALUES ('base', 0, 1, 0, x'00')
+! INSERT INTO mm_tiles VALUES ('base', 0, 1, 0, 1)
 10|
-! INSERT INTO mm_tiles VALUES ('base', 1, 0, 1, x'00')
+! INSERT INTO mm_tiles VALUES ('base', 1, 0, 1, 1)
 10|
 ! INSERT INTO mm_rows VALUES ('photos', 1, '', '', 0)
 11|
-! INSERT INTO mm_media VALUES ('base', 1, x'00', 'image/png')
+! INSERT INTO mm_media VALUES ('base', 1, 1, 'image/png')
 11|
 ";
 
@@ -103,6 +103,10 @@ const EDITIONS: &str = "\
 15|
 ! UPDATE mm_pieces SET k1 = 31 WHERE piece_no = 2
 15|
+! UPDATE mm_pieces SET blob = NULL WHERE piece_no = 2
+15|
+! UPDATE mm_pieces SET blob = 1 WHERE piece_no = 1
+15|
 ";
 
 const LIMITS: &str = "\
@@ -112,7 +116,7 @@ const LIMITS: &str = "\
 16|
 ! UPDATE mm_rows SET title = CAST(x'ff' AS TEXT)
 16|
-! UPDATE mm_tiles SET tile_data = x''
+! UPDATE mm_blobs SET data = x'' WHERE id = 1
 16|
 ! UPDATE mm_rows SET amount = 1000000000000001; DELETE FROM gpkg_spatial_ref_sys WHERE srs_id = -1
 16|

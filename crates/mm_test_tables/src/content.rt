@@ -15,7 +15,7 @@ const TILES: &str = "\
 25 tile-drop,none,1,1,1
 26 tile-drop,photos,1,1,1
 35 tile-drop,base,0,1,1
-? SELECT table_name, zoom_level, tile_column, tile_row, tile_data FROM mm_tiles
+? SELECT t.table_name, t.zoom_level, t.tile_column, t.tile_row, b.data FROM mm_tiles AS t JOIN mm_blobs AS b ON b.id = t.blob
 base|1|1|1|aa|
 ? SELECT table_name, last_change FROM gpkg_contents ORDER BY table_name
 base|2000-02-29T23:59:59.999Z|
@@ -26,20 +26,20 @@ spots|1970-01-01T00:00:00.000Z|
 /// A tile is replaced, and dropped once.
 const REPLACED_TILES: &str = "\
 0 tile,base,1,0,1,89504e
-? SELECT zoom_level, tile_column, tile_row, tile_data FROM mm_tiles ORDER BY zoom_level
+? SELECT t.zoom_level, t.tile_column, t.tile_row, b.data FROM mm_tiles AS t JOIN mm_blobs AS b ON b.id = t.blob ORDER BY t.zoom_level
 1|0|1|89504e|
 0 tile,base,1,0,1,ffd8
-? SELECT zoom_level, tile_column, tile_row, tile_data FROM mm_tiles ORDER BY zoom_level
+? SELECT t.zoom_level, t.tile_column, t.tile_row, b.data FROM mm_tiles AS t JOIN mm_blobs AS b ON b.id = t.blob ORDER BY t.zoom_level
 1|0|1|ffd8|
 0 tile,base,0,0,0,01
-? SELECT zoom_level, tile_column, tile_row, tile_data FROM mm_tiles ORDER BY zoom_level
+? SELECT t.zoom_level, t.tile_column, t.tile_row, b.data FROM mm_tiles AS t JOIN mm_blobs AS b ON b.id = t.blob ORDER BY t.zoom_level
 0|0|0|01|
 1|0|1|ffd8|
 0 tile-drop,base,1,0,1
-? SELECT zoom_level, tile_column, tile_row, tile_data FROM mm_tiles ORDER BY zoom_level
+? SELECT t.zoom_level, t.tile_column, t.tile_row, b.data FROM mm_tiles AS t JOIN mm_blobs AS b ON b.id = t.blob ORDER BY t.zoom_level
 0|0|0|01|
 35 tile-drop,base,1,0,1
-? SELECT zoom_level, tile_column, tile_row, tile_data FROM mm_tiles ORDER BY zoom_level
+? SELECT t.zoom_level, t.tile_column, t.tile_row, b.data FROM mm_tiles AS t JOIN mm_blobs AS b ON b.id = t.blob ORDER BY t.zoom_level
 0|0|0|01|
 ";
 
@@ -78,25 +78,25 @@ const REPLACED_ROWS: &str = "\
 /// Media are put, replaced, and dropped once.
 const REPLACED_MEDIA: &str = "\
 25 media,none,3,image/jpeg,ffd8ff
-? SELECT id, content_type, data FROM mm_media ORDER BY id
+? SELECT m.id, m.content_type, b.data FROM mm_media AS m JOIN mm_blobs AS b ON b.id = m.blob ORDER BY m.id
 26 media,spots,3,image/jpeg,ffd8ff
-? SELECT id, content_type, data FROM mm_media ORDER BY id
+? SELECT m.id, m.content_type, b.data FROM mm_media AS m JOIN mm_blobs AS b ON b.id = m.blob ORDER BY m.id
 0 media,photos,3,image/jpeg,ffd8ff
-? SELECT id, content_type, data FROM mm_media ORDER BY id
+? SELECT m.id, m.content_type, b.data FROM mm_media AS m JOIN mm_blobs AS b ON b.id = m.blob ORDER BY m.id
 3|image/jpeg|ffd8ff|
 0 media,photos,3,image/png,89
-? SELECT id, content_type, data FROM mm_media ORDER BY id
+? SELECT m.id, m.content_type, b.data FROM mm_media AS m JOIN mm_blobs AS b ON b.id = m.blob ORDER BY m.id
 3|image/png|89|
 25 media-drop,none,3
-? SELECT id, content_type, data FROM mm_media ORDER BY id
+? SELECT m.id, m.content_type, b.data FROM mm_media AS m JOIN mm_blobs AS b ON b.id = m.blob ORDER BY m.id
 3|image/png|89|
 26 media-drop,spots,3
-? SELECT id, content_type, data FROM mm_media ORDER BY id
+? SELECT m.id, m.content_type, b.data FROM mm_media AS m JOIN mm_blobs AS b ON b.id = m.blob ORDER BY m.id
 3|image/png|89|
 0 media-drop,photos,3
-? SELECT id, content_type, data FROM mm_media ORDER BY id
+? SELECT m.id, m.content_type, b.data FROM mm_media AS m JOIN mm_blobs AS b ON b.id = m.blob ORDER BY m.id
 41 media-drop,photos,3
-? SELECT id, content_type, data FROM mm_media ORDER BY id
+? SELECT m.id, m.content_type, b.data FROM mm_media AS m JOIN mm_blobs AS b ON b.id = m.blob ORDER BY m.id
 ";
 
 /// An item that a mapping row names stays.
@@ -116,6 +116,44 @@ const MAPPED_ITEMS: &str = "\
 0 media-drop,photos,3
 ";
 
+/// Equal bytes are kept once, and go with the last entry that names them.
+const KEPT_ONCE: &str = "\
+0 tile,base,1,0,0,616263
+0 tile,base,1,1,0,616263
+? SELECT digest, data FROM mm_blobs
+ba7816bf8f01cfea414140de5dae2223b00361a396177a9cb410ff61f20015ad|616263|
+0 media,photos,3,image/jpeg,616263
+0 tile-drop,base,1,0,0
+0 tile,base,1,1,0,616263
+? SELECT data FROM mm_blobs
+616263|
+0 tile,base,1,1,0,00
+? SELECT data FROM mm_blobs ORDER BY data
+00|
+616263|
+0 media,photos,3,image/png,00
+? SELECT data FROM mm_blobs
+00|
+0 drop,base
+? SELECT data FROM mm_blobs
+00|
+0 media-drop,photos,3
+? SELECT data FROM mm_blobs
+";
+
+/// Bytes are not found by their digest alone.
+const ONE_DIGEST: &str = "\
+! INSERT INTO mm_blobs (id, digest, data) VALUES (5, 'ba7816bf8f01cfea414140de5dae2223b00361a396177a9cb410ff61f20015ad', x'aa')
+! INSERT INTO mm_tiles (table_name, zoom_level, tile_column, tile_row, blob) VALUES ('base', 1, 0, 0, 5)
+0 tile,base,1,1,0,616263
+? SELECT digest, data FROM mm_blobs ORDER BY data
+ba7816bf8f01cfea414140de5dae2223b00361a396177a9cb410ff61f20015ad|616263|
+ba7816bf8f01cfea414140de5dae2223b00361a396177a9cb410ff61f20015ad|aa|
+0 tile-drop,base,1,1,0
+? SELECT data FROM mm_blobs
+aa|
+";
+
 #[test]
 fn content_is_changed_as_its_records_say(rt: HostRuntime) {
     for script in [
@@ -124,6 +162,8 @@ fn content_is_changed_as_its_records_say(rt: HostRuntime) {
         REPLACED_ROWS,
         REPLACED_MEDIA,
         MAPPED_ITEMS,
+        KEPT_ONCE,
+        ONE_DIGEST,
     ] {
         let text = told_on(rt.alloc(), &[BASE], script, LATER).expect(&rt, "answers");
         assert_eq!(rt; text.as_str(), script);

@@ -91,9 +91,10 @@ base|
 /// A dropped pyramid leaves its staged pieces alone.
 const DROPPED: &str = "\
 0 matrix,free,0,1,1,100,100,10000,10000
-! INSERT INTO mm_tiles (table_name, zoom_level, tile_column, tile_row, tile_data) VALUES ('free', 0, 0, 0, x'aa')
+! INSERT INTO mm_blobs (id, digest, data) VALUES (1, 'bceef655b5a034911f1c3718ce056531b45ef03b4c7b1f15629e867294011a7d', x'aa')
+! INSERT INTO mm_tiles (table_name, zoom_level, tile_column, tile_row, blob) VALUES ('free', 0, 0, 0, 1)
 ! INSERT INTO mm_editions (name, state) VALUES ('spring', 'open')
-! INSERT INTO mm_pieces (edition, piece_no, kind, name, k1, k2, k3, k4, k5, k6, k7, t1, t2, data) VALUES ('spring', 1, 'tile-drop', 'free', 0, 0, 0, 0, 0, 0, 0, '', '', x'')
+! INSERT INTO mm_pieces (edition, piece_no, kind, name, k1, k2, k3, k4, k5, k6, k7, t1, t2, blob) VALUES ('spring', 1, 'tile-drop', 'free', 0, 0, 0, 0, 0, 0, 0, '', '', NULL)
 0 drop,free
 25 drop,free
 ? SELECT table_name FROM gpkg_contents WHERE table_name = 'free'
@@ -101,6 +102,7 @@ const DROPPED: &str = "\
 ? SELECT table_name FROM gpkg_tile_matrix_set WHERE table_name = 'free'
 ? SELECT table_name FROM gpkg_tile_matrix
 ? SELECT table_name FROM mm_tiles
+? SELECT id FROM mm_blobs
 ? SELECT table_name FROM gpkg_extensions ORDER BY table_name
 gpkgext_relations|
 loose|

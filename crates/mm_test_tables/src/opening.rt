@@ -32,12 +32,13 @@ const EMPTY: &str = "\
 ? SELECT table_name, zoom_level, matrix_width, matrix_height, tile_width, tile_height, pixel_x_size, pixel_y_size FROM gpkg_tile_matrix
 ? SELECT id, base_table_name, base_primary_column, related_table_name, related_primary_column, relation_name, mapping_table_name FROM gpkgext_relations
 ? SELECT table_name, kind FROM mm_tables
-? SELECT table_name, zoom_level, tile_column, tile_row, tile_data FROM mm_tiles
+? SELECT table_name, zoom_level, tile_column, tile_row, blob FROM mm_tiles
 ? SELECT table_name, id, title, note, amount FROM mm_rows
-? SELECT table_name, id, data, content_type FROM mm_media
+? SELECT table_name, id, blob, content_type FROM mm_media
 ? SELECT mapping, base_id, related_id FROM mm_map
 ? SELECT name, state FROM mm_editions
-? SELECT edition, piece_no, kind, name, k1, k2, k3, k4, k5, k6, k7, t1, t2, data FROM mm_pieces
+? SELECT edition, piece_no, kind, name, k1, k2, k3, k4, k5, k6, k7, t1, t2, blob FROM mm_pieces
+? SELECT id, digest, data FROM mm_blobs
 ? SELECT name FROM sqlite_schema WHERE type = 'table' ORDER BY name
 gpkg_contents|
 gpkg_extensions|
@@ -45,6 +46,7 @@ gpkg_spatial_ref_sys|
 gpkg_tile_matrix|
 gpkg_tile_matrix_set|
 gpkgext_relations|
+mm_blobs|
 mm_editions|
 mm_map|
 mm_media|
@@ -53,6 +55,11 @@ mm_profile|
 mm_rows|
 mm_tables|
 mm_tiles|
+? SELECT name, tbl_name FROM sqlite_schema WHERE type = 'index' AND name >= 'mm' AND name < 'mn' ORDER BY name
+mm_blobs_digest|mm_blobs|
+mm_media_blob|mm_media|
+mm_pieces_blob|mm_pieces|
+mm_tiles_blob|mm_tiles|
 ";
 
 /// A reference system is added once.

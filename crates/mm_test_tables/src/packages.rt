@@ -40,9 +40,10 @@ pub(crate) const UNORDERED: &str = "\
 ! INSERT INTO mm_tables (table_name, kind) VALUES ('photos', 'media'), ('base', 'two'), ('spots', 'attributes')
 ! INSERT INTO gpkg_tile_matrix_set (table_name, srs_id, min_x, min_y, max_x, max_y) VALUES ('base', 25832, 500000000000, 5600000000000, 501024000000, 5601024000000)
 ! INSERT INTO gpkg_tile_matrix (table_name, zoom_level, matrix_width, matrix_height, tile_width, tile_height, pixel_x_size, pixel_y_size) VALUES ('base', 1, 2, 2, 256, 256, 2000000, 2000000)
-! INSERT INTO mm_tiles (table_name, zoom_level, tile_column, tile_row, tile_data) VALUES ('base', 1, 0, 1, x'ffd8'), ('base', 1, 1, 1, x'aa'), ('base', 1, 1, 0, x'89504e')
+! INSERT INTO mm_blobs (id, digest, data) VALUES (1, '71563ad80061407ede9c6f316836284bd3710a520c5a792b5eda1cb703690815', x'ffd8'), (2, 'bceef655b5a034911f1c3718ce056531b45ef03b4c7b1f15629e867294011a7d', x'aa'), (3, '449ba17f2a44989a58050282f82fec8663b84f57a6a443d3750033a0c02f8be9', x'89504e'), (4, '6e568e1f67fba258184c78181539e5e8fdee447e49bb706fc0ea34fbf12336a5', x'ffd8ff'), (5, '4bf5122f344554c53bde2ebb8cd2b7e3d1600ad631c385a5d7cce23c7785459a', x'01'), (6, '6e340b9cffb37a989ca544e6bb780a2c78901d3fb33738768511a30617afa01d', x'00')
+! INSERT INTO mm_tiles (table_name, zoom_level, tile_column, tile_row, blob) VALUES ('base', 1, 0, 1, 1), ('base', 1, 1, 1, 2), ('base', 1, 1, 0, 3)
 ! INSERT INTO mm_rows (table_name, id, title, note, amount) VALUES ('spots', 7, 'Well', '', 3), ('spots', 8, 'Gate', 'shut', -1000000000000000), ('photos', 7, 'X', '', 0)
-! INSERT INTO mm_media (table_name, id, data, content_type) VALUES ('photos', 3, x'ffd8ff', 'image/jpeg'), ('photos', 4, x'01', 'image/png'), ('spots', 3, x'00', 'text/plain')
+! INSERT INTO mm_media (table_name, id, blob, content_type) VALUES ('photos', 3, 4, 'image/jpeg'), ('photos', 4, 5, 'image/png'), ('spots', 3, 6, 'text/plain')
 ";
 
 /// A pyramid of two zooms with a tile, a table of rows, a table of media, a relation of both with a mapping row, and an open
@@ -53,12 +54,13 @@ pub(crate) const WHOLE: &str = "\
 ! INSERT INTO mm_tables VALUES ('base', 'two'), ('spots', 'attributes'), ('photos', 'media');
 ! INSERT INTO gpkg_tile_matrix_set VALUES ('base', 32633, 0, 0, 1000, 1000);
 ! INSERT INTO gpkg_tile_matrix VALUES ('base', 0, 1, 1, 10, 10, 100, 100), ('base', 1, 1, 1, 20, 20, 50, 50);
-! INSERT INTO mm_tiles VALUES ('base', 0, 0, 0, x'01');
+! INSERT INTO mm_blobs VALUES (1, '4bf5122f344554c53bde2ebb8cd2b7e3d1600ad631c385a5d7cce23c7785459a', x'01'), (2, 'dbc1b4c900ffe48d575b5da5c638040125f65db0fe3e24494b76ea986457d986', x'02');
+! INSERT INTO mm_tiles VALUES ('base', 0, 0, 0, 1);
 ! INSERT INTO mm_rows VALUES ('spots', 1, 'A', '', 0);
-! INSERT INTO mm_media VALUES ('photos', 1, x'01', 'image/png');
+! INSERT INTO mm_media VALUES ('photos', 1, 1, 'image/png');
 ! INSERT INTO gpkgext_relations (base_table_name, base_primary_column, related_table_name, related_primary_column, relation_name, mapping_table_name) VALUES ('spots', 'id', 'photos', 'id', 'media', 'spot_photos');
 ! INSERT INTO gpkg_extensions VALUES ('spot_photos', NULL, 'gpkg_related_tables', 'OGC 18-000', 'read-write');
 ! INSERT INTO mm_map VALUES ('spot_photos', 1, 1);
 ! INSERT INTO mm_editions VALUES ('e', 'open'), ('f', 'published');
-! INSERT INTO mm_pieces VALUES ('e', 1, 'row-drop', 'spots', 1, 0, 0, 0, 0, 0, 0, '', '', x''), ('e', 2, 'tile', 'base', 0, 0, 0, 0, 0, 0, 0, '', '', x'02');
+! INSERT INTO mm_pieces VALUES ('e', 1, 'row-drop', 'spots', 1, 0, 0, 0, 0, 0, 0, '', '', NULL), ('e', 2, 'tile', 'base', 0, 0, 0, 0, 0, 0, 0, '', '', 2);
 ";

@@ -58,7 +58,7 @@ spots|attributes|2000-02-29T23:59:59.999Z|Spots|
 const FAULTS: &str = "\
 ! UPDATE mm_rows SET title = CAST(x'6100' AS TEXT) WHERE id = 7
 ! UPDATE mm_media SET content_type = 'image' WHERE id = 3
-! UPDATE mm_media SET data = x'' WHERE id = 4
+! UPDATE mm_blobs SET data = x'' WHERE id = 5
 = row spots 7
 fault 91|
 = media photos 3

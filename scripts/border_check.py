@@ -31,7 +31,7 @@ TOP = pathlib.Path(__file__).resolve().parent.parent
 SCRIPTS = TOP / "scripts"
 PROGRAM = os.path.realpath(os.environ.get("MMPKG") or TOP / "out" / "mmpkg")
 UTM = 'PROJCS["a grid",GEOGCS["g",DATUM["d",SPHEROID["s",6378137,298]],PRIMEM["p",0],UNIT["degree",0.01745]],UNIT["metre",1]]'
-NOT_COMPARED = {("gpkg_contents", "last_change"), ("gpkgext_relations", "id")}
+NOT_COMPARED = {("gpkg_contents", "last_change"), ("gpkgext_relations", "id"), ("mm_tiles", "blob"), ("mm_media", "blob")}
 RELATIONSHIPS = """
 import sys
 from osgeo import gdal
@@ -75,14 +75,15 @@ def listing(file):
 
 
 def rows_of(file):
-    """By table, the rows of a package that are compared."""
+    """By table, the rows of a package that are compared. What the staged pieces of one have alone, the other hasn't."""
     with contextlib.closing(sqlite3.connect(f"file:{file}?mode=ro", uri=True)) as opened:
         tables = [name for (name,) in opened.execute("SELECT name FROM sqlite_schema WHERE type = 'table'")]
-        return {table: compared(opened, table) for table in tables if table not in ("mm_editions", "mm_pieces")}
+        return {table: compared(opened, table) for table in tables if table not in ("mm_editions", "mm_pieces", "mm_blobs")}
 
 
 def compared(opened, table):
-    cursor = opened.execute(f"SELECT * FROM {table}")
+    bytes_too = ", (SELECT data FROM mm_blobs b WHERE b.id = blob) AS data" if table in ("mm_tiles", "mm_media") else ""
+    cursor = opened.execute(f"SELECT *{bytes_too} FROM {table}")
     names = [(table, column[0]) for column in cursor.description]
     rows = []
     for row in cursor:
@@ -111,9 +112,9 @@ def sums_of_tiles(file, query):
 
 def expect_same_content(file, out):
     """The tiles and the moments of last change of a package stand in what was made of it."""
-    columns = "SELECT zoom_level, tile_column, tile_row, tile_data FROM "
-    sums = sums_of_tiles(file, columns + "mm_tiles WHERE table_name = '{}'")
-    expect(sums_of_tiles(out, columns + '"{}"'), sums, "sums of tiles")
+    columns = "SELECT zoom_level, tile_column, tile_row, "
+    sums = sums_of_tiles(file, columns + "data FROM mm_tiles JOIN mm_blobs b ON b.id = blob WHERE table_name = '{}'")
+    expect(sums_of_tiles(out, columns + 'tile_data FROM "{}"'), sums, "sums of tiles")
     changed = "SELECT table_name, last_change FROM gpkg_contents ORDER BY table_name"
     with contextlib.closing(sqlite3.connect(file)) as before, contextlib.closing(sqlite3.connect(out)) as after:
         expect(after.execute(changed).fetchall(), before.execute(changed).fetchall(), "last_change")

@@ -20,7 +20,8 @@ Words that end in '< FILE' or '> FILE' take the input from that file, or have th
     ! steps FILE         the steps of a file that lies beside the transcript
     ! write FILE         makes a file of the lines '<' that follow
     ! cut FROM TO SIZE   makes a file of the first SIZE bytes of another, or of a part of it, as 1/2
-    ! sql FILE STATEMENT runs a statement by Python's sqlite3; '>' are the rows that it gives, with bars between the values
+    ! sql FILE STATEMENT runs a statement by Python's sqlite3; '>' are the rows that it gives, with bars between the values;
+                         sha256(DATA) is the digest of bytes, as a blob has it
     ! older FILE         puts a package back to profile 1, as scripts/make_profile_1.py does
     ! same FILE          the file is byte for byte as it was before the last run of the program
     ! missing FILE       there is no such file
@@ -31,6 +32,7 @@ In all lines \xHH is a byte, \x00..\xff all bytes from one to another, \5{TEXT} 
 
 import contextlib
 import fractions
+import hashlib
 import os
 import re
 import shlex
@@ -240,6 +242,7 @@ class Room:
     def sql(self, step):
         name, _, statement = step.rest.partition(" ")
         with contextlib.closing(sqlite3.connect(self.at(name), isolation_level=None)) as connection:
+            connection.create_function("sha256", 1, lambda data: hashlib.sha256(data).hexdigest())
             rows = connection.execute(statement).fetchall()
         step.compare("".join("|".join(map(str, row)) + "\n" for row in rows).encode())
 

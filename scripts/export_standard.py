@@ -53,14 +53,16 @@ CREATE TABLE gpkgext_relations (id INTEGER PRIMARY KEY AUTOINCREMENT, base_table
     related_primary_column TEXT NOT NULL DEFAULT 'id', relation_name TEXT NOT NULL, mapping_table_name TEXT NOT NULL UNIQUE)
 """
 
-# By a table's kind, its columns behind id, and the package's table that has its rows.
+# By a table's kind, its columns behind id, the package's table that has its rows, the columns' names, and what they are of in the package.
+BYTES = "(SELECT data FROM package.mm_blobs b WHERE b.id = blob)"
 TILE_COLUMNS = ("zoom_level INTEGER NOT NULL, tile_column INTEGER NOT NULL, tile_row INTEGER NOT NULL, tile_data BLOB NOT NULL, "
                 "UNIQUE (zoom_level, tile_column, tile_row)")
+TILE_NAMES = ("zoom_level, tile_column, tile_row, tile_data", f"zoom_level, tile_column, tile_row, {BYTES}")
 USER_TABLES = {
-    "two": (TILE_COLUMNS, "mm_tiles", "zoom_level, tile_column, tile_row, tile_data"),
-    "other": (TILE_COLUMNS, "mm_tiles", "zoom_level, tile_column, tile_row, tile_data"),
-    "attributes": ("title TEXT NOT NULL, note TEXT NOT NULL, amount INTEGER NOT NULL", "mm_rows", "id, title, note, amount"),
-    "media": ("data BLOB NOT NULL, content_type TEXT NOT NULL", "mm_media", "id, data, content_type"),
+    "two": (TILE_COLUMNS, "mm_tiles", *TILE_NAMES),
+    "other": (TILE_COLUMNS, "mm_tiles", *TILE_NAMES),
+    "attributes": ("title TEXT NOT NULL, note TEXT NOT NULL, amount INTEGER NOT NULL", "mm_rows", "id, title, note, amount", "id, title, note, amount"),
+    "media": ("data BLOB NOT NULL, content_type TEXT NOT NULL", "mm_media", "id, data, content_type", f"id, {BYTES}, content_type"),
 }
 
 DEFINITIONS = {
@@ -130,10 +132,10 @@ def add_extension(out, table, column, extension):
 
 def write_user_table(out, name, kind):
     """The table of a pyramid, of attribute rows or of media, with all its rows."""
-    columns, source, names = USER_TABLES[kind]
+    columns, source, names, values = USER_TABLES[kind]
     out.execute(f"CREATE TABLE main.{quoted(name)} (id INTEGER PRIMARY KEY AUTOINCREMENT, {columns})")
     order = "zoom_level, tile_column, tile_row" if source == "mm_tiles" else "id"
-    out.execute(f"INSERT INTO main.{quoted(name)} ({names}) SELECT {names} FROM package.{source} WHERE table_name = ? ORDER BY {order}", (name,))
+    out.execute(f"INSERT INTO main.{quoted(name)} ({names}) SELECT {values} FROM package.{source} WHERE table_name = ? ORDER BY {order}", (name,))
 
 
 def finish_pyramid(out, name, kind, report):

@@ -1,5 +1,6 @@
 """What is seen of a package, from docs/FORMATS.md alone: the rows of its tables, its listing, and the responses of the page."""
 
+import hashlib
 import json
 
 from package_records import ITEM, NAME, PLACE, PROFILE_VERSION, PYRAMIDS, ZOOM, read_fields
@@ -17,17 +18,26 @@ COLUMNS = {
     ),
     "mm_profile": "id version",
     "mm_tables": "table_name kind",
-    "mm_tiles": "table_name zoom_level tile_column tile_row tile_data",
+    "mm_tiles": "table_name zoom_level tile_column tile_row bytes",
     "mm_rows": "table_name id title note amount",
-    "mm_media": "table_name id data content_type",
+    "mm_media": "table_name id bytes content_type",
     "mm_map": "mapping base_id related_id",
     "mm_editions": "name state",
-    "mm_pieces": "edition piece_no kind name k1 k2 k3 k4 k5 k6 k7 t1 t2 data",
+    "mm_pieces": "edition piece_no kind name k1 k2 k3 k4 k5 k6 k7 t1 t2 bytes",
+    "mm_blobs": "digest data",
 }
+# The bytes of the blob that a row names, or none. The number of a blob is the store's own.
+BYTES = "(SELECT data FROM mm_blobs WHERE id = blob)"
+
+
+def query_of(table):
+    """Returns the query for the rows of a table."""
+    columns = COLUMNS.get(table, "*").split()
+    return f"SELECT {', '.join(BYTES if it == 'bytes' else it for it in columns)} FROM {table}"
 
 
 def table_rows(package):
-    """Returns the rows of the fourteen tables by name, without the number of a relation."""
+    """Returns the rows of the fifteen tables by name, without the numbers of relations and blobs."""
     pyramids = {name: it for name, it in package.tables.items() if it.kind in PYRAMIDS}
     return {
         "gpkg_spatial_ref_sys": [(it[0], system, *it[1:]) for system, it in package.systems.items()],
@@ -48,7 +58,15 @@ def table_rows(package):
             for name, pieces in package.editions.items()
             for number, piece in enumerate(pieces or (), 1)
         ],
+        "mm_blobs": blob_rows(package),
     }
+
+
+def blob_rows(package):
+    """Returns the rows of the blobs: all bytes that tiles, media and pieces have, each once."""
+    pieces = [piece for them in package.editions.values() for piece in them or ()]
+    kept = {*package.tiles.values(), *(data for _, data in package.media.values()), *(piece_row(piece)[-1] for piece in pieces)}
+    return [(hashlib.sha256(data).hexdigest(), data) for data in kept - {None}]
 
 
 def contents_row(package, name):
@@ -151,9 +169,9 @@ def response(status, line="", body=b""):
 
 
 def piece_row(piece):
-    """Returns the columns of a piece behind its edition and number."""
+    """Returns the columns of a piece behind its edition and number, with its bytes, or None, in place of its blob."""
     kind, name, *values = piece
     integers = [it for it in values if isinstance(it, int)]
     texts = [it for it in values if isinstance(it, str)]
-    data = next((it for it in values if isinstance(it, bytes)), b"")
+    data = next((it for it in values if isinstance(it, bytes)), None)
     return kind, name, *(integers + [0] * 7)[:7], *(texts + [""] * 2)[:2], data

@@ -26,7 +26,7 @@ import tempfile
 
 from package_model import Package
 from package_records import MOST_KIT_BYTES, MOST_MOMENT, MOST_PIECES, Refused, read_command, records
-from package_views import COLUMNS, listing, respond, table_rows
+from package_views import listing, query_of, respond, table_rows
 from random_records import OPENING, Author, all_edges
 
 TOP = pathlib.Path(__file__).resolve().parent.parent
@@ -180,8 +180,7 @@ class Round:
                 shutil.copy(file, folder)
             connection = sqlite3.connect(os.path.join(folder, self.file.name))
             tables = [it for (it,) in connection.execute("SELECT name FROM sqlite_schema WHERE type = 'table' AND name NOT LIKE 'sqlite_%'")]
-            columns = {table: ", ".join(COLUMNS.get(table, "*").split()) for table in tables}
-            rows = {table: connection.execute(f"SELECT {columns[table]} FROM {table}").fetchall() for table in tables}
+            rows = {table: connection.execute(query_of(table)).fetchall() for table in tables}
             connection.close()
         return rows
 

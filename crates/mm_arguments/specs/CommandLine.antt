@@ -11,6 +11,7 @@ use Rattle.clap.specs.declared.builder.value_parser.ValueParser.TheVariants.{Sig
 abbrev pub word : Text → Rule
 word id = record (new_rule id) { required = true }
 
+-- FILE: the package's file
 abbrev pub file : Rule
 file = word (codes "FILE")
 
@@ -22,6 +23,7 @@ at = record (new_rule (codes "at")) {
   parser = Some (Signed (pos 0) (pos 253402300799999));
 }
 
+-- --port P: the TCP port to listen on, from 1 to 65535; it has to stand
 abbrev pub port : Rule
 port = record (new_rule (codes "port")) {
   long = Some (codes "port");
@@ -30,6 +32,7 @@ port = record (new_rule (codes "port")) {
   parser = Some (Signed (pos 1) (pos 65535));
 }
 
+-- --count N: how many connections are served, from 1 to 1,000,000; it has to stand
 abbrev pub count : Rule
 count = record (new_rule (codes "count")) {
   long = Some (codes "count");
@@ -40,27 +43,35 @@ count = record (new_rule (codes "count")) {
 
 -- ---- the subcommands
 
+-- a subcommand of this name, which takes FILE
 abbrev pub with_file : Text → App
 with_file name = with_rule (new_app name) file
 
+-- init FILE: makes a new package
 abbrev pub init : App
 init = with_file (codes "init")
 
+-- run FILE [--at MS]: applies the records of the input
 abbrev pub run : App
 run = with_rule (with_file (codes "run")) at
 
+-- kit FILE EDITION FOLDER [--at MS]: stages the pieces of the kit in FOLDER
 abbrev pub kit : App
 kit = with_rule (with_rule (with_rule (with_file (codes "kit")) (word (codes "EDITION"))) (word (codes "FOLDER"))) at
 
+-- check FILE: decides the sixteen rules
 abbrev pub check : App
 check = with_file (codes "check")
 
+-- list FILE: lists the tables and the editions
 abbrev pub list : App
 list = with_file (codes "list")
 
+-- migrate FILE: brings a package of profile 1 to profile 2
 abbrev pub migrate : App
 migrate = with_file (codes "migrate")
 
+-- serve FILE --port P --count N: serves the page
 abbrev pub serve : App
 serve = with_rule (with_rule (with_file (codes "serve")) port) count
 
@@ -73,6 +84,7 @@ start = record {
   subs = [];
 }
 
+-- the program with its seven subcommands
 abbrev pub command_line : App
 command_line =
     with_subcommand (with_subcommand (with_subcommand (with_subcommand (with_subcommand (with_subcommand (with_subcommand start

@@ -11,9 +11,11 @@ pub record Profile : Type 0 where
   -- whether an edition can hold matrices
   pub matrix_pieces : Bool
 
+-- profile 1, in whole millimetres, whose editions hold no matrices
 abbrev pub millimetres : Profile
 millimetres = record { version = pos 1; coordinate = 10 ^ 11; pixel_size = 10 ^ 9; matrix_pieces = false }
 
+-- profile 2, in whole micrometres, whose editions can hold matrices
 abbrev pub micrometres : Profile
 micrometres = record { version = pos 2; coordinate = 10 ^ 14; pixel_size = 10 ^ 12; matrix_pieces = true }
 
@@ -25,18 +27,23 @@ current = micrometres
 abbrev pub IsFrom : ℤ → ℤ → ℤ → Type 0
 IsFrom low high z = (low ≤ℤ z) × (z ≤ℤ high)
 
+-- a coordinate in the profile's unit, up to its limit in either direction
 abbrev pub IsCoordinate : Profile → ℤ → Type 0
 IsCoordinate profile = IsFrom (neg_ℤ (pos profile.coordinate)) (pos profile.coordinate)
 
+-- the width or height of a pixel, in the profile's unit
 abbrev pub IsPixelSize : Profile → ℤ → Type 0
 IsPixelSize profile = IsFrom (pos 1) (pos profile.pixel_size)
 
+-- a zoom level
 abbrev pub IsZoom : ℤ → Type 0
 IsZoom = IsFrom (pos 0) (pos 30)
 
+-- the width or height of a matrix, in tiles
 abbrev pub IsMatrixSide : ℤ → Type 0
 IsMatrixSide = IsFrom (pos 1) (pos (2 ^ 30))
 
+-- the width or height of a tile, in pixels
 abbrev pub IsTileSide : ℤ → Type 0
 IsTileSide = IsFrom (pos 1) (pos 4096)
 
@@ -52,9 +59,11 @@ IsId = IsFrom (pos 1) (pos (2 ^ 53))
 abbrev pub IsSystemNumber : ℤ → Type 0
 IsSystemNumber = IsFrom (negsuc 0) (pos (2 ^ 53))
 
+-- the amount of an attribute row
 abbrev pub IsAmount : ℤ → Type 0
 IsAmount = IsFrom (neg_ℤ (pos (10 ^ 15))) (pos (10 ^ 15))
 
+-- milliseconds since 1970-01-01T00:00:00Z, up to the end of the year 9999
 abbrev pub IsMoment : ℕ → Type 0
 IsMoment m = m ≤ 253402300799999
 
@@ -62,52 +71,63 @@ IsMoment m = m ≤ 253402300799999
 abbrev pub IsLong : ℕ → ℕ → List ℕ → Type 0
 IsLong least most bytes = (least ≤ length bytes) × (length bytes ≤ most)
 
+-- the bytes of a tile, from 1 to 2^20 of them
 abbrev pub IsTileBytes : List ℕ → Type 0
 IsTileBytes = IsLong 1 1048576
 
+-- the bytes of a medium, from 1 to 2^22 of them
 abbrev pub IsMediaBytes : List ℕ → Type 0
 IsMediaBytes = IsLong 1 4194304
 
--- A name is 1 to 60 of a-z, 0-9 and _, begins with no digit, and not with gpkg, sqlite or mm_.
+-- a letter of a name: a-z or _
 abbrev pub is_letter : ℕ → Bool
 is_letter c = (nat_le 97 c && nat_le c 122) || (nat_le 95 c && nat_le c 95)
 
+-- a byte that a name can hold
 abbrev pub is_letter_or_digit : ℕ → Bool
 is_letter_or_digit c = is_letter c || (nat_le 48 c && nat_le c 57)
 
+-- there is a first byte, and it is a letter or _
 abbrev pub begins_with_letter : List ℕ → Bool
 begins_with_letter [] = false
 begins_with_letter (c ∷ cs) = is_letter c
 
+-- A name of a table, a mapping or an edition is 1 to 60 of a-z, 0-9 and _, begins with no digit, and not with gpkg, sqlite or mm_.
 pub record IsName (text : List ℕ) : Type 0 where
   pub long : IsLong 1 60 text
   pub first : IsTrue (begins_with_letter text)
   pub all : IsTrue (not (list_any (λ c. not (is_letter_or_digit c)) text))
   pub own : IsTrue (not (starts_with nat_eq text (codes "gpkg") || starts_with nat_eq text (codes "sqlite") || starts_with nat_eq text (codes "mm_")))
 
--- Any text is UTF-8 without byte 0. The store itself takes any bytes as a text.
+-- whether byte 0 stands among the bytes
 abbrev pub has_zero : List ℕ → Bool
 has_zero = list_any (λ c. nat_le c 0)
 
+-- A text of any length is UTF-8 without byte 0. The store itself takes any bytes as a text.
 pub record IsClean (text : List ℕ) : Type 0 where
   pub utf8 : IsUtf8 text
   pub no_zero : IsTrue (not (has_zero text))
 
+-- a text of as many bytes as from least to most
 pub record IsText (least most : ℕ) (text : List ℕ) : Type 0 where
   pub long : IsLong least most text
   pub clean : IsClean text
 
+-- a byte that an identifier can't hold: below 0x20, or 0x7f
 abbrev pub is_control : ℕ → Bool
 is_control c = nat_le c 31 || (nat_le 127 c && nat_le c 127)
 
+-- the identifier of a table
 pub record IsIdentifier (text : List ℕ) : Type 0 where
   pub utf8 : IsUtf8 text
   pub long : IsLong 1 1000 text
   pub printable : IsTrue (not (list_any is_control text))
 
+-- the name of a reference system, or its organization
 abbrev pub IsSystemName : List ℕ → Type 0
 IsSystemName = IsText 1 1000
 
+-- the definition of a reference system
 abbrev pub IsDefinition : List ℕ → Type 0
 IsDefinition = IsText 1 8192
 
@@ -115,22 +135,25 @@ IsDefinition = IsText 1 8192
 abbrev pub IsRemark : List ℕ → Type 0
 IsRemark = IsText 0 1000
 
--- a content type is two words round a slash
+-- a mark that a word of a content type can hold
 abbrev pub is_mark : ℕ → Bool
 is_mark c = list_any (λ mark. mark == c) (codes "!#$&^_.+-")
 
+-- a byte of a word of a content type: a digit, a letter of either case, or a mark
 abbrev pub is_word_byte : ℕ → Bool
 is_word_byte c = (nat_le 48 c && nat_le c 57) || (nat_le 65 c && nat_le c 90) || (nat_le 97 c && nat_le c 122)
     || is_mark c
 
+-- one of the two words of a content type
 pub record IsWord (text : List ℕ) : Type 0 where
   pub long : IsLong 1 64 text
   pub all : IsTrue (not (list_any (λ c. not (is_word_byte c)) text))
 
+-- the byte between the two words
 abbrev pub is_slash : ℕ → Bool
 is_slash c = c == 47
 
--- The words stand before and after the first slash. A word has none.
+-- A content type is two words, before and after the first slash. A word has none.
 pub record IsContentType (text : List ℕ) : Type 0 where
   pub kind : IsWord (before_first is_slash text)
   pub form : IsWord (after_first is_slash text)

@@ -4,6 +4,7 @@ use Rattle.mm_base.specs.Bounds.{Profile, IsCoordinate}
 use Rattle.mm_base.specs.Package.{Box}
 use Rattle.mm_base.specs.declared.extents.Extent.{Extent}
 
+-- the four bounds of an extent
 abbrev pub box_of : Extent → Box
 box_of e = record { min_x = e.min_x; min_y = e.min_y; max_x = e.max_x; max_y = e.max_y }
 

@@ -27,10 +27,12 @@ smaller None n = n
 smaller (Some m) None = Some m
 smaller (Some m) (Some n) = Some (min m n)
 
+-- the least number of those that hold, if one holds
 abbrev pub least : Reasons → Option ℕ
 least [] = None
 least (r ∷ rs) = smaller (cond r.1 (Some r.0) None) (least rs)
 
+-- 25: no contents row has the table
 abbrev pub no_table : Package → Text → ℕ × Bool
 no_table p table = (25, not (contains_key p.contents table))
 
@@ -42,6 +44,7 @@ of_another_kind p table suits = (26, contains_key p.contents table && not suits)
 abbrev pub joins_item : Package → Text → ℤ → Pairing → Bool
 joins_item p table id k = at_value (λ r. (same_text r.base table && same_number k.base_id id) || (same_text r.related table && same_number k.related_id id)) (get p.relations k.mapping)
 
+-- a mapping row has this item as an end
 abbrev pub is_mapped : Package → Text → ℤ → Bool
 is_mapped p table id = some_entry (λ k _. joins_item p table id k) p.pairings
 
@@ -49,9 +52,11 @@ is_mapped p table id = some_entry (λ k _. joins_item p table id k) p.pairings
 abbrev pub lacks_row : Package → Text → ℤ → Bool
 lacks_row p table id = has_kind p.kinds table kinds.Attributes && not (contains_key p.rows (item table id))
 
+-- the same of an end of kind `media`
 abbrev pub lacks_medium : Package → Text → ℤ → Bool
 lacks_medium p table id = has_kind p.kinds table kinds.Media && not (contains_key p.media (item table id))
 
+-- the column or the row lies beyond the last of the matrix
 abbrev pub outside : ℤ → ℤ → Grid → Bool
 outside column row g = int_le g.matrix_width column || int_le g.matrix_height row
 
@@ -60,6 +65,7 @@ outside column row g = int_le g.matrix_width column || int_le g.matrix_height ro
 abbrev pub grid : Matrix → Grid
 grid m = record { matrix_width = pos m.mw; matrix_height = pos m.mh; tile_width = pos m.tw; tile_height = pos m.th; pixel_x_size = m.px; pixel_y_size = m.py }
 
+-- both across and down the extent is exactly the tiles of the matrix, times the pixels of a tile, times the pixel size
 abbrev pub is_product : Box → Grid → Bool
 is_product b g =
     same_number (b.max_x -ℤ b.min_x) ((g.matrix_width *ℤ g.tile_width) *ℤ g.pixel_x_size)
@@ -77,6 +83,7 @@ is_double g h = same_number g.pixel_x_size (pos 2 *ℤ h.pixel_x_size) && same_n
 abbrev pub suits_above : Bool → ℤ → Grid → ℤ → Grid → Bool
 suits_above halved low g high h = is_finer g h && (not (halved && same_number high (low +ℤ pos 1)) || is_double g h)
 
+-- the two matrices suit each other, whichever is at the lower zoom; at equal zooms any two do
 abbrev pub suits : Bool → ℤ → Grid → ℤ → Grid → Bool
 suits halved zoom g other h = (not (int_lt zoom other) || suits_above halved zoom g other h) && (not (int_lt other zoom) || suits_above halved other h zoom g)
 
@@ -124,10 +131,12 @@ abbrev pub relation_text : RelationName → Text
 relation_text names.Media = codes "media"
 relation_text names.SimpleAttributes = codes "simple_attributes"
 
+-- the kind that a relation of this name asks of its related table
 abbrev pub related_kind : RelationName → Kind
 related_kind names.Media = kinds.Media
 related_kind names.SimpleAttributes = kinds.Attributes
 
+-- the table is of kind `attributes` or `media`, as the base of a relation has to be
 abbrev pub is_plain : Package → Text → Bool
 is_plain p table = has_kind p.kinds table kinds.Attributes || has_kind p.kinds table kinds.Media
 
@@ -135,6 +144,7 @@ is_plain p table = has_kind p.kinds table kinds.Attributes || has_kind p.kinds t
 abbrev pub is_taken : Package → Text → Bool
 is_taken p name = contains_key p.contents name || contains_key p.relations name
 
+-- a contents row has the identifier
 abbrev pub is_identified : Package → Text → Bool
 is_identified p identifier = some_entry (λ _ c. same_text c.identifier identifier) p.contents
 
@@ -150,9 +160,11 @@ is_open p edition = at_value (same_text open_state) (get p.editions edition)
 abbrev pub pieces_of : Package → Text → List (PieceKey × PieceRow)
 pieces_of p edition = entries (retain_keys p.pieces (λ k. same_text k.edition edition))
 
+-- how many pieces the edition has
 abbrev pub piece_count : Package → Text → ℕ
 piece_count p edition = length (pieces_of p edition)
 
+-- the piece that stands in the edition under this number equals this one
 abbrev pub has_equal_piece : Package → Text → ℤ → Piece → Bool
 has_equal_piece p edition number q = at_value (same_piece (piece_row q)) (get p.pieces (piece edition number))
 

@@ -22,6 +22,7 @@ abbrev pub piece_trial : Package → ℕ → Text → Option Piece → Result Pa
 piece_trial p number stamp None = Ok p
 piece_trial p number stamp (Some q) = decided p number q stamp (least (piece_reasons p q))
 
+-- the rest of the pieces, on the package that one gave; after a refusal they are not tried
 abbrev pub after_trial : Result Package PieceRefusal → (Package → Result Package PieceRefusal) → Result Package PieceRefusal
 after_trial (Ok p) rest = rest p
 after_trial (Err refusal) rest = Err refusal
@@ -32,6 +33,7 @@ trial [] p stamp = Ok p
 trial (e ∷ es) p stamp =
     after_trial (piece_trial p (unsigned_abs e.0.number) stamp (row_piece e.1)) (λ next. trial es next stamp)
 
+-- what the edition's pieces give in rising number at this stamp, or the first refusal; the edition is not closed yet
 abbrev pub edition_trial : Package → Text → Text → Result Package PieceRefusal
 edition_trial p edition stamp = trial (pieces_of p edition) p stamp
 

@@ -21,6 +21,7 @@ use Rattle.mm_base.specs.declared.commands.Piece.TheVariants.{Tile, TileDrop, Ro
 abbrev pub changed_at : Text → Contents → Contents
 changed_at stamp c = record c { last_change = stamp }
 
+-- the table's contents row, where it has one, is put again as changed at the stamp
 abbrev pub touched_row : Package → Text → Text → Option Contents → Package
 touched_row p table stamp None = p
 touched_row p table stamp (Some c) = record p { contents = insert p.contents table (changed_at stamp c) }
@@ -55,6 +56,7 @@ abbrev pub step_kind : Step → Kind
 step_kind steps.Two = kinds.Two
 step_kind steps.Other = kinds.Other
 
+-- the kind of a table that is no pyramid
 abbrev pub plain_kind : PlainKind → Kind
 plain_kind plain.Attributes = kinds.Attributes
 plain_kind plain.Media = kinds.Media
@@ -86,6 +88,7 @@ with_pyramid p table identifier srs box step stamp = record p {
 abbrev pub is_other : Text → Text → Bool
 is_other table name = not (same_text name table)
 
+-- the table is dropped with all that it holds; staged pieces that name it stay
 abbrev pub without_table : Package → Text → Package
 without_table p table = record p {
   contents = remove p.contents table;
@@ -98,6 +101,7 @@ without_table p table = record p {
   extensions = remove p.extensions (zoom_extension table);
 }
 
+-- the package after an accepted command at this stamp; what `publish` does is left to `done`
 abbrev pub effect : Package → Command → Text → Package
 effect p (commands.Srs id name organization organization_id definition description) stamp =
     record p { systems = insert p.systems id (record { name = name; organization = organization; organization_id = organization_id; definition = definition; description = description }) }

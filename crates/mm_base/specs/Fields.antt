@@ -21,6 +21,7 @@ pub data Value : Type 0 where
   Whole : ℤ → Value
   Plain : List ℕ → Value
 
+-- the text is one of these words, letter by letter
 abbrev pub IsOneOf : List Text → Text → Type 0
 IsOneOf [] t = ⊥
 IsOneOf (word ∷ words) t = (t ≡ word) ⊎ IsOneOf words t

@@ -96,9 +96,11 @@ ContentsPart = FinMap text_cmp Contents
 abbrev pub Kinds : Type 0
 Kinds = FinMap text_cmp Text
 
+-- the matrix set of each pyramid, by table name
 abbrev pub SetsPart : Type 0
 SetsPart = FinMap text_cmp MatrixSet
 
+-- the matrices, by table and zoom
 abbrev pub MatricesPart : Type 0
 MatricesPart = FinMap level_cmp Grid
 
@@ -110,9 +112,11 @@ ExtensionsPart = FinMap extension_cmp ℕ
 abbrev pub TilesPart : Type 0
 TilesPart = FinMap tile_cmp (List ℕ)
 
+-- the attribute rows, by table and number
 abbrev pub RowsPart : Type 0
 RowsPart = FinMap item_cmp AttributeRow
 
+-- the media, by table and number
 abbrev pub MediaPart : Type 0
 MediaPart = FinMap item_cmp Medium
 
@@ -128,9 +132,11 @@ PairingsPart = FinMap pairing_cmp ⊤
 abbrev pub EditionsPart : Type 0
 EditionsPart = FinMap text_cmp Text
 
+-- the staged pieces, by edition and number
 abbrev pub PiecesPart : Type 0
 PiecesPart = FinMap piece_cmp PieceRow
 
+-- a package: its thirteen parts, of which no rule need hold
 pub record Package : Type 0 where
   pub systems : SystemsPart
   pub contents : ContentsPart
@@ -157,6 +163,7 @@ kind_text Media = codes "media"
 abbrev pub HasKind : Kinds → Text → Kind → Type 0
 HasKind kinds table kind = get kinds table ≡ Some (kind_text kind)
 
+-- whether the registry has the table under this kind
 abbrev pub has_kind : Kinds → Text → Kind → Bool
 has_kind kinds table kind = at_value (same_text (kind_text kind)) (get kinds table)
 
@@ -164,6 +171,7 @@ has_kind kinds table kind = at_value (same_text (kind_text kind)) (get kinds tab
 abbrev pub IsPyramid : Kinds → Text → Type 0
 IsPyramid kinds table = HasKind kinds table Two ⊎ HasKind kinds table Other
 
+-- whether the table is a pyramid
 abbrev pub is_pyramid : Kinds → Text → Bool
 is_pyramid kinds table = has_kind kinds table Two || has_kind kinds table Other
 
@@ -171,9 +179,11 @@ is_pyramid kinds table = has_kind kinds table Two || has_kind kinds table Other
 abbrev pub general_extension : Extension
 general_extension = record { table = Some (codes "gpkgext_relations"); column = None; name = codes "gpkg_related_tables"; definition = codes "OGC 18-000"; scope = codes "read-write" }
 
+-- the extension row of a mapping
 abbrev pub mapping_extension : Text → Extension
 mapping_extension mapping = record { table = Some mapping; column = None; name = codes "gpkg_related_tables"; definition = codes "OGC 18-000"; scope = codes "read-write" }
 
+-- the extension row of a pyramid of kind `other`
 abbrev pub zoom_extension : Text → Extension
 zoom_extension table = record { table = Some table; column = Some (codes "tile_data"); name = codes "gpkg_zoom_other"; definition = codes "OGC 12-128r17"; scope = codes "read-write" }
 
@@ -181,5 +191,6 @@ zoom_extension table = record { table = Some table; column = Some (codes "tile_d
 abbrev pub open_state : Text
 open_state = codes "open"
 
+-- the state of an edition whose pieces have taken effect
 abbrev pub published_state : Text
 published_state = codes "published"

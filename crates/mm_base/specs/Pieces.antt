@@ -11,6 +11,7 @@ use Rattle.mm_base.specs.declared.commands.Piece.TheVariants.{Tile, TileDrop, Ro
 abbrev pub piece_of : Text → Text → ℤ → ℤ → ℤ → Text → Text → List ℕ → PieceRow
 piece_of kind name k1 k2 k3 t1 t2 bytes = record { kind = kind; name = name; k1 = k1; k2 = k2; k3 = k3; k4 = pos 0; k5 = pos 0; k6 = pos 0; k7 = pos 0; t1 = t1; t2 = t2; bytes = bytes }
 
+-- the row that a piece is staged as, beside its edition and its number
 abbrev pub piece_row : Piece → PieceRow
 piece_row (Tile table zoom column row bytes) = piece_of (codes "tile") table (pos zoom) (pos column) (pos row) [] [] bytes
 piece_row (TileDrop table zoom column row) = piece_of (codes "tile-drop") table (pos zoom) (pos column) (pos row) [] [] []

@@ -15,6 +15,7 @@ ReadsTo IsValue HoldsAgainst (Err faults.Memory) = ⊤
 abbrev pub reads_text : (List ℕ → Type 0) → List ℕ → List ℕ → Type 0
 reads_text IsWithin text value = (value ≡ text) × IsWithin text
 
+-- the wanted number, against a text that is outside its limits
 abbrev pub refuses_unless : (List ℕ → Type 0) → ℕ → List ℕ → ℕ → Type 0
 refuses_unless IsWithin wanted text number = (number ≡ wanted) × ¬ (IsWithin text)
 
@@ -22,6 +23,7 @@ refuses_unless IsWithin wanted text number = (number ≡ wanted) × ¬ (IsWithin
 abbrev pub reads_bytes : ℕ → List ℕ → List ℕ → Type 0
 reads_bytes most text bytes = (decode_of text ≡ Ok bytes) × IsLong 1 most bytes
 
+-- 10 against a text that isn't bytes in hexadecimal digits, 11 against no bytes and against more than the most
 abbrev pub refuses_bytes : ℕ → List ℕ → ℕ → Type 0
 refuses_bytes most text number =
     ((number ≡ 10) × IsErr (decode_of text)) ⊎ ((number ≡ 11) × (bytes : List ℕ) × (decode_of text ≡ Ok bytes) × ¬ (IsLong 1 most bytes))

@@ -17,27 +17,35 @@ use Rattle.mm_base.specs.declared.commands.Command.TheVariants as commands
 abbrev pub id_field : Field
 id_field = NumberFrom (pos 1) (pos (2 ^ 53))
 
+-- a zoom level
 abbrev pub zoom_field : Field
 zoom_field = NumberFrom (pos 0) (pos 30)
 
+-- a column or row of tiles
 abbrev pub place_field : Field
 place_field = NumberFrom (pos 0) (pos (2 ^ 30 - 1))
 
+-- the amount of an attribute row
 abbrev pub amount_field : Field
 amount_field = NumberFrom (neg_ℤ (pos (10 ^ 15))) (pos (10 ^ 15))
 
+-- a system's description, a row's title, a row's note
 abbrev pub remark_field : Field
 remark_field = TextOf 0 1000
 
+-- what the fields of a record hold, one after another
 abbrev pub Form : Type 0
 Form = List Field
 
+-- a tile: pyramid, zoom, column, row and bytes
 abbrev pub tile_form : Form
 tile_form = AName ∷ zoom_field ∷ place_field ∷ place_field ∷ BytesTo 1048576 ∷ []
 
+-- a tile to be removed: pyramid, zoom, column and row
 abbrev pub tile_drop_form : Form
 tile_drop_form = AName ∷ zoom_field ∷ place_field ∷ place_field ∷ []
 
+-- an attribute row: table, number, title, note and amount
 abbrev pub row_form : Form
 row_form = AName ∷ id_field ∷ remark_field ∷ remark_field ∷ amount_field ∷ []
 
@@ -45,24 +53,31 @@ row_form = AName ∷ id_field ∷ remark_field ∷ remark_field ∷ amount_field
 abbrev pub item_form : Form
 item_form = AName ∷ id_field ∷ []
 
+-- a medium: table, number, content type and bytes
 abbrev pub media_form : Form
 media_form = AName ∷ id_field ∷ AContentType ∷ BytesTo 4194304 ∷ []
 
+-- a mapping row: mapping, and the numbers of the base and the related item
 abbrev pub map_form : Form
 map_form = AName ∷ id_field ∷ id_field ∷ []
 
+-- the width or height of a pixel, in the profile's unit
 abbrev pub pixel_size : Profile → Field
 pixel_size profile = NumberFrom (pos 1) (pos profile.pixel_size)
 
+-- the width or height of a matrix, in tiles
 abbrev pub matrix_side : Field
 matrix_side = NumberFrom (pos 1) (pos (2 ^ 30))
 
+-- the width or height of a tile, in pixels
 abbrev pub tile_side : Field
 tile_side = NumberFrom (pos 1) (pos 4096)
 
+-- a matrix: pyramid, zoom, and the width and height of the matrix in tiles, of a tile in pixels, and of a pixel
 abbrev pub matrix_form : Profile → Form
 matrix_form profile = AName ∷ zoom_field ∷ matrix_side ∷ matrix_side ∷ tile_side ∷ tile_side ∷ pixel_size profile ∷ pixel_size profile ∷ []
 
+-- the nine words that a piece begins with, each with the form of what follows it
 abbrev pub piece_forms : Profile → List (Text × Form)
 piece_forms profile =
     (codes "tile", tile_form) ∷ (codes "tile-drop", tile_drop_form) ∷ (codes "row", row_form) ∷ (codes "row-drop", item_form)
@@ -72,18 +87,23 @@ piece_forms profile =
 abbrev pub coordinate : Profile → Field
 coordinate profile = NumberFrom (neg_ℤ (pos profile.coordinate)) (pos profile.coordinate)
 
+-- the kind of a pyramid
 abbrev pub step_words : Field
 step_words = OneOf (codes "two" ∷ codes "other" ∷ [])
 
+-- the kind of a table that is no pyramid
 abbrev pub kind_words : Field
 kind_words = OneOf (codes "attributes" ∷ codes "media" ∷ [])
 
+-- the name of a relation
 abbrev pub relation_words : Field
 relation_words = OneOf (codes "media" ∷ codes "simple_attributes" ∷ [])
 
+-- the name of a reference system, or its organization
 abbrev pub system_name : Field
 system_name = TextOf 1 1000
 
+-- the definition of a reference system
 abbrev pub definition_field : Field
 definition_field = TextOf 1 8192
 
@@ -91,17 +111,21 @@ definition_field = TextOf 1 8192
 abbrev pub named_system : Field
 named_system = NumberFrom (negsuc 0) (pos (2 ^ 53))
 
+-- a reference system: number, name, organization, number at the organization, definition and description
 abbrev pub srs_form : Form
 srs_form = id_field ∷ system_name ∷ system_name ∷ id_field ∷ definition_field ∷ remark_field ∷ []
 
+-- a pyramid: name, identifier, system, extent as min_x, min_y, max_x and max_y, and kind
 abbrev pub pyramid_form : Profile → Form
 pyramid_form profile =
     AName ∷ AnIdentifier ∷ named_system ∷ coordinate profile ∷ coordinate profile ∷ coordinate profile ∷ coordinate profile
     ∷ step_words ∷ []
 
+-- a table that is no pyramid: name, kind and identifier
 abbrev pub table_form : Form
 table_form = AName ∷ kind_words ∷ AnIdentifier ∷ []
 
+-- a relation: mapping, base table, related table and relation name
 abbrev pub relation_form : Form
 relation_form = AName ∷ AName ∷ AName ∷ relation_words ∷ []
 
@@ -109,6 +133,7 @@ relation_form = AName ∷ AName ∷ AName ∷ relation_words ∷ []
 abbrev pub name_form : Form
 name_form = AName ∷ []
 
+-- the words of all other commands but `stage`, each with the form of what follows it
 abbrev pub other_forms : Profile → List (Text × Form)
 other_forms profile =
     (codes "srs", srs_form) ∷ (codes "pyramid", pyramid_form profile) ∷ (codes "table", table_form) ∷ (codes "drop", name_form)
@@ -120,6 +145,7 @@ abbrev pub form_of : List (Text × Form) → Text → Option Form
 form_of [] word = None
 form_of (entry ∷ entries) word = if bytes_eq word entry.0 then Some entry.1 else form_of entries word
 
+-- the form of the record of a piece, by its word
 abbrev pub piece_form : Profile → List Text → Option Form
 piece_form profile [] = None
 piece_form profile (word ∷ texts) = form_of (piece_forms profile) word
@@ -129,10 +155,12 @@ abbrev pub with_piece : Option Form → Text → Option Form
 with_piece None word = None
 with_piece (Some form) word = Some (AName ∷ id_field ∷ OneOf (word ∷ []) ∷ form)
 
+-- the form of a `stage` record, by the fields after that word, of which the third is the piece's word
 abbrev pub stage_form : Profile → List Text → Option Form
 stage_form profile (edition ∷ number ∷ word ∷ texts) = with_piece (form_of (piece_forms profile) word) word
 stage_form profile _ = None
 
+-- the form of the record of a command, by its word, and of `stage` by the piece's word too
 abbrev pub record_form : Profile → List Text → Option Form
 record_form profile [] = None
 record_form profile (word ∷ texts) = if bytes_eq word (codes "stage") then stage_form profile texts else form_of (piece_forms profile ++ other_forms profile) word
@@ -149,9 +177,11 @@ piece_word (Map mapping base_id related_id) = codes "map"
 piece_word (MapDrop mapping base_id related_id) = codes "map-drop"
 piece_word (pieces.Matrix table zoom matrix) = codes "matrix"
 
+-- the six numbers of a matrix, in the order of its record
 abbrev pub matrix_values : Matrix → List Value
 matrix_values m = Whole (pos m.mw) ∷ Whole (pos m.mh) ∷ Whole (pos m.tw) ∷ Whole (pos m.th) ∷ Whole m.px ∷ Whole m.py ∷ []
 
+-- the values of a piece's fields after its word
 abbrev pub piece_values : Piece → List Value
 piece_values (Tile table zoom column row bytes) = Plain table ∷ Whole (pos zoom) ∷ Whole (pos column) ∷ Whole (pos row) ∷ Plain bytes ∷ []
 piece_values (TileDrop table zoom column row) = Plain table ∷ Whole (pos zoom) ∷ Whole (pos column) ∷ Whole (pos row) ∷ []
@@ -163,6 +193,7 @@ piece_values (Map mapping base_id related_id) = Plain mapping ∷ Whole base_id 
 piece_values (MapDrop mapping base_id related_id) = Plain mapping ∷ Whole base_id ∷ Whole related_id ∷ []
 piece_values (pieces.Matrix table zoom matrix) = Plain table ∷ Whole (pos zoom) ∷ matrix_values matrix
 
+-- the word that the record of a command begins with
 abbrev pub command_word : Command → Text
 command_word (commands.Srs id name organization organization_id definition description) = codes "srs"
 command_word (commands.Pyramid table identifier srs min_x min_y max_x max_y step) = codes "pyramid"
@@ -185,6 +216,7 @@ command_word (commands.Stage edition number piece) = codes "stage"
 command_word (commands.Publish edition) = codes "publish"
 command_word (commands.Rehearse edition) = codes "rehearse"
 
+-- the values of a command's fields after its word; of `stage` the piece's word is one
 abbrev pub command_values : Command → List Value
 command_values (commands.Srs id name organization organization_id definition description) =
     Whole id ∷ Plain name ∷ Plain organization ∷ Whole organization_id ∷ Plain definition ∷ Plain description ∷ []
@@ -220,18 +252,22 @@ abbrev pub IsUnmet : Option Form → List Text → ℕ → Type 0
 IsUnmet None texts n = n ≡ 10
 IsUnmet (Some form) texts n = IsAgainstSome form texts n
 
+-- the fields of a record, its word first, spell this piece
 abbrev pub SpellsPiece : Profile → List Text → Piece → Type 0
 SpellsPiece profile [] q = ⊥
 SpellsPiece profile (word ∷ texts) q = (word ≡ piece_word q) × IsMet (piece_form profile (word ∷ texts)) texts (piece_values q)
 
+-- the number holds against the fields of a record that is to spell a piece
 abbrev pub HoldsAgainstPiece : Profile → List Text → ℕ → Type 0
 HoldsAgainstPiece profile [] n = n ≡ 10
 HoldsAgainstPiece profile (word ∷ texts) n = IsUnmet (piece_form profile (word ∷ texts)) texts n
 
+-- the fields of a record, its word first, spell this command
 abbrev pub Spells : Profile → List Text → Command → Type 0
 Spells profile [] c = ⊥
 Spells profile (word ∷ texts) c = (word ≡ command_word c) × IsMet (record_form profile (word ∷ texts)) texts (command_values c)
 
+-- the number holds against the fields of a record that is to spell a command
 abbrev pub HoldsAgainst : Profile → List Text → ℕ → Type 0
 HoldsAgainst profile [] n = n ≡ 10
 HoldsAgainst profile (word ∷ texts) n = IsUnmet (record_form profile (word ∷ texts)) texts n

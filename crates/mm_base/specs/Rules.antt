@@ -16,12 +16,15 @@ use Rattle.mm_base.specs.declared.commands.Piece.{Piece}
 abbrev pub geographic : System
 geographic = record { name = codes "WGS 84 geographic"; organization = codes "EPSG"; organization_id = pos 4326; definition = codes "EPSG:4326"; description = codes "longitude and latitude" }
 
+-- the given system -1, of undefined Cartesian coordinates
 abbrev pub undefined_cartesian : System
 undefined_cartesian = record { name = codes "Undefined Cartesian"; organization = codes "NONE"; organization_id = negsuc 0; definition = codes "undefined"; description = codes "undefined Cartesian coordinates" }
 
+-- the given system 0, of undefined geographic coordinates
 abbrev pub undefined_geographic : System
 undefined_geographic = record { name = codes "Undefined geographic"; organization = codes "NONE"; organization_id = pos 0; definition = codes "undefined"; description = codes "undefined geographic coordinates" }
 
+-- 4326, -1 and 0 stand with these values
 pub record GivenSystems (systems : SystemsPart) : Type 0 where
   pub geographic_stands : Has systems (pos 4326) geographic
   pub cartesian_stands : Has systems (negsuc 0) undefined_cartesian
@@ -35,6 +38,7 @@ IsPlane system = (system ≢ pos 0) × (system ≢ pos 4326)
 abbrev pub MayName : SystemsPart → Kinds → Text → ℤ → Type 0
 MayName systems kinds table system = Stands systems system × (IsPyramid kinds table → IsPlane system)
 
+-- each contents row that has a system, and each matrix set, names one that its table may name
 pub record NamedSystems (systems : SystemsPart) (contents : ContentsPart) (kinds : Kinds) (sets : SetsPart) : Type 0 where
   pub of_contents : Each contents (λ table c. IfSome c.system (MayName systems kinds table))
   pub of_sets : Each sets (λ table s. MayName systems kinds table s.system)
@@ -53,6 +57,7 @@ pub record Names (contents : ContentsPart) (relations : RelationsPart) (editions
 abbrev pub IsUnplaced : Contents → Option MatrixSet → Type 0
 IsUnplaced c set = (c.data_type ≡ codes "attributes") × (c.min_x ≡ None) × (c.min_y ≡ None) × (c.max_x ≡ None) × (c.max_y ≡ None) × (c.system ≡ None) × (set ≡ None)
 
+-- the contents row of a pyramid: data_type `tiles`, and the system and the extent of its matrix set
 pub record IsPlacedAt (c : Contents) (s : MatrixSet) : Type 0 where
   pub data_type : c.data_type ≡ codes "tiles"
   pub system : c.system ≡ Some s.system
@@ -61,6 +66,7 @@ pub record IsPlacedAt (c : Contents) (s : MatrixSet) : Type 0 where
   pub max_x : c.max_x ≡ Some s.box.max_x
   pub max_y : c.max_y ≡ Some s.box.max_y
 
+-- a pyramid has a matrix set, and its contents row tells the same
 abbrev pub IsPlaced : Contents → Option MatrixSet → Type 0
 IsPlaced c None = ⊥
 IsPlaced c (Some s) = IsPlacedAt c s
@@ -72,6 +78,7 @@ Suits Other = IsPlaced
 Suits Attributes = IsUnplaced
 Suits Media = IsUnplaced
 
+-- each contents row has a kind that it and its matrix set, if any, suit; no other table has a kind or a matrix set
 pub record Registry (contents : ContentsPart) (kinds : Kinds) (sets : SetsPart) : Type 0 where
   pub registered : Each contents (λ table c. (kind : Kind) × HasKind kinds table kind × Suits kind c (get sets table))
   pub of_kinds : Each kinds (λ table _. Stands contents table)
@@ -81,6 +88,7 @@ pub record Registry (contents : ContentsPart) (kinds : Kinds) (sets : SetsPart) 
 abbrev pub IsOrdered : Option ℤ → Option ℤ → Type 0
 IsOrdered low high = IfSome low (λ a. IfSome high (λ b. a <ℤ b))
 
+-- no extent is empty, of a matrix set or of a contents row that has bounds
 pub record Extents (contents : ContentsPart) (sets : SetsPart) : Type 0 where
   pub of_sets : Each sets (λ _ s. (s.box.min_x <ℤ s.box.max_x) × (s.box.min_y <ℤ s.box.max_y))
   pub of_contents : Each contents (λ _ c. IsOrdered c.min_x c.max_x × IsOrdered c.min_y c.max_y)
@@ -90,10 +98,12 @@ pub record Fits (b : Box) (g : Grid) : Type 0 where
   pub across : b.max_x -ℤ b.min_x ≡ (g.matrix_width *ℤ g.tile_width) *ℤ g.pixel_x_size
   pub down : b.max_y -ℤ b.min_y ≡ (g.matrix_height *ℤ g.tile_height) *ℤ g.pixel_y_size
 
+-- the pyramid has a matrix set, and the matrix covers its extent exactly
 abbrev pub FitsIn : Option MatrixSet → Grid → Type 0
 FitsIn None g = ⊥
 FitsIn (Some s) g = Fits s.box g
 
+-- each matrix is of a pyramid, and fits in its matrix set
 abbrev pub MatricesFit : Kinds → SetsPart → MatricesPart → Type 0
 MatricesFit kinds sets matrices = Each matrices (λ k g. IsPyramid kinds k.table × FitsIn (get sets k.table) g)
 
@@ -102,6 +112,7 @@ pub record IsFiner (g h : Grid) : Type 0 where
   pub across : h.pixel_x_size <ℤ g.pixel_x_size
   pub down : h.pixel_y_size <ℤ g.pixel_y_size
 
+-- of two matrices of a table the one at the higher zoom has the smaller pixels, both across and down
 abbrev pub HigherIsFiner : MatricesPart → Type 0
 HigherIsFiner matrices = (table : Text) (low high : ℤ) (g h : Grid) → Has matrices (level table low) g → Has matrices (level table high) h → low <ℤ high → IsFiner g h
 
@@ -110,6 +121,7 @@ pub record IsHalved (g h : Grid) : Type 0 where
   pub across : g.pixel_x_size ≡ pos 2 *ℤ h.pixel_x_size
   pub down : g.pixel_y_size ≡ pos 2 *ℤ h.pixel_y_size
 
+-- where a pyramid of kind `two` has matrices at a zoom and the next, the next has half the pixel sizes, both across and down
 abbrev pub NextIsHalved : Kinds → MatricesPart → Type 0
 NextIsHalved kinds matrices = (table : Text) (zoom : ℤ) (g h : Grid) → HasKind kinds table Two → Has matrices (level table zoom) g → Has matrices (level table (zoom +ℤ pos 1)) h → IsHalved g h
 
@@ -118,6 +130,7 @@ abbrev pub IsInside : Option Grid → ℤ → ℤ → Type 0
 IsInside None column row = ⊥
 IsInside (Some g) column row = (pos 0 ≤ℤ column) × (column <ℤ g.matrix_width) × (pos 0 ≤ℤ row) × (row <ℤ g.matrix_height)
 
+-- each tile has a matrix at its zoom and lies inside it
 abbrev pub TilesInside : MatricesPart → TilesPart → Type 0
 TilesInside matrices tiles = Each tiles (λ k _. IsInside (get matrices (level k.table k.zoom)) k.column k.row)
 
@@ -133,6 +146,7 @@ pub record IsSuited (kinds : Kinds) (r : Relation) : Type 0 where
   pub base_column : r.base_column ≡ codes "id"
   pub related_column : r.related_column ≡ codes "id"
 
+-- each relation joins tables of such kinds, both by the column `id`
 abbrev pub RelationsSuited : Kinds → RelationsPart → Type 0
 RelationsSuited kinds relations = Each relations (λ _ r. IsSuited kinds r)
 
@@ -140,10 +154,12 @@ RelationsSuited kinds relations = Each relations (λ _ r. IsSuited kinds r)
 abbrev pub HasItem : RowsPart → MediaPart → Text → ℤ → Type 0
 HasItem rows media table id = Stands rows (item table id) ⊎ Stands media (item table id)
 
+-- there is such a relation, and its base and related table have the items that the mapping row names
 abbrev pub Joins : RowsPart → MediaPart → Option Relation → Pairing → Type 0
 Joins rows media None k = ⊥
 Joins rows media (Some r) k = HasItem rows media r.base k.base_id × HasItem rows media r.related k.related_id
 
+-- each mapping row joins two items by its mapping's relation
 abbrev pub PairingsJoin : RowsPart → MediaPart → RelationsPart → PairingsPart → Type 0
 PairingsJoin rows media relations pairings = Each pairings (λ k _. Joins rows media (get relations k.mapping) k)
 
@@ -153,6 +169,7 @@ IsWanted kinds relations e =
     (e ≡ general_extension)
     ⊎ (((mapping : Text) × Stands relations mapping × (e ≡ mapping_extension mapping)) ⊎ ((table : Text) × HasKind kinds table Other × (e ≡ zoom_extension table)))
 
+-- no other extension row stands than the wanted ones, and each of these stands once
 pub record ExactExtensions (kinds : Kinds) (relations : RelationsPart) (extensions : ExtensionsPart) : Type 0 where
   pub only : Each extensions (λ e count. IsWanted kinds relations e × (count ≡ 1))
   pub all : (e : Extension) → IsWanted kinds relations e → Has extensions e 1
@@ -166,6 +183,7 @@ IsNumbered pieces edition n = (number : ℤ) → (Stands pieces (piece edition n
 abbrev pub IsSpelled : Profile → PieceRow → Type 0
 IsSpelled profile r = (q : Piece) × (r ≡ piece_row q) × IsPieceWithin profile q × Takes profile q
 
+-- each edition is open or published; an open one has pieces 1 to n, n at most 4096; only open ones have pieces, each spelled
 pub record Editions (profile : Profile) (editions : EditionsPart) (pieces : PiecesPart) : Type 0 where
   pub states : Each editions (λ _ state. (state ≡ open_state) ⊎ (state ≡ published_state))
   pub numbered : (edition : Text) → Has editions edition open_state → (n : ℕ) × (n ≤ MostPieces) × IsNumbered pieces edition n
@@ -181,6 +199,7 @@ IsGiven id = (id ≡ pos 4326) ⊎ ((id ≡ negsuc 0) ⊎ (id ≡ pos 0))
 abbrev pub AreSystemNumbers : ℤ → ℤ → Type 0
 AreSystemNumbers id organization_id = (IsId id × IsId organization_id) ⊎ (IsGiven id × IsSystemNumber organization_id)
 
+-- a reference system, by its number
 pub record SystemWithin (id : ℤ) (s : System) : Type 0 where
   pub numbers : AreSystemNumbers id s.organization_id
   pub name : IsSystemName s.name
@@ -188,6 +207,7 @@ pub record SystemWithin (id : ℤ) (s : System) : Type 0 where
   pub definition : IsDefinition s.definition
   pub description : IsRemark s.description
 
+-- a contents row, by table name: bounds in the profile's unit, an empty description, and a stamp as last_change
 pub record ContentsWithin (profile : Profile) (key : Text) (c : Contents) : Type 0 where
   pub table : IsName key
   pub data_type : IsClean c.data_type
@@ -200,20 +220,24 @@ pub record ContentsWithin (profile : Profile) (key : Text) (c : Contents) : Type
   pub max_y : IfSome c.max_y (IsCoordinate profile)
   pub system : IfSome c.system IsSystemNumber
 
+-- an entry of the registry: the table's name, and any text as its kind
 abbrev pub KindWithin : Text → Text → Type 0
 KindWithin table kind = IsName table × IsClean kind
 
+-- four coordinates in the profile's unit, in whatever order
 pub record BoxWithin (profile : Profile) (b : Box) : Type 0 where
   pub min_x : IsCoordinate profile b.min_x
   pub min_y : IsCoordinate profile b.min_y
   pub max_x : IsCoordinate profile b.max_x
   pub max_y : IsCoordinate profile b.max_y
 
+-- a matrix set, by table name, with its extent in the profile's unit
 pub record SetWithin (profile : Profile) (key : Text) (s : MatrixSet) : Type 0 where
   pub table : IsName key
   pub system : IsSystemNumber s.system
   pub box : BoxWithin profile s.box
 
+-- a matrix, by table and zoom, with its pixel sizes in the profile's unit
 pub record MatrixWithin (profile : Profile) (k : Level) (g : Grid) : Type 0 where
   pub table : IsName k.table
   pub zoom : IsZoom k.zoom
@@ -232,6 +256,7 @@ pub record ExtensionWithin (e : Extension) (count : ℕ) : Type 0 where
   pub definition : IsClean e.definition
   pub scope : IsClean e.scope
 
+-- a tile, by its place, with its bytes
 pub record TileWithin (k : TileKey) (content : List ℕ) : Type 0 where
   pub table : IsName k.table
   pub zoom : IsZoom k.zoom
@@ -239,6 +264,7 @@ pub record TileWithin (k : TileKey) (content : List ℕ) : Type 0 where
   pub row : IsTilePlace k.row
   pub bytes : IsTileBytes content
 
+-- an attribute row, by table and number
 pub record RowWithin (k : Item) (r : AttributeRow) : Type 0 where
   pub table : IsName k.table
   pub id : IsId k.id
@@ -246,12 +272,14 @@ pub record RowWithin (k : Item) (r : AttributeRow) : Type 0 where
   pub note : IsRemark r.note
   pub amount : IsAmount r.amount
 
+-- a medium, by table and number
 pub record MediumWithin (k : Item) (m : Medium) : Type 0 where
   pub table : IsName k.table
   pub id : IsId k.id
   pub bytes : IsMediaBytes m.bytes
   pub content_type : IsContentType m.content_type
 
+-- a relation, by mapping name; of its columns and its own name only that they are texts
 pub record RelationWithin (key : Text) (r : Relation) : Type 0 where
   pub mapping : IsName key
   pub base : IsName r.base
@@ -260,11 +288,13 @@ pub record RelationWithin (key : Text) (r : Relation) : Type 0 where
   pub related_column : IsClean r.related_column
   pub name : IsClean r.name
 
+-- a mapping row, which is a key alone
 pub record PairingWithin (k : Pairing) (u : ⊤) : Type 0 where
   pub mapping : IsName k.mapping
   pub base_id : IsId k.base_id
   pub related_id : IsId k.related_id
 
+-- an edition's name, and any text as its state
 abbrev pub EditionWithin : Text → Text → Type 0
 EditionWithin edition state = IsName edition × IsClean state
 
@@ -272,6 +302,7 @@ EditionWithin edition state = IsName edition × IsClean state
 abbrev pub PieceWithin : PieceKey → PieceRow → Type 0
 PieceWithin k r = IsName k.edition × IsId k.number
 
+-- each entry of each part is within its limits
 abbrev pub Limits : Profile → Package → Type 0
 Limits profile p =
     Each p.systems SystemWithin

@@ -20,6 +20,7 @@ abbrev pub answers : Package → List Call → List (Option Refusal)
 answers p [] = []
 answers p (c ∷ cs) = refusal p c.command ∷ answers (step p c.command c.moment) cs
 
+-- this call before the others, if it was answered ok
 abbrev pub if_ok : Option Refusal → Call → List Call → List Call
 if_ok None c cs = c ∷ cs
 if_ok (Some r) c cs = cs

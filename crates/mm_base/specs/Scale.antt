@@ -7,6 +7,7 @@ use Rattle.mm_base.specs.Package.{Package, Contents, Box, MatrixSet, Grid}
 abbrev pub finer : ℤ → ℤ
 finer z = pos 1000 *ℤ z
 
+-- a contents row with its bounds, where they stand, in the smaller unit
 abbrev pub finer_contents : Contents → Contents
 finer_contents c = record c {
   min_x = option_map finer c.min_x;
@@ -15,12 +16,15 @@ finer_contents c = record c {
   max_y = option_map finer c.max_y;
 }
 
+-- a box in the smaller unit
 abbrev pub finer_box : Box → Box
 finer_box b = record { min_x = finer b.min_x; min_y = finer b.min_y; max_x = finer b.max_x; max_y = finer b.max_y }
 
+-- a matrix set with its extent in the smaller unit
 abbrev pub finer_set : MatrixSet → MatrixSet
 finer_set s = record s { box = finer_box s.box }
 
+-- a matrix with its pixel sizes in the smaller unit
 abbrev pub finer_grid : Grid → Grid
 finer_grid g = record g { pixel_x_size = finer g.pixel_x_size; pixel_y_size = finer g.pixel_y_size }
 

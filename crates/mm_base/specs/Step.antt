@@ -16,6 +16,7 @@ publishing p (commands.Publish edition) stamp = edition_trial p edition stamp
 publishing p (commands.Rehearse edition) stamp = edition_trial p edition stamp
 publishing p _ stamp = Ok p
 
+-- the command publishes or rehearses an edition that is open
 abbrev pub is_publishing : Package → Command → Bool
 is_publishing p (commands.Publish edition) = is_open p edition
 is_publishing p (commands.Rehearse edition) = is_open p edition
@@ -25,6 +26,7 @@ is_publishing p _ = false
 abbrev pub reasons_at : Package → Command → Text → Reasons
 reasons_at p c stamp = own_reasons p c ++ (53, is_publishing p c && is_err (publishing p c stamp)) ∷ []
 
+-- the piece that is refused, with its refusal, if one is
 abbrev pub refused_piece : Result Package PieceRefusal → Option PieceRefusal
 refused_piece (Ok p) = None
 refused_piece (Err r) = Some r
@@ -34,6 +36,7 @@ abbrev pub refusal_of : Option ℕ → Option PieceRefusal → Option Refusal
 refusal_of None piece = None
 refusal_of (Some number) piece = Some (record { number = number; piece = if number == 53 then piece else None })
 
+-- what a command is refused with where the pieces are tried at this stamp, or None where it is ok
 abbrev pub refusal_at : Package → Command → Text → Option Refusal
 refusal_at p c stamp = refusal_of (least (reasons_at p c stamp)) (refused_piece (publishing p c stamp))
 
@@ -41,9 +44,11 @@ refusal_at p c stamp = refusal_of (least (reasons_at p c stamp)) (refused_piece 
 abbrev pub reasons : Package → Command → Reasons
 reasons p c = reasons_at p c []
 
+-- what a command is refused with on this package, or None where it is ok
 abbrev pub refusal : Package → Command → Option Refusal
 refusal p c = refusal_at p c []
 
+-- what the pieces gave, with the edition closed; the package as it was where one is refused
 abbrev pub closed_by : Text → Result Package PieceRefusal → Package → Package
 closed_by edition (Ok q) p = closed edition q
 closed_by edition (Err r) p = p
@@ -53,6 +58,7 @@ abbrev pub done : Package → Command → Text → Package
 done p (commands.Publish edition) stamp = closed_by edition (edition_trial p edition stamp) p
 done p c stamp = effect p c stamp
 
+-- the next package, or the one before where there is a refusal
 abbrev pub unless_refused : Option Refusal → Package → Package → Package
 unless_refused None next p = next
 unless_refused (Some r) next p = p

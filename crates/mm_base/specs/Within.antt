@@ -8,6 +8,7 @@ use Rattle.mm_base.specs.declared.commands.Piece.TheVariants.{Tile, TileDrop, Ro
 use Rattle.mm_base.specs.declared.commands.Command.{Command}
 use Rattle.mm_base.specs.declared.commands.Command.TheVariants as commands
 
+-- the six numbers of a matrix are within their limits, the pixel sizes in the profile's unit
 pub record IsMatrixWithin (profile : Profile) (m : Matrix) : Type 0 where
   pub mw : IsMatrixSide (pos m.mw)
   pub mh : IsMatrixSide (pos m.mh)
@@ -16,6 +17,7 @@ pub record IsMatrixWithin (profile : Profile) (m : Matrix) : Type 0 where
   pub px : IsPixelSize profile m.px
   pub py : IsPixelSize profile m.py
 
+-- each field of a piece is within its limits
 abbrev pub IsPieceWithin : Profile → Piece → Type 0
 IsPieceWithin profile (Tile table zoom column row bytes) = IsName table × IsZoom (pos zoom) × IsTilePlace (pos column) × IsTilePlace (pos row) × IsTileBytes bytes
 IsPieceWithin profile (TileDrop table zoom column row) = IsName table × IsZoom (pos zoom) × IsTilePlace (pos column) × IsTilePlace (pos row)
@@ -32,6 +34,7 @@ abbrev pub Takes : Profile → Piece → Type 0
 Takes profile (pieces.Matrix table zoom matrix) = IsTrue profile.matrix_pieces
 Takes profile _ = ⊤
 
+-- each field of a command is within its limits, and what it stages is a piece that the profile takes
 abbrev pub IsWithin : Profile → Command → Type 0
 IsWithin profile (commands.Srs id name organization organization_id definition description) =
     IsId id × IsSystemName name × IsSystemName organization × IsId organization_id × IsDefinition definition × IsRemark description

@@ -17,9 +17,11 @@ use Rattle.mm_store.specs.Blobs.{Blob, Shelf, bytes_at}
 use Rattle.mm_store.specs.Kept.{Kept, Spare, IsNamed}
 use Rattle.mm_store.specs.Stands.{HoldingBut, Ground, StandsOn}
 
+-- this blob too may stand though nothing names it
 abbrev pub spare_too : ℤ → Spare → Spare
 spare_too id spare z = spare z || same_number z id
 
+-- these blobs may, but not this one
 abbrev pub spare_but : ℤ → Spare → Spare
 spare_but id spare z = spare z && not (same_number z id)
 
@@ -27,6 +29,7 @@ spare_but id spare z = spare z && not (same_number z id)
 abbrev pub spare_each : List Row → Spare → Spare
 spare_each rows spare z = spare z || list_any (has_key (0 ∷ []) (Int z ∷ [])) rows
 
+-- a package, and how its bytes are kept
 pub record View : Type 0 where
   pub content : Package
   pub kept : Kept
@@ -35,6 +38,7 @@ pub record View : Type 0 where
 abbrev pub HoldsAs : Spare → ℤ → Trees → View → Type 0
 HoldsAs spare version tables x = (h : HoldingBut spare version tables x.content) × (h.kept ≡ x.kept)
 
+-- the database obeys the schema of the profile and holds the package kept so, but for these blobs
 pub record Sees (spare : Spare) (version : ℤ) (db : Database) (x : View) : Type 0 where
   pub schema_is : db.schema ≡ schema
   pub sound : ∥ IsSound schema db.trees ∥₁
@@ -53,10 +57,12 @@ pub record IsSeen (spare : Spare) (profile : Profile) (s : State) (ground : Grou
 abbrev pub Lacks : Shelf → List ℕ → Type 0
 Lacks shelf bytes = (id : ℤ) (b : Blob) → get shelf id ≡ Some b → b.bytes ≢ bytes
 
+-- the id is that of a blob of the bytes, and there is none where no blob holds them
 abbrev pub IsFound : Shelf → List ℕ → Option ℤ → Type 0
 IsFound shelf bytes None = Lacks shelf bytes
 IsFound shelf bytes (Some id) = bytes_at shelf id ≡ Some bytes
 
+-- the answer is true where P holds, and false where it does not
 abbrev pub TellsWhether : Type 0 → Bool → Type 0
 TellsWhether P true = P
 TellsWhether P false = ¬ P

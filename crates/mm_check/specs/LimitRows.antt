@@ -11,26 +11,33 @@ use Rattle.mm_base.specs.Stamp.{IsSomeStamp}
 use Rattle.mm_rules.specs.Columns.{number_of, words_of, bytes_of}
 
 -- ---- a column
+-- it holds a text, which is UTF-8 and meets P
 abbrev pub text_by : (List ℕ → Type 0) → Value → Type 0
 text_by P v = MatchOption (words_of v) ⊥ (λ text. IsUtf8 text × P text)
 
+-- where it holds a text, that is UTF-8 and meets P
 abbrev pub text_if_any : (List ℕ → Type 0) → Value → Type 0
 text_if_any P v = IfSome (words_of v) (λ text. IsUtf8 text × P text)
 
+-- it holds a number, which meets P
 abbrev pub number_by : (ℤ → Type 0) → Value → Type 0
 number_by P v = MatchOption (number_of v) ⊥ P
 
+-- where it holds a number, that meets P
 abbrev pub number_if_any : (ℤ → Type 0) → Value → Type 0
 number_if_any P v = IfSome (number_of v) P
 
+-- it holds a blob, whose bytes meet P
 abbrev pub bytes_by : (List ℕ → Type 0) → Value → Type 0
 bytes_by P v = MatchOption (bytes_of v) ⊥ P
 
+-- two columns hold the number of a system and its number at its organization, both within their limits
 abbrev pub numbers_by : Option ℤ → Option ℤ → Type 0
 numbers_by (Some id) (Some organization_id) = AreSystemNumbers id organization_id
 numbers_by _ _ = ⊥
 
 -- ---- the rows of the tables, column by column
+-- a reference system
 pub record IsSystemWithinRow (r : Row) : Type 0 where
   pub numbers : numbers_by (number_of (column r 0)) (number_of (column r 3))
   pub name : text_by IsSystemName (column r 1)
@@ -38,6 +45,7 @@ pub record IsSystemWithinRow (r : Row) : Type 0 where
   pub definition : text_by IsDefinition (column r 4)
   pub description : text_by IsRemark (column r 5)
 
+-- a contents row, its bounds in the profile's unit; bounds and system may be missing
 pub record IsContentsWithinRow (profile : Profile) (r : Row) : Type 0 where
   pub table : text_by IsName (column r 0)
   pub data_type : text_by IsClean (column r 1)
@@ -50,10 +58,12 @@ pub record IsContentsWithinRow (profile : Profile) (r : Row) : Type 0 where
   pub max_y : number_if_any (IsCoordinate profile) (column r 8)
   pub system : number_if_any IsSystemNumber (column r 9)
 
+-- a row of the registry; of the kind only that it is a text
 pub record IsKindWithinRow (r : Row) : Type 0 where
   pub table : text_by IsName (column r 0)
   pub kind : text_by IsClean (column r 1)
 
+-- a matrix set, its bounds in the profile's unit
 pub record IsSetWithinRow (profile : Profile) (r : Row) : Type 0 where
   pub table : text_by IsName (column r 0)
   pub system : number_by IsSystemNumber (column r 1)
@@ -62,6 +72,7 @@ pub record IsSetWithinRow (profile : Profile) (r : Row) : Type 0 where
   pub max_x : number_by (IsCoordinate profile) (column r 4)
   pub max_y : number_by (IsCoordinate profile) (column r 5)
 
+-- a matrix, its pixel sizes in the profile's unit
 pub record IsMatrixWithinRow (profile : Profile) (r : Row) : Type 0 where
   pub table : text_by IsName (column r 0)
   pub zoom : number_by IsZoom (column r 1)
@@ -72,6 +83,7 @@ pub record IsMatrixWithinRow (profile : Profile) (r : Row) : Type 0 where
   pub pixel_x_size : number_by (IsPixelSize profile) (column r 6)
   pub pixel_y_size : number_by (IsPixelSize profile) (column r 7)
 
+-- an extension row, of texts alone; its table and its column may be missing
 pub record IsExtensionWithinRow (r : Row) : Type 0 where
   pub table : text_if_any IsClean (column r 0)
   pub at_column : text_if_any IsClean (column r 1)
@@ -79,6 +91,7 @@ pub record IsExtensionWithinRow (r : Row) : Type 0 where
   pub definition : text_by IsClean (column r 3)
   pub scope : text_by IsClean (column r 4)
 
+-- a tile, with its bytes
 pub record IsTileWithinRow (r : Row) : Type 0 where
   pub table : text_by IsName (column r 0)
   pub zoom : number_by IsZoom (column r 1)
@@ -86,6 +99,7 @@ pub record IsTileWithinRow (r : Row) : Type 0 where
   pub at_row : number_by IsTilePlace (column r 3)
   pub bytes : bytes_by IsTileBytes (column r 4)
 
+-- an attribute row
 pub record IsAttributeWithinRow (r : Row) : Type 0 where
   pub table : text_by IsName (column r 0)
   pub id : number_by IsId (column r 1)
@@ -93,12 +107,14 @@ pub record IsAttributeWithinRow (r : Row) : Type 0 where
   pub note : text_by IsRemark (column r 3)
   pub amount : number_by IsAmount (column r 4)
 
+-- a medium, with its bytes
 pub record IsMediumWithinRow (r : Row) : Type 0 where
   pub table : text_by IsName (column r 0)
   pub id : number_by IsId (column r 1)
   pub bytes : bytes_by IsMediaBytes (column r 2)
   pub content_type : text_by IsContentType (column r 3)
 
+-- a relation; of its primary columns and its name only that they are texts
 pub record IsRelationWithinRow (r : Row) : Type 0 where
   pub mapping : text_by IsName (column r 0)
   pub base : text_by IsName (column r 1)
@@ -107,56 +123,72 @@ pub record IsRelationWithinRow (r : Row) : Type 0 where
   pub related_column : text_by IsClean (column r 4)
   pub name : text_by IsClean (column r 5)
 
+-- a mapping row
 pub record IsPairingWithinRow (r : Row) : Type 0 where
   pub mapping : text_by IsName (column r 0)
   pub base_id : number_by IsId (column r 1)
   pub related_id : number_by IsId (column r 2)
 
+-- an edition; of its state only that it is a text
 pub record IsEditionWithinRow (r : Row) : Type 0 where
   pub name : text_by IsName (column r 0)
   pub state : text_by IsClean (column r 1)
 
+-- of a staged piece its edition and its number; all else is for rule 15
 pub record IsPieceWithinRow (r : Row) : Type 0 where
   pub edition : text_by IsName (column r 0)
   pub number : number_by IsId (column r 1)
 
 -- ---- the parts
+-- the reference systems are within their limits
 abbrev pub SystemsAreWithin : Package → Type 0
 SystemsAreWithin p = Each p.systems SystemWithin
 
+-- so are the contents rows
 abbrev pub ContentsAreWithin : Profile → Package → Type 0
 ContentsAreWithin profile p = Each p.contents (ContentsWithin profile)
 
+-- so are the names and kinds of the registry
 abbrev pub KindsAreWithin : Package → Type 0
 KindsAreWithin p = Each p.kinds KindWithin
 
+-- so are the matrix sets
 abbrev pub SetsAreWithin : Profile → Package → Type 0
 SetsAreWithin profile p = Each p.sets (SetWithin profile)
 
+-- so are the matrices
 abbrev pub MatricesAreWithin : Profile → Package → Type 0
 MatricesAreWithin profile p = Each p.matrices (MatrixWithin profile)
 
+-- so are the extension rows
 abbrev pub ExtensionsAreWithin : Package → Type 0
 ExtensionsAreWithin p = Each p.extensions ExtensionWithin
 
+-- so are the tiles
 abbrev pub TilesAreWithin : Package → Type 0
 TilesAreWithin p = Each p.tiles TileWithin
 
+-- so are the attribute rows
 abbrev pub RowsAreWithin : Package → Type 0
 RowsAreWithin p = Each p.rows RowWithin
 
+-- so are the media
 abbrev pub MediaAreWithin : Package → Type 0
 MediaAreWithin p = Each p.media MediumWithin
 
+-- so are the relations
 abbrev pub RelationsAreWithin : Package → Type 0
 RelationsAreWithin p = Each p.relations RelationWithin
 
+-- so are the mapping rows
 abbrev pub PairingsAreWithin : Package → Type 0
 PairingsAreWithin p = Each p.pairings PairingWithin
 
+-- so are the editions
 abbrev pub EditionsAreWithin : Package → Type 0
 EditionsAreWithin p = Each p.editions EditionWithin
 
+-- so are the editions and numbers of the staged pieces
 abbrev pub PiecesAreWithin : Package → Type 0
 PiecesAreWithin p = Each p.pieces PieceWithin
 
@@ -164,32 +196,42 @@ PiecesAreWithin p = Each p.pieces PieceWithin
 abbrev pub FromEditions : Package → Type 0
 FromEditions p = EditionsAreWithin p × PiecesAreWithin p
 
+-- the mapping rows and all after them
 abbrev pub FromPairings : Package → Type 0
 FromPairings p = PairingsAreWithin p × FromEditions p
 
+-- the relations and all after them
 abbrev pub FromRelations : Package → Type 0
 FromRelations p = RelationsAreWithin p × FromPairings p
 
+-- the media and all after them
 abbrev pub FromMedia : Package → Type 0
 FromMedia p = MediaAreWithin p × FromRelations p
 
+-- the attribute rows and all after them
 abbrev pub FromRows : Package → Type 0
 FromRows p = RowsAreWithin p × FromMedia p
 
+-- the tiles and all after them
 abbrev pub FromTiles : Package → Type 0
 FromTiles p = TilesAreWithin p × FromRows p
 
+-- the extension rows and all after them
 abbrev pub FromExtensions : Package → Type 0
 FromExtensions p = ExtensionsAreWithin p × FromTiles p
 
+-- the matrices and all after them
 abbrev pub FromMatrices : Profile → Package → Type 0
 FromMatrices profile p = MatricesAreWithin profile p × FromExtensions p
 
+-- the matrix sets and all after them
 abbrev pub FromSets : Profile → Package → Type 0
 FromSets profile p = SetsAreWithin profile p × FromMatrices profile p
 
+-- the registry and all after it
 abbrev pub FromKinds : Profile → Package → Type 0
 FromKinds profile p = KindsAreWithin p × FromSets profile p
 
+-- the contents rows and all after them: all parts but the reference systems
 abbrev pub FromContents : Profile → Package → Type 0
 FromContents profile p = ContentsAreWithin profile p × FromKinds profile p

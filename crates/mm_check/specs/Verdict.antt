@@ -10,6 +10,7 @@ use Rattle.mm_store.specs.Seen.{IsSeenAs}
 use Rattle.mm_store.specs.Stands.{IsSettled}
 use Rattle.mm_store.specs.Statements.{CommitsNothing}
 
+-- the first of two where the test is true, else the second
 abbrev pub either : Bool → Type 0 → Type 0 → Type 0
 either true A B = A
 either false A B = B
@@ -42,6 +43,7 @@ Before profile k p = rule profile 16 p × ((j : ℕ) → 1 ≤ j → j < k → r
 abbrev pub IsFailing : Profile → Package → ℕ → Type 0
 IsFailing profile p k = ((k ≡ 16) × (rule profile 16 p → ⊥)) ⊎ ((1 ≤ k) × (k < 16) × Before profile k p × (rule profile k p → ⊥))
 
+-- None where the package meets all sixteen rules, else the rule that is told of it
 abbrev pub IsVerdict : Profile → Package → Option ℕ → Type 0
 IsVerdict profile p None = Meets profile p
 IsVerdict profile p (Some k) = IsFailing profile p k

@@ -17,6 +17,7 @@ use Rattle.mm_store.specs.Shapes.{IsPut, Answers}
 abbrev pub step_at : Package → Command → Text → Package
 step_at p c at = unless_refused (refusal p c) (done p c at) p
 
+-- as `IsLent`, with this text in place of the stamp of a moment
 pub record IsLentAt (profile : Profile) (c : Command) (at : Text) (old new : State) (result : Result Outcome Fault) : Type 0 where
   pub survives : CommitsNothing old new
   pub on : HasCleanDisk new → (ground : Ground) (p : Package) → IsPut profile old ground p → StandsOn new ground

@@ -15,6 +15,7 @@ use Rattle.mm_store.specs.Stands.{Ground, StandsOn, IsInside}
 use Rattle.mm_store.specs.Faults.{IsStoreFault}
 use Rattle.mm_store.specs.Statements.{CommitsNothing}
 
+-- the refusal where no table has the name
 abbrev pub no_such_table : Refusal
 no_such_table = record { number = 25; piece = None }
 

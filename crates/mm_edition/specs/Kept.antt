@@ -16,6 +16,7 @@ abbrev pub plain : {A : Type 0} → Option (Vec ℕ A) → List ℕ
 plain None = []
 plain (Some bytes) = bytes.items
 
+-- the row of a piece that was read, with the bytes of its blob
 abbrev pub kept_row : Kept → PieceRow
 kept_row k = record {
   kind = string_bytes k.kind;

@@ -5,6 +5,7 @@ use Rattle.mm_base.specs.declared.answers.Fault.{Fault}
 use Rattle.mm_store.specs.Faults.{IsStoreFault}
 use Rattle.mm_store.specs.Statements.{CommitsNothing}
 
+-- the call commits nothing, and its faults are 90 and 91
 pub record IsQuiet {T : Type 0} (old new : State) (result : Result T Fault) : Type 0 where
   pub survives : CommitsNothing old new
   pub faults : IfErr result IsStoreFault

@@ -20,6 +20,8 @@ TellsRefusal p edition (Ok Done) = refusal p (commands.Rehearse edition) ≡ Non
 TellsRefusal p edition (Ok (Refused why)) = refusal p (commands.Rehearse edition) ≡ Some why
 TellsRefusal p edition (Err fault) = ⊤
 
+-- It commits nothing, leaves the connection settled for the package that it was settled for, and answers what publishing would be
+-- refused with, if anything.
 pub record IsRehearsal (profile : Profile) (edition : Text) (old new : State) (result : Result Outcome Fault) : Type 0 where
   pub survives : CommitsNothing old new
   pub settled : HasCleanDisk new → (p : Package) → Meets profile p → IsSettled profile old p → IsSettled profile new p

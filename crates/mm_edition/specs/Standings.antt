@@ -4,6 +4,7 @@ use Rattle.mm_base.specs.Package.{open_state, published_state}
 use Rattle.mm_edition.specs.declared.editions.Standing.{Standing}
 use Rattle.mm_edition.specs.declared.editions.Standing.TheVariants.{Open, Published}
 
+-- the state that the edition's row holds
 abbrev pub standing_text : Standing → Text
 standing_text Open = open_state
 standing_text Published = published_state

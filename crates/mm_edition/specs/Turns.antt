@@ -36,6 +36,7 @@ module _ (profile : Profile) (edition : Text) (number moment : ℕ) where
   Takes new ground p End = (get p.pieces (piece edition (pos number)) ≡ None) × IsTrue new.is_open × IsReady profile new ground p
   Takes new ground p (Refused why) = (q : Piece) × (get p.pieces (piece edition (pos number)) ≡ Some (piece_row q)) × (least (piece_reasons p q) ≡ Some why)
 
+  -- It commits nothing, a rollback goes back to where it did, and what it answers says what became of the piece of the number.
   pub record IsTurn (old new : State) (result : Result Turn Fault) : Type 0 where
     pub survives : CommitsNothing old new
     pub on : HasCleanDisk new → (ground : Ground) (p : Package) → IsReady profile old ground p → StandsOn new ground
@@ -48,6 +49,7 @@ module _ (profile : Profile) (edition : Text) (moment : ℕ) where
   Tells new ground p None = (q : Package) × (edition_trial p edition (stamp moment) ≡ Ok q) × (q.editions ≡ p.editions) × IsTrue new.is_open × IsReady profile new ground q
   Tells new ground p (Some refused) = edition_trial p edition (stamp moment) ≡ Err refused
 
+  -- It commits nothing, a rollback goes back to where it did, and what it answers says what became of the pieces of an open edition.
   pub record IsTrial (old new : State) (result : Result (Option (ℕ × ℕ)) Fault) : Type 0 where
     pub survives : CommitsNothing old new
     pub on : HasCleanDisk new → (ground : Ground) (p : Package) → IsReady profile old ground p → get p.editions edition ≡ Some open_state → StandsOn new ground

@@ -23,6 +23,7 @@ pub record HasPieces (p : Package) (name : Text) (list : List Piece) : Type 0 wh
   pub numbers : IsNumbered p.pieces name (length list)
   pub each : (i : ℕ) (q : Piece) → numbered list i ≡ Some q → get p.pieces (piece name (pos i)) ≡ Some (piece_row q)
 
+-- the edition of the name as the package has it, or that it has none
 abbrev pub IsEdition : Package → Text → Option Edition → Type 0
 IsEdition p name None = get p.editions name ≡ None
 IsEdition p name (Some Published) = get p.editions name ≡ Some published_state

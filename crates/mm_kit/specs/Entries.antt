@@ -23,6 +23,7 @@ abbrev pub takes_file : Record → Bool
 takes_file [] = false
 takes_file (word ∷ rest) = bytes_eq word (codes "tile") || bytes_eq word (codes "media")
 
+-- the name of the file, where the record takes one
 abbrev pub file_of : Record → Option Text
 file_of r = if takes_file r then Some (get_or r (length r - 1) []) else None
 
@@ -36,6 +37,7 @@ entry_of (pieces.Tile table zoom column row bytes) (Some file) = Tile table zoom
 entry_of (pieces.Media table id content_type bytes) (Some file) = Media table id content_type file
 entry_of q file = Ready q
 
+-- the file's name is in form, where there is one
 abbrev pub IsInForm : Option Text → Type 0
 IsInForm None = ⊤
 IsInForm (Some name) = IsFileName name
@@ -58,6 +60,7 @@ IsReadAs place r (Ok e) = AllText r × IsEntry place r e
 IsReadAs place r (Err n) = (AllText r × IsLeast (HoldsAgainstEntry place r) n) ⊎ (¬ (AllText r) × (n ≡ 10))
 
 -- ---- inside the reader
+-- a field that may be missing, as its text
 abbrev pub text_of : Option (Bor Text) → Option Text
 text_of None = None
 text_of (Some field) = Some field.now

@@ -11,6 +11,7 @@ is_first c = (nat_le 48 c && nat_le c 57) || (nat_le 65 c && nat_le c 90) || (na
 abbrev pub is_further : ℕ → Bool
 is_further c = is_first c || (c == 46)
 
+-- there is a first byte, which is a letter, a digit, `_` or `-`
 abbrev pub begins_well : List ℕ → Bool
 begins_well [] = false
 begins_well (c ∷ rest) = is_first c

@@ -16,6 +16,7 @@ use Rattle.mm_kit.specs.Kits.{IsWhole, against, edition_answer, filled, error_of
 use Rattle.mm_kit.specs.Lists.{IsKitList}
 use Rattle.mm_kit.specs.declared.entries.Entry.{Entry}
 
+-- the one list is a front of the other, or all of it
 abbrev pub IsFirstOf : List Piece → List Piece → Type 0
 IsFirstOf front all = (rest : List Piece) × (all ≡ front ++ rest)
 
@@ -51,6 +52,7 @@ abbrev pub HasFirst : Files → Text → List Entry → Package → Package → 
 HasFirst files name entries p q number =
     (number ≡ 57) ⊎ (number ≡ 11) → (old : List Piece) → HasPieces p name old → IsFirstOf old (kit_pieces files entries) → HasPieces q name (kit_pieces files entries)
 
+-- what q, the package after the import, has of the kit by the answer; where the list is refused it can't be complete
 abbrev pub HasAnswered : Files → Text → Result (List Entry) (ℕ × ℕ) → Package → Package → Staged → Type 0
 HasAnswered files name (Ok entries) p q (Complete n) = HasWhole files name entries q n
 HasAnswered files name (Ok entries) p q (Refused place number) = HasFirst files name entries p q number
@@ -159,6 +161,8 @@ pub record AreStaged (files : Files) (name : Text) (entries : List Entry) (p : P
   pub grows : OnlyGrows name (kit_pieces files entries) p next
   pub has : HasAnswered files name (Ok entries) p next answer
 
+-- Where staging stopped after s pieces were answered ok, each database that may be left stands for a package that meets the
+-- rules: as it was, or with the edition grown along the kit, and with as many pieces as `IsCounted` says.
 abbrev pub MayBeStaged : {D : Type 0} → Files → Text → List Entry → Package → (D → Type 0) → (D → Package → Type 0) → ℕ → Type 0
 MayBeStaged {D} files name entries p may_leave stands_for s =
     (db : D) → may_leave db → (q : Package) × stands_for db q × Meets current q × OnlyGrows name (kit_pieces files entries) p q × IsCounted s name p q

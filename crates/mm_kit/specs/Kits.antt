@@ -17,11 +17,13 @@ abbrev pub with_file : ℕ → (List ℕ → Piece) → Option (List ℕ) → Re
 with_file most make None = Err 57
 with_file most make (Some bytes) = if nat_le 1 (length bytes) && nat_le (length bytes) most then Ok (make bytes) else Err 11
 
+-- the piece of an entry, with its file's bytes where it names one: at most 1,048,576 of a tile, 4,194,304 of a medium
 abbrev pub filled : Files → Entry → Result Piece ℕ
 filled files (Ready q) = Ok q
 filled files (Tile table zoom column row file) = with_file 1048576 (λ bytes. pieces.Tile table zoom column row bytes) (files file)
 filled files (Media table id content_type file) = with_file 4194304 (λ bytes. pieces.Media table id content_type bytes) (files file)
 
+-- a piece with the later ones behind it; a file that is refused ends them
 abbrev pub or_end : Result Piece ℕ → List Piece → List Piece
 or_end (Ok q) later = q ∷ later
 or_end (Err n) later = []
@@ -38,10 +40,12 @@ kit_of files (Err at) = []
 
 -- ---- the first entry with a condition
 
+-- the number with which a file is refused, if it is
 abbrev pub error_of : Result Piece ℕ → Option ℕ
 error_of (Ok q) = None
 error_of (Err n) = Some n
 
+-- the first place with its number: this place i, where a number is against its entry, and else a later one
 abbrev pub or_later : ℕ → Option ℕ → Option (ℕ × ℕ) → Option (ℕ × ℕ)
 or_later i (Some n) later = Some (i, n)
 or_later i None later = later
@@ -62,6 +66,7 @@ abbrev pub beside : Option Piece → Piece → Option ℕ
 beside None q = None
 beside (Some other) q = if same_piece (piece_row q) (piece_row other) then None else Some 52
 
+-- what is against the entry at place i, for an edition with these pieces: the number of its file, or 52
 abbrev pub against_piece : List Piece → ℕ → Result Piece ℕ → Option ℕ
 against_piece old i (Err n) = Some n
 against_piece old i (Ok q) = beside (numbered old i) q
@@ -70,6 +75,7 @@ against_piece old i (Ok q) = beside (numbered old i) q
 abbrev pub against : Files → List Piece → ℕ → Entry → Option ℕ
 against files old i e = against_piece old i (filled files e)
 
+-- complete with n pieces, or refused at the first place that has a number against it
 abbrev pub first_answer : ℕ → Option (ℕ × ℕ) → Staged
 first_answer n None = Complete n
 first_answer n (Some at) = Refused at.0 at.1
@@ -81,6 +87,7 @@ edition_answer files entries (Some Published) = Refused 0 55
 edition_answer files entries (Some (Open old)) = if nat_lt (length entries) (length old) then Refused (length entries + 1) 52
     else first_answer (length entries) (first_number (against files old) 1 entries)
 
+-- the answer for a list and an edition; a list that is refused is answered with its place and number, whatever the edition
 abbrev pub kit_answer : Files → Result (List Entry) (ℕ × ℕ) → Option Edition → Staged
 kit_answer files (Ok entries) edition = edition_answer files entries edition
 kit_answer files (Err at) edition = Refused at.0 at.1

@@ -41,10 +41,12 @@ abbrev pub IsListOf : Option (List ℕ) → Result (List Entry) (ℕ × ℕ) →
 IsListOf None list = list ≡ Err (0, 57)
 IsListOf (Some bytes) list = ((16777216 < length bytes) × (list ≡ Err (0, 11))) ⊎ ((length bytes ≤ 16777216) × IsListed (records_of bytes) list)
 
+-- the list of a kit is that of its file `kit.csv`
 abbrev pub IsKitList : Files → Result (List Entry) (ℕ × ℕ) → Type 0
 IsKitList files list = IsListOf (files (codes "kit.csv")) list
 
 -- ---- what the readers answer
+-- what was read, as the entries or as place and number of the record that is refused
 abbrev pub listing : Listed → Result (List Entry) (ℕ × ℕ)
 listing (Entries entries) = Ok entries.items
 listing (Refused place number) = Err (place, number)
@@ -59,6 +61,7 @@ IsRead place r (Err faults.Memory) = ⊤
 abbrev pub AreFew : List Entry → Type 0
 AreFew entries = length entries ≤ 4096
 
+-- a list that is read as entries has at most 4,096
 abbrev pub AreSound : Listed → Type 0
 AreSound (Entries entries) = AreFew entries.items
 AreSound (Refused place number) = ⊤

@@ -9,6 +9,7 @@ unfoldable pub file_at : List ShelfFile → Text → Option (List ℕ)
 file_at [] name = None
 file_at (file ∷ rest) name = if bytes_eq (string_bytes file.name) name then Some file.bytes.items else file_at rest name
 
+-- the file that was found holds these bytes; none was found where there are none
 abbrev pub IsOnShelf : Option (List ℕ) → Option (Bor ShelfFile) → Type 0
 IsOnShelf bytes None = bytes ≡ None
 IsOnShelf bytes (Some file) = bytes ≡ Some file.now.bytes.items

@@ -78,6 +78,7 @@ changes (commands.Media table id content_type bytes) t = same_text t table
 changes (commands.MediaDrop table id) t = same_text t table
 changes _ t = false
 
+-- whether the command of one of these pieces sets last_change of the table
 abbrev pub some_piece_changes : List (PieceKey × PieceRow) → Text → Bool
 some_piece_changes es t = list_any (λ e. at_value (λ q. changes (piece_command q) t) (row_piece e.1)) es
 

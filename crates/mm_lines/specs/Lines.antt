@@ -8,6 +8,7 @@ abbrev pub piece_text : Option (ℕ × ℕ) → List ℕ
 piece_text None = []
 piece_text (Some (piece, refusal)) = codes " " ++ decimal piece ++ codes " " ++ decimal refusal
 
+-- what stands in a line behind the record's number
 abbrev pub answer_text : Answer → List ℕ
 answer_text answers.Ok = codes " ok"
 answer_text (answers.Refused why) = codes " refused " ++ decimal why.number ++ piece_text why.piece
@@ -22,5 +23,6 @@ unfoldable pub lines_from : ℕ → List Answer → List (List ℕ)
 lines_from n [] = []
 lines_from n (answer ∷ rest) = line n answer ∷ lines_from (n + 1) rest
 
+-- the lines of all answers, from record 1 on
 abbrev pub lines : List Answer → List (List ℕ)
 lines given = lines_from 1 given

@@ -12,6 +12,7 @@ use Rattle.mm_listing.specs.Listing.{by_kind}
 abbrev pub MostCounted : ℕ
 MostCounted = 9223372036854775807
 
+-- the column holds this count, which is below the greatest
 pub record IsCount (value : Value) (count : ℕ) : Type 0 where
   pub is : value ≡ Int (pos count)
   pub below : count < MostCounted
@@ -32,6 +33,7 @@ pub record ShowsTable (row : Row) (line : List ℕ) : Type 0 where
   pub count_is : IsCount (column row at) count
   pub line_is : line ≡ table_text name kind count time identifier
 
+-- a name, the state open, and how many pieces the edition has
 pub record ShowsOpen (row : Row) (line : List ℕ) : Type 0 where
   pub name : Text
   pub count : ℕ
@@ -40,6 +42,7 @@ pub record ShowsOpen (row : Row) (line : List ℕ) : Type 0 where
   pub count_is : IsCount (column row 2) count
   pub line_is : line ≡ open_text name count
 
+-- a name and the state published; the count is not told
 pub record ShowsPublished (row : Row) (line : List ℕ) : Type 0 where
   pub name : Text
   pub name_is : column row 0 ≡ Words name

@@ -21,6 +21,8 @@ IsBegun old new text = (front rest : List ℕ) × (text ≡ front ++ rest) × Ap
 
 -- ---- one line
 
+-- The line was written whole, and the walk goes on; or the writer failed behind a beginning of it. By what the writer held and
+-- then holds, and whether it had failed and then has.
 abbrev pub SendsLine : Option (List ℕ) → Option (List ℕ) → Bool → Bool → List ℕ → Result Bool Fault → Type 0
 SendsLine old new before failed line (Ok goes) = (goes ≡ true) × Appends old new line × (failed ≡ before)
 SendsLine old new before failed line (Err fault) = (fault ≡ unwritten) × (failed ≡ true) × IsBegun old new line

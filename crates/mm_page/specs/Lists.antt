@@ -9,6 +9,7 @@ use Rattle.mm_base.specs.Package.{Box}
 use Rattle.mm_reads.specs.Listing.{Listed}
 use Rattle.mm_related.specs.Related.{Mate}
 
+-- a whole number, as JSON
 abbrev pub whole : ℤ → Data
 whole z = number (of_integer z)
 
@@ -16,10 +17,12 @@ whole z = number (of_integer z)
 abbrev pub words : Option Text → Data
 words text = string (unwrap_or text [])
 
+-- what an item is related to by one mapping row: the related id, the mapping, the relation's name and the related table
 abbrev pub mate_data : Mate → Data
 mate_data m = object (member (codes "id") (whole m.id) (member (codes "mapping") (string m.mapping)
     (member (codes "name") (words m.name) (member (codes "table") (words m.table) no_members))))
 
+-- an extent: min_x, min_y, max_x and max_y, in micrometres
 abbrev pub extent_data : Box → Data
 extent_data b = array (item (whole b.min_x) (item (whole b.min_y) (item (whole b.max_x) (item (whole b.max_y) no_items))))
 
@@ -32,6 +35,7 @@ table_data_at t (Some (system, extent)) = object (member (codes "data_type") (st
     (member (codes "identifier") (string t.identifier) (member (codes "kind") (words t.kind)
     (member (codes "last_change") (string t.last_change) (member (codes "srs_id") (whole system) (member (codes "table") (string t.table) no_members)))))))
 
+-- a table, with its system and its extent where it is a pyramid
 abbrev pub table_data : Listed → Data
 table_data t = table_data_at t t.place
 
@@ -39,5 +43,6 @@ table_data t = table_data_at t t.place
 abbrev pub mates_text : List Mate → Text
 mates_text mates = compact_text (array (items_of (map mate_data mates)))
 
+-- the compact text of the list of tables
 abbrev pub tables_text : List Listed → Text
 tables_text tables = compact_text (array (items_of (map table_data tables)))

@@ -27,11 +27,12 @@ pub record LeavesPackage (old new : State) : Type 0 where
 abbrev pub IsOn : Bool → State → State → Package → Type 0
 IsOn failed old new p = failed ≡ false → HasCleanDisk new × Meets current p × IsSeenAs current old p
 
--- an answer shows that part of each package that the session is on
+-- an answer shows this value, and a fault shows nothing
 abbrev pub Gives : {A B : Type 0} → (A → B) → B → Result A Fault → Type 0
 Gives shown value (Ok a) = shown a ≡ value
 Gives shown value (Err fault) = ⊤
 
+-- an answer shows that part of each package that the session is on; a fault shows nothing
 abbrev pub Answers : {A B : Type 0} → (Package → Type 0) → (A → B) → (Package → B) → Result A Fault → Type 0
 Answers on shown part result = (p : Package) → on p → Gives shown (part p) result
 

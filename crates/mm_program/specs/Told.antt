@@ -49,6 +49,7 @@ abbrev pub import_text : Result (Result Staged KitFault) Stop → List ℕ
 import_text (Ok import) = kit_text import
 import_text (Err why) = stop_text why
 
+-- the exit status that goes with it
 abbrev pub import_status : Result (Result Staged KitFault) Stop → ℕ
 import_status (Ok import) = kit_status import
 import_status (Err why) = stop_status why

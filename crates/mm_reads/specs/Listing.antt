@@ -38,11 +38,12 @@ listed p (table, c) = record {
   place = if is_pyramid p.kinds table then placed c.system c.min_x c.min_y c.max_x c.max_y else None;
 }
 
--- an entry as it is told
+-- a system and an extent, if there are any, as they are told
 abbrev pub place_told : Option (ℤ × Extent) → Option (ℤ × Box)
 place_told None = None
 place_told (Some (system, extent)) = Some (system, box_of extent)
 
+-- a table as it is told, with its kind as the registry writes it
 abbrev pub told : Entry → Listed
 told e = record { table = e.table; kind = Some (kind_text e.kind); identifier = e.identifier; last_change = e.last_change; place = place_told e.place }
 
@@ -52,6 +53,7 @@ Lists p es = map told es ≡ map (listed p) (entries p.contents)
 
 -- ---- the rows
 
+-- the row shows the reference system and the extent in the columns from 4 on
 pub record ShowsPlace (row : Row) (place : ℤ × Extent) : Type 0 where
   pub system : column row 4 ≡ Int place.0
   pub min_x : column row 5 ≡ Int place.1.min_x
@@ -59,17 +61,19 @@ pub record ShowsPlace (row : Row) (place : ℤ × Extent) : Type 0 where
   pub max_x : column row 7 ≡ Int place.1.max_x
   pub max_y : column row 8 ≡ Int place.1.max_y
 
--- only pyramids have a place
+-- a place is told, and the row shows it
 abbrev pub IsShown : Row → Option (ℤ × Extent) → Type 0
 IsShown row None = ⊥
 IsShown row (Some place) = ShowsPlace row place
 
+-- the row of a pyramid shows its place, and tables of other kinds have none
 abbrev pub ShowsPlaceOf : Row → Kind → Option (ℤ × Extent) → Type 0
 ShowsPlaceOf row Two place = IsShown row place
 ShowsPlaceOf row Other place = IsShown row place
 ShowsPlaceOf row Attributes place = place ≡ None
 ShowsPlaceOf row Media place = place ≡ None
 
+-- the row shows a table of the list: name, kind, identifier, last_change and place
 pub record ShowsEntry (row : Row) (e : Entry) : Type 0 where
   pub table : column row 0 ≡ Words e.table
   pub kind : column row 1 ≡ Words (kind_text e.kind)

@@ -16,6 +16,7 @@ TellsBytes entry found = MatchOption found (entry ≡ None) (λ bytes. entry ≡
 abbrev pub medium_of : Media → Medium
 medium_of m = record { bytes = m.bytes; content_type = m.content_type }
 
+-- an attribute row that is told, as the package has it
 abbrev pub row_of : RowTold → AttributeRow
 row_of r = record { title = r.title; note = r.note; amount = r.amount }
 
@@ -24,6 +25,7 @@ abbrev pub Gives : {T : Type 0} → (Row → T → Type 0) → Option T → Opti
 Gives Shows None first = first ≡ None
 Gives Shows (Some it) first = (row : Row) × (first ≡ Some row) × Shows row it
 
+-- the row shows the id of the blob that a medium names, and its content type
 pub record ShowsMedium (row : Row) (m : MediumRow) : Type 0 where
   pub blob : column row 0 ≡ Int m.blob
   pub content_type : column row 1 ≡ Words m.content_type
@@ -34,6 +36,7 @@ IsRowOf None None = ⊤
 IsRowOf (Some m) (Some row) = ShowsMedium row m
 IsRowOf _ _ = ⊥
 
+-- the row shows title, note and amount of an attribute row
 pub record ShowsRow (row : Row) (r : RowTold) : Type 0 where
   pub title : column row 0 ≡ Words r.title
   pub note : column row 1 ≡ Words r.note

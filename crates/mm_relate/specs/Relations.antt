@@ -12,6 +12,7 @@ new_relation base related name = record { base = base; related = related; base_c
 abbrev pub ends : Relation → Text × Text
 ends r = (r.base, r.related)
 
+-- the names of both tables as bytes
 abbrev pub both_bytes : {A B : Type 0} → String A × String B → Text × Text
 both_bytes pair = (string_bytes pair.0, string_bytes pair.1)
 

@@ -32,6 +32,7 @@ pub record Mate : Type 0 where
   pub table : Option Text
   pub id : ℤ
 
+-- what a mapping row of the package relates to: the related id, with the name and the related table of its relation
 abbrev pub mate : Package → Pairing × ⊤ → Mate
 mate p e = record {
   mapping = e.0.mapping;
@@ -54,6 +55,7 @@ Tells p table id found = MatchOption found (is_item p table id ≡ false) (λ it
 
 -- ---- the rows
 
+-- the row shows mapping, name of the relation, related table and related id
 pub record ShowsRelated (row : Row) (r : Related) : Type 0 where
   pub mapping : column row 0 ≡ Words r.mapping
   pub name : column row 1 ≡ Words r.name

@@ -16,6 +16,7 @@ reason n = unwrap_or (reason_phrase n) []
 abbrev pub framed : Text → Text
 framed body = codes "Content-Length: " ++ decimal (length body) ++ codes "\r\nConnection: close\r\n\r\n" ++ body
 
+-- the whole response, from the line of its status to the last byte of its body
 abbrev pub response_of : Reply → Text
 response_of (Found content_type body) = codes "HTTP/1.1 200 OK\r\nContent-Type: " ++ content_type ++ codes "\r\n" ++ framed body
 response_of BadRequest = codes "HTTP/1.1 400 Bad Request\r\n" ++ framed []

@@ -14,7 +14,7 @@ use Rattle.mm_routes.specs.declared.routes.Wanted.{Wanted}
 use Rattle.mm_routes.specs.declared.routes.Wanted.TheVariants as wanted
 use Rattle.mm_routes.specs.declared.routes.Route.TheVariants as route
 
--- the token of a parameter, and a parameter after a slash
+-- the token of a parameter, before the rest of a pattern
 abbrev pub hole : List ℕ → List ℕ
 hole rest = 256 ∷ rest
 
@@ -27,6 +27,7 @@ numbered =
     ∷ (codes "/tiles/" ++ hole (47 ∷ hole (47 ∷ hole (47 ∷ hole []))), 0)
     ∷ []
 
+-- the route of a tile, with the places of the parameters' names in its text
 abbrev pub tile_row : RouteOf Route
 tile_row = record {
   pattern = codes "/tiles/" ++ hole (47 ∷ hole (47 ∷ hole (47 ∷ hole [])));
@@ -35,6 +36,7 @@ tile_row = record {
   value = route.Tile;
 }
 
+-- the route of a medium
 abbrev pub media_row : RouteOf Route
 media_row = record {
   pattern = codes "/media/" ++ hole (47 ∷ hole []);
@@ -43,6 +45,7 @@ media_row = record {
   value = route.Media;
 }
 
+-- the route of what an item is related to
 abbrev pub related_row : RouteOf Route
 related_row = record {
   pattern = codes "/related/" ++ hole (47 ∷ hole []);
@@ -51,6 +54,7 @@ related_row = record {
   value = route.Related;
 }
 
+-- the route of the tables
 abbrev pub contents_row : RouteOf Route
 contents_row = record {
   pattern = codes "/contents";
@@ -66,6 +70,7 @@ row_of (suc zero) = media_row
 row_of (suc (suc zero)) = related_row
 row_of (suc (suc (suc n))) = contents_row
 
+-- the four routes, as the router has them
 abbrev pub page_rows : RowsOf (RouteOf Route)
 page_rows = rename row_of numbered
 
@@ -77,9 +82,11 @@ IsPart v = (has_slash v ≡ false) × (0 < length v)
 abbrev pub tile_path : Text → Text → Text → Text → Text
 tile_path t z c r = path_from (codes "tiles" ∷ t ∷ z ∷ c ∷ r ∷ [])
 
+-- the path of a medium, by its table and id
 abbrev pub media_path : Text → Text → Text
 media_path t i = path_from (codes "media" ∷ t ∷ i ∷ [])
 
+-- the path of what an item is related to, by the item's table and id
 abbrev pub related_path : Text → Text → Text
 related_path t i = path_from (codes "related" ∷ t ∷ i ∷ [])
 
@@ -87,12 +94,15 @@ related_path t i = path_from (codes "related" ∷ t ∷ i ∷ [])
 abbrev pub Pairs : Type 0
 Pairs = List (Text × Text)
 
+-- those of a tile's path: table, zoom level, column and row
 abbrev pub tile_pairs : Text → Text → Text → Text → Pairs
 tile_pairs t z c r = (codes "table", t) ∷ (codes "z", z) ∷ (codes "c", c) ∷ (codes "r", r) ∷ []
 
+-- those of a path of a table and an id
 abbrev pub row_pairs : Text → Text → Pairs
 row_pairs t i = (codes "table", t) ∷ (codes "id", i) ∷ []
 
+-- the names of a route's parameters, each with the part of the path that it took
 abbrev pub pairs_of : Params → Pairs
 pairs_of p = walk p.pattern.now p.text.now p.path.now p.names.now 0 0
 
@@ -104,6 +114,7 @@ Took p key v = AllText (pairs_of p) × (named key (pairs_of p) ≡ Some v)
 abbrev pub TookTile : Params → Text → Text → Text → Text → Type 0
 TookTile p t z c r = AllText (pairs_of p) × (pairs_of p ≡ tile_pairs t z c r) × IsPart t × IsPart z × IsPart c × IsPart r
 
+-- the parameters took this table and this id, in the path of a medium or of what an item is related to
 abbrev pub TookRow : Params → Text → Text → Type 0
 TookRow p t i = AllText (pairs_of p) × (pairs_of p ≡ row_pairs t i)
 

@@ -4,18 +4,22 @@ use Rattle.std.specs.Str.{IsUtf8}
 use Rattle.sqlite.specs.declared.types.Value.{Value}
 use Rattle.sqlite.specs.declared.types.Value.TheVariants.{Null, Int, Text as Words, Blob}
 
+-- the number, where the value is one
 abbrev pub number_of : Value → Option ℤ
 number_of (Int z) = Some z
 number_of _ = None
 
+-- whether there is a value, of whatever kind: it is not NULL
 abbrev pub is_there : Value → Bool
 is_there Null = false
 is_there _ = true
 
+-- the bytes, where the value is a blob
 abbrev pub bytes_of : Value → Option (List ℕ)
 bytes_of (Blob bytes) = Some bytes
 bytes_of _ = None
 
+-- the bytes of the text, UTF-8 or not, where the value is a text
 abbrev pub words_of : Value → Option (List ℕ)
 words_of (Words text) = Some text
 words_of _ = None

@@ -8,12 +8,15 @@ use Rattle.mm_rules.specs.Columns.{number_of, words_of, is_there, IsPyramidKind,
 abbrev pub MayNameRow : Row → Type 0
 MayNameRow r = IfSome (number_of (column r 0)) (λ system. IsTrue (is_there (column r 1)) × (IsPyramidKind (column r 2) → IsPlane system))
 
+-- the tables of two contents rows with one identifier, which are the same
 abbrev pub IsSameRow : Row → Type 0
 IsSameRow r = same_words_by (column r 0) (column r 1)
 
+-- the contents row of a table, which stands
 abbrev pub IsThereRow : Row → Type 0
 IsThereRow r = IsTrue (is_there (column r 0))
 
+-- the contents row under a mapping's name, which is missing
 abbrev pub IsAbsentRow : Row → Type 0
 IsAbsentRow r = is_there (column r 0) ≡ false
 
@@ -31,6 +34,7 @@ pub record IsPlacedRow (r : Row) : Type 0 where
   pub max_y : number_of (column r 5) ≡ number_of (column r 10)
   pub system : number_of (column r 6) ≡ number_of (column r 11)
 
+-- a kind, a contents row without extent and system, and no matrix set
 pub record IsUnplacedRow (r : Row) : Type 0 where
   pub data_type : words_of (column r 1) ≡ Some (codes "attributes")
   pub min_x : is_there (column r 2) ≡ false
@@ -40,5 +44,6 @@ pub record IsUnplacedRow (r : Row) : Type 0 where
   pub system : is_there (column r 6) ≡ false
   pub set : is_there (column r 11) ≡ false
 
+-- a kind that suits the contents row: a pyramid is placed as its matrix set says, and other tables have no place
 abbrev pub IsRegisteredRow : Row → Type 0
 IsRegisteredRow r = (IsPyramidKind (column r 0) × IsPlacedRow r) ⊎ (((words_of (column r 0) ≡ Some (codes "attributes")) ⊎ (words_of (column r 0) ≡ Some (codes "media"))) × IsUnplacedRow r)

@@ -21,6 +21,7 @@ IsWantedRow r =
     ((words_of (column r 0) ≡ Some (codes "gpkgext_relations")) × IsRelated r)
     ⊎ (((IsTrue (is_there (column r 0)) × IsTrue (is_there (column r 5))) × IsRelated r) ⊎ ((IsTrue (is_there (column r 0)) × (words_of (column r 6) ≡ Some (codes "other"))) × IsZoomOther r))
 
+-- an extension row that is wanted, which stands
 abbrev pub IsStandingRow : Row → Type 0
 IsStandingRow r = IsTrue (is_there (column r 0))
 

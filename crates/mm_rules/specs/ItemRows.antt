@@ -3,9 +3,11 @@ use Rattle.std.specs.Prelude.{◌≡◌, ◌⊎◌, codes, Some, IsTrue}
 use Rattle.sqlite.specs.Order.{Row, column}
 use Rattle.mm_rules.specs.Columns.{words_of, is_there}
 
+-- the kind of the table of an attribute row
 abbrev pub IsAttributesRow : Row → Type 0
 IsAttributesRow r = words_of (column r 0) ≡ Some (codes "attributes")
 
+-- the kind of the table of a medium
 abbrev pub IsMediaRow : Row → Type 0
 IsMediaRow r = words_of (column r 0) ≡ Some (codes "media")
 

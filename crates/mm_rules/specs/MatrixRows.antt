@@ -19,6 +19,7 @@ abbrev pub finer_by : Option ℤ → Option ℤ → Option ℤ → Option ℤ �
 finer_by (Some low_x) (Some low_y) (Some high_x) (Some high_y) = (high_x <ℤ low_x) × (high_y <ℤ low_y)
 finer_by _ _ _ _ = ⊥
 
+-- the pixel sizes of two matrices of a pyramid, x and y of the one at the lower zoom level first
 abbrev pub IsFinerRow : Row → Type 0
 IsFinerRow r = finer_by (number_of (column r 0)) (number_of (column r 1)) (number_of (column r 2)) (number_of (column r 3))
 
@@ -27,6 +28,7 @@ abbrev pub next_by : Option ℤ → Option ℤ → Type 0
 next_by (Some low) (Some high) = high ≡ low +ℤ pos 1
 next_by _ _ = ⊥
 
+-- the pixel sizes of two matrices, of which the first are twice the second
 abbrev pub halved_by : Option ℤ → Option ℤ → Option ℤ → Option ℤ → Type 0
 halved_by (Some low_x) (Some low_y) (Some high_x) (Some high_y) = (low_x ≡ pos 2 *ℤ high_x) × (low_y ≡ pos 2 *ℤ high_y)
 halved_by _ _ _ _ = ⊥

@@ -11,6 +11,7 @@ abbrev pub shows_by : System → Value → Value → Value → Value → Value �
 shows_by s name organization organization_id definition description =
     (words_of name ≡ Some s.name) × (words_of organization ≡ Some s.organization) × (number_of organization_id ≡ Some s.organization_id) × (words_of definition ≡ Some s.definition) × (words_of description ≡ Some s.description)
 
+-- the three given systems, five columns each
 pub record IsGivenRow (r : Row) : Type 0 where
   pub geographic_is : shows_by geographic (column r 0) (column r 1) (column r 2) (column r 3) (column r 4)
   pub cartesian_is : shows_by undefined_cartesian (column r 5) (column r 6) (column r 7) (column r 8) (column r 9)

@@ -1,122 +1,162 @@
 -- The queries of the check.
 use Rattle.std.specs.Prelude.{ℕ, List, codes}
 
+-- of each tile its column and row, with the sides of the matrix at its zoom level, if one stands
 abbrev pub tiles_inside : List ℕ
 tiles_inside = codes "SELECT t.tile_column, t.tile_row, m.matrix_width, m.matrix_height FROM mm_tiles AS t LEFT JOIN gpkg_tile_matrix AS m ON m.table_name = t.table_name AND m.zoom_level = t.zoom_level ORDER BY t.table_name, t.zoom_level, t.tile_column, t.tile_row"
 
+-- each matrix, with the kind of its table and the bounds of the matrix set, if they stand
 abbrev pub matrices_fit : List ℕ
 matrices_fit = codes "SELECT k.kind, s.min_x, s.min_y, s.max_x, s.max_y, m.matrix_width, m.matrix_height, m.tile_width, m.tile_height, m.pixel_x_size, m.pixel_y_size FROM gpkg_tile_matrix AS m LEFT JOIN mm_tables AS k ON k.table_name = m.table_name LEFT JOIN gpkg_tile_matrix_set AS s ON s.table_name = m.table_name ORDER BY m.table_name, m.zoom_level"
 
+-- the pixel sizes of each two matrices of a pyramid, those at the lower zoom level first
 abbrev pub higher_is_finer : List ℕ
 higher_is_finer = codes "SELECT a.pixel_x_size, a.pixel_y_size, b.pixel_x_size, b.pixel_y_size FROM gpkg_tile_matrix AS a JOIN gpkg_tile_matrix AS b ON b.table_name = a.table_name AND a.zoom_level < b.zoom_level ORDER BY a.table_name, a.zoom_level, b.zoom_level"
 
+-- the same with the kind of the pyramid, and with the two zoom levels
 abbrev pub next_is_halved : List ℕ
 next_is_halved = codes "SELECT k.kind, a.zoom_level, b.zoom_level, a.pixel_x_size, a.pixel_y_size, b.pixel_x_size, b.pixel_y_size FROM gpkg_tile_matrix AS a JOIN gpkg_tile_matrix AS b ON b.table_name = a.table_name AND a.zoom_level < b.zoom_level LEFT JOIN mm_tables AS k ON k.table_name = a.table_name ORDER BY a.table_name, a.zoom_level, b.zoom_level"
 
+-- the system that each contents row names, if any; its number again where it stands; and the table's kind
 abbrev pub contents_systems : List ℕ
 contents_systems = codes "SELECT c.srs_id, s.srs_id, k.kind FROM gpkg_contents AS c LEFT JOIN gpkg_spatial_ref_sys AS s ON s.srs_id = c.srs_id LEFT JOIN mm_tables AS k ON k.table_name = c.table_name ORDER BY c.table_name"
 
+-- the same of each matrix set
 abbrev pub set_systems : List ℕ
 set_systems = codes "SELECT m.srs_id, s.srs_id, k.kind FROM gpkg_tile_matrix_set AS m LEFT JOIN gpkg_spatial_ref_sys AS s ON s.srs_id = m.srs_id LEFT JOIN mm_tables AS k ON k.table_name = m.table_name ORDER BY m.table_name"
 
+-- the tables of each two contents rows with one identifier; a row is also paired with itself
 abbrev pub distinct_identifiers : List ℕ
 distinct_identifiers = codes "SELECT a.table_name, b.table_name FROM gpkg_contents AS a JOIN gpkg_contents AS b ON b.identifier = a.identifier ORDER BY a.table_name"
 
+-- for each mapping the table of the same name, if there is one
 abbrev pub mapping_names : List ℕ
 mapping_names = codes "SELECT c.table_name FROM gpkgext_relations AS r LEFT JOIN gpkg_contents AS c ON c.table_name = r.mapping_table_name ORDER BY r.mapping_table_name"
 
+-- for each contents row the kind, the data type, bounds and system, and the bounds and system of the matrix set, if it stands
 abbrev pub registered : List ℕ
 registered = codes "SELECT k.kind, c.data_type, c.min_x, c.min_y, c.max_x, c.max_y, c.srs_id, s.min_x, s.min_y, s.max_x, s.max_y, s.srs_id FROM gpkg_contents AS c LEFT JOIN mm_tables AS k ON k.table_name = c.table_name LEFT JOIN gpkg_tile_matrix_set AS s ON s.table_name = c.table_name ORDER BY c.table_name"
 
+-- for each table of the registry the contents row, if it stands
 abbrev pub kinds_have_contents : List ℕ
 kinds_have_contents = codes "SELECT c.table_name FROM mm_tables AS k LEFT JOIN gpkg_contents AS c ON c.table_name = k.table_name ORDER BY k.table_name"
 
+-- for each matrix set the contents row, if it stands
 abbrev pub sets_have_contents : List ℕ
 sets_have_contents = codes "SELECT c.table_name FROM gpkg_tile_matrix_set AS s LEFT JOIN gpkg_contents AS c ON c.table_name = s.table_name ORDER BY s.table_name"
 
+-- the bounds of each matrix set
 abbrev pub set_extents : List ℕ
 set_extents = codes "SELECT s.min_x, s.min_y, s.max_x, s.max_y FROM gpkg_tile_matrix_set AS s ORDER BY s.table_name"
 
+-- the bounds of each contents row, NULL where it has none
 abbrev pub contents_extents : List ℕ
 contents_extents = codes "SELECT c.min_x, c.min_y, c.max_x, c.max_y FROM gpkg_contents AS c ORDER BY c.table_name"
 
+-- for each attribute row the kind of its table
 abbrev pub rows_in_tables : List ℕ
 rows_in_tables = codes "SELECT k.kind FROM mm_rows AS r LEFT JOIN mm_tables AS k ON k.table_name = r.table_name ORDER BY r.table_name, r.id"
 
+-- for each medium the kind of its table
 abbrev pub media_in_tables : List ℕ
 media_in_tables = codes "SELECT k.kind FROM mm_media AS m LEFT JOIN mm_tables AS k ON k.table_name = m.table_name ORDER BY m.table_name, m.id"
 
+-- for each relation the kinds of its base and its related table, both primary columns, and its name
 abbrev pub relations_suited : List ℕ
 relations_suited = codes "SELECT b.kind, c.kind, r.base_primary_column, r.related_primary_column, r.relation_name FROM gpkgext_relations AS r LEFT JOIN mm_tables AS b ON b.table_name = r.base_table_name LEFT JOIN mm_tables AS c ON c.table_name = r.related_table_name ORDER BY r.mapping_table_name"
 
+-- for each mapping row its relation, the attribute row and the medium at its base id, and the two at its related id, as they stand
 abbrev pub pairings_join : List ℕ
 pairings_join = codes "SELECT r.mapping_table_name, a.id, b.id, c.id, d.id FROM mm_map AS m LEFT JOIN gpkgext_relations AS r ON r.mapping_table_name = m.mapping LEFT JOIN mm_rows AS a ON a.table_name = r.base_table_name AND a.id = m.base_id LEFT JOIN mm_media AS b ON b.table_name = r.base_table_name AND b.id = m.base_id LEFT JOIN mm_rows AS c ON c.table_name = r.related_table_name AND c.id = m.related_id LEFT JOIN mm_media AS d ON d.table_name = r.related_table_name AND d.id = m.related_id ORDER BY m.mapping, m.base_id, m.related_id"
 
+-- the columns of each reference system
 abbrev pub systems_within : List ℕ
 systems_within = codes "SELECT t.srs_id, t.srs_name, t.organization, t.organization_coordsys_id, t.definition, t.description FROM gpkg_spatial_ref_sys AS t ORDER BY t.srs_id"
 
+-- the columns of each contents row
 abbrev pub contents_within : List ℕ
 contents_within = codes "SELECT t.table_name, t.data_type, t.identifier, t.description, t.last_change, t.min_x, t.min_y, t.max_x, t.max_y, t.srs_id FROM gpkg_contents AS t ORDER BY t.table_name"
 
+-- the columns of the registry
 abbrev pub kinds_within : List ℕ
 kinds_within = codes "SELECT t.table_name, t.kind FROM mm_tables AS t ORDER BY t.table_name"
 
+-- the columns of each matrix set
 abbrev pub sets_within : List ℕ
 sets_within = codes "SELECT t.table_name, t.srs_id, t.min_x, t.min_y, t.max_x, t.max_y FROM gpkg_tile_matrix_set AS t ORDER BY t.table_name"
 
+-- the columns of each matrix
 abbrev pub matrices_within : List ℕ
 matrices_within = codes "SELECT t.table_name, t.zoom_level, t.matrix_width, t.matrix_height, t.tile_width, t.tile_height, t.pixel_x_size, t.pixel_y_size FROM gpkg_tile_matrix AS t ORDER BY t.table_name, t.zoom_level"
 
+-- the columns of each extension row, in whatever order
 abbrev pub extensions_within : List ℕ
 extensions_within = codes "SELECT t.table_name, t.column_name, t.extension_name, t.definition, t.scope FROM gpkg_extensions AS t"
 
+-- the key of each tile, with the bytes of its blob
 abbrev pub tiles_within : List ℕ
 tiles_within = codes "SELECT t.table_name, t.zoom_level, t.tile_column, t.tile_row, b.data FROM mm_tiles AS t LEFT JOIN mm_blobs AS b ON b.id = t.blob ORDER BY t.table_name, t.zoom_level, t.tile_column, t.tile_row"
 
+-- the columns of each attribute row
 abbrev pub rows_within : List ℕ
 rows_within = codes "SELECT t.table_name, t.id, t.title, t.note, t.amount FROM mm_rows AS t ORDER BY t.table_name, t.id"
 
+-- the columns of each medium, with the bytes of its blob
 abbrev pub media_within : List ℕ
 media_within = codes "SELECT t.table_name, t.id, b.data, t.content_type FROM mm_media AS t LEFT JOIN mm_blobs AS b ON b.id = t.blob ORDER BY t.table_name, t.id"
 
+-- the columns of each relation, but for the id that the store chose
 abbrev pub relations_within : List ℕ
 relations_within = codes "SELECT t.mapping_table_name, t.base_table_name, t.base_primary_column, t.related_table_name, t.related_primary_column, t.relation_name FROM gpkgext_relations AS t ORDER BY t.mapping_table_name"
 
+-- the columns of each mapping row
 abbrev pub pairings_within : List ℕ
 pairings_within = codes "SELECT t.mapping, t.base_id, t.related_id FROM mm_map AS t ORDER BY t.mapping, t.base_id, t.related_id"
 
+-- the columns of each edition
 abbrev pub editions_within : List ℕ
 editions_within = codes "SELECT t.name, t.state FROM mm_editions AS t ORDER BY t.name"
 
+-- of each staged piece its edition and its number
 abbrev pub pieces_within : List ℕ
 pieces_within = codes "SELECT t.edition, t.piece_no FROM mm_pieces AS t ORDER BY t.edition, t.piece_no"
 
+-- the columns beside the number of the systems ?1, ?2 and ?3, as they stand, in one row, since `mm_profile` has one
 abbrev pub given_systems : List ℕ
 given_systems = codes "SELECT a.srs_name, a.organization, a.organization_coordsys_id, a.definition, a.description, b.srs_name, b.organization, b.organization_coordsys_id, b.definition, b.description, c.srs_name, c.organization, c.organization_coordsys_id, c.definition, c.description FROM mm_profile AS v LEFT JOIN gpkg_spatial_ref_sys AS a ON a.srs_id = ?1 LEFT JOIN gpkg_spatial_ref_sys AS b ON b.srs_id = ?2 LEFT JOIN gpkg_spatial_ref_sys AS c ON c.srs_id = ?3"
 
+-- the state of each edition
 abbrev pub edition_states : List ℕ
 edition_states = codes "SELECT e.state FROM mm_editions AS e ORDER BY e.name"
 
+-- for each staged piece the state of its edition, if that stands
 abbrev pub pieces_of_open : List ℕ
 pieces_of_open = codes "SELECT e.state FROM mm_pieces AS p LEFT JOIN mm_editions AS e ON e.name = p.edition ORDER BY p.edition, p.piece_no"
 
+-- the number of each staged piece, and the number before it where the edition has a piece of that
 abbrev pub pieces_numbered : List ℕ
 pieces_numbered = codes "SELECT p.piece_no, q.piece_no FROM mm_pieces AS p LEFT JOIN mm_pieces AS q ON q.edition = p.edition AND q.piece_no = p.piece_no - 1 ORDER BY p.edition, p.piece_no"
 
+-- the columns of each staged piece beside its edition and its number, with the bytes of its blob, if it names one
 abbrev pub pieces_spelled : List ℕ
 pieces_spelled = codes "SELECT p.kind, p.name, p.k1, p.k2, p.k3, p.k4, p.k5, p.k6, p.k7, p.t1, p.t2, b.data FROM mm_pieces AS p LEFT JOIN mm_blobs AS b ON b.id = p.blob ORDER BY p.edition, p.piece_no"
 
+-- each extension row, with the mapping of its table's name, if one stands, and the kind of that table, if it has one
 abbrev pub extensions_wanted : List ℕ
 extensions_wanted = codes "SELECT e.table_name, e.column_name, e.extension_name, e.definition, e.scope, r.mapping_table_name, k.kind FROM gpkg_extensions AS e LEFT JOIN gpkgext_relations AS r ON r.mapping_table_name = e.table_name LEFT JOIN mm_tables AS k ON k.table_name = e.table_name"
 
+-- a row for each two extension rows that are equal in every column
 abbrev pub extensions_once : List ℕ
 extensions_once = codes "SELECT 1 FROM gpkg_extensions AS a JOIN gpkg_extensions AS b ON a.rowid < b.rowid AND b.table_name IS a.table_name AND b.column_name IS a.column_name AND b.extension_name IS a.extension_name AND b.definition IS a.definition AND b.scope IS a.scope"
 
+-- the extension row of `gpkgext_relations`, if it stands, in one row, since `mm_profile` has one
 abbrev pub general_extension : List ℕ
 general_extension = codes "SELECT e.extension_name FROM mm_profile AS v LEFT JOIN gpkg_extensions AS e ON e.table_name IS 'gpkgext_relations' AND e.column_name IS NULL AND e.extension_name IS 'gpkg_related_tables' AND e.definition IS 'OGC 18-000' AND e.scope IS 'read-write'"
 
+-- for each mapping its extension row, if it stands
 abbrev pub mapping_extensions : List ℕ
 mapping_extensions = codes "SELECT e.extension_name FROM gpkgext_relations AS r LEFT JOIN gpkg_extensions AS e ON e.table_name IS r.mapping_table_name AND e.column_name IS NULL AND e.extension_name IS 'gpkg_related_tables' AND e.definition IS 'OGC 18-000' AND e.scope IS 'read-write' ORDER BY r.mapping_table_name"
 
+-- for each table its kind, and its extension row of other zoom intervals, if it stands
 abbrev pub zoom_extensions : List ℕ
 zoom_extensions = codes "SELECT k.kind, e.extension_name FROM mm_tables AS k LEFT JOIN gpkg_extensions AS e ON e.table_name IS k.table_name AND e.column_name IS 'tile_data' AND e.extension_name IS 'gpkg_zoom_other' AND e.definition IS 'OGC 12-128r17' AND e.scope IS 'read-write' ORDER BY k.table_name"

@@ -12,6 +12,7 @@ use Rattle.mm_run.specs.Readings.{Reading}
 abbrev pub plain : ℕ → Refusal
 plain number = record { number = number; piece = None }
 
+-- the answer to a command, by its refusal: `ok` where it has none
 abbrev pub answer_of : Option Refusal → Answer
 answer_of None = answers.Ok
 answer_of (Some why) = answers.Refused why
@@ -37,16 +38,19 @@ calls_of moment [] = []
 calls_of moment (Ok command ∷ readings) = record { command = command; moment = moment } ∷ calls_of moment readings
 calls_of moment (Err number ∷ readings) = calls_of moment readings
 
+-- whether the answer is `ok`
 abbrev pub is_accepted : Answer → Bool
 is_accepted answers.Ok = true
 is_accepted (answers.Refused why) = false
 is_accepted (answers.Fault fault) = false
 
+-- whether it is a refusal
 abbrev pub is_refused : Answer → Bool
 is_refused answers.Ok = false
 is_refused (answers.Refused why) = true
 is_refused (answers.Fault fault) = false
 
+-- whether it is a fault
 abbrev pub is_fault : Answer → Bool
 is_fault answers.Ok = false
 is_fault (answers.Refused why) = false

@@ -13,6 +13,7 @@ use Rattle.mm_schema.specs.Creates as creates
 abbrev pub unplaced : Table → Table
 unplaced t = record t { tree = 0 }
 
+-- the schema of a database without tables
 abbrev pub no_schema : Schema
 no_schema = record { tables = []; indexes = []; views = [] }
 
@@ -43,6 +44,7 @@ definitions =
 abbrev pub Defines : List ℕ × Table → Type 0
 Defines d = table_defined_by d.0 ≡ Ok (unplaced d.1)
 
+-- each of these texts defines its table
 abbrev pub AllDefine : List (List ℕ × Table) → Type 0
 AllDefine = AllByRecursion Defines
 
@@ -52,14 +54,18 @@ AllDefine = AllByRecursion Defines
 abbrev pub unplaced_index : Index → Index
 unplaced_index i = record i { tree = 0 }
 
+-- the fifteen tables and the index on the digests of blobs
 abbrev pub with_digest : Schema
 with_digest = indexed (first_of 15) tables.mm_blobs (unplaced_index tables.mm_blobs_digest)
 
+-- and the index on the blobs of tiles
 abbrev pub with_tiles : Schema
 with_tiles = indexed with_digest tables.mm_tiles (unplaced_index tables.mm_tiles_blob)
 
+-- and the index on the blobs of media
 abbrev pub with_media : Schema
 with_media = indexed with_tiles tables.mm_media (unplaced_index tables.mm_media_blob)
 
+-- and the index on the blobs of staged pieces, the last: the whole schema
 abbrev pub with_pieces : Schema
 with_pieces = indexed with_media tables.mm_pieces (unplaced_index tables.mm_pieces_blob)

@@ -38,6 +38,7 @@ abbrev pub is_digested_by : Option (List ℕ) → Option (List ℕ) → Type 0
 is_digested_by (Some digest) (Some bytes) = (bytes ≢ []) × (digest ≡ digest_of bytes)
 is_digested_by _ _ = ⊥
 
+-- a blob's digest, and its bytes, which have it
 abbrev pub IsDigestedRow : Row → Type 0
 IsDigestedRow r = is_digested_by (words_of (column r 0)) (bytes_of (column r 1))
 

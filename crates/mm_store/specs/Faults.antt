@@ -13,6 +13,7 @@ memory = record { 0 = 90 }
 abbrev pub store : Fault
 store = record { 0 = 91 }
 
+-- the error tells that memory was refused
 abbrev pub wants_memory : Error → Bool
 wants_memory (SqliteFailure OutOfMemory) = true
 wants_memory _ = false
@@ -21,5 +22,6 @@ wants_memory _ = false
 abbrev pub told_as : Error → Fault
 told_as e = if wants_memory e then memory else store
 
+-- the faults of a call that asks the store: 90 or 91, and no other
 abbrev pub IsStoreFault : Fault → Type 0
 IsStoreFault fault = (fault ≡ memory) ⊎ (fault ≡ store)

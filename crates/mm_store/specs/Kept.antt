@@ -11,26 +11,33 @@ use Rattle.mm_store.specs.Blobs.{Blob, Shelf, AreBlobs, blob_row, Tells, Names}
 
 -- ---- the id that an entry names, and the entry with bytes in its place
 
+-- each tile names a blob
 abbrev pub tile_id : ℤ → Option ℤ
 tile_id blob = Some blob
 
+-- a tile is its bytes and nothing else
 abbrev pub tile_with : ℤ → List ℕ → List ℕ
 tile_with blob bytes = bytes
 
+-- each medium names a blob
 abbrev pub medium_id : MediumRow → Option ℤ
 medium_id m = Some m.blob
 
+-- a medium is its bytes and the content type of its row
 abbrev pub medium_with : MediumRow → List ℕ → Medium
 medium_with m bytes = record { bytes = bytes; content_type = m.content_type }
 
+-- a piece names a blob where it has bytes, and else none
 abbrev pub piece_id : StagedRow → Option ℤ
 piece_id r = r.blob
 
+-- a piece is its bytes and the other columns of its row
 abbrev pub piece_with : StagedRow → List ℕ → PieceRow
 piece_with r bytes = record { kind = r.kind; name = r.name; k1 = r.k1; k2 = r.k2; k3 = r.k3; k4 = r.k4; k5 = r.k5; k6 = r.k6; k7 = r.k7; t1 = r.t1; t2 = r.t2; bytes = bytes }
 
 -- ---- what is kept
 
+-- the tiles, media and staged pieces with the ids of blobs in place of bytes, and the blobs
 pub record Kept : Type 0 where
   pub tiles : FinMap tile_cmp ℤ
   pub media : FinMap item_cmp MediumRow
@@ -45,6 +52,7 @@ IsNamed kept id = Names tile_id kept.tiles id ⊎ (Names medium_id kept.media id
 abbrev pub Spare : Type 0
 Spare = ℤ → Bool
 
+-- none may: every blob is named
 abbrev pub no_spare : Spare
 no_spare id = false
 

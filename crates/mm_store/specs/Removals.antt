@@ -47,8 +47,10 @@ kept_without_edition name kept = record kept { pieces = retain_keys kept.pieces 
 abbrev pub Freed : {K I : Type 0} {R : K → K → Ordering} → (I → Option ℤ) → FinMap R I → (K → Bool) → ℤ → Type 0
 Freed {K} {I} id_of ids keep id = (k : K) × (i : I) × (keep k ≡ false) × (get ids k ≡ Some i) × (id_of i ≡ Some id)
 
+-- a tile or a medium that goes with the table names the blob
 abbrev pub FreedByTable : Text → Kept → ℤ → Type 0
 FreedByTable table kept id = Freed tile_id kept.tiles (λ k. is_other table k.table) id ⊎ Freed medium_id kept.media (λ k. is_other table k.table) id
 
+-- a piece that goes with the edition names the blob
 abbrev pub FreedByEdition : Text → Kept → ℤ → Type 0
 FreedByEdition name kept = Freed piece_id kept.pieces (λ k. is_other name k.edition)

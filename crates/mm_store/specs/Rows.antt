@@ -13,33 +13,42 @@ use Rattle.mm_base.specs.Package.{System, Contents, MatrixSet, Grid, AttributeRo
 abbrev pub whole : Row → Row
 whole r = r
 
+-- all but a rowid that the store chose
 abbrev pub past_rowid : Row → Row
 past_rowid r = drop 1 r
 
+-- all but an id that the store chose: the rowid, and the column that is the rowid
 abbrev pub past_id : Row → Row
 past_id r = drop 2 r
 
+-- a number as a column holds it, NULL for none
 abbrev pub maybe : Option ℤ → Value
 maybe None = Null
 maybe (Some z) = Int z
 
+-- a text as a column holds it, NULL for none
 abbrev pub maybe_words : Option Text → Value
 maybe_words None = Null
 maybe_words (Some t) = Words t
 
+-- a system and its number; the column `srs_id` is the rowid, and so NULL in the stored row
 abbrev pub system_row : ℤ → System → Row
 system_row id s = Int id ∷ Words s.name ∷ Null ∷ Words s.organization ∷ Int s.organization_id ∷ Words s.definition ∷ Words s.description ∷ []
 
+-- a contents row, with its table's name
 abbrev pub contents_row : Text → Contents → Row
 contents_row table c =
     Words table ∷ Words c.data_type ∷ Words c.identifier ∷ Words c.description ∷ Words c.last_change ∷ maybe c.min_x ∷ maybe c.min_y ∷ maybe c.max_x ∷ maybe c.max_y ∷ maybe c.system ∷ []
 
+-- a row of the registry: a table's name and its kind
 abbrev pub kind_row : Text → Text → Row
 kind_row table kind = Words table ∷ Words kind ∷ []
 
+-- a tile matrix set, with its pyramid's name
 abbrev pub set_row : Text → MatrixSet → Row
 set_row table s = Words table ∷ Int s.system ∷ Int s.box.min_x ∷ Int s.box.min_y ∷ Int s.box.max_x ∷ Int s.box.max_y ∷ []
 
+-- a tile matrix, with its pyramid's name and its zoom level
 abbrev pub grid_row : Level → Grid → Row
 grid_row k g = Words k.table ∷ Int k.zoom ∷ Int g.matrix_width ∷ Int g.matrix_height ∷ Int g.tile_width ∷ Int g.tile_height ∷ Int g.pixel_x_size ∷ Int g.pixel_y_size ∷ []
 
@@ -47,6 +56,7 @@ grid_row k g = Words k.table ∷ Int k.zoom ∷ Int g.matrix_width ∷ Int g.mat
 abbrev pub tile_row : TileKey → ℤ → Row
 tile_row k blob = Words k.table ∷ Int k.zoom ∷ Int k.column ∷ Int k.row ∷ Int blob ∷ []
 
+-- an attribute row, with its table's name and its id
 abbrev pub attribute_row : Item → AttributeRow → Row
 attribute_row k r = Words k.table ∷ Int k.id ∷ Words r.title ∷ Words r.note ∷ Int r.amount ∷ []
 
@@ -55,15 +65,19 @@ pub record MediumRow : Type 0 where
   pub blob : ℤ
   pub content_type : Text
 
+-- a medium, with its table's name and its id
 abbrev pub medium_row : Item → MediumRow → Row
 medium_row k m = Words k.table ∷ Int k.id ∷ Int m.blob ∷ Words m.content_type ∷ []
 
+-- a relation, with its mapping
 abbrev pub relation_row : Text → Relation → Row
 relation_row mapping r = Words r.base ∷ Words r.base_column ∷ Words r.related ∷ Words r.related_column ∷ Words r.name ∷ Words mapping ∷ []
 
+-- a mapping row, which is nothing but its key
 abbrev pub pairing_row : Pairing → ⊤ → Row
 pairing_row k v = Words k.mapping ∷ Int k.base_id ∷ Int k.related_id ∷ []
 
+-- an edition: its name and its state
 abbrev pub edition_row : Text → Text → Row
 edition_row name state = Words name ∷ Words state ∷ []
 
@@ -82,19 +96,23 @@ pub record StagedRow : Type 0 where
   pub t2 : Text
   pub blob : Option ℤ
 
+-- a staged piece, with its edition and its number
 abbrev pub staged_row : PieceKey → StagedRow → Row
 staged_row k r =
     Words k.edition ∷ Int k.number ∷ Words r.kind ∷ Words r.name ∷ Int r.k1 ∷ Int r.k2 ∷ Int r.k3 ∷ Int r.k4 ∷ Int r.k5 ∷ Int r.k6 ∷ Int r.k7 ∷ Words r.t1 ∷ Words r.t2 ∷ maybe r.blob ∷ []
 
 -- ---- extension rows, of which there may be equal ones
 
+-- an extension row, whose table and column may be NULL
 abbrev pub extension_row : Extension → Row
 extension_row e = maybe_words e.table ∷ maybe_words e.column ∷ Words e.name ∷ Words e.definition ∷ Words e.scope ∷ []
 
+-- the text in a column, empty where it holds none
 abbrev pub words_of : Value → Text
 words_of (Words t) = t
 words_of _ = []
 
+-- the text in a column, if it holds one
 abbrev pub maybe_of : Value → Option Text
 maybe_of (Words t) = Some t
 maybe_of _ = None
@@ -103,6 +121,7 @@ maybe_of _ = None
 abbrev pub extension_of : Row → Extension
 extension_of r = record { table = maybe_of (column r 1); column = maybe_of (column r 2); name = words_of (column r 3); definition = words_of (column r 4); scope = words_of (column r 5) }
 
+-- the row holds this extension
 abbrev pub is_extension : Extension → Row → Bool
 is_extension e r = eq_by_cmp extension_cmp (extension_of r) e
 

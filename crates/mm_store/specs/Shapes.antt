@@ -39,6 +39,7 @@ module _ (profile : Profile) {T : Type 0} (old new : State) where
 abbrev pub IsDone : Profile → State → Ground → Option Refusal → Package → Type 0
 IsDone profile new ground refusal next = (refusal ≡ None) × IsTrue new.is_open × IsInside profile new ground next
 
+-- `Done` as above; `Refused` only with this refusal, and then the transaction stands for the package as before; a fault says nothing
 abbrev pub Answers : Profile → State → Ground → Package → Option Refusal → Package → Result Outcome Fault → Type 0
 Answers profile new ground p refusal next (Ok Done) = IsDone profile new ground refusal next
 Answers profile new ground p refusal next (Ok (Refused why)) = (refusal ≡ Some why) × IsInside profile new ground p

@@ -34,6 +34,7 @@ pub record HoldingBut (spare : Spare) (version : ℤ) (tables : Trees) (p : Pack
   pub keeps : Keeps spare tables kept p
   pub profile : tables mm_profile.tree ≡ profile_row version ∷ []
 
+-- the same with every blob named
 abbrev pub Holding : ℤ → Trees → Package → Type 0
 Holding = HoldingBut no_spare
 
@@ -43,6 +44,7 @@ pub record StandsForBut (spare : Spare) (version : ℤ) (db : Trees) (p : Packag
   pub rows : AreTables schema db
   pub holds : HoldingBut spare version (tables_of schema db) p
 
+-- the same with every blob named: the database stands for the package
 abbrev pub StandsFor : ℤ → Trees → Package → Type 0
 StandsFor = StandsForBut no_spare
 
@@ -51,6 +53,7 @@ pub record ReadsAsBut (spare : Spare) (version : ℤ) (db : Database) (p : Packa
   pub schema_is : db.schema ≡ schema
   pub stands : StandsForBut spare version db.trees p
 
+-- the same with every blob named: the connection's database reads as the package
 abbrev pub ReadsAs : ℤ → Database → Package → Type 0
 ReadsAs = ReadsAsBut no_spare
 
@@ -59,6 +62,7 @@ pub record Ground : Type 0 where
   pub database : Database
   pub is_open : Bool
 
+-- what a rollback goes back to now: the database that was committed last, and whether the store is open
 abbrev pub ground_of : State → Ground
 ground_of s = record { database = s.committed; is_open = s.is_open }
 

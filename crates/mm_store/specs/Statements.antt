@@ -45,6 +45,7 @@ abbrev pub GivesText : {A : Type 0} → Option (String A) → Option Row → Typ
 GivesText None first = first ≡ None
 GivesText (Some text) first = (row : Row) × (first ≡ Some row) × (column row 0 ≡ Words (string_bytes text))
 
+-- the row has these two numbers in its first two columns, and there is none where there are no numbers
 abbrev pub GivesPair : Option (ℤ × ℤ) → Option Row → Type 0
 GivesPair None first = first ≡ None
 GivesPair (Some pair) first = (row : Row) × (first ≡ Some row) × (column row 0 ≡ Int pair.0) × (column row 1 ≡ Int pair.1)

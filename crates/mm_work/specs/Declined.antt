@@ -7,6 +7,7 @@ use Rattle.mm_core.specs.Adopted.{IsNotAdopted}
 use Rattle.mm_work.specs.declared.stop.Stop.{Stop}
 use Rattle.mm_work.specs.declared.stop.Stop.TheVariants as stops
 
+-- why a file is not opened, as it is told: with 93, 94, 95 or 98 that it is no package, or the rule that fails, or a fault
 abbrev pub stop_of : Open → Stop
 stop_of (opens.Version version) = stops.NotPackage 93
 stop_of opens.NoProfile = stops.NotPackage 94

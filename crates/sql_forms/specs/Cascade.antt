@@ -46,6 +46,7 @@ pub record Shrinks (schema : Schema) (keep : Keep) (db now : Trees) : Type 0 whe
 
 -- ---- rows that have a value in a column
 
+-- there is a place, and the row has the value at it
 abbrev pub has_at : Option ℕ → Value → Row → Bool
 has_at None v row = false
 has_at (Some p) v row = equal Binary (column row p) v
@@ -54,11 +55,13 @@ has_at (Some p) v row = equal Binary (column row p) v
 abbrev pub keep_but : (ℕ → Option ℕ) → Value → Keep
 keep_but place v t row = not (has_at (place t) v row)
 
+-- texts compare byte by byte under the collation
 abbrev pub is_binary : Collation → Bool
 is_binary Binary = true
 is_binary NoCase = false
 is_binary RTrim = false
 
+-- where the second table's rows go by a column, so do the first's, and the two lists of places begin with these columns
 abbrev pub heads_match : Option ℕ → Option ℕ → List ℕ → List ℕ → Bool
 heads_match child None ps qs = true
 heads_match None (Some q) ps qs = false
@@ -76,6 +79,7 @@ carries_at place child ref (Some Follow) key = false
 carries_at place child ref (Some Clear) key = false
 carries_at place child ref (Some Reset) key = false
 
+-- so it is of each reference of the schema, where `place` says by which column the rows of a tree go, if by one
 abbrev pub carries : Schema → Keys → (ℕ → Option ℕ) → Bool
 carries schema keys place = list_all (λ t. list_all (λ ref. carries_at place t.tree ref (deed_for keys true ref) (parent_key schema.tables ref)) t.references) schema.tables
 
@@ -97,10 +101,12 @@ leads_to place child above ref None = false
 leads_to place child above ref (Some key) =
     list_any (λ tree. tree == key.0) above && (list_all (is_needed child) ref.columns && (heads_match (place key.0) (place child.tree) key.1 ref.columns && is_binary (first_key key.2).collation))
 
+-- the table's rows go by no column, or it is among these trees, or it refers to one of them by the column that its rows go by
 abbrev pub is_covered : List Table → (ℕ → Option ℕ) → List ℕ → Table → Option ℕ → Bool
 is_covered tables place above child None = true
 is_covered tables place above child (Some p) = list_any (λ tree. tree == child.tree) above || list_any (λ ref. leads_to place child above ref (parent_key tables ref)) child.references
 
+-- so it is of each of the tables in turn, with those before it among the trees
 abbrev pub covers_from : List Table → (ℕ → Option ℕ) → List ℕ → List Table → Bool
 covers_from tables place above [] = true
 covers_from tables place above (t ∷ more) = is_covered tables place above t (place t.tree) && covers_from tables place (t.tree ∷ above) more
@@ -115,6 +121,7 @@ cut place v db t = left_without (place t) v (db t)
 
 -- ---- a delete that sets off nothing
 
+-- a deletion in the tree sets nothing off by the reference: it has no action, refuses, or takes rows along with those of another tree
 abbrev pub spares : ℕ → Option Deed → Option ParentKey → Bool
 spares tree None key = true
 spares tree (Some Refuse) key = true

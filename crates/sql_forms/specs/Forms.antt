@@ -14,6 +14,7 @@ use Rattle.sqlite_schema.specs.declared.program.Program.{Program}
 abbrev pub compares : CompareOp → ℕ → ℕ → Term
 compares op column param = op2 (Compare op Binary) (col 1 column) (col 0 param)
 
+-- the column equals the parameter, both by their places
 abbrev pub equals : ℕ → ℕ → Term
 equals = compares Eq
 
@@ -25,6 +26,7 @@ reads column text = op2 (Compare Eq Binary) (col 1 column) (lit (Text text))
 abbrev pub is_absent : ℕ → Term
 is_absent column = op2 (Is Binary) (col 1 column) (lit Null)
 
+-- LIMIT -1, which is no limit
 abbrev pub no_limit : Term
 no_limit = lit (Int (negsuc 0))
 
@@ -46,9 +48,11 @@ query from filter project order limit = record {
 abbrev pub over : ℕ → List Term → List Term → List (Term × Key) → Term → Query
 over tree = query (inner tree end)
 
+-- what is shown of each row of one table that passes WHERE, in no order that is asked for
 abbrev pub all_of : ℕ → List Term → List Term → Query
 all_of tree filter project = over tree filter project [] no_limit
 
+-- the program of a query that needs no tables computed before it
 abbrev pub alone : Query → Program
 alone q = record { lets = []; body = q }
 

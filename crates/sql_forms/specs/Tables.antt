@@ -14,6 +14,7 @@ use Rattle.sqlite_rules.specs.Lists.{Has}
 use Rattle.sqlite.specs.Effect.{Database, IsDatabase}
 use Rattle.sqlite.specs.State.{State, Shown}
 
+-- a table of the schema has its rows in this tree
 abbrev pub is_table : Schema → ℕ → Bool
 is_table schema t = list_any (λ table. table.tree == t) schema.tables
 
@@ -40,9 +41,11 @@ has_key (c ∷ places) (v ∷ values) r = equal Binary (column r c) v && has_key
 abbrev pub passes : List Term → Row → Row → Bool
 passes terms params r = list_all (holds (params ∷ r ∷ [])) terms
 
+-- the rows that a DELETE leaves: all but those that pass the test
 abbrev pub without : (Row → Bool) → List Row → List Row
 without test = filter (λ r. not (test r))
 
+-- the rows that an UPDATE leaves: those that pass the test changed, and the others as they were
 abbrev pub with_changed : (Row → Bool) → (Row → Row) → List Row → List Row
 with_changed test change = map (λ r. if test r then change r else r)
 

@@ -3,13 +3,13 @@ use Rattle.std.proofs.Common.{ℕ, List, [], ◌∷◌, codes, refl}
 use Rattle.sqlite.specs.Term.{col}
 use Rattle.sqlite.specs.Listing.{understood}
 use Rattle.sqlite_tied.specs.Compute.{everything}
-use Rattle.sql_forms.specs.Forms.{all_of, equals}
+use Rattle.sql_forms.specs.Forms.{first_of, equals}
 use Rattle.sql_forms.proofs.Selects.{IsSelect}
 use Rattle.mm_schema.specs.Tables.{schema}
 
 abbrev pub blob_of_medium_text : List ℕ
-blob_of_medium_text = codes "SELECT blob FROM mm_media WHERE table_name = ?1 AND id = ?2"
+blob_of_medium_text = codes "SELECT blob FROM mm_media WHERE table_name = ?1 AND id = ?2 LIMIT 1"
 
-pub blob_of_medium : IsSelect schema blob_of_medium_text 19 (all_of 19 (equals 1 0 ∷ equals 2 1 ∷ []) (col 1 3 ∷ [])) (codes "blob" ∷ [])
+pub blob_of_medium : IsSelect schema blob_of_medium_text 19 (first_of 19 (equals 1 0 ∷ equals 2 1 ∷ []) (col 1 3 ∷ [])) (codes "blob" ∷ [])
 unfolding understood everything
 blob_of_medium = record { compiled = refl; plain = (refl, refl); unlisted = refl; listed = refl }

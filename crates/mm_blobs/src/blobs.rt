@@ -55,7 +55,7 @@ fn find_blob<S: Alter>(
 {
     first_number(
         tx,
-        "SELECT id FROM mm_blobs WHERE digest = ?1 AND data = ?2",
+        "SELECT id FROM mm_blobs WHERE digest = ?1 AND data = ?2 LIMIT 1",
         params![digest, bytes],
     )
 }
@@ -104,7 +104,11 @@ fn row_of_blob<S: Alter>(tx: &mut Transaction<'_, S>, id: i64) -> Result<Option<
     ensures shown { (profile : Profile) (spare : Spare) → IsMove (state S.Store tx.old.conn.now) (state S.Store tx.new.conn.now) (IsSeen spare profile (state S.Store tx.old.conn.now))
         (λ base x row y. (y ≡ x) × IsSeen spare profile (state S.Store tx.new.conn.now) base y × ShowsBytes (bytes_at y.kept.shelf id) row) result }
 {
-    first(tx, "SELECT data FROM mm_blobs WHERE id = ?1", params![id])
+    first(
+        tx,
+        "SELECT data FROM mm_blobs WHERE id = ?1 LIMIT 1",
+        params![id],
+    )
 }
 
 /// The bytes in the first column of a row.
@@ -136,7 +140,11 @@ fn tile_names<S: Alter>(tx: &mut Transaction<'_, S>, id: i64) -> Result<bool, Fa
     ensures named { (profile : Profile) (spare : Spare) → IsMove (state S.Store tx.old.conn.now) (state S.Store tx.new.conn.now) (IsSeen spare profile (state S.Store tx.old.conn.now))
         (λ base x it y. (y ≡ x) × IsSeen spare profile (state S.Store tx.new.conn.now) base y × TellsWhether (Names tile_id y.kept.tiles id) it) result }
 {
-    exists(tx, "SELECT 1 FROM mm_tiles WHERE blob = ?1", params![id])
+    exists(
+        tx,
+        "SELECT 1 FROM mm_tiles WHERE blob = ?1 LIMIT 1",
+        params![id],
+    )
 }
 
 /// Whether a medium names a blob.
@@ -145,7 +153,11 @@ fn medium_names<S: Alter>(tx: &mut Transaction<'_, S>, id: i64) -> Result<bool, 
     ensures named { (profile : Profile) (spare : Spare) → IsMove (state S.Store tx.old.conn.now) (state S.Store tx.new.conn.now) (IsSeen spare profile (state S.Store tx.old.conn.now))
         (λ base x it y. (y ≡ x) × IsSeen spare profile (state S.Store tx.new.conn.now) base y × TellsWhether (Names medium_id y.kept.media id) it) result }
 {
-    exists(tx, "SELECT 1 FROM mm_media WHERE blob = ?1", params![id])
+    exists(
+        tx,
+        "SELECT 1 FROM mm_media WHERE blob = ?1 LIMIT 1",
+        params![id],
+    )
 }
 
 /// Whether a staged piece names a blob.
@@ -154,7 +166,11 @@ fn piece_names<S: Alter>(tx: &mut Transaction<'_, S>, id: i64) -> Result<bool, F
     ensures named { (profile : Profile) (spare : Spare) → IsMove (state S.Store tx.old.conn.now) (state S.Store tx.new.conn.now) (IsSeen spare profile (state S.Store tx.old.conn.now))
         (λ base x it y. (y ≡ x) × IsSeen spare profile (state S.Store tx.new.conn.now) base y × TellsWhether (Names piece_id y.kept.pieces id) it) result }
 {
-    exists(tx, "SELECT 1 FROM mm_pieces WHERE blob = ?1", params![id])
+    exists(
+        tx,
+        "SELECT 1 FROM mm_pieces WHERE blob = ?1 LIMIT 1",
+        params![id],
+    )
 }
 
 /// Whether a tile, a medium or a staged piece names a blob.

@@ -30,7 +30,7 @@ pub fn blob_of_tile<S: Alter>(
 {
     first_number(
         tx,
-        "SELECT blob FROM mm_tiles WHERE table_name = ?1 AND zoom_level = ?2 AND tile_column = ?3 AND tile_row = ?4",
+        "SELECT blob FROM mm_tiles WHERE table_name = ?1 AND zoom_level = ?2 AND tile_column = ?3 AND tile_row = ?4 LIMIT 1",
         params![table, u32::from(zoom), column, row],
     )
 }
@@ -47,7 +47,7 @@ pub fn blob_of_medium<S: Alter>(
 {
     first_number(
         tx,
-        "SELECT blob FROM mm_media WHERE table_name = ?1 AND id = ?2",
+        "SELECT blob FROM mm_media WHERE table_name = ?1 AND id = ?2 LIMIT 1",
         params![table, id],
     )
 }

@@ -1,5 +1,5 @@
 -- Whether a mapping row has an item as an end, from the rows that two tables join.
-use Rattle.std.proofs.Common.{◌≡◌, ℕ, ℤ, Bool, true, false, ◌&&◌, ◌||◌, List, [], ◌∷◌, Option, Some, None, is_some, slice_get, if◌then◌else◌, inl, inr, refl, sym, ap, subst, ◌∙◌}
+use Rattle.std.proofs.Common.{◌≡◌, ℕ, ℤ, Bool, true, false, pos, ◌&&◌, ◌||◌, List, [], ◌∷◌, map, Option, Some, None, is_some, slice_get, if◌then◌else◌, inl, inr, refl, sym, ap, subst, ◌∙◌}
 use Rattle.std.specs.Prelude.{⊤}
 use Rattle.std.specs.List.{list_any, list_all}
 use Rattle.std.specs.FinMap.{get, entries}
@@ -7,8 +7,8 @@ use Rattle.std.proofs.lemmas.Bool.{and_parts, and_from, both_ways, false_from_ne
 use Rattle.sqlite.specs.declared.types.Value.TheVariants.{Null, Int, Text as Words}
 use Rattle.sqlite_value.specs.declared.keys.Collation.TheVariants.{Binary}
 use Rattle.sqlite.specs.Order.{Row, column}
-use Rattle.sqlite.specs.Term.{Term, Env, holds}
-use Rattle.sqlite.specs.Query.{Query, end, inner, matches, IsAnswer}
+use Rattle.sqlite.specs.Term.{Term, Env, lit, holds}
+use Rattle.sqlite.specs.Query.{Query, Output, end, inner, matches, IsAnswer}
 use Rattle.sqlite.specs.Program.{overlay}
 use Rattle.sqlite.specs.Schema.{Schema}
 use Rattle.sqlite.specs.Tree.{Trees}
@@ -23,7 +23,7 @@ use Rattle.sql_forms.proofs.Joins as joins
 use Rattle.sql_forms.proofs.Keys.{equal_text, equal_int, columns_are}
 use Rattle.sql_forms.proofs.Lists.{has_flat, flat_has, none_holds, either_any}
 use Rattle.sql_forms.proofs.Queries.{no_overlay}
-use Rattle.sql_forms.proofs.Selects.{IsSelect}
+use Rattle.sql_forms.proofs.Selects.{IsSelect, first_taken}
 use Rattle.sql_forms.proofs.States.{shows_as}
 use Rattle.sql_forms.proofs.Tables.{rows_at}
 use Rattle.mm_base.specs.Keys.{Text, same_text, same_number, Pairing}
@@ -56,7 +56,7 @@ there_if true e h = inl refl
 there_if false e h = absurd (let f : false ≡ true = h in cc)
 
 module _ (schema : Schema) (sql : List ℕ) (s t : ℕ) (terms project : List Term) (names : List (List ℕ))
-    (it : IsSelect schema sql s (query (inner s (inner t end)) terms project [] no_limit) names) (other : is_table schema t ≡ true)
+    (it : IsSelect schema sql s (query (inner s (inner t end)) terms project [] (lit (Int (pos 1)))) names) (other : is_table schema t ≡ true)
     (old new : State) (has : old.now.schema ≡ schema) (params given : Row) (same : given ≡ params) where
   abbrev q : Query
   q = query (inner s (inner t end)) terms project [] no_limit
@@ -85,16 +85,20 @@ module _ (schema : Schema) (sql : List ℕ) (s t : ℕ) (terms project : List Te
       (r.0, m.0, r.1, m.1, if_there (passing r.0 m.0) (params ∷ r.0 ∷ m.0 ∷ []) shown.0 m.2)
 
   module _ (first : Option Row) (shown : IsFirstShown sql given old new first) where
-    read : Answers old.now (alone q) params shown.0 × IsUnchanged old new
+    read : Answers old.now (alone (query (inner s (inner t end)) terms project [] (lit (Int (pos 1))))) params shown.0 × IsUnchanged old new
     read = shows_as old new sql params schema has _ it.compiled it.plain it.unlisted shown.0 (subst (λ p. Shown sql p old new shown.0) same shown.1)
 
     pub selects_pair : IsUnchanged old new × JoinFinds passing (tables_of schema old.now.trees s) (tables_of schema old.now.trees t) first
-    selects_pair = (
-      read.1,
-      subst (JoinFinds passing (tables_of schema old.now.trees s) (tables_of schema old.now.trees t)) (sym shown.2)
-          (subst (λ rows. JoinFinds passing rows (tables_of schema old.now.trees t) (slice_get shown.0 0)) (at s it.listed)
-          (subst (λ others. JoinFinds passing (db s) others (slice_get shown.0 0)) (at t other) (shown_pair shown.0 (read.0.answer Null)))),
-    )
+    selects_pair =
+        let one = read.0.answer Null in
+        let all : List Row = map (λ (o : Output). o.1) one.ordered in
+        let whole : IsAnswer q db params all = record { staged = one.staged; grouped = one.grouped; kept = one.kept; distinct = one.distinct; ordered = one.ordered; same = one.same; sorted = one.sorted; shown = refl } in
+        let first_is : first ≡ slice_get all 0 = shown.2 ∙ ap (λ xs. slice_get xs 0) one.shown ∙ first_taken all in (
+          read.1,
+          subst (JoinFinds passing (tables_of schema old.now.trees s) (tables_of schema old.now.trees t)) (sym first_is)
+              (subst (λ rows. JoinFinds passing rows (tables_of schema old.now.trees t) (slice_get all 0)) (at s it.listed)
+              (subst (λ others. JoinFinds passing (db s) others (slice_get all 0)) (at t other) (shown_pair all whole))),
+        )
 
 -- ---- the mapping rows of an item
 

@@ -22,7 +22,7 @@ fn has_base<S: Alter>(tx: &mut Transaction<'_, S>, table: &str, id: i64) -> Resu
 {
     exists(
         tx,
-        "SELECT 1 FROM gpkgext_relations AS r JOIN mm_map AS m ON m.mapping = r.mapping_table_name AND m.base_id = ?2 WHERE r.base_table_name = ?1",
+        "SELECT 1 FROM gpkgext_relations AS r JOIN mm_map AS m ON m.mapping = r.mapping_table_name AND m.base_id = ?2 WHERE r.base_table_name = ?1 LIMIT 1",
         params![table, id],
     )
 }
@@ -35,7 +35,7 @@ fn has_related<S: Alter>(tx: &mut Transaction<'_, S>, table: &str, id: i64) -> R
 {
     exists(
         tx,
-        "SELECT 1 FROM gpkgext_relations AS r JOIN mm_map AS m ON m.mapping = r.mapping_table_name AND m.related_id = ?2 WHERE r.related_table_name = ?1",
+        "SELECT 1 FROM gpkgext_relations AS r JOIN mm_map AS m ON m.mapping = r.mapping_table_name AND m.related_id = ?2 WHERE r.related_table_name = ?1 LIMIT 1",
         params![table, id],
     )
 }

@@ -39,7 +39,7 @@ fn blob_of_piece<S: Alter>(
 {
     match first_number(
         tx,
-        "SELECT blob FROM mm_pieces WHERE edition = ?1 AND piece_no = ?2",
+        "SELECT blob FROM mm_pieces WHERE edition = ?1 AND piece_no = ?2 LIMIT 1",
         params![edition, number],
     ) {
         Ok(Some(blob)) => Ok(blob),

@@ -39,7 +39,7 @@ fn sides_at<S: Alter>(
 {
     first_pair(
         tx,
-        "SELECT matrix_width, matrix_height FROM gpkg_tile_matrix WHERE table_name = ?1 AND zoom_level = ?2",
+        "SELECT matrix_width, matrix_height FROM gpkg_tile_matrix WHERE table_name = ?1 AND zoom_level = ?2 LIMIT 1",
         params![table, u32::from(zoom)],
     )
 }
@@ -57,7 +57,7 @@ fn has_tile<S: Alter>(
 {
     exists(
         tx,
-        "SELECT 1 FROM mm_tiles WHERE table_name = ?1 AND zoom_level = ?2 AND tile_column = ?3 AND tile_row = ?4",
+        "SELECT 1 FROM mm_tiles WHERE table_name = ?1 AND zoom_level = ?2 AND tile_column = ?3 AND tile_row = ?4 LIMIT 1",
         params![table, u32::from(zoom), column, row],
     )
 }

@@ -24,7 +24,7 @@ pub(crate) fn has_table<S: Alter>(tx: &mut Transaction<'_, S>, table: &str) -> R
 {
     exists(
         tx,
-        "SELECT 1 FROM gpkg_contents WHERE table_name = ?1",
+        "SELECT 1 FROM gpkg_contents WHERE table_name = ?1 LIMIT 1",
         params![table],
     )
 }
@@ -39,7 +39,7 @@ pub(crate) fn has_identifier<S: Alter>(
 {
     exists(
         tx,
-        "SELECT 1 FROM gpkg_contents WHERE identifier = ?1",
+        "SELECT 1 FROM gpkg_contents WHERE identifier = ?1 LIMIT 1",
         params![identifier],
     )
 }

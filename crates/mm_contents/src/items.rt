@@ -18,7 +18,7 @@ pub fn has_row<S: Alter>(tx: &mut Transaction<'_, S>, table: &str, id: i64) -> R
 {
     exists(
         tx,
-        "SELECT 1 FROM mm_rows WHERE table_name = ?1 AND id = ?2",
+        "SELECT 1 FROM mm_rows WHERE table_name = ?1 AND id = ?2 LIMIT 1",
         params![table, id],
     )
 }
@@ -34,7 +34,7 @@ pub fn has_medium<S: Alter>(
 {
     exists(
         tx,
-        "SELECT 1 FROM mm_media WHERE table_name = ?1 AND id = ?2",
+        "SELECT 1 FROM mm_media WHERE table_name = ?1 AND id = ?2 LIMIT 1",
         params![table, id],
     )
 }

@@ -40,7 +40,7 @@ fn registered<S: Alter>(tx: &mut Transaction<'_, S>, table: &str) -> Result<Opti
 {
     first_text(
         tx,
-        "SELECT kind FROM mm_tables WHERE table_name = ?1",
+        "SELECT kind FROM mm_tables WHERE table_name = ?1 LIMIT 1",
         params![table],
     )
 }

@@ -20,7 +20,7 @@ pub fn has_relation<S: Alter>(tx: &mut Transaction<'_, S>, mapping: &str) -> Res
 {
     exists(
         tx,
-        "SELECT 1 FROM gpkgext_relations WHERE mapping_table_name = ?1",
+        "SELECT 1 FROM gpkgext_relations WHERE mapping_table_name = ?1 LIMIT 1",
         params![mapping],
     )
 }
@@ -32,7 +32,7 @@ fn is_base<S: Alter>(tx: &mut Transaction<'_, S>, table: &str) -> Result<bool, F
 {
     exists(
         tx,
-        "SELECT 1 FROM gpkgext_relations WHERE base_table_name = ?1",
+        "SELECT 1 FROM gpkgext_relations WHERE base_table_name = ?1 LIMIT 1",
         params![table],
     )
 }
@@ -44,7 +44,7 @@ fn is_related<S: Alter>(tx: &mut Transaction<'_, S>, table: &str) -> Result<bool
 {
     exists(
         tx,
-        "SELECT 1 FROM gpkgext_relations WHERE related_table_name = ?1",
+        "SELECT 1 FROM gpkgext_relations WHERE related_table_name = ?1 LIMIT 1",
         params![table],
     )
 }

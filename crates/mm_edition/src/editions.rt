@@ -49,7 +49,7 @@ fn written_state<S: Alter>(
 {
     first_text(
         tx,
-        "SELECT state FROM mm_editions WHERE name = ?1",
+        "SELECT state FROM mm_editions WHERE name = ?1 LIMIT 1",
         params![edition],
     )
 }

@@ -39,7 +39,7 @@ pub(crate) fn has_piece<S: Alter>(
 {
     exists(
         tx,
-        "SELECT 1 FROM mm_pieces WHERE edition = ?1 AND piece_no = ?2",
+        "SELECT 1 FROM mm_pieces WHERE edition = ?1 AND piece_no = ?2 LIMIT 1",
         params![edition, number],
     )
 }
@@ -57,7 +57,7 @@ fn row_of_piece<S: Alter>(
 {
     first(
         tx,
-        "SELECT kind, name, k1, k2, k3, k4, k5, k6, k7, t1, t2, blob FROM mm_pieces WHERE edition = ?1 AND piece_no = ?2",
+        "SELECT kind, name, k1, k2, k3, k4, k5, k6, k7, t1, t2, blob FROM mm_pieces WHERE edition = ?1 AND piece_no = ?2 LIMIT 1",
         params![edition, number],
     )
 }

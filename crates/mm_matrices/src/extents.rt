@@ -60,7 +60,7 @@ fn extent_of<S: Alter>(tx: &mut Transaction<'_, S>, table: &str) -> Result<Optio
 {
     first_extent(
         tx,
-        "SELECT min_x, min_y, max_x, max_y FROM gpkg_tile_matrix_set WHERE table_name = ?1",
+        "SELECT min_x, min_y, max_x, max_y FROM gpkg_tile_matrix_set WHERE table_name = ?1 LIMIT 1",
         params![table],
     )
 }

@@ -30,7 +30,7 @@ fn has_matrix<S: Alter>(tx: &mut Transaction<'_, S>, table: &str, zoom: u8) -> R
 {
     exists(
         tx,
-        "SELECT 1 FROM gpkg_tile_matrix WHERE table_name = ?1 AND zoom_level = ?2",
+        "SELECT 1 FROM gpkg_tile_matrix WHERE table_name = ?1 AND zoom_level = ?2 LIMIT 1",
         params![table, u32::from(zoom)],
     )
 }

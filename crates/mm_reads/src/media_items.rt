@@ -52,7 +52,7 @@ fn row_of_medium<S: Alter>(
 {
     first(
         tx,
-        "SELECT blob, content_type FROM mm_media WHERE table_name = ?1 AND id = ?2",
+        "SELECT blob, content_type FROM mm_media WHERE table_name = ?1 AND id = ?2 LIMIT 1",
         params![table, id],
     )
 }

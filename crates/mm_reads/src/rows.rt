@@ -63,7 +63,7 @@ fn row_at<S: Alter>(tx: &mut Transaction<'_, S>, table: &str, id: i64) -> Result
 {
     first_row(
         tx,
-        "SELECT title, note, amount FROM mm_rows WHERE table_name = ?1 AND id = ?2",
+        "SELECT title, note, amount FROM mm_rows WHERE table_name = ?1 AND id = ?2 LIMIT 1",
         params![table, id],
     )
 }

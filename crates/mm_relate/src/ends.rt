@@ -35,7 +35,7 @@ pub(crate) fn ends_of<S: Alter>(
 {
     match first(
         tx,
-        "SELECT base_table_name, related_table_name FROM gpkgext_relations WHERE mapping_table_name = ?1",
+        "SELECT base_table_name, related_table_name FROM gpkgext_relations WHERE mapping_table_name = ?1 LIMIT 1",
         params![mapping],
     ) {
         Ok(Some(row)) => match texts_in(&row) {

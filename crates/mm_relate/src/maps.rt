@@ -29,7 +29,7 @@ fn has_pairing<S: Alter>(
 {
     exists(
         tx,
-        "SELECT 1 FROM mm_map WHERE mapping = ?1 AND base_id = ?2 AND related_id = ?3",
+        "SELECT 1 FROM mm_map WHERE mapping = ?1 AND base_id = ?2 AND related_id = ?3 LIMIT 1",
         params![mapping, base_id, related_id],
     )
 }

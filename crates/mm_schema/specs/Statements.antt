@@ -15,7 +15,7 @@ insert_profile = codes "INSERT INTO mm_profile (id, version) VALUES (?1, ?2)"
 
 -- whether a system has the number
 abbrev pub has_system : List ℕ
-has_system = codes "SELECT 1 FROM gpkg_spatial_ref_sys WHERE srs_id = ?1"
+has_system = codes "SELECT 1 FROM gpkg_spatial_ref_sys WHERE srs_id = ?1 LIMIT 1"
 
 -- puts a system: its name, number, organization, number at the organization, definition and description
 abbrev pub insert_system : List ℕ
@@ -25,11 +25,11 @@ insert_system = codes "INSERT INTO gpkg_spatial_ref_sys (srs_name, srs_id, organ
 
 -- whether a table has the name
 abbrev pub has_table : List ℕ
-has_table = codes "SELECT 1 FROM gpkg_contents WHERE table_name = ?1"
+has_table = codes "SELECT 1 FROM gpkg_contents WHERE table_name = ?1 LIMIT 1"
 
 -- whether a contents row has the identifier
 abbrev pub has_identifier : List ℕ
-has_identifier = codes "SELECT 1 FROM gpkg_contents WHERE identifier = ?1"
+has_identifier = codes "SELECT 1 FROM gpkg_contents WHERE identifier = ?1 LIMIT 1"
 
 -- puts the contents row of a pyramid: its name, identifier, stamp, four bounds and system
 abbrev pub insert_pyramid_contents : List ℕ
@@ -51,7 +51,7 @@ delete_table = codes "DELETE FROM gpkg_contents WHERE table_name = ?1"
 
 -- the kind of a table, as the registry writes it
 abbrev pub kind_of_table : List ℕ
-kind_of_table = codes "SELECT kind FROM mm_tables WHERE table_name = ?1"
+kind_of_table = codes "SELECT kind FROM mm_tables WHERE table_name = ?1 LIMIT 1"
 
 -- puts the kind of a table into the registry
 abbrev pub insert_kind : List ℕ
@@ -61,7 +61,7 @@ insert_kind = codes "INSERT INTO mm_tables (table_name, kind) VALUES (?1, ?2)"
 
 -- the extent of a pyramid, from its matrix set
 abbrev pub extent_of_table : List ℕ
-extent_of_table = codes "SELECT min_x, min_y, max_x, max_y FROM gpkg_tile_matrix_set WHERE table_name = ?1"
+extent_of_table = codes "SELECT min_x, min_y, max_x, max_y FROM gpkg_tile_matrix_set WHERE table_name = ?1 LIMIT 1"
 
 -- puts the matrix set of a pyramid: its name, system and four bounds
 abbrev pub insert_matrix_set : List ℕ
@@ -71,11 +71,11 @@ insert_matrix_set = codes "INSERT INTO gpkg_tile_matrix_set (table_name, srs_id,
 
 -- whether a pyramid has a matrix at a zoom level
 abbrev pub has_matrix : List ℕ
-has_matrix = codes "SELECT 1 FROM gpkg_tile_matrix WHERE table_name = ?1 AND zoom_level = ?2"
+has_matrix = codes "SELECT 1 FROM gpkg_tile_matrix WHERE table_name = ?1 AND zoom_level = ?2 LIMIT 1"
 
 -- width and height of the matrix at a zoom level, in tiles
 abbrev pub matrix_sides : List ℕ
-matrix_sides = codes "SELECT matrix_width, matrix_height FROM gpkg_tile_matrix WHERE table_name = ?1 AND zoom_level = ?2"
+matrix_sides = codes "SELECT matrix_width, matrix_height FROM gpkg_tile_matrix WHERE table_name = ?1 AND zoom_level = ?2 LIMIT 1"
 
 -- the nearest lower zoom level at which a pyramid has a matrix, with that matrix
 abbrev pub matrix_below : List ℕ
@@ -111,11 +111,11 @@ delete_zoom_row = codes "DELETE FROM gpkg_extensions WHERE table_name = ?1 AND c
 
 -- whether a tile stands at a zoom level, column and row of a pyramid
 abbrev pub has_tile : List ℕ
-has_tile = codes "SELECT 1 FROM mm_tiles WHERE table_name = ?1 AND zoom_level = ?2 AND tile_column = ?3 AND tile_row = ?4"
+has_tile = codes "SELECT 1 FROM mm_tiles WHERE table_name = ?1 AND zoom_level = ?2 AND tile_column = ?3 AND tile_row = ?4 LIMIT 1"
 
 -- the id of the blob that a tile names
 abbrev pub blob_of_tile : List ℕ
-blob_of_tile = codes "SELECT blob FROM mm_tiles WHERE table_name = ?1 AND zoom_level = ?2 AND tile_column = ?3 AND tile_row = ?4"
+blob_of_tile = codes "SELECT blob FROM mm_tiles WHERE table_name = ?1 AND zoom_level = ?2 AND tile_column = ?3 AND tile_row = ?4 LIMIT 1"
 
 -- puts a tile where none stands: its place, and the id of its blob
 abbrev pub insert_tile : List ℕ
@@ -133,11 +133,11 @@ delete_tile = codes "DELETE FROM mm_tiles WHERE table_name = ?1 AND zoom_level =
 
 -- whether an attribute row of the table has the id
 abbrev pub has_row : List ℕ
-has_row = codes "SELECT 1 FROM mm_rows WHERE table_name = ?1 AND id = ?2"
+has_row = codes "SELECT 1 FROM mm_rows WHERE table_name = ?1 AND id = ?2 LIMIT 1"
 
 -- title, note and amount of an attribute row
 abbrev pub row_values : List ℕ
-row_values = codes "SELECT title, note, amount FROM mm_rows WHERE table_name = ?1 AND id = ?2"
+row_values = codes "SELECT title, note, amount FROM mm_rows WHERE table_name = ?1 AND id = ?2 LIMIT 1"
 
 -- puts an attribute row where none has the id: its table, id, title, note and amount
 abbrev pub insert_row : List ℕ
@@ -155,11 +155,11 @@ delete_row = codes "DELETE FROM mm_rows WHERE table_name = ?1 AND id = ?2"
 
 -- whether a medium of the table has the id
 abbrev pub has_medium : List ℕ
-has_medium = codes "SELECT 1 FROM mm_media WHERE table_name = ?1 AND id = ?2"
+has_medium = codes "SELECT 1 FROM mm_media WHERE table_name = ?1 AND id = ?2 LIMIT 1"
 
 -- the id of the blob that a medium names, and its content type
 abbrev pub medium_values : List ℕ
-medium_values = codes "SELECT blob, content_type FROM mm_media WHERE table_name = ?1 AND id = ?2"
+medium_values = codes "SELECT blob, content_type FROM mm_media WHERE table_name = ?1 AND id = ?2 LIMIT 1"
 
 -- puts a medium where none has the id: its table, id, blob and content type
 abbrev pub insert_medium : List ℕ
@@ -177,19 +177,19 @@ delete_medium = codes "DELETE FROM mm_media WHERE table_name = ?1 AND id = ?2"
 
 -- whether a relation has the mapping
 abbrev pub has_relation : List ℕ
-has_relation = codes "SELECT 1 FROM gpkgext_relations WHERE mapping_table_name = ?1"
+has_relation = codes "SELECT 1 FROM gpkgext_relations WHERE mapping_table_name = ?1 LIMIT 1"
 
 -- the base table and the related table of a relation
 abbrev pub ends_of_relation : List ℕ
-ends_of_relation = codes "SELECT base_table_name, related_table_name FROM gpkgext_relations WHERE mapping_table_name = ?1"
+ends_of_relation = codes "SELECT base_table_name, related_table_name FROM gpkgext_relations WHERE mapping_table_name = ?1 LIMIT 1"
 
 -- whether the table is the base of a relation
 abbrev pub is_base : List ℕ
-is_base = codes "SELECT 1 FROM gpkgext_relations WHERE base_table_name = ?1"
+is_base = codes "SELECT 1 FROM gpkgext_relations WHERE base_table_name = ?1 LIMIT 1"
 
 -- whether the table is the related table of a relation
 abbrev pub is_related : List ℕ
-is_related = codes "SELECT 1 FROM gpkgext_relations WHERE related_table_name = ?1"
+is_related = codes "SELECT 1 FROM gpkgext_relations WHERE related_table_name = ?1 LIMIT 1"
 
 -- puts a relation: its base table, related table, name and mapping; the store chooses the id
 abbrev pub insert_relation : List ℕ
@@ -203,7 +203,7 @@ delete_relation = codes "DELETE FROM gpkgext_relations WHERE mapping_table_name 
 
 -- whether the mapping row stands
 abbrev pub has_pairing : List ℕ
-has_pairing = codes "SELECT 1 FROM mm_map WHERE mapping = ?1 AND base_id = ?2 AND related_id = ?3"
+has_pairing = codes "SELECT 1 FROM mm_map WHERE mapping = ?1 AND base_id = ?2 AND related_id = ?3 LIMIT 1"
 
 -- puts a mapping row: its mapping, base id and related id
 abbrev pub insert_pairing : List ℕ
@@ -217,7 +217,7 @@ delete_pairing = codes "DELETE FROM mm_map WHERE mapping = ?1 AND base_id = ?2 A
 
 -- the state of an edition, open or published
 abbrev pub state_of_edition : List ℕ
-state_of_edition = codes "SELECT state FROM mm_editions WHERE name = ?1"
+state_of_edition = codes "SELECT state FROM mm_editions WHERE name = ?1 LIMIT 1"
 
 -- puts an edition, which is open
 abbrev pub insert_edition : List ℕ
@@ -239,7 +239,7 @@ last_piece = codes "SELECT piece_no FROM mm_pieces WHERE edition = ?1 ORDER BY p
 
 -- the columns of a staged piece behind its key
 abbrev pub piece_values : List ℕ
-piece_values = codes "SELECT kind, name, k1, k2, k3, k4, k5, k6, k7, t1, t2, blob FROM mm_pieces WHERE edition = ?1 AND piece_no = ?2"
+piece_values = codes "SELECT kind, name, k1, k2, k3, k4, k5, k6, k7, t1, t2, blob FROM mm_pieces WHERE edition = ?1 AND piece_no = ?2 LIMIT 1"
 
 -- puts a staged piece: its edition, number and the columns behind its key
 abbrev pub insert_piece : List ℕ
@@ -253,11 +253,11 @@ delete_pieces = codes "DELETE FROM mm_pieces WHERE edition = ?1"
 
 -- the id of the blob of given bytes: found by their digest, and compared byte by byte
 abbrev pub blob_of_bytes : List ℕ
-blob_of_bytes = codes "SELECT id FROM mm_blobs WHERE digest = ?1 AND data = ?2"
+blob_of_bytes = codes "SELECT id FROM mm_blobs WHERE digest = ?1 AND data = ?2 LIMIT 1"
 
 -- the bytes of a blob
 abbrev pub bytes_of_blob : List ℕ
-bytes_of_blob = codes "SELECT data FROM mm_blobs WHERE id = ?1"
+bytes_of_blob = codes "SELECT data FROM mm_blobs WHERE id = ?1 LIMIT 1"
 
 -- puts a blob: its digest and its bytes; the store chooses the id
 abbrev pub insert_blob : List ℕ
@@ -269,15 +269,15 @@ delete_blob = codes "DELETE FROM mm_blobs WHERE id = ?1"
 
 -- whether a tile names the blob
 abbrev pub tile_of_blob : List ℕ
-tile_of_blob = codes "SELECT 1 FROM mm_tiles WHERE blob = ?1"
+tile_of_blob = codes "SELECT 1 FROM mm_tiles WHERE blob = ?1 LIMIT 1"
 
 -- whether a medium names the blob
 abbrev pub medium_of_blob : List ℕ
-medium_of_blob = codes "SELECT 1 FROM mm_media WHERE blob = ?1"
+medium_of_blob = codes "SELECT 1 FROM mm_media WHERE blob = ?1 LIMIT 1"
 
 -- whether a staged piece names the blob
 abbrev pub piece_of_blob : List ℕ
-piece_of_blob = codes "SELECT 1 FROM mm_pieces WHERE blob = ?1"
+piece_of_blob = codes "SELECT 1 FROM mm_pieces WHERE blob = ?1 LIMIT 1"
 
 -- the ids of the blobs that the tiles of a table name
 abbrev pub blobs_of_tiles : List ℕ

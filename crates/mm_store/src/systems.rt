@@ -17,7 +17,7 @@ pub fn has_system<S: Alter>(tx: &mut Transaction<'_, S>, id: i64) -> Result<bool
 {
     exists(
         tx,
-        "SELECT 1 FROM gpkg_spatial_ref_sys WHERE srs_id = ?1",
+        "SELECT 1 FROM gpkg_spatial_ref_sys WHERE srs_id = ?1 LIMIT 1",
         params![id],
     )
 }

@@ -1,24 +1,25 @@
 -- A SELECT over one table.
-use Rattle.std.proofs.Common.{◌≡◌, ℕ, Bool, true, false, List, [], ◌∷◌, filter, map, length, slice_get, Option, Some, None, is_some, refl, sym, subst, ◌∙◌, arith}
+use Rattle.std.proofs.Common.{◌≡◌, ℕ, Bool, true, false, List, [], ◌∷◌, filter, map, length, take, pos, slice_get, Option, Some, None, is_some, refl, sym, ap, subst, ◌∙◌, arith}
 use Rattle.std.specs.List.{list_any}
 use Rattle.std.specs.List.Sorted.{IsPermutation}
 use Rattle.std.proofs.lemmas.Bool.{false_from_ne_true}
 use Rattle.std.proofs.lemmas.List.{length-map}
-use Rattle.std.proofs.lemmas.List.Sorted.{length_permutation}
+use Rattle.std.proofs.lemmas.List.Sorted.{length_permutation, IsPermutation-map}
 use Rattle.sqlite_value.specs.declared.keys.Key.{Key}
+use Rattle.sqlite.specs.declared.types.Value.TheVariants.{Int}
 use Rattle.sqlite.specs.Order.{Row}
-use Rattle.sqlite.specs.Term.{Term, eval_all}
-use Rattle.sqlite.specs.Query.{Query}
+use Rattle.sqlite.specs.Term.{Term, lit, eval_all}
+use Rattle.sqlite.specs.Query.{Query, Output, output}
 use Rattle.sqlite.specs.Schema.{Schema}
 use Rattle.sqlite.specs.Command.TheVariants.{Select}
-use Rattle.sqlite_trees.proofs.ListLemmas.{all-permutation, all-map}
+use Rattle.sqlite_trees.proofs.ListLemmas.{all-permutation, all-map, map-map}
 use Rattle.sqlite_rules.specs.Lists.{Has}
 use Rattle.sqlite_rules.proofs.ListLemmas.{all_from, some_has, some_from, has_filtered, has_kept}
 use Rattle.sqlite.specs.Effect.{Answers}
 use Rattle.sqlite.specs.Listing.{understood, reads_listing}
 use Rattle.sqlite.specs.State.{State, Shown, IsUnchanged}
 use Rattle.sqlite.proofs.Callers.{IsPlain, command_of}
-use Rattle.sql_forms.specs.Forms.{over, all_of, alone, no_limit}
+use Rattle.sql_forms.specs.Forms.{over, all_of, first_of, alone, no_limit}
 use Rattle.sql_forms.specs.Tables.{is_table, tables_of, passes, Finds, IsFirstShown}
 use Rattle.sql_forms.proofs.States.{shows_as}
 use Rattle.sql_forms.proofs.Queries.{AnswersOver, answers_over, answers_all}
@@ -75,15 +76,25 @@ module _ (schema : Schema) (sql : List ℕ) (tree : ℕ) (terms project : List T
         answer.1,
       )
 
+pub first_taken : {X : Type 0} (xs : List X) → slice_get (take 1 xs) 0 ≡ slice_get xs 0
+first_taken [] = refl
+first_taken (x ∷ xs) = refl
+
+-- with no ORDER BY, and LIMIT 1
+module _ (schema : Schema) (sql : List ℕ) (tree : ℕ) (terms project : List Term) (names : List (List ℕ))
+    (it : IsSelect schema sql tree (first_of tree terms project) names) (old new : State) (has : old.now.schema ≡ schema) (params given : Row) (same : given ≡ params) where
   module _ (first : Option Row) (shown : IsFirstShown sql given old new first) where
     -- one of the rows that pass, if there is one
     pub selects_one : IsUnchanged old new × Finds (passes terms params) (shows project params) (tables_of schema old.now.trees tree) first
     selects_one =
-        let all = selects_all shown.0 shown.1 in (
-          all.1,
-          subst (Finds (passes terms params) (shows project params) (tables_of schema old.now.trees tree)) (sym shown.2)
-              (finds (passes terms params) (shows project params) (tables_of schema old.now.trees tree) shown.0 all.0),
-        )
+        let table = tables_of schema old.now.trees tree in
+        let q = first_of tree terms project in
+        let read = selects schema sql tree terms project [] (lit (Int (pos 1))) names it old new has params given same shown.0 shown.1 in
+        let all : List Row = map (λ (o : Output). o.1) read.0.ordered in
+        let passing : IsPermutation (map (shows project params) (filter (passes terms params) table)) all =
+        subst (λ xs. IsPermutation xs all) (map-map (λ (o : Output). o.1) (λ r. output q (params ∷ r ∷ [])) (filter (passes terms params) table)) (IsPermutation-map (λ (o : Output). o.1) _ _ read.0.same) in
+        let first_is : first ≡ slice_get all 0 = shown.2 ∙ ap (λ xs. slice_get xs 0) read.0.shows ∙ first_taken all in
+        (read.1, subst (Finds (passes terms params) (shows project params) table) (sym first_is) (finds (passes terms params) (shows project params) table all passing))
 
     -- whether there is one
     pub selects_any : IsUnchanged old new × (is_some first ≡ list_any (passes terms params) (tables_of schema old.now.trees tree))

@@ -52,6 +52,10 @@ over tree = query (inner tree end)
 abbrev pub all_of : ℕ → List Term → List Term → Query
 all_of tree filter project = over tree filter project [] no_limit
 
+-- one of them, by LIMIT 1
+abbrev pub first_of : ℕ → List Term → List Term → Query
+first_of tree filter project = over tree filter project [] (lit (Int (pos 1)))
+
 -- the program of a query that needs no tables computed before it
 abbrev pub alone : Query → Program
 alone q = record { lets = []; body = q }

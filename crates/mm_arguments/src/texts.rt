@@ -87,7 +87,8 @@ Rules:
   Q8 a higher zoom has the smaller pixel size    Q16 numbers and texts are within their limits
 
 Not a package:
-  93 of another version (1: `mmpkg migrate`)   94 no package, or no such file   95 its version is told in another form";
+  93 of another version (1: `mmpkg migrate`)   94 no package, or no such file   95 its version is told in another form
+  98 its bytes are not kept once each, as another program left them";
 
 /// Behind `help serve`.
 pub(crate) const SERVE: &str = "Example: mmpkg serve map.gpkg --port 8080 --count 1000

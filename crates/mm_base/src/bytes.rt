@@ -1,14 +1,13 @@
 //! The bytes of tiles and media, which carry the limits of their number.
 
-ghost use Rattle.std.specs.Prelude.{◌≡◌, ◌↔◌, IsSome, IfSome, IfOk, MatchOption, IsErr};
-ghost use Rattle.hex.specs.Hex.{decode_of};
+ghost use Rattle.std.specs.Prelude.{◌≡◌, ◌↔◌, IsSome, IfSome};
 ghost use Rattle.mm_base.specs.Bounds.{IsLong};
 ghost use Rattle.mm_base.specs.Reading.{ReadsTo, refuses_bytes, reads_bytes};
 
 use crate::answers::ReadFault;
+use crate::hexadecimal::decoded;
 use crate::limits::{MOST_MEDIA_BYTES, MOST_TILE_BYTES};
-use hex::FromHexError;
-use std::alloc::{AllocError, Global};
+use std::alloc::Global;
 use std::marker::Model;
 
 /// 1 to `MOST` bytes.
@@ -33,17 +32,6 @@ pub type TileBytes = Bytes<MOST_TILE_BYTES>;
 
 /// The bytes of a media item.
 pub type MediaBytes = Bytes<MOST_MEDIA_BYTES>;
-
-/// The bytes that a text spells in hexadecimal digits of either case, or None where it spells none.
-fn decoded(alloc: Global, text: &str) -> Result<Option<Vec<u8>>, AllocError>
-    ensures { IfOk result (λ o. MatchOption o (IsErr (decode_of text.now)) (λ v. decode_of text.now ≡ Ok v.items)) }
-{
-    match hex::decode(alloc, text) {
-        Ok(bytes) => Ok(Some(bytes)),
-        Err(FromHexError::OutOfMemory) => Err(AllocError),
-        Err(_) => Ok(None),
-    }
-}
 
 impl<const MOST: usize> Bytes<MOST> {
     /// The bytes, or None where there are none or more than `MOST`.

@@ -1,6 +1,6 @@
 #!/usr/bin/env bash
 # What the built program shows from outside, by programs that share no code with this repository: the example with its output, the lines
-# of the documents, the tables of the file, the page by curl, a machine's clock at its ends, refused growths of memory, random lists against a model, and the border to
+# of the documents, the tables of the file, the page by curl, a machine's clock at its ends, a terminal, refused growths of memory, random lists against a model, and the border to
 # the standard where GDAL is installed. The last line is 'N passed, M failed'.
 #
 #     scripts/outside.sh [PROGRAM]
@@ -57,6 +57,7 @@ try 'the documents' scripts/check_docs.py "$MMPKG"
 try 'the tables of its file' scripts/compare_schema.sh "$folder/example.gpkg"
 try 'the page' scripts/page_curl.sh
 try 'the clock' scripts/clock.sh
+try 'a terminal' scripts/terminal.py "$MMPKG"
 try 'refused growths of memory' scripts/refuse_memory.py ${WHOLE:+--whole} "$MMPKG"
 try 'random lists' scripts/random_lists.py
 try 'the border to the standard' scripts/border.sh

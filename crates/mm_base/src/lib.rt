@@ -10,8 +10,10 @@ pub mod bounded;
 pub mod bytes;
 pub mod commands;
 pub mod content_types;
+pub mod ends;
 pub mod entries;
 pub mod extents;
+mod hexadecimal;
 pub mod identifiers;
 pub mod limits;
 pub mod matrices;
@@ -33,6 +35,7 @@ pub use bounded::{
 pub use bytes::{Bytes, MediaBytes, TileBytes};
 pub use commands::{Command, Kind, Matrix, Piece, PlainKind, RelationName, Step};
 pub use content_types::{ContentType, is_content_type};
+pub use ends::UntilEnd;
 pub use entries::{EditionState, Entry, Media, Related, Row};
 pub use extents::{Extent, fits};
 pub use identifiers::{Identifier, is_identifier};

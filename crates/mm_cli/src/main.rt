@@ -2,6 +2,7 @@
 #![tactic(auto)]
 
 use mm_base::answers::Fault;
+use mm_base::ends::UntilEnd;
 use mm_base::streams::Io;
 use mm_program::program;
 use mm_work::{Stop, USAGE, tell_bytes, tell_stop};
@@ -17,7 +18,7 @@ fn run_words(rt: &HostRuntime) -> io::Result<u8> {
     for word in &words {
         texts.push(word.as_str())?;
     }
-    let mut input = Io::new(BufReader::new(alloc, rt.reader())?);
+    let mut input = Io::new(UntilEnd::new(BufReader::new(alloc, rt.reader())?));
     let mut output = Io::new(io::writer(rt));
     Ok(program(rt, texts.as_slice(), &mut input, &mut output))
 }

@@ -1,5 +1,6 @@
 //! A reader and a writer of which a call fails.
 
+use mm_base::ends::UntilEnd;
 use mm_base::streams::Io;
 use std::io;
 use std::io::{ErrorKind, Read, Write};
@@ -52,4 +53,18 @@ fn remembers_a_failed_call(rt: HostRuntime) {
     assert!(&rt; stuck.write(b"a").is_err());
     assert!(&rt; stuck.failed());
     assert!(&rt; stuck.into_inner().flush().is_ok());
+}
+
+#[test]
+fn is_not_asked_behind_its_end(rt: HostRuntime) {
+    // Its first call tells the end, and the next one would fail.
+    let mut reader = UntilEnd::new(Once { called: false });
+    let mut one = [0u8; 1];
+    assert!(&rt; matches!(reader.read(&mut one), Ok(0)));
+    assert!(&rt; matches!(reader.read(&mut one), Ok(0)));
+    // No room in the buffer is no end.
+    let mut roomless = UntilEnd::new(Once { called: false });
+    let mut none = [0u8; 0];
+    assert!(&rt; matches!(roomless.read(&mut none), Ok(0)));
+    assert!(&rt; roomless.read(&mut one).is_err());
 }

@@ -68,7 +68,7 @@ pub fn set_last_change<S: Alter>(
 {
     run(
         tx,
-        "UPDATE gpkg_contents SET last_change = ?2 WHERE table_name = ?1",
+        "UPDATE gpkg_contents SET last_change = ?2 WHERE table_name = ?1 AND last_change <> ?2",
         params![table, at],
     )
 }

@@ -5,8 +5,6 @@ ghost use Rattle.std.specs.FinMap.{contains_key};
 ghost use Rattle.sqlite.specs.Held.{state};
 ghost use Rattle.mm_base.specs.Bounds.{Profile};
 ghost use Rattle.mm_base.specs.Conditions.{is_used};
-ghost use Rattle.mm_base.specs.Keys.{same_text};
-ghost use Rattle.mm_base.specs.Parts.{some_entry};
 ghost use Rattle.mm_store.specs.Shapes.{IsLook};
 
 use mm_base::answers::Fault;
@@ -25,39 +23,15 @@ pub fn has_relation<S: Alter>(tx: &mut Transaction<'_, S>, mapping: &str) -> Res
     )
 }
 
-/// Whether a relation has the table as its base.
-fn is_base<S: Alter>(tx: &mut Transaction<'_, S>, table: &str) -> Result<bool, Fault>
-    ensures same_reference { tx.new.conn.ghost_name ≡ tx.old.conn.ghost_name }
-    ensures look { (profile : Profile) → IsLook profile (state S.Store tx.old.conn.now) (state S.Store tx.new.conn.now) (λ p found. found ≡ some_entry (λ _ r. same_text r.base table.now) p.relations) result }
-{
-    exists(
-        tx,
-        "SELECT 1 FROM gpkgext_relations WHERE base_table_name = ?1 LIMIT 1",
-        params![table],
-    )
-}
-
-/// Whether a relation has the table as its related one.
-fn is_related<S: Alter>(tx: &mut Transaction<'_, S>, table: &str) -> Result<bool, Fault>
-    ensures same_reference { tx.new.conn.ghost_name ≡ tx.old.conn.ghost_name }
-    ensures look { (profile : Profile) → IsLook profile (state S.Store tx.old.conn.now) (state S.Store tx.new.conn.now) (λ p found. found ≡ some_entry (λ _ r. same_text r.related table.now) p.relations) result }
-{
-    exists(
-        tx,
-        "SELECT 1 FROM gpkgext_relations WHERE related_table_name = ?1 LIMIT 1",
-        params![table],
-    )
-}
-
 /// Whether a relation has the table as its base or its related one. No key of the relations has these columns first, so
 /// this reads the relations, which are few, and no other rows.
 pub(crate) fn uses_table<S: Alter>(tx: &mut Transaction<'_, S>, table: &str) -> Result<bool, Fault>
     ensures same_reference { tx.new.conn.ghost_name ≡ tx.old.conn.ghost_name }
     ensures look { (profile : Profile) → IsLook profile (state S.Store tx.old.conn.now) (state S.Store tx.new.conn.now) (λ p found. found ≡ is_used p table.now) result }
 {
-    match is_base(tx, table) {
-        Ok(true) => Ok(true),
-        Ok(false) => is_related(tx, table),
-        Err(fault) => Err(fault),
-    }
+    exists(
+        tx,
+        "SELECT 1 FROM gpkgext_relations WHERE base_table_name = ?1 OR related_table_name = ?1 LIMIT 1",
+        params![table],
+    )
 }

@@ -10,7 +10,7 @@ use Rattle.sqlite_sql.specs.declared.ops.UnaryOp.TheVariants.{Not}
 use Rattle.sql_forms.specs.Forms.{query, no_limit}
 use Rattle.sqlite.specs.Listing.{understood}
 use Rattle.sqlite_tied.specs.Compute.{everything}
-use Rattle.sql_forms.specs.Forms.{equals, compares, over, all_of, first_of}
+use Rattle.sql_forms.specs.Forms.{equals, compares, either, over, all_of, first_of}
 use Rattle.sql_forms.proofs.Selects.{IsSelect}
 use Rattle.mm_schema.specs.Tables.{schema}
 use Rattle.mm_schema.specs.Statements as text
@@ -90,13 +90,9 @@ pub ends_of_relation : IsSelect schema text.ends_of_relation 10 (first_of 10 (eq
 unfolding understood everything
 ends_of_relation = record { compiled = refl; plain = (refl, refl); unlisted = refl; listed = refl }
 
-pub is_base : IsSelect schema text.is_base 10 (first_of 10 (equals 2 0 ∷ []) (one ∷ [])) (codes "1" ∷ [])
+pub uses_table : IsSelect schema text.uses_table 10 (first_of 10 (either (equals 2 0) (equals 4 0) ∷ []) (one ∷ [])) (codes "1" ∷ [])
 unfolding understood everything
-is_base = record { compiled = refl; plain = (refl, refl); unlisted = refl; listed = refl }
-
-pub is_related : IsSelect schema text.is_related 10 (first_of 10 (equals 4 0 ∷ []) (one ∷ [])) (codes "1" ∷ [])
-unfolding understood everything
-is_related = record { compiled = refl; plain = (refl, refl); unlisted = refl; listed = refl }
+uses_table = record { compiled = refl; plain = (refl, refl); unlisted = refl; listed = refl }
 
 pub has_pairing : IsSelect schema text.has_pairing 21 (first_of 21 (equals 1 0 ∷ equals 2 1 ∷ equals 3 2 ∷ []) (one ∷ [])) (codes "1" ∷ [])
 unfolding understood everything

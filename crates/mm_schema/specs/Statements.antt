@@ -41,7 +41,7 @@ insert_plain_contents = codes "INSERT INTO gpkg_contents (table_name, data_type,
 
 -- sets last_change of a table: its name, and the stamp
 abbrev pub touch : List ℕ
-touch = codes "UPDATE gpkg_contents SET last_change = ?2 WHERE table_name = ?1"
+touch = codes "UPDATE gpkg_contents SET last_change = ?2 WHERE table_name = ?1 AND last_change <> ?2"
 
 -- removes a contents row, and by CASCADE kind, matrix set, matrices, tiles, attribute rows and media of the table; blobs stay
 abbrev pub delete_table : List ℕ
@@ -183,13 +183,9 @@ has_relation = codes "SELECT 1 FROM gpkgext_relations WHERE mapping_table_name =
 abbrev pub ends_of_relation : List ℕ
 ends_of_relation = codes "SELECT base_table_name, related_table_name FROM gpkgext_relations WHERE mapping_table_name = ?1 LIMIT 1"
 
--- whether the table is the base of a relation
-abbrev pub is_base : List ℕ
-is_base = codes "SELECT 1 FROM gpkgext_relations WHERE base_table_name = ?1 LIMIT 1"
-
--- whether the table is the related table of a relation
-abbrev pub is_related : List ℕ
-is_related = codes "SELECT 1 FROM gpkgext_relations WHERE related_table_name = ?1 LIMIT 1"
+-- whether the table is the base or the related table of a relation
+abbrev pub uses_table : List ℕ
+uses_table = codes "SELECT 1 FROM gpkgext_relations WHERE base_table_name = ?1 OR related_table_name = ?1 LIMIT 1"
 
 -- puts a relation: its base table, related table, name and mapping; the store chooses the id
 abbrev pub insert_relation : List ℕ

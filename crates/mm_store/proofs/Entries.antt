@@ -1,22 +1,28 @@
 -- Whether some entry of a part passes a test, from its rows.
-use Rattle.std.proofs.Common.{◌≡◌, Bool, true, false, ◌&&◌, ◌||◌, List, [], ◌∷◌, Some, refl, sym, ap, ◌∙◌}
+use Rattle.std.proofs.Common.{◌≡◌, Bool, true, false, ◌&&◌, ◌||◌, List, [], ◌∷◌, Some, refl, sym, ap, ap₂, ◌∙◌}
+use Rattle.std.specs.Ordering.{is_eq}
 use Rattle.std.specs.declared.cmp.Ordering.{Ordering}
 use Rattle.std.specs.List.{list_any}
 use Rattle.std.specs.FinMap.{FinMap, get, entries}
 use Rattle.std.proofs.lemmas.Bool.{both_ways, false_from_ne_true, true_from_ne_false}
 use Rattle.sqlite.specs.declared.types.Value.TheVariants.{Text as Words}
 use Rattle.sqlite_value.specs.declared.keys.Collation.TheVariants.{Binary}
-use Rattle.sqlite.specs.Order.{Row}
+use Rattle.sqlite.specs.Order.{Row, column}
+use Rattle.sqlite.specs.Ops.{binary, is_true, from_truth, truth, or3}
+use Rattle.sqlite.specs.declared.types.Value.{Value}
+use Rattle.sqlite_value.proofs.OrderLemmas.{value_cmp-Text}
+use Rattle.sqlite_sql.specs.declared.ops.BinaryOp.TheVariants.{Compare, Or}
+use Rattle.sqlite_sql.specs.declared.ops.CompareOp.TheVariants.{Eq}
 use Rattle.sqlite_schema.specs.Rules.{equal}
 use Rattle.sqlite_rules.proofs.ListLemmas.{some_has, some_from}
 use Rattle.sql_forms.specs.Tables.{has_key}
 use Rattle.sql_forms.specs.Maps.{Holds}
 use Rattle.sql_forms.proofs.Keys.{equal_text, columns_are}
-use Rattle.sql_forms.proofs.Lists.{none_holds, either_any, and_true}
-use Rattle.mm_base.specs.Keys.{Text, text_cmp, same_text}
+use Rattle.sql_forms.proofs.Lists.{none_holds, and_true}
+use Rattle.mm_base.specs.Keys.{Text, same_text}
 use Rattle.mm_base.specs.Parts.{some_entry}
 use Rattle.mm_base.specs.Conditions.{is_used, is_identified}
-use Rattle.mm_base.specs.Package.{Package, Relation}
+use Rattle.mm_base.specs.Package.{Package}
 use Rattle.mm_base.proofs.Parts.{IsKeyOrder, no_entry}
 use Rattle.mm_base.proofs.KeyLaws.{texts}
 use Rattle.mm_base.proofs.Listed.{along_entries}
@@ -46,16 +52,24 @@ pub identified_is : (p : Package) (rows : List Row) → Holds past_rowid content
 identified_is p rows h identifier = some_told texts past_rowid contents_row rows p.contents h (has_key (3 ∷ []) (Words identifier ∷ [])) (λ _ c. same_text c.identifier identifier) (λ r l v is.
     ap (λ x. equal Binary x (Words identifier) && true) (columns_are r (contents_row l v) 2 is) ∙ ap (λ b. b && true) (equal_text v.identifier identifier) ∙ and_true _)
 
-module _ (table : Text) (rows : List Row) (m : FinMap text_cmp Relation) (h : Holds past_id relation_row rows m) where
-  pub based_is : list_any (has_key (2 ∷ []) (Words table ∷ [])) rows ≡ some_entry (λ _ r. same_text r.base table) m
-  based_is = some_told texts past_id relation_row rows m h (has_key (2 ∷ []) (Words table ∷ [])) (λ _ r. same_text r.base table) (λ r l v is.
-      ap (λ x. equal Binary x (Words table) && true) (columns_after r (relation_row l v) 0 is) ∙ ap (λ b. b && true) (equal_text v.base table) ∙ and_true _)
+either_holds : (a b : Bool) → is_true (from_truth (or3 (truth (from_truth (Some a))) (truth (from_truth (Some b))))) ≡ (a || b)
+either_holds true true = refl
+either_holds true false = refl
+either_holds false true = refl
+either_holds false false = refl
 
-  pub related_is : list_any (has_key (4 ∷ []) (Words table ∷ [])) rows ≡ some_entry (λ _ r. same_text r.related table) m
-  related_is = some_told texts past_id relation_row rows m h (has_key (4 ∷ []) (Words table ∷ [])) (λ _ r. same_text r.related table) (λ r l v is.
-      ap (λ x. equal Binary x (Words table) && true) (columns_after r (relation_row l v) 2 is) ∙ ap (λ b. b && true) (equal_text v.related table) ∙ and_true _)
+-- one text or the other is this one
+abbrev either_is : Value → Value → Value → Bool
+either_is a b c = is_true (binary Or (binary (Compare Eq Binary) a c) (binary (Compare Eq Binary) b c))
+
+either_text : (a b c : Text) → either_is (Words a) (Words b) (Words c) ≡ (same_text a c || same_text b c)
+unfolding binary
+either_text a b c = either_holds _ _ ∙ ap₂ (λ x y. is_eq x || is_eq y) (value_cmp-Text a c) (value_cmp-Text b c)
 
 -- a relation has the table as an end
-pub used_by : (p : Package) (table : Text) → (some_entry (λ _ r. same_text r.base table) p.relations || some_entry (λ _ r. same_text r.related table) p.relations) ≡ is_used p table
-unfolding some_entry
-used_by p table = either_any (λ (e : Text × Relation). same_text e.1.base table) (λ e. same_text e.1.related table) (entries p.relations)
+pub uses : (p : Package) (table : Text) (rows : List Row) → Holds past_id relation_row rows p.relations → list_any (λ r. either_is (column r 2) (column r 4) (Words table) && true) rows ≡ is_used p table
+uses p table rows h = some_told texts past_id relation_row rows p.relations h (λ r. either_is (column r 2) (column r 4) (Words table) && true) (λ _ r. same_text r.base table || same_text r.related table) (λ r l v is.
+    ap (λ x. either_is x (column r 4) (Words table) && true) (columns_after r (relation_row l v) 0 is)
+    ∙ ap (λ x. either_is (Words v.base) x (Words table) && true) (columns_after r (relation_row l v) 2 is)
+    ∙ ap (λ b. b && true) (either_text v.base v.related table)
+    ∙ and_true _)

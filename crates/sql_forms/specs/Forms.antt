@@ -3,7 +3,7 @@ use Rattle.std.specs.Prelude.{ℕ, List, [], ◌∷◌, pos, negsuc, false, None
 use Rattle.sqlite_value.specs.declared.keys.Collation.TheVariants.{Binary}
 use Rattle.sqlite_value.specs.declared.keys.Key.{Key}
 use Rattle.sqlite.specs.declared.types.Value.TheVariants.{Null, Int, Text}
-use Rattle.sqlite_sql.specs.declared.ops.BinaryOp.TheVariants.{Compare, Is}
+use Rattle.sqlite_sql.specs.declared.ops.BinaryOp.TheVariants.{Compare, Is, Or}
 use Rattle.sqlite_sql.specs.declared.ops.CompareOp.{CompareOp}
 use Rattle.sqlite_sql.specs.declared.ops.CompareOp.TheVariants.{Eq}
 use Rattle.sqlite.specs.Term.{Term, lit, col, op2}
@@ -17,6 +17,10 @@ compares op column param = op2 (Compare op Binary) (col 1 column) (col 0 param)
 -- the column equals the parameter, both by their places
 abbrev pub equals : ℕ → ℕ → Term
 equals = compares Eq
+
+-- one term or the other
+abbrev pub either : Term → Term → Term
+either = op2 Or
 
 -- the column holds this text
 abbrev pub reads : ℕ → List ℕ → Term

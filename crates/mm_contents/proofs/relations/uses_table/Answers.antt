@@ -1,21 +1,17 @@
-use Rattle.std.proofs.Common.{◌||◌, sym, ap, ◌∙◌}
-use Rattle.mm_base.specs.Keys.{same_text}
-use Rattle.mm_base.specs.Parts.{some_entry}
-use Rattle.mm_store.proofs.Entries.{used_by}
-use Rattle.mm_store.proofs.Shapes.{look_as, look_weaker, look_failed, looks_then}
+use Rattle.std.proofs.Common.{◌≡◌, [], ◌∷◌, ◌∙◌, rules}
+use Rattle.mm_base.specs.Conditions.{is_used}
+use Rattle.mm_store.proofs.Entries.{uses}
+use Rattle.sqlite.specs.declared.types.Value.TheVariants.{Text as Words}
+use Rattle.sqlite.specs.Held.{state}
+use Rattle.sql_forms.proofs.Selects.{selects_any}
+use Rattle.mm_schema.proofs.Selecting as statement
+use Rattle.mm_store.proofs.Steps.{looks, seen}
 use Rattle.mm_contents.proofs.relations.uses_table.Goals as goal
 
-pub returns-in-Ok-true-clause-look : goal.returns-in-Ok-true-clause-look
-returns-in-Ok-true-clause-look g c profile =
-    let table = c.args.table.now in
-    look_as profile _ _ _ _ (c.in-Ok-true.ensures.look profile)
-    (λ p says. sym (sym (used_by p table) ∙ ap (λ b. b || some_entry (λ _ r. same_text r.related table) p.relations) (sym says ∙ c.in-Ok-true.field-0-test)))
-
-pub returns-in-Ok-false-clause-look : goal.returns-in-Ok-false-clause-look
-returns-in-Ok-false-clause-look g c profile =
-    let table = c.args.table.now in
-    look_weaker profile _ _ _ (looks_then profile _ _ _ _ _ (c.in-Ok-false.ensures.look profile) (c.is_related.ensures.look profile))
-    (λ p found says. says.1 ∙ sym (sym (used_by p table) ∙ ap (λ b. b || some_entry (λ _ r. same_text r.related table) p.relations) (sym says.0 ∙ c.in-Ok-false.field-0-test)))
-
-pub returns-in-Err-clause-look : goal.returns-in-Err-clause-look
-returns-in-Err-clause-look g c profile = look_failed profile _ _ _ (c.in-Err.ensures.look profile)
+pub returns-clause-look : goal.returns-clause-look
+returns-clause-look g c profile =
+    let old = state g.S.Store c.args.tx.now.conn.now in
+    let new = state g.S.Store c.exists.new.tx.conn.now in
+    looks profile old new _ _ _ (λ p found. found ≡ is_used p c.args.table.now) c.exists.result c.exists.ensures.asked (λ x first ready shown gives.
+    let read = selects_any _ _ _ _ _ _ statement.uses_table old new ready.schema_is (Words c.args.table.now ∷ []) _ (search rules) first shown in
+    (read.0, λ p h. gives ∙ read.1 ∙ uses p c.args.table.now (seen old 10) h.relations))

@@ -24,7 +24,7 @@ use Rattle.sqlite_rules.specs.Lists as lists
 use Rattle.sqlite_rules.proofs.ListLemmas.{all_has, has_filtered, has_kept}
 use Rattle.sql_forms.proofs.Keys.{as_truth}
 use Rattle.mm_base.specs.Keys.{Text, Extension}
-use Rattle.mm_base.specs.Parts.{Has, Stands}
+use Rattle.mm_base.specs.Parts.{Each, Has, Stands}
 use Rattle.mm_base.specs.Package.{Package, general_extension as general, mapping_extension, zoom_extension}
 use Rattle.mm_base.specs.Rules.{IsWanted, ExactExtensions}
 use Rattle.mm_base.proofs.Parts.{same_some, same_itself, some_of}
@@ -33,12 +33,14 @@ use Rattle.mm_store.specs.Rows.{maybe_words, extension_row, extension_of, is_ext
 use Rattle.mm_store.specs.Stands.{StandsFor, profile_row}
 use Rattle.mm_rules.specs.Columns.{words_of, is_there}
 use Rattle.mm_rules.specs.ExtensionRows.{NoRow, IsWantedRow, IsStandingRow, IsMarkedRow, IsRelated, IsZoomOther}
-use Rattle.mm_rules.specs.Parts.{ExtensionsWanted, ExtensionsOnce, GeneralExtension, MappingExtensions, ZoomExtensions}
+use Rattle.mm_rules.specs.Parts.{ExtensionsWanted, NamedOnce, UnnamedOnce, ExtensionsOnce, GeneralExtension, MappingExtensions, ZoomExtensions}
 use Rattle.mm_rules.proofs.Counted.{counts_cover, counted_in, is_that}
 use Rattle.mm_rules.proofs.Joined.{after_rowid, after_id, covered, covered_id, each_row, joined, some_joined}
-use Rattle.mm_rules.proofs.Keys.{tie, name_is, same, on_true}
+use Rattle.mm_rules.proofs.Named.{equals_null, null_equals}
+use Rattle.mm_rules.proofs.Keys.{tie, texts_are, name_is, same, on_true}
 use Rattle.mm_rules.proofs.SystemRules.{one_row}
 use Rattle.mm_rules.proofs.Terms.{equals, below, same_as}
+use Rattle.mm_walk.specs.RowTests.{OnTrue}
 use Rattle.mm_rules.proofs.Checks.{Says}
 
 abbrev is : Value → Value → Bool
@@ -52,18 +54,24 @@ maybe_are None (Some b) = (λ e. absurd (let f : false ≡ true = e in cc), λ e
 maybe_are (Some a) None = (λ e. absurd (let f : false ≡ true = e in cc), λ e. absurd (let f = e in cc))
 maybe_are (Some a) (Some b) = let t = tie texts a b in (λ e. ap Some (t.0 (ap is_eq (sym (value_cmp-Text a b)) ∙ sym (as_truth _) ∙ e)), λ e. as_truth _ ∙ ap is_eq (value_cmp-Text a b) ∙ t.1 (same_some e))
 
-abbrev same_columns : Extension → Value → Value → Value → Value → Value → Bool
-same_columns l a b c d e = is (maybe_words l.table) a && (is (maybe_words l.column) b && (is (Words l.name) c && (is (Words l.definition) d && (is (Words l.scope) e && true))))
+-- `=`, of texts or NULL
+maybe_equal : (a b : Option Text) → (equal Binary (maybe_words a) (maybe_words b) ≡ true) ↔ ((t : Text) × (b ≡ Some t) × (a ≡ b))
+maybe_equal a None = (λ e. absurd (let f : false ≡ true = sym (equals_null (maybe_words a)) ∙ e in cc), λ h. absurd (let f = h.1 in cc))
+maybe_equal None (Some b) = (λ e. absurd (let f : false ≡ true = sym (null_equals (Words b)) ∙ e in cc), λ h. absurd (let f = h.2 in cc))
+maybe_equal (Some a) (Some b) = let t = texts_are a b in (λ e. (b, refl, ap Some (t.0 e)), λ h. t.1 (same_some h.2))
 
-extension_is : (l k : Extension) → (same_columns l (maybe_words k.table) (maybe_words k.column) (Words k.name) (Words k.definition) (Words k.scope) ≡ true) ↔ (l ≡ k)
-extension_is l k =
-    let t = maybe_are l.table k.table in
+abbrev same_columns : Bool → Extension → Value → Value → Value → Value → Bool
+same_columns table l b c d e = table && (is (maybe_words l.column) b && (is (Words l.name) c && (is (Words l.definition) d && (is (Words l.scope) e && true))))
+
+-- whatever it is by which the tables are compared
+extension_by : (l k : Extension) (table : Bool) → (table ≡ true) ↔ (l.table ≡ k.table) → (same_columns table l (maybe_words k.column) (Words k.name) (Words k.definition) (Words k.scope) ≡ true) ↔ (l ≡ k)
+extension_by l k table t =
     let c = maybe_are l.column k.column in
     let n = maybe_are (Some l.name) (Some k.name) in
     let d = maybe_are (Some l.definition) (Some k.definition) in
     let s = maybe_are (Some l.scope) (Some k.scope) in (
       λ e.
-          let p = and_parts (is (maybe_words l.table) (maybe_words k.table)) _ e in
+          let p = and_parts table _ e in
           let q = and_parts (is (maybe_words l.column) (maybe_words k.column)) _ p.1 in
           let u = and_parts (is (Words l.name) (Words k.name)) _ q.1 in
           let v = and_parts (is (Words l.definition) (Words k.definition)) _ u.1 in
@@ -76,11 +84,39 @@ extension_is l k =
     together : (l k : Extension) → l.table ≡ k.table → l.column ≡ k.column → l.name ≡ k.name → l.definition ≡ k.definition → l.scope ≡ k.scope → l ≡ k
     together l k a b c d e = λ i. record { table = a i; column = b i; name = c i; definition = d i; scope = e i }
 
+extension_is : (l k : Extension) → (same_columns (is (maybe_words l.table) (maybe_words k.table)) l (maybe_words k.column) (Words k.name) (Words k.definition) (Words k.scope) ≡ true) ↔ (l ≡ k)
+extension_is l k = extension_by l k (is (maybe_words l.table) (maybe_words k.table)) (maybe_are l.table k.table)
+
+abbrev IsNamed : Extension → Type 0
+IsNamed k = (t : Text) × (k.table ≡ Some t)
+
+abbrev equal_columns : Extension → Value → Value → Value → Value → Value → Bool
+equal_columns l table = same_columns (equal Binary (maybe_words l.table) table) l
+
+-- an extension row of a table, which `=` finds
+named_is : (l k : Extension) → IsNamed k → (equal_columns l (maybe_words k.table) (maybe_words k.column) (Words k.name) (Words k.definition) (Words k.scope) ≡ true) ↔ (l ≡ k)
+named_is l k n = let t = maybe_equal l.table k.table in extension_by l k (equal Binary (maybe_words l.table) (maybe_words k.table)) (λ e. (t.0 e).2, λ same. t.1 (n.0, n.1, same))
+
+both_named : (l k : Extension) → (equal_columns l (maybe_words k.table) (maybe_words k.column) (Words k.name) (Words k.definition) (Words k.scope) ≡ true) ↔ (IsNamed k × (l ≡ k))
+both_named l k = (
+  λ e. let t = (maybe_equal l.table k.table).0 (and_parts (equal Binary (maybe_words l.table) (maybe_words k.table)) _ e).0 in let n : IsNamed k = (t.0, t.1) in (n, (named_is l k n).0 e),
+  λ h. (named_is l k h.0).1 h.1,
+)
+
+both_unnamed : (l k : Extension) → ((is (maybe_words k.table) Null && same_columns (is (maybe_words l.table) Null) l (maybe_words k.column) (Words k.name) (Words k.definition) (Words k.scope)) ≡ true) ↔ ((k.table ≡ None) × (l ≡ k))
+both_unnamed l k =
+    let t = maybe_are k.table None in
+    let by : k.table ≡ None → (same_columns (is (maybe_words l.table) Null) l (maybe_words k.column) (Words k.name) (Words k.definition) (Words k.scope) ≡ true) ↔ (l ≡ k) =
+    λ at. extension_by l k (is (maybe_words l.table) Null) (subst (λ (o : Option Text). (is (maybe_words l.table) Null ≡ true) ↔ (l.table ≡ o)) (sym at) (maybe_are l.table None)) in (
+      λ e. let p = and_parts (is (maybe_words k.table) Null) _ e in let at = t.0 p.0 in (at, (by at).0 p.1),
+      λ h. and_from _ _ (t.1 h.0) ((by h.0).1 h.1),
+    )
+
 -- ---- what is wanted stands
-pub mapping_extensions : Says [] (inner 10 (left 8 (same_as 2 1 (col 1 7) ∷ same_as 2 2 (lit Null) ∷ same_as 2 3 (lit (Words (codes "gpkg_related_tables"))) ∷ same_as 2 4 (lit (Words (codes "OGC 18-000"))) ∷ same_as 2 5 (lit (Words (codes "read-write"))) ∷ []) end)) [] (col 2 3 ∷ []) IsStandingRow (λ _. ⊤) MappingExtensions
+pub mapping_extensions : Says [] (inner 10 (left 8 (equals 2 1 1 7 ∷ same_as 2 2 (lit Null) ∷ same_as 2 3 (lit (Words (codes "gpkg_related_tables"))) ∷ same_as 2 4 (lit (Words (codes "OGC 18-000"))) ∷ same_as 2 5 (lit (Words (codes "read-write"))) ∷ []) end)) [] (col 2 3 ∷ []) IsStandingRow (λ _. ⊤) MappingExtensions
 mapping_extensions version db p stands known =
     each_row after_id relation_row (db 10) p.relations (covered_id (λ m r. (_, _, refl)) stands.holds.relations) _ _
-    (λ m r x. joined after_rowid (λ k (n : ℕ). extension_row k) (db 8) p.extensions (counts_cover (db 8) p.extensions stands.holds.extensions) _ (mapping_extension m) (λ l n y. extension_is l (mapping_extension m)) _ (λ o. IsTrue (is_some o)) same (λ n y. same))
+    (λ m r x. joined after_rowid (λ k (n : ℕ). extension_row k) (db 8) p.extensions (counts_cover (db 8) p.extensions stands.holds.extensions) _ (mapping_extension m) (λ l n y. named_is l (mapping_extension m) (m, refl)) _ (λ o. IsTrue (is_some o)) same (λ n y. same))
 
 pub general_extension : Says [] (inner 12 (left 8 (same_as 2 1 (lit (Words (codes "gpkgext_relations"))) ∷ same_as 2 2 (lit Null) ∷ same_as 2 3 (lit (Words (codes "gpkg_related_tables"))) ∷ same_as 2 4 (lit (Words (codes "OGC 18-000"))) ∷ same_as 2 5 (lit (Words (codes "read-write"))) ∷ []) end)) [] (col 2 3 ∷ []) IsStandingRow (λ _. ⊤) GeneralExtension
 general_extension version db p stands known =
@@ -88,10 +124,10 @@ general_extension version db p stands known =
     let j = joined after_rowid (λ k (n : ℕ). extension_row k) (db 8) p.extensions (counts_cover (db 8) p.extensions stands.holds.extensions) _ general (λ l n y. extension_is l general) _ (λ o. IsTrue (is_some o)) same (λ n y. same) in
     (λ h. j.0 (it.0 h), λ g. it.1 (j.1 g))
 
-pub zoom_extensions : Says [] (inner 13 (left 8 (same_as 2 1 (col 1 1) ∷ same_as 2 2 (lit (Words (codes "tile_data"))) ∷ same_as 2 3 (lit (Words (codes "gpkg_zoom_other"))) ∷ same_as 2 4 (lit (Words (codes "OGC 12-128r17"))) ∷ same_as 2 5 (lit (Words (codes "read-write"))) ∷ []) end)) [] (col 1 2 ∷ col 2 3 ∷ []) IsMarkedRow (λ _. ⊤) ZoomExtensions
+pub zoom_extensions : Says [] (inner 13 (left 8 (equals 2 1 1 1 ∷ same_as 2 2 (lit (Words (codes "tile_data"))) ∷ same_as 2 3 (lit (Words (codes "gpkg_zoom_other"))) ∷ same_as 2 4 (lit (Words (codes "OGC 12-128r17"))) ∷ same_as 2 5 (lit (Words (codes "read-write"))) ∷ []) end)) [] (col 1 2 ∷ col 2 3 ∷ []) IsMarkedRow (λ _. ⊤) ZoomExtensions
 zoom_extensions version db p stands known =
     each_row after_rowid kind_row (db 13) p.kinds (covered (λ k v. (_, _, refl)) stands.holds.kinds) _ _
-    (λ k v x. let j = joined after_rowid (λ e (n : ℕ). extension_row e) (db 8) p.extensions (counts_cover (db 8) p.extensions stands.holds.extensions) _ (zoom_extension k) (λ l n y. extension_is l (zoom_extension k)) _
+    (λ k v x. let j = joined after_rowid (λ e (n : ℕ). extension_row e) (db 8) p.extensions (counts_cover (db 8) p.extensions stands.holds.extensions) _ (zoom_extension k) (λ l n y. named_is l (zoom_extension k) (k, refl)) _
     (λ o. ◌≡◌ {A = Option Text} (Some v) (Some (codes "other")) → IsTrue (is_some o)) same (λ n y. same) in
     (λ h other. j.0 h (ap Some other), λ h. j.1 (λ other. h (same_some other))))
 
@@ -285,17 +321,41 @@ module _ (test : Row → Bool) where
           let none_else = no_more (filter test rows) (λ r there. let was = has_filtered test rows r there in none x r (inl refl) (inr was.0) is was.1 (all_has (λ r. value_cmp (rowid x) (rowid r) ≡ Less) rows r rise.0 was.0)) in
           rw is (omega (arith, none_else))
 
-abbrev pair_test : Row → Row → Bool
-pair_test a b = is_true (binary (Compare Lt Binary) (rowid a) (rowid b)) && (is (column b 1) (column a 1) && (is (column b 2) (column a 2) && (is (column b 3) (column a 3) && (is (column b 4) (column a 4) && (is (column b 5) (column a 5) && true)))))
+-- what is compared of two rows, in the order of their rowids
+abbrev in_order : Row → Row → Bool → Bool
+in_order a b columns = is_true (binary (Compare Lt Binary) (rowid a) (rowid b)) && columns
 
-both_tests : (a b : Row) (k l : Extension) → drop 1 a ≡ extension_row k → drop 1 b ≡ extension_row l → IsTrue (is_int (rowid a)) → IsTrue (is_int (rowid b)) → (pair_test a b ≡ true) ↔ ((value_cmp (rowid a) (rowid b) ≡ Less) × (l ≡ k))
-both_tests [] b k l p q m n = absurd cc
-both_tests (x ∷ a) [] k l p q m n = absurd cc
-both_tests (x ∷ a) (y ∷ b) k l p q m n =
+abbrev rest_same : Row → Row → Bool
+rest_same a b = is (column b 2) (column a 2) && (is (column b 3) (column a 3) && (is (column b 4) (column a 4) && (is (column b 5) (column a 5) && true)))
+
+abbrev named_pair : Row → Row → Bool
+named_pair a b = in_order a b (equal Binary (column b 1) (column a 1) && rest_same a b)
+
+abbrev unnamed_pair : Row → Row → Bool
+unnamed_pair a b = in_order a b (is (column a 1) Null && (is (column b 1) Null && rest_same a b))
+
+-- two rows, of which the first has the lower rowid, stand for one extension of these
+abbrev Finds : (Row → Row → Bool) → (Extension → Type 0) → Type 0
+Finds pair Q = (a b : Row) (k l : Extension) → drop 1 a ≡ extension_row k → drop 1 b ≡ extension_row l → IsTrue (is_int (rowid a)) → IsTrue (is_int (rowid b)) → (pair a b ≡ true) ↔ ((value_cmp (rowid a) (rowid b) ≡ Less) × (Q k × (l ≡ k)))
+
+after_lower : (x y : Value) (columns : Bool) {C : Type 0} → IsTrue (is_int x) → IsTrue (is_int y) → (columns ≡ true) ↔ C → ((is_true (binary (Compare Lt Binary) x y) && columns) ≡ true) ↔ ((value_cmp x y ≡ Less) × C)
+after_lower x y columns m n same =
     let w = lower_is x y m n in
-    let z = extension_is l k in
-    subst (λ u. (pair_test (x ∷ u) (y ∷ b) ≡ true) ↔ ((value_cmp x y ≡ Less) × (l ≡ k))) (sym p) (subst (λ v. (pair_test (x ∷ extension_row k) (y ∷ v) ≡ true) ↔ ((value_cmp x y ≡ Less) × (l ≡ k))) (sym q)
-    (λ e. let parts = and_parts (is_true (binary (Compare Lt Binary) x y)) _ e in (w.0 parts.0, z.0 parts.1), λ both. and_from _ _ (w.1 both.0) (z.1 both.1)))
+    (λ e. let parts = and_parts (is_true (binary (Compare Lt Binary) x y)) _ e in (w.0 parts.0, same.0 parts.1), λ both. and_from _ _ (w.1 both.0) (same.1 both.1))
+
+finds_named : Finds named_pair IsNamed
+finds_named [] b k l p q m n = absurd cc
+finds_named (x ∷ a) [] k l p q m n = absurd cc
+finds_named (x ∷ a) (y ∷ b) k l p q m n =
+    subst (λ u. (named_pair (x ∷ u) (y ∷ b) ≡ true) ↔ ((value_cmp x y ≡ Less) × (IsNamed k × (l ≡ k)))) (sym p) (subst (λ v. (named_pair (x ∷ extension_row k) (y ∷ v) ≡ true) ↔ ((value_cmp x y ≡ Less) × (IsNamed k × (l ≡ k)))) (sym q)
+    (after_lower x y _ m n (both_named l k)))
+
+finds_unnamed : Finds unnamed_pair (λ k. k.table ≡ None)
+finds_unnamed [] b k l p q m n = absurd cc
+finds_unnamed (x ∷ a) [] k l p q m n = absurd cc
+finds_unnamed (x ∷ a) (y ∷ b) k l p q m n =
+    subst (λ u. (unnamed_pair (x ∷ u) (y ∷ b) ≡ true) ↔ ((value_cmp x y ≡ Less) × ((k.table ≡ None) × (l ≡ k)))) (sym p) (subst (λ v. (unnamed_pair (x ∷ extension_row k) (y ∷ v) ≡ true) ↔ ((value_cmp x y ≡ Less) × ((k.table ≡ None) × (l ≡ k)))) (sym q)
+    (after_lower x y _ m n (both_unnamed l k)))
 
 count_of : (l n : ℕ) → as_count l ≡ Some n → l ≡ n
 count_of zero n e = absurd (let f = e in cc)
@@ -305,33 +365,51 @@ positive : (l n : ℕ) → as_count l ≡ Some n → 1 ≤ n
 positive zero n is = absurd (let f = is in cc)
 positive (suc l) n is = let f = count_of (suc l) n is in omega (arith, f)
 
-pub extensions_once : Says [] (inner 8 (inner 8 end)) (below 1 0 2 0 ∷ same_as 2 1 (col 1 1) ∷ same_as 2 2 (col 1 2) ∷ same_as 2 3 (col 1 3) ∷ same_as 2 4 (col 1 4) ∷ same_as 2 5 (col 1 5) ∷ []) (lit (Int (pos 1)) ∷ []) NoRow (λ _. ⊤) ExtensionsOnce
-extensions_once version db p stands known =
-    let rows = db 8 in
-    let h = stands.holds.extensions in
-    let table = stands.rows 8 in
-    let int = λ (r : Row) (there : lists.Has rows r). all_has (λ (r : Row). IsTrue (is_int (rowid r))) rows r table.keyed there in (
-      λ shown e n at.
-          let is_n = count_of (length (filter (is_extension e) rows)) n (sym (h.counted e) ∙ at) in
-          let most = only_once (is_extension e) rows table.rise (λ a b here there p q less.
-          let k = is_that e a p in let l = is_that e b q in
-          (on_true _ _ _ (both_tests a b (extension_of a) (extension_of b) (h.sound a here) (h.sound b there) (int a here) (int b there))).0 (shown a here b there) (less, l ∙ sym k)) in
-          exactly n is_n most (at_least e n at),
-      λ once a here b there.
-          (on_true _ _ _ (both_tests a b (extension_of a) (extension_of b) (h.sound a here) (h.sound b there) (int a here) (int b there))).1 (λ it.
-          let e = extension_of a in
-          let n = counted_in rows p.extensions h a here in
-          let one = once e (suc n.0) n.1 in
-          let two = two_kept (is_extension e) rows a b here there (same_itself extension_keys e) (subst (λ x. is_extension x b ≡ true) it.1 (same_itself extension_keys (extension_of b))) (λ s. never_less (rowid a) (subst (λ r. value_cmp (rowid a) (rowid r) ≡ Less) (sym s) it.0)) in
-          let len = n.2 in
-          absurd (omega (arith, two, one, len))),
-    )
-  where
-    at_least : (e : Extension) (n : ℕ) → get p.extensions e ≡ Some n → 1 ≤ n
-    at_least e n at = positive (length (filter (is_extension e) (db 8))) n (sym (stands.holds.extensions.counted e) ∙ at)
+-- no two rows are found exactly where each extension of these stands once
+module _ (version : ℤ) (db : Trees) (p : Package) (stands : StandsFor version db p) (pair : Row → Row → Bool) (Q : Extension → Type 0) (finds : Finds pair Q) where
+  abbrev rows : List Row
+  rows = db 8
 
-    exactly : {l : ℕ} (n : ℕ) → l ≡ n → l ≤ 1 → 1 ≤ n → n ≡ 1
-    exactly n is most low = omega (arith, is, most, low)
+  int : (r : Row) → lists.Has rows r → IsTrue (is_int (rowid r))
+  int r there = all_has (λ (x : Row). IsTrue (is_int (rowid x))) rows r (stands.rows 8).keyed there
+
+  at_least : (e : Extension) (n : ℕ) → get p.extensions e ≡ Some n → 1 ≤ n
+  at_least e n at = positive (length (filter (is_extension e) rows)) n (sym (stands.holds.extensions.counted e) ∙ at)
+
+  exactly : {l : ℕ} (n : ℕ) → l ≡ n → l ≤ 1 → 1 ≤ n → n ≡ 1
+  exactly n is most low = omega (arith, is, most, low)
+
+  once_of : ((a : Row) → lists.Has rows a → (b : Row) → lists.Has rows b → OnTrue (pair a b) ⊥) ↔ Each p.extensions (λ e count. Q e → count ≡ 1)
+  once_of =
+      let h = stands.holds.extensions in (
+        λ shown e n at of.
+            let is_n = count_of (length (filter (is_extension e) rows)) n (sym (h.counted e) ∙ at) in
+            let most = only_once (is_extension e) rows (stands.rows 8).rise (λ a b here there p q less.
+            let k = is_that e a p in let l = is_that e b q in
+            (on_true _ _ _ (finds a b (extension_of a) (extension_of b) (h.sound a here) (h.sound b there) (int a here) (int b there))).0 (shown a here b there) (less, (subst Q (sym k) of, l ∙ sym k))) in
+            exactly n is_n most (at_least e n at),
+        λ once a here b there.
+            (on_true _ _ _ (finds a b (extension_of a) (extension_of b) (h.sound a here) (h.sound b there) (int a here) (int b there))).1 (λ it.
+            let e = extension_of a in
+            let n = counted_in rows p.extensions h a here in
+            let one = once e (suc n.0) n.1 it.1.0 in
+            let two = two_kept (is_extension e) rows a b here there (same_itself extension_keys e) (subst (λ x. is_extension x b ≡ true) it.1.1 (same_itself extension_keys (extension_of b))) (λ s. never_less (rowid a) (subst (λ r. value_cmp (rowid a) (rowid r) ≡ Less) (sym s) it.0)) in
+            let len = n.2 in
+            absurd (omega (arith, two, one, len))),
+      )
+
+pub named_once : Says [] (inner 8 (inner 8 end)) (below 1 0 2 0 ∷ equals 2 1 1 1 ∷ same_as 2 2 (col 1 2) ∷ same_as 2 3 (col 1 3) ∷ same_as 2 4 (col 1 4) ∷ same_as 2 5 (col 1 5) ∷ []) (lit (Int (pos 1)) ∷ []) NoRow (λ _. ⊤) NamedOnce
+named_once version db p stands known = once_of version db p stands named_pair IsNamed finds_named
+
+pub unnamed_once : Says [] (inner 8 (inner 8 end)) (below 1 0 2 0 ∷ same_as 1 1 (lit Null) ∷ same_as 2 1 (lit Null) ∷ same_as 2 2 (col 1 2) ∷ same_as 2 3 (col 1 3) ∷ same_as 2 4 (col 1 4) ∷ same_as 2 5 (col 1 5) ∷ []) (lit (Int (pos 1)) ∷ []) NoRow (λ _. ⊤) UnnamedOnce
+unnamed_once version db p stands known = once_of version db p stands unnamed_pair (λ k. k.table ≡ None) finds_unnamed
+
+pub all_once : (p : Package) → (NamedOnce p × UnnamedOnce p) ↔ ExtensionsOnce p
+all_once p = (λ h e n is. go h e n is e.table refl, λ once. (λ e n is _. once e n is, λ e n is _. once e n is))
+  where
+    go : NamedOnce p × UnnamedOnce p → (e : Extension) (n : ℕ) → get p.extensions e ≡ Some n → (o : Option Text) → e.table ≡ o → n ≡ 1
+    go h e n is None at = h.1 e n is at
+    go h e n is (Some t) at = h.0 e n is (t, at)
 
 -- ---- all of rule 14
 one_of : (p : Package) → ExtensionsOnce p → (e : Extension) → Stands p.extensions e → Has p.extensions e 1

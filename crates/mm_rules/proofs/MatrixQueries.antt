@@ -31,7 +31,7 @@ unfolding everything
 quiet_matrices_fit = λ schema base. refl
 
 pub higher_is_finer : IsQuery schema text.higher_is_finer (inner 6 (inner 6 end)) (equals 2 1 1 1 ∷ below 1 2 2 2 ∷ []) (col 1 7 ∷ col 1 8 ∷ col 2 7 ∷ col 2 8 ∷ [])
-    ((col 1 1, ascending Binary) ∷ (col 1 2, ascending Binary) ∷ (col 2 2, ascending Binary) ∷ []) (codes "pixel_x_size" ∷ codes "pixel_y_size" ∷ codes "pixel_x_size" ∷ codes "pixel_y_size" ∷ [])
+    ((col 1 1, ascending Binary) ∷ (col 1 2, ascending Binary) ∷ []) (codes "pixel_x_size" ∷ codes "pixel_y_size" ∷ codes "pixel_x_size" ∷ codes "pixel_y_size" ∷ [])
 unfolding understood everything
 higher_is_finer = record { compiled = refl; plain = (refl, refl); unlisted = refl }
 
@@ -40,7 +40,7 @@ unfolding everything
 quiet_higher_is_finer = λ schema base. refl
 
 pub next_is_halved : IsQuery schema text.next_is_halved (inner 6 (inner 6 (left 13 (equals 3 1 1 1 ∷ []) end))) (equals 2 1 1 1 ∷ below 1 2 2 2 ∷ []) (col 3 2 ∷ col 1 2 ∷ col 2 2 ∷ col 1 7 ∷ col 1 8 ∷ col 2 7 ∷ col 2 8 ∷ [])
-    ((col 1 1, ascending Binary) ∷ (col 1 2, ascending Binary) ∷ (col 2 2, ascending Binary) ∷ []) (codes "kind" ∷ codes "zoom_level" ∷ codes "zoom_level" ∷ codes "pixel_x_size" ∷ codes "pixel_y_size" ∷ codes "pixel_x_size" ∷ codes "pixel_y_size" ∷ [])
+    ((col 1 1, ascending Binary) ∷ (col 1 2, ascending Binary) ∷ []) (codes "kind" ∷ codes "zoom_level" ∷ codes "zoom_level" ∷ codes "pixel_x_size" ∷ codes "pixel_y_size" ∷ codes "pixel_x_size" ∷ codes "pixel_y_size" ∷ [])
 unfolding understood everything
 next_is_halved = record { compiled = refl; plain = (refl, refl); unlisted = refl }
 

@@ -40,7 +40,15 @@ module _ {X K I V : Type 0} {R : K → K → Ordering} (id_of : I → Option ℤ
 
 -- ---- a LEFT JOIN of the blob that an entry names
 
-equals_null : (v : Value) → equal Binary v Null ≡ false
+pub null_equals : (v : Value) → equal Binary Null v ≡ false
+unfolding binary
+null_equals Null = refl
+null_equals (Int z) = refl
+null_equals (Real x) = refl
+null_equals (Words t) = refl
+null_equals (Bytes b) = refl
+
+pub equals_null : (v : Value) → equal Binary v Null ≡ false
 unfolding binary
 equals_null Null = refl
 equals_null (Int z) = refl

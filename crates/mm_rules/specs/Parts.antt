@@ -1,11 +1,11 @@
 -- The parts of rules that are decided by a walk each.
-use Rattle.std.specs.Prelude.{◌≡◌, ◌⊎◌, pos, ◌-ℤ◌, ◌<ℤ◌, codes, None, IfSome}
+use Rattle.std.specs.Prelude.{◌≡◌, ◌⊎◌, pos, ◌-ℤ◌, ◌<ℤ◌, codes, Some, None, IfSome}
 use Rattle.std.specs.FinMap.{get}
 use Rattle.mm_base.specs.Parts.{Each, Has, Stands}
 use Rattle.mm_base.specs.Package.{Package, HasKind, open_state, published_state, general_extension, mapping_extension, zoom_extension}
 use Rattle.mm_base.specs.Rules.{MayName, Suits, IsOrdered, IsSpelled, IsWanted}
 use Rattle.mm_base.specs.Bounds.{Profile, IsFrom, MostPieces}
-use Rattle.mm_base.specs.Keys.{piece}
+use Rattle.mm_base.specs.Keys.{Text, piece}
 use Rattle.mm_base.specs.declared.commands.Kind.{Kind}
 use Rattle.mm_base.specs.declared.commands.Kind.TheVariants.{Attributes, Media}
 
@@ -75,6 +75,14 @@ PiecesNumbered p = Each p.pieces (λ k _. IsFrom (pos 1) (pos MostPieces) k.numb
 -- each extension row is one that every package, a mapping or a pyramid of kind `other` wants
 abbrev pub ExtensionsWanted : Package → Type 0
 ExtensionsWanted p = Each p.extensions (λ e _. IsWanted p.kinds p.relations e)
+
+-- no extension row of a table stands twice
+abbrev pub NamedOnce : Package → Type 0
+NamedOnce p = Each p.extensions (λ e count. ((t : Text) × (e.table ≡ Some t)) → count ≡ 1)
+
+-- no extension row without a table stands twice
+abbrev pub UnnamedOnce : Package → Type 0
+UnnamedOnce p = Each p.extensions (λ e count. e.table ≡ None → count ≡ 1)
 
 -- no extension row stands twice
 abbrev pub ExtensionsOnce : Package → Type 0

@@ -11,11 +11,11 @@ matrices_fit = codes "SELECT k.kind, s.min_x, s.min_y, s.max_x, s.max_y, m.matri
 
 -- the pixel sizes of each two matrices of a pyramid, those at the lower zoom level first
 abbrev pub higher_is_finer : List ℕ
-higher_is_finer = codes "SELECT a.pixel_x_size, a.pixel_y_size, b.pixel_x_size, b.pixel_y_size FROM gpkg_tile_matrix AS a JOIN gpkg_tile_matrix AS b ON b.table_name = a.table_name AND a.zoom_level < b.zoom_level ORDER BY a.table_name, a.zoom_level, b.zoom_level"
+higher_is_finer = codes "SELECT a.pixel_x_size, a.pixel_y_size, b.pixel_x_size, b.pixel_y_size FROM gpkg_tile_matrix AS a JOIN gpkg_tile_matrix AS b ON b.table_name = a.table_name AND a.zoom_level < b.zoom_level ORDER BY a.table_name, a.zoom_level"
 
 -- the same with the kind of the pyramid, and with the two zoom levels
 abbrev pub next_is_halved : List ℕ
-next_is_halved = codes "SELECT k.kind, a.zoom_level, b.zoom_level, a.pixel_x_size, a.pixel_y_size, b.pixel_x_size, b.pixel_y_size FROM gpkg_tile_matrix AS a JOIN gpkg_tile_matrix AS b ON b.table_name = a.table_name AND a.zoom_level < b.zoom_level LEFT JOIN mm_tables AS k ON k.table_name = a.table_name ORDER BY a.table_name, a.zoom_level, b.zoom_level"
+next_is_halved = codes "SELECT k.kind, a.zoom_level, b.zoom_level, a.pixel_x_size, a.pixel_y_size, b.pixel_x_size, b.pixel_y_size FROM gpkg_tile_matrix AS a JOIN gpkg_tile_matrix AS b ON b.table_name = a.table_name AND a.zoom_level < b.zoom_level LEFT JOIN mm_tables AS k ON k.table_name = a.table_name ORDER BY a.table_name, a.zoom_level"
 
 -- the system that each contents row names, if any; its number again where it stands; and the table's kind
 abbrev pub contents_systems : List ℕ
@@ -145,9 +145,13 @@ pieces_spelled = codes "SELECT p.kind, p.name, p.k1, p.k2, p.k3, p.k4, p.k5, p.k
 abbrev pub extensions_wanted : List ℕ
 extensions_wanted = codes "SELECT e.table_name, e.column_name, e.extension_name, e.definition, e.scope, r.mapping_table_name, k.kind FROM gpkg_extensions AS e LEFT JOIN gpkgext_relations AS r ON r.mapping_table_name = e.table_name LEFT JOIN mm_tables AS k ON k.table_name = e.table_name"
 
--- a row for each two extension rows that are equal in every column
-abbrev pub extensions_once : List ℕ
-extensions_once = codes "SELECT 1 FROM gpkg_extensions AS a JOIN gpkg_extensions AS b ON a.rowid < b.rowid AND b.table_name IS a.table_name AND b.column_name IS a.column_name AND b.extension_name IS a.extension_name AND b.definition IS a.definition AND b.scope IS a.scope"
+-- a row for each two extension rows of a table that are equal in every column
+abbrev pub named_once : List ℕ
+named_once = codes "SELECT 1 FROM gpkg_extensions AS a JOIN gpkg_extensions AS b ON a.rowid < b.rowid AND b.table_name = a.table_name AND b.column_name IS a.column_name AND b.extension_name IS a.extension_name AND b.definition IS a.definition AND b.scope IS a.scope"
+
+-- a row for each two extension rows without a table that are equal in every other column
+abbrev pub unnamed_once : List ℕ
+unnamed_once = codes "SELECT 1 FROM gpkg_extensions AS a JOIN gpkg_extensions AS b ON a.rowid < b.rowid AND a.table_name IS NULL AND b.table_name IS NULL AND b.column_name IS a.column_name AND b.extension_name IS a.extension_name AND b.definition IS a.definition AND b.scope IS a.scope"
 
 -- the extension row of `gpkgext_relations`, if it stands, in one row, since `mm_profile` has one
 abbrev pub general_extension : List ℕ
@@ -155,8 +159,8 @@ general_extension = codes "SELECT e.extension_name FROM mm_profile AS v LEFT JOI
 
 -- for each mapping its extension row, if it stands
 abbrev pub mapping_extensions : List ℕ
-mapping_extensions = codes "SELECT e.extension_name FROM gpkgext_relations AS r LEFT JOIN gpkg_extensions AS e ON e.table_name IS r.mapping_table_name AND e.column_name IS NULL AND e.extension_name IS 'gpkg_related_tables' AND e.definition IS 'OGC 18-000' AND e.scope IS 'read-write' ORDER BY r.mapping_table_name"
+mapping_extensions = codes "SELECT e.extension_name FROM gpkgext_relations AS r LEFT JOIN gpkg_extensions AS e ON e.table_name = r.mapping_table_name AND e.column_name IS NULL AND e.extension_name IS 'gpkg_related_tables' AND e.definition IS 'OGC 18-000' AND e.scope IS 'read-write' ORDER BY r.mapping_table_name"
 
 -- for each table its kind, and its extension row of other zoom intervals, if it stands
 abbrev pub zoom_extensions : List ℕ
-zoom_extensions = codes "SELECT k.kind, e.extension_name FROM mm_tables AS k LEFT JOIN gpkg_extensions AS e ON e.table_name IS k.table_name AND e.column_name IS 'tile_data' AND e.extension_name IS 'gpkg_zoom_other' AND e.definition IS 'OGC 12-128r17' AND e.scope IS 'read-write' ORDER BY k.table_name"
+zoom_extensions = codes "SELECT k.kind, e.extension_name FROM mm_tables AS k LEFT JOIN gpkg_extensions AS e ON e.table_name = k.table_name AND e.column_name IS 'tile_data' AND e.extension_name IS 'gpkg_zoom_other' AND e.definition IS 'OGC 12-128r17' AND e.scope IS 'read-write' ORDER BY k.table_name"

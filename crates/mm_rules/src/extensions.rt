@@ -5,7 +5,7 @@ ghost use Rattle.sqlite.specs.Held.{state};
 ghost use Rattle.mm_base.specs.Bounds.{Profile};
 ghost use Rattle.mm_base.specs.Rules.{ExactExtensions};
 ghost use Rattle.mm_rules.specs.Check.{IsCheck};
-ghost use Rattle.mm_rules.specs.Parts.{ExtensionsWanted, ExtensionsOnce, GeneralExtension, MappingExtensions, ZoomExtensions};
+ghost use Rattle.mm_rules.specs.Parts.{ExtensionsWanted, NamedOnce, UnnamedOnce, ExtensionsOnce, GeneralExtension, MappingExtensions, ZoomExtensions};
 ghost use Rattle.mm_rules.specs.ExtensionRows.{NoRow, IsWantedRow, IsStandingRow, IsMarkedRow, IsRelated, IsZoomOther};
 
 use crate::columns::{stands, text_is};
@@ -67,16 +67,40 @@ impl RowTest for Never {
     }
 }
 
-/// Of rule 14, that no extension row stands twice.
-pub fn extensions_once<S: Alter>(conn: &mut Connection<S>) -> Result<bool, Fault>
-    ensures { (profile : Profile) → IsCheck profile (state S.Store conn.old) (state S.Store conn.new) (λ _. ⊤) (λ p. ExtensionsOnce p) result }
+/// Of rule 14, that no extension row of a table stands twice.
+pub fn named_once<S: Alter>(conn: &mut Connection<S>) -> Result<bool, Fault>
+    ensures { (profile : Profile) → IsCheck profile (state S.Store conn.old) (state S.Store conn.new) (λ _. ⊤) (λ p. NamedOnce p) result }
 {
     each_passes(
         conn,
-        "SELECT 1 FROM gpkg_extensions AS a JOIN gpkg_extensions AS b ON a.rowid < b.rowid AND b.table_name IS a.table_name AND b.column_name IS a.column_name AND b.extension_name IS a.extension_name AND b.definition IS a.definition AND b.scope IS a.scope",
+        "SELECT 1 FROM gpkg_extensions AS a JOIN gpkg_extensions AS b ON a.rowid < b.rowid AND b.table_name = a.table_name AND b.column_name IS a.column_name AND b.extension_name IS a.extension_name AND b.definition IS a.definition AND b.scope IS a.scope",
         &[],
         &Never,
     )
+}
+
+/// Of rule 14, that no extension row without a table stands twice.
+pub fn unnamed_once<S: Alter>(conn: &mut Connection<S>) -> Result<bool, Fault>
+    ensures { (profile : Profile) → IsCheck profile (state S.Store conn.old) (state S.Store conn.new) (λ _. ⊤) (λ p. UnnamedOnce p) result }
+{
+    each_passes(
+        conn,
+        "SELECT 1 FROM gpkg_extensions AS a JOIN gpkg_extensions AS b ON a.rowid < b.rowid AND a.table_name IS NULL AND b.table_name IS NULL AND b.column_name IS a.column_name AND b.extension_name IS a.extension_name AND b.definition IS a.definition AND b.scope IS a.scope",
+        &[],
+        &Never,
+    )
+}
+
+/// Of rule 14, that no extension row stands twice. The rows of tables are found by their index, which IS can't use; there are
+/// no others in a package that keeps the rule.
+pub fn extensions_once<S: Alter>(conn: &mut Connection<S>) -> Result<bool, Fault>
+    ensures { (profile : Profile) → IsCheck profile (state S.Store conn.old) (state S.Store conn.new) (λ _. ⊤) (λ p. ExtensionsOnce p) result }
+{
+    match named_once(conn) {
+        Ok(true) => unnamed_once(conn),
+        Ok(false) => Ok(false),
+        Err(fault) => Err(fault),
+    }
 }
 
 /// A row of another table beside this one.
@@ -108,7 +132,7 @@ pub fn mapping_extensions<S: Alter>(conn: &mut Connection<S>) -> Result<bool, Fa
 {
     each_passes(
         conn,
-        "SELECT e.extension_name FROM gpkgext_relations AS r LEFT JOIN gpkg_extensions AS e ON e.table_name IS r.mapping_table_name AND e.column_name IS NULL AND e.extension_name IS 'gpkg_related_tables' AND e.definition IS 'OGC 18-000' AND e.scope IS 'read-write' ORDER BY r.mapping_table_name",
+        "SELECT e.extension_name FROM gpkgext_relations AS r LEFT JOIN gpkg_extensions AS e ON e.table_name = r.mapping_table_name AND e.column_name IS NULL AND e.extension_name IS 'gpkg_related_tables' AND e.definition IS 'OGC 18-000' AND e.scope IS 'read-write' ORDER BY r.mapping_table_name",
         &[],
         &Standing,
     )
@@ -131,7 +155,7 @@ pub fn zoom_extensions<S: Alter>(conn: &mut Connection<S>) -> Result<bool, Fault
 {
     each_passes(
         conn,
-        "SELECT k.kind, e.extension_name FROM mm_tables AS k LEFT JOIN gpkg_extensions AS e ON e.table_name IS k.table_name AND e.column_name IS 'tile_data' AND e.extension_name IS 'gpkg_zoom_other' AND e.definition IS 'OGC 12-128r17' AND e.scope IS 'read-write' ORDER BY k.table_name",
+        "SELECT k.kind, e.extension_name FROM mm_tables AS k LEFT JOIN gpkg_extensions AS e ON e.table_name = k.table_name AND e.column_name IS 'tile_data' AND e.extension_name IS 'gpkg_zoom_other' AND e.definition IS 'OGC 12-128r17' AND e.scope IS 'read-write' ORDER BY k.table_name",
         &[],
         &Marked,
     )

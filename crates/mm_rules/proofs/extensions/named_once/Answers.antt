@@ -1,0 +1,15 @@
+use Rattle.std.specs.Prelude.{⊤}
+use Rattle.std.proofs.Common.{[], refl}
+use Rattle.sqlite.specs.Held.{state}
+use Rattle.mm_rules.specs.Parts.{NamedOnce}
+use Rattle.mm_rules.specs.Texts as text
+use Rattle.mm_rules.specs.ExtensionRows.{NoRow}
+use Rattle.mm_rules.proofs.Checks.{checks}
+use Rattle.mm_rules.proofs.ExtensionQueries as query
+use Rattle.mm_rules.proofs.ExtensionRules as rule
+use Rattle.mm_rules.proofs.extensions.named_once.Goals as goal
+
+pub returns : goal.returns
+returns g c profile =
+    checks text.named_once [] NoRow _ _ _ _ _ query.named_once query.quiet_named_once (λ _. ⊤) (λ p. NamedOnce p) rule.named_once profile
+    (state g.S.Store c.args.conn.now) (state g.S.Store c.each_passes.new.conn) [] refl c.each_passes.result c.each_passes.ensures

@@ -1,16 +1,28 @@
 //! The package's file.
 
-ghost use Rattle.std.specs.Prelude.{◌≡◌, ◌++◌, codes, false, string_bytes, IfOk, IfErr, OnErr};
+ghost use Rattle.std.specs.Prelude.{◌≡◌, ◌++◌, codes, false, string_bytes, IsTrue, IfOk, IfErr, OnErr};
+ghost use Rattle.sqlite_std_file.specs.File.{file_is_usable};
 ghost use Rattle.mm_program.specs.Files.{StopsAny, StopsNew, StopsOld};
 
 use mm_base::answers::Fault;
 use mm_work::Stop;
-use sqlite::{Connection, Error, ErrorCode, FileFrom, FileStore, Start};
+use sqlite::{Connection, Error, ErrorCode, FileFrom, FileStore, Files, Options, Start};
 use sqlite_disk::Disk;
+use sqlite_std_file::OpenError;
+use std::hash::{BuildHasher, RandomState};
 use std::{fs, io};
 
 /// No database is as short as this; a shorter file is refused without being opened, so that it stays as it is.
 const SHORTEST: u64 = 512;
+
+/// How many bytes a page has.
+const PAGE: u64 = 4096;
+
+/// How many pages are kept at the least: to make room for as many as the store would takes longer than all else of opening a small package.
+const FEWEST_PAGES: u64 = 512;
+
+/// How many pages are kept at the most, which is as many as the store would.
+const MOST_PAGES: u64 = 2000;
 
 /// The file's length, and none where there is no such file.
 fn length_of(rt: &HostRuntime, path: &str) -> Result<Option<u64>, Stop>
@@ -35,16 +47,59 @@ fn journal_of(rt: &HostRuntime, path: &str) -> Result<String, Stop>
     }
 }
 
+/// How many pages of a file of this length are kept in memory.
+fn pages_for(length: u64) -> usize {
+    (length / PAGE).clamp(FEWEST_PAGES, MOST_PAGES) as usize
+}
+
+/// How a file of this length is opened: as the store opens files, but for the pages that it keeps.
+fn options_for(rt: &HostRuntime, length: u64) -> Result<Options, Stop>
+    ensures { IfErr result StopsAny }
+{
+    let seed = match RandomState::new(rt) {
+        Ok(state) => state.hash_one(&0u8),
+        Err(_) => return Err(Stop::Fault(Fault(91))),
+    };
+    let mut options = Options::new(seed);
+    options.cache_pages = pages_for(length);
+    Ok(options)
+}
+
+/// The file at a path with its journal. What SQLite means by another thing than a file is refused.
+fn files_at<S: Start>(rt: &HostRuntime, path: &str, start: S) -> Result<Files<FileFrom<S>>, Stop>
+    ensures log { IfOk result (λ files. IsTrue (file_is_usable S.Start files.log)) }
+    ensures db { IfOk result (λ files. IsTrue (file_is_usable S.Start files.db)) }
+    ensures stopped { IfErr result StopsAny }
+{
+    if path == ":memory:" || path.starts_with("file:") {
+        return Err(Stop::Fault(Fault(91)));
+    }
+    match sqlite_std_file::open(rt, path, start) {
+        Ok(files) => Ok(files),
+        Err(OpenError::OutOfMemory) => Err(Stop::Fault(Fault(90))),
+        Err(OpenError::Io(error)) if error.kind() == io::ErrorKind::OutOfMemory => {
+            Err(Stop::Fault(Fault(90)))
+        }
+        Err(_) => Err(Stop::Fault(Fault(91))),
+    }
+}
+
 fn open_file<S: Start>(
     rt: &HostRuntime,
     path: &str,
+    length: u64,
     start: S,
 ) -> Result<Connection<FileStore<FileFrom<S>>>, Stop>
     ensures mode { IfOk result (λ c. c.in_transaction ≡ false) }
     ensures stopped { IfErr result StopsAny }
 {
-    match Connection::open_from(rt, path, false, start) {
-        Ok(conn) => Ok(conn),
+    let files = files_at(rt, path, start)?;
+    let options = options_for(rt, length)?;
+    match Connection::open_files(rt.alloc(), files, options) {
+        Ok(mut conn) => {
+            conn.set_clock(rt);
+            Ok(conn)
+        }
         Err((Error::SqliteFailure(ErrorCode::OutOfMemory), _)) => Err(Stop::Fault(Fault(90))),
         Err(_) => Err(Stop::Fault(Fault(91))),
     }
@@ -66,7 +121,7 @@ pub fn open_new<S: Start>(
     if length_of(rt, journal.as_str())?.unwrap_or(0) > 0 {
         return Err(Stop::NotEmpty);
     }
-    open_file(rt, path, start)
+    open_file(rt, path, 0, start)
 }
 
 /// A connection to a file that is there.
@@ -81,7 +136,7 @@ pub fn open_old<S: Start>(
     match length_of(rt, path)? {
         None | Some(0) => Err(Stop::NotPackage(94)),
         Some(length) if length < SHORTEST => Err(Stop::Fault(Fault(91))),
-        Some(_) => open_file(rt, path, start),
+        Some(length) => open_file(rt, path, length, start),
     }
 }
 

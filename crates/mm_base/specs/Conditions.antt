@@ -92,6 +92,7 @@ abbrev pub clashes : Package → Text → ℤ → Grid → Bool
 clashes p table zoom g = some_entry (λ k h. same_text k.table table && not (suits (has_kind p.kinds table kinds.Two) zoom g k.zoom h)) p.matrices
 
 -- ---- pieces
+-- the numbers that may hold against a piece of an edition, each with whether it does
 abbrev pub piece_reasons : Package → Piece → Reasons
 piece_reasons p (Tile table zoom column row bytes) =
     no_table p table ∷ of_another_kind p table (is_pyramid p.kinds table)
@@ -127,6 +128,7 @@ piece_reasons p (pieces.Matrix table zoom matrix) =
     ∷ (32, is_pyramid p.kinds table && clashes p table (pos zoom) (grid matrix)) ∷ []
 
 -- ---- relations
+-- the text by which a relation of this name is kept
 abbrev pub relation_text : RelationName → Text
 relation_text names.Media = codes "media"
 relation_text names.SimpleAttributes = codes "simple_attributes"
@@ -153,6 +155,7 @@ abbrev pub is_used : Package → Text → Bool
 is_used p table = some_entry (λ _ r. same_text r.base table || same_text r.related table) p.relations
 
 -- ---- editions
+-- the edition stands and is open
 abbrev pub is_open : Package → Text → Bool
 is_open p edition = at_value (same_text open_state) (get p.editions edition)
 

@@ -31,6 +31,7 @@ abbrev pub touch : Package → Text → Text → Package
 touch p table stamp = touched_row p table stamp (get p.contents table)
 
 -- ---- by the pieces of an edition
+-- the package after a piece took effect; what is put or removed in a table is stamped there, and a mapping row in none
 abbrev pub piece_effect : Package → Piece → Text → Package
 piece_effect p (Tile table zoom column row bytes) stamp =
     touch (record p { tiles = insert p.tiles (tile table (pos zoom) (pos column) (pos row)) bytes }) table stamp
@@ -52,6 +53,7 @@ piece_effect p (pieces.Matrix table zoom matrix) stamp =
     touch (record p { matrices = insert p.matrices (level table (pos zoom)) (grid matrix) }) table stamp
 
 -- ---- by the other commands
+-- the kind of a pyramid of these zoom steps
 abbrev pub step_kind : Step → Kind
 step_kind steps.Two = kinds.Two
 step_kind steps.Other = kinds.Other

@@ -49,6 +49,7 @@ IsAgainst AContentType t n = refuses_unless IsContentType 11 t n
 IsAgainst AName t n = refuses_unless IsName 12 t n
 
 -- ---- the fields of a record
+-- as many texts as fields, each of which holds its value
 abbrev pub AllHold : List Field → List Text → List Value → Type 0
 AllHold [] [] [] = ⊤
 AllHold (f ∷ fs) (t ∷ ts) (v ∷ vs) = Holds f t v × AllHold fs ts vs

@@ -153,6 +153,7 @@ pub record Package : Type 0 where
   pub pieces : PiecesPart
 
 -- ---- kinds of tables
+-- the text by which the registry keeps a kind
 abbrev pub kind_text : Kind → Text
 kind_text Two = codes "two"
 kind_text Other = codes "other"
@@ -176,6 +177,7 @@ abbrev pub is_pyramid : Kinds → Text → Bool
 is_pyramid kinds table = has_kind kinds table Two || has_kind kinds table Other
 
 -- ---- the extension rows of a package: of related tables, of each mapping, and of each pyramid with other zoom intervals (Zoom Other Intervals)
+-- the extension row of `gpkgext_relations`, which each package has
 abbrev pub general_extension : Extension
 general_extension = record { table = Some (codes "gpkgext_relations"); column = None; name = codes "gpkg_related_tables"; definition = codes "OGC 18-000"; scope = codes "read-write" }
 
@@ -188,6 +190,7 @@ abbrev pub zoom_extension : Text → Extension
 zoom_extension table = record { table = Some table; column = Some (codes "tile_data"); name = codes "gpkg_zoom_other"; definition = codes "OGC 12-128r17"; scope = codes "read-write" }
 
 -- ---- states of editions
+-- the state of an edition that takes pieces
 abbrev pub open_state : Text
 open_state = codes "open"
 

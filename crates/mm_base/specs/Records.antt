@@ -14,6 +14,7 @@ use Rattle.mm_base.specs.declared.commands.Command.{Command}
 use Rattle.mm_base.specs.declared.commands.Command.TheVariants as commands
 
 -- ---- the records of pieces, without the word that they begin with
+-- the number of a row, a medium or a piece
 abbrev pub id_field : Field
 id_field = NumberFrom (pos 1) (pos (2 ^ 53))
 
@@ -84,6 +85,7 @@ piece_forms profile =
     ∷ (codes "media", media_form) ∷ (codes "media-drop", item_form) ∷ (codes "map", map_form) ∷ (codes "map-drop", map_form) ∷ (codes "matrix", matrix_form profile) ∷ []
 
 -- ---- the records of the other commands
+-- a coordinate in the profile's unit
 abbrev pub coordinate : Profile → Field
 coordinate profile = NumberFrom (neg_ℤ (pos profile.coordinate)) (pos profile.coordinate)
 
@@ -141,6 +143,7 @@ other_forms profile =
     ∷ (codes "publish", name_form) ∷ (codes "rehearse", name_form) ∷ []
 
 -- ---- the form of a record: what its fields after the first word hold, if that word is known
+-- the form that a list has under a word, if it has one
 abbrev pub form_of : List (Text × Form) → Text → Option Form
 form_of [] word = None
 form_of (entry ∷ entries) word = if bytes_eq word entry.0 then Some entry.1 else form_of entries word
@@ -166,6 +169,7 @@ record_form profile [] = None
 record_form profile (word ∷ texts) = if bytes_eq word (codes "stage") then stage_form profile texts else form_of (piece_forms profile ++ other_forms profile) word
 
 -- ---- the record that a command is spelled by
+-- the word that the record of a piece begins with
 abbrev pub piece_word : Piece → Text
 piece_word (Tile table zoom column row bytes) = codes "tile"
 piece_word (TileDrop table zoom column row) = codes "tile-drop"

@@ -13,6 +13,7 @@ use Rattle.mm_base.specs.declared.commands.Kind.TheVariants.{Two, Other, Attribu
 use Rattle.mm_base.specs.declared.commands.Piece.{Piece}
 
 -- ---- 1: the three given systems stand
+-- the given system 4326, of longitude and latitude
 abbrev pub geographic : System
 geographic = record { name = codes "WGS 84 geographic"; organization = codes "EPSG"; organization_id = pos 4326; definition = codes "EPSG:4326"; description = codes "longitude and latitude" }
 
@@ -31,6 +32,7 @@ pub record GivenSystems (systems : SystemsPart) : Type 0 where
   pub undefined_stands : Has systems (pos 0) undefined_geographic
 
 -- ---- 2: each system that is named stands, and no pyramid names a geographic one
+-- the number is neither of the two given geographic systems
 abbrev pub IsPlane : ℤ → Type 0
 IsPlane system = (system ≢ pos 0) × (system ≢ pos 4326)
 
@@ -44,16 +46,19 @@ pub record NamedSystems (systems : SystemsPart) (contents : ContentsPart) (kinds
   pub of_sets : Each sets (λ table s. MayName systems kinds table s.system)
 
 -- ---- 3: identifiers differ
+-- two tables of one identifier are the same table
 abbrev pub DistinctIdentifiers : ContentsPart → Type 0
 DistinctIdentifiers contents = Each contents (λ table c. Each contents (λ other d. c.identifier ≡ d.identifier → table ≡ other))
 
 -- ---- 4: tables, mappings and editions have names, and no mapping the name of a table
+-- each name keeps the limits of names, and no mapping has the name of a table
 pub record Names (contents : ContentsPart) (relations : RelationsPart) (editions : EditionsPart) : Type 0 where
   pub of_tables : Each contents (λ table _. IsName table)
   pub of_mappings : Each relations (λ mapping _. IsName mapping × (get contents mapping ≡ None))
   pub of_editions : Each editions (λ edition _. IsName edition)
 
 -- ---- 5: the registry, the contents and the matrix sets speak of the same tables
+-- the contents row of a table that is no pyramid: data_type `attributes`, no extent, no system, and no matrix set beside it
 abbrev pub IsUnplaced : Contents → Option MatrixSet → Type 0
 IsUnplaced c set = (c.data_type ≡ codes "attributes") × (c.min_x ≡ None) × (c.min_y ≡ None) × (c.max_x ≡ None) × (c.max_y ≡ None) × (c.system ≡ None) × (set ≡ None)
 
@@ -85,6 +90,7 @@ pub record Registry (contents : ContentsPart) (kinds : Kinds) (sets : SetsPart) 
   pub of_sets : Each sets (λ table _. Stands contents table)
 
 -- ---- 6: extents are not empty
+-- where both bounds stand the lower one is less
 abbrev pub IsOrdered : Option ℤ → Option ℤ → Type 0
 IsOrdered low high = IfSome low (λ a. IfSome high (λ b. a <ℤ b))
 
@@ -94,6 +100,7 @@ pub record Extents (contents : ContentsPart) (sets : SetsPart) : Type 0 where
   pub of_contents : Each contents (λ _ c. IsOrdered c.min_x c.max_x × IsOrdered c.min_y c.max_y)
 
 -- ---- 7: each matrix belongs to a pyramid and covers its extent exactly (Tile Matrix, in whole numbers)
+-- the sides of the extent are those of all pixels of the matrix
 pub record Fits (b : Box) (g : Grid) : Type 0 where
   pub across : b.max_x -ℤ b.min_x ≡ (g.matrix_width *ℤ g.tile_width) *ℤ g.pixel_x_size
   pub down : b.max_y -ℤ b.min_y ≡ (g.matrix_height *ℤ g.tile_height) *ℤ g.pixel_y_size
@@ -108,6 +115,7 @@ abbrev pub MatricesFit : Kinds → SetsPart → MatricesPart → Type 0
 MatricesFit kinds sets matrices = Each matrices (λ k g. IsPyramid kinds k.table × FitsIn (get sets k.table) g)
 
 -- ---- 8: of any two zooms the higher has the smaller pixels (Tile Matrix)
+-- the second matrix has the smaller pixels, both across and down
 pub record IsFiner (g h : Grid) : Type 0 where
   pub across : h.pixel_x_size <ℤ g.pixel_x_size
   pub down : h.pixel_y_size <ℤ g.pixel_y_size
@@ -117,6 +125,7 @@ abbrev pub HigherIsFiner : MatricesPart → Type 0
 HigherIsFiner matrices = (table : Text) (low high : ℤ) (g h : Grid) → Has matrices (level table low) g → Has matrices (level table high) h → low <ℤ high → IsFiner g h
 
 -- ---- 9: in a pyramid of kind `two` the next zoom halves the pixels (Zoom Levels)
+-- the second matrix has half the pixel sizes, both across and down
 pub record IsHalved (g h : Grid) : Type 0 where
   pub across : g.pixel_x_size ≡ pos 2 *ℤ h.pixel_x_size
   pub down : g.pixel_y_size ≡ pos 2 *ℤ h.pixel_y_size
@@ -126,6 +135,7 @@ abbrev pub NextIsHalved : Kinds → MatricesPart → Type 0
 NextIsHalved kinds matrices = (table : Text) (zoom : ℤ) (g h : Grid) → HasKind kinds table Two → Has matrices (level table zoom) g → Has matrices (level table (zoom +ℤ pos 1)) h → IsHalved g h
 
 -- ---- 10: each tile lies in the matrix at its zoom; column 0, row 0 is the upper left, and tiles may be missing (Tile Pyramid User Data Tables)
+-- there is a matrix, and it has this column and this row
 abbrev pub IsInside : Option Grid → ℤ → ℤ → Type 0
 IsInside None column row = ⊥
 IsInside (Some g) column row = (pos 0 ≤ℤ column) × (column <ℤ g.matrix_width) × (pos 0 ≤ℤ row) × (row <ℤ g.matrix_height)
@@ -135,11 +145,13 @@ abbrev pub TilesInside : MatricesPart → TilesPart → Type 0
 TilesInside matrices tiles = Each tiles (λ k _. IsInside (get matrices (level k.table k.zoom)) k.column k.row)
 
 -- ---- 11: rows and media belong to tables of their kind
+-- each row is of a table of kind `attributes`, and each medium of one of kind `media`
 pub record Items (kinds : Kinds) (rows : RowsPart) (media : MediaPart) : Type 0 where
   pub of_rows : Each rows (λ k _. HasKind kinds k.table Attributes)
   pub of_media : Each media (λ k _. HasKind kinds k.table Media)
 
 -- ---- 12: relations join tables of the kinds that their names ask for (Media, Simple Attributes)
+-- the base is no pyramid, the related table is of the kind that the name asks for, and both are joined by `id`
 pub record IsSuited (kinds : Kinds) (r : Relation) : Type 0 where
   pub base : HasKind kinds r.base Attributes ⊎ HasKind kinds r.base Media
   pub related : ((r.name ≡ codes "media") × HasKind kinds r.related Media) ⊎ ((r.name ≡ codes "simple_attributes") × HasKind kinds r.related Attributes)
@@ -151,6 +163,7 @@ abbrev pub RelationsSuited : Kinds → RelationsPart → Type 0
 RelationsSuited kinds relations = Each relations (λ _ r. IsSuited kinds r)
 
 -- ---- 13: each mapping row names a relation, and both its ends stand
+-- the table has a row or a medium of this number
 abbrev pub HasItem : RowsPart → MediaPart → Text → ℤ → Type 0
 HasItem rows media table id = Stands rows (item table id) ⊎ Stands media (item table id)
 
@@ -164,6 +177,7 @@ abbrev pub PairingsJoin : RowsPart → MediaPart → RelationsPart → PairingsP
 PairingsJoin rows media relations pairings = Each pairings (λ k _. Joins rows media (get relations k.mapping) k)
 
 -- ---- 14: the extension rows are exactly those that are wanted, each once
+-- it is the row of related tables, or that of a mapping that stands, or that of a pyramid of kind `other`
 abbrev pub IsWanted : Kinds → RelationsPart → Extension → Type 0
 IsWanted kinds relations e =
     (e ≡ general_extension)

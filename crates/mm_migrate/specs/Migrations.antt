@@ -47,6 +47,7 @@ pub record IsChecked (profile : Profile) (old new : State) (result : Result (Uni
   pub faults : OnlyStoreFaults result
 
 -- ---- of a package that is in micrometres already, as of one that is adopted
+-- it is settled and meets the rules, or the first rule that fails is told; after a fault each database that may be left stands for it
 abbrev pub Adopts : Package → State → Result (Unit {0}) Open → Type 0
 Adopts p new (Ok _) = IsSettled micrometres new p × Meets micrometres p
 Adopts p new (Err (opens.Rule rule)) = IsSettled micrometres new p × IsFailing micrometres p rule

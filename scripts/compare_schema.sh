@@ -40,6 +40,7 @@ END
 indexes() {
     cat <<'END'
 mm_blobs (digest)
+mm_map (mapping, related_id)
 mm_media (blob)
 mm_pieces (blob)
 mm_tiles (blob)

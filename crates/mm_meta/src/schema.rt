@@ -3,7 +3,7 @@
 ghost use Rattle.std.specs.Prelude.{◌≡◌};
 ghost use Rattle.sqlite.specs.Held.{state};
 ghost use Rattle.mm_schema.specs.Tables.{schema};
-ghost use Rattle.mm_schema.specs.Made.{first_of};
+ghost use Rattle.mm_schema.specs.Made.{first_of, with_pieces};
 ghost use Rattle.mm_meta.specs.Opening.{IsCreating};
 
 use mm_base::answers::Fault;
@@ -141,7 +141,7 @@ fn create_edition_tables<S: Alter>(tx: &mut Transaction<'_, S>) -> Result<(), Fa
 /// Makes the table of blobs, and the indexes that find a blob by its digest and what names it.
 fn create_blob_table<S: Alter>(tx: &mut Transaction<'_, S>) -> Result<(), Fault>
     ensures same_reference { tx.new.conn.ghost_name ≡ tx.old.conn.ghost_name }
-    ensures made { IsCreating (first_of 14) (state S.Store tx.old.conn.now) (state S.Store tx.new.conn.now) schema result }
+    ensures made { IsCreating (first_of 14) (state S.Store tx.old.conn.now) (state S.Store tx.new.conn.now) with_pieces result }
 {
     match run(
         tx,
@@ -166,7 +166,19 @@ fn create_blob_table<S: Alter>(tx: &mut Transaction<'_, S>) -> Result<(), Fault>
     run(tx, "CREATE INDEX mm_pieces_blob ON mm_pieces (blob)", &[])
 }
 
-/// Makes the 15 tables and the four indexes where there is none.
+/// Makes the index that finds the mapping rows of a relation by their related id.
+fn create_mapping_index<S: Alter>(tx: &mut Transaction<'_, S>) -> Result<(), Fault>
+    ensures same_reference { tx.new.conn.ghost_name ≡ tx.old.conn.ghost_name }
+    ensures made { IsCreating with_pieces (state S.Store tx.old.conn.now) (state S.Store tx.new.conn.now) schema result }
+{
+    run(
+        tx,
+        "CREATE INDEX mm_map_related ON mm_map (mapping, related_id)",
+        &[],
+    )
+}
+
+/// Makes the 15 tables and the five indexes where there is none.
 pub(crate) fn create_tables<S: Alter>(tx: &mut Transaction<'_, S>) -> Result<(), Fault>
     ensures same_reference { tx.new.conn.ghost_name ≡ tx.old.conn.ghost_name }
     ensures made { IsCreating (first_of 0) (state S.Store tx.old.conn.now) (state S.Store tx.new.conn.now) schema result }
@@ -187,5 +199,9 @@ pub(crate) fn create_tables<S: Alter>(tx: &mut Transaction<'_, S>) -> Result<(),
         Ok(()) => {}
         Err(fault) => return Err(fault),
     }
-    create_blob_table(tx)
+    match create_blob_table(tx) {
+        Ok(()) => {}
+        Err(fault) => return Err(fault),
+    }
+    create_mapping_index(tx)
 }

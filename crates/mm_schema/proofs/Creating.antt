@@ -4,7 +4,7 @@ use Rattle.sqlite.specs.Listing.{understood}
 use Rattle.sqlite_tied.specs.Compute.{everything}
 use Rattle.sql_forms.proofs.Creates.{IsCreate, IsIndexing}
 use Rattle.mm_schema.specs.Tables as tables
-use Rattle.mm_schema.specs.Made.{first_of, unplaced, unplaced_index, with_digest, with_tiles, with_media, with_pieces}
+use Rattle.mm_schema.specs.Made.{first_of, unplaced, unplaced_index, with_digest, with_tiles, with_media, with_pieces, with_related}
 use Rattle.mm_schema.specs.Creates as texts
 
 pub gpkg_spatial_ref_sys : IsCreate (first_of 0) texts.gpkg_spatial_ref_sys (unplaced tables.gpkg_spatial_ref_sys) (first_of 1)
@@ -85,5 +85,9 @@ pub mm_pieces_blob : IsIndexing with_media texts.mm_pieces_blob 13 tables.mm_pie
 unfolding understood everything
 mm_pieces_blob = record { compiled = refl; said = refl; plain = (refl, refl); placed = refl; defined = refl; becomes = refl }
 
-pub all_made : with_pieces ≡ tables.schema
+pub mm_map_related : IsIndexing with_pieces texts.mm_map_related 11 tables.mm_map (unplaced_index tables.mm_map_related) with_related
+unfolding understood everything
+mm_map_related = record { compiled = refl; said = refl; plain = (refl, refl); placed = refl; defined = refl; becomes = refl }
+
+pub all_made : with_related ≡ tables.schema
 all_made = refl

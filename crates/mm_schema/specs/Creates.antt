@@ -78,3 +78,7 @@ mm_media_blob = codes "CREATE INDEX mm_media_blob ON mm_media (blob)"
 -- staged pieces by the blob that they name
 abbrev pub mm_pieces_blob : List ℕ
 mm_pieces_blob = codes "CREATE INDEX mm_pieces_blob ON mm_pieces (blob)"
+
+-- the mapping rows of a relation by their related id
+abbrev pub mm_map_related : List ℕ
+mm_map_related = codes "CREATE INDEX mm_map_related ON mm_map (mapping, related_id)"

@@ -66,6 +66,10 @@ with_tiles = indexed with_digest tables.mm_tiles (unplaced_index tables.mm_tiles
 abbrev pub with_media : Schema
 with_media = indexed with_tiles tables.mm_media (unplaced_index tables.mm_media_blob)
 
--- and the index on the blobs of staged pieces, the last: the whole schema
+-- and the index on the blobs of staged pieces
 abbrev pub with_pieces : Schema
 with_pieces = indexed with_media tables.mm_pieces (unplaced_index tables.mm_pieces_blob)
+
+-- and the index on the related ids of mapping rows, the last: the whole schema
+abbrev pub with_related : Schema
+with_related = indexed with_pieces tables.mm_map (unplaced_index tables.mm_map_related)

@@ -275,9 +275,13 @@ mm_media_blob = index_on (codes "mm_media_blob") 30 mm_media (3 ∷ [])
 abbrev pub mm_pieces_blob : Index
 mm_pieces_blob = index_on (codes "mm_pieces_blob") 31 mm_pieces (14 ∷ [])
 
--- those that the tables' keys have, table by table, and then the four that texts make
+-- the index by which the mapping rows of a relation are found from their related id
+abbrev pub mm_map_related : Index
+mm_map_related = index_on (codes "mm_map_related") 32 mm_map (1 ∷ 3 ∷ [])
+
+-- those that the tables' keys have, table by table, and then the five that texts make
 abbrev pub indexes : List Index
-indexes = unique gpkg_contents 0 2 ∷ unique gpkg_contents 1 3 ∷ unique gpkg_tile_matrix_set 0 5 ∷ unique gpkg_tile_matrix 0 7 ∷ unique gpkg_extensions 0 9 ∷ unique gpkgext_relations 0 11 ∷ unique mm_tables 0 14 ∷ unique mm_tiles 0 16 ∷ unique mm_rows 0 18 ∷ unique mm_media 0 20 ∷ unique mm_map 0 22 ∷ unique mm_editions 0 24 ∷ unique mm_pieces 0 26 ∷ mm_blobs_digest ∷ mm_tiles_blob ∷ mm_media_blob ∷ mm_pieces_blob ∷ []
+indexes = unique gpkg_contents 0 2 ∷ unique gpkg_contents 1 3 ∷ unique gpkg_tile_matrix_set 0 5 ∷ unique gpkg_tile_matrix 0 7 ∷ unique gpkg_extensions 0 9 ∷ unique gpkgext_relations 0 11 ∷ unique mm_tables 0 14 ∷ unique mm_tiles 0 16 ∷ unique mm_rows 0 18 ∷ unique mm_media 0 20 ∷ unique mm_map 0 22 ∷ unique mm_editions 0 24 ∷ unique mm_pieces 0 26 ∷ mm_blobs_digest ∷ mm_tiles_blob ∷ mm_media_blob ∷ mm_pieces_blob ∷ mm_map_related ∷ []
 
 -- the schema of a package's file, under profile 1 as under profile 2
 abbrev pub schema : Schema

@@ -2,15 +2,15 @@
 
 ghost use Rattle.std.specs.Prelude.{◌≡◌};
 ghost use Rattle.mm_schema.specs.Tables.{schema};
-ghost use Rattle.mm_schema.specs.Made.{with_pieces, definitions, AllDefine};
+ghost use Rattle.mm_schema.specs.Made.{with_related, definitions, AllDefine};
 
 /// Each CREATE text defines its table.
 pub fn texts_define_tables()
     ensures { AllDefine definitions }
 {}
 
-/// The 15 tables and then the four indexes, made in turn in an empty database, are the schema: their trees are the ones that
+/// The 15 tables and then the five indexes, made in turn in an empty database, are the schema: their trees are the ones that
 /// the database gives them, beside those of the indexes of the tables' keys.
 pub fn schema_is_made()
-    ensures { with_pieces ≡ schema }
+    ensures { with_related ≡ schema }
 {}

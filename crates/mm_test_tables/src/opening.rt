@@ -57,6 +57,7 @@ mm_tables|
 mm_tiles|
 ? SELECT name, tbl_name FROM sqlite_schema WHERE type = 'index' AND name >= 'mm' AND name < 'mn' ORDER BY name
 mm_blobs_digest|mm_blobs|
+mm_map_related|mm_map|
 mm_media_blob|mm_media|
 mm_pieces_blob|mm_pieces|
 mm_tiles_blob|mm_tiles|

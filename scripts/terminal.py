@@ -13,6 +13,8 @@ import time
 
 WAIT = 10
 END_KEY = b"\x04"
+# The exit status where a record was refused, as the second one is.
+REFUSED = 1
 
 
 def read_until(terminal, wanted):
@@ -43,7 +45,7 @@ def typed(program, package):
                 return f"record {number} is not answered before the next is typed"
         os.write(terminal, END_KEY)
         status = run.wait(WAIT)
-        return None if status == 0 else f"the status is {status}"
+        return None if status == REFUSED else f"the status is {status}"
     except subprocess.TimeoutExpired:
         return "one end key does not end the list"
     finally:

@@ -5,7 +5,8 @@
 
 `rt run` builds what stands below a program crate by crate, and rt's own commands wait for one another where they share a library. So
 this calls the toolchain's own code in one process: each crate as `rt lib` builds it, in the lanes of `rt ci`, one a processor, as many
-as memory holds; a crate gets the processors that stand idle as jobs. What is built already stays as it is.
+as memory holds; a crate gets the processors that stand idle as jobs. What is built already stays as it is. With another toolchain than
+the one that this was written for it does nothing, and `rt run` builds all.
 """
 import copy
 import os
@@ -33,7 +34,7 @@ class Progress:
             print(f"{said}{crate.name}: {became} ({self.left} left, {minutes:.1f} minutes so far)", flush=True)
 
 
-def build(rt, crate, jobs, progress):
+def build(crate, jobs, progress):
     """Builds one library as `rt lib` does, and returns whether it is proved."""
     crate = copy.copy(crate)
     if crate.is_built():
@@ -56,6 +57,8 @@ def main(words):
         return 0
     rt = load_rt()
     rt.rtlib.guarded()
+    # (what another clone on this machine built of the same text is taken)
+    rt.share_work(True)
     root = os.path.dirname(os.path.dirname(os.path.abspath(__file__)))
     top = rt.rtlib.Crate(f"{root}/crates/{words[0] if words else PROGRAM}", root, {})
     crates = top.below()
@@ -64,7 +67,7 @@ def main(words):
 
     def built(crate, given, jobs):
         stands = all(given[below.name, "proof"] for below in crate.below())
-        return stands and build(rt, crate, jobs, progress)
+        return stands and build(crate, jobs, progress)
 
     tasks = {}
     for crate in crates:

@@ -1,14 +1,16 @@
 """Must-fail edits, tried many to a check (for scripts/gate.py).
 
-An edit is a wrong body that the check must refuse. `rt ci` tries each in a check of its own, and loads the libraries each time. A
-function's proof rests on the contracts of what it calls and never on their bodies. So edits of different functions stand here in one
-copy of the crate, and each counts as refused only where its own function has a goal of its own unproved, and not for a callee that is
-not proved. What a check leaves open goes into the next. An edit that is left alone, or touches more than bodies, is judged as rt judges
-one edit. No edit fails by a batch: what was not refused is tried again alone, from nothing. The crate must be proved without edits over
-the work that these checks kept; else each is tried again alone, from nothing.
+An edit is a wrong body that the check must refuse. `rt ci` tries each in a check of its own, over what a check of the crate as it stands proved, and
+loads the libraries each time. A function's proof rests on the contracts of what it calls and never on their bodies. So edits of different
+functions stand here in one copy of the crate, and each counts as refused only where its own function has a goal of its own unproved, and not for
+a callee that is not proved. What a check leaves open is tried once more with others, and then alone, as rt does it; so is an edit that touches more than bodies.
 """
+import contextlib
 import os
 import re
+import shutil
+import tempfile
+import threading
 
 # What the check says of a function that is refused only with another: one that it calls, passes, points to or waits for.
 WITH_ANOTHER = re.compile(r"\bit (calls|passes|points|waits)\b|\bwhich (is|are) not proved\b|\bdepends on\b")
@@ -107,7 +109,7 @@ class Trial:
     """One edit, and the functions whose bodies it changes: none where it changes anything else."""
 
     def __init__(self, rt, crate, edit):
-        self.edit = edit
+        self.edit, self.tries = edit, 0
         self.label = f"must-fail {crate.name}/{os.path.basename(edit)}"
         self.touches = frozenset() if rt.read_edit(edit, crate.folder)[1] else self.functions(rt, crate)
         names = [rf"{crate.name}::{re.escape(module_of(path))}(?:\S+::)?(?:{name}|fn::{name}::\S+)" for path, name in self.touches]
@@ -149,10 +151,10 @@ def next_batch(trials):
     """Returns the first edits of which no two change one function, and the others."""
     taken, batch, left = set(), [], []
     for it in trials:
-        fits = it.touches and not it.touches & taken
+        fits = not it.touches & taken
         (batch if fits else left).append(it)
         taken |= it.touches if fits else set()
-    return (batch, left) if batch else (trials[:1], trials[1:])
+    return batch, left
 
 
 def refused_alone(lines):
@@ -177,39 +179,55 @@ def tried_together(rt, crate, batch, flags, kept):
         return None
     refused = refused_alone(lines)
     said = {it: next((line for name, line in refused.items() if it.own.fullmatch(name)), None) for it in batch}
-    return {it: line for it, line in said.items() if line}
+    return {it: f"{it.label}: refused, as it must be: {line[:160]}" for it, line in said.items() if line}
 
 
-def tried_in_batches(rt, crate, trials, flags, kept):
-    """Returns the answer to each edit, as rt.must_fail gives it, over the work that the checks keep, and how many checks there were."""
-    answers, checks, left, stack = {}, 0, trials, []
-    while left or stack:
-        if not stack:
-            batch, left = next_batch(left)
-            stack.append(batch)
-        batch = stack.pop()
-        checks += 1
-        if len(batch) == 1:
-            answers[batch[0]] = rt.must_fail(crate, batch[0].edit, flags, kept)
-            continue
-        said = tried_together(rt, crate, batch, flags, kept)
-        for it, line in (said or {}).items():
-            answers[it] = True, f"{it.label}: refused, as it must be: {line[:160]}"
-        rest = [it for it in batch if it not in (said or {})]
-        if said:
-            left = rest + left
-        elif said is None:
-            stack += [batch[len(batch) // 2 :], batch[: len(batch) // 2]]
-        else:
-            stack += [[it] for it in rest]
-    return answers, checks
+class Batches:
+    """The edits of one crate, for the lanes of rt ci, which ask for the answer to each: a lane that asks tries a batch of those that no other lane has taken."""
 
+    def __init__(self, rt, crate, edits):
+        trials = [Trial(rt, crate, it) for it in edits]
+        self.rt, self.crate, self.told = rt, crate, threading.Condition()
+        # what was said of an edit: None where it has to be tried alone
+        self.said = {it.edit: None for it in trials if not it.touches}
+        self.left = [it for it in trials if it.touches]
 
-def all_tried(rt, crate, edits, flags, kept):
-    """Returns the answers to a crate's edits in their order, as rt.must_fail_all does, and how many checks there were."""
-    trials = [Trial(rt, crate, it) for it in edits]
-    answers, checks = tried_in_batches(rt, crate, trials, flags, kept)
-    is_sound = not rt.checked(crate, {}, flags, kept).returncode
-    again = [it for it in trials if not is_sound or not answers[it][0]]
-    answers.update({it: rt.must_fail(crate, it.edit, flags) for it in again})
-    return [answers[it] for it in trials], checks + 1 + len(again)
+    def answer(self, edit, flags, seed):
+        """Returns what the check said of an edit that it refused, tried over a copy of the seed, or None where it has to be tried alone."""
+        while True:
+            with self.told:
+                if edit in self.said:
+                    return self.said[edit]
+                batch, self.left = next_batch(sorted(self.left, key=lambda it: it.edit != edit))
+                if not batch:
+                    self.told.wait()
+                    continue
+            self.try_batch(batch, flags, seed)
+
+    def try_batch(self, batch, flags, seed):
+        """Tries a batch, and tells what was said of each edit. One of which nothing was said comes once more, in half as large a batch where that was so of all."""
+        said, parts = {}, [batch]
+        try:
+            while parts:
+                part = parts.pop()
+                told = self.tried(part, flags, seed) if len(part) > 1 else {}
+                if told is None:
+                    parts += [part[len(part) // 2 :], part[: len(part) // 2]]
+                said.update(told or {})
+        finally:
+            with self.told:
+                for it in batch:
+                    it.tries += 1
+                    if it in said or it.tries > 1 or len(batch) == 1:
+                        self.said[it.edit] = said.get(it)
+                    else:
+                        self.left.append(it)
+                self.told.notify_all()
+
+    def tried(self, part, flags, seed):
+        """Returns the answers of one check, begun with a copy of the seed."""
+        with tempfile.TemporaryDirectory(dir=os.path.dirname(seed), prefix="batch-") as room:
+            with contextlib.suppress(OSError, shutil.Error):
+                self.rt.linked(seed, f"{room}/seed")
+                return tried_together(self.rt, self.crate, part, flags, f"{room}/seed")
+        return {}

@@ -109,7 +109,7 @@ def main():
     with tempfile.TemporaryDirectory(prefix="gate-test-") as root:
         make_workspace(root)
         wanted = sorted(f"tiny/{name}.edit" for name in HARMLESS)
-        status, said = gate(root)
+        status, said = gate(root, "--anew")
         told.append(tell("exactly the harmless edits fail", status == 1 and failed_in(said) == wanted, said))
         told.append(tell("the others are counted", said.endswith(f"\n{1 + len(TRUE)} passed, {len(HARMLESS)} failed\n"), said))
     print(f"{sum(told)} passed, {len(told) - sum(told)} failed")

@@ -9,25 +9,20 @@ import sys
 sys.dont_write_bytecode = True
 RT = os.path.realpath(shutil.which("rt") or "rt")
 # The sum of rt and rtlib.py of the kit that the scripts were written for.
-WRITTEN_FOR = "cfb286b97f5e9b9fb95da55dcbe60499937d0d0ee07a201bc33cd95c5f4aa1d3"
+WRITTEN_FOR = "42f45cabc00d8256b495acdd1525789c67c745f97a56c0ec7ec54298d0396699"
 
-# How much of the memory that rt foresees for a check was seen to be taken: 1.6 to 2.5 GB of 4 to 6. By its own figure rt leaves
-# processors idle on a machine of 24 GB; a check that is killed for memory is run again with one job.
+# How much of the memory that rt foresees for a check was seen to be taken. By its own figure rt leaves processors idle on a machine of 24 GB; a
+# check that is killed for memory is run again with one job.
 MEMORY_TAKEN = 0.6
-
-
-def sum_of_rt():
-    """Returns the sum of the command rt and of its library."""
-    made = hashlib.sha256()
-    for name in (RT, f"{os.path.dirname(RT)}/rtlib.py"):
-        with open(name, "rb") as it:
-            made.update(it.read())
-    return made.hexdigest()
 
 
 def is_known():
     """Returns whether this kit's rt is the one that the scripts were written for."""
-    return sum_of_rt() == WRITTEN_FOR
+    made = hashlib.sha256()
+    for name in (RT, f"{os.path.dirname(RT)}/rtlib.py"):
+        with open(name, "rb") as it:
+            made.update(it.read())
+    return made.hexdigest() == WRITTEN_FOR
 
 
 def load_rt():

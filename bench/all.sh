@@ -12,12 +12,12 @@ disk=${1:-${TMPDIR:-/tmp}}
 for place in memory disk; do
     folder=/dev/shm
     [ "$place" = memory ] || folder=$disk
-    for bench in run tiles kits editions opening mapping_rows matrices; do
+    for bench in run tiles kits editions opening mapping_rows; do
         echo "$bench, $place"
         "./$bench.py" --folder "$folder" | tee -a "$said/$place"
     done
 done
-for bench in check migrate page; do
+for bench in matrices check migrate page; do
     echo "$bench, memory"
     "./$bench.py" --folder /dev/shm
 done

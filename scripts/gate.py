@@ -3,9 +3,11 @@
 
     scripts/gate.py [--anew]     at the top of the repository; the last line is 'N passed, M failed'
 
-Only the trying of edits (scripts/edits.py) is not rt's own. What rt ci keeps on a machine of what it passed is taken here too, and what is proved
-here is kept; of the edits only those are kept that were tried alone. --anew takes nothing. With another kit than the one that this was written for `rt ci` runs as it is.
+Only the trying of edits (scripts/edits.py) is not rt's own. What rt ci keeps on a machine of what it passed is taken here too, and what is passed
+here is kept: an edit that was tried among others under a name that only this script asks for, and only while scripts/edits.py stays as it is. --anew takes
+nothing. With another kit than the one that this was written for `rt ci` runs as it is.
 """
+import hashlib
 import os
 import subprocess
 import sys
@@ -15,10 +17,17 @@ from edits import Batches
 from toolchain import RT, is_known, load_rt
 
 
+def sum_of_batches():
+    """Returns the sum of the script that tries edits in batches."""
+    with open(f"{os.path.dirname(os.path.abspath(__file__))}/edits.py", "rb") as it:
+        return hashlib.sha256(it.read()).hexdigest()
+
+
 def patched():
     """Returns rt as a module that tries the edits of a crate in batches."""
     rt = load_rt()
     alone, keeping, batches, by_name = rt.must_fail, threading.Lock(), set(), {}
+    by_batches = sum_of_batches()
 
     class Kept(rt.Kept):
         """What earlier runs passed, and what this one passes by rt's own code."""
@@ -27,9 +36,11 @@ def patched():
             super().__init__(*given)
             rt.kept = self
 
+        def tried(self, name):
+            return super().tried(name) or super().tried(f"{name}-{by_batches}")
+
         def keep_tried(self, name, kind, text):
-            if text not in batches:
-                super().keep_tried(name, kind, text)
+            super().keep_tried(f"{name}-{by_batches}" if text in batches else name, kind, text)
 
     def batches_of(crate):
         """Returns the crate's edits but those that an earlier run tried."""

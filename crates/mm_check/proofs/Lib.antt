@@ -4,4 +4,6 @@ pub mod Texts
 pub mod LimitRules
 pub mod Numbering
 pub mod EditionRules
+pub mod InTurn
+pub mod LimitParts
 pub mod Verdicts

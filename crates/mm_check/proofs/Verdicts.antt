@@ -1,97 +1,61 @@
 -- All rules in turn.
-use Rattle.std.proofs.Common.{◌≡◌, ◌↔◌, inl, inr, ℕ, ◌+◌, ◌<◌, ◌≤◌, ◌==◌, Bool, true, false, Some, None, Result, Ok, Err, refl, sym, subst, arith}
+use Rattle.std.proofs.Common.{◌≡◌, ◌↔◌, inl, inr, ℕ, ◌+◌, ◌<◌, ◌≤◌, Bool, true, false, Option, Some, None, Result, Ok, Err, refl, sym, subst, arith}
 use Rattle.std.specs.Prelude.{⊤}
-use Rattle.std.proofs.lemmas.Bool.{cases_Bool}
-use Rattle.std.proofs.lemmas.Bool.Decides.{nat_tests}
 use Rattle.sqlite.specs.State.{State, HasCleanDisk}
 use Rattle.mm_base.specs.Bounds.{Profile}
 use Rattle.mm_base.specs.Package.{Package}
 use Rattle.mm_base.specs.Rules.{Meets, Limits}
 use Rattle.mm_base.specs.declared.answers.Fault.{Fault}
-use Rattle.mm_store.proofs.Shapes.{quiet_then}
+use Rattle.mm_store.specs.Seen.{IsSeenAs}
 use Rattle.mm_rules.specs.Check.{IsCheck}
-use Rattle.mm_check.specs.Verdict.{rule, Before, IsVerified, HasPassed}
 use Rattle.mm_rules.proofs.Compose.{as_told, same_rule}
+use Rattle.mm_check.specs.InTurn.{HasPassed}
+use Rattle.mm_check.specs.Verdict.{rule, Before, IsVerdict, IsVerified}
+use Rattle.mm_check.proofs.InTurn.{none_below, one_more, first_passes, next_passes, still_shown, asked_alone, all_passed}
 
-one_more : (profile : Profile) (p : Package) (k : ℕ) → 1 ≤ k → Before profile k p → rule profile k p → Before profile (k + 1) p
-one_more profile p k low before here = (
-  before.0,
-  λ j from to. elim (cases_Bool (j == k)) [
-    | inl same ↦ subst (λ n. rule profile n p) (let e : k ≡ j = (let f = same in grind (arith, nat_tests)) in e) here
-    | inr other ↦ before.1 j from (let f = other in grind (arith, nat_tests))
-  ],
-)
+one_more_rule : (profile : Profile) (p : Package) (k : ℕ) → Before profile k p → rule profile k p → Before profile (k + 1) p
+one_more_rule profile p k before here = (before.0, one_more (rule profile) p k before.1 here)
 
 module _ (profile : Profile) (old new : State) where
-  pub limits_pass : (r : Result Bool Fault) {b : Bool} → r ≡ Ok b → b ≡ true → IsCheck profile old new (λ _. ⊤) (λ p. Limits profile p) r → HasPassed profile old new 1
+  -- a check that told of its rule, as the whole one
+  verified : (Rule : Package → Type 0) (b : Bool) (verdict : Option ℕ) → IsCheck profile old new (λ _. ⊤) Rule (Ok b) → (HasCleanDisk new → (p : Package) → IsSeenAs profile old p → IsVerdict profile p verdict) → IsVerified profile old new (Ok verdict)
+  verified Rule b verdict c says = record { mode = c.mode; survives = c.survives; is_open = c.is_open; seen = c.seen; settled = c.settled; says = says; faults = tt }
+
+  -- and one that failed
+  fails : (Known Rule : Package → Type 0) (r : Result Bool Fault) (fault : Fault) → r ≡ Err fault → IsCheck profile old new Known Rule r → IsVerified profile old new (Err fault)
+  fails Known Rule r fault is h =
+      let c = subst (IsCheck profile old new Known Rule) is h in
+      record { mode = c.mode; survives = c.survives; is_open = λ clean. tt; seen = c.seen; settled = c.settled; says = λ clean p s. tt; faults = c.faults }
+
+  pub limits_pass : (r : Result Bool Fault) {b : Bool} → r ≡ Ok b → b ≡ true → IsCheck profile old new (λ _. ⊤) (λ p. Limits profile p) r → HasPassed profile old new ⊤ (Before profile 1)
   unfolding rule
-  limits_pass r {b} is told h =
-      let c = as_told profile old new (λ _. ⊤) (λ p. Limits profile p) r b true is told h in
-      record { mode = c.mode; survives = c.survives; is_open = c.is_open; seen = c.seen; settled = c.settled; says = λ clean p s. ((c.says clean p s tt).0 refl, λ j from to. absurd (omega (arith, from, to))) }
+  limits_pass r is told h = first_passes profile old new ⊤ (Before profile 1) (λ p. Limits profile p) (λ p holds. (holds, none_below (rule profile) p)) r is told h
 
   pub limits_stop : (r : Result Bool Fault) {b : Bool} → r ≡ Ok b → b ≡ false → IsCheck profile old new (λ _. ⊤) (λ p. Limits profile p) r → IsVerified profile old new (Ok (Some 16))
   unfolding rule
   limits_stop r {b} is told h =
       let c = as_told profile old new (λ _. ⊤) (λ p. Limits profile p) r b false is told h in
-      record {
-        mode = c.mode;
-        survives = c.survives;
-        is_open = c.is_open;
-        seen = c.seen;
-        settled = c.settled;
-        says = λ clean p s. inl (refl, λ it. let e : false ≡ true = (c.says clean p s tt).1 it in absurd (let f : false ≡ true = e in cc));
-        faults = tt;
-      }
+      verified (λ p. Limits profile p) false (Some 16) c (λ clean p s. inl (refl, λ it. let e : false ≡ true = (c.says clean p s tt).1 it in absurd (let f : false ≡ true = e in cc)))
 
   pub limits_fail : (r : Result Bool Fault) (fault : Fault) → r ≡ Err fault → IsCheck profile old new (λ _. ⊤) (λ p. Limits profile p) r → IsVerified profile old new (Err fault)
-  limits_fail r fault is h =
-      let c = subst (IsCheck profile old new (λ _. ⊤) (λ p. Limits profile p)) is h in
-      record { mode = c.mode; survives = c.survives; is_open = λ clean. tt; seen = c.seen; settled = c.settled; says = λ clean p s. tt; faults = c.faults }
+  limits_fail r fault is h = fails (λ _. ⊤) (λ p. Limits profile p) r fault is h
 
-module _ (profile : Profile) (old mid new : State) (k : ℕ) (low : 1 ≤ k) (high : k < 16) (so_far : HasPassed profile old mid k) where
-  pub next_passes : (r : Result Bool Fault) {b : Bool} → r ≡ Ok b → b ≡ true → IsCheck profile mid new (Before profile k) (rule profile k) r → HasPassed profile old new (k + 1)
-  next_passes r {b} is told h =
-      let c = as_told profile mid new (Before profile k) (rule profile k) r b true is told h in
-      record {
-        mode = λ idle. c.mode (so_far.mode idle);
-        survives = quiet_then old mid new so_far.survives c.survives;
-        is_open = c.is_open;
-        seen = λ clean p s. c.seen clean p (so_far.seen (omega (arith, c.survives.clean)) p s);
-        settled = λ clean p s. c.settled clean p (so_far.settled (omega (arith, c.survives.clean)) p s);
-        says = λ clean p s.
-            let early : HasCleanDisk mid = omega (arith, c.survives.clean) in
-            let before = so_far.says early p s in
-            one_more profile p k low before ((c.says clean p (so_far.seen early p s) before).0 refl);
-      }
+module _ (profile : Profile) (old mid new : State) (k : ℕ) (low : 1 ≤ k) (high : k < 16) (so_far : HasPassed profile old mid ⊤ (Before profile k)) where
+  pub rule_passes : (r : Result Bool Fault) {b : Bool} → r ≡ Ok b → b ≡ true → IsCheck profile mid new (Before profile k) (rule profile k) r → HasPassed profile old new ⊤ (Before profile (k + 1))
+  rule_passes r is told h = next_passes profile old mid new ⊤ (Before profile k) (Before profile k) (rule profile k) (λ p before. before) so_far (Before profile (k + 1)) ⊤ (λ p before here. one_more_rule profile p k before here) r is told h
 
-  pub next_stops : (r : Result Bool Fault) {b : Bool} → r ≡ Ok b → b ≡ false → IsCheck profile mid new (Before profile k) (rule profile k) r → IsVerified profile old new (Ok (Some k))
-  next_stops r {b} is told h =
-      let c = as_told profile mid new (Before profile k) (rule profile k) r b false is told h in
-      record {
-        mode = λ idle. c.mode (so_far.mode idle);
-        survives = quiet_then old mid new so_far.survives c.survives;
-        is_open = c.is_open;
-        seen = λ clean p s. c.seen clean p (so_far.seen (omega (arith, c.survives.clean)) p s);
-        settled = λ clean p s. c.settled clean p (so_far.settled (omega (arith, c.survives.clean)) p s);
-        says = λ clean p s.
-            let early : HasCleanDisk mid = omega (arith, c.survives.clean) in
-            let before = so_far.says early p s in
-            inr (low, high, before, λ it. let e : false ≡ true = (c.says clean p (so_far.seen early p s) before).1 it in absurd (let f : false ≡ true = e in cc));
-        faults = tt;
-      }
+  alone : (r : Result Bool Fault) → IsCheck profile mid new (Before profile k) (rule profile k) r → IsCheck profile old new (λ _. ⊤) (rule profile k) r
+  alone r h = asked_alone profile old mid new ⊤ (Before profile k) (Before profile k) (rule profile k) (λ p before. before) so_far r h
 
-  pub next_fails : (r : Result Bool Fault) (fault : Fault) → r ≡ Err fault → IsCheck profile mid new (Before profile k) (rule profile k) r → IsVerified profile old new (Err fault)
-  next_fails r fault is h =
-      let c = subst (IsCheck profile mid new (Before profile k) (rule profile k)) is h in
-      record {
-        mode = λ idle. c.mode (so_far.mode idle);
-        survives = quiet_then old mid new so_far.survives c.survives;
-        is_open = c.is_open;
-        seen = λ clean p s. c.seen clean p (so_far.seen (omega (arith, c.survives.clean)) p s);
-        settled = λ clean p s. c.settled clean p (so_far.settled (omega (arith, c.survives.clean)) p s);
-        says = λ clean p s. tt;
-        faults = c.faults;
-      }
+  pub rule_stops : (r : Result Bool Fault) {b : Bool} → r ≡ Ok b → b ≡ false → IsCheck profile mid new (Before profile k) (rule profile k) r → IsVerified profile old new (Ok (Some k))
+  rule_stops r {b} is told h =
+      let c = as_told profile old new (λ _. ⊤) (rule profile k) r b false is told (alone r h) in
+      verified profile old new (rule profile k) false (Some k) c (λ clean p s.
+      let before = still_shown profile old mid new ⊤ (Before profile k) (Before profile k) (rule profile k) (λ p before. before) so_far r h clean p s in
+      inr (low, high, before, λ it. let e : false ≡ true = (c.says clean p s tt).1 it in absurd (let f : false ≡ true = e in cc)))
+
+  pub rule_fails : (r : Result Bool Fault) (fault : Fault) → r ≡ Err fault → IsCheck profile mid new (Before profile k) (rule profile k) r → IsVerified profile old new (Err fault)
+  rule_fails r fault is h = fails profile old new (λ _. ⊤) (rule profile k) r fault is (alone r h)
 
 each_meets : (profile : Profile) (p : Package) → Before profile 16 p → Meets profile p
 unfolding rule
@@ -115,11 +79,11 @@ each_meets profile p t = record {
 }
 
 -- each has passed
-pub all_pass : (profile : Profile) (old new : State) (k : ℕ) → k ≡ 16 → HasPassed profile old new k → IsVerified profile old new (Ok None)
-all_pass profile old new k is passed = whole (subst (HasPassed profile old new) is passed)
-  where
-    whole : HasPassed profile old new 16 → IsVerified profile old new (Ok None)
-    whole h = record { mode = h.mode; survives = h.survives; is_open = h.is_open; seen = h.seen; settled = h.settled; says = λ clean p s. each_meets profile p (h.says clean p s); faults = tt }
+pub all_pass : (profile : Profile) (old new : State) (k : ℕ) → k ≡ 16 → HasPassed profile old new ⊤ (Before profile k) → IsVerified profile old new (Ok None)
+all_pass profile old new k is passed =
+    let h = subst (λ n. HasPassed profile old new ⊤ (Before profile n)) is passed in
+    let c = all_passed profile old new ⊤ (Before profile 16) (Before profile 16) tt (λ p. (λ before. before, λ before. before)) h in
+    verified profile old new (Before profile 16) true None c (λ clean p s. each_meets profile p (h.says clean p s))
 
 pub as_rule : (profile : Profile) (old new : State) (Known : Package → Type 0) (Rule : Package → Type 0) (k n : ℕ) → k ≡ n → ((p : Package) → Before profile n p → Known p) → ((p : Package) → Rule p ↔ rule profile n p) → (r : Result Bool Fault) → IsCheck profile old new Known Rule r
     → IsCheck profile old new (Before profile k) (rule profile k) r

@@ -1,3 +1,4 @@
+pub mod InTurn
 pub mod LimitRows
 pub mod PieceRows
 pub mod Verdict

@@ -1,5 +1,5 @@
 -- What rule 16 asks of the columns of a row, and of each part of a package.
-use Rattle.std.specs.Prelude.{◌≡◌, ℤ, List, [], ℕ, Option, Some, IfSome, MatchOption}
+use Rattle.std.specs.Prelude.{◌≡◌, ◌==◌, ℤ, List, [], ℕ, Option, Some, IfSome, MatchOption}
 use Rattle.std.specs.Str.{IsUtf8}
 use Rattle.sqlite.specs.Order.{Row, column}
 use Rattle.sqlite.specs.declared.types.Value.{Value}
@@ -9,6 +9,7 @@ use Rattle.mm_base.specs.Package.{Package}
 use Rattle.mm_base.specs.Rules.{AreSystemNumbers, SystemWithin, ContentsWithin, KindWithin, SetWithin, MatrixWithin, ExtensionWithin, TileWithin, RowWithin, MediumWithin, RelationWithin, PairingWithin, EditionWithin, PieceWithin}
 use Rattle.mm_base.specs.Stamp.{IsSomeStamp}
 use Rattle.mm_rules.specs.Columns.{number_of, words_of, bytes_of}
+use Rattle.mm_check.specs.InTurn.{either}
 
 -- ---- a column
 -- it holds a text, which is UTF-8 and meets P
@@ -192,46 +193,19 @@ EditionsAreWithin p = Each p.editions EditionWithin
 abbrev pub PiecesAreWithin : Package → Type 0
 PiecesAreWithin p = Each p.pieces PieceWithin
 
--- a part and all parts after it
-abbrev pub FromEditions : Package → Type 0
-FromEditions p = EditionsAreWithin p × PiecesAreWithin p
-
--- the mapping rows and all after them
-abbrev pub FromPairings : Package → Type 0
-FromPairings p = PairingsAreWithin p × FromEditions p
-
--- the relations and all after them
-abbrev pub FromRelations : Package → Type 0
-FromRelations p = RelationsAreWithin p × FromPairings p
-
--- the media and all after them
-abbrev pub FromMedia : Package → Type 0
-FromMedia p = MediaAreWithin p × FromRelations p
-
--- the attribute rows and all after them
-abbrev pub FromRows : Package → Type 0
-FromRows p = RowsAreWithin p × FromMedia p
-
--- the tiles and all after them
-abbrev pub FromTiles : Package → Type 0
-FromTiles p = TilesAreWithin p × FromRows p
-
--- the extension rows and all after them
-abbrev pub FromExtensions : Package → Type 0
-FromExtensions p = ExtensionsAreWithin p × FromTiles p
-
--- the matrices and all after them
-abbrev pub FromMatrices : Profile → Package → Type 0
-FromMatrices profile p = MatricesAreWithin profile p × FromExtensions p
-
--- the matrix sets and all after them
-abbrev pub FromSets : Profile → Package → Type 0
-FromSets profile p = SetsAreWithin profile p × FromMatrices profile p
-
--- the registry and all after it
-abbrev pub FromKinds : Profile → Package → Type 0
-FromKinds profile p = KindsAreWithin p × FromSets profile p
-
--- the contents rows and all after them: all parts but the reference systems
-abbrev pub FromContents : Profile → Package → Type 0
-FromContents profile p = ContentsAreWithin profile p × FromKinds profile p
+-- part k, from 1 to 12; each other number is 13
+unfoldable pub part : Profile → ℕ → Package → Type 0
+part profile k p =
+    either (k == 1) (SystemsAreWithin p)
+    (either (k == 2) (ContentsAreWithin profile p)
+    (either (k == 3) (KindsAreWithin p)
+    (either (k == 4) (SetsAreWithin profile p)
+    (either (k == 5) (MatricesAreWithin profile p)
+    (either (k == 6) (ExtensionsAreWithin p)
+    (either (k == 7) (TilesAreWithin p)
+    (either (k == 8) (RowsAreWithin p)
+    (either (k == 9) (MediaAreWithin p)
+    (either (k == 10) (RelationsAreWithin p)
+    (either (k == 11) (PairingsAreWithin p)
+    (either (k == 12) (EditionsAreWithin p)
+    (PiecesAreWithin p))))))))))))

@@ -1,5 +1,5 @@
 -- Which rule a package breaks first, and what the whole check answers.
-use Rattle.std.specs.Prelude.{◌≡◌, ◌⊎◌, ℕ, ◌≤◌, ◌<◌, ◌==◌, Bool, true, false, Option, Some, None, Result, IfOk, IfErr, OnOk, IsTrue}
+use Rattle.std.specs.Prelude.{◌≡◌, ◌⊎◌, ℕ, ◌≤◌, ◌<◌, ◌==◌, false, Option, Some, None, Result, IfOk, IfErr, OnOk, IsTrue}
 use Rattle.sqlite.specs.State.{State, HasCleanDisk}
 use Rattle.mm_base.specs.Bounds.{Profile}
 use Rattle.mm_base.specs.Package.{Package}
@@ -9,11 +9,7 @@ use Rattle.mm_store.specs.Faults.{IsStoreFault}
 use Rattle.mm_store.specs.Seen.{IsSeenAs}
 use Rattle.mm_store.specs.Stands.{IsSettled}
 use Rattle.mm_store.specs.Statements.{CommitsNothing}
-
--- the first of two where the test is true, else the second
-abbrev pub either : Bool → Type 0 → Type 0 → Type 0
-either true A B = A
-either false A B = B
+use Rattle.mm_check.specs.InTurn.{either, HoldsBelow}
 
 -- rule k, from 1 to 15; each other number is 16
 unfoldable pub rule : Profile → ℕ → Package → Type 0
@@ -37,7 +33,7 @@ rule profile k p =
 
 -- rule 16 holds, and each from 1 to k - 1
 abbrev pub Before : Profile → ℕ → Package → Type 0
-Before profile k p = rule profile 16 p × ((j : ℕ) → 1 ≤ j → j < k → rule profile j p)
+Before profile k p = rule profile 16 p × HoldsBelow (rule profile) k p
 
 -- 16 where rule 16 fails, else the least that fails
 abbrev pub IsFailing : Profile → Package → ℕ → Type 0
@@ -58,12 +54,3 @@ pub record IsVerified (profile : Profile) (old new : State) (result : Result (Op
   pub settled : HasCleanDisk new → (p : Package) → IsSettled profile old p → IsSettled profile new p
   pub says : HasCleanDisk new → (p : Package) → IsSeenAs profile old p → IfOk result (IsVerdict profile p)
   pub faults : IfErr result IsStoreFault
-
--- so far each rule holds, and the store is open
-pub record HasPassed (profile : Profile) (old now : State) (k : ℕ) : Type 0 where
-  pub mode : old.in_transaction ≡ false → now.in_transaction ≡ false
-  pub survives : CommitsNothing old now
-  pub is_open : HasCleanDisk now → IsTrue now.is_open
-  pub seen : HasCleanDisk now → (p : Package) → IsSeenAs profile old p → IsSeenAs profile now p
-  pub settled : HasCleanDisk now → (p : Package) → IsSettled profile old p → IsSettled profile now p
-  pub says : HasCleanDisk now → (p : Package) → IsSeenAs profile old p → Before profile k p

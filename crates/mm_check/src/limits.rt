@@ -1,6 +1,6 @@
 //! Rule 16: every name, number, text and length is within its limits. A text that is no UTF-8 is within none.
 
-ghost use Rattle.std.specs.Prelude.{⊤, ◌≡◌, ◌↔◌, ◌⊎◌, Some, None, IfSome, IsTrue, MatchOption, pos};
+ghost use Rattle.std.specs.Prelude.{⊤, ◌≡◌, ◌≤◌, ◌<◌, ◌↔◌, ◌⊎◌, Some, None, IfSome, IsTrue, MatchOption, pos};
 ghost use Rattle.std.specs.Str.{IsUtf8};
 ghost use Rattle.sqlite.specs.Order.{column};
 ghost use Rattle.sqlite.specs.Held.{state};
@@ -11,7 +11,7 @@ ghost use Rattle.mm_base.specs.Stamp.{IsSomeStamp};
 ghost use Rattle.mm_rules.specs.Check.{IsCheck};
 ghost use Rattle.mm_rules.specs.Columns.{number_of, words_of};
 ghost use Rattle.mm_base.specs.Units.{profile_of};
-ghost use Rattle.mm_check.specs.LimitRows.{text_by, text_if_any, number_by, number_if_any, bytes_by, numbers_by, IsSystemWithinRow, IsContentsWithinRow, IsKindWithinRow, IsSetWithinRow, IsMatrixWithinRow, IsExtensionWithinRow, IsTileWithinRow, IsAttributeWithinRow, IsMediumWithinRow, IsRelationWithinRow, IsPairingWithinRow, IsEditionWithinRow, IsPieceWithinRow, SystemsAreWithin, ContentsAreWithin, KindsAreWithin, SetsAreWithin, MatricesAreWithin, ExtensionsAreWithin, TilesAreWithin, RowsAreWithin, MediaAreWithin, RelationsAreWithin, PairingsAreWithin, EditionsAreWithin, PiecesAreWithin, FromContents, FromKinds, FromSets, FromMatrices, FromExtensions, FromTiles, FromRows, FromMedia, FromRelations, FromPairings, FromEditions};
+ghost use Rattle.mm_check.specs.LimitRows.{text_by, text_if_any, number_by, number_if_any, bytes_by, numbers_by, IsSystemWithinRow, IsContentsWithinRow, IsKindWithinRow, IsSetWithinRow, IsMatrixWithinRow, IsExtensionWithinRow, IsTileWithinRow, IsAttributeWithinRow, IsMediumWithinRow, IsRelationWithinRow, IsPairingWithinRow, IsEditionWithinRow, IsPieceWithinRow, SystemsAreWithin, ContentsAreWithin, KindsAreWithin, SetsAreWithin, MatricesAreWithin, ExtensionsAreWithin, TilesAreWithin, RowsAreWithin, MediaAreWithin, RelationsAreWithin, PairingsAreWithin, EditionsAreWithin, PiecesAreWithin, part};
 
 use mm_base::answers::Fault;
 use mm_base::content_types::is_content_type;
@@ -562,124 +562,27 @@ pub fn pieces_within<S: Alter>(conn: &mut Connection<S>) -> Result<bool, Fault>
     )
 }
 
-/// Of rule 16, what it asks of editions and of the parts after them.
-fn from_editions<S: Alter>(conn: &mut Connection<S>) -> Result<bool, Fault>
-    ensures { (profile : Profile) → IsCheck profile (state S.Store conn.old) (state S.Store conn.new) (λ _. ⊤) (λ p. FromEditions p) result }
+/// Part k of rule 16, of those from 1 to 13: what it asks of one table.
+fn one_limit<S: Alter>(conn: &mut Connection<S>, unit: Unit, k: u8) -> Result<bool, Fault>
+    requires low { 1 ≤ k }
+    requires high { k < 14 }
+    ensures { IsCheck (profile_of unit) (state S.Store conn.old) (state S.Store conn.new) (λ _. ⊤) (part (profile_of unit) k) result }
 {
-    match editions_within(conn) {
-        Ok(true) => pieces_within(conn),
-        Ok(false) => Ok(false),
-        Err(fault) => Err(fault),
-    }
-}
-
-/// Of rule 16, what it asks of mapping rows and of the parts after them.
-fn from_pairings<S: Alter>(conn: &mut Connection<S>) -> Result<bool, Fault>
-    ensures { (profile : Profile) → IsCheck profile (state S.Store conn.old) (state S.Store conn.new) (λ _. ⊤) (λ p. FromPairings p) result }
-{
-    match pairings_within(conn) {
-        Ok(true) => from_editions(conn),
-        Ok(false) => Ok(false),
-        Err(fault) => Err(fault),
-    }
-}
-
-/// Of rule 16, what it asks of relations and of the parts after them.
-fn from_relations<S: Alter>(conn: &mut Connection<S>) -> Result<bool, Fault>
-    ensures { (profile : Profile) → IsCheck profile (state S.Store conn.old) (state S.Store conn.new) (λ _. ⊤) (λ p. FromRelations p) result }
-{
-    match relations_within(conn) {
-        Ok(true) => from_pairings(conn),
-        Ok(false) => Ok(false),
-        Err(fault) => Err(fault),
-    }
-}
-
-/// Of rule 16, what it asks of media and of the parts after them.
-fn from_media<S: Alter>(conn: &mut Connection<S>) -> Result<bool, Fault>
-    ensures { (profile : Profile) → IsCheck profile (state S.Store conn.old) (state S.Store conn.new) (λ _. ⊤) (λ p. FromMedia p) result }
-{
-    match media_within(conn) {
-        Ok(true) => from_relations(conn),
-        Ok(false) => Ok(false),
-        Err(fault) => Err(fault),
-    }
-}
-
-/// Of rule 16, what it asks of attribute rows and of the parts after them.
-fn from_rows<S: Alter>(conn: &mut Connection<S>) -> Result<bool, Fault>
-    ensures { (profile : Profile) → IsCheck profile (state S.Store conn.old) (state S.Store conn.new) (λ _. ⊤) (λ p. FromRows p) result }
-{
-    match rows_within(conn) {
-        Ok(true) => from_media(conn),
-        Ok(false) => Ok(false),
-        Err(fault) => Err(fault),
-    }
-}
-
-/// Of rule 16, what it asks of tiles and of the parts after them.
-fn from_tiles<S: Alter>(conn: &mut Connection<S>) -> Result<bool, Fault>
-    ensures { (profile : Profile) → IsCheck profile (state S.Store conn.old) (state S.Store conn.new) (λ _. ⊤) (λ p. FromTiles p) result }
-{
-    match tiles_within(conn) {
-        Ok(true) => from_rows(conn),
-        Ok(false) => Ok(false),
-        Err(fault) => Err(fault),
-    }
-}
-
-/// Of rule 16, what it asks of extension rows and of the parts after them.
-fn from_extensions<S: Alter>(conn: &mut Connection<S>) -> Result<bool, Fault>
-    ensures { (profile : Profile) → IsCheck profile (state S.Store conn.old) (state S.Store conn.new) (λ _. ⊤) (λ p. FromExtensions p) result }
-{
-    match extensions_within(conn) {
-        Ok(true) => from_tiles(conn),
-        Ok(false) => Ok(false),
-        Err(fault) => Err(fault),
-    }
-}
-
-/// Of rule 16, what it asks of matrices and of the parts after them.
-fn from_matrices<S: Alter>(conn: &mut Connection<S>, unit: Unit) -> Result<bool, Fault>
-    ensures { IsCheck (profile_of unit) (state S.Store conn.old) (state S.Store conn.new) (λ _. ⊤) (λ p. FromMatrices (profile_of unit) p) result }
-{
-    match matrices_within(conn, unit) {
-        Ok(true) => from_extensions(conn),
-        Ok(false) => Ok(false),
-        Err(fault) => Err(fault),
-    }
-}
-
-/// Of rule 16, what it asks of matrix sets and of the parts after them.
-fn from_sets<S: Alter>(conn: &mut Connection<S>, unit: Unit) -> Result<bool, Fault>
-    ensures { IsCheck (profile_of unit) (state S.Store conn.old) (state S.Store conn.new) (λ _. ⊤) (λ p. FromSets (profile_of unit) p) result }
-{
-    match sets_within(conn, unit) {
-        Ok(true) => from_matrices(conn, unit),
-        Ok(false) => Ok(false),
-        Err(fault) => Err(fault),
-    }
-}
-
-/// Of rule 16, what it asks of the registry and of the parts after them.
-fn from_kinds<S: Alter>(conn: &mut Connection<S>, unit: Unit) -> Result<bool, Fault>
-    ensures { IsCheck (profile_of unit) (state S.Store conn.old) (state S.Store conn.new) (λ _. ⊤) (λ p. FromKinds (profile_of unit) p) result }
-{
-    match kinds_within(conn) {
-        Ok(true) => from_sets(conn, unit),
-        Ok(false) => Ok(false),
-        Err(fault) => Err(fault),
-    }
-}
-
-/// Of rule 16, what it asks of contents and of the parts after them.
-fn from_contents<S: Alter>(conn: &mut Connection<S>, unit: Unit) -> Result<bool, Fault>
-    ensures { IsCheck (profile_of unit) (state S.Store conn.old) (state S.Store conn.new) (λ _. ⊤) (λ p. FromContents (profile_of unit) p) result }
-{
-    match contents_within(conn, unit) {
-        Ok(true) => from_kinds(conn, unit),
-        Ok(false) => Ok(false),
-        Err(fault) => Err(fault),
+    match k {
+        1 => systems_within(conn),
+        2 => contents_within(conn, unit),
+        3 => kinds_within(conn),
+        4 => sets_within(conn, unit),
+        5 => matrices_within(conn, unit),
+        6 => extensions_within(conn),
+        7 => tiles_within(conn),
+        8 => rows_within(conn),
+        9 => media_within(conn),
+        10 => relations_within(conn),
+        11 => pairings_within(conn),
+        12 => editions_within(conn),
+        13 => pieces_within(conn),
+        _ => unreachable!(),
     }
 }
 
@@ -687,9 +590,12 @@ fn from_contents<S: Alter>(conn: &mut Connection<S>, unit: Unit) -> Result<bool,
 pub fn limits<S: Alter>(conn: &mut Connection<S>, unit: Unit) -> Result<bool, Fault>
     ensures { IsCheck (profile_of unit) (state S.Store conn.old) (state S.Store conn.new) (λ _. ⊤) (λ p. Limits (profile_of unit) p) result }
 {
-    match systems_within(conn) {
-        Ok(true) => from_contents(conn, unit),
-        Ok(false) => Ok(false),
-        Err(fault) => Err(fault),
+    'parts: for k in 1..14u8 {
+        match one_limit(conn, unit, k) {
+            Ok(true) => {}
+            Ok(false) => return Ok(false),
+            Err(fault) => return Err(fault),
+        }
     }
+    Ok(true)
 }

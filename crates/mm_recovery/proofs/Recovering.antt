@@ -9,7 +9,8 @@ use Rattle.mm_base.specs.Package.{Package}
 use Rattle.mm_base.specs.Rules.{Meets}
 use Rattle.mm_base.specs.declared.answers.Open.{Open}
 use Rattle.mm_base.specs.declared.answers.Open.TheVariants as opens
-use Rattle.mm_check.specs.Verdict.{either, rule, IsFailing}
+use Rattle.mm_check.specs.Verdict.{rule, IsFailing}
+use Rattle.mm_check.proofs.InTurn.{either_holds}
 use Rattle.mm_core.specs.Adopted.{IsAdopted, IsNotAdopted, Declines}
 use Rattle.mm_core.specs.Applied.{Stands}
 use Rattle.mm_base.specs.Runs.{run}
@@ -27,10 +28,6 @@ use Rattle.mm_recovery.specs.Recovered.{IsRecovered, IsReopened, IsMakingRecover
 use Rattle.sqlite.specs.Held.{Held}
 use Rattle.sqlite_store.specs.declared.store.FileStore.{FileStore}
 use Rattle.sqlite_disk.specs.declared.Disk.{Ghosts}
-
-either_holds : (b : Bool) (A B : Type 0) → A → B → either b A B
-either_holds true A B a b = a
-either_holds false A B a b = b
 
 -- a package that meets the rules breaks none
 rule_holds : (p : Package) (k : ℕ) → Meets current p → rule current k p

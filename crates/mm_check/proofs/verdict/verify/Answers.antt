@@ -1,7 +1,7 @@
 use Rattle.std.proofs.Common.{◌≡◌, ◌≤◌, arith}
 use Rattle.sqlite.specs.Held.{state}
 use Rattle.mm_base.specs.Units.{profile_of}
-use Rattle.mm_check.proofs.Verdicts.{limits_pass, limits_stop, limits_fail, next_passes, next_stops, next_fails, all_pass}
+use Rattle.mm_check.proofs.Verdicts.{limits_pass, limits_stop, limits_fail, rule_passes, rule_stops, rule_fails, all_pass}
 use Rattle.mm_check.proofs.verdict.verify.Goals as goal
 
 pub returns-in-Ok-false : goal.returns-in-Ok-false
@@ -15,15 +15,15 @@ rules-init g c = limits_pass (profile_of c.args.unit) (state g.S.Store c.args.co
 
 pub returns-in-Ok-false-one_rule : goal.returns-in-Ok-false-one_rule
 returns-in-Ok-false-one_rule g c =
-    next_stops (profile_of c.args.unit) (state g.S.Store c.args.conn.now) (state g.S.Store c.rules.conn) (state g.S.Store c.one_rule.new.conn) c.rules.k c.rules.auto.k c.rules-test.true c.rules.invariant c.one_rule.result c.in-Ok-false-one_rule.is c.in-Ok-false-one_rule.field-0-test c.one_rule.ensures
+    rule_stops (profile_of c.args.unit) (state g.S.Store c.args.conn.now) (state g.S.Store c.rules.conn) (state g.S.Store c.one_rule.new.conn) c.rules.k c.rules.auto.k c.rules-test.true c.rules.invariant c.one_rule.result c.in-Ok-false-one_rule.is c.in-Ok-false-one_rule.field-0-test c.one_rule.ensures
 
 pub returns-in-Err-one_rule : goal.returns-in-Err-one_rule
 returns-in-Err-one_rule g c =
-    next_fails (profile_of c.args.unit) (state g.S.Store c.args.conn.now) (state g.S.Store c.rules.conn) (state g.S.Store c.one_rule.new.conn) c.rules.k c.rules.auto.k c.rules-test.true c.rules.invariant c.one_rule.result c.in-Err-one_rule.fault c.in-Err-one_rule.is c.one_rule.ensures
+    rule_fails (profile_of c.args.unit) (state g.S.Store c.args.conn.now) (state g.S.Store c.rules.conn) (state g.S.Store c.one_rule.new.conn) c.rules.k c.rules.auto.k c.rules-test.true c.rules.invariant c.one_rule.result c.in-Err-one_rule.fault c.in-Err-one_rule.is c.one_rule.ensures
 
 pub rules-preserved : goal.rules-preserved
 rules-preserved g c =
-    next_passes (profile_of c.args.unit) (state g.S.Store c.args.conn.now) (state g.S.Store c.rules.conn) (state g.S.Store c.one_rule.new.conn) c.rules.k c.rules.auto.k c.rules-test.true c.rules.invariant c.one_rule.result c.in-Ok-true-one_rule.is c.in-Ok-true-one_rule.field-0-test c.one_rule.ensures
+    rule_passes (profile_of c.args.unit) (state g.S.Store c.args.conn.now) (state g.S.Store c.rules.conn) (state g.S.Store c.one_rule.new.conn) c.rules.k c.rules.auto.k c.rules-test.true c.rules.invariant c.one_rule.result c.in-Ok-true-one_rule.is c.in-Ok-true-one_rule.field-0-test c.one_rule.ensures
 
 pub returns : goal.returns
 returns g c =

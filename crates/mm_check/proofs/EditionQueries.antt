@@ -10,7 +10,7 @@ use Rattle.mm_walk.specs.RowTests.{IsQuery}
 use Rattle.mm_schema.specs.Tables.{schema}
 use Rattle.mm_rules.specs.Texts as text
 use Rattle.mm_walk.proofs.Quiet.{IsQuiet}
-use Rattle.mm_rules.proofs.Terms.{equals, follows}
+use Rattle.mm_queries.proofs.Terms.{equals, follows}
 
 pub edition_states : IsQuery schema text.edition_states (inner 23 end) [] (col 1 2 ∷ [])
     ((col 1 1, ascending Binary) ∷ []) (codes "state" ∷ [])

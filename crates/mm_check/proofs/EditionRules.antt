@@ -29,17 +29,17 @@ use Rattle.mm_store.specs.Blobs.{Shelf, AreBlobs, StandsAt}
 use Rattle.mm_store.specs.Blobs.{Blob as Kept}
 use Rattle.mm_store.specs.Kept.{piece_id, piece_with}
 use Rattle.mm_blobs.proofs.Naming.{told_there}
-use Rattle.mm_rules.specs.Columns.{is_there}
-use Rattle.mm_check.specs.LimitRows.{bytes_by}
+use Rattle.mm_queries.specs.Columns.{is_there}
+use Rattle.mm_limits.specs.LimitRows.{bytes_by}
 use Rattle.mm_check.specs.PieceRows.{IsContent, IsMatrix, IsStateRow, IsOpenRow, IsNumberedRow, IsSpelledRow, IsPut, IsDrop}
 use Rattle.mm_rules.specs.Parts.{EditionStates, PiecesOfOpen, PiecesNumbered, PiecesSpelled}
-use Rattle.mm_rules.proofs.Joined.{after_rowid, covered, each_row, joined}
-use Rattle.mm_rules.proofs.Named.{also, each_named, data_of, joined_blob}
-use Rattle.mm_rules.proofs.Keys.{name_is, texts_are, ints_are, same}
+use Rattle.mm_queries.proofs.Joined.{after_rowid, covered, each_row, joined}
+use Rattle.mm_queries.proofs.Named.{also, each_named, data_of, joined_blob}
+use Rattle.mm_queries.proofs.Keys.{name_is, texts_are, ints_are, same}
 use Rattle.mm_check.proofs.Numbering.{numbered, follows_from}
-use Rattle.mm_rules.proofs.Terms.{equals, follows}
-use Rattle.mm_check.proofs.Texts.{name_utf8, content_type_utf8}
-use Rattle.mm_rules.proofs.Checks.{Says}
+use Rattle.mm_queries.proofs.Terms.{equals, follows}
+use Rattle.mm_limits.proofs.Texts.{name_utf8, content_type_utf8}
+use Rattle.mm_queries.proofs.Checks.{Says}
 
 number_inside : {x y : ℤ} → ◌≡◌ {A = Option ℤ} (Some x) (Some y) → x ≡ y
 number_inside e = cc

@@ -1,9 +1,4 @@
-pub mod LimitQueries
 pub mod EditionQueries
-pub mod Texts
-pub mod LimitRules
 pub mod Numbering
 pub mod EditionRules
-pub mod InTurn
-pub mod LimitParts
 pub mod Verdicts

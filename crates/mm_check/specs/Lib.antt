@@ -1,4 +1,2 @@
-pub mod InTurn
-pub mod LimitRows
 pub mod PieceRows
 pub mod Verdict

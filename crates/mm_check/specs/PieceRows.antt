@@ -2,8 +2,8 @@
 use Rattle.std.specs.Prelude.{◌≡◌, ◌⊎◌, ℕ, pos, false, List, [], codes, Some, IsTrue}
 use Rattle.sqlite.specs.Order.{Row, column}
 use Rattle.mm_base.specs.Bounds.{Profile, IsMatrixSide, IsTileSide, IsPixelSize, IsFrom, MostPieces, IsName, IsZoom, IsTilePlace, IsId, IsAmount, IsRemark, IsContentType, IsTileBytes, IsMediaBytes}
-use Rattle.mm_rules.specs.Columns.{number_of, words_of, is_there}
-use Rattle.mm_check.specs.LimitRows.{text_by, number_by, bytes_by}
+use Rattle.mm_queries.specs.Columns.{number_of, words_of, is_there}
+use Rattle.mm_limits.specs.LimitRows.{text_by, number_by, bytes_by}
 
 -- the state of an edition, which is open or published
 abbrev pub IsStateRow : Row → Type 0

@@ -2,11 +2,9 @@
 //!
 //! - `verdict`: `verify`, all rules in turn.
 //! - `editions`: rule 15.
-//! - `limits`: rule 16.
 #![tactic(auto)]
 
 pub mod editions;
-pub mod limits;
 pub mod verdict;
 
 pub use verdict::verify;

@@ -2,13 +2,14 @@
 
 ghost use Rattle.std.specs.Prelude.{◌≤◌, ◌<◌};
 ghost use Rattle.sqlite.specs.Held.{state};
-ghost use Rattle.mm_rules.specs.Check.{IsCheck};
+ghost use Rattle.mm_queries.specs.Check.{IsCheck};
 ghost use Rattle.mm_base.specs.Units.{profile_of};
 ghost use Rattle.mm_check.specs.Verdict.{rule, Before, IsVerified};
 
-use crate::{editions, limits};
+use crate::editions;
 use mm_base::answers::Fault;
 use mm_base::units::Unit;
+use mm_limits::limits;
 use mm_rules::{contents, extensions, items, matrices, systems, tiles};
 use sqlite::{Alter, Connection};
 
@@ -44,7 +45,7 @@ fn one_rule<S: Alter>(conn: &mut Connection<S>, unit: Unit, k: u8) -> Result<boo
 pub fn verify<S: Alter>(conn: &mut Connection<S>, unit: Unit) -> Result<Option<u8>, Fault>
     ensures { IsVerified (profile_of unit) (state S.Store conn.old) (state S.Store conn.new) result }
 {
-    match limits::limits(conn, unit) {
+    match limits(conn, unit) {
         Ok(true) => {}
         Ok(false) => return Ok(Some(16)),
         Err(fault) => return Err(fault),

@@ -10,7 +10,7 @@ use Rattle.mm_base.specs.Rules.{Meets}
 use Rattle.mm_base.specs.declared.answers.Open.{Open}
 use Rattle.mm_base.specs.declared.answers.Open.TheVariants as opens
 use Rattle.mm_check.specs.Verdict.{rule, IsFailing}
-use Rattle.mm_check.proofs.InTurn.{either_holds}
+use Rattle.mm_queries.proofs.InTurn.{either_holds}
 use Rattle.mm_core.specs.Adopted.{IsAdopted, IsNotAdopted, Declines}
 use Rattle.mm_core.specs.Applied.{Stands}
 use Rattle.mm_base.specs.Runs.{run}

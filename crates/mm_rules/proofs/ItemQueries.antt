@@ -10,7 +10,7 @@ use Rattle.mm_walk.specs.RowTests.{IsQuery}
 use Rattle.mm_schema.specs.Tables.{schema}
 use Rattle.mm_rules.specs.Texts as text
 use Rattle.mm_walk.proofs.Quiet.{IsQuiet}
-use Rattle.mm_rules.proofs.Terms.{equals}
+use Rattle.mm_queries.proofs.Terms.{equals}
 
 pub rows_in_tables : IsQuery schema text.rows_in_tables (inner 17 (left 13 (equals 2 1 1 1 ∷ []) end)) [] (col 2 2 ∷ [])
     ((col 1 1, ascending Binary) ∷ (col 1 2, ascending Binary) ∷ []) (codes "kind" ∷ [])

@@ -1,15 +1,8 @@
-pub mod Terms
 pub mod MatrixQueries
 pub mod ContentsQueries
 pub mod ItemQueries
 pub mod SystemQueries
 pub mod ExtensionQueries
-pub mod Joined
-pub mod Checks
-pub mod Compose
-pub mod Keys
-pub mod Named
-pub mod Counted
 pub mod TileRules
 pub mod MatrixRules
 pub mod ContentsRules

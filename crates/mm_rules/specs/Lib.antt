@@ -1,5 +1,3 @@
-pub mod Columns
-pub mod Check
 pub mod Texts
 pub mod Parts
 pub mod MatrixRows

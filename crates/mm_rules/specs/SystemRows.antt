@@ -4,7 +4,7 @@ use Rattle.sqlite.specs.Order.{Row, column}
 use Rattle.sqlite.specs.declared.types.Value.{Value}
 use Rattle.mm_base.specs.Package.{System}
 use Rattle.mm_base.specs.Rules.{geographic, undefined_cartesian, undefined_geographic}
-use Rattle.mm_rules.specs.Columns.{number_of, words_of}
+use Rattle.mm_queries.specs.Columns.{number_of, words_of}
 
 -- five columns show this system
 abbrev pub shows_by : System → Value → Value → Value → Value → Value → Type 0

@@ -1,15 +1,13 @@
 //! Rules 1 to 14 decided on a database, each by a function of its own: a walk over the rows of a query, with what a row
-//! needs from another table beside it. `mm_check` has the other two, and joins all.
+//! needs from another table beside it. `mm_check` has rule 15, `mm_limits` rule 16.
 //!
 //! - `systems`: rule 1.
 //! - `contents`: rules 2 to 6, of contents, kinds and matrix sets.
 //! - `matrices`, `tiles`: rules 7 to 10.
 //! - `items`: rules 11 to 13, of rows, media, relations and mapping rows.
 //! - `extensions`: rule 14.
-//! - `columns`: the values of a shown row.
 #![tactic(auto)]
 
-pub mod columns;
 pub mod contents;
 pub mod extensions;
 pub mod items;

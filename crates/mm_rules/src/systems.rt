@@ -5,11 +5,11 @@ ghost use Rattle.sqlite.specs.Held.{state};
 ghost use Rattle.sqlite.specs.Order.{column};
 ghost use Rattle.mm_base.specs.Bounds.{Profile};
 ghost use Rattle.mm_base.specs.Rules.{GivenSystems, geographic, undefined_cartesian, undefined_geographic};
-ghost use Rattle.mm_rules.specs.Check.{IsCheck};
+ghost use Rattle.mm_queries.specs.Check.{IsCheck};
 ghost use Rattle.mm_rules.specs.SystemRows.{IsGivenRow, shows_by};
 
-use crate::columns::{number_is, text_is};
 use mm_base::answers::Fault;
+use mm_queries::columns::{number_is, text_is};
 use mm_walk::row_tests::{RowTest, each_passes};
 use sqlite::{Alter, Connection, Row, params};
 

@@ -4,11 +4,11 @@ ghost use Rattle.std.specs.Prelude.{⊤};
 ghost use Rattle.sqlite.specs.Held.{state};
 ghost use Rattle.mm_base.specs.Bounds.{Profile};
 ghost use Rattle.mm_base.specs.Rules.{TilesInside};
-ghost use Rattle.mm_rules.specs.Check.{IsCheck};
+ghost use Rattle.mm_queries.specs.Check.{IsCheck};
 ghost use Rattle.mm_rules.specs.TileRows.{IsInsideRow};
 
-use crate::columns::number;
 use mm_base::answers::Fault;
+use mm_queries::columns::number;
 use mm_walk::row_tests::{RowTest, each_passes};
 use sqlite::{Alter, Connection, Row};
 

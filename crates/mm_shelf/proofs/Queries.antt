@@ -10,7 +10,7 @@ use Rattle.mm_schema.specs.Tables.{schema}
 use Rattle.mm_schema.specs.Statements.{unnamed_blobs}
 use Rattle.mm_schema.proofs.Selecting as statement
 use Rattle.mm_walk.proofs.Quiet.{IsQuiet}
-use Rattle.mm_rules.proofs.Terms.{equals, below}
+use Rattle.mm_queries.proofs.Terms.{equals, below}
 
 abbrev pub digested_text : List ℕ
 digested_text = codes "SELECT b.digest, b.data FROM mm_blobs AS b"

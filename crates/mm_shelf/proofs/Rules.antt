@@ -33,8 +33,8 @@ use Rattle.mm_store.specs.Blobs.{Blob, blob_row, digest_of}
 use Rattle.mm_store.specs.Kept.{Kept, IsNamed, tile_id, medium_id, piece_id}
 use Rattle.mm_blobs.specs.Views.{TellsWhether}
 use Rattle.mm_blobs.proofs.Keeping.{equal_bytes, at_id, hits_id, only_id, told_names}
-use Rattle.mm_rules.proofs.Joined.{as_whole, covered_whole, each_row}
-use Rattle.mm_rules.proofs.Keys.{tie, texts_are, less_is, on_true, same}
+use Rattle.mm_queries.proofs.Joined.{as_whole, covered_whole, each_row}
+use Rattle.mm_queries.proofs.Keys.{tie, texts_are, less_is, on_true, same}
 use Rattle.mm_shelf.specs.Form.{KeepsAs, IsDigestedRow, AreDigested, AreApart, AreNamed, AreInForm}
 use Rattle.mm_shelf.proofs.Queries.{equal_terms, no_names, by_tiles, by_media, by_pieces}
 use Rattle.mm_shelf.proofs.Checks.{SaysForm}

@@ -21,7 +21,7 @@ use Rattle.mm_store.specs.Faults.{IsStoreFault}
 use Rattle.mm_store.specs.Seen.{IsSeenAs}
 use Rattle.mm_store.specs.Stands.{IsSettled, ReadsAs, profile_row}
 use Rattle.mm_store.specs.Statements.{CommitsNothing}
-use Rattle.mm_rules.specs.Columns.{words_of, bytes_of}
+use Rattle.mm_queries.specs.Columns.{words_of, bytes_of}
 
 -- The four tables hold these entries that name blobs, and these blobs, whatever form they have.
 pub record KeepsAs (db : Database) (kept : Kept) : Type 0 where

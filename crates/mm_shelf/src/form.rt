@@ -8,7 +8,7 @@ ghost use Rattle.mm_shelf.specs.Form.{IsDigestedRow, AreDigested, AreApart, AreN
 
 use mm_base::answers::Fault;
 use mm_blobs::digests::digest_of;
-use mm_rules::columns::{blob, words};
+use mm_queries::columns::{blob, words};
 use mm_walk::row_tests::{RowTest, each_passes};
 use sqlite::{Alter, Connection, Row};
 

@@ -4,7 +4,7 @@ use Rattle.mm_rules.specs.Parts.{EditionStates}
 use Rattle.mm_base.specs.Rules.{Limits}
 use Rattle.mm_rules.specs.Texts as text
 use Rattle.mm_check.specs.PieceRows.{IsStateRow}
-use Rattle.mm_rules.proofs.Checks.{checks}
+use Rattle.mm_queries.proofs.Checks.{checks}
 use Rattle.mm_check.proofs.EditionQueries as query
 use Rattle.mm_check.proofs.EditionRules as rule
 use Rattle.mm_check.proofs.editions.edition_states.Goals as goal

@@ -3,7 +3,7 @@ use Rattle.sqlite.specs.Held.{state}
 use Rattle.mm_rules.specs.Parts.{EditionStates, PiecesOfOpen, PiecesNumbered, PiecesSpelled}
 use Rattle.mm_base.specs.Rules.{Limits, Editions}
 use Rattle.mm_check.proofs.EditionRules.{all_editions}
-use Rattle.mm_rules.proofs.Compose.{goes_on, stops, gives_up}
+use Rattle.mm_queries.proofs.Compose.{goes_on, stops, gives_up}
 use Rattle.mm_check.proofs.editions.editions.Goals as goal
 
 pub returns-in-Ok-true : goal.returns-in-Ok-true

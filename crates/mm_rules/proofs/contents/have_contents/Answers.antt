@@ -1,7 +1,7 @@
 use Rattle.std.specs.Prelude.{⊤}
 use Rattle.sqlite.specs.Held.{state}
 use Rattle.mm_rules.specs.Parts.{KindsHaveContents, SetsHaveContents}
-use Rattle.mm_rules.proofs.Compose.{goes_on, stops, gives_up}
+use Rattle.mm_queries.proofs.Compose.{goes_on, stops, gives_up}
 use Rattle.mm_rules.proofs.contents.have_contents.Goals as goal
 
 pub returns-in-Ok-true : goal.returns-in-Ok-true

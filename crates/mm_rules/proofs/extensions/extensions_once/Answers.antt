@@ -2,7 +2,7 @@ use Rattle.std.specs.Prelude.{⊤}
 use Rattle.sqlite.specs.Held.{state}
 use Rattle.mm_rules.specs.Parts.{NamedOnce, UnnamedOnce, ExtensionsOnce}
 use Rattle.mm_rules.proofs.ExtensionRules.{all_once}
-use Rattle.mm_rules.proofs.Compose.{goes_on, stops, gives_up}
+use Rattle.mm_queries.proofs.Compose.{goes_on, stops, gives_up}
 use Rattle.mm_rules.proofs.extensions.extensions_once.Goals as goal
 
 pub returns-in-Ok-true : goal.returns-in-Ok-true

@@ -1,9 +1,0 @@
-use Rattle.std.specs.Prelude.{◌<◌}
-use Rattle.sqlite.specs.Held.{state}
-use Rattle.mm_base.specs.Units.{profile_of}
-use Rattle.mm_check.specs.InTurn.{HoldsBelow, HasPassed}
-use Rattle.mm_check.specs.LimitRows.{part}
-use Rattle.mm_check.proofs.limits.limits.Given as goal
-
-abbrev pub invariant-parts : goal.invariant-parts
-invariant-parts g l = HasPassed (profile_of l.fn.unit) (state g.S.Store l.fn.conn) (state g.S.Store l.conn) (1 < l.k) (HoldsBelow (part (profile_of l.fn.unit)) l.k)

@@ -1,0 +1,4 @@
+pub mod LimitQueries
+pub mod Texts
+pub mod LimitRules
+pub mod LimitParts

@@ -1,0 +1,15 @@
+use Rattle.std.specs.Prelude.{⊤}
+use Rattle.std.proofs.Common.{[], refl}
+use Rattle.sqlite.specs.Held.{state}
+use Rattle.mm_limits.specs.LimitRows.{MediaAreWithin}
+use Rattle.mm_limits.specs.Texts as text
+use Rattle.mm_limits.specs.LimitRows.{IsMediumWithinRow}
+use Rattle.mm_queries.proofs.Checks.{checks}
+use Rattle.mm_limits.proofs.LimitQueries as query
+use Rattle.mm_limits.proofs.LimitRules as rule
+use Rattle.mm_limits.proofs.parts.media_within.Goals as goal
+
+pub returns : goal.returns
+returns g c profile =
+    checks text.media_within [] IsMediumWithinRow _ _ _ _ _ query.media_within query.quiet_media_within (λ _. ⊤) (λ p. MediaAreWithin p) rule.media_within profile
+    (state g.S.Store c.args.conn.now) (state g.S.Store c.each_passes.new.conn) [] refl c.each_passes.result c.each_passes.ensures

@@ -1,0 +1,15 @@
+use Rattle.std.specs.Prelude.{⊤}
+use Rattle.std.proofs.Common.{[], refl}
+use Rattle.sqlite.specs.Held.{state}
+use Rattle.mm_limits.specs.LimitRows.{PiecesAreWithin}
+use Rattle.mm_limits.specs.Texts as text
+use Rattle.mm_limits.specs.LimitRows.{IsPieceWithinRow}
+use Rattle.mm_queries.proofs.Checks.{checks}
+use Rattle.mm_limits.proofs.LimitQueries as query
+use Rattle.mm_limits.proofs.LimitRules as rule
+use Rattle.mm_limits.proofs.parts.pieces_within.Goals as goal
+
+pub returns : goal.returns
+returns g c profile =
+    checks text.pieces_within [] IsPieceWithinRow _ _ _ _ _ query.pieces_within query.quiet_pieces_within (λ _. ⊤) (λ p. PiecesAreWithin p) rule.pieces_within profile
+    (state g.S.Store c.args.conn.now) (state g.S.Store c.each_passes.new.conn) [] refl c.each_passes.result c.each_passes.ensures

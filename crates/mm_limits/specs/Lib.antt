@@ -1,0 +1,2 @@
+pub mod LimitRows
+pub mod Texts

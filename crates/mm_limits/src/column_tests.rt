@@ -1,0 +1,179 @@
+//! Whether a column of a shown row is within its limits. A text that is no UTF-8 is within none.
+
+ghost use Rattle.std.specs.Prelude.{◌≡◌, ◌↔◌, Some, None, IfSome, IsTrue, MatchOption};
+ghost use Rattle.std.specs.Str.{IsUtf8};
+ghost use Rattle.sqlite.specs.Order.{column};
+ghost use Rattle.mm_base.specs.Bounds.{IsCoordinate, IsPixelSize, IsFrom, IsLong, IsText, IsName, IsClean, IsIdentifier, IsContentType};
+ghost use Rattle.mm_base.specs.Bounds as bounds;
+ghost use Rattle.mm_base.specs.Stamp.{IsSomeStamp};
+ghost use Rattle.mm_base.specs.Units.{profile_of};
+ghost use Rattle.mm_limits.specs.LimitRows.{text_by, text_if_any, number_by, number_if_any, bytes_by};
+
+use mm_base::content_types::is_content_type;
+use mm_base::identifiers::is_identifier;
+use mm_base::moments::is_stamp;
+use mm_base::names::is_name;
+use mm_base::units::Unit;
+use mm_queries::columns::{blob, number, text, words};
+use sqlite::Row;
+
+fn has_zero(text: &str) -> bool
+    ensures { result ≡ bounds.has_zero text.now }
+{
+    text.as_bytes().iter().any(|byte| *byte == 0)
+}
+
+fn is_clean(text: &str) -> bool
+    ensures { IsTrue result ↔ IsClean text.now }
+{
+    !has_zero(text)
+}
+
+fn is_text(text: &str, least: usize, most: usize) -> bool
+    ensures { IsTrue result ↔ IsText least most text.now }
+{
+    if text.len() < least {
+        return false;
+    }
+    if text.len() > most {
+        return false;
+    }
+    is_clean(text)
+}
+
+#[tactic(auto, using(crate::proofs::Texts::unread))]
+pub fn is_name_at(row: &Row, at: usize) -> bool
+    ensures { IsTrue result ↔ text_by IsName (column row.now at) }
+{
+    match text(row, at) {
+        Some(text) => is_name(text),
+        None => false,
+    }
+}
+
+#[tactic(auto, using(crate::proofs::Texts::unread))]
+pub(crate) fn is_clean_at(row: &Row, at: usize) -> bool
+    ensures { IsTrue result ↔ text_by IsClean (column row.now at) }
+{
+    match text(row, at) {
+        Some(text) => is_clean(text),
+        None => false,
+    }
+}
+
+#[tactic(auto, using(crate::proofs::Texts::unread))]
+pub(crate) fn is_identifier_at(row: &Row, at: usize) -> bool
+    ensures { IsTrue result ↔ text_by IsIdentifier (column row.now at) }
+{
+    match text(row, at) {
+        Some(text) => is_identifier(text),
+        None => false,
+    }
+}
+
+#[tactic(auto, using(crate::proofs::Texts::unread))]
+pub fn is_content_type_at(row: &Row, at: usize) -> bool
+    ensures { IsTrue result ↔ text_by IsContentType (column row.now at) }
+{
+    match text(row, at) {
+        Some(text) => is_content_type(text),
+        None => false,
+    }
+}
+
+#[tactic(auto, using(crate::proofs::Texts::unread))]
+pub(crate) fn is_stamp_at(row: &Row, at: usize) -> bool
+    ensures { IsTrue result ↔ text_by IsSomeStamp (column row.now at) }
+{
+    match text(row, at) {
+        Some(text) => is_stamp(text),
+        None => false,
+    }
+}
+
+#[tactic(auto, using(crate::proofs::Texts::unread))]
+pub fn is_text_at(row: &Row, at: usize, least: usize, most: usize) -> bool
+    ensures { IsTrue result ↔ text_by (IsText least most) (column row.now at) }
+{
+    match text(row, at) {
+        Some(text) => is_text(text, least, most),
+        None => false,
+    }
+}
+
+/// The same of a column that may be empty.
+pub(crate) fn is_clean_if_any(row: &Row, at: usize) -> bool
+    ensures { IsTrue result ↔ text_if_any IsClean (column row.now at) }
+{
+    match words(row, at) {
+        Some(bytes) => is_clean_utf8(bytes),
+        None => true,
+    }
+}
+
+fn is_clean_utf8(bytes: &[u8]) -> bool
+    ensures { IsTrue result ↔ (IsUtf8 bytes.now × IsClean bytes.now) }
+{
+    match std::str::from_utf8(bytes) {
+        Ok(text) => is_clean(text),
+        Err(_) => false,
+    }
+}
+
+pub(crate) fn is_from(number: i64, low: i64, high: i64) -> bool
+    ensures { IsTrue result ↔ IsFrom low high number }
+{
+    low <= number && number <= high
+}
+
+pub fn is_within(row: &Row, at: usize, low: i64, high: i64) -> bool
+    ensures { IsTrue result ↔ number_by (IsFrom low high) (column row.now at) }
+{
+    match number(row, at) {
+        Some(number) => is_from(number, low, high),
+        None => false,
+    }
+}
+
+pub(crate) fn is_within_if_any(row: &Row, at: usize, low: i64, high: i64) -> bool
+    ensures { IsTrue result ↔ number_if_any (IsFrom low high) (column row.now at) }
+{
+    match number(row, at) {
+        Some(number) => is_from(number, low, high),
+        None => true,
+    }
+}
+
+pub(crate) fn is_coordinate(row: &Row, at: usize, unit: Unit) -> bool
+    ensures { IsTrue result ↔ number_by (IsCoordinate (profile_of unit)) (column row.now at) }
+{
+    is_within(row, at, -unit.farthest(), unit.farthest())
+}
+
+pub(crate) fn is_coordinate_if_any(row: &Row, at: usize, unit: Unit) -> bool
+    ensures { IsTrue result ↔ number_if_any (IsCoordinate (profile_of unit)) (column row.now at) }
+{
+    is_within_if_any(row, at, -unit.farthest(), unit.farthest())
+}
+
+pub fn is_pixel_size(row: &Row, at: usize, unit: Unit) -> bool
+    ensures { IsTrue result ↔ number_by (IsPixelSize (profile_of unit)) (column row.now at) }
+{
+    is_within(row, at, 1, unit.largest_pixel())
+}
+
+fn is_long(bytes: &[u8], most: usize) -> bool
+    ensures { IsTrue result ↔ IsLong 1 most bytes.now }
+{
+    1 <= bytes.len() && bytes.len() <= most
+}
+
+/// Whether a blob has 1 to `most` bytes, which are not copied.
+pub fn is_blob_within(row: &Row, at: usize, most: usize) -> bool
+    ensures { IsTrue result ↔ bytes_by (IsLong 1 most) (column row.now at) }
+{
+    match blob(row, at) {
+        Some(bytes) => is_long(bytes, most),
+        None => false,
+    }
+}

@@ -1,0 +1,438 @@
+//! Rule 16 by its parts: every name, number, text and length is within its limits.
+
+ghost use Rattle.std.specs.Prelude.{⊤, ◌≤◌, ◌<◌, ◌≡◌, ◌↔◌, ◌⊎◌, Some, IsTrue, pos};
+ghost use Rattle.sqlite.specs.Order.{column};
+ghost use Rattle.sqlite.specs.Held.{state};
+ghost use Rattle.mm_base.specs.Bounds.{Profile};
+ghost use Rattle.mm_base.specs.Rules.{IsGiven, Limits};
+ghost use Rattle.mm_base.specs.Units.{profile_of};
+ghost use Rattle.mm_queries.specs.Check.{IsCheck};
+ghost use Rattle.mm_queries.specs.Columns.{number_of};
+ghost use Rattle.mm_limits.specs.LimitRows.{numbers_by, IsSystemWithinRow, IsContentsWithinRow, IsKindWithinRow, IsSetWithinRow, IsMatrixWithinRow, IsExtensionWithinRow, IsTileWithinRow, IsAttributeWithinRow, IsMediumWithinRow, IsRelationWithinRow, IsPairingWithinRow, IsEditionWithinRow, IsPieceWithinRow, SystemsAreWithin, ContentsAreWithin, KindsAreWithin, SetsAreWithin, MatricesAreWithin, ExtensionsAreWithin, TilesAreWithin, RowsAreWithin, MediaAreWithin, RelationsAreWithin, PairingsAreWithin, EditionsAreWithin, PiecesAreWithin, part};
+
+use crate::column_tests::{
+    is_blob_within, is_clean_at, is_clean_if_any, is_content_type_at, is_coordinate,
+    is_coordinate_if_any, is_from, is_identifier_at, is_name_at, is_pixel_size, is_stamp_at,
+    is_text_at, is_within, is_within_if_any,
+};
+use mm_base::answers::Fault;
+use mm_base::limits::{
+    LAST_ID, LAST_PLACE, LAST_ZOOM, MOST_AMOUNT, MOST_MEDIA_BYTES, MOST_PIXELS, MOST_TILE_BYTES,
+    MOST_TILES,
+};
+use mm_base::units::Unit;
+use mm_queries::columns::{number, text_is};
+use mm_walk::row_tests::{RowTest, each_passes};
+use sqlite::{Alter, Connection, Row};
+
+fn is_given(id: i64) -> bool
+    ensures { IsTrue result ↔ IsGiven id }
+{
+    id == 4326 || id == -1 || id == 0
+}
+
+/// Whether the numbers of a system are within their limits, which are wider for a given one.
+fn are_system_numbers(row: &Row) -> bool
+    ensures { IsTrue result ↔ numbers_by (number_of (column row.now 0)) (number_of (column row.now 3)) }
+{
+    match (number(row, 0), number(row, 3)) {
+        (Some(id), Some(organization_id)) => {
+            is_from(id, 1, LAST_ID as i64) && is_from(organization_id, 1, LAST_ID as i64)
+                || is_given(id) && is_from(organization_id, -1, LAST_ID as i64)
+        }
+        _ => false,
+    }
+}
+
+/// A row of reference systems, column by column.
+struct System;
+
+impl RowTest for System {
+    ghost good = { λ _ row. IsSystemWithinRow row };
+
+    fn passes(&self, row: &Row) -> bool {
+        are_system_numbers(row)
+            && is_text_at(row, 1, 1, 1000)
+            && is_text_at(row, 2, 1, 1000)
+            && is_text_at(row, 4, 1, 8192)
+            && is_text_at(row, 5, 0, 1000)
+    }
+}
+
+/// Of rule 16, what it asks of reference systems.
+pub fn systems_within<S: Alter>(conn: &mut Connection<S>) -> Result<bool, Fault>
+    ensures { (profile : Profile) → IsCheck profile (state S.Store conn.old) (state S.Store conn.new) (λ _. ⊤) (λ p. SystemsAreWithin p) result }
+{
+    each_passes(
+        conn,
+        "SELECT t.srs_id, t.srs_name, t.organization, t.organization_coordsys_id, t.definition, t.description FROM gpkg_spatial_ref_sys AS t ORDER BY t.srs_id",
+        &[],
+        &System,
+    )
+}
+
+/// A row of contents, column by column.
+#[derive(Clone, Copy)]
+struct Contents {
+    unit: Unit,
+}
+
+impl RowTest for Contents {
+    ghost good = { λ it row. IsContentsWithinRow (profile_of it.unit) row };
+
+    fn passes(&self, row: &Row) -> bool {
+        is_name_at(row, 0)
+            && is_clean_at(row, 1)
+            && is_identifier_at(row, 2)
+            && text_is(row, 3, "")
+            && is_stamp_at(row, 4)
+            && is_coordinate_if_any(row, 5, self.unit)
+            && is_coordinate_if_any(row, 6, self.unit)
+            && is_coordinate_if_any(row, 7, self.unit)
+            && is_coordinate_if_any(row, 8, self.unit)
+            && is_within_if_any(row, 9, -1, LAST_ID as i64)
+    }
+}
+
+/// Of rule 16, what it asks of contents.
+pub fn contents_within<S: Alter>(conn: &mut Connection<S>, unit: Unit) -> Result<bool, Fault>
+    ensures { IsCheck (profile_of unit) (state S.Store conn.old) (state S.Store conn.new) (λ _. ⊤) (λ p. ContentsAreWithin (profile_of unit) p) result }
+{
+    each_passes(
+        conn,
+        "SELECT t.table_name, t.data_type, t.identifier, t.description, t.last_change, t.min_x, t.min_y, t.max_x, t.max_y, t.srs_id FROM gpkg_contents AS t ORDER BY t.table_name",
+        &[],
+        &Contents { unit },
+    )
+}
+
+/// A row of the registry, column by column.
+struct Kind;
+
+impl RowTest for Kind {
+    ghost good = { λ _ row. IsKindWithinRow row };
+
+    fn passes(&self, row: &Row) -> bool {
+        is_name_at(row, 0) && is_clean_at(row, 1)
+    }
+}
+
+/// Of rule 16, what it asks of the registry.
+pub fn kinds_within<S: Alter>(conn: &mut Connection<S>) -> Result<bool, Fault>
+    ensures { (profile : Profile) → IsCheck profile (state S.Store conn.old) (state S.Store conn.new) (λ _. ⊤) (λ p. KindsAreWithin p) result }
+{
+    each_passes(
+        conn,
+        "SELECT t.table_name, t.kind FROM mm_tables AS t ORDER BY t.table_name",
+        &[],
+        &Kind,
+    )
+}
+
+/// A row of matrix sets, column by column.
+#[derive(Clone, Copy)]
+struct MatrixSet {
+    unit: Unit,
+}
+
+impl RowTest for MatrixSet {
+    ghost good = { λ it row. IsSetWithinRow (profile_of it.unit) row };
+
+    fn passes(&self, row: &Row) -> bool {
+        is_name_at(row, 0)
+            && is_within(row, 1, -1, LAST_ID as i64)
+            && is_coordinate(row, 2, self.unit)
+            && is_coordinate(row, 3, self.unit)
+            && is_coordinate(row, 4, self.unit)
+            && is_coordinate(row, 5, self.unit)
+    }
+}
+
+/// Of rule 16, what it asks of matrix sets.
+pub fn sets_within<S: Alter>(conn: &mut Connection<S>, unit: Unit) -> Result<bool, Fault>
+    ensures { IsCheck (profile_of unit) (state S.Store conn.old) (state S.Store conn.new) (λ _. ⊤) (λ p. SetsAreWithin (profile_of unit) p) result }
+{
+    each_passes(
+        conn,
+        "SELECT t.table_name, t.srs_id, t.min_x, t.min_y, t.max_x, t.max_y FROM gpkg_tile_matrix_set AS t ORDER BY t.table_name",
+        &[],
+        &MatrixSet { unit },
+    )
+}
+
+/// A row of matrices, column by column.
+#[derive(Clone, Copy)]
+struct Matrix {
+    unit: Unit,
+}
+
+impl RowTest for Matrix {
+    ghost good = { λ it row. IsMatrixWithinRow (profile_of it.unit) row };
+
+    fn passes(&self, row: &Row) -> bool {
+        is_name_at(row, 0)
+            && is_within(row, 1, 0, LAST_ZOOM as i64)
+            && is_within(row, 2, 1, MOST_TILES as i64)
+            && is_within(row, 3, 1, MOST_TILES as i64)
+            && is_within(row, 4, 1, MOST_PIXELS as i64)
+            && is_within(row, 5, 1, MOST_PIXELS as i64)
+            && is_pixel_size(row, 6, self.unit)
+            && is_pixel_size(row, 7, self.unit)
+    }
+}
+
+/// Of rule 16, what it asks of matrices.
+pub fn matrices_within<S: Alter>(conn: &mut Connection<S>, unit: Unit) -> Result<bool, Fault>
+    ensures { IsCheck (profile_of unit) (state S.Store conn.old) (state S.Store conn.new) (λ _. ⊤) (λ p. MatricesAreWithin (profile_of unit) p) result }
+{
+    each_passes(
+        conn,
+        "SELECT t.table_name, t.zoom_level, t.matrix_width, t.matrix_height, t.tile_width, t.tile_height, t.pixel_x_size, t.pixel_y_size FROM gpkg_tile_matrix AS t ORDER BY t.table_name, t.zoom_level",
+        &[],
+        &Matrix { unit },
+    )
+}
+
+/// A row of extension rows, column by column.
+struct Extension;
+
+impl RowTest for Extension {
+    ghost good = { λ _ row. IsExtensionWithinRow row };
+
+    fn passes(&self, row: &Row) -> bool {
+        is_clean_if_any(row, 0)
+            && is_clean_if_any(row, 1)
+            && is_clean_at(row, 2)
+            && is_clean_at(row, 3)
+            && is_clean_at(row, 4)
+    }
+}
+
+/// Of rule 16, what it asks of extension rows.
+pub fn extensions_within<S: Alter>(conn: &mut Connection<S>) -> Result<bool, Fault>
+    ensures { (profile : Profile) → IsCheck profile (state S.Store conn.old) (state S.Store conn.new) (λ _. ⊤) (λ p. ExtensionsAreWithin p) result }
+{
+    each_passes(
+        conn,
+        "SELECT t.table_name, t.column_name, t.extension_name, t.definition, t.scope FROM gpkg_extensions AS t",
+        &[],
+        &Extension,
+    )
+}
+
+/// A row of tiles, column by column.
+struct Tile;
+
+impl RowTest for Tile {
+    ghost good = { λ _ row. IsTileWithinRow row };
+
+    fn passes(&self, row: &Row) -> bool {
+        is_name_at(row, 0)
+            && is_within(row, 1, 0, LAST_ZOOM as i64)
+            && is_within(row, 2, 0, LAST_PLACE as i64)
+            && is_within(row, 3, 0, LAST_PLACE as i64)
+            && is_blob_within(row, 4, MOST_TILE_BYTES)
+    }
+}
+
+/// Of rule 16, what it asks of tiles.
+pub fn tiles_within<S: Alter>(conn: &mut Connection<S>) -> Result<bool, Fault>
+    ensures { (profile : Profile) → IsCheck profile (state S.Store conn.old) (state S.Store conn.new) (λ _. ⊤) (λ p. TilesAreWithin p) result }
+{
+    each_passes(
+        conn,
+        "SELECT t.table_name, t.zoom_level, t.tile_column, t.tile_row, b.data FROM mm_tiles AS t LEFT JOIN mm_blobs AS b ON b.id = t.blob ORDER BY t.table_name, t.zoom_level, t.tile_column, t.tile_row",
+        &[],
+        &Tile,
+    )
+}
+
+/// A row of attribute rows, column by column.
+struct Item;
+
+impl RowTest for Item {
+    ghost good = { λ _ row. IsAttributeWithinRow row };
+
+    fn passes(&self, row: &Row) -> bool {
+        is_name_at(row, 0)
+            && is_within(row, 1, 1, LAST_ID as i64)
+            && is_text_at(row, 2, 0, 1000)
+            && is_text_at(row, 3, 0, 1000)
+            && is_within(row, 4, -(MOST_AMOUNT as i64), MOST_AMOUNT as i64)
+    }
+}
+
+/// Of rule 16, what it asks of attribute rows.
+pub fn rows_within<S: Alter>(conn: &mut Connection<S>) -> Result<bool, Fault>
+    ensures { (profile : Profile) → IsCheck profile (state S.Store conn.old) (state S.Store conn.new) (λ _. ⊤) (λ p. RowsAreWithin p) result }
+{
+    each_passes(
+        conn,
+        "SELECT t.table_name, t.id, t.title, t.note, t.amount FROM mm_rows AS t ORDER BY t.table_name, t.id",
+        &[],
+        &Item,
+    )
+}
+
+/// A row of media, column by column.
+struct Medium;
+
+impl RowTest for Medium {
+    ghost good = { λ _ row. IsMediumWithinRow row };
+
+    fn passes(&self, row: &Row) -> bool {
+        is_name_at(row, 0)
+            && is_within(row, 1, 1, LAST_ID as i64)
+            && is_blob_within(row, 2, MOST_MEDIA_BYTES)
+            && is_content_type_at(row, 3)
+    }
+}
+
+/// Of rule 16, what it asks of media.
+pub fn media_within<S: Alter>(conn: &mut Connection<S>) -> Result<bool, Fault>
+    ensures { (profile : Profile) → IsCheck profile (state S.Store conn.old) (state S.Store conn.new) (λ _. ⊤) (λ p. MediaAreWithin p) result }
+{
+    each_passes(
+        conn,
+        "SELECT t.table_name, t.id, b.data, t.content_type FROM mm_media AS t LEFT JOIN mm_blobs AS b ON b.id = t.blob ORDER BY t.table_name, t.id",
+        &[],
+        &Medium,
+    )
+}
+
+/// A row of relations, column by column.
+struct Relation;
+
+impl RowTest for Relation {
+    ghost good = { λ _ row. IsRelationWithinRow row };
+
+    fn passes(&self, row: &Row) -> bool {
+        is_name_at(row, 0)
+            && is_name_at(row, 1)
+            && is_clean_at(row, 2)
+            && is_name_at(row, 3)
+            && is_clean_at(row, 4)
+            && is_clean_at(row, 5)
+    }
+}
+
+/// Of rule 16, what it asks of relations.
+pub fn relations_within<S: Alter>(conn: &mut Connection<S>) -> Result<bool, Fault>
+    ensures { (profile : Profile) → IsCheck profile (state S.Store conn.old) (state S.Store conn.new) (λ _. ⊤) (λ p. RelationsAreWithin p) result }
+{
+    each_passes(
+        conn,
+        "SELECT t.mapping_table_name, t.base_table_name, t.base_primary_column, t.related_table_name, t.related_primary_column, t.relation_name FROM gpkgext_relations AS t ORDER BY t.mapping_table_name",
+        &[],
+        &Relation,
+    )
+}
+
+/// A row of mapping rows, column by column.
+struct Pairing;
+
+impl RowTest for Pairing {
+    ghost good = { λ _ row. IsPairingWithinRow row };
+
+    fn passes(&self, row: &Row) -> bool {
+        is_name_at(row, 0)
+            && is_within(row, 1, 1, LAST_ID as i64)
+            && is_within(row, 2, 1, LAST_ID as i64)
+    }
+}
+
+/// Of rule 16, what it asks of mapping rows.
+pub fn pairings_within<S: Alter>(conn: &mut Connection<S>) -> Result<bool, Fault>
+    ensures { (profile : Profile) → IsCheck profile (state S.Store conn.old) (state S.Store conn.new) (λ _. ⊤) (λ p. PairingsAreWithin p) result }
+{
+    each_passes(
+        conn,
+        "SELECT t.mapping, t.base_id, t.related_id FROM mm_map AS t ORDER BY t.mapping, t.base_id, t.related_id",
+        &[],
+        &Pairing,
+    )
+}
+
+/// A row of editions, column by column.
+struct Edition;
+
+impl RowTest for Edition {
+    ghost good = { λ _ row. IsEditionWithinRow row };
+
+    fn passes(&self, row: &Row) -> bool {
+        is_name_at(row, 0) && is_clean_at(row, 1)
+    }
+}
+
+/// Of rule 16, what it asks of editions.
+pub fn editions_within<S: Alter>(conn: &mut Connection<S>) -> Result<bool, Fault>
+    ensures { (profile : Profile) → IsCheck profile (state S.Store conn.old) (state S.Store conn.new) (λ _. ⊤) (λ p. EditionsAreWithin p) result }
+{
+    each_passes(
+        conn,
+        "SELECT t.name, t.state FROM mm_editions AS t ORDER BY t.name",
+        &[],
+        &Edition,
+    )
+}
+
+/// A row of staged pieces, column by column.
+struct Piece;
+
+impl RowTest for Piece {
+    ghost good = { λ _ row. IsPieceWithinRow row };
+
+    fn passes(&self, row: &Row) -> bool {
+        is_name_at(row, 0) && is_within(row, 1, 1, LAST_ID as i64)
+    }
+}
+
+/// Of rule 16, what it asks of staged pieces.
+pub fn pieces_within<S: Alter>(conn: &mut Connection<S>) -> Result<bool, Fault>
+    ensures { (profile : Profile) → IsCheck profile (state S.Store conn.old) (state S.Store conn.new) (λ _. ⊤) (λ p. PiecesAreWithin p) result }
+{
+    each_passes(
+        conn,
+        "SELECT t.edition, t.piece_no FROM mm_pieces AS t ORDER BY t.edition, t.piece_no",
+        &[],
+        &Piece,
+    )
+}
+
+/// Part k of rule 16, of those from 1 to 13: what it asks of one table.
+fn one_limit<S: Alter>(conn: &mut Connection<S>, unit: Unit, k: u8) -> Result<bool, Fault>
+    requires low { 1 ≤ k }
+    requires high { k < 14 }
+    ensures { IsCheck (profile_of unit) (state S.Store conn.old) (state S.Store conn.new) (λ _. ⊤) (part (profile_of unit) k) result }
+{
+    match k {
+        1 => systems_within(conn),
+        2 => contents_within(conn, unit),
+        3 => kinds_within(conn),
+        4 => sets_within(conn, unit),
+        5 => matrices_within(conn, unit),
+        6 => extensions_within(conn),
+        7 => tiles_within(conn),
+        8 => rows_within(conn),
+        9 => media_within(conn),
+        10 => relations_within(conn),
+        11 => pairings_within(conn),
+        12 => editions_within(conn),
+        13 => pieces_within(conn),
+        _ => unreachable!(),
+    }
+}
+
+/// Rule 16: every name, number, text and length is within its limits.
+pub fn limits<S: Alter>(conn: &mut Connection<S>, unit: Unit) -> Result<bool, Fault>
+    ensures { IsCheck (profile_of unit) (state S.Store conn.old) (state S.Store conn.new) (λ _. ⊤) (λ p. Limits (profile_of unit) p) result }
+{
+    'parts: for k in 1..14u8 {
+        match one_limit(conn, unit, k) {
+            Ok(true) => {}
+            Ok(false) => return Ok(false),
+            Err(fault) => return Err(fault),
+        }
+    }
+    Ok(true)
+}

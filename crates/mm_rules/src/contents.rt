@@ -25,12 +25,22 @@ fn is_plane(system: i64) -> bool
 /// The system that a table names, if any, with the table's kind.
 struct MayName;
 
+impl MayName {
+    const NAMED: usize = 0;
+
+    const STANDS: usize = 1;
+
+    const KIND: usize = 2;
+}
+
 impl RowTest for MayName {
     ghost good = { λ _ row. MayNameRow row };
 
     fn passes(&self, row: &Row) -> bool {
-        match number(row, 0) {
-            Some(system) => stands(row, 1) && (!is_pyramid(row, 2) || is_plane(system)),
+        match number(row, Self::NAMED) {
+            Some(system) => {
+                stands(row, Self::STANDS) && (!is_pyramid(row, Self::KIND) || is_plane(system))
+            }
             None => true,
         }
     }
@@ -74,11 +84,17 @@ pub fn named_systems<S: Alter>(conn: &mut Connection<S>) -> Result<bool, Fault>
 /// The tables of two contents rows with one identifier.
 struct Same;
 
+impl Same {
+    const TABLE: usize = 0;
+
+    const OTHER_TABLE: usize = 1;
+}
+
 impl RowTest for Same {
     ghost good = { λ _ row. IsSameRow row };
 
     fn passes(&self, row: &Row) -> bool {
-        same_text(row, 0, 1)
+        same_text(row, Self::TABLE, Self::OTHER_TABLE)
     }
 }
 
@@ -97,11 +113,15 @@ pub fn distinct_identifiers<S: Alter>(conn: &mut Connection<S>) -> Result<bool, 
 /// No row of another table beside this one.
 struct Absent;
 
+impl Absent {
+    const TABLE: usize = 0;
+}
+
 impl RowTest for Absent {
     ghost good = { λ _ row. IsAbsentRow row };
 
     fn passes(&self, row: &Row) -> bool {
-        !stands(row, 0)
+        !stands(row, Self::TABLE)
     }
 }
 
@@ -127,11 +147,15 @@ pub fn names<S: Alter>(conn: &mut Connection<S>) -> Result<bool, Fault>
 /// A row of another table beside this one.
 struct There;
 
+impl There {
+    const TABLE: usize = 0;
+}
+
 impl RowTest for There {
     ghost good = { λ _ row. IsThereRow row };
 
     fn passes(&self, row: &Row) -> bool {
-        stands(row, 0)
+        stands(row, Self::TABLE)
     }
 }
 
@@ -139,37 +163,63 @@ impl RowTest for There {
 fn is_placed(row: &Row) -> bool
     ensures { IsTrue result ↔ IsPlacedRow row.now }
 {
-    text_is(row, 1, "tiles")
-        && stands(row, 11)
-        && same_number(row, 2, 7)
-        && same_number(row, 3, 8)
-        && same_number(row, 4, 9)
-        && same_number(row, 5, 10)
-        && same_number(row, 6, 11)
+    text_is(row, Suited::DATA_TYPE, "tiles")
+        && stands(row, Suited::SET_SYSTEM)
+        && same_number(row, Suited::MIN_X, Suited::SET_MIN_X)
+        && same_number(row, Suited::MIN_Y, Suited::SET_MIN_Y)
+        && same_number(row, Suited::MAX_X, Suited::SET_MAX_X)
+        && same_number(row, Suited::MAX_Y, Suited::SET_MAX_Y)
+        && same_number(row, Suited::SYSTEM, Suited::SET_SYSTEM)
 }
 
 /// Whether a contents row is that of a table without extent and without matrix set.
 fn is_unplaced(row: &Row) -> bool
     ensures { IsTrue result ↔ IsUnplacedRow row.now }
 {
-    text_is(row, 1, "attributes")
-        && !stands(row, 2)
-        && !stands(row, 3)
-        && !stands(row, 4)
-        && !stands(row, 5)
-        && !stands(row, 6)
-        && !stands(row, 11)
+    text_is(row, Suited::DATA_TYPE, "attributes")
+        && !stands(row, Suited::MIN_X)
+        && !stands(row, Suited::MIN_Y)
+        && !stands(row, Suited::MAX_X)
+        && !stands(row, Suited::MAX_Y)
+        && !stands(row, Suited::SYSTEM)
+        && !stands(row, Suited::SET_SYSTEM)
 }
 
 /// A contents row with its kind and its matrix set.
 struct Suited;
 
+impl Suited {
+    const KIND: usize = 0;
+
+    const DATA_TYPE: usize = 1;
+
+    const MIN_X: usize = 2;
+
+    const MIN_Y: usize = 3;
+
+    const MAX_X: usize = 4;
+
+    const MAX_Y: usize = 5;
+
+    const SYSTEM: usize = 6;
+
+    const SET_MIN_X: usize = 7;
+
+    const SET_MIN_Y: usize = 8;
+
+    const SET_MAX_X: usize = 9;
+
+    const SET_MAX_Y: usize = 10;
+
+    const SET_SYSTEM: usize = 11;
+}
+
 impl RowTest for Suited {
     ghost good = { λ _ row. IsRegisteredRow row };
 
     fn passes(&self, row: &Row) -> bool {
-        is_pyramid(row, 0) && is_placed(row)
-            || (text_is(row, 0, "attributes") || text_is(row, 0, "media")) && is_unplaced(row)
+        let is_plain = text_is(row, Self::KIND, "attributes") || text_is(row, Self::KIND, "media");
+        is_pyramid(row, Self::KIND) && is_placed(row) || is_plain && is_unplaced(row)
     }
 }
 
@@ -244,11 +294,21 @@ fn are_ordered(row: &Row, low: usize, high: usize) -> bool
 /// Bounds of which each low one is below its high one.
 struct Ordered;
 
+impl Ordered {
+    const MIN_X: usize = 0;
+
+    const MIN_Y: usize = 1;
+
+    const MAX_X: usize = 2;
+
+    const MAX_Y: usize = 3;
+}
+
 impl RowTest for Ordered {
     ghost good = { λ _ row. IsOrderedRow row };
 
     fn passes(&self, row: &Row) -> bool {
-        are_ordered(row, 0, 2) && are_ordered(row, 1, 3)
+        are_ordered(row, Self::MIN_X, Self::MAX_X) && are_ordered(row, Self::MIN_Y, Self::MAX_Y)
     }
 }
 

@@ -16,31 +16,48 @@ use sqlite::{Alter, Connection, Row};
 fn is_related(row: &Row) -> bool
     ensures { IsTrue result ↔ IsRelated row.now }
 {
-    !stands(row, 1)
-        && text_is(row, 2, "gpkg_related_tables")
-        && text_is(row, 3, "OGC 18-000")
-        && text_is(row, 4, "read-write")
+    !stands(row, Wanted::COLUMN)
+        && text_is(row, Wanted::NAME, "gpkg_related_tables")
+        && text_is(row, Wanted::DEFINITION, "OGC 18-000")
+        && text_is(row, Wanted::SCOPE, "read-write")
 }
 
 fn is_zoom_other(row: &Row) -> bool
     ensures { IsTrue result ↔ IsZoomOther row.now }
 {
-    text_is(row, 1, "tile_data")
-        && text_is(row, 2, "gpkg_zoom_other")
-        && text_is(row, 3, "OGC 12-128r17")
-        && text_is(row, 4, "read-write")
+    text_is(row, Wanted::COLUMN, "tile_data")
+        && text_is(row, Wanted::NAME, "gpkg_zoom_other")
+        && text_is(row, Wanted::DEFINITION, "OGC 12-128r17")
+        && text_is(row, Wanted::SCOPE, "read-write")
 }
 
 /// An extension row with what may want it.
 struct Wanted;
 
+impl Wanted {
+    const TABLE: usize = 0;
+
+    const COLUMN: usize = 1;
+
+    const NAME: usize = 2;
+
+    const DEFINITION: usize = 3;
+
+    const SCOPE: usize = 4;
+
+    const MAPPING: usize = 5;
+
+    const KIND: usize = 6;
+}
+
 impl RowTest for Wanted {
     ghost good = { λ _ row. IsWantedRow row };
 
     fn passes(&self, row: &Row) -> bool {
-        text_is(row, 0, "gpkgext_relations") && is_related(row)
-            || stands(row, 0) && stands(row, 5) && is_related(row)
-            || stands(row, 0) && text_is(row, 6, "other") && is_zoom_other(row)
+        let is_of_table = stands(row, Self::TABLE);
+        text_is(row, Self::TABLE, "gpkgext_relations") && is_related(row)
+            || is_of_table && stands(row, Self::MAPPING) && is_related(row)
+            || is_of_table && text_is(row, Self::KIND, "other") && is_zoom_other(row)
     }
 }
 
@@ -106,11 +123,15 @@ pub fn extensions_once<S: Alter>(conn: &mut Connection<S>) -> Result<bool, Fault
 /// A row of another table beside this one.
 struct Standing;
 
+impl Standing {
+    const EXTENSION: usize = 0;
+}
+
 impl RowTest for Standing {
     ghost good = { λ _ row. IsStandingRow row };
 
     fn passes(&self, row: &Row) -> bool {
-        stands(row, 0)
+        stands(row, Self::EXTENSION)
     }
 }
 
@@ -141,11 +162,17 @@ pub fn mapping_extensions<S: Alter>(conn: &mut Connection<S>) -> Result<bool, Fa
 /// A kind with the row of other zoom intervals.
 struct Marked;
 
+impl Marked {
+    const KIND: usize = 0;
+
+    const EXTENSION: usize = 1;
+}
+
 impl RowTest for Marked {
     ghost good = { λ _ row. IsMarkedRow row };
 
     fn passes(&self, row: &Row) -> bool {
-        !text_is(row, 0, "other") || stands(row, 1)
+        !text_is(row, Self::KIND, "other") || stands(row, Self::EXTENSION)
     }
 }
 

@@ -18,11 +18,15 @@ use sqlite::{Alter, Connection, Row};
 /// An attribute row with the kind of its table.
 struct OfAttributes;
 
+impl OfAttributes {
+    const KIND: usize = 0;
+}
+
 impl RowTest for OfAttributes {
     ghost good = { λ _ row. IsAttributesRow row };
 
     fn passes(&self, row: &Row) -> bool {
-        text_is(row, 0, "attributes")
+        text_is(row, Self::KIND, "attributes")
     }
 }
 
@@ -41,11 +45,15 @@ pub fn rows_in_tables<S: Alter>(conn: &mut Connection<S>) -> Result<bool, Fault>
 /// A medium with the kind of its table.
 struct OfMedia;
 
+impl OfMedia {
+    const KIND: usize = 0;
+}
+
 impl RowTest for OfMedia {
     ghost good = { λ _ row. IsMediaRow row };
 
     fn passes(&self, row: &Row) -> bool {
-        text_is(row, 0, "media")
+        text_is(row, Self::KIND, "media")
     }
 }
 
@@ -72,29 +80,45 @@ pub fn items<S: Alter>(conn: &mut Connection<S>) -> Result<bool, Fault>
     }
 }
 
-/// Whether the kind in the first column may be that of a relation's base.
+/// Whether the kind of a relation's base is one that a base may have.
 fn is_base(row: &Row) -> bool
     ensures { IsTrue result ↔ (words_of (column row.now 0) ≡ Some (codes "attributes")) ⊎ (words_of (column row.now 0) ≡ Some (codes "media")) }
 {
-    text_is(row, 0, "attributes") || text_is(row, 0, "media")
+    text_is(row, Suited::BASE_KIND, "attributes") || text_is(row, Suited::BASE_KIND, "media")
 }
 
-/// Whether the kind in the second column is the one that the relation's name asks for.
+/// Whether the kind of the related table is the one that the relation's name asks for.
 fn is_related(row: &Row) -> bool
     ensures { IsTrue result ↔ ((words_of (column row.now 4) ≡ Some (codes "media")) × (words_of (column row.now 1) ≡ Some (codes "media"))) ⊎ ((words_of (column row.now 4) ≡ Some (codes "simple_attributes")) × (words_of (column row.now 1) ≡ Some (codes "attributes"))) }
 {
-    text_is(row, 4, "media") && text_is(row, 1, "media")
-        || text_is(row, 4, "simple_attributes") && text_is(row, 1, "attributes")
+    text_is(row, Suited::NAME, "media") && text_is(row, Suited::RELATED_KIND, "media")
+        || text_is(row, Suited::NAME, "simple_attributes")
+            && text_is(row, Suited::RELATED_KIND, "attributes")
 }
 
 /// A relation with the kinds of its ends.
 struct Suited;
 
+impl Suited {
+    const BASE_KIND: usize = 0;
+
+    const RELATED_KIND: usize = 1;
+
+    const BASE_COLUMN: usize = 2;
+
+    const RELATED_COLUMN: usize = 3;
+
+    const NAME: usize = 4;
+}
+
 impl RowTest for Suited {
     ghost good = { λ _ row. IsSuitedRow row };
 
     fn passes(&self, row: &Row) -> bool {
-        is_base(row) && is_related(row) && text_is(row, 2, "id") && text_is(row, 3, "id")
+        is_base(row)
+            && is_related(row)
+            && text_is(row, Self::BASE_COLUMN, "id")
+            && text_is(row, Self::RELATED_COLUMN, "id")
     }
 }
 
@@ -113,11 +137,25 @@ pub fn relations_suited<S: Alter>(conn: &mut Connection<S>) -> Result<bool, Faul
 /// A mapping row with its relation, and with what stands at both ends.
 struct Joined;
 
+impl Joined {
+    const RELATION: usize = 0;
+
+    const BASE_ROW: usize = 1;
+
+    const BASE_MEDIUM: usize = 2;
+
+    const RELATED_ROW: usize = 3;
+
+    const RELATED_MEDIUM: usize = 4;
+}
+
 impl RowTest for Joined {
     ghost good = { λ _ row. IsJoinedRow row };
 
     fn passes(&self, row: &Row) -> bool {
-        stands(row, 0) && (stands(row, 1) || stands(row, 2)) && (stands(row, 3) || stands(row, 4))
+        stands(row, Self::RELATION)
+            && (stands(row, Self::BASE_ROW) || stands(row, Self::BASE_MEDIUM))
+            && (stands(row, Self::RELATED_ROW) || stands(row, Self::RELATED_MEDIUM))
     }
 }
 

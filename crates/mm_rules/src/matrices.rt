@@ -64,11 +64,51 @@ fn covers(row: &Row, low: usize, high: usize, tiles: usize, pixels: usize, size:
 /// A matrix with the kind of its table and the extent of its matrix set.
 struct Fitting;
 
+impl Fitting {
+    const KIND: usize = 0;
+
+    const MIN_X: usize = 1;
+
+    const MIN_Y: usize = 2;
+
+    const MAX_X: usize = 3;
+
+    const MAX_Y: usize = 4;
+
+    const WIDTH: usize = 5;
+
+    const HEIGHT: usize = 6;
+
+    const TILE_WIDTH: usize = 7;
+
+    const TILE_HEIGHT: usize = 8;
+
+    const PIXEL_X: usize = 9;
+
+    const PIXEL_Y: usize = 10;
+}
+
 impl RowTest for Fitting {
     ghost good = { λ _ row. IsFittingRow row };
 
     fn passes(&self, row: &Row) -> bool {
-        is_pyramid(row, 0) && covers(row, 1, 3, 5, 7, 9) && covers(row, 2, 4, 6, 8, 10)
+        is_pyramid(row, Self::KIND)
+            && covers(
+                row,
+                Self::MIN_X,
+                Self::MAX_X,
+                Self::WIDTH,
+                Self::TILE_WIDTH,
+                Self::PIXEL_X,
+            )
+            && covers(
+                row,
+                Self::MIN_Y,
+                Self::MAX_Y,
+                Self::HEIGHT,
+                Self::TILE_HEIGHT,
+                Self::PIXEL_Y,
+            )
     }
 }
 
@@ -87,12 +127,22 @@ pub fn matrices_fit<S: Alter>(conn: &mut Connection<S>) -> Result<bool, Fault>
 /// A matrix and one of the same pyramid at a higher zoom.
 struct Finer;
 
+impl Finer {
+    const LOW_X: usize = 0;
+
+    const LOW_Y: usize = 1;
+
+    const HIGH_X: usize = 2;
+
+    const HIGH_Y: usize = 3;
+}
+
 impl RowTest for Finer {
     ghost good = { λ _ row. IsFinerRow row };
 
     fn passes(&self, row: &Row) -> bool {
-        let low = (number(row, 0), number(row, 1));
-        let high = (number(row, 2), number(row, 3));
+        let low = (number(row, Self::LOW_X), number(row, Self::LOW_Y));
+        let high = (number(row, Self::HIGH_X), number(row, Self::HIGH_Y));
         match (low, high) {
             ((Some(low_x), Some(low_y)), (Some(high_x), Some(high_y))) => {
                 high_x < low_x && high_y < low_y
@@ -130,12 +180,12 @@ fn is_twice(size: i64, half: i64) -> bool
     size as i128 == 2 * half as i128
 }
 
-/// Whether four columns from there on hold two pixel sizes and their halves.
+/// Whether the pixel sizes at the higher zoom are half of those at the lower one.
 fn are_halved(row: &Row) -> bool
     ensures { IsTrue result ↔ halved_by (number_of (column row.now 3)) (number_of (column row.now 4)) (number_of (column row.now 5)) (number_of (column row.now 6)) }
 {
-    let low = (number(row, 3), number(row, 4));
-    let high = (number(row, 5), number(row, 6));
+    let low = (number(row, Halved::LOW_X), number(row, Halved::LOW_Y));
+    let high = (number(row, Halved::HIGH_X), number(row, Halved::HIGH_Y));
     match (low, high) {
         ((Some(low_x), Some(low_y)), (Some(high_x), Some(high_y))) => {
             is_twice(low_x, high_x) && is_twice(low_y, high_y)
@@ -147,14 +197,30 @@ fn are_halved(row: &Row) -> bool
 /// A matrix and one of the same pyramid at a higher zoom, with the kind of their table.
 struct Halved;
 
+impl Halved {
+    const KIND: usize = 0;
+
+    const LOW_ZOOM: usize = 1;
+
+    const HIGH_ZOOM: usize = 2;
+
+    const LOW_X: usize = 3;
+
+    const LOW_Y: usize = 4;
+
+    const HIGH_X: usize = 5;
+
+    const HIGH_Y: usize = 6;
+}
+
 impl RowTest for Halved {
     ghost good = { λ _ row. IsHalvedRow row };
 
     fn passes(&self, row: &Row) -> bool {
-        if !text_is(row, 0, "two") {
+        if !text_is(row, Self::KIND, "two") {
             return true;
         }
-        if !are_next(row, 1, 2) {
+        if !are_next(row, Self::LOW_ZOOM, Self::HIGH_ZOOM) {
             return true;
         }
         are_halved(row)

@@ -13,41 +13,81 @@ use mm_queries::columns::{number_is, text_is};
 use mm_walk::row_tests::{RowTest, each_passes};
 use sqlite::{Alter, Connection, Row, params};
 
-/// Whether the first five columns are those of the system of geographic coordinates.
+/// Whether the columns of the system of geographic coordinates are as they were given.
 fn is_geographic(row: &Row) -> bool
     ensures { IsTrue result ↔ shows_by geographic (column row.now 0) (column row.now 1) (column row.now 2) (column row.now 3) (column row.now 4) }
 {
-    text_is(row, 0, "WGS 84 geographic")
-        && text_is(row, 1, "EPSG")
-        && number_is(row, 2, 4326)
-        && text_is(row, 3, "EPSG:4326")
-        && text_is(row, 4, "longitude and latitude")
+    text_is(row, Given::GEOGRAPHIC_NAME, "WGS 84 geographic")
+        && text_is(row, Given::GEOGRAPHIC_ORGANIZATION, "EPSG")
+        && number_is(row, Given::GEOGRAPHIC_NUMBER, 4326)
+        && text_is(row, Given::GEOGRAPHIC_DEFINITION, "EPSG:4326")
+        && text_is(row, Given::GEOGRAPHIC_DESCRIPTION, "longitude and latitude")
 }
 
-/// Whether the next five are those of the undefined Cartesian system.
+/// Whether those of the undefined Cartesian system are.
 fn is_undefined_cartesian(row: &Row) -> bool
     ensures { IsTrue result ↔ shows_by undefined_cartesian (column row.now 5) (column row.now 6) (column row.now 7) (column row.now 8) (column row.now 9) }
 {
-    text_is(row, 5, "Undefined Cartesian")
-        && text_is(row, 6, "NONE")
-        && number_is(row, 7, -1)
-        && text_is(row, 8, "undefined")
-        && text_is(row, 9, "undefined Cartesian coordinates")
+    text_is(row, Given::CARTESIAN_NAME, "Undefined Cartesian")
+        && text_is(row, Given::CARTESIAN_ORGANIZATION, "NONE")
+        && number_is(row, Given::CARTESIAN_NUMBER, -1)
+        && text_is(row, Given::CARTESIAN_DEFINITION, "undefined")
+        && text_is(
+            row,
+            Given::CARTESIAN_DESCRIPTION,
+            "undefined Cartesian coordinates",
+        )
 }
 
-/// Whether the last five are those of the undefined geographic system.
+/// Whether those of the undefined geographic system are.
 fn is_undefined_geographic(row: &Row) -> bool
     ensures { IsTrue result ↔ shows_by undefined_geographic (column row.now 10) (column row.now 11) (column row.now 12) (column row.now 13) (column row.now 14) }
 {
-    text_is(row, 10, "Undefined geographic")
-        && text_is(row, 11, "NONE")
-        && number_is(row, 12, 0)
-        && text_is(row, 13, "undefined")
-        && text_is(row, 14, "undefined geographic coordinates")
+    text_is(row, Given::UNDEFINED_NAME, "Undefined geographic")
+        && text_is(row, Given::UNDEFINED_ORGANIZATION, "NONE")
+        && number_is(row, Given::UNDEFINED_NUMBER, 0)
+        && text_is(row, Given::UNDEFINED_DEFINITION, "undefined")
+        && text_is(
+            row,
+            Given::UNDEFINED_DESCRIPTION,
+            "undefined geographic coordinates",
+        )
 }
 
 /// The columns of the three given systems, one after another.
 struct Given;
+
+impl Given {
+    const GEOGRAPHIC_NAME: usize = 0;
+
+    const GEOGRAPHIC_ORGANIZATION: usize = 1;
+
+    const GEOGRAPHIC_NUMBER: usize = 2;
+
+    const GEOGRAPHIC_DEFINITION: usize = 3;
+
+    const GEOGRAPHIC_DESCRIPTION: usize = 4;
+
+    const CARTESIAN_NAME: usize = 5;
+
+    const CARTESIAN_ORGANIZATION: usize = 6;
+
+    const CARTESIAN_NUMBER: usize = 7;
+
+    const CARTESIAN_DEFINITION: usize = 8;
+
+    const CARTESIAN_DESCRIPTION: usize = 9;
+
+    const UNDEFINED_NAME: usize = 10;
+
+    const UNDEFINED_ORGANIZATION: usize = 11;
+
+    const UNDEFINED_NUMBER: usize = 12;
+
+    const UNDEFINED_DEFINITION: usize = 13;
+
+    const UNDEFINED_DESCRIPTION: usize = 14;
+}
 
 impl RowTest for Given {
     ghost good = { λ _ row. IsGivenRow row };

@@ -15,12 +15,22 @@ use sqlite::{Alter, Connection, Row};
 /// A tile with the sides of the matrix at its zoom.
 struct Inside;
 
+impl Inside {
+    const COLUMN: usize = 0;
+
+    const ROW: usize = 1;
+
+    const WIDTH: usize = 2;
+
+    const HEIGHT: usize = 3;
+}
+
 impl RowTest for Inside {
     ghost good = { λ _ row. IsInsideRow row };
 
     fn passes(&self, row: &Row) -> bool {
-        let place = (number(row, 0), number(row, 1));
-        let sides = (number(row, 2), number(row, 3));
+        let place = (number(row, Self::COLUMN), number(row, Self::ROW));
+        let sides = (number(row, Self::WIDTH), number(row, Self::HEIGHT));
         match (place, sides) {
             ((Some(column), Some(line)), (Some(width), Some(height))) => {
                 0 <= column && column < width && 0 <= line && line < height

@@ -74,10 +74,10 @@ pub fn set_systems<S: Alter>(conn: &mut Connection<S>) -> Result<bool, Fault>
 pub fn named_systems<S: Alter>(conn: &mut Connection<S>) -> Result<bool, Fault>
     ensures { (profile : Profile) → IsCheck profile (state S.Store conn.old) (state S.Store conn.new) (λ _. ⊤) (λ p. NamedSystems p.systems p.contents p.kinds p.sets) result }
 {
-    match contents_systems(conn) {
-        Ok(true) => set_systems(conn),
-        Ok(false) => Ok(false),
-        Err(fault) => Err(fault),
+    if contents_systems(conn)? {
+        set_systems(conn)
+    } else {
+        Ok(false)
     }
 }
 
@@ -263,10 +263,10 @@ pub fn sets_have_contents<S: Alter>(conn: &mut Connection<S>) -> Result<bool, Fa
 pub fn have_contents<S: Alter>(conn: &mut Connection<S>) -> Result<bool, Fault>
     ensures { (profile : Profile) → IsCheck profile (state S.Store conn.old) (state S.Store conn.new) (λ _. ⊤) (λ p. KindsHaveContents p × SetsHaveContents p) result }
 {
-    match kinds_have_contents(conn) {
-        Ok(true) => sets_have_contents(conn),
-        Ok(false) => Ok(false),
-        Err(fault) => Err(fault),
+    if kinds_have_contents(conn)? {
+        sets_have_contents(conn)
+    } else {
+        Ok(false)
     }
 }
 
@@ -274,10 +274,10 @@ pub fn have_contents<S: Alter>(conn: &mut Connection<S>) -> Result<bool, Fault>
 pub fn registry<S: Alter>(conn: &mut Connection<S>) -> Result<bool, Fault>
     ensures { (profile : Profile) → IsCheck profile (state S.Store conn.old) (state S.Store conn.new) (λ _. ⊤) (λ p. Registry p.contents p.kinds p.sets) result }
 {
-    match registered(conn) {
-        Ok(true) => have_contents(conn),
-        Ok(false) => Ok(false),
-        Err(fault) => Err(fault),
+    if registered(conn)? {
+        have_contents(conn)
+    } else {
+        Ok(false)
     }
 }
 
@@ -340,9 +340,9 @@ pub fn contents_extents<S: Alter>(conn: &mut Connection<S>) -> Result<bool, Faul
 pub fn extents<S: Alter>(conn: &mut Connection<S>) -> Result<bool, Fault>
     ensures { (profile : Profile) → IsCheck profile (state S.Store conn.old) (state S.Store conn.new) (λ _. ⊤) (λ p. Extents p.contents p.sets) result }
 {
-    match set_extents(conn) {
-        Ok(true) => contents_extents(conn),
-        Ok(false) => Ok(false),
-        Err(fault) => Err(fault),
+    if set_extents(conn)? {
+        contents_extents(conn)
+    } else {
+        Ok(false)
     }
 }

@@ -113,10 +113,10 @@ pub fn unnamed_once<S: Alter>(conn: &mut Connection<S>) -> Result<bool, Fault>
 pub fn extensions_once<S: Alter>(conn: &mut Connection<S>) -> Result<bool, Fault>
     ensures { (profile : Profile) → IsCheck profile (state S.Store conn.old) (state S.Store conn.new) (λ _. ⊤) (λ p. ExtensionsOnce p) result }
 {
-    match named_once(conn) {
-        Ok(true) => unnamed_once(conn),
-        Ok(false) => Ok(false),
-        Err(fault) => Err(fault),
+    if named_once(conn)? {
+        unnamed_once(conn)
+    } else {
+        Ok(false)
     }
 }
 
@@ -192,10 +192,10 @@ pub fn zoom_extensions<S: Alter>(conn: &mut Connection<S>) -> Result<bool, Fault
 pub fn pyramids_marked<S: Alter>(conn: &mut Connection<S>) -> Result<bool, Fault>
     ensures { (profile : Profile) → IsCheck profile (state S.Store conn.old) (state S.Store conn.new) (λ _. ⊤) (λ p. MappingExtensions p × ZoomExtensions p) result }
 {
-    match mapping_extensions(conn) {
-        Ok(true) => zoom_extensions(conn),
-        Ok(false) => Ok(false),
-        Err(fault) => Err(fault),
+    if mapping_extensions(conn)? {
+        zoom_extensions(conn)
+    } else {
+        Ok(false)
     }
 }
 
@@ -203,10 +203,10 @@ pub fn pyramids_marked<S: Alter>(conn: &mut Connection<S>) -> Result<bool, Fault
 pub fn all_stand<S: Alter>(conn: &mut Connection<S>) -> Result<bool, Fault>
     ensures { (profile : Profile) → IsCheck profile (state S.Store conn.old) (state S.Store conn.new) (λ _. ⊤) (λ p. GeneralExtension p × (MappingExtensions p × ZoomExtensions p)) result }
 {
-    match general_extension(conn) {
-        Ok(true) => pyramids_marked(conn),
-        Ok(false) => Ok(false),
-        Err(fault) => Err(fault),
+    if general_extension(conn)? {
+        pyramids_marked(conn)
+    } else {
+        Ok(false)
     }
 }
 
@@ -214,10 +214,10 @@ pub fn all_stand<S: Alter>(conn: &mut Connection<S>) -> Result<bool, Fault>
 pub fn all_stand_once<S: Alter>(conn: &mut Connection<S>) -> Result<bool, Fault>
     ensures { (profile : Profile) → IsCheck profile (state S.Store conn.old) (state S.Store conn.new) (λ _. ⊤) (λ p. ExtensionsOnce p × (GeneralExtension p × (MappingExtensions p × ZoomExtensions p))) result }
 {
-    match extensions_once(conn) {
-        Ok(true) => all_stand(conn),
-        Ok(false) => Ok(false),
-        Err(fault) => Err(fault),
+    if extensions_once(conn)? {
+        all_stand(conn)
+    } else {
+        Ok(false)
     }
 }
 
@@ -225,9 +225,9 @@ pub fn all_stand_once<S: Alter>(conn: &mut Connection<S>) -> Result<bool, Fault>
 pub fn extensions<S: Alter>(conn: &mut Connection<S>) -> Result<bool, Fault>
     ensures { (profile : Profile) → IsCheck profile (state S.Store conn.old) (state S.Store conn.new) (λ _. ⊤) (λ p. ExactExtensions p.kinds p.relations p.extensions) result }
 {
-    match extensions_wanted(conn) {
-        Ok(true) => all_stand_once(conn),
-        Ok(false) => Ok(false),
-        Err(fault) => Err(fault),
+    if extensions_wanted(conn)? {
+        all_stand_once(conn)
+    } else {
+        Ok(false)
     }
 }

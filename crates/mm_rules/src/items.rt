@@ -73,10 +73,10 @@ pub fn media_in_tables<S: Alter>(conn: &mut Connection<S>) -> Result<bool, Fault
 pub fn items<S: Alter>(conn: &mut Connection<S>) -> Result<bool, Fault>
     ensures { (profile : Profile) → IsCheck profile (state S.Store conn.old) (state S.Store conn.new) (λ _. ⊤) (λ p. Items p.kinds p.rows p.media) result }
 {
-    match rows_in_tables(conn) {
-        Ok(true) => media_in_tables(conn),
-        Ok(false) => Ok(false),
-        Err(fault) => Err(fault),
+    if rows_in_tables(conn)? {
+        media_in_tables(conn)
+    } else {
+        Ok(false)
     }
 }
 

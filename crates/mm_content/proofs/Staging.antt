@@ -1,5 +1,5 @@
--- A command whose bytes are those of a staged piece.
-use Rattle.std.proofs.Common.{◌≡◌, ℕ, ℤ, pos, List, [], ◌∷◌, Option, Some, None, Result, Ok, Err, refl, sym, ap, subst, ◌∙◌, arith}
+-- The blob that a staged piece names, and a write that takes it.
+use Rattle.std.proofs.Common.{◌≡◌, ℕ, ℤ, pos, List, [], ◌∷◌, Option, Some, None, Result, Err, sym, ap, subst, ◌∙◌}
 use Rattle.std.specs.Prelude.{⊤}
 use Rattle.std.specs.FinMap.{FinMap, get}
 use Rattle.sqlite.specs.declared.types.Value.TheVariants.{Int}
@@ -13,34 +13,22 @@ use Rattle.sql_forms.proofs.Selects.{shows}
 use Rattle.mm_base.specs.Bounds.{Profile}
 use Rattle.mm_base.specs.Keys.{Text, PieceKey, piece, piece_cmp}
 use Rattle.mm_base.specs.Package.{Package, PieceRow}
-use Rattle.mm_base.specs.Rules.{Meets}
-use Rattle.mm_base.specs.Stamp.{IsStamp}
-use Rattle.mm_base.specs.Step.{refusal, step, done, unless_refused}
 use Rattle.mm_base.specs.declared.answers.Fault.{Fault}
-use Rattle.mm_base.specs.declared.answers.Outcome.{Outcome}
-use Rattle.mm_base.specs.declared.answers.Outcome.TheVariants.{Done, Refused}
-use Rattle.mm_base.specs.declared.answers.Refusal.{Refusal}
-use Rattle.mm_base.specs.declared.commands.Command.{Command}
 use Rattle.mm_base.proofs.Parts.{same_some}
-use Rattle.mm_laws.proofs.OneStamp.{stamp_only}
 use Rattle.mm_store.specs.Blobs.{Shelf, StandsAt, Told, bytes_at}
 use Rattle.mm_store.specs.Faults.{IsStoreFault}
 use Rattle.mm_store.specs.Kept.{Spare, no_spare, piece_id, piece_with}
 use Rattle.mm_store.specs.Rows.{past_rowid, maybe, StagedRow, staged_row}
-use Rattle.mm_store.specs.Stands.{Ground, IsInside}
-use Rattle.mm_store.specs.Shapes.{IsLook, IsChange, Answers}
+use Rattle.mm_store.specs.Stands.{Ground}
+use Rattle.mm_store.specs.Shapes.{IsChange}
 use Rattle.mm_store.specs.Statements.{IsAsked}
 use Rattle.mm_store.proofs.Keys as parts
 use Rattle.mm_store.proofs.Keys.{by_piece}
 use Rattle.mm_store.proofs.Parts.{finds_some}
-use Rattle.mm_store.proofs.Shapes.{quiet_then}
 use Rattle.mm_blobs.specs.Moves.{GivesNumber, IsMove}
 use Rattle.mm_blobs.specs.Views.{View, IsSeen}
 use Rattle.mm_blobs.proofs.Opening.{opens}
-use Rattle.mm_contents.specs.Stamped.{step_at}
-use Rattle.mm_content.specs.Staged.{HasBytes, IsLentWhere}
-
--- ---- the blob that a piece names
+use Rattle.mm_content.specs.Staged.{HasBytes}
 
 maybe_some : (id : ℤ) (o : Option ℤ) → maybe o ≡ Int id → o ≡ Some id
 maybe_some id None e = absurd cc
@@ -67,56 +55,6 @@ module _ (rows : List Row) (ids : FinMap piece_cmp StagedRow) (h : Holds past_ro
       let at = finds_some parts.pieces rows ids h key (shows (col 1 14 ∷ []) params) gives.0 (subst (Finds (by_piece key) (shows (col 1 14 ∷ []) params) rows) gives.1 found) in
       let shown : maybe at.0.blob ≡ Int id = sym (columns_are at.2 (staged_row key at.0) 13 at.3) ∙ sym (ap (λ (r : Row). column r 0) at.4) ∙ gives.2 in
       stands_at shelf at.0 has.0 id bytes (subst (λ o. Told piece_id piece_with shelf (Some at.0) o) has.1 (subst (λ o. Told piece_id piece_with shelf o (get p.pieces key)) at.1 told)) (maybe_some id at.0.blob shown) has.2
-
--- ---- looks and changes that make the lent call
-
-module _ (When : Package → Type 0) (profile : Profile) (c : Command) (at : Text) where
-  abbrev IsLentSo : State → State → Result Outcome Fault → Type 0
-  IsLentSo old new result = IsLentWhere When profile c (λ p. step_at p c at) old new result
-
-  -- at the stamp of a moment
-  pub at_moment_where : (old new : State) (result : Result Outcome Fault) → IsLentSo old new result → (moment : ℕ) → IsStamp moment at → IsLentWhere When profile c (λ p. step p c moment) old new result
-  at_moment_where old new result lent moment stamped = record {
-    survives = lent.survives;
-    on = lent.on;
-    answers = λ clean ground p it when. subst (λ t. Answers profile new ground p (refusal p c) (step_at p c t) result) (stamp_only moment at stamped) (lent.answers clean ground p it when);
-    faults = lent.faults;
-  }
-
-  -- the look finds the refusal
-  pub refuses_where : {T : Type 0} {Says : Package → T → Type 0} (old new : State) (x : T) (why : Refusal) → IsLook profile old new Says (Ok x)
-      → ((p : Package) → Meets profile p → Says p x → refusal p c ≡ Some why) → IsLentSo old new (Ok (Refused why))
-  refuses_where old new x why look finds = record {
-    survives = look.survives;
-    on = λ clean ground p it when. look.on clean ground p it.inside;
-    answers = λ clean ground p it when. let found = look.looked clean ground p it.inside in (finds p it.meets found.2, found.1);
-    faults = tt;
-  }
-
-  pub look_gave_up_where : {T : Type 0} {Says : Package → T → Type 0} (old new : State) (e : Fault) → IsLook profile {T = T} old new Says (Err e) → IsLentSo old new (Err e)
-  look_gave_up_where old new e look = record { survives = look.survives; on = λ clean ground p it when. look.on clean ground p it.inside; answers = λ clean ground p it when. tt; faults = look.faults }
-
-  -- the look finds no refusal, and the change is made where this holds
-  module _ {T U : Type 0} {Says : Package → T → Type 0} {change : Package → Package} (old mid new : State) (x : T) (look : IsLook profile old mid Says (Ok x)) where
-    pub accepts_where : (u : U) → IsChange profile mid new When change (Ok u) → ((p : Package) → Meets profile p → Says p x → (refusal p c ≡ None) × (done p c at ≡ change p)) → IsLentSo old new (Ok Done)
-    accepts_where u made finds = record {
-      survives = quiet_then old mid new look.survives made.survives;
-      on = λ clean ground p it when. made.on clean ground p (look.looked (omega (arith, made.survives.clean)) ground p it.inside).1 when;
-      answers = λ clean ground p it when.
-          let found = look.looked (omega (arith, made.survives.clean)) ground p it.inside in
-          let f = finds p it.meets found.2 in
-          let end = made.made clean ground p found.1 when in
-          (f.0, end.0, subst (IsInside profile new ground) (sym (ap (λ r. unless_refused r (done p c at) p) f.0 ∙ f.1)) end.1);
-      faults = tt;
-    }
-
-    pub change_gave_up_where : (e : Fault) → IsChange profile {T = U} mid new When change (Err e) → IsLentSo old new (Err e)
-    change_gave_up_where e made = record {
-      survives = quiet_then old mid new look.survives made.survives;
-      on = λ clean ground p it when. made.on clean ground p (look.looked (omega (arith, made.survives.clean)) ground p it.inside).1 when;
-      answers = λ clean ground p it when. tt;
-      faults = made.faults;
-    }
 
 -- a move that failed where this held
 pub failed_where : (profile : Profile) {T U : Type 0} {Last : Ground → View → T → View → Type 0} (old new : State) (When : Package → Type 0) (next : Package → Package) (e : Fault)

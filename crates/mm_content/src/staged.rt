@@ -5,16 +5,14 @@ ghost use Rattle.std.specs.FinMap.{insert};
 ghost use Rattle.sqlite.specs.Held.{state};
 ghost use Rattle.mm_base.specs.Bounds.{Profile};
 ghost use Rattle.mm_base.specs.Keys.{item, tile};
-ghost use Rattle.mm_base.specs.Stamp.{IsStamp};
-ghost use Rattle.mm_base.specs.Step.{step};
 ghost use Rattle.mm_base.specs.declared.commands.Command.TheVariants as commands;
 ghost use Rattle.mm_store.specs.Blobs.{bytes_at};
 ghost use Rattle.mm_store.specs.Kept.{Spare};
 ghost use Rattle.mm_store.specs.Shapes.{IsChange};
 ghost use Rattle.mm_blobs.specs.Moves.{IsMove};
 ghost use Rattle.mm_blobs.specs.Views.{IsSeen};
-ghost use Rattle.mm_contents.specs.Stamped.{step_at};
-ghost use Rattle.mm_content.specs.Staged.{HasBytes, IsLentWhere};
+ghost use Rattle.mm_contents.specs.Stamped.{IsLentWhere};
+ghost use Rattle.mm_content.specs.Staged.{HasBytes};
 
 use crate::kinds::plain_refusal;
 use crate::media::give_medium;
@@ -80,10 +78,8 @@ pub fn put_tile_of_piece<S: Alter>(
     at: &str,
 ) -> Result<Outcome, Fault>
     ensures same_reference { tx.new.conn.ghost_name ≡ tx.old.conn.ghost_name }
-    ensures any_text { (profile : Profile) (bytes : List ℕ) → IsLentWhere (HasBytes edition.now number bytes) profile (commands.Tile table.now zoom column row bytes)
-        (λ p. step_at p (commands.Tile table.now zoom column row bytes) at.now) (state S.Store tx.old.conn.now) (state S.Store tx.new.conn.now) result }
-    ensures lent { (profile : Profile) (moment : ℕ) → IsStamp moment at.now → (bytes : List ℕ) → IsLentWhere (HasBytes edition.now number bytes) profile (commands.Tile table.now zoom column row bytes)
-        (λ p. step p (commands.Tile table.now zoom column row bytes) moment) (state S.Store tx.old.conn.now) (state S.Store tx.new.conn.now) result }
+    ensures lent { (profile : Profile) (bytes : List ℕ) → IsLentWhere (HasBytes edition.now number bytes) profile
+        (commands.Tile table.now zoom column row bytes) at.now (state S.Store tx.old.conn.now) (state S.Store tx.new.conn.now) result }
 {
     let table = table.as_str();
     match tile_refusal(tx, table, zoom, column, row) {
@@ -136,10 +132,8 @@ pub fn put_media_of_piece<S: Alter>(
     at: &str,
 ) -> Result<Outcome, Fault>
     ensures same_reference { tx.new.conn.ghost_name ≡ tx.old.conn.ghost_name }
-    ensures any_text { (profile : Profile) (bytes : List ℕ) → IsLentWhere (HasBytes edition.now number bytes) profile (commands.Media table.now id content_type.now bytes)
-        (λ p. step_at p (commands.Media table.now id content_type.now bytes) at.now) (state S.Store tx.old.conn.now) (state S.Store tx.new.conn.now) result }
-    ensures lent { (profile : Profile) (moment : ℕ) → IsStamp moment at.now → (bytes : List ℕ) → IsLentWhere (HasBytes edition.now number bytes) profile (commands.Media table.now id content_type.now bytes)
-        (λ p. step p (commands.Media table.now id content_type.now bytes) moment) (state S.Store tx.old.conn.now) (state S.Store tx.new.conn.now) result }
+    ensures lent { (profile : Profile) (bytes : List ℕ) → IsLentWhere (HasBytes edition.now number bytes) profile
+        (commands.Media table.now id content_type.now bytes) at.now (state S.Store tx.old.conn.now) (state S.Store tx.new.conn.now) result }
 {
     let table = table.as_str();
     match plain_refusal(tx, table, PlainKind::Media) {

@@ -8,11 +8,10 @@ ghost use Rattle.mm_base.specs.Conditions.{least, own_reasons};
 ghost use Rattle.mm_base.specs.Keys.{level, tile};
 ghost use Rattle.mm_base.specs.Package.{Grid};
 ghost use Rattle.mm_base.specs.Rules.{Meets};
-ghost use Rattle.mm_base.specs.Stamp.{IsStamp};
 ghost use Rattle.mm_base.specs.declared.commands.Command.TheVariants as commands;
 ghost use Rattle.mm_store.specs.Blobs.{bytes_at};
 ghost use Rattle.mm_store.specs.Kept.{Spare};
-ghost use Rattle.mm_store.specs.Shapes.{IsLook, IsChange, IsLent};
+ghost use Rattle.mm_store.specs.Shapes.{IsLook, IsChange};
 ghost use Rattle.mm_blobs.specs.Entries.{spare_freed, with_tile, without_tile};
 ghost use Rattle.mm_blobs.specs.Moves.{IsMove};
 ghost use Rattle.mm_blobs.specs.Views.{IsSeen, spare_too, spare_but};
@@ -265,8 +264,8 @@ pub fn put_tile<S: Alter>(
     at: &str,
 ) -> Result<Outcome, Fault>
     ensures same_reference { tx.new.conn.ghost_name ≡ tx.old.conn.ghost_name }
-    ensures any_text { (profile : Profile) → IsLentAt profile (commands.Tile table.now zoom column row bytes.now) at.now (state S.Store tx.old.conn.now) (state S.Store tx.new.conn.now) result }
-    ensures lent { (profile : Profile) (moment : ℕ) → IsStamp moment at.now → IsLent profile (commands.Tile table.now zoom column row bytes.now) moment (state S.Store tx.old.conn.now) (state S.Store tx.new.conn.now) result }
+    ensures lent { (profile : Profile) → IsLentAt profile (commands.Tile table.now zoom column row bytes.now) at.now
+        (state S.Store tx.old.conn.now) (state S.Store tx.new.conn.now) result }
 {
     let table = table.as_str();
     match tile_refusal(tx, table, zoom, column, row) {
@@ -325,8 +324,8 @@ pub fn drop_tile<S: Alter>(
     at: &str,
 ) -> Result<Outcome, Fault>
     ensures same_reference { tx.new.conn.ghost_name ≡ tx.old.conn.ghost_name }
-    ensures any_text { (profile : Profile) → IsLentAt profile (commands.TileDrop table.now zoom column row) at.now (state S.Store tx.old.conn.now) (state S.Store tx.new.conn.now) result }
-    ensures lent { (profile : Profile) (moment : ℕ) → IsStamp moment at.now → IsLent profile (commands.TileDrop table.now zoom column row) moment (state S.Store tx.old.conn.now) (state S.Store tx.new.conn.now) result }
+    ensures lent { (profile : Profile) → IsLentAt profile (commands.TileDrop table.now zoom column row) at.now
+        (state S.Store tx.old.conn.now) (state S.Store tx.new.conn.now) result }
 {
     let table = table.as_str();
     match tile_drop_refusal(tx, table, zoom, column, row) {

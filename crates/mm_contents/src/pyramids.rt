@@ -1,6 +1,6 @@
 //! Tile pyramids.
 
-ghost use Rattle.std.specs.Prelude.{◌≡◌, ◌||◌, ℕ, Some, None, int_le};
+ghost use Rattle.std.specs.Prelude.{◌≡◌, ◌||◌, Some, None, int_le};
 ghost use Rattle.std.specs.FinMap.{get, insert};
 ghost use Rattle.sqlite.specs.Held.{state};
 ghost use Rattle.mm_base.specs.Bounds.{Profile};
@@ -8,9 +8,8 @@ ghost use Rattle.mm_base.specs.Checks.{box_of};
 ghost use Rattle.mm_base.specs.Conditions.{least, own_reasons};
 ghost use Rattle.mm_base.specs.Effects.{with_pyramid, with_zoom_row};
 ghost use Rattle.mm_base.specs.Package.{zoom_extension};
-ghost use Rattle.mm_base.specs.Stamp.{IsStamp};
 ghost use Rattle.mm_base.specs.declared.commands.Command.TheVariants as commands;
-ghost use Rattle.mm_store.specs.Shapes.{IsLook, IsChange, IsLent};
+ghost use Rattle.mm_store.specs.Shapes.{IsLook, IsChange};
 ghost use Rattle.mm_contents.specs.Rows.{pyramid_contents, IsUnregistered};
 ghost use Rattle.mm_contents.specs.Stamped.{IsLentAt};
 
@@ -169,9 +168,8 @@ pub fn add_pyramid<S: Alter>(
     at: &str,
 ) -> Result<Outcome, Fault>
     ensures same_reference { tx.new.conn.ghost_name ≡ tx.old.conn.ghost_name }
-    ensures any_text { (profile : Profile) → IsLentAt profile (commands.Pyramid table.now identifier.now srs min_x min_y max_x max_y step) at.now (state S.Store tx.old.conn.now) (state S.Store tx.new.conn.now) result }
-    ensures lent { (profile : Profile) (moment : ℕ) → IsStamp moment at.now
-        → IsLent profile (commands.Pyramid table.now identifier.now srs min_x min_y max_x max_y step) moment (state S.Store tx.old.conn.now) (state S.Store tx.new.conn.now) result }
+    ensures lent { (profile : Profile) → IsLentAt profile (commands.Pyramid table.now identifier.now srs min_x min_y max_x max_y step) at.now
+        (state S.Store tx.old.conn.now) (state S.Store tx.new.conn.now) result }
 {
     let table = table.as_str();
     match pyramid_refusal(tx, table, identifier, srs, min_x, min_y, max_x, max_y) {

@@ -8,7 +8,6 @@ ghost use Rattle.mm_base.specs.Conditions.{least, own_reasons};
 ghost use Rattle.mm_base.specs.Effects.{plain_kind, is_other};
 ghost use Rattle.mm_base.specs.Effects as effects;
 ghost use Rattle.mm_base.specs.Package.{kind_text};
-ghost use Rattle.mm_base.specs.Stamp.{IsStamp};
 ghost use Rattle.mm_base.specs.declared.commands.Command.TheVariants as commands;
 ghost use Rattle.mm_blobs.specs.Moves.{IsMove};
 ghost use Rattle.mm_blobs.specs.Views.{IsSeen, ListsEach};
@@ -60,8 +59,8 @@ pub fn add_table<S: Alter>(
     at: &str,
 ) -> Result<Outcome, Fault>
     ensures same_reference { tx.new.conn.ghost_name ≡ tx.old.conn.ghost_name }
-    ensures any_text { (profile : Profile) → IsLentAt profile (commands.Table table.now kind identifier.now) at.now (state S.Store tx.old.conn.now) (state S.Store tx.new.conn.now) result }
-    ensures lent { (profile : Profile) (moment : ℕ) → IsStamp moment at.now → IsLent profile (commands.Table table.now kind identifier.now) moment (state S.Store tx.old.conn.now) (state S.Store tx.new.conn.now) result }
+    ensures lent { (profile : Profile) → IsLentAt profile (commands.Table table.now kind identifier.now) at.now
+        (state S.Store tx.old.conn.now) (state S.Store tx.new.conn.now) result }
 {
     let table = table.as_str();
     match table_refusal(tx, table, identifier) {

@@ -5,6 +5,7 @@ ghost use Rattle.sqlite.specs.Held.{state};
 ghost use Rattle.mm_base.specs.Bounds.{current};
 ghost use Rattle.mm_base.specs.Stamp.{IsStamp};
 ghost use Rattle.mm_store.specs.Shapes.{IsLent, IsTried};
+ghost use Rattle.mm_contents.specs.Stamped.{IsLentAt};
 ghost use Rattle.mm_core.specs.Groups.{lays_out, lays_out_pyramid, changes_tile, changes_item, relates, prepares_edition, rehearses};
 
 use mm_base::answers::{Fault, Outcome};
@@ -25,7 +26,7 @@ fn lay_out<S: Alter>(
 ) -> Result<Outcome, Fault>
     requires { lays_out command.now ≡ true }
     ensures same_reference { tx.new.conn.ghost_name ≡ tx.old.conn.ghost_name }
-    ensures lent { (moment : ℕ) → IsStamp moment at.now → IsLent current command.now moment (state S.Store tx.old.conn.now) (state S.Store tx.new.conn.now) result }
+    ensures lent { IsLentAt current command.now at.now (state S.Store tx.old.conn.now) (state S.Store tx.new.conn.now) result }
 {
     match command {
         Command::Srs {
@@ -62,7 +63,7 @@ fn lay_out_pyramid<S: Alter>(
 ) -> Result<Outcome, Fault>
     requires { lays_out_pyramid command.now ≡ true }
     ensures same_reference { tx.new.conn.ghost_name ≡ tx.old.conn.ghost_name }
-    ensures lent { (moment : ℕ) → IsStamp moment at.now → IsLent current command.now moment (state S.Store tx.old.conn.now) (state S.Store tx.new.conn.now) result }
+    ensures lent { IsLentAt current command.now at.now (state S.Store tx.old.conn.now) (state S.Store tx.new.conn.now) result }
 {
     match command {
         Command::Pyramid {
@@ -103,7 +104,7 @@ fn change_tile<S: Alter>(
 ) -> Result<Outcome, Fault>
     requires { changes_tile command.now ≡ true }
     ensures same_reference { tx.new.conn.ghost_name ≡ tx.old.conn.ghost_name }
-    ensures lent { (moment : ℕ) → IsStamp moment at.now → IsLent current command.now moment (state S.Store tx.old.conn.now) (state S.Store tx.new.conn.now) result }
+    ensures lent { IsLentAt current command.now at.now (state S.Store tx.old.conn.now) (state S.Store tx.new.conn.now) result }
 {
     match command {
         Command::Tile {
@@ -139,7 +140,7 @@ fn change_item<S: Alter>(
 ) -> Result<Outcome, Fault>
     requires { changes_item command.now ≡ true }
     ensures same_reference { tx.new.conn.ghost_name ≡ tx.old.conn.ghost_name }
-    ensures lent { (moment : ℕ) → IsStamp moment at.now → IsLent current command.now moment (state S.Store tx.old.conn.now) (state S.Store tx.new.conn.now) result }
+    ensures lent { IsLentAt current command.now at.now (state S.Store tx.old.conn.now) (state S.Store tx.new.conn.now) result }
 {
     match command {
         Command::Row {

@@ -1,5 +1,5 @@
 -- Looks, changes and lent calls commit nothing, one after another too, whatever text they write.
-use Rattle.std.proofs.Common.{ℕ, Result, Ok, Err}
+use Rattle.std.proofs.Common.{Result, Ok, Err}
 use Rattle.sqlite.specs.State.{State}
 use Rattle.mm_base.specs.Bounds.{Profile}
 use Rattle.mm_base.specs.Keys.{Text}
@@ -7,21 +7,14 @@ use Rattle.mm_base.specs.Package.{Package}
 use Rattle.mm_base.specs.declared.answers.Fault.{Fault}
 use Rattle.mm_base.specs.declared.answers.Outcome.{Outcome}
 use Rattle.mm_base.specs.declared.commands.Command.{Command}
-use Rattle.mm_store.specs.Shapes.{IsLook, IsChange, IsLent}
+use Rattle.mm_store.specs.Shapes.{IsLook, IsChange}
 use Rattle.mm_store.specs.Statements.{CommitsNothing}
 use Rattle.mm_store.proofs.Shapes.{quiet_then}
-use Rattle.mm_contents.specs.Stamped.{IsLentAt}
-use Rattle.mm_content.specs.Staged.{IsLentWhere}
+use Rattle.mm_contents.specs.Stamped.{IsLentWhere}
 use Rattle.mm_edition.specs.Quiet.{IsQuiet}
 
-pub lent_quiet : (profile : Profile) (c : Command) (moment : ℕ) (old new : State) (result : Result Outcome Fault) → IsLent profile c moment old new result → IsQuiet old new result
-lent_quiet profile c moment old new result lent = record { survives = lent.survives; faults = lent.faults }
-
-pub lent_at_quiet : (profile : Profile) (c : Command) (at : Text) (old new : State) (result : Result Outcome Fault) → IsLentAt profile c at old new result → IsQuiet old new result
-lent_at_quiet profile c at old new result lent = record { survives = lent.survives; faults = lent.faults }
-
-pub lent_where_quiet : (When : Package → Type 0) (profile : Profile) (c : Command) (after : Package → Package) (old new : State) (result : Result Outcome Fault) → IsLentWhere When profile c after old new result → IsQuiet old new result
-lent_where_quiet When profile c after old new result lent = record { survives = lent.survives; faults = lent.faults }
+pub lent_quiet : (When : Package → Type 0) (profile : Profile) (c : Command) (at : Text) (old new : State) (result : Result Outcome Fault) → IsLentWhere When profile c at old new result → IsQuiet old new result
+lent_quiet When profile c at old new result lent = record { survives = lent.survives; faults = lent.faults }
 
 pub look_quiet : (profile : Profile) {T : Type 0} {Says : Package → T → Type 0} (old new : State) (result : Result T Fault) → IsLook profile old new Says result → IsQuiet old new result
 look_quiet profile old new result look = record { survives = look.survives; faults = look.faults }

@@ -1,5 +1,6 @@
 -- How the look for a piece and the call that it is taken as make one turn of publishing.
 use Rattle.std.proofs.Common.{◌≡◌, ℕ, ℤ, pos, List, Option, Some, None, option_map, Result, Ok, Err, refl, sym, ap, subst, ◌∙◌, arith}
+use Rattle.std.specs.Prelude.{⊤}
 use Rattle.std.specs.FinMap.{get}
 use Rattle.sqlite.specs.State.{State}
 use Rattle.mm_base.specs.Bounds.{Profile}
@@ -11,7 +12,7 @@ use Rattle.mm_base.specs.Stamp.{IsStamp, stamp}
 use Rattle.mm_base.specs.Within.{IsPieceWithin}
 use Rattle.mm_base.specs.Conditions.{least, piece_reasons}
 use Rattle.mm_base.specs.Effects.{piece_effect}
-use Rattle.mm_base.specs.Step.{refusal, refusal_of, step, done, unless_refused}
+use Rattle.mm_base.specs.Step.{refusal, refusal_of, done, unless_refused}
 use Rattle.mm_base.specs.declared.answers.Fault.{Fault}
 use Rattle.mm_base.specs.declared.answers.Outcome.{Outcome}
 use Rattle.mm_base.specs.declared.answers.Outcome.TheVariants as outcome
@@ -22,11 +23,12 @@ use Rattle.mm_base.specs.declared.commands.Piece.TheVariants as pieces
 use Rattle.mm_base.proofs.Parts.{same_some}
 use Rattle.mm_laws.proofs.Again.{same_limits}
 use Rattle.mm_laws.proofs.Published.{by_kind, piece_keeps}
-use Rattle.mm_laws.proofs.OneStamp.{stamped_moment}
+use Rattle.mm_laws.proofs.OneStamp.{stamped_moment, stamp_only}
 use Rattle.mm_laws.proofs.StampFound.{stamp_is}
 use Rattle.mm_store.specs.Stands.{Ground, IsInside}
-use Rattle.mm_store.specs.Shapes.{IsLook, IsLent, IsPut}
-use Rattle.mm_content.specs.Staged.{HasBytes, IsLentWhere}
+use Rattle.mm_store.specs.Shapes.{IsLook, IsPut}
+use Rattle.mm_contents.specs.Stamped.{step_at, IsLentAt, IsLentWhere}
+use Rattle.mm_content.specs.Staged.{HasBytes}
 use Rattle.mm_store.proofs.Shapes.{quiet_then}
 use Rattle.mm_edition.specs.Turns.{HoldsPiece, IsReady, IsTurn}
 use Rattle.mm_edition.specs.declared.running.Turn.TheVariants.{Done, End, Refused}
@@ -68,24 +70,19 @@ its_reason (Some n) why e = ap Some (ap (λ (r : Refusal). r.number) (same_some 
 stands_within : (profile : Profile) (q : Piece) → IsSpelled profile (piece_row q) → IsPieceWithin profile q
 stands_within profile q is = subst (IsPieceWithin profile) (same_some (sym (by_kind is.0) ∙ ap piece_by_kind (sym is.1) ∙ by_kind q)) is.2
 
--- a call that does the same whether this holds or not
-pub anywhere : (When : Package → Type 0) (profile : Profile) (c : Command) (moment : ℕ) (old new : State) (result : Result Outcome Fault) → IsLent profile c moment old new result → IsLentWhere When profile c (λ p. step p c moment) old new result
-anywhere When profile c moment old new result lent = record {
-  survives = lent.survives;
-  on = λ clean ground p it when. lent.on clean ground p it;
-  answers = λ clean ground p it when. lent.answers clean ground p it;
-  faults = lent.faults;
-}
-
 -- a call that is known to do so where more holds
-pub where_more : (When More : Package → Type 0) (profile : Profile) (c : Command) (after : Package → Package) (old new : State) (result : Result Outcome Fault) → ((p : Package) → More p → When p) → IsLentWhere When profile c after old new result
-    → IsLentWhere More profile c after old new result
-where_more When More profile c after old new result so lent = record {
+pub where_more : (When More : Package → Type 0) (profile : Profile) (c : Command) (at : Text) (old new : State) (result : Result Outcome Fault) → ((p : Package) → More p → When p) → IsLentWhere When profile c at old new result
+    → IsLentWhere More profile c at old new result
+where_more When More profile c at old new result so lent = record {
   survives = lent.survives;
   on = λ clean ground p it more. lent.on clean ground p it (so p more);
   answers = λ clean ground p it more. lent.answers clean ground p it (so p more);
   faults = lent.faults;
 }
+
+-- a call that does the same whether this holds or not
+pub anywhere : (More : Package → Type 0) (profile : Profile) (c : Command) (at : Text) (old new : State) (result : Result Outcome Fault) → IsLentAt profile c at old new result → IsLentWhere More profile c at old new result
+anywhere More profile c at old new result lent = where_more (λ p. ⊤) More profile c at old new result (λ p more. tt) lent
 
 -- the bytes of a piece that is a tile or a medium
 pub tile_bytes : (edition : Text) (number : ℕ) (table : Text) (zoom column row : ℕ) (bytes : List ℕ) (p : Package) → HoldsPiece edition number (pieces.Tile table zoom column row bytes) p → HasBytes edition number bytes p
@@ -121,9 +118,9 @@ module _ (profile : Profile) (edition : Text) (number moment : ℕ) where
     found_there : (ground : Ground) (p : Package) → IsReady profile old ground p → Found p found → HoldsPiece edition number q p
     found_there ground p it says = says it.meets ∙ ap (option_map piece_row) is
 
-    module _ (result : Result Outcome Fault) (lent : IsLentWhere (HoldsPiece edition number q) profile (piece_command q) (λ p. step p (piece_command q) moment) mid new result) where
-      pub turn_done : (at : Text) → IsStamp moment at → result ≡ Ok outcome.Done → IsTurn profile edition number moment old new (Ok Done)
-      turn_done at stamped done_is = record {
+    module _ (at : Text) (result : Result Outcome Fault) (lent : IsLentWhere (HoldsPiece edition number q) profile (piece_command q) at mid new result) where
+      pub turn_done : IsStamp moment at → result ≡ Ok outcome.Done → IsTurn profile edition number moment old new (Ok Done)
+      turn_done stamped done_is = record {
         survives = quiet_then old mid new look.survives lent.survives;
         on = λ clean ground p it.
             let seen = look.looked (omega (arith, lent.survives.clean)) ground p it.inside in
@@ -134,7 +131,7 @@ module _ (profile : Profile) (edition : Text) (number moment : ℕ) where
             let within = stands_within profile q (it.meets.q15.spelled _ _ there) in
             let end = (rw done_is at lent.answers) clean ground p (put mid ground p it seen.1 seen.2) there in
             let none = no_reason (least (piece_reasons p q)) (sym (piece_refusal p q) ∙ end.0) in
-            let next : step p (piece_command q) moment ≡ piece_effect p q (stamp moment) = ap (λ r. unless_refused r (done p (piece_command q) (stamp moment)) p) end.0 ∙ piece_done p q (stamp moment) in
+            let next : step_at p (piece_command q) at ≡ piece_effect p q (stamp moment) = ap (λ r. unless_refused r (done p (piece_command q) at) p) end.0 ∙ piece_done p q at ∙ ap (piece_effect p q) (stamp_only moment at stamped) in
             let low = stamped_moment moment at stamped in (
               q,
               there,

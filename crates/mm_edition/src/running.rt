@@ -3,12 +3,11 @@
 ghost use Rattle.std.specs.Prelude.{◌≡◌, ℕ, true};
 ghost use Rattle.sqlite.specs.Held.{state};
 ghost use Rattle.mm_base.specs.Bounds.{Profile};
+ghost use Rattle.mm_base.specs.Keys.{Text};
 ghost use Rattle.mm_base.specs.PieceGroups.{changes_tile, changes_item, changes_mapping, puts_matrix};
 ghost use Rattle.mm_base.specs.Pieces.{piece_command};
 ghost use Rattle.mm_base.specs.Stamp.{IsStamp};
-ghost use Rattle.mm_base.specs.Step.{step};
-ghost use Rattle.mm_store.specs.Shapes.{IsLent};
-ghost use Rattle.mm_content.specs.Staged.{IsLentWhere};
+ghost use Rattle.mm_contents.specs.Stamped.{IsLentAt, IsLentWhere};
 ghost use Rattle.mm_edition.specs.Quiet.{IsQuiet};
 ghost use Rattle.mm_edition.specs.Turns.{HoldsPiece, IsTurn};
 
@@ -39,8 +38,8 @@ fn run_tile<S: Alter>(
 ) -> Result<Outcome, Fault>
     requires { changes_tile piece.now ≡ true }
     ensures same_reference { tx.new.conn.ghost_name ≡ tx.old.conn.ghost_name }
-    ensures any_text { IsQuiet (state S.Store tx.old.conn.now) (state S.Store tx.new.conn.now) result }
-    ensures lent { (profile : Profile) (moment : ℕ) → IsStamp moment at.now → IsLentWhere (HoldsPiece edition.now number piece.now) profile (piece_command piece.now) (λ p. step p (piece_command piece.now) moment) (state S.Store tx.old.conn.now) (state S.Store tx.new.conn.now) result }
+    ensures lent { (profile : Profile) → IsLentWhere (HoldsPiece edition.now number piece.now) profile (piece_command piece.now) at.now
+        (state S.Store tx.old.conn.now) (state S.Store tx.new.conn.now) result }
 {
     match piece {
         Piece::Tile {
@@ -80,8 +79,8 @@ fn run_item<S: Alter>(
 ) -> Result<Outcome, Fault>
     requires { changes_item piece.now ≡ true }
     ensures same_reference { tx.new.conn.ghost_name ≡ tx.old.conn.ghost_name }
-    ensures any_text { IsQuiet (state S.Store tx.old.conn.now) (state S.Store tx.new.conn.now) result }
-    ensures lent { (profile : Profile) (moment : ℕ) → IsStamp moment at.now → IsLentWhere (HoldsPiece edition.now number piece.now) profile (piece_command piece.now) (λ p. step p (piece_command piece.now) moment) (state S.Store tx.old.conn.now) (state S.Store tx.new.conn.now) result }
+    ensures lent { (profile : Profile) → IsLentWhere (HoldsPiece edition.now number piece.now) profile (piece_command piece.now) at.now
+        (state S.Store tx.old.conn.now) (state S.Store tx.new.conn.now) result }
 {
     match piece {
         Piece::Row {
@@ -123,7 +122,8 @@ fn run_item<S: Alter>(
 fn run_mapping<S: Alter>(tx: &mut Transaction<'_, S>, piece: &Piece) -> Result<Outcome, Fault>
     requires { changes_mapping piece.now ≡ true }
     ensures same_reference { tx.new.conn.ghost_name ≡ tx.old.conn.ghost_name }
-    ensures lent { (profile : Profile) (moment : ℕ) → IsLent profile (piece_command piece.now) moment (state S.Store tx.old.conn.now) (state S.Store tx.new.conn.now) result }
+    ensures lent { (profile : Profile) (text : Text) → IsLentAt profile (piece_command piece.now) text
+        (state S.Store tx.old.conn.now) (state S.Store tx.new.conn.now) result }
 {
     match piece {
         Piece::Map {
@@ -148,8 +148,8 @@ fn run_matrix<S: Alter>(
 ) -> Result<Outcome, Fault>
     requires { puts_matrix piece.now ≡ true }
     ensures same_reference { tx.new.conn.ghost_name ≡ tx.old.conn.ghost_name }
-    ensures any_text { IsQuiet (state S.Store tx.old.conn.now) (state S.Store tx.new.conn.now) result }
-    ensures lent { (profile : Profile) (moment : ℕ) → IsStamp moment at.now → IsLent profile (piece_command piece.now) moment (state S.Store tx.old.conn.now) (state S.Store tx.new.conn.now) result }
+    ensures lent { (profile : Profile) → IsLentAt profile (piece_command piece.now) at.now
+        (state S.Store tx.old.conn.now) (state S.Store tx.new.conn.now) result }
 {
     match piece {
         Piece::Matrix {
@@ -170,8 +170,8 @@ fn run_piece<S: Alter>(
     at: &str,
 ) -> Result<Outcome, Fault>
     ensures same_reference { tx.new.conn.ghost_name ≡ tx.old.conn.ghost_name }
-    ensures any_text { IsQuiet (state S.Store tx.old.conn.now) (state S.Store tx.new.conn.now) result }
-    ensures lent { (profile : Profile) (moment : ℕ) → IsStamp moment at.now → IsLentWhere (HoldsPiece edition.now number piece.now) profile (piece_command piece.now) (λ p. step p (piece_command piece.now) moment) (state S.Store tx.old.conn.now) (state S.Store tx.new.conn.now) result }
+    ensures lent { (profile : Profile) → IsLentWhere (HoldsPiece edition.now number piece.now) profile (piece_command piece.now) at.now
+        (state S.Store tx.old.conn.now) (state S.Store tx.new.conn.now) result }
 {
     match piece {
         Piece::Tile { .. } | Piece::TileDrop { .. } => run_tile(tx, edition, number, piece, at),

@@ -1,6 +1,6 @@
 //! Tile matrices.
 
-ghost use Rattle.std.specs.Prelude.{◌≡◌, ℕ, pos, None, MatchOption};
+ghost use Rattle.std.specs.Prelude.{◌≡◌, pos, None, MatchOption};
 ghost use Rattle.std.specs.FinMap.{get, contains_key, insert};
 ghost use Rattle.sqlite.specs.Held.{state};
 ghost use Rattle.mm_base.specs.Bounds.{Profile};
@@ -8,9 +8,8 @@ ghost use Rattle.mm_base.specs.Conditions.{least, own_reasons, grid};
 ghost use Rattle.mm_base.specs.Effects.{step_kind};
 ghost use Rattle.mm_base.specs.Keys.{level};
 ghost use Rattle.mm_base.specs.Rules.{Meets};
-ghost use Rattle.mm_base.specs.Stamp.{IsStamp};
 ghost use Rattle.mm_base.specs.declared.commands.Command.TheVariants as commands;
-ghost use Rattle.mm_store.specs.Shapes.{IsLook, IsChange, IsLent};
+ghost use Rattle.mm_store.specs.Shapes.{IsLook, IsChange};
 ghost use Rattle.mm_contents.specs.Stamped.{IsLentAt};
 ghost use Rattle.mm_matrices.specs.Shown.{IsPlainKind};
 
@@ -121,8 +120,8 @@ pub fn add_matrix<S: Alter>(
     at: &str,
 ) -> Result<Outcome, Fault>
     ensures same_reference { tx.new.conn.ghost_name ≡ tx.old.conn.ghost_name }
-    ensures any_text { (profile : Profile) → IsLentAt profile (commands.Matrix table.now zoom matrix.now) at.now (state S.Store tx.old.conn.now) (state S.Store tx.new.conn.now) result }
-    ensures lent { (profile : Profile) (moment : ℕ) → IsStamp moment at.now → IsLent profile (commands.Matrix table.now zoom matrix.now) moment (state S.Store tx.old.conn.now) (state S.Store tx.new.conn.now) result }
+    ensures lent { (profile : Profile) → IsLentAt profile (commands.Matrix table.now zoom matrix.now) at.now
+        (state S.Store tx.old.conn.now) (state S.Store tx.new.conn.now) result }
 {
     let table = table.as_str();
     match matrix_refusal(tx, table, zoom, matrix) {

@@ -5,26 +5,26 @@ use mir.Val.{SFits}
 use Rattle.mm_core.proofs.dispatching.change_item.Goals as goal
 
 pub returns-in-Row-clause-lent : goal.returns-in-Row-clause-lent
-returns-in-Row-clause-lent g c moment stamped =
+returns-in-Row-clause-lent g c =
     let id_fits : SFits w64 c.get.result = search rules in
     let amount_fits : SFits w64 c.get-in-Row.result = search rules in
-    let lent = simp to_z-of_z at (rw (c.as_str.ensures.text, c.as_str-in-Row.ensures.text) at (c.put_row.ensures.lent current moment stamped)) in
+    let lent = simp to_z-of_z at (rw (c.as_str.ensures.text, c.as_str-in-Row.ensures.text) at (c.put_row.ensures.lent current)) in
     rw c.in-Row.is (rw (c.get.ensures.number, c.get-in-Row.ensures.number) at lent)
 
 pub returns-in-RowDrop-clause-lent : goal.returns-in-RowDrop-clause-lent
-returns-in-RowDrop-clause-lent g c moment stamped =
+returns-in-RowDrop-clause-lent g c =
     let id_fits : SFits w64 c.get-in-RowDrop.result = search rules in
-    let lent = simp to_z-of_z at (c.drop_row.ensures.lent current moment stamped) in
+    let lent = simp to_z-of_z at (c.drop_row.ensures.lent current) in
     rw c.in-RowDrop.is (rw c.get-in-RowDrop.ensures.number at lent)
 
 pub returns-in-Media-clause-lent : goal.returns-in-Media-clause-lent
-returns-in-Media-clause-lent g c moment stamped =
+returns-in-Media-clause-lent g c =
     let id_fits : SFits w64 c.get-in-Media.result = search rules in
-    let lent = simp to_z-of_z at (rw (c.as_str-in-Media.ensures.text, c.as_slice.ensures.bytes) at (c.put_media.ensures.lent current moment stamped)) in
+    let lent = simp to_z-of_z at (rw (c.as_str-in-Media.ensures.text, c.as_slice.ensures.bytes) at (c.put_media.ensures.lent current)) in
     rw c.in-Media.is (rw c.get-in-Media.ensures.number at lent)
 
 pub returns-in-MediaDrop-clause-lent : goal.returns-in-MediaDrop-clause-lent
-returns-in-MediaDrop-clause-lent g c moment stamped =
+returns-in-MediaDrop-clause-lent g c =
     let id_fits : SFits w64 c.get-in-MediaDrop.result = search rules in
-    let lent = simp to_z-of_z at (c.drop_media.ensures.lent current moment stamped) in
+    let lent = simp to_z-of_z at (c.drop_media.ensures.lent current) in
     rw c.in-MediaDrop.is (rw c.get-in-MediaDrop.ensures.number at lent)

@@ -5,11 +5,11 @@ use mir.Val.{SFits}
 use Rattle.mm_core.proofs.dispatching.change_tile.Goals as goal
 
 pub returns-in-Tile-clause-lent : goal.returns-in-Tile-clause-lent
-returns-in-Tile-clause-lent g c moment stamped =
-    let lent = rw (c.get.ensures.number, c.get-in-Tile.ensures.number, c.get-in-Tile-2.ensures.number, c.as_slice.ensures.bytes) at (c.put_tile.ensures.lent current moment stamped) in
+returns-in-Tile-clause-lent g c =
+    let lent = rw (c.get.ensures.number, c.get-in-Tile.ensures.number, c.get-in-Tile-2.ensures.number, c.as_slice.ensures.bytes) at (c.put_tile.ensures.lent current) in
     rw c.in-Tile.is lent
 
 pub returns-in-TileDrop-clause-lent : goal.returns-in-TileDrop-clause-lent
-returns-in-TileDrop-clause-lent g c moment stamped =
-    let lent = rw (c.get-in-TileDrop.ensures.number, c.get-in-TileDrop-2.ensures.number, c.get-in-TileDrop-3.ensures.number) at (c.drop_tile.ensures.lent current moment stamped) in
+returns-in-TileDrop-clause-lent g c =
+    let lent = rw (c.get-in-TileDrop.ensures.number, c.get-in-TileDrop-2.ensures.number, c.get-in-TileDrop-3.ensures.number) at (c.drop_tile.ensures.lent current) in
     rw c.in-TileDrop.is lent

@@ -27,11 +27,15 @@ use sqlite::{Alter, Connection, Row};
 /// An edition with its state.
 struct State;
 
+impl State {
+    const STATE: usize = 0;
+}
+
 impl RowTest for State {
     ghost good = { λ _ row. IsStateRow row };
 
     fn passes(&self, row: &Row) -> bool {
-        text_is(row, 0, "open") || text_is(row, 0, "published")
+        text_is(row, Self::STATE, "open") || text_is(row, Self::STATE, "published")
     }
 }
 
@@ -50,11 +54,15 @@ pub fn edition_states<S: Alter>(conn: &mut Connection<S>) -> Result<bool, Fault>
 /// A piece with the state of its edition.
 struct OfOpen;
 
+impl OfOpen {
+    const STATE: usize = 0;
+}
+
 impl RowTest for OfOpen {
     ghost good = { λ _ row. IsOpenRow row };
 
     fn passes(&self, row: &Row) -> bool {
-        text_is(row, 0, "open")
+        text_is(row, Self::STATE, "open")
     }
 }
 
@@ -73,11 +81,18 @@ pub fn pieces_of_open<S: Alter>(conn: &mut Connection<S>) -> Result<bool, Fault>
 /// A piece with the one before it.
 struct Numbered;
 
+impl Numbered {
+    const NUMBER: usize = 0;
+
+    const BEFORE: usize = 1;
+}
+
 impl RowTest for Numbered {
     ghost good = { λ _ row. IsNumberedRow row };
 
     fn passes(&self, row: &Row) -> bool {
-        is_within(row, 0, 1, MOST_PIECES as i64) && (number_is(row, 0, 1) || stands(row, 1))
+        is_within(row, Self::NUMBER, 1, MOST_PIECES as i64)
+            && (number_is(row, Self::NUMBER, 1) || stands(row, Self::BEFORE))
     }
 }
 
@@ -96,90 +111,98 @@ pub fn pieces_numbered<S: Alter>(conn: &mut Connection<S>) -> Result<bool, Fault
 fn are_unused(row: &Row) -> bool
     ensures { IsTrue result ↔ AreUnused row.now }
 {
-    number_is(row, 5, 0) && number_is(row, 6, 0) && number_is(row, 7, 0) && number_is(row, 8, 0)
+    number_is(row, Spelled::K4, 0)
+        && number_is(row, Spelled::K5, 0)
+        && number_is(row, Spelled::K6, 0)
+        && number_is(row, Spelled::K7, 0)
 }
 
 fn has_no_texts(row: &Row) -> bool
     ensures { IsTrue result ↔ HasNoTexts row.now }
 {
-    text_is(row, 9, "") && text_is(row, 10, "")
+    text_is(row, Spelled::T1, "") && text_is(row, Spelled::T2, "")
 }
 
 fn has_no_bytes(row: &Row) -> bool
     ensures { IsTrue result ↔ HasNoBytes row.now }
 {
-    !stands(row, 11)
+    !stands(row, Spelled::BYTES)
 }
 
 fn is_place(row: &Row) -> bool
     ensures { IsTrue result ↔ IsPlace row.now }
 {
-    is_within(row, 2, 0, LAST_ZOOM as i64)
-        && is_within(row, 3, 0, LAST_PLACE as i64)
-        && is_within(row, 4, 0, LAST_PLACE as i64)
+    is_within(row, Spelled::K1, 0, LAST_ZOOM as i64)
+        && is_within(row, Spelled::K2, 0, LAST_PLACE as i64)
+        && is_within(row, Spelled::K3, 0, LAST_PLACE as i64)
 }
 
 fn is_item(row: &Row) -> bool
     ensures { IsTrue result ↔ IsItem row.now }
 {
-    is_within(row, 2, 1, LAST_ID as i64) && number_is(row, 3, 0) && number_is(row, 4, 0)
+    is_within(row, Spelled::K1, 1, LAST_ID as i64)
+        && number_is(row, Spelled::K2, 0)
+        && number_is(row, Spelled::K3, 0)
 }
 
 fn is_pair(row: &Row) -> bool
     ensures { IsTrue result ↔ IsPair row.now }
 {
-    is_within(row, 2, 1, LAST_ID as i64)
-        && is_within(row, 3, 1, LAST_ID as i64)
-        && number_is(row, 4, 0)
+    is_within(row, Spelled::K1, 1, LAST_ID as i64)
+        && is_within(row, Spelled::K2, 1, LAST_ID as i64)
+        && number_is(row, Spelled::K3, 0)
 }
 
 fn is_tile(row: &Row) -> bool
     ensures { IsTrue result ↔ IsTile row.now }
 {
-    text_is(row, 0, "tile")
+    text_is(row, Spelled::KIND, "tile")
         && is_place(row)
         && has_no_texts(row)
-        && is_blob_within(row, 11, MOST_TILE_BYTES)
+        && is_blob_within(row, Spelled::BYTES, MOST_TILE_BYTES)
 }
 
 fn is_tile_drop(row: &Row) -> bool
     ensures { IsTrue result ↔ IsTileDrop row.now }
 {
-    text_is(row, 0, "tile-drop") && is_place(row) && has_no_texts(row) && has_no_bytes(row)
+    text_is(row, Spelled::KIND, "tile-drop")
+        && is_place(row)
+        && has_no_texts(row)
+        && has_no_bytes(row)
 }
 
 fn is_row(row: &Row) -> bool
     ensures { IsTrue result ↔ IsRow row.now }
 {
-    text_is(row, 0, "row")
-        && is_within(row, 2, 1, LAST_ID as i64)
-        && is_within(row, 3, -(MOST_AMOUNT as i64), MOST_AMOUNT as i64)
-        && number_is(row, 4, 0)
-        && is_text_at(row, 9, 0, 1000)
-        && is_text_at(row, 10, 0, 1000)
+    text_is(row, Spelled::KIND, "row")
+        && is_within(row, Spelled::K1, 1, LAST_ID as i64)
+        && is_within(row, Spelled::K2, -(MOST_AMOUNT as i64), MOST_AMOUNT as i64)
+        && number_is(row, Spelled::K3, 0)
+        && is_text_at(row, Spelled::T1, 0, 1000)
+        && is_text_at(row, Spelled::T2, 0, 1000)
         && has_no_bytes(row)
 }
 
 fn is_item_drop(row: &Row, kind: &str) -> bool
     ensures { IsTrue result ↔ IsItemDrop kind.now row.now }
 {
-    text_is(row, 0, kind) && is_item(row) && has_no_texts(row) && has_no_bytes(row)
+    text_is(row, Spelled::KIND, kind) && is_item(row) && has_no_texts(row) && has_no_bytes(row)
 }
 
 fn is_media(row: &Row) -> bool
     ensures { IsTrue result ↔ IsMedia row.now }
 {
-    text_is(row, 0, "media")
+    text_is(row, Spelled::KIND, "media")
         && is_item(row)
-        && is_content_type_at(row, 9)
-        && text_is(row, 10, "")
-        && is_blob_within(row, 11, MOST_MEDIA_BYTES)
+        && is_content_type_at(row, Spelled::T1)
+        && text_is(row, Spelled::T2, "")
+        && is_blob_within(row, Spelled::BYTES, MOST_MEDIA_BYTES)
 }
 
 fn is_map(row: &Row, kind: &str) -> bool
     ensures { IsTrue result ↔ IsMap kind.now row.now }
 {
-    text_is(row, 0, kind) && is_pair(row) && has_no_texts(row) && has_no_bytes(row)
+    text_is(row, Spelled::KIND, kind) && is_pair(row) && has_no_texts(row) && has_no_bytes(row)
 }
 
 fn is_put(row: &Row) -> bool
@@ -206,21 +229,21 @@ fn is_content(row: &Row) -> bool
 fn are_sides(row: &Row) -> bool
     ensures { IsTrue result ↔ AreSides row.now }
 {
-    is_within(row, 3, 1, MOST_TILES as i64)
-        && is_within(row, 4, 1, MOST_TILES as i64)
-        && is_within(row, 5, 1, MOST_PIXELS as i64)
-        && is_within(row, 6, 1, MOST_PIXELS as i64)
+    is_within(row, Spelled::K2, 1, MOST_TILES as i64)
+        && is_within(row, Spelled::K3, 1, MOST_TILES as i64)
+        && is_within(row, Spelled::K4, 1, MOST_PIXELS as i64)
+        && is_within(row, Spelled::K5, 1, MOST_PIXELS as i64)
 }
 
 fn is_matrix(row: &Row, unit: Unit) -> bool
     ensures { IsTrue result ↔ IsMatrix (profile_of unit) row.now }
 {
     unit.takes_matrices()
-        && text_is(row, 0, "matrix")
-        && is_within(row, 2, 0, LAST_ZOOM as i64)
+        && text_is(row, Spelled::KIND, "matrix")
+        && is_within(row, Spelled::K1, 0, LAST_ZOOM as i64)
         && are_sides(row)
-        && is_pixel_size(row, 7, unit)
-        && is_pixel_size(row, 8, unit)
+        && is_pixel_size(row, Spelled::K6, unit)
+        && is_pixel_size(row, Spelled::K7, unit)
         && has_no_texts(row)
         && has_no_bytes(row)
 }
@@ -231,11 +254,37 @@ struct Spelled {
     unit: Unit,
 }
 
+impl Spelled {
+    const KIND: usize = 0;
+
+    const NAME: usize = 1;
+
+    const K1: usize = 2;
+
+    const K2: usize = 3;
+
+    const K3: usize = 4;
+
+    const K4: usize = 5;
+
+    const K5: usize = 6;
+
+    const K6: usize = 7;
+
+    const K7: usize = 8;
+
+    const T1: usize = 9;
+
+    const T2: usize = 10;
+
+    const BYTES: usize = 11;
+}
+
 impl RowTest for Spelled {
     ghost good = { λ it row. IsSpelledRow (profile_of it.unit) row };
 
     fn passes(&self, row: &Row) -> bool {
-        is_name_at(row, 1) && (is_content(row) || is_matrix(row, self.unit))
+        is_name_at(row, Self::NAME) && (is_content(row) || is_matrix(row, self.unit))
     }
 }
 

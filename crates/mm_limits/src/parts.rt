@@ -35,7 +35,10 @@ fn is_given(id: i64) -> bool
 fn are_system_numbers(row: &Row) -> bool
     ensures { IsTrue result ↔ numbers_by (number_of (column row.now 0)) (number_of (column row.now 3)) }
 {
-    match (number(row, 0), number(row, 3)) {
+    match (
+        number(row, System::ID),
+        number(row, System::ORGANIZATION_ID),
+    ) {
         (Some(id), Some(organization_id)) => {
             is_from(id, 1, LAST_ID as i64) && is_from(organization_id, 1, LAST_ID as i64)
                 || is_given(id) && is_from(organization_id, -1, LAST_ID as i64)
@@ -47,15 +50,29 @@ fn are_system_numbers(row: &Row) -> bool
 /// A row of reference systems, column by column.
 struct System;
 
+impl System {
+    const ID: usize = 0;
+
+    const NAME: usize = 1;
+
+    const ORGANIZATION: usize = 2;
+
+    const ORGANIZATION_ID: usize = 3;
+
+    const DEFINITION: usize = 4;
+
+    const DESCRIPTION: usize = 5;
+}
+
 impl RowTest for System {
     ghost good = { λ _ row. IsSystemWithinRow row };
 
     fn passes(&self, row: &Row) -> bool {
         are_system_numbers(row)
-            && is_text_at(row, 1, 1, 1000)
-            && is_text_at(row, 2, 1, 1000)
-            && is_text_at(row, 4, 1, 8192)
-            && is_text_at(row, 5, 0, 1000)
+            && is_text_at(row, Self::NAME, 1, 1000)
+            && is_text_at(row, Self::ORGANIZATION, 1, 1000)
+            && is_text_at(row, Self::DEFINITION, 1, 8192)
+            && is_text_at(row, Self::DESCRIPTION, 0, 1000)
     }
 }
 
@@ -77,20 +94,42 @@ struct Contents {
     unit: Unit,
 }
 
+impl Contents {
+    const TABLE: usize = 0;
+
+    const DATA_TYPE: usize = 1;
+
+    const IDENTIFIER: usize = 2;
+
+    const DESCRIPTION: usize = 3;
+
+    const LAST_CHANGE: usize = 4;
+
+    const MIN_X: usize = 5;
+
+    const MIN_Y: usize = 6;
+
+    const MAX_X: usize = 7;
+
+    const MAX_Y: usize = 8;
+
+    const SYSTEM: usize = 9;
+}
+
 impl RowTest for Contents {
     ghost good = { λ it row. IsContentsWithinRow (profile_of it.unit) row };
 
     fn passes(&self, row: &Row) -> bool {
-        is_name_at(row, 0)
-            && is_clean_at(row, 1)
-            && is_identifier_at(row, 2)
-            && text_is(row, 3, "")
-            && is_stamp_at(row, 4)
-            && is_coordinate_if_any(row, 5, self.unit)
-            && is_coordinate_if_any(row, 6, self.unit)
-            && is_coordinate_if_any(row, 7, self.unit)
-            && is_coordinate_if_any(row, 8, self.unit)
-            && is_within_if_any(row, 9, -1, LAST_ID as i64)
+        is_name_at(row, Self::TABLE)
+            && is_clean_at(row, Self::DATA_TYPE)
+            && is_identifier_at(row, Self::IDENTIFIER)
+            && text_is(row, Self::DESCRIPTION, "")
+            && is_stamp_at(row, Self::LAST_CHANGE)
+            && is_coordinate_if_any(row, Self::MIN_X, self.unit)
+            && is_coordinate_if_any(row, Self::MIN_Y, self.unit)
+            && is_coordinate_if_any(row, Self::MAX_X, self.unit)
+            && is_coordinate_if_any(row, Self::MAX_Y, self.unit)
+            && is_within_if_any(row, Self::SYSTEM, -1, LAST_ID as i64)
     }
 }
 
@@ -109,11 +148,17 @@ pub fn contents_within<S: Alter>(conn: &mut Connection<S>, unit: Unit) -> Result
 /// A row of the registry, column by column.
 struct Kind;
 
+impl Kind {
+    const TABLE: usize = 0;
+
+    const KIND: usize = 1;
+}
+
 impl RowTest for Kind {
     ghost good = { λ _ row. IsKindWithinRow row };
 
     fn passes(&self, row: &Row) -> bool {
-        is_name_at(row, 0) && is_clean_at(row, 1)
+        is_name_at(row, Self::TABLE) && is_clean_at(row, Self::KIND)
     }
 }
 
@@ -135,16 +180,30 @@ struct MatrixSet {
     unit: Unit,
 }
 
+impl MatrixSet {
+    const TABLE: usize = 0;
+
+    const SYSTEM: usize = 1;
+
+    const MIN_X: usize = 2;
+
+    const MIN_Y: usize = 3;
+
+    const MAX_X: usize = 4;
+
+    const MAX_Y: usize = 5;
+}
+
 impl RowTest for MatrixSet {
     ghost good = { λ it row. IsSetWithinRow (profile_of it.unit) row };
 
     fn passes(&self, row: &Row) -> bool {
-        is_name_at(row, 0)
-            && is_within(row, 1, -1, LAST_ID as i64)
-            && is_coordinate(row, 2, self.unit)
-            && is_coordinate(row, 3, self.unit)
-            && is_coordinate(row, 4, self.unit)
-            && is_coordinate(row, 5, self.unit)
+        is_name_at(row, Self::TABLE)
+            && is_within(row, Self::SYSTEM, -1, LAST_ID as i64)
+            && is_coordinate(row, Self::MIN_X, self.unit)
+            && is_coordinate(row, Self::MIN_Y, self.unit)
+            && is_coordinate(row, Self::MAX_X, self.unit)
+            && is_coordinate(row, Self::MAX_Y, self.unit)
     }
 }
 
@@ -166,18 +225,36 @@ struct Matrix {
     unit: Unit,
 }
 
+impl Matrix {
+    const TABLE: usize = 0;
+
+    const ZOOM: usize = 1;
+
+    const WIDTH: usize = 2;
+
+    const HEIGHT: usize = 3;
+
+    const TILE_WIDTH: usize = 4;
+
+    const TILE_HEIGHT: usize = 5;
+
+    const PIXEL_X: usize = 6;
+
+    const PIXEL_Y: usize = 7;
+}
+
 impl RowTest for Matrix {
     ghost good = { λ it row. IsMatrixWithinRow (profile_of it.unit) row };
 
     fn passes(&self, row: &Row) -> bool {
-        is_name_at(row, 0)
-            && is_within(row, 1, 0, LAST_ZOOM as i64)
-            && is_within(row, 2, 1, MOST_TILES as i64)
-            && is_within(row, 3, 1, MOST_TILES as i64)
-            && is_within(row, 4, 1, MOST_PIXELS as i64)
-            && is_within(row, 5, 1, MOST_PIXELS as i64)
-            && is_pixel_size(row, 6, self.unit)
-            && is_pixel_size(row, 7, self.unit)
+        is_name_at(row, Self::TABLE)
+            && is_within(row, Self::ZOOM, 0, LAST_ZOOM as i64)
+            && is_within(row, Self::WIDTH, 1, MOST_TILES as i64)
+            && is_within(row, Self::HEIGHT, 1, MOST_TILES as i64)
+            && is_within(row, Self::TILE_WIDTH, 1, MOST_PIXELS as i64)
+            && is_within(row, Self::TILE_HEIGHT, 1, MOST_PIXELS as i64)
+            && is_pixel_size(row, Self::PIXEL_X, self.unit)
+            && is_pixel_size(row, Self::PIXEL_Y, self.unit)
     }
 }
 
@@ -196,15 +273,27 @@ pub fn matrices_within<S: Alter>(conn: &mut Connection<S>, unit: Unit) -> Result
 /// A row of extension rows, column by column.
 struct Extension;
 
+impl Extension {
+    const TABLE: usize = 0;
+
+    const COLUMN: usize = 1;
+
+    const NAME: usize = 2;
+
+    const DEFINITION: usize = 3;
+
+    const SCOPE: usize = 4;
+}
+
 impl RowTest for Extension {
     ghost good = { λ _ row. IsExtensionWithinRow row };
 
     fn passes(&self, row: &Row) -> bool {
-        is_clean_if_any(row, 0)
-            && is_clean_if_any(row, 1)
-            && is_clean_at(row, 2)
-            && is_clean_at(row, 3)
-            && is_clean_at(row, 4)
+        is_clean_if_any(row, Self::TABLE)
+            && is_clean_if_any(row, Self::COLUMN)
+            && is_clean_at(row, Self::NAME)
+            && is_clean_at(row, Self::DEFINITION)
+            && is_clean_at(row, Self::SCOPE)
     }
 }
 
@@ -223,15 +312,27 @@ pub fn extensions_within<S: Alter>(conn: &mut Connection<S>) -> Result<bool, Fau
 /// A row of tiles, column by column.
 struct Tile;
 
+impl Tile {
+    const TABLE: usize = 0;
+
+    const ZOOM: usize = 1;
+
+    const COLUMN: usize = 2;
+
+    const ROW: usize = 3;
+
+    const BYTES: usize = 4;
+}
+
 impl RowTest for Tile {
     ghost good = { λ _ row. IsTileWithinRow row };
 
     fn passes(&self, row: &Row) -> bool {
-        is_name_at(row, 0)
-            && is_within(row, 1, 0, LAST_ZOOM as i64)
-            && is_within(row, 2, 0, LAST_PLACE as i64)
-            && is_within(row, 3, 0, LAST_PLACE as i64)
-            && is_blob_within(row, 4, MOST_TILE_BYTES)
+        is_name_at(row, Self::TABLE)
+            && is_within(row, Self::ZOOM, 0, LAST_ZOOM as i64)
+            && is_within(row, Self::COLUMN, 0, LAST_PLACE as i64)
+            && is_within(row, Self::ROW, 0, LAST_PLACE as i64)
+            && is_blob_within(row, Self::BYTES, MOST_TILE_BYTES)
     }
 }
 
@@ -250,15 +351,27 @@ pub fn tiles_within<S: Alter>(conn: &mut Connection<S>) -> Result<bool, Fault>
 /// A row of attribute rows, column by column.
 struct Item;
 
+impl Item {
+    const TABLE: usize = 0;
+
+    const ID: usize = 1;
+
+    const TITLE: usize = 2;
+
+    const NOTE: usize = 3;
+
+    const AMOUNT: usize = 4;
+}
+
 impl RowTest for Item {
     ghost good = { λ _ row. IsAttributeWithinRow row };
 
     fn passes(&self, row: &Row) -> bool {
-        is_name_at(row, 0)
-            && is_within(row, 1, 1, LAST_ID as i64)
-            && is_text_at(row, 2, 0, 1000)
-            && is_text_at(row, 3, 0, 1000)
-            && is_within(row, 4, -(MOST_AMOUNT as i64), MOST_AMOUNT as i64)
+        is_name_at(row, Self::TABLE)
+            && is_within(row, Self::ID, 1, LAST_ID as i64)
+            && is_text_at(row, Self::TITLE, 0, 1000)
+            && is_text_at(row, Self::NOTE, 0, 1000)
+            && is_within(row, Self::AMOUNT, -(MOST_AMOUNT as i64), MOST_AMOUNT as i64)
     }
 }
 
@@ -277,14 +390,24 @@ pub fn rows_within<S: Alter>(conn: &mut Connection<S>) -> Result<bool, Fault>
 /// A row of media, column by column.
 struct Medium;
 
+impl Medium {
+    const TABLE: usize = 0;
+
+    const ID: usize = 1;
+
+    const BYTES: usize = 2;
+
+    const CONTENT_TYPE: usize = 3;
+}
+
 impl RowTest for Medium {
     ghost good = { λ _ row. IsMediumWithinRow row };
 
     fn passes(&self, row: &Row) -> bool {
-        is_name_at(row, 0)
-            && is_within(row, 1, 1, LAST_ID as i64)
-            && is_blob_within(row, 2, MOST_MEDIA_BYTES)
-            && is_content_type_at(row, 3)
+        is_name_at(row, Self::TABLE)
+            && is_within(row, Self::ID, 1, LAST_ID as i64)
+            && is_blob_within(row, Self::BYTES, MOST_MEDIA_BYTES)
+            && is_content_type_at(row, Self::CONTENT_TYPE)
     }
 }
 
@@ -303,16 +426,30 @@ pub fn media_within<S: Alter>(conn: &mut Connection<S>) -> Result<bool, Fault>
 /// A row of relations, column by column.
 struct Relation;
 
+impl Relation {
+    const MAPPING: usize = 0;
+
+    const BASE: usize = 1;
+
+    const BASE_COLUMN: usize = 2;
+
+    const RELATED: usize = 3;
+
+    const RELATED_COLUMN: usize = 4;
+
+    const NAME: usize = 5;
+}
+
 impl RowTest for Relation {
     ghost good = { λ _ row. IsRelationWithinRow row };
 
     fn passes(&self, row: &Row) -> bool {
-        is_name_at(row, 0)
-            && is_name_at(row, 1)
-            && is_clean_at(row, 2)
-            && is_name_at(row, 3)
-            && is_clean_at(row, 4)
-            && is_clean_at(row, 5)
+        is_name_at(row, Self::MAPPING)
+            && is_name_at(row, Self::BASE)
+            && is_clean_at(row, Self::BASE_COLUMN)
+            && is_name_at(row, Self::RELATED)
+            && is_clean_at(row, Self::RELATED_COLUMN)
+            && is_clean_at(row, Self::NAME)
     }
 }
 
@@ -331,13 +468,21 @@ pub fn relations_within<S: Alter>(conn: &mut Connection<S>) -> Result<bool, Faul
 /// A row of mapping rows, column by column.
 struct Pairing;
 
+impl Pairing {
+    const MAPPING: usize = 0;
+
+    const BASE_ID: usize = 1;
+
+    const RELATED_ID: usize = 2;
+}
+
 impl RowTest for Pairing {
     ghost good = { λ _ row. IsPairingWithinRow row };
 
     fn passes(&self, row: &Row) -> bool {
-        is_name_at(row, 0)
-            && is_within(row, 1, 1, LAST_ID as i64)
-            && is_within(row, 2, 1, LAST_ID as i64)
+        is_name_at(row, Self::MAPPING)
+            && is_within(row, Self::BASE_ID, 1, LAST_ID as i64)
+            && is_within(row, Self::RELATED_ID, 1, LAST_ID as i64)
     }
 }
 
@@ -356,11 +501,17 @@ pub fn pairings_within<S: Alter>(conn: &mut Connection<S>) -> Result<bool, Fault
 /// A row of editions, column by column.
 struct Edition;
 
+impl Edition {
+    const NAME: usize = 0;
+
+    const STATE: usize = 1;
+}
+
 impl RowTest for Edition {
     ghost good = { λ _ row. IsEditionWithinRow row };
 
     fn passes(&self, row: &Row) -> bool {
-        is_name_at(row, 0) && is_clean_at(row, 1)
+        is_name_at(row, Self::NAME) && is_clean_at(row, Self::STATE)
     }
 }
 
@@ -379,11 +530,17 @@ pub fn editions_within<S: Alter>(conn: &mut Connection<S>) -> Result<bool, Fault
 /// A row of staged pieces, column by column.
 struct Piece;
 
+impl Piece {
+    const EDITION: usize = 0;
+
+    const NUMBER: usize = 1;
+}
+
 impl RowTest for Piece {
     ghost good = { λ _ row. IsPieceWithinRow row };
 
     fn passes(&self, row: &Row) -> bool {
-        is_name_at(row, 0) && is_within(row, 1, 1, LAST_ID as i64)
+        is_name_at(row, Self::EDITION) && is_within(row, Self::NUMBER, 1, LAST_ID as i64)
     }
 }
 

@@ -120,7 +120,7 @@ fn are_unused(row: &Row) -> bool
 fn has_no_texts(row: &Row) -> bool
     ensures { IsTrue result ↔ HasNoTexts row.now }
 {
-    text_is(row, Spelled::T1, "") && text_is(row, Spelled::T2, "")
+    text_is(row, Spelled::FIRST_TEXT, "") && text_is(row, Spelled::SECOND_TEXT, "")
 }
 
 fn has_no_bytes(row: &Row) -> bool
@@ -178,8 +178,8 @@ fn is_row(row: &Row) -> bool
         && is_within(row, Spelled::K1, 1, LAST_ID as i64)
         && is_within(row, Spelled::K2, -(MOST_AMOUNT as i64), MOST_AMOUNT as i64)
         && number_is(row, Spelled::K3, 0)
-        && is_text_at(row, Spelled::T1, 0, 1000)
-        && is_text_at(row, Spelled::T2, 0, 1000)
+        && is_text_at(row, Spelled::FIRST_TEXT, 0, 1000)
+        && is_text_at(row, Spelled::SECOND_TEXT, 0, 1000)
         && has_no_bytes(row)
 }
 
@@ -194,8 +194,8 @@ fn is_media(row: &Row) -> bool
 {
     text_is(row, Spelled::KIND, "media")
         && is_item(row)
-        && is_content_type_at(row, Spelled::T1)
-        && text_is(row, Spelled::T2, "")
+        && is_content_type_at(row, Spelled::FIRST_TEXT)
+        && text_is(row, Spelled::SECOND_TEXT, "")
         && is_blob_within(row, Spelled::BYTES, MOST_MEDIA_BYTES)
 }
 
@@ -273,9 +273,9 @@ impl Spelled {
 
     const K7: usize = 8;
 
-    const T1: usize = 9;
+    const FIRST_TEXT: usize = 9;
 
-    const T2: usize = 10;
+    const SECOND_TEXT: usize = 10;
 
     const BYTES: usize = 11;
 }

@@ -9,7 +9,7 @@ ghost use Rattle.mm_arguments.specs.Requests as spec;
 use crate::commands::command;
 use clap::error::ErrorKind;
 use clap::{ArgMatches, Error};
-use mm_base::moments::Moment;
+use mm_definitions::moments::Moment;
 use std::alloc::{AllocError, Global};
 
 /// What the words ask for. Where no moment is given it is the clock's.

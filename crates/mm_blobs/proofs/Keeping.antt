@@ -21,15 +21,15 @@ use Rattle.sql_forms.specs.Maps.{Holds}
 use Rattle.sql_forms.proofs.Keys.{as_truth, equal_text, equal_int, columns_are, chosen_is_free}
 use Rattle.sql_forms.proofs.Lists.{and_true}
 use Rattle.sql_forms.proofs.Rows.{equal_is}
-use Rattle.mm_base.specs.Keys.{Text, text_cmp, TileKey, tile_cmp, tile, same_number}
-use Rattle.mm_base.proofs.Parts.{same_some, not_none, same_key, same_itself, apart, at_put, beside_put, after_put, at_remove, beside_remove, true_or_false}
-use Rattle.mm_base.proofs.KeyLaws.{numbers, texts, tile_keys}
+use Rattle.mm_definitions.specs.Keys.{Text, text_cmp, TileKey, tile_cmp, tile, same_number}
+use Rattle.mm_definitions.proofs.Parts.{same_some, not_none, same_key, same_itself, apart, at_put, beside_put, after_put, at_remove, beside_remove, true_or_false}
+use Rattle.mm_definitions.proofs.KeyLaws.{numbers, texts, tile_keys}
 use Rattle.mm_store.specs.Rows.{whole, past_rowid, maybe}
 use Rattle.mm_store.proofs.Parts.{IsPart, puts, removes}
 use Rattle.mm_store.proofs.Keys as parts
 use Rattle.mm_store.proofs.Keys.{by_number}
 use Rattle.std.specs.declared.cmp.Ordering.{Ordering}
-use Rattle.mm_base.specs.Package.{Package}
+use Rattle.mm_definitions.specs.Package.{Package}
 use Rattle.mm_store.specs.Blobs.{Blob, Shelf, AreBlobs, blob_of, blob_row, bytes_at, digest_of, StandsAt, Told, Names}
 use Rattle.mm_store.specs.Kept.{Kept, Spare, Keeps, IsNamed, tile_id, tile_with, medium_id, medium_with, piece_id, piece_with}
 use Rattle.mm_store.specs.Stands.{HoldingBut}

@@ -6,13 +6,13 @@ use Rattle.sqlite.specs.State.{State, HasCleanDisk, Shown, ExecutesInside, IsUnc
 use Rattle.sqlite_catalog.specs.Listing.{IsSound}
 use Rattle.sql_forms.specs.Tables.{tables_of, AreTables, IsReady, Leaves, IsFirstShown}
 use Rattle.sql_forms.proofs.States.{shown_open}
-use Rattle.mm_base.specs.declared.answers.Fault.{Fault}
+use Rattle.mm_definitions.specs.declared.answers.Fault.{Fault}
 use Rattle.mm_store.specs.Faults.{IsStoreFault}
 use Rattle.mm_store.specs.Stands.{Ground, StandsOn}
 use Rattle.mm_store.specs.Statements.{CommitsNothing, KeepsGround, IsRun, IsAsked, IsListed}
 use Rattle.mm_store.proofs.Shapes.{quiet_then}
 use Rattle.mm_schema.specs.Tables.{schema}
-use Rattle.mm_base.specs.Bounds.{Profile}
+use Rattle.mm_definitions.specs.Bounds.{Profile}
 use Rattle.mm_store.specs.Kept.{Spare}
 use Rattle.mm_blobs.specs.Views.{View, HoldsAs, Sees, IsSeen}
 use Rattle.mm_blobs.specs.Moves.{IsMove}

@@ -9,10 +9,10 @@ use Rattle.sqlite.specs.Tree.{Trees, with_tree}
 use Rattle.sql_forms.specs.Maps.{Holds}
 use Rattle.sql_forms.specs.Tables.{Finds}
 use Rattle.mm_store.proofs.Parts.{IsPart, finds_none, finds_some}
-use Rattle.mm_base.specs.Keys.{same_number, TileKey, tile_cmp, Item, item_cmp, PieceKey, piece_cmp}
-use Rattle.mm_base.specs.Package.{Package, Medium, PieceRow}
-use Rattle.mm_base.proofs.Parts.{IsKeyOrder, same_key, same_some, at_put, beside_put, at_remove, beside_remove}
-use Rattle.mm_base.proofs.KeyLaws.{numbers, tile_keys, items, piece_keys}
+use Rattle.mm_definitions.specs.Keys.{same_number, TileKey, tile_cmp, Item, item_cmp, PieceKey, piece_cmp}
+use Rattle.mm_definitions.specs.Package.{Package, Medium, PieceRow}
+use Rattle.mm_definitions.proofs.Parts.{IsKeyOrder, same_key, same_some, at_put, beside_put, at_remove, beside_remove}
+use Rattle.mm_definitions.proofs.KeyLaws.{numbers, tile_keys, items, piece_keys}
 use Rattle.mm_store.specs.Blobs.{Shelf, StandsAt, Told, Tells, Names}
 use Rattle.mm_store.specs.Kept.{Kept, Spare, Keeps, IsNamed, tile_id, tile_with, medium_id, medium_with, piece_id, piece_with}
 use Rattle.mm_store.specs.Rows.{past_rowid, tile_row, MediumRow, medium_row, StagedRow, staged_row}

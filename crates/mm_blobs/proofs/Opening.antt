@@ -4,14 +4,14 @@ use Rattle.std.specs.Prelude.{⊤}
 use Rattle.std.specs.FinMap.{empty, get}
 use Rattle.std.proofs.lemmas.Bool.{both_ways}
 use Rattle.sqlite.specs.State.{State}
-use Rattle.mm_base.specs.Bounds.{Profile}
-use Rattle.mm_base.specs.Package.{Package}
-use Rattle.mm_base.proofs.Parts.{true_or_false}
+use Rattle.mm_definitions.specs.Bounds.{Profile}
+use Rattle.mm_definitions.specs.Package.{Package}
+use Rattle.mm_definitions.proofs.Parts.{true_or_false}
 use Rattle.mm_store.specs.Blobs.{Blob}
 use Rattle.mm_store.specs.Kept.{Kept, Spare, IsNamed}
 use Rattle.mm_store.specs.Stands.{Ground, IsInsideBut}
 use Rattle.sqlite.specs.Tree.{Trees}
-use Rattle.mm_base.specs.declared.answers.Fault.{Fault}
+use Rattle.mm_definitions.specs.declared.answers.Fault.{Fault}
 use Rattle.mm_store.specs.Kept.{Keeps, no_spare}
 use Rattle.mm_store.specs.Shapes.{IsChange, IsLook}
 use Rattle.mm_blobs.specs.Views.{View, IsSeen}

@@ -12,7 +12,7 @@ use Rattle.mm_store.specs.Blobs.{Blob, Shelf, blob_row, bytes_at, StandsAt}
 use Rattle.mm_store.proofs.Parts.{finds_none, finds_some}
 use Rattle.mm_store.proofs.Keys as parts
 use Rattle.mm_store.proofs.Keys.{by_number}
-use Rattle.mm_base.proofs.Parts.{same_some}
+use Rattle.mm_definitions.proofs.Parts.{same_some}
 use Rattle.mm_blobs.specs.Moves.{ShowsBytes}
 
 module _ (rows : List Row) (shelf : Shelf) (h : Holds whole blob_row rows shelf) (id : ℤ) (params : Row) where

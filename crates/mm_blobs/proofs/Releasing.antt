@@ -5,9 +5,9 @@ use Rattle.std.proofs.lemmas.Bool.{and_parts, or_cases, or_left, or_right}
 use Rattle.sqlite.specs.declared.types.Value.TheVariants.{Int}
 use Rattle.sqlite.specs.Order.{Row, column}
 use Rattle.sqlite.specs.State.{State}
-use Rattle.mm_base.specs.Keys.{same_number}
-use Rattle.mm_base.proofs.Parts.{same_itself, same_some}
-use Rattle.mm_base.proofs.KeyLaws.{numbers}
+use Rattle.mm_definitions.specs.Keys.{same_number}
+use Rattle.mm_definitions.proofs.Parts.{same_itself, same_some}
+use Rattle.mm_definitions.proofs.KeyLaws.{numbers}
 use Rattle.mm_store.specs.Kept.{Spare}
 use Rattle.mm_store.specs.Statements.{CommitsNothing}
 use Rattle.mm_blobs.specs.Views.{spare_but, spare_each}

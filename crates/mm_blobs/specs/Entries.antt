@@ -2,7 +2,7 @@
 use Rattle.std.specs.Prelude.{◌≡◌, ℕ, ℤ, List, Option, Some, None}
 use Rattle.std.specs.declared.cmp.Ordering.{Ordering}
 use Rattle.std.specs.FinMap.{FinMap, get, insert, remove}
-use Rattle.mm_base.specs.Keys.{Text, TileKey, Item}
+use Rattle.mm_definitions.specs.Keys.{Text, TileKey, Item}
 use Rattle.mm_store.specs.Kept.{Spare, medium_with}
 use Rattle.mm_store.specs.Rows.{MediumRow}
 use Rattle.mm_blobs.specs.Views.{View, spare_too}

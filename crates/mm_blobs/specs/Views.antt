@@ -10,9 +10,9 @@ use Rattle.sqlite.specs.State.{State}
 use Rattle.sqlite_catalog.specs.Listing.{IsSound}
 use Rattle.sql_forms.specs.Tables.{tables_of, AreTables, has_key}
 use Rattle.mm_schema.specs.Tables.{schema}
-use Rattle.mm_base.specs.Bounds.{Profile}
-use Rattle.mm_base.specs.Keys.{same_number}
-use Rattle.mm_base.specs.Package.{Package}
+use Rattle.mm_definitions.specs.Bounds.{Profile}
+use Rattle.mm_definitions.specs.Keys.{same_number}
+use Rattle.mm_definitions.specs.Package.{Package}
 use Rattle.mm_store.specs.Blobs.{Blob, Shelf, bytes_at}
 use Rattle.mm_store.specs.Kept.{Kept, Spare, IsNamed}
 use Rattle.mm_store.specs.Stands.{HoldingBut, Ground, StandsOn}

@@ -9,14 +9,14 @@ ghost use Rattle.sqlite.specs.Held.{state};
 ghost use Rattle.mm_store.specs.Statements.{IsAsked};
 ghost use Rattle.mm_store.specs.Blobs.{blob_of, bytes_at, Names};
 ghost use Rattle.mm_store.specs.Blobs as spec;
-ghost use Rattle.mm_base.specs.Bounds.{Profile};
+ghost use Rattle.mm_definitions.specs.Bounds.{Profile};
 ghost use Rattle.mm_store.specs.Kept.{Spare, no_spare, IsNamed, tile_id, medium_id, piece_id};
 ghost use Rattle.mm_blobs.specs.Views.{spare_too, spare_but, spare_each, IsSeen, Lacks, IsFound, TellsWhether};
 ghost use Rattle.mm_blobs.specs.Entries.{spare_freed};
 ghost use Rattle.mm_blobs.specs.Moves.{IsMove, GivesNumber, ShowsBytes};
 
 use crate::digests::{digest_of, text_of};
-use mm_base::answers::Fault;
+use mm_definitions::answers::Fault;
 use mm_store::columns::number_in;
 use mm_store::faults::fault_of;
 use mm_store::statements::{all, exists, first, run};

@@ -3,8 +3,8 @@
 ghost use Rattle.std.specs.Prelude.{◌≡◌, pos, option_map};
 ghost use Rattle.std.specs.FinMap.{get};
 ghost use Rattle.sqlite.specs.Held.{state};
-ghost use Rattle.mm_base.specs.Bounds.{Profile};
-ghost use Rattle.mm_base.specs.Keys.{tile, item};
+ghost use Rattle.mm_definitions.specs.Bounds.{Profile};
+ghost use Rattle.mm_definitions.specs.Keys.{tile, item};
 ghost use Rattle.mm_store.specs.Blobs.{Told};
 ghost use Rattle.mm_store.specs.Kept.{Spare, tile_id, tile_with};
 ghost use Rattle.mm_store.specs.Rows.{MediumRow};
@@ -12,7 +12,7 @@ ghost use Rattle.mm_blobs.specs.Moves.{IsMove};
 ghost use Rattle.mm_blobs.specs.Views.{IsSeen};
 
 use crate::blobs::first_number;
-use mm_base::answers::Fault;
+use mm_definitions::answers::Fault;
 use sqlite::{Alter, Transaction, params};
 
 /// The blob that the tile at a place names, if one stands.

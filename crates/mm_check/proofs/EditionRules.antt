@@ -15,15 +15,15 @@ use Rattle.sqlite_sql.specs.Numeral.{fits_i64}
 use Rattle.sqlite_sql.specs.Term.{col}
 use Rattle.sqlite_sql.specs.Query.{inner, left, end}
 use Rattle.sqlite_schema.specs.Rules.{equal}
-use Rattle.mm_base.specs.Bounds.{Profile, IsName, IsMatrixSide, IsTileSide, IsId, IsFrom, IsZoom, IsTilePlace, IsLong, IsTileBytes, IsMediaBytes, MostPieces}
-use Rattle.mm_base.specs.Keys.{Text, PieceKey, piece}
-use Rattle.mm_base.specs.Package.{Package, PieceRow, open_state}
-use Rattle.mm_base.specs.Pieces.{piece_row}
-use Rattle.mm_base.specs.Within.{IsPieceWithin, Takes}
-use Rattle.mm_base.specs.Rules.{Limits, Editions, IsSpelled}
-use Rattle.mm_base.specs.declared.commands.Piece.{Piece}
-use Rattle.mm_base.specs.declared.commands.Piece.TheVariants.{Tile, TileDrop, Row as RowPiece, RowDrop, Media, MediaDrop, Map, MapDrop, Matrix}
-use Rattle.mm_base.proofs.Parts.{same_some, some_of}
+use Rattle.mm_definitions.specs.Bounds.{Profile, IsName, IsMatrixSide, IsTileSide, IsId, IsFrom, IsZoom, IsTilePlace, IsLong, IsTileBytes, IsMediaBytes, MostPieces}
+use Rattle.mm_definitions.specs.Keys.{Text, PieceKey, piece}
+use Rattle.mm_definitions.specs.Package.{Package, PieceRow, open_state}
+use Rattle.mm_definitions.specs.Pieces.{piece_row}
+use Rattle.mm_definitions.specs.Within.{IsPieceWithin, Takes}
+use Rattle.mm_definitions.specs.Rules.{Limits, Editions, IsSpelled}
+use Rattle.mm_definitions.specs.declared.commands.Piece.{Piece}
+use Rattle.mm_definitions.specs.declared.commands.Piece.TheVariants.{Tile, TileDrop, Row as RowPiece, RowDrop, Media, MediaDrop, Map, MapDrop, Matrix}
+use Rattle.mm_definitions.proofs.Parts.{same_some, some_of}
 use Rattle.mm_store.specs.Rows.{edition_row, staged_row}
 use Rattle.mm_store.specs.Blobs.{Shelf, AreBlobs, StandsAt}
 use Rattle.mm_store.specs.Blobs.{Blob as Kept}

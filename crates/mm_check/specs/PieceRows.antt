@@ -1,7 +1,7 @@
 -- What the tests of rows of editions and of staged pieces ask.
 use Rattle.std.specs.Prelude.{◌≡◌, ◌⊎◌, ℕ, pos, false, List, [], codes, Some, IsTrue}
 use Rattle.sqlite.specs.Order.{Row, column}
-use Rattle.mm_base.specs.Bounds.{Profile, IsMatrixSide, IsTileSide, IsPixelSize, IsFrom, MostPieces, IsName, IsZoom, IsTilePlace, IsId, IsAmount, IsRemark, IsContentType, IsTileBytes, IsMediaBytes}
+use Rattle.mm_definitions.specs.Bounds.{Profile, IsMatrixSide, IsTileSide, IsPixelSize, IsFrom, MostPieces, IsName, IsZoom, IsTilePlace, IsId, IsAmount, IsRemark, IsContentType, IsTileBytes, IsMediaBytes}
 use Rattle.mm_queries.specs.Columns.{number_of, words_of, is_there}
 use Rattle.mm_limits.specs.LimitRows.{text_by, number_by, bytes_by}
 

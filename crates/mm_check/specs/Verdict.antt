@@ -1,10 +1,10 @@
 -- Which rule a package breaks first, and what the whole check answers.
 use Rattle.std.specs.Prelude.{◌≡◌, ◌⊎◌, ℕ, ◌≤◌, ◌<◌, ◌==◌, false, Option, Some, None, Result, IfOk, IfErr, OnOk, IsTrue}
 use Rattle.sqlite.specs.State.{State, HasCleanDisk}
-use Rattle.mm_base.specs.Bounds.{Profile}
-use Rattle.mm_base.specs.Package.{Package}
-use Rattle.mm_base.specs.Rules.{Meets, GivenSystems, NamedSystems, DistinctIdentifiers, Names, Registry, Extents, MatricesFit, HigherIsFiner, NextIsHalved, TilesInside, Items, RelationsSuited, PairingsJoin, ExactExtensions, Editions, Limits}
-use Rattle.mm_base.specs.declared.answers.Fault.{Fault}
+use Rattle.mm_definitions.specs.Bounds.{Profile}
+use Rattle.mm_definitions.specs.Package.{Package}
+use Rattle.mm_definitions.specs.Rules.{Meets, GivenSystems, NamedSystems, DistinctIdentifiers, Names, Registry, Extents, MatricesFit, HigherIsFiner, NextIsHalved, TilesInside, Items, RelationsSuited, PairingsJoin, ExactExtensions, Editions, Limits}
+use Rattle.mm_definitions.specs.declared.answers.Fault.{Fault}
 use Rattle.mm_store.specs.Faults.{IsStoreFault}
 use Rattle.mm_store.specs.Seen.{IsSeenAs}
 use Rattle.mm_store.specs.Stands.{IsSettled}

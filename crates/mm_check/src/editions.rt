@@ -3,20 +3,20 @@
 ghost use Rattle.std.specs.Prelude.{◌≡◌, ◌⊎◌, ◌↔◌, [], Some, codes, pos, IsTrue};
 ghost use Rattle.sqlite.specs.Held.{state};
 ghost use Rattle.sqlite.specs.Order.{column};
-ghost use Rattle.mm_base.specs.Bounds.{Profile};
-ghost use Rattle.mm_base.specs.Rules.{Editions, Limits};
+ghost use Rattle.mm_definitions.specs.Bounds.{Profile};
+ghost use Rattle.mm_definitions.specs.Rules.{Editions, Limits};
 ghost use Rattle.mm_queries.specs.Check.{IsCheck};
 ghost use Rattle.mm_queries.specs.Columns.{bytes_of};
 ghost use Rattle.mm_rules.specs.Parts.{EditionStates, PiecesOfOpen, PiecesNumbered, PiecesSpelled};
-ghost use Rattle.mm_base.specs.Units.{profile_of};
+ghost use Rattle.mm_definitions.specs.Units.{profile_of};
 ghost use Rattle.mm_check.specs.PieceRows.{IsStateRow, IsOpenRow, IsNumberedRow, IsSpelledRow, IsOfKind, AreSides, AreUnused, IsContent, IsMatrix, HasNoTexts, HasNoBytes, IsPlace, IsItem, IsPair, IsTile, IsTileDrop, IsRow, IsItemDrop, IsMedia, IsMap, IsPut, IsDrop};
 
-use mm_base::answers::Fault;
-use mm_base::limits::{
+use mm_definitions::answers::Fault;
+use mm_definitions::limits::{
     LAST_ID, LAST_PLACE, LAST_ZOOM, MOST_AMOUNT, MOST_MEDIA_BYTES, MOST_PIECES, MOST_PIXELS,
     MOST_TILE_BYTES, MOST_TILES,
 };
-use mm_base::units::Unit;
+use mm_definitions::units::Unit;
 use mm_limits::column_tests::{
     is_blob_within, is_content_type_at, is_name_at, is_pixel_size, is_text_at, is_within,
 };

@@ -3,12 +3,12 @@
 ghost use Rattle.std.specs.Prelude.{◌≤◌, ◌<◌};
 ghost use Rattle.sqlite.specs.Held.{state};
 ghost use Rattle.mm_queries.specs.Check.{IsCheck};
-ghost use Rattle.mm_base.specs.Units.{profile_of};
+ghost use Rattle.mm_definitions.specs.Units.{profile_of};
 ghost use Rattle.mm_check.specs.Verdict.{rule, Before, IsVerified};
 
 use crate::editions;
-use mm_base::answers::Fault;
-use mm_base::units::Unit;
+use mm_definitions::answers::Fault;
+use mm_definitions::units::Unit;
 use mm_limits::limits;
 use mm_rules::{contents, extensions, items, matrices, systems, tiles};
 use sqlite::{Alter, Connection};

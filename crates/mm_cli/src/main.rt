@@ -1,11 +1,11 @@
 //! The program `mmpkg`: it makes packages, and runs lists of commands on them.
 #![tactic(auto)]
 
-use mm_base::answers::Fault;
-use mm_base::ends::UntilEnd;
-use mm_base::streams::Io;
+use mm_definitions::answers::Fault;
+use mm_definitions::ends::UntilEnd;
+use mm_definitions::streams::Io;
 use mm_program::program;
-use mm_work::{Stop, USAGE, tell_bytes, tell_stop};
+use mm_subcommands::{Stop, USAGE, tell_bytes, tell_stop};
 use std::io::BufReader;
 use std::process::ExitCode;
 use std::{env, io};

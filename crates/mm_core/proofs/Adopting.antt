@@ -1,19 +1,19 @@
 -- A connection that is looked at and then checked is settled as it was before.
 use Rattle.std.proofs.Common.{◌≡◌, ℕ, inl, inr, Bool, true, false, Option, Some, None, Result, Ok, Err, refl, sym, subst, ◌∙◌, arith}
 use Rattle.sqlite.specs.State.{State, HasCleanDisk, IsUnchanged}
-use Rattle.mm_base.specs.Bounds.{Profile, current}
-use Rattle.mm_base.specs.Package.{Package}
-use Rattle.mm_base.specs.declared.answers.Fault.{Fault}
-use Rattle.mm_base.specs.declared.answers.Open.{Open}
-use Rattle.mm_base.specs.declared.answers.Open.TheVariants as opens
+use Rattle.mm_definitions.specs.Bounds.{Profile, current}
+use Rattle.mm_definitions.specs.Package.{Package}
+use Rattle.mm_definitions.specs.declared.answers.Fault.{Fault}
+use Rattle.mm_definitions.specs.declared.answers.Open.{Open}
+use Rattle.mm_definitions.specs.declared.answers.Open.TheVariants as opens
 use Rattle.mm_store.specs.Stands.{StandsFor, ReadsAs, IsSettled}
 use Rattle.mm_store.proofs.Asking.{told_fault}
 use Rattle.mm_store.proofs.Seen.{seen_of, settled_still}
 use Rattle.mm_store.proofs.Shapes.{quiet_then}
-use Rattle.mm_meta.specs.Opening.{IsBlank}
+use Rattle.mm_opening.specs.Opening.{IsBlank}
 use Rattle.mm_store.specs.Statements.{CommitsNothing}
-use Rattle.mm_meta.specs.Look.{Answers, FindsNone, IsLooked, Agrees, ShowsProfile}
-use Rattle.mm_meta.proofs.Looking.{shows_profile, still_blank}
+use Rattle.mm_opening.specs.Look.{Answers, FindsNone, IsLooked, Agrees, ShowsProfile}
+use Rattle.mm_opening.proofs.Looking.{shows_profile, still_blank}
 use Rattle.mm_walk.proofs.Resting.{seen_still}
 use Rattle.mm_check.specs.Verdict.{IsVerified}
 use Rattle.mm_shelf.specs.Form.{AreInForm, IsFormCheck, BlobsStand, TellsForm}

@@ -1,9 +1,9 @@
 -- A connection on which a package was to be made.
 use Rattle.std.proofs.Common.{Ok, Err}
 use Rattle.sqlite.specs.State.{State}
-use Rattle.mm_base.specs.Bounds.{current}
-use Rattle.mm_base.specs.declared.answers.Fault.{Fault}
-use Rattle.mm_meta.specs.Opening.{IsInit}
+use Rattle.mm_definitions.specs.Bounds.{current}
+use Rattle.mm_definitions.specs.declared.answers.Fault.{Fault}
+use Rattle.mm_opening.specs.Opening.{IsInit}
 use Rattle.mm_core.specs.Sessions.{IsCreated, IsNotCreated}
 
 module _ (old new : State) where

@@ -1,16 +1,16 @@
 -- What becomes of a connection that is to be adopted.
 use Rattle.std.specs.Prelude.{◌≡◌, ⊤, ℤ, pos, Err, IsTrue}
 use Rattle.sqlite.specs.State.{State, HasCleanDisk}
-use Rattle.mm_base.specs.Bounds.{Profile, current}
-use Rattle.mm_base.specs.Package.{Package}
-use Rattle.mm_base.specs.Rules.{Meets}
-use Rattle.mm_base.specs.declared.answers.Open.{Open}
-use Rattle.mm_base.specs.declared.answers.Open.TheVariants as opens
+use Rattle.mm_definitions.specs.Bounds.{Profile, current}
+use Rattle.mm_definitions.specs.Package.{Package}
+use Rattle.mm_definitions.specs.Rules.{Meets}
+use Rattle.mm_definitions.specs.declared.answers.Open.{Open}
+use Rattle.mm_definitions.specs.declared.answers.Open.TheVariants as opens
 use Rattle.mm_store.specs.Stands.{ReadsAs, IsSettled}
 use Rattle.mm_store.specs.Statements.{CommitsNothing}
 use Rattle.mm_store.specs.Faults.{IsStoreFault}
-use Rattle.mm_meta.specs.Opening.{IsBlank}
-use Rattle.mm_meta.specs.Look.{ShowsProfile, Answers}
+use Rattle.mm_opening.specs.Opening.{IsBlank}
+use Rattle.mm_opening.specs.Look.{ShowsProfile, Answers}
 use Rattle.mm_check.specs.Verdict.{IsFailing}
 use Rattle.mm_shelf.specs.Form.{BlobsStand, TellsForm}
 

@@ -1,7 +1,7 @@
 -- The commands in groups, by what they change.
 use Rattle.std.specs.Prelude.{Bool, true, false}
-use Rattle.mm_base.specs.declared.commands.Command.{Command}
-use Rattle.mm_base.specs.declared.commands.Command.TheVariants as commands
+use Rattle.mm_definitions.specs.declared.commands.Command.{Command}
+use Rattle.mm_definitions.specs.declared.commands.Command.TheVariants as commands
 
 -- it changes reference systems or tables
 abbrev pub lays_out : Command → Bool

@@ -2,17 +2,17 @@
 
 ghost use Rattle.std.specs.Prelude.{◌≡◌, ◌⊎◌, false, true};
 ghost use Rattle.sqlite.specs.Held.{state};
-ghost use Rattle.mm_base.specs.Stamp.{IsStamp};
+ghost use Rattle.mm_definitions.specs.Stamp.{IsStamp};
 ghost use Rattle.mm_run.specs.Applied.{OnFault};
-ghost use Rattle.mm_base.specs.declared.commands.Command.TheVariants as commands;
+ghost use Rattle.mm_definitions.specs.declared.commands.Command.TheVariants as commands;
 ghost use Rattle.mm_core.specs.Applied.{IsApplied};
 ghost use Rattle.mm_core.specs.Groups.{rehearses};
 
 use crate::dispatching::run_command;
-use mm_base::answers::{Answer, Fault, Outcome};
-use mm_base::commands::Command;
-use mm_base::moments::{Moment, stamp};
-use mm_base::names::Name;
+use mm_definitions::answers::{Answer, Fault, Outcome};
+use mm_definitions::commands::Command;
+use mm_definitions::moments::{Moment, stamp};
+use mm_definitions::names::Name;
 use mm_edition::rehearse;
 use mm_store::faults::fault_of;
 use sqlite::{Alter, Connection};

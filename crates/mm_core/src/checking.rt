@@ -1,15 +1,15 @@
 //! The whole check of the package of a session.
 
 use crate::session::Session;
-use mm_base::answers::Fault;
-use mm_base::units::CURRENT;
 use mm_check::verify;
+use mm_definitions::answers::Fault;
+use mm_definitions::units::CURRENT;
 use sqlite::Alter;
 
 impl<S: Alter> Session<S> {
     ghost use Rattle.std.specs.Prelude.{◌≡◌, Err, false, true};
     ghost use Rattle.sqlite.specs.Held.{state};
-    ghost use Rattle.mm_base.specs.Bounds.{current};
+    ghost use Rattle.mm_definitions.specs.Bounds.{current};
     ghost use Rattle.mm_check.specs.Verdict.{IsVerified};
     ghost use Rattle.mm_core.specs.Parts.{held, has_failed};
 

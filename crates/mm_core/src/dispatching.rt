@@ -2,20 +2,20 @@
 
 ghost use Rattle.std.specs.Prelude.{◌≡◌, ℕ, false, true};
 ghost use Rattle.sqlite.specs.Held.{state};
-ghost use Rattle.mm_base.specs.Bounds.{current};
-ghost use Rattle.mm_base.specs.Stamp.{IsStamp};
+ghost use Rattle.mm_definitions.specs.Bounds.{current};
+ghost use Rattle.mm_definitions.specs.Stamp.{IsStamp};
 ghost use Rattle.mm_store.specs.Shapes.{IsLent, IsTried};
-ghost use Rattle.mm_contents.specs.Stamped.{IsLentAt};
+ghost use Rattle.mm_layout.specs.Stamped.{IsLentAt};
 ghost use Rattle.mm_core.specs.Groups.{lays_out, lays_out_pyramid, changes_tile, changes_item, relates, prepares_edition, rehearses};
 
-use mm_base::answers::{Fault, Outcome};
-use mm_base::commands::Command;
-use mm_content::{drop_media, drop_row, drop_tile, put_media, put_row, put_tile};
-use mm_contents::{add_pyramid, add_table, drop_table};
+use mm_definitions::answers::{Fault, Outcome};
+use mm_definitions::commands::Command;
 use mm_edition::{discard, open_edition, publish, stage};
+use mm_items::{drop_media, drop_row, drop_tile, put_media, put_row, put_tile};
+use mm_layout::{add_pyramid, add_table, drop_table};
 use mm_matrices::add_matrix;
-use mm_meta::add_srs;
-use mm_relate::{add_map, add_relation, drop_map, drop_relation};
+use mm_opening::add_srs;
+use mm_relations::{add_map, add_relation, drop_map, drop_relation};
 use sqlite::{Alter, Transaction};
 
 /// The commands that lay out reference systems and tables.

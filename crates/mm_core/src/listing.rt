@@ -1,8 +1,8 @@
 //! The listing of the package of a session.
 
 use crate::session::Session;
-use mm_base::answers::Fault;
-use mm_base::streams::Io;
+use mm_definitions::answers::Fault;
+use mm_definitions::streams::Io;
 use mm_listing::list;
 use sqlite::Alter;
 use std::io::Write;
@@ -10,9 +10,9 @@ use std::io::Write;
 impl<S: Alter> Session<S> {
     ghost use Rattle.std.specs.Prelude.{◌≡◌, Err, false, true};
     ghost use Rattle.sqlite.specs.Held.{state};
-    ghost use Rattle.mm_base.specs.Bounds.{current};
-    ghost use Rattle.mm_base.specs.Streams.{inside};
-    ghost use Rattle.mm_base.specs.Streams as streams;
+    ghost use Rattle.mm_definitions.specs.Bounds.{current};
+    ghost use Rattle.mm_definitions.specs.Streams.{inside};
+    ghost use Rattle.mm_definitions.specs.Streams as streams;
     ghost use Rattle.mm_listing.specs.Listing.{listing};
     ghost use Rattle.mm_listing.specs.Writing.{IsListed};
     ghost use Rattle.mm_core.specs.Parts.{held, has_failed};

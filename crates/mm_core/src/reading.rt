@@ -1,25 +1,24 @@
 //! What is read of the package of a session.
 
 use crate::session::Session;
-use mm_base::answers::Fault;
-use mm_base::entries::{EditionState, Entry, Media, Related, Row};
-use mm_base::names::Name;
+use mm_definitions::answers::Fault;
+use mm_definitions::entries::{EditionState, Entry, Media, Related, Row};
+use mm_definitions::names::Name;
 use mm_edition::edition;
-use mm_reads::{contents, media, row, tile};
-use mm_related::related;
+use mm_reads::{contents, media, related, row, tile};
 use sqlite::Alter;
 
 impl<S: Alter> Session<S> {
     ghost use Rattle.std.specs.Prelude.{◌≡◌, pos, Err, false, true, option_map};
     ghost use Rattle.std.specs.FinMap.{get};
     ghost use Rattle.sqlite.specs.Held.{state};
-    ghost use Rattle.mm_base.specs.Bounds.{current};
-    ghost use Rattle.mm_base.specs.Keys as keys;
-    ghost use Rattle.mm_base.specs.Keys.{item};
+    ghost use Rattle.mm_definitions.specs.Bounds.{current};
+    ghost use Rattle.mm_definitions.specs.Keys as keys;
+    ghost use Rattle.mm_definitions.specs.Keys.{item};
     ghost use Rattle.mm_store.specs.Seen.{IsRead};
     ghost use Rattle.mm_reads.specs.Told.{TellsBytes, medium_of, row_of};
     ghost use Rattle.mm_reads.specs.Listing.{Lists};
-    ghost use Rattle.mm_related.specs.Related.{Tells};
+    ghost use Rattle.mm_reads.specs.Related.{Tells};
     ghost use Rattle.mm_edition.specs.States.{TellsState};
     ghost use Rattle.mm_core.specs.Parts.{held, has_failed};
 

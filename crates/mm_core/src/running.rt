@@ -1,6 +1,6 @@
 //! The run of a list on a session.
 
-ghost use Rattle.mm_base.specs.Bounds.{current};
+ghost use Rattle.mm_definitions.specs.Bounds.{current};
 ghost use Rattle.mm_store.specs.Stands.{IsSettled};
 ghost use Rattle.mm_core.specs.Applied.{Stands};
 ghost use Rattle.mm_core.specs.Parts.{held};
@@ -9,9 +9,9 @@ ghost use Rattle.sqlite.specs.Held.{state};
 ghost use Rattle.sqlite.specs.State.{HasCleanDisk};
 
 use crate::session::Session;
-use mm_base::answers::Answer;
-use mm_base::commands::Command;
-use mm_base::moments::Moment;
+use mm_definitions::answers::Answer;
+use mm_definitions::commands::Command;
+use mm_definitions::moments::Moment;
 use mm_run::Apply;
 use sqlite::Alter;
 

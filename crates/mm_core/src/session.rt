@@ -3,14 +3,14 @@
 ghost use Rattle.std.specs.Prelude.{◌≡◌, false};
 
 use crate::applying::apply_once;
-use mm_base::answers::{Answer, Fault, Open, RunFault, Tally};
-use mm_base::commands::Command;
-use mm_base::moments::Moment;
-use mm_base::streams::Io;
-use mm_base::units::CURRENT;
 use mm_check::verify;
-use mm_meta::{init, look};
+use mm_definitions::answers::{Answer, Fault, Open, RunFault, Tally};
+use mm_definitions::commands::Command;
+use mm_definitions::moments::Moment;
+use mm_definitions::streams::Io;
+use mm_definitions::units::CURRENT;
 use mm_migrate::migrate;
+use mm_opening::{init, look};
 use mm_run::run_list;
 use mm_shelf::blobs_stand;
 use sqlite::{Alter, Connection};
@@ -135,10 +135,10 @@ impl<S: Alter> Session<S> {
 impl<S: Alter> Session<S> {
     ghost use Rattle.std.specs.Prelude.{◌≡◌, ◌⊎◌, None, false, true};
     ghost use Rattle.sqlite.specs.Held.{state};
-    ghost use Rattle.mm_base.specs.Bounds.{current};
-    ghost use Rattle.mm_base.specs.Package.{Package};
-    ghost use Rattle.mm_base.specs.Rules.{Meets};
-    ghost use Rattle.mm_base.specs.Step.{step};
+    ghost use Rattle.mm_definitions.specs.Bounds.{current};
+    ghost use Rattle.mm_definitions.specs.Package.{Package};
+    ghost use Rattle.mm_definitions.specs.Rules.{Meets};
+    ghost use Rattle.mm_definitions.specs.Step.{step};
     ghost use Rattle.mm_run.specs.Answers.{is_fault};
     ghost use Rattle.mm_run.specs.Applied.{OnFault};
     ghost use Rattle.mm_core.specs.Applied.{IsApplied};
@@ -173,9 +173,9 @@ impl<S: Alter> Session<S> {
     ghost use Rattle.std.specs.Io.KnownBytes.{IsAtEnd};
     ghost use Rattle.sqlite.specs.Held.{state};
     ghost use Rattle.sqlite.specs.State.{HasCleanDisk};
-    ghost use Rattle.mm_base.specs.Bounds.{current};
-    ghost use Rattle.mm_base.specs.Streams.{inside};
-    ghost use Rattle.mm_base.specs.Streams as streams;
+    ghost use Rattle.mm_definitions.specs.Bounds.{current};
+    ghost use Rattle.mm_definitions.specs.Streams.{inside};
+    ghost use Rattle.mm_definitions.specs.Streams as streams;
     ghost use Rattle.mm_store.specs.Stands.{IsSettled};
     ghost use Rattle.mm_run.specs.Told.{IsNear};
     ghost use Rattle.mm_run.specs.Ended.{OnEnded, RanEnded};

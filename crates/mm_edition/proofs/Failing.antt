@@ -1,9 +1,9 @@
 -- A look whose answer can't be taken for want of memory, or is none that the rules let stand.
 use Rattle.std.proofs.Common.{Ok, Err}
 use Rattle.sqlite.specs.State.{State}
-use Rattle.mm_base.specs.Bounds.{Profile}
-use Rattle.mm_base.specs.Package.{Package}
-use Rattle.mm_base.specs.declared.answers.Fault.{Fault}
+use Rattle.mm_definitions.specs.Bounds.{Profile}
+use Rattle.mm_definitions.specs.Package.{Package}
+use Rattle.mm_definitions.specs.declared.answers.Fault.{Fault}
 use Rattle.mm_store.specs.Faults.{IsStoreFault}
 use Rattle.mm_store.specs.Shapes.{IsLook}
 

@@ -19,12 +19,12 @@ use Rattle.sql_forms.specs.Forms.{equals, is_absent}
 use Rattle.sql_forms.specs.Tables.{passes, without}
 use Rattle.sql_forms.proofs.Keys.{equal_text, columns_are}
 use Rattle.mm_schema.specs.Places.{edition_place}
-use Rattle.mm_base.specs.Effects.{is_other}
-use Rattle.mm_base.specs.Keys.{Text, same_text, PieceKey}
+use Rattle.mm_definitions.specs.Effects.{is_other}
+use Rattle.mm_definitions.specs.Keys.{Text, same_text, PieceKey}
 use Rattle.mm_store.specs.Kept.{Kept, Spare, no_spare, piece_id, piece_with}
 use Rattle.mm_store.specs.Removals.{without_edition_rows, kept_without_edition, FreedByEdition}
 use Rattle.mm_store.specs.Rows.{past_rowid, maybe, StagedRow, staged_row}
-use Rattle.mm_base.proofs.KeyLaws.{piece_keys}
+use Rattle.mm_definitions.proofs.KeyLaws.{piece_keys}
 use Rattle.mm_store.proofs.Keys as parts
 use Rattle.mm_store.proofs.Keys.{by_text}
 use Rattle.mm_store.proofs.Parts.{retains}

@@ -8,13 +8,13 @@ use Rattle.std.specs.Ordering.{is_eq, is_lt, int_cmp, ordering_then}
 use Rattle.std.specs.Cmp.{int_cmp_is}
 use Rattle.std.specs.FinMap.{get, entries, entries_sorted, find, is_sorted, get-entries, retain_keys}
 use Rattle.std.specs.FinMap.Entries.{below_all}
-use Rattle.mm_base.specs.Keys.{Text, text_cmp, same_text, PieceKey, piece, piece_cmp}
-use Rattle.mm_base.specs.Parts.{Stands}
-use Rattle.mm_base.specs.Package.{Package, PieceRow, PiecesPart}
-use Rattle.mm_base.specs.Rules.{IsNumbered}
-use Rattle.mm_base.specs.Conditions.{pieces_of}
-use Rattle.mm_base.proofs.Parts.{same_key, same_itself, kept, after_retain}
-use Rattle.mm_base.proofs.KeyLaws.{texts, piece_keys}
+use Rattle.mm_definitions.specs.Keys.{Text, text_cmp, same_text, PieceKey, piece, piece_cmp}
+use Rattle.mm_definitions.specs.Parts.{Stands}
+use Rattle.mm_definitions.specs.Package.{Package, PieceRow, PiecesPart}
+use Rattle.mm_definitions.specs.Rules.{IsNumbered}
+use Rattle.mm_definitions.specs.Conditions.{pieces_of}
+use Rattle.mm_definitions.proofs.Parts.{same_key, same_itself, kept, after_retain}
+use Rattle.mm_definitions.proofs.KeyLaws.{texts, piece_keys}
 use Rattle.mm_laws.proofs.KindFacts.{are_same}
 
 -- The list goes on with the pieces from this number on, each in its place, as far as there are any.

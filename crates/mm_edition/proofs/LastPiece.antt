@@ -25,15 +25,15 @@ use Rattle.sql_forms.proofs.Keys.{equal_text, columns_are}
 use Rattle.sql_forms.proofs.Lists.{and_true}
 use Rattle.sql_forms.proofs.Orders.{by_column}
 use Rattle.sql_forms.proofs.Selects.{shows}
-use Rattle.mm_base.specs.Bounds.{Profile}
-use Rattle.mm_base.specs.Conditions.{piece_count}
-use Rattle.mm_base.specs.Keys.{Text, same_text, PieceKey, piece, piece_cmp}
-use Rattle.mm_base.specs.Package.{Package, PiecesPart, open_state}
-use Rattle.mm_base.specs.Parts.{Stands}
-use Rattle.mm_base.specs.Rules.{Meets, IsNumbered}
-use Rattle.mm_base.specs.declared.answers.Fault.{Fault}
-use Rattle.mm_base.proofs.Parts.{some_of, same_itself}
-use Rattle.mm_base.proofs.KeyLaws.{texts}
+use Rattle.mm_definitions.specs.Bounds.{Profile}
+use Rattle.mm_definitions.specs.Conditions.{piece_count}
+use Rattle.mm_definitions.specs.Keys.{Text, same_text, PieceKey, piece, piece_cmp}
+use Rattle.mm_definitions.specs.Package.{Package, PiecesPart, open_state}
+use Rattle.mm_definitions.specs.Parts.{Stands}
+use Rattle.mm_definitions.specs.Rules.{Meets, IsNumbered}
+use Rattle.mm_definitions.specs.declared.answers.Fault.{Fault}
+use Rattle.mm_definitions.proofs.Parts.{some_of, same_itself}
+use Rattle.mm_definitions.proofs.KeyLaws.{texts}
 use Rattle.mm_laws.proofs.Counted.{piece_count-is}
 use Rattle.mm_laws.proofs.KindFacts.{are_same}
 use Rattle.mm_store.specs.Rows.{past_rowid, StagedRow, staged_row}

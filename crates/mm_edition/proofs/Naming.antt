@@ -4,8 +4,8 @@ use Rattle.sqlite.specs.declared.types.Value.TheVariants.{Int}
 use Rattle.sqlite.specs.Kind.TheVariants.{Integer}
 use Rattle.sqlite.specs.Values.{or_null}
 use Rattle.sql_forms.proofs.Casts.{is_of}
-use Rattle.mm_base.specs.Package.{PieceRow}
-use Rattle.mm_base.proofs.Parts.{not_none}
+use Rattle.mm_definitions.specs.Package.{PieceRow}
+use Rattle.mm_definitions.proofs.Parts.{not_none}
 use Rattle.mm_store.specs.Blobs.{Shelf, Told}
 use Rattle.mm_store.specs.Kept.{Spare, piece_id, piece_with}
 use Rattle.mm_store.specs.Rows.{maybe, StagedRow}

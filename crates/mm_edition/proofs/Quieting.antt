@@ -1,16 +1,16 @@
 -- Looks, changes and lent calls commit nothing, one after another too, whatever text they write.
 use Rattle.std.proofs.Common.{Result, Ok, Err}
 use Rattle.sqlite.specs.State.{State}
-use Rattle.mm_base.specs.Bounds.{Profile}
-use Rattle.mm_base.specs.Keys.{Text}
-use Rattle.mm_base.specs.Package.{Package}
-use Rattle.mm_base.specs.declared.answers.Fault.{Fault}
-use Rattle.mm_base.specs.declared.answers.Outcome.{Outcome}
-use Rattle.mm_base.specs.declared.commands.Command.{Command}
+use Rattle.mm_definitions.specs.Bounds.{Profile}
+use Rattle.mm_definitions.specs.Keys.{Text}
+use Rattle.mm_definitions.specs.Package.{Package}
+use Rattle.mm_definitions.specs.declared.answers.Fault.{Fault}
+use Rattle.mm_definitions.specs.declared.answers.Outcome.{Outcome}
+use Rattle.mm_definitions.specs.declared.commands.Command.{Command}
 use Rattle.mm_store.specs.Shapes.{IsLook, IsChange}
 use Rattle.mm_store.specs.Statements.{CommitsNothing}
 use Rattle.mm_store.proofs.Shapes.{quiet_then}
-use Rattle.mm_contents.specs.Stamped.{IsLentWhere}
+use Rattle.mm_layout.specs.Stamped.{IsLentWhere}
 use Rattle.mm_edition.specs.Quiet.{IsQuiet}
 
 pub lent_quiet : (When : Package → Type 0) (profile : Profile) (c : Command) (at : Text) (old new : State) (result : Result Outcome Fault) → IsLentWhere When profile c at old new result → IsQuiet old new result

@@ -1,11 +1,11 @@
 -- For which number a command on an edition is refused, from how the edition stands.
 use Rattle.std.proofs.Common.{◌≡◌, ℕ, not, ◌&&◌, [], ◌∷◌, Option, Some, None, is_some, sym, ap}
 use Rattle.std.specs.FinMap.{get}
-use Rattle.mm_base.specs.Keys.{Text, same_text}
-use Rattle.mm_base.specs.Parts.{at_value}
-use Rattle.mm_base.specs.Package.{Package, open_state, published_state}
-use Rattle.mm_base.specs.Conditions.{least, own_reasons}
-use Rattle.mm_base.specs.declared.commands.Command.TheVariants as commands
+use Rattle.mm_definitions.specs.Keys.{Text, same_text}
+use Rattle.mm_definitions.specs.Parts.{at_value}
+use Rattle.mm_definitions.specs.Package.{Package, open_state, published_state}
+use Rattle.mm_definitions.specs.Conditions.{least, own_reasons}
+use Rattle.mm_definitions.specs.declared.commands.Command.TheVariants as commands
 
 -- why an edition that stands so is not one that takes pieces
 abbrev of_closed : Option Text → Option ℕ

@@ -3,15 +3,15 @@ use Rattle.std.proofs.Common.{◌≡◌, ℕ, true, Result, Ok, Err, refl, arith
 use Rattle.sqlite.specs.State.{State, HasCleanDisk, IsRolledBack}
 use Rattle.sqlite.specs.Held.{Held, state}
 use Rattle.sqlite.specs.Store.{Ghosts}
-use Rattle.mm_base.specs.Bounds.{Profile}
-use Rattle.mm_base.specs.Keys.{Text}
-use Rattle.mm_base.specs.Package.{Package}
-use Rattle.mm_base.specs.Rules.{Meets}
-use Rattle.mm_base.specs.Step.{refusal, step}
-use Rattle.mm_base.specs.declared.answers.Fault.{Fault}
-use Rattle.mm_base.specs.declared.answers.Outcome.{Outcome}
-use Rattle.mm_base.specs.declared.answers.Outcome.TheVariants.{Done, Refused}
-use Rattle.mm_base.specs.declared.commands.Command.TheVariants as commands
+use Rattle.mm_definitions.specs.Bounds.{Profile}
+use Rattle.mm_definitions.specs.Keys.{Text}
+use Rattle.mm_definitions.specs.Package.{Package}
+use Rattle.mm_definitions.specs.Rules.{Meets}
+use Rattle.mm_definitions.specs.Step.{refusal, step}
+use Rattle.mm_definitions.specs.declared.answers.Fault.{Fault}
+use Rattle.mm_definitions.specs.declared.answers.Outcome.{Outcome}
+use Rattle.mm_definitions.specs.declared.answers.Outcome.TheVariants.{Done, Refused}
+use Rattle.mm_definitions.specs.declared.commands.Command.TheVariants as commands
 use Rattle.mm_store.specs.Stands.{ground_of, IsSettled}
 use Rattle.mm_store.specs.Statements.{CommitsNothing}
 use Rattle.mm_store.specs.Shapes.{IsPut, IsTried, Tries}

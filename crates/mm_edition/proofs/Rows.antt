@@ -10,10 +10,10 @@ use Rattle.sqlite_value.specs.declared.keys.Collation.TheVariants.{Binary}
 use Rattle.sqlite_schema.specs.Rules.{equal}
 use Rattle.sql_forms.proofs.Keys.{columns_are, equal_text}
 use Rattle.sql_forms.proofs.Selects.{shows}
-use Rattle.mm_base.specs.Keys.{Text, PieceKey, piece_cmp}
-use Rattle.mm_base.specs.Effects.{is_other}
-use Rattle.mm_base.specs.Package.{PieceRow}
-use Rattle.mm_base.proofs.Parts.{same_some}
+use Rattle.mm_definitions.specs.Keys.{Text, PieceKey, piece_cmp}
+use Rattle.mm_definitions.specs.Effects.{is_other}
+use Rattle.mm_definitions.specs.Package.{PieceRow}
+use Rattle.mm_definitions.proofs.Parts.{same_some}
 use Rattle.mm_store.specs.Blobs.{Shelf, StandsAt, Told}
 use Rattle.mm_store.specs.Kept.{piece_id, piece_with}
 use Rattle.mm_store.specs.Rows.{past_rowid, maybe, StagedRow, staged_row}

@@ -2,19 +2,19 @@
 use Rattle.std.proofs.Common.{◌≡◌, inl, inr, arith, le_refl, ℕ, suc, ◌+◌, pos, unsigned_abs, List, [], ◌∷◌, Option, Some, None, Ok, Err, refl, sym, ap, subst, ◌∙◌}
 use Rattle.std.specs.FinMap.{get}
 use Rattle.sqlite.specs.State.{State, HasCleanDisk}
-use Rattle.mm_base.specs.Bounds.{Profile}
-use Rattle.mm_base.specs.Keys.{Text, PieceKey, piece}
-use Rattle.mm_base.specs.Package.{Package, Contents, PieceRow, open_state}
-use Rattle.mm_base.specs.Pieces.{piece_row, row_piece}
-use Rattle.mm_base.specs.Stamp.{stamp}
-use Rattle.mm_base.specs.Conditions.{least, piece_reasons, pieces_of}
-use Rattle.mm_base.specs.Effects.{piece_effect, touched_row}
-use Rattle.mm_base.specs.Editions.{decided, piece_trial, after_trial, trial, edition_trial}
-use Rattle.mm_base.specs.declared.commands.Piece.{Piece}
-use Rattle.mm_base.specs.declared.commands.Piece.TheVariants as pieces
-use Rattle.mm_base.proofs.Parts.{same_some, not_none}
+use Rattle.mm_definitions.specs.Bounds.{Profile}
+use Rattle.mm_definitions.specs.Keys.{Text, PieceKey, piece}
+use Rattle.mm_definitions.specs.Package.{Package, Contents, PieceRow, open_state}
+use Rattle.mm_definitions.specs.Pieces.{piece_row, row_piece}
+use Rattle.mm_definitions.specs.Stamp.{stamp}
+use Rattle.mm_definitions.specs.Conditions.{least, piece_reasons, pieces_of}
+use Rattle.mm_definitions.specs.Effects.{piece_effect, touched_row}
+use Rattle.mm_definitions.specs.Editions.{decided, piece_trial, after_trial, trial, edition_trial}
+use Rattle.mm_definitions.specs.declared.commands.Piece.{Piece}
+use Rattle.mm_definitions.specs.declared.commands.Piece.TheVariants as pieces
+use Rattle.mm_definitions.proofs.Parts.{same_some, not_none}
 use Rattle.mm_laws.proofs.Published.{read_back}
-use Rattle.mm_base.specs.declared.answers.Fault.{Fault}
+use Rattle.mm_definitions.specs.declared.answers.Fault.{Fault}
 use Rattle.mm_store.specs.Stands.{Ground, StandsOn}
 use Rattle.mm_store.specs.Statements.{CommitsNothing}
 use Rattle.mm_store.specs.Faults.{store}

@@ -2,20 +2,20 @@
 use Rattle.std.proofs.Common.{◌≡◌, inl, inr, ℕ, true, not, ◌&&◌, is_err, [], ◌∷◌, Option, Some, None, is_some, Result, Ok, Err, refl, sym, ap, subst, ◌∙◌, arith}
 use Rattle.std.specs.FinMap.{get, contains_key}
 use Rattle.sqlite.specs.State.{State, HasCleanDisk}
-use Rattle.mm_base.specs.Bounds.{Profile}
-use Rattle.mm_base.specs.Keys.{Text, same_text}
-use Rattle.mm_base.specs.Parts.{at_value}
-use Rattle.mm_base.specs.Package.{Package, open_state, published_state}
-use Rattle.mm_base.specs.Rules.{Meets}
-use Rattle.mm_base.specs.Stamp.{stamp}
-use Rattle.mm_base.specs.Conditions.{least, own_reasons}
-use Rattle.mm_base.specs.Editions.{PieceRefusal, edition_trial, closed}
-use Rattle.mm_base.specs.Step.{refusal, refusal_of, refused_piece, step, done, unless_refused, closed_by}
-use Rattle.mm_base.specs.declared.answers.Fault.{Fault}
-use Rattle.mm_base.specs.declared.answers.Refusal.{Refusal}
-use Rattle.mm_base.specs.declared.answers.Outcome.TheVariants as outcome
-use Rattle.mm_base.specs.declared.commands.Command.TheVariants as commands
-use Rattle.mm_base.proofs.Parts.{same_some}
+use Rattle.mm_definitions.specs.Bounds.{Profile}
+use Rattle.mm_definitions.specs.Keys.{Text, same_text}
+use Rattle.mm_definitions.specs.Parts.{at_value}
+use Rattle.mm_definitions.specs.Package.{Package, open_state, published_state}
+use Rattle.mm_definitions.specs.Rules.{Meets}
+use Rattle.mm_definitions.specs.Stamp.{stamp}
+use Rattle.mm_definitions.specs.Conditions.{least, own_reasons}
+use Rattle.mm_definitions.specs.Editions.{PieceRefusal, edition_trial, closed}
+use Rattle.mm_definitions.specs.Step.{refusal, refusal_of, refused_piece, step, done, unless_refused, closed_by}
+use Rattle.mm_definitions.specs.declared.answers.Fault.{Fault}
+use Rattle.mm_definitions.specs.declared.answers.Refusal.{Refusal}
+use Rattle.mm_definitions.specs.declared.answers.Outcome.TheVariants as outcome
+use Rattle.mm_definitions.specs.declared.commands.Command.TheVariants as commands
+use Rattle.mm_definitions.proofs.Parts.{same_some}
 use Rattle.mm_laws.proofs.AnyStamp.{any_stamp}
 use Rattle.mm_store.specs.Stands.{Ground, IsInside}
 use Rattle.mm_store.specs.Shapes.{IsLook, IsChange, IsPut, IsTried}

@@ -3,32 +3,32 @@ use Rattle.std.proofs.Common.{◌≡◌, ℕ, ℤ, pos, List, Option, Some, None
 use Rattle.std.specs.Prelude.{⊤}
 use Rattle.std.specs.FinMap.{get}
 use Rattle.sqlite.specs.State.{State}
-use Rattle.mm_base.specs.Bounds.{Profile}
-use Rattle.mm_base.specs.Keys.{Text, piece}
-use Rattle.mm_base.specs.Package.{Package}
-use Rattle.mm_base.specs.Pieces.{piece_row, piece_by_kind, piece_command}
-use Rattle.mm_base.specs.Rules.{Meets, IsSpelled}
-use Rattle.mm_base.specs.Stamp.{IsStamp, stamp}
-use Rattle.mm_base.specs.Within.{IsPieceWithin}
-use Rattle.mm_base.specs.Conditions.{least, piece_reasons}
-use Rattle.mm_base.specs.Effects.{piece_effect}
-use Rattle.mm_base.specs.Step.{refusal, refusal_of, done, unless_refused}
-use Rattle.mm_base.specs.declared.answers.Fault.{Fault}
-use Rattle.mm_base.specs.declared.answers.Outcome.{Outcome}
-use Rattle.mm_base.specs.declared.answers.Outcome.TheVariants as outcome
-use Rattle.mm_base.specs.declared.answers.Refusal.{Refusal}
-use Rattle.mm_base.specs.declared.commands.Command.{Command}
-use Rattle.mm_base.specs.declared.commands.Piece.{Piece}
-use Rattle.mm_base.specs.declared.commands.Piece.TheVariants as pieces
-use Rattle.mm_base.proofs.Parts.{same_some}
+use Rattle.mm_definitions.specs.Bounds.{Profile}
+use Rattle.mm_definitions.specs.Keys.{Text, piece}
+use Rattle.mm_definitions.specs.Package.{Package}
+use Rattle.mm_definitions.specs.Pieces.{piece_row, piece_by_kind, piece_command}
+use Rattle.mm_definitions.specs.Rules.{Meets, IsSpelled}
+use Rattle.mm_definitions.specs.Stamp.{IsStamp, stamp}
+use Rattle.mm_definitions.specs.Within.{IsPieceWithin}
+use Rattle.mm_definitions.specs.Conditions.{least, piece_reasons}
+use Rattle.mm_definitions.specs.Effects.{piece_effect}
+use Rattle.mm_definitions.specs.Step.{refusal, refusal_of, done, unless_refused}
+use Rattle.mm_definitions.specs.declared.answers.Fault.{Fault}
+use Rattle.mm_definitions.specs.declared.answers.Outcome.{Outcome}
+use Rattle.mm_definitions.specs.declared.answers.Outcome.TheVariants as outcome
+use Rattle.mm_definitions.specs.declared.answers.Refusal.{Refusal}
+use Rattle.mm_definitions.specs.declared.commands.Command.{Command}
+use Rattle.mm_definitions.specs.declared.commands.Piece.{Piece}
+use Rattle.mm_definitions.specs.declared.commands.Piece.TheVariants as pieces
+use Rattle.mm_definitions.proofs.Parts.{same_some}
 use Rattle.mm_laws.proofs.Again.{same_limits}
 use Rattle.mm_laws.proofs.Published.{by_kind, piece_keeps}
 use Rattle.mm_laws.proofs.OneStamp.{stamped_moment, stamp_only}
 use Rattle.mm_laws.proofs.StampFound.{stamp_is}
 use Rattle.mm_store.specs.Stands.{Ground, IsInside}
 use Rattle.mm_store.specs.Shapes.{IsLook, IsPut}
-use Rattle.mm_contents.specs.Stamped.{step_at, IsLentAt, IsLentWhere}
-use Rattle.mm_content.specs.Staged.{HasBytes}
+use Rattle.mm_layout.specs.Stamped.{step_at, IsLentAt, IsLentWhere}
+use Rattle.mm_items.specs.Staged.{HasBytes}
 use Rattle.mm_store.proofs.Shapes.{quiet_then}
 use Rattle.mm_edition.specs.Turns.{HoldsPiece, IsReady, IsTurn}
 use Rattle.mm_edition.specs.declared.running.Turn.TheVariants.{Done, End, Refused}

@@ -1,12 +1,12 @@
 -- A lent call that is accepted and changes nothing.
 use Rattle.std.proofs.Common.{◌≡◌, ℕ, None, Ok, sym, subst}
 use Rattle.sqlite.specs.State.{State}
-use Rattle.mm_base.specs.Bounds.{Profile}
-use Rattle.mm_base.specs.Package.{Package}
-use Rattle.mm_base.specs.Rules.{Meets}
-use Rattle.mm_base.specs.Step.{refusal, step}
-use Rattle.mm_base.specs.declared.answers.Outcome.TheVariants.{Done}
-use Rattle.mm_base.specs.declared.commands.Command.{Command}
+use Rattle.mm_definitions.specs.Bounds.{Profile}
+use Rattle.mm_definitions.specs.Package.{Package}
+use Rattle.mm_definitions.specs.Rules.{Meets}
+use Rattle.mm_definitions.specs.Step.{refusal, step}
+use Rattle.mm_definitions.specs.declared.answers.Outcome.TheVariants.{Done}
+use Rattle.mm_definitions.specs.declared.commands.Command.{Command}
 use Rattle.mm_store.specs.Stands.{IsInside}
 use Rattle.mm_store.specs.Shapes.{IsLook, IsLent}
 

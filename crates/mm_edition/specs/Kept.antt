@@ -3,7 +3,7 @@ use Rattle.std.specs.Prelude.{◌≡◌, ℕ, ℤ, List, [], string_bytes, Optio
 use Rattle.std.specs.declared.vec.Vec.{Vec}
 use Rattle.sqlite.specs.declared.types.Value.TheVariants.{Int, Text as Words}
 use Rattle.sqlite.specs.Order.{Row, column}
-use Rattle.mm_base.specs.Package.{PieceRow}
+use Rattle.mm_definitions.specs.Package.{PieceRow}
 use Rattle.mm_store.specs.Rows.{maybe, StagedRow}
 use Rattle.mm_store.specs.Kept.{Spare, piece_with}
 use Rattle.mm_blobs.specs.Views.{spare_but}

@@ -1,12 +1,12 @@
 -- What staging a piece under a number comes to.
 use Rattle.std.specs.Prelude.{◌≡◌, ◌≢◌, ◌≤ℤ◌, ◌<ℤ◌, ◌⊎◌, ℤ, pos, ◌-ℤ◌, Some, None, Bool, true, false}
 use Rattle.std.specs.FinMap.{get, contains_key}
-use Rattle.mm_base.specs.Keys.{Text, piece}
-use Rattle.mm_base.specs.Package.{Package, PieceRow}
-use Rattle.mm_base.specs.Pieces.{piece_row}
-use Rattle.mm_base.specs.Conditions.{least, own_reasons}
-use Rattle.mm_base.specs.declared.commands.Command.TheVariants as commands
-use Rattle.mm_base.specs.declared.commands.Piece.{Piece}
+use Rattle.mm_definitions.specs.Keys.{Text, piece}
+use Rattle.mm_definitions.specs.Package.{Package, PieceRow}
+use Rattle.mm_definitions.specs.Pieces.{piece_row}
+use Rattle.mm_definitions.specs.Conditions.{least, own_reasons}
+use Rattle.mm_definitions.specs.declared.commands.Command.TheVariants as commands
+use Rattle.mm_definitions.specs.declared.commands.Piece.{Piece}
 use Rattle.mm_edition.specs.declared.staging.Place.{Place}
 use Rattle.mm_edition.specs.declared.staging.Place.TheVariants.{Equal, Next, Refused}
 

@@ -1,7 +1,7 @@
 -- What holds of a call at whatever text it writes as last_change: it commits nothing, and a fault is one of the store.
 use Rattle.std.specs.Prelude.{Result, IfErr}
 use Rattle.sqlite.specs.State.{State}
-use Rattle.mm_base.specs.declared.answers.Fault.{Fault}
+use Rattle.mm_definitions.specs.declared.answers.Fault.{Fault}
 use Rattle.mm_store.specs.Faults.{IsStoreFault}
 use Rattle.mm_store.specs.Statements.{CommitsNothing}
 

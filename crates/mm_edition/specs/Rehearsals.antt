@@ -1,15 +1,15 @@
 -- What a rehearsal answers, and that it changes nothing.
 use Rattle.std.specs.Prelude.{◌≡◌, Some, None, Result, Ok, Err, IfErr, ⊤}
 use Rattle.sqlite.specs.State.{State, HasCleanDisk}
-use Rattle.mm_base.specs.Bounds.{Profile}
-use Rattle.mm_base.specs.Keys.{Text}
-use Rattle.mm_base.specs.Package.{Package}
-use Rattle.mm_base.specs.Rules.{Meets}
-use Rattle.mm_base.specs.Step.{refusal}
-use Rattle.mm_base.specs.declared.answers.Fault.{Fault}
-use Rattle.mm_base.specs.declared.answers.Outcome.{Outcome}
-use Rattle.mm_base.specs.declared.answers.Outcome.TheVariants.{Done, Refused}
-use Rattle.mm_base.specs.declared.commands.Command.TheVariants as commands
+use Rattle.mm_definitions.specs.Bounds.{Profile}
+use Rattle.mm_definitions.specs.Keys.{Text}
+use Rattle.mm_definitions.specs.Package.{Package}
+use Rattle.mm_definitions.specs.Rules.{Meets}
+use Rattle.mm_definitions.specs.Step.{refusal}
+use Rattle.mm_definitions.specs.declared.answers.Fault.{Fault}
+use Rattle.mm_definitions.specs.declared.answers.Outcome.{Outcome}
+use Rattle.mm_definitions.specs.declared.answers.Outcome.TheVariants.{Done, Refused}
+use Rattle.mm_definitions.specs.declared.commands.Command.TheVariants as commands
 use Rattle.mm_store.specs.Stands.{IsSettled}
 use Rattle.mm_store.specs.Faults.{IsStoreFault}
 use Rattle.mm_store.specs.Statements.{CommitsNothing}

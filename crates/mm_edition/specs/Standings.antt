@@ -1,6 +1,6 @@
 -- How an edition stands, as its row writes it.
-use Rattle.mm_base.specs.Keys.{Text}
-use Rattle.mm_base.specs.Package.{open_state, published_state}
+use Rattle.mm_definitions.specs.Keys.{Text}
+use Rattle.mm_definitions.specs.Package.{open_state, published_state}
 use Rattle.mm_edition.specs.declared.editions.Standing.{Standing}
 use Rattle.mm_edition.specs.declared.editions.Standing.TheVariants.{Open, Published}
 

@@ -3,12 +3,12 @@ use Rattle.std.specs.Prelude.{◌≡◌, ℕ, ℤ, pos, ◌≤ℤ◌, Option, So
 use Rattle.std.specs.FinMap.{get}
 use Rattle.sqlite.specs.declared.types.Value.TheVariants.{Int}
 use Rattle.sqlite.specs.Order.{Row, column}
-use Rattle.mm_base.specs.Conditions.{piece_count}
-use Rattle.mm_base.specs.Keys.{Text, piece}
-use Rattle.mm_base.specs.Package.{Package, PiecesPart, open_state, published_state}
-use Rattle.mm_base.specs.Parts.{Stands}
-use Rattle.mm_base.specs.declared.entries.EditionState.{EditionState}
-use Rattle.mm_base.specs.declared.entries.EditionState.TheVariants.{Open, Published}
+use Rattle.mm_definitions.specs.Conditions.{piece_count}
+use Rattle.mm_definitions.specs.Keys.{Text, piece}
+use Rattle.mm_definitions.specs.Package.{Package, PiecesPart, open_state, published_state}
+use Rattle.mm_definitions.specs.Parts.{Stands}
+use Rattle.mm_definitions.specs.declared.entries.EditionState.{EditionState}
+use Rattle.mm_definitions.specs.declared.entries.EditionState.TheVariants.{Open, Published}
 
 -- no edition has the name, or it is published, or it is open with so many pieces
 abbrev pub TellsState : Package → Text → Option EditionState → Type 0

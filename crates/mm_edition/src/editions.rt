@@ -3,10 +3,10 @@
 ghost use Rattle.std.specs.Prelude.{◌≡◌, ℕ, ℤ, true, None, IfSome, option_map, string_bytes, ⊤};
 ghost use Rattle.std.specs.FinMap.{get, insert};
 ghost use Rattle.sqlite.specs.Held.{state};
-ghost use Rattle.mm_base.specs.Bounds.{Profile};
-ghost use Rattle.mm_base.specs.Conditions.{least, own_reasons};
-ghost use Rattle.mm_base.specs.Package.{open_state};
-ghost use Rattle.mm_base.specs.declared.commands.Command.TheVariants as commands;
+ghost use Rattle.mm_definitions.specs.Bounds.{Profile};
+ghost use Rattle.mm_definitions.specs.Conditions.{least, own_reasons};
+ghost use Rattle.mm_definitions.specs.Package.{open_state};
+ghost use Rattle.mm_definitions.specs.declared.commands.Command.TheVariants as commands;
 ghost use Rattle.mm_store.specs.Kept.{Spare, no_spare};
 ghost use Rattle.mm_store.specs.Removals.{without_edition_rows, FreedByEdition};
 ghost use Rattle.mm_store.specs.Shapes.{IsLook, IsChange, IsLent};
@@ -15,9 +15,9 @@ ghost use Rattle.mm_blobs.specs.Views.{IsSeen};
 ghost use Rattle.mm_edition.specs.Standings.{standing_text};
 
 use crate::pieces::blobs_of_pieces;
-use mm_base::answers::{Fault, Outcome, Refusal};
-use mm_base::names::Name;
 use mm_blobs::blobs::release_each;
+use mm_definitions::answers::{Fault, Outcome, Refusal};
+use mm_definitions::names::Name;
 use mm_store::statements::{first_text, run};
 use sqlite::{Alter, Transaction, params};
 

@@ -1,11 +1,11 @@
 //! A staged piece as its row holds it.
 
 ghost use Rattle.std.specs.Prelude.{◌≡◌, ◌↔◌, IfOk, IsTrue, true, pos, []};
-ghost use Rattle.mm_base.specs.PieceGroups.{changes_tile, changes_item, changes_mapping, puts_matrix};
-ghost use Rattle.mm_base.specs.Pieces.{piece_of, piece_row};
+ghost use Rattle.mm_definitions.specs.PieceGroups.{changes_tile, changes_item, changes_mapping, puts_matrix};
+ghost use Rattle.mm_definitions.specs.Pieces.{piece_of, piece_row};
 ghost use Rattle.mm_edition.specs.Kept.{kept_row, written_row, plain, HasNumbers, AreNumbers, Shows};
 
-use mm_base::commands::Piece;
+use mm_definitions::commands::Piece;
 use sqlite::{Error, Row};
 
 /// The number columns of a piece. The last four are 0 in each kind of piece but a matrix.

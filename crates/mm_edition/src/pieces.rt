@@ -3,10 +3,10 @@
 ghost use Rattle.std.specs.Prelude.{◌≡◌, ℤ, Option, None, option_map, pos, IsTrue, IfOk, IfErr};
 ghost use Rattle.std.specs.FinMap.{get, contains_key, insert};
 ghost use Rattle.sqlite.specs.Held.{state};
-ghost use Rattle.mm_base.specs.Bounds.{Profile};
-ghost use Rattle.mm_base.specs.Keys as keys;
-ghost use Rattle.mm_base.specs.Pieces.{piece_row};
-ghost use Rattle.mm_base.specs.Rules.{Meets};
+ghost use Rattle.mm_definitions.specs.Bounds.{Profile};
+ghost use Rattle.mm_definitions.specs.Keys as keys;
+ghost use Rattle.mm_definitions.specs.Pieces.{piece_row};
+ghost use Rattle.mm_definitions.specs.Rules.{Meets};
 ghost use Rattle.sqlite.specs.Order.{column};
 ghost use Rattle.mm_store.specs.Blobs.{StandsAt, Told};
 ghost use Rattle.mm_store.specs.Faults.{IsStoreFault};
@@ -20,10 +20,10 @@ ghost use Rattle.mm_edition.specs.Kept.{kept_row, written_row, plain, spare_name
 
 use crate::kept::{Kept, Written, kept_in};
 use crate::spelling::spelled;
-use mm_base::answers::Fault;
-use mm_base::commands::Piece;
-use mm_base::names::Name;
 use mm_blobs::blobs::{bytes_of, keep};
+use mm_definitions::answers::Fault;
+use mm_definitions::commands::Piece;
+use mm_definitions::names::Name;
 use mm_store::faults::fault_of;
 use mm_store::statements::{all, exists, first, run};
 use sqlite::{Alter, Row, Transaction, params};

@@ -2,14 +2,14 @@
 
 ghost use Rattle.std.specs.Prelude.{◌≡◌, ℕ, false};
 ghost use Rattle.sqlite.specs.Held.{state};
-ghost use Rattle.mm_base.specs.Bounds.{Profile};
-ghost use Rattle.mm_base.specs.Stamp.{IsStamp};
+ghost use Rattle.mm_definitions.specs.Bounds.{Profile};
+ghost use Rattle.mm_definitions.specs.Stamp.{IsStamp};
 ghost use Rattle.mm_edition.specs.Quiet.{IsQuiet};
 ghost use Rattle.mm_edition.specs.Rehearsals.{IsRehearsal};
 
 use crate::publishing::publish;
-use mm_base::answers::{Fault, Outcome};
-use mm_base::names::Name;
+use mm_definitions::answers::{Fault, Outcome};
+use mm_definitions::names::Name;
 use sqlite::{Alter, Connection};
 
 /// The command `rehearse`: answers what `publish` would, and changes nothing, since the transaction that it publishes in is

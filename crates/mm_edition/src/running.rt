@@ -2,22 +2,22 @@
 
 ghost use Rattle.std.specs.Prelude.{◌≡◌, ℕ, true};
 ghost use Rattle.sqlite.specs.Held.{state};
-ghost use Rattle.mm_base.specs.Bounds.{Profile};
-ghost use Rattle.mm_base.specs.Keys.{Text};
-ghost use Rattle.mm_base.specs.PieceGroups.{changes_tile, changes_item, changes_mapping, puts_matrix};
-ghost use Rattle.mm_base.specs.Pieces.{piece_command};
-ghost use Rattle.mm_base.specs.Stamp.{IsStamp};
-ghost use Rattle.mm_contents.specs.Stamped.{IsLentAt, IsLentWhere};
+ghost use Rattle.mm_definitions.specs.Bounds.{Profile};
+ghost use Rattle.mm_definitions.specs.Keys.{Text};
+ghost use Rattle.mm_definitions.specs.PieceGroups.{changes_tile, changes_item, changes_mapping, puts_matrix};
+ghost use Rattle.mm_definitions.specs.Pieces.{piece_command};
+ghost use Rattle.mm_definitions.specs.Stamp.{IsStamp};
+ghost use Rattle.mm_layout.specs.Stamped.{IsLentAt, IsLentWhere};
 ghost use Rattle.mm_edition.specs.Quiet.{IsQuiet};
 ghost use Rattle.mm_edition.specs.Turns.{HoldsPiece, IsTurn};
 
 use crate::pieces::piece;
-use mm_base::answers::{Fault, Outcome};
-use mm_base::commands::Piece;
-use mm_base::names::Name;
-use mm_content::{drop_media, drop_row, drop_tile, put_media_of_piece, put_row, put_tile_of_piece};
+use mm_definitions::answers::{Fault, Outcome};
+use mm_definitions::commands::Piece;
+use mm_definitions::names::Name;
+use mm_items::{drop_media, drop_row, drop_tile, put_media_of_piece, put_row, put_tile_of_piece};
 use mm_matrices::add_matrix;
-use mm_relate::{add_map, drop_map};
+use mm_relations::{add_map, drop_map};
 use sqlite::{Alter, Transaction};
 
 /// What became of the piece of a number.

@@ -1,17 +1,17 @@
 //! The piece that a kept row spells.
 
 ghost use Rattle.std.specs.Prelude.{◌≡◌, IfSome, Some, string_bytes, unsigned_abs};
-ghost use Rattle.mm_base.specs.Pieces.{piece_by_kind};
-ghost use Rattle.mm_base.specs.declared.commands.Piece.TheVariants as pieces;
+ghost use Rattle.mm_definitions.specs.Pieces.{piece_by_kind};
+ghost use Rattle.mm_definitions.specs.declared.commands.Piece.TheVariants as pieces;
 ghost use Rattle.mm_edition.specs.Kept.{kept_row, plain};
 
 use crate::kept::{Kept, Numbers};
-use mm_base::bounded::{Amount, Id, MatrixSide, PixelSize, Place, TileSide, Zoom};
-use mm_base::bytes::Bytes;
-use mm_base::commands::{Matrix, Piece};
-use mm_base::content_types::ContentType;
-use mm_base::names::Name;
-use mm_base::texts::Text;
+use mm_definitions::bounded::{Amount, Id, MatrixSide, PixelSize, Place, TileSide, Zoom};
+use mm_definitions::bytes::Bytes;
+use mm_definitions::commands::{Matrix, Piece};
+use mm_definitions::content_types::ContentType;
+use mm_definitions::names::Name;
+use mm_definitions::texts::Text;
 
 /// A zoom, a column and a row, where the first three numbers are such.
 fn place_in(numbers: Numbers) -> Option<(Zoom, Place, Place)>

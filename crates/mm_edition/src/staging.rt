@@ -2,11 +2,11 @@
 
 ghost use Rattle.std.specs.Prelude.{◌≡◌, ◌<ℤ◌, ◌-ℤ◌, ℕ, pos};
 ghost use Rattle.sqlite.specs.Held.{state};
-ghost use Rattle.mm_base.specs.Bounds.{Profile, IsId};
-ghost use Rattle.mm_base.specs.Pieces.{piece_row};
-ghost use Rattle.mm_base.specs.Rules.{Meets};
-ghost use Rattle.mm_base.specs.declared.commands.Command.TheVariants as commands;
-ghost use Rattle.mm_base.specs.declared.commands.Piece.{Piece as SpecPiece};
+ghost use Rattle.mm_definitions.specs.Bounds.{Profile, IsId};
+ghost use Rattle.mm_definitions.specs.Pieces.{piece_row};
+ghost use Rattle.mm_definitions.specs.Rules.{Meets};
+ghost use Rattle.mm_definitions.specs.declared.commands.Command.TheVariants as commands;
+ghost use Rattle.mm_definitions.specs.declared.commands.Piece.{Piece as SpecPiece};
 ghost use Rattle.mm_store.specs.Shapes.{IsLook, IsLent};
 ghost use Rattle.mm_edition.specs.Kept.{kept_row, written_row};
 ghost use Rattle.mm_edition.specs.Places.{IsPlace, IsPlaceAt, IsPlaceBehind, IsRoom, TellsBehind};
@@ -14,11 +14,11 @@ ghost use Rattle.mm_edition.specs.Places.{IsPlace, IsPlaceAt, IsPlaceBehind, IsR
 use crate::editions::{Standing, standing_of};
 use crate::kept::{Kept, Written, as_written, is_written};
 use crate::pieces::{has_piece, insert_piece, kept_piece};
-use mm_base::answers::{Fault, Outcome, Refusal};
-use mm_base::bounded::Id;
-use mm_base::commands::Piece;
-use mm_base::limits::MOST_PIECES;
-use mm_base::names::Name;
+use mm_definitions::answers::{Fault, Outcome, Refusal};
+use mm_definitions::bounded::Id;
+use mm_definitions::commands::Piece;
+use mm_definitions::limits::MOST_PIECES;
+use mm_definitions::names::Name;
 use sqlite::{Alter, Transaction};
 
 /// What staging a piece under a number comes to.

@@ -3,17 +3,17 @@
 ghost use Rattle.std.specs.Prelude.{◌≡◌, false};
 ghost use Rattle.sqlite.specs.Values.{bound};
 ghost use Rattle.sqlite.specs.Held.{state};
-ghost use Rattle.mm_base.specs.Bounds.{Profile};
-ghost use Rattle.mm_base.specs.Rules.{Meets};
+ghost use Rattle.mm_definitions.specs.Bounds.{Profile};
+ghost use Rattle.mm_definitions.specs.Rules.{Meets};
 ghost use Rattle.mm_store.specs.Seen.{IsRead};
 ghost use Rattle.mm_store.specs.Shapes.{IsLook};
 ghost use Rattle.mm_store.specs.Statements.{IsAsked};
 ghost use Rattle.mm_edition.specs.States.{GivesNumber, IsLast, TellsState};
 
 use crate::editions::{Standing, standing_of};
-use mm_base::answers::Fault;
-use mm_base::entries::EditionState;
-use mm_base::names::Name;
+use mm_definitions::answers::Fault;
+use mm_definitions::entries::EditionState;
+use mm_definitions::names::Name;
 use mm_store::faults::fault_of;
 use mm_store::statements::first;
 use sqlite::types::ValueRef;

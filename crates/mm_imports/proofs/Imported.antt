@@ -1,10 +1,10 @@
 -- The import of a kit on a package that was adopted.
 use Rattle.std.proofs.Common.{Option, Result, Ok, Err, IfOk, IfErr}
 use Rattle.sqlite.specs.State.{State, HasCleanDisk}
-use Rattle.mm_base.specs.Bounds.{current}
-use Rattle.mm_base.specs.Keys.{Text}
-use Rattle.mm_base.specs.declared.answers.Staged.{Staged}
-use Rattle.mm_base.specs.declared.answers.KitFault.{KitFault}
+use Rattle.mm_definitions.specs.Bounds.{current}
+use Rattle.mm_definitions.specs.Keys.{Text}
+use Rattle.mm_definitions.specs.declared.answers.Staged.{Staged}
+use Rattle.mm_definitions.specs.declared.answers.KitFault.{KitFault}
 use Rattle.mm_store.specs.Stands.{IsSettled}
 use Rattle.mm_core.specs.Adopted.{IsAdopted}
 use Rattle.mm_core.specs.Applied.{Stands}

@@ -1,12 +1,12 @@
 -- What the import of a kit comes to, and what is printed of it.
 use Rattle.std.specs.Prelude.{ℕ, List, ◌++◌, Result, Ok, Err, codes, decimal}
 use Rattle.sqlite.specs.State.{State}
-use Rattle.mm_base.specs.Bounds.{current}
-use Rattle.mm_base.specs.Keys.{Text}
-use Rattle.mm_base.specs.Package.{Package}
-use Rattle.mm_base.specs.declared.answers.Staged.{Staged}
-use Rattle.mm_base.specs.declared.answers.Staged.TheVariants as answers
-use Rattle.mm_base.specs.declared.answers.KitFault.{KitFault}
+use Rattle.mm_definitions.specs.Bounds.{current}
+use Rattle.mm_definitions.specs.Keys.{Text}
+use Rattle.mm_definitions.specs.Package.{Package}
+use Rattle.mm_definitions.specs.declared.answers.Staged.{Staged}
+use Rattle.mm_definitions.specs.declared.answers.Staged.TheVariants as answers
+use Rattle.mm_definitions.specs.declared.answers.KitFault.{KitFault}
 use Rattle.mm_store.specs.Stands.{IsSettled}
 use Rattle.mm_core.specs.Applied.{Stands}
 use Rattle.mm_kit.specs.Folders.{Files}

@@ -2,14 +2,14 @@
 use Rattle.std.proofs.Common.{◌≡◌, ◌∙◌, ◌≤◌, ◌+◌, inl, inr, ℕ, zero, suc, pos, ◌≤ℤ◌, List, [], ◌∷◌, ◌++◌, length, length-append, Option, Some, None, ap, refl, sym, subst, arith}
 use Rattle.std.proofs.lemmas.Int.{ints}
 use Rattle.std.specs.FinMap.{get}
-use Rattle.mm_base.specs.Bounds.{current}
-use Rattle.mm_base.specs.Conditions.{piece_count}
-use Rattle.mm_base.specs.Keys.{Text, piece}
-use Rattle.mm_base.specs.Package.{Package, open_state}
-use Rattle.mm_base.specs.Pieces.{piece_row}
-use Rattle.mm_base.specs.Rules.{Meets, IsNumbered}
-use Rattle.mm_base.specs.declared.commands.Piece.{Piece}
-use Rattle.mm_base.proofs.Parts.{some_of}
+use Rattle.mm_definitions.specs.Bounds.{current}
+use Rattle.mm_definitions.specs.Conditions.{piece_count}
+use Rattle.mm_definitions.specs.Keys.{Text, piece}
+use Rattle.mm_definitions.specs.Package.{Package, open_state}
+use Rattle.mm_definitions.specs.Pieces.{piece_row}
+use Rattle.mm_definitions.specs.Rules.{Meets, IsNumbered}
+use Rattle.mm_definitions.specs.declared.commands.Piece.{Piece}
+use Rattle.mm_definitions.proofs.Parts.{some_of}
 use Rattle.mm_laws.proofs.Counted.{piece_count-is}
 use Rattle.mm_kit.specs.Editions.{HasPieces, numbered}
 use Rattle.mm_kit.proofs.StageFacts.{numbered-more}

@@ -1,21 +1,21 @@
 -- The entry of a record, and the least number that is against it.
-use Rattle.mm_base.specs.Bounds.{current}
+use Rattle.mm_definitions.specs.Bounds.{current}
 use Rattle.std.proofs.Common.{◌≡◌, ◌∙◌, ◌⊎◌, inl, inr, ◌<◌, ◌≤◌, ◌-◌, ℕ, ℤ, pos, ◌≤ℤ◌, List, [], ◌∷◌, length, take, drop, Option, Result, Ok, Err, Bool, true, false, refl, sym, ap, subst, arith, length-drop}
 use Rattle.std.specs.Borrow.{Bor}
 use Rattle.std.proofs.lemmas.List.{take_all}
-use Rattle.mm_base.specs.Fields.{IsAgainst, Whole}
-use Rattle.mm_base.specs.Keys.{Text}
-use Rattle.mm_base.specs.Numbers.{Spells}
-use Rattle.mm_base.specs.Records.{SpellsPiece, HoldsAgainstPiece, IsLeast, id_field}
-use Rattle.mm_base.specs.declared.commands.Piece.{Piece}
-use Rattle.mm_base.proofs.ReadingFacts.{not_against, one_against, one_more, spells_one, texts_of, text_at}
+use Rattle.mm_definitions.specs.Fields.{IsAgainst, Whole}
+use Rattle.mm_definitions.specs.Keys.{Text}
+use Rattle.mm_definitions.specs.Numbers.{Spells}
+use Rattle.mm_definitions.specs.Records.{SpellsPiece, HoldsAgainstPiece, IsLeast, id_field}
+use Rattle.mm_definitions.specs.declared.commands.Piece.{Piece}
+use Rattle.mm_definitions.proofs.ReadingFacts.{not_against, one_against, one_more, spells_one, texts_of, text_at}
 use Rattle.mm_laws.proofs.Spelled.{none_against_piece, piece_number}
-use Rattle.mm_lines.specs.Records.{Record}
+use Rattle.mm_io.specs.Records.{Record}
 use Rattle.std.specs.Prelude.{nat_lt, if◌then◌else◌}
 use Rattle.std.proofs.lemmas.Bool.{ltb-true, ltb-false}
-use Rattle.mm_base.specs.Reading.{ReadsTo, refused}
-use Rattle.mm_base.specs.declared.answers.ReadFault.{ReadFault}
-use Rattle.mm_base.specs.declared.answers.ReadFault.TheVariants as faults
+use Rattle.mm_definitions.specs.Reading.{ReadsTo, refused}
+use Rattle.mm_definitions.specs.declared.answers.ReadFault.{ReadFault}
+use Rattle.mm_definitions.specs.declared.answers.ReadFault.TheVariants as faults
 use Rattle.mm_kit.specs.declared.entries.Entry.{Entry}
 use Rattle.mm_kit.specs.Entries.{HoldsAgainstEntry, IsEntry, IsPlaced, entry_of, file_of, least_fault, shown}
 

@@ -2,15 +2,15 @@
 use Rattle.std.proofs.Common.{◌≡◌, ◌≢◌, ◌∙◌, ◌⊎◌, inl, inr, ◌≤◌, ◌<◌, ◌+◌, ℕ, pos, List, [], ◌∷◌, ◌++◌, length, Option, Some, None, Bool, true, false, refl, sym, ap, subst, arith, append_assoc, append-nil, length-append}
 use Rattle.std.proofs.Math.Dec.{leb}
 use Rattle.std.proofs.lemmas.Bool.Decides.{leb_tells}
-use Rattle.mm_base.specs.Bounds.{current}
-use Rattle.mm_base.specs.Keys.{Text}
-use Rattle.mm_base.specs.Package.{Package}
-use Rattle.mm_base.specs.Rules.{Meets}
-use Rattle.mm_base.specs.Step.{refusal, step}
-use Rattle.mm_base.specs.declared.answers.Refusal.{Refusal}
-use Rattle.mm_base.specs.declared.commands.Command.{Command}
-use Rattle.mm_base.specs.declared.commands.Command.TheVariants as commands
-use Rattle.mm_base.specs.declared.commands.Piece.{Piece}
+use Rattle.mm_definitions.specs.Bounds.{current}
+use Rattle.mm_definitions.specs.Keys.{Text}
+use Rattle.mm_definitions.specs.Package.{Package}
+use Rattle.mm_definitions.specs.Rules.{Meets}
+use Rattle.mm_definitions.specs.Step.{refusal, step}
+use Rattle.mm_definitions.specs.declared.answers.Refusal.{Refusal}
+use Rattle.mm_definitions.specs.declared.commands.Command.{Command}
+use Rattle.mm_definitions.specs.declared.commands.Command.TheVariants as commands
+use Rattle.mm_definitions.specs.declared.commands.Piece.{Piece}
 use Rattle.mm_store.proofs.Refusals.{refused}
 use Rattle.mm_kit.specs.Editions.{HasPieces}
 use Rattle.mm_kit.specs.Imports.{IsFirstOf, IsPassedBy, Keeps, SameBut}

@@ -2,15 +2,15 @@
 use Rattle.std.proofs.Common.{◌≡◌, ◌∙◌, ◌⊎◌, inl, inr, ℕ, ◌≤◌, ◌<◌, ◌+◌, List, length, Option, Some, None, Result, Ok, Err, refl, sym, ap, arith}
 use Rattle.std.proofs.Math.Nat.{max-eq_left}
 use Rattle.std.specs.FinMap.{get}
-use Rattle.mm_base.specs.Bounds.{current}
-use Rattle.mm_base.specs.Keys.{Text}
-use Rattle.mm_base.specs.Package.{Package, published_state}
-use Rattle.mm_base.specs.Rules.{Meets}
-use Rattle.mm_base.specs.declared.commands.Piece.{Piece}
-use Rattle.mm_base.specs.declared.answers.Staged.{Staged}
-use Rattle.mm_base.specs.declared.answers.Staged.TheVariants.{Refused}
+use Rattle.mm_definitions.specs.Bounds.{current}
+use Rattle.mm_definitions.specs.Keys.{Text}
+use Rattle.mm_definitions.specs.Package.{Package, published_state}
+use Rattle.mm_definitions.specs.Rules.{Meets}
+use Rattle.mm_definitions.specs.declared.commands.Piece.{Piece}
+use Rattle.mm_definitions.specs.declared.answers.Staged.{Staged}
+use Rattle.mm_definitions.specs.declared.answers.Staged.TheVariants.{Refused}
 use Rattle.std.proofs.lemmas.Bool.{le-ltb, lt-ltb}
-use Rattle.mm_base.specs.declared.entries.EditionState.TheVariants as states
+use Rattle.mm_definitions.specs.declared.entries.EditionState.TheVariants as states
 use Rattle.mm_edition.specs.States.{TellsState}
 use Rattle.mm_run.specs.Applied.{IsSound}
 use Rattle.mm_kit.specs.Editions.{Edition, Open, Published, IsEdition, HasPieces}

@@ -4,14 +4,14 @@ use Rattle.std.specs.Prelude.{◌==◌}
 use Rattle.std.proofs.lemmas.Int.{ints}
 use Rattle.std.proofs.lemmas.Bool.{ne_eqb}
 use Rattle.std.specs.FinMap.{get, same_map}
-use Rattle.mm_base.specs.Conditions.{pieces_of}
-use Rattle.mm_base.specs.Editions.{edition_trial, trial}
-use Rattle.mm_base.specs.Keys.{Text, PieceKey, piece}
-use Rattle.mm_base.specs.Package.{Package, PieceRow, PiecesPart}
-use Rattle.mm_base.specs.Pieces.{piece_row}
-use Rattle.mm_base.specs.declared.commands.Piece.{Piece}
-use Rattle.mm_base.proofs.KeyLaws.{piece_keys, texts}
-use Rattle.mm_base.proofs.Parts.{not_none, same_key, same_some}
+use Rattle.mm_definitions.specs.Conditions.{pieces_of}
+use Rattle.mm_definitions.specs.Editions.{edition_trial, trial}
+use Rattle.mm_definitions.specs.Keys.{Text, PieceKey, piece}
+use Rattle.mm_definitions.specs.Package.{Package, PieceRow, PiecesPart}
+use Rattle.mm_definitions.specs.Pieces.{piece_row}
+use Rattle.mm_definitions.specs.declared.commands.Piece.{Piece}
+use Rattle.mm_definitions.proofs.KeyLaws.{piece_keys, texts}
+use Rattle.mm_definitions.proofs.Parts.{not_none, same_key, same_some}
 use Rattle.mm_edition.proofs.InOrder.{AreFrom, pieces_in_order}
 use Rattle.mm_kit.specs.Editions.{HasPieces, numbered, rows_from}
 use Rattle.mm_kit.specs.Imports.{AreRepeats, IsFirstOf, OnlyGrows, SameBut}

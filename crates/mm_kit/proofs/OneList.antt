@@ -1,12 +1,12 @@
 -- A folder has one list.
 use Rattle.std.proofs.Common.{◌≡◌, ◌∙◌, ◌⊎◌, inl, inr, ◌≤◌, ◌+◌, ◌++◌, ℕ, pos, List, [], ◌∷◌, length, Option, Some, None, Result, Ok, Err, refl, sym, ap, subst, arith}
 use Rattle.std.proofs.lemmas.Int.{ints}
-use Rattle.mm_base.specs.Bounds.{current, IsId}
-use Rattle.mm_base.specs.Fields.{Whole}
-use Rattle.mm_base.specs.Records.{id_field}
-use Rattle.mm_base.proofs.ReadingFacts.{not_against}
+use Rattle.mm_definitions.specs.Bounds.{current, IsId}
+use Rattle.mm_definitions.specs.Fields.{Whole}
+use Rattle.mm_definitions.specs.Records.{id_field}
+use Rattle.mm_definitions.proofs.ReadingFacts.{not_against}
 use Rattle.mm_laws.proofs.Spelled.{none_against_piece, one_least, one_piece}
-use Rattle.mm_lines.specs.Records.{Record, records_of}
+use Rattle.mm_io.specs.Records.{Record, records_of}
 use Rattle.mm_kit.specs.Entries.{HoldsAgainstEntry, IsEntry, IsReadAs, entry_of, file_of, shown}
 use Rattle.mm_kit.specs.Lists.{AreEntries, IsListOf, IsListed}
 use Rattle.mm_kit.specs.declared.entries.Entry.{Entry}

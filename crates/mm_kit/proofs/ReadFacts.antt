@@ -1,11 +1,11 @@
 -- What a record is read as, whether or not it is text.
 use Rattle.std.proofs.Common.{inl, Result, Ok, Err}
 use Rattle.csv.specs.Records.{AllText}
-use Rattle.mm_base.specs.Reading.{ReadsTo}
-use Rattle.mm_base.specs.Records.{IsLeast}
-use Rattle.mm_base.specs.declared.answers.ReadFault.{ReadFault}
-use Rattle.mm_base.specs.declared.answers.ReadFault.TheVariants as faults
-use Rattle.mm_lines.specs.Records.{Record}
+use Rattle.mm_definitions.specs.Reading.{ReadsTo}
+use Rattle.mm_definitions.specs.Records.{IsLeast}
+use Rattle.mm_definitions.specs.declared.answers.ReadFault.{ReadFault}
+use Rattle.mm_definitions.specs.declared.answers.ReadFault.TheVariants as faults
+use Rattle.mm_io.specs.Records.{Record}
 use Rattle.std.proofs.Common.{ℕ}
 use Rattle.mm_kit.specs.Entries.{HoldsAgainstEntry, IsEntry}
 use Rattle.mm_kit.specs.Lists.{IsRead}

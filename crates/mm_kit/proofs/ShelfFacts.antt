@@ -2,7 +2,7 @@
 use Rattle.std.proofs.Common.{◌≡◌, ◌∙◌, ◌<◌, ◌≤◌, ◌+◌, ℕ, zero, suc, List, [], ◌∷◌, length, drop, Some, None, refl, sym, ap, arith, true, false}
 use Rattle.std.proofs.Math.Seq.{drop-cons}
 use Rattle.std.specs.Prelude.{bytes_eq, string_bytes, get_or, if◌then◌else◌}
-use Rattle.mm_base.specs.Keys.{Text}
+use Rattle.mm_definitions.specs.Keys.{Text}
 use Rattle.mm_kit.specs.Shelves.{file_at}
 use Rattle.mm_kit.specs.declared.shelves.ShelfFile.{ShelfFile}
 

@@ -7,20 +7,20 @@ use Rattle.std.proofs.Math.Nat.{max-eq_left, max-eq_right}
 use Rattle.std.proofs.Math.Dec.{leb}
 use Rattle.std.proofs.lemmas.Bool.Decides.{leb_tells}
 use Rattle.std.specs.FinMap.{get, insert, contains_key}
-use Rattle.mm_base.specs.Bounds.{IsFrom, IsId, current}
-use Rattle.mm_base.specs.Keys.{Text, PieceKey, piece}
-use Rattle.mm_base.specs.Package.{Package, PieceRow}
-use Rattle.mm_base.specs.Parts.{Stands}
-use Rattle.mm_base.specs.Pieces.{piece_row, row_piece, same_piece}
-use Rattle.mm_base.specs.Rules.{Meets, IsNumbered}
-use Rattle.mm_base.specs.Stamp.{stamp}
-use Rattle.mm_base.specs.Step.{done, refusal, step, unless_refused}
-use Rattle.mm_base.specs.declared.answers.Refusal.{Refusal}
-use Rattle.mm_base.specs.declared.commands.Command.{Command}
-use Rattle.mm_base.specs.declared.commands.Command.TheVariants as commands
-use Rattle.mm_base.specs.declared.commands.Piece.{Piece}
-use Rattle.mm_base.proofs.Parts.{same_key, at_put, beside_put, same_some}
-use Rattle.mm_base.proofs.KeyLaws.{piece_keys}
+use Rattle.mm_definitions.specs.Bounds.{IsFrom, IsId, current}
+use Rattle.mm_definitions.specs.Keys.{Text, PieceKey, piece}
+use Rattle.mm_definitions.specs.Package.{Package, PieceRow}
+use Rattle.mm_definitions.specs.Parts.{Stands}
+use Rattle.mm_definitions.specs.Pieces.{piece_row, row_piece, same_piece}
+use Rattle.mm_definitions.specs.Rules.{Meets, IsNumbered}
+use Rattle.mm_definitions.specs.Stamp.{stamp}
+use Rattle.mm_definitions.specs.Step.{done, refusal, step, unless_refused}
+use Rattle.mm_definitions.specs.declared.answers.Refusal.{Refusal}
+use Rattle.mm_definitions.specs.declared.commands.Command.{Command}
+use Rattle.mm_definitions.specs.declared.commands.Command.TheVariants as commands
+use Rattle.mm_definitions.specs.declared.commands.Piece.{Piece}
+use Rattle.mm_definitions.proofs.Parts.{same_key, at_put, beside_put, same_some}
+use Rattle.mm_definitions.proofs.KeyLaws.{piece_keys}
 use Rattle.mm_laws.proofs.Again.{same_row}
 use Rattle.mm_laws.proofs.Counted.{piece_count-is}
 use Rattle.mm_laws.proofs.Published.{read_back, row_itself}

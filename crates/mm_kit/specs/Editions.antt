@@ -1,11 +1,11 @@
 -- The editions of a package, each with its pieces in order.
 use Rattle.std.specs.Prelude.{◌≡◌, ℕ, pos, ◌+◌, ◌-◌, ◌==◌, length, if◌then◌else◌, List, [], ◌∷◌, Option, Some, None}
 use Rattle.std.specs.FinMap.{get}
-use Rattle.mm_base.specs.Keys.{Text, PieceKey, piece}
-use Rattle.mm_base.specs.Package.{Package, PieceRow, open_state, published_state}
-use Rattle.mm_base.specs.Pieces.{piece_row}
-use Rattle.mm_base.specs.Rules.{IsNumbered}
-use Rattle.mm_base.specs.declared.commands.Piece.{Piece}
+use Rattle.mm_definitions.specs.Keys.{Text, PieceKey, piece}
+use Rattle.mm_definitions.specs.Package.{Package, PieceRow, open_state, published_state}
+use Rattle.mm_definitions.specs.Pieces.{piece_row}
+use Rattle.mm_definitions.specs.Rules.{IsNumbered}
+use Rattle.mm_definitions.specs.declared.commands.Piece.{Piece}
 
 -- an open edition with its pieces, or a published one
 pub data Edition : Type 0 where

@@ -1,19 +1,19 @@
 -- A record of a kit's list: its number, and the record of a piece, in which the last field of a tile or a media item is the
 -- name of the file that holds the bytes.
-use Rattle.mm_base.specs.Bounds.{current}
+use Rattle.mm_definitions.specs.Bounds.{current}
 use Rattle.std.specs.Prelude.{◌≡◌, ◌≢◌, ◌⊎◌, ◌≤◌, ◌<◌, ◌-◌, ℕ, ℤ, pos, Bool, false, ◌||◌, length, take, get_or, if◌then◌else◌, [], ◌∷◌, ◌++◌, Option, Some, None, Result, Ok, Err, codes, bytes_eq, nat_lt, ⊤}
 use Rattle.std.specs.Borrow.{Bor}
 use Rattle.csv.specs.Records.{AllText}
-use Rattle.mm_base.specs.Fields.{IsAgainst}
-use Rattle.mm_base.specs.Keys.{Text}
-use Rattle.mm_base.specs.Numbers.{Spells}
-use Rattle.mm_base.specs.Reading.{refused}
-use Rattle.mm_base.specs.declared.answers.ReadFault.{ReadFault}
-use Rattle.mm_base.specs.declared.answers.ReadFault.TheVariants as faults
-use Rattle.mm_base.specs.Records.{SpellsPiece, HoldsAgainstPiece, IsLeast, id_field}
-use Rattle.mm_base.specs.declared.commands.Piece.{Piece}
-use Rattle.mm_base.specs.declared.commands.Piece.TheVariants as pieces
-use Rattle.mm_lines.specs.Records.{Record}
+use Rattle.mm_definitions.specs.Fields.{IsAgainst}
+use Rattle.mm_definitions.specs.Keys.{Text}
+use Rattle.mm_definitions.specs.Numbers.{Spells}
+use Rattle.mm_definitions.specs.Reading.{refused}
+use Rattle.mm_definitions.specs.declared.answers.ReadFault.{ReadFault}
+use Rattle.mm_definitions.specs.declared.answers.ReadFault.TheVariants as faults
+use Rattle.mm_definitions.specs.Records.{SpellsPiece, HoldsAgainstPiece, IsLeast, id_field}
+use Rattle.mm_definitions.specs.declared.commands.Piece.{Piece}
+use Rattle.mm_definitions.specs.declared.commands.Piece.TheVariants as pieces
+use Rattle.mm_io.specs.Records.{Record}
 use Rattle.mm_kit.specs.FileNames.{IsFileName}
 use Rattle.mm_kit.specs.declared.entries.Entry.{Entry}
 use Rattle.mm_kit.specs.declared.entries.Entry.TheVariants.{Ready, Tile, Media}

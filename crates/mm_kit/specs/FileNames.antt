@@ -1,7 +1,7 @@
 -- The names that the files of a kit may have.
 use Rattle.std.specs.Prelude.{ℕ, Bool, false, not, ◌&&◌, ◌||◌, ◌==◌, IsTrue, nat_le, List, [], ◌∷◌}
 use Rattle.std.specs.List.{list_any}
-use Rattle.mm_base.specs.Bounds.{IsLong}
+use Rattle.mm_definitions.specs.Bounds.{IsLong}
 
 -- a letter, a digit, `_` or `-`
 abbrev pub is_first : ℕ → Bool

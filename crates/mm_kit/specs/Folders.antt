@@ -1,6 +1,6 @@
 -- The files of a folder that tells them.
 use Rattle.std.specs.Prelude.{◌≡◌, ◌≤◌, ◌<◌, ℕ, length, List, Bool, true, false, Option, Some, None, Result, Ok, Err}
-use Rattle.mm_base.specs.Keys.{Text}
+use Rattle.mm_definitions.specs.Keys.{Text}
 use Rattle.mm_kit.specs.declared.folders.Found.{Found}
 use Rattle.mm_kit.specs.declared.folders.Found.TheVariants.{Bytes, TooLong, Missing}
 use Rattle.mm_kit.specs.declared.folders.FolderFault.{FolderFault}

@@ -1,14 +1,14 @@
 -- What an import of a kit does.
 use Rattle.std.specs.Prelude.{◌≡◌, ◌≢◌, ◌≤◌, ◌⊎◌, ◌+◌, ◌==◌, ◌||◌, ℕ, max, length, Bool, true, false, List, [], ◌∷◌, ◌++◌, Option, Some, Result, Ok, Err, ⊤}
 use Rattle.std.specs.FinMap.{get}
-use Rattle.mm_base.specs.Keys.{Text, PieceKey}
-use Rattle.mm_base.specs.Package.{Package}
-use Rattle.mm_base.specs.Rules.{Meets}
-use Rattle.mm_base.specs.Bounds.{current}
-use Rattle.mm_base.specs.declared.commands.Piece.{Piece}
-use Rattle.mm_base.specs.declared.answers.Staged.{Staged}
-use Rattle.mm_base.specs.declared.answers.Staged.TheVariants.{Complete, Refused}
-use Rattle.mm_base.specs.declared.answers.KitFault.{KitFault}
+use Rattle.mm_definitions.specs.Keys.{Text, PieceKey}
+use Rattle.mm_definitions.specs.Package.{Package}
+use Rattle.mm_definitions.specs.Rules.{Meets}
+use Rattle.mm_definitions.specs.Bounds.{current}
+use Rattle.mm_definitions.specs.declared.commands.Piece.{Piece}
+use Rattle.mm_definitions.specs.declared.answers.Staged.{Staged}
+use Rattle.mm_definitions.specs.declared.answers.Staged.TheVariants.{Complete, Refused}
+use Rattle.mm_definitions.specs.declared.answers.KitFault.{KitFault}
 use Rattle.mm_run.specs.Applied.{IsSound}
 use Rattle.mm_kit.specs.Editions.{Edition, HasPieces, IsEdition}
 use Rattle.mm_kit.specs.Folders.{Files}

@@ -1,10 +1,10 @@
 -- A kit: the pieces of a list and a folder, and the answer to its import.
 use Rattle.std.specs.Prelude.{◌≡◌, ◌+◌, ℕ, nat_le, nat_lt, ◌&&◌, length, if◌then◌else◌, List, [], ◌∷◌, Option, Some, None, Result, Ok, Err}
-use Rattle.mm_base.specs.Pieces.{piece_row, same_piece}
-use Rattle.mm_base.specs.declared.commands.Piece.{Piece}
-use Rattle.mm_base.specs.declared.commands.Piece.TheVariants as pieces
-use Rattle.mm_base.specs.declared.answers.Staged.{Staged}
-use Rattle.mm_base.specs.declared.answers.Staged.TheVariants.{Complete, Refused}
+use Rattle.mm_definitions.specs.Pieces.{piece_row, same_piece}
+use Rattle.mm_definitions.specs.declared.commands.Piece.{Piece}
+use Rattle.mm_definitions.specs.declared.commands.Piece.TheVariants as pieces
+use Rattle.mm_definitions.specs.declared.answers.Staged.{Staged}
+use Rattle.mm_definitions.specs.declared.answers.Staged.TheVariants.{Complete, Refused}
 use Rattle.mm_kit.specs.Editions.{Edition, Open, Published, numbered}
 use Rattle.mm_kit.specs.Folders.{Files}
 use Rattle.mm_kit.specs.declared.entries.Entry.{Entry}

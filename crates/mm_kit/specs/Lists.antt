@@ -3,10 +3,10 @@ use Rattle.std.specs.Prelude.{◌≡◌, ◌⊎◌, ◌≤◌, ◌<◌, ◌+◌,
 use Rattle.csv.specs.Reading.{Reached, default_config}
 use Rattle.csv.specs.declared.parser.State.{State}
 use Rattle.csv.specs.declared.parser.State.TheVariants as states
-use Rattle.mm_base.specs.declared.answers.ReadFault.{ReadFault}
-use Rattle.mm_base.specs.declared.answers.ReadFault.TheVariants as faults
-use Rattle.mm_base.specs.Bounds.{current, IsName, IsZoom, IsTilePlace, IsId, IsContentType}
-use Rattle.mm_lines.specs.Records.{Record, records_of}
+use Rattle.mm_definitions.specs.declared.answers.ReadFault.{ReadFault}
+use Rattle.mm_definitions.specs.declared.answers.ReadFault.TheVariants as faults
+use Rattle.mm_definitions.specs.Bounds.{current, IsName, IsZoom, IsTilePlace, IsId, IsContentType}
+use Rattle.mm_io.specs.Records.{Record, records_of}
 use Rattle.mm_kit.specs.Entries.{IsReadAs}
 use Rattle.mm_kit.specs.Folders.{Files}
 use Rattle.mm_kit.specs.declared.entries.Entry.{Entry}

@@ -1,7 +1,7 @@
 -- The files of a folder in memory.
 use Rattle.std.specs.Prelude.{◌≡◌, ℕ, List, [], ◌∷◌, Option, Some, None, bytes_eq, string_bytes, if◌then◌else◌}
 use Rattle.std.specs.Borrow.{Bor}
-use Rattle.mm_base.specs.Keys.{Text}
+use Rattle.mm_definitions.specs.Keys.{Text}
 use Rattle.mm_kit.specs.declared.shelves.ShelfFile.{ShelfFile}
 
 -- the bytes of the first file of a name

@@ -1,14 +1,14 @@
 //! What a kit is imported on.
 
 ghost use Rattle.std.specs.Prelude.{◌≡◌, ◌⊎◌, Err, IfOk, IfErr, false, true};
-ghost use Rattle.mm_base.specs.Bounds.{current};
-ghost use Rattle.mm_base.specs.Package.{Package};
-ghost use Rattle.mm_base.specs.Rules.{Meets};
+ghost use Rattle.mm_definitions.specs.Bounds.{current};
+ghost use Rattle.mm_definitions.specs.Package.{Package};
+ghost use Rattle.mm_definitions.specs.Rules.{Meets};
 ghost use Rattle.mm_edition.specs.States.{TellsState};
 
-use mm_base::answers::Fault;
-use mm_base::entries::EditionState;
-use mm_base::names::Name;
+use mm_definitions::answers::Fault;
+use mm_definitions::entries::EditionState;
+use mm_definitions::names::Name;
 use mm_run::Apply;
 
 /// A thing that commands are applied to, and that tells how an edition stands.

@@ -2,20 +2,20 @@
 
 ghost use Rattle.std.specs.Prelude.{◌≡◌, ◌∷◌, IfOk, map};
 ghost use Rattle.mm_kit.specs.Entries as entries;
-ghost use Rattle.mm_base.specs.Reading.{ReadsTo};
-ghost use Rattle.mm_base.specs.Records.{IsLeast, id_field};
-ghost use Rattle.mm_base.specs.Fields.{Holds, IsAgainst, Whole};
-ghost use Rattle.mm_base.specs.declared.answers.ReadFault.TheVariants as faults;
+ghost use Rattle.mm_definitions.specs.Reading.{ReadsTo};
+ghost use Rattle.mm_definitions.specs.Records.{IsLeast, id_field};
+ghost use Rattle.mm_definitions.specs.Fields.{Holds, IsAgainst, Whole};
+ghost use Rattle.mm_definitions.specs.declared.answers.ReadFault.TheVariants as faults;
 ghost use Rattle.mm_kit.specs.Entries.{HoldsAgainstEntry, IsEntry, IsInForm, IsPlaced, entry_of, file_of, file_read, shown, text_of};
 
 use crate::file_names::FileName;
-use mm_base::answers::ReadFault;
-use mm_base::bounded::{Id, Place, Zoom};
-use mm_base::commands::Piece;
-use mm_base::content_types::ContentType;
-use mm_base::limits::{LAST_ID, MOST_PIECES};
-use mm_base::names::Name;
-use mm_base::numbers::read_number;
+use mm_definitions::answers::ReadFault;
+use mm_definitions::bounded::{Id, Place, Zoom};
+use mm_definitions::commands::Piece;
+use mm_definitions::content_types::ContentType;
+use mm_definitions::limits::{LAST_ID, MOST_PIECES};
+use mm_definitions::names::Name;
+use mm_definitions::numbers::read_number;
 use mm_records::read_piece;
 use std::alloc::{AllocError, Global};
 

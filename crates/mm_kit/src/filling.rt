@@ -1,16 +1,16 @@
 //! A piece with the bytes of its file.
 
-ghost use Rattle.mm_base.specs.Bounds.{current};
+ghost use Rattle.mm_definitions.specs.Bounds.{current};
 ghost use Rattle.std.specs.Prelude.{◌≡◌, ◌≤◌, ◌||◌, List, Option, IfOk, IfSome, ℕ};
 ghost use Rattle.mm_kit.specs.Folders.{Files, is_failure};
 ghost use Rattle.mm_kit.specs.Kits.{filled, made, with_file};
-ghost use Rattle.mm_base.specs.declared.commands.Piece.{Piece as SpecPiece};
+ghost use Rattle.mm_definitions.specs.declared.commands.Piece.{Piece as SpecPiece};
 
 use crate::entries::Entry;
 use crate::file_names::FileName;
 use crate::folders::{Folder, FolderFault, Found};
-use mm_base::bytes::Bytes;
-use mm_base::commands::Piece;
+use mm_definitions::bytes::Bytes;
+use mm_definitions::commands::Piece;
 use std::alloc::Global;
 
 /// The bytes of a file, from 1 to `MOST`: 57 where there is no such file, 11 where it has none or too many.

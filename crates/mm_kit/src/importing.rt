@@ -1,7 +1,7 @@
 //! The import of a kit, in the order of its steps.
 
 ghost use Rattle.std.specs.Prelude.{◌≡◌, ◌≢◌, ◌⊎◌, ◌||◌, IfOk, IfErr, Some, false, true};
-ghost use Rattle.mm_base.specs.Package.{Package};
+ghost use Rattle.mm_definitions.specs.Package.{Package};
 ghost use Rattle.mm_kit.specs.Folders.{Files, is_failure};
 ghost use Rattle.mm_kit.specs.Imports.{AreImported, AsksForPackage, IsAnswered, IsKept, IsKitFault, IsStopped, MayBeStaged, OnAnyFolder, OnKit, TellsFailureOf, TellsFolder};
 ghost use Rattle.mm_kit.specs.Lists.{AreFew, AreSound, IsKitList, listing};
@@ -11,10 +11,10 @@ use crate::entries::Entry;
 use crate::folders::{Folder, FolderFault, Found};
 use crate::lists::{Listed, read_list};
 use crate::staging::{folder_fault, stage_all};
-use mm_base::answers::{KitFault, Staged};
-use mm_base::entries::EditionState;
-use mm_base::moments::Moment;
-use mm_base::names::Name;
+use mm_definitions::answers::{KitFault, Staged};
+use mm_definitions::entries::EditionState;
+use mm_definitions::moments::Moment;
+use mm_definitions::names::Name;
 use std::alloc::Global;
 
 /// The most bytes of a kit's list.

@@ -1,12 +1,12 @@
 //! What imports come to, for whoever relies on them. No function here does anything: the contract of each is a law.
 
 ghost use Rattle.std.specs.Prelude.{◌≡◌, ℕ, Err, List, Result};
-ghost use Rattle.mm_base.specs.Editions.{edition_trial, trial};
-ghost use Rattle.mm_base.specs.Keys.{Text};
-ghost use Rattle.mm_base.specs.Package.{Package};
-ghost use Rattle.mm_base.specs.Step.{step};
-ghost use Rattle.mm_base.specs.declared.commands.Command.TheVariants as commands;
-ghost use Rattle.mm_base.specs.declared.commands.Piece.{Piece};
+ghost use Rattle.mm_definitions.specs.Editions.{edition_trial, trial};
+ghost use Rattle.mm_definitions.specs.Keys.{Text};
+ghost use Rattle.mm_definitions.specs.Package.{Package};
+ghost use Rattle.mm_definitions.specs.Step.{step};
+ghost use Rattle.mm_definitions.specs.declared.commands.Command.TheVariants as commands;
+ghost use Rattle.mm_definitions.specs.declared.commands.Piece.{Piece};
 ghost use Rattle.mm_kit.specs.Editions.{HasPieces, rows_from};
 ghost use Rattle.mm_kit.specs.Folders.{Files};
 ghost use Rattle.mm_kit.specs.Kits.{kit_of};

@@ -4,15 +4,15 @@ ghost use Rattle.std.specs.Prelude.{◌≡◌, ℕ, List, IfOk, OnSome, Some};
 ghost use Rattle.csv.specs.Reading.{reader_state, source_of, strip_bom};
 ghost use Rattle.csv.specs.Records.{fields_of};
 ghost use Rattle.csv.specs.declared.parser.State.TheVariants as states;
-ghost use Rattle.mm_lines.specs.Records.{IsSetUp, NextRow, records_of};
+ghost use Rattle.mm_io.specs.Records.{IsSetUp, NextRow, records_of};
 ghost use Rattle.csv.specs.Reading.{default_config, records};
 ghost use Rattle.mm_kit.specs.Lists.{AreSound, IsListed, IsRead, listing};
 
 use crate::entries::{Entry, read_entry};
 use csv::{ByteRecord, Reader, StringRecord};
-use mm_base::answers::ReadFault;
-use mm_base::limits::MOST_PIECES;
-use mm_lines::{open_rows, text_fields};
+use mm_definitions::answers::ReadFault;
+use mm_definitions::limits::MOST_PIECES;
+use mm_io::{open_rows, text_fields};
 use std::alloc::{AllocError, Global};
 use std::io::Read;
 

@@ -3,7 +3,7 @@
 ghost use Rattle.std.specs.Prelude.{◌≡◌, ◌⊎◌, IfOk, IfErr, true};
 ghost use Rattle.sqlite.specs.Held.{state};
 ghost use Rattle.sqlite.specs.State.{HasCleanDisk};
-ghost use Rattle.mm_base.specs.Bounds.{current};
+ghost use Rattle.mm_definitions.specs.Bounds.{current};
 ghost use Rattle.mm_store.specs.Stands.{IsSettled};
 ghost use Rattle.mm_core.specs.Applied.{Stands};
 ghost use Rattle.mm_core.specs.Parts.{held, has_failed};
@@ -12,11 +12,11 @@ ghost use Rattle.mm_kit.specs.Imports.{AsksForPackage, IsAnswered, IsKept, IsKit
 use crate::desk::Desk;
 use crate::folders::Folder;
 use crate::importing::import_folder;
-use mm_base::answers::{Fault, KitFault, Staged};
-use mm_base::entries::EditionState;
-use mm_base::moments::Moment;
-use mm_base::names::Name;
 use mm_core::Session;
+use mm_definitions::answers::{Fault, KitFault, Staged};
+use mm_definitions::entries::EditionState;
+use mm_definitions::moments::Moment;
+use mm_definitions::names::Name;
 use sqlite::Alter;
 use std::alloc::Global;
 

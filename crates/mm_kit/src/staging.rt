@@ -1,13 +1,13 @@
 //! The staging of a kit's pieces, one after another.
 
 ghost use Rattle.std.specs.Prelude.{◌≡◌, ◌≢◌, ◌<◌, ◌≤◌, ◌⊎◌, List, length, pos, IfOk, IfErr, false, true};
-ghost use Rattle.mm_base.specs.Bounds.{IsName, current};
-ghost use Rattle.mm_base.specs.Package.{Package};
-ghost use Rattle.mm_base.specs.Rules.{Meets};
-ghost use Rattle.mm_base.specs.Step.{step};
-ghost use Rattle.mm_base.specs.declared.answers.Answer.TheVariants as answers;
-ghost use Rattle.mm_base.specs.declared.commands.Command.TheVariants as commands;
-ghost use Rattle.mm_base.specs.declared.commands.Piece.{Piece as SpecPiece};
+ghost use Rattle.mm_definitions.specs.Bounds.{IsName, current};
+ghost use Rattle.mm_definitions.specs.Package.{Package};
+ghost use Rattle.mm_definitions.specs.Rules.{Meets};
+ghost use Rattle.mm_definitions.specs.Step.{step};
+ghost use Rattle.mm_definitions.specs.declared.answers.Answer.TheVariants as answers;
+ghost use Rattle.mm_definitions.specs.declared.commands.Command.TheVariants as commands;
+ghost use Rattle.mm_definitions.specs.declared.commands.Piece.{Piece as SpecPiece};
 ghost use Rattle.mm_run.specs.Answers.{is_fault};
 ghost use Rattle.mm_run.specs.Applied.{IsApplied, IsApplyFault, IsSound, OnFault};
 ghost use Rattle.mm_kit.specs.Editions.{HasPieces};
@@ -19,11 +19,11 @@ use crate::desk::Desk;
 use crate::entries::Entry;
 use crate::filling::fill;
 use crate::folders::{Folder, FolderFault};
-use mm_base::answers::{Answer, Fault, KitFault, Staged};
-use mm_base::bounded::Id;
-use mm_base::commands::{Command, Piece};
-use mm_base::moments::Moment;
-use mm_base::names::Name;
+use mm_definitions::answers::{Answer, Fault, KitFault, Staged};
+use mm_definitions::bounded::Id;
+use mm_definitions::commands::{Command, Piece};
+use mm_definitions::moments::Moment;
+use mm_definitions::names::Name;
 use mm_run::Apply;
 use std::alloc::Global;
 

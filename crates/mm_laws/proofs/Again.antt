@@ -2,20 +2,20 @@
 use Rattle.std.proofs.Common.{◌≡◌, ◌↔◌, ℕ, ◌+◌, ℤ, pos, ◌≤ℤ◌, true, not, ◌&&◌, int_lt, int_le, [], Some, None, refl, sym, ap, ◌∙◌, arith, Bool, false, if◌then◌else◌, Option}
 use Rattle.std.proofs.lemmas.Int.{ints}
 use Rattle.std.specs.FinMap.{get, contains_key}
-use Rattle.mm_base.specs.Keys.{Text, piece}
-use Rattle.mm_base.specs.Package.{Package, PieceRow, PiecesPart}
-use Rattle.mm_base.specs.Bounds.{Profile}
-use Rattle.mm_base.specs.Pieces.{piece_row, same_piece, piece_by_kind, if_spelled, row_piece, piece_command}
-use Rattle.mm_base.specs.Within.{IsPieceWithin, IsWithin}
-use Rattle.mm_base.specs.Stamp.{stamp}
-use Rattle.mm_base.specs.Conditions.{least, own_reasons, piece_reasons, is_open, piece_count, has_equal_piece}
-use Rattle.mm_base.specs.Effects.{effect, piece_effect}
-use Rattle.mm_base.specs.Step.{reasons, refused_piece, publishing, refusal, done, unless_refused, step}
-use Rattle.mm_base.specs.declared.commands.Piece.{Piece}
-use Rattle.mm_base.specs.declared.commands.Piece.TheVariants as pieces
-use Rattle.mm_base.specs.declared.commands.Command.TheVariants as commands
-use Rattle.mm_base.proofs.Parts.{either_false, put_again, same_some}
-use Rattle.mm_base.proofs.KeyLaws.{texts, numbers, piece_keys}
+use Rattle.mm_definitions.specs.Keys.{Text, piece}
+use Rattle.mm_definitions.specs.Package.{Package, PieceRow, PiecesPart}
+use Rattle.mm_definitions.specs.Bounds.{Profile}
+use Rattle.mm_definitions.specs.Pieces.{piece_row, same_piece, piece_by_kind, if_spelled, row_piece, piece_command}
+use Rattle.mm_definitions.specs.Within.{IsPieceWithin, IsWithin}
+use Rattle.mm_definitions.specs.Stamp.{stamp}
+use Rattle.mm_definitions.specs.Conditions.{least, own_reasons, piece_reasons, is_open, piece_count, has_equal_piece}
+use Rattle.mm_definitions.specs.Effects.{effect, piece_effect}
+use Rattle.mm_definitions.specs.Step.{reasons, refused_piece, publishing, refusal, done, unless_refused, step}
+use Rattle.mm_definitions.specs.declared.commands.Piece.{Piece}
+use Rattle.mm_definitions.specs.declared.commands.Piece.TheVariants as pieces
+use Rattle.mm_definitions.specs.declared.commands.Command.TheVariants as commands
+use Rattle.mm_definitions.proofs.Parts.{either_false, put_again, same_some}
+use Rattle.mm_definitions.proofs.KeyLaws.{texts, numbers, piece_keys}
 use Rattle.mm_laws.proofs.Reasons.{none_holds, not_false, and_false, stands_where}
 use Rattle.mm_laws.proofs.KindFacts.{are_same, both_true, at_true}
 use Rattle.mm_laws.proofs.Closed.{no_refusal}

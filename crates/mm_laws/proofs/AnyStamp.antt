@@ -1,17 +1,17 @@
 -- Whether publishing is refused does not depend on the stamp: no reason looks at last_change.
 use Rattle.std.proofs.Common.{◌≡◌, ℕ, List, [], ◌∷◌, Option, Some, None, Result, refl, sym, ap, ◌∙◌, inl, inr, is_some, unsigned_abs}
 use Rattle.std.specs.FinMap.{get, contains_key, insert}
-use Rattle.mm_base.specs.Keys.{Text, PieceKey}
-use Rattle.mm_base.specs.Package.{Package, Contents, ContentsPart, PieceRow}
-use Rattle.mm_base.specs.Pieces.{row_piece}
-use Rattle.mm_base.specs.Conditions.{least, piece_reasons, pieces_of}
-use Rattle.mm_base.specs.Effects.{changed_at, touched_row, touch, piece_effect}
-use Rattle.mm_base.specs.Editions.{PieceRefusal, decided, piece_trial, after_trial, trial, edition_trial}
-use Rattle.mm_base.specs.Step.{refused_piece}
-use Rattle.mm_base.specs.declared.commands.Piece.{Piece}
-use Rattle.mm_base.specs.declared.commands.Piece.TheVariants as pieces
-use Rattle.mm_base.proofs.Parts.{at_put, beside_put, same_key}
-use Rattle.mm_base.proofs.KeyLaws.{texts}
+use Rattle.mm_definitions.specs.Keys.{Text, PieceKey}
+use Rattle.mm_definitions.specs.Package.{Package, Contents, ContentsPart, PieceRow}
+use Rattle.mm_definitions.specs.Pieces.{row_piece}
+use Rattle.mm_definitions.specs.Conditions.{least, piece_reasons, pieces_of}
+use Rattle.mm_definitions.specs.Effects.{changed_at, touched_row, touch, piece_effect}
+use Rattle.mm_definitions.specs.Editions.{PieceRefusal, decided, piece_trial, after_trial, trial, edition_trial}
+use Rattle.mm_definitions.specs.Step.{refused_piece}
+use Rattle.mm_definitions.specs.declared.commands.Piece.{Piece}
+use Rattle.mm_definitions.specs.declared.commands.Piece.TheVariants as pieces
+use Rattle.mm_definitions.proofs.Parts.{at_put, beside_put, same_key}
+use Rattle.mm_definitions.proofs.KeyLaws.{texts}
 
 abbrev with_contents : Package → ContentsPart → Package
 with_contents p c = record p { contents = c }

@@ -3,16 +3,16 @@ use Rattle.std.proofs.Common.{◌≡◌, ◌↔◌, ℤ, Bool, true, false, not,
 use Rattle.std.specs.declared.cmp.Ordering.{Ordering}
 use Rattle.std.specs.List.{list_any, AllByRecursion}
 use Rattle.std.specs.FinMap.{FinMap, get, contains_key, entries}
-use Rattle.mm_base.specs.Keys.{Text, same_text, level}
-use Rattle.mm_base.specs.Parts.{Each, some_entry}
-use Rattle.mm_base.specs.Package.{Package, Grid, has_kind}
-use Rattle.mm_base.specs.Rules.{HigherIsFiner, NextIsHalved}
-use Rattle.mm_base.specs.Conditions.{suits, clashes}
-use Rattle.mm_base.specs.Neighbours.{Zoomed, neighbours, IsNearestBelow, IsNearestAbove}
-use Rattle.mm_base.specs.declared.commands.Kind.TheVariants.{Two}
-use Rattle.mm_base.proofs.Parts.{IsKeyOrder}
-use Rattle.mm_base.proofs.KeyLaws.{levels, texts}
-use Rattle.mm_base.proofs.Listed.{along_entries}
+use Rattle.mm_definitions.specs.Keys.{Text, same_text, level}
+use Rattle.mm_definitions.specs.Parts.{Each, some_entry}
+use Rattle.mm_definitions.specs.Package.{Package, Grid, has_kind}
+use Rattle.mm_definitions.specs.Rules.{HigherIsFiner, NextIsHalved}
+use Rattle.mm_definitions.specs.Conditions.{suits, clashes}
+use Rattle.mm_definitions.specs.Neighbours.{Zoomed, neighbours, IsNearestBelow, IsNearestAbove}
+use Rattle.mm_definitions.specs.declared.commands.Kind.TheVariants.{Two}
+use Rattle.mm_definitions.proofs.Parts.{IsKeyOrder}
+use Rattle.mm_definitions.proofs.KeyLaws.{levels, texts}
+use Rattle.mm_definitions.proofs.Listed.{along_entries}
 use Rattle.mm_laws.proofs.KindFacts.{are_same}
 use Rattle.mm_laws.proofs.PixelSizes.{SuitsAll, suits_unless_clashes, still_finer, still_halved}
 use Rattle.mm_laws.proofs.Nearest.{suits_all, nearest}

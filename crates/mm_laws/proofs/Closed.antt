@@ -1,22 +1,22 @@
 -- What an accepted publishing gives.
 use Rattle.std.proofs.Common.{◌≡◌, ℕ, Bool, true, false, not, ◌&&◌, [], ◌∷◌, ◌++◌, Option, Some, None, Result, Ok, Err, refl, sym, ap, subst, ◌∙◌, is_err, List, is_some, unsigned_abs}
 use Rattle.std.specs.FinMap.{contains_key, get}
-use Rattle.mm_base.specs.Keys.{Text, same_text, PieceKey}
-use Rattle.mm_base.specs.Parts.{Has, at_value}
-use Rattle.mm_base.specs.Package.{Package, PieceRow, open_state, published_state}
-use Rattle.mm_base.specs.Pieces.{row_piece}
-use Rattle.mm_base.specs.Bounds.{Profile}
-use Rattle.mm_base.specs.Rules.{Meets}
-use Rattle.mm_base.specs.Stamp.{stamp}
-use Rattle.mm_base.specs.Conditions.{Reasons, least, own_reasons, is_open}
-use Rattle.mm_base.specs.Effects.{is_other}
-use Rattle.mm_base.specs.Editions.{PieceRefusal, decided, piece_trial, after_trial, trial, edition_trial, closed}
-use Rattle.mm_base.specs.Step.{reasons, publishing, is_publishing, refused_piece, refusal_of, refusal, refusal_at, closed_by, done, unless_refused, step}
-use Rattle.mm_base.specs.declared.answers.Refusal.{Refusal}
-use Rattle.mm_base.specs.declared.commands.Command.{Command}
-use Rattle.mm_base.specs.declared.commands.Command.TheVariants as commands
-use Rattle.mm_base.proofs.Parts.{at_put, after_retain, same_itself, not_none, none_of}
-use Rattle.mm_base.proofs.KeyLaws.{texts, piece_keys}
+use Rattle.mm_definitions.specs.Keys.{Text, same_text, PieceKey}
+use Rattle.mm_definitions.specs.Parts.{Has, at_value}
+use Rattle.mm_definitions.specs.Package.{Package, PieceRow, open_state, published_state}
+use Rattle.mm_definitions.specs.Pieces.{row_piece}
+use Rattle.mm_definitions.specs.Bounds.{Profile}
+use Rattle.mm_definitions.specs.Rules.{Meets}
+use Rattle.mm_definitions.specs.Stamp.{stamp}
+use Rattle.mm_definitions.specs.Conditions.{Reasons, least, own_reasons, is_open}
+use Rattle.mm_definitions.specs.Effects.{is_other}
+use Rattle.mm_definitions.specs.Editions.{PieceRefusal, decided, piece_trial, after_trial, trial, edition_trial, closed}
+use Rattle.mm_definitions.specs.Step.{reasons, publishing, is_publishing, refused_piece, refusal_of, refusal, refusal_at, closed_by, done, unless_refused, step}
+use Rattle.mm_definitions.specs.declared.answers.Refusal.{Refusal}
+use Rattle.mm_definitions.specs.declared.commands.Command.{Command}
+use Rattle.mm_definitions.specs.declared.commands.Command.TheVariants as commands
+use Rattle.mm_definitions.proofs.Parts.{at_put, after_retain, same_itself, not_none, none_of}
+use Rattle.mm_definitions.proofs.KeyLaws.{texts, piece_keys}
 use Rattle.mm_laws.specs.Laws.{IsClosed, IsPublished, FirstRefused, IsNewEdition}
 use Rattle.mm_laws.proofs.Reasons.{none_holds, not_false, and_false, stands_where}
 use Rattle.mm_laws.proofs.Relations.{other_tells}

@@ -3,15 +3,15 @@ use Rattle.std.proofs.Common.{◌≡◌, ◌≢◌, ℕ, ℤ, pos, ◌<ℤ◌, �
 use Rattle.std.proofs.lemmas.Int.{ints}
 use Rattle.std.specs.Bool.{⊤}
 use Rattle.std.specs.FinMap.{get, contains_key, insert, remove}
-use Rattle.mm_base.specs.Keys.{Text, same_text, same_number, level, tile, Item, item, Pairing, pairing}
-use Rattle.mm_base.specs.Parts.{Has, at_value}
-use Rattle.mm_base.specs.Package.{Package, Grid, Kinds, HasKind, has_kind, is_pyramid, AttributeRow, Medium, Relation, RowsPart, MediaPart}
-use Rattle.mm_base.specs.Rules.{IsInside, HasItem, Joins, IsSuited, TileWithin, RowWithin, MediumWithin, PairingWithin}
-use Rattle.mm_base.specs.Conditions.{piece_reasons, outside, is_mapped, joins_item, lacks_row, lacks_medium}
-use Rattle.mm_base.specs.declared.commands.Kind.TheVariants as kinds
-use Rattle.mm_base.specs.declared.commands.Piece.TheVariants as pieces
-use Rattle.mm_base.proofs.Parts.{each_put, each_remove, stands_after_put, beside_remove, no_entry, either_false, same_itself}
-use Rattle.mm_base.proofs.KeyLaws.{numbers, texts, tile_keys, items, pairing_keys}
+use Rattle.mm_definitions.specs.Keys.{Text, same_text, same_number, level, tile, Item, item, Pairing, pairing}
+use Rattle.mm_definitions.specs.Parts.{Has, at_value}
+use Rattle.mm_definitions.specs.Package.{Package, Grid, Kinds, HasKind, has_kind, is_pyramid, AttributeRow, Medium, Relation, RowsPart, MediaPart}
+use Rattle.mm_definitions.specs.Rules.{IsInside, HasItem, Joins, IsSuited, TileWithin, RowWithin, MediumWithin, PairingWithin}
+use Rattle.mm_definitions.specs.Conditions.{piece_reasons, outside, is_mapped, joins_item, lacks_row, lacks_medium}
+use Rattle.mm_definitions.specs.declared.commands.Kind.TheVariants as kinds
+use Rattle.mm_definitions.specs.declared.commands.Piece.TheVariants as pieces
+use Rattle.mm_definitions.proofs.Parts.{each_put, each_remove, stands_after_put, beside_remove, no_entry, either_false, same_itself}
+use Rattle.mm_definitions.proofs.KeyLaws.{numbers, texts, tile_keys, items, pairing_keys}
 use Rattle.mm_laws.proofs.Kept.{PieceKeeps}
 use Rattle.mm_laws.proofs.Reasons.{none_holds, not_false, is_suited, stands_where}
 use Rattle.mm_laws.proofs.KindFacts.{has_kind_tells, has_kind_holds}

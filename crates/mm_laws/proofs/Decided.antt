@@ -9,12 +9,12 @@ use Rattle.std.proofs.lemmas.Bool.Decides.{nat_tests, Decides-by_and, Decides-eq
 use Rattle.std.proofs.lemmas.Slice.Eq.{bytes_eq-Decides}
 use Rattle.hex.specs.Hex.{decode_of}
 use Rattle.hex.specs.declared.error.FromHexError.{FromHexError}
-use Rattle.mm_base.specs.Keys.{Text}
-use Rattle.mm_base.specs.Bounds.{IsLong, IsText, IsIdentifier, IsContentType, IsWord, IsName, begins_with_letter, is_letter_or_digit, has_zero, is_control, is_word_byte, is_slash}
-use Rattle.mm_base.specs.Numbers.{Spells, IsDigit, AreDigits, LeadDigits, value_from}
-use Rattle.mm_base.specs.Fields.{Field, OneOf, NumberFrom, BytesTo, TextOf, AnIdentifier, AContentType, AName, Value, Whole, Plain, IsOneOf, Holds, IsAgainst, AllHold, IsAgainstSome}
-use Rattle.mm_base.proofs.ReadingFacts.{first_holds, rest_holds, first_lower, rest_lower}
-use Rattle.mm_base.specs.Records.{Form, IsLeast}
+use Rattle.mm_definitions.specs.Keys.{Text}
+use Rattle.mm_definitions.specs.Bounds.{IsLong, IsText, IsIdentifier, IsContentType, IsWord, IsName, begins_with_letter, is_letter_or_digit, has_zero, is_control, is_word_byte, is_slash}
+use Rattle.mm_definitions.specs.Numbers.{Spells, IsDigit, AreDigits, LeadDigits, value_from}
+use Rattle.mm_definitions.specs.Fields.{Field, OneOf, NumberFrom, BytesTo, TextOf, AnIdentifier, AContentType, AName, Value, Whole, Plain, IsOneOf, Holds, IsAgainst, AllHold, IsAgainstSome}
+use Rattle.mm_definitions.proofs.ReadingFacts.{first_holds, rest_holds, first_lower, rest_lower}
+use Rattle.mm_definitions.specs.Records.{Form, IsLeast}
 
 -- ---- tests
 true_or_not : (b : Bool) → IsTrue b ⊎ ¬ (IsTrue b)

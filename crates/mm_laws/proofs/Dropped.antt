@@ -1,18 +1,18 @@
 -- A table that is dropped, and a relation or edition that is, keep the rules.
 use Rattle.std.proofs.Common.{◌≡◌, ◌≢◌, ℤ, pos, ◌+ℤ◌, true, false, not, ◌||◌, [], Option, Some, None, codes, refl, sym, ap, subst, ◌∙◌, ◌⊎◌, inl, inr, is_some}
 use Rattle.std.specs.FinMap.{get, remove, retain_keys}
-use Rattle.mm_base.specs.Keys.{Text, same_text, level, item, Pairing, Extension}
-use Rattle.mm_base.specs.Parts.{Has, Stands}
-use Rattle.mm_base.specs.Package.{Package, kind_text, HasKind, IsPyramid, Relation, general_extension, mapping_extension, zoom_extension}
-use Rattle.mm_base.specs.Bounds.{Profile, IsName}
-use Rattle.mm_base.specs.Rules.{Meets, MayName, IsOrdered, Suits, FitsIn, IsInside, IsSuited, HasItem, Joins, IsWanted, ContentsWithin, KindWithin, SetWithin, MatrixWithin, ExtensionWithin, TileWithin, RowWithin, MediumWithin}
-use Rattle.mm_base.specs.Conditions.{own_reasons, is_used}
-use Rattle.mm_base.specs.Effects.{is_other, without_table}
-use Rattle.mm_base.specs.declared.commands.Kind.{Kind}
-use Rattle.mm_base.specs.declared.commands.Kind.TheVariants as kinds
-use Rattle.mm_base.specs.declared.commands.Command.TheVariants as commands
-use Rattle.mm_base.proofs.Parts.{each_remove, each_retain, after_remove, after_retain, kept, beside_remove, absent_after_remove, no_entry, either_false, same_itself, apart}
-use Rattle.mm_base.proofs.KeyLaws.{levels, texts, tile_keys, items, extension_keys}
+use Rattle.mm_definitions.specs.Keys.{Text, same_text, level, item, Pairing, Extension}
+use Rattle.mm_definitions.specs.Parts.{Has, Stands}
+use Rattle.mm_definitions.specs.Package.{Package, kind_text, HasKind, IsPyramid, Relation, general_extension, mapping_extension, zoom_extension}
+use Rattle.mm_definitions.specs.Bounds.{Profile, IsName}
+use Rattle.mm_definitions.specs.Rules.{Meets, MayName, IsOrdered, Suits, FitsIn, IsInside, IsSuited, HasItem, Joins, IsWanted, ContentsWithin, KindWithin, SetWithin, MatrixWithin, ExtensionWithin, TileWithin, RowWithin, MediumWithin}
+use Rattle.mm_definitions.specs.Conditions.{own_reasons, is_used}
+use Rattle.mm_definitions.specs.Effects.{is_other, without_table}
+use Rattle.mm_definitions.specs.declared.commands.Kind.{Kind}
+use Rattle.mm_definitions.specs.declared.commands.Kind.TheVariants as kinds
+use Rattle.mm_definitions.specs.declared.commands.Command.TheVariants as commands
+use Rattle.mm_definitions.proofs.Parts.{each_remove, each_retain, after_remove, after_retain, kept, beside_remove, absent_after_remove, no_entry, either_false, same_itself, apart}
+use Rattle.mm_definitions.proofs.KeyLaws.{levels, texts, tile_keys, items, extension_keys}
 use Rattle.mm_laws.proofs.Kept.{Keeps}
 use Rattle.mm_laws.proofs.Reasons.{none_holds}
 use Rattle.mm_laws.proofs.KindFacts.{differ}

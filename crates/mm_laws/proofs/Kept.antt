@@ -1,15 +1,15 @@
 -- What is shown of each command and each piece.
 use Rattle.std.proofs.Common.{◌≡◌, ℕ, None}
-use Rattle.mm_base.specs.Keys.{Text}
-use Rattle.mm_base.specs.Bounds.{Profile, IsMoment}
-use Rattle.mm_base.specs.Package.{Package}
-use Rattle.mm_base.specs.Within.{IsWithin, IsPieceWithin}
-use Rattle.mm_base.specs.Stamp.{IsStamp}
-use Rattle.mm_base.specs.Rules.{Meets}
-use Rattle.mm_base.specs.Conditions.{least, own_reasons, piece_reasons}
-use Rattle.mm_base.specs.Effects.{effect, piece_effect}
-use Rattle.mm_base.specs.declared.commands.Command.{Command}
-use Rattle.mm_base.specs.declared.commands.Piece.{Piece}
+use Rattle.mm_definitions.specs.Keys.{Text}
+use Rattle.mm_definitions.specs.Bounds.{Profile, IsMoment}
+use Rattle.mm_definitions.specs.Package.{Package}
+use Rattle.mm_definitions.specs.Within.{IsWithin, IsPieceWithin}
+use Rattle.mm_definitions.specs.Stamp.{IsStamp}
+use Rattle.mm_definitions.specs.Rules.{Meets}
+use Rattle.mm_definitions.specs.Conditions.{least, own_reasons, piece_reasons}
+use Rattle.mm_definitions.specs.Effects.{effect, piece_effect}
+use Rattle.mm_definitions.specs.declared.commands.Command.{Command}
+use Rattle.mm_definitions.specs.declared.commands.Piece.{Piece}
 
 -- Where a package meets the rules and the command has no reason to be refused, what it gives meets the rules.
 abbrev pub Keeps : Command → Type 0

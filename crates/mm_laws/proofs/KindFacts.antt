@@ -3,16 +3,16 @@ use Rattle.std.proofs.Common.{◌≡◌, ◌≢◌, Bool, true, false, ◌&&◌,
 use Rattle.std.specs.declared.cmp.Ordering.{Ordering}
 use Rattle.std.specs.Ordering.{eq_by_cmp}
 use Rattle.std.specs.FinMap.{FinMap, get}
-use Rattle.mm_base.specs.Bounds.{IsClean}
-use Rattle.mm_base.specs.Keys.{Text, text_cmp, same_text}
-use Rattle.mm_base.specs.Parts.{Has, Stands, at_value}
-use Rattle.mm_base.specs.Package.{Contents, MatrixSet, Kinds, kind_text, HasKind, has_kind, IsPyramid, is_pyramid}
-use Rattle.mm_base.specs.Rules.{Registry, Suits, IsPlaced}
-use Rattle.mm_base.specs.declared.commands.Kind.{Kind}
-use Rattle.mm_base.specs.declared.commands.Kind.TheVariants.{Two, Other, Attributes, Media}
-use Rattle.mm_base.proofs.Parts.{IsKeyOrder, same_key, same_itself, same_some, some_of}
-use Rattle.mm_base.proofs.KeyLaws.{texts}
-use Rattle.mm_base.proofs.CleanTexts.{ascii_is_clean}
+use Rattle.mm_definitions.specs.Bounds.{IsClean}
+use Rattle.mm_definitions.specs.Keys.{Text, text_cmp, same_text}
+use Rattle.mm_definitions.specs.Parts.{Has, Stands, at_value}
+use Rattle.mm_definitions.specs.Package.{Contents, MatrixSet, Kinds, kind_text, HasKind, has_kind, IsPyramid, is_pyramid}
+use Rattle.mm_definitions.specs.Rules.{Registry, Suits, IsPlaced}
+use Rattle.mm_definitions.specs.declared.commands.Kind.{Kind}
+use Rattle.mm_definitions.specs.declared.commands.Kind.TheVariants.{Two, Other, Attributes, Media}
+use Rattle.mm_definitions.proofs.Parts.{IsKeyOrder, same_key, same_itself, same_some, some_of}
+use Rattle.mm_definitions.proofs.KeyLaws.{texts}
+use Rattle.mm_definitions.proofs.CleanTexts.{ascii_is_clean}
 
 -- two keys that the test calls the same are
 pub are_same : {K : Type 0} {R : K → K → Ordering} → IsKeyOrder R → (a b : K) → eq_by_cmp R a b ≡ true → a ≡ b

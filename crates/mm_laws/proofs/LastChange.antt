@@ -1,23 +1,23 @@
 -- Which commands set last_change, and of which table.
 use Rattle.std.proofs.Common.{◌≡◌, ℕ, ℤ, unsigned_abs, Bool, true, false, ◌||◌, List, [], ◌∷◌, Option, Some, None, Result, Ok, Err, refl, sym, ap, subst, ◌∙◌, inl, inr}
 use Rattle.std.specs.FinMap.{get, insert}
-use Rattle.mm_base.specs.Keys.{Text, same_text, PieceKey}
-use Rattle.mm_base.specs.Parts.{Has, at_value}
-use Rattle.mm_base.specs.Package.{Package, Box, Contents, ContentsPart, PieceRow}
-use Rattle.mm_base.specs.Pieces.{piece_command, row_piece}
-use Rattle.mm_base.specs.Stamp.{stamp}
-use Rattle.mm_base.specs.Conditions.{least, piece_reasons, pieces_of}
-use Rattle.mm_base.specs.Effects.{changed_at, touched_row, touch, piece_effect, with_pyramid, with_zoom_row}
-use Rattle.mm_base.specs.Editions.{PieceRefusal, decided, piece_trial, after_trial, trial, edition_trial}
-use Rattle.mm_base.specs.Step.{refusal, closed_by, done, unless_refused, step}
-use Rattle.mm_base.specs.declared.commands.Piece.{Piece}
-use Rattle.mm_base.specs.declared.commands.Piece.TheVariants as pieces
-use Rattle.mm_base.specs.declared.commands.Step.{Step}
-use Rattle.mm_base.specs.declared.commands.Step.TheVariants as steps
-use Rattle.mm_base.specs.declared.commands.Command.{Command}
-use Rattle.mm_base.specs.declared.commands.Command.TheVariants as commands
-use Rattle.mm_base.proofs.Parts.{at_put, beside_put, after_remove, same_key, same_some, not_none}
-use Rattle.mm_base.proofs.KeyLaws.{texts}
+use Rattle.mm_definitions.specs.Keys.{Text, same_text, PieceKey}
+use Rattle.mm_definitions.specs.Parts.{Has, at_value}
+use Rattle.mm_definitions.specs.Package.{Package, Box, Contents, ContentsPart, PieceRow}
+use Rattle.mm_definitions.specs.Pieces.{piece_command, row_piece}
+use Rattle.mm_definitions.specs.Stamp.{stamp}
+use Rattle.mm_definitions.specs.Conditions.{least, piece_reasons, pieces_of}
+use Rattle.mm_definitions.specs.Effects.{changed_at, touched_row, touch, piece_effect, with_pyramid, with_zoom_row}
+use Rattle.mm_definitions.specs.Editions.{PieceRefusal, decided, piece_trial, after_trial, trial, edition_trial}
+use Rattle.mm_definitions.specs.Step.{refusal, closed_by, done, unless_refused, step}
+use Rattle.mm_definitions.specs.declared.commands.Piece.{Piece}
+use Rattle.mm_definitions.specs.declared.commands.Piece.TheVariants as pieces
+use Rattle.mm_definitions.specs.declared.commands.Step.{Step}
+use Rattle.mm_definitions.specs.declared.commands.Step.TheVariants as steps
+use Rattle.mm_definitions.specs.declared.commands.Command.{Command}
+use Rattle.mm_definitions.specs.declared.commands.Command.TheVariants as commands
+use Rattle.mm_definitions.proofs.Parts.{at_put, beside_put, after_remove, same_key, same_some, not_none}
+use Rattle.mm_definitions.proofs.KeyLaws.{texts}
 use Rattle.mm_laws.specs.Laws.{changes, some_piece_changes, sets_last_change, IsSetOrKept}
 use Rattle.mm_laws.proofs.Published.{same_ok}
 use Rattle.mm_laws.proofs.Closed.{publish_went}

@@ -3,17 +3,17 @@ use Rattle.std.proofs.Common.{◌≡◌, ◌∙◌, ◌⊎◌, inl, inr, ℕ, �
 use Rattle.std.specs.Prelude.{⊤, codes, bytes_eq, if◌then◌else◌, unsigned_abs, ◌^◌}
 use Rattle.std.proofs.lemmas.Int.{ints}
 use Rattle.std.proofs.lemmas.Slice.Eq.{bytes_eq-Decides}
-use Rattle.mm_base.specs.Keys.{Text}
-use Rattle.mm_base.specs.Bounds.{Profile}
-use Rattle.mm_base.specs.Package.{kind_text}
-use Rattle.mm_base.specs.Effects.{step_kind, plain_kind}
-use Rattle.mm_base.specs.Conditions.{relation_text}
-use Rattle.mm_base.specs.Fields.{Field, OneOf, NumberFrom, BytesTo, TextOf, AnIdentifier, AContentType, AName, Value, Whole, Plain, Holds, AllHold}
-use Rattle.mm_base.specs.Records.{Form, form_of, piece_forms, other_forms, record_form, stage_form, with_piece, id_field, step_words, kind_words, relation_words, IsLeast, IsMet, IsUnmet, Spells, HoldsAgainst, SpellsPiece, HoldsAgainstPiece, command_word, command_values, piece_word, piece_values}
-use Rattle.mm_base.specs.Records as forms
-use Rattle.mm_base.specs.declared.commands.Piece.{Piece}
-use Rattle.mm_base.specs.declared.commands.Command.{Command}
-use Rattle.mm_base.specs.declared.commands.Command.TheVariants as commands
+use Rattle.mm_definitions.specs.Keys.{Text}
+use Rattle.mm_definitions.specs.Bounds.{Profile}
+use Rattle.mm_definitions.specs.Package.{kind_text}
+use Rattle.mm_definitions.specs.Effects.{step_kind, plain_kind}
+use Rattle.mm_definitions.specs.Conditions.{relation_text}
+use Rattle.mm_definitions.specs.Fields.{Field, OneOf, NumberFrom, BytesTo, TextOf, AnIdentifier, AContentType, AName, Value, Whole, Plain, Holds, AllHold}
+use Rattle.mm_definitions.specs.Records.{Form, form_of, piece_forms, other_forms, record_form, stage_form, with_piece, id_field, step_words, kind_words, relation_words, IsLeast, IsMet, IsUnmet, Spells, HoldsAgainst, SpellsPiece, HoldsAgainstPiece, command_word, command_values, piece_word, piece_values}
+use Rattle.mm_definitions.specs.Records as forms
+use Rattle.mm_definitions.specs.declared.commands.Piece.{Piece}
+use Rattle.mm_definitions.specs.declared.commands.Command.{Command}
+use Rattle.mm_definitions.specs.declared.commands.Command.TheVariants as commands
 use Rattle.mm_laws.proofs.Spelled.{head, tail, plain_of, whole_of, step_of, kind_of, relation_of, piece_of, command_of}
 use Rattle.mm_laws.proofs.Decided.{all_decided}
 

@@ -1,16 +1,16 @@
 -- A matrix that is put keeps the rules.
 use Rattle.std.proofs.Common.{◌≡◌, ℕ, pos, ◌*ℤ◌, ◌-ℤ◌, true, false, not, Option, Some, None, refl, sym, ap, subst, ◌∙◌}
 use Rattle.std.specs.FinMap.{FinMap, get, contains_key, insert}
-use Rattle.mm_base.specs.Keys.{Text, Level, level, level_cmp}
-use Rattle.mm_base.specs.Parts.{Has, at_value}
-use Rattle.mm_base.specs.Package.{Grid, Box, MatrixSet, IsPyramid, is_pyramid, has_kind}
-use Rattle.mm_base.specs.Rules.{Fits, FitsIn, IsInside, MatrixWithin}
-use Rattle.mm_base.specs.Conditions.{own_reasons, grid, is_product, clashes}
-use Rattle.mm_base.specs.declared.commands.Kind.TheVariants.{Two}
-use Rattle.mm_base.specs.declared.commands.Matrix.{Matrix}
-use Rattle.mm_base.specs.declared.commands.Command.TheVariants as commands
-use Rattle.mm_base.proofs.Parts.{each_put, kept_by_new}
-use Rattle.mm_base.proofs.KeyLaws.{levels, numbers}
+use Rattle.mm_definitions.specs.Keys.{Text, Level, level, level_cmp}
+use Rattle.mm_definitions.specs.Parts.{Has, at_value}
+use Rattle.mm_definitions.specs.Package.{Grid, Box, MatrixSet, IsPyramid, is_pyramid, has_kind}
+use Rattle.mm_definitions.specs.Rules.{Fits, FitsIn, IsInside, MatrixWithin}
+use Rattle.mm_definitions.specs.Conditions.{own_reasons, grid, is_product, clashes}
+use Rattle.mm_definitions.specs.declared.commands.Kind.TheVariants.{Two}
+use Rattle.mm_definitions.specs.declared.commands.Matrix.{Matrix}
+use Rattle.mm_definitions.specs.declared.commands.Command.TheVariants as commands
+use Rattle.mm_definitions.proofs.Parts.{each_put, kept_by_new}
+use Rattle.mm_definitions.proofs.KeyLaws.{levels, numbers}
 use Rattle.mm_laws.proofs.Kept.{Keeps}
 use Rattle.mm_laws.proofs.Reasons.{none_holds, not_false, and_false}
 use Rattle.mm_laws.proofs.KindFacts.{are_same, both_true, is_pyramid_tells, pyramid_set}

@@ -2,15 +2,15 @@
 use Rattle.std.proofs.Common.{◌≡◌, ℤ, pos, ◌+ℤ◌, ◌*ℤ◌, ◌<ℤ◌, ◌≤ℤ◌, Bool, true, false, not, ◌&&◌, ◌||◌, Option, Some, None, int_lt, refl, sym, ap, ◌∙◌, ◌⊎◌, inl, inr, is_some, arith, ◌↔◌}
 use Rattle.std.proofs.lemmas.Int.{ints}
 use Rattle.std.specs.FinMap.{FinMap, get, contains_key, insert}
-use Rattle.mm_base.specs.Keys.{Text, same_number, level, level_cmp}
-use Rattle.mm_base.specs.Parts.{Has}
-use Rattle.mm_base.specs.Package.{Grid, Kinds, HasKind, has_kind}
-use Rattle.mm_base.specs.Rules.{HigherIsFiner, NextIsHalved, IsFiner, IsHalved}
-use Rattle.mm_base.specs.Conditions.{is_finer, is_double, suits_above}
-use Rattle.mm_base.specs.Neighbours.{Zoomed, neighbours, suits_below, suits_over, IsNearestBelow, IsNearestAbove}
-use Rattle.mm_base.specs.declared.commands.Kind.TheVariants.{Two}
-use Rattle.mm_base.proofs.Parts.{at_put, kept_by_new, same_itself, same_some, true_or_false}
-use Rattle.mm_base.proofs.KeyLaws.{levels, numbers}
+use Rattle.mm_definitions.specs.Keys.{Text, same_number, level, level_cmp}
+use Rattle.mm_definitions.specs.Parts.{Has}
+use Rattle.mm_definitions.specs.Package.{Grid, Kinds, HasKind, has_kind}
+use Rattle.mm_definitions.specs.Rules.{HigherIsFiner, NextIsHalved, IsFiner, IsHalved}
+use Rattle.mm_definitions.specs.Conditions.{is_finer, is_double, suits_above}
+use Rattle.mm_definitions.specs.Neighbours.{Zoomed, neighbours, suits_below, suits_over, IsNearestBelow, IsNearestAbove}
+use Rattle.mm_definitions.specs.declared.commands.Kind.TheVariants.{Two}
+use Rattle.mm_definitions.proofs.Parts.{at_put, kept_by_new, same_itself, same_some, true_or_false}
+use Rattle.mm_definitions.proofs.KeyLaws.{levels, numbers}
 use Rattle.mm_laws.proofs.KindFacts.{are_same, both_true, has_kind_tells}
 use Rattle.mm_laws.proofs.PixelSizes.{SuitsAll, below as is_lower, is_below, finer_above, still_finer, still_halved}
 

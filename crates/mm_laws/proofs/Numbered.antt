@@ -1,13 +1,13 @@
 -- The numbers with which commands are refused, and the piece that 53 names.
 use Rattle.std.proofs.Common.{◌≡◌, ℕ, Bool, true, false, not, ◌&&◌, ◌==◌, cond, min, [], ◌∷◌, ◌++◌, Option, Some, None, Result, Ok, Err, is_err, is_some, if◌then◌else◌, refl, sym, ap, subst, ◌∙◌, ◌⊎◌, inl, inr, arith}
-use Rattle.mm_base.proofs.Parts.{same_some}
-use Rattle.mm_base.specs.Package.{Package}
-use Rattle.mm_base.specs.Conditions.{Reasons, least, smaller, own_reasons}
-use Rattle.mm_base.specs.Editions.{PieceRefusal}
-use Rattle.mm_base.specs.Step.{reasons, is_publishing, publishing, refused_piece, refusal_of, refusal}
-use Rattle.mm_base.specs.declared.answers.Refusal.{Refusal}
-use Rattle.mm_base.specs.declared.commands.Command.{Command}
-use Rattle.mm_base.specs.declared.commands.Command.TheVariants as commands
+use Rattle.mm_definitions.proofs.Parts.{same_some}
+use Rattle.mm_definitions.specs.Package.{Package}
+use Rattle.mm_definitions.specs.Conditions.{Reasons, least, smaller, own_reasons}
+use Rattle.mm_definitions.specs.Editions.{PieceRefusal}
+use Rattle.mm_definitions.specs.Step.{reasons, is_publishing, publishing, refused_piece, refusal_of, refusal}
+use Rattle.mm_definitions.specs.declared.answers.Refusal.{Refusal}
+use Rattle.mm_definitions.specs.declared.commands.Command.{Command}
+use Rattle.mm_definitions.specs.declared.commands.Command.TheVariants as commands
 use Rattle.mm_laws.specs.Laws.{is_reason_number, IsNumberedRefusal}
 use Rattle.mm_laws.proofs.KindFacts.{both_true}
 

@@ -3,10 +3,10 @@ use Rattle.std.proofs.Common.{◌≡◌, ℕ, ◌/◌, ◌%◌, ◌≤◌, ℤ, 
 use Rattle.std.proofs.lemmas.Int.{ints}
 use Rattle.jiff.proofs.Family.{epoch_day_injective, epoch_day_range}
 use Rattle.jiff.specs.Words.{epoch_day}
-use Rattle.mm_base.specs.Keys.{Text}
-use Rattle.mm_base.specs.Bounds.{IsMoment}
-use Rattle.mm_base.specs.Stamp.{IsStamp, stamp, year_in, pair_at}
-use Rattle.mm_base.proofs.StampBack.{text_of, shown_parts, same_day, day_of}
+use Rattle.mm_definitions.specs.Keys.{Text}
+use Rattle.mm_definitions.specs.Bounds.{IsMoment}
+use Rattle.mm_definitions.specs.Stamp.{IsStamp, stamp, year_in, pair_at}
+use Rattle.mm_definitions.proofs.StampBack.{text_of, shown_parts, same_day, day_of}
 use Rattle.mm_laws.proofs.StampFound.{stamp_is}
 
 pub one_stamp : (moment : ℕ) (text other : Text) → IsStamp moment text → IsStamp moment other → text ≡ other

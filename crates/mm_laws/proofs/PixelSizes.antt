@@ -2,14 +2,14 @@
 use Rattle.std.proofs.Common.{◌≡◌, ℤ, pos, ◌+ℤ◌, ◌*ℤ◌, ◌<ℤ◌, Bool, true, false, not, ◌&&◌, ◌||◌, int_lt, refl, sym, ap, subst, ◌∙◌, inl, inr, arith}
 use Rattle.std.proofs.lemmas.Int.{ints}
 use Rattle.std.specs.FinMap.{FinMap, get, insert}
-use Rattle.mm_base.specs.Keys.{Text, same_text, same_number, Level, level, level_cmp}
-use Rattle.mm_base.specs.Parts.{Has}
-use Rattle.mm_base.specs.Package.{Package, Grid, Kinds, HasKind, has_kind}
-use Rattle.mm_base.specs.Rules.{HigherIsFiner, NextIsHalved, IsFiner, IsHalved}
-use Rattle.mm_base.specs.Conditions.{is_finer, is_double, suits_above, suits, clashes}
-use Rattle.mm_base.specs.declared.commands.Kind.TheVariants.{Two}
-use Rattle.mm_base.proofs.Parts.{no_entry, after_put, same_itself}
-use Rattle.mm_base.proofs.KeyLaws.{levels, texts, numbers}
+use Rattle.mm_definitions.specs.Keys.{Text, same_text, same_number, Level, level, level_cmp}
+use Rattle.mm_definitions.specs.Parts.{Has}
+use Rattle.mm_definitions.specs.Package.{Package, Grid, Kinds, HasKind, has_kind}
+use Rattle.mm_definitions.specs.Rules.{HigherIsFiner, NextIsHalved, IsFiner, IsHalved}
+use Rattle.mm_definitions.specs.Conditions.{is_finer, is_double, suits_above, suits, clashes}
+use Rattle.mm_definitions.specs.declared.commands.Kind.TheVariants.{Two}
+use Rattle.mm_definitions.proofs.Parts.{no_entry, after_put, same_itself}
+use Rattle.mm_definitions.proofs.KeyLaws.{levels, texts, numbers}
 use Rattle.mm_laws.proofs.Reasons.{and_false}
 use Rattle.mm_laws.proofs.KindFacts.{are_same, both_true, has_kind_holds}
 

@@ -2,23 +2,23 @@
 use Rattle.std.proofs.Common.{◌≡◌, ℕ, ℤ, Bool, true, false, ◌&&◌, if◌then◌else◌, List, [], ◌∷◌, Option, Some, None, Result, Ok, Err, refl, sym, ap, subst, ◌∙◌, ◌⊎◌, inl, inr, ◌≤◌, unsigned_abs}
 use Rattle.std.specs.List.{AllByRecursion}
 use Rattle.std.specs.FinMap.{retain_keys}
-use Rattle.mm_base.specs.Keys.{Text, same_text, same_number, PieceKey}
-use Rattle.mm_base.specs.Package.{Package, PieceRow, open_state, published_state}
-use Rattle.mm_base.specs.Bounds.{Profile, IsMoment, IsName, MostPieces}
-use Rattle.mm_base.specs.Pieces.{piece_row, same_piece, piece_by_kind, if_spelled, row_piece}
-use Rattle.mm_base.specs.Within.{IsPieceWithin}
-use Rattle.mm_base.specs.Stamp.{IsStamp}
-use Rattle.mm_base.specs.Rules.{Meets, IsNumbered, IsSpelled, EditionWithin, PieceWithin}
-use Rattle.mm_base.specs.Conditions.{least, piece_reasons, pieces_of}
-use Rattle.mm_base.specs.Effects.{is_other, piece_effect}
-use Rattle.mm_base.specs.Editions.{PieceRefusal, decided, piece_trial, after_trial, trial, edition_trial, closed}
-use Rattle.mm_base.specs.Step.{closed_by}
-use Rattle.mm_base.specs.declared.commands.Piece.{Piece}
-use Rattle.mm_base.specs.declared.commands.Piece.TheVariants as pieces
-use Rattle.mm_base.proofs.Parts.{same_some, same_itself, each_put, each_retain, after_put, after_retain, beside_put}
-use Rattle.mm_base.proofs.CleanTexts.{ascii_is_clean}
-use Rattle.mm_base.proofs.KeyLaws.{texts, numbers, piece_keys}
-use Rattle.mm_base.proofs.Listed.{along_entries}
+use Rattle.mm_definitions.specs.Keys.{Text, same_text, same_number, PieceKey}
+use Rattle.mm_definitions.specs.Package.{Package, PieceRow, open_state, published_state}
+use Rattle.mm_definitions.specs.Bounds.{Profile, IsMoment, IsName, MostPieces}
+use Rattle.mm_definitions.specs.Pieces.{piece_row, same_piece, piece_by_kind, if_spelled, row_piece}
+use Rattle.mm_definitions.specs.Within.{IsPieceWithin}
+use Rattle.mm_definitions.specs.Stamp.{IsStamp}
+use Rattle.mm_definitions.specs.Rules.{Meets, IsNumbered, IsSpelled, EditionWithin, PieceWithin}
+use Rattle.mm_definitions.specs.Conditions.{least, piece_reasons, pieces_of}
+use Rattle.mm_definitions.specs.Effects.{is_other, piece_effect}
+use Rattle.mm_definitions.specs.Editions.{PieceRefusal, decided, piece_trial, after_trial, trial, edition_trial, closed}
+use Rattle.mm_definitions.specs.Step.{closed_by}
+use Rattle.mm_definitions.specs.declared.commands.Piece.{Piece}
+use Rattle.mm_definitions.specs.declared.commands.Piece.TheVariants as pieces
+use Rattle.mm_definitions.proofs.Parts.{same_some, same_itself, each_put, each_retain, after_put, after_retain, beside_put}
+use Rattle.mm_definitions.proofs.CleanTexts.{ascii_is_clean}
+use Rattle.mm_definitions.proofs.KeyLaws.{texts, numbers, piece_keys}
+use Rattle.mm_definitions.proofs.Listed.{along_entries}
 use Rattle.mm_laws.proofs.Kept.{PieceKeeps}
 use Rattle.mm_laws.proofs.KindFacts.{differ}
 use Rattle.mm_laws.proofs.Matrices.{matrix}

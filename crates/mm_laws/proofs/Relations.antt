@@ -2,20 +2,20 @@
 use Rattle.std.proofs.Common.{◌≡◌, ◌≢◌, ℕ, ◌≤◌, ℤ, pos, ◌≤ℤ◌, Bool, true, false, not, ◌&&◌, ◌||◌, [], Option, Some, None, codes, refl, sym, ap, subst, ◌∙◌, ◌⊎◌, inl, inr, is_some, arith, zero-le}
 use Rattle.std.proofs.lemmas.Int.{ints}
 use Rattle.std.specs.FinMap.{get, contains_key, insert, remove, retain_keys}
-use Rattle.mm_base.specs.Keys.{Text, same_text, Pairing, PieceKey, piece, Extension}
-use Rattle.mm_base.specs.Parts.{Each, Has, Stands}
-use Rattle.mm_base.specs.Package.{Package, Kinds, RelationsPart, HasKind, has_kind, Relation, general_extension, mapping_extension, zoom_extension, open_state, published_state}
-use Rattle.mm_base.specs.Bounds.{IsName, IsClean, MostPieces}
-use Rattle.mm_base.specs.Rules.{IsSuited, Joins, IsWanted, IsNumbered, ExtensionWithin, RelationWithin, PairingWithin, EditionWithin, PieceWithin}
-use Rattle.mm_base.specs.Conditions.{own_reasons, is_plain, relation_text, related_kind}
-use Rattle.mm_base.specs.Effects.{is_other}
-use Rattle.mm_base.specs.declared.commands.Kind.TheVariants as kinds
-use Rattle.mm_base.specs.declared.commands.RelationName.{RelationName}
-use Rattle.mm_base.specs.declared.commands.RelationName.TheVariants as names
-use Rattle.mm_base.specs.declared.commands.Command.TheVariants as commands
-use Rattle.mm_base.proofs.Parts.{each_put, each_remove, each_retain, stands_after_put, after_put, after_remove, after_retain, kept, kept_by_new, at_put, beside_remove, either_false, same_itself, apart, not_none, none_of, some_of}
-use Rattle.mm_base.proofs.CleanTexts.{ascii_is_clean, name_is_clean}
-use Rattle.mm_base.proofs.KeyLaws.{texts, pairing_keys, piece_keys, extension_keys}
+use Rattle.mm_definitions.specs.Keys.{Text, same_text, Pairing, PieceKey, piece, Extension}
+use Rattle.mm_definitions.specs.Parts.{Each, Has, Stands}
+use Rattle.mm_definitions.specs.Package.{Package, Kinds, RelationsPart, HasKind, has_kind, Relation, general_extension, mapping_extension, zoom_extension, open_state, published_state}
+use Rattle.mm_definitions.specs.Bounds.{IsName, IsClean, MostPieces}
+use Rattle.mm_definitions.specs.Rules.{IsSuited, Joins, IsWanted, IsNumbered, ExtensionWithin, RelationWithin, PairingWithin, EditionWithin, PieceWithin}
+use Rattle.mm_definitions.specs.Conditions.{own_reasons, is_plain, relation_text, related_kind}
+use Rattle.mm_definitions.specs.Effects.{is_other}
+use Rattle.mm_definitions.specs.declared.commands.Kind.TheVariants as kinds
+use Rattle.mm_definitions.specs.declared.commands.RelationName.{RelationName}
+use Rattle.mm_definitions.specs.declared.commands.RelationName.TheVariants as names
+use Rattle.mm_definitions.specs.declared.commands.Command.TheVariants as commands
+use Rattle.mm_definitions.proofs.Parts.{each_put, each_remove, each_retain, stands_after_put, after_put, after_remove, after_retain, kept, kept_by_new, at_put, beside_remove, either_false, same_itself, apart, not_none, none_of, some_of}
+use Rattle.mm_definitions.proofs.CleanTexts.{ascii_is_clean, name_is_clean}
+use Rattle.mm_definitions.proofs.KeyLaws.{texts, pairing_keys, piece_keys, extension_keys}
 use Rattle.mm_laws.proofs.Kept.{Keeps}
 use Rattle.mm_laws.proofs.Reasons.{none_holds, not_false, stands_where}
 use Rattle.mm_laws.proofs.KindFacts.{differ, both_true, either_true, has_kind_tells}

@@ -1,14 +1,14 @@
 -- Runs of commands, and first parts of what they accepted.
 use Rattle.std.proofs.Common.{◌≡◌, ℕ, zero, suc, List, [], ◌∷◌, take, Option, Some, None, refl, sym, ap, subst, ◌∙◌, ◌⊎◌, inl, inr}
-use Rattle.mm_base.specs.Package.{Package}
-use Rattle.mm_base.specs.Bounds.{Profile, IsMoment}
-use Rattle.mm_base.specs.Stamp.{stamp}
-use Rattle.mm_base.specs.Within.{IsWithin}
-use Rattle.mm_base.specs.Rules.{Meets}
-use Rattle.mm_base.specs.Step.{refusal, done, unless_refused, step}
-use Rattle.mm_base.specs.Runs.{Call, run, if_ok, accepted, IsFirstPart}
-use Rattle.mm_base.specs.declared.answers.Refusal.{Refusal}
-use Rattle.mm_base.specs.declared.commands.Command.{Command}
+use Rattle.mm_definitions.specs.Package.{Package}
+use Rattle.mm_definitions.specs.Bounds.{Profile, IsMoment}
+use Rattle.mm_definitions.specs.Stamp.{stamp}
+use Rattle.mm_definitions.specs.Within.{IsWithin}
+use Rattle.mm_definitions.specs.Rules.{Meets}
+use Rattle.mm_definitions.specs.Step.{refusal, done, unless_refused, step}
+use Rattle.mm_definitions.specs.Runs.{Call, run, if_ok, accepted, IsFirstPart}
+use Rattle.mm_definitions.specs.declared.answers.Refusal.{Refusal}
+use Rattle.mm_definitions.specs.declared.commands.Command.{Command}
 use Rattle.mm_laws.specs.Laws.{AllWithin}
 use Rattle.mm_laws.proofs.Steps.{run_keeps}
 

@@ -1,20 +1,20 @@
 -- A package of millimetres that meets the rules meets them in micrometres.
 use Rattle.std.proofs.Common.{◌≡◌, ℤ, pos, ◌*ℤ◌, ◌-ℤ◌, ◌<ℤ◌, List, Option, Some, None, IfSome, is_some, option_map, refl, sym, ap, ap₂, subst, ◌∙◌}
 use Rattle.std.specs.FinMap.{get}
-use Rattle.mm_base.specs.Bounds.{IsCoordinate, millimetres, micrometres}
-use Rattle.mm_base.specs.Keys.{Text, Level, TileKey, level, text_cmp, level_cmp}
-use Rattle.mm_base.specs.Parts.{Each, Has}
-use Rattle.mm_base.specs.Package.{Package, Contents, Box, MatrixSet, Grid}
-use Rattle.mm_base.specs.Rules.{Meets, Suits, IsUnplaced, IsPlaced, IsPlacedAt, IsOrdered, Fits, FitsIn, IsFiner, IsHalved, IsInside, ContentsWithin, SetWithin, MatrixWithin, MayName}
-use Rattle.mm_base.specs.Within.{IsPieceWithin, IsMatrixWithin, Takes}
-use Rattle.mm_base.specs.declared.commands.Matrix.{Matrix}
-use Rattle.mm_base.specs.declared.commands.Piece.{Piece}
-use Rattle.mm_base.specs.declared.commands.Piece.TheVariants as pieces
-use Rattle.mm_base.specs.declared.commands.Kind.{Kind}
-use Rattle.mm_base.specs.declared.commands.Kind.TheVariants.{Two, Other, Attributes, Media}
-use Rattle.mm_base.specs.Scale.{scale, finer, finer_contents, finer_box, finer_set, finer_grid}
+use Rattle.mm_definitions.specs.Bounds.{IsCoordinate, millimetres, micrometres}
+use Rattle.mm_definitions.specs.Keys.{Text, Level, TileKey, level, text_cmp, level_cmp}
+use Rattle.mm_definitions.specs.Parts.{Each, Has}
+use Rattle.mm_definitions.specs.Package.{Package, Contents, Box, MatrixSet, Grid}
+use Rattle.mm_definitions.specs.Rules.{Meets, Suits, IsUnplaced, IsPlaced, IsPlacedAt, IsOrdered, Fits, FitsIn, IsFiner, IsHalved, IsInside, ContentsWithin, SetWithin, MatrixWithin, MayName}
+use Rattle.mm_definitions.specs.Within.{IsPieceWithin, IsMatrixWithin, Takes}
+use Rattle.mm_definitions.specs.declared.commands.Matrix.{Matrix}
+use Rattle.mm_definitions.specs.declared.commands.Piece.{Piece}
+use Rattle.mm_definitions.specs.declared.commands.Piece.TheVariants as pieces
+use Rattle.mm_definitions.specs.declared.commands.Kind.{Kind}
+use Rattle.mm_definitions.specs.declared.commands.Kind.TheVariants.{Two, Other, Attributes, Media}
+use Rattle.mm_definitions.specs.Scale.{scale, finer, finer_contents, finer_box, finer_set, finer_grid}
 use Rattle.mm_laws.proofs.Units as units
-use Rattle.mm_base.proofs.Values.{get_changed, each_changed, from}
+use Rattle.mm_definitions.proofs.Values.{get_changed, each_changed, from}
 
 some_changed : {X Y : Type 0} (change : X → Y) (o : Option X) → is_some (option_map change o) ≡ is_some o
 some_changed change None = refl

@@ -3,24 +3,24 @@ use Rattle.std.proofs.Common.{◌≡◌, ◌∙◌, inl, inr, ℕ, zero, suc, �
 use Rattle.std.specs.Prelude.{codes, bytes_eq, if◌then◌else◌, unsigned_abs}
 use Rattle.hex.specs.Hex.{decode_of}
 use Rattle.hex.specs.declared.error.FromHexError.{FromHexError}
-use Rattle.mm_base.specs.Keys.{Text}
-use Rattle.mm_base.specs.Bounds.{Profile}
-use Rattle.mm_base.specs.Fields.{Field, OneOf, NumberFrom, BytesTo, TextOf, AnIdentifier, AContentType, AName, Value, Whole, Plain, Holds, IsAgainst, AllHold, IsAgainstSome}
-use Rattle.mm_base.specs.Records.{Form, IsLeast, IsMet, IsUnmet, Spells, HoldsAgainst, SpellsPiece, HoldsAgainstPiece, record_form, piece_form, command_word, command_values, piece_word, piece_values}
-use Rattle.mm_base.specs.Pieces.{piece_command}
-use Rattle.mm_base.specs.declared.commands.Step.{Step}
-use Rattle.mm_base.specs.declared.commands.Step.TheVariants as steps
-use Rattle.mm_base.specs.declared.commands.PlainKind.{PlainKind}
-use Rattle.mm_base.specs.declared.commands.PlainKind.TheVariants as plain_kinds
-use Rattle.mm_base.specs.declared.commands.RelationName.{RelationName}
-use Rattle.mm_base.specs.declared.commands.RelationName.TheVariants as names
-use Rattle.mm_base.specs.declared.commands.Matrix.{Matrix}
-use Rattle.mm_base.specs.declared.commands.Piece.{Piece}
-use Rattle.mm_base.specs.declared.commands.Piece.TheVariants as pieces
-use Rattle.mm_base.specs.declared.commands.Piece.TheVariants.{Tile, TileDrop, Row, RowDrop, Media, MediaDrop, Map, MapDrop}
-use Rattle.mm_base.specs.declared.commands.Command.{Command}
-use Rattle.mm_base.specs.declared.commands.Command.TheVariants as commands
-use Rattle.mm_base.proofs.ReadingFacts.{spells_one, none_against}
+use Rattle.mm_definitions.specs.Keys.{Text}
+use Rattle.mm_definitions.specs.Bounds.{Profile}
+use Rattle.mm_definitions.specs.Fields.{Field, OneOf, NumberFrom, BytesTo, TextOf, AnIdentifier, AContentType, AName, Value, Whole, Plain, Holds, IsAgainst, AllHold, IsAgainstSome}
+use Rattle.mm_definitions.specs.Records.{Form, IsLeast, IsMet, IsUnmet, Spells, HoldsAgainst, SpellsPiece, HoldsAgainstPiece, record_form, piece_form, command_word, command_values, piece_word, piece_values}
+use Rattle.mm_definitions.specs.Pieces.{piece_command}
+use Rattle.mm_definitions.specs.declared.commands.Step.{Step}
+use Rattle.mm_definitions.specs.declared.commands.Step.TheVariants as steps
+use Rattle.mm_definitions.specs.declared.commands.PlainKind.{PlainKind}
+use Rattle.mm_definitions.specs.declared.commands.PlainKind.TheVariants as plain_kinds
+use Rattle.mm_definitions.specs.declared.commands.RelationName.{RelationName}
+use Rattle.mm_definitions.specs.declared.commands.RelationName.TheVariants as names
+use Rattle.mm_definitions.specs.declared.commands.Matrix.{Matrix}
+use Rattle.mm_definitions.specs.declared.commands.Piece.{Piece}
+use Rattle.mm_definitions.specs.declared.commands.Piece.TheVariants as pieces
+use Rattle.mm_definitions.specs.declared.commands.Piece.TheVariants.{Tile, TileDrop, Row, RowDrop, Media, MediaDrop, Map, MapDrop}
+use Rattle.mm_definitions.specs.declared.commands.Command.{Command}
+use Rattle.mm_definitions.specs.declared.commands.Command.TheVariants as commands
+use Rattle.mm_definitions.proofs.ReadingFacts.{spells_one, none_against}
 use Rattle.mm_laws.specs.Laws.{IsReadingNumber}
 
 -- ---- a field holds one value

@@ -3,17 +3,17 @@ use Rattle.std.proofs.Common.{◌≡◌, ◌≢◌, ℕ, ◌+◌, ◌≤◌, max
 use Rattle.std.proofs.lemmas.Int.{ints}
 use Rattle.std.proofs.lemmas.Bool.Decides.{nat_tests}
 use Rattle.std.specs.FinMap.{get, contains_key, insert}
-use Rattle.mm_base.specs.Keys.{Text, same_text, same_number, PieceKey, piece}
-use Rattle.mm_base.specs.Parts.{Has, Stands}
-use Rattle.mm_base.specs.Package.{PieceRow, PiecesPart, open_state}
-use Rattle.mm_base.specs.Bounds.{IsFrom, MostPieces}
-use Rattle.mm_base.specs.Pieces.{piece_row}
-use Rattle.mm_base.specs.Rules.{IsNumbered, IsSpelled, PieceWithin}
-use Rattle.mm_base.specs.Conditions.{own_reasons, is_open, piece_count, has_equal_piece}
-use Rattle.mm_base.specs.declared.commands.Piece.{Piece}
-use Rattle.mm_base.specs.declared.commands.Command.TheVariants as commands
-use Rattle.mm_base.proofs.Parts.{each_put, stands_after_put, after_put, at_put, beside_put, some_of, either_false, same_key}
-use Rattle.mm_base.proofs.KeyLaws.{piece_keys, texts, numbers}
+use Rattle.mm_definitions.specs.Keys.{Text, same_text, same_number, PieceKey, piece}
+use Rattle.mm_definitions.specs.Parts.{Has, Stands}
+use Rattle.mm_definitions.specs.Package.{PieceRow, PiecesPart, open_state}
+use Rattle.mm_definitions.specs.Bounds.{IsFrom, MostPieces}
+use Rattle.mm_definitions.specs.Pieces.{piece_row}
+use Rattle.mm_definitions.specs.Rules.{IsNumbered, IsSpelled, PieceWithin}
+use Rattle.mm_definitions.specs.Conditions.{own_reasons, is_open, piece_count, has_equal_piece}
+use Rattle.mm_definitions.specs.declared.commands.Piece.{Piece}
+use Rattle.mm_definitions.specs.declared.commands.Command.TheVariants as commands
+use Rattle.mm_definitions.proofs.Parts.{each_put, stands_after_put, after_put, at_put, beside_put, some_of, either_false, same_key}
+use Rattle.mm_definitions.proofs.KeyLaws.{piece_keys, texts, numbers}
 use Rattle.mm_laws.proofs.Kept.{Keeps}
 use Rattle.mm_laws.proofs.Reasons.{none_holds, not_false, and_false, stands_where}
 use Rattle.mm_laws.proofs.KindFacts.{are_same, at_true}

@@ -1,16 +1,16 @@
 -- A step keeps the rules, whatever the command.
 use Rattle.std.proofs.Common.{◌≡◌, ℕ, ◌&&◌, List, [], ◌∷◌, ◌++◌, Option, Some, None, cond, refl, ap, ◌∙◌, is_err}
-use Rattle.mm_base.specs.Keys.{Text}
-use Rattle.mm_base.specs.Package.{Package}
-use Rattle.mm_base.specs.Bounds.{Profile, IsMoment}
-use Rattle.mm_base.specs.Within.{IsWithin}
-use Rattle.mm_base.specs.Stamp.{IsStamp, stamp}
-use Rattle.mm_base.specs.Rules.{Meets}
-use Rattle.mm_base.specs.Conditions.{Reasons, least, smaller, own_reasons}
-use Rattle.mm_base.specs.Step.{reasons, is_publishing, publishing, refused_piece, refusal_of, done, unless_refused, step}
-use Rattle.mm_base.specs.Runs.{Call, run}
-use Rattle.mm_base.specs.declared.commands.Command.{Command}
-use Rattle.mm_base.specs.declared.commands.Command.TheVariants as commands
+use Rattle.mm_definitions.specs.Keys.{Text}
+use Rattle.mm_definitions.specs.Package.{Package}
+use Rattle.mm_definitions.specs.Bounds.{Profile, IsMoment}
+use Rattle.mm_definitions.specs.Within.{IsWithin}
+use Rattle.mm_definitions.specs.Stamp.{IsStamp, stamp}
+use Rattle.mm_definitions.specs.Rules.{Meets}
+use Rattle.mm_definitions.specs.Conditions.{Reasons, least, smaller, own_reasons}
+use Rattle.mm_definitions.specs.Step.{reasons, is_publishing, publishing, refused_piece, refusal_of, done, unless_refused, step}
+use Rattle.mm_definitions.specs.Runs.{Call, run}
+use Rattle.mm_definitions.specs.declared.commands.Command.{Command}
+use Rattle.mm_definitions.specs.declared.commands.Command.TheVariants as commands
 use Rattle.mm_laws.specs.Laws.{AllWithin}
 use Rattle.mm_laws.proofs.Reasons.{NoneHolds, none_holds}
 use Rattle.mm_laws.proofs.Systems.{srs}

@@ -1,13 +1,13 @@
 -- A system that is put keeps the rules.
 use Rattle.std.proofs.Common.{ℤ, pos, negsuc, Option, Some, None, IfSome, inl}
 use Rattle.std.specs.FinMap.{insert}
-use Rattle.mm_base.specs.Keys.{Text}
-use Rattle.mm_base.specs.Package.{System}
-use Rattle.mm_base.specs.Rules.{MayName, SystemWithin}
-use Rattle.mm_base.specs.Conditions.{own_reasons}
-use Rattle.mm_base.specs.declared.commands.Command.TheVariants.{Srs}
-use Rattle.mm_base.proofs.Parts.{each_put, stands_after_put, kept_by_new}
-use Rattle.mm_base.proofs.KeyLaws.{numbers}
+use Rattle.mm_definitions.specs.Keys.{Text}
+use Rattle.mm_definitions.specs.Package.{System}
+use Rattle.mm_definitions.specs.Rules.{MayName, SystemWithin}
+use Rattle.mm_definitions.specs.Conditions.{own_reasons}
+use Rattle.mm_definitions.specs.declared.commands.Command.TheVariants.{Srs}
+use Rattle.mm_definitions.proofs.Parts.{each_put, stands_after_put, kept_by_new}
+use Rattle.mm_definitions.proofs.KeyLaws.{numbers}
 use Rattle.mm_laws.proofs.Kept.{Keeps}
 use Rattle.mm_laws.proofs.Reasons.{none_holds}
 

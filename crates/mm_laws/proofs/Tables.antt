@@ -2,23 +2,23 @@
 use Rattle.std.proofs.Common.{◌≡◌, ◌≢◌, ℕ, ℤ, pos, ◌<ℤ◌, true, false, [], Option, Some, None, IfSome, int_le, codes, refl, sym, ap, subst, ◌∙◌, ◌⊎◌, inl, inr, is_some, arith}
 use Rattle.std.proofs.lemmas.Int.{ints}
 use Rattle.std.specs.FinMap.{FinMap, get, contains_key, insert}
-use Rattle.mm_base.specs.Keys.{Text, text_cmp, same_text, same_number, level, Extension, extension_cmp}
-use Rattle.mm_base.specs.Parts.{Each, Has, Stands}
-use Rattle.mm_base.specs.Package.{Package, Contents, Box, MatrixSet, Kinds, kind_text, HasKind, IsPyramid, Relation, zoom_extension}
-use Rattle.mm_base.specs.Bounds.{Profile, IsName}
-use Rattle.mm_base.specs.Rules.{Meets, MayName, IsHalved, IsUnplaced, IsPlaced, IsPlacedAt, IsOrdered, Suits, FitsIn, IsSuited, IsWanted, ExactExtensions, DistinctIdentifiers, ContentsWithin, KindWithin, SetWithin, ExtensionWithin}
-use Rattle.mm_base.specs.Conditions.{own_reasons, is_identified}
-use Rattle.mm_base.specs.Effects.{with_pyramid, with_zoom_row, step_kind, plain_kind}
-use Rattle.mm_base.specs.declared.commands.Kind.{Kind}
-use Rattle.mm_base.specs.declared.commands.Kind.TheVariants as kinds
-use Rattle.mm_base.specs.declared.commands.Step.{Step}
-use Rattle.mm_base.specs.declared.commands.Step.TheVariants as steps
-use Rattle.mm_base.specs.declared.commands.PlainKind.{PlainKind}
-use Rattle.mm_base.specs.declared.commands.PlainKind.TheVariants as plain
-use Rattle.mm_base.specs.declared.commands.Command.TheVariants as commands
-use Rattle.mm_base.proofs.Parts.{each_put, stands_after_put, after_put, kept_by_new, at_put, beside_put, no_entry, either_false, same_itself, same_key, none_of}
-use Rattle.mm_base.proofs.CleanTexts.{ascii_is_clean, name_is_clean}
-use Rattle.mm_base.proofs.KeyLaws.{numbers, texts, extension_keys}
+use Rattle.mm_definitions.specs.Keys.{Text, text_cmp, same_text, same_number, level, Extension, extension_cmp}
+use Rattle.mm_definitions.specs.Parts.{Each, Has, Stands}
+use Rattle.mm_definitions.specs.Package.{Package, Contents, Box, MatrixSet, Kinds, kind_text, HasKind, IsPyramid, Relation, zoom_extension}
+use Rattle.mm_definitions.specs.Bounds.{Profile, IsName}
+use Rattle.mm_definitions.specs.Rules.{Meets, MayName, IsHalved, IsUnplaced, IsPlaced, IsPlacedAt, IsOrdered, Suits, FitsIn, IsSuited, IsWanted, ExactExtensions, DistinctIdentifiers, ContentsWithin, KindWithin, SetWithin, ExtensionWithin}
+use Rattle.mm_definitions.specs.Conditions.{own_reasons, is_identified}
+use Rattle.mm_definitions.specs.Effects.{with_pyramid, with_zoom_row, step_kind, plain_kind}
+use Rattle.mm_definitions.specs.declared.commands.Kind.{Kind}
+use Rattle.mm_definitions.specs.declared.commands.Kind.TheVariants as kinds
+use Rattle.mm_definitions.specs.declared.commands.Step.{Step}
+use Rattle.mm_definitions.specs.declared.commands.Step.TheVariants as steps
+use Rattle.mm_definitions.specs.declared.commands.PlainKind.{PlainKind}
+use Rattle.mm_definitions.specs.declared.commands.PlainKind.TheVariants as plain
+use Rattle.mm_definitions.specs.declared.commands.Command.TheVariants as commands
+use Rattle.mm_definitions.proofs.Parts.{each_put, stands_after_put, after_put, kept_by_new, at_put, beside_put, no_entry, either_false, same_itself, same_key, none_of}
+use Rattle.mm_definitions.proofs.CleanTexts.{ascii_is_clean, name_is_clean}
+use Rattle.mm_definitions.proofs.KeyLaws.{numbers, texts, extension_keys}
 use Rattle.mm_laws.proofs.Kept.{Keeps}
 use Rattle.mm_laws.proofs.Reasons.{none_holds, not_false}
 use Rattle.mm_laws.proofs.KindFacts.{differ, kind_is_clean}

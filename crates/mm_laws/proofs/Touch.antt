@@ -1,17 +1,17 @@
 -- A change of last_change keeps every rule.
 use Rattle.std.proofs.Common.{◌≡◌, ℕ, Option, Some, None, IfSome, refl, sym, ap, ◌∙◌, inl, inr}
 use Rattle.std.specs.FinMap.{get, insert}
-use Rattle.mm_base.specs.Keys.{Text}
-use Rattle.mm_base.specs.Parts.{Each, Stands}
-use Rattle.mm_base.specs.Package.{Package, Contents, MatrixSet, ContentsPart, HasKind}
-use Rattle.mm_base.specs.Bounds.{Profile, IsMoment, IsName}
-use Rattle.mm_base.specs.Stamp.{IsStamp}
-use Rattle.mm_base.specs.Rules.{Meets, MayName, DistinctIdentifiers, Suits, IsPlaced, ContentsWithin, IsOrdered}
-use Rattle.mm_base.specs.Effects.{changed_at, touched_row, touch}
-use Rattle.mm_base.specs.declared.commands.Kind.{Kind}
-use Rattle.mm_base.specs.declared.commands.Kind.TheVariants.{Two, Other, Attributes, Media}
-use Rattle.mm_base.proofs.Parts.{not_none, after_put, each_put, beside_put, stands_after_put}
-use Rattle.mm_base.proofs.KeyLaws.{texts}
+use Rattle.mm_definitions.specs.Keys.{Text}
+use Rattle.mm_definitions.specs.Parts.{Each, Stands}
+use Rattle.mm_definitions.specs.Package.{Package, Contents, MatrixSet, ContentsPart, HasKind}
+use Rattle.mm_definitions.specs.Bounds.{Profile, IsMoment, IsName}
+use Rattle.mm_definitions.specs.Stamp.{IsStamp}
+use Rattle.mm_definitions.specs.Rules.{Meets, MayName, DistinctIdentifiers, Suits, IsPlaced, ContentsWithin, IsOrdered}
+use Rattle.mm_definitions.specs.Effects.{changed_at, touched_row, touch}
+use Rattle.mm_definitions.specs.declared.commands.Kind.{Kind}
+use Rattle.mm_definitions.specs.declared.commands.Kind.TheVariants.{Two, Other, Attributes, Media}
+use Rattle.mm_definitions.proofs.Parts.{not_none, after_put, each_put, beside_put, stands_after_put}
+use Rattle.mm_definitions.proofs.KeyLaws.{texts}
 
 -- the contents rows after the change of one
 abbrev pub touched : ContentsPart → Text → Contents → Text → ContentsPart

@@ -2,8 +2,8 @@
 use Rattle.std.proofs.Common.{◌≡◌, ◌≢◌, ◌⊎◌, inl, inr, ℕ, zero, suc, ◌*◌, ◌^◌, ℤ, pos, negsuc, neg_ℤ, ◌+ℤ◌, ◌-ℤ◌, ◌*ℤ◌, ◌≤ℤ◌, ◌<ℤ◌, Option, Some, None, option_map, refl, sym, ap, subst, ◌∙◌, arith}
 use Rattle.std.proofs.lemmas.Int.{ints}
 use Rattle.std.proofs.Math.IntN.{zero-*ℤ, suc_ℤ-*ℤ, pred_ℤ-*ℤ}
-use Rattle.mm_base.specs.Bounds.{IsFrom, IsCoordinate, IsPixelSize, millimetres, micrometres}
-use Rattle.mm_base.specs.Scale.{finer}
+use Rattle.mm_definitions.specs.Bounds.{IsFrom, IsCoordinate, IsPixelSize, millimetres, micrometres}
+use Rattle.mm_definitions.specs.Scale.{finer}
 
 pub coordinate : (z : ℤ) → IsCoordinate millimetres z → IsCoordinate micrometres (finer z)
 coordinate z h = (omega (arith, ints), omega (arith, ints))

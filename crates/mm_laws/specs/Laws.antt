@@ -1,20 +1,20 @@
 -- What the laws of this crate speak of.
 use Rattle.std.specs.Prelude.{◌≡◌, ◌≢◌, ℕ, List, [], ◌∷◌, Ok, Bool, ◌&&◌, ◌||◌, ◌==◌, nat_le, is_some, IsTrue, true, false, ◌++◌, ◌⊎◌, Some}
 use Rattle.std.specs.List.{list_any}
-use Rattle.mm_base.specs.Keys.{Text, same_text, PieceKey}
-use Rattle.mm_base.specs.Bounds.{Profile, IsMoment}
-use Rattle.mm_base.specs.Parts.{Each, Has, at_value}
-use Rattle.mm_base.specs.Package.{Package, Contents, ContentsPart, PieceRow, open_state, published_state}
-use Rattle.mm_base.specs.Pieces.{piece_command, row_piece}
-use Rattle.mm_base.specs.Within.{IsWithin}
-use Rattle.mm_base.specs.Stamp.{stamp}
-use Rattle.mm_base.specs.Conditions.{least, piece_reasons, pieces_of}
-use Rattle.mm_base.specs.Editions.{trial, edition_trial, closed}
-use Rattle.mm_base.specs.Runs.{Call}
-use Rattle.mm_base.specs.declared.answers.Refusal.{Refusal}
-use Rattle.mm_base.specs.declared.commands.Command.{Command}
-use Rattle.mm_base.specs.declared.commands.Command.TheVariants as commands
-use Rattle.mm_base.specs.declared.commands.Piece.{Piece}
+use Rattle.mm_definitions.specs.Keys.{Text, same_text, PieceKey}
+use Rattle.mm_definitions.specs.Bounds.{Profile, IsMoment}
+use Rattle.mm_definitions.specs.Parts.{Each, Has, at_value}
+use Rattle.mm_definitions.specs.Package.{Package, Contents, ContentsPart, PieceRow, open_state, published_state}
+use Rattle.mm_definitions.specs.Pieces.{piece_command, row_piece}
+use Rattle.mm_definitions.specs.Within.{IsWithin}
+use Rattle.mm_definitions.specs.Stamp.{stamp}
+use Rattle.mm_definitions.specs.Conditions.{least, piece_reasons, pieces_of}
+use Rattle.mm_definitions.specs.Editions.{trial, edition_trial, closed}
+use Rattle.mm_definitions.specs.Runs.{Call}
+use Rattle.mm_definitions.specs.declared.answers.Refusal.{Refusal}
+use Rattle.mm_definitions.specs.declared.commands.Command.{Command}
+use Rattle.mm_definitions.specs.declared.commands.Command.TheVariants as commands
+use Rattle.mm_definitions.specs.declared.commands.Piece.{Piece}
 
 -- ---- lists
 -- every command of the list is within the limits, and every moment

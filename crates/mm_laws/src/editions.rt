@@ -1,18 +1,18 @@
 //! Editions, their pieces, and publishing.
 
 ghost use Rattle.std.specs.Prelude.{◌≡◌, ◌↔◌, ℕ, ℤ, ◌≤ℤ◌, pos, unsigned_abs, Some, None};
-ghost use Rattle.mm_base.specs.Bounds.{Profile};
-ghost use Rattle.mm_base.specs.Conditions.{own_reasons, piece_reasons, piece_count};
-ghost use Rattle.mm_base.specs.Effects.{effect, piece_effect};
-ghost use Rattle.mm_base.specs.Keys.{Text};
-ghost use Rattle.mm_base.specs.Package.{Package, PieceRow, open_state};
-ghost use Rattle.mm_base.specs.Parts.{Has};
-ghost use Rattle.mm_base.specs.Pieces.{piece_row, row_piece, piece_command};
-ghost use Rattle.mm_base.specs.Rules.{Meets};
-ghost use Rattle.mm_base.specs.Step.{refusal, step};
-ghost use Rattle.mm_base.specs.Within.{IsWithin, IsPieceWithin};
-ghost use Rattle.mm_base.specs.declared.commands.Command.TheVariants as commands;
-ghost use Rattle.mm_base.specs.declared.commands.Piece.{Piece};
+ghost use Rattle.mm_definitions.specs.Bounds.{Profile};
+ghost use Rattle.mm_definitions.specs.Conditions.{own_reasons, piece_reasons, piece_count};
+ghost use Rattle.mm_definitions.specs.Effects.{effect, piece_effect};
+ghost use Rattle.mm_definitions.specs.Keys.{Text};
+ghost use Rattle.mm_definitions.specs.Package.{Package, PieceRow, open_state};
+ghost use Rattle.mm_definitions.specs.Parts.{Has};
+ghost use Rattle.mm_definitions.specs.Pieces.{piece_row, row_piece, piece_command};
+ghost use Rattle.mm_definitions.specs.Rules.{Meets};
+ghost use Rattle.mm_definitions.specs.Step.{refusal, step};
+ghost use Rattle.mm_definitions.specs.Within.{IsWithin, IsPieceWithin};
+ghost use Rattle.mm_definitions.specs.declared.commands.Command.TheVariants as commands;
+ghost use Rattle.mm_definitions.specs.declared.commands.Piece.{Piece};
 ghost use Rattle.mm_laws.specs.Laws.{FirstRefused, IsNewEdition, IsPublished};
 
 /// A new edition is open and holds no pieces.

@@ -1,4 +1,4 @@
-//! Laws about packages, commands and steps, for whoever relies on the definitions of `mm_base`.
+//! Laws about packages, commands and steps, for whoever relies on the definitions of `mm_definitions`.
 //!
 //! No function here does anything: the contract of each one is a law, proved over every package, command and moment.
 #![tactic(auto)]

@@ -1,12 +1,12 @@
 //! The fields of a record, and what they spell.
 
 ghost use Rattle.std.specs.Prelude.{◌≡◌, ◌⊎◌, ℕ, ℤ, List};
-ghost use Rattle.mm_base.specs.Bounds.{Profile};
-ghost use Rattle.mm_base.specs.Keys.{Text};
-ghost use Rattle.mm_base.specs.Numbers as numbers;
-ghost use Rattle.mm_base.specs.Records.{HoldsAgainst, HoldsAgainstPiece, IsLeast, Spells, SpellsPiece};
-ghost use Rattle.mm_base.specs.declared.commands.Command.{Command};
-ghost use Rattle.mm_base.specs.declared.commands.Piece.{Piece};
+ghost use Rattle.mm_definitions.specs.Bounds.{Profile};
+ghost use Rattle.mm_definitions.specs.Keys.{Text};
+ghost use Rattle.mm_definitions.specs.Numbers as numbers;
+ghost use Rattle.mm_definitions.specs.Records.{HoldsAgainst, HoldsAgainstPiece, IsLeast, Spells, SpellsPiece};
+ghost use Rattle.mm_definitions.specs.declared.commands.Command.{Command};
+ghost use Rattle.mm_definitions.specs.declared.commands.Piece.{Piece};
 ghost use Rattle.mm_laws.specs.Laws.{IsReadingNumber};
 
 /// The fields of every record spell a command, or some number is the least that is against them; so for pieces.

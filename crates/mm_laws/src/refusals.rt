@@ -1,12 +1,12 @@
 //! What every refusal has in common.
 
 ghost use Rattle.std.specs.Prelude.{◌≡◌, Some};
-ghost use Rattle.mm_base.specs.Editions.{edition_trial};
-ghost use Rattle.mm_base.specs.Keys.{Text};
-ghost use Rattle.mm_base.specs.Package.{Package};
-ghost use Rattle.mm_base.specs.Step.{refusal, refusal_at, refused_piece};
-ghost use Rattle.mm_base.specs.declared.answers.Refusal.{Refusal};
-ghost use Rattle.mm_base.specs.declared.commands.Command.{Command};
+ghost use Rattle.mm_definitions.specs.Editions.{edition_trial};
+ghost use Rattle.mm_definitions.specs.Keys.{Text};
+ghost use Rattle.mm_definitions.specs.Package.{Package};
+ghost use Rattle.mm_definitions.specs.Step.{refusal, refusal_at, refused_piece};
+ghost use Rattle.mm_definitions.specs.declared.answers.Refusal.{Refusal};
+ghost use Rattle.mm_definitions.specs.declared.commands.Command.{Command};
 ghost use Rattle.mm_laws.specs.Laws.{IsNumberedRefusal};
 
 /// Whether and why a command is refused does not depend on the moment: every stamp tells the same.

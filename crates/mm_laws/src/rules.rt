@@ -1,14 +1,14 @@
 //! Every command keeps the sixteen rules.
 
 ghost use Rattle.std.specs.Prelude.{ℕ, List};
-ghost use Rattle.mm_base.specs.Bounds.{Profile, IsMoment};
-ghost use Rattle.mm_base.specs.Opening.{opening};
-ghost use Rattle.mm_base.specs.Package.{Package};
-ghost use Rattle.mm_base.specs.Rules.{Meets};
-ghost use Rattle.mm_base.specs.Runs.{Call, run, IsFirstPart};
-ghost use Rattle.mm_base.specs.Step.{step};
-ghost use Rattle.mm_base.specs.Within.{IsWithin};
-ghost use Rattle.mm_base.specs.declared.commands.Command.{Command};
+ghost use Rattle.mm_definitions.specs.Bounds.{Profile, IsMoment};
+ghost use Rattle.mm_definitions.specs.Opening.{opening};
+ghost use Rattle.mm_definitions.specs.Package.{Package};
+ghost use Rattle.mm_definitions.specs.Rules.{Meets};
+ghost use Rattle.mm_definitions.specs.Runs.{Call, run, IsFirstPart};
+ghost use Rattle.mm_definitions.specs.Step.{step};
+ghost use Rattle.mm_definitions.specs.Within.{IsWithin};
+ghost use Rattle.mm_definitions.specs.declared.commands.Command.{Command};
 ghost use Rattle.mm_laws.specs.Laws.{AllWithin};
 
 /// The package of a new file meets the rules.

@@ -1,14 +1,14 @@
 //! Runs of commands, the accepted ones among them, and first parts.
 
 ghost use Rattle.std.specs.Prelude.{◌≡◌, ◌⊎◌, ℕ, List, [], ◌∷◌, ◌++◌, ◌+◌, length, Some, None};
-ghost use Rattle.mm_base.specs.Package.{Package, Contents};
-ghost use Rattle.mm_base.specs.Keys.{Text};
-ghost use Rattle.mm_base.specs.Parts.{Has};
-ghost use Rattle.mm_base.specs.Stamp.{stamp};
-ghost use Rattle.mm_base.specs.Runs.{Call, run, accepted, IsFirstPart};
-ghost use Rattle.mm_base.specs.Step.{refusal, step};
-ghost use Rattle.mm_base.specs.declared.answers.Refusal.{Refusal};
-ghost use Rattle.mm_base.specs.declared.commands.Command.{Command};
+ghost use Rattle.mm_definitions.specs.Package.{Package, Contents};
+ghost use Rattle.mm_definitions.specs.Keys.{Text};
+ghost use Rattle.mm_definitions.specs.Parts.{Has};
+ghost use Rattle.mm_definitions.specs.Stamp.{stamp};
+ghost use Rattle.mm_definitions.specs.Runs.{Call, run, accepted, IsFirstPart};
+ghost use Rattle.mm_definitions.specs.Step.{refusal, step};
+ghost use Rattle.mm_definitions.specs.declared.answers.Refusal.{Refusal};
+ghost use Rattle.mm_definitions.specs.declared.commands.Command.{Command};
 ghost use Rattle.mm_laws.specs.Laws.{IsSetOrKept, sets_last_change};
 
 /// A refused command leaves the package as it was.

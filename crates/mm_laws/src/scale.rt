@@ -2,11 +2,11 @@
 
 ghost use Rattle.std.specs.Prelude.{◌≡◌, option_map};
 ghost use Rattle.std.specs.FinMap.{get};
-ghost use Rattle.mm_base.specs.Bounds.{millimetres, micrometres};
-ghost use Rattle.mm_base.specs.Keys.{Text, Level};
-ghost use Rattle.mm_base.specs.Package.{Package};
-ghost use Rattle.mm_base.specs.Rules.{Meets};
-ghost use Rattle.mm_base.specs.Scale.{scale, finer_contents, finer_set, finer_grid};
+ghost use Rattle.mm_definitions.specs.Bounds.{millimetres, micrometres};
+ghost use Rattle.mm_definitions.specs.Keys.{Text, Level};
+ghost use Rattle.mm_definitions.specs.Package.{Package};
+ghost use Rattle.mm_definitions.specs.Rules.{Meets};
+ghost use Rattle.mm_definitions.specs.Scale.{scale, finer_contents, finer_set, finer_grid};
 
 /// A package of whole millimetres that meets the rules meets them in whole micrometres too.
 pub fn the_same_package_in_the_smaller_unit_meets_the_rules()

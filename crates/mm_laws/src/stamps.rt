@@ -1,9 +1,9 @@
 //! Moments and their texts determine each other.
 
 ghost use Rattle.std.specs.Prelude.{◌≡◌, ℕ};
-ghost use Rattle.mm_base.specs.Bounds.{IsMoment};
-ghost use Rattle.mm_base.specs.Keys.{Text};
-ghost use Rattle.mm_base.specs.Stamp.{IsStamp, stamp};
+ghost use Rattle.mm_definitions.specs.Bounds.{IsMoment};
+ghost use Rattle.mm_definitions.specs.Keys.{Text};
+ghost use Rattle.mm_definitions.specs.Stamp.{IsStamp, stamp};
 
 /// Each moment has a stamp.
 pub fn each_moment_has_its_stamp()

@@ -2,12 +2,12 @@
 
 ghost use Rattle.std.specs.Prelude.{◌≡◌, ◌↔◌, ℤ, Option, false, IsTrue};
 ghost use Rattle.std.specs.FinMap.{contains_key, insert};
-ghost use Rattle.mm_base.specs.Conditions.{clashes};
-ghost use Rattle.mm_base.specs.Keys.{Text, level};
-ghost use Rattle.mm_base.specs.Neighbours.{Zoomed, neighbours, IsNearestBelow, IsNearestAbove};
-ghost use Rattle.mm_base.specs.Package.{Package, Grid, Kinds, MatricesPart, has_kind};
-ghost use Rattle.mm_base.specs.Rules.{HigherIsFiner, NextIsHalved};
-ghost use Rattle.mm_base.specs.declared.commands.Kind.TheVariants as kind_names;
+ghost use Rattle.mm_definitions.specs.Conditions.{clashes};
+ghost use Rattle.mm_definitions.specs.Keys.{Text, level};
+ghost use Rattle.mm_definitions.specs.Neighbours.{Zoomed, neighbours, IsNearestBelow, IsNearestAbove};
+ghost use Rattle.mm_definitions.specs.Package.{Package, Grid, Kinds, MatricesPart, has_kind};
+ghost use Rattle.mm_definitions.specs.Rules.{HigherIsFiner, NextIsHalved};
+ghost use Rattle.mm_definitions.specs.declared.commands.Kind.TheVariants as kind_names;
 
 /// A new matrix suits the two nearest zooms exactly where, with it, the pixel sizes of all zooms go as they must.
 pub fn the_nearest_zooms_decide_the_rules()

@@ -4,10 +4,10 @@ use Rattle.std.specs.Prelude.{⊤, IfSome}
 use Rattle.sqlite_sql.specs.Term.{col}
 use Rattle.sqlite_sql.specs.Query.{inner, left, end}
 use Rattle.sqlite.specs.declared.types.Value.TheVariants.{Int, Text as Words}
-use Rattle.mm_base.specs.Keys.{Text}
-use Rattle.mm_base.specs.Bounds.{Profile, IsCoordinate, IsSystemNumber, IsClean}
-use Rattle.mm_base.specs.Rules.{TileWithin, MediumWithin, PieceWithin}
-use Rattle.mm_base.proofs.Parts.{same_some}
+use Rattle.mm_definitions.specs.Keys.{Text}
+use Rattle.mm_definitions.specs.Bounds.{Profile, IsCoordinate, IsSystemNumber, IsClean}
+use Rattle.mm_definitions.specs.Rules.{TileWithin, MediumWithin, PieceWithin}
+use Rattle.mm_definitions.proofs.Parts.{same_some}
 use Rattle.mm_store.specs.Rows.{maybe, maybe_words, system_row, contents_row, kind_row, set_row, grid_row, extension_row, tile_row, attribute_row, medium_row, relation_row, pairing_row, edition_row, staged_row}
 use Rattle.mm_limits.specs.LimitRows.{number_if_any, text_if_any, IsSystemWithinRow, IsContentsWithinRow, IsKindWithinRow, IsSetWithinRow, IsMatrixWithinRow, IsExtensionWithinRow, IsTileWithinRow, IsAttributeWithinRow, IsMediumWithinRow, IsRelationWithinRow, IsPairingWithinRow, IsEditionWithinRow, IsPieceWithinRow, SystemsAreWithin, ContentsAreWithin, KindsAreWithin, SetsAreWithin, MatricesAreWithin, ExtensionsAreWithin, TilesAreWithin, RowsAreWithin, MediaAreWithin, RelationsAreWithin, PairingsAreWithin, EditionsAreWithin, PiecesAreWithin}
 use Rattle.mm_store.specs.Kept.{tile_id, tile_with, medium_id, medium_with, piece_id, piece_with}

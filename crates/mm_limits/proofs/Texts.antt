@@ -7,12 +7,12 @@ use Rattle.std.proofs.lemmas.List.Elements.{All-from_recursion}
 use Rattle.std.proofs.lemmas.Str.{IsUtf8-from_ascii}
 use Rattle.std.proofs.lemmas.Str.Ascii.{IsAscii-from_all}
 use Rattle.std.specs.List.{AllByRecursion}
-use Rattle.mm_base.specs.Keys.{Text}
-use Rattle.mm_base.specs.Bounds.{IsName, IsContentType, is_word_byte, is_slash}
-use Rattle.mm_base.specs.Stamp.{IsSomeStamp}
-use Rattle.mm_base.proofs.CleanTexts.{name_is_clean}
-use Rattle.mm_base.proofs.Parts.{either_false}
-use Rattle.mm_base.proofs.StampText.{stamp_utf8}
+use Rattle.mm_definitions.specs.Keys.{Text}
+use Rattle.mm_definitions.specs.Bounds.{IsName, IsContentType, is_word_byte, is_slash}
+use Rattle.mm_definitions.specs.Stamp.{IsSomeStamp}
+use Rattle.mm_definitions.proofs.CleanTexts.{name_is_clean}
+use Rattle.mm_definitions.proofs.Parts.{either_false}
+use Rattle.mm_definitions.proofs.StampText.{stamp_utf8}
 use Rattle.mm_queries.specs.Columns.{Unread}
 
 -- what is no UTF-8 passes no test of texts

@@ -3,17 +3,17 @@
 ghost use Rattle.std.specs.Prelude.{◌≡◌, ◌↔◌, Some, None, IfSome, IsTrue, MatchOption};
 ghost use Rattle.std.specs.Str.{IsUtf8};
 ghost use Rattle.sqlite.specs.Order.{column};
-ghost use Rattle.mm_base.specs.Bounds.{IsCoordinate, IsPixelSize, IsFrom, IsLong, IsText, IsName, IsClean, IsIdentifier, IsContentType};
-ghost use Rattle.mm_base.specs.Bounds as bounds;
-ghost use Rattle.mm_base.specs.Stamp.{IsSomeStamp};
-ghost use Rattle.mm_base.specs.Units.{profile_of};
+ghost use Rattle.mm_definitions.specs.Bounds.{IsCoordinate, IsPixelSize, IsFrom, IsLong, IsText, IsName, IsClean, IsIdentifier, IsContentType};
+ghost use Rattle.mm_definitions.specs.Bounds as bounds;
+ghost use Rattle.mm_definitions.specs.Stamp.{IsSomeStamp};
+ghost use Rattle.mm_definitions.specs.Units.{profile_of};
 ghost use Rattle.mm_limits.specs.LimitRows.{text_by, text_if_any, number_by, number_if_any, bytes_by};
 
-use mm_base::content_types::is_content_type;
-use mm_base::identifiers::is_identifier;
-use mm_base::moments::is_stamp;
-use mm_base::names::is_name;
-use mm_base::units::Unit;
+use mm_definitions::content_types::is_content_type;
+use mm_definitions::identifiers::is_identifier;
+use mm_definitions::moments::is_stamp;
+use mm_definitions::names::is_name;
+use mm_definitions::units::Unit;
 use mm_queries::columns::{blob, number, text, words};
 use sqlite::Row;
 

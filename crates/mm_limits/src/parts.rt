@@ -3,9 +3,9 @@
 ghost use Rattle.std.specs.Prelude.{⊤, ◌≤◌, ◌<◌, ◌≡◌, ◌↔◌, ◌⊎◌, Some, IsTrue, pos};
 ghost use Rattle.sqlite.specs.Order.{column};
 ghost use Rattle.sqlite.specs.Held.{state};
-ghost use Rattle.mm_base.specs.Bounds.{Profile};
-ghost use Rattle.mm_base.specs.Rules.{IsGiven, Limits};
-ghost use Rattle.mm_base.specs.Units.{profile_of};
+ghost use Rattle.mm_definitions.specs.Bounds.{Profile};
+ghost use Rattle.mm_definitions.specs.Rules.{IsGiven, Limits};
+ghost use Rattle.mm_definitions.specs.Units.{profile_of};
 ghost use Rattle.mm_queries.specs.Check.{IsCheck};
 ghost use Rattle.mm_queries.specs.Columns.{number_of};
 ghost use Rattle.mm_limits.specs.LimitRows.{numbers_by, IsSystemWithinRow, IsContentsWithinRow, IsKindWithinRow, IsSetWithinRow, IsMatrixWithinRow, IsExtensionWithinRow, IsTileWithinRow, IsAttributeWithinRow, IsMediumWithinRow, IsRelationWithinRow, IsPairingWithinRow, IsEditionWithinRow, IsPieceWithinRow, SystemsAreWithin, ContentsAreWithin, KindsAreWithin, SetsAreWithin, MatricesAreWithin, ExtensionsAreWithin, TilesAreWithin, RowsAreWithin, MediaAreWithin, RelationsAreWithin, PairingsAreWithin, EditionsAreWithin, PiecesAreWithin, part};
@@ -15,12 +15,12 @@ use crate::column_tests::{
     is_coordinate_if_any, is_from, is_identifier_at, is_name_at, is_pixel_size, is_stamp_at,
     is_text_at, is_within, is_within_if_any,
 };
-use mm_base::answers::Fault;
-use mm_base::limits::{
+use mm_definitions::answers::Fault;
+use mm_definitions::limits::{
     LAST_ID, LAST_PLACE, LAST_ZOOM, MOST_AMOUNT, MOST_MEDIA_BYTES, MOST_PIXELS, MOST_TILE_BYTES,
     MOST_TILES,
 };
-use mm_base::units::Unit;
+use mm_definitions::units::Unit;
 use mm_queries::columns::{number, text_is};
 use mm_walk::row_tests::{RowTest, each_passes};
 use sqlite::{Alter, Connection, Row};

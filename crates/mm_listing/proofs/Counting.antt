@@ -15,7 +15,7 @@ use Rattle.sqlite_rules.proofs.ListLemmas.{all_has}
 use Rattle.sql_forms.specs.Tables.{without}
 use Rattle.sql_forms.specs.Maps.{Holds}
 use Rattle.sql_forms.proofs.Lists.{not_not}
-use Rattle.mm_base.proofs.Parts.{IsKeyOrder, same_key, same_itself, none_of, true_or_false, at_remove, after_remove, beside_remove, kept, let_go}
+use Rattle.mm_definitions.proofs.Parts.{IsKeyOrder, same_key, same_itself, none_of, true_or_false, at_remove, after_remove, beside_remove, kept, let_go}
 use Rattle.mm_store.proofs.Parts.{IsPart, retains}
 use Rattle.mm_reads.proofs.InOrder.{never_same}
 

@@ -20,9 +20,9 @@ use Rattle.sql_forms.specs.Forms.{query, no_limit}
 use Rattle.sql_forms.proofs.Keys.{columns_are}
 use Rattle.sql_forms.proofs.Selects.{IsSelect}
 use Rattle.mm_schema.specs.Tables.{schema}
-use Rattle.mm_base.specs.Keys.{Text, text_cmp, same_text}
-use Rattle.mm_base.specs.Package.{Package, open_state, published_state}
-use Rattle.mm_base.specs.Conditions.{piece_count}
+use Rattle.mm_definitions.specs.Keys.{Text, text_cmp, same_text}
+use Rattle.mm_definitions.specs.Package.{Package, open_state, published_state}
+use Rattle.mm_definitions.specs.Conditions.{piece_count}
 use Rattle.mm_store.specs.Rows.{past_rowid, edition_row}
 use Rattle.mm_store.specs.Kept.{piece_id, piece_with}
 use Rattle.mm_store.specs.Stands.{Holding}

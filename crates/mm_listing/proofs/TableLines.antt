@@ -26,9 +26,9 @@ use Rattle.sql_forms.proofs.Keys.{equal_text, columns_are}
 use Rattle.sql_forms.proofs.Lists.{and_true, flat_filtered}
 use Rattle.sql_forms.proofs.Selects.{IsSelect}
 use Rattle.mm_schema.specs.Tables.{schema}
-use Rattle.mm_base.specs.Keys.{Text, text_cmp, same_text}
-use Rattle.mm_base.specs.Package.{Package, Contents, kind_text}
-use Rattle.mm_base.specs.declared.commands.Kind.TheVariants.{Two, Other, Attributes, Media}
+use Rattle.mm_definitions.specs.Keys.{Text, text_cmp, same_text}
+use Rattle.mm_definitions.specs.Package.{Package, Contents, kind_text}
+use Rattle.mm_definitions.specs.declared.commands.Kind.TheVariants.{Two, Other, Attributes, Media}
 use Rattle.mm_store.specs.Rows.{past_rowid, contents_row}
 use Rattle.mm_store.specs.Kept.{tile_id, tile_with, medium_id, medium_with}
 use Rattle.mm_store.specs.Stands.{Holding}

@@ -11,9 +11,9 @@ use Rattle.sql_forms.specs.Forms.{query, no_limit}
 use Rattle.sql_forms.specs.Tables.{tables_of}
 use Rattle.sql_forms.proofs.Queries.{no_overlay}
 use Rattle.mm_schema.specs.Tables.{schema}
-use Rattle.mm_base.specs.Bounds.{Profile}
-use Rattle.mm_base.specs.Package.{Package}
-use Rattle.mm_base.specs.declared.answers.Fault.{Fault}
+use Rattle.mm_definitions.specs.Bounds.{Profile}
+use Rattle.mm_definitions.specs.Package.{Package}
+use Rattle.mm_definitions.specs.declared.answers.Fault.{Fault}
 use Rattle.mm_store.specs.Seen.{IsSeenAs}
 use Rattle.mm_walk.specs.Walk.{Ends, IsWalk}
 use Rattle.mm_walk.proofs.Quiet.{IsQuiet, only_asks}

@@ -1,6 +1,6 @@
 -- The lines of a listing as texts.
 use Rattle.std.specs.Prelude.{ℕ, List, ◌++◌, codes, decimal, drop, length}
-use Rattle.mm_base.specs.Keys.{Text}
+use Rattle.mm_definitions.specs.Keys.{Text}
 
 -- a text at the left of these places, or at their right; a longer text takes the room that it needs
 abbrev pub left_in : List ℕ → Text → Text

@@ -1,10 +1,10 @@
 -- The listing of a package.
 use Rattle.std.specs.Prelude.{ℕ, ◌++◌, [], if◌then◌else◌, ◌||◌, Option, Some, None, unwrap_or, flat_map}
 use Rattle.std.specs.FinMap.{get, entries, len, retain_keys}
-use Rattle.mm_base.specs.Keys.{Text, same_text}
-use Rattle.mm_base.specs.Package.{Package, Contents, kind_text, open_state}
-use Rattle.mm_base.specs.Conditions.{piece_count}
-use Rattle.mm_base.specs.declared.commands.Kind.TheVariants.{Two, Other, Attributes, Media}
+use Rattle.mm_definitions.specs.Keys.{Text, same_text}
+use Rattle.mm_definitions.specs.Package.{Package, Contents, kind_text, open_state}
+use Rattle.mm_definitions.specs.Conditions.{piece_count}
+use Rattle.mm_definitions.specs.declared.commands.Kind.TheVariants.{Two, Other, Attributes, Media}
 use Rattle.mm_listing.specs.Lines.{table_text, open_text, published_text}
 
 -- which of three a table has, by its kind

@@ -6,7 +6,7 @@ ghost use Rattle.mm_listing.specs.Lines.{left_in, right_in, open_text, published
 
 use arrayvec::ArrayVec;
 use itoa::Buffer;
-use mm_base::answers::Fault;
+use mm_definitions::answers::Fault;
 
 /// A line. Its longest has a name of 60 bytes, an identifier of 1,000, and 100 bytes beside them.
 pub(crate) type Line = ArrayVec<u8, 1200>;

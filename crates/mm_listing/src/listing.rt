@@ -2,15 +2,15 @@
 
 ghost use Rattle.std.specs.Prelude.{◌≡◌, false};
 ghost use Rattle.sqlite.specs.Held.{state};
-ghost use Rattle.mm_base.specs.Bounds.{Profile};
-ghost use Rattle.mm_base.specs.Streams.{has_failed, inside};
+ghost use Rattle.mm_definitions.specs.Bounds.{Profile};
+ghost use Rattle.mm_definitions.specs.Streams.{has_failed, inside};
 ghost use Rattle.mm_listing.specs.Listing.{editions, listing, tables};
 ghost use Rattle.mm_listing.specs.Writing.{IsListed, SendsLine};
 
 use crate::shown::{edition_in, table_in};
-use mm_base::answers::Fault;
-use mm_base::streams::Io;
-use mm_lines::{Sent, send};
+use mm_definitions::answers::Fault;
+use mm_definitions::streams::Io;
+use mm_io::{Sent, send};
 use mm_walk::walk::{Visitor, walk};
 use sqlite::{Alter, Connection, Row};
 use std::io::Write;
@@ -33,7 +33,7 @@ struct TableLines<'a, W> {
 }
 
 impl<W: Write> Visitor for TableLines<'_, W> {
-    ghost use Rattle.mm_base.specs.Streams.{has_failed, inside};
+    ghost use Rattle.mm_definitions.specs.Streams.{has_failed, inside};
     ghost use Rattle.mm_listing.specs.Shown.{ShowsTable};
     ghost use Rattle.mm_listing.specs.Writing.{TakesLine};
 
@@ -54,7 +54,7 @@ struct EditionLines<'a, W> {
 }
 
 impl<W: Write> Visitor for EditionLines<'_, W> {
-    ghost use Rattle.mm_base.specs.Streams.{has_failed, inside};
+    ghost use Rattle.mm_definitions.specs.Streams.{has_failed, inside};
     ghost use Rattle.mm_listing.specs.Shown.{ShowsEdition};
     ghost use Rattle.mm_listing.specs.Writing.{TakesLine};
 

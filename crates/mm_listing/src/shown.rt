@@ -8,7 +8,7 @@ ghost use Rattle.mm_listing.specs.Listing.{by_kind};
 ghost use Rattle.mm_listing.specs.Shown.{IsCount, ShowsEdition, ShowsTable};
 
 use crate::lines::{Line, open_line, published_line, table_line};
-use mm_base::answers::Fault;
+use mm_definitions::answers::Fault;
 use sqlite::Row;
 use sqlite::types::ValueRef;
 

@@ -10,14 +10,14 @@ use Rattle.sql_forms.specs.Tables.{Finds}
 use Rattle.sql_forms.specs.Maps.{Holds}
 use Rattle.sql_forms.proofs.Keys.{columns_are}
 use Rattle.sql_forms.proofs.Selects.{shows}
-use Rattle.mm_base.specs.Keys.{Text, text_cmp, same_number}
-use Rattle.mm_base.specs.Checks.{box_of}
-use Rattle.mm_base.specs.Conditions.{is_product}
-use Rattle.mm_base.specs.Package.{Box, Grid, MatrixSet}
-use Rattle.mm_base.specs.Rules.{Fits}
-use Rattle.mm_base.specs.declared.extents.Extent.{Extent}
-use Rattle.mm_base.proofs.Parts.{same_itself, same_some}
-use Rattle.mm_base.proofs.KeyLaws.{numbers}
+use Rattle.mm_definitions.specs.Keys.{Text, text_cmp, same_number}
+use Rattle.mm_definitions.specs.Checks.{box_of}
+use Rattle.mm_definitions.specs.Conditions.{is_product}
+use Rattle.mm_definitions.specs.Package.{Box, Grid, MatrixSet}
+use Rattle.mm_definitions.specs.Rules.{Fits}
+use Rattle.mm_definitions.specs.declared.extents.Extent.{Extent}
+use Rattle.mm_definitions.proofs.Parts.{same_itself, same_some}
+use Rattle.mm_definitions.proofs.KeyLaws.{numbers}
 use Rattle.mm_laws.proofs.KindFacts.{are_same, both_true}
 use Rattle.mm_store.specs.Rows.{past_rowid, set_row}
 use Rattle.mm_store.proofs.Keys as parts

@@ -30,14 +30,14 @@ use Rattle.sql_forms.proofs.Keys.{as_truth, equal_text, columns_are}
 use Rattle.sql_forms.proofs.Lists.{and_true}
 use Rattle.sql_forms.proofs.Orders.{by_column}
 use Rattle.sql_forms.proofs.Selects.{shows}
-use Rattle.mm_base.specs.Keys.{Text, same_text, Level, level, level_cmp}
-use Rattle.mm_base.specs.Parts.{Has, Stands}
-use Rattle.mm_base.specs.Package.{Grid}
-use Rattle.mm_base.specs.Conditions.{grid}
-use Rattle.mm_base.specs.Neighbours.{IsNearestBelow, IsNearestAbove, zoomed}
-use Rattle.mm_base.specs.declared.commands.Matrix.{Matrix}
-use Rattle.mm_base.proofs.Parts.{some_of, same_itself}
-use Rattle.mm_base.proofs.KeyLaws.{texts}
+use Rattle.mm_definitions.specs.Keys.{Text, same_text, Level, level, level_cmp}
+use Rattle.mm_definitions.specs.Parts.{Has, Stands}
+use Rattle.mm_definitions.specs.Package.{Grid}
+use Rattle.mm_definitions.specs.Conditions.{grid}
+use Rattle.mm_definitions.specs.Neighbours.{IsNearestBelow, IsNearestAbove, zoomed}
+use Rattle.mm_definitions.specs.declared.commands.Matrix.{Matrix}
+use Rattle.mm_definitions.proofs.Parts.{some_of, same_itself}
+use Rattle.mm_definitions.proofs.KeyLaws.{texts}
 use Rattle.mm_laws.proofs.KindFacts.{are_same, both_true}
 use Rattle.mm_store.specs.Rows.{past_rowid, grid_row}
 use Rattle.mm_matrices.specs.Shown.{ShowsZoomed, GivesZoomed}

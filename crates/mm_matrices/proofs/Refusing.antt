@@ -2,24 +2,24 @@
 use Rattle.std.proofs.Common.{◌≡◌, inl, inr, ℕ, pos, Bool, true, false, not, ◌&&◌, ◌||◌, [], ◌∷◌, Option, Some, None, refl, sym, ap, ◌∙◌}
 use Rattle.std.specs.FinMap.{get, contains_key}
 use Rattle.std.proofs.lemmas.Bool.{false_from_ne_true, true_from_ne_false}
-use Rattle.mm_base.specs.Bounds.{Profile}
-use Rattle.mm_base.specs.Keys.{Text, same_text, level}
-use Rattle.mm_base.specs.Parts.{Has, at_value}
-use Rattle.mm_base.specs.Package.{Package, MatrixSet, kind_text, has_kind, is_pyramid}
-use Rattle.mm_base.specs.Rules.{Meets}
-use Rattle.mm_base.specs.Effects.{step_kind}
-use Rattle.mm_base.specs.Conditions.{least, own_reasons, clashes, is_product, grid}
-use Rattle.mm_base.specs.Neighbours.{Zoomed, neighbours, IsNearestBelow, IsNearestAbove, is_halved}
-use Rattle.mm_base.specs.declared.commands.Kind.{Kind}
-use Rattle.mm_base.specs.declared.commands.Kind.TheVariants as kinds
-use Rattle.mm_base.specs.declared.commands.Matrix.{Matrix}
-use Rattle.mm_base.specs.declared.commands.Step.{Step}
-use Rattle.mm_base.specs.declared.commands.Step.TheVariants as steps
-use Rattle.mm_base.specs.declared.commands.Command.TheVariants as commands
-use Rattle.mm_base.proofs.Parts.{some_of, none_of, not_none}
+use Rattle.mm_definitions.specs.Bounds.{Profile}
+use Rattle.mm_definitions.specs.Keys.{Text, same_text, level}
+use Rattle.mm_definitions.specs.Parts.{Has, at_value}
+use Rattle.mm_definitions.specs.Package.{Package, MatrixSet, kind_text, has_kind, is_pyramid}
+use Rattle.mm_definitions.specs.Rules.{Meets}
+use Rattle.mm_definitions.specs.Effects.{step_kind}
+use Rattle.mm_definitions.specs.Conditions.{least, own_reasons, clashes, is_product, grid}
+use Rattle.mm_definitions.specs.Neighbours.{Zoomed, neighbours, IsNearestBelow, IsNearestAbove, is_halved}
+use Rattle.mm_definitions.specs.declared.commands.Kind.{Kind}
+use Rattle.mm_definitions.specs.declared.commands.Kind.TheVariants as kinds
+use Rattle.mm_definitions.specs.declared.commands.Matrix.{Matrix}
+use Rattle.mm_definitions.specs.declared.commands.Step.{Step}
+use Rattle.mm_definitions.specs.declared.commands.Step.TheVariants as steps
+use Rattle.mm_definitions.specs.declared.commands.Command.TheVariants as commands
+use Rattle.mm_definitions.proofs.Parts.{some_of, none_of, not_none}
 use Rattle.mm_laws.proofs.Clashes.{clash_by_nearest}
 use Rattle.mm_laws.proofs.Reasons.{none_holds, and_false, is_suited}
-use Rattle.mm_contents.proofs.Reasons.{first_of}
+use Rattle.mm_layout.proofs.Reasons.{first_of}
 use Rattle.mm_matrices.specs.Shown.{IsPlainKind}
 
 module _ (p : Package) (table : Text) (zoom : ℕ) (m : Matrix) where

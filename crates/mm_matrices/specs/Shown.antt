@@ -2,10 +2,10 @@
 use Rattle.std.specs.Prelude.{◌≡◌, ◌⊎◌, ℕ, pos, Option, Some, None}
 use Rattle.sqlite.specs.declared.types.Value.TheVariants.{Int}
 use Rattle.sqlite.specs.Order.{Row, column}
-use Rattle.mm_base.specs.declared.commands.Kind.{Kind}
-use Rattle.mm_base.specs.declared.commands.Kind.TheVariants.{Attributes, Media}
-use Rattle.mm_base.specs.declared.commands.Matrix.{Matrix}
-use Rattle.mm_base.specs.declared.extents.Extent.{Extent}
+use Rattle.mm_definitions.specs.declared.commands.Kind.{Kind}
+use Rattle.mm_definitions.specs.declared.commands.Kind.TheVariants.{Attributes, Media}
+use Rattle.mm_definitions.specs.declared.commands.Matrix.{Matrix}
+use Rattle.mm_definitions.specs.declared.extents.Extent.{Extent}
 
 -- the row shows the extent in its first four columns
 pub record ShowsExtent (row : Row) (e : Extent) : Type 0 where

@@ -3,22 +3,22 @@
 ghost use Rattle.std.specs.Prelude.{◌≡◌, pos, None, MatchOption};
 ghost use Rattle.std.specs.FinMap.{get, contains_key, insert};
 ghost use Rattle.sqlite.specs.Held.{state};
-ghost use Rattle.mm_base.specs.Bounds.{Profile};
-ghost use Rattle.mm_base.specs.Conditions.{least, own_reasons, grid};
-ghost use Rattle.mm_base.specs.Effects.{step_kind};
-ghost use Rattle.mm_base.specs.Keys.{level};
-ghost use Rattle.mm_base.specs.Rules.{Meets};
-ghost use Rattle.mm_base.specs.declared.commands.Command.TheVariants as commands;
+ghost use Rattle.mm_definitions.specs.Bounds.{Profile};
+ghost use Rattle.mm_definitions.specs.Conditions.{least, own_reasons, grid};
+ghost use Rattle.mm_definitions.specs.Effects.{step_kind};
+ghost use Rattle.mm_definitions.specs.Keys.{level};
+ghost use Rattle.mm_definitions.specs.Rules.{Meets};
+ghost use Rattle.mm_definitions.specs.declared.commands.Command.TheVariants as commands;
 ghost use Rattle.mm_store.specs.Shapes.{IsLook, IsChange};
-ghost use Rattle.mm_contents.specs.Stamped.{IsLentAt};
+ghost use Rattle.mm_layout.specs.Stamped.{IsLentAt};
 ghost use Rattle.mm_matrices.specs.Shown.{IsPlainKind};
 
 use crate::extents::fits_pyramid;
 use crate::zooms::suits_zooms;
-use mm_base::answers::{Fault, Outcome, Refusal};
-use mm_base::commands::{Kind, Matrix, Step};
-use mm_base::names::Name;
-use mm_contents::{kind_of, set_last_change};
+use mm_definitions::answers::{Fault, Outcome, Refusal};
+use mm_definitions::commands::{Kind, Matrix, Step};
+use mm_definitions::names::Name;
+use mm_layout::{kind_of, set_last_change};
 use mm_store::statements::{exists, run};
 use sqlite::{Alter, Transaction, params};
 

@@ -4,21 +4,21 @@ use Rattle.std.specs.Prelude.{⊤}
 use Rattle.sqlite.specs.Tree.{Trees}
 use Rattle.sqlite.specs.State.{State, HasCleanDisk, Survives, IsUnchanged}
 use Rattle.sqlite.proofs.StateLemmas.{survives_then, survives_weaker}
-use Rattle.mm_base.specs.Bounds.{Profile, millimetres, micrometres}
-use Rattle.mm_base.specs.Package.{Package}
-use Rattle.mm_base.specs.Rules.{Meets}
-use Rattle.mm_base.specs.declared.answers.Fault.{Fault}
-use Rattle.mm_base.specs.declared.answers.Open.{Open}
-use Rattle.mm_base.specs.declared.answers.Open.TheVariants as opens
-use Rattle.mm_base.specs.Scale.{scale}
+use Rattle.mm_definitions.specs.Bounds.{Profile, millimetres, micrometres}
+use Rattle.mm_definitions.specs.Package.{Package}
+use Rattle.mm_definitions.specs.Rules.{Meets}
+use Rattle.mm_definitions.specs.declared.answers.Fault.{Fault}
+use Rattle.mm_definitions.specs.declared.answers.Open.{Open}
+use Rattle.mm_definitions.specs.declared.answers.Open.TheVariants as opens
+use Rattle.mm_definitions.specs.Scale.{scale}
 use Rattle.mm_laws.proofs.Scaled.{scaled}
 use Rattle.mm_store.specs.Stands.{StandsFor, ReadsAs, IsSettled}
 use Rattle.mm_store.specs.Statements.{CommitsNothing}
 use Rattle.mm_store.proofs.Asking.{told_fault}
 use Rattle.mm_store.proofs.Seen.{seen_of}
 use Rattle.mm_store.proofs.Shapes.{quiet_then}
-use Rattle.mm_meta.specs.Look.{Answers, IsLooked, Agrees, ShowsProfile}
-use Rattle.mm_meta.proofs.Looking.{asked_still}
+use Rattle.mm_opening.specs.Look.{Answers, IsLooked, Agrees, ShowsProfile}
+use Rattle.mm_opening.proofs.Looking.{asked_still}
 use Rattle.mm_check.specs.Verdict.{IsVerified}
 use Rattle.mm_shelf.specs.Form.{AreInForm, IsFormCheck, TellsForm}
 use Rattle.mm_shelf.proofs.Reading.{asked_stands, asked_fails, told_as_before, formed_for}

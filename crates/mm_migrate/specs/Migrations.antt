@@ -2,16 +2,16 @@
 use Rattle.std.specs.Prelude.{◌≡◌, ◌≢◌, ⊤, ℤ, pos, Bool, false, Result, Ok, Err, OnOk, IsTrue}
 use Rattle.sqlite.specs.Tree.{Trees}
 use Rattle.sqlite.specs.State.{State, HasCleanDisk, Survives}
-use Rattle.mm_base.specs.Bounds.{Profile, millimetres, micrometres}
-use Rattle.mm_base.specs.Package.{Package}
-use Rattle.mm_base.specs.Rules.{Meets}
-use Rattle.mm_base.specs.declared.answers.Open.{Open}
-use Rattle.mm_base.specs.declared.answers.Open.TheVariants as opens
-use Rattle.mm_base.specs.Scale.{scale}
+use Rattle.mm_definitions.specs.Bounds.{Profile, millimetres, micrometres}
+use Rattle.mm_definitions.specs.Package.{Package}
+use Rattle.mm_definitions.specs.Rules.{Meets}
+use Rattle.mm_definitions.specs.declared.answers.Open.{Open}
+use Rattle.mm_definitions.specs.declared.answers.Open.TheVariants as opens
+use Rattle.mm_definitions.specs.Scale.{scale}
 use Rattle.mm_store.specs.Stands.{StandsFor, IsSettled}
 use Rattle.mm_store.specs.Faults.{IsStoreFault}
 use Rattle.mm_store.specs.Statements.{CommitsNothing}
-use Rattle.mm_meta.specs.Look.{Answers, ShowsProfile}
+use Rattle.mm_opening.specs.Look.{Answers, ShowsProfile}
 use Rattle.mm_check.specs.Verdict.{IsFailing}
 use Rattle.mm_shelf.specs.Form.{TellsForm}
 use Rattle.mm_scaling.specs.Moves.{MayScale, StandsForEither}

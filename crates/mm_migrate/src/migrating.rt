@@ -2,15 +2,15 @@
 
 ghost use Rattle.std.specs.Prelude.{◌≡◌, ◌↔◌, pos, false, IfOk, IfErr, IsTrue, Ok, Err};
 ghost use Rattle.sqlite.specs.Held.{state};
-ghost use Rattle.mm_base.specs.Bounds.{millimetres};
-ghost use Rattle.mm_base.specs.declared.answers.Open.TheVariants as opens;
-ghost use Rattle.mm_base.specs.Units.{profile_of};
+ghost use Rattle.mm_definitions.specs.Bounds.{millimetres};
+ghost use Rattle.mm_definitions.specs.declared.answers.Open.TheVariants as opens;
+ghost use Rattle.mm_definitions.specs.Units.{profile_of};
 ghost use Rattle.mm_migrate.specs.Migrations.{IsChecked, IsMigration, IsOlder};
 
-use mm_base::answers::Open;
-use mm_base::units::{CURRENT, Unit};
 use mm_check::verify;
-use mm_meta::look;
+use mm_definitions::answers::Open;
+use mm_definitions::units::{CURRENT, Unit};
+use mm_opening::look;
 use mm_scaling::scaling::rescale;
 use mm_shelf::blobs_stand;
 use sqlite::{Alter, Connection};

@@ -1,9 +1,9 @@
 -- Services of one session, one after another.
 use Rattle.std.proofs.Common.{Result, refl, inl, arith}
 use Rattle.sqlite.specs.State.{State}
-use Rattle.mm_base.specs.Bounds.{current}
-use Rattle.mm_base.specs.Package.{Package}
-use Rattle.mm_base.specs.declared.answers.Fault.{Fault}
+use Rattle.mm_definitions.specs.Bounds.{current}
+use Rattle.mm_definitions.specs.Package.{Package}
+use Rattle.mm_definitions.specs.declared.answers.Fault.{Fault}
 use Rattle.mm_store.specs.Seen.{IsRead}
 use Rattle.mm_store.proofs.Shapes.{quiet_then}
 use Rattle.mm_page.specs.Served.{LeavesPackage}

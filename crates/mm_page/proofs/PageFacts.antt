@@ -1,9 +1,9 @@
 -- An input and a package have at most one response.
 use Rattle.std.proofs.Common.{◌≡◌, ◌≢◌, ◌∙◌, inl, inr, ℕ, ℤ, ◌∷◌, ◌++◌, drop, refl, sym, ap, subst, arith, codes}
 use Rattle.httparse.proofs.GrammarLemmas.{request_unique}
-use Rattle.mm_base.specs.Package.{Package}
-use Rattle.mm_base.specs.Keys.{Text}
-use Rattle.mm_base.proofs.ReadingFacts.{spells_one}
+use Rattle.mm_definitions.specs.Package.{Package}
+use Rattle.mm_definitions.specs.Keys.{Text}
+use Rattle.mm_definitions.proofs.ReadingFacts.{spells_one}
 use Rattle.mm_routes.specs.Asked.{Asks, Contents, Media, Related, Tile, Wanted}
 use Rattle.mm_routes.specs.Responses.{response_of}
 use Rattle.mm_routes.specs.Routes.{IsPart}

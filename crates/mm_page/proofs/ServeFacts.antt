@@ -1,6 +1,6 @@
 -- What is handed on from one result to the next.
 use Rattle.std.proofs.Common.{◌≡◌, Result, Ok, Err, IfOk}
-use Rattle.mm_base.specs.declared.answers.Fault.{Fault}
+use Rattle.mm_definitions.specs.declared.answers.Fault.{Fault}
 use Rattle.mm_page.specs.Served.{Gives}
 
 pub told : {A E F : Type 0} (P : A → Type 0) (r : Result A F) (made : Result A E) → IfOk r (λ v. made ≡ Ok v) → IfOk made P → IfOk r P

@@ -4,10 +4,10 @@ use Rattle.serde_json.specs.Data.{Data, array, member, no_members, item, no_item
 use Rattle.serde_json.specs.Find.{of_integer}
 use Rattle.serde_json.specs.View.{items_of}
 use Rattle.serde_json.specs.Written.{compact_text}
-use Rattle.mm_base.specs.Keys.{Text}
-use Rattle.mm_base.specs.Package.{Box}
+use Rattle.mm_definitions.specs.Keys.{Text}
+use Rattle.mm_definitions.specs.Package.{Box}
 use Rattle.mm_reads.specs.Listing.{Listed}
-use Rattle.mm_related.specs.Related.{Mate}
+use Rattle.mm_reads.specs.Related.{Mate}
 
 -- a whole number, as JSON
 abbrev pub whole : ℤ → Data

@@ -3,9 +3,9 @@ use Rattle.std.specs.Prelude.{◌≡◌, ◌≢◌, ◌⊎◌, ◌==◌, Option,
 use Rattle.std.specs.FinMap.{get}
 use Rattle.std.specs.List.{before_first}
 use Rattle.httparse.specs.Grammar.{RequestHead}
-use Rattle.mm_base.specs.Keys.{Text, item}
-use Rattle.mm_base.specs.Keys as keys
-use Rattle.mm_base.specs.Package.{Package}
+use Rattle.mm_definitions.specs.Keys.{Text, item}
+use Rattle.mm_definitions.specs.Keys as keys
+use Rattle.mm_definitions.specs.Package.{Package}
 use Rattle.mm_routes.specs.Asked.{Asks, Contents, Media, Related, Tile, Wanted}
 use Rattle.mm_routes.specs.Heads.{IsHead}
 use Rattle.mm_routes.specs.Responses.{BadRequest, Found, NotAllowed, NotFound, Reply, response_of}

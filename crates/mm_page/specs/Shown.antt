@@ -1,10 +1,10 @@
 -- What the page shows of a package.
 use Rattle.std.specs.Prelude.{ℤ, List, Option, Some, None, map, if◌then◌else◌}
 use Rattle.std.specs.FinMap.{entries}
-use Rattle.mm_base.specs.Keys.{Text}
-use Rattle.mm_base.specs.Package.{Package}
+use Rattle.mm_definitions.specs.Keys.{Text}
+use Rattle.mm_definitions.specs.Package.{Package}
 use Rattle.mm_reads.specs.Listing.{Listed, listed}
-use Rattle.mm_related.specs.Related.{Mate, is_item, mapping_rows, mate}
+use Rattle.mm_reads.specs.Related.{Mate, is_item, mapping_rows, mate}
 
 -- what an item is related to, by rising mapping, related table and id, where the package has the item
 abbrev pub mates : Package → Text → ℤ → Option (List Mate)

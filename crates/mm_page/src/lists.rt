@@ -2,13 +2,13 @@
 
 ghost use Rattle.std.specs.Prelude.{◌≡◌, IfOk, map, string_bytes};
 ghost use Rattle.serde_json.specs.View.{view};
-ghost use Rattle.mm_base.specs.Package.{kind_text};
+ghost use Rattle.mm_definitions.specs.Package.{kind_text};
 ghost use Rattle.mm_reads.specs.Listing as listing;
-ghost use Rattle.mm_related.specs.Related.{told};
+ghost use Rattle.mm_reads.specs.Related.{told};
 ghost use Rattle.mm_page.specs.Lists.{mate_data, mates_text, table_data, tables_text};
 
-use mm_base::commands::Kind;
-use mm_base::entries::{Entry, Related};
+use mm_definitions::commands::Kind;
+use mm_definitions::entries::{Entry, Related};
 use serde_json::{Value, json};
 use std::alloc::{AllocError, Global};
 

@@ -3,19 +3,19 @@
 ghost use Rattle.std.specs.Prelude.{◌≡◌, pos, IfErr, map, option_map};
 ghost use Rattle.std.specs.FinMap.{get};
 ghost use Rattle.sqlite.specs.Held.{state};
-ghost use Rattle.mm_base.specs.Keys.{item};
-ghost use Rattle.mm_base.specs.Keys as keys;
+ghost use Rattle.mm_definitions.specs.Keys.{item};
+ghost use Rattle.mm_definitions.specs.Keys as keys;
 ghost use Rattle.mm_reads.specs.Told.{medium_of};
 ghost use Rattle.mm_reads.specs.Listing as listing;
-ghost use Rattle.mm_related.specs.Related.{told};
+ghost use Rattle.mm_reads.specs.Related.{told};
 ghost use Rattle.mm_core.specs.Parts.{held, has_failed};
 ghost use Rattle.mm_page.specs.Served.{Answers, IsOn, IsPageFault, LeavesPackage};
 ghost use Rattle.mm_page.specs.Shown.{mates, tables};
 
-use mm_base::answers::Fault;
-use mm_base::entries::{Entry, Media, Related};
-use mm_base::names::Name;
 use mm_core::Session;
+use mm_definitions::answers::Fault;
+use mm_definitions::entries::{Entry, Media, Related};
+use mm_definitions::names::Name;
 use sqlite::Alter;
 
 /// The bytes of a tile.

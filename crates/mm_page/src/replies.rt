@@ -11,9 +11,9 @@ ghost use Rattle.mm_page.specs.Served.{Answers, IsOn, IsPageFault, LeavesPackage
 
 use crate::lists::{mates_json, tables_json};
 use crate::reads::{read_mates, read_media, read_tables, read_tile};
-use mm_base::answers::Fault;
-use mm_base::names::Name;
 use mm_core::Session;
+use mm_definitions::answers::Fault;
+use mm_definitions::names::Name;
 use mm_routes::{Wanted, found, not_found};
 use sqlite::Alter;
 use std::alloc::{AllocError, Global};

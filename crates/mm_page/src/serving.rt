@@ -2,10 +2,10 @@
 
 ghost use Rattle.std.specs.Prelude.{◌≡◌, ◌⊎◌, IfOk, IfErr, IsUtf8, OnOk, bytes_eq, codes, true};
 ghost use Rattle.sqlite.specs.Held.{state};
-ghost use Rattle.mm_base.specs.Keys.{Text};
-ghost use Rattle.mm_base.specs.Package.{Package};
-ghost use Rattle.mm_base.specs.Streams.{inside};
-ghost use Rattle.mm_base.specs.Streams as streams;
+ghost use Rattle.mm_definitions.specs.Keys.{Text};
+ghost use Rattle.mm_definitions.specs.Package.{Package};
+ghost use Rattle.mm_definitions.specs.Streams.{inside};
+ghost use Rattle.mm_definitions.specs.Streams as streams;
 ghost use Rattle.mm_core.specs.Parts.{held, has_failed};
 ghost use Rattle.mm_page.specs.Page.{Page, Writes, WritesTo};
 ghost use Rattle.mm_page.specs.Page as page;
@@ -16,10 +16,10 @@ ghost use Rattle.mm_page.specs.Served.{AsksForPart, IsOn, IsPageFault, LeavesPac
 use crate::replies::{printed, reply};
 use http::Method;
 use httparse::spans::EMPTY_HEADER_SPAN;
-use mm_base::answers::{Fault, PageFault};
-use mm_base::streams::Io;
 use mm_core::Session;
-use mm_lines::{Sent, send};
+use mm_definitions::answers::{Fault, PageFault};
+use mm_definitions::streams::Io;
+use mm_io::{Sent, send};
 use mm_routes::{bad_request, not_allowed, not_found, read_head, read_path};
 use sqlite::Alter;
 use std::alloc::Global;

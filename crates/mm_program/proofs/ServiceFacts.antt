@@ -6,9 +6,9 @@ use Rattle.std.proofs.KnownBytes.{Appends-nil, Appends-trans}
 use Rattle.std.proofs.lemmas.List.{map-append}
 use Rattle.std.proofs.lemmas.List.Elements.{All-append, All-cons}
 use Rattle.std.proofs.lemmas.List.Folds.{concat-append}
-use Rattle.mm_base.specs.declared.answers.Fault.{Fault}
-use Rattle.mm_base.specs.declared.answers.PageFault.{PageFault}
-use Rattle.mm_work.specs.Pages.{IsPrinted, IsServed, IsServiceFault, Outcome, TellsMore, fault_lines, faults_of, page_fault_text, status_of}
+use Rattle.mm_definitions.specs.declared.answers.Fault.{Fault}
+use Rattle.mm_definitions.specs.declared.answers.PageFault.{PageFault}
+use Rattle.mm_subcommands.specs.Pages.{IsPrinted, IsServed, IsServiceFault, Outcome, TellsMore, fault_lines, faults_of, page_fault_text, status_of}
 
 -- ---- one more outcome
 

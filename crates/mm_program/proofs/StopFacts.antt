@@ -1,13 +1,13 @@
 -- Which stops end which work, and what is so of work whose files were then closed.
 use Rattle.std.proofs.Common.{◌≡◌, ◌≢◌, ◌⊎◌, ◌==◌, ℕ, true, false, Result, Ok, Err, IfOk, IfErr, OnErr, refl, sym, subst, inl, inr}
 use Rattle.sqlite.specs.State.{State}
-use Rattle.mm_base.specs.declared.answers.Open.{Open}
-use Rattle.mm_base.specs.declared.answers.Open.TheVariants as opens
-use Rattle.mm_work.specs.Declined.{IsDeclined, stop_of}
-use Rattle.mm_work.specs.Migrated.{IsUnmigrated}
-use Rattle.mm_work.specs.Told.{stop_status}
-use Rattle.mm_work.specs.declared.stop.Stop.{Stop}
-use Rattle.mm_work.specs.declared.stop.Stop.TheVariants as stops
+use Rattle.mm_definitions.specs.declared.answers.Open.{Open}
+use Rattle.mm_definitions.specs.declared.answers.Open.TheVariants as opens
+use Rattle.mm_subcommands.specs.Declined.{IsDeclined, stop_of}
+use Rattle.mm_subcommands.specs.Migrated.{IsUnmigrated}
+use Rattle.mm_subcommands.specs.Told.{stop_status}
+use Rattle.mm_subcommands.specs.declared.stop.Stop.{Stop}
+use Rattle.mm_subcommands.specs.declared.stop.Stop.TheVariants as stops
 use Rattle.mm_program.specs.Files.{StopsAny}
 use Rattle.mm_program.specs.Told.{StopsCheck}
 

@@ -1,10 +1,10 @@
 -- Why a file is not opened.
 use Rattle.std.specs.Prelude.{◌≡◌, ◌≤◌, ◌⊎◌, ⊤, ℕ, length}
-use Rattle.mm_base.specs.declared.answers.Fault.{Fault}
+use Rattle.mm_definitions.specs.declared.answers.Fault.{Fault}
 use Rattle.mm_kit.specs.declared.folders.Found.{Found}
 use Rattle.mm_kit.specs.declared.folders.Found.TheVariants as found
-use Rattle.mm_work.specs.declared.stop.Stop.{Stop}
-use Rattle.mm_work.specs.declared.stop.Stop.TheVariants as stops
+use Rattle.mm_subcommands.specs.declared.stop.Stop.{Stop}
+use Rattle.mm_subcommands.specs.declared.stop.Stop.TheVariants as stops
 
 -- 90 want of memory, 91 the store, 96 the system
 abbrev pub IsFileFault : Fault → Type 0

@@ -1,15 +1,15 @@
 -- What a subcommand prints, and the exit status that goes with it.
 use Rattle.std.specs.Prelude.{◌≡◌, ◌⊎◌, ⊤, ℕ, List, Option, None, Some, Bool, Result, Ok, Err, IfErr, codes}
-use Rattle.mm_base.specs.Bounds.{IsName}
-use Rattle.mm_base.specs.Keys.{Text}
-use Rattle.mm_base.specs.declared.answers.KitFault.{KitFault}
-use Rattle.mm_base.specs.declared.answers.Staged.{Staged}
+use Rattle.mm_definitions.specs.Bounds.{IsName}
+use Rattle.mm_definitions.specs.Keys.{Text}
+use Rattle.mm_definitions.specs.declared.answers.KitFault.{KitFault}
+use Rattle.mm_definitions.specs.declared.answers.Staged.{Staged}
 use Rattle.mm_imports.specs.Kits.{kit_status, kit_text}
-use Rattle.mm_work.specs.Looked.{check_status, check_text}
-use Rattle.mm_work.specs.Migrated.{migrate_status, migrate_text}
-use Rattle.mm_work.specs.Told.{IsTold, init_status, init_text, stop_status, stop_text}
-use Rattle.mm_work.specs.declared.stop.Stop.{Stop}
-use Rattle.mm_work.specs.declared.stop.Stop.TheVariants as stops
+use Rattle.mm_subcommands.specs.Looked.{check_status, check_text}
+use Rattle.mm_subcommands.specs.Migrated.{migrate_status, migrate_text}
+use Rattle.mm_subcommands.specs.Told.{IsTold, init_status, init_text, stop_status, stop_text}
+use Rattle.mm_subcommands.specs.declared.stop.Stop.{Stop}
+use Rattle.mm_subcommands.specs.declared.stop.Stop.TheVariants as stops
 use Rattle.clap.specs.Words.{HasKind, fault_of, kind_of}
 use Rattle.clap.specs.declared.error.Error.{Error}
 use Rattle.mm_arguments.specs.CommandLine.{command_line}

@@ -4,7 +4,7 @@ ghost use Rattle.std.specs.Prelude.{◌≡◌, IfSome};
 ghost use Rattle.std.specs.Time.{system_time_nanos};
 ghost use Rattle.mm_program.specs.Clock.{IsNow};
 
-use mm_base::moments::Moment;
+use mm_definitions::moments::Moment;
 use std::io;
 use std::time::SystemTime;
 

@@ -2,16 +2,16 @@
 
 ghost use Rattle.std.specs.Prelude.{◌≡◌, ◌∷◌, [], IfErr, List, Option};
 ghost use Rattle.sqlite.specs.Held.{state};
-ghost use Rattle.mm_base.specs.Streams.{inside};
-ghost use Rattle.mm_base.specs.Streams as streams;
+ghost use Rattle.mm_definitions.specs.Streams.{inside};
+ghost use Rattle.mm_definitions.specs.Streams as streams;
 ghost use Rattle.mm_core.specs.Parts.{held, has_failed};
 ghost use Rattle.mm_page.specs.Served.{LeavesPackage};
-ghost use Rattle.mm_work.specs.Pages.{IsServed, IsServiceFault, Outcome, TellsMore};
+ghost use Rattle.mm_subcommands.specs.Pages.{IsServed, IsServiceFault, Outcome, TellsMore};
 
-use mm_base::answers::PageFault;
-use mm_base::streams::Io;
 use mm_core::Session;
-use mm_work::{DONE, FAULT, tell_page_fault};
+use mm_definitions::answers::PageFault;
+use mm_definitions::streams::Io;
+use mm_subcommands::{DONE, FAULT, tell_page_fault};
 use sqlite::Alter;
 use std::alloc::Global;
 use std::io::Write;

@@ -4,8 +4,8 @@ ghost use Rattle.std.specs.Prelude.{◌≡◌, ◌++◌, codes, false, string_by
 ghost use Rattle.sqlite_std_file.specs.File.{file_is_usable};
 ghost use Rattle.mm_program.specs.Files.{StopsAny, StopsNew, StopsOld};
 
-use mm_base::answers::Fault;
-use mm_work::Stop;
+use mm_definitions::answers::Fault;
+use mm_subcommands::Stop;
 use sqlite::{Connection, Error, ErrorCode, FileFrom, FileStore, Files, Options, Start};
 use sqlite_disk::Disk;
 use sqlite_std_file::OpenError;

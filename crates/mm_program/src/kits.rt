@@ -1,20 +1,20 @@
 //! The subcommand `kit`, on a folder of the system.
 
 ghost use Rattle.std.specs.Prelude.{◌≤◌, IfOk};
-ghost use Rattle.mm_base.specs.Streams.{has_failed, inside};
-ghost use Rattle.mm_work.specs.Told.{TellsFailure};
+ghost use Rattle.mm_definitions.specs.Streams.{has_failed, inside};
+ghost use Rattle.mm_subcommands.specs.Told.{TellsFailure};
 ghost use Rattle.mm_program.specs.Files.{IsFew};
 ghost use Rattle.mm_program.specs.Told.{TellsKit};
 
 use crate::clock::{Now, moment_of};
 use crate::files::{close_after, open_old};
-use mm_base::answers::Fault;
-use mm_base::moments::Moment;
-use mm_base::names::Name;
-use mm_base::streams::Io;
+use mm_definitions::answers::Fault;
+use mm_definitions::moments::Moment;
+use mm_definitions::names::Name;
+use mm_definitions::streams::Io;
 use mm_imports::{Import, import_package, tell_import};
 use mm_kit::{Folder, FolderFault, Found};
-use mm_work::{REFUSED, Stop, tell_bytes, tell_stop};
+use mm_subcommands::{REFUSED, Stop, tell_bytes, tell_stop};
 use sqlite::{Start, Wary};
 use std::alloc::Global;
 use std::io::{Read, Write};

@@ -1,13 +1,13 @@
 //! The subcommands that change nothing.
 
 ghost use Rattle.std.specs.Prelude.{◌≡◌, ◌≤◌, ◌⊎◌, IfErr, OnOk};
-ghost use Rattle.mm_base.specs.Streams.{has_failed, inside};
-ghost use Rattle.mm_work.specs.Told.{TellsFailure, stop_status};
+ghost use Rattle.mm_definitions.specs.Streams.{has_failed, inside};
+ghost use Rattle.mm_subcommands.specs.Told.{TellsFailure, stop_status};
 ghost use Rattle.mm_program.specs.Told.{StopsCheck, TellsCheck, TellsDecline};
 
 use crate::files::{close_files, open_old};
-use mm_base::streams::Io;
-use mm_work::{DONE, Stop, check_package, list_package, tell_check, tell_stop};
+use mm_definitions::streams::Io;
+use mm_subcommands::{DONE, Stop, check_package, list_package, tell_check, tell_stop};
 use sqlite::{Start, Wary};
 use std::io::Write;
 

@@ -1,13 +1,13 @@
 //! The subcommand `migrate`.
 
 ghost use Rattle.std.specs.Prelude.{◌≤◌, IfErr};
-ghost use Rattle.mm_base.specs.Streams.{has_failed, inside};
-ghost use Rattle.mm_work.specs.Told.{TellsFailure};
+ghost use Rattle.mm_definitions.specs.Streams.{has_failed, inside};
+ghost use Rattle.mm_subcommands.specs.Told.{TellsFailure};
 ghost use Rattle.mm_program.specs.Told.{StopsCheck, TellsMigrate};
 
 use crate::files::{close_files, open_old};
-use mm_base::streams::Io;
-use mm_work::{Stop, migrate_package, tell_migration};
+use mm_definitions::streams::Io;
+use mm_subcommands::{Stop, migrate_package, tell_migration};
 use sqlite::{Start, Wary};
 use std::io::Write;
 

@@ -1,18 +1,18 @@
 //! The page served over sockets.
 
 ghost use Rattle.std.specs.Prelude.{◌≡◌, ◌≤◌, ◌⊎◌, IfErr, IfOk, None};
-ghost use Rattle.mm_base.specs.Streams.{inside};
-ghost use Rattle.mm_base.specs.Streams as streams;
-ghost use Rattle.mm_work.specs.Told.{TellsFailure};
+ghost use Rattle.mm_definitions.specs.Streams.{inside};
+ghost use Rattle.mm_definitions.specs.Streams as streams;
+ghost use Rattle.mm_subcommands.specs.Told.{TellsFailure};
 ghost use Rattle.mm_program.specs.Served.{IsQuiet, IsServing, TellsServe, WasServed};
 
 use crate::connections::{Serves, serve_on};
 use crate::files::{close_after, close_files, open_old};
-use mm_base::answers::{Fault, PageFault};
-use mm_base::streams::Io;
 use mm_core::Session;
+use mm_definitions::answers::{Fault, PageFault};
+use mm_definitions::streams::Io;
 use mm_page::serve_one;
-use mm_work::{FAULT, Stop, adopt_package, tell_serving, tell_stop};
+use mm_subcommands::{FAULT, Stop, adopt_package, tell_serving, tell_stop};
 use sqlite::{Alter, Start, Wary};
 use std::alloc::Global;
 use std::io;

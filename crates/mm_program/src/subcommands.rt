@@ -1,10 +1,10 @@
 //! The program as a function of its words, its input and its output.
 
 ghost use Rattle.std.specs.Prelude.{◌≡◌, ◌≤◌, ◌⊎◌, IfOk, IfErr, map};
-ghost use Rattle.mm_base.specs.Streams.{has_failed, inside};
+ghost use Rattle.mm_definitions.specs.Streams.{has_failed, inside};
 ghost use Rattle.clap.specs.Words.{kind_of};
 ghost use Rattle.mm_arguments.specs.Requests as arguments;
-ghost use Rattle.mm_work.specs.Told.{TellsFailure, stop_status};
+ghost use Rattle.mm_subcommands.specs.Told.{TellsFailure, stop_status};
 ghost use Rattle.mm_program.specs.Files.{StopsNew};
 ghost use Rattle.mm_program.specs.Told.{TellsDecline, TellsInit, TellsStatus, TellsWords};
 
@@ -15,10 +15,10 @@ use crate::looking::{check_told, list_told};
 use crate::migrating::migrate_told;
 use crate::serving::serve_told;
 use mm_arguments::{Request, read_arguments, status_of};
-use mm_base::answers::Fault;
-use mm_base::moments::Moment;
-use mm_base::streams::Io;
-use mm_work::{
+use mm_definitions::answers::Fault;
+use mm_definitions::moments::Moment;
+use mm_definitions::streams::Io;
+use mm_subcommands::{
     FAULT, REFUSED, Stop, make_package, run_package, tell_bytes, tell_init, tell_stop, tell_text,
 };
 use sqlite::{Start, Wary};

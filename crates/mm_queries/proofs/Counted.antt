@@ -5,9 +5,9 @@ use Rattle.sqlite.specs.Order.{Row}
 use Rattle.sqlite.specs.declared.types.Value.{Value}
 use Rattle.sqlite_rules.specs.Lists.{Has}
 use Rattle.sqlite_rules.proofs.ListLemmas.{has_filtered, has_kept}
-use Rattle.mm_base.specs.Keys.{Extension, extension_cmp}
-use Rattle.mm_base.proofs.Parts.{same_itself}
-use Rattle.mm_base.proofs.KeyLaws.{extension_keys}
+use Rattle.mm_definitions.specs.Keys.{Extension, extension_cmp}
+use Rattle.mm_definitions.proofs.Parts.{same_itself}
+use Rattle.mm_definitions.proofs.KeyLaws.{extension_keys}
 use Rattle.mm_store.specs.Rows.{extension_row, extension_of, is_extension, as_count, Counts}
 use Rattle.mm_queries.proofs.Joined.{Covers, after_rowid}
 use Rattle.mm_queries.proofs.Keys.{tie}

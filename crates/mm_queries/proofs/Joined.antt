@@ -9,7 +9,7 @@ use Rattle.sqlite_sql.specs.Query.{or_nulls}
 use Rattle.sqlite_rules.specs.Lists.{Has}
 use Rattle.sqlite_rules.proofs.ListLemmas.{has_filtered, has_kept}
 use Rattle.sql_forms.specs.Maps.{Holds}
-use Rattle.mm_base.specs.Parts.{Each}
+use Rattle.mm_definitions.specs.Parts.{Each}
 use Rattle.mm_store.specs.Rows.{whole, past_rowid, past_id}
 
 of_nothing : (xs : List Row) → xs ≡ [] → Has (or_nulls xs) []

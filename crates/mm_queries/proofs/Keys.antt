@@ -15,9 +15,9 @@ use Rattle.sqlite_sql.specs.declared.ops.BinaryOp.TheVariants.{Compare}
 use Rattle.sqlite_sql.specs.declared.ops.CompareOp.TheVariants.{Lt}
 use Rattle.sqlite_schema.specs.Rules.{equal}
 use Rattle.sql_forms.proofs.Keys.{equal_text, equal_int, as_truth}
-use Rattle.mm_base.specs.Keys.{Text, level, Level, Item, item}
-use Rattle.mm_base.proofs.Parts.{IsKeyOrder}
-use Rattle.mm_base.proofs.KeyLaws.{texts, numbers}
+use Rattle.mm_definitions.specs.Keys.{Text, level, Level, Item, item}
+use Rattle.mm_definitions.proofs.Parts.{IsKeyOrder}
+use Rattle.mm_definitions.proofs.KeyLaws.{texts, numbers}
 use Rattle.mm_walk.specs.RowTests.{OnTrue}
 
 equal_is : (r : Ordering) → is_eq r ≡ true → r ≡ Equal

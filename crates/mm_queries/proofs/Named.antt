@@ -11,8 +11,8 @@ use Rattle.sqlite_sql.specs.Query.{or_nulls}
 use Rattle.sqlite_schema.specs.Rules.{equal}
 use Rattle.sqlite_rules.specs.Lists as lists
 use Rattle.sql_forms.specs.Maps.{Holds}
-use Rattle.mm_base.specs.Parts.{Each}
-use Rattle.mm_base.proofs.Parts.{same_some}
+use Rattle.mm_definitions.specs.Parts.{Each}
+use Rattle.mm_definitions.proofs.Parts.{same_some}
 use Rattle.mm_store.specs.Rows.{whole, maybe}
 use Rattle.mm_store.specs.Blobs.{Blob, Shelf, blob_row, bytes_at, StandsAt, Tells}
 use Rattle.mm_blobs.proofs.Naming.{entry_in, entry_of}

@@ -1,9 +1,9 @@
 -- What a check of a rule does.
 use Rattle.std.specs.Prelude.{◌≡◌, ◌↔◌, Bool, false, IsTrue, Result, IfOk, IfErr, OnOk}
 use Rattle.sqlite.specs.State.{State, HasCleanDisk}
-use Rattle.mm_base.specs.Bounds.{Profile}
-use Rattle.mm_base.specs.Package.{Package}
-use Rattle.mm_base.specs.declared.answers.Fault.{Fault}
+use Rattle.mm_definitions.specs.Bounds.{Profile}
+use Rattle.mm_definitions.specs.Package.{Package}
+use Rattle.mm_definitions.specs.declared.answers.Fault.{Fault}
 use Rattle.mm_store.specs.Faults.{IsStoreFault}
 use Rattle.mm_store.specs.Seen.{IsSeenAs}
 use Rattle.mm_store.specs.Stands.{IsSettled}

@@ -1,8 +1,8 @@
 -- Rules by number, and what checks that are asked in turn have told so far.
 use Rattle.std.specs.Prelude.{◌≡◌, ℕ, ◌≤◌, ◌<◌, Bool, true, false, IsTrue}
 use Rattle.sqlite.specs.State.{State, HasCleanDisk}
-use Rattle.mm_base.specs.Bounds.{Profile}
-use Rattle.mm_base.specs.Package.{Package}
+use Rattle.mm_definitions.specs.Bounds.{Profile}
+use Rattle.mm_definitions.specs.Package.{Package}
 use Rattle.mm_store.specs.Seen.{IsSeenAs}
 use Rattle.mm_store.specs.Stands.{IsSettled}
 use Rattle.mm_store.specs.Statements.{CommitsNothing}

@@ -9,11 +9,11 @@ use Rattle.sql_forms.specs.Tables.{Finds}
 use Rattle.sql_forms.specs.Maps.{Holds}
 use Rattle.sql_forms.proofs.Keys.{columns_are}
 use Rattle.sql_forms.proofs.Selects.{shows}
-use Rattle.mm_base.specs.Keys.{Text, Item, item_cmp}
-use Rattle.mm_base.specs.Package.{AttributeRow, Medium}
-use Rattle.mm_base.specs.declared.entries.Media.{Media}
-use Rattle.mm_base.specs.declared.entries.Row.{Row as RowTold}
-use Rattle.mm_base.proofs.Parts.{same_some}
+use Rattle.mm_definitions.specs.Keys.{Text, Item, item_cmp}
+use Rattle.mm_definitions.specs.Package.{AttributeRow, Medium}
+use Rattle.mm_definitions.specs.declared.entries.Media.{Media}
+use Rattle.mm_definitions.specs.declared.entries.Row.{Row as RowTold}
+use Rattle.mm_definitions.proofs.Parts.{same_some}
 use Rattle.mm_store.specs.Blobs.{Shelf, Told, bytes_at}
 use Rattle.mm_store.specs.Kept.{tile_id, tile_with, medium_id, medium_with}
 use Rattle.mm_store.specs.Rows.{past_rowid, attribute_row, MediumRow, medium_row}

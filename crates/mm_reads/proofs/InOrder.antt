@@ -22,7 +22,7 @@ use Rattle.sqlite_rules.specs.Lists.{Has}
 use Rattle.sqlite_rules.proofs.ListLemmas.{all_has, all_from}
 use Rattle.sql_forms.specs.Maps.{Holds}
 use Rattle.sql_forms.proofs.Lists.{has_permuted}
-use Rattle.mm_base.proofs.Parts.{same_key, same_itself, not_none}
+use Rattle.mm_definitions.proofs.Parts.{same_key, same_itself, not_none}
 use Rattle.mm_store.proofs.Parts.{IsPart}
 
 -- ---- rows whose rowids rise are apart

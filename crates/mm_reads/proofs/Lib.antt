@@ -3,3 +3,9 @@ pub mod InOrder
 pub mod Listed
 pub mod Asking
 pub mod Reading
+pub mod Asked
+pub mod Distinct
+pub mod Mates
+pub mod ListedMates
+pub mod OnlyAsks
+pub mod ReadingMates

@@ -31,13 +31,13 @@ use Rattle.sql_forms.specs.Maps.{Holds}
 use Rattle.sql_forms.proofs.Keys.{columns_are}
 use Rattle.sql_forms.proofs.Selects.{IsSelect}
 use Rattle.mm_schema.specs.Tables.{schema}
-use Rattle.mm_base.specs.Keys.{Text, text_cmp, same_text}
-use Rattle.mm_base.specs.Package.{Package, Contents, kind_text}
-use Rattle.mm_base.specs.Parts.{at_value}
-use Rattle.mm_base.specs.declared.commands.Kind.{Kind}
-use Rattle.mm_base.specs.declared.commands.Kind.TheVariants.{Two, Other, Attributes, Media}
-use Rattle.mm_base.specs.declared.entries.Entry.{Entry}
-use Rattle.mm_base.specs.declared.extents.Extent.{Extent}
+use Rattle.mm_definitions.specs.Keys.{Text, text_cmp, same_text}
+use Rattle.mm_definitions.specs.Package.{Package, Contents, kind_text}
+use Rattle.mm_definitions.specs.Parts.{at_value}
+use Rattle.mm_definitions.specs.declared.commands.Kind.{Kind}
+use Rattle.mm_definitions.specs.declared.commands.Kind.TheVariants.{Two, Other, Attributes, Media}
+use Rattle.mm_definitions.specs.declared.entries.Entry.{Entry}
+use Rattle.mm_definitions.specs.declared.extents.Extent.{Extent}
 use Rattle.mm_store.specs.Rows.{past_rowid, contents_row, kind_row, maybe}
 use Rattle.mm_store.proofs.Keys as parts
 use Rattle.mm_store.proofs.Keys.{by_text}

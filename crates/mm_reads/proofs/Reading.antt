@@ -7,10 +7,10 @@ use Rattle.sql_forms.proofs.States.{shows_as, shown_open}
 use Rattle.sql_forms.proofs.Queries.{no_overlay}
 use Rattle.sql_forms.specs.Tables.{tables_of}
 use Rattle.mm_schema.specs.Tables.{schema}
-use Rattle.mm_base.specs.Bounds.{Profile}
-use Rattle.mm_base.specs.Package.{Package}
-use Rattle.mm_base.specs.declared.answers.Fault.{Fault}
-use Rattle.mm_base.specs.declared.entries.Entry.{Entry}
+use Rattle.mm_definitions.specs.Bounds.{Profile}
+use Rattle.mm_definitions.specs.Package.{Package}
+use Rattle.mm_definitions.specs.declared.answers.Fault.{Fault}
+use Rattle.mm_definitions.specs.declared.entries.Entry.{Entry}
 use Rattle.mm_store.specs.Faults.{IsStoreFault}
 use Rattle.mm_store.specs.Seen.{IsSeenAs, IsRead}
 use Rattle.mm_store.proofs.Seen.{settled_still}

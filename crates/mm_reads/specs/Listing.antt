@@ -3,14 +3,14 @@ use Rattle.std.specs.Prelude.{◌≡◌, ℤ, Bool, true, if◌then◌else◌, L
 use Rattle.std.specs.FinMap.{get, entries}
 use Rattle.sqlite.specs.declared.types.Value.TheVariants.{Int, Text as Words}
 use Rattle.sqlite.specs.Order.{Row, column}
-use Rattle.mm_base.specs.Checks.{box_of}
-use Rattle.mm_base.specs.Keys.{Text}
-use Rattle.mm_base.specs.Package.{Package, Contents, Box, kind_text, is_pyramid}
-use Rattle.mm_base.specs.declared.answers.Fault.{Fault}
-use Rattle.mm_base.specs.declared.commands.Kind.{Kind}
-use Rattle.mm_base.specs.declared.commands.Kind.TheVariants.{Two, Other, Attributes, Media}
-use Rattle.mm_base.specs.declared.entries.Entry.{Entry}
-use Rattle.mm_base.specs.declared.extents.Extent.{Extent}
+use Rattle.mm_definitions.specs.Checks.{box_of}
+use Rattle.mm_definitions.specs.Keys.{Text}
+use Rattle.mm_definitions.specs.Package.{Package, Contents, Box, kind_text, is_pyramid}
+use Rattle.mm_definitions.specs.declared.answers.Fault.{Fault}
+use Rattle.mm_definitions.specs.declared.commands.Kind.{Kind}
+use Rattle.mm_definitions.specs.declared.commands.Kind.TheVariants.{Two, Other, Attributes, Media}
+use Rattle.mm_definitions.specs.declared.entries.Entry.{Entry}
+use Rattle.mm_definitions.specs.declared.extents.Extent.{Extent}
 use Rattle.mm_store.specs.Faults.{IsStoreFault}
 
 -- ---- the list

@@ -3,10 +3,10 @@ use Rattle.std.specs.Prelude.{◌≡◌, ℕ, List, Option, Some, None, MatchOpt
 use Rattle.std.specs.declared.vec.Vec.{Vec}
 use Rattle.sqlite.specs.declared.types.Value.TheVariants.{Int, Text as Words}
 use Rattle.sqlite.specs.Order.{Row, column}
-use Rattle.mm_base.specs.Package.{AttributeRow, Medium}
+use Rattle.mm_definitions.specs.Package.{AttributeRow, Medium}
 use Rattle.mm_store.specs.Rows.{MediumRow}
-use Rattle.mm_base.specs.declared.entries.Media.{Media}
-use Rattle.mm_base.specs.declared.entries.Row.{Row as RowTold}
+use Rattle.mm_definitions.specs.declared.entries.Media.{Media}
+use Rattle.mm_definitions.specs.declared.entries.Row.{Row as RowTold}
 
 -- the bytes of an entry are told, or that there is no entry
 abbrev pub TellsBytes : {A : Type 0} → Option (List ℕ) → Option (Vec ℕ A) → Type 0

@@ -3,8 +3,8 @@
 ghost use Rattle.std.specs.Prelude.{◌≡◌, Some, false, option_map, string_bytes, IfOk, IfErr};
 ghost use Rattle.std.specs.FinMap.{get};
 ghost use Rattle.sqlite.specs.Held.{state};
-ghost use Rattle.mm_base.specs.Bounds.{Profile};
-ghost use Rattle.mm_base.specs.Keys.{item};
+ghost use Rattle.mm_definitions.specs.Bounds.{Profile};
+ghost use Rattle.mm_definitions.specs.Keys.{item};
 ghost use Rattle.mm_store.specs.Blobs.{Told, bytes_at};
 ghost use Rattle.mm_store.specs.Faults.{IsStoreFault};
 ghost use Rattle.mm_store.specs.Kept.{Spare, medium_id, medium_with};
@@ -15,12 +15,12 @@ ghost use Rattle.mm_blobs.specs.Moves.{IsMove};
 ghost use Rattle.mm_blobs.specs.Views.{IsSeen};
 ghost use Rattle.mm_reads.specs.Told.{ShowsMedium, IsRowOf, medium_of};
 
-use mm_base::answers::Fault;
-use mm_base::bytes::MediaBytes;
-use mm_base::content_types::ContentType;
-use mm_base::entries::Media;
-use mm_base::names::Name;
 use mm_blobs::blobs::bytes_of;
+use mm_definitions::answers::Fault;
+use mm_definitions::bytes::MediaBytes;
+use mm_definitions::content_types::ContentType;
+use mm_definitions::entries::Media;
+use mm_definitions::names::Name;
 use mm_store::columns::{number_in, text_in};
 use mm_store::statements::first;
 use sqlite::{Alter, Connection, Row, Transaction, params};

@@ -3,16 +3,16 @@
 ghost use Rattle.std.specs.Prelude.{◌≡◌, pos, false};
 ghost use Rattle.std.specs.FinMap.{get};
 ghost use Rattle.sqlite.specs.Held.{state};
-ghost use Rattle.mm_base.specs.Bounds.{Profile};
-ghost use Rattle.mm_base.specs.Keys.{tile};
+ghost use Rattle.mm_definitions.specs.Bounds.{Profile};
+ghost use Rattle.mm_definitions.specs.Keys.{tile};
 ghost use Rattle.mm_store.specs.Seen.{IsRead};
 ghost use Rattle.mm_store.specs.Shapes.{IsLook};
 ghost use Rattle.mm_reads.specs.Told.{TellsBytes};
 
-use mm_base::answers::Fault;
-use mm_base::names::Name;
 use mm_blobs::blobs::bytes_of;
 use mm_blobs::entries::blob_of_tile;
+use mm_definitions::answers::Fault;
+use mm_definitions::names::Name;
 use sqlite::{Alter, Connection, Transaction};
 
 /// The bytes of the tile at a place, inside a transaction.

@@ -4,22 +4,22 @@ use Rattle.std.specs.Prelude.{⊤, codes, bytes_eq, if◌then◌else◌}
 use Rattle.std.specs.Borrow.{Bor}
 use Rattle.std.proofs.lemmas.List.{take_all}
 use Rattle.std.proofs.lemmas.Slice.Eq.{bytes_eq-Decides}
-use Rattle.mm_base.specs.Keys.{Text}
-use Rattle.mm_base.specs.Bounds.{IsFrom, IsLong, IsText, IsIdentifier, IsContentType, IsName, current}
-use Rattle.mm_base.specs.Reading.{ReadsTo}
-use Rattle.mm_base.specs.Fields.{Field, OneOf, NumberFrom, BytesTo, TextOf, AnIdentifier, AContentType, AName, Value, Whole, Plain, Holds, AllHold, IsAgainstSome}
-use Rattle.mm_base.specs.Records.{Form, form_of, piece_forms, piece_form, other_forms, record_form, stage_form, with_piece, id_field, IsLeast, IsMet, IsUnmet, SpellsPiece, HoldsAgainstPiece, Spells, HoldsAgainst, piece_word, piece_values, command_word, command_values}
-use Rattle.mm_base.specs.Records as forms
-use Rattle.mm_base.specs.Pieces.{piece_command}
-use Rattle.mm_base.specs.Within.{IsWithin, IsPieceWithin, Takes}
-use Rattle.mm_base.specs.declared.answers.ReadFault.{ReadFault}
-use Rattle.mm_base.specs.declared.answers.ReadFault.TheVariants as faults
-use Rattle.mm_base.specs.declared.commands.Piece.{Piece}
-use Rattle.mm_base.specs.declared.commands.Piece.TheVariants as pieces
-use Rattle.mm_base.specs.declared.commands.Piece.TheVariants.{Tile, TileDrop, Row, RowDrop, Media, MediaDrop, Map, MapDrop}
-use Rattle.mm_base.specs.declared.commands.Command.{Command}
-use Rattle.mm_base.specs.declared.commands.Command.TheVariants as commands
-use Rattle.mm_base.proofs.ReadingFacts.{AreFields, texts_of, text_at, one_more, all_at_least_ten, first_holds}
+use Rattle.mm_definitions.specs.Keys.{Text}
+use Rattle.mm_definitions.specs.Bounds.{IsFrom, IsLong, IsText, IsIdentifier, IsContentType, IsName, current}
+use Rattle.mm_definitions.specs.Reading.{ReadsTo}
+use Rattle.mm_definitions.specs.Fields.{Field, OneOf, NumberFrom, BytesTo, TextOf, AnIdentifier, AContentType, AName, Value, Whole, Plain, Holds, AllHold, IsAgainstSome}
+use Rattle.mm_definitions.specs.Records.{Form, form_of, piece_forms, piece_form, other_forms, record_form, stage_form, with_piece, id_field, IsLeast, IsMet, IsUnmet, SpellsPiece, HoldsAgainstPiece, Spells, HoldsAgainst, piece_word, piece_values, command_word, command_values}
+use Rattle.mm_definitions.specs.Records as forms
+use Rattle.mm_definitions.specs.Pieces.{piece_command}
+use Rattle.mm_definitions.specs.Within.{IsWithin, IsPieceWithin, Takes}
+use Rattle.mm_definitions.specs.declared.answers.ReadFault.{ReadFault}
+use Rattle.mm_definitions.specs.declared.answers.ReadFault.TheVariants as faults
+use Rattle.mm_definitions.specs.declared.commands.Piece.{Piece}
+use Rattle.mm_definitions.specs.declared.commands.Piece.TheVariants as pieces
+use Rattle.mm_definitions.specs.declared.commands.Piece.TheVariants.{Tile, TileDrop, Row, RowDrop, Media, MediaDrop, Map, MapDrop}
+use Rattle.mm_definitions.specs.declared.commands.Command.{Command}
+use Rattle.mm_definitions.specs.declared.commands.Command.TheVariants as commands
+use Rattle.mm_definitions.proofs.ReadingFacts.{AreFields, texts_of, text_at, one_more, all_at_least_ten, first_holds}
 
 -- ---- by the first word
 -- the fields behind the first, as a slice pattern gives them

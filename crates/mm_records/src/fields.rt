@@ -1,20 +1,20 @@
 //! Readers of one field of a record. Each answers 10, 11 or 12 where the field is refused.
 
 ghost use Rattle.std.specs.Prelude.{◌≡◌, ◌<◌, ◌^◌, pos, neg_ℤ};
-ghost use Rattle.mm_base.specs.Reading.{ReadsTo, both_of};
-ghost use Rattle.mm_base.specs.Fields.{Holds, IsAgainst, Plain, Whole, NumberFrom, AName};
-ghost use Rattle.mm_base.specs.Package.{kind_text};
-ghost use Rattle.mm_base.specs.Effects.{step_kind, plain_kind};
-ghost use Rattle.mm_base.specs.Conditions.{relation_text};
-ghost use Rattle.mm_base.specs.Records.{step_words, kind_words, relation_words};
-ghost use Rattle.mm_base.specs.Records as forms;
+ghost use Rattle.mm_definitions.specs.Reading.{ReadsTo, both_of};
+ghost use Rattle.mm_definitions.specs.Fields.{Holds, IsAgainst, Plain, Whole, NumberFrom, AName};
+ghost use Rattle.mm_definitions.specs.Package.{kind_text};
+ghost use Rattle.mm_definitions.specs.Effects.{step_kind, plain_kind};
+ghost use Rattle.mm_definitions.specs.Conditions.{relation_text};
+ghost use Rattle.mm_definitions.specs.Records.{step_words, kind_words, relation_words};
+ghost use Rattle.mm_definitions.specs.Records as forms;
 
-use mm_base::answers::ReadFault;
-use mm_base::bounded::{Count, Positive, Signed, SystemNumber, Zoom};
-use mm_base::commands::{PlainKind, RelationName, Step};
-use mm_base::limits::{LAST_ID, LAST_ZOOM};
-use mm_base::names::Name;
-use mm_base::numbers::read_number;
+use mm_definitions::answers::ReadFault;
+use mm_definitions::bounded::{Count, Positive, Signed, SystemNumber, Zoom};
+use mm_definitions::commands::{PlainKind, RelationName, Step};
+use mm_definitions::limits::{LAST_ID, LAST_ZOOM};
+use mm_definitions::names::Name;
+use mm_definitions::numbers::read_number;
 
 /// Both values, or the least number that is against one of them. Want of memory goes before all.
 pub(crate) fn both<A: Drop, B: Drop>(

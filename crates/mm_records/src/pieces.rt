@@ -1,19 +1,19 @@
 //! Readers of the records of pieces.
 
 ghost use Rattle.std.specs.Prelude.{◌≡◌, IfOk, map, codes};
-ghost use Rattle.mm_base.specs.Bounds.{current};
-ghost use Rattle.mm_base.specs.Reading.{ReadsTo};
-ghost use Rattle.mm_base.specs.Fields.{AllHold, IsAgainstSome};
-ghost use Rattle.mm_base.specs.Records.{IsLeast, piece_values, piece_word, SpellsPiece, HoldsAgainstPiece};
-ghost use Rattle.mm_base.specs.Records as forms;
-ghost use Rattle.mm_base.specs.Within.{IsPieceWithin};
+ghost use Rattle.mm_definitions.specs.Bounds.{current};
+ghost use Rattle.mm_definitions.specs.Reading.{ReadsTo};
+ghost use Rattle.mm_definitions.specs.Fields.{AllHold, IsAgainstSome};
+ghost use Rattle.mm_definitions.specs.Records.{IsLeast, piece_values, piece_word, SpellsPiece, HoldsAgainstPiece};
+ghost use Rattle.mm_definitions.specs.Records as forms;
+ghost use Rattle.mm_definitions.specs.Within.{IsPieceWithin};
 
 use crate::fields::{both, count_field, name_field, positive_field, signed_field, zoom_field};
-use mm_base::answers::ReadFault;
-use mm_base::bytes::{MediaBytes, TileBytes};
-use mm_base::commands::{Matrix, Piece};
-use mm_base::content_types::ContentType;
-use mm_base::texts::Remark;
+use mm_definitions::answers::ReadFault;
+use mm_definitions::bytes::{MediaBytes, TileBytes};
+use mm_definitions::commands::{Matrix, Piece};
+use mm_definitions::content_types::ContentType;
+use mm_definitions::texts::Remark;
 use std::alloc::Global;
 
 /// `tile,TABLE,Z,C,R,HEX`

@@ -1,25 +1,25 @@
 //! Readers of the records of commands.
 
 ghost use Rattle.std.specs.Prelude.{◌≡◌, true, IfOk, map, codes};
-ghost use Rattle.mm_base.specs.Bounds.{current};
-ghost use Rattle.mm_base.specs.Reading.{ReadsTo};
-ghost use Rattle.mm_base.specs.Fields.{AllHold, IsAgainstSome};
-ghost use Rattle.mm_base.specs.Records.{IsLeast, command_values, command_word, Spells, HoldsAgainst, HoldsAgainstPiece, SpellsPiece, IsMet, IsUnmet, stage_form};
-ghost use Rattle.mm_base.specs.PieceGroups.{changes_tile, changes_item, changes_mapping, puts_matrix};
-ghost use Rattle.mm_base.specs.Pieces.{piece_command};
-ghost use Rattle.mm_base.specs.declared.commands.Piece.{Piece};
-ghost use Rattle.mm_base.specs.Records as forms;
-ghost use Rattle.mm_base.specs.Within.{IsWithin};
+ghost use Rattle.mm_definitions.specs.Bounds.{current};
+ghost use Rattle.mm_definitions.specs.Reading.{ReadsTo};
+ghost use Rattle.mm_definitions.specs.Fields.{AllHold, IsAgainstSome};
+ghost use Rattle.mm_definitions.specs.Records.{IsLeast, command_values, command_word, Spells, HoldsAgainst, HoldsAgainstPiece, SpellsPiece, IsMet, IsUnmet, stage_form};
+ghost use Rattle.mm_definitions.specs.PieceGroups.{changes_tile, changes_item, changes_mapping, puts_matrix};
+ghost use Rattle.mm_definitions.specs.Pieces.{piece_command};
+ghost use Rattle.mm_definitions.specs.declared.commands.Piece.{Piece};
+ghost use Rattle.mm_definitions.specs.Records as forms;
+ghost use Rattle.mm_definitions.specs.Within.{IsWithin};
 
 use crate::fields::{
     both, kind_field, name_field, positive_field, relation_field, signed_field, step_field,
     system_field,
 };
 use crate::pieces::read_piece;
-use mm_base::answers::ReadFault;
-use mm_base::commands::{Command, Piece};
-use mm_base::identifiers::Identifier;
-use mm_base::texts::{Definition, Remark, SystemName};
+use mm_definitions::answers::ReadFault;
+use mm_definitions::commands::{Command, Piece};
+use mm_definitions::identifiers::Identifier;
+use mm_definitions::texts::{Definition, Remark, SystemName};
 use std::alloc::Global;
 
 /// `srs,ID,NAME,ORG,ORGID,DEFINITION,DESCRIPTION`

@@ -5,16 +5,16 @@ use Rattle.sqlite_disk.specs.declared.Disk.{Ghosts}
 use Rattle.sqlite_disk.specs.declared.Files.{Files}
 use Rattle.sqlite.specs.State.{State, HasCleanDisk, Survives}
 use Rattle.sqlite.proofs.StateLemmas.{survives_then, survives_weaker}
-use Rattle.mm_base.specs.Bounds.{current}
-use Rattle.mm_base.specs.Opening.{opening}
-use Rattle.mm_base.specs.declared.answers.Fault.{Fault}
-use Rattle.mm_base.specs.declared.answers.Open.{Open}
-use Rattle.mm_base.specs.declared.answers.Open.TheVariants as opens
+use Rattle.mm_definitions.specs.Bounds.{current}
+use Rattle.mm_definitions.specs.Opening.{opening}
+use Rattle.mm_definitions.specs.declared.answers.Fault.{Fault}
+use Rattle.mm_definitions.specs.declared.answers.Open.{Open}
+use Rattle.mm_definitions.specs.declared.answers.Open.TheVariants as opens
 use Rattle.mm_laws.proofs.Opened.{opened}
 use Rattle.mm_store.specs.Faults.{IsStoreFault}
 use Rattle.mm_store.specs.Stands.{IsSettled}
 use Rattle.mm_store.specs.Statements.{CommitsNothing}
-use Rattle.mm_meta.specs.Opening.{IsBlank}
+use Rattle.mm_opening.specs.Opening.{IsBlank}
 use Rattle.mm_core.specs.Adopted.{IsAdopted, IsNotAdopted, TellsProfile}
 use Rattle.mm_core.specs.Sessions.{MayMake, IsCreated, IsNotCreated}
 use Rattle.mm_recovery.specs.Made.{AreNew, FindsNoTable, IsMadeOn, LeavesNoMore, OnlyStoreFault, IsMadeOrFound, IsNeither, IsMadeAgain}

@@ -4,24 +4,24 @@ use Rattle.std.proofs.lemmas.Bool.{both_ways}
 use Rattle.std.proofs.Math.Logic.{∥∥₁_elim, ∥∥₁_map}
 use Rattle.sqlite.specs.Tree.{Trees}
 use Rattle.sqlite.specs.State.{State, HasCleanDisk}
-use Rattle.mm_base.specs.Bounds.{current}
-use Rattle.mm_base.specs.Package.{Package}
-use Rattle.mm_base.specs.Rules.{Meets}
-use Rattle.mm_base.specs.declared.answers.Open.{Open}
-use Rattle.mm_base.specs.declared.answers.Open.TheVariants as opens
+use Rattle.mm_definitions.specs.Bounds.{current}
+use Rattle.mm_definitions.specs.Package.{Package}
+use Rattle.mm_definitions.specs.Rules.{Meets}
+use Rattle.mm_definitions.specs.declared.answers.Open.{Open}
+use Rattle.mm_definitions.specs.declared.answers.Open.TheVariants as opens
 use Rattle.mm_check.specs.Verdict.{rule, IsFailing}
 use Rattle.mm_queries.proofs.InTurn.{either_holds}
 use Rattle.mm_core.specs.Adopted.{IsAdopted, IsNotAdopted, Declines}
 use Rattle.mm_core.specs.Applied.{Stands}
-use Rattle.mm_base.specs.Runs.{run}
-use Rattle.mm_base.specs.declared.answers.Tally.{Tally}
-use Rattle.mm_base.specs.declared.answers.RunFault.{RunFault}
+use Rattle.mm_definitions.specs.Runs.{run}
+use Rattle.mm_definitions.specs.declared.answers.Tally.{Tally}
+use Rattle.mm_definitions.specs.declared.answers.RunFault.{RunFault}
 use Rattle.mm_run.specs.Answers.{calls_of}
 use Rattle.mm_run.specs.Runs.{OnRun, RanAll, RanSome, WorksOn}
 use Rattle.mm_run.proofs.Reports.{stops-behind}
 use Rattle.mm_store.specs.Stands.{IsSettled}
-use Rattle.mm_base.specs.Opening.{opening}
-use Rattle.mm_base.specs.declared.answers.Fault.{Fault}
+use Rattle.mm_definitions.specs.Opening.{opening}
+use Rattle.mm_definitions.specs.declared.answers.Fault.{Fault}
 use Rattle.mm_core.specs.Sessions.{IsCreated, IsNotCreated}
 use Rattle.mm_recovery.specs.Found.{FindsCommitted, FindsLeft}
 use Rattle.mm_recovery.specs.Recovered.{IsRecovered, IsReopened, IsMakingRecovered, LeavesPackages, IsFault, RanAndFound, IsRunRecovered, IsNotRecovered, IsRunNotRecovered}

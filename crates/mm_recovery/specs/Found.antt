@@ -1,10 +1,10 @@
 -- What a connection finds that is opened again.
 use Rattle.std.specs.Prelude.{◌≡◌}
 use Rattle.sqlite.specs.State.{State, HasCleanDisk}
-use Rattle.mm_base.specs.Bounds.{current}
-use Rattle.mm_base.specs.Package.{Package}
+use Rattle.mm_definitions.specs.Bounds.{current}
+use Rattle.mm_definitions.specs.Package.{Package}
 use Rattle.mm_store.specs.Stands.{StandsFor, IsSettled}
-use Rattle.mm_meta.specs.Opening.{HasNoTable, IsBlank}
+use Rattle.mm_opening.specs.Opening.{HasNoTable, IsBlank}
 
 -- settled for each package that the database stands for which it found; there is one at most
 abbrev pub IsSettledByFound : State → Type 0

@@ -7,14 +7,14 @@ use Rattle.sqlite.specs.State.{State, HasCleanDisk, Survives}
 use Rattle.sqlite_store.specs.declared.store.FileStore.{FileStore}
 use Rattle.sqlite_disk.specs.declared.Disk.{Ghosts}
 use Rattle.sqlite_disk.specs.declared.Files.{Files}
-use Rattle.mm_base.specs.Bounds.{current}
-use Rattle.mm_base.specs.Opening.{opening}
-use Rattle.mm_base.specs.Package.{Package}
-use Rattle.mm_base.specs.declared.answers.Open.{Open}
-use Rattle.mm_base.specs.declared.answers.Open.TheVariants as opens
+use Rattle.mm_definitions.specs.Bounds.{current}
+use Rattle.mm_definitions.specs.Opening.{opening}
+use Rattle.mm_definitions.specs.Package.{Package}
+use Rattle.mm_definitions.specs.declared.answers.Open.{Open}
+use Rattle.mm_definitions.specs.declared.answers.Open.TheVariants as opens
 use Rattle.mm_store.specs.Faults.{IsStoreFault}
 use Rattle.mm_store.specs.Stands.{StandsFor, IsSettled}
-use Rattle.mm_meta.specs.Opening.{IsBlank, HasNoTable}
+use Rattle.mm_opening.specs.Opening.{IsBlank, HasNoTable}
 use Rattle.mm_core.specs.Adopted.{Declines}
 use Rattle.mm_core.specs.Sessions.{MayMake}
 use Rattle.mm_recovery.specs.Recovered.{IsSoundOn, IsFault}

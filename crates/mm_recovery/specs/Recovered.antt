@@ -6,18 +6,18 @@ use Rattle.sqlite.specs.Files.{file_state}
 use Rattle.sqlite.specs.State.{State, HasCleanDisk}
 use Rattle.sqlite_store.specs.declared.store.FileStore.{FileStore}
 use Rattle.sqlite_disk.specs.declared.Disk.{Ghosts}
-use Rattle.mm_base.specs.Bounds.{current}
-use Rattle.mm_base.specs.Opening.{opening}
-use Rattle.mm_base.specs.Package.{Package}
-use Rattle.mm_base.specs.Rules.{Meets}
-use Rattle.mm_base.specs.declared.answers.Fault.{Fault}
-use Rattle.mm_base.specs.declared.answers.Open.{Open}
-use Rattle.mm_base.specs.declared.answers.Open.TheVariants as opens
-use Rattle.mm_base.specs.declared.answers.Tally.{Tally}
-use Rattle.mm_base.specs.declared.answers.RunFault.{RunFault}
+use Rattle.mm_definitions.specs.Bounds.{current}
+use Rattle.mm_definitions.specs.Opening.{opening}
+use Rattle.mm_definitions.specs.Package.{Package}
+use Rattle.mm_definitions.specs.Rules.{Meets}
+use Rattle.mm_definitions.specs.declared.answers.Fault.{Fault}
+use Rattle.mm_definitions.specs.declared.answers.Open.{Open}
+use Rattle.mm_definitions.specs.declared.answers.Open.TheVariants as opens
+use Rattle.mm_definitions.specs.declared.answers.Tally.{Tally}
+use Rattle.mm_definitions.specs.declared.answers.RunFault.{RunFault}
 use Rattle.mm_store.specs.Faults.{IsStoreFault}
 use Rattle.mm_store.specs.Stands.{IsSettled}
-use Rattle.mm_meta.specs.Opening.{IsBlank}
+use Rattle.mm_opening.specs.Opening.{IsBlank}
 use Rattle.mm_run.specs.Runs.{OnRun, RanAll, RanSome}
 use Rattle.mm_core.specs.Applied.{Stands}
 

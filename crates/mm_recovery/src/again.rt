@@ -3,14 +3,14 @@
 ghost use Rattle.std.specs.Prelude.{◌≡◌, ◌↔◌, false, IfOk, IfErr, IsTrue};
 ghost use Rattle.sqlite.specs.Held.{state};
 ghost use Rattle.sqlite.specs.Files.{file_state};
-ghost use Rattle.mm_base.specs.declared.answers.Open.TheVariants as opens;
+ghost use Rattle.mm_definitions.specs.declared.answers.Open.TheVariants as opens;
 ghost use Rattle.mm_core.specs.Parts.{held, has_failed};
 ghost use Rattle.mm_recovery.specs.Made.{IsMadeOrFound, IsNeither, IsMadeAgain, IsNotMadeAgain};
 
 use crate::making::create_and_recover;
 use crate::sessions::NotRecovered;
-use mm_base::answers::Open;
 use mm_core::Session;
+use mm_definitions::answers::Open;
 use sqlite::{Alter, Connection, FileStore, Options};
 use sqlite_disk::Crash;
 use std::alloc::Global;

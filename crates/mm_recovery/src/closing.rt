@@ -7,8 +7,8 @@ ghost use Rattle.mm_recovery.specs.Recovered.{IsReopened, IsNotReopened};
 
 use crate::files::open_after_close;
 use crate::sessions::NotRecovered;
-use mm_base::answers::Open;
 use mm_core::Session;
+use mm_definitions::answers::Open;
 use sqlite::{FileStore, Options};
 use sqlite_disk::Disk;
 use std::alloc::Global;

@@ -6,7 +6,7 @@ ghost use Rattle.mm_store.specs.Faults.{IsStoreFault};
 ghost use Rattle.mm_recovery.specs.Found.{FindsCommitted, FindsLeft};
 ghost use Rattle.mm_recovery.specs.Made.{FindsNoTable};
 
-use mm_base::answers::Fault;
+use mm_definitions::answers::Fault;
 use mm_store::faults::fault_of;
 use sqlite::{Connection, FileStore, Files, Options};
 use sqlite_disk::{Crash, Disk};

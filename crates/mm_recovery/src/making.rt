@@ -8,8 +8,8 @@ ghost use Rattle.mm_recovery.specs.Made.{IsMadeOn, IsLeftOn};
 ghost use Rattle.mm_recovery.specs.Recovered.{IsMakingRecovered};
 
 use crate::files::{open_after_crash, open_new};
-use mm_base::answers::Fault;
 use mm_core::Session;
+use mm_definitions::answers::Fault;
 use sqlite::{Connection, FileStore, Files, Options};
 use sqlite_disk::{Crash, Disk};
 use std::alloc::Global;

@@ -3,16 +3,16 @@
 ghost use Rattle.std.specs.Prelude.{◌≡◌, false, IfOk, IfErr, IsTrue};
 ghost use Rattle.sqlite.specs.Files.{file_state};
 ghost use Rattle.sqlite.specs.State.{HasCleanDisk};
-ghost use Rattle.mm_base.specs.Streams.{inside, is_flushed};
+ghost use Rattle.mm_definitions.specs.Streams.{inside, is_flushed};
 ghost use Rattle.mm_run.specs.Runs.{TellsFlush};
 ghost use Rattle.mm_core.specs.Parts.{held, has_failed};
 ghost use Rattle.mm_recovery.specs.Recovered.{IsRecovered, IsNotRecovered, IsRunRecovered, IsRunNotRecovered};
 
 use crate::files::open_after_crash;
-use mm_base::answers::{Open, RunFault, Tally};
-use mm_base::moments::Moment;
-use mm_base::streams::Io;
 use mm_core::Session;
+use mm_definitions::answers::{Open, RunFault, Tally};
+use mm_definitions::moments::Moment;
+use mm_definitions::streams::Io;
 use sqlite::{Connection, FileStore, Options};
 use sqlite_disk::Crash;
 use std::alloc::Global;

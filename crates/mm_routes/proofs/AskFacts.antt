@@ -9,8 +9,8 @@ use Rattle.matchit.specs.Router.{RouteOf, map_key}
 use Rattle.matchit.specs.Level.{IsText}
 use Rattle.matchit.specs.Params.{AllText, walk}
 use Rattle.matchit.proofs.RenameLemmas.{seek-rename}
-use Rattle.mm_base.specs.Keys.{Text}
-use Rattle.mm_base.specs.Bounds.{IsName}
+use Rattle.mm_definitions.specs.Keys.{Text}
+use Rattle.mm_definitions.specs.Bounds.{IsName}
 use Rattle.mm_routes.specs.Asked.{Asks, Wanted, Tile, Media, Related, Contents, Numbers, path_from}
 use Rattle.mm_routes.specs.Routes.{IsPart, IsRow, media_path, numbered, page_rows, related_path, row_of, row_pairs, tile_pairs, tile_path, tile_row, media_row, related_row}
 use Rattle.mm_routes.specs.declared.routes.Route.{Route}

@@ -4,13 +4,13 @@ use Rattle.std.specs.List.{list_any}
 use Rattle.std.proofs.lemmas.Int.{ints}
 use Rattle.std.proofs.lemmas.List.Elements.{All-head, All-tail}
 use Rattle.std.proofs.lemmas.Bool.Decides.{nat_tests}
-use Rattle.mm_base.proofs.Parts.{either_false}
+use Rattle.mm_definitions.proofs.Parts.{either_false}
 use Rattle.std.specs.Str.{IsAscii}
 use Rattle.std.proofs.lemmas.Str.Ascii.{IsAscii-nil}
 use Rattle.matchit.specs.Seek.{has_slash}
-use Rattle.mm_base.specs.Bounds.{IsName, is_letter_or_digit}
+use Rattle.mm_definitions.specs.Bounds.{IsName, is_letter_or_digit}
 use Rattle.mm_routes.specs.Routes.{IsPart}
-use Rattle.mm_base.specs.Numbers.{AreDigits, IsDigit, LeadDigits, Spells}
+use Rattle.mm_definitions.specs.Numbers.{AreDigits, IsDigit, LeadDigits, Spells}
 
 -- what is no slash before what has none
 onward : (b : ℕ) (rest : List ℕ) → b ≢ 47 → has_slash rest ≡ false → has_slash (b ∷ rest) ≡ false

@@ -8,7 +8,7 @@ use Rattle.matchit.specs.Rows.{Rows}
 use Rattle.matchit.specs.Seek.{step, seek, first, has_slash}
 use Rattle.matchit.specs.Level.{IsText}
 use Rattle.matchit.proofs.SeekLemmas.{first-prefix, seek-empty}
-use Rattle.mm_base.specs.Keys.{Text}
+use Rattle.mm_definitions.specs.Keys.{Text}
 use Rattle.mm_routes.specs.Routes.{IsPart, media_path, numbered, related_path, tile_path}
 use Rattle.mm_routes.proofs.SeekFacts.{byte_step, cut, last-goes, last-none-slash, mid-empty, mid-goes, mid-none}
 

@@ -7,7 +7,7 @@ use Rattle.std.proofs.Math.Nat.{min-eq_left}
 use Rattle.matchit.specs.Seek.{has_slash, segment}
 use Rattle.matchit.specs.Level.{IsText}
 use Rattle.matchit.specs.Params.{after_token, part_of, walk, wild_from, wild_stop}
-use Rattle.mm_base.specs.Keys.{Text}
+use Rattle.mm_definitions.specs.Keys.{Text}
 use Rattle.mm_routes.specs.Routes.{IsPart, media_path, media_row, related_path, related_row, row_pairs, tile_pairs, tile_path, tile_row}
 use Rattle.mm_routes.proofs.SeekFacts.{segment-slashed}
 use Rattle.mm_routes.proofs.RouteFacts.{low_text}

@@ -1,8 +1,8 @@
 -- What the path of a request asks for.
 use Rattle.std.specs.Prelude.{◌≡◌, ℤ, pos, ◌≤ℤ◌, [], ◌∷◌, ◌++◌, List, codes}
-use Rattle.mm_base.specs.Bounds.{IsName}
-use Rattle.mm_base.specs.Keys.{Text}
-use Rattle.mm_base.specs.Numbers.{Spells}
+use Rattle.mm_definitions.specs.Bounds.{IsName}
+use Rattle.mm_definitions.specs.Keys.{Text}
+use Rattle.mm_definitions.specs.Numbers.{Spells}
 
 -- a tile, a medium, what an item is related to, or the tables
 pub data Wanted : Type 0 where

@@ -1,7 +1,7 @@
 -- The bytes of a response.
 use Rattle.std.specs.Prelude.{ℕ, [], ◌++◌, unwrap_or, codes, decimal, length}
 use Rattle.http.specs.StatusCode.{reason_phrase}
-use Rattle.mm_base.specs.Keys.{Text}
+use Rattle.mm_definitions.specs.Keys.{Text}
 
 -- what is answered
 pub data Reply : Type 0 where

@@ -2,8 +2,8 @@
 use Rattle.std.specs.Prelude.{ℕ, ℤ, pos, List, [], ◌∷◌, ◌++◌, ◌≡◌, ◌<◌, false, Some, zero, suc, length, codes}
 use Rattle.matchit.specs.Seek.{has_slash}
 use Rattle.matchit.specs.Params.{AllText, named, walk}
-use Rattle.mm_base.specs.Keys.{Text}
-use Rattle.mm_base.specs.Bounds.{IsName}
+use Rattle.mm_definitions.specs.Keys.{Text}
+use Rattle.mm_definitions.specs.Bounds.{IsName}
 use Rattle.mm_routes.specs.Asked.{path_from}
 use Rattle.mm_routes.specs.Asked as page
 use Rattle.matchit.specs.Rows.{Rows, RowsOf}

@@ -2,13 +2,13 @@
 
 ghost use Rattle.std.specs.Prelude.{◌≡◌, ℕ, List, IfOk, IfErr, IfSome, OnOk, length, true};
 ghost use Rattle.httparse.specs.Grammar.{RequestHead};
-ghost use Rattle.mm_base.specs.Streams.{has_failed, inside};
+ghost use Rattle.mm_definitions.specs.Streams.{has_failed, inside};
 ghost use Rattle.mm_routes.specs.Heads.{Heads, IsHead, Lies, ReadsNoMore};
 
 use httparse::Status;
 use httparse::spans::{HeaderSpan, RequestSpans, parse_request};
-use mm_base::answers::Fault;
-use mm_base::streams::Io;
+use mm_definitions::answers::Fault;
+use mm_definitions::streams::Io;
 use std::io::Read;
 
 /// Reads until a head stands at the front of what was read, or none can, or the buffer is full, or

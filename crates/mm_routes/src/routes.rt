@@ -2,17 +2,17 @@
 
 ghost use Rattle.std.specs.Prelude.{◌≡◌, ℤ, pos, ◌≤ℤ◌, IfOk, IfErr, IfSome, MatchOption};
 ghost use Rattle.std.specs.Str.{IsAscii};
-ghost use Rattle.mm_base.specs.Bounds.{IsName};
-ghost use Rattle.mm_base.specs.Keys.{Text};
+ghost use Rattle.mm_definitions.specs.Bounds.{IsName};
+ghost use Rattle.mm_definitions.specs.Keys.{Text};
 ghost use Rattle.mm_routes.specs.Asked.{Asks, Numbers};
 ghost use Rattle.mm_routes.specs.Asked as page;
 ghost use Rattle.mm_routes.specs.Routes.{IsRow, Took, TookRow, TookTile, asked, page_rows, tile_path};
 
 use matchit::{InsertError, Params, Router};
-use mm_base::answers::Fault;
-use mm_base::limits::{LAST_ID, LAST_PLACE, LAST_ZOOM};
-use mm_base::names::Name;
-use mm_base::numbers::read_number;
+use mm_definitions::answers::Fault;
+use mm_definitions::limits::{LAST_ID, LAST_PLACE, LAST_ZOOM};
+use mm_definitions::names::Name;
+use mm_definitions::numbers::read_number;
 use std::alloc::Global;
 
 /// What a route leads to.

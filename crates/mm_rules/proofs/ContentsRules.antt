@@ -11,12 +11,12 @@ use Rattle.sqlite_sql.specs.Term.{col}
 use Rattle.sqlite_sql.specs.Query.{inner, left, end, or_nulls}
 use Rattle.sqlite_schema.specs.Rules.{equal}
 use Rattle.sqlite_rules.specs.Lists as lists
-use Rattle.mm_base.specs.Keys.{Text}
-use Rattle.mm_base.specs.Package.{Package, Contents, MatrixSet, IsPyramid, kind_text}
-use Rattle.mm_base.specs.Rules.{DistinctIdentifiers, MayName, IsPlane, IsOrdered, IsPlaced, IsUnplaced, Suits}
-use Rattle.mm_base.specs.declared.commands.Kind.{Kind}
-use Rattle.mm_base.specs.declared.commands.Kind.TheVariants.{Two, Other, Attributes, Media}
-use Rattle.mm_base.proofs.Parts.{same_some}
+use Rattle.mm_definitions.specs.Keys.{Text}
+use Rattle.mm_definitions.specs.Package.{Package, Contents, MatrixSet, IsPyramid, kind_text}
+use Rattle.mm_definitions.specs.Rules.{DistinctIdentifiers, MayName, IsPlane, IsOrdered, IsPlaced, IsUnplaced, Suits}
+use Rattle.mm_definitions.specs.declared.commands.Kind.{Kind}
+use Rattle.mm_definitions.specs.declared.commands.Kind.TheVariants.{Two, Other, Attributes, Media}
+use Rattle.mm_definitions.proofs.Parts.{same_some}
 use Rattle.mm_store.specs.Rows.{maybe, system_row, contents_row, kind_row, set_row, relation_row}
 use Rattle.mm_store.specs.Stands.{StandsFor}
 use Rattle.mm_queries.specs.Columns.{number_of, words_of, is_there}

@@ -23,12 +23,12 @@ use Rattle.sqlite_schema.specs.Rules.{equal}
 use Rattle.sqlite_rules.specs.Lists as lists
 use Rattle.sqlite_rules.proofs.ListLemmas.{all_has, has_filtered, has_kept}
 use Rattle.sql_forms.proofs.Keys.{as_truth}
-use Rattle.mm_base.specs.Keys.{Text, Extension}
-use Rattle.mm_base.specs.Parts.{Each, Has, Stands}
-use Rattle.mm_base.specs.Package.{Package, general_extension as general, mapping_extension, zoom_extension}
-use Rattle.mm_base.specs.Rules.{IsWanted, ExactExtensions}
-use Rattle.mm_base.proofs.Parts.{same_some, same_itself, some_of}
-use Rattle.mm_base.proofs.KeyLaws.{texts, extension_keys}
+use Rattle.mm_definitions.specs.Keys.{Text, Extension}
+use Rattle.mm_definitions.specs.Parts.{Each, Has, Stands}
+use Rattle.mm_definitions.specs.Package.{Package, general_extension as general, mapping_extension, zoom_extension}
+use Rattle.mm_definitions.specs.Rules.{IsWanted, ExactExtensions}
+use Rattle.mm_definitions.proofs.Parts.{same_some, same_itself, some_of}
+use Rattle.mm_definitions.proofs.KeyLaws.{texts, extension_keys}
 use Rattle.mm_store.specs.Rows.{maybe_words, extension_row, extension_of, is_extension, relation_row, kind_row, as_count}
 use Rattle.mm_store.specs.Stands.{StandsFor, profile_row}
 use Rattle.mm_queries.specs.Columns.{words_of, is_there}

@@ -11,11 +11,11 @@ use Rattle.sqlite_sql.specs.Term.{col}
 use Rattle.sqlite_sql.specs.Query.{inner, left, end, or_nulls}
 use Rattle.sqlite_schema.specs.Rules.{equal}
 use Rattle.sqlite_rules.specs.Lists as lists
-use Rattle.mm_base.specs.Keys.{Text, item}
-use Rattle.mm_base.specs.Parts.{Stands}
-use Rattle.mm_base.specs.Package.{Package, Relation, AttributeRow}
-use Rattle.mm_base.specs.Rules.{RelationsSuited, PairingsJoin, Joins}
-use Rattle.mm_base.proofs.Parts.{same_some}
+use Rattle.mm_definitions.specs.Keys.{Text, item}
+use Rattle.mm_definitions.specs.Parts.{Stands}
+use Rattle.mm_definitions.specs.Package.{Package, Relation, AttributeRow}
+use Rattle.mm_definitions.specs.Rules.{RelationsSuited, PairingsJoin, Joins}
+use Rattle.mm_definitions.proofs.Parts.{same_some}
 use Rattle.mm_store.specs.Rows.{kind_row, attribute_row, MediumRow, medium_row, relation_row, pairing_row}
 use Rattle.mm_store.specs.Kept.{medium_id, medium_with}
 use Rattle.mm_store.specs.Stands.{StandsFor}

@@ -15,10 +15,10 @@ use Rattle.sqlite_sql.specs.Term.{col}
 use Rattle.sqlite_sql.specs.Query.{inner, left, end, or_nulls}
 use Rattle.sqlite_schema.specs.Rules.{equal}
 use Rattle.sqlite_rules.specs.Lists as lists
-use Rattle.mm_base.specs.Keys.{Text, Level, level}
-use Rattle.mm_base.specs.Parts.{Each, Has}
-use Rattle.mm_base.specs.Package.{Grid}
-use Rattle.mm_base.specs.Rules.{HigherIsFiner, MatricesFit, FitsIn, NextIsHalved}
+use Rattle.mm_definitions.specs.Keys.{Text, Level, level}
+use Rattle.mm_definitions.specs.Parts.{Each, Has}
+use Rattle.mm_definitions.specs.Package.{Grid}
+use Rattle.mm_definitions.specs.Rules.{HigherIsFiner, MatricesFit, FitsIn, NextIsHalved}
 use Rattle.mm_store.specs.Rows.{grid_row, kind_row, set_row}
 use Rattle.mm_walk.specs.RowTests.{OnTrue}
 use Rattle.mm_queries.specs.Columns.{IsPyramidKind}

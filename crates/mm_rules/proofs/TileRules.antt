@@ -3,8 +3,8 @@ use Rattle.std.proofs.Common.{[], ◌∷◌, refl}
 use Rattle.std.specs.Prelude.{⊤}
 use Rattle.sqlite_sql.specs.Term.{col}
 use Rattle.sqlite_sql.specs.Query.{inner, left, end}
-use Rattle.mm_base.specs.Keys.{level}
-use Rattle.mm_base.specs.Rules.{TilesInside, IsInside}
+use Rattle.mm_definitions.specs.Keys.{level}
+use Rattle.mm_definitions.specs.Rules.{TilesInside, IsInside}
 use Rattle.mm_store.specs.Rows.{grid_row, tile_row}
 use Rattle.mm_store.specs.Kept.{tile_id, tile_with}
 use Rattle.mm_rules.specs.TileRows.{IsInsideRow}

@@ -1,7 +1,7 @@
 -- What the tests of rows of contents, kinds, matrix sets and relations ask.
 use Rattle.std.specs.Prelude.{◌≡◌, ◌⊎◌, false, codes, Some, IfSome, IsTrue}
 use Rattle.sqlite.specs.Order.{Row, column}
-use Rattle.mm_base.specs.Rules.{IsPlane, IsOrdered}
+use Rattle.mm_definitions.specs.Rules.{IsPlane, IsOrdered}
 use Rattle.mm_queries.specs.Columns.{number_of, words_of, is_there, IsPyramidKind, same_words_by}
 
 -- a system, the same if it stands, and a kind

@@ -1,13 +1,13 @@
 -- The parts of rules that are decided by a walk each.
 use Rattle.std.specs.Prelude.{◌≡◌, ◌⊎◌, pos, ◌-ℤ◌, ◌<ℤ◌, codes, Some, None, IfSome}
 use Rattle.std.specs.FinMap.{get}
-use Rattle.mm_base.specs.Parts.{Each, Has, Stands}
-use Rattle.mm_base.specs.Package.{Package, HasKind, open_state, published_state, general_extension, mapping_extension, zoom_extension}
-use Rattle.mm_base.specs.Rules.{MayName, Suits, IsOrdered, IsSpelled, IsWanted}
-use Rattle.mm_base.specs.Bounds.{Profile, IsFrom, MostPieces}
-use Rattle.mm_base.specs.Keys.{Text, piece}
-use Rattle.mm_base.specs.declared.commands.Kind.{Kind}
-use Rattle.mm_base.specs.declared.commands.Kind.TheVariants.{Attributes, Media}
+use Rattle.mm_definitions.specs.Parts.{Each, Has, Stands}
+use Rattle.mm_definitions.specs.Package.{Package, HasKind, open_state, published_state, general_extension, mapping_extension, zoom_extension}
+use Rattle.mm_definitions.specs.Rules.{MayName, Suits, IsOrdered, IsSpelled, IsWanted}
+use Rattle.mm_definitions.specs.Bounds.{Profile, IsFrom, MostPieces}
+use Rattle.mm_definitions.specs.Keys.{Text, piece}
+use Rattle.mm_definitions.specs.declared.commands.Kind.{Kind}
+use Rattle.mm_definitions.specs.declared.commands.Kind.TheVariants.{Attributes, Media}
 
 -- ---- of rule 2
 -- the system that a contents row names stands, and where the table is a pyramid it is neither 0 nor 4326

@@ -2,8 +2,8 @@
 use Rattle.std.specs.Prelude.{◌≡◌, Some}
 use Rattle.sqlite.specs.Order.{Row, column}
 use Rattle.sqlite.specs.declared.types.Value.{Value}
-use Rattle.mm_base.specs.Package.{System}
-use Rattle.mm_base.specs.Rules.{geographic, undefined_cartesian, undefined_geographic}
+use Rattle.mm_definitions.specs.Package.{System}
+use Rattle.mm_definitions.specs.Rules.{geographic, undefined_cartesian, undefined_geographic}
 use Rattle.mm_queries.specs.Columns.{number_of, words_of}
 
 -- five columns show this system

@@ -2,15 +2,15 @@
 
 ghost use Rattle.std.specs.Prelude.{⊤, ◌↔◌, ℤ, IsTrue};
 ghost use Rattle.sqlite.specs.Held.{state};
-ghost use Rattle.mm_base.specs.Bounds.{Profile};
-ghost use Rattle.mm_base.specs.Rules.{NamedSystems, DistinctIdentifiers, Names, Registry, Extents, Limits, IsPlane, IsOrdered};
+ghost use Rattle.mm_definitions.specs.Bounds.{Profile};
+ghost use Rattle.mm_definitions.specs.Rules.{NamedSystems, DistinctIdentifiers, Names, Registry, Extents, Limits, IsPlane, IsOrdered};
 ghost use Rattle.mm_queries.specs.Check.{IsCheck};
 ghost use Rattle.sqlite.specs.Order.{column};
 ghost use Rattle.mm_queries.specs.Columns.{number_of};
 ghost use Rattle.mm_rules.specs.Parts.{ContentsSystems, SetSystems, MappingNames, Registered, KindsHaveContents, SetsHaveContents, SetExtents, ContentsExtents};
 ghost use Rattle.mm_rules.specs.ContentsRows.{MayNameRow, IsSameRow, IsThereRow, IsAbsentRow, IsOrderedRow, IsPlacedRow, IsUnplacedRow, IsRegisteredRow};
 
-use mm_base::answers::Fault;
+use mm_definitions::answers::Fault;
 use mm_queries::columns::{is_pyramid, number, same_number, same_text, stands, text_is};
 use mm_walk::row_tests::{RowTest, each_passes};
 use sqlite::{Alter, Connection, Row};

@@ -2,13 +2,13 @@
 
 ghost use Rattle.std.specs.Prelude.{⊤, ◌↔◌, IsTrue};
 ghost use Rattle.sqlite.specs.Held.{state};
-ghost use Rattle.mm_base.specs.Bounds.{Profile};
-ghost use Rattle.mm_base.specs.Rules.{ExactExtensions};
+ghost use Rattle.mm_definitions.specs.Bounds.{Profile};
+ghost use Rattle.mm_definitions.specs.Rules.{ExactExtensions};
 ghost use Rattle.mm_queries.specs.Check.{IsCheck};
 ghost use Rattle.mm_rules.specs.Parts.{ExtensionsWanted, NamedOnce, UnnamedOnce, ExtensionsOnce, GeneralExtension, MappingExtensions, ZoomExtensions};
 ghost use Rattle.mm_rules.specs.ExtensionRows.{NoRow, IsWantedRow, IsStandingRow, IsMarkedRow, IsRelated, IsZoomOther};
 
-use mm_base::answers::Fault;
+use mm_definitions::answers::Fault;
 use mm_queries::columns::{stands, text_is};
 use mm_walk::row_tests::{RowTest, each_passes};
 use sqlite::{Alter, Connection, Row};

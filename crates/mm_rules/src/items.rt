@@ -2,15 +2,15 @@
 
 ghost use Rattle.std.specs.Prelude.{⊤, ◌≡◌, ◌⊎◌, ◌↔◌, codes, Some, IsTrue};
 ghost use Rattle.sqlite.specs.Held.{state};
-ghost use Rattle.mm_base.specs.Bounds.{Profile};
-ghost use Rattle.mm_base.specs.Rules.{Items, RelationsSuited, PairingsJoin};
+ghost use Rattle.mm_definitions.specs.Bounds.{Profile};
+ghost use Rattle.mm_definitions.specs.Rules.{Items, RelationsSuited, PairingsJoin};
 ghost use Rattle.mm_queries.specs.Check.{IsCheck};
 ghost use Rattle.sqlite.specs.Order.{column};
 ghost use Rattle.mm_queries.specs.Columns.{words_of};
 ghost use Rattle.mm_rules.specs.Parts.{RowsInTables, MediaInTables};
 ghost use Rattle.mm_rules.specs.ItemRows.{IsAttributesRow, IsMediaRow, IsSuitedRow, IsJoinedRow};
 
-use mm_base::answers::Fault;
+use mm_definitions::answers::Fault;
 use mm_queries::columns::{stands, text_is};
 use mm_walk::row_tests::{RowTest, each_passes};
 use sqlite::{Alter, Connection, Row};

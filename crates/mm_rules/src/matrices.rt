@@ -2,15 +2,15 @@
 
 ghost use Rattle.std.specs.Prelude.{⊤, ◌≡◌, ◌↔◌, pos, ◌+ℤ◌, ◌-ℤ◌, ◌*ℤ◌, IsTrue, MatchOption, FitsSigned};
 ghost use Rattle.sqlite.specs.Held.{state};
-ghost use Rattle.mm_base.specs.Bounds.{Profile};
-ghost use Rattle.mm_base.specs.Rules.{MatricesFit, HigherIsFiner, NextIsHalved};
+ghost use Rattle.mm_definitions.specs.Bounds.{Profile};
+ghost use Rattle.mm_definitions.specs.Rules.{MatricesFit, HigherIsFiner, NextIsHalved};
 ghost use Rattle.mm_queries.specs.Check.{IsCheck};
 ghost use Rattle.std.specs.Int.{w128};
 ghost use Rattle.mm_queries.specs.Columns.{number_of};
 ghost use Rattle.mm_rules.specs.MatrixRows.{IsFittingRow, IsFinerRow, IsHalvedRow, covered_by, next_by, halved_by};
 ghost use Rattle.sqlite.specs.Order.{column};
 
-use mm_base::answers::Fault;
+use mm_definitions::answers::Fault;
 use mm_queries::columns::{is_pyramid, number, text_is};
 use mm_walk::row_tests::{RowTest, each_passes};
 use sqlite::{Alter, Connection, Row};

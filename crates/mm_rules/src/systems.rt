@@ -3,12 +3,12 @@
 ghost use Rattle.std.specs.Prelude.{⊤, ◌↔◌, IsTrue};
 ghost use Rattle.sqlite.specs.Held.{state};
 ghost use Rattle.sqlite.specs.Order.{column};
-ghost use Rattle.mm_base.specs.Bounds.{Profile};
-ghost use Rattle.mm_base.specs.Rules.{GivenSystems, geographic, undefined_cartesian, undefined_geographic};
+ghost use Rattle.mm_definitions.specs.Bounds.{Profile};
+ghost use Rattle.mm_definitions.specs.Rules.{GivenSystems, geographic, undefined_cartesian, undefined_geographic};
 ghost use Rattle.mm_queries.specs.Check.{IsCheck};
 ghost use Rattle.mm_rules.specs.SystemRows.{IsGivenRow, shows_by};
 
-use mm_base::answers::Fault;
+use mm_definitions::answers::Fault;
 use mm_queries::columns::{number_is, text_is};
 use mm_walk::row_tests::{RowTest, each_passes};
 use sqlite::{Alter, Connection, Row, params};

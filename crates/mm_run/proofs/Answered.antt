@@ -2,14 +2,14 @@
 use Rattle.std.proofs.Common.{◌≡◌, inr, ℕ, List, Bool, Option, Some, None, Ok, Err, true, false, refl, sym, ap, subst}
 use Rattle.csv.specs.Reading.{ReadRecord}
 use Rattle.csv.specs.declared.reader.Reader.{Reader}
-use Rattle.mm_base.specs.Bounds.{IsMoment, current}
-use Rattle.mm_base.specs.Package.{Package}
-use Rattle.mm_base.specs.Rules.{Meets}
-use Rattle.mm_base.specs.declared.answers.Refusal.{Refusal}
-use Rattle.mm_base.specs.declared.answers.Answer.{Answer}
-use Rattle.mm_base.specs.declared.answers.Answer.TheVariants as answers
-use Rattle.mm_base.specs.declared.commands.Command.{Command}
-use Rattle.mm_lines.specs.Records.{Record}
+use Rattle.mm_definitions.specs.Bounds.{IsMoment, current}
+use Rattle.mm_definitions.specs.Package.{Package}
+use Rattle.mm_definitions.specs.Rules.{Meets}
+use Rattle.mm_definitions.specs.declared.answers.Refusal.{Refusal}
+use Rattle.mm_definitions.specs.declared.answers.Answer.{Answer}
+use Rattle.mm_definitions.specs.declared.answers.Answer.TheVariants as answers
+use Rattle.mm_definitions.specs.declared.commands.Command.{Command}
+use Rattle.mm_io.specs.Records.{Record}
 use Rattle.mm_run.specs.Readings.{Reading, IsReadAs}
 use Rattle.mm_run.specs.Answers.{answer_of, answer_to, after, plain, is_fault}
 use Rattle.mm_run.specs.Applied.{IsApplied, IsSound, IsAnswer, OnFault}

@@ -6,14 +6,14 @@ use Rattle.csv.specs.declared.parser.State.{State}
 use Rattle.csv.specs.declared.parser.State.TheVariants as states
 use Rattle.csv.specs.declared.reader.Reader.{Reader}
 use Rattle.csv.proofs.ReadFacts.{rows-end, rows-more}
-use Rattle.mm_base.specs.declared.answers.Fault.{Fault}
-use Rattle.mm_base.specs.declared.answers.Refusal.{Refusal}
-use Rattle.mm_base.specs.declared.answers.Answer.{Answer}
-use Rattle.mm_base.specs.declared.answers.Answer.TheVariants as answers
-use Rattle.mm_base.specs.declared.answers.RunFault.{RunFault}
-use Rattle.mm_base.specs.declared.answers.Tally.{Tally}
-use Rattle.mm_lines.specs.Records.{IsReadFault, Record, records_of}
-use Rattle.mm_lines.proofs.RecordsFacts.{records-all, records-first}
+use Rattle.mm_definitions.specs.declared.answers.Fault.{Fault}
+use Rattle.mm_definitions.specs.declared.answers.Refusal.{Refusal}
+use Rattle.mm_definitions.specs.declared.answers.Answer.{Answer}
+use Rattle.mm_definitions.specs.declared.answers.Answer.TheVariants as answers
+use Rattle.mm_definitions.specs.declared.answers.RunFault.{RunFault}
+use Rattle.mm_definitions.specs.declared.answers.Tally.{Tally}
+use Rattle.mm_io.specs.Records.{IsReadFault, Record, records_of}
+use Rattle.mm_io.proofs.RecordsFacts.{records-all, records-first}
 use Rattle.mm_run.specs.Readings.{IsReadAs}
 use Rattle.mm_run.specs.Answers.{accepted_of, is_fault, plain, refused_of}
 use Rattle.mm_run.specs.Applied.{IsAnswer, OnFault}

@@ -1,10 +1,10 @@
 -- What a run tells of a session that has to be opened again.
 use Rattle.std.proofs.Common.{◌≡◌, ◌≢◌, ◌∙◌, inl, inr, ℕ, List, Option, Bool, true, false, Err, refl, sym, ap, arith}
-use Rattle.mm_base.specs.declared.answers.Fault.{Fault}
-use Rattle.mm_base.specs.declared.answers.Answer.{Answer}
-use Rattle.mm_base.specs.declared.answers.Answer.TheVariants as answers
-use Rattle.mm_base.specs.declared.answers.RunFault.{RunFault}
-use Rattle.mm_base.specs.declared.answers.Tally.{Tally}
+use Rattle.mm_definitions.specs.declared.answers.Fault.{Fault}
+use Rattle.mm_definitions.specs.declared.answers.Answer.{Answer}
+use Rattle.mm_definitions.specs.declared.answers.Answer.TheVariants as answers
+use Rattle.mm_definitions.specs.declared.answers.RunFault.{RunFault}
+use Rattle.mm_definitions.specs.declared.answers.Tally.{Tally}
 use Rattle.mm_run.specs.Answers.{is_fault}
 use Rattle.mm_run.specs.Applied.{IsAnswer, IsApplyFault, OnFault, TellsFailure}
 use Rattle.mm_run.specs.Told.{Stops, with_answer, with_line}

@@ -1,12 +1,12 @@
 -- What a session keeps of the rules, whatever the reader tells.
 use Rattle.std.proofs.Common.{◌≡◌, ◌∙◌, inl, inr, ℕ, Bool, sym}
-use Rattle.mm_base.specs.Bounds.{current}
-use Rattle.mm_base.specs.Package.{Package}
-use Rattle.mm_base.specs.Rules.{Meets}
-use Rattle.mm_base.specs.Step.{step}
-use Rattle.mm_base.specs.declared.answers.Answer.{Answer}
-use Rattle.mm_base.specs.declared.answers.Answer.TheVariants as answers
-use Rattle.mm_lines.specs.Records.{Record}
+use Rattle.mm_definitions.specs.Bounds.{current}
+use Rattle.mm_definitions.specs.Package.{Package}
+use Rattle.mm_definitions.specs.Rules.{Meets}
+use Rattle.mm_definitions.specs.Step.{step}
+use Rattle.mm_definitions.specs.declared.answers.Answer.{Answer}
+use Rattle.mm_definitions.specs.declared.answers.Answer.TheVariants as answers
+use Rattle.mm_io.specs.Records.{Record}
 use Rattle.mm_run.specs.Answers.{after}
 use Rattle.mm_run.specs.Applied.{IsSound, Leaves, TellsFailure}
 use Rattle.mm_run.specs.Runs.{IsAnswered, IsKept, OnSound}

@@ -6,16 +6,16 @@ use Rattle.csv.specs.Reading.{Reached, ReadRecord, default_config, source_of}
 use Rattle.csv.specs.declared.parser.State.{State}
 use Rattle.csv.specs.declared.reader.Reader.{Reader}
 use Rattle.csv.proofs.ReadFacts.{rows-end, rows-more}
-use Rattle.mm_base.specs.Bounds.{current}
-use Rattle.mm_base.specs.Package.{Package}
-use Rattle.mm_base.specs.Rules.{Meets}
-use Rattle.mm_base.specs.Runs.{run, IsFirstPart}
-use Rattle.mm_base.specs.Step.{refusal, step}
-use Rattle.mm_base.specs.declared.answers.Fault.{Fault}
-use Rattle.mm_base.specs.declared.answers.Answer.{Answer}
-use Rattle.mm_base.specs.declared.answers.Answer.TheVariants as answers
-use Rattle.mm_base.specs.declared.commands.Command.{Command}
-use Rattle.mm_lines.specs.Records.{Record}
+use Rattle.mm_definitions.specs.Bounds.{current}
+use Rattle.mm_definitions.specs.Package.{Package}
+use Rattle.mm_definitions.specs.Rules.{Meets}
+use Rattle.mm_definitions.specs.Runs.{run, IsFirstPart}
+use Rattle.mm_definitions.specs.Step.{refusal, step}
+use Rattle.mm_definitions.specs.declared.answers.Fault.{Fault}
+use Rattle.mm_definitions.specs.declared.answers.Answer.{Answer}
+use Rattle.mm_definitions.specs.declared.answers.Answer.TheVariants as answers
+use Rattle.mm_definitions.specs.declared.commands.Command.{Command}
+use Rattle.mm_io.specs.Records.{Record}
 use Rattle.mm_run.specs.Readings.{Reading, IsReadAs, AreReadAs}
 use Rattle.mm_run.specs.Answers.{answer_of, answers_to, calls_of, is_fault, accepted_of}
 use Rattle.mm_run.specs.Applied.{IsSound, Leaves, LeavesEither, IsAnswer}

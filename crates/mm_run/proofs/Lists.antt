@@ -4,14 +4,14 @@ use Rattle.std.specs.Prelude.{if◌then◌else◌}
 use Rattle.std.specs.List.{concat}
 use Rattle.std.proofs.lemmas.List.Folds.{concat-append}
 use Rattle.std.proofs.Math.Seq.{take-append_seam}
-use Rattle.mm_base.specs.Package.{Package}
-use Rattle.mm_base.specs.Step.{refusal, step}
-use Rattle.mm_base.specs.Runs.{Call, run, accepted, if_ok, IsFirstPart}
-use Rattle.mm_base.specs.declared.answers.Refusal.{Refusal}
-use Rattle.mm_base.specs.declared.answers.Answer.{Answer}
-use Rattle.mm_base.specs.declared.answers.Answer.TheVariants as answers
-use Rattle.mm_lines.specs.Lines.{line, lines, lines_from}
-use Rattle.mm_lines.specs.Records.{Record}
+use Rattle.mm_definitions.specs.Package.{Package}
+use Rattle.mm_definitions.specs.Step.{refusal, step}
+use Rattle.mm_definitions.specs.Runs.{Call, run, accepted, if_ok, IsFirstPart}
+use Rattle.mm_definitions.specs.declared.answers.Refusal.{Refusal}
+use Rattle.mm_definitions.specs.declared.answers.Answer.{Answer}
+use Rattle.mm_definitions.specs.declared.answers.Answer.TheVariants as answers
+use Rattle.mm_io.specs.Lines.{line, lines, lines_from}
+use Rattle.mm_io.specs.Records.{Record}
 use Rattle.mm_run.specs.Readings.{Reading, IsReadAs, AreReadAs}
 use Rattle.mm_run.specs.Answers.{answer_of, answer_to, after, answers_to, calls_of, is_accepted, is_refused, accepted_of, refused_of}
 use Rattle.mm_laws.proofs.RunFacts.{run_accepted}

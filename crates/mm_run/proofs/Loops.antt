@@ -6,13 +6,13 @@ use Rattle.std.proofs.lemmas.List.{get_or-append-add, length_push}
 use Rattle.std.proofs.Math.Seq.{take-append_seam}
 use Rattle.std.specs.Io.KnownBytes.{Appends}
 use Rattle.std.specs.List.{concat}
-use Rattle.mm_base.specs.declared.answers.Answer.{Answer}
-use Rattle.mm_base.specs.declared.answers.Answer.TheVariants as answers
-use Rattle.mm_base.specs.declared.answers.Fault.{Fault}
-use Rattle.mm_base.specs.declared.answers.RunFault.{RunFault}
-use Rattle.mm_base.specs.declared.answers.Tally.{Tally}
-use Rattle.mm_lines.specs.Lines.{line, lines, lines_from}
-use Rattle.mm_lines.specs.Records.{IsReadFault}
+use Rattle.mm_definitions.specs.declared.answers.Answer.{Answer}
+use Rattle.mm_definitions.specs.declared.answers.Answer.TheVariants as answers
+use Rattle.mm_definitions.specs.declared.answers.Fault.{Fault}
+use Rattle.mm_definitions.specs.declared.answers.RunFault.{RunFault}
+use Rattle.mm_definitions.specs.declared.answers.Tally.{Tally}
+use Rattle.mm_io.specs.Lines.{line, lines, lines_from}
+use Rattle.mm_io.specs.Records.{IsReadFault}
 use Rattle.mm_run.specs.Answers.{is_accepted, is_refused, accepted_of, refused_of, is_fault}
 use Rattle.mm_run.specs.Applied.{IsAnswer, OnFault}
 use Rattle.mm_run.specs.Told.{AreCounted, AreTold, Goes, IsCutAt, Stops, with_answer, with_line}

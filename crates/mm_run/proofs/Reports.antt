@@ -2,13 +2,13 @@
 use Rattle.std.proofs.Common.{◌≡◌, ◌∙◌, ◌+◌, ℕ, Bool, true, List, length, take, Option, inl, inr, sym, ap, subst, arith}
 use Rattle.csv.specs.Reading.{strip_bom}
 use Rattle.csv.specs.declared.parser.State.TheVariants as states
-use Rattle.mm_base.specs.Package.{Package}
-use Rattle.mm_base.specs.Runs.{run}
-use Rattle.mm_base.specs.declared.answers.Answer.{Answer}
-use Rattle.mm_base.specs.declared.answers.RunFault.{RunFault}
-use Rattle.mm_base.specs.declared.answers.Tally.{Tally}
-use Rattle.mm_lines.specs.Records.{records_of}
-use Rattle.mm_lines.proofs.RecordsFacts.{records-all, records-first}
+use Rattle.mm_definitions.specs.Package.{Package}
+use Rattle.mm_definitions.specs.Runs.{run}
+use Rattle.mm_definitions.specs.declared.answers.Answer.{Answer}
+use Rattle.mm_definitions.specs.declared.answers.RunFault.{RunFault}
+use Rattle.mm_definitions.specs.declared.answers.Tally.{Tally}
+use Rattle.mm_io.specs.Records.{records_of}
+use Rattle.mm_io.proofs.RecordsFacts.{records-all, records-first}
 use Rattle.mm_run.specs.Readings.{Reading, AreReadAs}
 use Rattle.mm_run.specs.Answers.{answers_to, calls_of, accepted_of, refused_of}
 use Rattle.mm_run.specs.Applied.{Leaves}

@@ -1,11 +1,11 @@
 -- What records are answered, and the package after them.
 use Rattle.std.specs.Prelude.{ℕ, ◌+◌, List, [], ◌∷◌, Bool, true, false, Option, Some, None, Ok, Err, if◌then◌else◌}
-use Rattle.mm_base.specs.Package.{Package}
-use Rattle.mm_base.specs.Step.{refusal, step}
-use Rattle.mm_base.specs.Runs.{Call}
-use Rattle.mm_base.specs.declared.answers.Refusal.{Refusal}
-use Rattle.mm_base.specs.declared.answers.Answer.{Answer}
-use Rattle.mm_base.specs.declared.answers.Answer.TheVariants as answers
+use Rattle.mm_definitions.specs.Package.{Package}
+use Rattle.mm_definitions.specs.Step.{refusal, step}
+use Rattle.mm_definitions.specs.Runs.{Call}
+use Rattle.mm_definitions.specs.declared.answers.Refusal.{Refusal}
+use Rattle.mm_definitions.specs.declared.answers.Answer.{Answer}
+use Rattle.mm_definitions.specs.declared.answers.Answer.TheVariants as answers
 use Rattle.mm_run.specs.Readings.{Reading}
 
 -- a refusal that tells no piece

@@ -5,13 +5,13 @@ use Rattle.std.specs.Io.KnownBytes.{Appends}
 use Rattle.csv.specs.Reading.{AreRecords, Reached, ReadRecord, default_config}
 use Rattle.csv.specs.declared.parser.State.{State}
 use Rattle.csv.specs.declared.reader.Reader.{Reader}
-use Rattle.mm_base.specs.declared.commands.Command.{Command}
-use Rattle.mm_base.specs.declared.answers.Answer.{Answer}
-use Rattle.mm_base.specs.declared.answers.Answer.TheVariants as answers
-use Rattle.mm_base.specs.declared.answers.Tally.{Tally}
-use Rattle.mm_base.specs.declared.answers.RunFault.{RunFault}
-use Rattle.mm_lines.specs.Lines.{lines}
-use Rattle.mm_lines.specs.Records.{Record, records_of}
+use Rattle.mm_definitions.specs.declared.commands.Command.{Command}
+use Rattle.mm_definitions.specs.declared.answers.Answer.{Answer}
+use Rattle.mm_definitions.specs.declared.answers.Answer.TheVariants as answers
+use Rattle.mm_definitions.specs.declared.answers.Tally.{Tally}
+use Rattle.mm_definitions.specs.declared.answers.RunFault.{RunFault}
+use Rattle.mm_io.specs.Lines.{lines}
+use Rattle.mm_io.specs.Records.{Record, records_of}
 use Rattle.mm_run.specs.Readings.{IsReadAs}
 use Rattle.mm_run.specs.Answers.{plain}
 use Rattle.mm_run.specs.Told.{AreCounted, AreTold, IsStoppedText}

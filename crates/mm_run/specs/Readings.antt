@@ -1,12 +1,12 @@
 -- What a record is read as.
 use Rattle.std.specs.Prelude.{◌≡◌, ◌⊎◌, ℕ, List, [], ◌∷◌, None, Result, Ok, Err, ⊤}
 use Rattle.csv.specs.Records.{AllText}
-use Rattle.mm_base.specs.Bounds.{current}
-use Rattle.mm_base.specs.Records.{Spells, HoldsAgainst, IsLeast}
-use Rattle.mm_base.specs.declared.commands.Command.{Command}
-use Rattle.mm_base.specs.declared.answers.ReadFault.{ReadFault}
-use Rattle.mm_base.specs.declared.answers.ReadFault.TheVariants as faults
-use Rattle.mm_lines.specs.Records.{Record}
+use Rattle.mm_definitions.specs.Bounds.{current}
+use Rattle.mm_definitions.specs.Records.{Spells, HoldsAgainst, IsLeast}
+use Rattle.mm_definitions.specs.declared.commands.Command.{Command}
+use Rattle.mm_definitions.specs.declared.answers.ReadFault.{ReadFault}
+use Rattle.mm_definitions.specs.declared.answers.ReadFault.TheVariants as faults
+use Rattle.mm_io.specs.Records.{Record}
 
 -- a command, or the number that refuses the record
 abbrev pub Reading : Type 0

@@ -5,18 +5,18 @@ use Rattle.std.specs.Io.KnownBytes.{Appends}
 use Rattle.csv.specs.Reading.{AreRecords, Reached, ReadRecord, default_config}
 use Rattle.csv.specs.declared.parser.State.{State}
 use Rattle.csv.specs.declared.reader.Reader.{Reader}
-use Rattle.mm_base.specs.Bounds.{current}
-use Rattle.mm_base.specs.Package.{Package}
-use Rattle.mm_base.specs.Rules.{Meets}
-use Rattle.mm_base.specs.Runs.{Call, run, IsFirstPart}
-use Rattle.mm_base.specs.Step.{step}
-use Rattle.mm_base.specs.declared.commands.Command.{Command}
-use Rattle.mm_base.specs.declared.answers.Answer.{Answer}
-use Rattle.mm_base.specs.declared.answers.Answer.TheVariants as answers
-use Rattle.mm_base.specs.declared.answers.Tally.{Tally}
-use Rattle.mm_base.specs.declared.answers.RunFault.{RunFault}
-use Rattle.mm_lines.specs.Lines.{lines}
-use Rattle.mm_lines.specs.Records.{Record, records_of}
+use Rattle.mm_definitions.specs.Bounds.{current}
+use Rattle.mm_definitions.specs.Package.{Package}
+use Rattle.mm_definitions.specs.Rules.{Meets}
+use Rattle.mm_definitions.specs.Runs.{Call, run, IsFirstPart}
+use Rattle.mm_definitions.specs.Step.{step}
+use Rattle.mm_definitions.specs.declared.commands.Command.{Command}
+use Rattle.mm_definitions.specs.declared.answers.Answer.{Answer}
+use Rattle.mm_definitions.specs.declared.answers.Answer.TheVariants as answers
+use Rattle.mm_definitions.specs.declared.answers.Tally.{Tally}
+use Rattle.mm_definitions.specs.declared.answers.RunFault.{RunFault}
+use Rattle.mm_io.specs.Lines.{lines}
+use Rattle.mm_io.specs.Records.{Record, records_of}
 use Rattle.mm_run.specs.Readings.{Reading, IsReadAs, AreReadAs}
 use Rattle.mm_run.specs.Answers.{answer_to, after, answers_to, calls_of, accepted_of}
 use Rattle.mm_run.specs.Applied.{IsSound, LeavesEither, IsApplyFault}

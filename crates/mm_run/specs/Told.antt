@@ -2,12 +2,12 @@
 use Rattle.std.specs.Prelude.{ℕ, ◌+◌, ◌<◌, ◌≤◌, ◌≡◌, ◌≢◌, ◌⊎◌, get_or, List, [], ◌∷◌, ◌++◌, Bool, true, Option, length, take}
 use Rattle.std.specs.List.{concat}
 use Rattle.std.specs.Io.KnownBytes.{Appends}
-use Rattle.mm_base.specs.declared.answers.Fault.{Fault}
-use Rattle.mm_base.specs.declared.answers.Answer.{Answer}
-use Rattle.mm_base.specs.declared.answers.Answer.TheVariants as answers
-use Rattle.mm_base.specs.declared.answers.Tally.{Tally}
-use Rattle.mm_base.specs.declared.answers.RunFault.{RunFault}
-use Rattle.mm_lines.specs.Lines.{line, lines}
+use Rattle.mm_definitions.specs.declared.answers.Fault.{Fault}
+use Rattle.mm_definitions.specs.declared.answers.Answer.{Answer}
+use Rattle.mm_definitions.specs.declared.answers.Answer.TheVariants as answers
+use Rattle.mm_definitions.specs.declared.answers.Tally.{Tally}
+use Rattle.mm_definitions.specs.declared.answers.RunFault.{RunFault}
+use Rattle.mm_io.specs.Lines.{line, lines}
 use Rattle.mm_run.specs.Applied.{IsAnswer}
 use Rattle.mm_run.specs.Answers.{accepted_of, refused_of}
 

@@ -3,8 +3,8 @@
 ghost use Rattle.std.specs.Prelude.{◌≡◌, IfNone, IfSome, true};
 ghost use Rattle.csv.specs.Reading.{reader_source};
 ghost use Rattle.csv.specs.Records.{fields_of};
-ghost use Rattle.mm_base.specs.Package.{Package};
-ghost use Rattle.mm_lines.specs.Records.{IsSetUp};
+ghost use Rattle.mm_definitions.specs.Package.{Package};
+ghost use Rattle.mm_io.specs.Records.{IsSetUp};
 ghost use Rattle.mm_run.specs.Applied.{IsAnswer, IsApplyFault, IsSound, OnFault, TellsFailure};
 ghost use Rattle.mm_run.specs.Ended.{IsEnded, IsEndedTurn};
 ghost use Rattle.mm_run.specs.Runs.{IsAnswered, IsKept, IsRunFault, OnSound, Turns};
@@ -12,9 +12,9 @@ ghost use Rattle.mm_run.specs.Runs.{IsAnswered, IsKept, IsRunFault, OnSound, Tur
 use crate::apply::Apply;
 use crate::reading::read_row;
 use csv::{ByteRecord, Reader};
-use mm_base::answers::{Answer, Fault, ReadFault};
-use mm_base::moments::Moment;
-use mm_lines::{Tells, next_row};
+use mm_definitions::answers::{Answer, Fault, ReadFault};
+use mm_definitions::moments::Moment;
+use mm_io::{Tells, next_row};
 use std::alloc::Global;
 use std::io::Read;
 

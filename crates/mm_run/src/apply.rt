@@ -1,15 +1,15 @@
 //! What commands are applied to.
 
 ghost use Rattle.std.specs.Prelude.{◌≡◌, ◌≢◌, Bool, true, false};
-ghost use Rattle.mm_base.specs.Bounds.{current};
-ghost use Rattle.mm_base.specs.Package.{Package};
-ghost use Rattle.mm_base.specs.Rules.{Meets};
+ghost use Rattle.mm_definitions.specs.Bounds.{current};
+ghost use Rattle.mm_definitions.specs.Package.{Package};
+ghost use Rattle.mm_definitions.specs.Rules.{Meets};
 ghost use Rattle.mm_run.specs.Answers.{is_fault};
 ghost use Rattle.mm_run.specs.Applied.{IsApplied, IsApplyFault, OnFault};
 
-use mm_base::answers::{Answer, Fault};
-use mm_base::commands::Command;
-use mm_base::moments::Moment;
+use mm_definitions::answers::{Answer, Fault};
+use mm_definitions::commands::Command;
+use mm_definitions::moments::Moment;
 
 /// A thing that commands are applied to, over databases that a crash may leave.
 pub trait Apply {

@@ -5,9 +5,9 @@ ghost use Rattle.std.specs.Prelude.{◌≡◌};
 ghost use Rattle.mm_run.specs.Readings.{IsRead};
 
 use csv::{ByteRecord, StringRecord};
-use mm_base::answers::ReadFault;
-use mm_base::commands::Command;
-use mm_lines::text_fields;
+use mm_definitions::answers::ReadFault;
+use mm_definitions::commands::Command;
+use mm_io::text_fields;
 use mm_records::read_command;
 use std::alloc::Global;
 

@@ -1,12 +1,12 @@
 //! Telling an answer: its line is written and counted.
 
 ghost use Rattle.std.specs.Prelude.{◌≡◌, ◌≢◌, ◌+◌, ◌<◌, ◌^◌, IfOk, IfErr, true};
-ghost use Rattle.mm_base.specs.Streams.{has_failed, inside, is_flushed};
+ghost use Rattle.mm_definitions.specs.Streams.{has_failed, inside, is_flushed};
 ghost use Rattle.mm_run.specs.Told.{Goes, IsNear, Stops, with_answer};
 
-use mm_base::answers::{Answer, Fault, RunFault, Tally};
-use mm_base::streams::Io;
-use mm_lines::{Sent, answer_line, send};
+use mm_definitions::answers::{Answer, Fault, RunFault, Tally};
+use mm_definitions::streams::Io;
+use mm_io::{Sent, answer_line, send};
 use std::io::Write;
 
 /// The tally with one more answer.

@@ -5,9 +5,9 @@ use Rattle.std.specs.FinMap.{FinMap}
 use Rattle.sqlite.specs.Order.{Row}
 use Rattle.sqlite_rules.proofs.ProbeLemmas.{has_mapped, mapped_has}
 use Rattle.sql_forms.specs.Maps.{Holds}
-use Rattle.mm_base.specs.Parts.{Each}
-use Rattle.mm_base.specs.Parts.{change_values}
-use Rattle.mm_base.proofs.Values.{from, get_changed}
+use Rattle.mm_definitions.specs.Parts.{Each}
+use Rattle.mm_definitions.specs.Parts.{change_values}
+use Rattle.mm_definitions.proofs.Values.{from, get_changed}
 
 module _ {K V : Type 0} {R : K → K → Ordering} (part : Row → Row) (row_of : K → V → Row) (key_is : (k l : K) (v w : V) → row_of k v ≡ row_of l w → k ≡ l)
     (rows : List Row) (m : FinMap R V) (h : Holds part row_of rows m) (change : Row → Row) (next : V → V) (Within : K → V → Type 0) (within : Each m Within)

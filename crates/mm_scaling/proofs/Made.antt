@@ -6,12 +6,12 @@ use Rattle.sqlite.specs.Tree.{Trees, with_tree}
 use Rattle.sql_forms.proofs.Casts.{cast_row_is}
 use Rattle.sql_forms.proofs.Updates.{updated}
 use Rattle.mm_schema.specs.Tables.{gpkg_contents, gpkg_tile_matrix_set, gpkg_tile_matrix, mm_profile}
-use Rattle.mm_base.specs.Bounds.{millimetres}
-use Rattle.mm_base.specs.Parts.{Each}
-use Rattle.mm_base.specs.Package.{Package}
-use Rattle.mm_base.specs.Rules.{ContentsWithin, SetWithin, MatrixWithin}
-use Rattle.mm_base.specs.Parts.{change_values}
-use Rattle.mm_base.specs.Scale.{finer_contents, finer_set, finer_grid}
+use Rattle.mm_definitions.specs.Bounds.{millimetres}
+use Rattle.mm_definitions.specs.Parts.{Each}
+use Rattle.mm_definitions.specs.Package.{Package}
+use Rattle.mm_definitions.specs.Rules.{ContentsWithin, SetWithin, MatrixWithin}
+use Rattle.mm_definitions.specs.Parts.{change_values}
+use Rattle.mm_definitions.specs.Scale.{finer_contents, finer_set, finer_grid}
 use Rattle.mm_store.specs.Rows.{past_rowid, contents_row, set_row, grid_row}
 use Rattle.mm_store.specs.Stands.{Holding, profile_row}
 use Rattle.mm_store.proofs.Keys as parts

@@ -7,9 +7,9 @@ use Rattle.sqlite.specs.State.{State, ExecutesInside}
 use Rattle.sqlite_catalog.specs.Listing.{IsSound}
 use Rattle.sql_forms.specs.Tables.{IsReady, Leaves}
 use Rattle.mm_schema.specs.Tables.{schema}
-use Rattle.mm_base.specs.Bounds.{Profile}
-use Rattle.mm_base.specs.Package.{Package}
-use Rattle.mm_base.specs.declared.answers.Fault.{Fault}
+use Rattle.mm_definitions.specs.Bounds.{Profile}
+use Rattle.mm_definitions.specs.Package.{Package}
+use Rattle.mm_definitions.specs.declared.answers.Fault.{Fault}
 use Rattle.mm_store.specs.Stands.{Holding, Ground, IsInside}
 use Rattle.mm_store.specs.Statements.{IsRun}
 use Rattle.mm_store.specs.Shapes.{IsChange}

@@ -7,8 +7,8 @@ use Rattle.sqlite.specs.declared.types.Value.TheVariants.{Int}
 use Rattle.sqlite_sql.specs.declared.ops.BinaryOp.TheVariants.{Arith}
 use Rattle.sqlite_sql.specs.declared.ops.ArithOp.TheVariants.{Mul}
 use Rattle.sqlite_sql.specs.Ops.{binary, int_or, real_arith, from_int, if_fits, fits_i64}
-use Rattle.mm_base.specs.Bounds.{IsFrom, IsCoordinate, IsPixelSize, millimetres}
-use Rattle.mm_base.specs.Scale.{finer}
+use Rattle.mm_definitions.specs.Bounds.{IsFrom, IsCoordinate, IsPixelSize, millimetres}
+use Rattle.mm_definitions.specs.Scale.{finer}
 use Rattle.mm_store.specs.Rows.{maybe}
 
 fits : (z : ℤ) → IsFrom (neg_ℤ (pos (10 ^ 14))) (pos (10 ^ 14)) z → fits_i64 z ≡ true

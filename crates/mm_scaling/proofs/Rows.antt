@@ -5,11 +5,11 @@ use Rattle.sql_forms.proofs.Casts.{cast_all_is}
 use Rattle.sql_forms.proofs.Keys.{columns_are}
 use Rattle.sql_forms.proofs.Updates.{updated}
 use Rattle.mm_schema.specs.Tables.{gpkg_contents, gpkg_tile_matrix_set, gpkg_tile_matrix}
-use Rattle.mm_base.specs.Bounds.{millimetres}
-use Rattle.mm_base.specs.Keys.{Text, Level}
-use Rattle.mm_base.specs.Package.{Contents, MatrixSet, Grid}
-use Rattle.mm_base.specs.Rules.{ContentsWithin, SetWithin, MatrixWithin}
-use Rattle.mm_base.specs.Scale.{finer_contents, finer_set, finer_grid}
+use Rattle.mm_definitions.specs.Bounds.{millimetres}
+use Rattle.mm_definitions.specs.Keys.{Text, Level}
+use Rattle.mm_definitions.specs.Package.{Contents, MatrixSet, Grid}
+use Rattle.mm_definitions.specs.Rules.{ContentsWithin, SetWithin, MatrixWithin}
+use Rattle.mm_definitions.specs.Scale.{finer_contents, finer_set, finer_grid}
 use Rattle.mm_store.specs.Rows.{past_rowid, contents_row, set_row, grid_row}
 use Rattle.mm_store.proofs.Changes.{contents_typed}
 use Rattle.mm_scaling.specs.Texts.{contents_sets, set_sets, matrix_sets}

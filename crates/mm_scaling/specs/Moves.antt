@@ -2,11 +2,11 @@
 use Rattle.std.specs.Prelude.{◌⊎◌, Result, OnOk, IfErr, IsTrue}
 use Rattle.sqlite.specs.Tree.{Trees}
 use Rattle.sqlite.specs.State.{State, HasCleanDisk, Survives}
-use Rattle.mm_base.specs.Bounds.{Profile, millimetres, micrometres}
-use Rattle.mm_base.specs.Package.{Package}
-use Rattle.mm_base.specs.Rules.{Limits}
-use Rattle.mm_base.specs.declared.answers.Fault.{Fault}
-use Rattle.mm_base.specs.Scale.{scale}
+use Rattle.mm_definitions.specs.Bounds.{Profile, millimetres, micrometres}
+use Rattle.mm_definitions.specs.Package.{Package}
+use Rattle.mm_definitions.specs.Rules.{Limits}
+use Rattle.mm_definitions.specs.declared.answers.Fault.{Fault}
+use Rattle.mm_definitions.specs.Scale.{scale}
 use Rattle.mm_store.specs.Stands.{StandsFor, Ground, StandsOn, IsInside, IsSettled}
 use Rattle.mm_store.specs.Faults.{IsStoreFault}
 use Rattle.mm_store.specs.Statements.{CommitsNothing}

@@ -2,15 +2,15 @@
 
 ghost use Rattle.std.specs.Prelude.{◌≡◌, ⊤, false};
 ghost use Rattle.sqlite.specs.Held.{state};
-ghost use Rattle.mm_base.specs.Bounds.{Profile, millimetres, micrometres};
-ghost use Rattle.mm_base.specs.Parts.{Each};
-ghost use Rattle.mm_base.specs.Rules.{ContentsWithin, SetWithin, MatrixWithin, Limits};
-ghost use Rattle.mm_base.specs.Parts.{change_values};
-ghost use Rattle.mm_base.specs.Scale.{finer_contents, finer_set, finer_grid, scale};
+ghost use Rattle.mm_definitions.specs.Bounds.{Profile, millimetres, micrometres};
+ghost use Rattle.mm_definitions.specs.Parts.{Each};
+ghost use Rattle.mm_definitions.specs.Rules.{ContentsWithin, SetWithin, MatrixWithin, Limits};
+ghost use Rattle.mm_definitions.specs.Parts.{change_values};
+ghost use Rattle.mm_definitions.specs.Scale.{finer_contents, finer_set, finer_grid, scale};
 ghost use Rattle.mm_store.specs.Shapes.{IsChange};
 ghost use Rattle.mm_scaling.specs.Moves.{IsMove, IsRescaled};
 
-use mm_base::answers::Fault;
+use mm_definitions::answers::Fault;
 use mm_store::faults::fault_of;
 use mm_store::statements::run;
 use sqlite::{Alter, Connection, Transaction};

@@ -6,7 +6,7 @@ use Rattle.sqlite_sql.specs.Term.{Term}
 use Rattle.sqlite_sql.specs.Query.{Join}
 use Rattle.sqlite.specs.Effect.{Database}
 use Rattle.sqlite.specs.State.{State, HasCleanDisk, IsUnchanged}
-use Rattle.mm_base.specs.declared.answers.Fault.{Fault}
+use Rattle.mm_definitions.specs.declared.answers.Fault.{Fault}
 use Rattle.mm_store.specs.Kept.{Kept}
 use Rattle.mm_store.proofs.Seen.{settled_still}
 use Rattle.mm_store.proofs.Shapes.{quiet_then}

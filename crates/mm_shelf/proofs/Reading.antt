@@ -2,10 +2,10 @@
 use Rattle.std.proofs.Common.{◌≡◌, ◌↔◌, ◌⊎◌, inl, inr, ℤ, Bool, true, false, IsTrue, Result, Ok, Err, IfOk, refl, sym, subst}
 use Rattle.sqlite.specs.Effect.{Database}
 use Rattle.sqlite.specs.State.{State, HasCleanDisk, IsUnchanged}
-use Rattle.mm_base.specs.Package.{Package}
-use Rattle.mm_base.specs.declared.answers.Fault.{Fault}
-use Rattle.mm_base.specs.declared.answers.Open.{Open}
-use Rattle.mm_base.specs.declared.answers.Open.TheVariants as opens
+use Rattle.mm_definitions.specs.Package.{Package}
+use Rattle.mm_definitions.specs.declared.answers.Fault.{Fault}
+use Rattle.mm_definitions.specs.declared.answers.Open.{Open}
+use Rattle.mm_definitions.specs.declared.answers.Open.TheVariants as opens
 use Rattle.mm_store.specs.Kept.{Kept, IsNamed}
 use Rattle.mm_store.specs.Stands.{ReadsAs}
 use Rattle.mm_shelf.specs.Form.{KeepsAs, AreInForm, ReadsLoosely, IsFormCheck, DecidesReading, BlobsStand, BlobsFail, TellsForm}

@@ -27,7 +27,7 @@ use Rattle.sqlite_tied.specs.Compute.{everything}
 use Rattle.sqlite_schema.specs.Rules.{equal}
 use Rattle.sql_forms.proofs.Keys.{columns_are}
 use Rattle.sql_forms.proofs.Lists.{flat_filtered}
-use Rattle.mm_base.proofs.KeyLaws.{texts}
+use Rattle.mm_definitions.proofs.KeyLaws.{texts}
 use Rattle.mm_store.specs.Rows.{tile_row, medium_row, staged_row}
 use Rattle.mm_store.specs.Blobs.{Blob, blob_row, digest_of}
 use Rattle.mm_store.specs.Kept.{Kept, IsNamed, tile_id, medium_id, piece_id}

@@ -6,8 +6,8 @@ ghost use Rattle.sqlite.specs.State.{HasCleanDisk};
 ghost use Rattle.mm_store.specs.Blobs as spec;
 ghost use Rattle.mm_shelf.specs.Form.{IsDigestedRow, AreDigested, AreApart, AreNamed, AreInForm, IsFormCheck, DecidesReading};
 
-use mm_base::answers::Fault;
 use mm_blobs::digests::digest_of;
+use mm_definitions::answers::Fault;
 use mm_queries::columns::{blob, words};
 use mm_walk::row_tests::{RowTest, each_passes};
 use sqlite::{Alter, Connection, Row};

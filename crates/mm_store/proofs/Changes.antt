@@ -8,9 +8,9 @@ use Rattle.sql_forms.proofs.Casts.{is_of, are_of, cast_all_is}
 use Rattle.sql_forms.proofs.Keys.{columns_are}
 use Rattle.sql_forms.proofs.Updates.{updated}
 use Rattle.mm_schema.specs.Tables.{gpkg_contents, mm_tiles, mm_rows, mm_media, mm_editions}
-use Rattle.mm_base.specs.Keys.{Text, TileKey, Item}
-use Rattle.mm_base.specs.Package.{Contents, AttributeRow}
-use Rattle.mm_base.specs.Effects.{changed_at}
+use Rattle.mm_definitions.specs.Keys.{Text, TileKey, Item}
+use Rattle.mm_definitions.specs.Package.{Contents, AttributeRow}
+use Rattle.mm_definitions.specs.Effects.{changed_at}
 use Rattle.mm_store.specs.Rows.{past_rowid, maybe, contents_row, tile_row, attribute_row, MediumRow, medium_row, edition_row}
 
 abbrev pub tile_sets : List Term

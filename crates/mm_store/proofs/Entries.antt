@@ -19,13 +19,13 @@ use Rattle.sql_forms.specs.Tables.{has_key}
 use Rattle.sql_forms.specs.Maps.{Holds}
 use Rattle.sql_forms.proofs.Keys.{equal_text, columns_are}
 use Rattle.sql_forms.proofs.Lists.{none_holds, and_true}
-use Rattle.mm_base.specs.Keys.{Text, same_text}
-use Rattle.mm_base.specs.Parts.{some_entry}
-use Rattle.mm_base.specs.Conditions.{is_used, is_identified}
-use Rattle.mm_base.specs.Package.{Package}
-use Rattle.mm_base.proofs.Parts.{IsKeyOrder, no_entry}
-use Rattle.mm_base.proofs.KeyLaws.{texts}
-use Rattle.mm_base.proofs.Listed.{along_entries}
+use Rattle.mm_definitions.specs.Keys.{Text, same_text}
+use Rattle.mm_definitions.specs.Parts.{some_entry}
+use Rattle.mm_definitions.specs.Conditions.{is_used, is_identified}
+use Rattle.mm_definitions.specs.Package.{Package}
+use Rattle.mm_definitions.proofs.Parts.{IsKeyOrder, no_entry}
+use Rattle.mm_definitions.proofs.KeyLaws.{texts}
+use Rattle.mm_definitions.proofs.Listed.{along_entries}
 use Rattle.mm_store.specs.Rows.{past_rowid, past_id, contents_row, relation_row}
 use Rattle.mm_store.proofs.Keys.{columns_after}
 

@@ -24,10 +24,10 @@ use Rattle.sql_forms.specs.Tables.{passes, without}
 use Rattle.sql_forms.proofs.Keys.{equal_text, columns_are}
 use Rattle.sql_forms.proofs.Lists.{filter_after, filter_out, not_not, and_true}
 use Rattle.sql_forms.proofs.Rows.{equal_is}
-use Rattle.mm_base.specs.Keys.{Text, text_cmp, Extension, extension_cmp}
-use Rattle.mm_base.specs.Package.{zoom_extension, mapping_extension}
-use Rattle.mm_base.proofs.Parts.{SameKey, same_key, same_itself, apart, at_put, beside_put, at_remove, beside_remove}
-use Rattle.mm_base.proofs.KeyLaws.{extension_keys}
+use Rattle.mm_definitions.specs.Keys.{Text, text_cmp, Extension, extension_cmp}
+use Rattle.mm_definitions.specs.Package.{zoom_extension, mapping_extension}
+use Rattle.mm_definitions.proofs.Parts.{SameKey, same_key, same_itself, apart, at_put, beside_put, at_remove, beside_remove}
+use Rattle.mm_definitions.proofs.KeyLaws.{extension_keys}
 use Rattle.mm_store.specs.Rows.{past_rowid, maybe_words, maybe_of, extension_row, extension_of, is_extension, as_count, Counts}
 use Rattle.mm_store.proofs.Keys.{is_eq_then}
 

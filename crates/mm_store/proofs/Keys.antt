@@ -19,9 +19,9 @@ use Rattle.sql_forms.specs.Maps.{Holds}
 use Rattle.sql_forms.proofs.Keys.{equal_text, equal_int, columns_are}
 use Rattle.sql_forms.proofs.Lists.{and_true}
 use Rattle.sql_forms.proofs.Rows.{equal_is}
-use Rattle.mm_base.specs.Keys.{Text, text_cmp, Level, level_cmp, level, TileKey, tile_cmp, tile, Item, item_cmp, item, Pairing, pairing_cmp, pairing, PieceKey, piece_cmp, piece}
-use Rattle.mm_base.specs.Package.{System}
-use Rattle.mm_base.proofs.KeyLaws.{numbers, texts, levels, items, tile_keys, pairing_keys, piece_keys}
+use Rattle.mm_definitions.specs.Keys.{Text, text_cmp, Level, level_cmp, level, TileKey, tile_cmp, tile, Item, item_cmp, item, Pairing, pairing_cmp, pairing, PieceKey, piece_cmp, piece}
+use Rattle.mm_definitions.specs.Package.{System}
+use Rattle.mm_definitions.proofs.KeyLaws.{numbers, texts, levels, items, tile_keys, pairing_keys, piece_keys}
 use Rattle.mm_store.specs.Rows.{whole, past_rowid, past_id, maybe, system_row, contents_row, kind_row, set_row, grid_row, tile_row, attribute_row, medium_row, relation_row, pairing_row, edition_row, staged_row}
 use Rattle.mm_store.specs.Blobs.{blob_row}
 use Rattle.mm_store.proofs.Parts.{IsPart}

@@ -11,7 +11,7 @@ use Rattle.sqlite_rules.proofs.ListLemmas.{some_has, has_filtered, has_kept}
 use Rattle.sql_forms.specs.Tables.{Finds, without, with_changed}
 use Rattle.sql_forms.specs.Maps.{Holds}
 use Rattle.sql_forms.proofs.Maps as maps
-use Rattle.mm_base.proofs.Parts.{IsKeyOrder, not_none, kept, after_retain}
+use Rattle.mm_definitions.proofs.Parts.{IsKeyOrder, not_none, kept, after_retain}
 
 -- The rows of a table are the entries of a map, and the test finds the row of a key.
 pub record IsPart {K V : Type 0} (R : K → K → Ordering) (part : Row → Row) (row_of : K → V → Row) (test : K → Row → Bool) : Type 0 where

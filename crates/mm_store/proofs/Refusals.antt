@@ -1,8 +1,8 @@
 -- For which number a command is refused, from its reasons.
 use Rattle.std.proofs.Common.{◌≡◌, ℕ, Bool, true, false, cond, ◌==◌, Option, Some, None, refl, ap, ◌∙◌}
-use Rattle.mm_base.specs.Step.{refusal_of}
-use Rattle.mm_base.specs.Editions.{PieceRefusal}
-use Rattle.mm_base.specs.declared.answers.Refusal.{Refusal}
+use Rattle.mm_definitions.specs.Step.{refusal_of}
+use Rattle.mm_definitions.specs.Editions.{PieceRefusal}
+use Rattle.mm_definitions.specs.declared.answers.Refusal.{Refusal}
 
 abbrev pub refused : ℕ → Refusal
 refused n = record { number = n; piece = None }

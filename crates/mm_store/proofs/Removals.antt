@@ -2,8 +2,8 @@
 use Rattle.std.proofs.Common.{◌≡◌, ◌⊎◌, inl, inr, ℕ, ℤ, Bool, true, false, not, List, ◌∷◌, Option, Some, None, refl, sym, ap, subst₂, ◌∙◌}
 use Rattle.std.specs.declared.cmp.Ordering.{Ordering}
 use Rattle.std.specs.FinMap.{FinMap, get, retain_keys}
-use Rattle.mm_base.proofs.Parts.{IsKeyOrder, kept, let_go, true_or_false}
-use Rattle.mm_base.proofs.KeyLaws.{tile_keys, items, piece_keys}
+use Rattle.mm_definitions.proofs.Parts.{IsKeyOrder, kept, let_go, true_or_false}
+use Rattle.mm_definitions.proofs.KeyLaws.{tile_keys, items, piece_keys}
 use Rattle.sqlite.specs.declared.types.Value.TheVariants.{Text as Words}
 use Rattle.sqlite_value.specs.declared.keys.Collation.TheVariants.{Binary}
 use Rattle.sqlite.specs.Order.{Row}
@@ -12,9 +12,9 @@ use Rattle.sqlite_schema.specs.Rules.{equal}
 use Rattle.sql_forms.specs.Cascade.{has_at, cut}
 use Rattle.sql_forms.proofs.Keys.{equal_text, columns_are}
 use Rattle.mm_schema.specs.Places.{table_place, mapping_place, edition_place}
-use Rattle.mm_base.specs.Keys.{Text, same_text, TileKey, Item, PieceKey}
-use Rattle.mm_base.specs.Effects.{is_other}
-use Rattle.mm_base.specs.Package.{Package, Relation}
+use Rattle.mm_definitions.specs.Keys.{Text, same_text, TileKey, Item, PieceKey}
+use Rattle.mm_definitions.specs.Effects.{is_other}
+use Rattle.mm_definitions.specs.Package.{Package, Relation}
 use Rattle.mm_store.specs.Rows.{past_rowid, past_id, relation_row, MediumRow, StagedRow}
 use Rattle.mm_store.specs.Stands.{HoldingBut}
 use Rattle.mm_store.specs.Blobs.{Shelf, Blob, Told, Tells, Names}

@@ -7,9 +7,9 @@ use Rattle.sqlite.specs.Order.{Row}
 use Rattle.sqlite.specs.Tree.{Trees}
 use Rattle.sql_forms.specs.Tables.{tables_of}
 use Rattle.mm_schema.specs.Tables.{schema}
-use Rattle.mm_base.specs.Package.{Package}
-use Rattle.mm_base.proofs.KeyLaws.{extension_keys, tile_keys, items, piece_keys}
-use Rattle.mm_base.proofs.Parts.{IsKeyOrder, same_some}
+use Rattle.mm_definitions.specs.Package.{Package}
+use Rattle.mm_definitions.proofs.KeyLaws.{extension_keys, tile_keys, items, piece_keys}
+use Rattle.mm_definitions.proofs.Parts.{IsKeyOrder, same_some}
 use Rattle.mm_store.specs.Blobs.{Shelf, StandsAt, Told, Tells}
 use Rattle.mm_store.specs.Kept.{Kept, Spare, no_spare, Keeps, tile_id, tile_with, medium_id, medium_with, piece_id, piece_with}
 use Rattle.mm_store.specs.Stands.{HoldingBut, StandsForBut, StandsFor}

@@ -2,9 +2,9 @@
 use Rattle.std.specs.Prelude.{◌≡◌, ◌⊎◌, ℤ, Bool, false, Option, Some}
 use Rattle.std.specs.declared.cmp.Ordering.{Ordering}
 use Rattle.std.specs.FinMap.{FinMap, get, remove, retain_keys}
-use Rattle.mm_base.specs.Keys.{Text}
-use Rattle.mm_base.specs.Package.{Package}
-use Rattle.mm_base.specs.Effects.{is_other}
+use Rattle.mm_definitions.specs.Keys.{Text}
+use Rattle.mm_definitions.specs.Package.{Package}
+use Rattle.mm_definitions.specs.Effects.{is_other}
 use Rattle.mm_store.specs.Kept.{Kept, tile_id, medium_id, piece_id}
 
 -- the package without the table, but for its extension row

@@ -6,8 +6,8 @@ use Rattle.sqlite.specs.declared.types.Value.{Value}
 use Rattle.sqlite.specs.declared.types.Value.TheVariants.{Null, Int, Text as Words, Blob}
 use Rattle.sqlite.specs.Order.{Row, column}
 use Rattle.sqlite_rules.specs.Lists.{Has}
-use Rattle.mm_base.specs.Keys.{Text, Level, TileKey, Item, Pairing, PieceKey, Extension, extension_cmp}
-use Rattle.mm_base.specs.Package.{System, Contents, MatrixSet, Grid, AttributeRow, Relation}
+use Rattle.mm_definitions.specs.Keys.{Text, Level, TileKey, Item, Pairing, PieceKey, Extension, extension_cmp}
+use Rattle.mm_definitions.specs.Package.{System, Contents, MatrixSet, Grid, AttributeRow, Relation}
 
 -- what of a row counts: all of it, all but a rowid that the store chose, or all but an id that the store chose
 abbrev pub whole : Row → Row

@@ -1,10 +1,10 @@
 -- Which package a connection reads as, and what a call does that reads on it.
 use Rattle.std.specs.Prelude.{◌≡◌, false, Result, IfOk, IfErr, IsTrue}
 use Rattle.sqlite.specs.State.{State, HasCleanDisk}
-use Rattle.mm_base.specs.Bounds.{Profile}
-use Rattle.mm_base.specs.Package.{Package}
-use Rattle.mm_base.specs.Rules.{Meets}
-use Rattle.mm_base.specs.declared.answers.Fault.{Fault}
+use Rattle.mm_definitions.specs.Bounds.{Profile}
+use Rattle.mm_definitions.specs.Package.{Package}
+use Rattle.mm_definitions.specs.Rules.{Meets}
+use Rattle.mm_definitions.specs.declared.answers.Fault.{Fault}
 use Rattle.mm_store.specs.Faults.{IsStoreFault}
 use Rattle.mm_store.specs.Stands.{ReadsAs, IsSettled}
 use Rattle.mm_store.specs.Statements.{CommitsNothing}

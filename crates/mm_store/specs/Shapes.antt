@@ -1,15 +1,15 @@
 -- What a call does that is lent a transaction on a package.
 use Rattle.std.specs.Prelude.{◌≡◌, ℕ, ⊤, Option, Some, None, Result, Ok, Err, OnOk, IfOk, IfErr, IsTrue}
 use Rattle.sqlite.specs.State.{State, HasCleanDisk}
-use Rattle.mm_base.specs.Bounds.{Profile}
-use Rattle.mm_base.specs.Package.{Package}
-use Rattle.mm_base.specs.Rules.{Meets}
-use Rattle.mm_base.specs.Step.{refusal, step}
-use Rattle.mm_base.specs.declared.answers.Fault.{Fault}
-use Rattle.mm_base.specs.declared.answers.Outcome.{Outcome}
-use Rattle.mm_base.specs.declared.answers.Outcome.TheVariants.{Done, Refused}
-use Rattle.mm_base.specs.declared.answers.Refusal.{Refusal}
-use Rattle.mm_base.specs.declared.commands.Command.{Command}
+use Rattle.mm_definitions.specs.Bounds.{Profile}
+use Rattle.mm_definitions.specs.Package.{Package}
+use Rattle.mm_definitions.specs.Rules.{Meets}
+use Rattle.mm_definitions.specs.Step.{refusal, step}
+use Rattle.mm_definitions.specs.declared.answers.Fault.{Fault}
+use Rattle.mm_definitions.specs.declared.answers.Outcome.{Outcome}
+use Rattle.mm_definitions.specs.declared.answers.Outcome.TheVariants.{Done, Refused}
+use Rattle.mm_definitions.specs.declared.answers.Refusal.{Refusal}
+use Rattle.mm_definitions.specs.declared.commands.Command.{Command}
 use Rattle.mm_store.specs.Stands.{Ground, StandsOn, IsInside}
 use Rattle.mm_store.specs.Faults.{IsStoreFault}
 use Rattle.mm_store.specs.Statements.{CommitsNothing}

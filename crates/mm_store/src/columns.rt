@@ -6,9 +6,9 @@ ghost use Rattle.sqlite.specs.declared.types.Value.TheVariants.{Int, Text as Wor
 ghost use Rattle.mm_store.specs.Faults.{IsStoreFault};
 
 use crate::faults::fault_of;
-use mm_base::answers::Fault;
-use mm_base::names::Name;
-use mm_base::texts::Remark;
+use mm_definitions::answers::Fault;
+use mm_definitions::names::Name;
+use mm_definitions::texts::Remark;
 use sqlite::Row;
 
 /// The text in a column.

@@ -3,7 +3,7 @@
 ghost use Rattle.std.specs.Prelude.{◌≡◌};
 ghost use Rattle.mm_store.specs.Faults as spec;
 
-use mm_base::answers::Fault;
+use mm_definitions::answers::Fault;
 use sqlite::{Error, ErrorCode};
 
 /// Whether memory was refused.

@@ -2,7 +2,7 @@
 
 ghost use Rattle.std.specs.Prelude.{◌≡◌, ℤ};
 ghost use Rattle.sqlite.specs.Tree.{Trees};
-ghost use Rattle.mm_base.specs.Package.{Package};
+ghost use Rattle.mm_definitions.specs.Package.{Package};
 ghost use Rattle.mm_store.specs.Stands.{StandsFor};
 
 /// A database stands for at most one package.

@@ -10,7 +10,7 @@ ghost use Rattle.mm_store.specs.Faults.{told_as};
 ghost use Rattle.mm_store.specs.Statements.{IsRun, IsAsked, IsListed, GivesText, GivesPair};
 
 use crate::faults::fault_of;
-use mm_base::answers::Fault;
+use mm_definitions::answers::Fault;
 use sqlite::types::ValueRef;
 use sqlite::{Alter, Error, Row, Transaction};
 

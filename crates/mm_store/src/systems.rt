@@ -3,11 +3,11 @@
 ghost use Rattle.std.specs.Prelude.{◌≡◌};
 ghost use Rattle.std.specs.FinMap.{contains_key};
 ghost use Rattle.sqlite.specs.Held.{state};
-ghost use Rattle.mm_base.specs.Bounds.{Profile};
+ghost use Rattle.mm_definitions.specs.Bounds.{Profile};
 ghost use Rattle.mm_store.specs.Shapes.{IsLook};
 
 use crate::statements::exists;
-use mm_base::answers::Fault;
+use mm_definitions::answers::Fault;
 use sqlite::{Alter, Transaction, params};
 
 /// Whether a system has this number.

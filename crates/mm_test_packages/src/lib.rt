@@ -1,10 +1,10 @@
 //! What tests of sessions begin with, and what a run on it answers. Nothing here promises more than that it ends well, or with None.
 #![tactic(auto)]
 
-use mm_base::answers::{RunFault, Tally};
-use mm_base::moments::Moment;
-use mm_base::streams::Io;
 use mm_core::Session;
+use mm_definitions::answers::{RunFault, Tally};
+use mm_definitions::moments::Moment;
+use mm_definitions::streams::Io;
 use sqlite::{Alter, Connection, FileStore, Files, MemStore, Options};
 use sqlite_disk::Disk;
 use std::alloc::Global;

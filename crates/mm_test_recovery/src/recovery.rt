@@ -1,9 +1,9 @@
 //! Disks in memory that stop, and the package that is found when they are opened again.
 
-use mm_base::moments::Moment;
-use mm_base::names::Name;
-use mm_base::streams::Io;
 use mm_core::Session;
+use mm_definitions::moments::Moment;
+use mm_definitions::names::Name;
+use mm_definitions::streams::Io;
 use mm_recovery::{
     close_and_adopt, create_again, create_and_recover, create_on, create_or_adopt,
     open_after_crash, run_and_recover,

@@ -1,6 +1,6 @@
 //! Writers, readers and folders that fail.
 
-use mm_base::streams::Io;
+use mm_definitions::streams::Io;
 use mm_kit::{Folder, FolderFault, Found, Shelf};
 use std::alloc::Global;
 use std::io;

@@ -1,11 +1,11 @@
 //! Imports of kits in memory into the edition of a package in memory.
 
 use crate::fakes::torn_folder;
-use mm_base::answers::{KitFault, Staged};
-use mm_base::entries::EditionState;
-use mm_base::moments::Moment;
-use mm_base::names::Name;
 use mm_core::Session;
+use mm_definitions::answers::{KitFault, Staged};
+use mm_definitions::entries::EditionState;
+use mm_definitions::moments::Moment;
+use mm_definitions::names::Name;
 use mm_kit::{Folder, Shelf, ShelfFile, import_kit};
 use mm_test_packages::{FINER, PYRAMID, RELATED, answers, session_after, text_of};
 use sqlite::MemStore;

@@ -1,8 +1,8 @@
 //! Requests and their responses, as docs/FORMATS.md describes the page.
 
 use crate::fakes::{Short, short_writer, slow_reader, torn_reader};
-use mm_base::streams::Io;
 use mm_core::Session;
+use mm_definitions::streams::Io;
 use mm_page::serve_one;
 use mm_test_packages::{FINER, PYRAMID, RELATED, new_session, session_after, session_at};
 use sqlite::MemStore;

@@ -4,10 +4,10 @@ ghost use Rattle.std.specs.Prelude.{◌≡◌};
 ghost use Rattle.mm_run.specs.Applied.{OnFault};
 
 use crate::fakes::{Short, short_writer, torn_reader, unflushed_writer};
-use mm_base::answers::{Answer, Fault, Refusal, Tally};
-use mm_base::commands::Command;
-use mm_base::moments::Moment;
-use mm_base::streams::Io;
+use mm_definitions::answers::{Answer, Fault, Refusal, Tally};
+use mm_definitions::commands::Command;
+use mm_definitions::moments::Moment;
+use mm_definitions::streams::Io;
 use mm_run::{Apply, run_list};
 use std::alloc::Global;
 use std::fmt::Write;

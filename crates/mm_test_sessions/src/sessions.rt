@@ -1,10 +1,10 @@
 //! What sessions on packages in memory answer, adopt, check and list.
 
 use crate::fakes::{Short, short_writer};
-use mm_base::answers::{Fault, Open};
-use mm_base::streams::Io;
 use mm_core::Session;
-use mm_meta::create_in_memory;
+use mm_definitions::answers::{Fault, Open};
+use mm_definitions::streams::Io;
+use mm_opening::create_in_memory;
 use mm_test_packages::{
     FINER, PYRAMID, RELATED, answers, new_session, session_after, session_at, text_of,
 };

@@ -2,12 +2,14 @@
 //! fails.
 
 use crate::fakes::{Short, short_writer, torn_reader};
-use mm_base::answers::Tally;
-use mm_base::moments::Moment;
-use mm_base::streams::Io;
+use mm_definitions::answers::Tally;
+use mm_definitions::moments::Moment;
+use mm_definitions::streams::Io;
 use mm_recovery::open_after_close;
+use mm_subcommands::{
+    DONE, FAULT, Stop, make_package, run_package, tell_init, tell_stop, tell_text,
+};
 use mm_test_packages::{create, open};
-use mm_work::{DONE, FAULT, Stop, make_package, run_package, tell_init, tell_stop, tell_text};
 use sqlite::{Alter, Connection, FileStore, Files, Options};
 use sqlite_disk::{Disk, Memory};
 use std::alloc::Global;

@@ -1,7 +1,7 @@
 //! What stands on a connection.
 
-use mm_base::answers::Open;
 use mm_core::Session;
+use mm_definitions::answers::Open;
 use mm_test_packages::create;
 use sqlite::{Alter, Connection, Row};
 use std::alloc::Global;

@@ -2,12 +2,12 @@
 
 use crate::cases::{Work, first_lines};
 use crate::disks::Plans;
-use mm_base::answers::{Answer, Fault, Open, Staged};
-use mm_base::commands::Command;
-use mm_base::moments::Moment;
-use mm_base::names::Name;
-use mm_base::streams::Io;
 use mm_core::Session;
+use mm_definitions::answers::{Answer, Fault, Open, Staged};
+use mm_definitions::commands::Command;
+use mm_definitions::moments::Moment;
+use mm_definitions::names::Name;
+use mm_definitions::streams::Io;
 use mm_kit::{Shelf, ShelfFile, import_kit};
 use mm_test_packages::run;
 use sqlite::{Alter, Connection};

@@ -2,15 +2,14 @@
 
 use crate::commands::{count, fields_of, number, zoom};
 use crate::rows::add_bytes;
-use mm_base::answers::{Fault, Open};
-use mm_base::commands::Kind;
-use mm_base::entries::{Entry, Media, Related, Row};
-use mm_base::names::Name;
-use mm_base::units::CURRENT;
 use mm_check::verify;
-use mm_meta::{init, look};
-use mm_reads::{contents, media, row, tile};
-use mm_related::related;
+use mm_definitions::answers::{Fault, Open};
+use mm_definitions::commands::Kind;
+use mm_definitions::entries::{Entry, Media, Related, Row};
+use mm_definitions::names::Name;
+use mm_definitions::units::CURRENT;
+use mm_opening::{init, look};
+use mm_reads::{contents, media, related, row, tile};
 use sqlite::{Alter, Connection};
 use std::alloc::Global;
 use std::fmt::Write;

@@ -1,7 +1,7 @@
 //! A reader and a writer of which a call fails.
 
-use mm_base::ends::UntilEnd;
-use mm_base::streams::Io;
+use mm_definitions::ends::UntilEnd;
+use mm_definitions::streams::Io;
 use std::io;
 use std::io::{ErrorKind, Read, Write};
 

@@ -1,10 +1,10 @@
 //! Each type of text is read once.
 
-use mm_base::bytes::TileBytes;
-use mm_base::content_types::ContentType;
-use mm_base::identifiers::Identifier;
-use mm_base::names::Name;
-use mm_base::texts::Remark;
+use mm_definitions::bytes::TileBytes;
+use mm_definitions::content_types::ContentType;
+use mm_definitions::identifiers::Identifier;
+use mm_definitions::names::Name;
+use mm_definitions::texts::Remark;
 use std::alloc::AllocError;
 
 #[test]

@@ -1,12 +1,12 @@
 //! Worked values from outside: stamps, products and numbers at their limits. A list has a line `QUESTION: ANSWER` each.
 
 use crate::lines::{fields_of, number};
-use mm_base::bounded::{MatrixSide, PixelSize, TileSide};
-use mm_base::commands::{Matrix, Step};
-use mm_base::extents::{Extent, fits};
-use mm_base::matrices::neighbours;
-use mm_base::moments::{Moment, is_stamp, stamp};
-use mm_base::numbers::read_number;
+use mm_definitions::bounded::{MatrixSide, PixelSize, TileSide};
+use mm_definitions::commands::{Matrix, Step};
+use mm_definitions::extents::{Extent, fits};
+use mm_definitions::matrices::neighbours;
+use mm_definitions::moments::{Moment, is_stamp, stamp};
+use mm_definitions::numbers::read_number;
 use std::alloc::Global;
 use std::fmt::Write;
 

@@ -2,9 +2,9 @@
 use Rattle.std.proofs.Common.{inl, inr, ℕ, List, Bool, true, false, Result, Ok, Err, sym, subst, ◌∙◌}
 use Rattle.sqlite.specs.Order.{Row}
 use Rattle.sqlite.specs.State.{State}
-use Rattle.mm_base.specs.Bounds.{Profile}
-use Rattle.mm_base.specs.Package.{Package}
-use Rattle.mm_base.specs.declared.answers.Fault.{Fault}
+use Rattle.mm_definitions.specs.Bounds.{Profile}
+use Rattle.mm_definitions.specs.Package.{Package}
+use Rattle.mm_definitions.specs.declared.answers.Fault.{Fault}
 use Rattle.mm_store.specs.Stands.{ReadsAs}
 use Rattle.mm_store.specs.Seen.{IsSeenAs}
 use Rattle.mm_walk.specs.Walk.{Rests, Ends}

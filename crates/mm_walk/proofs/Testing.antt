@@ -13,7 +13,7 @@ use Rattle.sqlite.specs.Listing.{understood}
 use Rattle.sqlite.specs.State.{State, IsUnchanged, Shown, Begins}
 use Rattle.sqlite.proofs.Callers.{IsPlain, reads_as, begins_as}
 use Rattle.sql_forms.specs.Forms.{query, no_limit, alone}
-use Rattle.mm_base.specs.declared.answers.Fault.{Fault}
+use Rattle.mm_definitions.specs.declared.answers.Fault.{Fault}
 use Rattle.mm_store.specs.Faults.{IsStoreFault}
 use Rattle.mm_walk.specs.Walk.{OnlyAsks, Rests, Takes, Ends, IsWalk}
 use Rattle.mm_walk.specs.RowTests.{IsQuery, AllShown, TellsAll}

@@ -8,7 +8,7 @@ use Rattle.sqlite.proofs.Callers.{unchanged_then, given_begin}
 use Rattle.sqlite_trees.specs.declared.store.Store.{Ghosts}
 use Rattle.sqlite.specs.Held.{Held, state}
 use Rattle.sqlite.specs.Given.{HasGiven, HasBegun}
-use Rattle.mm_base.specs.declared.answers.Fault.{Fault}
+use Rattle.mm_definitions.specs.declared.answers.Fault.{Fault}
 use Rattle.mm_store.specs.Faults.{told_as, IsStoreFault}
 use Rattle.mm_store.proofs.Asking.{told_fault}
 use Rattle.mm_walk.specs.Walk.{OnlyAsks, Rests, IsFront, Takes, IsEndedAt, IsWalk}

@@ -7,7 +7,7 @@ ghost use Rattle.sqlite.specs.Values.{bound};
 ghost use Rattle.mm_walk.specs.RowTests.{TellsAll};
 
 use crate::walk::{Visitor, walk};
-use mm_base::answers::Fault;
+use mm_definitions::answers::Fault;
 use sqlite::types::ValueRef;
 use sqlite::{Alter, Connection, Row};
 

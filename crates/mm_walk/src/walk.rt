@@ -1,13 +1,13 @@
 //! The rows of a query, each handed to a visitor before the next is asked for.
 
 ghost use Rattle.std.specs.Prelude.{Bool, Result};
-ghost use Rattle.mm_base.specs.declared.answers.Fault.{Fault as FaultValue};
+ghost use Rattle.mm_definitions.specs.declared.answers.Fault.{Fault as FaultValue};
 ghost use Rattle.sqlite.specs.Order.{Row as Values};
 ghost use Rattle.sqlite.specs.Held.{state};
 ghost use Rattle.sqlite.specs.Values.{bound};
 ghost use Rattle.mm_walk.specs.Walk.{IsWalk};
 
-use mm_base::answers::Fault;
+use mm_definitions::answers::Fault;
 use mm_store::faults::fault_of;
 use sqlite::types::ValueRef;
 use sqlite::{Alter, Connection, Row};

@@ -1,8 +1,8 @@
 use Rattle.std.proofs.Common.{◌≡◌, ◌∷◌, [], Some, None, Option, Ok, refl, sym, ap, subst, ◌∙◌, option_map, rules, w64, to_z, of_z, to_z-of_z}
 use Rattle.std.specs.FinMap.{get, insert}
 use Rattle.sqlite.specs.Held.{state}
-use Rattle.mm_base.proofs.Parts.{at_put}
-use Rattle.mm_base.proofs.KeyLaws.{numbers}
+use Rattle.mm_definitions.proofs.Parts.{at_put}
+use Rattle.mm_definitions.proofs.KeyLaws.{numbers}
 use Rattle.mm_store.specs.Blobs.{Blob, Shelf, blob_of, bytes_at}
 use Rattle.mm_blobs.specs.Views.{View, spare_too, IsSeen, IsFound}
 use Rattle.mm_blobs.specs.Moves.{IsMove}

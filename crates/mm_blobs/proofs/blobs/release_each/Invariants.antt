@@ -1,6 +1,6 @@
 use Rattle.std.proofs.Common.{◌≡◌, drop, Ok, IsTrue}
 use Rattle.sqlite.specs.Held.{state}
-use Rattle.mm_base.specs.Bounds.{Profile}
+use Rattle.mm_definitions.specs.Bounds.{Profile}
 use Rattle.mm_store.specs.Kept.{Spare}
 use Rattle.mm_blobs.specs.Views.{spare_each, IsSeen}
 use Rattle.mm_blobs.specs.Moves.{IsMove}

@@ -5,7 +5,7 @@ use Rattle.sqlite.specs.Held.{state}
 use Rattle.sqlite.specs.Term.{col}
 use Rattle.sql_forms.proofs.Keys.{columns_are}
 use Rattle.sql_forms.proofs.Selects.{selects_one, shows}
-use Rattle.mm_base.specs.Keys.{item}
+use Rattle.mm_definitions.specs.Keys.{item}
 use Rattle.mm_store.specs.Rows.{MediumRow, medium_row}
 use Rattle.mm_store.proofs.Keys as parts
 use Rattle.mm_blobs.specs.Moves.{GivesNumber}

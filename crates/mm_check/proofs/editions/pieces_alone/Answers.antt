@@ -1,7 +1,7 @@
-use Rattle.mm_base.specs.Units.{profile_of}
+use Rattle.mm_definitions.specs.Units.{profile_of}
 use Rattle.sqlite.specs.Held.{state}
 use Rattle.mm_rules.specs.Parts.{PiecesNumbered, PiecesSpelled}
-use Rattle.mm_base.specs.Rules.{Limits}
+use Rattle.mm_definitions.specs.Rules.{Limits}
 use Rattle.mm_queries.proofs.Compose.{goes_on, stops, gives_up}
 use Rattle.mm_check.proofs.editions.pieces_alone.Goals as goal
 

@@ -1,7 +1,7 @@
 use Rattle.std.proofs.Common.{[], refl}
 use Rattle.sqlite.specs.Held.{state}
 use Rattle.mm_rules.specs.Parts.{PiecesOfOpen}
-use Rattle.mm_base.specs.Rules.{Limits}
+use Rattle.mm_definitions.specs.Rules.{Limits}
 use Rattle.mm_rules.specs.Texts as text
 use Rattle.mm_check.specs.PieceRows.{IsOpenRow}
 use Rattle.mm_queries.proofs.Checks.{checks}

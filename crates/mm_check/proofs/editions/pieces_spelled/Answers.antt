@@ -1,8 +1,8 @@
-use Rattle.mm_base.specs.Units.{profile_of}
+use Rattle.mm_definitions.specs.Units.{profile_of}
 use Rattle.std.proofs.Common.{[], refl}
 use Rattle.sqlite.specs.Held.{state}
 use Rattle.mm_rules.specs.Parts.{PiecesSpelled}
-use Rattle.mm_base.specs.Rules.{Limits}
+use Rattle.mm_definitions.specs.Rules.{Limits}
 use Rattle.mm_rules.specs.Texts as text
 use Rattle.mm_check.specs.PieceRows.{IsSpelledRow}
 use Rattle.mm_queries.proofs.Checks.{checks}

@@ -1,7 +1,7 @@
 use Rattle.std.specs.Prelude.{⊤}
 use Rattle.sqlite.specs.Held.{state}
-use Rattle.mm_base.specs.Rules.{Limits, GivenSystems, NamedSystems, DistinctIdentifiers, Names, Registry, Extents, MatricesFit, HigherIsFiner, NextIsHalved, TilesInside, Items, RelationsSuited, PairingsJoin, ExactExtensions, Editions}
-use Rattle.mm_base.specs.Units.{profile_of}
+use Rattle.mm_definitions.specs.Rules.{Limits, GivenSystems, NamedSystems, DistinctIdentifiers, Names, Registry, Extents, MatricesFit, HigherIsFiner, NextIsHalved, TilesInside, Items, RelationsSuited, PairingsJoin, ExactExtensions, Editions}
+use Rattle.mm_definitions.specs.Units.{profile_of}
 use Rattle.mm_check.specs.Verdict.{rule}
 use Rattle.mm_check.proofs.Verdicts.{as_rule}
 use Rattle.mm_check.proofs.verdict.one_rule.Goals as goal

@@ -1,6 +1,6 @@
 use Rattle.std.proofs.Common.{◌≡◌, ◌≤◌, arith}
 use Rattle.sqlite.specs.Held.{state}
-use Rattle.mm_base.specs.Units.{profile_of}
+use Rattle.mm_definitions.specs.Units.{profile_of}
 use Rattle.mm_check.proofs.Verdicts.{limits_pass, limits_stop, limits_fail, rule_passes, rule_stops, rule_fails, all_pass}
 use Rattle.mm_check.proofs.verdict.verify.Goals as goal
 

@@ -1,5 +1,5 @@
 use Rattle.std.proofs.Common.{ap, Ok, ◌∙◌}
-use Rattle.mm_base.specs.Bounds.{current}
+use Rattle.mm_definitions.specs.Bounds.{current}
 use Rattle.mm_core.proofs.Turns.{store_fault, rehearsed_well, rehearsed_refused, rehearsed_in_vain}
 use Rattle.mm_core.proofs.applying.rehearse_once.Goals as goal
 

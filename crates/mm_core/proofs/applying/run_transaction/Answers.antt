@@ -1,6 +1,6 @@
 use Rattle.std.proofs.Common.{rules, Ok, ap, ◌∙◌}
 use Rattle.sqlite.specs.Held.{state}
-use Rattle.mm_base.specs.declared.answers.Answer.TheVariants as answer
+use Rattle.mm_definitions.specs.declared.answers.Answer.TheVariants as answer
 use Rattle.mm_core.specs.Applied.{IsApplied}
 use Rattle.mm_core.proofs.Turns.{committed, in_doubt, refused, gave_up, store_fault}
 use Rattle.mm_core.proofs.applying.run_transaction.Goals as goal

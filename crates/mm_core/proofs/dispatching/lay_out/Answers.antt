@@ -1,8 +1,8 @@
 use Rattle.std.proofs.Common.{refl, rules, w64}
 use Rattle.std.proofs.lemmas.Int.{to_z-of_z}
-use Rattle.mm_base.specs.Bounds.{current}
+use Rattle.mm_definitions.specs.Bounds.{current}
 use mir.Val.{SFits}
-use Rattle.mm_contents.proofs.Stamping.{at_any_text}
+use Rattle.mm_layout.proofs.Stamping.{at_any_text}
 use Rattle.mm_core.proofs.dispatching.lay_out.Goals as goal
 
 pub returns-in-Srs-clause-lent : goal.returns-in-Srs-clause-lent

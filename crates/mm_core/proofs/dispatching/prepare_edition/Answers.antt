@@ -1,4 +1,4 @@
-use Rattle.mm_base.specs.Bounds.{current}
+use Rattle.mm_definitions.specs.Bounds.{current}
 use Rattle.mm_core.proofs.dispatching.prepare_edition.Goals as goal
 
 pub returns-in-Edition-clause-lent : goal.returns-in-Edition-clause-lent

@@ -1,6 +1,6 @@
-use Rattle.mm_base.specs.Bounds.{current}
+use Rattle.mm_definitions.specs.Bounds.{current}
 use Rattle.mm_store.proofs.Shapes.{lent_tried}
-use Rattle.mm_contents.proofs.Stamping.{at_moment}
+use Rattle.mm_layout.proofs.Stamping.{at_moment}
 use Rattle.mm_core.proofs.dispatching.run_command.Goals as goal
 
 pub returns-in-Srs-clause-tried : goal.returns-in-Srs-clause-tried

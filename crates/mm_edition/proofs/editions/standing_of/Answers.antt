@@ -1,6 +1,6 @@
 use Rattle.std.proofs.Common.{Some, option_map, string_bytes, sym, ap, ◌∙◌}
 use Rattle.mm_store.proofs.Shapes.{look_as, look_failed}
-use Rattle.mm_contents.proofs.Looking.{look_denied}
+use Rattle.mm_layout.proofs.Looking.{look_denied}
 use Rattle.mm_edition.proofs.editions.standing_of.Goals as goal
 
 pub returns-in-Some-clause-look : goal.returns-in-Some-clause-look

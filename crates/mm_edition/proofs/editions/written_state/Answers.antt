@@ -5,7 +5,7 @@ use Rattle.sqlite.specs.Held.{state}
 use Rattle.sqlite.specs.Term.{col}
 use Rattle.sql_forms.proofs.Keys.{columns_are}
 use Rattle.sql_forms.proofs.Selects.{selects_one, shows}
-use Rattle.mm_contents.proofs.Looking.{mapped_same}
+use Rattle.mm_layout.proofs.Looking.{mapped_same}
 use Rattle.mm_schema.proofs.Selecting as statement
 use Rattle.mm_store.specs.Rows.{edition_row}
 use Rattle.mm_store.proofs.Lookups.{text_found}

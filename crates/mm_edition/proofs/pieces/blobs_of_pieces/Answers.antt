@@ -7,7 +7,7 @@ use Rattle.sql_forms.specs.Forms.{equals, is_absent}
 use Rattle.sql_forms.specs.Tables.{passes}
 use Rattle.sql_forms.proofs.Keys.{columns_are}
 use Rattle.sql_forms.proofs.Selects.{selects_all, shows}
-use Rattle.mm_base.specs.Effects.{is_other}
+use Rattle.mm_definitions.specs.Effects.{is_other}
 use Rattle.mm_store.specs.Kept.{piece_id}
 use Rattle.mm_store.specs.Removals.{FreedByEdition}
 use Rattle.mm_store.specs.Rows.{maybe, staged_row}

@@ -2,8 +2,8 @@ use Rattle.std.proofs.Common.{◌≡◌, [], length, Ok, Some, None, true, refl,
 use Rattle.std.specs.FinMap.{get, insert}
 use Rattle.std.proofs.lemmas.List.{nil_from_length}
 use Rattle.sqlite.specs.Held.{state}
-use Rattle.mm_base.specs.Keys.{piece}
-use Rattle.mm_base.specs.Package.{Package}
+use Rattle.mm_definitions.specs.Keys.{piece}
+use Rattle.mm_definitions.specs.Package.{Package}
 use Rattle.mm_store.specs.Blobs.{bytes_at}
 use Rattle.mm_store.specs.Kept.{no_spare}
 use Rattle.mm_blobs.specs.Views.{View, IsSeen, spare_too, spare_but}

@@ -4,7 +4,7 @@ use Rattle.std.specs.FinMap.{get}
 use Rattle.std.specs.Prelude.{⊤}
 use Rattle.sqlite.specs.Held.{state}
 use Rattle.sqlite.specs.Order.{column}
-use Rattle.mm_base.specs.Keys.{piece}
+use Rattle.mm_definitions.specs.Keys.{piece}
 use Rattle.mm_store.specs.Blobs.{StandsAt}
 use Rattle.mm_store.specs.Kept.{no_spare}
 use Rattle.mm_store.specs.Rows.{maybe}
@@ -13,7 +13,7 @@ use Rattle.mm_blobs.specs.Views.{View, IsSeen}
 use Rattle.mm_blobs.proofs.Moving.{then_moves_open, then_failed, moves_as, move_untold}
 use Rattle.mm_blobs.proofs.Opening.{tells_of, tidy_untold}
 use Rattle.mm_edition.specs.Kept.{kept_row, plain, Shows, IsRowOf}
-use Rattle.mm_base.specs.Package.{PieceRow}
+use Rattle.mm_definitions.specs.Package.{PieceRow}
 use Rattle.mm_edition.proofs.Rows.{row_tells, no_row_tells}
 use Rattle.mm_edition.proofs.pieces.kept_piece.Goals as goal
 

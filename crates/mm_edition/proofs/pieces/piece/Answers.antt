@@ -2,7 +2,7 @@ use Rattle.std.proofs.Common.{◌≡◌, Some, option_map, pos, rules, ap, ◌�
 use Rattle.std.proofs.Math.Facts.{to_z-of_z}
 use mir.Val.{SFits}
 use Rattle.mm_store.proofs.Shapes.{look_as, look_failed}
-use Rattle.mm_contents.proofs.Looking.{look_denied}
+use Rattle.mm_layout.proofs.Looking.{look_denied}
 use Rattle.mm_edition.specs.Kept.{kept_row}
 use Rattle.mm_edition.proofs.Spelled.{spelled_row}
 use Rattle.mm_edition.proofs.pieces.piece.Goals as goal

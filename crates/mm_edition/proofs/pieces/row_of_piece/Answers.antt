@@ -4,7 +4,7 @@ use Rattle.sqlite.specs.declared.types.Value.TheVariants.{Int, Text as Words}
 use Rattle.sqlite.specs.Order.{Row}
 use Rattle.sqlite.specs.Held.{state}
 use Rattle.sql_forms.proofs.Selects.{selects_one}
-use Rattle.mm_base.specs.Keys.{piece}
+use Rattle.mm_definitions.specs.Keys.{piece}
 use Rattle.mm_schema.proofs.Selecting as statement
 use Rattle.mm_store.specs.Blobs.{Told}
 use Rattle.mm_store.specs.Kept.{piece_id, piece_with}

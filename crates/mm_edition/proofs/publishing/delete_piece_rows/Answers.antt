@@ -5,7 +5,7 @@ use Rattle.sqlite.specs.Tree.{with_tree}
 use Rattle.sqlite.specs.Held.{state}
 use Rattle.sql_forms.specs.Tables.{without}
 use Rattle.sql_forms.proofs.Deletes.{has_deleted}
-use Rattle.mm_base.specs.Effects.{is_other}
+use Rattle.mm_definitions.specs.Effects.{is_other}
 use Rattle.mm_schema.proofs.Deleting as statement
 use Rattle.mm_store.specs.Kept.{no_spare}
 use Rattle.mm_store.specs.Removals.{kept_without_edition, FreedByEdition}

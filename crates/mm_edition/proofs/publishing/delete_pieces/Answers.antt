@@ -1,9 +1,9 @@
 use Rattle.std.proofs.Common.{◌≡◌, Ok, Err, sym, ap, subst, ◌∙◌}
 use Rattle.std.specs.Prelude.{⊤}
 use Rattle.std.specs.FinMap.{retain_keys}
-use Rattle.mm_base.specs.Effects.{is_other}
+use Rattle.mm_definitions.specs.Effects.{is_other}
 use Rattle.sqlite.specs.Held.{state}
-use Rattle.mm_base.specs.Package.{Package}
+use Rattle.mm_definitions.specs.Package.{Package}
 use Rattle.mm_store.specs.Kept.{no_spare}
 use Rattle.mm_blobs.specs.Views.{View, IsSeen, spare_each}
 use Rattle.mm_blobs.proofs.Moving.{then_moves, then_moves_open, then_failed}

@@ -6,8 +6,8 @@ use Rattle.sqlite.specs.Held.{state}
 use Rattle.sql_forms.specs.Tables.{with_changed}
 use Rattle.sql_forms.proofs.Updates.{has_changed, updated}
 use Rattle.mm_schema.specs.Tables.{mm_editions}
-use Rattle.mm_base.specs.Package.{published_state}
-use Rattle.mm_base.proofs.Parts.{some_of}
+use Rattle.mm_definitions.specs.Package.{published_state}
+use Rattle.mm_definitions.proofs.Parts.{some_of}
 use Rattle.mm_schema.proofs.Updating as statement
 use Rattle.mm_store.proofs.Changes.{closed_sets, edition_closed}
 use Rattle.mm_store.proofs.Parts as part

@@ -1,5 +1,5 @@
 use Rattle.mm_edition.proofs.Tries.{closed_tried, look_tried_in_vain, publish_53, publish_gave_up, publish_done, publish_half_closed}
-use Rattle.mm_base.specs.Bounds.{current}
+use Rattle.mm_definitions.specs.Bounds.{current}
 use Rattle.mm_store.proofs.Shapes.{quiet_then}
 use Rattle.mm_edition.proofs.Quieting.{look_quiet, change_quiet, answered, faulted, quietly_then}
 use Rattle.mm_edition.proofs.publishing.publish.Goals as goal

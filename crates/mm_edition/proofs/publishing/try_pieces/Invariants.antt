@@ -2,9 +2,9 @@ use Rattle.std.proofs.Common.{◌≡◌, ℕ, Some}
 use Rattle.std.specs.FinMap.{get}
 use Rattle.sqlite.specs.Held.{state}
 use Rattle.sqlite.specs.State.{HasCleanDisk}
-use Rattle.mm_base.specs.Bounds.{Profile}
-use Rattle.mm_base.specs.Package.{Package, open_state}
-use Rattle.mm_base.specs.Stamp.{IsStamp}
+use Rattle.mm_definitions.specs.Bounds.{Profile}
+use Rattle.mm_definitions.specs.Package.{Package, open_state}
+use Rattle.mm_definitions.specs.Stamp.{IsStamp}
 use Rattle.mm_store.specs.Stands.{Ground}
 use Rattle.mm_store.specs.Statements.{CommitsNothing}
 use Rattle.mm_edition.specs.Turns.{IsReady}

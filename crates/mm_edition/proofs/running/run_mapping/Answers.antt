@@ -1,7 +1,7 @@
 use Rattle.std.proofs.Common.{refl, rules, w64}
 use Rattle.std.proofs.lemmas.Int.{to_z-of_z}
 use mir.Val.{SFits}
-use Rattle.mm_contents.proofs.Stamping.{at_any_text}
+use Rattle.mm_layout.proofs.Stamping.{at_any_text}
 use Rattle.mm_edition.proofs.running.run_mapping.Goals as goal
 
 pub returns-in-Map-clause-lent : goal.returns-in-Map-clause-lent

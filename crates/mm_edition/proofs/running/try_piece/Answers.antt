@@ -1,6 +1,6 @@
 use Rattle.std.proofs.Common.{Ok, ap, ◌∙◌}
 use Rattle.mm_edition.proofs.Turning.{turn_ends, turn_looked_in_vain, turn_done, turn_refused, turn_gave_up}
-use Rattle.mm_base.specs.Bounds.{current}
+use Rattle.mm_definitions.specs.Bounds.{current}
 use Rattle.mm_edition.proofs.Quieting.{look_quiet, lent_quiet, answered, faulted, quietly_then}
 use Rattle.mm_edition.proofs.running.try_piece.Goals as goal
 

@@ -1,9 +1,9 @@
-use Rattle.mm_base.specs.Bounds.{current}
+use Rattle.mm_definitions.specs.Bounds.{current}
 use Rattle.std.proofs.Common.{refl, subst, rules, w64, Ok, Err, map}
 use Rattle.std.proofs.Math.Facts.{to_z-of_z}
 use mir.Val.{SFits}
-use Rattle.mm_base.specs.Reading.{ReadsTo}
-use Rattle.mm_base.specs.Records.{HoldsAgainstPiece, IsLeast, SpellsPiece}
+use Rattle.mm_definitions.specs.Reading.{ReadsTo}
+use Rattle.mm_definitions.specs.Records.{HoldsAgainstPiece, IsLeast, SpellsPiece}
 use Rattle.mm_kit.specs.Entries.{IsPlaced, file_of, shown}
 use Rattle.mm_kit.proofs.EntryFacts.{number_refused, piece_refused, placed_entry, placed_least}
 use Rattle.mm_kit.proofs.entries.read_record.Goals as goal

@@ -1,5 +1,5 @@
 use Rattle.std.proofs.Common.{◌≡◌, ◌≤◌, ◌<◌, length, Some, None, arith, rules}
-use Rattle.mm_base.specs.declared.entries.EditionState.TheVariants as states
+use Rattle.mm_definitions.specs.declared.entries.EditionState.TheVariants as states
 use Rattle.mm_edition.specs.States.{TellsState}
 use Rattle.mm_kit.proofs.EditionFacts.{open_has}
 use Rattle.mm_kit.proofs.KitFacts.{imported_longer, imported_none, imported_open, imported_published, staged_at_once}

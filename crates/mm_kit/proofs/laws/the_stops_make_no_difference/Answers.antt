@@ -1,7 +1,7 @@
 use Rattle.std.proofs.Common.{◌≡◌, ap}
-use Rattle.mm_base.specs.Package.{Package}
-use Rattle.mm_base.specs.Step.{step}
-use Rattle.mm_base.specs.declared.commands.Command.TheVariants as commands
+use Rattle.mm_definitions.specs.Package.{Package}
+use Rattle.mm_definitions.specs.Step.{step}
+use Rattle.mm_definitions.specs.declared.commands.Command.TheVariants as commands
 use Rattle.mm_kit.proofs.LawFacts.{by_any_stops}
 use Rattle.mm_kit.proofs.laws.the_stops_make_no_difference.Goals as goal
 

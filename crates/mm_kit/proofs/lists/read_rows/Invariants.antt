@@ -1,7 +1,7 @@
 use Rattle.std.proofs.Common.{◌≡◌, ◌≤◌, ◌+◌, ℕ, List, length, Some}
 use Rattle.csv.specs.Reading.{source_of}
 use Rattle.csv.specs.declared.parser.State.TheVariants as states
-use Rattle.mm_lines.specs.Records.{IsSetUp}
+use Rattle.mm_io.specs.Records.{IsSetUp}
 use Rattle.mm_kit.specs.Lists.{AreSoFar}
 use Rattle.mm_kit.proofs.lists.read_rows.Given as goal
 

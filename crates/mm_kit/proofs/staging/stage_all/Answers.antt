@@ -1,8 +1,8 @@
 use Rattle.std.proofs.Common.{◌≡◌, ◌≤◌, ◌<◌, ◌+◌, ◌∙◌, ◌⊎◌, inl, inr, length, List, [], ◌∷◌, ◌++◌, Ok, Err, ℕ, pos, sym, ap, subst, refl, arith, rules, append_assoc, append-nil, length-append}
 use Rattle.std.specs.Prelude.{◌||◌, false}
 use Rattle.std.specs.Vec.Iter.{into_iter_items}
-use Rattle.mm_base.specs.Step.{step}
-use Rattle.mm_base.specs.declared.commands.Command.TheVariants as commands
+use Rattle.mm_definitions.specs.Step.{step}
+use Rattle.mm_definitions.specs.declared.commands.Command.TheVariants as commands
 use Rattle.mm_kit.specs.Kits.{filled}
 use Rattle.mm_kit.proofs.StageFacts.{counted, grows, left_in_doubt, has_first, has_whole, number_refused, number_unfilled, so_far-more, so_far-none}
 use Rattle.mm_kit.proofs.FolderFacts.{as_before, desk_fault, kit_fault, still_told, told}

@@ -1,7 +1,7 @@
 use Rattle.std.proofs.Common.{◌≡◌, ◌++◌, length, false, Some, List}
 use Rattle.std.specs.Vec.Iter.{into_iter_items, into_iter_len}
-use Rattle.mm_base.specs.Package.{Package}
-use Rattle.mm_base.specs.declared.commands.Piece.{Piece}
+use Rattle.mm_definitions.specs.Package.{Package}
+use Rattle.mm_definitions.specs.declared.commands.Piece.{Piece}
 use Rattle.mm_run.specs.Applied.{IsSound}
 use Rattle.mm_kit.specs.Editions.{HasPieces}
 use Rattle.mm_kit.specs.Folders.{Files}

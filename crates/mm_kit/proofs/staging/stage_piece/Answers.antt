@@ -1,7 +1,7 @@
 use Rattle.std.proofs.Common.{pos}
-use Rattle.mm_base.specs.Bounds.{current}
-use Rattle.mm_base.specs.Within.{IsWithin}
-use Rattle.mm_base.specs.declared.commands.Command.TheVariants as commands
+use Rattle.mm_definitions.specs.Bounds.{current}
+use Rattle.mm_definitions.specs.Within.{IsWithin}
+use Rattle.mm_definitions.specs.declared.commands.Command.TheVariants as commands
 use Rattle.mm_laws.proofs.Steps.{step_keeps}
 use Rattle.mm_kit.proofs.staging.stage_piece.Goals as goal
 

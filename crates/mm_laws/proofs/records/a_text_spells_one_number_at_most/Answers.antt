@@ -1,4 +1,4 @@
-use Rattle.mm_base.proofs.ReadingFacts.{spells_one}
+use Rattle.mm_definitions.proofs.ReadingFacts.{spells_one}
 use Rattle.mm_laws.proofs.records.a_text_spells_one_number_at_most.Goals as goal
 
 pub returns : goal.returns

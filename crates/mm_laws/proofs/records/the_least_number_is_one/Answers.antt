@@ -1,4 +1,4 @@
-use Rattle.mm_base.specs.Records.{HoldsAgainst, HoldsAgainstPiece}
+use Rattle.mm_definitions.specs.Records.{HoldsAgainst, HoldsAgainstPiece}
 use Rattle.mm_laws.proofs.Spelled.{one_least}
 use Rattle.mm_laws.proofs.records.the_least_number_is_one.Goals as goal
 

@@ -1,6 +1,6 @@
 use Rattle.std.proofs.Common.{◌≡◌, ◌≤◌, arith}
 use Rattle.sqlite.specs.Held.{state}
-use Rattle.mm_base.specs.Units.{profile_of}
+use Rattle.mm_definitions.specs.Units.{profile_of}
 use Rattle.mm_limits.proofs.LimitParts.{no_part, part_passes, part_stops, part_fails, parts_pass}
 use Rattle.mm_limits.proofs.parts.limits.Goals as goal
 

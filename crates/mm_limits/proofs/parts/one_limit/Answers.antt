@@ -1,5 +1,5 @@
 use Rattle.sqlite.specs.Held.{state}
-use Rattle.mm_base.specs.Units.{profile_of}
+use Rattle.mm_definitions.specs.Units.{profile_of}
 use Rattle.mm_limits.specs.LimitRows.{part, SystemsAreWithin, ContentsAreWithin, KindsAreWithin, SetsAreWithin, MatricesAreWithin, ExtensionsAreWithin, TilesAreWithin, RowsAreWithin, MediaAreWithin, RelationsAreWithin, PairingsAreWithin, EditionsAreWithin, PiecesAreWithin}
 use Rattle.mm_limits.proofs.LimitParts.{as_part}
 use Rattle.mm_limits.proofs.parts.one_limit.Goals as goal

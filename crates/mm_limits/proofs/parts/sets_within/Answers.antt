@@ -1,7 +1,7 @@
 use Rattle.std.specs.Prelude.{⊤}
 use Rattle.std.proofs.Common.{[], refl}
 use Rattle.sqlite.specs.Held.{state}
-use Rattle.mm_base.specs.Units.{profile_of}
+use Rattle.mm_definitions.specs.Units.{profile_of}
 use Rattle.mm_limits.specs.LimitRows.{SetsAreWithin}
 use Rattle.mm_limits.specs.Texts as text
 use Rattle.mm_limits.specs.LimitRows.{IsSetWithinRow}

@@ -1,5 +1,5 @@
 use Rattle.sqlite.specs.Held.{state}
-use Rattle.mm_base.specs.Streams.{has_failed, inside}
+use Rattle.mm_definitions.specs.Streams.{has_failed, inside}
 use Rattle.mm_listing.specs.Listing.{tables, editions}
 use Rattle.mm_listing.proofs.Written.{listed_then, listed_failed}
 use Rattle.mm_listing.proofs.listing.list.Goals as goal

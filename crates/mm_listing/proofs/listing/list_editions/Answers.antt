@@ -1,6 +1,6 @@
 use Rattle.std.proofs.Common.{rules}
 use Rattle.sqlite.specs.Held.{state}
-use Rattle.mm_base.specs.Streams.{has_failed, inside}
+use Rattle.mm_definitions.specs.Streams.{has_failed, inside}
 use Rattle.mm_listing.specs.Listing.{editions}
 use Rattle.mm_listing.specs.Writing.{IsListed}
 use Rattle.mm_listing.proofs.listing.list_editions.Goals as goal

@@ -3,8 +3,8 @@ use Rattle.std.specs.FinMap.{get}
 use Rattle.sqlite.specs.declared.types.Value.TheVariants.{Text as Words}
 use Rattle.sqlite.specs.Held.{state}
 use Rattle.sql_forms.proofs.Selects.{selects_one}
-use Rattle.mm_base.specs.Checks.{box_of}
-use Rattle.mm_base.specs.Package.{MatrixSet}
+use Rattle.mm_definitions.specs.Checks.{box_of}
+use Rattle.mm_definitions.specs.Package.{MatrixSet}
 use Rattle.mm_schema.proofs.Selecting as statement
 use Rattle.mm_store.proofs.Steps.{looks, seen}
 use Rattle.mm_matrices.proofs.Covering.{extent_found}

@@ -1,10 +1,10 @@
 use Rattle.std.proofs.Common.{option_map, sym, ap, ◌∙◌}
-use Rattle.mm_base.specs.Checks.{box_of}
-use Rattle.mm_base.specs.Conditions.{grid, is_product}
-use Rattle.mm_base.specs.Package.{Box}
+use Rattle.mm_definitions.specs.Checks.{box_of}
+use Rattle.mm_definitions.specs.Conditions.{grid, is_product}
+use Rattle.mm_definitions.specs.Package.{Box}
 use Rattle.std.specs.FinMap.{get}
 use Rattle.mm_store.proofs.Shapes.{look_as, look_failed}
-use Rattle.mm_contents.proofs.Looking.{look_denied}
+use Rattle.mm_layout.proofs.Looking.{look_denied}
 use Rattle.mm_matrices.proofs.Covering.{fits_is, set_of}
 use Rattle.mm_matrices.proofs.extents.fits_pyramid.Goals as goal
 

@@ -1,7 +1,7 @@
 use Rattle.std.proofs.Common.{refl, sym, ◌∙◌}
 use Rattle.mm_store.proofs.Refusals.{refused, refused_for, accepted_for}
 use Rattle.mm_store.proofs.Shapes.{changes_then}
-use Rattle.mm_contents.proofs.Stamping.{refuses_at, accepts_at, look_gave_up_at, change_gave_up_at}
+use Rattle.mm_layout.proofs.Stamping.{refuses_at, accepts_at, look_gave_up_at, change_gave_up_at}
 use Rattle.mm_matrices.proofs.Refusing.{matrix_is_new}
 use Rattle.mm_matrices.proofs.matrices.add_matrix.Goals as goal
 

@@ -6,8 +6,8 @@ use Rattle.sqlite.specs.Edit.{next_rowid}
 use Rattle.sqlite.specs.Held.{state}
 use Rattle.sql_forms.proofs.Keys.{chosen_is_free}
 use Rattle.sql_forms.proofs.Inserts.{has_inserted}
-use Rattle.mm_base.specs.Conditions.{grid}
-use Rattle.mm_base.specs.Keys.{level}
+use Rattle.mm_definitions.specs.Conditions.{grid}
+use Rattle.mm_definitions.specs.Keys.{level}
 use Rattle.mm_schema.proofs.Inserting as statement
 use Rattle.mm_store.specs.Rows.{grid_row}
 use Rattle.mm_store.proofs.Parts.{puts}

@@ -1,5 +1,5 @@
 use Rattle.std.proofs.Common.{option_map, sym, ap, ◌∙◌}
-use Rattle.mm_base.specs.Package.{kind_text}
+use Rattle.mm_definitions.specs.Package.{kind_text}
 use Rattle.mm_store.proofs.Shapes.{look_as, look_failed, looks_then}
 use Rattle.mm_matrices.proofs.Refusing.{matrix_25, matrix_26, matrix_30, matrix_31, matrix_32, matrix_free}
 use Rattle.mm_matrices.proofs.matrices.matrix_refusal.Goals as goal

@@ -1,7 +1,7 @@
 use Rattle.std.proofs.Common.{pos, rules}
 use Rattle.sqlite.specs.Held.{state}
 use Rattle.sql_forms.proofs.Orders.{selects_first}
-use Rattle.mm_base.specs.Neighbours.{IsNearestAbove, zoomed}
+use Rattle.mm_definitions.specs.Neighbours.{IsNearestAbove, zoomed}
 use Rattle.mm_schema.proofs.Selecting as statement
 use Rattle.mm_store.proofs.Steps.{looks, seen}
 use Rattle.mm_matrices.proofs.Nearest.{at_zoom, above_found}

@@ -1,4 +1,4 @@
-use Rattle.mm_base.specs.Neighbours.{zoomed}
+use Rattle.mm_definitions.specs.Neighbours.{zoomed}
 use Rattle.mm_store.proofs.Shapes.{look_as, look_failed, looks_then}
 use Rattle.mm_matrices.proofs.zooms.suits_zooms.Goals as goal
 

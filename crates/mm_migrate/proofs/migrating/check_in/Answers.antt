@@ -1,5 +1,5 @@
 use Rattle.sqlite.specs.Held.{state}
-use Rattle.mm_base.specs.Units.{profile_of}
+use Rattle.mm_definitions.specs.Units.{profile_of}
 use Rattle.mm_migrate.proofs.Ends.{blobs_told, form_unknown, checked_well, rule_told, check_stopped}
 use Rattle.mm_migrate.proofs.migrating.check_in.Goals as goal
 

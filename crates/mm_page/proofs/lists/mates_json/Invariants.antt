@@ -1,7 +1,7 @@
 use Rattle.std.proofs.Common.{◌≡◌, map, take}
 use Rattle.serde_json.specs.View.{view}
 use Rattle.mm_page.specs.Lists.{mate_data}
-use Rattle.mm_related.specs.Related.{told}
+use Rattle.mm_reads.specs.Related.{told}
 use Rattle.mm_page.proofs.lists.mates_json.Given as goal
 
 abbrev pub invariant-loop-mate : goal.invariant-loop-mate

@@ -1,8 +1,8 @@
 use Rattle.std.proofs.Common.{◌∙◌, inl, subst, sym}
 use Rattle.std.proofs.lemmas.Result.{IfErr-weaker}
 use Rattle.sqlite.specs.Held.{state}
-use Rattle.mm_base.specs.Package.{Package}
-use Rattle.mm_base.specs.Streams.{inside}
+use Rattle.mm_definitions.specs.Package.{Package}
+use Rattle.mm_definitions.specs.Streams.{inside}
 use Rattle.mm_core.specs.Parts.{held, has_failed}
 use Rattle.mm_routes.specs.Asked.{Asks}
 use Rattle.mm_page.specs.Page.{Writes, path_of}

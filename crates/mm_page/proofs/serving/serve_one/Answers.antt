@@ -1,7 +1,7 @@
 use Rattle.std.proofs.Common.{◌≡◌, inr, arith, sym, subst, refl, length, take}
 use Rattle.std.proofs.lemmas.List.{take_all}
 use Rattle.std.specs.Io.KnownBytes.{Appends}
-use Rattle.mm_base.specs.Streams.{inside}
+use Rattle.mm_definitions.specs.Streams.{inside}
 use Rattle.mm_page.proofs.serving.serve_one.Goals as goal
 
 pub returns-in-Flushed-clause-served : goal.returns-in-Flushed-clause-served

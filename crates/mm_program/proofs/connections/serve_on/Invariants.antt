@@ -1,7 +1,7 @@
 use Rattle.std.proofs.Common.{◌≡◌}
 use Rattle.sqlite.specs.Held.{state}
-use Rattle.mm_base.specs.Streams.{inside}
-use Rattle.mm_base.specs.Streams as streams
+use Rattle.mm_definitions.specs.Streams.{inside}
+use Rattle.mm_definitions.specs.Streams as streams
 use Rattle.mm_core.specs.Parts.{held, has_failed}
 use Rattle.mm_page.specs.Served.{LeavesPackage}
 use Rattle.mm_program.proofs.ServiceFacts.{Told}

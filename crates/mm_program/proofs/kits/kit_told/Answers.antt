@@ -1,6 +1,6 @@
 use Rattle.std.proofs.Common.{rules, Err, inr}
-use Rattle.mm_base.specs.Bounds.{IsName}
-use Rattle.mm_work.specs.declared.stop.Stop.TheVariants as stops
+use Rattle.mm_definitions.specs.Bounds.{IsName}
+use Rattle.mm_subcommands.specs.declared.stop.Stop.TheVariants as stops
 use Rattle.mm_program.proofs.kits.kit_told.Goals as goal
 
 pub returns-in-Unread-clause-told : goal.returns-in-Unread-clause-told

@@ -1,5 +1,5 @@
 use Rattle.std.proofs.Common.{subst}
-use Rattle.mm_base.specs.Streams.{has_failed, inside}
+use Rattle.mm_definitions.specs.Streams.{has_failed, inside}
 use Rattle.mm_program.specs.Told.{TellsStatus}
 use Rattle.mm_program.proofs.subcommands.tell_words.Goals as goal
 

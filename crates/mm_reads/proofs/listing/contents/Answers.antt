@@ -1,7 +1,7 @@
 use Rattle.std.proofs.Common.{Bool, Ok, Err, Result, refl, sym, subst}
 use Rattle.sqlite.specs.Order.{Row}
 use Rattle.sqlite.specs.Held.{state}
-use Rattle.mm_base.specs.declared.answers.Fault.{Fault}
+use Rattle.mm_definitions.specs.declared.answers.Fault.{Fault}
 use Rattle.mm_reads.specs.declared.listing.Gathered.{Gathered}
 use Rattle.mm_reads.specs.Listing.{Gathers}
 use Rattle.mm_reads.proofs.Reading.{Found, read_by_walk}

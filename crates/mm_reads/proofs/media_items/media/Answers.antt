@@ -2,7 +2,7 @@ use Rattle.std.proofs.Common.{◌≡◌, option_map, rules}
 use Rattle.std.proofs.Math.Facts.{to_z-of_z}
 use Rattle.std.specs.FinMap.{get}
 use Rattle.sqlite.specs.Held.{state}
-use Rattle.mm_base.specs.Keys.{item}
+use Rattle.mm_definitions.specs.Keys.{item}
 use Rattle.mm_store.specs.Seen.{IsRead}
 use Rattle.mm_store.proofs.Seen.{reads}
 use Rattle.mm_reads.specs.Told.{medium_of}

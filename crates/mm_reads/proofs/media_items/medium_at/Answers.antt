@@ -2,7 +2,7 @@ use Rattle.std.proofs.Common.{◌≡◌, Ok, Some, None, option_map, sym, subst,
 use Rattle.std.proofs.Math.Facts.{to_z-of_z}
 use Rattle.std.specs.FinMap.{get}
 use Rattle.sqlite.specs.Held.{state}
-use Rattle.mm_base.specs.Keys.{item}
+use Rattle.mm_definitions.specs.Keys.{item}
 use Rattle.mm_store.specs.Kept.{no_spare}
 use Rattle.mm_blobs.specs.Views.{View, IsSeen}
 use Rattle.mm_blobs.proofs.Moving.{then_moves, then_failed, moves_as}

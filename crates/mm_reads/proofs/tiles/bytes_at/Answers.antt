@@ -1,7 +1,7 @@
 use Rattle.std.proofs.Common.{◌≡◌, Ok, Some, None, pos, sym, subst, ◌∙◌, rules, w64, to_z, of_z, to_z-of_z}
 use Rattle.std.specs.FinMap.{get}
 use Rattle.sqlite.specs.Held.{state}
-use Rattle.mm_base.specs.Keys.{tile}
+use Rattle.mm_definitions.specs.Keys.{tile}
 use Rattle.mm_store.specs.Blobs.{Told, bytes_at}
 use Rattle.mm_store.specs.Kept.{no_spare, tile_id, tile_with}
 use Rattle.mm_blobs.specs.Views.{View, IsSeen}

@@ -1,7 +1,7 @@
 use Rattle.std.proofs.Common.{◌≡◌, pos, rules}
 use Rattle.std.specs.FinMap.{get}
 use Rattle.sqlite.specs.Held.{state}
-use Rattle.mm_base.specs.Keys.{tile}
+use Rattle.mm_definitions.specs.Keys.{tile}
 use Rattle.mm_store.specs.Seen.{IsRead}
 use Rattle.mm_store.proofs.Seen.{reads}
 use Rattle.mm_reads.specs.Told.{TellsBytes}

@@ -1,6 +1,6 @@
 use Rattle.std.proofs.Common.{codes, refl}
-use Rattle.mm_base.specs.Bounds.{current}
-use Rattle.mm_base.specs.Records as forms
+use Rattle.mm_definitions.specs.Bounds.{current}
+use Rattle.mm_definitions.specs.Records as forms
 use Rattle.mm_records.proofs.RecordFacts.{piece_arm}
 use Rattle.mm_records.proofs.pieces.piece_of.Goals as goal
 

@@ -1,8 +1,8 @@
 use Rattle.std.proofs.Common.{pos, arith, refl}
-use Rattle.mm_base.specs.Fields.{AName, Plain, Whole}
-use Rattle.mm_base.specs.Records.{matrix_side, pixel_size, tile_side, zoom_field}
-use Rattle.mm_base.specs.Bounds.{current}
-use Rattle.mm_base.proofs.ReadingFacts.{text_at, and_then, the_last, texts_are, holds, refuses}
+use Rattle.mm_definitions.specs.Fields.{AName, Plain, Whole}
+use Rattle.mm_definitions.specs.Records.{matrix_side, pixel_size, tile_side, zoom_field}
+use Rattle.mm_definitions.specs.Bounds.{current}
+use Rattle.mm_definitions.proofs.ReadingFacts.{text_at, and_then, the_last, texts_are, holds, refuses}
 use Rattle.mm_records.proofs.pieces.read_matrix.Goals as goal
 
 pub returns-in-Err : goal.returns-in-Err

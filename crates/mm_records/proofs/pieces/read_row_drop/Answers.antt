@@ -1,7 +1,7 @@
 use Rattle.std.proofs.Common.{arith, refl}
-use Rattle.mm_base.specs.Fields.{AName, Plain, Whole}
-use Rattle.mm_base.specs.Records.{id_field}
-use Rattle.mm_base.proofs.ReadingFacts.{text_at, and_then, the_last, texts_are, holds, refuses}
+use Rattle.mm_definitions.specs.Fields.{AName, Plain, Whole}
+use Rattle.mm_definitions.specs.Records.{id_field}
+use Rattle.mm_definitions.proofs.ReadingFacts.{text_at, and_then, the_last, texts_are, holds, refuses}
 use Rattle.mm_records.proofs.pieces.read_row_drop.Goals as goal
 
 pub returns-in-Err : goal.returns-in-Err

@@ -1,7 +1,7 @@
 use Rattle.std.proofs.Common.{codes, refl, Some}
-use Rattle.mm_base.specs.Bounds.{current}
-use Rattle.mm_base.specs.Records as forms
-use Rattle.mm_base.proofs.ReadingFacts.{texts_of}
+use Rattle.mm_definitions.specs.Bounds.{current}
+use Rattle.mm_definitions.specs.Records as forms
+use Rattle.mm_definitions.proofs.ReadingFacts.{texts_of}
 use Rattle.mm_records.proofs.RecordFacts.{command_arm, edit_arm, rest_of}
 use Rattle.mm_records.proofs.records.command_in.Goals as goal
 

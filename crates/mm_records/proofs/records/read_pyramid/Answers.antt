@@ -1,10 +1,10 @@
 use Rattle.std.proofs.Common.{arith, refl}
-use Rattle.mm_base.specs.Fields.{AName, AnIdentifier, Plain, Whole}
-use Rattle.mm_base.specs.Records.{coordinate, named_system, step_words}
-use Rattle.mm_base.specs.Bounds.{current}
-use Rattle.mm_base.specs.Package.{kind_text}
-use Rattle.mm_base.specs.Effects.{step_kind}
-use Rattle.mm_base.proofs.ReadingFacts.{text_at, and_then, the_last, texts_are, holds, refuses}
+use Rattle.mm_definitions.specs.Fields.{AName, AnIdentifier, Plain, Whole}
+use Rattle.mm_definitions.specs.Records.{coordinate, named_system, step_words}
+use Rattle.mm_definitions.specs.Bounds.{current}
+use Rattle.mm_definitions.specs.Package.{kind_text}
+use Rattle.mm_definitions.specs.Effects.{step_kind}
+use Rattle.mm_definitions.proofs.ReadingFacts.{text_at, and_then, the_last, texts_are, holds, refuses}
 use Rattle.mm_records.proofs.records.read_pyramid.Goals as goal
 
 pub returns-in-Err : goal.returns-in-Err

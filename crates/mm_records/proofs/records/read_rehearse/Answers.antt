@@ -1,6 +1,6 @@
 use Rattle.std.proofs.Common.{arith}
-use Rattle.mm_base.specs.Fields.{AName, Plain}
-use Rattle.mm_base.proofs.ReadingFacts.{text_at, the_last, refuses}
+use Rattle.mm_definitions.specs.Fields.{AName, Plain}
+use Rattle.mm_definitions.proofs.ReadingFacts.{text_at, the_last, refuses}
 use Rattle.mm_records.proofs.records.read_rehearse.Goals as goal
 
 pub returns-in-Err : goal.returns-in-Err

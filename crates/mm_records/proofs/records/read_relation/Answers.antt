@@ -1,8 +1,8 @@
 use Rattle.std.proofs.Common.{arith, refl}
-use Rattle.mm_base.specs.Fields.{AName, Plain}
-use Rattle.mm_base.specs.Records.{relation_words}
-use Rattle.mm_base.specs.Conditions.{relation_text}
-use Rattle.mm_base.proofs.ReadingFacts.{text_at, and_then, the_last, texts_are, holds, refuses}
+use Rattle.mm_definitions.specs.Fields.{AName, Plain}
+use Rattle.mm_definitions.specs.Records.{relation_words}
+use Rattle.mm_definitions.specs.Conditions.{relation_text}
+use Rattle.mm_definitions.proofs.ReadingFacts.{text_at, and_then, the_last, texts_are, holds, refuses}
 use Rattle.mm_records.proofs.records.read_relation.Goals as goal
 
 pub returns-in-Err : goal.returns-in-Err

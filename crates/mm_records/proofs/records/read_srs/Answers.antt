@@ -1,7 +1,7 @@
 use Rattle.std.proofs.Common.{arith, refl}
-use Rattle.mm_base.specs.Fields.{Plain, Whole}
-use Rattle.mm_base.specs.Records.{definition_field, id_field, remark_field, system_name}
-use Rattle.mm_base.proofs.ReadingFacts.{text_at, and_then, the_last, texts_are, holds, refuses}
+use Rattle.mm_definitions.specs.Fields.{Plain, Whole}
+use Rattle.mm_definitions.specs.Records.{definition_field, id_field, remark_field, system_name}
+use Rattle.mm_definitions.proofs.ReadingFacts.{text_at, and_then, the_last, texts_are, holds, refuses}
 use Rattle.mm_records.proofs.records.read_srs.Goals as goal
 
 pub returns-in-Err : goal.returns-in-Err

@@ -1,7 +1,7 @@
 use Rattle.std.proofs.Common.{refl}
-use Rattle.mm_base.specs.Fields.{AName, Plain, Whole}
-use Rattle.mm_base.specs.Records.{id_field}
-use Rattle.mm_base.proofs.ReadingFacts.{text_at, texts_of, and_then, holds}
+use Rattle.mm_definitions.specs.Fields.{AName, Plain, Whole}
+use Rattle.mm_definitions.specs.Records.{id_field}
+use Rattle.mm_definitions.proofs.ReadingFacts.{text_at, texts_of, and_then, holds}
 use Rattle.mm_records.proofs.RecordFacts.{after_two, piece_fields, stage_met, stage_refuses, two_and_rest}
 use Rattle.mm_records.proofs.records.read_stage.Goals as goal
 

@@ -1,9 +1,9 @@
 use Rattle.std.proofs.Common.{arith, refl}
-use Rattle.mm_base.specs.Fields.{AName, AnIdentifier, Plain}
-use Rattle.mm_base.specs.Records.{kind_words}
-use Rattle.mm_base.specs.Package.{kind_text}
-use Rattle.mm_base.specs.Effects.{plain_kind}
-use Rattle.mm_base.proofs.ReadingFacts.{text_at, and_then, the_last, texts_are, holds, refuses}
+use Rattle.mm_definitions.specs.Fields.{AName, AnIdentifier, Plain}
+use Rattle.mm_definitions.specs.Records.{kind_words}
+use Rattle.mm_definitions.specs.Package.{kind_text}
+use Rattle.mm_definitions.specs.Effects.{plain_kind}
+use Rattle.mm_definitions.proofs.ReadingFacts.{text_at, and_then, the_last, texts_are, holds, refuses}
 use Rattle.mm_records.proofs.records.read_table.Goals as goal
 
 pub returns-in-Err : goal.returns-in-Err

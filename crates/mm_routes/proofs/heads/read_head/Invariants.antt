@@ -1,6 +1,6 @@
 use Rattle.std.proofs.Common.{◌≤◌, ◌-◌, length, take}
 use Rattle.std.specs.Io.KnownBytes.{Consumes}
-use Rattle.mm_base.specs.Streams.{inside}
+use Rattle.mm_definitions.specs.Streams.{inside}
 use Rattle.mm_routes.specs.Heads.{IsNeeded}
 use Rattle.mm_routes.proofs.heads.read_head.Given as goal
 

@@ -1,7 +1,7 @@
 use Rattle.std.proofs.Common.{rules, arith, ◌≡◌, ◌∙◌, ◌<ℤ◌, inl, inr, Some, sym, w64}
 use Rattle.std.proofs.lemmas.Int.{ints, to_z-of_z}
 use mir.Val.{SFits}
-use Rattle.mm_base.proofs.ReadingFacts.{spells_one}
+use Rattle.mm_definitions.proofs.ReadingFacts.{spells_one}
 use Rattle.mm_routes.proofs.routes.number_of.Goals as goal
 
 pub returns-in-Err-clause-number : goal.returns-in-Err-clause-number

@@ -1,7 +1,7 @@
 use Rattle.std.specs.Prelude.{⊤}
 use Rattle.std.proofs.Common.{[], refl}
 use Rattle.sqlite.specs.Held.{state}
-use Rattle.mm_base.specs.Rules.{HigherIsFiner}
+use Rattle.mm_definitions.specs.Rules.{HigherIsFiner}
 use Rattle.mm_rules.specs.Texts as text
 use Rattle.mm_rules.specs.MatrixRows.{IsFinerRow}
 use Rattle.mm_queries.proofs.Checks.{checks}

@@ -1,7 +1,7 @@
 use Rattle.std.specs.Prelude.{⊤}
 use Rattle.std.proofs.Common.{[], ◌∷◌, rules}
 use Rattle.sqlite.specs.Held.{state}
-use Rattle.mm_base.specs.Rules.{GivenSystems}
+use Rattle.mm_definitions.specs.Rules.{GivenSystems}
 use Rattle.std.proofs.Common.{pos, negsuc}
 use Rattle.sqlite.specs.declared.types.Value.TheVariants.{Int}
 use Rattle.mm_rules.specs.Texts as text

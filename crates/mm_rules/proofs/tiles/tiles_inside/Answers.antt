@@ -1,7 +1,7 @@
 use Rattle.std.specs.Prelude.{⊤}
 use Rattle.std.proofs.Common.{[], refl}
 use Rattle.sqlite.specs.Held.{state}
-use Rattle.mm_base.specs.Rules.{TilesInside}
+use Rattle.mm_definitions.specs.Rules.{TilesInside}
 use Rattle.mm_rules.specs.Texts as text
 use Rattle.mm_rules.specs.TileRows.{IsInsideRow}
 use Rattle.mm_queries.proofs.Checks.{checks}

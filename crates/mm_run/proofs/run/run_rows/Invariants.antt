@@ -1,8 +1,8 @@
 use Rattle.std.proofs.Common.{◌≡◌, ◌+◌, List, true}
 use Rattle.csv.specs.Reading.{source_of}
-use Rattle.mm_base.specs.Streams.{has_failed, inside, is_flushed}
-use Rattle.mm_base.specs.declared.answers.Answer.{Answer}
-use Rattle.mm_lines.specs.Records.{IsSetUp}
+use Rattle.mm_definitions.specs.Streams.{has_failed, inside, is_flushed}
+use Rattle.mm_definitions.specs.declared.answers.Answer.{Answer}
+use Rattle.mm_io.specs.Records.{IsSetUp}
 use Rattle.mm_run.specs.Told.{AreTold}
 use Rattle.mm_run.specs.Ended.{AreRefusedSoFar, OnEnded}
 use Rattle.mm_run.specs.Runs.{IsKept, IsSoFar, OnRun, OnSound}

@@ -1,7 +1,7 @@
 use Rattle.std.proofs.Common.{◌≡◌, ◌+◌, arith, length, option_map, refl}
 use Rattle.csv.specs.Reading.{strip_bom}
 use Rattle.csv.specs.declared.parser.State.TheVariants as states
-use Rattle.mm_base.specs.Streams.{inside}
+use Rattle.mm_definitions.specs.Streams.{inside}
 use Rattle.mm_run.specs.Runs.{IsSome, OnRun}
 use Rattle.mm_run.proofs.Loops.{read_not_writer, stopped-fault}
 use Rattle.mm_run.proofs.Ended.{ended-behind, read_not_92}

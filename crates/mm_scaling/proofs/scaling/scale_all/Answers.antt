@@ -1,4 +1,4 @@
-use Rattle.mm_base.specs.Bounds.{millimetres, micrometres}
+use Rattle.mm_definitions.specs.Bounds.{millimetres, micrometres}
 use Rattle.mm_scaling.proofs.Moves.{change_then_move, change_gave_up}
 use Rattle.mm_scaling.proofs.scaling.scale_all.Goals as goal
 

@@ -2,13 +2,13 @@ use Rattle.std.proofs.Common.{[], map, Ok, rules}
 use Rattle.sqlite.specs.Tree.{with_tree}
 use Rattle.sqlite.specs.Held.{state}
 use Rattle.sql_forms.proofs.Updates.{has_changed, updated}
-use Rattle.mm_base.specs.Parts.{Each}
-use Rattle.mm_base.specs.Bounds.{millimetres}
-use Rattle.mm_base.specs.Rules.{ContentsWithin}
+use Rattle.mm_definitions.specs.Parts.{Each}
+use Rattle.mm_definitions.specs.Bounds.{millimetres}
+use Rattle.mm_definitions.specs.Rules.{ContentsWithin}
 use Rattle.mm_schema.specs.Tables.{gpkg_contents}
 use Rattle.mm_store.proofs.Steps.{changes, seen}
-use Rattle.mm_base.specs.Parts.{change_values}
-use Rattle.mm_base.specs.Scale.{finer_contents}
+use Rattle.mm_definitions.specs.Parts.{change_values}
+use Rattle.mm_definitions.specs.Scale.{finer_contents}
 use Rattle.mm_scaling.specs.Texts.{contents_sets}
 use Rattle.mm_scaling.proofs.Statements as statement
 use Rattle.mm_scaling.proofs.Made as scaling

@@ -1,5 +1,5 @@
-use Rattle.mm_base.specs.Bounds.{millimetres}
-use Rattle.mm_base.specs.Rules.{Limits}
+use Rattle.mm_definitions.specs.Bounds.{millimetres}
+use Rattle.mm_definitions.specs.Rules.{Limits}
 use Rattle.mm_store.proofs.Shapes.{changes_then, change_failed, change_where}
 use Rattle.mm_scaling.proofs.scaling.scale_tables.Goals as goal
 

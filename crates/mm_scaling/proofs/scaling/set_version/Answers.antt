@@ -3,7 +3,7 @@ use Rattle.std.specs.Prelude.{⊤}
 use Rattle.sqlite.specs.Tree.{with_tree}
 use Rattle.sqlite.specs.Held.{state}
 use Rattle.sql_forms.proofs.Updates.{has_changed, updated}
-use Rattle.mm_base.specs.Bounds.{micrometres}
+use Rattle.mm_definitions.specs.Bounds.{micrometres}
 use Rattle.mm_schema.specs.Tables.{mm_profile}
 use Rattle.mm_store.proofs.Steps.{seen}
 use Rattle.mm_scaling.specs.Texts.{version_sets}

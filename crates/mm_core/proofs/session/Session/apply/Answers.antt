@@ -1,4 +1,4 @@
-use Rattle.mm_base.specs.Bounds.{current}
+use Rattle.mm_definitions.specs.Bounds.{current}
 use Rattle.mm_laws.proofs.Steps.{step_keeps}
 use Rattle.mm_core.proofs.session.Session.apply.Goals as goal
 

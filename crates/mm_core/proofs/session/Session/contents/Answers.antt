@@ -1,4 +1,4 @@
-use Rattle.mm_base.specs.Bounds.{current}
+use Rattle.mm_definitions.specs.Bounds.{current}
 use Rattle.mm_core.proofs.session.Session.contents.Goals as goal
 
 pub returns-clause-read : goal.returns-clause-read

@@ -1,4 +1,4 @@
-use Rattle.mm_base.specs.Bounds.{current}
+use Rattle.mm_definitions.specs.Bounds.{current}
 use Rattle.mm_core.proofs.session.Session.list.Goals as goal
 
 pub returns-clause-listed : goal.returns-clause-listed

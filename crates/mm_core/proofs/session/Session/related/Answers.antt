@@ -1,5 +1,5 @@
 use Rattle.std.proofs.Math.Facts.{to_z-of_z}
-use Rattle.mm_base.specs.Bounds.{current}
+use Rattle.mm_definitions.specs.Bounds.{current}
 use Rattle.mm_core.proofs.session.Session.related.Goals as goal
 
 pub returns-clause-read : goal.returns-clause-read

@@ -1,7 +1,7 @@
 use Rattle.std.proofs.Common.{inl, inr, sym, subst}
 use Rattle.std.proofs.lemmas.Bool.{cases_Bool}
 use Rattle.sqlite.specs.Held.{state}
-use Rattle.mm_base.specs.Bounds.{current}
+use Rattle.mm_definitions.specs.Bounds.{current}
 use Rattle.mm_store.specs.Stands.{IsSettled}
 use Rattle.mm_core.specs.Parts.{held, has_failed}
 use Rattle.mm_kit.proofs.sessions.SessionDesk.edition.Goals as goal

@@ -1,6 +1,0 @@
-use Rattle.std.proofs.Common.{◌≡◌, drop}
-use Rattle.mm_base.specs.Numbers.{value_from}
-use Rattle.mm_base.proofs.numbers.magnitude.Given as goal
-
-abbrev pub invariant-loop-d : goal.invariant-loop-d
-invariant-loop-d l = value_from l.n (drop l.d-index l.digits) ≡ value_from 0 l.digits

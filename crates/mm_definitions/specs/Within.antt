@@ -1,0 +1,60 @@
+-- What the fields of a command are limited to.
+use Rattle.std.specs.Prelude.{pos, ⊤, IsTrue}
+use Rattle.mm_definitions.specs.Bounds.{Profile, IsCoordinate, IsPixelSize, IsZoom, IsMatrixSide, IsTileSide, IsTilePlace, IsId, IsSystemNumber, IsAmount, IsTileBytes, IsMediaBytes, IsName, IsIdentifier, IsSystemName, IsDefinition, IsRemark, IsContentType}
+use Rattle.mm_definitions.specs.declared.commands.Matrix.{Matrix}
+use Rattle.mm_definitions.specs.declared.commands.Piece.{Piece}
+use Rattle.mm_definitions.specs.declared.commands.Piece.TheVariants as pieces
+use Rattle.mm_definitions.specs.declared.commands.Piece.TheVariants.{Tile, TileDrop, Row, RowDrop, Media, MediaDrop, Map, MapDrop}
+use Rattle.mm_definitions.specs.declared.commands.Command.{Command}
+use Rattle.mm_definitions.specs.declared.commands.Command.TheVariants as commands
+
+-- the six numbers of a matrix are within their limits, the pixel sizes in the profile's unit
+pub record IsMatrixWithin (profile : Profile) (m : Matrix) : Type 0 where
+  pub mw : IsMatrixSide (pos m.mw)
+  pub mh : IsMatrixSide (pos m.mh)
+  pub tw : IsTileSide (pos m.tw)
+  pub th : IsTileSide (pos m.th)
+  pub px : IsPixelSize profile m.px
+  pub py : IsPixelSize profile m.py
+
+-- each field of a piece is within its limits
+abbrev pub IsPieceWithin : Profile → Piece → Type 0
+IsPieceWithin profile (Tile table zoom column row bytes) = IsName table × IsZoom (pos zoom) × IsTilePlace (pos column) × IsTilePlace (pos row) × IsTileBytes bytes
+IsPieceWithin profile (TileDrop table zoom column row) = IsName table × IsZoom (pos zoom) × IsTilePlace (pos column) × IsTilePlace (pos row)
+IsPieceWithin profile (Row table id title note amount) = IsName table × IsId id × IsRemark title × IsRemark note × IsAmount amount
+IsPieceWithin profile (RowDrop table id) = IsName table × IsId id
+IsPieceWithin profile (Media table id content_type bytes) = IsName table × IsId id × IsContentType content_type × IsMediaBytes bytes
+IsPieceWithin profile (MediaDrop table id) = IsName table × IsId id
+IsPieceWithin profile (Map mapping base_id related_id) = IsName mapping × IsId base_id × IsId related_id
+IsPieceWithin profile (MapDrop mapping base_id related_id) = IsName mapping × IsId base_id × IsId related_id
+IsPieceWithin profile (pieces.Matrix table zoom matrix) = IsName table × IsZoom (pos zoom) × IsMatrixWithin profile matrix
+
+-- an edition of the profile can hold the piece
+abbrev pub Takes : Profile → Piece → Type 0
+Takes profile (pieces.Matrix table zoom matrix) = IsTrue profile.matrix_pieces
+Takes profile _ = ⊤
+
+-- each field of a command is within its limits, and what it stages is a piece that the profile takes
+abbrev pub IsWithin : Profile → Command → Type 0
+IsWithin profile (commands.Srs id name organization organization_id definition description) =
+    IsId id × IsSystemName name × IsSystemName organization × IsId organization_id × IsDefinition definition × IsRemark description
+IsWithin profile (commands.Pyramid table identifier srs min_x min_y max_x max_y step) =
+    IsName table × IsIdentifier identifier × IsSystemNumber srs × IsCoordinate profile min_x × IsCoordinate profile min_y × IsCoordinate profile max_x × IsCoordinate profile max_y
+IsWithin profile (commands.Matrix table zoom matrix) = IsPieceWithin profile (pieces.Matrix table zoom matrix)
+IsWithin profile (commands.Table table kind identifier) = IsName table × IsIdentifier identifier
+IsWithin profile (commands.Drop table) = IsName table
+IsWithin profile (commands.Relation mapping base related name) = IsName mapping × IsName base × IsName related
+IsWithin profile (commands.RelationDrop mapping) = IsName mapping
+IsWithin profile (commands.Edition name) = IsName name
+IsWithin profile (commands.Discard name) = IsName name
+IsWithin profile (commands.Stage edition number piece) = IsName edition × IsId number × IsPieceWithin profile piece × Takes profile piece
+IsWithin profile (commands.Publish edition) = IsName edition
+IsWithin profile (commands.Rehearse edition) = IsName edition
+IsWithin profile (commands.Tile table zoom column row bytes) = IsPieceWithin profile (Tile table zoom column row bytes)
+IsWithin profile (commands.TileDrop table zoom column row) = IsPieceWithin profile (TileDrop table zoom column row)
+IsWithin profile (commands.Row table id title note amount) = IsPieceWithin profile (Row table id title note amount)
+IsWithin profile (commands.RowDrop table id) = IsPieceWithin profile (RowDrop table id)
+IsWithin profile (commands.Media table id content_type bytes) = IsPieceWithin profile (Media table id content_type bytes)
+IsWithin profile (commands.MediaDrop table id) = IsPieceWithin profile (MediaDrop table id)
+IsWithin profile (commands.Map mapping base_id related_id) = IsPieceWithin profile (Map mapping base_id related_id)
+IsWithin profile (commands.MapDrop mapping base_id related_id) = IsPieceWithin profile (MapDrop mapping base_id related_id)

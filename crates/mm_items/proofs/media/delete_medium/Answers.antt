@@ -1,0 +1,48 @@
+use Rattle.std.proofs.Common.{◌≡◌, Ok, Err, option_map, refl, ap, ◌∙◌}
+use Rattle.std.specs.Prelude.{⊤}
+use Rattle.std.specs.FinMap.{get, remove}
+use Rattle.sqlite.specs.Held.{state}
+use Rattle.mm_definitions.specs.Keys.{item}
+use Rattle.mm_definitions.specs.Package.{Package}
+use Rattle.mm_store.specs.Rows.{MediumRow}
+use Rattle.std.proofs.Math.Facts.{to_z-of_z}
+use Rattle.mm_store.specs.Kept.{no_spare}
+use Rattle.mm_blobs.specs.Views.{View}
+use Rattle.mm_blobs.proofs.Moving.{then_moves, then_moves_open, then_failed}
+use Rattle.mm_blobs.proofs.Opening.{tidies, tidy_failed}
+use Rattle.mm_items.proofs.Writing.{HasNamed, HasDone}
+use Rattle.mm_items.proofs.media.delete_medium.Goals as goal
+
+pub returns-in-Err-clause-change : goal.returns-in-Err-clause-change
+returns-in-Err-clause-change g c profile =
+    let a = c.args in
+    let key = item a.table.now a.id in
+    tidy_failed profile _ _ (λ p. ⊤) (λ (p : Package). record p { media = remove p.media key }) c.in-Err.fault (c.in-Err.ensures.found profile no_spare)
+
+pub returns-in-Ok-delete_medium_row-clause-change : goal.returns-in-Ok-delete_medium_row-clause-change
+returns-in-Ok-delete_medium_row-clause-change g c profile =
+    let a = c.args in
+    let s0 = state g.S.Store a.tx.now.conn.now in
+    let s1 = state g.S.Store c.blob_of_medium.new.tx.conn.now in
+    let s2 = state g.S.Store c.delete_medium_row.new.tx.conn.now in
+    let s3 = state g.S.Store c.release_freed.new.tx.conn.now in
+    let key = item a.table.now a.id in
+    let next = λ (p : Package). record p { media = remove p.media key } in
+    let stands = c.in-Ok.stands in
+    let gone = then_moves (HasNamed profile s2 next stands) s0 s1 s2 stands (Ok tt) ((rw (to_z-of_z c.ranges.id) at c.in-Ok.ensures.found) profile no_spare) ((rw (to_z-of_z c.ranges.id) at c.in-Ok-delete_medium_row.ensures.gone) profile no_spare stands)
+    (λ base x y it mid. (mid.1, mid.2)) (λ base x y z u it mid last. (ap (λ (v : View). v.content) last.0 ∙ ap (λ (v : View). next v.content) mid.0, last.1)) in
+    tidies profile s0 s3 c.release_freed.result next
+    (then_moves_open (HasDone profile s3 next) s0 s2 s3 tt c.release_freed.result gone (c.release_freed.ensures.released profile no_spare) (λ base x y up it mid. (up, mid.1))
+    (λ base x y z u it mid last. (ap (λ (v : View). v.content) last.0 ∙ mid.0, last.1)))
+    (λ base x y t last. last)
+
+pub returns-in-Err-delete_medium_row-clause-change : goal.returns-in-Err-delete_medium_row-clause-change
+returns-in-Err-delete_medium_row-clause-change g c profile =
+    let a = c.args in
+    let s0 = state g.S.Store a.tx.now.conn.now in
+    let s1 = state g.S.Store c.blob_of_medium.new.tx.conn.now in
+    let s2 = state g.S.Store c.delete_medium_row.new.tx.conn.now in
+    let key = item a.table.now a.id in
+    let stands = c.in-Ok.stands in
+    tidy_failed profile s0 s2 (λ p. ⊤) (λ (p : Package). record p { media = remove p.media key }) c.in-Err-delete_medium_row.fault
+    (then_failed s0 s1 s2 stands c.in-Err-delete_medium_row.fault ((rw (to_z-of_z c.ranges.id) at c.in-Ok.ensures.found) profile no_spare) ((rw (to_z-of_z c.ranges.id) at c.in-Err-delete_medium_row.ensures.gone) profile no_spare stands) (λ base x y up it mid. (mid.1, mid.2)))

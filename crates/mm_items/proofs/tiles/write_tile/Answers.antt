@@ -1,0 +1,38 @@
+use Rattle.std.proofs.Common.{◌≡◌, inr, Ok, Some, pos, refl, ap, ◌∙◌, rules, w64, to_z, of_z, to_z-of_z}
+use Rattle.std.specs.Prelude.{⊤}
+use Rattle.std.specs.FinMap.{insert}
+use Rattle.sqlite.specs.Held.{state}
+use Rattle.mm_definitions.specs.Keys.{tile}
+use Rattle.mm_definitions.specs.Package.{Package}
+use Rattle.mm_store.specs.Kept.{no_spare}
+use Rattle.mm_blobs.specs.Views.{View, IsSeen, spare_too, spare_but}
+use Rattle.mm_blobs.proofs.Moving.{then_moves, then_failed}
+use Rattle.mm_blobs.proofs.Naming.{named_again}
+use Rattle.mm_blobs.proofs.Opening.{tidies, tidy_failed, seen_looser}
+use Rattle.mm_blobs.proofs.Releasing.{commits_nothing}
+use Rattle.mm_items.proofs.tiles.write_tile.Goals as goal
+
+pub returns-then-is_empty-clause-change : goal.returns-then-is_empty-clause-change
+returns-then-is_empty-clause-change g c profile = record { survives = commits_nothing _; on = λ clean ground p it when. it.back; made = λ clean ground p it when. tt; faults = inr refl }
+
+pub returns-in-Ok-clause-change : goal.returns-in-Ok-clause-change
+returns-in-Ok-clause-change g c profile =
+    let a = c.args in
+    let s0 = state g.S.Store a.tx.now.conn.now in
+    let s1 = state g.S.Store c.keep.new.tx.conn.now in
+    let s2 = state g.S.Store c.give_tile.new.tx.conn.now in
+    let key = tile a.table.now (pos a.zoom) (pos a.column) (pos a.row) in
+    let next = λ (p : Package). record p { tiles = insert p.tiles key a.bytes.now } in
+    let blob = c.in-Ok.blob in
+    let back : to_z w64 (of_z w64 blob) ≡ blob = search (rules, to_z-of_z) in
+    tidies profile s0 s2 c.give_tile.result next
+    (then_moves (λ base x _ y. (y.content ≡ next x.content) × IsSeen no_spare profile s2 base y) s0 s1 s2 blob c.give_tile.result (c.in-Ok.ensures.kept profile no_spare) ((rw (back) at c.give_tile.ensures.given) profile (spare_too blob no_spare) a.bytes.now)
+    (λ base x y it mid. (mid.1, mid.2))
+    (λ base x y z u it mid last. (last.0 ∙ ap (λ (v : View). next v.content) mid.0, seen_looser (spare_but blob (spare_too blob no_spare)) no_spare profile s2 base z (named_again no_spare blob) last.1)))
+    (λ base x y t last. last)
+
+pub returns-in-Err-clause-change : goal.returns-in-Err-clause-change
+returns-in-Err-clause-change g c profile =
+    let a = c.args in
+    let key = tile a.table.now (pos a.zoom) (pos a.column) (pos a.row) in
+    tidy_failed profile _ _ (λ p. ⊤) (λ (p : Package). record p { tiles = insert p.tiles key a.bytes.now }) c.in-Err.fault (c.in-Err.ensures.kept profile no_spare)

@@ -1,0 +1,80 @@
+//! Whether a table is of the kind that a command asks.
+
+ghost use Rattle.std.specs.Prelude.{◌≡◌, ◌||◌, [], ◌∷◌};
+ghost use Rattle.sqlite.specs.Held.{state};
+ghost use Rattle.mm_definitions.specs.Bounds.{Profile};
+ghost use Rattle.mm_definitions.specs.Conditions.{least, no_table, of_another_kind};
+ghost use Rattle.mm_definitions.specs.Effects.{plain_kind};
+ghost use Rattle.mm_definitions.specs.Keys.{same_text};
+ghost use Rattle.mm_definitions.specs.Package.{kind_text, has_kind, is_pyramid};
+ghost use Rattle.mm_definitions.specs.Rules.{Meets};
+ghost use Rattle.mm_definitions.specs.declared.commands.Kind.TheVariants as kinds;
+ghost use Rattle.mm_store.specs.Shapes.{IsLook};
+
+use mm_definitions::answers::Fault;
+use mm_definitions::commands::{Kind, PlainKind};
+use mm_layout::kind_of;
+use sqlite::{Alter, Transaction};
+
+/// Whether a table of this kind is one of the kind that is asked.
+fn suits(asked: PlainKind, kind: Kind) -> bool
+    ensures { result ≡ same_text (kind_text (plain_kind asked)) (kind_text kind) }
+{
+    match (asked, kind) {
+        (PlainKind::Attributes, Kind::Attributes) | (PlainKind::Media, Kind::Media) => true,
+        _ => false,
+    }
+}
+
+/// Why a table is not one of this kind, if it is not: 25 where no table has the name, 26 where it is of another kind.
+pub(crate) fn plain_refusal<S: Alter>(
+    tx: &mut Transaction<'_, S>,
+    table: &str,
+    asked: PlainKind,
+) -> Result<Option<u8>, Fault>
+    ensures same_reference { tx.new.conn.ghost_name ≡ tx.old.conn.ghost_name }
+    ensures look { (profile : Profile) → IsLook profile (state S.Store tx.old.conn.now) (state S.Store tx.new.conn.now)
+        (λ p why. Meets profile p → why ≡ least (no_table p table.now ∷ of_another_kind p table.now (has_kind p.kinds table.now (plain_kind asked)) ∷ [])) result }
+{
+    let kind = match kind_of(tx, table) {
+        Ok(Some(kind)) => kind,
+        Ok(None) => return Ok(Some(25)),
+        Err(fault) => return Err(fault),
+    };
+    if suits(asked, kind) {
+        Ok(None)
+    } else {
+        Ok(Some(26))
+    }
+}
+
+/// Whether a table of this kind is a pyramid.
+fn is_tiled(kind: Kind) -> bool
+    ensures { result ≡ (same_text (kind_text kinds.Two) (kind_text kind) || same_text (kind_text kinds.Other) (kind_text kind)) }
+{
+    match kind {
+        Kind::Two | Kind::Other => true,
+        Kind::Attributes | Kind::Media => false,
+    }
+}
+
+/// Why a table is no pyramid, if it is none: 25 where no table has the name, 26 where it is of another kind.
+pub(crate) fn pyramid_refusal<S: Alter>(
+    tx: &mut Transaction<'_, S>,
+    table: &str,
+) -> Result<Option<u8>, Fault>
+    ensures same_reference { tx.new.conn.ghost_name ≡ tx.old.conn.ghost_name }
+    ensures look { (profile : Profile) → IsLook profile (state S.Store tx.old.conn.now) (state S.Store tx.new.conn.now)
+        (λ p why. Meets profile p → why ≡ least (no_table p table.now ∷ of_another_kind p table.now (is_pyramid p.kinds table.now) ∷ [])) result }
+{
+    let kind = match kind_of(tx, table) {
+        Ok(Some(kind)) => kind,
+        Ok(None) => return Ok(Some(25)),
+        Err(fault) => return Err(fault),
+    };
+    if is_tiled(kind) {
+        Ok(None)
+    } else {
+        Ok(Some(26))
+    }
+}

@@ -1,0 +1,192 @@
+//! Attribute rows.
+
+ghost use Rattle.std.specs.Prelude.{◌≡◌, None, true, ⊤};
+ghost use Rattle.std.specs.FinMap.{get, contains_key, insert, remove};
+ghost use Rattle.sqlite.specs.Held.{state};
+ghost use Rattle.mm_definitions.specs.Bounds.{Profile};
+ghost use Rattle.mm_definitions.specs.Conditions.{least, own_reasons};
+ghost use Rattle.mm_definitions.specs.Keys.{item};
+ghost use Rattle.mm_definitions.specs.Rules.{Meets};
+ghost use Rattle.mm_definitions.specs.declared.commands.Command.TheVariants as commands;
+ghost use Rattle.mm_store.specs.Shapes.{IsLook, IsChange};
+ghost use Rattle.mm_layout.specs.Stamped.{IsLentAt};
+
+use crate::kinds::plain_refusal;
+use crate::mapped::is_mapped;
+use mm_definitions::answers::{Fault, Outcome, Refusal};
+use mm_definitions::commands::PlainKind;
+use mm_definitions::names::Name;
+use mm_layout::{has_row, set_last_change};
+use mm_store::statements::run;
+use sqlite::{Alter, Transaction, params};
+
+/// Puts a row at an id that is free.
+fn insert_row<S: Alter>(
+    tx: &mut Transaction<'_, S>,
+    table: &str,
+    id: i64,
+    title: &str,
+    note: &str,
+    amount: i64,
+) -> Result<(), Fault>
+    ensures same_reference { tx.new.conn.ghost_name ≡ tx.old.conn.ghost_name }
+    ensures change { (profile : Profile) → IsChange profile (state S.Store tx.old.conn.now) (state S.Store tx.new.conn.now) (λ p. get p.rows (item table.now id) ≡ None)
+        (λ p. record p { rows = insert p.rows (item table.now id) (record { title = title.now; note = note.now; amount = amount }) }) result }
+{
+    run(
+        tx,
+        "INSERT INTO mm_rows (table_name, id, title, note, amount) VALUES (?1, ?2, ?3, ?4, ?5)",
+        params![table, id, title, note, amount],
+    )
+}
+
+/// Puts a row in place of the one that stands.
+fn update_row<S: Alter>(
+    tx: &mut Transaction<'_, S>,
+    table: &str,
+    id: i64,
+    title: &str,
+    note: &str,
+    amount: i64,
+) -> Result<(), Fault>
+    ensures same_reference { tx.new.conn.ghost_name ≡ tx.old.conn.ghost_name }
+    ensures change { (profile : Profile) → IsChange profile (state S.Store tx.old.conn.now) (state S.Store tx.new.conn.now) (λ p. contains_key p.rows (item table.now id) ≡ true)
+        (λ p. record p { rows = insert p.rows (item table.now id) (record { title = title.now; note = note.now; amount = amount }) }) result }
+{
+    run(
+        tx,
+        "UPDATE mm_rows SET title = ?3, note = ?4, amount = ?5 WHERE table_name = ?1 AND id = ?2",
+        params![table, id, title, note, amount],
+    )
+}
+
+/// Puts a row, in place of the one that stands or as a new one.
+fn write_row<S: Alter>(
+    tx: &mut Transaction<'_, S>,
+    table: &str,
+    id: i64,
+    title: &str,
+    note: &str,
+    amount: i64,
+) -> Result<(), Fault>
+    ensures same_reference { tx.new.conn.ghost_name ≡ tx.old.conn.ghost_name }
+    ensures change { (profile : Profile) → IsChange profile (state S.Store tx.old.conn.now) (state S.Store tx.new.conn.now) (λ p. ⊤)
+        (λ p. record p { rows = insert p.rows (item table.now id) (record { title = title.now; note = note.now; amount = amount }) }) result }
+{
+    match has_row(tx, table, id) {
+        Ok(true) => update_row(tx, table, id, title, note, amount),
+        Ok(false) => insert_row(tx, table, id, title, note, amount),
+        Err(fault) => Err(fault),
+    }
+}
+
+/// The command `row`: puts a row of an attribute table, in place of the one that has its id if there is one. `at` is the
+/// stamp of the moment, which becomes the last_change of the table. Refused 25 where no table has the name, 26 where it is
+/// no attribute table. (Attributes.)
+pub fn put_row<S: Alter>(
+    tx: &mut Transaction<'_, S>,
+    table: &Name,
+    id: i64,
+    title: &str,
+    note: &str,
+    amount: i64,
+    at: &str,
+) -> Result<Outcome, Fault>
+    ensures same_reference { tx.new.conn.ghost_name ≡ tx.old.conn.ghost_name }
+    ensures lent { (profile : Profile) → IsLentAt profile (commands.Row table.now id title.now note.now amount) at.now
+        (state S.Store tx.old.conn.now) (state S.Store tx.new.conn.now) result }
+{
+    let table = table.as_str();
+    match plain_refusal(tx, table, PlainKind::Attributes) {
+        Ok(None) => {}
+        Ok(Some(number)) => {
+            return Ok(Outcome::Refused(Refusal {
+                number,
+                piece: None,
+            }));
+        }
+        Err(fault) => return Err(fault),
+    }
+    match write_row(tx, table, id, title, note, amount) {
+        Ok(()) => {}
+        Err(fault) => return Err(fault),
+    }
+    match set_last_change(tx, table, at) {
+        Ok(()) => Ok(Outcome::Done),
+        Err(fault) => Err(fault),
+    }
+}
+
+/// Removes the row of an id.
+fn delete_row<S: Alter>(tx: &mut Transaction<'_, S>, table: &str, id: i64) -> Result<(), Fault>
+    ensures same_reference { tx.new.conn.ghost_name ≡ tx.old.conn.ghost_name }
+    ensures change { (profile : Profile) → IsChange profile (state S.Store tx.old.conn.now) (state S.Store tx.new.conn.now) (λ p. ⊤)
+        (λ p. record p { rows = remove p.rows (item table.now id) }) result }
+{
+    run(
+        tx,
+        "DELETE FROM mm_rows WHERE table_name = ?1 AND id = ?2",
+        params![table, id],
+    )
+}
+
+/// Why a row is not removed, if it is not.
+fn row_drop_refusal<S: Alter>(
+    tx: &mut Transaction<'_, S>,
+    table: &str,
+    id: i64,
+) -> Result<Option<u8>, Fault>
+    ensures same_reference { tx.new.conn.ghost_name ≡ tx.old.conn.ghost_name }
+    ensures look { (profile : Profile) → IsLook profile (state S.Store tx.old.conn.now) (state S.Store tx.new.conn.now)
+        (λ p why. Meets profile p → why ≡ least (own_reasons p (commands.RowDrop table.now id))) result }
+{
+    match plain_refusal(tx, table, PlainKind::Attributes) {
+        Ok(None) => {}
+        Ok(Some(number)) => return Ok(Some(number)),
+        Err(fault) => return Err(fault),
+    }
+    match has_row(tx, table, id) {
+        Ok(true) => {}
+        Ok(false) => return Ok(Some(40)),
+        Err(fault) => return Err(fault),
+    }
+    match is_mapped(tx, table, id) {
+        Ok(true) => Ok(Some(42)),
+        Ok(false) => Ok(None),
+        Err(fault) => Err(fault),
+    }
+}
+
+/// The command `row-drop`: removes a row of an attribute table. `at` is the stamp of the moment, which becomes the
+/// last_change of the table. Refused 25 where no table has the name, 26 where it is no attribute table, 40 where it has no
+/// row of the id, 42 where a mapping row has the row as an end. (Attributes; User Defined Mapping Tables.)
+pub fn drop_row<S: Alter>(
+    tx: &mut Transaction<'_, S>,
+    table: &Name,
+    id: i64,
+    at: &str,
+) -> Result<Outcome, Fault>
+    ensures same_reference { tx.new.conn.ghost_name ≡ tx.old.conn.ghost_name }
+    ensures lent { (profile : Profile) → IsLentAt profile (commands.RowDrop table.now id) at.now
+        (state S.Store tx.old.conn.now) (state S.Store tx.new.conn.now) result }
+{
+    let table = table.as_str();
+    match row_drop_refusal(tx, table, id) {
+        Ok(None) => {}
+        Ok(Some(number)) => {
+            return Ok(Outcome::Refused(Refusal {
+                number,
+                piece: None,
+            }));
+        }
+        Err(fault) => return Err(fault),
+    }
+    match delete_row(tx, table, id) {
+        Ok(()) => {}
+        Err(fault) => return Err(fault),
+    }
+    match set_last_change(tx, table, at) {
+        Ok(()) => Ok(Outcome::Done),
+        Err(fault) => Err(fault),
+    }
+}

@@ -1,0 +1,349 @@
+//! Tiles.
+
+ghost use Rattle.std.specs.Prelude.{◌≡◌, ℕ, ℤ, pos, int_le, ◌||◌, List, Option, Some, None, ⊤, option_map};
+ghost use Rattle.std.specs.FinMap.{get, contains_key, insert, remove};
+ghost use Rattle.sqlite.specs.Held.{state};
+ghost use Rattle.mm_definitions.specs.Bounds.{Profile};
+ghost use Rattle.mm_definitions.specs.Conditions.{least, own_reasons};
+ghost use Rattle.mm_definitions.specs.Keys.{level, tile};
+ghost use Rattle.mm_definitions.specs.Package.{Grid};
+ghost use Rattle.mm_definitions.specs.Rules.{Meets};
+ghost use Rattle.mm_definitions.specs.declared.commands.Command.TheVariants as commands;
+ghost use Rattle.mm_store.specs.Blobs.{bytes_at};
+ghost use Rattle.mm_store.specs.Kept.{Spare};
+ghost use Rattle.mm_store.specs.Shapes.{IsLook, IsChange};
+ghost use Rattle.mm_blobs.specs.Entries.{spare_freed, with_tile, without_tile};
+ghost use Rattle.mm_blobs.specs.Moves.{IsMove};
+ghost use Rattle.mm_blobs.specs.Views.{IsSeen, spare_too, spare_but};
+ghost use Rattle.mm_layout.specs.Stamped.{IsLentAt};
+
+use crate::kinds::pyramid_refusal;
+use mm_blobs::blobs::{keep, release_freed};
+use mm_blobs::entries::blob_of_tile;
+use mm_definitions::answers::{Fault, Outcome, Refusal};
+use mm_definitions::names::Name;
+use mm_layout::set_last_change;
+use mm_store::statements::{exists, first_pair, run};
+use sqlite::{Alter, Transaction, params};
+
+/// The width and the height, in tiles, of the matrix at this zoom of a table.
+fn sides_at<S: Alter>(
+    tx: &mut Transaction<'_, S>,
+    table: &str,
+    zoom: u8,
+) -> Result<Option<(i64, i64)>, Fault>
+    ensures same_reference { tx.new.conn.ghost_name ≡ tx.old.conn.ghost_name }
+    ensures look { (profile : Profile) → IsLook profile (state S.Store tx.old.conn.now) (state S.Store tx.new.conn.now)
+        (λ p sides. option_map (λ (g : Grid). (g.matrix_width, g.matrix_height)) (get p.matrices (level table.now (pos zoom))) ≡ sides) result }
+{
+    first_pair(
+        tx,
+        "SELECT matrix_width, matrix_height FROM gpkg_tile_matrix WHERE table_name = ?1 AND zoom_level = ?2 LIMIT 1",
+        params![table, u32::from(zoom)],
+    )
+}
+
+/// Whether a tile stands at this place.
+fn has_tile<S: Alter>(
+    tx: &mut Transaction<'_, S>,
+    table: &str,
+    zoom: u8,
+    column: u32,
+    row: u32,
+) -> Result<bool, Fault>
+    ensures same_reference { tx.new.conn.ghost_name ≡ tx.old.conn.ghost_name }
+    ensures look { (profile : Profile) → IsLook profile (state S.Store tx.old.conn.now) (state S.Store tx.new.conn.now) (λ p found. found ≡ contains_key p.tiles (tile table.now (pos zoom) (pos column) (pos row))) result }
+{
+    exists(
+        tx,
+        "SELECT 1 FROM mm_tiles WHERE table_name = ?1 AND zoom_level = ?2 AND tile_column = ?3 AND tile_row = ?4 LIMIT 1",
+        params![table, u32::from(zoom), column, row],
+    )
+}
+
+/// Puts a tile that names a blob, at a place that is free.
+fn insert_tile<S: Alter>(
+    tx: &mut Transaction<'_, S>,
+    table: &str,
+    zoom: u8,
+    column: u32,
+    row: u32,
+    blob: i64,
+) -> Result<(), Fault>
+    ensures same_reference { tx.new.conn.ghost_name ≡ tx.old.conn.ghost_name }
+    ensures named { (profile : Profile) (spare : Spare) (bytes : List ℕ) → IsMove (state S.Store tx.old.conn.now) (state S.Store tx.new.conn.now)
+        (λ base x. IsSeen spare profile (state S.Store tx.old.conn.now) base x × ((bytes_at x.kept.shelf blob ≡ Some bytes) × (get x.kept.tiles (tile table.now (pos zoom) (pos column) (pos row)) ≡ None)))
+        (λ base x _ y. (y ≡ with_tile (tile table.now (pos zoom) (pos column) (pos row)) blob bytes x) × IsSeen (spare_but blob spare) profile (state S.Store tx.new.conn.now) base y) result }
+{
+    run(
+        tx,
+        "INSERT INTO mm_tiles (table_name, zoom_level, tile_column, tile_row, blob) VALUES (?1, ?2, ?3, ?4, ?5)",
+        params![table, u32::from(zoom), column, row, blob],
+    )
+}
+
+/// Lets a tile that stands name another blob. The one that it named may stand unnamed then.
+fn update_tile<S: Alter>(
+    tx: &mut Transaction<'_, S>,
+    table: &str,
+    zoom: u8,
+    column: u32,
+    row: u32,
+    blob: i64,
+) -> Result<(), Fault>
+    ensures same_reference { tx.new.conn.ghost_name ≡ tx.old.conn.ghost_name }
+    ensures named { (profile : Profile) (spare : Spare) (bytes : List ℕ) (was : ℤ) → IsMove (state S.Store tx.old.conn.now) (state S.Store tx.new.conn.now)
+        (λ base x. IsSeen spare profile (state S.Store tx.old.conn.now) base x × ((bytes_at x.kept.shelf blob ≡ Some bytes) × (get x.kept.tiles (tile table.now (pos zoom) (pos column) (pos row)) ≡ Some was)))
+        (λ base x _ y. (y ≡ with_tile (tile table.now (pos zoom) (pos column) (pos row)) blob bytes x) × IsSeen (spare_too was (spare_but blob spare)) profile (state S.Store tx.new.conn.now) base y) result }
+{
+    run(
+        tx,
+        "UPDATE mm_tiles SET blob = ?5 WHERE table_name = ?1 AND zoom_level = ?2 AND tile_column = ?3 AND tile_row = ?4",
+        params![table, u32::from(zoom), column, row, blob],
+    )
+}
+
+/// Lets the tile at a place name a blob: the one that stands, which names `stands`, or a new one.
+fn name_tile<S: Alter>(
+    tx: &mut Transaction<'_, S>,
+    table: &str,
+    zoom: u8,
+    column: u32,
+    row: u32,
+    blob: i64,
+    stands: Option<i64>,
+) -> Result<(), Fault>
+    ensures same_reference { tx.new.conn.ghost_name ≡ tx.old.conn.ghost_name }
+    ensures named { (profile : Profile) (spare : Spare) (bytes : List ℕ) → IsMove (state S.Store tx.old.conn.now) (state S.Store tx.new.conn.now)
+        (λ base x. IsSeen spare profile (state S.Store tx.old.conn.now) base x × ((bytes_at x.kept.shelf blob ≡ Some bytes) × (get x.kept.tiles (tile table.now (pos zoom) (pos column) (pos row)) ≡ stands)))
+        (λ base x _ y. (y ≡ with_tile (tile table.now (pos zoom) (pos column) (pos row)) blob bytes x) × IsSeen (spare_freed stands (spare_but blob spare)) profile (state S.Store tx.new.conn.now) base y) result }
+{
+    match stands {
+        Some(_was) => update_tile(tx, table, zoom, column, row, blob),
+        None => insert_tile(tx, table, zoom, column, row, blob),
+    }
+}
+
+/// Puts a tile that names a blob, in place of the one that stands or as a new one. The blob goes that the tile named before,
+/// if nothing else names it.
+pub(crate) fn give_tile<S: Alter>(
+    tx: &mut Transaction<'_, S>,
+    table: &str,
+    zoom: u8,
+    column: u32,
+    row: u32,
+    blob: i64,
+) -> Result<(), Fault>
+    ensures same_reference { tx.new.conn.ghost_name ≡ tx.old.conn.ghost_name }
+    ensures given { (profile : Profile) (spare : Spare) (bytes : List ℕ) → IsMove (state S.Store tx.old.conn.now) (state S.Store tx.new.conn.now)
+        (λ base x. IsSeen spare profile (state S.Store tx.old.conn.now) base x × (bytes_at x.kept.shelf blob ≡ Some bytes))
+        (λ base x _ y. (y.content ≡ record (x.content) { tiles = insert x.content.tiles (tile table.now (pos zoom) (pos column) (pos row)) bytes }) × IsSeen (spare_but blob spare) profile (state S.Store tx.new.conn.now) base y) result }
+{
+    let stands = match blob_of_tile(tx, table, zoom, column, row) {
+        Ok(stands) => stands,
+        Err(fault) => return Err(fault),
+    };
+    match name_tile(tx, table, zoom, column, row, blob, stands) {
+        Ok(()) => release_freed(tx, stands),
+        Err(fault) => Err(fault),
+    }
+}
+
+/// Puts a tile, in place of the one that stands or as a new one: its bytes are kept, and it names their blob. No bytes are a
+/// fault, 91, since no command has a tile without them.
+fn write_tile<S: Alter>(
+    tx: &mut Transaction<'_, S>,
+    table: &str,
+    zoom: u8,
+    column: u32,
+    row: u32,
+    bytes: &[u8],
+) -> Result<(), Fault>
+    ensures same_reference { tx.new.conn.ghost_name ≡ tx.old.conn.ghost_name }
+    ensures change { (profile : Profile) → IsChange profile (state S.Store tx.old.conn.now) (state S.Store tx.new.conn.now) (λ p. ⊤)
+        (λ p. record p { tiles = insert p.tiles (tile table.now (pos zoom) (pos column) (pos row)) bytes.now }) result }
+{
+    if bytes.is_empty() {
+        return Err(Fault(91));
+    }
+    match keep(tx, bytes) {
+        Ok(blob) => give_tile(tx, table, zoom, column, row, blob),
+        Err(fault) => Err(fault),
+    }
+}
+
+/// Removes the row of a tile. The blob that it named may stand unnamed then.
+fn delete_tile_row<S: Alter>(
+    tx: &mut Transaction<'_, S>,
+    table: &str,
+    zoom: u8,
+    column: u32,
+    row: u32,
+) -> Result<(), Fault>
+    ensures same_reference { tx.new.conn.ghost_name ≡ tx.old.conn.ghost_name }
+    ensures gone { (profile : Profile) (spare : Spare) (stands : Option ℤ) → IsMove (state S.Store tx.old.conn.now) (state S.Store tx.new.conn.now)
+        (λ base x. IsSeen spare profile (state S.Store tx.old.conn.now) base x × (get x.kept.tiles (tile table.now (pos zoom) (pos column) (pos row)) ≡ stands))
+        (λ base x _ y. (y ≡ without_tile (tile table.now (pos zoom) (pos column) (pos row)) x) × IsSeen (spare_freed stands spare) profile (state S.Store tx.new.conn.now) base y) result }
+{
+    run(
+        tx,
+        "DELETE FROM mm_tiles WHERE table_name = ?1 AND zoom_level = ?2 AND tile_column = ?3 AND tile_row = ?4",
+        params![table, u32::from(zoom), column, row],
+    )
+}
+
+/// Removes the tile at a place, and its blob if nothing else names it.
+fn delete_tile<S: Alter>(
+    tx: &mut Transaction<'_, S>,
+    table: &str,
+    zoom: u8,
+    column: u32,
+    row: u32,
+) -> Result<(), Fault>
+    ensures same_reference { tx.new.conn.ghost_name ≡ tx.old.conn.ghost_name }
+    ensures change { (profile : Profile) → IsChange profile (state S.Store tx.old.conn.now) (state S.Store tx.new.conn.now) (λ p. ⊤)
+        (λ p. record p { tiles = remove p.tiles (tile table.now (pos zoom) (pos column) (pos row)) }) result }
+{
+    let stands = match blob_of_tile(tx, table, zoom, column, row) {
+        Ok(stands) => stands,
+        Err(fault) => return Err(fault),
+    };
+    match delete_tile_row(tx, table, zoom, column, row) {
+        Ok(()) => release_freed(tx, stands),
+        Err(fault) => Err(fault),
+    }
+}
+
+/// Whether a place is outside a matrix of this width and height.
+fn is_outside(width: i64, height: i64, column: u32, row: u32) -> bool
+    ensures { result ≡ (int_le width (pos column) || int_le height (pos row)) }
+{
+    width <= i64::from(column) || height <= i64::from(row)
+}
+
+/// Why a tile is not put, if it is not.
+pub(crate) fn tile_refusal<S: Alter>(
+    tx: &mut Transaction<'_, S>,
+    table: &str,
+    zoom: u8,
+    column: u32,
+    row: u32,
+) -> Result<Option<u8>, Fault>
+    ensures same_reference { tx.new.conn.ghost_name ≡ tx.old.conn.ghost_name }
+    ensures look { (profile : Profile) → IsLook profile (state S.Store tx.old.conn.now) (state S.Store tx.new.conn.now)
+        (λ p why. Meets profile p → (bytes : List ℕ) → why ≡ least (own_reasons p (commands.Tile table.now zoom column row bytes))) result }
+{
+    match pyramid_refusal(tx, table) {
+        Ok(None) => {}
+        Ok(Some(number)) => return Ok(Some(number)),
+        Err(fault) => return Err(fault),
+    }
+    let (width, height) = match sides_at(tx, table, zoom) {
+        Ok(Some(sides)) => sides,
+        Ok(None) => return Ok(Some(33)),
+        Err(fault) => return Err(fault),
+    };
+    if is_outside(width, height, column, row) {
+        Ok(Some(34))
+    } else {
+        Ok(None)
+    }
+}
+
+/// The command `tile`: puts the bytes of a tile of a pyramid, in place of those that stand at its zoom, column and row if
+/// there are any. `at` is the stamp of the moment, which becomes the last_change of the pyramid. Refused 25 where no table
+/// has the name, 26 where it is no pyramid, 33 where the zoom has no matrix, 34 where the column or the row is outside the
+/// matrix. (Tile Matrix; Tile Pyramid User Data Tables.)
+pub fn put_tile<S: Alter>(
+    tx: &mut Transaction<'_, S>,
+    table: &Name,
+    zoom: u8,
+    column: u32,
+    row: u32,
+    bytes: &[u8],
+    at: &str,
+) -> Result<Outcome, Fault>
+    ensures same_reference { tx.new.conn.ghost_name ≡ tx.old.conn.ghost_name }
+    ensures lent { (profile : Profile) → IsLentAt profile (commands.Tile table.now zoom column row bytes.now) at.now
+        (state S.Store tx.old.conn.now) (state S.Store tx.new.conn.now) result }
+{
+    let table = table.as_str();
+    match tile_refusal(tx, table, zoom, column, row) {
+        Ok(None) => {}
+        Ok(Some(number)) => {
+            return Ok(Outcome::Refused(Refusal {
+                number,
+                piece: None,
+            }));
+        }
+        Err(fault) => return Err(fault),
+    }
+    match write_tile(tx, table, zoom, column, row, bytes) {
+        Ok(()) => {}
+        Err(fault) => return Err(fault),
+    }
+    match set_last_change(tx, table, at) {
+        Ok(()) => Ok(Outcome::Done),
+        Err(fault) => Err(fault),
+    }
+}
+
+/// Why a tile is not removed, if it is not.
+fn tile_drop_refusal<S: Alter>(
+    tx: &mut Transaction<'_, S>,
+    table: &str,
+    zoom: u8,
+    column: u32,
+    row: u32,
+) -> Result<Option<u8>, Fault>
+    ensures same_reference { tx.new.conn.ghost_name ≡ tx.old.conn.ghost_name }
+    ensures look { (profile : Profile) → IsLook profile (state S.Store tx.old.conn.now) (state S.Store tx.new.conn.now)
+        (λ p why. Meets profile p → why ≡ least (own_reasons p (commands.TileDrop table.now zoom column row))) result }
+{
+    match pyramid_refusal(tx, table) {
+        Ok(None) => {}
+        Ok(Some(number)) => return Ok(Some(number)),
+        Err(fault) => return Err(fault),
+    }
+    match has_tile(tx, table, zoom, column, row) {
+        Ok(true) => Ok(None),
+        Ok(false) => Ok(Some(35)),
+        Err(fault) => Err(fault),
+    }
+}
+
+/// The command `tile-drop`: removes a tile of a pyramid. `at` is the stamp of the moment, which becomes the last_change of
+/// the pyramid. Refused 25 where no table has the name, 26 where it is no pyramid, 35 where no tile stands at the zoom, the
+/// column and the row. (Tile Pyramid User Data Tables.)
+pub fn drop_tile<S: Alter>(
+    tx: &mut Transaction<'_, S>,
+    table: &Name,
+    zoom: u8,
+    column: u32,
+    row: u32,
+    at: &str,
+) -> Result<Outcome, Fault>
+    ensures same_reference { tx.new.conn.ghost_name ≡ tx.old.conn.ghost_name }
+    ensures lent { (profile : Profile) → IsLentAt profile (commands.TileDrop table.now zoom column row) at.now
+        (state S.Store tx.old.conn.now) (state S.Store tx.new.conn.now) result }
+{
+    let table = table.as_str();
+    match tile_drop_refusal(tx, table, zoom, column, row) {
+        Ok(None) => {}
+        Ok(Some(number)) => {
+            return Ok(Outcome::Refused(Refusal {
+                number,
+                piece: None,
+            }));
+        }
+        Err(fault) => return Err(fault),
+    }
+    match delete_tile(tx, table, zoom, column, row) {
+        Ok(()) => {}
+        Err(fault) => return Err(fault),
+    }
+    match set_last_change(tx, table, at) {
+        Ok(()) => Ok(Outcome::Done),
+        Err(fault) => Err(fault),
+    }
+}

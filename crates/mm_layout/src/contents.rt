@@ -1,0 +1,119 @@
+//! The rows of `gpkg_contents`.
+
+ghost use Rattle.std.specs.Prelude.{◌≡◌, None, ⊤};
+ghost use Rattle.std.specs.FinMap.{get, contains_key, insert};
+ghost use Rattle.sqlite.specs.Held.{state};
+ghost use Rattle.mm_definitions.specs.Bounds.{Profile};
+ghost use Rattle.mm_definitions.specs.Conditions.{is_identified};
+ghost use Rattle.mm_definitions.specs.Conditions as conditions;
+ghost use Rattle.mm_definitions.specs.Effects as effects;
+ghost use Rattle.mm_store.specs.Shapes.{IsLook, IsChange};
+ghost use Rattle.mm_layout.specs.Rows.{plain_contents};
+ghost use Rattle.mm_layout.specs.Touched.{IsTouched};
+
+use crate::relations::has_relation;
+use mm_definitions::answers::{Fault, Outcome, Refusal};
+use mm_definitions::names::Name;
+use mm_store::statements::{exists, run};
+use sqlite::{Alter, Transaction, params};
+
+/// Whether a table has this name.
+pub(crate) fn has_table<S: Alter>(tx: &mut Transaction<'_, S>, table: &str) -> Result<bool, Fault>
+    ensures same_reference { tx.new.conn.ghost_name ≡ tx.old.conn.ghost_name }
+    ensures look { (profile : Profile) → IsLook profile (state S.Store tx.old.conn.now) (state S.Store tx.new.conn.now) (λ p found. found ≡ contains_key p.contents table.now) result }
+{
+    exists(
+        tx,
+        "SELECT 1 FROM gpkg_contents WHERE table_name = ?1 LIMIT 1",
+        params![table],
+    )
+}
+
+/// Whether a contents row has this identifier.
+pub(crate) fn has_identifier<S: Alter>(
+    tx: &mut Transaction<'_, S>,
+    identifier: &str,
+) -> Result<bool, Fault>
+    ensures same_reference { tx.new.conn.ghost_name ≡ tx.old.conn.ghost_name }
+    ensures look { (profile : Profile) → IsLook profile (state S.Store tx.old.conn.now) (state S.Store tx.new.conn.now) (λ p found. found ≡ is_identified p identifier.now) result }
+{
+    exists(
+        tx,
+        "SELECT 1 FROM gpkg_contents WHERE identifier = ?1 LIMIT 1",
+        params![identifier],
+    )
+}
+
+/// Whether a table or a mapping has this name.
+pub fn is_taken<S: Alter>(tx: &mut Transaction<'_, S>, name: &str) -> Result<bool, Fault>
+    ensures same_reference { tx.new.conn.ghost_name ≡ tx.old.conn.ghost_name }
+    ensures look { (profile : Profile) → IsLook profile (state S.Store tx.old.conn.now) (state S.Store tx.new.conn.now) (λ p found. found ≡ conditions.is_taken p name.now) result }
+{
+    match has_table(tx, name) {
+        Ok(true) => Ok(true),
+        Ok(false) => has_relation(tx, name),
+        Err(fault) => Err(fault),
+    }
+}
+
+/// Sets last_change of a table to this text, the stamp of a moment, and changes nothing else. Where no table has the name,
+/// nothing is changed at all. It is for commands that have looked at the table. (Contents: last_change.)
+pub fn set_last_change<S: Alter>(
+    tx: &mut Transaction<'_, S>,
+    table: &str,
+    at: &str,
+) -> Result<(), Fault>
+    ensures same_reference { tx.new.conn.ghost_name ≡ tx.old.conn.ghost_name }
+    ensures change { (profile : Profile) → IsChange profile (state S.Store tx.old.conn.now) (state S.Store tx.new.conn.now) (λ p. ⊤) (λ p. effects.touch p table.now at.now) result }
+{
+    run(
+        tx,
+        "UPDATE gpkg_contents SET last_change = ?2 WHERE table_name = ?1 AND last_change <> ?2",
+        params![table, at],
+    )
+}
+
+/// Sets last_change of a table to this text, the stamp of a moment, and changes nothing else. Refused 25 where no table has
+/// the name. (Contents: last_change.)
+pub fn touch<S: Alter>(
+    tx: &mut Transaction<'_, S>,
+    table: &Name,
+    at: &str,
+) -> Result<Outcome, Fault>
+    ensures same_reference { tx.new.conn.ghost_name ≡ tx.old.conn.ghost_name }
+    ensures touched { (profile : Profile) → IsTouched profile table.now at.now (state S.Store tx.old.conn.now) (state S.Store tx.new.conn.now) result }
+{
+    let table = table.as_str();
+    match has_table(tx, table) {
+        Ok(true) => {}
+        Ok(false) => {
+            return Ok(Outcome::Refused(Refusal {
+                number: 25,
+                piece: None,
+            }));
+        }
+        Err(fault) => return Err(fault),
+    }
+    match set_last_change(tx, table, at) {
+        Ok(()) => Ok(Outcome::Done),
+        Err(fault) => Err(fault),
+    }
+}
+
+/// Puts the contents row of a new table that is no pyramid.
+pub(crate) fn insert_plain_contents<S: Alter>(
+    tx: &mut Transaction<'_, S>,
+    table: &str,
+    identifier: &str,
+    at: &str,
+) -> Result<(), Fault>
+    ensures same_reference { tx.new.conn.ghost_name ≡ tx.old.conn.ghost_name }
+    ensures change { (profile : Profile) → IsChange profile (state S.Store tx.old.conn.now) (state S.Store tx.new.conn.now) (λ p. get p.contents table.now ≡ None)
+        (λ p. record p { contents = insert p.contents table.now (plain_contents identifier.now at.now) }) result }
+{
+    run(
+        tx,
+        "INSERT INTO gpkg_contents (table_name, data_type, identifier, description, last_change) VALUES (?1, 'attributes', ?2, '', ?3)",
+        params![table, identifier, at],
+    )
+}

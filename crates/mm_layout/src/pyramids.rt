@@ -1,0 +1,202 @@
+//! Tile pyramids.
+
+ghost use Rattle.std.specs.Prelude.{◌≡◌, ◌||◌, Some, None, int_le};
+ghost use Rattle.std.specs.FinMap.{get, insert};
+ghost use Rattle.sqlite.specs.Held.{state};
+ghost use Rattle.mm_definitions.specs.Bounds.{Profile};
+ghost use Rattle.mm_definitions.specs.Checks.{box_of};
+ghost use Rattle.mm_definitions.specs.Conditions.{least, own_reasons};
+ghost use Rattle.mm_definitions.specs.Effects.{with_pyramid, with_zoom_row};
+ghost use Rattle.mm_definitions.specs.Package.{zoom_extension};
+ghost use Rattle.mm_definitions.specs.declared.commands.Command.TheVariants as commands;
+ghost use Rattle.mm_store.specs.Shapes.{IsLook, IsChange};
+ghost use Rattle.mm_layout.specs.Rows.{pyramid_contents, IsUnregistered};
+ghost use Rattle.mm_layout.specs.Stamped.{IsLentAt};
+
+use crate::contents::{has_identifier, is_taken};
+use crate::extensions::insert_zoom_row;
+use crate::kinds::{insert_kind, text_of_step};
+use crate::systems::is_geographic;
+use mm_definitions::answers::{Fault, Outcome, Refusal};
+use mm_definitions::commands::Step;
+use mm_definitions::extents::Extent;
+use mm_definitions::names::Name;
+use mm_store::statements::run;
+use mm_store::systems::has_system;
+use sqlite::{Alter, Transaction, params};
+
+/// Puts the contents row of a new pyramid.
+fn insert_pyramid_contents<S: Alter>(
+    tx: &mut Transaction<'_, S>,
+    table: &str,
+    identifier: &str,
+    srs: i64,
+    extent: &Extent,
+    at: &str,
+) -> Result<(), Fault>
+    ensures same_reference { tx.new.conn.ghost_name ≡ tx.old.conn.ghost_name }
+    ensures change { (profile : Profile) → IsChange profile (state S.Store tx.old.conn.now) (state S.Store tx.new.conn.now) (λ p. get p.contents table.now ≡ None)
+        (λ p. record p { contents = insert p.contents table.now (pyramid_contents identifier.now at.now srs (box_of extent.now)) }) result }
+{
+    run(
+        tx,
+        "INSERT INTO gpkg_contents (table_name, data_type, identifier, description, last_change, min_x, min_y, max_x, max_y, srs_id) VALUES (?1, 'tiles', ?2, '', ?3, ?4, ?5, ?6, ?7, ?8)",
+        params![
+            table,
+            identifier,
+            at,
+            extent.min_x,
+            extent.min_y,
+            extent.max_x,
+            extent.max_y,
+            srs
+        ],
+    )
+}
+
+/// Puts the matrix set of a new pyramid.
+fn insert_matrix_set<S: Alter>(
+    tx: &mut Transaction<'_, S>,
+    table: &str,
+    srs: i64,
+    extent: &Extent,
+) -> Result<(), Fault>
+    ensures same_reference { tx.new.conn.ghost_name ≡ tx.old.conn.ghost_name }
+    ensures change { (profile : Profile) → IsChange profile (state S.Store tx.old.conn.now) (state S.Store tx.new.conn.now) (λ p. get p.sets table.now ≡ None)
+        (λ p. record p { sets = insert p.sets table.now (record { system = srs; box = box_of extent.now }) }) result }
+{
+    run(
+        tx,
+        "INSERT INTO gpkg_tile_matrix_set (table_name, srs_id, min_x, min_y, max_x, max_y) VALUES (?1, ?2, ?3, ?4, ?5, ?6)",
+        params![
+            table,
+            srs,
+            extent.min_x,
+            extent.min_y,
+            extent.max_x,
+            extent.max_y
+        ],
+    )
+}
+
+/// Puts all that stands of a new pyramid but its extension row.
+fn insert_pyramid<S: Alter>(
+    tx: &mut Transaction<'_, S>,
+    table: &str,
+    identifier: &str,
+    srs: i64,
+    extent: &Extent,
+    step: Step,
+    at: &str,
+) -> Result<(), Fault>
+    ensures same_reference { tx.new.conn.ghost_name ≡ tx.old.conn.ghost_name }
+    ensures change { (profile : Profile) → IsChange profile (state S.Store tx.old.conn.now) (state S.Store tx.new.conn.now) (IsUnregistered table.now)
+        (λ p. with_pyramid p table.now identifier.now srs (box_of extent.now) step at.now) result }
+{
+    match insert_pyramid_contents(tx, table, identifier, srs, extent, at) {
+        Ok(()) => {}
+        Err(fault) => return Err(fault),
+    }
+    match insert_kind(tx, table, text_of_step(step)) {
+        Ok(()) => {}
+        Err(fault) => return Err(fault),
+    }
+    insert_matrix_set(tx, table, srs, extent)
+}
+
+/// Whether the bounds hold no point between them.
+fn is_empty(min_x: i64, min_y: i64, max_x: i64, max_y: i64) -> bool
+    ensures { result ≡ (int_le max_x min_x || int_le max_y min_y) }
+{
+    max_x <= min_x || max_y <= min_y
+}
+
+/// Why a pyramid is not added, if it is not.
+fn pyramid_refusal<S: Alter>(
+    tx: &mut Transaction<'_, S>,
+    table: &str,
+    identifier: &str,
+    srs: i64,
+    min_x: i64,
+    min_y: i64,
+    max_x: i64,
+    max_y: i64,
+) -> Result<Option<u8>, Fault>
+    ensures same_reference { tx.new.conn.ghost_name ≡ tx.old.conn.ghost_name }
+    ensures look { (profile : Profile) → IsLook profile (state S.Store tx.old.conn.now) (state S.Store tx.new.conn.now)
+        (λ p why. (step : Step) → why ≡ least (own_reasons p (commands.Pyramid table.now identifier.now srs min_x min_y max_x max_y step))) result }
+{
+    match has_system(tx, srs) {
+        Ok(true) => {}
+        Ok(false) => return Ok(Some(21)),
+        Err(fault) => return Err(fault),
+    }
+    if is_geographic(srs) {
+        return Ok(Some(22));
+    }
+    match is_taken(tx, table) {
+        Ok(true) => return Ok(Some(23)),
+        Ok(false) => {}
+        Err(fault) => return Err(fault),
+    }
+    match has_identifier(tx, identifier) {
+        Ok(true) => return Ok(Some(24)),
+        Ok(false) => {}
+        Err(fault) => return Err(fault),
+    }
+    if is_empty(min_x, min_y, max_x, max_y) {
+        Ok(Some(27))
+    } else {
+        Ok(None)
+    }
+}
+
+/// The command `pyramid`: adds a tile pyramid with its extent, in whole micrometres of its reference system. `at` is the
+/// stamp of the moment, which becomes its last_change. Refused 21 where no system has the number `srs`, 22 where that system
+/// is geographic, 23 where a table or mapping has the name, 24 where a table has the identifier, 27 where the extent is
+/// empty. (Tile Matrix Set; Zoom Other Intervals.)
+pub fn add_pyramid<S: Alter>(
+    tx: &mut Transaction<'_, S>,
+    table: &Name,
+    identifier: &str,
+    srs: i64,
+    min_x: i64,
+    min_y: i64,
+    max_x: i64,
+    max_y: i64,
+    step: Step,
+    at: &str,
+) -> Result<Outcome, Fault>
+    ensures same_reference { tx.new.conn.ghost_name ≡ tx.old.conn.ghost_name }
+    ensures lent { (profile : Profile) → IsLentAt profile (commands.Pyramid table.now identifier.now srs min_x min_y max_x max_y step) at.now
+        (state S.Store tx.old.conn.now) (state S.Store tx.new.conn.now) result }
+{
+    let table = table.as_str();
+    match pyramid_refusal(tx, table, identifier, srs, min_x, min_y, max_x, max_y) {
+        Ok(None) => {}
+        Ok(Some(number)) => {
+            return Ok(Outcome::Refused(Refusal {
+                number,
+                piece: None,
+            }));
+        }
+        Err(fault) => return Err(fault),
+    }
+    let extent = Extent {
+        min_x,
+        min_y,
+        max_x,
+        max_y,
+    };
+    match insert_pyramid(tx, table, identifier, srs, &extent, step, at) {
+        Ok(()) => {}
+        Err(fault) => return Err(fault),
+    }
+    match step {
+        Step::Two => Ok(Outcome::Done),
+        Step::Other => match insert_zoom_row(tx, table) {
+            Ok(()) => Ok(Outcome::Done),
+            Err(fault) => Err(fault),
+        },
+    }
+}

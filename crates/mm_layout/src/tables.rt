@@ -1,0 +1,192 @@
+//! Tables that are no pyramids, and the removal of any table.
+
+ghost use Rattle.std.specs.Prelude.{◌≡◌, ℕ, ℤ, true, [], ◌∷◌, None, ⊤};
+ghost use Rattle.std.specs.FinMap.{get, insert};
+ghost use Rattle.sqlite.specs.Held.{state};
+ghost use Rattle.mm_definitions.specs.Bounds.{Profile};
+ghost use Rattle.mm_definitions.specs.Conditions.{least, own_reasons};
+ghost use Rattle.mm_definitions.specs.Effects.{plain_kind, is_other};
+ghost use Rattle.mm_definitions.specs.Effects as effects;
+ghost use Rattle.mm_definitions.specs.Package.{kind_text};
+ghost use Rattle.mm_definitions.specs.declared.commands.Command.TheVariants as commands;
+ghost use Rattle.mm_blobs.specs.Moves.{IsMove};
+ghost use Rattle.mm_blobs.specs.Views.{IsSeen, ListsEach};
+ghost use Rattle.mm_store.specs.Kept.{Spare, no_spare, tile_id, medium_id};
+ghost use Rattle.mm_store.specs.Removals.{without_table_rows, Freed, FreedByTable};
+ghost use Rattle.mm_store.specs.Shapes.{IsLook, IsChange, IsLent};
+ghost use Rattle.mm_layout.specs.Rows.{plain_contents};
+ghost use Rattle.mm_layout.specs.Stamped.{IsLentAt};
+
+use crate::contents::{has_identifier, has_table, insert_plain_contents, is_taken};
+use crate::extensions::delete_zoom_row;
+use crate::kinds::{insert_kind, text_of_kind};
+use crate::relations::uses_table;
+use mm_blobs::blobs::release_each;
+use mm_definitions::answers::{Fault, Outcome, Refusal};
+use mm_definitions::commands::PlainKind;
+use mm_definitions::names::Name;
+use mm_store::statements::{all, run};
+use sqlite::{Alter, Row, Transaction, params};
+
+/// Why a table is not added, if it is not.
+fn table_refusal<S: Alter>(
+    tx: &mut Transaction<'_, S>,
+    table: &str,
+    identifier: &str,
+) -> Result<Option<u8>, Fault>
+    ensures same_reference { tx.new.conn.ghost_name ≡ tx.old.conn.ghost_name }
+    ensures look { (profile : Profile) → IsLook profile (state S.Store tx.old.conn.now) (state S.Store tx.new.conn.now) (λ p why. (kind : PlainKind) → why ≡ least (own_reasons p (commands.Table table.now kind identifier.now))) result }
+{
+    match is_taken(tx, table) {
+        Ok(true) => return Ok(Some(23)),
+        Ok(false) => {}
+        Err(fault) => return Err(fault),
+    }
+    match has_identifier(tx, identifier) {
+        Ok(true) => Ok(Some(24)),
+        Ok(false) => Ok(None),
+        Err(fault) => Err(fault),
+    }
+}
+
+/// The command `table`: adds a table of attribute rows or of media. `at` is the stamp of the moment, which becomes its
+/// last_change. Refused 23 where a table or mapping has the name, 24 where a table has the identifier.
+pub fn add_table<S: Alter>(
+    tx: &mut Transaction<'_, S>,
+    table: &Name,
+    kind: PlainKind,
+    identifier: &str,
+    at: &str,
+) -> Result<Outcome, Fault>
+    ensures same_reference { tx.new.conn.ghost_name ≡ tx.old.conn.ghost_name }
+    ensures lent { (profile : Profile) → IsLentAt profile (commands.Table table.now kind identifier.now) at.now
+        (state S.Store tx.old.conn.now) (state S.Store tx.new.conn.now) result }
+{
+    let table = table.as_str();
+    match table_refusal(tx, table, identifier) {
+        Ok(None) => {}
+        Ok(Some(number)) => {
+            return Ok(Outcome::Refused(Refusal {
+                number,
+                piece: None,
+            }));
+        }
+        Err(fault) => return Err(fault),
+    }
+    match insert_plain_contents(tx, table, identifier, at) {
+        Ok(()) => {}
+        Err(fault) => return Err(fault),
+    }
+    match insert_kind(tx, table, text_of_kind(kind)) {
+        Ok(()) => Ok(Outcome::Done),
+        Err(fault) => Err(fault),
+    }
+}
+
+/// The ids of the blobs that the tiles of a table name.
+fn blobs_of_tiles<S: Alter>(tx: &mut Transaction<'_, S>, table: &str) -> Result<Vec<Row>, Fault>
+    ensures same_reference { tx.new.conn.ghost_name ≡ tx.old.conn.ghost_name }
+    ensures listed { (profile : Profile) (spare : Spare) → IsMove (state S.Store tx.old.conn.now) (state S.Store tx.new.conn.now) (IsSeen spare profile (state S.Store tx.old.conn.now))
+        (λ base x rows y. (y ≡ x) × IsSeen spare profile (state S.Store tx.new.conn.now) base y × ListsEach rows.items (Freed tile_id y.kept.tiles (λ k. is_other table.now k.table))) result }
+{
+    all(
+        tx,
+        "SELECT blob FROM mm_tiles WHERE table_name = ?1",
+        params![table],
+    )
+}
+
+/// The ids of the blobs that the media of a table name.
+fn blobs_of_media<S: Alter>(tx: &mut Transaction<'_, S>, table: &str) -> Result<Vec<Row>, Fault>
+    ensures same_reference { tx.new.conn.ghost_name ≡ tx.old.conn.ghost_name }
+    ensures listed { (profile : Profile) (spare : Spare) → IsMove (state S.Store tx.old.conn.now) (state S.Store tx.new.conn.now) (IsSeen spare profile (state S.Store tx.old.conn.now))
+        (λ base x rows y. (y ≡ x) × IsSeen spare profile (state S.Store tx.new.conn.now) base y × ListsEach rows.items (Freed medium_id y.kept.media (λ k. is_other table.now k.table))) result }
+{
+    all(
+        tx,
+        "SELECT blob FROM mm_media WHERE table_name = ?1",
+        params![table],
+    )
+}
+
+/// Removes the contents row of a table, and by its keys the rows of the registry, the matrix sets, the matrices, the tiles,
+/// the attribute rows and the media that have its name. Blobs stay that nothing names any more.
+fn delete_contents<S: Alter>(tx: &mut Transaction<'_, S>, table: &str) -> Result<(), Fault>
+    ensures same_reference { tx.new.conn.ghost_name ≡ tx.old.conn.ghost_name }
+    ensures gone { (profile : Profile) (more : Spare) → IsMove (state S.Store tx.old.conn.now) (state S.Store tx.new.conn.now)
+        (λ base x. IsSeen no_spare profile (state S.Store tx.old.conn.now) base x × ((z : ℤ) → FreedByTable table.now x.kept z → more z ≡ true))
+        (λ base x _ y. (y.content ≡ without_table_rows table.now x.content) × IsSeen more profile (state S.Store tx.new.conn.now) base y) result }
+{
+    run(
+        tx,
+        "DELETE FROM gpkg_contents WHERE table_name = ?1",
+        params![table],
+    )
+}
+
+/// Removes what `delete_contents` removes, and the blobs that nothing names any more.
+fn delete_table<S: Alter>(tx: &mut Transaction<'_, S>, table: &str) -> Result<(), Fault>
+    ensures same_reference { tx.new.conn.ghost_name ≡ tx.old.conn.ghost_name }
+    ensures change { (profile : Profile) → IsChange profile (state S.Store tx.old.conn.now) (state S.Store tx.new.conn.now) (λ p. ⊤) (without_table_rows table.now) result }
+{
+    let tiles = match blobs_of_tiles(tx, table) {
+        Ok(rows) => rows,
+        Err(fault) => return Err(fault),
+    };
+    let media = match blobs_of_media(tx, table) {
+        Ok(rows) => rows,
+        Err(fault) => return Err(fault),
+    };
+    match delete_contents(tx, table) {
+        Ok(()) => {}
+        Err(fault) => return Err(fault),
+    }
+    match release_each(tx, tiles.as_slice()) {
+        Ok(()) => release_each(tx, media.as_slice()),
+        Err(fault) => Err(fault),
+    }
+}
+
+/// Why a table is not removed, if it is not.
+fn drop_refusal<S: Alter>(tx: &mut Transaction<'_, S>, table: &str) -> Result<Option<u8>, Fault>
+    ensures same_reference { tx.new.conn.ghost_name ≡ tx.old.conn.ghost_name }
+    ensures look { (profile : Profile) → IsLook profile (state S.Store tx.old.conn.now) (state S.Store tx.new.conn.now) (λ p why. why ≡ least (own_reasons p (commands.Drop table.now))) result }
+{
+    match has_table(tx, table) {
+        Ok(true) => {}
+        Ok(false) => return Ok(Some(25)),
+        Err(fault) => return Err(fault),
+    }
+    match uses_table(tx, table) {
+        Ok(true) => Ok(Some(48)),
+        Ok(false) => Ok(None),
+        Err(fault) => Err(fault),
+    }
+}
+
+/// The command `drop`: removes a table or pyramid with all that is kept under its name. Staged pieces stay. Refused 25
+/// where no table has the name, 48 where a relation uses the table.
+pub fn drop_table<S: Alter>(tx: &mut Transaction<'_, S>, table: &Name) -> Result<Outcome, Fault>
+    ensures same_reference { tx.new.conn.ghost_name ≡ tx.old.conn.ghost_name }
+    ensures lent { (profile : Profile) (moment : ℕ) → IsLent profile (commands.Drop table.now) moment (state S.Store tx.old.conn.now) (state S.Store tx.new.conn.now) result }
+{
+    let table = table.as_str();
+    match drop_refusal(tx, table) {
+        Ok(None) => {}
+        Ok(Some(number)) => {
+            return Ok(Outcome::Refused(Refusal {
+                number,
+                piece: None,
+            }));
+        }
+        Err(fault) => return Err(fault),
+    }
+    match delete_table(tx, table) {
+        Ok(()) => {}
+        Err(fault) => return Err(fault),
+    }
+    match delete_zoom_row(tx, table) {
+        Ok(()) => Ok(Outcome::Done),
+        Err(fault) => Err(fault),
+    }
+}

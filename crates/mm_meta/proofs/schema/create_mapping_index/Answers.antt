@@ -1,7 +1,0 @@
-use Rattle.std.proofs.Common.{refl}
-use Rattle.mm_schema.proofs.Creating as statement
-use Rattle.mm_meta.proofs.Creating.{indexes_one}
-use Rattle.mm_meta.proofs.schema.create_mapping_index.Goals as goal
-
-pub returns-clause-made : goal.returns-clause-made
-returns-clause-made g c = indexes_one _ _ _ _ _ _ _ _ statement.mm_map_related refl _ c.run.ensures.run

@@ -1,0 +1,10 @@
+use Rattle.mm_schema.proofs.Creating as statement
+use Rattle.mm_opening.proofs.Creating.{creates_one, creating_then}
+use Rattle.mm_opening.proofs.schema.create_content_tables.Goals as goal
+
+pub returns-clause-made : goal.returns-clause-made
+returns-clause-made g c =
+    let made_0 = creates_one _ _ _ _ _ _ statement.mm_tables _ c.in-Ok.ensures.run in
+    let made_1 = creating_then _ _ _ _ _ _ _ _ made_0 (creates_one _ _ _ _ _ _ statement.mm_tiles _ c.in-Ok-run.ensures.run) in
+    let made_2 = creating_then _ _ _ _ _ _ _ _ made_1 (creates_one _ _ _ _ _ _ statement.mm_rows _ c.in-Ok-run-2.ensures.run) in
+    creating_then _ _ _ _ _ _ _ _ made_2 (creates_one _ _ _ _ _ _ statement.mm_media _ c.run-4.ensures.run)

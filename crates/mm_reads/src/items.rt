@@ -1,0 +1,40 @@
+//! Whether an item stands: an attribute row or a medium.
+
+ghost use Rattle.std.specs.Prelude.{◌≡◌, false};
+ghost use Rattle.sqlite.specs.Held.{state};
+ghost use Rattle.mm_definitions.specs.Bounds.{Profile};
+ghost use Rattle.mm_store.specs.Seen.{IsRead};
+ghost use Rattle.mm_store.specs.Shapes.{IsLook};
+ghost use Rattle.mm_reads.specs.Related.{is_item};
+
+use mm_definitions::answers::Fault;
+use mm_layout::{has_medium, has_row};
+use sqlite::{Alter, Connection, Transaction};
+
+/// Whether a table has an attribute row or a medium of this id, inside a transaction.
+fn has_item<S: Alter>(tx: &mut Transaction<'_, S>, table: &str, id: i64) -> Result<bool, Fault>
+    ensures same_reference { tx.new.conn.ghost_name ≡ tx.old.conn.ghost_name }
+    ensures look { (profile : Profile) → IsLook profile (state S.Store tx.old.conn.now) (state S.Store tx.new.conn.now) (λ p found. found ≡ is_item p table.now id) result }
+{
+    match has_row(tx, table, id) {
+        Ok(true) => Ok(true),
+        Ok(false) => has_medium(tx, table, id),
+        Err(fault) => Err(fault),
+    }
+}
+
+/// Whether a table has an attribute row or a medium of this id.
+pub(crate) fn stands<S: Alter>(
+    conn: &mut Connection<S>,
+    table: &str,
+    id: i64,
+) -> Result<bool, Fault>
+    requires { conn.old.in_transaction ≡ false }
+    ensures mode { conn.new.in_transaction ≡ false }
+    ensures read { (profile : Profile) → IsRead profile (state S.Store conn.old) (state S.Store conn.new) (λ p found. found ≡ is_item p table.now id) result }
+{
+    let mut tx = conn.transaction();
+    let found = has_item(&mut tx, table, id);
+    tx.rollback();
+    found
+}

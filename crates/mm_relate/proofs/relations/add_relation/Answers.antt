@@ -1,4 +1,0 @@
-use Rattle.mm_relate.proofs.relations.add_relation.Goals as goal
-
-pub returns-clause-lent : goal.returns-clause-lent
-returns-clause-lent g c profile moment = (rw (c.as_str.ensures.text, c.as_str-2.ensures.text, c.as_str-3.ensures.text) at c.relate.ensures.lent) profile moment

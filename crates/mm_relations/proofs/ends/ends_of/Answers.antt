@@ -1,0 +1,37 @@
+use Rattle.std.proofs.Common.{option_map, string_bytes, ap, subst, rules}
+use Rattle.std.specs.FinMap.{get}
+use Rattle.sqlite.specs.Held.{state}
+use Rattle.mm_store.proofs.Shapes.{look_as, look_failed}
+use Rattle.mm_relations.specs.Relations.{ends}
+use Rattle.mm_relations.proofs.EndTexts.{EndsShown, ends_look, ends_told, look_told}
+use Rattle.mm_relations.proofs.ends.ends_of.Goals as goal
+
+pub returns-in-Ok-clause-look : goal.returns-in-Ok-clause-look
+returns-in-Ok-clause-look g c profile =
+    let old = state g.S.Store c.args.tx.now.conn.now in
+    let new = state g.S.Store c.first.new.tx.conn.now in
+    let mapping = c.args.mapping.now in
+    let pair = c.in-Ok.ends in
+    look_as profile _ _ _ _ (ends_look profile old new mapping _ (search rules) _ c.in-Ok-Some.ensures.asked)
+    (λ p says. ends_told (get p.relations mapping) c.in-Ok-Some.row (subst (EndsShown (get p.relations mapping)) c.in-Ok-Some.field-0-is says) (string_bytes pair.0) (string_bytes pair.1) c.in-Ok.ensures.0 c.in-Ok.ensures.1)
+
+pub returns-in-Ok-Some-clause-look : goal.returns-in-Ok-Some-clause-look
+returns-in-Ok-Some-clause-look g c profile =
+    let old = state g.S.Store c.args.tx.now.conn.now in
+    let new = state g.S.Store c.first.new.tx.conn.now in
+    let mapping = c.args.mapping.now in
+    rw c.fault_of.ensures (look_told profile _ _ _ c.in-Err-texts_in.error (ends_look profile old new mapping _ (search rules) _ c.in-Ok-Some.ensures.asked))
+
+pub returns-in-Ok-None-clause-look : goal.returns-in-Ok-None-clause-look
+returns-in-Ok-None-clause-look g c profile =
+    let old = state g.S.Store c.args.tx.now.conn.now in
+    let new = state g.S.Store c.first.new.tx.conn.now in
+    let mapping = c.args.mapping.now in
+    look_as profile _ _ _ _ (ends_look profile old new mapping _ (search rules) _ c.in-Ok-None.ensures.asked)
+    (λ p says. ap (option_map ends) (subst (EndsShown (get p.relations mapping)) c.in-Ok-None.field-0-is says))
+
+pub returns-clause-look : goal.returns-clause-look
+returns-clause-look g c profile =
+    let old = state g.S.Store c.args.tx.now.conn.now in
+    let new = state g.S.Store c.first.new.tx.conn.now in
+    look_failed profile _ _ _ (ends_look profile old new c.args.mapping.now _ (search rules) _ c.in-Err.ensures.asked)

@@ -1,0 +1,179 @@
+//! Mapping rows.
+
+ghost use Rattle.std.specs.Prelude.{◌≡◌, ℕ, None, ⊤};
+ghost use Rattle.std.specs.FinMap.{get, contains_key, insert, remove};
+ghost use Rattle.sqlite.specs.Held.{state};
+ghost use Rattle.mm_definitions.specs.Bounds.{Profile};
+ghost use Rattle.mm_definitions.specs.Conditions.{least, own_reasons};
+ghost use Rattle.mm_definitions.specs.Keys.{pairing};
+ghost use Rattle.mm_definitions.specs.declared.commands.Command.TheVariants as commands;
+ghost use Rattle.mm_store.specs.Shapes.{IsLook, IsChange, IsLent};
+
+use crate::ends::{ends_of, ends_refusal};
+use mm_definitions::answers::{Fault, Outcome, Refusal};
+use mm_definitions::names::Name;
+use mm_layout::has_relation;
+use mm_store::statements::{exists, run};
+use sqlite::{Alter, Transaction, params};
+
+/// Whether a mapping has a row of these two ids.
+fn has_pairing<S: Alter>(
+    tx: &mut Transaction<'_, S>,
+    mapping: &str,
+    base_id: i64,
+    related_id: i64,
+) -> Result<bool, Fault>
+    ensures same_reference { tx.new.conn.ghost_name ≡ tx.old.conn.ghost_name }
+    ensures look { (profile : Profile) → IsLook profile (state S.Store tx.old.conn.now) (state S.Store tx.new.conn.now)
+        (λ p found. found ≡ contains_key p.pairings (pairing mapping.now base_id related_id)) result }
+{
+    exists(
+        tx,
+        "SELECT 1 FROM mm_map WHERE mapping = ?1 AND base_id = ?2 AND related_id = ?3 LIMIT 1",
+        params![mapping, base_id, related_id],
+    )
+}
+
+/// Why a mapping row is not added, if it is not.
+fn map_refusal<S: Alter>(
+    tx: &mut Transaction<'_, S>,
+    mapping: &str,
+    base_id: i64,
+    related_id: i64,
+) -> Result<Option<u8>, Fault>
+    ensures same_reference { tx.new.conn.ghost_name ≡ tx.old.conn.ghost_name }
+    ensures look { (profile : Profile) → IsLook profile (state S.Store tx.old.conn.now) (state S.Store tx.new.conn.now)
+        (λ p why. why ≡ least (own_reasons p (commands.Map mapping.now base_id related_id))) result }
+{
+    let (base, related) = match ends_of(tx, mapping) {
+        Ok(Some(ends)) => ends,
+        Ok(None) => return Ok(Some(44)),
+        Err(fault) => return Err(fault),
+    };
+    match ends_refusal(tx, base.as_str(), base_id, related.as_str(), related_id) {
+        Ok(None) => {}
+        Ok(Some(number)) => return Ok(Some(number)),
+        Err(fault) => return Err(fault),
+    }
+    match has_pairing(tx, mapping, base_id, related_id) {
+        Ok(true) => Ok(Some(45)),
+        Ok(false) => Ok(None),
+        Err(fault) => Err(fault),
+    }
+}
+
+/// Puts a new mapping row.
+fn insert_pairing<S: Alter>(
+    tx: &mut Transaction<'_, S>,
+    mapping: &str,
+    base_id: i64,
+    related_id: i64,
+) -> Result<(), Fault>
+    ensures same_reference { tx.new.conn.ghost_name ≡ tx.old.conn.ghost_name }
+    ensures change { (profile : Profile) → IsChange profile (state S.Store tx.old.conn.now) (state S.Store tx.new.conn.now) (λ p. get p.pairings (pairing mapping.now base_id related_id) ≡ None)
+        (λ p. record p { pairings = insert p.pairings (pairing mapping.now base_id related_id) tt }) result }
+{
+    run(
+        tx,
+        "INSERT INTO mm_map (mapping, base_id, related_id) VALUES (?1, ?2, ?3)",
+        params![mapping, base_id, related_id],
+    )
+}
+
+/// The command `map`: relates an item of a relation's base table to one of its related table. Refused 40 where one of the
+/// two tables is of attribute rows and has no such row, 41 where one is of media and has no such medium, 44 where no
+/// relation has the mapping's name, 45 where the mapping row stands already. (User Defined Mapping Tables.)
+pub fn add_map<S: Alter>(
+    tx: &mut Transaction<'_, S>,
+    mapping: &Name,
+    base_id: i64,
+    related_id: i64,
+) -> Result<Outcome, Fault>
+    ensures same_reference { tx.new.conn.ghost_name ≡ tx.old.conn.ghost_name }
+    ensures lent { (profile : Profile) (moment : ℕ) → IsLent profile (commands.Map mapping.now base_id related_id) moment (state S.Store tx.old.conn.now) (state S.Store tx.new.conn.now) result }
+{
+    let mapping = mapping.as_str();
+    match map_refusal(tx, mapping, base_id, related_id) {
+        Ok(None) => {}
+        Ok(Some(number)) => {
+            return Ok(Outcome::Refused(Refusal {
+                number,
+                piece: None,
+            }));
+        }
+        Err(fault) => return Err(fault),
+    }
+    match insert_pairing(tx, mapping, base_id, related_id) {
+        Ok(()) => Ok(Outcome::Done),
+        Err(fault) => Err(fault),
+    }
+}
+
+/// Why a mapping row is not removed, if it is not.
+fn map_drop_refusal<S: Alter>(
+    tx: &mut Transaction<'_, S>,
+    mapping: &str,
+    base_id: i64,
+    related_id: i64,
+) -> Result<Option<u8>, Fault>
+    ensures same_reference { tx.new.conn.ghost_name ≡ tx.old.conn.ghost_name }
+    ensures look { (profile : Profile) → IsLook profile (state S.Store tx.old.conn.now) (state S.Store tx.new.conn.now)
+        (λ p why. why ≡ least (own_reasons p (commands.MapDrop mapping.now base_id related_id))) result }
+{
+    match has_relation(tx, mapping) {
+        Ok(true) => {}
+        Ok(false) => return Ok(Some(44)),
+        Err(fault) => return Err(fault),
+    }
+    match has_pairing(tx, mapping, base_id, related_id) {
+        Ok(true) => Ok(None),
+        Ok(false) => Ok(Some(46)),
+        Err(fault) => Err(fault),
+    }
+}
+
+/// Removes a mapping row.
+fn delete_pairing<S: Alter>(
+    tx: &mut Transaction<'_, S>,
+    mapping: &str,
+    base_id: i64,
+    related_id: i64,
+) -> Result<(), Fault>
+    ensures same_reference { tx.new.conn.ghost_name ≡ tx.old.conn.ghost_name }
+    ensures change { (profile : Profile) → IsChange profile (state S.Store tx.old.conn.now) (state S.Store tx.new.conn.now) (λ p. ⊤)
+        (λ p. record p { pairings = remove p.pairings (pairing mapping.now base_id related_id) }) result }
+{
+    run(
+        tx,
+        "DELETE FROM mm_map WHERE mapping = ?1 AND base_id = ?2 AND related_id = ?3",
+        params![mapping, base_id, related_id],
+    )
+}
+
+/// The command `map-drop`: removes a mapping row. Refused 44 where no relation has the mapping's name, 46 where it has no such
+/// row. (User Defined Mapping Tables.)
+pub fn drop_map<S: Alter>(
+    tx: &mut Transaction<'_, S>,
+    mapping: &Name,
+    base_id: i64,
+    related_id: i64,
+) -> Result<Outcome, Fault>
+    ensures same_reference { tx.new.conn.ghost_name ≡ tx.old.conn.ghost_name }
+    ensures lent { (profile : Profile) (moment : ℕ) → IsLent profile (commands.MapDrop mapping.now base_id related_id) moment (state S.Store tx.old.conn.now) (state S.Store tx.new.conn.now) result }
+{
+    let mapping = mapping.as_str();
+    match map_drop_refusal(tx, mapping, base_id, related_id) {
+        Ok(None) => {}
+        Ok(Some(number)) => {
+            return Ok(Outcome::Refused(Refusal {
+                number,
+                piece: None,
+            }));
+        }
+        Err(fault) => return Err(fault),
+    }
+    match delete_pairing(tx, mapping, base_id, related_id) {
+        Ok(()) => Ok(Outcome::Done),
+        Err(fault) => Err(fault),
+    }
+}

@@ -1,0 +1,190 @@
+//! Relations.
+
+ghost use Rattle.std.specs.Prelude.{◌≡◌, ◌&&◌, ◌||◌, ℕ, None, ⊤};
+ghost use Rattle.std.specs.FinMap.{get, insert};
+ghost use Rattle.sqlite.specs.Held.{state};
+ghost use Rattle.mm_definitions.specs.Bounds.{IsName, Profile};
+ghost use Rattle.mm_definitions.specs.Conditions.{least, own_reasons, related_kind, relation_text};
+ghost use Rattle.mm_definitions.specs.Keys.{same_text};
+ghost use Rattle.mm_definitions.specs.Package.{kind_text};
+ghost use Rattle.mm_definitions.specs.Rules.{Meets};
+ghost use Rattle.mm_definitions.specs.declared.commands.Command.TheVariants as commands;
+ghost use Rattle.mm_definitions.specs.declared.commands.Kind.TheVariants as kinds;
+ghost use Rattle.mm_store.specs.Removals.{without_relation_rows};
+ghost use Rattle.mm_store.specs.Shapes.{IsLook, IsChange, IsLent};
+ghost use Rattle.mm_relations.specs.Relations.{new_relation};
+
+use crate::extensions::delete_related_row;
+use mm_definitions::answers::{Fault, Outcome, Refusal};
+use mm_definitions::commands::{Kind, RelationName};
+use mm_definitions::names::Name;
+use mm_layout::{has_relation, is_taken, kind_of};
+use mm_opening::insert_related_row;
+use mm_store::statements::run;
+use sqlite::{Alter, Transaction, params};
+
+/// How the list of relations writes the name of a relation. (Media; Simple Attributes.)
+fn text_of_name(name: RelationName) -> &'static str
+    ensures { result.now ≡ relation_text name }
+{
+    match name {
+        RelationName::Media => "media",
+        RelationName::SimpleAttributes => "simple_attributes",
+    }
+}
+
+/// Whether tables of these kinds can be the ends of a relation of this name: the base is no pyramid, and the related table
+/// is of the kind that the name says.
+fn suits(base: Kind, related: Kind, name: RelationName) -> bool
+    ensures { result ≡ ((same_text (kind_text kinds.Attributes) (kind_text base) || same_text (kind_text kinds.Media) (kind_text base)) && same_text (kind_text (related_kind name)) (kind_text related)) }
+{
+    match (base, related, name) {
+        (Kind::Two | Kind::Other, _, _) => false,
+        (_, Kind::Media, RelationName::Media)
+        | (_, Kind::Attributes, RelationName::SimpleAttributes) => true,
+        _ => false,
+    }
+}
+
+/// Why a relation is not added, if it is not.
+fn relation_refusal<S: Alter>(
+    tx: &mut Transaction<'_, S>,
+    mapping: &str,
+    base: &str,
+    related: &str,
+    name: RelationName,
+) -> Result<Option<u8>, Fault>
+    ensures same_reference { tx.new.conn.ghost_name ≡ tx.old.conn.ghost_name }
+    ensures look { (profile : Profile) → IsLook profile (state S.Store tx.old.conn.now) (state S.Store tx.new.conn.now)
+        (λ p why. Meets profile p → why ≡ least (own_reasons p (commands.Relation mapping.now base.now related.now name))) result }
+{
+    let based = match kind_of(tx, base) {
+        Ok(Some(kind)) => kind,
+        Ok(None) => return Ok(Some(25)),
+        Err(fault) => return Err(fault),
+    };
+    let other = match kind_of(tx, related) {
+        Ok(Some(kind)) => kind,
+        Ok(None) => return Ok(Some(25)),
+        Err(fault) => return Err(fault),
+    };
+    match is_taken(tx, mapping) {
+        Ok(true) => return Ok(Some(43)),
+        Ok(false) => {}
+        Err(fault) => return Err(fault),
+    }
+    if suits(based, other, name) {
+        Ok(None)
+    } else {
+        Ok(Some(47))
+    }
+}
+
+/// Puts a new relation. The store chooses its id.
+fn insert_relation<S: Alter>(
+    tx: &mut Transaction<'_, S>,
+    mapping: &str,
+    base: &str,
+    related: &str,
+    name: &str,
+) -> Result<(), Fault>
+    ensures same_reference { tx.new.conn.ghost_name ≡ tx.old.conn.ghost_name }
+    ensures change { (profile : Profile) → IsChange profile (state S.Store tx.old.conn.now) (state S.Store tx.new.conn.now) (λ p. get p.relations mapping.now ≡ None)
+        (λ p. record p { relations = insert p.relations mapping.now (new_relation base.now related.now name.now) }) result }
+{
+    run(
+        tx,
+        "INSERT INTO gpkgext_relations (base_table_name, base_primary_column, related_table_name, related_primary_column, relation_name, mapping_table_name) VALUES (?1, 'id', ?2, 'id', ?3, ?4)",
+        params![base, related, name, mapping],
+    )
+}
+
+/// Keeps a relation under the name of its mapping.
+fn relate<S: Alter>(
+    tx: &mut Transaction<'_, S>,
+    mapping: &str,
+    base: &str,
+    related: &str,
+    name: RelationName,
+) -> Result<Outcome, Fault>
+    requires { IsName mapping.now }
+    ensures same_reference { tx.new.conn.ghost_name ≡ tx.old.conn.ghost_name }
+    ensures lent { (profile : Profile) (moment : ℕ) → IsLent profile (commands.Relation mapping.now base.now related.now name) moment (state S.Store tx.old.conn.now) (state S.Store tx.new.conn.now) result }
+{
+    match relation_refusal(tx, mapping, base, related, name) {
+        Ok(None) => {}
+        Ok(Some(number)) => {
+            return Ok(Outcome::Refused(Refusal {
+                number,
+                piece: None,
+            }));
+        }
+        Err(fault) => return Err(fault),
+    }
+    match insert_relation(tx, mapping, base, related, text_of_name(name)) {
+        Ok(()) => {}
+        Err(fault) => return Err(fault),
+    }
+    match insert_related_row(tx, mapping) {
+        Ok(()) => Ok(Outcome::Done),
+        Err(fault) => Err(fault),
+    }
+}
+
+/// The command `relation`: adds a relation of two tables, under the name of its mapping, with its extension row. Refused 25
+/// where one of the two is no table, 43 where a table or mapping has the mapping's name, 47 where the kinds of the two
+/// tables do not suit the relation's name. (Extended Relations Table.)
+pub fn add_relation<S: Alter>(
+    tx: &mut Transaction<'_, S>,
+    mapping: &Name,
+    base: &Name,
+    related: &Name,
+    name: RelationName,
+) -> Result<Outcome, Fault>
+    ensures same_reference { tx.new.conn.ghost_name ≡ tx.old.conn.ghost_name }
+    ensures lent { (profile : Profile) (moment : ℕ) → IsLent profile (commands.Relation mapping.now base.now related.now name) moment (state S.Store tx.old.conn.now) (state S.Store tx.new.conn.now) result }
+{
+    relate(tx, mapping.as_str(), base.as_str(), related.as_str(), name)
+}
+
+/// Removes a relation, and by their key its mapping rows.
+fn delete_relation<S: Alter>(tx: &mut Transaction<'_, S>, mapping: &str) -> Result<(), Fault>
+    ensures same_reference { tx.new.conn.ghost_name ≡ tx.old.conn.ghost_name }
+    ensures change { (profile : Profile) → IsChange profile (state S.Store tx.old.conn.now) (state S.Store tx.new.conn.now) (λ p. ⊤) (without_relation_rows mapping.now) result }
+{
+    run(
+        tx,
+        "DELETE FROM gpkgext_relations WHERE mapping_table_name = ?1",
+        params![mapping],
+    )
+}
+
+/// The command `relation-drop`: removes a relation with its mapping rows and its extension row. Refused 44 where no relation
+/// has the mapping's name. (Extended Relations Table.)
+pub fn drop_relation<S: Alter>(
+    tx: &mut Transaction<'_, S>,
+    mapping: &Name,
+) -> Result<Outcome, Fault>
+    ensures same_reference { tx.new.conn.ghost_name ≡ tx.old.conn.ghost_name }
+    ensures lent { (profile : Profile) (moment : ℕ) → IsLent profile (commands.RelationDrop mapping.now) moment (state S.Store tx.old.conn.now) (state S.Store tx.new.conn.now) result }
+{
+    let mapping = mapping.as_str();
+    match has_relation(tx, mapping) {
+        Ok(true) => {}
+        Ok(false) => {
+            return Ok(Outcome::Refused(Refusal {
+                number: 44,
+                piece: None,
+            }));
+        }
+        Err(fault) => return Err(fault),
+    }
+    match delete_relation(tx, mapping) {
+        Ok(()) => {}
+        Err(fault) => return Err(fault),
+    }
+    match delete_related_row(tx, mapping) {
+        Ok(()) => Ok(Outcome::Done),
+        Err(fault) => Err(fault),
+    }
+}

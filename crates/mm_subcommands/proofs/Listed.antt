@@ -1,0 +1,20 @@
+-- A package that was adopted and then listed.
+use Rattle.std.proofs.Common.{ℕ, Bool, List, Option, Ok, arith}
+use Rattle.sqlite.specs.State.{State, HasCleanDisk}
+use Rattle.mm_definitions.specs.Bounds.{current}
+use Rattle.mm_store.proofs.Seen.{seen_of}
+use Rattle.mm_store.proofs.Shapes.{quiet_then}
+use Rattle.mm_core.specs.Adopted.{IsAdopted}
+use Rattle.mm_listing.specs.Listing.{listing}
+use Rattle.mm_listing.specs.Writing.{IsListed}
+use Rattle.mm_subcommands.specs.Looked.{IsListing}
+
+pub lists : (old mid new : State) (held holds : Option (List ℕ)) (before failed : Bool) (done : Unit {0}) → IsAdopted old mid → IsListed current listing mid new held holds before failed (Ok done) → IsListing old new held holds
+lists old mid new held holds before failed done adopted listed =
+    let early : HasCleanDisk new → HasCleanDisk mid = λ clean. omega (arith, clean, listed.survives.clean) in
+    record {
+      survives = quiet_then old mid new adopted.survives listed.survives;
+      settled = λ clean p s. listed.settled clean p (adopted.settled (early clean) p s);
+      meets = λ clean p s. adopted.meets (early clean) p s;
+      printed = λ clean p s. listed.written clean p (seen_of current mid p (adopted.settled (early clean) p s));
+    }

@@ -1,0 +1,54 @@
+-- What is printed while the page is served.
+use Rattle.std.specs.Prelude.{◌≡◌, ◌≤◌, ◌⊎◌, ℕ, List, [], ◌∷◌, ◌++◌, map, option_map, take, length, Option, Result, Ok, Err, Bool, true, false, codes, decimal, All}
+use Rattle.std.specs.List.{concat}
+use Rattle.std.specs.Io.KnownBytes.{Appends}
+use Rattle.mm_definitions.specs.declared.answers.Fault.{Fault}
+use Rattle.mm_definitions.specs.declared.answers.PageFault.{PageFault}
+
+-- where the page is served
+abbrev pub serving_text : ℕ → List ℕ
+serving_text port = codes "serving 127.0.0.1:" ++ decimal port ++ codes "\n"
+
+-- the fault of a connection
+abbrev pub page_fault_text : Fault → List ℕ
+page_fault_text fault = codes "page fault " ++ decimal fault.0 ++ codes "\n"
+
+-- The bytes were printed whole; or the writer has failed, behind a front of them.
+abbrev pub IsPrinted : Option (List ℕ) → Option (List ℕ) → Bool → Bool → List ℕ → Bool → Type 0
+IsPrinted old new before failed bytes true = Appends old new bytes × (failed ≡ before)
+IsPrinted old new before failed bytes false = (failed ≡ true) × (taken : ℕ) × (taken ≤ length bytes) × Appends old new (take taken bytes)
+
+-- 90, 91, 92, 96 or 97
+abbrev pub IsServiceFault : Fault → Type 0
+IsServiceFault fault = (fault.0 ≡ 90) ⊎ (fault.0 ≡ 91) ⊎ (fault.0 ≡ 92) ⊎ (fault.0 ≡ 96) ⊎ (fault.0 ≡ 97)
+
+-- what became of a connection
+abbrev pub Outcome : Type 0
+Outcome = Result (Unit {0}) PageFault
+
+-- the faults that connections met, in turn
+unfoldable pub faults_of : List Outcome → List Fault
+faults_of [] = []
+faults_of (Ok done ∷ rest) = faults_of rest
+faults_of (Err why ∷ rest) = why.0 ∷ faults_of rest
+
+-- a line for each of them
+abbrev pub fault_lines : List Outcome → List ℕ
+fault_lines outcomes = concat (map page_fault_text (faults_of outcomes))
+
+-- these are told behind those that were told before, by what tells them
+abbrev pub TellsMore : Option (List Outcome) → Option (List Outcome) → List Outcome → Type 0
+TellsMore old new outcomes = new ≡ option_map (λ before. before ++ outcomes) old
+
+-- 0 where no connection met a fault, and else 3
+abbrev pub status_of : List Fault → ℕ
+status_of [] = 0
+status_of (fault ∷ rest) = 3
+
+-- As many connections were served as were to be, and what was printed is a line for each that met a fault; or the line of the last
+-- that was served couldn't be printed whole, and 3 is answered.
+abbrev pub IsServed : ℕ → List Outcome → Option (List ℕ) → Option (List ℕ) → Bool → Bool → ℕ → Type 0
+IsServed count outcomes old new before failed status = All IsServiceFault (faults_of outcomes)
+    × (((length outcomes ≡ count) × Appends old new (fault_lines outcomes) × (failed ≡ before) × (status ≡ status_of (faults_of outcomes)))
+    ⊎ ((length outcomes ≤ count) × (failed ≡ true) × (status ≡ 3) × (first : List Outcome) × (why : PageFault) × (outcomes ≡ first ++ Err why ∷ [])
+    × (taken : ℕ) × (taken ≤ length (page_fault_text why.0)) × Appends old new (fault_lines first ++ take taken (page_fault_text why.0))))

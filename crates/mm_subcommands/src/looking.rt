@@ -1,0 +1,65 @@
+//! The work that changes nothing: the whole check of a package, and its listing.
+
+ghost use Rattle.std.specs.Prelude.{◌≡◌, ◌⊎◌, false, IfOk, IfErr, OnOk};
+ghost use Rattle.sqlite.specs.Held.{state};
+ghost use Rattle.mm_definitions.specs.Streams.{has_failed, inside};
+ghost use Rattle.mm_core.specs.Adopted.{IsAdopted};
+ghost use Rattle.mm_subcommands.specs.Declined.{IsDeclined};
+ghost use Rattle.mm_subcommands.specs.Told.{IsTold, stop_status};
+ghost use Rattle.mm_subcommands.specs.Looked.{IsListing, check_status, check_text};
+
+use crate::package::adopt_package;
+use crate::stop::Stop;
+use crate::tell::{DONE, tell_bytes, tell_stop};
+use mm_definitions::streams::Io;
+use sqlite::{Alter, Connection};
+use std::alloc::Global;
+use std::io::Write;
+
+/// Checks the whole package, which adopting it does, and hands the connection back. `Stop::Rule` where a rule fails.
+pub fn check_package<S: Alter + Drop>(
+    alloc: Global,
+    conn: Connection<S>,
+) -> Result<Connection<S>, (Connection<S>, Stop)>
+    requires { conn.in_transaction ≡ false }
+    ensures checked { IfOk result (λ checked. IsAdopted (state S.Store conn) (state S.Store checked)) }
+    ensures declined { IfErr result (λ e. IsDeclined (state S.Store conn) (state S.Store e.0) e.1) }
+{
+    match adopt_package(alloc, conn) {
+        Ok(session) => Ok(session.close()),
+        Err(e) => Err(e),
+    }
+}
+
+/// Writes the listing of the package, and hands the connection back. At a fault a beginning of the listing was written.
+pub fn list_package<S: Alter + Drop, W: Write>(
+    alloc: Global,
+    conn: Connection<S>,
+    output: &mut Io<W>,
+) -> Result<Connection<S>, Stop>
+    requires { conn.in_transaction ≡ false }
+    ensures working { OnOk result (has_failed output.new ≡ has_failed output.old) }
+    ensures listed { IfOk result (λ end. IsListing (state S.Store conn) (state S.Store end) (W.contents (inside output.old)) (W.contents (inside output.new))) }
+    ensures stopped { IfErr result (λ why. (output.new ≡ output.old) ⊎ (stop_status why ≡ 3)) }
+{
+    match adopt_package(alloc, conn) {
+        Ok(session) => {
+            let mut session = session;
+            match session.list(output) {
+                Ok(()) => Ok(session.close()),
+                Err(fault) => Err(Stop::Fault(fault)),
+            }
+        }
+        Err((_, why)) => Err(why),
+    }
+}
+
+/// Prints what checking a package came to.
+pub fn tell_check<W: Write>(output: &mut Io<W>, outcome: Result<(), Stop>) -> u8
+    ensures { IsTold (W.contents (inside output.old)) (W.contents (inside output.new)) (has_failed output.old) (has_failed output.new) (check_text outcome) (check_status outcome) result }
+{
+    match outcome {
+        Ok(()) => tell_bytes(output, b"package ok\n", DONE),
+        Err(why) => tell_stop(output, why),
+    }
+}

@@ -1,0 +1,118 @@
+//! The work on a connection to a package.
+
+ghost use Rattle.std.specs.Prelude.{◌≡◌, ◌≤◌, ◌⊎◌, false, IfOk, IfErr};
+ghost use Rattle.sqlite.specs.Held.{state};
+ghost use Rattle.sqlite.specs.State.{HasCleanDisk};
+ghost use Rattle.mm_definitions.specs.Bounds.{current};
+ghost use Rattle.mm_definitions.specs.Streams.{has_failed, inside};
+ghost use Rattle.mm_store.specs.Stands.{IsSettled};
+ghost use Rattle.mm_run.specs.Runs.{OnRun};
+ghost use Rattle.mm_core.specs.Adopted.{IsAdopted};
+ghost use Rattle.mm_core.specs.Parts.{held};
+ghost use Rattle.mm_core.specs.Parts as sessions;
+ghost use Rattle.mm_core.specs.Sessions.{IsCreated};
+ghost use Rattle.mm_subcommands.specs.Declined.{IsDeclined};
+ghost use Rattle.mm_subcommands.specs.Declined as declined;
+ghost use Rattle.mm_subcommands.specs.Ran.{IsRun};
+ghost use Rattle.mm_subcommands.specs.Stops.{StopsMaking};
+
+use crate::stop::Stop;
+use crate::tell::{DONE, FAULT, REFUSED};
+use mm_core::Session;
+use mm_definitions::answers::Open;
+use mm_definitions::moments::Moment;
+use mm_definitions::streams::Io;
+use sqlite::{Alter, Connection};
+use std::alloc::Global;
+use std::io::{Read, Write};
+
+/// Makes a package in a database with no table.
+pub fn make_package<S: Alter + Drop>(
+    alloc: Global,
+    conn: Connection<S>,
+) -> Result<Connection<S>, Stop>
+    requires { conn.in_transaction ≡ false }
+    ensures made { IfOk result (λ made. IsCreated (state S.Store conn) (state S.Store made)) }
+    ensures stopped { IfErr result StopsMaking }
+{
+    match Session::create(alloc, conn) {
+        Ok(session) => Ok(session.close()),
+        Err((_, fault)) => Err(Stop::Fault(fault)),
+    }
+}
+
+/// Why a connection is not adopted, as it is told.
+pub(crate) fn stop_of(cause: Open) -> Stop
+    ensures { result ≡ declined.stop_of cause }
+{
+    match cause {
+        Open::Version(_) => Stop::NotPackage(93),
+        Open::NoProfile => Stop::NotPackage(94),
+        Open::BadProfile => Stop::NotPackage(95),
+        Open::BadBlobs => Stop::NotPackage(98),
+        Open::Rule(rule) => Stop::Rule(rule),
+        Open::Fault(fault) => Stop::Fault(fault),
+    }
+}
+
+/// A session on a package that is there and meets all rules. Else the connection is handed back, with why it is not adopted.
+pub fn adopt_package<S: Alter + Drop>(
+    alloc: Global,
+    conn: Connection<S>,
+) -> Result<Session<S>, (Connection<S>, Stop)>
+    requires { conn.in_transaction ≡ false }
+    ensures working { IfOk result (λ session. sessions.has_failed session ≡ false) }
+    ensures adopted { IfOk result (λ session. IsAdopted (state S.Store conn) (state S.Store (held session))) }
+    ensures declined { IfErr result (λ e. IsDeclined (state S.Store conn) (state S.Store e.0) e.1) }
+{
+    match Session::adopt(alloc, conn) {
+        Ok(session) => Ok(session),
+        Err((conn, cause)) => Err((conn, stop_of(cause))),
+    }
+}
+
+/// Runs the records of the input on a session, and answers the exit status.
+fn run_session<S: Alter, R: Read, W: Write>(
+    session: &mut Session<S>,
+    input: &mut Io<R>,
+    output: &mut Io<W>,
+    at: Moment,
+) -> u8
+    ensures status { result ≤ 3 }
+    ensures working { (result ≡ 3) ⊎ (has_failed output.new ≡ has_failed output.old) }
+    ensures clean { HasCleanDisk (state S.Store (held session.new)) → HasCleanDisk (state S.Store (held session.old)) }
+    ensures ran { OnRun (HasCleanDisk (state S.Store (held session.new))) (λ p. IsSettled current (state S.Store (held session.old)) p) (R.remaining (inside input.old))
+        (λ p bytes. IsRun p at bytes (state S.Store (held session.new)) (W.contents (inside output.old)) (W.contents (inside output.new)) result) }
+{
+    match session.run_list(input, output, at) {
+        Ok(tally) if tally.refused == 0 => DONE,
+        Ok(_) => REFUSED,
+        Err(_) => FAULT,
+    }
+}
+
+/// Runs the records of the input on a connection to a package, and hands it back with the exit status. What is then
+/// left of the package is stated for a connection that was settled for one.
+pub fn run_package<S: Alter + Drop, R: Read, W: Write>(
+    alloc: Global,
+    conn: Connection<S>,
+    input: &mut Io<R>,
+    output: &mut Io<W>,
+    at: Moment,
+) -> Result<(Connection<S>, u8), Stop>
+    requires { conn.in_transaction ≡ false }
+    ensures status { IfOk result (λ ran. ran.1 ≤ 3) }
+    ensures working { IfOk result (λ ran. (ran.1 ≡ 3) ⊎ (has_failed output.new ≡ has_failed output.old)) }
+    ensures ran { IfOk result (λ ran. OnRun (HasCleanDisk (state S.Store ran.0)) (λ p. IsSettled current (state S.Store conn) p) (R.remaining (inside input.old))
+        (λ p bytes. IsRun p at bytes (state S.Store ran.0) (W.contents (inside output.old)) (W.contents (inside output.new)) ran.1)) }
+    ensures unused { IfErr result (λ why. output.new ≡ output.old) }
+{
+    match adopt_package(alloc, conn) {
+        Ok(session) => {
+            let mut session = session;
+            let status = run_session(&mut session, input, output, at);
+            Ok((session.close(), status))
+        }
+        Err((_, why)) => Err(why),
+    }
+}

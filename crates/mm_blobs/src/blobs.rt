@@ -129,7 +129,7 @@ pub fn bytes_of<S: Alter>(tx: &mut Transaction<'_, S>, id: i64) -> Result<Vec<u8
             Ok(bytes) => Ok(bytes),
             Err(error) => Err(fault_of(error)),
         },
-        Ok(None) => Err(Fault(91)),
+        Ok(None) => Err(Fault::STORE),
         Err(fault) => Err(fault),
     }
 }

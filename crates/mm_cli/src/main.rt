@@ -27,7 +27,7 @@ fn run_words(rt: &HostRuntime) -> io::Result<u8> {
 fn tell_no_words(rt: &HostRuntime, error: io::Error) -> u8 {
     let mut output = Io::new(io::writer(rt));
     if error.kind() == io::ErrorKind::OutOfMemory {
-        tell_stop(&mut output, Stop::Fault(Fault(90)))
+        tell_stop(&mut output, Stop::Fault(Fault::MEMORY))
     } else {
         tell_bytes(&mut output, b"Usage: mmpkg <COMMAND>\n", USAGE)
     }

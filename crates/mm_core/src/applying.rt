@@ -85,7 +85,7 @@ pub(crate) fn apply_once<S: Alter>(
 {
     let at = match stamp(alloc, moment) {
         Ok(at) => at,
-        Err(_) => return Answer::Fault(Fault(90)),
+        Err(_) => return Answer::Fault(Fault::MEMORY),
     };
     match command {
         Command::Rehearse { edition } => rehearse_once(conn, edition, moment, at.as_str()),

@@ -24,7 +24,7 @@ impl<S: Alter> Session<S> {
         ensures checked { has_failed self.old ≡ false → IsVerified current (state S.Store (held self.old)) (state S.Store (held self.new)) result }
     {
         if self.failed {
-            return Err(Fault(92));
+            return Err(Fault::REOPEN);
         }
         verify(&mut self.conn, CURRENT)
     }

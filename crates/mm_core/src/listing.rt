@@ -29,7 +29,7 @@ impl<S: Alter> Session<S> {
         ensures listed { has_failed self.old ≡ false → IsListed current listing (state S.Store (held self.old)) (state S.Store (held self.new)) (W.contents (inside writer.old)) (W.contents (inside writer.new)) (streams.has_failed writer.old) (streams.has_failed writer.new) result }
     {
         if self.failed {
-            return Err(Fault(92));
+            return Err(Fault::REOPEN);
         }
         list(&mut self.conn, writer)
     }

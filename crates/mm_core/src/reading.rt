@@ -39,7 +39,7 @@ impl<S: Alter> Session<S> {
         ensures read { has_failed self.old ≡ false → IsRead current (state S.Store (held self.old)) (state S.Store (held self.new)) (λ p found. TellsBytes (get p.tiles (keys.tile table.now (pos zoom) (pos column) (pos row))) found) result }
     {
         if self.failed {
-            return Err(Fault(92));
+            return Err(Fault::REOPEN);
         }
         tile(&mut self.conn, table, zoom, column, row)
     }
@@ -54,7 +54,7 @@ impl<S: Alter> Session<S> {
         ensures read { has_failed self.old ≡ false → IsRead current (state S.Store (held self.old)) (state S.Store (held self.new)) (λ p found. get p.media (item table.now id) ≡ option_map medium_of found) result }
     {
         if self.failed {
-            return Err(Fault(92));
+            return Err(Fault::REOPEN);
         }
         media(&mut self.conn, table, id)
     }
@@ -69,7 +69,7 @@ impl<S: Alter> Session<S> {
         ensures read { has_failed self.old ≡ false → IsRead current (state S.Store (held self.old)) (state S.Store (held self.new)) (λ p found. get p.rows (item table.now id) ≡ option_map row_of found) result }
     {
         if self.failed {
-            return Err(Fault(92));
+            return Err(Fault::REOPEN);
         }
         row(&mut self.conn, table, id)
     }
@@ -85,7 +85,7 @@ impl<S: Alter> Session<S> {
         ensures read { has_failed self.old ≡ false → IsRead current (state S.Store (held self.old)) (state S.Store (held self.new)) (λ p tables. Lists p tables.items) result }
     {
         if self.failed {
-            return Err(Fault(92));
+            return Err(Fault::REOPEN);
         }
         contents(self.alloc, &mut self.conn)
     }
@@ -101,7 +101,7 @@ impl<S: Alter> Session<S> {
         ensures read { has_failed self.old ≡ false → IsRead current (state S.Store (held self.old)) (state S.Store (held self.new)) (λ p found. Tells p table.now id found) result }
     {
         if self.failed {
-            return Err(Fault(92));
+            return Err(Fault::REOPEN);
         }
         related(self.alloc, &mut self.conn, table, id)
     }
@@ -116,7 +116,7 @@ impl<S: Alter> Session<S> {
         ensures read { has_failed self.old ≡ false → IsRead current (state S.Store (held self.old)) (state S.Store (held self.new)) (λ p found. TellsState p name.now found) result }
     {
         if self.failed {
-            return Err(Fault(92));
+            return Err(Fault::REOPEN);
         }
         edition(&mut self.conn, name)
     }

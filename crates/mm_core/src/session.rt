@@ -160,7 +160,7 @@ impl<S: Alter> Session<S> {
         let _milliseconds = at.milliseconds();
         command.is_within();
         if self.failed {
-            return Answer::Fault(Fault(92));
+            return Answer::Fault(Fault::REOPEN);
         }
         let answer = apply_once(self.alloc, &mut self.conn, command, at);
         self.failed = matches!(answer, Answer::Fault(_));

@@ -4,6 +4,8 @@ use Rattle.hex.specs.Hex.{decode_of}
 use Rattle.mm_definitions.specs.Bounds.{IsLong}
 use Rattle.mm_definitions.specs.declared.answers.ReadFault.{ReadFault}
 use Rattle.mm_definitions.specs.declared.answers.ReadFault.TheVariants as faults
+use Rattle.mm_definitions.specs.declared.answers.Outcome.{Outcome}
+use Rattle.mm_definitions.specs.declared.answers.Outcome.TheVariants as outcomes
 
 -- the value, the number that holds against the text, or want of memory
 abbrev pub ReadsTo : {A : Type 0} → (A → Type 0) → (ℕ → Type 0) → Result A ReadFault → Type 0
@@ -31,6 +33,10 @@ refuses_bytes most text number =
 -- a number against a record, and no piece
 abbrev pub refused : ℕ → ReadFault
 refused number = faults.Refused (record { number = number; piece = None })
+
+-- a number against a command, and no piece
+abbrev pub outcome_refused : ℕ → Outcome
+outcome_refused number = outcomes.Refused (record { number = number; piece = None })
 
 -- both values, or the least number that is against one of them; want of memory goes before all
 abbrev pub both_of : {A B : Type 0} → Result A ReadFault → Result B ReadFault → Result (A × B) ReadFault

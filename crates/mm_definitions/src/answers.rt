@@ -1,7 +1,7 @@
 //! What calls answer: refusals, faults, and the tallies that go with them.
 
 ghost use Rattle.std.specs.Prelude.{◌≡◌};
-ghost use Rattle.mm_definitions.specs.Reading.{refused};
+ghost use Rattle.mm_definitions.specs.Reading.{refused, outcome_refused};
 
 /// Why a command is refused. With 53 it tells the piece's number and the piece's own refusal.
 #[derive(Clone, Copy, Debug, PartialEq, Eq)]
@@ -14,6 +14,19 @@ pub struct Refusal {
 /// 97 the output.
 #[derive(Clone, Copy, Debug, PartialEq, Eq)]
 pub struct Fault(pub u8);
+
+impl Fault {
+    /// Want of memory.
+    pub const MEMORY: Fault = Fault(90);
+    /// The store failed, or told what no package holds.
+    pub const STORE: Fault = Fault(91);
+    /// The session failed before, and has to be opened again.
+    pub const REOPEN: Fault = Fault(92);
+    /// The input could not be read.
+    pub const INPUT: Fault = Fault(96);
+    /// The output could not be written.
+    pub const OUTPUT: Fault = Fault(97);
+}
 
 /// Why a file is not opened as a package.
 #[derive(Clone, Copy, Debug, PartialEq, Eq)]
@@ -64,6 +77,18 @@ pub enum Answer {
 pub enum Outcome {
     Done,
     Refused(Refusal),
+}
+
+impl Outcome {
+    /// The command is refused with this number, and tells of no piece.
+    pub const fn refused(number: u8) -> Outcome
+        ensures { result ≡ outcome_refused number }
+    {
+        Outcome::Refused(Refusal {
+            number,
+            piece: None,
+        })
+    }
 }
 
 /// How many records of a run were accepted and refused, and how many answer lines were written whole.

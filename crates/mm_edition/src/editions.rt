@@ -65,7 +65,7 @@ pub(crate) fn standing_of<S: Alter>(
     match written_state(tx, edition) {
         Ok(Some(text)) => match standing_named(text.as_str()) {
             Some(standing) => Ok(Some(standing)),
-            None => Err(Fault(91)),
+            None => Err(Fault::STORE),
         },
         Ok(None) => Ok(None),
         Err(fault) => Err(fault),

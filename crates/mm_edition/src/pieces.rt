@@ -127,7 +127,7 @@ pub fn piece<S: Alter>(
     match kept_piece(tx, edition, i64::from(number)) {
         Ok(Some(kept)) => match spelled(kept) {
             Some(piece) => Ok(Some(piece)),
-            None => Err(Fault(91)),
+            None => Err(Fault::STORE),
         },
         Ok(None) => Ok(None),
         Err(fault) => Err(fault),

@@ -49,7 +49,7 @@ pub(crate) fn try_pieces<S: Alter>(
             Err(fault) => return Err(fault),
         }
     }
-    Err(Fault(91))
+    Err(Fault::STORE)
 }
 
 /// Writes that an edition is published.

@@ -24,8 +24,8 @@ pub fn drain<R: Read>(reader: &mut Io<R>) -> Result<(), Fault>
         match reader.read(&mut one) {
             Ok(0) => return Ok(()),
             Ok(_) => {}
-            Err(_) => return Err(Fault(96)),
+            Err(_) => return Err(Fault::INPUT),
         }
     }
-    Err(Fault(90))
+    Err(Fault::MEMORY)
 }

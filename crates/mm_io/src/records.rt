@@ -48,9 +48,9 @@ pub fn next_row<T: Read + Tells>(
         Ok(false) => Ok(None),
         Err(_) => {
             if rows.get_ref().failed() {
-                Err(Fault(96))
+                Err(Fault::INPUT)
             } else {
-                Err(Fault(90))
+                Err(Fault::MEMORY)
             }
         }
     }

@@ -126,7 +126,7 @@ fn write_medium<S: Alter>(
         (λ p. record p { media = insert p.media (item table.now id) (record { bytes = bytes.now; content_type = content_type.now }) }) result }
 {
     if bytes.is_empty() {
-        return Err(Fault(91));
+        return Err(Fault::STORE);
     }
     match keep(tx, bytes) {
         Ok(blob) => give_medium(tx, table, id, content_type, blob),

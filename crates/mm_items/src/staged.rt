@@ -41,7 +41,7 @@ fn blob_of_piece<S: Alter>(
         params![edition, number],
     ) {
         Ok(Some(blob)) => Ok(blob),
-        Ok(None) => Err(Fault(91)),
+        Ok(None) => Err(Fault::STORE),
         Err(fault) => Err(fault),
     }
 }

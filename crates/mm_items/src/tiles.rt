@@ -164,7 +164,7 @@ fn write_tile<S: Alter>(
         (λ p. record p { tiles = insert p.tiles (tile table.now (pos zoom) (pos column) (pos row)) bytes.now }) result }
 {
     if bytes.is_empty() {
-        return Err(Fault(91));
+        return Err(Fault::STORE);
     }
     match keep(tx, bytes) {
         Ok(blob) => give_tile(tx, table, zoom, column, row, blob),

@@ -43,8 +43,8 @@ pub(crate) fn folder_fault(fault: FolderFault) -> Fault
     ensures { result.0 ≡ number_of fault }
 {
     match fault {
-        FolderFault::Memory => Fault(90),
-        FolderFault::Failed => Fault(96),
+        FolderFault::Memory => Fault::MEMORY,
+        FolderFault::Failed => Fault::INPUT,
     }
 }
 

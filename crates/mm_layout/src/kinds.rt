@@ -53,7 +53,7 @@ pub fn kind_of<S: Alter>(tx: &mut Transaction<'_, S>, table: &str) -> Result<Opt
     match registered(tx, table) {
         Ok(Some(text)) => match Kind::named(text.as_str()) {
             Some(kind) => Ok(Some(kind)),
-            None => Err(Fault(91)),
+            None => Err(Fault::STORE),
         },
         Ok(None) => Ok(None),
         Err(fault) => Err(fault),

@@ -24,7 +24,7 @@ fn put(line: &mut Line, bytes: &[u8]) -> Result<(), Fault>
 {
     match line.try_extend_from_slice(bytes) {
         Ok(()) => Ok(()),
-        Err(_) => Err(Fault(91)),
+        Err(_) => Err(Fault::STORE),
     }
 }
 

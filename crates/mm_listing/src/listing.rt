@@ -21,8 +21,8 @@ fn send_line<W: Write>(output: &mut Io<W>, line: &[u8]) -> Result<bool, Fault>
 {
     match send(output, line) {
         Sent::Flushed => Ok(true),
-        Sent::Unflushed => Err(Fault(97)),
-        Sent::Cut => Err(Fault(97)),
+        Sent::Unflushed => Err(Fault::OUTPUT),
+        Sent::Cut => Err(Fault::OUTPUT),
     }
 }
 

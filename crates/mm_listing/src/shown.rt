@@ -19,7 +19,7 @@ fn text_in(row: &Row, at: usize) -> Result<&[u8], Fault>
 {
     match row.get_ref(at) {
         Ok(ValueRef::Text(bytes)) => Ok(bytes),
-        _ => Err(Fault(91)),
+        _ => Err(Fault::STORE),
     }
 }
 
@@ -30,7 +30,7 @@ fn count_in(row: &Row, at: usize) -> Result<u64, Fault>
 {
     match row.get_ref(at) {
         Ok(ValueRef::Int(count)) if 0 <= count && count < i64::MAX => Ok(count as u64),
-        _ => Err(Fault(91)),
+        _ => Err(Fault::STORE),
     }
 }
 
@@ -46,7 +46,7 @@ fn count_column(kind: &[u8]) -> Result<usize, Fault>
     } else if kind == b"media".as_slice() {
         Ok(6)
     } else {
-        Err(Fault(91))
+        Err(Fault::STORE)
     }
 }
 
@@ -86,6 +86,6 @@ pub(crate) fn edition_in(row: &Row) -> Result<Line, Fault>
             Err(fault) => Err(fault),
         }
     } else {
-        Err(Fault(91))
+        Err(Fault::STORE)
     }
 }

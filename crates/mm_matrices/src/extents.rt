@@ -77,7 +77,7 @@ pub(crate) fn fits_pyramid<S: Alter>(
 {
     match extent_of(tx, table) {
         Ok(Some(extent)) => Ok(fits(&extent, matrix)),
-        Ok(None) => Err(Fault(91)),
+        Ok(None) => Err(Fault::STORE),
         Err(fault) => Err(fault),
     }
 }

@@ -34,7 +34,7 @@ fn zoom_in(row: &Row) -> Result<u8, Fault>
     };
     match u8::try_from(zoom) {
         Ok(zoom) => Ok(zoom),
-        Err(_) => Err(Fault(91)),
+        Err(_) => Err(Fault::STORE),
     }
 }
 
@@ -59,7 +59,7 @@ fn count_at<const LEAST: u32, const MOST: u32>(
 {
     match Count::new(number_at(row, place)?) {
         Some(count) => Ok(count),
-        None => Err(Fault(91)),
+        None => Err(Fault::STORE),
     }
 }
 
@@ -70,7 +70,7 @@ fn pixel_at(row: &Row, place: usize) -> Result<PixelSize, Fault>
 {
     match PixelSize::new(number_at(row, place)?) {
         Some(size) => Ok(size),
-        None => Err(Fault(91)),
+        None => Err(Fault::STORE),
     }
 }
 

@@ -29,7 +29,7 @@ pub fn create_in_memory(alloc: Global) -> Result<Connection<MemStore>, Fault>
     ensures faults { IfErr result IsStoreFault }
 {
     let Ok(mut conn) = blank(alloc) else {
-        return Err(Fault(90));
+        return Err(Fault::MEMORY);
     };
     match init(&mut conn) {
         Ok(()) => Ok(conn),

@@ -39,7 +39,7 @@ fn number_in(row: &Row, at: usize) -> Result<Option<i64>, Fault>
         Ok(number) => Ok(Some(number)),
         Err(error) => {
             if wants_memory(&error) {
-                Err(Fault(90))
+                Err(Fault::MEMORY)
             } else {
                 Ok(None)
             }

@@ -26,7 +26,7 @@ pub fn printed(made: Result<Vec<u8>, AllocError>) -> Result<Vec<u8>, Fault>
 {
     match made {
         Ok(bytes) => Ok(bytes),
-        Err(_) => Err(Fault(90)),
+        Err(_) => Err(Fault::MEMORY),
     }
 }
 
@@ -89,7 +89,7 @@ fn related_reply<S: Alter>(
     match read_mates(session, table, id) {
         Ok(Some(mates)) => match mates_json(alloc, &mates) {
             Ok(text) => printed(found(alloc, "application/json", text.as_bytes())),
-            Err(_) => Err(Fault(90)),
+            Err(_) => Err(Fault::MEMORY),
         },
         Ok(None) => printed(not_found(alloc)),
         Err(fault) => Err(fault),
@@ -106,7 +106,7 @@ fn contents_reply<S: Alter>(alloc: Global, session: &mut Session<S>) -> Result<V
     match read_tables(session) {
         Ok(tables) => match tables_json(alloc, &tables) {
             Ok(text) => printed(found(alloc, "application/json", text.as_bytes())),
-            Err(_) => Err(Fault(90)),
+            Err(_) => Err(Fault::MEMORY),
         },
         Err(fault) => Err(fault),
     }

@@ -141,8 +141,8 @@ pub fn serve_one<S: Alter, R: Read, W: Write>(
     };
     match send(writer, &response) {
         Sent::Flushed => Ok(()),
-        Sent::Unflushed => Err(PageFault(Fault(97))),
-        Sent::Cut => Err(PageFault(Fault(97))),
+        Sent::Unflushed => Err(PageFault(Fault::OUTPUT)),
+        Sent::Cut => Err(PageFault(Fault::OUTPUT)),
     }
 }
 

@@ -31,8 +31,8 @@ fn length_of(rt: &HostRuntime, path: &str) -> Result<Option<u64>, Stop>
     match fs::metadata(rt, path) {
         Ok(found) => Ok(Some(found.len())),
         Err(error) if error.kind() == io::ErrorKind::NotFound => Ok(None),
-        Err(error) if error.kind() == io::ErrorKind::OutOfMemory => Err(Stop::Fault(Fault(90))),
-        Err(_) => Err(Stop::Fault(Fault(96))),
+        Err(error) if error.kind() == io::ErrorKind::OutOfMemory => Err(Stop::Fault(Fault::MEMORY)),
+        Err(_) => Err(Stop::Fault(Fault::INPUT)),
     }
 }
 
@@ -43,7 +43,7 @@ fn journal_of(rt: &HostRuntime, path: &str) -> Result<String, Stop>
 {
     match format!(in rt.alloc(); "{path}-wal") {
         Ok(name) => Ok(name),
-        Err(_) => Err(Stop::Fault(Fault(90))),
+        Err(_) => Err(Stop::Fault(Fault::MEMORY)),
     }
 }
 
@@ -58,7 +58,7 @@ fn options_for(rt: &HostRuntime, length: u64) -> Result<Options, Stop>
 {
     let seed = match RandomState::new(rt) {
         Ok(state) => state.hash_one(&0u8),
-        Err(_) => return Err(Stop::Fault(Fault(91))),
+        Err(_) => return Err(Stop::Fault(Fault::STORE)),
     };
     let mut options = Options::new(seed);
     options.cache_pages = pages_for(length);
@@ -72,15 +72,15 @@ fn files_at<S: Start>(rt: &HostRuntime, path: &str, start: S) -> Result<Files<Fi
     ensures stopped { IfErr result StopsAny }
 {
     if path == ":memory:" || path.starts_with("file:") {
-        return Err(Stop::Fault(Fault(91)));
+        return Err(Stop::Fault(Fault::STORE));
     }
     match sqlite_std_file::open(rt, path, start) {
         Ok(files) => Ok(files),
-        Err(OpenError::OutOfMemory) => Err(Stop::Fault(Fault(90))),
+        Err(OpenError::OutOfMemory) => Err(Stop::Fault(Fault::MEMORY)),
         Err(OpenError::Io(error)) if error.kind() == io::ErrorKind::OutOfMemory => {
-            Err(Stop::Fault(Fault(90)))
+            Err(Stop::Fault(Fault::MEMORY))
         }
-        Err(_) => Err(Stop::Fault(Fault(91))),
+        Err(_) => Err(Stop::Fault(Fault::STORE)),
     }
 }
 
@@ -100,8 +100,8 @@ fn open_file<S: Start>(
             conn.set_clock(rt);
             Ok(conn)
         }
-        Err((Error::SqliteFailure(ErrorCode::OutOfMemory), _)) => Err(Stop::Fault(Fault(90))),
-        Err(_) => Err(Stop::Fault(Fault(91))),
+        Err((Error::SqliteFailure(ErrorCode::OutOfMemory), _)) => Err(Stop::Fault(Fault::MEMORY)),
+        Err(_) => Err(Stop::Fault(Fault::STORE)),
     }
 }
 
@@ -135,7 +135,7 @@ pub fn open_old<S: Start>(
 {
     match length_of(rt, path)? {
         None | Some(0) => Err(Stop::NotPackage(94)),
-        Some(length) if length < SHORTEST => Err(Stop::Fault(Fault(91))),
+        Some(length) if length < SHORTEST => Err(Stop::Fault(Fault::STORE)),
         Some(length) => open_file(rt, path, length, start),
     }
 }
@@ -146,8 +146,8 @@ pub fn close_files<D: Disk + Drop>(conn: Connection<FileStore<D>>) -> Result<(),
 {
     match conn.close() {
         Ok(()) => Ok(()),
-        Err(Error::SqliteFailure(ErrorCode::OutOfMemory)) => Err(Stop::Fault(Fault(90))),
-        Err(_) => Err(Stop::Fault(Fault(91))),
+        Err(Error::SqliteFailure(ErrorCode::OutOfMemory)) => Err(Stop::Fault(Fault::MEMORY)),
+        Err(_) => Err(Stop::Fault(Fault::STORE)),
     }
 }
 

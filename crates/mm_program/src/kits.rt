@@ -119,7 +119,7 @@ pub(crate) fn kit_told<W: Write>(
     let moment = match moment_of(rt, at) {
         Now::At(moment) => moment,
         Now::Outside => return tell_bytes(output, b"refused 11\n", REFUSED),
-        Now::Unread => return tell_stop(output, Stop::Fault(Fault(96))),
+        Now::Unread => return tell_stop(output, Stop::Fault(Fault::INPUT)),
     };
     match import_file(rt, path, Wary, &name, folder, moment) {
         Ok(import) => tell_import(output, import),

@@ -63,7 +63,7 @@ impl<S: Alter> Serves<S> for TcpListener {
     /// Serves the next connection. 96 where there is none to be had, or nothing came on it.
     fn serve_next(&mut self, alloc: Global, session: &mut Session<S>) -> Result<(), PageFault> {
         let Ok(stream) = next_stream(self) else {
-            return Err(PageFault(Fault(96)));
+            return Err(PageFault(Fault::INPUT));
         };
         let mut reader = Io::new(&stream);
         let mut writer = Io::new(&stream);
@@ -88,7 +88,7 @@ fn serve_port<S: Alter, W: Write>(
     ensures unused { IfErr result (λ why. output.new ≡ output.old) }
 {
     let Ok(mut listener) = TcpListener::bind(rt, (Ipv4Addr::LOCALHOST, port)) else {
-        return Err(Stop::Fault(Fault(96)));
+        return Err(Stop::Fault(Fault::INPUT));
     };
     if !tell_serving(output, port) {
         return Ok(FAULT);

@@ -75,7 +75,7 @@ fn run_told<R: Read, W: Write>(
     let moment = match moment_of(rt, at) {
         Now::At(moment) => moment,
         Now::Outside => return tell_bytes(output, b"refused 11\n", REFUSED),
-        Now::Unread => return tell_stop(output, Stop::Fault(Fault(96))),
+        Now::Unread => return tell_stop(output, Stop::Fault(Fault::INPUT)),
     };
     match run_file(rt, path, Wary, input, output, moment) {
         Ok(status) => status,
@@ -91,7 +91,7 @@ fn tell_words<W: Write>(output: &mut Io<W>, error: clap::Error) -> u8
 {
     match status_of(&error) {
         Some(status) => tell_text(output, error, status),
-        None => tell_stop(output, Stop::Fault(Fault(90))),
+        None => tell_stop(output, Stop::Fault(Fault::MEMORY)),
     }
 }
 

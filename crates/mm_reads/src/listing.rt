@@ -29,7 +29,7 @@ fn kind_in(row: &Row, at: usize) -> Result<Kind, Fault>
     match text_in(row, at) {
         Ok(text) => match Kind::named(text.as_str()) {
             Some(kind) => Ok(kind),
-            None => Err(Fault(91)),
+            None => Err(Fault::STORE),
         },
         Err(fault) => Err(fault),
     }
@@ -43,7 +43,7 @@ fn identifier_in(row: &Row, at: usize) -> Result<Identifier, Fault>
     match text_in(row, at) {
         Ok(text) => match Identifier::new(text) {
             Some(identifier) => Ok(identifier),
-            None => Err(Fault(91)),
+            None => Err(Fault::STORE),
         },
         Err(fault) => Err(fault),
     }
@@ -57,7 +57,7 @@ fn time_in(row: &Row, at: usize) -> Result<Text<24, 24>, Fault>
     match text_in(row, at) {
         Ok(text) => match Text::new(text) {
             Some(time) => Ok(time),
-            None => Err(Fault(91)),
+            None => Err(Fault::STORE),
         },
         Err(fault) => Err(fault),
     }
@@ -139,7 +139,7 @@ impl Visitor for Gathered {
         };
         match self.entries.push(entry) {
             Ok(()) => Ok(true),
-            Err(_) => Err(Fault(90)),
+            Err(_) => Err(Fault::MEMORY),
         }
     }
 }

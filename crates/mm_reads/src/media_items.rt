@@ -35,7 +35,7 @@ fn medium(bytes: Vec<u8>, content_type: String) -> Result<Media, Fault>
             bytes,
             content_type,
         }),
-        _ => Err(Fault(91)),
+        _ => Err(Fault::STORE),
     }
 }
 

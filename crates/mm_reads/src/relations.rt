@@ -53,7 +53,7 @@ impl Visitor for Gathered {
         };
         match self.items.push(item) {
             Ok(()) => Ok(true),
-            Err(_) => Err(Fault(90)),
+            Err(_) => Err(Fault::MEMORY),
         }
     }
 }

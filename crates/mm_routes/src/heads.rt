@@ -39,7 +39,7 @@ pub fn read_head<R: Read>(
         match reader.read(&mut buf[len..]) {
             Ok(0) => return Ok(None),
             Ok(n) => len += n,
-            Err(_) => return Err(Fault(96)),
+            Err(_) => return Err(Fault::INPUT),
         }
     }
 }

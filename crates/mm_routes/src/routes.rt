@@ -147,6 +147,6 @@ pub fn read_path(alloc: Global, path: &str) -> Result<Option<Wanted>, Fault>
     }
     match page_router(alloc) {
         Ok(router) => Ok(routed(&router, path)),
-        Err(_) => Err(Fault(90)),
+        Err(_) => Err(Fault::MEMORY),
     }
 }

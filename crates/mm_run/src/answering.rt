@@ -33,7 +33,7 @@ fn answer_row<A: Apply>(alloc: Global, session: &mut A, row: ByteRecord, at: Mom
     match read_row(alloc, row) {
         Ok(command) => session.apply(&command, at),
         Err(ReadFault::Refused(why)) => Answer::Refused(why),
-        Err(ReadFault::Memory) => Answer::Fault(Fault(90)),
+        Err(ReadFault::Memory) => Answer::Fault(Fault::MEMORY),
     }
 }
 

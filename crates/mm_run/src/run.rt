@@ -62,7 +62,7 @@ fn run_rows<A: Apply, T: Read + Tells, W: Write>(
         }
     }
     // No list is as long as this.
-    match tell(u64::MAX, Answer::Fault(Fault(90)), writer, tally) {
+    match tell(u64::MAX, Answer::Fault(Fault::MEMORY), writer, tally) {
         Ok(tally) => Ok(tally),
         Err(e) => Err(e),
     }

@@ -54,12 +54,12 @@ pub(crate) fn tell<W: Write>(
         Sent::Unflushed => {
             tally.written += 1;
             Err(RunFault {
-                fault: Fault(97),
+                fault: Fault::OUTPUT,
                 tally,
             })
         }
         Sent::Cut => Err(RunFault {
-            fault: Fault(97),
+            fault: Fault::OUTPUT,
             tally,
         }),
     }

@@ -41,7 +41,7 @@ pub fn name_in(row: &Row, at: usize) -> Result<Name, Fault>
     match text_in(row, at) {
         Ok(text) => match Name::read(text.as_str()) {
             Some(name) => Ok(name),
-            None => Err(Fault(91)),
+            None => Err(Fault::STORE),
         },
         Err(fault) => Err(fault),
     }
@@ -55,7 +55,7 @@ pub fn remark_in(row: &Row, at: usize) -> Result<Remark, Fault>
     match text_in(row, at) {
         Ok(text) => match Remark::new(text) {
             Some(text) => Ok(text),
-            None => Err(Fault(91)),
+            None => Err(Fault::STORE),
         },
         Err(fault) => Err(fault),
     }

@@ -18,8 +18,8 @@ pub fn fault_of(error: Error) -> Fault
     ensures { result ≡ spec.told_as error }
 {
     if wants_memory(&error) {
-        Fault(90)
+        Fault::MEMORY
     } else {
-        Fault(91)
+        Fault::STORE
     }
 }

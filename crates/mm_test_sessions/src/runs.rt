@@ -50,7 +50,7 @@ impl Desk {
         ensures { OnFault result (λ fault. fault ≡ 91) }
     {
         if self.left == 0 {
-            return Answer::Fault(Fault(91));
+            return Answer::Fault(Fault::STORE);
         }
         self.left -= 1;
         match command {
@@ -59,7 +59,7 @@ impl Desk {
                     return refused(20);
                 }
                 if self.systems.push(id.get()).is_err() {
-                    return Answer::Fault(Fault(91));
+                    return Answer::Fault(Fault::STORE);
                 }
                 Answer::Ok
             }
@@ -85,7 +85,7 @@ impl Apply for Desk {
 
     fn apply(&mut self, command: &Command, at: Moment) -> Answer {
         if self.failed {
-            return Answer::Fault(Fault(92));
+            return Answer::Fault(Fault::REOPEN);
         }
         self.moment = at.milliseconds();
         let answer = self.answer(command);

@@ -100,7 +100,7 @@ fn answers_records_at_the_edges_of_form(rt: HostRuntime) -> Result<(), Fail> {
 /// A session on the package of a connection that is in no transaction, or why there is none.
 fn adopt(alloc: Global, conn: Connection<MemStore>) -> Result<Session<MemStore>, Open> {
     if !conn.is_autocommit() {
-        return Err(Open::Fault(Fault(91)));
+        return Err(Open::Fault(Fault::STORE));
     }
     match Session::adopt(alloc, conn) {
         Ok(session) => Ok(session),
@@ -307,7 +307,7 @@ fn lists_the_longest_names(rt: HostRuntime) -> Result<(), Fail> {
 fn cut_listing(alloc: Global) -> Option<String> {
     let mut session = session_after(alloc, &[PYRAMID, FINER])?;
     let mut writer = short_writer(alloc, 10);
-    if list(&mut session, &mut writer) != Err(Fault(97)) || checked(session) != Some(None) {
+    if list(&mut session, &mut writer) != Err(Fault::OUTPUT) || checked(session) != Some(None) {
         return None;
     }
     let Short { taken, .. } = writer.into_inner();

@@ -33,7 +33,7 @@ fn answers_92<S: Alter>(alloc: Global, session: &mut Session<S>) -> Option<bool>
     let at = Moment::new(0)?;
     let table = Name::read("base")?;
     let mut writer = Io::new(Vec::new(alloc));
-    let ended = Fault(92);
+    let ended = Fault::REOPEN;
     let all = session.list(&mut writer) == Err(ended)
         && session.check() == Err(ended)
         && session.tile(&table, 1, 1, 1).err() == Some(ended)

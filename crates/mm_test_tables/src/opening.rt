@@ -120,7 +120,7 @@ fn a_database_without_tables_is_made_a_package(rt: HostRuntime) {
 /// The first text of one query and the first two numbers of another, where no transaction is open.
 fn shown(conn: &mut Connection<MemStore>) -> Result<(Option<String>, Option<(i64, i64)>), Fault> {
     if !conn.is_autocommit() {
-        return Err(Fault(91));
+        return Err(Fault::STORE);
     }
     let mut tx = conn.transaction();
     let text = first_text(

@@ -47,5 +47,5 @@ pub fn walk<S: Alter, V: Visitor>(
             Err(error) => return Err(fault_of(error)),
         }
     }
-    Err(Fault(91))
+    Err(Fault::STORE)
 }

@@ -1,15 +1,13 @@
 //! Records, and the calls of their commands.
 
+use mm_content::{drop_media, drop_row, drop_tile, put_media, put_row, put_tile};
 use mm_definitions::answers::{Fault, Outcome};
 use mm_definitions::bounded::{MatrixSide, PixelSize, TileSide};
 use mm_definitions::bytes::{MediaBytes, TileBytes};
 use mm_definitions::commands::{Matrix, PlainKind, RelationName, Step};
 use mm_definitions::names::Name;
-use mm_items::{drop_media, drop_row, drop_tile, put_media, put_row, put_tile};
-use mm_layout::{add_pyramid, add_table, drop_table, touch};
-use mm_matrices::add_matrix;
-use mm_opening::add_srs;
-use mm_relations::{add_map, add_relation, drop_map, drop_relation};
+use mm_meta::{add_matrix, add_pyramid, add_srs, add_table, drop_table, touch};
+use mm_relate::{add_map, add_relation, drop_map, drop_relation};
 use sqlite::{Alter, Connection, Transaction};
 use std::alloc::Global;
 use std::fmt::Write;

@@ -1,4 +1,4 @@
-//! Tests of the calls on a package: `mm_opening`, `mm_layout`, `mm_matrices`, `mm_items`, `mm_relations`, `mm_reads`, `mm_reads` and
+//! Tests of the calls on a package: `mm_meta`, `mm_content`, `mm_relate` and
 //! `mm_check`. They show what no clause says: that the calls can succeed, and that the definitions mean the tables of the profile. The
 //! expected answers and rows are those of the records as the profile describes them, worked by hand.
 //!

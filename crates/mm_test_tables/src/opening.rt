@@ -3,7 +3,7 @@
 use crate::commands::{FIRST, LATER};
 use crate::scripts::{told, told_apart, told_on};
 use mm_definitions::answers::Fault;
-use mm_opening::create_in_memory;
+use mm_meta::create_in_memory;
 use mm_store::statements::{first_pair, first_text};
 use sqlite::{Connection, MemStore};
 use std::test::Fail;

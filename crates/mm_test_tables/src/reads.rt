@@ -3,13 +3,14 @@
 use crate::commands::{count, fields_of, number, zoom};
 use crate::rows::add_bytes;
 use mm_check::verify;
+use mm_content::{contents, media, row, tile};
 use mm_definitions::answers::{Fault, Open};
 use mm_definitions::commands::Kind;
 use mm_definitions::entries::{Entry, Media, Related, Row};
 use mm_definitions::names::Name;
 use mm_definitions::units::CURRENT;
-use mm_opening::{init, look};
-use mm_reads::{contents, media, related, row, tile};
+use mm_meta::{init, look};
+use mm_relate::related;
 use sqlite::{Alter, Connection};
 use std::alloc::Global;
 use std::fmt::Write;

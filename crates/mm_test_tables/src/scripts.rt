@@ -10,7 +10,7 @@
 use crate::commands::{FIRST, answer};
 use crate::reads::ask;
 use crate::rows::add_rows;
-use mm_opening::create_in_memory;
+use mm_meta::create_in_memory;
 use sqlite::{Alter, Connection, MemStore};
 use std::alloc::Global;
 use std::fmt::Write;

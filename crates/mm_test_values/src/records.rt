@@ -1,9 +1,9 @@
 //! Records and their answers, worked from the table of the records and their limits.
 
 use crate::lines::fields_of;
+use mm_base::{read_command, read_piece};
 use mm_definitions::answers::ReadFault;
 use mm_definitions::commands::{Command, Piece};
-use mm_records::{read_command, read_piece};
 use std::alloc::Global;
 use std::fmt::Write;
 

@@ -26,7 +26,7 @@ def sum_of_batches():
 def patched():
     """Returns rt as a module that tries the edits of a crate in batches."""
     rt = load_rt()
-    alone, keeping, batches, by_name = rt.must_fail, threading.Lock(), set(), {}
+    alone, lanes, keeping, batches, by_name = rt.must_fail, rt.in_lanes, threading.Lock(), set(), {}
     by_batches = sum_of_batches()
 
     class Kept(rt.Kept):
@@ -59,7 +59,12 @@ def patched():
             batches.add(said)
         return rt.REFUSED, said
 
-    rt.Kept, rt.must_fail = Kept, must_fail
+    def in_lanes(tasks):
+        """Runs tasks as rt does, with the edits of one crate far from one another: a lane that asks for an edit of a batch under way waits for it."""
+        spread = lambda key, lines: lines // (1 + key[2]) if key[1] == "edits" else lines
+        return lanes({key: (waits, spread(key, lines), *others) for key, (waits, lines, *others) in tasks.items()})
+
+    rt.Kept, rt.must_fail, rt.in_lanes = Kept, must_fail, in_lanes
     return rt
 
 

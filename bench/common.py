@@ -50,6 +50,18 @@ def times_by_kind(program, file, records):
     return times
 
 
+def seconds_of_answers(program, file, path):
+    """The seconds from the first answer of a run on a file of records to the last, so without opening and closing. All have to be accepted."""
+    with open(path, "rb") as records, subprocess.Popen([program, "run", file, "--at", "0"], stdin=records, stdout=subprocess.PIPE) as run:
+        told = run.stdout.readline()
+        begin = last = time.perf_counter()
+        for line in run.stdout:
+            told, last = line, time.perf_counter()
+    if run.returncode != 0:
+        raise SystemExit(told.decode())
+    return last - begin
+
+
 def tell_figure(what, figure, unit=""):
     """Prints a figure of the table in bench/README.md, which bench/all.sh gathers."""
     print(f"= {what}: {figure:.2f}{unit}")

@@ -3,8 +3,9 @@
 
     bench/editions.py [--program out/mmpkg] [--rounds 5] [--folder FOLDER]
 
-4,096 tiles of 1 kB are staged, one command each, and then published, in some rounds. The time to start the program and to open and close the
-file, as it stands with the pieces in it, is measured by runs of no record and taken out. SQLite's side, through Python's sqlite3, has the same
+4,096 tiles of 1 kB are staged, one command each, and then published behind a record of another kind, in some rounds, of which the least of each
+time counts, since what disturbs a machine only adds. A run is timed from its first answer to its last, so that starting the program, and opening and
+closing the file, are not in it. SQLite's side, through Python's sqlite3, has the same
 pieces staged, and publishes them in one transaction: for each it reads the piece, looks up the kind, the matrix and the tile by their keys,
 inserts the tile and sets last_change; then the edition is published and the pieces are removed. Memory is the most that the program held (as
 `/usr/bin/time -v` tells it), for publishing 512 and 4,096 pieces of 10 kB.
@@ -13,7 +14,6 @@ inserts the tile and sets last_change; then the edition is published and the pie
 import os
 import re
 import sqlite3
-import statistics
 import subprocess
 import tempfile
 import time
@@ -35,22 +35,21 @@ class Package:
         self.program, self.folder, self.file = program, folder, os.path.join(folder, name)
         common.make_package(program, self.file, common.layout(SIDE) + "edition,spring\n")
 
-    def run(self, records, words=()):
+    def run(self, records):
+        """The seconds from the first answer of a run to its last."""
         path = os.path.join(self.folder, "records.csv")
         with open(path, "w") as out:
             out.write(records)
-        begin = time.perf_counter()
-        with open(path, "rb") as source:
-            done = subprocess.run([*words, self.program, "run", self.file, "--at", "0"], stdin=source, stdout=subprocess.PIPE, stderr=subprocess.PIPE, check=False)
-        took = time.perf_counter() - begin
-        if done.returncode != 0:
-            raise SystemExit(done.stdout.decode()[:400])
-        return took, done.stderr.decode()
+        return common.seconds_of_answers(self.program, self.file, path)
 
-    def opening(self):
-        return statistics.median(self.run("")[0] for _ in range(3))
+    def memory_of_publishing(self):
+        """The most that the program holds while it publishes, in MiB."""
+        words = ["/usr/bin/time", "-v", self.program, "run", self.file, "--at", "0"]
+        done = subprocess.run(words, input=b"publish,spring\n", stdout=subprocess.DEVNULL, stderr=subprocess.PIPE, check=True)
+        return int(re.search(rb"Maximum resident set size \(kbytes\): (\d+)", done.stderr)[1]) / 1024
 
     def stage(self, count, size):
+        """The seconds of staging so many pieces but the first."""
         return self.run("".join(f"stage,spring,{n + 1},tile,base,0,{n % SIDE},{n // SIDE},{os.urandom(size).hex()}\n" for n in range(count)))
 
 
@@ -87,13 +86,11 @@ def publish_other(database, count):
 
 
 def round_of(program, folder):
-    """The seconds of staging and of publishing by the program, and of publishing by SQLite."""
+    """The seconds of staging a piece and of publishing one by the program, and of publishing one by SQLite."""
     package = Package(program, folder, "bench.gpkg")
-    opening = package.opening()
-    staged = package.stage(PIECES, 1000)[0] - opening
-    opening = package.opening()
-    published = package.run("publish,spring\n")[0] - opening
-    return staged, published, publish_other(staged_other(folder, "other.db", PIECES, 1000), PIECES)
+    staged = package.stage(PIECES, 1000) / (PIECES - 1)
+    published = package.run("srs,4,Local,NONE,4,a plane,\npublish,spring\n") / PIECES
+    return staged, published, publish_other(staged_other(folder, "other.db", PIECES, 1000), PIECES) / PIECES
 
 
 def main():
@@ -102,16 +99,14 @@ def main():
     for _ in range(asked.rounds):
         with tempfile.TemporaryDirectory(dir=asked.folder) as folder:
             times.append(round_of(asked.program, folder))
-    staged, published, other = (1e6 * statistics.median(each) / PIECES for each in zip(*times))
-    print(f"stage: {staged:.0f} us a piece; publish: {published:.0f} us a piece, SQLite {other:.0f}")
-    common.tell_figure("publishing a piece", statistics.median(ours / theirs for _, ours, theirs in times))
+    staged, published, other = (min(each) for each in zip(*times))
+    print(f"stage: {1e6 * staged:.0f} us a piece; publish: {1e6 * published:.0f} us a piece, SQLite {1e6 * other:.0f}")
+    common.tell_figure("publishing a piece", published / other)
     for pieces in (512, 4096):
         with tempfile.TemporaryDirectory(dir=asked.folder) as folder:
             package = Package(asked.program, folder, "memory.gpkg")
             package.stage(pieces, 10000)
-            told = package.run("publish,spring\n", ["/usr/bin/time", "-v"])[1]
-        held = re.search(r"Maximum resident set size \(kbytes\): (\d+)", told)
-        print(f"publishing {pieces} pieces of 10 kB held {int(held.group(1)) / 1024:.1f} MiB at most")
+            print(f"publishing {pieces} pieces of 10 kB held {package.memory_of_publishing():.1f} MiB at most")
 
 
 if __name__ == "__main__":

@@ -1,18 +1,18 @@
 #!/usr/bin/env python3
 """The import of a kit, from nothing and again when all is staged, against SQLite doing the same looks, write and commit.
 
-    bench/kits.py [--program out/mmpkg] [--tiles 4000] [--bytes 20000] [--folder FOLDER]
+    bench/kits.py [--program out/mmpkg] [--tiles 4000] [--bytes 20000] [--rounds 5] [--folder FOLDER]
 
 A kit of tiles is imported into an open edition, one commit a piece, and then once more, which reads each file and compares it with
 the piece that stands. The time to start the program and to open and close the file, as it stands before each import, is measured by runs of
 no record and taken out. SQLite's side, through Python's sqlite3 with WAL and synchronous=FULL, reads the list by Python's csv and each file,
 looks up the edition and the piece by their keys, and inserts and commits it, or compares its bytes; its opening is not in its time either.
+Of each time the least of the rounds counts: opening a file of 80 MB takes longer than all its pieces, and what disturbs a machine only adds.
 """
 
 import csv
 import os
 import sqlite3
-import statistics
 import subprocess
 import tempfile
 import time
@@ -39,14 +39,14 @@ def make_kit(folder, tiles, size):
 
 
 def import_kit(program, file, kit, tiles):
-    """The seconds of one import by the program."""
-    opening = statistics.median(run(program, file, os.devnull) for _ in range(3))
+    """The seconds of a run of no record, the least of three, and of one import by the program."""
+    opening = min(run(program, file, os.devnull) for _ in range(3))
     begin = time.perf_counter()
     done = subprocess.run([program, "kit", file, "k", kit, "--at", "0"], stdout=subprocess.PIPE, check=False)
     took = time.perf_counter() - begin
     if done.stdout.decode() != f"kit complete {tiles}\n":
         raise SystemExit(done.stdout.decode())
-    return took - opening
+    return opening, took
 
 
 def stage(database, number, kind, table, place, content):
@@ -71,20 +71,28 @@ def import_other(database, kit):
     return time.perf_counter() - begin
 
 
+def round_of(program, folder, kit, tiles):
+    """The seconds of the import from nothing, and then of the one that finds each piece: the program's runs of no record, its import, SQLite's."""
+    file = os.path.join(folder, "bench.gpkg")
+    common.make_package(program, file, "edition,k\n")
+    database = sqlite3.connect(os.path.join(folder, "other.db"), isolation_level=None)
+    database.executescript(TABLES)
+    return [(*import_kit(program, file, kit, tiles), import_other(database, kit)) for _ in range(2)]
+
+
 def main():
-    asked = common.words_of(__doc__, tiles=(4000, "tiles of the kit"), bytes=(20000, "bytes of a tile"))
-    with tempfile.TemporaryDirectory(dir=asked.folder) as folder:
-        kit, file = os.path.join(folder, "kit"), os.path.join(folder, "bench.gpkg")
-        os.mkdir(kit)
+    asked = common.words_of(__doc__, tiles=(4000, "tiles of the kit"), bytes=(20000, "bytes of a tile"), rounds=(5, "rounds"))
+    with tempfile.TemporaryDirectory(dir=asked.folder) as kit:
         make_kit(kit, asked.tiles, asked.bytes)
-        common.make_package(asked.program, file, "edition,k\n")
-        database = sqlite3.connect(os.path.join(folder, "other.db"), isolation_level=None)
-        database.executescript(TABLES)
-        for what in ("piece of a kit", "piece of a kit that stands already"):
-            our = import_kit(asked.program, file, kit, asked.tiles)
-            their = import_other(database, kit)
-            print(f"{what}: mmpkg {1e6 * our / asked.tiles:.0f} us, SQLite {1e6 * their / asked.tiles:.0f}")
-            common.tell_figure(f"{what}, {asked.bytes:,} bytes", our / their)
+        rounds = []
+        for _ in range(asked.rounds):
+            with tempfile.TemporaryDirectory(dir=asked.folder) as folder:
+                rounds.append(round_of(asked.program, folder, kit, asked.tiles))
+    for what, times in zip(("piece of a kit", "piece of a kit that stands already"), zip(*rounds)):
+        opening, took, their = (min(each) for each in zip(*times))
+        our = took - opening
+        print(f"{what}: mmpkg {1e6 * our / asked.tiles:.0f} us, SQLite {1e6 * their / asked.tiles:.0f}; opening apart: {1e3 * opening:.0f} ms")
+        common.tell_figure(f"{what}, {asked.bytes:,} bytes", our / their)
 
 
 if __name__ == "__main__":

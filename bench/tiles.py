@@ -3,9 +3,8 @@
 
     bench/tiles.py [--program out/mmpkg] [--lists 10] [--tiles 2000] [--bytes 10000] [--folder FOLDER]
 
-Each list of tiles is one run of the program, read from a file that is written beforehand; the time to start the program and to
-open and close the file, as it stands then, is measured by runs of no record and taken out. SQLite's side, through Python's sqlite3
-with WAL and synchronous=FULL, reads the same file by Python's csv, decodes the hexadecimal digits, looks up the kind, the matrix and the
+Each list of tiles is one run of the program, read from a file that is written beforehand, and timed from its first answer to its last, so that
+starting the program, and opening and closing the file, are not in it. SQLite's side, through Python's sqlite3 with WAL and synchronous=FULL, reads the same file by Python's csv, decodes the hexadecimal digits, looks up the kind, the matrix and the
 tile by their keys, inserts the tile, sets last_change and commits, for each tile; its opening is not in its time either. The two take turns,
 list by list. The last list is compared with the first: a tile must not cost more as the package fills.
 """
@@ -90,11 +89,10 @@ def main():
         other = open_other(os.path.join(folder, "other.db"))
         for number in range(asked.lists):
             write_records(path, number * asked.tiles, asked.tiles, asked.bytes)
-            opening = statistics.median(run(asked.program, file, os.devnull) for _ in range(3))
-            ours.append(run(asked.program, file, path) - opening)
-            theirs.append(run_other(other, path))
+            ours.append(common.seconds_of_answers(asked.program, file, path) / (asked.tiles - 1))
+            theirs.append(run_other(other, path) / asked.tiles)
     for name, times in (("mmpkg", ours), ("SQLite", theirs)):
-        print(f"{name}: {1e6 * statistics.median(times) / asked.tiles:.0f} us a tile; last list to first {times[-1] / times[0]:.2f}")
+        print(f"{name}: {1e6 * statistics.median(times):.0f} us a tile; last list to first {times[-1] / times[0]:.2f}")
     common.tell_figure(f"tile of {asked.bytes:,} bytes", statistics.median(o / t for o, t in zip(ours, theirs)))
 
 

@@ -34,19 +34,38 @@ def make_package(program, file, records=""):
         subprocess.run([program, "run", file, "--at", "0"], input=records.encode(), check=True, stdout=subprocess.DEVNULL)
 
 
+class Run:
+    """A run that is sent records one by one, each when the last has been answered."""
+
+    def __init__(self, program, file):
+        self.process = subprocess.Popen([program, "run", file, "--at", "0"], stdin=subprocess.PIPE, stdout=subprocess.PIPE)
+
+    def __enter__(self):
+        return self
+
+    def __exit__(self, *_):
+        self.process.stdin.close()
+        self.process.stdout.close()
+        self.process.wait()
+
+    def seconds_of(self, record):
+        """The seconds until a record is answered, which has to be accepted."""
+        begin = time.perf_counter()
+        self.process.stdin.write(record.encode() + b"\n")
+        self.process.stdin.flush()
+        answer = self.process.stdout.readline()
+        seconds = time.perf_counter() - begin
+        if not answer.endswith(b" ok\n"):
+            raise SystemExit(f"{record}: {answer.decode()}")
+        return seconds
+
+
 def times_by_kind(program, file, records):
-    """The seconds of each record under its kind. Each is sent when the last has been answered, and has to be accepted."""
+    """The seconds of each record under its kind."""
     times = {}
-    with subprocess.Popen([program, "run", file, "--at", "0"], stdin=subprocess.PIPE, stdout=subprocess.PIPE) as run:
+    with Run(program, file) as run:
         for record, kind in records:
-            begin = time.perf_counter()
-            run.stdin.write(record.encode() + b"\n")
-            run.stdin.flush()
-            answer = run.stdout.readline()
-            times.setdefault(kind, []).append(time.perf_counter() - begin)
-            if not answer.endswith(b" ok\n"):
-                raise SystemExit(f"{record}: {answer.decode()}")
-        run.stdin.close()
+            times.setdefault(kind, []).append(run.seconds_of(record))
     return times
 
 

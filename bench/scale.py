@@ -4,10 +4,12 @@
     bench/scale.py [--program out/mmpkg] [--most 100000] [--records 100] [--rounds 3] [--folder FOLDER]
 
 Each package is filled by the program itself. Then each command is given so many times, each record sent when the last has been answered
-and timed alone, and its median is taken; the packages take turns for some rounds, each time as they were filled. Printed are the medians
-of the rounds, and the cost in the largest package against that in the smallest, which is to be at most 1.2: a command finds its rows by a key.
+and timed alone, to one package after the other, so that a machine that grows slower does so for all three; its median is taken. In each round the
+packages are as they were filled. Printed are the medians of the rounds, and the cost in the largest package against that in the smallest, which is to
+be at most 1.2: a command finds its rows by a key.
 """
 
+import contextlib
 import os
 import shutil
 import statistics
@@ -81,12 +83,16 @@ def of_editions(count, records):
             yield f"{end},{name}", end
 
 
-def medians(program, filled, count, records):
-    """The median seconds of each command, in a copy of the package."""
-    asked = [*of_entries(count, records), *of_tables(records), *of_editions(count, records)]
-    with tempfile.TemporaryDirectory(dir=os.path.dirname(filled)) as folder:
-        times = common.times_by_kind(program, shutil.copy(filled, folder), asked)
-    return {kind: statistics.median(each) for kind, each in times.items()}
+def medians(program, filled, records):
+    """The median seconds of each command in a copy of each package, by kind and entries; the packages take turns, a record each."""
+    asked = {count: [*of_entries(count, records), *of_tables(records), *of_editions(count, records)] for count in filled}
+    times = {}
+    with tempfile.TemporaryDirectory(dir=os.path.dirname(next(iter(filled.values())))) as folder, contextlib.ExitStack() as opened:
+        runs = {count: opened.enter_context(common.Run(program, shutil.copy(file, folder))) for count, file in filled.items()}
+        for together in zip(*asked.values()):
+            for (count, run), (record, kind) in zip(runs.items(), together):
+                times.setdefault((kind, count), []).append(run.seconds_of(record))
+    return {it: statistics.median(each) for it, each in times.items()}
 
 
 def main():
@@ -99,9 +105,8 @@ def main():
         for count, file in filled.items():
             fill(asked.program, file, count)
         for _ in range(asked.rounds):
-            for count, file in filled.items():
-                for kind, seconds in medians(asked.program, file, count, asked.records).items():
-                    times.setdefault(kind, {}).setdefault(count, []).append(seconds)
+            for (kind, count), seconds in medians(asked.program, filled, asked.records).items():
+                times.setdefault(kind, {}).setdefault(count, []).append(seconds)
     print("| command | " + " | ".join(f"{count:,}" for count in sizes) + " | last to first |\n" + "|---" * (len(sizes) + 2) + "|")
     for kind, by_size in times.items():
         costs = [statistics.median(by_size[count]) for count in sizes]

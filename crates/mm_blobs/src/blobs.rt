@@ -32,13 +32,9 @@ pub fn first_number<S: Alter>(
     ensures same_reference { tx.new.conn.ghost_name ≡ tx.old.conn.ghost_name }
     ensures asked { IsAsked (state S.Store tx.old.conn.now) (state S.Store tx.new.conn.now) sql.now (bound params.now) (λ it first. GivesNumber it first) result }
 {
-    match first(tx, sql, params) {
-        Ok(Some(row)) => match number_in(&row, 0) {
-            Ok(number) => Ok(Some(number)),
-            Err(fault) => Err(fault),
-        },
-        Ok(None) => Ok(None),
-        Err(fault) => Err(fault),
+    match first(tx, sql, params)? {
+        Some(row) => Ok(Some(number_in(&row, 0)?)),
+        None => Ok(None),
     }
 }
 
@@ -72,14 +68,12 @@ fn insert_blob<S: Alter>(
     ensures put { (profile : Profile) (spare : Spare) → IsMove (state S.Store tx.old.conn.now) (state S.Store tx.new.conn.now) (λ base x. IsSeen spare profile (state S.Store tx.old.conn.now) base x × Lacks x.kept.shelf bytes.now)
         (λ base x id y. (y ≡ record x { kept = record (x.kept) { shelf = insert x.kept.shelf id (blob_of bytes.now) } }) × IsSeen (spare_too id spare) profile (state S.Store tx.new.conn.now) base y) result }
 {
-    match run(
+    run(
         tx,
         "INSERT INTO mm_blobs (digest, data) VALUES (?1, ?2)",
         params![digest, bytes],
-    ) {
-        Ok(()) => Ok(tx.last_insert_rowid()),
-        Err(fault) => Err(fault),
-    }
+    )?;
+    Ok(tx.last_insert_rowid())
 }
 
 /// The id of the blob of these bytes, which is put where none stands. Until an entry names it, it may stand unnamed.
@@ -91,10 +85,9 @@ pub fn keep<S: Alter>(tx: &mut Transaction<'_, S>, bytes: &[u8]) -> Result<i64, 
 {
     let digits = digest_of(bytes);
     let digest = text_of(&digits);
-    match find_blob(tx, digest, bytes) {
-        Ok(Some(id)) => Ok(id),
-        Ok(None) => insert_blob(tx, digest, bytes),
-        Err(fault) => Err(fault),
+    match find_blob(tx, digest, bytes)? {
+        Some(id) => Ok(id),
+        None => insert_blob(tx, digest, bytes),
     }
 }
 
@@ -124,13 +117,12 @@ pub fn bytes_of<S: Alter>(tx: &mut Transaction<'_, S>, id: i64) -> Result<Vec<u8
     ensures told { (profile : Profile) (spare : Spare) → IsMove (state S.Store tx.old.conn.now) (state S.Store tx.new.conn.now) (IsSeen spare profile (state S.Store tx.old.conn.now))
         (λ base x bytes y. (y ≡ x) × IsSeen spare profile (state S.Store tx.new.conn.now) base y × (bytes_at y.kept.shelf id ≡ Some bytes.items)) result }
 {
-    match row_of_blob(tx, id) {
-        Ok(Some(row)) => match bytes_in(&row) {
+    match row_of_blob(tx, id)? {
+        Some(row) => match bytes_in(&row) {
             Ok(bytes) => Ok(bytes),
             Err(error) => Err(fault_of(error)),
         },
-        Ok(None) => Err(Fault::STORE),
-        Err(fault) => Err(fault),
+        None => Err(Fault::STORE),
     }
 }
 
@@ -179,15 +171,11 @@ fn is_named<S: Alter>(tx: &mut Transaction<'_, S>, id: i64) -> Result<bool, Faul
     ensures named { (profile : Profile) (spare : Spare) → IsMove (state S.Store tx.old.conn.now) (state S.Store tx.new.conn.now) (IsSeen spare profile (state S.Store tx.old.conn.now))
         (λ base x it y. (y ≡ x) × IsSeen spare profile (state S.Store tx.new.conn.now) base y × TellsWhether (IsNamed y.kept id) it) result }
 {
-    match tile_names(tx, id) {
-        Ok(true) => return Ok(true),
-        Ok(false) => {}
-        Err(fault) => return Err(fault),
+    if tile_names(tx, id)? {
+        return Ok(true);
     }
-    match medium_names(tx, id) {
-        Ok(true) => return Ok(true),
-        Ok(false) => {}
-        Err(fault) => return Err(fault),
+    if medium_names(tx, id)? {
+        return Ok(true);
     }
     piece_names(tx, id)
 }
@@ -207,10 +195,10 @@ pub fn release<S: Alter>(tx: &mut Transaction<'_, S>, id: i64) -> Result<(), Fau
     ensures released { (profile : Profile) (spare : Spare) → IsMove (state S.Store tx.old.conn.now) (state S.Store tx.new.conn.now) (IsSeen spare profile (state S.Store tx.old.conn.now))
         (λ base x _ y. (y ≡ record x { kept = record (x.kept) { shelf = y.kept.shelf } }) × IsSeen (spare_but id spare) profile (state S.Store tx.new.conn.now) base y) result }
 {
-    match is_named(tx, id) {
-        Ok(true) => Ok(()),
-        Ok(false) => delete_blob(tx, id),
-        Err(fault) => Err(fault),
+    if is_named(tx, id)? {
+        Ok(())
+    } else {
+        delete_blob(tx, id)
     }
 }
 
@@ -232,10 +220,8 @@ fn release_in<S: Alter>(tx: &mut Transaction<'_, S>, row: &Row) -> Result<(), Fa
     ensures released { (profile : Profile) (spare : Spare) → IsMove (state S.Store tx.old.conn.now) (state S.Store tx.new.conn.now) (IsSeen (spare_each (row.now ∷ []) spare) profile (state S.Store tx.old.conn.now))
         (λ base x _ y. (y ≡ record x { kept = record (x.kept) { shelf = y.kept.shelf } }) × IsSeen spare profile (state S.Store tx.new.conn.now) base y) result }
 {
-    match number_in(row, 0) {
-        Ok(id) => release(tx, id),
-        Err(fault) => Err(fault),
-    }
+    let id = number_in(row, 0)?;
+    release(tx, id)
 }
 
 /// Releases each of the blobs whose ids these rows begin with.
@@ -245,10 +231,7 @@ pub fn release_each<S: Alter>(tx: &mut Transaction<'_, S>, rows: &[Row]) -> Resu
         (λ base x _ y. (y ≡ record x { kept = record (x.kept) { shelf = y.kept.shelf } }) × IsSeen spare profile (state S.Store tx.new.conn.now) base y) result }
 {
     for row in rows {
-        match release_in(tx, row) {
-            Ok(()) => {}
-            Err(fault) => return Err(fault),
-        }
+        release_in(tx, row)?;
     }
     Ok(())
 }
@@ -272,8 +255,6 @@ pub fn sweep<S: Alter>(tx: &mut Transaction<'_, S>) -> Result<(), Fault>
     ensures swept { (profile : Profile) (spare : Spare) → IsMove (state S.Store tx.old.conn.now) (state S.Store tx.new.conn.now) (IsSeen spare profile (state S.Store tx.old.conn.now))
         (λ base x _ y. (y ≡ record x { kept = record (x.kept) { shelf = y.kept.shelf } }) × IsSeen no_spare profile (state S.Store tx.new.conn.now) base y) result }
 {
-    match unnamed(tx) {
-        Ok(rows) => release_each(tx, rows.as_slice()),
-        Err(fault) => Err(fault),
-    }
+    let rows = unnamed(tx)?;
+    release_each(tx, rows.as_slice())
 }

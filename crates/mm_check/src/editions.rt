@@ -304,10 +304,10 @@ pub fn pieces_spelled<S: Alter>(conn: &mut Connection<S>, unit: Unit) -> Result<
 pub fn pieces_alone<S: Alter>(conn: &mut Connection<S>, unit: Unit) -> Result<bool, Fault>
     ensures { IsCheck (profile_of unit) (state S.Store conn.old) (state S.Store conn.new) (λ p. Limits (profile_of unit) p) (λ p. PiecesSpelled (profile_of unit) p × PiecesNumbered p) result }
 {
-    match pieces_spelled(conn, unit) {
-        Ok(true) => pieces_numbered(conn),
-        Ok(false) => Ok(false),
-        Err(fault) => Err(fault),
+    if pieces_spelled(conn, unit)? {
+        pieces_numbered(conn)
+    } else {
+        Ok(false)
     }
 }
 
@@ -315,10 +315,10 @@ pub fn pieces_alone<S: Alter>(conn: &mut Connection<S>, unit: Unit) -> Result<bo
 pub fn pieces<S: Alter>(conn: &mut Connection<S>, unit: Unit) -> Result<bool, Fault>
     ensures { IsCheck (profile_of unit) (state S.Store conn.old) (state S.Store conn.new) (λ p. Limits (profile_of unit) p) (λ p. PiecesOfOpen p × (PiecesSpelled (profile_of unit) p × PiecesNumbered p)) result }
 {
-    match pieces_of_open(conn) {
-        Ok(true) => pieces_alone(conn, unit),
-        Ok(false) => Ok(false),
-        Err(fault) => Err(fault),
+    if pieces_of_open(conn)? {
+        pieces_alone(conn, unit)
+    } else {
+        Ok(false)
     }
 }
 
@@ -326,9 +326,9 @@ pub fn pieces<S: Alter>(conn: &mut Connection<S>, unit: Unit) -> Result<bool, Fa
 pub fn editions<S: Alter>(conn: &mut Connection<S>, unit: Unit) -> Result<bool, Fault>
     ensures { IsCheck (profile_of unit) (state S.Store conn.old) (state S.Store conn.new) (λ p. Limits (profile_of unit) p) (λ p. Editions (profile_of unit) p.editions p.pieces) result }
 {
-    match edition_states(conn) {
-        Ok(true) => pieces(conn, unit),
-        Ok(false) => Ok(false),
-        Err(fault) => Err(fault),
+    if edition_states(conn)? {
+        pieces(conn, unit)
+    } else {
+        Ok(false)
     }
 }

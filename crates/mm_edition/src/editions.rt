@@ -16,7 +16,7 @@ ghost use Rattle.mm_edition.specs.Standings.{standing_text};
 
 use crate::pieces::blobs_of_pieces;
 use mm_blobs::blobs::release_each;
-use mm_definitions::answers::{Fault, Outcome, Refusal};
+use mm_definitions::answers::{Fault, Outcome};
 use mm_definitions::names::Name;
 use mm_store::statements::{first_text, run};
 use sqlite::{Alter, Transaction, params};
@@ -62,13 +62,12 @@ pub(crate) fn standing_of<S: Alter>(
     ensures same_reference { tx.new.conn.ghost_name ≡ tx.old.conn.ghost_name }
     ensures look { (profile : Profile) → IsLook profile (state S.Store tx.old.conn.now) (state S.Store tx.new.conn.now) (λ p standing. get p.editions edition.now ≡ option_map standing_text standing) result }
 {
-    match written_state(tx, edition) {
-        Ok(Some(text)) => match standing_named(text.as_str()) {
+    match written_state(tx, edition)? {
+        Some(text) => match standing_named(text.as_str()) {
             Some(standing) => Ok(Some(standing)),
             None => Err(Fault::STORE),
         },
-        Ok(None) => Ok(None),
-        Err(fault) => Err(fault),
+        None => Ok(None),
     }
 }
 
@@ -91,20 +90,12 @@ pub fn open_edition<S: Alter>(tx: &mut Transaction<'_, S>, edition: &Name) -> Re
     ensures lent { (profile : Profile) (moment : ℕ) → IsLent profile (commands.Edition edition.now) moment (state S.Store tx.old.conn.now) (state S.Store tx.new.conn.now) result }
 {
     let edition = edition.as_str();
-    match standing_of(tx, edition) {
-        Ok(None) => {}
-        Ok(Some(_)) => {
-            return Ok(Outcome::Refused(Refusal {
-                number: 50,
-                piece: None,
-            }));
-        }
-        Err(fault) => return Err(fault),
+    match standing_of(tx, edition)? {
+        None => {}
+        Some(_) => return Ok(Outcome::refused(50)),
     }
-    match insert_edition(tx, edition) {
-        Ok(()) => Ok(Outcome::Done),
-        Err(fault) => Err(fault),
-    }
+    insert_edition(tx, edition)?;
+    Ok(Outcome::Done)
 }
 
 /// Removes the row of an edition, and by its key those of its pieces. Blobs stay that nothing names any more.
@@ -126,14 +117,9 @@ fn delete_edition<S: Alter>(tx: &mut Transaction<'_, S>, edition: &str) -> Resul
     ensures same_reference { tx.new.conn.ghost_name ≡ tx.old.conn.ghost_name }
     ensures change { (profile : Profile) → IsChange profile (state S.Store tx.old.conn.now) (state S.Store tx.new.conn.now) (λ p. ⊤) (without_edition_rows edition.now) result }
 {
-    let blobs = match blobs_of_pieces(tx, edition) {
-        Ok(rows) => rows,
-        Err(fault) => return Err(fault),
-    };
-    match delete_edition_rows(tx, edition) {
-        Ok(()) => release_each(tx, blobs.as_slice()),
-        Err(fault) => Err(fault),
-    }
+    let blobs = blobs_of_pieces(tx, edition)?;
+    delete_edition_rows(tx, edition)?;
+    release_each(tx, blobs.as_slice())
 }
 
 /// Why an edition is not one that takes and gives up pieces, if it is not: 51 where none has the name, 55 where it is
@@ -145,11 +131,10 @@ pub(crate) fn closed_refusal<S: Alter>(
     ensures same_reference { tx.new.conn.ghost_name ≡ tx.old.conn.ghost_name }
     ensures look { (profile : Profile) → IsLook profile (state S.Store tx.old.conn.now) (state S.Store tx.new.conn.now) (λ p why. why ≡ least (own_reasons p (commands.Discard edition.now))) result }
 {
-    match standing_of(tx, edition) {
-        Ok(Some(Standing::Open)) => Ok(None),
-        Ok(Some(Standing::Published)) => Ok(Some(55)),
-        Ok(None) => Ok(Some(51)),
-        Err(fault) => Err(fault),
+    match standing_of(tx, edition)? {
+        Some(Standing::Open) => Ok(None),
+        Some(Standing::Published) => Ok(Some(55)),
+        None => Ok(Some(51)),
     }
 }
 
@@ -160,18 +145,9 @@ pub fn discard<S: Alter>(tx: &mut Transaction<'_, S>, edition: &Name) -> Result<
     ensures lent { (profile : Profile) (moment : ℕ) → IsLent profile (commands.Discard edition.now) moment (state S.Store tx.old.conn.now) (state S.Store tx.new.conn.now) result }
 {
     let edition = edition.as_str();
-    match closed_refusal(tx, edition) {
-        Ok(None) => {}
-        Ok(Some(number)) => {
-            return Ok(Outcome::Refused(Refusal {
-                number,
-                piece: None,
-            }));
-        }
-        Err(fault) => return Err(fault),
+    if let Some(number) = closed_refusal(tx, edition)? {
+        return Ok(Outcome::refused(number));
     }
-    match delete_edition(tx, edition) {
-        Ok(()) => Ok(Outcome::Done),
-        Err(fault) => Err(fault),
-    }
+    delete_edition(tx, edition)?;
+    Ok(Outcome::Done)
 }

@@ -80,13 +80,9 @@ fn bytes_of_row<S: Alter>(tx: &mut Transaction<'_, S>, row: &Row) -> Result<Opti
     ensures told { (profile : Profile) (spare : Spare) → IsMove (state S.Store tx.old.conn.now) (state S.Store tx.new.conn.now) (λ base x. IsTrue (state S.Store tx.old.conn.now).is_open × IsSeen spare profile (state S.Store tx.old.conn.now) base x)
         (λ base x bytes y. (y ≡ x) × IsSeen spare profile (state S.Store tx.new.conn.now) base y × ((blob : Option ℤ) → column row.now 11 ≡ maybe blob → StandsAt y.kept.shelf blob (plain bytes))) result }
 {
-    match blob_in(row) {
-        Ok(Some(blob)) => match bytes_of(tx, blob) {
-            Ok(bytes) => Ok(Some(bytes)),
-            Err(fault) => Err(fault),
-        },
-        Ok(None) => Ok(None),
-        Err(fault) => Err(fault),
+    match blob_in(row)? {
+        Some(blob) => Ok(Some(bytes_of(tx, blob)?)),
+        None => Ok(None),
     }
 }
 
@@ -99,15 +95,10 @@ pub(crate) fn kept_piece<S: Alter>(
     ensures same_reference { tx.new.conn.ghost_name ≡ tx.old.conn.ghost_name }
     ensures look { (profile : Profile) → IsLook profile (state S.Store tx.old.conn.now) (state S.Store tx.new.conn.now) (λ p kept. get p.pieces (keys.piece edition.now number) ≡ option_map kept_row kept) result }
 {
-    let row = match row_of_piece(tx, edition, number) {
-        Ok(Some(row)) => row,
-        Ok(None) => return Ok(None),
-        Err(fault) => return Err(fault),
+    let Some(row) = row_of_piece(tx, edition, number)? else {
+        return Ok(None);
     };
-    let bytes = match bytes_of_row(tx, &row) {
-        Ok(bytes) => bytes,
-        Err(fault) => return Err(fault),
-    };
+    let bytes = bytes_of_row(tx, &row)?;
     match kept_in(&row, bytes) {
         Ok(kept) => Ok(Some(kept)),
         Err(error) => Err(fault_of(error)),
@@ -124,13 +115,12 @@ pub fn piece<S: Alter>(
     ensures look { (profile : Profile) → IsLook profile (state S.Store tx.old.conn.now) (state S.Store tx.new.conn.now) (λ p found. Meets profile p → get p.pieces (keys.piece edition.now (pos number)) ≡ option_map piece_row found) result }
 {
     let edition = edition.as_str();
-    match kept_piece(tx, edition, i64::from(number)) {
-        Ok(Some(kept)) => match spelled(kept) {
+    match kept_piece(tx, edition, i64::from(number))? {
+        Some(kept) => match spelled(kept) {
             Some(piece) => Ok(Some(piece)),
             None => Err(Fault::STORE),
         },
-        Ok(None) => Ok(None),
-        Err(fault) => Err(fault),
+        None => Ok(None),
     }
 }
 
@@ -183,10 +173,8 @@ pub(crate) fn insert_piece<S: Alter>(
     if written.bytes.is_empty() {
         return insert_row(tx, edition, number, written, None);
     }
-    match keep(tx, written.bytes) {
-        Ok(blob) => insert_row(tx, edition, number, written, Some(blob)),
-        Err(fault) => Err(fault),
-    }
+    let blob = keep(tx, written.bytes)?;
+    insert_row(tx, edition, number, written, Some(blob))
 }
 
 /// The ids of the blobs that the pieces of an edition name.

@@ -42,11 +42,10 @@ pub(crate) fn try_pieces<S: Alter>(
     ensures trial { (profile : Profile) (moment : ℕ) → IsStamp moment at.now → IsTrial profile edition.now moment (state S.Store tx.old.conn.now) (state S.Store tx.new.conn.now) result }
 {
     for number in 1..PAST_THE_LAST + 1 {
-        match try_piece(tx, edition, number, at) {
-            Ok(Turn::Done) => {}
-            Ok(Turn::End) => return Ok(None),
-            Ok(Turn::Refused(why)) => return Ok(Some((number, why))),
-            Err(fault) => return Err(fault),
+        match try_piece(tx, edition, number, at)? {
+            Turn::Done => {}
+            Turn::End => return Ok(None),
+            Turn::Refused(why) => return Ok(Some((number, why))),
         }
     }
     Err(Fault::STORE)
@@ -85,14 +84,9 @@ fn delete_pieces<S: Alter>(tx: &mut Transaction<'_, S>, edition: &str) -> Result
     ensures change { (profile : Profile) → IsChange profile (state S.Store tx.old.conn.now) (state S.Store tx.new.conn.now) (λ p. ⊤)
         (λ p. record p { pieces = retain_keys p.pieces (λ k. is_other edition.now k.edition) }) result }
 {
-    let blobs = match blobs_of_pieces(tx, edition) {
-        Ok(rows) => rows,
-        Err(fault) => return Err(fault),
-    };
-    match delete_piece_rows(tx, edition) {
-        Ok(()) => release_each(tx, blobs.as_slice()),
-        Err(fault) => Err(fault),
-    }
+    let blobs = blobs_of_pieces(tx, edition)?;
+    delete_piece_rows(tx, edition)?;
+    release_each(tx, blobs.as_slice())
 }
 
 /// Publishes an edition whose pieces were done, and removes them.
@@ -100,10 +94,8 @@ fn close_edition<S: Alter>(tx: &mut Transaction<'_, S>, edition: &str) -> Result
     ensures same_reference { tx.new.conn.ghost_name ≡ tx.old.conn.ghost_name }
     ensures change { (profile : Profile) → IsChange profile (state S.Store tx.old.conn.now) (state S.Store tx.new.conn.now) (λ p. contains_key p.editions edition.now ≡ true) (closed edition.now) result }
 {
-    match mark_published(tx, edition) {
-        Ok(()) => delete_pieces(tx, edition),
-        Err(fault) => Err(fault),
-    }
+    mark_published(tx, edition)?;
+    delete_pieces(tx, edition)
 }
 
 /// The command `publish`: does all pieces of an open edition in rising number, each by its conditions on what the earlier
@@ -120,28 +112,18 @@ pub fn publish<S: Alter>(
     ensures tried { (profile : Profile) (moment : ℕ) → IsStamp moment at.now → IsTried profile (commands.Publish edition.now) moment (state S.Store tx.old.conn.now) (state S.Store tx.new.conn.now) result }
 {
     let name = edition.as_str();
-    match closed_refusal(tx, name) {
-        Ok(None) => {}
-        Ok(Some(number)) => {
-            return Ok(Outcome::Refused(Refusal {
-                number,
-                piece: None,
-            }));
-        }
-        Err(fault) => return Err(fault),
+    if let Some(number) = closed_refusal(tx, name)? {
+        return Ok(Outcome::refused(number));
     }
-    match try_pieces(tx, edition, at) {
-        Ok(None) => {}
-        Ok(Some(piece)) => {
+    match try_pieces(tx, edition, at)? {
+        None => {}
+        Some(piece) => {
             return Ok(Outcome::Refused(Refusal {
                 number: 53,
                 piece: Some(piece),
             }));
         }
-        Err(fault) => return Err(fault),
     }
-    match close_edition(tx, name) {
-        Ok(()) => Ok(Outcome::Done),
-        Err(fault) => Err(fault),
-    }
+    close_edition(tx, name)?;
+    Ok(Outcome::Done)
 }

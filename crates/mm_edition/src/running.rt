@@ -193,14 +193,11 @@ pub(crate) fn try_piece<S: Alter>(
     ensures any_text { IsQuiet (state S.Store tx.old.conn.now) (state S.Store tx.new.conn.now) result }
     ensures turn { (profile : Profile) (moment : ℕ) → IsStamp moment at.now → IsTurn profile edition.now number moment (state S.Store tx.old.conn.now) (state S.Store tx.new.conn.now) result }
 {
-    let found = match piece(tx, edition, number) {
-        Ok(Some(found)) => found,
-        Ok(None) => return Ok(Turn::End),
-        Err(fault) => return Err(fault),
+    let Some(found) = piece(tx, edition, number)? else {
+        return Ok(Turn::End);
     };
-    match run_piece(tx, edition, number, &found, at) {
-        Ok(Outcome::Done) => Ok(Turn::Done),
-        Ok(Outcome::Refused(why)) => Ok(Turn::Refused(why.number)),
-        Err(fault) => Err(fault),
+    match run_piece(tx, edition, number, &found, at)? {
+        Outcome::Done => Ok(Turn::Done),
+        Outcome::Refused(why) => Ok(Turn::Refused(why.number)),
     }
 }

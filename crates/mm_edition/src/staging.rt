@@ -14,7 +14,7 @@ ghost use Rattle.mm_edition.specs.Places.{IsPlace, IsPlaceAt, IsPlaceBehind, IsR
 use crate::editions::{Standing, standing_of};
 use crate::kept::{Kept, Written, as_written, is_written};
 use crate::pieces::{has_piece, insert_piece, kept_piece};
-use mm_definitions::answers::{Fault, Outcome, Refusal};
+use mm_definitions::answers::{Fault, Outcome};
 use mm_definitions::bounded::Id;
 use mm_definitions::commands::Piece;
 use mm_definitions::limits::MOST_PIECES;
@@ -57,10 +57,8 @@ fn is_behind<S: Alter>(
     ensures same_reference { tx.new.conn.ghost_name ≡ tx.old.conn.ghost_name }
     ensures look { (profile : Profile) → IsLook profile (state S.Store tx.old.conn.now) (state S.Store tx.new.conn.now) (λ p behind. TellsBehind p edition.now number behind) result }
 {
-    match has_piece(tx, edition, number_before(number)) {
-        Ok(found) => Ok(found || number <= 1),
-        Err(fault) => Err(fault),
-    }
+    let found = has_piece(tx, edition, number_before(number))?;
+    Ok(found || number <= 1)
 }
 
 /// What staging under a number comes to where the edition has no piece of that number.
@@ -72,10 +70,10 @@ fn place_behind<S: Alter>(
     ensures same_reference { tx.new.conn.ghost_name ≡ tx.old.conn.ghost_name }
     ensures look { (profile : Profile) → IsLook profile (state S.Store tx.old.conn.now) (state S.Store tx.new.conn.now) (λ p place. IsPlaceBehind p edition.now number place) result }
 {
-    match is_behind(tx, edition, number) {
-        Ok(true) => Ok(next_place(number)),
-        Ok(false) => Ok(Place::Refused(52)),
-        Err(fault) => Err(fault),
+    if is_behind(tx, edition, number)? {
+        Ok(next_place(number))
+    } else {
+        Ok(Place::Refused(52))
     }
 }
 
@@ -101,16 +99,14 @@ fn place_of<S: Alter>(
     ensures look { (profile : Profile) → IsLook profile (state S.Store tx.old.conn.now) (state S.Store tx.new.conn.now)
         (λ p place. Meets profile p → IsId number → (q : SpecPiece) → written_row written.entry ≡ piece_row q → IsPlace p edition.now number q place) result }
 {
-    match standing_of(tx, edition) {
-        Ok(Some(Standing::Open)) => {}
-        Ok(Some(Standing::Published)) => return Ok(Place::Refused(55)),
-        Ok(None) => return Ok(Place::Refused(51)),
-        Err(fault) => return Err(fault),
+    match standing_of(tx, edition)? {
+        Some(Standing::Open) => {}
+        Some(Standing::Published) => return Ok(Place::Refused(55)),
+        None => return Ok(Place::Refused(51)),
     }
-    match kept_piece(tx, edition, number) {
-        Ok(Some(kept)) => Ok(place_at(&kept, written)),
-        Ok(None) => place_behind(tx, edition, number),
-        Err(fault) => Err(fault),
+    match kept_piece(tx, edition, number)? {
+        Some(kept) => Ok(place_at(&kept, written)),
+        None => place_behind(tx, edition, number),
     }
 }
 
@@ -126,21 +122,13 @@ fn stage_at<S: Alter>(
     ensures lent { (profile : Profile) (moment : ℕ) → IsLent profile (commands.Stage edition.now number piece.now) moment (state S.Store tx.old.conn.now) (state S.Store tx.new.conn.now) result }
 {
     let written = as_written(piece);
-    match place_of(tx, edition, number, written) {
-        Ok(Place::Next) => {}
-        Ok(Place::Equal) => return Ok(Outcome::Done),
-        Ok(Place::Refused(number)) => {
-            return Ok(Outcome::Refused(Refusal {
-                number,
-                piece: None,
-            }));
-        }
-        Err(fault) => return Err(fault),
+    match place_of(tx, edition, number, written)? {
+        Place::Next => {}
+        Place::Equal => return Ok(Outcome::Done),
+        Place::Refused(number) => return Ok(Outcome::refused(number)),
     }
-    match insert_piece(tx, edition, number, written) {
-        Ok(()) => Ok(Outcome::Done),
-        Err(fault) => Err(fault),
-    }
+    insert_piece(tx, edition, number, written)?;
+    Ok(Outcome::Done)
 }
 
 /// The command `stage`: keeps a piece in an open edition under the next number. An equal piece under a number that stands

@@ -28,13 +28,12 @@ fn first_number<S: Alter>(
     ensures same_reference { tx.new.conn.ghost_name ≡ tx.old.conn.ghost_name }
     ensures asked { IsAsked (state S.Store tx.old.conn.now) (state S.Store tx.new.conn.now) sql.now (bound params.now) (λ it first. GivesNumber it first) result }
 {
-    match first(tx, sql, params) {
-        Ok(Some(row)) => match row.get(0) {
+    match first(tx, sql, params)? {
+        Some(row) => match row.get(0) {
             Ok(number) => Ok(Some(number)),
             Err(error) => Err(fault_of(error)),
         },
-        Ok(None) => Ok(None),
-        Err(fault) => Err(fault),
+        None => Ok(None),
     }
 }
 
@@ -58,15 +57,13 @@ fn state_of<S: Alter>(
     ensures same_reference { tx.new.conn.ghost_name ≡ tx.old.conn.ghost_name }
     ensures look { (profile : Profile) → IsLook profile (state S.Store tx.old.conn.now) (state S.Store tx.new.conn.now) (λ p found. Meets profile p → TellsState p edition.now found) result }
 {
-    match standing_of(tx, edition) {
-        Ok(Some(Standing::Open)) => match last_number(tx, edition) {
-            Ok(Some(number)) => Ok(Some(EditionState::Open(number))),
-            Ok(None) => Ok(Some(EditionState::Open(0))),
-            Err(fault) => Err(fault),
+    match standing_of(tx, edition)? {
+        Some(Standing::Open) => match last_number(tx, edition)? {
+            Some(number) => Ok(Some(EditionState::Open(number))),
+            None => Ok(Some(EditionState::Open(0))),
         },
-        Ok(Some(Standing::Published)) => Ok(Some(EditionState::Published)),
-        Ok(None) => Ok(None),
-        Err(fault) => Err(fault),
+        Some(Standing::Published) => Ok(Some(EditionState::Published)),
+        None => Ok(None),
     }
 }
 

@@ -36,10 +36,8 @@ pub(crate) fn plain_refusal<S: Alter>(
     ensures look { (profile : Profile) → IsLook profile (state S.Store tx.old.conn.now) (state S.Store tx.new.conn.now)
         (λ p why. Meets profile p → why ≡ least (no_table p table.now ∷ of_another_kind p table.now (has_kind p.kinds table.now (plain_kind asked)) ∷ [])) result }
 {
-    let kind = match kind_of(tx, table) {
-        Ok(Some(kind)) => kind,
-        Ok(None) => return Ok(Some(25)),
-        Err(fault) => return Err(fault),
+    let Some(kind) = kind_of(tx, table)? else {
+        return Ok(Some(25));
     };
     if suits(asked, kind) {
         Ok(None)
@@ -67,10 +65,8 @@ pub(crate) fn pyramid_refusal<S: Alter>(
     ensures look { (profile : Profile) → IsLook profile (state S.Store tx.old.conn.now) (state S.Store tx.new.conn.now)
         (λ p why. Meets profile p → why ≡ least (no_table p table.now ∷ of_another_kind p table.now (is_pyramid p.kinds table.now) ∷ [])) result }
 {
-    let kind = match kind_of(tx, table) {
-        Ok(Some(kind)) => kind,
-        Ok(None) => return Ok(Some(25)),
-        Err(fault) => return Err(fault),
+    let Some(kind) = kind_of(tx, table)? else {
+        return Ok(Some(25));
     };
     if is_tiled(kind) {
         Ok(None)

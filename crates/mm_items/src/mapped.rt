@@ -50,9 +50,9 @@ pub(crate) fn is_mapped<S: Alter>(
     ensures same_reference { tx.new.conn.ghost_name ≡ tx.old.conn.ghost_name }
     ensures look { (profile : Profile) → IsLook profile (state S.Store tx.old.conn.now) (state S.Store tx.new.conn.now) (λ p found. found ≡ conditions.is_mapped p table.now id) result }
 {
-    match has_base(tx, table, id) {
-        Ok(true) => Ok(true),
-        Ok(false) => has_related(tx, table, id),
-        Err(fault) => Err(fault),
+    if has_base(tx, table, id)? {
+        Ok(true)
+    } else {
+        has_related(tx, table, id)
     }
 }

@@ -21,7 +21,7 @@ use crate::kinds::plain_refusal;
 use crate::mapped::is_mapped;
 use mm_blobs::blobs::{keep, release_freed};
 use mm_blobs::entries::blob_of_medium;
-use mm_definitions::answers::{Fault, Outcome, Refusal};
+use mm_definitions::answers::{Fault, Outcome};
 use mm_definitions::commands::PlainKind;
 use mm_definitions::names::Name;
 use mm_layout::{has_medium, set_last_change};
@@ -102,14 +102,9 @@ pub(crate) fn give_medium<S: Alter>(
         (λ base x. IsSeen spare profile (state S.Store tx.old.conn.now) base x × (bytes_at x.kept.shelf blob ≡ Some bytes))
         (λ base x _ y. (y.content ≡ record (x.content) { media = insert x.content.media (item table.now id) (record { bytes = bytes; content_type = content_type.now }) }) × IsSeen (spare_but blob spare) profile (state S.Store tx.new.conn.now) base y) result }
 {
-    let stands = match blob_of_medium(tx, table, id) {
-        Ok(stands) => stands,
-        Err(fault) => return Err(fault),
-    };
-    match name_medium(tx, table, id, content_type, blob, stands) {
-        Ok(()) => release_freed(tx, stands),
-        Err(fault) => Err(fault),
-    }
+    let stands = blob_of_medium(tx, table, id)?;
+    name_medium(tx, table, id, content_type, blob, stands)?;
+    release_freed(tx, stands)
 }
 
 /// Puts a medium, in place of the one that stands or as a new one: its bytes are kept, and it names their blob. No bytes are
@@ -128,10 +123,8 @@ fn write_medium<S: Alter>(
     if bytes.is_empty() {
         return Err(Fault::STORE);
     }
-    match keep(tx, bytes) {
-        Ok(blob) => give_medium(tx, table, id, content_type, blob),
-        Err(fault) => Err(fault),
-    }
+    let blob = keep(tx, bytes)?;
+    give_medium(tx, table, id, content_type, blob)
 }
 
 /// The command `media`: puts a medium of a media table, in place of the one that has its id if there is one. `at` is the
@@ -150,24 +143,12 @@ pub fn put_media<S: Alter>(
         (state S.Store tx.old.conn.now) (state S.Store tx.new.conn.now) result }
 {
     let table = table.as_str();
-    match plain_refusal(tx, table, PlainKind::Media) {
-        Ok(None) => {}
-        Ok(Some(number)) => {
-            return Ok(Outcome::Refused(Refusal {
-                number,
-                piece: None,
-            }));
-        }
-        Err(fault) => return Err(fault),
+    if let Some(number) = plain_refusal(tx, table, PlainKind::Media)? {
+        return Ok(Outcome::refused(number));
     }
-    match write_medium(tx, table, id, content_type, bytes) {
-        Ok(()) => {}
-        Err(fault) => return Err(fault),
-    }
-    match set_last_change(tx, table, at) {
-        Ok(()) => Ok(Outcome::Done),
-        Err(fault) => Err(fault),
-    }
+    write_medium(tx, table, id, content_type, bytes)?;
+    set_last_change(tx, table, at)?;
+    Ok(Outcome::Done)
 }
 
 /// Removes the row of a medium. The blob that it named may stand unnamed then.
@@ -194,14 +175,9 @@ fn delete_medium<S: Alter>(tx: &mut Transaction<'_, S>, table: &str, id: i64) ->
     ensures change { (profile : Profile) → IsChange profile (state S.Store tx.old.conn.now) (state S.Store tx.new.conn.now) (λ p. ⊤)
         (λ p. record p { media = remove p.media (item table.now id) }) result }
 {
-    let stands = match blob_of_medium(tx, table, id) {
-        Ok(stands) => stands,
-        Err(fault) => return Err(fault),
-    };
-    match delete_medium_row(tx, table, id) {
-        Ok(()) => release_freed(tx, stands),
-        Err(fault) => Err(fault),
-    }
+    let stands = blob_of_medium(tx, table, id)?;
+    delete_medium_row(tx, table, id)?;
+    release_freed(tx, stands)
 }
 
 /// Why a medium is not removed, if it is not.
@@ -214,20 +190,16 @@ fn medium_drop_refusal<S: Alter>(
     ensures look { (profile : Profile) → IsLook profile (state S.Store tx.old.conn.now) (state S.Store tx.new.conn.now)
         (λ p why. Meets profile p → why ≡ least (own_reasons p (commands.MediaDrop table.now id))) result }
 {
-    match plain_refusal(tx, table, PlainKind::Media) {
-        Ok(None) => {}
-        Ok(Some(number)) => return Ok(Some(number)),
-        Err(fault) => return Err(fault),
+    if let Some(number) = plain_refusal(tx, table, PlainKind::Media)? {
+        return Ok(Some(number));
     }
-    match has_medium(tx, table, id) {
-        Ok(true) => {}
-        Ok(false) => return Ok(Some(41)),
-        Err(fault) => return Err(fault),
+    if !has_medium(tx, table, id)? {
+        return Ok(Some(41));
     }
-    match is_mapped(tx, table, id) {
-        Ok(true) => Ok(Some(42)),
-        Ok(false) => Ok(None),
-        Err(fault) => Err(fault),
+    if is_mapped(tx, table, id)? {
+        Ok(Some(42))
+    } else {
+        Ok(None)
     }
 }
 
@@ -245,22 +217,10 @@ pub fn drop_media<S: Alter>(
         (state S.Store tx.old.conn.now) (state S.Store tx.new.conn.now) result }
 {
     let table = table.as_str();
-    match medium_drop_refusal(tx, table, id) {
-        Ok(None) => {}
-        Ok(Some(number)) => {
-            return Ok(Outcome::Refused(Refusal {
-                number,
-                piece: None,
-            }));
-        }
-        Err(fault) => return Err(fault),
+    if let Some(number) = medium_drop_refusal(tx, table, id)? {
+        return Ok(Outcome::refused(number));
     }
-    match delete_medium(tx, table, id) {
-        Ok(()) => {}
-        Err(fault) => return Err(fault),
-    }
-    match set_last_change(tx, table, at) {
-        Ok(()) => Ok(Outcome::Done),
-        Err(fault) => Err(fault),
-    }
+    delete_medium(tx, table, id)?;
+    set_last_change(tx, table, at)?;
+    Ok(Outcome::Done)
 }

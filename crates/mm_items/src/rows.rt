@@ -13,7 +13,7 @@ ghost use Rattle.mm_layout.specs.Stamped.{IsLentAt};
 
 use crate::kinds::plain_refusal;
 use crate::mapped::is_mapped;
-use mm_definitions::answers::{Fault, Outcome, Refusal};
+use mm_definitions::answers::{Fault, Outcome};
 use mm_definitions::commands::PlainKind;
 use mm_definitions::names::Name;
 use mm_layout::{has_row, set_last_change};
@@ -73,10 +73,10 @@ fn write_row<S: Alter>(
     ensures change { (profile : Profile) → IsChange profile (state S.Store tx.old.conn.now) (state S.Store tx.new.conn.now) (λ p. ⊤)
         (λ p. record p { rows = insert p.rows (item table.now id) (record { title = title.now; note = note.now; amount = amount }) }) result }
 {
-    match has_row(tx, table, id) {
-        Ok(true) => update_row(tx, table, id, title, note, amount),
-        Ok(false) => insert_row(tx, table, id, title, note, amount),
-        Err(fault) => Err(fault),
+    if has_row(tx, table, id)? {
+        update_row(tx, table, id, title, note, amount)
+    } else {
+        insert_row(tx, table, id, title, note, amount)
     }
 }
 
@@ -97,24 +97,12 @@ pub fn put_row<S: Alter>(
         (state S.Store tx.old.conn.now) (state S.Store tx.new.conn.now) result }
 {
     let table = table.as_str();
-    match plain_refusal(tx, table, PlainKind::Attributes) {
-        Ok(None) => {}
-        Ok(Some(number)) => {
-            return Ok(Outcome::Refused(Refusal {
-                number,
-                piece: None,
-            }));
-        }
-        Err(fault) => return Err(fault),
+    if let Some(number) = plain_refusal(tx, table, PlainKind::Attributes)? {
+        return Ok(Outcome::refused(number));
     }
-    match write_row(tx, table, id, title, note, amount) {
-        Ok(()) => {}
-        Err(fault) => return Err(fault),
-    }
-    match set_last_change(tx, table, at) {
-        Ok(()) => Ok(Outcome::Done),
-        Err(fault) => Err(fault),
-    }
+    write_row(tx, table, id, title, note, amount)?;
+    set_last_change(tx, table, at)?;
+    Ok(Outcome::Done)
 }
 
 /// Removes the row of an id.
@@ -140,20 +128,16 @@ fn row_drop_refusal<S: Alter>(
     ensures look { (profile : Profile) → IsLook profile (state S.Store tx.old.conn.now) (state S.Store tx.new.conn.now)
         (λ p why. Meets profile p → why ≡ least (own_reasons p (commands.RowDrop table.now id))) result }
 {
-    match plain_refusal(tx, table, PlainKind::Attributes) {
-        Ok(None) => {}
-        Ok(Some(number)) => return Ok(Some(number)),
-        Err(fault) => return Err(fault),
+    if let Some(number) = plain_refusal(tx, table, PlainKind::Attributes)? {
+        return Ok(Some(number));
     }
-    match has_row(tx, table, id) {
-        Ok(true) => {}
-        Ok(false) => return Ok(Some(40)),
-        Err(fault) => return Err(fault),
+    if !has_row(tx, table, id)? {
+        return Ok(Some(40));
     }
-    match is_mapped(tx, table, id) {
-        Ok(true) => Ok(Some(42)),
-        Ok(false) => Ok(None),
-        Err(fault) => Err(fault),
+    if is_mapped(tx, table, id)? {
+        Ok(Some(42))
+    } else {
+        Ok(None)
     }
 }
 
@@ -171,22 +155,10 @@ pub fn drop_row<S: Alter>(
         (state S.Store tx.old.conn.now) (state S.Store tx.new.conn.now) result }
 {
     let table = table.as_str();
-    match row_drop_refusal(tx, table, id) {
-        Ok(None) => {}
-        Ok(Some(number)) => {
-            return Ok(Outcome::Refused(Refusal {
-                number,
-                piece: None,
-            }));
-        }
-        Err(fault) => return Err(fault),
+    if let Some(number) = row_drop_refusal(tx, table, id)? {
+        return Ok(Outcome::refused(number));
     }
-    match delete_row(tx, table, id) {
-        Ok(()) => {}
-        Err(fault) => return Err(fault),
-    }
-    match set_last_change(tx, table, at) {
-        Ok(()) => Ok(Outcome::Done),
-        Err(fault) => Err(fault),
-    }
+    delete_row(tx, table, id)?;
+    set_last_change(tx, table, at)?;
+    Ok(Outcome::Done)
 }

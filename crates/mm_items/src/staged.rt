@@ -18,7 +18,7 @@ use crate::kinds::plain_refusal;
 use crate::media::give_medium;
 use crate::tiles::{give_tile, tile_refusal};
 use mm_blobs::blobs::first_number;
-use mm_definitions::answers::{Fault, Outcome, Refusal};
+use mm_definitions::answers::{Fault, Outcome};
 use mm_definitions::commands::PlainKind;
 use mm_definitions::names::Name;
 use mm_layout::set_last_change;
@@ -39,10 +39,9 @@ fn blob_of_piece<S: Alter>(
         tx,
         "SELECT blob FROM mm_pieces WHERE edition = ?1 AND piece_no = ?2 LIMIT 1",
         params![edition, number],
-    ) {
-        Ok(Some(blob)) => Ok(blob),
-        Ok(None) => Err(Fault::STORE),
-        Err(fault) => Err(fault),
+    )? {
+        Some(blob) => Ok(blob),
+        None => Err(Fault::STORE),
     }
 }
 
@@ -60,10 +59,8 @@ fn write_tile_of_piece<S: Alter>(
     ensures change { (profile : Profile) (bytes : List ℕ) → IsChange profile (state S.Store tx.old.conn.now) (state S.Store tx.new.conn.now) (HasBytes edition.now number bytes)
         (λ p. record p { tiles = insert p.tiles (tile table.now (pos zoom) (pos column) (pos row)) bytes }) result }
 {
-    match blob_of_piece(tx, edition, number) {
-        Ok(blob) => give_tile(tx, table, zoom, column, row, blob),
-        Err(fault) => Err(fault),
-    }
+    let blob = blob_of_piece(tx, edition, number)?;
+    give_tile(tx, table, zoom, column, row, blob)
 }
 
 /// Does what `put_tile` does with the bytes of a staged piece: the tile names the blob that the piece names.
@@ -82,24 +79,12 @@ pub fn put_tile_of_piece<S: Alter>(
         (commands.Tile table.now zoom column row bytes) at.now (state S.Store tx.old.conn.now) (state S.Store tx.new.conn.now) result }
 {
     let table = table.as_str();
-    match tile_refusal(tx, table, zoom, column, row) {
-        Ok(None) => {}
-        Ok(Some(number)) => {
-            return Ok(Outcome::Refused(Refusal {
-                number,
-                piece: None,
-            }));
-        }
-        Err(fault) => return Err(fault),
+    if let Some(number) = tile_refusal(tx, table, zoom, column, row)? {
+        return Ok(Outcome::refused(number));
     }
-    match write_tile_of_piece(tx, table, zoom, column, row, edition.as_str(), number) {
-        Ok(()) => {}
-        Err(fault) => return Err(fault),
-    }
-    match set_last_change(tx, table, at) {
-        Ok(()) => Ok(Outcome::Done),
-        Err(fault) => Err(fault),
-    }
+    write_tile_of_piece(tx, table, zoom, column, row, edition.as_str(), number)?;
+    set_last_change(tx, table, at)?;
+    Ok(Outcome::Done)
 }
 
 /// Puts a medium with the bytes of a staged piece, in place of the one that stands or as a new one.
@@ -115,10 +100,8 @@ fn write_medium_of_piece<S: Alter>(
     ensures change { (profile : Profile) (bytes : List ℕ) → IsChange profile (state S.Store tx.old.conn.now) (state S.Store tx.new.conn.now) (HasBytes edition.now number bytes)
         (λ p. record p { media = insert p.media (item table.now id) (record { bytes = bytes; content_type = content_type.now }) }) result }
 {
-    match blob_of_piece(tx, edition, number) {
-        Ok(blob) => give_medium(tx, table, id, content_type, blob),
-        Err(fault) => Err(fault),
-    }
+    let blob = blob_of_piece(tx, edition, number)?;
+    give_medium(tx, table, id, content_type, blob)
 }
 
 /// Does what `put_media` does with the bytes of a staged piece: the medium names the blob that the piece names.
@@ -136,22 +119,10 @@ pub fn put_media_of_piece<S: Alter>(
         (commands.Media table.now id content_type.now bytes) at.now (state S.Store tx.old.conn.now) (state S.Store tx.new.conn.now) result }
 {
     let table = table.as_str();
-    match plain_refusal(tx, table, PlainKind::Media) {
-        Ok(None) => {}
-        Ok(Some(number)) => {
-            return Ok(Outcome::Refused(Refusal {
-                number,
-                piece: None,
-            }));
-        }
-        Err(fault) => return Err(fault),
+    if let Some(number) = plain_refusal(tx, table, PlainKind::Media)? {
+        return Ok(Outcome::refused(number));
     }
-    match write_medium_of_piece(tx, table, id, content_type, edition.as_str(), number) {
-        Ok(()) => {}
-        Err(fault) => return Err(fault),
-    }
-    match set_last_change(tx, table, at) {
-        Ok(()) => Ok(Outcome::Done),
-        Err(fault) => Err(fault),
-    }
+    write_medium_of_piece(tx, table, id, content_type, edition.as_str(), number)?;
+    set_last_change(tx, table, at)?;
+    Ok(Outcome::Done)
 }

@@ -20,7 +20,7 @@ ghost use Rattle.mm_layout.specs.Stamped.{IsLentAt};
 use crate::kinds::pyramid_refusal;
 use mm_blobs::blobs::{keep, release_freed};
 use mm_blobs::entries::blob_of_tile;
-use mm_definitions::answers::{Fault, Outcome, Refusal};
+use mm_definitions::answers::{Fault, Outcome};
 use mm_definitions::names::Name;
 use mm_layout::set_last_change;
 use mm_store::statements::{exists, first_pair, run};
@@ -139,14 +139,9 @@ pub(crate) fn give_tile<S: Alter>(
         (λ base x. IsSeen spare profile (state S.Store tx.old.conn.now) base x × (bytes_at x.kept.shelf blob ≡ Some bytes))
         (λ base x _ y. (y.content ≡ record (x.content) { tiles = insert x.content.tiles (tile table.now (pos zoom) (pos column) (pos row)) bytes }) × IsSeen (spare_but blob spare) profile (state S.Store tx.new.conn.now) base y) result }
 {
-    let stands = match blob_of_tile(tx, table, zoom, column, row) {
-        Ok(stands) => stands,
-        Err(fault) => return Err(fault),
-    };
-    match name_tile(tx, table, zoom, column, row, blob, stands) {
-        Ok(()) => release_freed(tx, stands),
-        Err(fault) => Err(fault),
-    }
+    let stands = blob_of_tile(tx, table, zoom, column, row)?;
+    name_tile(tx, table, zoom, column, row, blob, stands)?;
+    release_freed(tx, stands)
 }
 
 /// Puts a tile, in place of the one that stands or as a new one: its bytes are kept, and it names their blob. No bytes are a
@@ -166,10 +161,8 @@ fn write_tile<S: Alter>(
     if bytes.is_empty() {
         return Err(Fault::STORE);
     }
-    match keep(tx, bytes) {
-        Ok(blob) => give_tile(tx, table, zoom, column, row, blob),
-        Err(fault) => Err(fault),
-    }
+    let blob = keep(tx, bytes)?;
+    give_tile(tx, table, zoom, column, row, blob)
 }
 
 /// Removes the row of a tile. The blob that it named may stand unnamed then.
@@ -204,14 +197,9 @@ fn delete_tile<S: Alter>(
     ensures change { (profile : Profile) → IsChange profile (state S.Store tx.old.conn.now) (state S.Store tx.new.conn.now) (λ p. ⊤)
         (λ p. record p { tiles = remove p.tiles (tile table.now (pos zoom) (pos column) (pos row)) }) result }
 {
-    let stands = match blob_of_tile(tx, table, zoom, column, row) {
-        Ok(stands) => stands,
-        Err(fault) => return Err(fault),
-    };
-    match delete_tile_row(tx, table, zoom, column, row) {
-        Ok(()) => release_freed(tx, stands),
-        Err(fault) => Err(fault),
-    }
+    let stands = blob_of_tile(tx, table, zoom, column, row)?;
+    delete_tile_row(tx, table, zoom, column, row)?;
+    release_freed(tx, stands)
 }
 
 /// Whether a place is outside a matrix of this width and height.
@@ -233,15 +221,11 @@ pub(crate) fn tile_refusal<S: Alter>(
     ensures look { (profile : Profile) → IsLook profile (state S.Store tx.old.conn.now) (state S.Store tx.new.conn.now)
         (λ p why. Meets profile p → (bytes : List ℕ) → why ≡ least (own_reasons p (commands.Tile table.now zoom column row bytes))) result }
 {
-    match pyramid_refusal(tx, table) {
-        Ok(None) => {}
-        Ok(Some(number)) => return Ok(Some(number)),
-        Err(fault) => return Err(fault),
+    if let Some(number) = pyramid_refusal(tx, table)? {
+        return Ok(Some(number));
     }
-    let (width, height) = match sides_at(tx, table, zoom) {
-        Ok(Some(sides)) => sides,
-        Ok(None) => return Ok(Some(33)),
-        Err(fault) => return Err(fault),
+    let Some((width, height)) = sides_at(tx, table, zoom)? else {
+        return Ok(Some(33));
     };
     if is_outside(width, height, column, row) {
         Ok(Some(34))
@@ -268,24 +252,12 @@ pub fn put_tile<S: Alter>(
         (state S.Store tx.old.conn.now) (state S.Store tx.new.conn.now) result }
 {
     let table = table.as_str();
-    match tile_refusal(tx, table, zoom, column, row) {
-        Ok(None) => {}
-        Ok(Some(number)) => {
-            return Ok(Outcome::Refused(Refusal {
-                number,
-                piece: None,
-            }));
-        }
-        Err(fault) => return Err(fault),
+    if let Some(number) = tile_refusal(tx, table, zoom, column, row)? {
+        return Ok(Outcome::refused(number));
     }
-    match write_tile(tx, table, zoom, column, row, bytes) {
-        Ok(()) => {}
-        Err(fault) => return Err(fault),
-    }
-    match set_last_change(tx, table, at) {
-        Ok(()) => Ok(Outcome::Done),
-        Err(fault) => Err(fault),
-    }
+    write_tile(tx, table, zoom, column, row, bytes)?;
+    set_last_change(tx, table, at)?;
+    Ok(Outcome::Done)
 }
 
 /// Why a tile is not removed, if it is not.
@@ -300,15 +272,13 @@ fn tile_drop_refusal<S: Alter>(
     ensures look { (profile : Profile) → IsLook profile (state S.Store tx.old.conn.now) (state S.Store tx.new.conn.now)
         (λ p why. Meets profile p → why ≡ least (own_reasons p (commands.TileDrop table.now zoom column row))) result }
 {
-    match pyramid_refusal(tx, table) {
-        Ok(None) => {}
-        Ok(Some(number)) => return Ok(Some(number)),
-        Err(fault) => return Err(fault),
+    if let Some(number) = pyramid_refusal(tx, table)? {
+        return Ok(Some(number));
     }
-    match has_tile(tx, table, zoom, column, row) {
-        Ok(true) => Ok(None),
-        Ok(false) => Ok(Some(35)),
-        Err(fault) => Err(fault),
+    if has_tile(tx, table, zoom, column, row)? {
+        Ok(None)
+    } else {
+        Ok(Some(35))
     }
 }
 
@@ -328,22 +298,10 @@ pub fn drop_tile<S: Alter>(
         (state S.Store tx.old.conn.now) (state S.Store tx.new.conn.now) result }
 {
     let table = table.as_str();
-    match tile_drop_refusal(tx, table, zoom, column, row) {
-        Ok(None) => {}
-        Ok(Some(number)) => {
-            return Ok(Outcome::Refused(Refusal {
-                number,
-                piece: None,
-            }));
-        }
-        Err(fault) => return Err(fault),
+    if let Some(number) = tile_drop_refusal(tx, table, zoom, column, row)? {
+        return Ok(Outcome::refused(number));
     }
-    match delete_tile(tx, table, zoom, column, row) {
-        Ok(()) => {}
-        Err(fault) => return Err(fault),
-    }
-    match set_last_change(tx, table, at) {
-        Ok(()) => Ok(Outcome::Done),
-        Err(fault) => Err(fault),
-    }
+    delete_tile(tx, table, zoom, column, row)?;
+    set_last_change(tx, table, at)?;
+    Ok(Outcome::Done)
 }

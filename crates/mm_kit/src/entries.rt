@@ -116,10 +116,7 @@ fn place_record(place: u32, number: i64, field: Option<&str>) -> Result<Option<F
     if number != i64::from(place) {
         return Err(56);
     }
-    match read_file(field) {
-        Ok(file) => Ok(file),
-        Err(number) => Err(number),
-    }
+    read_file(field)
 }
 
 /// The least number that is against a record whose number is refused.
@@ -149,13 +146,13 @@ fn read_record(alloc: Global, place: u32, number: &str, rest: Vec<&str>) -> Resu
     };
     let piece = read_piece(alloc, fields.as_slice());
     match read_number(number, 1, LAST_ID as i64) {
-        Ok(number) => match piece {
-            Ok(piece) => match place_record(place, number, file) {
+        Ok(number) => {
+            let piece = piece?;
+            match place_record(place, number, file) {
                 Ok(file) => Ok(place_entry(piece, file)),
                 Err(number) => Err(ReadFault::refused(number)),
-            },
-            Err(fault) => Err(fault),
-        },
+            }
+        }
         Err(number) => Err(least_fault(number, piece)),
     }
 }

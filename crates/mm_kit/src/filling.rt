@@ -23,14 +23,13 @@ fn read_bytes<const MOST: usize, F: Folder>(
     ensures stays { F.files folder.new ≡ F.files folder.old }
     ensures fails { F.has_failed folder.new ≡ (F.has_failed folder.old || is_failure result) }
 {
-    match folder.read(alloc, name.as_str(), MOST as u64) {
-        Ok(Found::Bytes(bytes)) => match Bytes::new(bytes) {
+    match folder.read(alloc, name.as_str(), MOST as u64)? {
+        Found::Bytes(bytes) => match Bytes::new(bytes) {
             Some(bytes) => Ok(Ok(bytes)),
             None => Ok(Err(11)),
         },
-        Ok(Found::TooLong) => Ok(Err(11)),
-        Ok(Found::Missing) => Ok(Err(57)),
-        Err(fault) => Err(fault),
+        Found::TooLong => Ok(Err(11)),
+        Found::Missing => Ok(Err(57)),
     }
 }
 
@@ -53,31 +52,29 @@ pub(crate) fn fill<F: Folder>(
             column,
             row,
             file,
-        } => match read_bytes(alloc, folder, &file) {
-            Ok(Ok(bytes)) => Ok(Ok(Piece::Tile {
+        } => match read_bytes(alloc, folder, &file)? {
+            Ok(bytes) => Ok(Ok(Piece::Tile {
                 table,
                 zoom,
                 column,
                 row,
                 bytes,
             })),
-            Ok(Err(number)) => Ok(Err(number)),
-            Err(fault) => Err(fault),
+            Err(number) => Ok(Err(number)),
         },
         Entry::Media {
             table,
             id,
             content_type,
             file,
-        } => match read_bytes(alloc, folder, &file) {
-            Ok(Ok(bytes)) => Ok(Ok(Piece::Media {
+        } => match read_bytes(alloc, folder, &file)? {
+            Ok(bytes) => Ok(Ok(Piece::Media {
                 table,
                 id,
                 content_type,
                 bytes,
             })),
-            Ok(Err(number)) => Ok(Err(number)),
-            Err(fault) => Err(fault),
+            Err(number) => Ok(Err(number)),
         },
     }
 }

@@ -27,14 +27,13 @@ fn find_list<F: Folder>(alloc: Global, folder: &mut F) -> Result<Listed, FolderF
     ensures stays { F.files folder.new ≡ F.files folder.old }
     ensures fails { F.has_failed folder.new ≡ (F.has_failed folder.old || is_failure result) }
 {
-    match folder.read(alloc, "kit.csv", MOST_BYTES) {
-        Ok(Found::Bytes(list)) => match read_list(alloc, list.as_slice()) {
+    match folder.read(alloc, "kit.csv", MOST_BYTES)? {
+        Found::Bytes(list) => match read_list(alloc, list.as_slice()) {
             Ok(listed) => Ok(listed),
             Err(_) => Err(FolderFault::Memory),
         },
-        Ok(Found::TooLong) => Ok(Listed::Refused(0, 11)),
-        Ok(Found::Missing) => Ok(Listed::Refused(0, 57)),
-        Err(fault) => Err(fault),
+        Found::TooLong => Ok(Listed::Refused(0, 11)),
+        Found::Missing => Ok(Listed::Refused(0, 57)),
     }
 }
 
@@ -67,10 +66,7 @@ fn import_entries<A: Desk, F: Folder>(
                     number: 52,
                 });
             }
-            match stage_all(alloc, desk, name, folder, entries, at) {
-                Ok(answer) => Ok(answer),
-                Err(e) => Err(e),
-            }
+            stage_all(alloc, desk, name, folder, entries, at)
         }
         Ok(Some(EditionState::Published)) => Ok(Staged::Refused {
             piece: 0,
@@ -104,12 +100,7 @@ pub(crate) fn import_folder<A: Desk, F: Folder>(
     ensures why { IfErr result (λ e. IsKitFault e.fault.0) }
 {
     match find_list(alloc, folder) {
-        Ok(Listed::Entries(entries)) => {
-            match import_entries(alloc, desk, name, folder, entries, at) {
-                Ok(answer) => Ok(answer),
-                Err(e) => Err(e),
-            }
-        }
+        Ok(Listed::Entries(entries)) => import_entries(alloc, desk, name, folder, entries, at),
         Ok(Listed::Refused(piece, number)) => Ok(Staged::Refused { piece, number }),
         Err(fault) => Err(KitFault {
             fault: folder_fault(fault),

@@ -62,8 +62,8 @@ fn read_rows<T: Read>(alloc: Global, rows: &mut Reader<T>) -> Result<Listed, All
 {
     let mut entries = Vec::new(alloc);
     for place in 1..MOST_PIECES + 2 {
-        match next_record(alloc, rows) {
-            Ok(Some(row)) => match read_row(alloc, place, row) {
+        match next_record(alloc, rows)? {
+            Some(row) => match read_row(alloc, place, row) {
                 Ok(entry) => {
                     if entries.push(entry).is_err() {
                         return Err(AllocError);
@@ -72,8 +72,7 @@ fn read_rows<T: Read>(alloc: Global, rows: &mut Reader<T>) -> Result<Listed, All
                 Err(ReadFault::Refused(why)) => return Ok(Listed::Refused(place, why.number)),
                 Err(ReadFault::Memory) => return Err(AllocError),
             },
-            Ok(None) => return Ok(Listed::Entries(entries)),
-            Err(e) => return Err(e),
+            None => return Ok(Listed::Entries(entries)),
         }
     }
     unreachable!()
@@ -85,8 +84,5 @@ pub(crate) fn read_list(alloc: Global, bytes: &[u8]) -> Result<Listed, AllocErro
     ensures sound { IfOk result AreSound }
 {
     let mut rows = open_rows(alloc, bytes);
-    match read_rows(alloc, &mut rows) {
-        Ok(listed) => Ok(listed),
-        Err(e) => Err(e),
-    }
+    read_rows(alloc, &mut rows)
 }

@@ -68,8 +68,5 @@ pub fn import_kit<S: Alter, F: Folder>(
     ensures folder { TellsFolder (F.has_failed folder.old) (F.has_failed folder.new) result }
     ensures why { IfErr result (λ e. IsKitFault e.fault.0) }
 {
-    match import_folder(alloc, session, name, folder, at) {
-        Ok(answer) => Ok(answer),
-        Err(fault) => Err(fault),
-    }
+    import_folder(alloc, session, name, folder, at)
 }

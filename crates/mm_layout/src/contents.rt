@@ -12,7 +12,7 @@ ghost use Rattle.mm_layout.specs.Rows.{plain_contents};
 ghost use Rattle.mm_layout.specs.Touched.{IsTouched};
 
 use crate::relations::has_relation;
-use mm_definitions::answers::{Fault, Outcome, Refusal};
+use mm_definitions::answers::{Fault, Outcome};
 use mm_definitions::names::Name;
 use mm_store::statements::{exists, run};
 use sqlite::{Alter, Transaction, params};
@@ -49,10 +49,10 @@ pub fn is_taken<S: Alter>(tx: &mut Transaction<'_, S>, name: &str) -> Result<boo
     ensures same_reference { tx.new.conn.ghost_name ≡ tx.old.conn.ghost_name }
     ensures look { (profile : Profile) → IsLook profile (state S.Store tx.old.conn.now) (state S.Store tx.new.conn.now) (λ p found. found ≡ conditions.is_taken p name.now) result }
 {
-    match has_table(tx, name) {
-        Ok(true) => Ok(true),
-        Ok(false) => has_relation(tx, name),
-        Err(fault) => Err(fault),
+    if has_table(tx, name)? {
+        Ok(true)
+    } else {
+        has_relation(tx, name)
     }
 }
 
@@ -84,20 +84,11 @@ pub fn touch<S: Alter>(
     ensures touched { (profile : Profile) → IsTouched profile table.now at.now (state S.Store tx.old.conn.now) (state S.Store tx.new.conn.now) result }
 {
     let table = table.as_str();
-    match has_table(tx, table) {
-        Ok(true) => {}
-        Ok(false) => {
-            return Ok(Outcome::Refused(Refusal {
-                number: 25,
-                piece: None,
-            }));
-        }
-        Err(fault) => return Err(fault),
+    if !has_table(tx, table)? {
+        return Ok(Outcome::refused(25));
     }
-    match set_last_change(tx, table, at) {
-        Ok(()) => Ok(Outcome::Done),
-        Err(fault) => Err(fault),
-    }
+    set_last_change(tx, table, at)?;
+    Ok(Outcome::Done)
 }
 
 /// Puts the contents row of a new table that is no pyramid.

@@ -50,13 +50,12 @@ pub fn kind_of<S: Alter>(tx: &mut Transaction<'_, S>, table: &str) -> Result<Opt
     ensures same_reference { tx.new.conn.ghost_name ≡ tx.old.conn.ghost_name }
     ensures look { (profile : Profile) → IsLook profile (state S.Store tx.old.conn.now) (state S.Store tx.new.conn.now) (λ p kind. get p.kinds table.now ≡ option_map kind_text kind) result }
 {
-    match registered(tx, table) {
-        Ok(Some(text)) => match Kind::named(text.as_str()) {
+    match registered(tx, table)? {
+        Some(text) => match Kind::named(text.as_str()) {
             Some(kind) => Ok(Some(kind)),
             None => Err(Fault::STORE),
         },
-        Ok(None) => Ok(None),
-        Err(fault) => Err(fault),
+        None => Ok(None),
     }
 }
 

@@ -17,7 +17,7 @@ use crate::contents::{has_identifier, is_taken};
 use crate::extensions::insert_zoom_row;
 use crate::kinds::{insert_kind, text_of_step};
 use crate::systems::is_geographic;
-use mm_definitions::answers::{Fault, Outcome, Refusal};
+use mm_definitions::answers::{Fault, Outcome};
 use mm_definitions::commands::Step;
 use mm_definitions::extents::Extent;
 use mm_definitions::names::Name;
@@ -93,14 +93,8 @@ fn insert_pyramid<S: Alter>(
     ensures change { (profile : Profile) → IsChange profile (state S.Store tx.old.conn.now) (state S.Store tx.new.conn.now) (IsUnregistered table.now)
         (λ p. with_pyramid p table.now identifier.now srs (box_of extent.now) step at.now) result }
 {
-    match insert_pyramid_contents(tx, table, identifier, srs, extent, at) {
-        Ok(()) => {}
-        Err(fault) => return Err(fault),
-    }
-    match insert_kind(tx, table, text_of_step(step)) {
-        Ok(()) => {}
-        Err(fault) => return Err(fault),
-    }
+    insert_pyramid_contents(tx, table, identifier, srs, extent, at)?;
+    insert_kind(tx, table, text_of_step(step))?;
     insert_matrix_set(tx, table, srs, extent)
 }
 
@@ -126,23 +120,17 @@ fn pyramid_refusal<S: Alter>(
     ensures look { (profile : Profile) → IsLook profile (state S.Store tx.old.conn.now) (state S.Store tx.new.conn.now)
         (λ p why. (step : Step) → why ≡ least (own_reasons p (commands.Pyramid table.now identifier.now srs min_x min_y max_x max_y step))) result }
 {
-    match has_system(tx, srs) {
-        Ok(true) => {}
-        Ok(false) => return Ok(Some(21)),
-        Err(fault) => return Err(fault),
+    if !has_system(tx, srs)? {
+        return Ok(Some(21));
     }
     if is_geographic(srs) {
         return Ok(Some(22));
     }
-    match is_taken(tx, table) {
-        Ok(true) => return Ok(Some(23)),
-        Ok(false) => {}
-        Err(fault) => return Err(fault),
+    if is_taken(tx, table)? {
+        return Ok(Some(23));
     }
-    match has_identifier(tx, identifier) {
-        Ok(true) => return Ok(Some(24)),
-        Ok(false) => {}
-        Err(fault) => return Err(fault),
+    if has_identifier(tx, identifier)? {
+        return Ok(Some(24));
     }
     if is_empty(min_x, min_y, max_x, max_y) {
         Ok(Some(27))
@@ -172,15 +160,8 @@ pub fn add_pyramid<S: Alter>(
         (state S.Store tx.old.conn.now) (state S.Store tx.new.conn.now) result }
 {
     let table = table.as_str();
-    match pyramid_refusal(tx, table, identifier, srs, min_x, min_y, max_x, max_y) {
-        Ok(None) => {}
-        Ok(Some(number)) => {
-            return Ok(Outcome::Refused(Refusal {
-                number,
-                piece: None,
-            }));
-        }
-        Err(fault) => return Err(fault),
+    if let Some(number) = pyramid_refusal(tx, table, identifier, srs, min_x, min_y, max_x, max_y)? {
+        return Ok(Outcome::refused(number));
     }
     let extent = Extent {
         min_x,
@@ -188,15 +169,12 @@ pub fn add_pyramid<S: Alter>(
         max_x,
         max_y,
     };
-    match insert_pyramid(tx, table, identifier, srs, &extent, step, at) {
-        Ok(()) => {}
-        Err(fault) => return Err(fault),
-    }
+    insert_pyramid(tx, table, identifier, srs, &extent, step, at)?;
     match step {
         Step::Two => Ok(Outcome::Done),
-        Step::Other => match insert_zoom_row(tx, table) {
-            Ok(()) => Ok(Outcome::Done),
-            Err(fault) => Err(fault),
-        },
+        Step::Other => {
+            insert_zoom_row(tx, table)?;
+            Ok(Outcome::Done)
+        }
     }
 }

@@ -22,7 +22,7 @@ use crate::extensions::delete_zoom_row;
 use crate::kinds::{insert_kind, text_of_kind};
 use crate::relations::uses_table;
 use mm_blobs::blobs::release_each;
-use mm_definitions::answers::{Fault, Outcome, Refusal};
+use mm_definitions::answers::{Fault, Outcome};
 use mm_definitions::commands::PlainKind;
 use mm_definitions::names::Name;
 use mm_store::statements::{all, run};
@@ -37,15 +37,13 @@ fn table_refusal<S: Alter>(
     ensures same_reference { tx.new.conn.ghost_name ≡ tx.old.conn.ghost_name }
     ensures look { (profile : Profile) → IsLook profile (state S.Store tx.old.conn.now) (state S.Store tx.new.conn.now) (λ p why. (kind : PlainKind) → why ≡ least (own_reasons p (commands.Table table.now kind identifier.now))) result }
 {
-    match is_taken(tx, table) {
-        Ok(true) => return Ok(Some(23)),
-        Ok(false) => {}
-        Err(fault) => return Err(fault),
+    if is_taken(tx, table)? {
+        return Ok(Some(23));
     }
-    match has_identifier(tx, identifier) {
-        Ok(true) => Ok(Some(24)),
-        Ok(false) => Ok(None),
-        Err(fault) => Err(fault),
+    if has_identifier(tx, identifier)? {
+        Ok(Some(24))
+    } else {
+        Ok(None)
     }
 }
 
@@ -63,24 +61,12 @@ pub fn add_table<S: Alter>(
         (state S.Store tx.old.conn.now) (state S.Store tx.new.conn.now) result }
 {
     let table = table.as_str();
-    match table_refusal(tx, table, identifier) {
-        Ok(None) => {}
-        Ok(Some(number)) => {
-            return Ok(Outcome::Refused(Refusal {
-                number,
-                piece: None,
-            }));
-        }
-        Err(fault) => return Err(fault),
+    if let Some(number) = table_refusal(tx, table, identifier)? {
+        return Ok(Outcome::refused(number));
     }
-    match insert_plain_contents(tx, table, identifier, at) {
-        Ok(()) => {}
-        Err(fault) => return Err(fault),
-    }
-    match insert_kind(tx, table, text_of_kind(kind)) {
-        Ok(()) => Ok(Outcome::Done),
-        Err(fault) => Err(fault),
-    }
+    insert_plain_contents(tx, table, identifier, at)?;
+    insert_kind(tx, table, text_of_kind(kind))?;
+    Ok(Outcome::Done)
 }
 
 /// The ids of the blobs that the tiles of a table name.
@@ -129,22 +115,11 @@ fn delete_table<S: Alter>(tx: &mut Transaction<'_, S>, table: &str) -> Result<()
     ensures same_reference { tx.new.conn.ghost_name ≡ tx.old.conn.ghost_name }
     ensures change { (profile : Profile) → IsChange profile (state S.Store tx.old.conn.now) (state S.Store tx.new.conn.now) (λ p. ⊤) (without_table_rows table.now) result }
 {
-    let tiles = match blobs_of_tiles(tx, table) {
-        Ok(rows) => rows,
-        Err(fault) => return Err(fault),
-    };
-    let media = match blobs_of_media(tx, table) {
-        Ok(rows) => rows,
-        Err(fault) => return Err(fault),
-    };
-    match delete_contents(tx, table) {
-        Ok(()) => {}
-        Err(fault) => return Err(fault),
-    }
-    match release_each(tx, tiles.as_slice()) {
-        Ok(()) => release_each(tx, media.as_slice()),
-        Err(fault) => Err(fault),
-    }
+    let tiles = blobs_of_tiles(tx, table)?;
+    let media = blobs_of_media(tx, table)?;
+    delete_contents(tx, table)?;
+    release_each(tx, tiles.as_slice())?;
+    release_each(tx, media.as_slice())
 }
 
 /// Why a table is not removed, if it is not.
@@ -152,15 +127,13 @@ fn drop_refusal<S: Alter>(tx: &mut Transaction<'_, S>, table: &str) -> Result<Op
     ensures same_reference { tx.new.conn.ghost_name ≡ tx.old.conn.ghost_name }
     ensures look { (profile : Profile) → IsLook profile (state S.Store tx.old.conn.now) (state S.Store tx.new.conn.now) (λ p why. why ≡ least (own_reasons p (commands.Drop table.now))) result }
 {
-    match has_table(tx, table) {
-        Ok(true) => {}
-        Ok(false) => return Ok(Some(25)),
-        Err(fault) => return Err(fault),
+    if !has_table(tx, table)? {
+        return Ok(Some(25));
     }
-    match uses_table(tx, table) {
-        Ok(true) => Ok(Some(48)),
-        Ok(false) => Ok(None),
-        Err(fault) => Err(fault),
+    if uses_table(tx, table)? {
+        Ok(Some(48))
+    } else {
+        Ok(None)
     }
 }
 
@@ -171,22 +144,10 @@ pub fn drop_table<S: Alter>(tx: &mut Transaction<'_, S>, table: &Name) -> Result
     ensures lent { (profile : Profile) (moment : ℕ) → IsLent profile (commands.Drop table.now) moment (state S.Store tx.old.conn.now) (state S.Store tx.new.conn.now) result }
 {
     let table = table.as_str();
-    match drop_refusal(tx, table) {
-        Ok(None) => {}
-        Ok(Some(number)) => {
-            return Ok(Outcome::Refused(Refusal {
-                number,
-                piece: None,
-            }));
-        }
-        Err(fault) => return Err(fault),
+    if let Some(number) = drop_refusal(tx, table)? {
+        return Ok(Outcome::refused(number));
     }
-    match delete_table(tx, table) {
-        Ok(()) => {}
-        Err(fault) => return Err(fault),
-    }
-    match delete_zoom_row(tx, table) {
-        Ok(()) => Ok(Outcome::Done),
-        Err(fault) => Err(fault),
-    }
+    delete_table(tx, table)?;
+    delete_zoom_row(tx, table)?;
+    Ok(Outcome::Done)
 }

@@ -94,10 +94,8 @@ pub(crate) fn table_line(
     let mut line = ArrayVec::new();
     put_table(&mut line, name, kind, count, time)?;
     put(&mut line, identifier)?;
-    match put(&mut line, b"\n") {
-        Ok(()) => Ok(line),
-        Err(fault) => Err(fault),
-    }
+    put(&mut line, b"\n")?;
+    Ok(line)
 }
 
 /// The line of an open edition: its name, and how many pieces it has.
@@ -111,10 +109,8 @@ pub(crate) fn open_line(name: &[u8], count: u64) -> Result<Line, Fault>
     put(&mut line, name)?;
     put(&mut line, b" open ")?;
     put(&mut line, buffer.format(count).as_bytes())?;
-    match put(&mut line, b"\n") {
-        Ok(()) => Ok(line),
-        Err(fault) => Err(fault),
-    }
+    put(&mut line, b"\n")?;
+    Ok(line)
 }
 
 /// The line of a published edition.
@@ -125,8 +121,6 @@ pub(crate) fn published_line(name: &[u8]) -> Result<Line, Fault>
     let mut line = ArrayVec::new();
     put(&mut line, b"edition ")?;
     put(&mut line, name)?;
-    match put(&mut line, b" published\n") {
-        Ok(()) => Ok(line),
-        Err(fault) => Err(fault),
-    }
+    put(&mut line, b" published\n")?;
+    Ok(line)
 }

@@ -40,10 +40,8 @@ impl<W: Write> Visitor for TableLines<'_, W> {
     ghost takes = { λ old row new result. (new.output.ghost_name ≡ old.output.ghost_name) × TakesLine ShowsTable (W.contents (inside old.output.now)) (W.contents (inside new.output.now)) (has_failed old.output.now) (has_failed new.output.now) row result };
 
     fn take(&mut self, row: &Row) -> Result<bool, Fault> {
-        match table_in(row) {
-            Ok(line) => send_line(self.output, line.as_slice()),
-            Err(fault) => Err(fault),
-        }
+        let line = table_in(row)?;
+        send_line(self.output, line.as_slice())
     }
 }
 
@@ -61,10 +59,8 @@ impl<W: Write> Visitor for EditionLines<'_, W> {
     ghost takes = { λ old row new result. (new.output.ghost_name ≡ old.output.ghost_name) × TakesLine ShowsEdition (W.contents (inside old.output.now)) (W.contents (inside new.output.now)) (has_failed old.output.now) (has_failed new.output.now) row result };
 
     fn take(&mut self, row: &Row) -> Result<bool, Fault> {
-        match edition_in(row) {
-            Ok(line) => send_line(self.output, line.as_slice()),
-            Err(fault) => Err(fault),
-        }
+        let line = edition_in(row)?;
+        send_line(self.output, line.as_slice())
     }
 }
 
@@ -78,15 +74,13 @@ fn show_tables<S: Alter, W: Write>(
     ensures mode { conn.new.in_transaction ≡ false }
     ensures listed { (profile : Profile) → IsListed profile tables (state S.Store conn.old) (state S.Store conn.new) (W.contents (inside lines.old.output.now)) (W.contents (inside lines.new.output.now)) (has_failed lines.old.output.now) (has_failed lines.new.output.now) result }
 {
-    match walk(
+    walk(
         conn,
         "SELECT c.table_name, k.kind, c.last_change, c.identifier, (SELECT count(*) FROM mm_tiles AS t WHERE t.table_name = c.table_name), (SELECT count(*) FROM mm_rows AS r WHERE r.table_name = c.table_name), (SELECT count(*) FROM mm_media AS m WHERE m.table_name = c.table_name) FROM gpkg_contents AS c LEFT JOIN mm_tables AS k ON k.table_name = c.table_name ORDER BY c.table_name",
         &[],
         lines,
-    ) {
-        Ok(_) => Ok(()),
-        Err(fault) => Err(fault),
-    }
+    )?;
+    Ok(())
 }
 
 /// The lines of the tables.
@@ -116,15 +110,13 @@ fn show_editions<S: Alter, W: Write>(
     ensures mode { conn.new.in_transaction ≡ false }
     ensures listed { (profile : Profile) → IsListed profile editions (state S.Store conn.old) (state S.Store conn.new) (W.contents (inside lines.old.output.now)) (W.contents (inside lines.new.output.now)) (has_failed lines.old.output.now) (has_failed lines.new.output.now) result }
 {
-    match walk(
+    walk(
         conn,
         "SELECT e.name, e.state, (SELECT count(*) FROM mm_pieces AS p WHERE p.edition = e.name) FROM mm_editions AS e ORDER BY e.name",
         &[],
         lines,
-    ) {
-        Ok(_) => Ok(()),
-        Err(fault) => Err(fault),
-    }
+    )?;
+    Ok(())
 }
 
 /// The lines of the editions.
@@ -157,8 +149,6 @@ pub fn list<S: Alter, W: Write>(conn: &mut Connection<S>, output: &mut Io<W>) ->
     ensures mode { conn.new.in_transaction ≡ false }
     ensures listed { (profile : Profile) → IsListed profile listing (state S.Store conn.old) (state S.Store conn.new) (W.contents (inside output.old)) (W.contents (inside output.new)) (has_failed output.old) (has_failed output.new) result }
 {
-    match list_tables(conn, output) {
-        Ok(()) => list_editions(conn, output),
-        Err(fault) => Err(fault),
-    }
+    list_tables(conn, output)?;
+    list_editions(conn, output)
 }

@@ -61,10 +61,7 @@ pub(crate) fn table_in(row: &Row) -> Result<Line, Fault>
     let identifier = text_in(row, 3)?;
     let at = count_column(kind)?;
     let count = count_in(row, at)?;
-    match table_line(name, kind, count, time, identifier) {
-        Ok(line) => Ok(line),
-        Err(fault) => Err(fault),
-    }
+    table_line(name, kind, count, time, identifier)
 }
 
 /// The line of an edition, from its name, its state and the count of its pieces.
@@ -76,15 +73,9 @@ pub(crate) fn edition_in(row: &Row) -> Result<Line, Fault>
     let state = text_in(row, 1)?;
     if state == b"open".as_slice() {
         let count = count_in(row, 2)?;
-        match open_line(name, count) {
-            Ok(line) => Ok(line),
-            Err(fault) => Err(fault),
-        }
+        open_line(name, count)
     } else if state == b"published".as_slice() {
-        match published_line(name) {
-            Ok(line) => Ok(line),
-            Err(fault) => Err(fault),
-        }
+        published_line(name)
     } else {
         Err(Fault::STORE)
     }

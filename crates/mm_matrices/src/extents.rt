@@ -42,13 +42,12 @@ fn first_extent<S: Alter>(
     ensures same_reference { tx.new.conn.ghost_name ≡ tx.old.conn.ghost_name }
     ensures asked { IsAsked (state S.Store tx.old.conn.now) (state S.Store tx.new.conn.now) sql.now (bound params.now) (λ it first. GivesExtent it first) result }
 {
-    match first(tx, sql, params) {
-        Ok(Some(row)) => match extent_in(&row) {
+    match first(tx, sql, params)? {
+        Some(row) => match extent_in(&row) {
             Ok(extent) => Ok(Some(extent)),
             Err(error) => Err(fault_of(error)),
         },
-        Ok(None) => Ok(None),
-        Err(fault) => Err(fault),
+        None => Ok(None),
     }
 }
 
@@ -75,9 +74,8 @@ pub(crate) fn fits_pyramid<S: Alter>(
     ensures look { (profile : Profile) → IsLook profile (state S.Store tx.old.conn.now) (state S.Store tx.new.conn.now)
         (λ p covers. (s : MatrixSet) × Has p.sets table.now s × (covers ≡ is_product s.box (grid matrix.now))) result }
 {
-    match extent_of(tx, table) {
-        Ok(Some(extent)) => Ok(fits(&extent, matrix)),
-        Ok(None) => Err(Fault::STORE),
-        Err(fault) => Err(fault),
+    match extent_of(tx, table)? {
+        Some(extent) => Ok(fits(&extent, matrix)),
+        None => Err(Fault::STORE),
     }
 }

@@ -15,7 +15,7 @@ ghost use Rattle.mm_matrices.specs.Shown.{IsPlainKind};
 
 use crate::extents::fits_pyramid;
 use crate::zooms::suits_zooms;
-use mm_definitions::answers::{Fault, Outcome, Refusal};
+use mm_definitions::answers::{Fault, Outcome};
 use mm_definitions::commands::{Kind, Matrix, Step};
 use mm_definitions::names::Name;
 use mm_layout::{kind_of, set_last_change};
@@ -82,29 +82,23 @@ fn matrix_refusal<S: Alter>(
     ensures same_reference { tx.new.conn.ghost_name ≡ tx.old.conn.ghost_name }
     ensures look { (profile : Profile) → IsLook profile (state S.Store tx.old.conn.now) (state S.Store tx.new.conn.now) (λ p why. Meets profile p → why ≡ least (own_reasons p (commands.Matrix table.now zoom matrix.now))) result }
 {
-    let kind = match kind_of(tx, table) {
-        Ok(Some(kind)) => kind,
-        Ok(None) => return Ok(Some(25)),
-        Err(fault) => return Err(fault),
+    let Some(kind) = kind_of(tx, table)? else {
+        return Ok(Some(25));
     };
     let step = match step_of(kind) {
         Some(step) => step,
         None => return Ok(Some(26)),
     };
-    match has_matrix(tx, table, zoom) {
-        Ok(false) => {}
-        Ok(true) => return Ok(Some(30)),
-        Err(fault) => return Err(fault),
+    if has_matrix(tx, table, zoom)? {
+        return Ok(Some(30));
     }
-    match fits_pyramid(tx, table, matrix) {
-        Ok(true) => {}
-        Ok(false) => return Ok(Some(31)),
-        Err(fault) => return Err(fault),
+    if !fits_pyramid(tx, table, matrix)? {
+        return Ok(Some(31));
     }
-    match suits_zooms(tx, table, zoom, matrix, step) {
-        Ok(true) => Ok(None),
-        Ok(false) => Ok(Some(32)),
-        Err(fault) => Err(fault),
+    if suits_zooms(tx, table, zoom, matrix, step)? {
+        Ok(None)
+    } else {
+        Ok(Some(32))
     }
 }
 
@@ -124,22 +118,10 @@ pub fn add_matrix<S: Alter>(
         (state S.Store tx.old.conn.now) (state S.Store tx.new.conn.now) result }
 {
     let table = table.as_str();
-    match matrix_refusal(tx, table, zoom, matrix) {
-        Ok(None) => {}
-        Ok(Some(number)) => {
-            return Ok(Outcome::Refused(Refusal {
-                number,
-                piece: None,
-            }));
-        }
-        Err(fault) => return Err(fault),
+    if let Some(number) = matrix_refusal(tx, table, zoom, matrix)? {
+        return Ok(Outcome::refused(number));
     }
-    match insert_matrix(tx, table, zoom, matrix) {
-        Ok(()) => {}
-        Err(fault) => return Err(fault),
-    }
-    match set_last_change(tx, table, at) {
-        Ok(()) => Ok(Outcome::Done),
-        Err(fault) => Err(fault),
-    }
+    insert_matrix(tx, table, zoom, matrix)?;
+    set_last_change(tx, table, at)?;
+    Ok(Outcome::Done)
 }

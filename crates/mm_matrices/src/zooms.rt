@@ -94,14 +94,9 @@ fn zoomed_in(row: &Row) -> Result<(u8, Matrix), Fault>
     ensures zoomed { IfOk result (λ entry. ShowsZoomed row.now entry) }
     ensures faults { IfErr result IsStoreFault }
 {
-    let zoom = match zoom_in(row) {
-        Ok(zoom) => zoom,
-        Err(fault) => return Err(fault),
-    };
-    match matrix_in(row) {
-        Ok(matrix) => Ok((zoom, matrix)),
-        Err(fault) => Err(fault),
-    }
+    let zoom = zoom_in(row)?;
+    let matrix = matrix_in(row)?;
+    Ok((zoom, matrix))
 }
 
 /// The zoom with its matrix in the first row of a query.
@@ -113,13 +108,9 @@ fn first_zoomed<S: Alter>(
     ensures same_reference { tx.new.conn.ghost_name ≡ tx.old.conn.ghost_name }
     ensures asked { IsAsked (state S.Store tx.old.conn.now) (state S.Store tx.new.conn.now) sql.now (bound params.now) (λ it first. GivesZoomed it first) result }
 {
-    match first(tx, sql, params) {
-        Ok(Some(row)) => match zoomed_in(&row) {
-            Ok(entry) => Ok(Some(entry)),
-            Err(fault) => Err(fault),
-        },
-        Ok(None) => Ok(None),
-        Err(fault) => Err(fault),
+    match first(tx, sql, params)? {
+        Some(row) => Ok(Some(zoomed_in(&row)?)),
+        None => Ok(None),
     }
 }
 
@@ -168,12 +159,7 @@ pub(crate) fn suits_zooms<S: Alter>(
         (λ p suits. (below : Option Zoomed) × (above : Option Zoomed) × IsNearestBelow p.matrices table.now (pos zoom) below × IsNearestAbove p.matrices table.now (pos zoom) above
         × (suits ≡ spec.neighbours below (pos zoom) (grid matrix.now) above (is_halved step))) result }
 {
-    let below = match nearest_below(tx, table, zoom) {
-        Ok(below) => below,
-        Err(fault) => return Err(fault),
-    };
-    match nearest_above(tx, table, zoom) {
-        Ok(above) => Ok(neighbours(below, zoom, matrix, above, step)),
-        Err(fault) => Err(fault),
-    }
+    let below = nearest_below(tx, table, zoom)?;
+    let above = nearest_above(tx, table, zoom)?;
+    Ok(neighbours(below, zoom, matrix, above, step))
 }

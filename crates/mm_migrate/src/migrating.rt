@@ -37,10 +37,7 @@ fn migrate_older<S: Alter>(conn: &mut Connection<S>) -> Result<(), Open>
     ensures mode { conn.new.in_transaction ≡ false }
     ensures older { IsOlder (state S.Store conn.old) (state S.Store conn.new) result }
 {
-    match check_in(conn, Unit::Millimetre) {
-        Ok(()) => {}
-        Err(why) => return Err(why),
-    }
+    check_in(conn, Unit::Millimetre)?;
     match rescale(conn) {
         Ok(()) => Ok(()),
         Err(fault) => Err(Open::Fault(fault)),

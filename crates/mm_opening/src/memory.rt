@@ -31,8 +31,6 @@ pub fn create_in_memory(alloc: Global) -> Result<Connection<MemStore>, Fault>
     let Ok(mut conn) = blank(alloc) else {
         return Err(Fault::MEMORY);
     };
-    match init(&mut conn) {
-        Ok(()) => Ok(conn),
-        Err(fault) => Err(fault),
-    }
+    init(&mut conn)?;
+    Ok(conn)
 }

@@ -21,11 +21,8 @@ fn put_systems<S: Alter>(tx: &mut Transaction<'_, S>) -> Result<(), Fault>
     ensures same_reference { tx.new.conn.ghost_name ≡ tx.old.conn.ghost_name }
     ensures made { IsMaking schema (state S.Store tx.old.conn.now) (state S.Store tx.new.conn.now) current given_systems result }
 {
-    match insert_profile(tx, 2) {
-        Ok(()) => {}
-        Err(fault) => return Err(fault),
-    }
-    match insert_system(
+    insert_profile(tx, 2)?;
+    insert_system(
         tx,
         4326,
         "WGS 84 geographic",
@@ -33,11 +30,8 @@ fn put_systems<S: Alter>(tx: &mut Transaction<'_, S>) -> Result<(), Fault>
         4326,
         "EPSG:4326",
         "longitude and latitude",
-    ) {
-        Ok(()) => {}
-        Err(fault) => return Err(fault),
-    }
-    match insert_system(
+    )?;
+    insert_system(
         tx,
         -1,
         "Undefined Cartesian",
@@ -45,10 +39,7 @@ fn put_systems<S: Alter>(tx: &mut Transaction<'_, S>) -> Result<(), Fault>
         -1,
         "undefined",
         "undefined Cartesian coordinates",
-    ) {
-        Ok(()) => {}
-        Err(fault) => return Err(fault),
-    }
+    )?;
     insert_system(
         tx,
         0,
@@ -65,14 +56,8 @@ fn make<S: Alter>(tx: &mut Transaction<'_, S>) -> Result<(), Fault>
     ensures same_reference { tx.new.conn.ghost_name ≡ tx.old.conn.ghost_name }
     ensures made { IsMaking (first_of 0) (state S.Store tx.old.conn.now) (state S.Store tx.new.conn.now) current opening result }
 {
-    match create_tables(tx) {
-        Ok(()) => {}
-        Err(fault) => return Err(fault),
-    }
-    match put_systems(tx) {
-        Ok(()) => {}
-        Err(fault) => return Err(fault),
-    }
+    create_tables(tx)?;
+    put_systems(tx)?;
     insert_related_row(tx, "gpkgext_relations")
 }
 

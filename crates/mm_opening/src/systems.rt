@@ -7,7 +7,7 @@ ghost use Rattle.mm_definitions.specs.Bounds.{Profile};
 ghost use Rattle.mm_definitions.specs.declared.commands.Command.TheVariants as commands;
 ghost use Rattle.mm_store.specs.Shapes.{IsChange, IsLent};
 
-use mm_definitions::answers::{Fault, Outcome, Refusal};
+use mm_definitions::answers::{Fault, Outcome};
 use mm_store::statements::run;
 use mm_store::systems::has_system;
 use sqlite::{Alter, Transaction, params};
@@ -53,17 +53,10 @@ pub fn add_srs<S: Alter>(
     ensures same_reference { tx.new.conn.ghost_name ≡ tx.old.conn.ghost_name }
     ensures lent { (profile : Profile) (moment : ℕ) → IsLent profile (commands.Srs id name.now organization.now organization_id definition.now description.now) moment (state S.Store tx.old.conn.now) (state S.Store tx.new.conn.now) result }
 {
-    match has_system(tx, id) {
-        Ok(false) => {}
-        Ok(true) => {
-            return Ok(Outcome::Refused(Refusal {
-                number: 20,
-                piece: None,
-            }));
-        }
-        Err(fault) => return Err(fault),
+    if has_system(tx, id)? {
+        return Ok(Outcome::refused(20));
     }
-    match insert_system(
+    insert_system(
         tx,
         id,
         name,
@@ -71,8 +64,6 @@ pub fn add_srs<S: Alter>(
         organization_id,
         definition,
         description,
-    ) {
-        Ok(()) => Ok(Outcome::Done),
-        Err(fault) => Err(fault),
-    }
+    )?;
+    Ok(Outcome::Done)
 }

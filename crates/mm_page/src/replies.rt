@@ -44,10 +44,9 @@ fn tile_reply<S: Alter>(
         (λ v. v.items) (λ p. response_of (reply_of p (page.Tile table.now (pos zoom) (pos column) (pos row)))) result }
     ensures fault { IfErr result (IsPageFault (has_failed session.old)) }
 {
-    match read_tile(session, table, zoom, column, row) {
-        Ok(Some(bytes)) => printed(found(alloc, "application/octet-stream", &bytes)),
-        Ok(None) => printed(not_found(alloc)),
-        Err(fault) => Err(fault),
+    match read_tile(session, table, zoom, column, row)? {
+        Some(bytes) => printed(found(alloc, "application/octet-stream", &bytes)),
+        None => printed(not_found(alloc)),
     }
 }
 
@@ -63,14 +62,9 @@ fn media_reply<S: Alter>(
         (λ v. v.items) (λ p. response_of (reply_of p (page.Media table.now id))) result }
     ensures fault { IfErr result (IsPageFault (has_failed session.old)) }
 {
-    match read_media(session, table, id) {
-        Ok(Some(media)) => printed(found(
-            alloc,
-            media.content_type.as_str(),
-            media.bytes.as_slice(),
-        )),
-        Ok(None) => printed(not_found(alloc)),
-        Err(fault) => Err(fault),
+    match read_media(session, table, id)? {
+        Some(media) => printed(found(alloc, media.content_type.as_str(), media.bytes.as_slice())),
+        None => printed(not_found(alloc)),
     }
 }
 
@@ -86,13 +80,12 @@ fn related_reply<S: Alter>(
         (λ v. v.items) (λ p. response_of (reply_of p (page.Related table.now id))) result }
     ensures fault { IfErr result (IsPageFault (has_failed session.old)) }
 {
-    match read_mates(session, table, id) {
-        Ok(Some(mates)) => match mates_json(alloc, &mates) {
+    match read_mates(session, table, id)? {
+        Some(mates) => match mates_json(alloc, &mates) {
             Ok(text) => printed(found(alloc, "application/json", text.as_bytes())),
             Err(_) => Err(Fault::MEMORY),
         },
-        Ok(None) => printed(not_found(alloc)),
-        Err(fault) => Err(fault),
+        None => printed(not_found(alloc)),
     }
 }
 
@@ -103,12 +96,10 @@ fn contents_reply<S: Alter>(alloc: Global, session: &mut Session<S>) -> Result<V
         (λ v. v.items) (λ p. response_of (reply_of p page.Contents)) result }
     ensures fault { IfErr result (IsPageFault (has_failed session.old)) }
 {
-    match read_tables(session) {
-        Ok(tables) => match tables_json(alloc, &tables) {
-            Ok(text) => printed(found(alloc, "application/json", text.as_bytes())),
-            Err(_) => Err(Fault::MEMORY),
-        },
-        Err(fault) => Err(fault),
+    let tables = read_tables(session)?;
+    match tables_json(alloc, &tables) {
+        Ok(text) => printed(found(alloc, "application/json", text.as_bytes())),
+        Err(_) => Err(Fault::MEMORY),
     }
 }
 

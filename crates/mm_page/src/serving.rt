@@ -54,10 +54,9 @@ fn path_response<S: Alter>(
     ensures needed { IfErr result (λ fault. fault.0 ≡ 92 → (w : Wanted) × Asks path.now w) }
     ensures fault { IfErr result (IsPageFault (has_failed session.old)) }
 {
-    match read_path(alloc, path) {
-        Ok(Some(wanted)) => reply(alloc, session, wanted),
-        Ok(None) => printed(not_found(alloc)),
-        Err(fault) => Err(fault),
+    match read_path(alloc, path)? {
+        Some(wanted) => reply(alloc, session, wanted),
+        None => printed(not_found(alloc)),
     }
 }
 
@@ -100,13 +99,12 @@ fn respond<S: Alter, R: Read>(
 {
     let mut buf = [0; 8192];
     let mut headers = [EMPTY_HEADER_SPAN; 64];
-    match read_head(reader, &mut buf, &mut headers) {
-        Ok(Some((n, spans))) => {
+    match read_head(reader, &mut buf, &mut headers)? {
+        Some((n, spans)) => {
             let head = &buf[..n];
             head_response(alloc, session, spans.method.of(head), spans.path.of(head))
         }
-        Ok(None) => printed(bad_request(alloc)),
-        Err(fault) => Err(fault),
+        None => printed(bad_request(alloc)),
     }
 }
 

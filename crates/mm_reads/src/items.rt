@@ -16,10 +16,10 @@ fn has_item<S: Alter>(tx: &mut Transaction<'_, S>, table: &str, id: i64) -> Resu
     ensures same_reference { tx.new.conn.ghost_name ≡ tx.old.conn.ghost_name }
     ensures look { (profile : Profile) → IsLook profile (state S.Store tx.old.conn.now) (state S.Store tx.new.conn.now) (λ p found. found ≡ is_item p table.now id) result }
 {
-    match has_row(tx, table, id) {
-        Ok(true) => Ok(true),
-        Ok(false) => has_medium(tx, table, id),
-        Err(fault) => Err(fault),
+    if has_row(tx, table, id)? {
+        Ok(true)
+    } else {
+        has_medium(tx, table, id)
     }
 }
 

@@ -26,12 +26,10 @@ fn kind_in(row: &Row, at: usize) -> Result<Kind, Fault>
     ensures shown { IfOk result (λ kind. column row.now at ≡ Words (kind_text kind)) }
     ensures fault { IfErr result IsStoreFault }
 {
-    match text_in(row, at) {
-        Ok(text) => match Kind::named(text.as_str()) {
-            Some(kind) => Ok(kind),
-            None => Err(Fault::STORE),
-        },
-        Err(fault) => Err(fault),
+    let text = text_in(row, at)?;
+    match Kind::named(text.as_str()) {
+        Some(kind) => Ok(kind),
+        None => Err(Fault::STORE),
     }
 }
 
@@ -40,12 +38,10 @@ fn identifier_in(row: &Row, at: usize) -> Result<Identifier, Fault>
     ensures shown { IfOk result (λ identifier. column row.now at ≡ Words identifier) }
     ensures fault { IfErr result IsStoreFault }
 {
-    match text_in(row, at) {
-        Ok(text) => match Identifier::new(text) {
-            Some(identifier) => Ok(identifier),
-            None => Err(Fault::STORE),
-        },
-        Err(fault) => Err(fault),
+    let text = text_in(row, at)?;
+    match Identifier::new(text) {
+        Some(identifier) => Ok(identifier),
+        None => Err(Fault::STORE),
     }
 }
 
@@ -54,12 +50,10 @@ fn time_in(row: &Row, at: usize) -> Result<Text<24, 24>, Fault>
     ensures shown { IfOk result (λ time. column row.now at ≡ Words time) }
     ensures fault { IfErr result IsStoreFault }
 {
-    match text_in(row, at) {
-        Ok(text) => match Text::new(text) {
-            Some(time) => Ok(time),
-            None => Err(Fault::STORE),
-        },
-        Err(fault) => Err(fault),
+    let text = text_in(row, at)?;
+    match Text::new(text) {
+        Some(time) => Ok(time),
+        None => Err(Fault::STORE),
     }
 }
 
@@ -72,18 +66,16 @@ fn place_in(row: &Row) -> Result<(i64, Extent), Fault>
     let min_x = number_in(row, 5)?;
     let min_y = number_in(row, 6)?;
     let max_x = number_in(row, 7)?;
-    match number_in(row, 8) {
-        Ok(max_y) => Ok((
-            system,
-            Extent {
-                min_x,
-                min_y,
-                max_x,
-                max_y,
-            },
-        )),
-        Err(fault) => Err(fault),
-    }
+    let max_y = number_in(row, 8)?;
+    Ok((
+        system,
+        Extent {
+            min_x,
+            min_y,
+            max_x,
+            max_y,
+        },
+    ))
 }
 
 /// The place of a table of this kind, which only pyramids have.
@@ -92,10 +84,7 @@ fn place_of(row: &Row, kind: Kind) -> Result<Option<(i64, Extent)>, Fault>
     ensures fault { IfErr result IsStoreFault }
 {
     match kind {
-        Kind::Two | Kind::Other => match place_in(row) {
-            Ok(place) => Ok(Some(place)),
-            Err(fault) => Err(fault),
-        },
+        Kind::Two | Kind::Other => Ok(Some(place_in(row)?)),
         Kind::Attributes | Kind::Media => Ok(None),
     }
 }
@@ -109,16 +98,14 @@ fn entry_in(row: &Row) -> Result<Entry, Fault>
     let kind = kind_in(row, 1)?;
     let identifier = identifier_in(row, 2)?;
     let last_change = time_in(row, 3)?;
-    match place_of(row, kind) {
-        Ok(place) => Ok(Entry {
-            table,
-            kind,
-            identifier,
-            last_change,
-            place,
-        }),
-        Err(fault) => Err(fault),
-    }
+    let place = place_of(row, kind)?;
+    Ok(Entry {
+        table,
+        kind,
+        identifier,
+        last_change,
+        place,
+    })
 }
 
 /// The tables that the list has shown so far.
@@ -133,10 +120,7 @@ impl Visitor for Gathered {
     ghost takes = { λ old row new result. Gathers old.entries.items row new.entries.items result };
 
     fn take(&mut self, row: &Row) -> Result<bool, Fault> {
-        let entry = match entry_in(row) {
-            Ok(entry) => entry,
-            Err(fault) => return Err(fault),
-        };
+        let entry = entry_in(row)?;
         match self.entries.push(entry) {
             Ok(()) => Ok(true),
             Err(_) => Err(Fault::MEMORY),
@@ -155,13 +139,11 @@ pub fn contents<S: Alter>(alloc: Global, conn: &mut Connection<S>) -> Result<Vec
     let mut gathered = Gathered {
         entries: Vec::new(alloc),
     };
-    match walk(
+    walk(
         conn,
         "SELECT c.table_name, t.kind, c.identifier, c.last_change, c.srs_id, c.min_x, c.min_y, c.max_x, c.max_y FROM gpkg_contents AS c LEFT JOIN mm_tables AS t ON t.table_name = c.table_name ORDER BY c.table_name",
         &[],
         &mut gathered,
-    ) {
-        Ok(_) => Ok(gathered.entries),
-        Err(fault) => Err(fault),
-    }
+    )?;
+    Ok(gathered.entries)
 }

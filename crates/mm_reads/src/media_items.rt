@@ -63,18 +63,10 @@ fn medium_in<S: Alter>(tx: &mut Transaction<'_, S>, row: &Row) -> Result<Media, 
     ensures told { (profile : Profile) (spare : Spare) → IsMove (state S.Store tx.old.conn.now) (state S.Store tx.new.conn.now) (IsSeen spare profile (state S.Store tx.old.conn.now))
         (λ base x m y. (y ≡ x) × IsSeen spare profile (state S.Store tx.new.conn.now) base y × ((r : MediumRow) → ShowsMedium row.now r → (bytes_at y.kept.shelf r.blob ≡ Some m.bytes) × (r.content_type ≡ m.content_type))) result }
 {
-    let blob = match number_in(row, 0) {
-        Ok(blob) => blob,
-        Err(fault) => return Err(fault),
-    };
-    let content_type = match text_in(row, 1) {
-        Ok(text) => text,
-        Err(fault) => return Err(fault),
-    };
-    match bytes_of(tx, blob) {
-        Ok(bytes) => medium(bytes, content_type),
-        Err(fault) => Err(fault),
-    }
+    let blob = number_in(row, 0)?;
+    let content_type = text_in(row, 1)?;
+    let bytes = bytes_of(tx, blob)?;
+    medium(bytes, content_type)
 }
 
 /// The medium of an id, inside a transaction.
@@ -86,13 +78,9 @@ fn medium_at<S: Alter>(
     ensures same_reference { tx.new.conn.ghost_name ≡ tx.old.conn.ghost_name }
     ensures look { (profile : Profile) → IsLook profile (state S.Store tx.old.conn.now) (state S.Store tx.new.conn.now) (λ p found. get p.media (item table.now id) ≡ option_map medium_of found) result }
 {
-    match row_of_medium(tx, table, id) {
-        Ok(Some(row)) => match medium_in(tx, &row) {
-            Ok(found) => Ok(Some(found)),
-            Err(fault) => Err(fault),
-        },
-        Ok(None) => Ok(None),
-        Err(fault) => Err(fault),
+    match row_of_medium(tx, table, id)? {
+        Some(row) => Ok(Some(medium_in(tx, &row)?)),
+        None => Ok(None),
     }
 }
 

@@ -24,15 +24,13 @@ fn related_in(row: &Row) -> Result<Related, Fault>
     let mapping = name_in(row, 0)?;
     let name = remark_in(row, 1)?;
     let table = name_in(row, 2)?;
-    match number_in(row, 3) {
-        Ok(id) => Ok(Related {
-            mapping,
-            name,
-            table,
-            id,
-        }),
-        Err(fault) => Err(fault),
-    }
+    let id = number_in(row, 3)?;
+    Ok(Related {
+        mapping,
+        name,
+        table,
+        id,
+    })
 }
 
 /// The items that the list has shown so far.
@@ -47,10 +45,7 @@ impl Visitor for Gathered {
     ghost takes = { λ old row new result. Gathers old.items.items row new.items.items result };
 
     fn take(&mut self, row: &Row) -> Result<bool, Fault> {
-        let item = match related_in(row) {
-            Ok(item) => item,
-            Err(fault) => return Err(fault),
-        };
+        let item = related_in(row)?;
         match self.items.push(item) {
             Ok(()) => Ok(true),
             Err(_) => Err(Fault::MEMORY),
@@ -73,15 +68,13 @@ fn listed<S: Alter>(
     let mut gathered = Gathered {
         items: Vec::new(alloc),
     };
-    match walk(
+    walk(
         conn,
         "SELECT r.mapping_table_name, r.relation_name, r.related_table_name, m.related_id FROM gpkgext_relations AS r JOIN mm_map AS m ON m.mapping = r.mapping_table_name AND m.base_id = ?2 WHERE r.base_table_name = ?1 ORDER BY r.mapping_table_name, m.related_id",
         params![table, id],
         &mut gathered,
-    ) {
-        Ok(_) => Ok(gathered.items),
-        Err(fault) => Err(fault),
-    }
+    )?;
+    Ok(gathered.items)
 }
 
 /// What an attribute row or medium is related to, from the base of a relation to its related table only, ordered by mapping,
@@ -98,13 +91,9 @@ pub fn related<S: Alter>(
     ensures read { (profile : Profile) → IsRead profile (state S.Store conn.old) (state S.Store conn.new) (λ p found. Tells p table.now id found) result }
 {
     let table = table.as_str();
-    match stands(conn, table, id) {
-        Ok(true) => {}
-        Ok(false) => return Ok(None),
-        Err(fault) => return Err(fault),
+    if !stands(conn, table, id)? {
+        return Ok(None);
     }
-    match listed(alloc, conn, table, id) {
-        Ok(items) => Ok(Some(items)),
-        Err(fault) => Err(fault),
-    }
+    let items = listed(alloc, conn, table, id)?;
+    Ok(Some(items))
 }

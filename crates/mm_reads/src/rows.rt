@@ -27,14 +27,12 @@ fn row_in(row: &sqlite::Row) -> Result<Row, Fault>
 {
     let title = remark_in(row, 0)?;
     let note = remark_in(row, 1)?;
-    match number_in(row, 2) {
-        Ok(amount) => Ok(Row {
-            title,
-            note,
-            amount,
-        }),
-        Err(fault) => Err(fault),
-    }
+    let amount = number_in(row, 2)?;
+    Ok(Row {
+        title,
+        note,
+        amount,
+    })
 }
 
 /// The attribute row in the first row of a query.
@@ -46,13 +44,9 @@ fn first_row<S: Alter>(
     ensures same_reference { tx.new.conn.ghost_name ≡ tx.old.conn.ghost_name }
     ensures asked { IsAsked (state S.Store tx.old.conn.now) (state S.Store tx.new.conn.now) sql.now (bound params.now) (λ it first. Gives ShowsRow it first) result }
 {
-    match first(tx, sql, params) {
-        Ok(Some(row)) => match row_in(&row) {
-            Ok(found) => Ok(Some(found)),
-            Err(fault) => Err(fault),
-        },
-        Ok(None) => Ok(None),
-        Err(fault) => Err(fault),
+    match first(tx, sql, params)? {
+        Some(row) => Ok(Some(row_in(&row)?)),
+        None => Ok(None),
     }
 }
 

@@ -27,13 +27,9 @@ fn bytes_at<S: Alter>(
     ensures look { (profile : Profile) → IsLook profile (state S.Store tx.old.conn.now) (state S.Store tx.new.conn.now)
         (λ p found. TellsBytes (get p.tiles (tile table.now (pos zoom) (pos column) (pos row))) found) result }
 {
-    match blob_of_tile(tx, table, zoom, column, row) {
-        Ok(Some(blob)) => match bytes_of(tx, blob) {
-            Ok(bytes) => Ok(Some(bytes)),
-            Err(fault) => Err(fault),
-        },
-        Ok(None) => Ok(None),
-        Err(fault) => Err(fault),
+    match blob_of_tile(tx, table, zoom, column, row)? {
+        Some(blob) => Ok(Some(bytes_of(tx, blob)?)),
+        None => Ok(None),
     }
 }
 

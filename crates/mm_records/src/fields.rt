@@ -63,12 +63,10 @@ pub(crate) fn positive_field<const MOST: u64>(text: &str) -> Result<Positive<MOS
     requires { MOST < 2 ^ 63 }
     ensures { ReadsTo (λ z. Holds (NumberFrom (pos 1) (pos MOST)) text.now (Whole z)) (IsAgainst (NumberFrom (pos 1) (pos MOST)) text.now) result }
 {
-    match number_field(text, 1, MOST as i64) {
-        Ok(number) => match Positive::new(number) {
-            Some(number) => Ok(number),
-            None => unreachable!(),
-        },
-        Err(fault) => Err(fault),
+    let number = number_field(text, 1, MOST as i64)?;
+    match Positive::new(number) {
+        Some(number) => Ok(number),
+        None => unreachable!(),
     }
 }
 
@@ -77,12 +75,10 @@ pub(crate) fn signed_field<const MOST: u64>(text: &str) -> Result<Signed<MOST>, 
     requires { MOST < 2 ^ 63 }
     ensures { ReadsTo (λ z. Holds (NumberFrom (neg_ℤ (pos MOST)) (pos MOST)) text.now (Whole z)) (IsAgainst (NumberFrom (neg_ℤ (pos MOST)) (pos MOST)) text.now) result }
 {
-    match number_field(text, -(MOST as i64), MOST as i64) {
-        Ok(number) => match Signed::new(number) {
-            Some(number) => Ok(number),
-            None => unreachable!(),
-        },
-        Err(fault) => Err(fault),
+    let number = number_field(text, -(MOST as i64), MOST as i64)?;
+    match Signed::new(number) {
+        Some(number) => Ok(number),
+        None => unreachable!(),
     }
 }
 
@@ -90,12 +86,10 @@ pub(crate) fn signed_field<const MOST: u64>(text: &str) -> Result<Signed<MOST>, 
 pub(crate) fn system_field(text: &str) -> Result<SystemNumber, ReadFault>
     ensures { ReadsTo (λ z. Holds forms.named_system text.now (Whole z)) (IsAgainst forms.named_system text.now) result }
 {
-    match number_field(text, -1, LAST_ID as i64) {
-        Ok(number) => match SystemNumber::new(number) {
-            Some(number) => Ok(number),
-            None => unreachable!(),
-        },
-        Err(fault) => Err(fault),
+    let number = number_field(text, -1, LAST_ID as i64)?;
+    match SystemNumber::new(number) {
+        Some(number) => Ok(number),
+        None => unreachable!(),
     }
 }
 
@@ -103,12 +97,10 @@ pub(crate) fn system_field(text: &str) -> Result<SystemNumber, ReadFault>
 pub(crate) fn zoom_field(text: &str) -> Result<Zoom, ReadFault>
     ensures { ReadsTo (λ z. Holds forms.zoom_field text.now (Whole (pos z))) (IsAgainst forms.zoom_field text.now) result }
 {
-    match number_field(text, 0, LAST_ZOOM as i64) {
-        Ok(number) => match Zoom::new(number) {
-            Some(number) => Ok(number),
-            None => unreachable!(),
-        },
-        Err(fault) => Err(fault),
+    let number = number_field(text, 0, LAST_ZOOM as i64)?;
+    match Zoom::new(number) {
+        Some(number) => Ok(number),
+        None => unreachable!(),
     }
 }
 
@@ -118,12 +110,10 @@ pub(crate) fn count_field<const LEAST: u32, const MOST: u32>(
 ) -> Result<Count<LEAST, MOST>, ReadFault>
     ensures { ReadsTo (λ n. Holds (NumberFrom (pos LEAST) (pos MOST)) text.now (Whole (pos n))) (IsAgainst (NumberFrom (pos LEAST) (pos MOST)) text.now) result }
 {
-    match number_field(text, LEAST as i64, MOST as i64) {
-        Ok(number) => match Count::new(number) {
-            Some(number) => Ok(number),
-            None => unreachable!(),
-        },
-        Err(fault) => Err(fault),
+    let number = number_field(text, LEAST as i64, MOST as i64)?;
+    match Count::new(number) {
+        Some(number) => Ok(number),
+        None => unreachable!(),
     }
 }
 

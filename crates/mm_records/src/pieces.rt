@@ -23,7 +23,7 @@ fn read_tile(alloc: Global, fields: &[&str]) -> Result<Piece, ReadFault>
     let [table, zoom, column, row, bytes] = fields else {
         return Err(ReadFault::refused(10));
     };
-    match both(
+    let (table, (zoom, (column, (row, bytes)))) = both(
         name_field(table),
         both(
             zoom_field(zoom),
@@ -32,19 +32,14 @@ fn read_tile(alloc: Global, fields: &[&str]) -> Result<Piece, ReadFault>
                 both(count_field(row), TileBytes::read(alloc, bytes)),
             ),
         ),
-    ) {
-        Ok(read) => {
-            let (table, (zoom, (column, (row, bytes)))) = read;
-            Ok(Piece::Tile {
-                table,
-                zoom,
-                column,
-                row,
-                bytes,
-            })
-        }
-        Err(fault) => Err(fault),
-    }
+    )?;
+    Ok(Piece::Tile {
+        table,
+        zoom,
+        column,
+        row,
+        bytes,
+    })
 }
 
 /// `tile-drop,TABLE,Z,C,R`
@@ -54,24 +49,19 @@ fn read_tile_drop(fields: &[&str]) -> Result<Piece, ReadFault>
     let [table, zoom, column, row] = fields else {
         return Err(ReadFault::refused(10));
     };
-    match both(
+    let (table, (zoom, (column, row))) = both(
         name_field(table),
         both(
             zoom_field(zoom),
             both(count_field(column), count_field(row)),
         ),
-    ) {
-        Ok(read) => {
-            let (table, (zoom, (column, row))) = read;
-            Ok(Piece::TileDrop {
-                table,
-                zoom,
-                column,
-                row,
-            })
-        }
-        Err(fault) => Err(fault),
-    }
+    )?;
+    Ok(Piece::TileDrop {
+        table,
+        zoom,
+        column,
+        row,
+    })
 }
 
 /// `row,TABLE,ID,TITLE,NOTE,AMOUNT`
@@ -81,7 +71,7 @@ fn read_row(alloc: Global, fields: &[&str]) -> Result<Piece, ReadFault>
     let [table, id, title, note, amount] = fields else {
         return Err(ReadFault::refused(10));
     };
-    match both(
+    let (table, (id, (title, (note, amount)))) = both(
         name_field(table),
         both(
             positive_field(id),
@@ -90,19 +80,14 @@ fn read_row(alloc: Global, fields: &[&str]) -> Result<Piece, ReadFault>
                 both(Remark::read(alloc, note), signed_field(amount)),
             ),
         ),
-    ) {
-        Ok(read) => {
-            let (table, (id, (title, (note, amount)))) = read;
-            Ok(Piece::Row {
-                table,
-                id,
-                title,
-                note,
-                amount,
-            })
-        }
-        Err(fault) => Err(fault),
-    }
+    )?;
+    Ok(Piece::Row {
+        table,
+        id,
+        title,
+        note,
+        amount,
+    })
 }
 
 /// `row-drop,TABLE,ID`
@@ -112,13 +97,8 @@ fn read_row_drop(fields: &[&str]) -> Result<Piece, ReadFault>
     let [table, id] = fields else {
         return Err(ReadFault::refused(10));
     };
-    match both(name_field(table), positive_field(id)) {
-        Ok(read) => {
-            let (table, id) = read;
-            Ok(Piece::RowDrop { table, id })
-        }
-        Err(fault) => Err(fault),
-    }
+    let (table, id) = both(name_field(table), positive_field(id))?;
+    Ok(Piece::RowDrop { table, id })
 }
 
 /// `media,TABLE,ID,TYPE,HEX`
@@ -128,7 +108,7 @@ fn read_media(alloc: Global, fields: &[&str]) -> Result<Piece, ReadFault>
     let [table, id, content_type, bytes] = fields else {
         return Err(ReadFault::refused(10));
     };
-    match both(
+    let (table, (id, (content_type, bytes))) = both(
         name_field(table),
         both(
             positive_field(id),
@@ -137,18 +117,13 @@ fn read_media(alloc: Global, fields: &[&str]) -> Result<Piece, ReadFault>
                 MediaBytes::read(alloc, bytes),
             ),
         ),
-    ) {
-        Ok(read) => {
-            let (table, (id, (content_type, bytes))) = read;
-            Ok(Piece::Media {
-                table,
-                id,
-                content_type,
-                bytes,
-            })
-        }
-        Err(fault) => Err(fault),
-    }
+    )?;
+    Ok(Piece::Media {
+        table,
+        id,
+        content_type,
+        bytes,
+    })
 }
 
 /// `media-drop,TABLE,ID`
@@ -158,13 +133,8 @@ fn read_media_drop(fields: &[&str]) -> Result<Piece, ReadFault>
     let [table, id] = fields else {
         return Err(ReadFault::refused(10));
     };
-    match both(name_field(table), positive_field(id)) {
-        Ok(read) => {
-            let (table, id) = read;
-            Ok(Piece::MediaDrop { table, id })
-        }
-        Err(fault) => Err(fault),
-    }
+    let (table, id) = both(name_field(table), positive_field(id))?;
+    Ok(Piece::MediaDrop { table, id })
 }
 
 /// `map,MAPPING,BASEID,RELID`
@@ -174,20 +144,15 @@ fn read_map(fields: &[&str]) -> Result<Piece, ReadFault>
     let [mapping, base_id, related_id] = fields else {
         return Err(ReadFault::refused(10));
     };
-    match both(
+    let (mapping, (base_id, related_id)) = both(
         name_field(mapping),
         both(positive_field(base_id), positive_field(related_id)),
-    ) {
-        Ok(read) => {
-            let (mapping, (base_id, related_id)) = read;
-            Ok(Piece::Map {
-                mapping,
-                base_id,
-                related_id,
-            })
-        }
-        Err(fault) => Err(fault),
-    }
+    )?;
+    Ok(Piece::Map {
+        mapping,
+        base_id,
+        related_id,
+    })
 }
 
 /// `map-drop,MAPPING,BASEID,RELID`
@@ -197,20 +162,15 @@ fn read_map_drop(fields: &[&str]) -> Result<Piece, ReadFault>
     let [mapping, base_id, related_id] = fields else {
         return Err(ReadFault::refused(10));
     };
-    match both(
+    let (mapping, (base_id, related_id)) = both(
         name_field(mapping),
         both(positive_field(base_id), positive_field(related_id)),
-    ) {
-        Ok(read) => {
-            let (mapping, (base_id, related_id)) = read;
-            Ok(Piece::MapDrop {
-                mapping,
-                base_id,
-                related_id,
-            })
-        }
-        Err(fault) => Err(fault),
-    }
+    )?;
+    Ok(Piece::MapDrop {
+        mapping,
+        base_id,
+        related_id,
+    })
 }
 
 /// `matrix,TABLE,Z,MW,MH,TW,TH,PX,PY`
@@ -220,7 +180,7 @@ fn read_matrix(fields: &[&str]) -> Result<Piece, ReadFault>
     let [table, zoom, mw, mh, tw, th, px, py] = fields else {
         return Err(ReadFault::refused(10));
     };
-    match both(
+    let (table, (zoom, (mw, (mh, (tw, (th, (px, py))))))) = both(
         name_field(table),
         both(
             zoom_field(zoom),
@@ -238,24 +198,19 @@ fn read_matrix(fields: &[&str]) -> Result<Piece, ReadFault>
                 ),
             ),
         ),
-    ) {
-        Ok(read) => {
-            let (table, (zoom, (mw, (mh, (tw, (th, (px, py))))))) = read;
-            Ok(Piece::Matrix {
-                table,
-                zoom,
-                matrix: Matrix {
-                    mw,
-                    mh,
-                    tw,
-                    th,
-                    px,
-                    py,
-                },
-            })
-        }
-        Err(fault) => Err(fault),
-    }
+    )?;
+    Ok(Piece::Matrix {
+        table,
+        zoom,
+        matrix: Matrix {
+            mw,
+            mh,
+            tw,
+            th,
+            px,
+            py,
+        },
+    })
 }
 
 /// The piece that a record of one of the nine kinds spells.

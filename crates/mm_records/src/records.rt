@@ -37,7 +37,7 @@ fn read_srs(alloc: Global, fields: &[&str]) -> Result<Command, ReadFault>
     else {
         return Err(ReadFault::refused(10));
     };
-    match both(
+    let (id, (name, (organization, (organization_id, (definition, description))))) = both(
         positive_field(id),
         both(
             SystemName::read(alloc, name),
@@ -52,20 +52,15 @@ fn read_srs(alloc: Global, fields: &[&str]) -> Result<Command, ReadFault>
                 ),
             ),
         ),
-    ) {
-        Ok(read) => {
-            let (id, (name, (organization, (organization_id, (definition, description))))) = read;
-            Ok(Command::Srs {
-                id,
-                name,
-                organization,
-                organization_id,
-                definition,
-                description,
-            })
-        }
-        Err(fault) => Err(fault),
-    }
+    )?;
+    Ok(Command::Srs {
+        id,
+        name,
+        organization,
+        organization_id,
+        definition,
+        description,
+    })
 }
 
 /// `pyramid,TABLE,IDENTIFIER,SRS,MINX,MINY,MAXX,MAXY,STEP`
@@ -75,7 +70,7 @@ fn read_pyramid(alloc: Global, fields: &[&str]) -> Result<Command, ReadFault>
     let [table, identifier, srs, min_x, min_y, max_x, max_y, step] = fields else {
         return Err(ReadFault::refused(10));
     };
-    match both(
+    let (table, (identifier, (srs, (min_x, (min_y, (max_x, (max_y, step))))))) = both(
         name_field(table),
         both(
             Identifier::read(alloc, identifier),
@@ -93,22 +88,17 @@ fn read_pyramid(alloc: Global, fields: &[&str]) -> Result<Command, ReadFault>
                 ),
             ),
         ),
-    ) {
-        Ok(read) => {
-            let (table, (identifier, (srs, (min_x, (min_y, (max_x, (max_y, step))))))) = read;
-            Ok(Command::Pyramid {
-                table,
-                identifier,
-                srs,
-                min_x,
-                min_y,
-                max_x,
-                max_y,
-                step,
-            })
-        }
-        Err(fault) => Err(fault),
-    }
+    )?;
+    Ok(Command::Pyramid {
+        table,
+        identifier,
+        srs,
+        min_x,
+        min_y,
+        max_x,
+        max_y,
+        step,
+    })
 }
 
 /// `table,TABLE,KIND,IDENTIFIER`
@@ -118,20 +108,15 @@ fn read_table(alloc: Global, fields: &[&str]) -> Result<Command, ReadFault>
     let [table, kind, identifier] = fields else {
         return Err(ReadFault::refused(10));
     };
-    match both(
+    let (table, (kind, identifier)) = both(
         name_field(table),
         both(kind_field(kind), Identifier::read(alloc, identifier)),
-    ) {
-        Ok(read) => {
-            let (table, (kind, identifier)) = read;
-            Ok(Command::Table {
-                table,
-                kind,
-                identifier,
-            })
-        }
-        Err(fault) => Err(fault),
-    }
+    )?;
+    Ok(Command::Table {
+        table,
+        kind,
+        identifier,
+    })
 }
 
 /// `drop,TABLE`
@@ -141,10 +126,8 @@ fn read_drop(fields: &[&str]) -> Result<Command, ReadFault>
     let [table] = fields else {
         return Err(ReadFault::refused(10));
     };
-    match name_field(table) {
-        Ok(table) => Ok(Command::Drop { table }),
-        Err(fault) => Err(fault),
-    }
+    let table = name_field(table)?;
+    Ok(Command::Drop { table })
 }
 
 /// `relation,MAPPING,BASE,RELATED,NAME`
@@ -154,24 +137,19 @@ fn read_relation(fields: &[&str]) -> Result<Command, ReadFault>
     let [mapping, base, related, name] = fields else {
         return Err(ReadFault::refused(10));
     };
-    match both(
+    let (mapping, (base, (related, name))) = both(
         name_field(mapping),
         both(
             name_field(base),
             both(name_field(related), relation_field(name)),
         ),
-    ) {
-        Ok(read) => {
-            let (mapping, (base, (related, name))) = read;
-            Ok(Command::Relation {
-                mapping,
-                base,
-                related,
-                name,
-            })
-        }
-        Err(fault) => Err(fault),
-    }
+    )?;
+    Ok(Command::Relation {
+        mapping,
+        base,
+        related,
+        name,
+    })
 }
 
 /// `relation-drop,MAPPING`
@@ -181,10 +159,8 @@ fn read_relation_drop(fields: &[&str]) -> Result<Command, ReadFault>
     let [mapping] = fields else {
         return Err(ReadFault::refused(10));
     };
-    match name_field(mapping) {
-        Ok(mapping) => Ok(Command::RelationDrop { mapping }),
-        Err(fault) => Err(fault),
-    }
+    let mapping = name_field(mapping)?;
+    Ok(Command::RelationDrop { mapping })
 }
 
 /// `edition,NAME`
@@ -194,10 +170,8 @@ fn read_edition(fields: &[&str]) -> Result<Command, ReadFault>
     let [name] = fields else {
         return Err(ReadFault::refused(10));
     };
-    match name_field(name) {
-        Ok(name) => Ok(Command::Edition { name }),
-        Err(fault) => Err(fault),
-    }
+    let name = name_field(name)?;
+    Ok(Command::Edition { name })
 }
 
 /// `discard,NAME`
@@ -207,10 +181,8 @@ fn read_discard(fields: &[&str]) -> Result<Command, ReadFault>
     let [name] = fields else {
         return Err(ReadFault::refused(10));
     };
-    match name_field(name) {
-        Ok(name) => Ok(Command::Discard { name }),
-        Err(fault) => Err(fault),
-    }
+    let name = name_field(name)?;
+    Ok(Command::Discard { name })
 }
 
 /// `publish,EDITION`
@@ -220,10 +192,8 @@ fn read_publish(fields: &[&str]) -> Result<Command, ReadFault>
     let [edition] = fields else {
         return Err(ReadFault::refused(10));
     };
-    match name_field(edition) {
-        Ok(edition) => Ok(Command::Publish { edition }),
-        Err(fault) => Err(fault),
-    }
+    let edition = name_field(edition)?;
+    Ok(Command::Publish { edition })
 }
 
 /// `rehearse,EDITION`
@@ -233,10 +203,8 @@ fn read_rehearse(fields: &[&str]) -> Result<Command, ReadFault>
     let [edition] = fields else {
         return Err(ReadFault::refused(10));
     };
-    match name_field(edition) {
-        Ok(edition) => Ok(Command::Rehearse { edition }),
-        Err(fault) => Err(fault),
-    }
+    let edition = name_field(edition)?;
+    Ok(Command::Rehearse { edition })
 }
 
 /// `stage,EDITION,NO,PIECE..`
@@ -246,20 +214,15 @@ fn read_stage(alloc: Global, fields: &[&str]) -> Result<Command, ReadFault>
     let [edition, number, piece @ ..] = fields else {
         return Err(ReadFault::refused(10));
     };
-    match both(
+    let (edition, (number, piece)) = both(
         name_field(edition),
         both(positive_field(number), read_piece(alloc, piece)),
-    ) {
-        Ok(read) => {
-            let (edition, (number, piece)) = read;
-            Ok(Command::Stage {
-                edition,
-                number,
-                piece,
-            })
-        }
-        Err(fault) => Err(fault),
-    }
+    )?;
+    Ok(Command::Stage {
+        edition,
+        number,
+        piece,
+    })
 }
 
 /// The command that a piece is which changes a tile.
@@ -396,10 +359,8 @@ fn command_of(piece: Piece) -> Command
 fn read_edit(alloc: Global, fields: &[&str]) -> Result<Command, ReadFault>
     ensures { ReadsTo (λ c. (q : Piece) × (c ≡ piece_command q) × SpellsPiece current (map (λ f. f.now) fields.now) q) (IsLeast (HoldsAgainstPiece current (map (λ f. f.now) fields.now))) result }
 {
-    match read_piece(alloc, fields) {
-        Ok(piece) => Ok(command_of(piece)),
-        Err(fault) => Err(fault),
-    }
+    let piece = read_piece(alloc, fields)?;
+    Ok(command_of(piece))
 }
 
 /// The command that a record spells.

@@ -37,13 +37,12 @@ pub(crate) fn ends_of<S: Alter>(
         tx,
         "SELECT base_table_name, related_table_name FROM gpkgext_relations WHERE mapping_table_name = ?1 LIMIT 1",
         params![mapping],
-    ) {
-        Ok(Some(row)) => match texts_in(&row) {
+    )? {
+        Some(row) => match texts_in(&row) {
             Ok(ends) => Ok(Some(ends)),
             Err(error) => Err(fault_of(error)),
         },
-        Ok(None) => Ok(None),
-        Err(fault) => Err(fault),
+        None => Ok(None),
     }
 }
 
@@ -58,22 +57,24 @@ fn end_refusal<S: Alter>(
     ensures look { (profile : Profile) → IsLook profile (state S.Store tx.old.conn.now) (state S.Store tx.new.conn.now)
         (λ p why. why ≡ least ((40, lacks_row p table.now id) ∷ (41, lacks_medium p table.now id) ∷ [])) result }
 {
-    let kind = match kind_of(tx, table) {
-        Ok(Some(kind)) => kind,
-        Ok(None) => return Ok(None),
-        Err(fault) => return Err(fault),
+    let Some(kind) = kind_of(tx, table)? else {
+        return Ok(None);
     };
     match kind {
-        Kind::Attributes => match has_row(tx, table, id) {
-            Ok(true) => Ok(None),
-            Ok(false) => Ok(Some(40)),
-            Err(fault) => Err(fault),
-        },
-        Kind::Media => match has_medium(tx, table, id) {
-            Ok(true) => Ok(None),
-            Ok(false) => Ok(Some(41)),
-            Err(fault) => Err(fault),
-        },
+        Kind::Attributes => {
+            if has_row(tx, table, id)? {
+                Ok(None)
+            } else {
+                Ok(Some(40))
+            }
+        }
+        Kind::Media => {
+            if has_medium(tx, table, id)? {
+                Ok(None)
+            } else {
+                Ok(Some(41))
+            }
+        }
         Kind::Two | Kind::Other => Ok(None),
     }
 }
@@ -101,12 +102,7 @@ pub(crate) fn ends_refusal<S: Alter>(
     ensures look { (profile : Profile) → IsLook profile (state S.Store tx.old.conn.now) (state S.Store tx.new.conn.now)
         (λ p why. why ≡ spec.lacks p (base.now, related.now) base_id related_id) result }
 {
-    let one = match end_refusal(tx, base, base_id) {
-        Ok(one) => one,
-        Err(fault) => return Err(fault),
-    };
-    match end_refusal(tx, related, related_id) {
-        Ok(other) => Ok(smaller(one, other)),
-        Err(fault) => Err(fault),
-    }
+    let one = end_refusal(tx, base, base_id)?;
+    let other = end_refusal(tx, related, related_id)?;
+    Ok(smaller(one, other))
 }

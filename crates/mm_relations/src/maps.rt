@@ -10,7 +10,7 @@ ghost use Rattle.mm_definitions.specs.declared.commands.Command.TheVariants as c
 ghost use Rattle.mm_store.specs.Shapes.{IsLook, IsChange, IsLent};
 
 use crate::ends::{ends_of, ends_refusal};
-use mm_definitions::answers::{Fault, Outcome, Refusal};
+use mm_definitions::answers::{Fault, Outcome};
 use mm_definitions::names::Name;
 use mm_layout::has_relation;
 use mm_store::statements::{exists, run};
@@ -45,20 +45,16 @@ fn map_refusal<S: Alter>(
     ensures look { (profile : Profile) → IsLook profile (state S.Store tx.old.conn.now) (state S.Store tx.new.conn.now)
         (λ p why. why ≡ least (own_reasons p (commands.Map mapping.now base_id related_id))) result }
 {
-    let (base, related) = match ends_of(tx, mapping) {
-        Ok(Some(ends)) => ends,
-        Ok(None) => return Ok(Some(44)),
-        Err(fault) => return Err(fault),
+    let Some((base, related)) = ends_of(tx, mapping)? else {
+        return Ok(Some(44));
     };
-    match ends_refusal(tx, base.as_str(), base_id, related.as_str(), related_id) {
-        Ok(None) => {}
-        Ok(Some(number)) => return Ok(Some(number)),
-        Err(fault) => return Err(fault),
+    if let Some(number) = ends_refusal(tx, base.as_str(), base_id, related.as_str(), related_id)? {
+        return Ok(Some(number));
     }
-    match has_pairing(tx, mapping, base_id, related_id) {
-        Ok(true) => Ok(Some(45)),
-        Ok(false) => Ok(None),
-        Err(fault) => Err(fault),
+    if has_pairing(tx, mapping, base_id, related_id)? {
+        Ok(Some(45))
+    } else {
+        Ok(None)
     }
 }
 
@@ -93,20 +89,11 @@ pub fn add_map<S: Alter>(
     ensures lent { (profile : Profile) (moment : ℕ) → IsLent profile (commands.Map mapping.now base_id related_id) moment (state S.Store tx.old.conn.now) (state S.Store tx.new.conn.now) result }
 {
     let mapping = mapping.as_str();
-    match map_refusal(tx, mapping, base_id, related_id) {
-        Ok(None) => {}
-        Ok(Some(number)) => {
-            return Ok(Outcome::Refused(Refusal {
-                number,
-                piece: None,
-            }));
-        }
-        Err(fault) => return Err(fault),
+    if let Some(number) = map_refusal(tx, mapping, base_id, related_id)? {
+        return Ok(Outcome::refused(number));
     }
-    match insert_pairing(tx, mapping, base_id, related_id) {
-        Ok(()) => Ok(Outcome::Done),
-        Err(fault) => Err(fault),
-    }
+    insert_pairing(tx, mapping, base_id, related_id)?;
+    Ok(Outcome::Done)
 }
 
 /// Why a mapping row is not removed, if it is not.
@@ -120,15 +107,13 @@ fn map_drop_refusal<S: Alter>(
     ensures look { (profile : Profile) → IsLook profile (state S.Store tx.old.conn.now) (state S.Store tx.new.conn.now)
         (λ p why. why ≡ least (own_reasons p (commands.MapDrop mapping.now base_id related_id))) result }
 {
-    match has_relation(tx, mapping) {
-        Ok(true) => {}
-        Ok(false) => return Ok(Some(44)),
-        Err(fault) => return Err(fault),
+    if !has_relation(tx, mapping)? {
+        return Ok(Some(44));
     }
-    match has_pairing(tx, mapping, base_id, related_id) {
-        Ok(true) => Ok(None),
-        Ok(false) => Ok(Some(46)),
-        Err(fault) => Err(fault),
+    if has_pairing(tx, mapping, base_id, related_id)? {
+        Ok(None)
+    } else {
+        Ok(Some(46))
     }
 }
 
@@ -162,18 +147,9 @@ pub fn drop_map<S: Alter>(
     ensures lent { (profile : Profile) (moment : ℕ) → IsLent profile (commands.MapDrop mapping.now base_id related_id) moment (state S.Store tx.old.conn.now) (state S.Store tx.new.conn.now) result }
 {
     let mapping = mapping.as_str();
-    match map_drop_refusal(tx, mapping, base_id, related_id) {
-        Ok(None) => {}
-        Ok(Some(number)) => {
-            return Ok(Outcome::Refused(Refusal {
-                number,
-                piece: None,
-            }));
-        }
-        Err(fault) => return Err(fault),
+    if let Some(number) = map_drop_refusal(tx, mapping, base_id, related_id)? {
+        return Ok(Outcome::refused(number));
     }
-    match delete_pairing(tx, mapping, base_id, related_id) {
-        Ok(()) => Ok(Outcome::Done),
-        Err(fault) => Err(fault),
-    }
+    delete_pairing(tx, mapping, base_id, related_id)?;
+    Ok(Outcome::Done)
 }

@@ -15,7 +15,7 @@ ghost use Rattle.mm_store.specs.Shapes.{IsLook, IsChange, IsLent};
 ghost use Rattle.mm_relations.specs.Relations.{new_relation};
 
 use crate::extensions::delete_related_row;
-use mm_definitions::answers::{Fault, Outcome, Refusal};
+use mm_definitions::answers::{Fault, Outcome};
 use mm_definitions::commands::{Kind, RelationName};
 use mm_definitions::names::Name;
 use mm_layout::{has_relation, is_taken, kind_of};
@@ -58,20 +58,14 @@ fn relation_refusal<S: Alter>(
     ensures look { (profile : Profile) → IsLook profile (state S.Store tx.old.conn.now) (state S.Store tx.new.conn.now)
         (λ p why. Meets profile p → why ≡ least (own_reasons p (commands.Relation mapping.now base.now related.now name))) result }
 {
-    let based = match kind_of(tx, base) {
-        Ok(Some(kind)) => kind,
-        Ok(None) => return Ok(Some(25)),
-        Err(fault) => return Err(fault),
+    let Some(based) = kind_of(tx, base)? else {
+        return Ok(Some(25));
     };
-    let other = match kind_of(tx, related) {
-        Ok(Some(kind)) => kind,
-        Ok(None) => return Ok(Some(25)),
-        Err(fault) => return Err(fault),
+    let Some(other) = kind_of(tx, related)? else {
+        return Ok(Some(25));
     };
-    match is_taken(tx, mapping) {
-        Ok(true) => return Ok(Some(43)),
-        Ok(false) => {}
-        Err(fault) => return Err(fault),
+    if is_taken(tx, mapping)? {
+        return Ok(Some(43));
     }
     if suits(based, other, name) {
         Ok(None)
@@ -111,24 +105,12 @@ fn relate<S: Alter>(
     ensures same_reference { tx.new.conn.ghost_name ≡ tx.old.conn.ghost_name }
     ensures lent { (profile : Profile) (moment : ℕ) → IsLent profile (commands.Relation mapping.now base.now related.now name) moment (state S.Store tx.old.conn.now) (state S.Store tx.new.conn.now) result }
 {
-    match relation_refusal(tx, mapping, base, related, name) {
-        Ok(None) => {}
-        Ok(Some(number)) => {
-            return Ok(Outcome::Refused(Refusal {
-                number,
-                piece: None,
-            }));
-        }
-        Err(fault) => return Err(fault),
+    if let Some(number) = relation_refusal(tx, mapping, base, related, name)? {
+        return Ok(Outcome::refused(number));
     }
-    match insert_relation(tx, mapping, base, related, text_of_name(name)) {
-        Ok(()) => {}
-        Err(fault) => return Err(fault),
-    }
-    match insert_related_row(tx, mapping) {
-        Ok(()) => Ok(Outcome::Done),
-        Err(fault) => Err(fault),
-    }
+    insert_relation(tx, mapping, base, related, text_of_name(name))?;
+    insert_related_row(tx, mapping)?;
+    Ok(Outcome::Done)
 }
 
 /// The command `relation`: adds a relation of two tables, under the name of its mapping, with its extension row. Refused 25
@@ -169,22 +151,10 @@ pub fn drop_relation<S: Alter>(
     ensures lent { (profile : Profile) (moment : ℕ) → IsLent profile (commands.RelationDrop mapping.now) moment (state S.Store tx.old.conn.now) (state S.Store tx.new.conn.now) result }
 {
     let mapping = mapping.as_str();
-    match has_relation(tx, mapping) {
-        Ok(true) => {}
-        Ok(false) => {
-            return Ok(Outcome::Refused(Refusal {
-                number: 44,
-                piece: None,
-            }));
-        }
-        Err(fault) => return Err(fault),
+    if !has_relation(tx, mapping)? {
+        return Ok(Outcome::refused(44));
     }
-    match delete_relation(tx, mapping) {
-        Ok(()) => {}
-        Err(fault) => return Err(fault),
-    }
-    match delete_related_row(tx, mapping) {
-        Ok(()) => Ok(Outcome::Done),
-        Err(fault) => Err(fault),
-    }
+    delete_relation(tx, mapping)?;
+    delete_related_row(tx, mapping)?;
+    Ok(Outcome::Done)
 }

@@ -64,14 +64,8 @@ fn scale_tables<S: Alter>(tx: &mut Transaction<'_, S>) -> Result<(), Fault>
     ensures same_reference { tx.new.conn.ghost_name ≡ tx.old.conn.ghost_name }
     ensures change { (profile : Profile) → IsChange profile (state S.Store tx.old.conn.now) (state S.Store tx.new.conn.now) (λ p. Limits millimetres p) scale result }
 {
-    match scale_contents(tx) {
-        Ok(()) => {}
-        Err(fault) => return Err(fault),
-    }
-    match scale_matrix_sets(tx) {
-        Ok(()) => {}
-        Err(fault) => return Err(fault),
-    }
+    scale_contents(tx)?;
+    scale_matrix_sets(tx)?;
     scale_matrices(tx)
 }
 
@@ -80,10 +74,7 @@ fn scale_all<S: Alter>(tx: &mut Transaction<'_, S>) -> Result<(), Fault>
     ensures same_reference { tx.new.conn.ghost_name ≡ tx.old.conn.ghost_name }
     ensures moved { IsMove millimetres micrometres (state S.Store tx.old.conn.now) (state S.Store tx.new.conn.now) (λ p. Limits millimetres p) scale result }
 {
-    match scale_tables(tx) {
-        Ok(()) => {}
-        Err(fault) => return Err(fault),
-    }
+    scale_tables(tx)?;
     set_version(tx)
 }
 

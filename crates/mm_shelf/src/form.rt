@@ -85,10 +85,10 @@ pub fn blobs_are_named<S: Alter>(conn: &mut Connection<S>) -> Result<bool, Fault
 fn apart_and_named<S: Alter>(conn: &mut Connection<S>) -> Result<bool, Fault>
     ensures { IsFormCheck (state S.Store conn.old) (state S.Store conn.new) (λ kept. AreApart kept × AreNamed kept) result }
 {
-    match blobs_are_apart(conn) {
-        Ok(true) => blobs_are_named(conn),
-        Ok(false) => Ok(false),
-        Err(fault) => Err(fault),
+    if blobs_are_apart(conn)? {
+        blobs_are_named(conn)
+    } else {
+        Ok(false)
     }
 }
 
@@ -100,9 +100,9 @@ pub fn blobs_stand<S: Alter>(conn: &mut Connection<S>) -> Result<bool, Fault>
     ensures form { IsFormCheck (state S.Store conn.old) (state S.Store conn.new) AreInForm result }
     ensures decides { HasCleanDisk (state S.Store conn.new) → DecidesReading (state S.Store conn.old) (state S.Store conn.new) result }
 {
-    match blobs_are_digested(conn) {
-        Ok(true) => apart_and_named(conn),
-        Ok(false) => Ok(false),
-        Err(fault) => Err(fault),
+    if blobs_are_digested(conn)? {
+        apart_and_named(conn)
+    } else {
+        Ok(false)
     }
 }

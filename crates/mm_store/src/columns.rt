@@ -38,12 +38,10 @@ pub fn name_in(row: &Row, at: usize) -> Result<Name, Fault>
     ensures shown { IfOk result (λ name. column row.now at ≡ Words name) }
     ensures fault { IfErr result IsStoreFault }
 {
-    match text_in(row, at) {
-        Ok(text) => match Name::read(text.as_str()) {
-            Some(name) => Ok(name),
-            None => Err(Fault::STORE),
-        },
-        Err(fault) => Err(fault),
+    let text = text_in(row, at)?;
+    match Name::read(text.as_str()) {
+        Some(name) => Ok(name),
+        None => Err(Fault::STORE),
     }
 }
 
@@ -52,11 +50,9 @@ pub fn remark_in(row: &Row, at: usize) -> Result<Remark, Fault>
     ensures shown { IfOk result (λ text. column row.now at ≡ Words text) }
     ensures fault { IfErr result IsStoreFault }
 {
-    match text_in(row, at) {
-        Ok(text) => match Remark::new(text) {
-            Some(text) => Ok(text),
-            None => Err(Fault::STORE),
-        },
-        Err(fault) => Err(fault),
+    let text = text_in(row, at)?;
+    match Remark::new(text) {
+        Some(text) => Ok(text),
+        None => Err(Fault::STORE),
     }
 }

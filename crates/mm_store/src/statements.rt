@@ -79,10 +79,8 @@ pub fn exists<S: Alter>(
     ensures failed { HasCleanDisk (state S.Store tx.new.conn.now) → IfErr result (λ fault. (e : Error) × (fault ≡ told_as e)
         × (FailsToQuery sql.now (bound params.now) (state S.Store tx.old.conn.now) (state S.Store tx.new.conn.now) e ⊎ IsTooLate sql.now (bound params.now) (state S.Store tx.old.conn.now) (state S.Store tx.new.conn.now) e)) }
 {
-    match first(tx, sql, params) {
-        Ok(row) => Ok(row.is_some()),
-        Err(fault) => Err(fault),
-    }
+    let row = first(tx, sql, params)?;
+    Ok(row.is_some())
 }
 
 /// The text in the first column of the first row.
@@ -94,13 +92,12 @@ pub fn first_text<S: Alter>(
     ensures same_reference { tx.new.conn.ghost_name ≡ tx.old.conn.ghost_name }
     ensures asked { IsAsked (state S.Store tx.old.conn.now) (state S.Store tx.new.conn.now) sql.now (bound params.now) (λ it first. GivesText it first) result }
 {
-    match first(tx, sql, params) {
-        Ok(Some(row)) => match row.get(0) {
+    match first(tx, sql, params)? {
+        Some(row) => match row.get(0) {
             Ok(text) => Ok(Some(text)),
             Err(error) => Err(fault_of(error)),
         },
-        Ok(None) => Ok(None),
-        Err(fault) => Err(fault),
+        None => Ok(None),
     }
 }
 
@@ -119,12 +116,11 @@ pub fn first_pair<S: Alter>(
     ensures same_reference { tx.new.conn.ghost_name ≡ tx.old.conn.ghost_name }
     ensures asked { IsAsked (state S.Store tx.old.conn.now) (state S.Store tx.new.conn.now) sql.now (bound params.now) (λ it first. GivesPair it first) result }
 {
-    match first(tx, sql, params) {
-        Ok(Some(row)) => match pair_in(&row) {
+    match first(tx, sql, params)? {
+        Some(row) => match pair_in(&row) {
             Ok(pair) => Ok(Some(pair)),
             Err(error) => Err(fault_of(error)),
         },
-        Ok(None) => Ok(None),
-        Err(fault) => Err(fault),
+        None => Ok(None),
     }
 }

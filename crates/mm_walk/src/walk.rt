@@ -38,11 +38,11 @@ pub fn walk<S: Alter, V: Visitor>(
     };
     'rows: for _ in 0..u64::MAX {
         match rows.next() {
-            Ok(Some(row)) => match visitor.take(row) {
-                Ok(true) => {}
-                Ok(false) => return Ok(false),
-                Err(fault) => return Err(fault),
-            },
+            Ok(Some(row)) => {
+                if !visitor.take(row)? {
+                    return Ok(false);
+                }
+            }
             Ok(None) => return Ok(true),
             Err(error) => return Err(fault_of(error)),
         }

@@ -1,38 +1,45 @@
 use Rattle.std.proofs.Common.{sym, ◌∙◌}
 use Rattle.std.proofs.Math.Facts.{to_z-of_z}
+use Rattle.std.proofs.lemmas.Result.{err_from_is_err_and}
 use Rattle.mm_store.proofs.Shapes.{look_as, look_failed, looks_then}
 use Rattle.mm_items.proofs.Refusing.{medium_drop_by_kind, medium_drop_41, medium_drop_42, medium_drop_free}
 use Rattle.mm_items.proofs.media.medium_drop_refusal.Goals as goal
 
-pub returns-in-Ok-Some-clause-look : goal.returns-in-Ok-Some-clause-look
-returns-in-Ok-Some-clause-look g c profile =
+pub returns-in-Some-clause-look : goal.returns-in-Some-clause-look
+returns-in-Some-clause-look g c profile =
     let a = c.args in
-    look_as profile _ _ _ _ (c.in-Ok-Some.ensures.look profile)
-    (λ p says meets. medium_drop_by_kind p a.table.now a.id c.in-Ok-Some.number (sym c.in-Ok-Some.field-0-is ∙ says meets))
+    look_as profile _ _ _ _ (c.in_ok-number.ensures.look profile)
+    (λ p says meets. medium_drop_by_kind p a.table.now a.id c.in-Some.number (sym c.in-Some.is ∙ says meets))
 
-pub returns-in-Err-clause-look : goal.returns-in-Err-clause-look
-returns-in-Err-clause-look g c profile = look_failed profile _ _ _ (c.in-Err.ensures.look profile)
+pub returns-in_err-number-clause-look : goal.returns-in_err-number-clause-look
+returns-in_err-number-clause-look g c profile =
+    let p = err_from_is_err_and c.from_residual.result c.from_residual.ensures.1 in
+    rw (p.1, p.2) (look_failed profile _ _ _ (c.in_err-number.ensures.look profile))
 
-pub returns-in-Ok-false-clause-look : goal.returns-in-Ok-false-clause-look
-returns-in-Ok-false-clause-look g c profile =
+pub returns-then-not-branch-clause-look : goal.returns-then-not-branch-clause-look
+returns-then-not-branch-clause-look g c profile =
     let a = c.args in
-    look_as profile _ _ _ _ (looks_then profile _ _ _ _ _ (c.in-Ok-None.ensures.look profile) ((rw (to_z-of_z c.ranges.id) at c.in-Ok-false.ensures.look) profile))
-    (λ p says meets. medium_drop_41 p a.table.now a.id (sym c.in-Ok-None.field-0-is ∙ says.0 meets) (sym says.1 ∙ c.in-Ok-false.field-0-test))
+    look_as profile _ _ _ _ (looks_then profile _ _ _ _ _ (c.in_ok-number.ensures.look profile) ((rw (to_z-of_z c.ranges.id) at c.in_ok-has_medium.ensures.look) profile))
+    (λ p says meets. medium_drop_41 p a.table.now a.id (sym c.in_default.is ∙ says.0 meets) (sym says.1 ∙ c.if-not-branch.true))
 
-pub returns-in-Err-has_medium-clause-look : goal.returns-in-Err-has_medium-clause-look
-returns-in-Err-has_medium-clause-look g c profile = look_failed profile _ _ _ (looks_then profile _ _ _ _ _ (c.in-Ok-None.ensures.look profile) (c.in-Err-has_medium.ensures.look profile))
+pub returns-in_err-has_medium-clause-look : goal.returns-in_err-has_medium-clause-look
+returns-in_err-has_medium-clause-look g c profile =
+    let p = err_from_is_err_and c.from_residual-in_err-has_medium.result c.from_residual-in_err-has_medium.ensures.1 in
+    rw (p.1, p.2) (look_failed profile _ _ _ (looks_then profile _ _ _ _ _ (c.in_ok-number.ensures.look profile) (c.in_err-has_medium.ensures.look profile)))
 
-pub returns-in-Ok-true-is_mapped-clause-look : goal.returns-in-Ok-true-is_mapped-clause-look
-returns-in-Ok-true-is_mapped-clause-look g c profile =
+pub returns-then-branch-clause-look : goal.returns-then-branch-clause-look
+returns-then-branch-clause-look g c profile =
     let a = c.args in
-    look_as profile _ _ _ _ (looks_then profile _ _ _ _ _ (looks_then profile _ _ _ _ _ (c.in-Ok-None.ensures.look profile) ((rw (to_z-of_z c.ranges.id) at c.in-Ok-true.ensures.look) profile)) ((rw (to_z-of_z c.ranges.id) at c.in-Ok-true-is_mapped.ensures.look) profile))
-    (λ p says meets. medium_drop_42 p a.table.now a.id (sym c.in-Ok-None.field-0-is ∙ says.0.0 meets) (sym says.0.1 ∙ c.in-Ok-true.field-0-test) (sym says.1 ∙ c.in-Ok-true-is_mapped.field-0-test))
+    look_as profile _ _ _ _ (looks_then profile _ _ _ _ _ (looks_then profile _ _ _ _ _ (c.in_ok-number.ensures.look profile) ((rw (to_z-of_z c.ranges.id) at c.in_ok-has_medium.ensures.look) profile)) ((rw (to_z-of_z c.ranges.id) at c.in_ok-is_mapped.ensures.look) profile))
+    (λ p says meets. medium_drop_42 p a.table.now a.id (sym c.in_default.is ∙ says.0.0 meets) (sym says.0.1 ∙ c.if-not-branch.false) (sym says.1 ∙ c.if-branch.true))
 
-pub returns-in-Ok-false-is_mapped-clause-look : goal.returns-in-Ok-false-is_mapped-clause-look
-returns-in-Ok-false-is_mapped-clause-look g c profile =
+pub returns-else-branch-clause-look : goal.returns-else-branch-clause-look
+returns-else-branch-clause-look g c profile =
     let a = c.args in
-    look_as profile _ _ _ _ (looks_then profile _ _ _ _ _ (looks_then profile _ _ _ _ _ (c.in-Ok-None.ensures.look profile) ((rw (to_z-of_z c.ranges.id) at c.in-Ok-true.ensures.look) profile)) ((rw (to_z-of_z c.ranges.id) at c.in-Ok-false-is_mapped.ensures.look) profile))
-    (λ p says meets. medium_drop_free p a.table.now a.id (sym c.in-Ok-None.field-0-is ∙ says.0.0 meets) (sym says.0.1 ∙ c.in-Ok-true.field-0-test) (sym says.1 ∙ c.in-Ok-false-is_mapped.field-0-test))
+    look_as profile _ _ _ _ (looks_then profile _ _ _ _ _ (looks_then profile _ _ _ _ _ (c.in_ok-number.ensures.look profile) ((rw (to_z-of_z c.ranges.id) at c.in_ok-has_medium.ensures.look) profile)) ((rw (to_z-of_z c.ranges.id) at c.in_ok-is_mapped.ensures.look) profile))
+    (λ p says meets. medium_drop_free p a.table.now a.id (sym c.in_default.is ∙ says.0.0 meets) (sym says.0.1 ∙ c.if-not-branch.false) (sym says.1 ∙ c.if-branch.false))
 
-pub returns-in-Err-is_mapped-clause-look : goal.returns-in-Err-is_mapped-clause-look
-returns-in-Err-is_mapped-clause-look g c profile = look_failed profile _ _ _ (looks_then profile _ _ _ _ _ (looks_then profile _ _ _ _ _ (c.in-Ok-None.ensures.look profile) (c.in-Ok-true.ensures.look profile)) (c.in-Err-is_mapped.ensures.look profile))
+pub returns-in_err-is_mapped-clause-look : goal.returns-in_err-is_mapped-clause-look
+returns-in_err-is_mapped-clause-look g c profile =
+    let p = err_from_is_err_and c.from_residual-in_err-is_mapped.result c.from_residual-in_err-is_mapped.ensures.1 in
+    rw (p.1, p.2) (look_failed profile _ _ _ (looks_then profile _ _ _ _ _ (looks_then profile _ _ _ _ _ (c.in_ok-number.ensures.look profile) (c.in_ok-has_medium.ensures.look profile)) (c.in_err-is_mapped.ensures.look profile)))

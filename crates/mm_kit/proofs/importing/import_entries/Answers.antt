@@ -1,4 +1,5 @@
 use Rattle.std.proofs.Common.{◌≡◌, ◌≤◌, ◌<◌, length, Some, None, arith, rules}
+use Rattle.std.proofs.lemmas.Result.{IfOk-weaker, IfErr-weaker}
 use Rattle.mm_definitions.specs.declared.entries.EditionState.TheVariants as states
 use Rattle.mm_edition.specs.States.{TellsState}
 use Rattle.mm_kit.proofs.EditionFacts.{open_has}
@@ -7,20 +8,24 @@ use Rattle.mm_kit.proofs.KeptFacts.{keeps_itself}
 use Rattle.mm_kit.proofs.FolderFacts.{as_before, desk_fault, still_told}
 use Rattle.mm_kit.proofs.importing.import_entries.Goals as goal
 
-pub returns-in-Ok-clause-answered : goal.returns-in-Ok-clause-answered
-returns-in-Ok-clause-answered g c clean p sound these tells =
-    let before = c.in-Ok.ensures.clean clean in
+pub returns-else-records-pieces-clause-answered : goal.returns-else-records-pieces-clause-answered
+returns-else-records-pieces-clause-answered g c =
+    IfOk-weaker c.stage_all.result _ _ (λ a made clean p sound these tells.
+    let before = c.stage_all.ensures.clean clean in
     let says : TellsState p c.args.name.now (Some (states.Open c.in-Ok-Some-Open.pieces)) = rw (c.in-Ok-Some-Open.field-0-is, c.in-Ok-Some-Open.field-0-0-is) at (c.in-Ok-Some-Open.ensures.tells before p sound.0 sound.1) in
     let (old, has, size) = open_has p _ _ sound.1 says.0 says.1 in
     let most : length old ≤ length c.args.entries.items = omega (arith, size, c.if-records-pieces.false, c.len-records.ensures) in
-    imported_open these _ p _ _ old has most _ (c.in-Ok.ensures.answered clean p (c.in-Ok-Some-Open.ensures.settled before p sound.0 sound.1, sound.1) these tells old has most)
+    imported_open these _ p _ _ old has most _ (made clean p (c.in-Ok-Some-Open.ensures.settled before p sound.0 sound.1, sound.1) these tells old has most))
+    c.stage_all.ensures.answered
 
-pub returns-in-Err-stage_all-clause-stopped : goal.returns-in-Err-stage_all-clause-stopped
-returns-in-Err-stage_all-clause-stopped g c clean p sound these tells =
-    let before = c.in-Err-stage_all.ensures.clean clean in
+pub returns-else-records-pieces-clause-stopped : goal.returns-else-records-pieces-clause-stopped
+returns-else-records-pieces-clause-stopped g c =
+    IfErr-weaker c.stage_all.result _ _ (λ e made clean p sound these tells.
+    let before = c.stage_all.ensures.clean clean in
     let says : TellsState p c.args.name.now (Some (states.Open c.in-Ok-Some-Open.pieces)) = rw (c.in-Ok-Some-Open.field-0-is, c.in-Ok-Some-Open.field-0-0-is) at (c.in-Ok-Some-Open.ensures.tells before p sound.0 sound.1) in
     let (old, has, size) = open_has p _ _ sound.1 says.0 says.1 in
-    c.in-Err-stage_all.ensures.stopped clean p (c.in-Ok-Some-Open.ensures.settled before p sound.0 sound.1, sound.1) these tells old has
+    made clean p (c.in-Ok-Some-Open.ensures.settled before p sound.0 sound.1, sound.1) these tells old has)
+    c.stage_all.ensures.stopped
 
 pub returns-then-records-pieces-clause-answered : goal.returns-then-records-pieces-clause-answered
 returns-then-records-pieces-clause-answered g c clean p sound these tells =
@@ -45,19 +50,12 @@ returns-in-Err-clause-stopped g c clean p sound these tells =
     staged_at_once these c.args.name.now p c.args.entries.items _ g.A.Apply.stands_for sound.1 (λ db may. g.met.A.Apply.leaves_settled _ p settled db may)
 
 -- ---- what is kept on any folder
-pub returns-in-Ok-clause-kept : goal.returns-in-Ok-clause-kept
-returns-in-Ok-clause-kept g c clean p sound =
-    let before = c.in-Ok.ensures.clean clean in
+pub returns-else-records-pieces-clause-kept : goal.returns-else-records-pieces-clause-kept
+returns-else-records-pieces-clause-kept g c clean p sound =
+    let before = c.stage_all.ensures.clean clean in
     let says : TellsState p c.args.name.now (Some (states.Open c.in-Ok-Some-Open.pieces)) = rw (c.in-Ok-Some-Open.field-0-is, c.in-Ok-Some-Open.field-0-0-is) at (c.in-Ok-Some-Open.ensures.tells before p sound.0 sound.1) in
     let (old, has, size) = open_has p _ _ sound.1 says.0 says.1 in
-    c.in-Ok.ensures.kept clean p (c.in-Ok-Some-Open.ensures.settled before p sound.0 sound.1, sound.1) old has
-
-pub returns-in-Err-stage_all-clause-kept : goal.returns-in-Err-stage_all-clause-kept
-returns-in-Err-stage_all-clause-kept g c clean p sound =
-    let before = c.in-Err-stage_all.ensures.clean clean in
-    let says : TellsState p c.args.name.now (Some (states.Open c.in-Ok-Some-Open.pieces)) = rw (c.in-Ok-Some-Open.field-0-is, c.in-Ok-Some-Open.field-0-0-is) at (c.in-Ok-Some-Open.ensures.tells before p sound.0 sound.1) in
-    let (old, has, size) = open_has p _ _ sound.1 says.0 says.1 in
-    c.in-Err-stage_all.ensures.kept clean p (c.in-Ok-Some-Open.ensures.settled before p sound.0 sound.1, sound.1) old has
+    c.stage_all.ensures.kept clean p (c.in-Ok-Some-Open.ensures.settled before p sound.0 sound.1, sound.1) old has
 
 pub returns-then-records-pieces-clause-kept : goal.returns-then-records-pieces-clause-kept
 returns-then-records-pieces-clause-kept g c clean p sound =

@@ -1,22 +1,28 @@
 use Rattle.std.proofs.Common.{◌∙◌, Ok, Err}
+use Rattle.std.proofs.lemmas.Result.{IfOk-weaker, IfErr-weaker}
 use Rattle.mm_kit.specs.Lists.{IsKitList}
 use Rattle.mm_kit.proofs.KitFacts.{imported, no_kit, stopped_at_once, stopped_some}
 use Rattle.mm_kit.proofs.KeptFacts.{keeps_itself}
 use Rattle.mm_kit.proofs.FolderFacts.{kit_fault, told}
 use Rattle.mm_kit.proofs.importing.import_folder.Goals as goal
 
-pub returns-in-Ok-clause-answered : goal.returns-in-Ok-clause-answered
-returns-in-Ok-clause-answered g c clean p sound these tells =
+pub returns-in-Ok-Entries-clause-answered : goal.returns-in-Ok-Entries-clause-answered
+returns-in-Ok-Entries-clause-answered g c =
+    IfOk-weaker c.import_entries.result _ _ (λ answer made clean p sound these tells.
     let is : IsKitList these (Ok c.in-Ok-Entries.entries.items) = rw c.in-Ok-Entries.field-0-is at (c.in-Ok-Entries.ensures.lists these tells) in
-    imported these c.args.name.now p _ c.in-Ok.answer _ is (c.in-Ok.ensures.answered clean p sound these (c.in-Ok-Entries.ensures.stays ∙ tells))
+    imported these c.args.name.now p _ answer _ is (made clean p sound these (c.in-Ok-Entries.ensures.stays ∙ tells)))
+    c.import_entries.ensures.answered
 
-pub returns-in-Err-import_entries-clause-stopped : goal.returns-in-Err-import_entries-clause-stopped
-returns-in-Err-import_entries-clause-stopped g c clean p sound these tells =
+pub returns-in-Ok-Entries-clause-stopped : goal.returns-in-Ok-Entries-clause-stopped
+returns-in-Ok-Entries-clause-stopped g c =
+    IfErr-weaker c.import_entries.result _ _ (λ e made clean p sound these tells.
     let is : IsKitList these (Ok c.in-Ok-Entries.entries.items) = rw c.in-Ok-Entries.field-0-is at (c.in-Ok-Entries.ensures.lists these tells) in
-    stopped_some these c.args.name.now p _ _ g.A.Apply.stands_for c.in-Err-import_entries.e.staged is (c.in-Err-import_entries.ensures.stopped clean p sound these (c.in-Ok-Entries.ensures.stays ∙ tells))
+    stopped_some these c.args.name.now p _ _ g.A.Apply.stands_for e.staged is (made clean p sound these (c.in-Ok-Entries.ensures.stays ∙ tells)))
+    c.import_entries.ensures.stopped
 
-pub returns-in-Err-import_entries-clause-needed : goal.returns-in-Err-import_entries-clause-needed
-returns-in-Err-import_entries-clause-needed g c is these tells = (c.in-Ok-Entries.entries.items, rw c.in-Ok-Entries.field-0-is at (c.in-Ok-Entries.ensures.lists these tells))
+pub returns-in-Ok-Entries-clause-needed : goal.returns-in-Ok-Entries-clause-needed
+returns-in-Ok-Entries-clause-needed g c =
+    IfErr-weaker c.import_entries.result _ _ (λ e _ is these tells. (c.in-Ok-Entries.entries.items, rw c.in-Ok-Entries.field-0-is at (c.in-Ok-Entries.ensures.lists these tells))) c.import_entries.ensures.why
 
 pub returns-in-Ok-Refused-clause-answered : goal.returns-in-Ok-Refused-clause-answered
 returns-in-Ok-Refused-clause-answered g c clean p sound these tells =

@@ -1,5 +1,6 @@
 use Rattle.std.proofs.Common.{◌≡◌, None, sym, ap, ◌∙◌}
 use Rattle.std.proofs.Math.Facts.{to_z-of_z}
+use Rattle.std.proofs.lemmas.Result.{err_from_is_err_and}
 use Rattle.std.specs.FinMap.{get}
 use Rattle.mm_definitions.specs.Effects.{with_pyramid, with_zoom_row}
 use Rattle.mm_definitions.specs.Package.{Box, zoom_extension}
@@ -11,25 +12,28 @@ use Rattle.mm_layout.proofs.Refusing.{pyramid_is_new}
 use Rattle.mm_layout.proofs.Registered.{unregistered, no_zoom_row}
 use Rattle.mm_layout.proofs.pyramids.add_pyramid.Goals as goal
 
-pub returns-in-Ok-Some-clause-lent : goal.returns-in-Ok-Some-clause-lent
-returns-in-Ok-Some-clause-lent g c profile =
+pub returns-in-Some-clause-lent : goal.returns-in-Some-clause-lent
+returns-in-Some-clause-lent g c profile =
     let r = c.ranges in
     rw (← c.as_str-table.ensures.text)
-    (refuses_at profile _ _ _ _ _ (refused c.in-Ok-Some.number) ((rw (to_z-of_z r.srs, to_z-of_z r.min_x, to_z-of_z r.min_y, to_z-of_z r.max_x, to_z-of_z r.max_y) at c.in-Ok-Some.ensures.look) profile)
-    (λ p meets says. refused_for _ c.in-Ok-Some.number (sym (says c.args.step) ∙ c.in-Ok-Some.field-0-is)))
+    (rw (sym c.refused.ensures) (refuses_at profile _ _ _ _ _ (refused c.in-Some.number) ((rw (to_z-of_z r.srs, to_z-of_z r.min_x, to_z-of_z r.min_y, to_z-of_z r.max_x, to_z-of_z r.max_y) at c.in_ok-number.ensures.look) profile)
+    (λ p meets says. refused_for _ c.in-Some.number (sym (says c.args.step) ∙ c.in-Some.is))))
 
-pub returns-in-Err-clause-lent : goal.returns-in-Err-clause-lent
-returns-in-Err-clause-lent g c profile = rw (← c.as_str-table.ensures.text) (look_gave_up_at profile _ _ _ _ _ (c.in-Err.ensures.look profile))
+pub returns-in_err-number-clause-lent : goal.returns-in_err-number-clause-lent
+returns-in_err-number-clause-lent g c profile =
+    let p = err_from_is_err_and c.from_residual.result c.from_residual.ensures.1 in
+    rw (p.1, p.2) (rw (← c.as_str-table.ensures.text) (look_gave_up_at profile _ _ _ _ _ (c.in_err-number.ensures.look profile)))
 
-pub returns-in-Err-insert_pyramid-clause-lent : goal.returns-in-Err-insert_pyramid-clause-lent
-returns-in-Err-insert_pyramid-clause-lent g c profile =
+pub returns-in_err-insert_pyramid-clause-lent : goal.returns-in_err-insert_pyramid-clause-lent
+returns-in_err-insert_pyramid-clause-lent g c profile =
+    let p = err_from_is_err_and c.from_residual-in_err-insert_pyramid.result c.from_residual-in_err-insert_pyramid.ensures.1 in
     let a = c.args in
     let r = c.ranges in
     let table = c.as_str-table.result.now in
-    rw (← c.as_str-table.ensures.text)
-    (change_gave_up_at profile _ _ _ _ _ _ ((rw (to_z-of_z r.srs, to_z-of_z r.min_x, to_z-of_z r.min_y, to_z-of_z r.max_x, to_z-of_z r.max_y) at c.in-Ok-None.ensures.look) profile) _
-    (c.in-Err-insert_pyramid.ensures.change profile)
-    (λ p meets says any. unregistered profile p meets table (pyramid_is_new p table a.identifier.now a.srs a.min_x a.min_y a.max_x a.max_y a.step (sym c.in-Ok-None.field-0-is ∙ says a.step))))
+    rw (p.1, p.2) (rw (← c.as_str-table.ensures.text)
+    (change_gave_up_at profile _ _ _ _ _ _ ((rw (to_z-of_z r.srs, to_z-of_z r.min_x, to_z-of_z r.min_y, to_z-of_z r.max_x, to_z-of_z r.max_y) at c.in_ok-number.ensures.look) profile) _
+    (c.in_err-insert_pyramid.ensures.change profile)
+    (λ p meets says any. unregistered profile p meets table (pyramid_is_new p table a.identifier.now a.srs a.min_x a.min_y a.max_x a.max_y a.step (sym c.in_default.is ∙ says a.step)))))
 
 pub returns-in-Two-clause-lent : goal.returns-in-Two-clause-lent
 returns-in-Two-clause-lent g c profile =
@@ -38,47 +42,48 @@ returns-in-Two-clause-lent g c profile =
     let bounds : Box = record { min_x = a.min_x; min_y = a.min_y; max_x = a.max_x; max_y = a.max_y } in
     let table = c.as_str-table.result.now in
     rw (← c.as_str-table.ensures.text)
-    (accepts_at profile _ _ _ _ _ _ ((rw (to_z-of_z r.srs, to_z-of_z r.min_x, to_z-of_z r.min_y, to_z-of_z r.max_x, to_z-of_z r.max_y) at c.in-Ok-None.ensures.look) profile) _
-    ((rw (to_z-of_z r.srs, to_z-of_z r.min_x, to_z-of_z r.min_y, to_z-of_z r.max_x, to_z-of_z r.max_y) at c.in-Ok.ensures.change) profile)
+    (accepts_at profile _ _ _ _ _ _ ((rw (to_z-of_z r.srs, to_z-of_z r.min_x, to_z-of_z r.min_y, to_z-of_z r.max_x, to_z-of_z r.max_y) at c.in_ok-number.ensures.look) profile) _
+    ((rw (to_z-of_z r.srs, to_z-of_z r.min_x, to_z-of_z r.min_y, to_z-of_z r.max_x, to_z-of_z r.max_y) at c.in_ok-insert_pyramid.ensures.change) profile)
     (λ p meets says any.
-    let none = sym c.in-Ok-None.field-0-is ∙ says a.step in (
+    let none = sym c.in_default.is ∙ says a.step in (
       unregistered profile p meets table (pyramid_is_new p table a.identifier.now a.srs a.min_x a.min_y a.max_x a.max_y a.step none),
       accepted_for _ (sym none),
       ap (with_zoom_row (with_pyramid p table a.identifier.now a.srs bounds a.step a.at.now) table) c.in-Two.is,
     )))
 
-pub returns-in-Ok-insert_zoom_row-clause-lent : goal.returns-in-Ok-insert_zoom_row-clause-lent
-returns-in-Ok-insert_zoom_row-clause-lent g c profile =
+pub returns-in_ok-insert_zoom_row-in-Other-clause-lent : goal.returns-in_ok-insert_zoom_row-in-Other-clause-lent
+returns-in_ok-insert_zoom_row-in-Other-clause-lent g c profile =
     let a = c.args in
     let r = c.ranges in
     let bounds : Box = record { min_x = a.min_x; min_y = a.min_y; max_x = a.max_x; max_y = a.max_y } in
     let table = c.as_str-table.result.now in
     rw (← c.as_str-table.ensures.text)
-    (accepts_at profile _ _ _ _ _ _ ((rw (to_z-of_z r.srs, to_z-of_z r.min_x, to_z-of_z r.min_y, to_z-of_z r.max_x, to_z-of_z r.max_y) at c.in-Ok-None.ensures.look) profile) _
+    (accepts_at profile _ _ _ _ _ _ ((rw (to_z-of_z r.srs, to_z-of_z r.min_x, to_z-of_z r.min_y, to_z-of_z r.max_x, to_z-of_z r.max_y) at c.in_ok-number.ensures.look) profile) _
     (changes_then profile _ _ _ _ _
     (change_where profile (λ p. IsUnregistered table p × (get p.extensions (zoom_extension table) ≡ None)) _ _ _
-    ((rw (to_z-of_z r.srs, to_z-of_z r.min_x, to_z-of_z r.min_y, to_z-of_z r.max_x, to_z-of_z r.max_y) at c.in-Ok.ensures.change) profile) (λ p new. new.0))
-    (c.in-Ok-insert_zoom_row.ensures.change profile) (λ p new. new.1))
+    ((rw (to_z-of_z r.srs, to_z-of_z r.min_x, to_z-of_z r.min_y, to_z-of_z r.max_x, to_z-of_z r.max_y) at c.in_ok-insert_pyramid.ensures.change) profile) (λ p new. new.0))
+    (c.in_ok-insert_zoom_row-in-Other.ensures.change profile) (λ p new. new.1))
     (λ p meets says any.
-    let none = sym c.in-Ok-None.field-0-is ∙ says a.step in
+    let none = sym c.in_default.is ∙ says a.step in
     let new = pyramid_is_new p table a.identifier.now a.srs a.min_x a.min_y a.max_x a.max_y a.step none in (
       (unregistered profile p meets table new, no_zoom_row profile p meets table new),
       accepted_for _ (sym none),
       ap (with_zoom_row (with_pyramid p table a.identifier.now a.srs bounds a.step a.at.now) table) c.in-Other.is,
     )))
 
-pub returns-in-Err-insert_zoom_row-clause-lent : goal.returns-in-Err-insert_zoom_row-clause-lent
-returns-in-Err-insert_zoom_row-clause-lent g c profile =
+pub returns-in_err-insert_zoom_row-in-Other-clause-lent : goal.returns-in_err-insert_zoom_row-in-Other-clause-lent
+returns-in_err-insert_zoom_row-in-Other-clause-lent g c profile =
+    let p = err_from_is_err_and c.from_residual-in_err-insert_zoom_row-in-Other.result c.from_residual-in_err-insert_zoom_row-in-Other.ensures.1 in
     let a = c.args in
     let r = c.ranges in
     let table = c.as_str-table.result.now in
-    rw (← c.as_str-table.ensures.text)
-    (change_gave_up_at profile _ _ _ _ _ _ ((rw (to_z-of_z r.srs, to_z-of_z r.min_x, to_z-of_z r.min_y, to_z-of_z r.max_x, to_z-of_z r.max_y) at c.in-Ok-None.ensures.look) profile) _
+    rw (p.1, p.2) (rw (← c.as_str-table.ensures.text)
+    (change_gave_up_at profile _ _ _ _ _ _ ((rw (to_z-of_z r.srs, to_z-of_z r.min_x, to_z-of_z r.min_y, to_z-of_z r.max_x, to_z-of_z r.max_y) at c.in_ok-number.ensures.look) profile) _
     (changes_then profile _ _ _ _ _
     (change_where profile (λ p. IsUnregistered table p × (get p.extensions (zoom_extension table) ≡ None)) _ _ _
-    ((rw (to_z-of_z r.srs, to_z-of_z r.min_x, to_z-of_z r.min_y, to_z-of_z r.max_x, to_z-of_z r.max_y) at c.in-Ok.ensures.change) profile) (λ p new. new.0))
-    (c.in-Err-insert_zoom_row.ensures.change profile) (λ p new. new.1))
+    ((rw (to_z-of_z r.srs, to_z-of_z r.min_x, to_z-of_z r.min_y, to_z-of_z r.max_x, to_z-of_z r.max_y) at c.in_ok-insert_pyramid.ensures.change) profile) (λ p new. new.0))
+    (c.in_err-insert_zoom_row-in-Other.ensures.change profile) (λ p new. new.1))
     (λ p meets says any.
-    let none = sym c.in-Ok-None.field-0-is ∙ says a.step in
+    let none = sym c.in_default.is ∙ says a.step in
     let new = pyramid_is_new p table a.identifier.now a.srs a.min_x a.min_y a.max_x a.max_y a.step none in
-    (unregistered profile p meets table new, no_zoom_row profile p meets table new)))
+    (unregistered profile p meets table new, no_zoom_row profile p meets table new))))

@@ -1,30 +1,34 @@
 use Rattle.std.proofs.Common.{sym, refl, ◌∙◌}
+use Rattle.std.proofs.lemmas.Result.{err_from_is_err_and}
 use Rattle.mm_store.proofs.Refusals.{refused, refused_for, accepted_for}
 use Rattle.mm_store.proofs.Shapes.{refuses, accepts, look_gave_up, change_gave_up, changes_then}
 use Rattle.mm_layout.proofs.tables.drop_table.Goals as goal
 
-pub returns-in-Ok-Some-clause-lent : goal.returns-in-Ok-Some-clause-lent
-returns-in-Ok-Some-clause-lent g c profile moment =
+pub returns-in-Some-clause-lent : goal.returns-in-Some-clause-lent
+returns-in-Some-clause-lent g c profile moment =
     rw (← c.as_str-table.ensures.text)
-    (refuses profile _ moment _ _ _ (refused c.in-Ok-Some.number) (c.in-Ok-Some.ensures.look profile) (λ p meets says. refused_for _ c.in-Ok-Some.number (sym says ∙ c.in-Ok-Some.field-0-is)))
+    (rw (sym c.refused.ensures) (refuses profile _ moment _ _ _ (refused c.in-Some.number) (c.in_ok-number.ensures.look profile) (λ p meets says. refused_for _ c.in-Some.number (sym says ∙ c.in-Some.is))))
 
-pub returns-in-Err-clause-lent : goal.returns-in-Err-clause-lent
-returns-in-Err-clause-lent g c profile moment =
-    rw (← c.as_str-table.ensures.text) (look_gave_up profile _ moment _ _ _ (c.in-Err.ensures.look profile))
+pub returns-in_err-number-clause-lent : goal.returns-in_err-number-clause-lent
+returns-in_err-number-clause-lent g c profile moment =
+    let p = err_from_is_err_and c.from_residual.result c.from_residual.ensures.1 in
+    rw (p.1, p.2) (rw (← c.as_str-table.ensures.text) (look_gave_up profile _ moment _ _ _ (c.in_err-number.ensures.look profile)))
 
-pub returns-in-Err-delete_table-clause-lent : goal.returns-in-Err-delete_table-clause-lent
-returns-in-Err-delete_table-clause-lent g c profile moment =
+pub returns-in_err-delete_table-clause-lent : goal.returns-in_err-delete_table-clause-lent
+returns-in_err-delete_table-clause-lent g c profile moment =
+    let p = err_from_is_err_and c.from_residual-in_err-delete_table.result c.from_residual-in_err-delete_table.ensures.1 in
+    rw (p.1, p.2) (rw (← c.as_str-table.ensures.text)
+    (change_gave_up profile _ moment _ _ _ _ (c.in_ok-number.ensures.look profile) _ (c.in_err-delete_table.ensures.change profile) (λ p meets says. tt)))
+
+pub returns-clause-lent : goal.returns-clause-lent
+returns-clause-lent g c profile moment =
     rw (← c.as_str-table.ensures.text)
-    (change_gave_up profile _ moment _ _ _ _ (c.in-Ok-None.ensures.look profile) _ (c.in-Err-delete_table.ensures.change profile) (λ p meets says. tt))
+    (accepts profile _ moment _ _ _ _ (c.in_ok-number.ensures.look profile) _ (changes_then profile _ _ _ _ _ (c.in_ok-delete_table.ensures.change profile) (c.in_ok-delete_zoom_row.ensures.change profile) (λ p any. tt))
+    (λ p meets says. (tt, accepted_for _ (sym says ∙ c.in_default.is), refl)))
 
-pub returns-in-Ok-delete_zoom_row-clause-lent : goal.returns-in-Ok-delete_zoom_row-clause-lent
-returns-in-Ok-delete_zoom_row-clause-lent g c profile moment =
-    rw (← c.as_str-table.ensures.text)
-    (accepts profile _ moment _ _ _ _ (c.in-Ok-None.ensures.look profile) _ (changes_then profile _ _ _ _ _ (c.in-Ok.ensures.change profile) (c.in-Ok-delete_zoom_row.ensures.change profile) (λ p any. tt))
-    (λ p meets says. (tt, accepted_for _ (sym says ∙ c.in-Ok-None.field-0-is), refl)))
-
-pub returns-in-Err-delete_zoom_row-clause-lent : goal.returns-in-Err-delete_zoom_row-clause-lent
-returns-in-Err-delete_zoom_row-clause-lent g c profile moment =
-    rw (← c.as_str-table.ensures.text)
-    (change_gave_up profile _ moment _ _ _ _ (c.in-Ok-None.ensures.look profile) _ (changes_then profile _ _ _ _ _ (c.in-Ok.ensures.change profile) (c.in-Err-delete_zoom_row.ensures.change profile) (λ p any. tt))
-    (λ p meets says. tt))
+pub returns-in_err-delete_zoom_row-clause-lent : goal.returns-in_err-delete_zoom_row-clause-lent
+returns-in_err-delete_zoom_row-clause-lent g c profile moment =
+    let p = err_from_is_err_and c.from_residual-in_err-delete_zoom_row.result c.from_residual-in_err-delete_zoom_row.ensures.1 in
+    rw (p.1, p.2) (rw (← c.as_str-table.ensures.text)
+    (change_gave_up profile _ moment _ _ _ _ (c.in_ok-number.ensures.look profile) _ (changes_then profile _ _ _ _ _ (c.in_ok-delete_table.ensures.change profile) (c.in_err-delete_zoom_row.ensures.change profile) (λ p any. tt))
+    (λ p meets says. tt)))

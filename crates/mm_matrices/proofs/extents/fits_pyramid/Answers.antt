@@ -1,4 +1,5 @@
 use Rattle.std.proofs.Common.{option_map, sym, ap, ◌∙◌}
+use Rattle.std.proofs.lemmas.Result.{err_from_is_err_and}
 use Rattle.mm_definitions.specs.Checks.{box_of}
 use Rattle.mm_definitions.specs.Conditions.{grid, is_product}
 use Rattle.mm_definitions.specs.Package.{Box}
@@ -8,17 +9,19 @@ use Rattle.mm_layout.proofs.Looking.{look_denied}
 use Rattle.mm_matrices.proofs.Covering.{fits_is, set_of}
 use Rattle.mm_matrices.proofs.extents.fits_pyramid.Goals as goal
 
-pub returns-in-Ok-Some-clause-look : goal.returns-in-Ok-Some-clause-look
-returns-in-Ok-Some-clause-look g c profile =
+pub returns-in-Some-clause-look : goal.returns-in-Some-clause-look
+returns-in-Some-clause-look g c profile =
     let a = c.args in
-    let told = fits_is (box_of c.in-Ok-Some.extent) (grid a.matrix.now) c.fits.result c.fits.ensures in
-    look_as profile _ _ _ _ (c.in-Ok-Some.ensures.look profile)
+    let told = fits_is (box_of c.in-Some.extent) (grid a.matrix.now) c.fits.result c.fits.ensures in
+    look_as profile _ _ _ _ (c.in_ok-extent_of.ensures.look profile)
     (λ p says.
-    let set = set_of (get p.sets a.table.now) (box_of c.in-Ok-Some.extent) (says ∙ ap (option_map box_of) c.in-Ok-Some.field-0-is) in
+    let set = set_of (get p.sets a.table.now) (box_of c.in-Some.extent) (says ∙ ap (option_map box_of) c.in-Some.is) in
     (set.0, set.1, told ∙ ap (λ (b : Box). is_product b (grid a.matrix.now)) (sym set.2)))
 
-pub returns-in-Ok-None-clause-look : goal.returns-in-Ok-None-clause-look
-returns-in-Ok-None-clause-look g c profile = look_denied profile _ _ _ (c.in-Ok-None.ensures.look profile)
+pub returns-in-None-clause-look : goal.returns-in-None-clause-look
+returns-in-None-clause-look g c profile = look_denied profile _ _ _ (c.in_ok-extent_of.ensures.look profile)
 
-pub returns-in-Err-clause-look : goal.returns-in-Err-clause-look
-returns-in-Err-clause-look g c profile = look_failed profile _ _ _ (c.in-Err.ensures.look profile)
+pub returns-in_err-extent_of-clause-look : goal.returns-in_err-extent_of-clause-look
+returns-in_err-extent_of-clause-look g c profile =
+    let p = err_from_is_err_and c.from_residual.result c.from_residual.ensures.1 in
+    rw (p.1, p.2) (look_failed profile _ _ _ (c.in_err-extent_of.ensures.look profile))

@@ -4,6 +4,6 @@ use Rattle.mm_opening.proofs.schema.create_edition_tables.Goals as goal
 
 pub returns-clause-made : goal.returns-clause-made
 returns-clause-made g c =
-    let made_0 = creates_one _ _ _ _ _ _ statement.mm_map _ c.in-Ok.ensures.run in
-    let made_1 = creating_then _ _ _ _ _ _ _ _ made_0 (creates_one _ _ _ _ _ _ statement.mm_editions _ c.in-Ok-run.ensures.run) in
+    let made_0 = creates_one _ _ _ _ _ _ statement.mm_map _ c.in_ok-run.ensures.run in
+    let made_1 = creating_then _ _ _ _ _ _ _ _ made_0 (creates_one _ _ _ _ _ _ statement.mm_editions _ c.in_ok-run-2.ensures.run) in
     creating_then _ _ _ _ _ _ _ _ made_1 (creates_one _ _ _ _ _ _ statement.mm_pieces _ c.run-3.ensures.run)

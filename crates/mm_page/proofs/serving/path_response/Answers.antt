@@ -6,10 +6,10 @@ use Rattle.mm_page.specs.Page.{WritesTo, reply_of}
 use Rattle.mm_page.proofs.ServeFacts.{given, weaker}
 use Rattle.mm_page.proofs.serving.path_response.Goals as goal
 
-pub returns-in-Ok-Some-clause-response : goal.returns-in-Ok-Some-clause-response
-returns-in-Ok-Some-clause-response g c = λ p on.
-    let wanted = asked c.in-Ok-Some.wanted in
-    let asks : Asks c.args.path.now wanted = rw c.in-Ok-Some.field-0-is at c.in-Ok-Some.ensures.wanted in
+pub returns-in-Some-clause-response : goal.returns-in-Some-clause-response
+returns-in-Some-clause-response g c = λ p on.
+    let wanted = asked c.in-Some.wanted in
+    let asks : Asks c.args.path.now wanted = rw c.in-Some.is at c.in_ok-read_path.ensures.wanted in
     weaker (λ v. v.items ≡ response_of (reply_of p wanted)) (λ v. WritesTo p c.args.path.now v.items) c.reply.result
     (λ v e. inl (wanted, asks, e))
     (given (λ v. v.items) (response_of (reply_of p wanted)) c.reply.result (c.reply.ensures.reply p on))

@@ -10,24 +10,24 @@ use Rattle.mm_page.specs.Served.{IsOn, Served}
 use Rattle.mm_page.proofs.ServeFacts.{under, weaker}
 use Rattle.mm_page.proofs.serving.respond.Goals as goal
 
-pub returns-in-Ok-Some-clause-response : goal.returns-in-Ok-Some-clause-response
-returns-in-Ok-Some-clause-response g c =
+pub returns-in-Some-clause-response : goal.returns-in-Some-clause-response
+returns-in-Some-clause-response g c =
     let old = c.args.session.now in
     let on = IsOn (has_failed old) (state g.S.Store (held old)) (state g.S.Store (held c.head_response.new.session)) in
-    let all = under {X = (p : Package) × on p} (λ x v. Writes x.0 c.of.result.now c.of-in-Ok-Some.result.now v.items) c.head_response.result (λ x. c.head_response.ensures.response x.0 x.1) in
+    let all = under {X = (p : Package) × on p} (λ x v. Writes x.0 c.of.result.now c.of-in-Some.result.now v.items) c.head_response.result (λ x. c.head_response.ensures.response x.0 x.1) in
     weaker _ (λ v. Served on (g.R.Read.remaining (inside c.args.reader.now)) v.items) c.head_response.result
     (λ v w p st input e.
-    let (fits, within, h, is, at) = rw (e, c.in-Ok-Some.field-0-is) at c.in-Ok-Some.ensures.head in
+    let (fits, within, h, is, at) = rw (e, c.in-Some.is) at c.in_ok-read_head.ensures.head in
     let method = c.of.ensures ∙ at.method in
-    let target = c.of-in-Ok-Some.ensures ∙ at.path in
-    inl (h, is, subst (λ t. Writes p h.method t v.items) target (subst (λ m. Writes p m c.of-in-Ok-Some.result.now v.items) method (w (p, st)))))
+    let target = c.of-in-Some.ensures ∙ at.path in
+    inl (h, is, subst (λ t. Writes p h.method t v.items) target (subst (λ m. Writes p m c.of-in-Some.result.now v.items) method (w (p, st)))))
     all
 
-pub returns-in-Ok-Some-clause-needed : goal.returns-in-Ok-Some-clause-needed
-returns-in-Ok-Some-clause-needed g c =
+pub returns-in-Some-clause-needed : goal.returns-in-Some-clause-needed
+returns-in-Some-clause-needed g c =
     IfErr-weaker c.head_response.result _ _
     (λ fault asked is input e.
-    let (fits, within, h, head, at) = rw (e, c.in-Ok-Some.field-0-is) at c.in-Ok-Some.ensures.head in
+    let (fits, within, h, head, at) = rw (e, c.in-Some.is) at c.in_ok-read_head.ensures.head in
     let it = asked is in
-    (h, head, sym (c.of.ensures ∙ at.method) ∙ it.0, it.1, subst (λ t. Asks (path_of t) it.1) (c.of-in-Ok-Some.ensures ∙ at.path) it.2))
+    (h, head, sym (c.of.ensures ∙ at.method) ∙ it.0, it.1, subst (λ t. Asks (path_of t) it.1) (c.of-in-Some.ensures ∙ at.path) it.2))
     c.head_response.ensures.needed

@@ -1,4 +1,5 @@
 use Rattle.std.proofs.Common.{Bool, Ok, Err, Result, refl, sym, subst}
+use Rattle.std.proofs.lemmas.Result.{err_from_is_err_and}
 use Rattle.sqlite.specs.Order.{Row}
 use Rattle.sqlite.specs.Held.{state}
 use Rattle.mm_definitions.specs.declared.answers.Fault.{Fault}
@@ -10,18 +11,19 @@ use Rattle.mm_reads.proofs.listing.contents.Goals as goal
 abbrev takes : Gathered → Row → Gathered → Result Bool Fault → Type 0
 takes old row new result = Gathers old.entries.items row new.entries.items result
 
-pub returns-in-Ok-clause-read : goal.returns-in-Ok-clause-read
-returns-in-Ok-clause-read g c profile =
+pub returns-clause-read : goal.returns-clause-read
+returns-clause-read g c profile =
     let old = state g.S.Store c.args.conn.now in
     let new = state g.S.Store c.walk.new.conn in
     let begun : Gathered = record { entries = c.new.result } in
     read_by_walk takes (λ (v : Gathered). v.entries.items) (λ v u row result h. h) old new begun c.walk.new.visitor c.new.ensures.items profile c.walk.result (Ok c.walk.new.visitor.entries) c.walk.ensures
-    (subst (λ r. Found takes (λ (v : Gathered). v.entries.items) (λ v u row result h. h) old new begun c.walk.new.visitor c.new.ensures.items profile r (Ok c.walk.new.visitor.entries)) (sym c.in-Ok.is) refl)
+    (subst (λ r. Found takes (λ (v : Gathered). v.entries.items) (λ v u row result h. h) old new begun c.walk.new.visitor c.new.ensures.items profile r (Ok c.walk.new.visitor.entries)) (sym c.in_ok-walk.was) refl)
 
-pub returns-in-Err-clause-read : goal.returns-in-Err-clause-read
-returns-in-Err-clause-read g c profile =
+pub returns-in_err-walk-clause-read : goal.returns-in_err-walk-clause-read
+returns-in_err-walk-clause-read g c profile =
+    let p = err_from_is_err_and c.from_residual.result c.from_residual.ensures.1 in
     let old = state g.S.Store c.args.conn.now in
     let new = state g.S.Store c.walk.new.conn in
     let begun : Gathered = record { entries = c.new.result } in
-    read_by_walk takes (λ (v : Gathered). v.entries.items) (λ v u row result h. h) old new begun c.walk.new.visitor c.new.ensures.items profile c.walk.result (Err c.in-Err.fault) c.walk.ensures
-    (subst (λ r. Found takes (λ (v : Gathered). v.entries.items) (λ v u row result h. h) old new begun c.walk.new.visitor c.new.ensures.items profile r (Err c.in-Err.fault)) (sym c.in-Err.is) refl)
+    rw (p.1, p.2) (read_by_walk takes (λ (v : Gathered). v.entries.items) (λ v u row result h. h) old new begun c.walk.new.visitor c.new.ensures.items profile c.walk.result (Err c.in_err-walk.field-0.0) c.walk.ensures
+    (subst (λ r. Found takes (λ (v : Gathered). v.entries.items) (λ v u row result h. h) old new begun c.walk.new.visitor c.new.ensures.items profile r (Err c.in_err-walk.field-0.0)) (sym c.in_err-walk.was) refl))

@@ -1,4 +1,5 @@
 use Rattle.std.proofs.Common.{◌≡◌, Ok, Some, None, pos, sym, subst, ◌∙◌, rules, w64, to_z, of_z, to_z-of_z}
+use Rattle.std.proofs.lemmas.Result.{err_from_is_err_and}
 use Rattle.std.specs.FinMap.{get}
 use Rattle.sqlite.specs.Held.{state}
 use Rattle.mm_definitions.specs.Keys.{tile}
@@ -11,45 +12,47 @@ use Rattle.mm_reads.specs.Told.{TellsBytes}
 use Rattle.mm_reads.proofs.Found.{tile_told}
 use Rattle.mm_reads.proofs.tiles.bytes_at.Goals as goal
 
-pub returns-in-Ok-clause-look : goal.returns-in-Ok-clause-look
-returns-in-Ok-clause-look g c profile =
+pub returns-in-Some-clause-look : goal.returns-in-Some-clause-look
+returns-in-Some-clause-look g c profile =
     let a = c.args in
     let s0 = state g.S.Store a.tx.now.conn.now in
     let s1 = state g.S.Store c.blob_of_tile.new.tx.conn.now in
     let s2 = state g.S.Store c.bytes_of.new.tx.conn.now in
     let key = tile a.table.now (pos a.zoom) (pos a.column) (pos a.row) in
-    let it = c.in-Ok-Some.field-0 in
-    let blob = c.in-Ok-Some.blob in
-    let bytes = c.in-Ok.bytes in
+    let it = c.in_ok-blob_of_tile.field-0 in
+    let blob = c.in-Some.blob in
+    let bytes = c.in_ok-bytes_of.field-0 in
     let back : to_z w64 (of_z w64 blob) ≡ blob = search (rules, to_z-of_z) in
     tells_of profile s0 s2 (Ok (Some bytes)) (λ p found. TellsBytes (get p.tiles key) found)
     (moves_as {Less = λ base x found y. (y ≡ x) × IsSeen no_spare profile s2 base y × TellsBytes (get y.content.tiles key) found} s0 s2 bytes (Some bytes)
-    (then_moves (λ base x told y. (y ≡ x) × IsSeen no_spare profile s2 base y × TellsBytes (get y.content.tiles key) (Some told)) s0 s1 s2 it (Ok bytes) (c.in-Ok-Some.ensures.found profile no_spare) ((rw back at c.in-Ok.ensures.told) profile no_spare) (λ base x y o mid. mid.1)
+    (then_moves (λ base x told y. (y ≡ x) × IsSeen no_spare profile s2 base y × TellsBytes (get y.content.tiles key) (Some told)) s0 s1 s2 it (Ok bytes) (c.in_ok-blob_of_tile.ensures.found profile no_spare) ((rw back at c.in_ok-bytes_of.ensures.told) profile no_spare) (λ base x y o mid. mid.1)
     (λ base x y z told o mid last. (
       last.0 ∙ mid.0,
       last.1,
-      subst (λ (v : View). get v.content.tiles key ≡ Some told.items) (sym last.0) (tile_told y.kept.shelf blob (get y.content.tiles key) told.items (subst (λ i. Told tile_id tile_with y.kept.shelf i (get y.content.tiles key)) c.in-Ok-Some.field-0-is mid.3) (subst (λ (v : View). bytes_at v.kept.shelf blob ≡ Some told.items) last.0 last.2)),
+      subst (λ (v : View). get v.content.tiles key ≡ Some told.items) (sym last.0) (tile_told y.kept.shelf blob (get y.content.tiles key) told.items (subst (λ i. Told tile_id tile_with y.kept.shelf i (get y.content.tiles key)) c.in-Some.is mid.3) (subst (λ (v : View). bytes_at v.kept.shelf blob ≡ Some told.items) last.0 last.2)),
     )))
     (λ base x o. o) (λ base x y o last. last))
 
-pub returns-in-Err-bytes_of-clause-look : goal.returns-in-Err-bytes_of-clause-look
-returns-in-Err-bytes_of-clause-look g c profile =
+pub returns-in_err-bytes_of-clause-look : goal.returns-in_err-bytes_of-clause-look
+returns-in_err-bytes_of-clause-look g c profile =
+    let p = err_from_is_err_and c.from_residual.result c.from_residual.ensures.1 in
     let a = c.args in
     let key = tile a.table.now (pos a.zoom) (pos a.column) (pos a.row) in
-    tidy_untold profile _ _ (λ p found. TellsBytes (get p.tiles key) found) c.in-Err-bytes_of.fault (then_failed _ _ _ c.in-Ok-Some.field-0 c.in-Err-bytes_of.fault (c.in-Ok-Some.ensures.found profile no_spare) (c.in-Err-bytes_of.ensures.told profile no_spare) (λ base x y up it mid. mid.1))
+    rw (p.1, p.2) (tidy_untold profile _ _ (λ p found. TellsBytes (get p.tiles key) found) c.in_err-bytes_of.field-0.0 (then_failed _ _ _ c.in_ok-blob_of_tile.field-0 c.in_err-bytes_of.field-0.0 (c.in_ok-blob_of_tile.ensures.found profile no_spare) (c.in_err-bytes_of.ensures.told profile no_spare) (λ base x y up it mid. mid.1)))
 
-pub returns-in-Ok-None-clause-look : goal.returns-in-Ok-None-clause-look
-returns-in-Ok-None-clause-look g c profile =
+pub returns-in-None-clause-look : goal.returns-in-None-clause-look
+returns-in-None-clause-look g c profile =
     let a = c.args in
     let s0 = state g.S.Store a.tx.now.conn.now in
     let s1 = state g.S.Store c.blob_of_tile.new.tx.conn.now in
     let key = tile a.table.now (pos a.zoom) (pos a.column) (pos a.row) in
     tells_of profile s0 s1 (Ok None) (λ p found. TellsBytes (get p.tiles key) found)
-    (moves_as {Less = λ base x found y. (y ≡ x) × IsSeen no_spare profile s1 base y × TellsBytes (get y.content.tiles key) found} s0 s1 c.in-Ok-None.field-0 None (c.in-Ok-None.ensures.found profile no_spare) (λ base x o. o)
-    (λ base x y o last. (last.0, last.1, subst (λ i. Told tile_id tile_with y.kept.shelf i (get y.content.tiles key)) c.in-Ok-None.field-0-is last.3)))
+    (moves_as {Less = λ base x found y. (y ≡ x) × IsSeen no_spare profile s1 base y × TellsBytes (get y.content.tiles key) found} s0 s1 c.in_ok-blob_of_tile.field-0 None (c.in_ok-blob_of_tile.ensures.found profile no_spare) (λ base x o. o)
+    (λ base x y o last. (last.0, last.1, subst (λ i. Told tile_id tile_with y.kept.shelf i (get y.content.tiles key)) c.in-None.is last.3)))
 
-pub returns-in-Err-clause-look : goal.returns-in-Err-clause-look
-returns-in-Err-clause-look g c profile =
+pub returns-in_err-blob_of_tile-clause-look : goal.returns-in_err-blob_of_tile-clause-look
+returns-in_err-blob_of_tile-clause-look g c profile =
+    let p = err_from_is_err_and c.from_residual-in_err-blob_of_tile.result c.from_residual-in_err-blob_of_tile.ensures.1 in
     let a = c.args in
     let key = tile a.table.now (pos a.zoom) (pos a.column) (pos a.row) in
-    tidy_untold profile _ _ (λ p found. TellsBytes (get p.tiles key) found) c.in-Err.fault (c.in-Err.ensures.found profile no_spare)
+    rw (p.1, p.2) (tidy_untold profile _ _ (λ p found. TellsBytes (get p.tiles key) found) c.in_err-blob_of_tile.field-0.0 (c.in_err-blob_of_tile.ensures.found profile no_spare))

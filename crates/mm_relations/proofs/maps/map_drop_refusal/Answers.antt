@@ -1,30 +1,35 @@
 use Rattle.std.proofs.Common.{sym, ◌∙◌}
 use Rattle.std.proofs.Math.Facts.{to_z-of_z}
+use Rattle.std.proofs.lemmas.Result.{err_from_is_err_and}
 use Rattle.mm_store.proofs.Shapes.{look_as, look_failed, looks_then}
 use Rattle.mm_relations.proofs.Refusing.{map_drop_44, map_drop_46, map_drop_free}
 use Rattle.mm_relations.proofs.maps.map_drop_refusal.Goals as goal
 
-pub returns-in-Ok-false-clause-look : goal.returns-in-Ok-false-clause-look
-returns-in-Ok-false-clause-look g c profile =
+pub returns-then-not-has_relation-clause-look : goal.returns-then-not-has_relation-clause-look
+returns-then-not-has_relation-clause-look g c profile =
     let a = c.args in
-    look_as profile _ _ _ _ (c.in-Ok-false.ensures.look profile) (λ p says. map_drop_44 p a.mapping.now a.base_id a.related_id (sym says ∙ c.in-Ok-false.field-0-test))
+    look_as profile _ _ _ _ (c.in_ok-has_relation.ensures.look profile) (λ p says. map_drop_44 p a.mapping.now a.base_id a.related_id (sym says ∙ c.if-not-has_relation.false))
 
-pub returns-in-Err-clause-look : goal.returns-in-Err-clause-look
-returns-in-Err-clause-look g c profile = look_failed profile _ _ _ (c.in-Err.ensures.look profile)
+pub returns-in_err-has_relation-clause-look : goal.returns-in_err-has_relation-clause-look
+returns-in_err-has_relation-clause-look g c profile =
+    let p = err_from_is_err_and c.from_residual.result c.from_residual.ensures.1 in
+    rw (p.1, p.2) (look_failed profile _ _ _ (c.in_err-has_relation.ensures.look profile))
 
-pub returns-in-Ok-true-has_pairing-clause-look : goal.returns-in-Ok-true-has_pairing-clause-look
-returns-in-Ok-true-has_pairing-clause-look g c profile =
-    let a = c.args in
-    let r = c.ranges in
-    look_as profile _ _ _ _ (looks_then profile _ _ _ _ _ (c.in-Ok-true.ensures.look profile) ((rw (to_z-of_z r.base_id, to_z-of_z r.related_id) at c.in-Ok-true-has_pairing.ensures.look) profile))
-    (λ p says. map_drop_free p a.mapping.now a.base_id a.related_id (sym says.0 ∙ c.in-Ok-true.field-0-test) (sym says.1 ∙ c.in-Ok-true-has_pairing.field-0-test))
-
-pub returns-in-Ok-false-has_pairing-clause-look : goal.returns-in-Ok-false-has_pairing-clause-look
-returns-in-Ok-false-has_pairing-clause-look g c profile =
+pub returns-then-branch-clause-look : goal.returns-then-branch-clause-look
+returns-then-branch-clause-look g c profile =
     let a = c.args in
     let r = c.ranges in
-    look_as profile _ _ _ _ (looks_then profile _ _ _ _ _ (c.in-Ok-true.ensures.look profile) ((rw (to_z-of_z r.base_id, to_z-of_z r.related_id) at c.in-Ok-false-has_pairing.ensures.look) profile))
-    (λ p says. map_drop_46 p a.mapping.now a.base_id a.related_id (sym says.0 ∙ c.in-Ok-true.field-0-test) (sym says.1 ∙ c.in-Ok-false-has_pairing.field-0-test))
+    look_as profile _ _ _ _ (looks_then profile _ _ _ _ _ (c.in_ok-has_relation.ensures.look profile) ((rw (to_z-of_z r.base_id, to_z-of_z r.related_id) at c.in_ok-has_pairing.ensures.look) profile))
+    (λ p says. map_drop_free p a.mapping.now a.base_id a.related_id (sym says.0 ∙ c.if-not-has_relation.true) (sym says.1 ∙ c.if-branch.true))
 
-pub returns-in-Err-has_pairing-clause-look : goal.returns-in-Err-has_pairing-clause-look
-returns-in-Err-has_pairing-clause-look g c profile = look_failed profile _ _ _ (looks_then profile _ _ _ _ _ (c.in-Ok-true.ensures.look profile) (c.in-Err-has_pairing.ensures.look profile))
+pub returns-else-branch-clause-look : goal.returns-else-branch-clause-look
+returns-else-branch-clause-look g c profile =
+    let a = c.args in
+    let r = c.ranges in
+    look_as profile _ _ _ _ (looks_then profile _ _ _ _ _ (c.in_ok-has_relation.ensures.look profile) ((rw (to_z-of_z r.base_id, to_z-of_z r.related_id) at c.in_ok-has_pairing.ensures.look) profile))
+    (λ p says. map_drop_46 p a.mapping.now a.base_id a.related_id (sym says.0 ∙ c.if-not-has_relation.true) (sym says.1 ∙ c.if-branch.false))
+
+pub returns-in_err-has_pairing-clause-look : goal.returns-in_err-has_pairing-clause-look
+returns-in_err-has_pairing-clause-look g c profile =
+    let p = err_from_is_err_and c.from_residual-in_err-has_pairing.result c.from_residual-in_err-has_pairing.ensures.1 in
+    rw (p.1, p.2) (look_failed profile _ _ _ (looks_then profile _ _ _ _ _ (c.in_ok-has_relation.ensures.look profile) (c.in_err-has_pairing.ensures.look profile)))

@@ -11,7 +11,7 @@ impl<S: Alter> Session<S> {
     ghost use Rattle.std.specs.Prelude.{◌≡◌, Err, false, true};
     ghost use Rattle.sqlite.specs.Held.{state};
     ghost use Rattle.mm_definitions.specs.Bounds.{current};
-    ghost use Rattle.mm_definitions.specs.Streams.{inside};
+    ghost use Rattle.mm_definitions.specs.Streams.{written};
     ghost use Rattle.mm_definitions.specs.Streams as streams;
     ghost use Rattle.mm_listing.specs.Listing.{listing};
     ghost use Rattle.mm_listing.specs.Writing.{IsListed};
@@ -26,7 +26,7 @@ impl<S: Alter> Session<S> {
     pub fn list<W: Write>(&mut self, writer: &mut Io<W>) -> Result<(), Fault>
         ensures ended { has_failed self.old ≡ true → (result ≡ Err (record { 0 = 92 })) × (self.new ≡ self.old) × (writer.new ≡ writer.old) }
         ensures same { has_failed self.new ≡ has_failed self.old }
-        ensures listed { has_failed self.old ≡ false → IsListed current listing (state S.Store (held self.old)) (state S.Store (held self.new)) (W.contents (inside writer.old)) (W.contents (inside writer.new)) (streams.has_failed writer.old) (streams.has_failed writer.new) result }
+        ensures listed { has_failed self.old ≡ false → IsListed current listing (state S.Store (held self.old)) (state S.Store (held self.new)) (written W.contents writer.old) (written W.contents writer.new) result }
     {
         if self.failed {
             return Err(Fault::REOPEN);

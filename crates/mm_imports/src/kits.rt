@@ -4,7 +4,7 @@ ghost use Rattle.std.specs.Prelude.{◌≡◌, ◌++◌, ◌+◌, ◌≤◌, cod
 ghost use Rattle.sqlite.specs.Held.{state};
 ghost use Rattle.sqlite.specs.State.{HasCleanDisk};
 ghost use Rattle.mm_definitions.specs.Bounds.{current};
-ghost use Rattle.mm_definitions.specs.Streams.{has_failed, inside};
+ghost use Rattle.mm_definitions.specs.Streams.{written};
 ghost use Rattle.mm_store.specs.Stands.{IsSettled};
 ghost use Rattle.mm_core.specs.Applied.{Stands};
 ghost use Rattle.mm_kit.specs.Imports.{IsKept, OnAnyFolder, OnKit, TellsFolder};
@@ -87,7 +87,7 @@ fn refused_line(piece: u32, number: u8) -> ArrayVec<u8, 40>
 
 /// Prints the answer to a kit: status 0 where it is complete, and 1 where it is refused.
 fn tell_staged<W: Write>(output: &mut Io<W>, staged: Staged) -> u8
-    ensures { IsTold (W.contents (inside output.old)) (W.contents (inside output.new)) (has_failed output.old) (has_failed output.new) (staged_text staged) (staged_status staged) result }
+    ensures { IsTold (written W.contents output.old) (written W.contents output.new) (staged_text staged) (staged_status staged) result }
 {
     match staged {
         Staged::Complete(count) => {
@@ -103,7 +103,7 @@ fn tell_staged<W: Write>(output: &mut Io<W>, staged: Staged) -> u8
 
 /// Prints what an import came to: status 0 where it is complete, 1 where it is refused, 3 for a fault.
 pub fn tell_import<W: Write>(output: &mut Io<W>, import: Import) -> u8
-    ensures { IsTold (W.contents (inside output.old)) (W.contents (inside output.new)) (has_failed output.old) (has_failed output.new) (kit_text import) (kit_status import) result }
+    ensures { IsTold (written W.contents output.old) (written W.contents output.new) (kit_text import) (kit_status import) result }
 {
     match import {
         Ok(staged) => tell_staged(output, staged),

@@ -2,7 +2,7 @@
 
 ghost use Rattle.std.specs.Prelude.{◌≡◌, ◌<◌, ℕ, take, length, true, false};
 ghost use Rattle.std.specs.Io.KnownBytes.{Appends};
-ghost use Rattle.mm_definitions.specs.Streams.{has_failed, inside, is_flushed};
+ghost use Rattle.mm_definitions.specs.Streams.{has_failed, inside, is_flushed, written};
 ghost use Rattle.mm_io.specs.Sending.{Sends};
 
 use mm_definitions::streams::Io;
@@ -39,7 +39,7 @@ fn write_whole<W: Write>(writer: &mut Io<W>, bytes: &[u8]) -> bool
 /// Writes the bytes and flushes. Where the writer fails it says whether they were taken whole, and a front of them
 /// was taken if not.
 pub fn send<W: Write>(writer: &mut Io<W>, bytes: &[u8]) -> Sent
-    ensures sent { Sends (W.contents (inside writer.old)) (W.contents (inside writer.new)) (has_failed writer.old) (has_failed writer.new) bytes.now result }
+    ensures sent { Sends (written W.contents writer.old) (written W.contents writer.new) bytes.now result }
     ensures flushed { result ≡ Sent.Flushed → is_flushed writer.new ≡ true }
 {
     if !write_whole(writer, bytes) {

@@ -14,6 +14,7 @@ use Rattle.mm_walk.specs.Walk.{OnlyAsks, Takes, Ends, IsWalk}
 use Rattle.mm_walk.proofs.Resting.{seen_still, ends_rest}
 use Rattle.mm_listing.specs.Writing.{IsBegun, TakesLine, IsWritten, TellsWriter, IsListed}
 use Rattle.mm_listing.proofs.Fronts.{ShowsEach, Fronts}
+use Rattle.mm_definitions.specs.Streams.{written_as}
 
 appends_none : (old new : Option (List ℕ)) → new ≡ old → Appends old new []
 appends_none None new same = tt
@@ -35,7 +36,7 @@ module _ (Shows : Row → List ℕ → Type 0) where
   each_more [] last text line none shown = (line, [], shown, refl, ap (λ t. t ++ line) none ∙ sym (append-nil line))
   each_more (r ∷ rows) last text line (one, rest, first, more, is) shown = (one, rest ++ line, first, each_more rows last rest line more shown, ap (λ t. t ++ line) is ∙ append_assoc one rest line)
 
-  module _ {V : Type 0} (takes : V → Row → V → Result Bool Fault → Type 0) (held : V → Option (List ℕ)) (failed : V → Bool) (writes : (v u : V) (row : Row) (result : Result Bool Fault) → takes v row u result → TakesLine Shows (held v) (held u) (failed v) (failed u) row result) where
+  module _ {V : Type 0} (takes : V → Row → V → Result Bool Fault → Type 0) (held : V → Option (List ℕ)) (failed : V → Bool) (writes : (v u : V) (row : Row) (result : Result Bool Fault) → takes v row u result → TakesLine Shows (written_as (held v) (failed v)) (written_as (held u) (failed u)) row result) where
     taken : (v w : V) (rows : List Row) → Takes takes v rows w → (text : List ℕ) × ShowsEach Shows rows text × Appends (held v) (held w) text × (failed w ≡ failed v)
     taken v w [] same = ([], refl, appends_none (held v) (held w) (ap held (sym same)), ap failed (sym same))
     taken v w (r ∷ rows) (u, step, more) =
@@ -49,7 +50,7 @@ module _ (Shows : Row → List ℕ → Type 0) where
     after_step v u row (Ok goes) step = (writes v u row (Ok goes) step).2.2
     after_step v u row (Err fault) step = told (writes v u row (Err fault) step)
       where
-        told : TakesLine Shows (held v) (held u) (failed v) (failed u) row (Err fault) → TellsWriter (failed v) (failed u) (Err fault)
+        told : TakesLine Shows (written_as (held v) (failed v)) (written_as (held u) (failed u)) row (Err fault) → TellsWriter (failed v) (failed u) (Err fault)
         told (inl it) = inl (it.0, it.2)
         told (inr it) = inr (it.2.0, it.2.1)
 
@@ -61,7 +62,7 @@ module _ (Shows : Row → List ℕ → Type 0) where
     tells_writer v w (Err fault) (inl stored) (rows, inl it) = inl (stored, (taken v w rows it).3)
     tells_writer v w (Err fault) (inr last) (rows, inl it) = stopped (writes last.0 w last.1 (Err fault) last.2)
       where
-        stopped : TakesLine Shows (held last.0) (held w) (failed last.0) (failed w) last.1 (Err fault) → TellsWriter (failed v) (failed w) (Err fault)
+        stopped : TakesLine Shows (written_as (held last.0) (failed last.0)) (written_as (held w) (failed w)) last.1 (Err fault) → TellsWriter (failed v) (failed w) (Err fault)
         stopped (inl t) = inl (t.0, (taken v w rows it).3)
         stopped (inr t) = inr (t.2.0, t.2.1)
 
@@ -78,7 +79,7 @@ module _ (Shows : Row → List ℕ → Type 0) where
         written (Ok false) h = absurd (let e : false ≡ true = (writes h.before w h.last (Ok false) h.ends).2.0 in cc)
         written (Err fault) (inl h) = ended (writes h.before w h.last (Err fault) h.ends)
           where
-            ended : TakesLine Shows (held h.before) (held w) (failed h.before) (failed w) h.last (Err fault) → IsBegun (held v) (held w) whole
+            ended : TakesLine Shows (written_as (held h.before) (failed h.before)) (written_as (held w) (failed w)) h.last (Err fault) → IsBegun (held v) (held w) whole
             ended (inl it) =
                 let t = taken v h.before h.rows h.taken in
                 let b = begins h.same.0.was_open (h.rows ++ h.last ∷ []) h.begins in
@@ -102,7 +103,7 @@ module _ (Shows : Row → List ℕ → Type 0) where
       -- ---- the whole walk
 
       pub listed : (profile : Profile) (text : Package → List ℕ) → OnlyAsks old.now.schema sql → ((p : Package) → IsSeenAs profile old p → (result : Result Bool Fault) → Ends takes sql [] old new v w result → IsWritten (held v) (held w) (text p) (done_of result)) → (result : Result Bool Fault)
-          → IsWalk takes sql [] old new v w result → IsListed profile text old new (held v) (held w) (failed v) (failed w) (done_of result)
+          → IsWalk takes sql [] old new v w result → IsListed profile text old new (written_as (held v) (failed v)) (written_as (held w) (failed w)) (done_of result)
       listed profile text asks says result it = record {
         survives = it.survives asks;
         seen = λ clean p. seen_still profile old new p (ends_rest takes sql [] old new v w result (it.walked clean asks));
@@ -130,8 +131,8 @@ module _ (profile : Profile) (first second : Package → List ℕ) (old mid new 
   written_then one two (Ok done) h k = appends_then held between holds one two h k
   written_then one two (Err fault) h (begun, rest, is, app) = (one ++ begun, rest, ap (λ t. one ++ t) is ∙ sym (append_assoc one begun rest), appends_then held between holds one begun h app)
 
-  pub listed_then : (done : Unit {0}) (result : Result (Unit {0}) Fault) → IsListed profile first old mid held between before middle (Ok done) → IsListed profile second mid new between holds middle failed result
-      → IsListed profile (λ p. first p ++ second p) old new held holds before failed result
+  pub listed_then : (done : Unit {0}) (result : Result (Unit {0}) Fault) → IsListed profile first old mid (written_as held before) (written_as between middle) (Ok done) → IsListed profile second mid new (written_as between middle) (written_as holds failed) result
+      → IsListed profile (λ p. first p ++ second p) old new (written_as held before) (written_as holds failed) result
   listed_then done result one two =
       let early : HasCleanDisk new → HasCleanDisk mid = λ clean. omega (arith, clean, two.survives.clean) in
       record {
@@ -142,8 +143,8 @@ module _ (profile : Profile) (first second : Package → List ℕ) (old mid new 
         writer = tells_then one.writer result two.writer;
       }
 
-pub listed_failed : (profile : Profile) (first second : Package → List ℕ) (old new : State) (held holds : Option (List ℕ)) (before failed : Bool) (fault : Fault) → IsListed profile first old new held holds before failed (Err fault)
-    → IsListed profile (λ p. first p ++ second p) old new held holds before failed (Err fault)
+pub listed_failed : (profile : Profile) (first second : Package → List ℕ) (old new : State) (held holds : Option (List ℕ)) (before failed : Bool) (fault : Fault) → IsListed profile first old new (written_as held before) (written_as holds failed) (Err fault)
+    → IsListed profile (λ p. first p ++ second p) old new (written_as held before) (written_as holds failed) (Err fault)
 listed_failed profile first second old new held holds before failed fault it = record {
   survives = it.survives;
   seen = it.seen;

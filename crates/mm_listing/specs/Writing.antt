@@ -10,6 +10,7 @@ use Rattle.mm_store.specs.Faults.{IsStoreFault}
 use Rattle.mm_store.specs.Seen.{IsSeenAs}
 use Rattle.mm_store.specs.Stands.{IsSettled}
 use Rattle.mm_store.specs.Statements.{CommitsNothing}
+use Rattle.mm_definitions.specs.Streams.{Written}
 
 -- the writer failed
 abbrev pub unwritten : Fault
@@ -21,17 +22,16 @@ IsBegun old new text = (front rest : List ℕ) × (text ≡ front ++ rest) × Ap
 
 -- ---- one line
 
--- The line was written whole, and the walk goes on; or the writer failed behind a beginning of it. By what the writer held and
--- then holds, and whether it had failed and then has.
-abbrev pub SendsLine : Option (List ℕ) → Option (List ℕ) → Bool → Bool → List ℕ → Result Bool Fault → Type 0
-SendsLine old new before failed line (Ok goes) = (goes ≡ true) × Appends old new line × (failed ≡ before)
-SendsLine old new before failed line (Err fault) = (fault ≡ unwritten) × (failed ≡ true) × IsBegun old new line
+-- The line was written whole, and the walk goes on; or the writer failed behind a beginning of it.
+abbrev pub SendsLine : Written → Written → List ℕ → Result Bool Fault → Type 0
+SendsLine old new line (Ok goes) = (goes ≡ true) × Appends old.contents new.contents line × (new.failed ≡ old.failed)
+SendsLine old new line (Err fault) = (fault ≡ unwritten) × (new.failed ≡ true) × IsBegun old.contents new.contents line
 
 -- The line that the row shows was written; or the row shows none, and nothing was; or the writer failed.
-abbrev pub TakesLine : (Row → List ℕ → Type 0) → Option (List ℕ) → Option (List ℕ) → Bool → Bool → Row → Result Bool Fault → Type 0
-TakesLine Shows old new before failed row (Ok goes) = (line : List ℕ) × Shows row line × SendsLine old new before failed line (Ok goes)
-TakesLine Shows old new before failed row (Err fault) =
-    (IsStoreFault fault × (new ≡ old) × (failed ≡ before)) ⊎ ((line : List ℕ) × Shows row line × SendsLine old new before failed line (Err fault))
+abbrev pub TakesLine : (Row → List ℕ → Type 0) → Written → Written → Row → Result Bool Fault → Type 0
+TakesLine Shows old new row (Ok goes) = (line : List ℕ) × Shows row line × SendsLine old new line (Ok goes)
+TakesLine Shows old new row (Err fault) =
+    (IsStoreFault fault × (new.contents ≡ old.contents) × (new.failed ≡ old.failed)) ⊎ ((line : List ℕ) × Shows row line × SendsLine old new line (Err fault))
 
 -- ---- the whole text
 
@@ -46,9 +46,9 @@ TellsWriter before failed (Ok done) = failed ≡ before
 TellsWriter before failed (Err fault) = (IsStoreFault fault × (failed ≡ before)) ⊎ ((fault ≡ unwritten) × (failed ≡ true))
 
 -- It commits nothing, leaves the connection reading as before, and settled where it was, and writes the text of the package that it reads as.
-pub record IsListed (profile : Profile) (text : Package → List ℕ) (old new : State) (held holds : Option (List ℕ)) (before failed : Bool) (result : Result (Unit {0}) Fault) : Type 0 where
+pub record IsListed (profile : Profile) (text : Package → List ℕ) (old new : State) (held holds : Written) (result : Result (Unit {0}) Fault) : Type 0 where
   pub survives : CommitsNothing old new
   pub seen : HasCleanDisk new → (p : Package) → IsSeenAs profile old p → IsSeenAs profile new p
   pub settled : HasCleanDisk new → (p : Package) → IsSettled profile old p → IsSettled profile new p
-  pub written : HasCleanDisk new → (p : Package) → IsSeenAs profile old p → IsWritten held holds (text p) result
-  pub writer : TellsWriter before failed result
+  pub written : HasCleanDisk new → (p : Package) → IsSeenAs profile old p → IsWritten held.contents holds.contents (text p) result
+  pub writer : TellsWriter held.failed holds.failed result

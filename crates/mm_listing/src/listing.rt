@@ -3,7 +3,7 @@
 ghost use Rattle.std.specs.Prelude.{◌≡◌, false};
 ghost use Rattle.sqlite.specs.Held.{state};
 ghost use Rattle.mm_definitions.specs.Bounds.{Profile};
-ghost use Rattle.mm_definitions.specs.Streams.{has_failed, inside};
+ghost use Rattle.mm_definitions.specs.Streams.{written};
 ghost use Rattle.mm_listing.specs.Listing.{editions, listing, tables};
 ghost use Rattle.mm_listing.specs.Writing.{IsListed, SendsLine};
 
@@ -17,7 +17,7 @@ use std::io::Write;
 
 /// Writes a line, and goes on.
 fn send_line<W: Write>(output: &mut Io<W>, line: &[u8]) -> Result<bool, Fault>
-    ensures { SendsLine (W.contents (inside output.old)) (W.contents (inside output.new)) (has_failed output.old) (has_failed output.new) line.now result }
+    ensures { SendsLine (written W.contents output.old) (written W.contents output.new) line.now result }
 {
     match send(output, line) {
         Sent::Flushed => Ok(true),
@@ -33,11 +33,11 @@ struct TableLines<'a, W> {
 }
 
 impl<W: Write> Visitor for TableLines<'_, W> {
-    ghost use Rattle.mm_definitions.specs.Streams.{has_failed, inside};
+    ghost use Rattle.mm_definitions.specs.Streams.{written};
     ghost use Rattle.mm_listing.specs.Shown.{ShowsTable};
     ghost use Rattle.mm_listing.specs.Writing.{TakesLine};
 
-    ghost takes = { λ old row new result. (new.output.ghost_name ≡ old.output.ghost_name) × TakesLine ShowsTable (W.contents (inside old.output.now)) (W.contents (inside new.output.now)) (has_failed old.output.now) (has_failed new.output.now) row result };
+    ghost takes = { λ old row new result. (new.output.ghost_name ≡ old.output.ghost_name) × TakesLine ShowsTable (written W.contents old.output.now) (written W.contents new.output.now) row result };
 
     fn take(&mut self, row: &Row) -> Result<bool, Fault> {
         let line = table_in(row)?;
@@ -52,11 +52,11 @@ struct EditionLines<'a, W> {
 }
 
 impl<W: Write> Visitor for EditionLines<'_, W> {
-    ghost use Rattle.mm_definitions.specs.Streams.{has_failed, inside};
+    ghost use Rattle.mm_definitions.specs.Streams.{written};
     ghost use Rattle.mm_listing.specs.Shown.{ShowsEdition};
     ghost use Rattle.mm_listing.specs.Writing.{TakesLine};
 
-    ghost takes = { λ old row new result. (new.output.ghost_name ≡ old.output.ghost_name) × TakesLine ShowsEdition (W.contents (inside old.output.now)) (W.contents (inside new.output.now)) (has_failed old.output.now) (has_failed new.output.now) row result };
+    ghost takes = { λ old row new result. (new.output.ghost_name ≡ old.output.ghost_name) × TakesLine ShowsEdition (written W.contents old.output.now) (written W.contents new.output.now) row result };
 
     fn take(&mut self, row: &Row) -> Result<bool, Fault> {
         let line = edition_in(row)?;
@@ -72,7 +72,7 @@ fn show_tables<S: Alter, W: Write>(
     requires { conn.old.in_transaction ≡ false }
     ensures same_reference { lines.new.output.ghost_name ≡ lines.old.output.ghost_name }
     ensures mode { conn.new.in_transaction ≡ false }
-    ensures listed { (profile : Profile) → IsListed profile tables (state S.Store conn.old) (state S.Store conn.new) (W.contents (inside lines.old.output.now)) (W.contents (inside lines.new.output.now)) (has_failed lines.old.output.now) (has_failed lines.new.output.now) result }
+    ensures listed { (profile : Profile) → IsListed profile tables (state S.Store conn.old) (state S.Store conn.new) (written W.contents lines.old.output.now) (written W.contents lines.new.output.now) result }
 {
     walk(
         conn,
@@ -90,7 +90,7 @@ fn list_tables<S: Alter, W: Write>(
 ) -> Result<(), Fault>
     requires { conn.old.in_transaction ≡ false }
     ensures mode { conn.new.in_transaction ≡ false }
-    ensures listed { (profile : Profile) → IsListed profile tables (state S.Store conn.old) (state S.Store conn.new) (W.contents (inside output.old)) (W.contents (inside output.new)) (has_failed output.old) (has_failed output.new) result }
+    ensures listed { (profile : Profile) → IsListed profile tables (state S.Store conn.old) (state S.Store conn.new) (written W.contents output.old) (written W.contents output.new) result }
 {
     let mut lines = TableLines { output };
     let shown = show_tables(conn, &mut lines);
@@ -108,7 +108,7 @@ fn show_editions<S: Alter, W: Write>(
     requires { conn.old.in_transaction ≡ false }
     ensures same_reference { lines.new.output.ghost_name ≡ lines.old.output.ghost_name }
     ensures mode { conn.new.in_transaction ≡ false }
-    ensures listed { (profile : Profile) → IsListed profile editions (state S.Store conn.old) (state S.Store conn.new) (W.contents (inside lines.old.output.now)) (W.contents (inside lines.new.output.now)) (has_failed lines.old.output.now) (has_failed lines.new.output.now) result }
+    ensures listed { (profile : Profile) → IsListed profile editions (state S.Store conn.old) (state S.Store conn.new) (written W.contents lines.old.output.now) (written W.contents lines.new.output.now) result }
 {
     walk(
         conn,
@@ -126,7 +126,7 @@ fn list_editions<S: Alter, W: Write>(
 ) -> Result<(), Fault>
     requires { conn.old.in_transaction ≡ false }
     ensures mode { conn.new.in_transaction ≡ false }
-    ensures listed { (profile : Profile) → IsListed profile editions (state S.Store conn.old) (state S.Store conn.new) (W.contents (inside output.old)) (W.contents (inside output.new)) (has_failed output.old) (has_failed output.new) result }
+    ensures listed { (profile : Profile) → IsListed profile editions (state S.Store conn.old) (state S.Store conn.new) (written W.contents output.old) (written W.contents output.new) result }
 {
     let mut lines = EditionLines { output };
     let shown = show_editions(conn, &mut lines);
@@ -147,7 +147,7 @@ fn list_editions<S: Alter, W: Write>(
 pub fn list<S: Alter, W: Write>(conn: &mut Connection<S>, output: &mut Io<W>) -> Result<(), Fault>
     requires { conn.old.in_transaction ≡ false }
     ensures mode { conn.new.in_transaction ≡ false }
-    ensures listed { (profile : Profile) → IsListed profile listing (state S.Store conn.old) (state S.Store conn.new) (W.contents (inside output.old)) (W.contents (inside output.new)) (has_failed output.old) (has_failed output.new) result }
+    ensures listed { (profile : Profile) → IsListed profile listing (state S.Store conn.old) (state S.Store conn.new) (written W.contents output.old) (written W.contents output.new) result }
 {
     list_tables(conn, output)?;
     list_editions(conn, output)

@@ -9,6 +9,7 @@ use Rattle.std.proofs.lemmas.List.Folds.{concat-append}
 use Rattle.mm_definitions.specs.declared.answers.Fault.{Fault}
 use Rattle.mm_definitions.specs.declared.answers.PageFault.{PageFault}
 use Rattle.mm_subcommands.specs.Pages.{IsPrinted, IsServed, IsServiceFault, Outcome, TellsMore, fault_lines, faults_of, page_fault_text, status_of}
+use Rattle.mm_definitions.specs.Streams.{written_as}
 
 -- ---- one more outcome
 
@@ -90,7 +91,7 @@ told_on count log mid now old new before failed status done it more =
 
 -- one more, with a fault that was printed whole
 pub told_more : (count : ℕ) (log mid now : Option (List Outcome)) (old held new : Option (List ℕ)) (before between failed : Bool) (status : ℕ) (why : PageFault)
-    → Told count log mid old held before between status → TellsMore mid now (Err why ∷ []) → IsServiceFault why.0 → IsPrinted held new between failed (page_fault_text why.0) true
+    → Told count log mid old held before between status → TellsMore mid now (Err why ∷ []) → IsServiceFault why.0 → IsPrinted (written_as held between) (written_as new failed) (page_fault_text why.0) true
     → Told (count + 1) log now old new before failed 3
 told_more count log mid now old held new before between failed status why it more is printed = record {
   outcomes = it.outcomes ++ Err why ∷ [];
@@ -104,11 +105,11 @@ told_more count log mid now old held new before between failed status why it mor
 
 -- what is promised of so many at most, by what tells them
 abbrev pub Serves : ℕ → Option (List Outcome) → Option (List Outcome) → Option (List ℕ) → Option (List ℕ) → Bool → Bool → ℕ → Type 0
-Serves most log now old new before failed status = (outcomes : List Outcome) × TellsMore log now outcomes × IsServed most outcomes old new before failed status
+Serves most log now old new before failed status = (outcomes : List Outcome) × TellsMore log now outcomes × IsServed most outcomes (written_as old before) (written_as new failed) status
 
 -- one more, with a fault that couldn't be printed whole
 pub told_cut : (count most : ℕ) (log mid now : Option (List Outcome)) (old held new : Option (List ℕ)) (before between failed : Bool) (status : ℕ) (why : PageFault) → count < most
-    → Told count log mid old held before between status → TellsMore mid now (Err why ∷ []) → IsServiceFault why.0 → IsPrinted held new between failed (page_fault_text why.0) false
+    → Told count log mid old held before between status → TellsMore mid now (Err why ∷ []) → IsServiceFault why.0 → IsPrinted (written_as held between) (written_as new failed) (page_fault_text why.0) false
     → Serves most log now old new before failed 3
 told_cut count most log mid now old held new before between failed status why few it more is (broken, taken, front, text) = (
   it.outcomes ++ Err why ∷ [],

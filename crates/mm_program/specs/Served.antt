@@ -3,25 +3,26 @@ use Rattle.std.specs.Prelude.{◌≡◌, ◌≢◌, ◌⊎◌, ℕ, List, Option
 use Rattle.mm_subcommands.specs.Pages.{IsPrinted, IsServed, Outcome, serving_text}
 use Rattle.mm_subcommands.specs.Told.{IsTold, stop_status, stop_text}
 use Rattle.mm_subcommands.specs.declared.stop.Stop.{Stop}
+use Rattle.mm_definitions.specs.Streams.{Written}
 
 -- The line of the port could not be printed whole, and the status is 3; or it was, and so many connections were served.
-abbrev pub IsServing : ℕ → ℕ → Option (List ℕ) → Option (List ℕ) → Bool → Bool → ℕ → Type 0
-IsServing port count old new before failed status =
-    (IsPrinted old new before failed (serving_text port) false × (status ≡ 3))
-    ⊎ ((held : Option (List ℕ)) × (between : Bool) × IsPrinted old held before between (serving_text port) true
-    × (outcomes : List Outcome) × IsServed count outcomes held new between failed status)
+abbrev pub IsServing : ℕ → ℕ → Written → Written → ℕ → Type 0
+IsServing port count old new status =
+    (IsPrinted old new (serving_text port) false × (status ≡ 3))
+    ⊎ ((between : Written) × IsPrinted old between (serving_text port) true
+    × (outcomes : List Outcome) × IsServed count outcomes between new status)
 
 -- so many connections were served, and no fault ended it
-abbrev pub WasServed : ℕ → ℕ → Option (List ℕ) → Option (List ℕ) → Bool → Bool → Type 0
-WasServed port count old new before failed = (status : ℕ) × (status ≢ 3) × IsServing port count old new before failed status
+abbrev pub WasServed : ℕ → ℕ → Written → Written → Type 0
+WasServed port count old new = (status : ℕ) × (status ≢ 3) × IsServing port count old new status
 
 -- nothing was printed
-abbrev pub IsQuiet : Option (List ℕ) → Option (List ℕ) → Bool → Bool → Type 0
-IsQuiet old new before failed = (new ≡ old) × (failed ≡ before)
+abbrev pub IsQuiet : Written → Written → Type 0
+IsQuiet old new = (new.contents ≡ old.contents) × (new.failed ≡ old.failed)
 
 -- The package was served; or why it was not is told, which is also told where the files could not be closed behind a service without a fault.
-abbrev pub TellsServe : ℕ → ℕ → Option (List ℕ) → Option (List ℕ) → Bool → Bool → ℕ → Type 0
-TellsServe port count old new before failed result =
-    IsServing port count old new before failed result
-    ⊎ ((why : Stop) × (held : Option (List ℕ)) × (between : Bool) × (IsQuiet old held before between ⊎ WasServed port count old held before between)
-    × IsTold held new between failed (stop_text why) (stop_status why) result)
+abbrev pub TellsServe : ℕ → ℕ → Written → Written → ℕ → Type 0
+TellsServe port count old new result =
+    IsServing port count old new result
+    ⊎ ((why : Stop) × (between : Written) × (IsQuiet old between ⊎ WasServed port count old between)
+    × IsTold between new (stop_text why) (stop_status why) result)

@@ -2,7 +2,7 @@
 
 ghost use Rattle.std.specs.Prelude.{◌≡◌, ◌∷◌, [], IfErr, List, Option};
 ghost use Rattle.sqlite.specs.Held.{state};
-ghost use Rattle.mm_definitions.specs.Streams.{inside};
+ghost use Rattle.mm_definitions.specs.Streams.{written};
 ghost use Rattle.mm_definitions.specs.Streams as streams;
 ghost use Rattle.mm_core.specs.Parts.{held, has_failed};
 ghost use Rattle.mm_page.specs.Served.{LeavesPackage};
@@ -42,7 +42,7 @@ pub fn serve_on<S: Alter, L: Serves<S>, W: Write>(
     ensures same { has_failed session.new ≡ has_failed session.old }
     ensures kept { LeavesPackage (state S.Store (held session.old)) (state S.Store (held session.new)) }
     ensures served { (outcomes : List Outcome) × TellsMore (L.outcomes listener.old) (L.outcomes listener.new) outcomes
-        × IsServed count outcomes (W.contents (inside output.old)) (W.contents (inside output.new)) (streams.has_failed output.old) (streams.has_failed output.new) result }
+        × IsServed count outcomes (written W.contents output.old) (written W.contents output.new) result }
 {
     let mut status = DONE;
     for served in 0..count {

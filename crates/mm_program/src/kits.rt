@@ -1,7 +1,7 @@
 //! The subcommand `kit`, on a folder of the system.
 
 ghost use Rattle.std.specs.Prelude.{◌≤◌, IfOk};
-ghost use Rattle.mm_definitions.specs.Streams.{has_failed, inside};
+ghost use Rattle.mm_definitions.specs.Streams.{has_failed, written};
 ghost use Rattle.mm_subcommands.specs.Told.{TellsFailure};
 ghost use Rattle.mm_program.specs.Files.{IsFew};
 ghost use Rattle.mm_program.specs.Told.{TellsKit};
@@ -109,7 +109,7 @@ pub(crate) fn kit_told<W: Write>(
     at: Option<Moment>,
     output: &mut Io<W>,
 ) -> u8
-    ensures told { TellsKit edition.now at (W.contents (inside output.old)) (W.contents (inside output.new)) (has_failed output.old) (has_failed output.new) result }
+    ensures told { TellsKit edition.now at (written W.contents output.old) (written W.contents output.new) result }
     ensures status { result ≤ 4 }
     ensures unprinted { TellsFailure (has_failed output.old) (has_failed output.new) result }
 {

@@ -1,7 +1,7 @@
 //! The subcommands that change nothing.
 
 ghost use Rattle.std.specs.Prelude.{◌≡◌, ◌≤◌, ◌⊎◌, IfErr, OnOk};
-ghost use Rattle.mm_definitions.specs.Streams.{has_failed, inside};
+ghost use Rattle.mm_definitions.specs.Streams.{has_failed, written};
 ghost use Rattle.mm_subcommands.specs.Told.{TellsFailure, stop_status};
 ghost use Rattle.mm_program.specs.Told.{StopsCheck, TellsCheck, TellsDecline};
 
@@ -24,7 +24,7 @@ fn check_file<S: Start>(rt: &HostRuntime, path: &str, start: S) -> Result<(), St
 
 /// The subcommand `check`.
 pub(crate) fn check_told<W: Write>(rt: &HostRuntime, path: &str, output: &mut Io<W>) -> u8
-    ensures told { TellsCheck (W.contents (inside output.old)) (W.contents (inside output.new)) (has_failed output.old) (has_failed output.new) result }
+    ensures told { TellsCheck (written W.contents output.old) (written W.contents output.new) result }
     ensures status { result ≤ 4 }
     ensures unprinted { TellsFailure (has_failed output.old) (has_failed output.new) result }
 {
@@ -48,7 +48,7 @@ fn list_file<S: Start, W: Write>(
 
 /// The subcommand `list`.
 pub(crate) fn list_told<W: Write>(rt: &HostRuntime, path: &str, output: &mut Io<W>) -> u8
-    ensures declined { TellsDecline (W.contents (inside output.old)) (W.contents (inside output.new)) (has_failed output.old) (has_failed output.new) result }
+    ensures declined { TellsDecline (written W.contents output.old) (written W.contents output.new) result }
     ensures status { result ≤ 4 }
     ensures unprinted { TellsFailure (has_failed output.old) (has_failed output.new) result }
 {

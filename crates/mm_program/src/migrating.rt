@@ -1,7 +1,7 @@
 //! The subcommand `migrate`.
 
 ghost use Rattle.std.specs.Prelude.{◌≤◌, IfErr};
-ghost use Rattle.mm_definitions.specs.Streams.{has_failed, inside};
+ghost use Rattle.mm_definitions.specs.Streams.{has_failed, written};
 ghost use Rattle.mm_subcommands.specs.Told.{TellsFailure};
 ghost use Rattle.mm_program.specs.Told.{StopsCheck, TellsMigrate};
 
@@ -24,7 +24,7 @@ fn migrate_file<S: Start>(rt: &HostRuntime, path: &str, start: S) -> Result<(), 
 
 /// The subcommand `migrate`.
 pub(crate) fn migrate_told<W: Write>(rt: &HostRuntime, path: &str, output: &mut Io<W>) -> u8
-    ensures told { TellsMigrate (W.contents (inside output.old)) (W.contents (inside output.new)) (has_failed output.old) (has_failed output.new) result }
+    ensures told { TellsMigrate (written W.contents output.old) (written W.contents output.new) result }
     ensures status { result ≤ 4 }
     ensures unprinted { TellsFailure (has_failed output.old) (has_failed output.new) result }
 {

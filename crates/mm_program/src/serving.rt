@@ -1,7 +1,7 @@
 //! The page served over sockets.
 
 ghost use Rattle.std.specs.Prelude.{◌≡◌, ◌≤◌, ◌⊎◌, IfErr, IfOk, None};
-ghost use Rattle.mm_definitions.specs.Streams.{inside};
+ghost use Rattle.mm_definitions.specs.Streams.{written};
 ghost use Rattle.mm_definitions.specs.Streams as streams;
 ghost use Rattle.mm_subcommands.specs.Told.{TellsFailure};
 ghost use Rattle.mm_program.specs.Served.{IsQuiet, IsServing, TellsServe, WasServed};
@@ -84,7 +84,7 @@ fn serve_port<S: Alter, W: Write>(
 ) -> Result<u8, Stop>
     ensures status { IfOk result (λ status. status ≤ 3) }
     ensures working { IfOk result (λ status. (status ≡ 3) ⊎ (streams.has_failed output.new ≡ streams.has_failed output.old)) }
-    ensures served { IfOk result (IsServing port count (W.contents (inside output.old)) (W.contents (inside output.new)) (streams.has_failed output.old) (streams.has_failed output.new)) }
+    ensures served { IfOk result (IsServing port count (written W.contents output.old) (written W.contents output.new)) }
     ensures unused { IfErr result (λ why. output.new ≡ output.old) }
 {
     let Ok(mut listener) = TcpListener::bind(rt, (Ipv4Addr::LOCALHOST, port)) else {
@@ -107,9 +107,9 @@ fn serve_file<S: Start, W: Write>(
 ) -> Result<u8, Stop>
     ensures status { IfOk result (λ status. status ≤ 3) }
     ensures working { IfOk result (λ status. (status ≡ 3) ⊎ (streams.has_failed output.new ≡ streams.has_failed output.old)) }
-    ensures served { IfOk result (IsServing port count (W.contents (inside output.old)) (W.contents (inside output.new)) (streams.has_failed output.old) (streams.has_failed output.new)) }
+    ensures served { IfOk result (IsServing port count (written W.contents output.old) (written W.contents output.new)) }
     ensures unused { IfErr result (λ why. streams.has_failed output.new ≡ streams.has_failed output.old) }
-    ensures stopped { IfErr result (λ why. IsQuiet (W.contents (inside output.old)) (W.contents (inside output.new)) (streams.has_failed output.old) (streams.has_failed output.new) ⊎ WasServed port count (W.contents (inside output.old)) (W.contents (inside output.new)) (streams.has_failed output.old) (streams.has_failed output.new)) }
+    ensures stopped { IfErr result (λ why. IsQuiet (written W.contents output.old) (written W.contents output.new) ⊎ WasServed port count (written W.contents output.old) (written W.contents output.new)) }
 {
     let conn = open_old(rt, path, start)?;
     let mut session = match adopt_package(rt.alloc(), conn) {
@@ -133,7 +133,7 @@ pub(crate) fn serve_told<W: Write>(
     count: u32,
     output: &mut Io<W>,
 ) -> u8
-    ensures told { TellsServe port count (W.contents (inside output.old)) (W.contents (inside output.new)) (streams.has_failed output.old) (streams.has_failed output.new) result }
+    ensures told { TellsServe port count (written W.contents output.old) (written W.contents output.new) result }
     ensures status { result ≤ 4 }
     ensures unprinted { TellsFailure (streams.has_failed output.old) (streams.has_failed output.new) result }
 {

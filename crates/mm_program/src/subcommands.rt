@@ -1,7 +1,7 @@
 //! The program as a function of its words, its input and its output.
 
 ghost use Rattle.std.specs.Prelude.{◌≡◌, ◌≤◌, ◌⊎◌, IfOk, IfErr, map};
-ghost use Rattle.mm_definitions.specs.Streams.{has_failed, inside};
+ghost use Rattle.mm_definitions.specs.Streams.{has_failed, written};
 ghost use Rattle.clap.specs.Words.{kind_of};
 ghost use Rattle.mm_arguments.specs.Requests as arguments;
 ghost use Rattle.mm_subcommands.specs.Told.{TellsFailure, stop_status};
@@ -53,7 +53,7 @@ fn run_file<S: Start, R: Read, W: Write>(
 
 /// The subcommand `init`.
 fn init_told<W: Write>(rt: &HostRuntime, path: &str, output: &mut Io<W>) -> u8
-    ensures told { TellsInit (W.contents (inside output.old)) (W.contents (inside output.new)) (has_failed output.old) (has_failed output.new) result }
+    ensures told { TellsInit (written W.contents output.old) (written W.contents output.new) result }
     ensures status { result ≤ 4 }
     ensures unprinted { TellsFailure (has_failed output.old) (has_failed output.new) result }
 {
@@ -68,7 +68,7 @@ fn run_told<R: Read, W: Write>(
     input: &mut Io<R>,
     output: &mut Io<W>,
 ) -> u8
-    ensures declined { TellsDecline (W.contents (inside output.old)) (W.contents (inside output.new)) (has_failed output.old) (has_failed output.new) result }
+    ensures declined { TellsDecline (written W.contents output.old) (written W.contents output.new) result }
     ensures status { result ≤ 4 }
     ensures unprinted { TellsFailure (has_failed output.old) (has_failed output.new) result }
 {
@@ -85,7 +85,7 @@ fn run_told<R: Read, W: Write>(
 
 /// Prints what the reader of the words answered in place of a request: help, or what is wrong with them.
 fn tell_words<W: Write>(output: &mut Io<W>, error: clap::Error) -> u8
-    ensures told { TellsStatus (arguments.status_of (kind_of error)) (W.contents (inside output.old)) (W.contents (inside output.new)) (has_failed output.old) (has_failed output.new) result }
+    ensures told { TellsStatus (arguments.status_of (kind_of error)) (written W.contents output.old) (written W.contents output.new) result }
     ensures status { result ≤ 4 }
     ensures unprinted { TellsFailure (has_failed output.old) (has_failed output.new) result }
 {
@@ -103,7 +103,7 @@ pub fn program<R: Read, W: Write>(
     input: &mut Io<R>,
     output: &mut Io<W>,
 ) -> u8
-    ensures told { TellsWords (map (λ word. word.now) words.entry.now) (W.contents (inside output.old)) (W.contents (inside output.new)) (has_failed output.old) (has_failed output.new) result }
+    ensures told { TellsWords (map (λ word. word.now) words.entry.now) (written W.contents output.old) (written W.contents output.new) result }
     ensures status { result ≤ 4 }
     ensures unprinted { TellsFailure (has_failed output.old) (has_failed output.new) result }
 {

@@ -21,6 +21,7 @@ use Rattle.mm_run.specs.Told.{AreTold, AreCounted, Goes, IsStoppedText, Stops}
 use Rattle.mm_run.specs.Runs.{IsStopped}
 use Rattle.mm_run.specs.Ended.{AreAllRefused, AreRefused, AreRefusedSoFar, IsEndedAt, IsEndedRun, IsEndedTurn, IsReadNext, RanEnded, SpellsNext, refusals}
 use Rattle.mm_run.proofs.Loops.{stopped-fault, stopped-with, told-more}
+use Rattle.mm_definitions.specs.Streams.{written_as}
 
 -- ---- refusals
 refused-more : (rows : List Record) (numbers : List ℕ) (fields : Record) (number : ℕ) → AreRefused rows numbers → IsReadAs fields (Err number)
@@ -81,12 +82,12 @@ ended-none xs s source t w here told = record {
 
 -- ---- where a run stopped
 -- 92 was told because it was the answer
-was-92 : (f : Fault) (t : Tally) (e : RunFault) (n : ℕ) (mid new : Option (List ℕ)) (was failed : Bool) → Stops mid new was failed n (answers.Fault f) t e → e.fault.0 ≡ 92 → f.0 ≡ 92
+was-92 : (f : Fault) (t : Tally) (e : RunFault) (n : ℕ) (mid new : Option (List ℕ)) (was failed : Bool) → Stops (written_as mid was) (written_as new failed) n (answers.Fault f) t e → e.fault.0 ≡ 92 → f.0 ≡ 92
 was-92 f t e n mid new was failed (inl h) is = let same : f ≡ e.fault = cc (h.0) in ap (λ (x : Fault). x.0) same ∙ is
 was-92 f t e n mid new was failed (inr (inl h)) is = absurd (let other = h.0 in omega arith)
 was-92 f t e n mid new was failed (inr (inr h)) is = absurd (let other = h.0 in omega arith)
 
-not-92 : (x : Answer) (t : Tally) (e : RunFault) (n : ℕ) (mid new : Option (List ℕ)) (was failed : Bool) → IsAnswer x → Stops mid new was failed n x t e → e.fault.0 ≡ 92 → ⊥
+not-92 : (x : Answer) (t : Tally) (e : RunFault) (n : ℕ) (mid new : Option (List ℕ)) (was failed : Bool) → IsAnswer x → Stops (written_as mid was) (written_as new failed) n x t e → e.fault.0 ≡ 92 → ⊥
 not-92 x t e n mid new was failed good (inl h) is = subst IsAnswer h.0 good
 not-92 x t e n mid new was failed good (inr (inl h)) is = absurd (let other = h.0 in omega arith)
 not-92 x t e n mid new was failed good (inr (inr h)) is = absurd (let other = h.0 in omega arith)
@@ -97,7 +98,7 @@ module _ (xs : List ℕ) (s : State) (t : Tally) (e : RunFault) (n : ℕ) (old m
   StopsAt given w = (numbers : List ℕ) × (given ≡ refusals numbers) × (rows : List Record) × (state : State) × (rest : List ℕ) × Reached default_config s xs rows state rest × AreRefused rows numbers
       × (e.fault.0 ≡ 92 → IsReadNext xs s rows)
 
-  stopped-at : (given : List Answer) × IsStopped given e old new before failed × StopsAt given e.tally.written → IsEndedAt xs s e old new
+  stopped-at : (given : List Answer) × IsStopped given e (written_as old before) (written_as new failed) × StopsAt given e.tally.written → IsEndedAt xs s e old new
   stopped-at (given, stopped, (numbers, same, rows, state, rest, reached, read, next)) = record {
     numbers = numbers;
     rows = rows;
@@ -112,7 +113,7 @@ module _ (xs : List ℕ) (s : State) (t : Tally) (e : RunFault) (n : ℕ) (old m
 
   -- at a fault that is not 92
   pub ended-behind : (numbers : List ℕ) (rows : List Record) (state : State) (rest : List ℕ) → Reached default_config s xs rows state rest → AreRefused rows numbers → AreTold (refusals numbers) t old mid
-      → t.written + 1 ≡ n → (f : Fault) → f.0 ≢ 92 → f.0 ≢ 97 → Stops mid new was failed n (answers.Fault f) t e → IsEndedAt xs s e old new
+      → t.written + 1 ≡ n → (f : Fault) → f.0 ≢ 92 → f.0 ≢ 97 → Stops (written_as mid was) (written_as new failed) n (answers.Fault f) t e → IsEndedAt xs s e old new
   ended-behind numbers rows state rest reached read told at f other writer stops =
       stopped-at (stopped-fault StopsAt (refusals numbers) n t e old mid new before was failed (omega (arith, told.1)) told working f writer stops
       (λ w enough. (numbers, refl, rows, state, rest, reached, read, λ is. absurd (other (was-92 f t e n mid new was failed stops is)))))
@@ -124,7 +125,7 @@ module _ {T : Type 0} (remaining : T → Option (List ℕ)) (a b : Reader T) (xs
   one-more why number same = ap (λ y. refusals h.numbers ++ answers.Refused y ∷ []) same ∙ sym (refusals-more h.numbers number)
 
   -- it was answered
-  pub ended-more : (x : Answer) (t2 : Tally) (n : ℕ) (new : Option (List ℕ)) (was failed : Bool) → IsEndedTurn remaining a b (Some x) → Goes mid new was failed n x t t2 → t.written + 1 ≡ n
+  pub ended-more : (x : Answer) (t2 : Tally) (n : ℕ) (new : Option (List ℕ)) (was failed : Bool) → IsEndedTurn remaining a b (Some x) → Goes (written_as mid was) (written_as new failed) n x t t2 → t.written + 1 ≡ n
       → AreRefusedSoFar xs s (source_of remaining b) b.state t2 old new
   ended-more answers.Ok t2 n new was failed turn goes at = absurd turn
   ended-more (answers.Fault f) t2 n new was failed turn goes at = absurd (goes.0)
@@ -153,7 +154,7 @@ module _ {T : Type 0} (remaining : T → Option (List ℕ)) (a b : Reader T) (xs
 
   module _ (e : RunFault) (n : ℕ) (new : Option (List ℕ)) (before was failed : Bool) (working : was ≡ before) where
     -- with its fault
-    at_fault : (x : Answer) → is_fault x ≡ true → IsEndedTurn remaining a b (Some x) → Stops mid new was failed n x t e → e.fault.0 ≡ 92 → IsReadNext xs s h.rows
+    at_fault : (x : Answer) → is_fault x ≡ true → IsEndedTurn remaining a b (Some x) → Stops (written_as mid was) (written_as new failed) n x t e → e.fault.0 ≡ 92 → IsReadNext xs s h.rows
     at_fault answers.Ok faulted turn stops is = absurd (let g : false ≡ true = faulted in cc)
     at_fault (answers.Refused why) faulted turn stops is = absurd (let g : false ≡ true = faulted in cc)
     at_fault (answers.Fault f) faulted turn stops is =
@@ -162,7 +163,7 @@ module _ {T : Type 0} (remaining : T → Option (List ℕ)) (a b : Reader T) (xs
         (fields, command, b.state, zs, reached, spelled)
 
     -- with its refusal
-    at_refusal : (x : Answer) → IsAnswer x → IsEndedTurn remaining a b (Some x) → Stops mid new was failed n x t e → (w : ℕ)
+    at_refusal : (x : Answer) → IsAnswer x → IsEndedTurn remaining a b (Some x) → Stops (written_as mid was) (written_as new failed) n x t e → (w : ℕ)
         → StopsAt xs s t e n old mid new before was failed working (refusals h.numbers ++ x ∷ []) w
     at_refusal answers.Ok good turn stops w = absurd turn
     at_refusal (answers.Fault f) good turn stops w = absurd good
@@ -178,7 +179,7 @@ module _ {T : Type 0} (remaining : T → Option (List ℕ)) (a b : Reader T) (xs
           λ told. absurd (not-92 (answers.Refused why) t e n mid new was failed tt stops told),
         )
 
-    pub ended-stopped : (x : Answer) → OnFault x (λ f. f ≢ 97) → IsEndedTurn remaining a b (Some x) → Stops mid new was failed n x t e → t.written + 1 ≡ n → IsEndedAt xs s e old new
+    pub ended-stopped : (x : Answer) → OnFault x (λ f. f ≢ 97) → IsEndedTurn remaining a b (Some x) → Stops (written_as mid was) (written_as new failed) n x t e → t.written + 1 ≡ n → IsEndedAt xs s e old new
     ended-stopped x writer turn stops at =
         stopped-at xs s t e n old mid new before was failed working
         (stopped-with (StopsAt xs s t e n old mid new before was failed working) (refusals h.numbers) n t e old mid new before was failed (omega (arith, h.told.1)) h.told working x writer stops

@@ -9,6 +9,7 @@ use Rattle.mm_run.specs.Answers.{is_fault}
 use Rattle.mm_run.specs.Applied.{IsAnswer, IsApplyFault, OnFault, TellsFailure}
 use Rattle.mm_run.specs.Told.{Stops, with_answer, with_line}
 use Rattle.mm_run.specs.Runs.{TellsFailureOf}
+use Rattle.mm_definitions.specs.Streams.{written_as}
 
 no_such : (f : ℕ) → IsApplyFault f → f ≡ 96 → ⊥
 no_such f (inl e) h = absurd (omega arith)
@@ -42,7 +43,7 @@ goes-ended (answers.Refused why) before failed same t t2 good h was e = (h.1 was
 goes-ended (answers.Fault f) before failed same t t2 good h was e = absurd good
 
 -- a run stopped at the line of an answer
-accepted-stopped : (a : Answer) (t : Tally) (e : RunFault) (old new : Option (List ℕ)) (was failed : Bool) (n : ℕ) → Stops old new was failed n a t e → e.tally.accepted ≡ (with_answer a t).accepted
+accepted-stopped : (a : Answer) (t : Tally) (e : RunFault) (old new : Option (List ℕ)) (was failed : Bool) (n : ℕ) → Stops (written_as old was) (written_as new failed) n a t e → e.tally.accepted ≡ (with_answer a t).accepted
 accepted-stopped a t e old new was failed n (inl h) = ap (λ (x : Tally). x.accepted) h.2
 accepted-stopped a t e old new was failed n (inr (inl h)) = ap (λ (x : Tally). x.accepted) h.2
 accepted-stopped a t e old new was failed n (inr (inr h)) = ap (λ (x : Tally). x.accepted) h.2
@@ -70,7 +71,7 @@ module _ {S : Type 0} (x y z : S) (first before failed : Bool) (t : Tally) (e : 
   accepted_none : before ≡ false → first ≡ true → (z ≡ x) × (e.tally.accepted ≡ 0)
   accepted_none is was = absurd (let g : false ≡ true = sym is ∙ (so_far ∙ was) in cc)
 
-  by_answer : (a : Answer) → TellsFailure before failed (z ≡ y) a → Stops old new was writer n a t e → e.tally.accepted ≡ (with_answer a t).accepted → Result
+  by_answer : (a : Answer) → TellsFailure before failed (z ≡ y) a → Stops (written_as old was) (written_as new writer) n a t e → e.tally.accepted ≡ (with_answer a t).accepted → Result
   by_answer answers.Ok h (inl s) count = absurd (let g : answers.Ok ≡ answers.Fault e.fault = s.0 in cc)
   by_answer answers.Ok h (inr (inl s)) count = at_writer s.0 (accepted_none h.0)
   by_answer answers.Ok h (inr (inr s)) count = at_writer s.0 (accepted_none h.0)
@@ -81,5 +82,5 @@ module _ {S : Type 0} (x y z : S) (first before failed : Bool) (t : Tally) (e : 
   by_answer (answers.Fault f) h (inr (inl s)) count = at_writer s.0 (kept-refused count h.3)
   by_answer (answers.Fault f) h (inr (inr s)) count = at_writer s.0 (kept-refused count h.3)
 
-  pub stops-failing : (a : Answer) → TellsFailure before failed (z ≡ y) a → Stops old new was writer n a t e → Result
+  pub stops-failing : (a : Answer) → TellsFailure before failed (z ≡ y) a → Stops (written_as old was) (written_as new writer) n a t e → Result
   stops-failing a h s = by_answer a h s (accepted-stopped a t e old new was writer n s)

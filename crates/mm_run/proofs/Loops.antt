@@ -18,6 +18,7 @@ use Rattle.mm_run.specs.Applied.{IsAnswer, OnFault}
 use Rattle.mm_run.specs.Told.{AreCounted, AreTold, Goes, IsCutAt, Stops, with_answer, with_line}
 use Rattle.mm_run.specs.Runs.{IsRunFault, IsStopped, TellsWriter}
 use Rattle.mm_run.proofs.Lists.{accepted_of-more, length-lines_from, lines_from-more, refused_of-more, text-more}
+use Rattle.mm_definitions.specs.Streams.{written_as}
 
 -- ---- what was told
 -- nothing yet
@@ -48,7 +49,7 @@ counted-more given a t h = (
 
 -- one more line
 pub told-more : (given : List Answer) (a : Answer) (t t2 : Tally) (n : ℕ) (old mid new : Option (List ℕ)) (before failed : Bool)
-    → AreTold given t old mid → Goes mid new before failed n a t t2 → length given + 1 ≡ n → AreTold (given ++ a ∷ []) t2 old new
+    → AreTold given t old mid → Goes (written_as mid before) (written_as new failed) n a t t2 → length given + 1 ≡ n → AreTold (given ++ a ∷ []) t2 old new
 told-more given a t t2 n old mid new before failed d g e =
     let counts = counted-more given a t d.0 in
     let more : (with_line (with_answer a t)).written ≡ length (given ++ a ∷ []) = omega (arith, written-with a t, length-append given (a ∷ []), d.1) in
@@ -104,7 +105,7 @@ cut-counted given a n t e old mid new d (inr h) = rw h.0 (counted-more given a t
 module _ (P : List Answer → ℕ → Type 0) (given : List Answer) (n : ℕ) (t : Tally) (e : RunFault) (old mid new : Option (List ℕ)) (before was failed : Bool)
     (m : length given + 1 ≡ n) (d : AreTold given t old mid) (working : was ≡ before) where
   abbrev Result : Type 0
-  Result = (told : List Answer) × IsStopped told e old new before failed × P told e.tally.written
+  Result = (told : List Answer) × IsStopped told e (written_as old before) (written_as new failed) × P told e.tally.written
 
   by_writer : e.fault.0 ≡ 97 → failed ≡ true → TellsWriter before failed e
   by_writer is down = (λ _. down, λ other. absurd (other is))
@@ -125,12 +126,12 @@ module _ (P : List Answer → ℕ → Type 0) (given : List Answer) (n : ℕ) (t
       same (inl h) = rw h.0 d.0
       same (inr h) = rw h.0 d.0
 
-  pub stopped-answer : (a : Answer) → IsAnswer a → Stops mid new was failed n a t e → ((w : ℕ) → length given ≤ w → P (given ++ a ∷ []) w) → Result
+  pub stopped-answer : (a : Answer) → IsAnswer a → Stops (written_as mid was) (written_as new failed) n a t e → ((w : ℕ) → length given ≤ w → P (given ++ a ∷ []) w) → Result
   stopped-answer a good (inl h) more = absurd (subst IsAnswer h.0 good)
   stopped-answer a good (inr (inl h)) more = at_answer a h.0 h.1 (inl (h.2, h.3)) more
   stopped-answer a good (inr (inr h)) more = at_answer a h.0 h.1 (inr (h.2, h.3, h.4, h.5)) more
 
-  pub stopped-fault : (f : Fault) → f.0 ≢ 97 → Stops mid new was failed n (answers.Fault f) t e → ((w : ℕ) → length given ≤ w → P given w) → Result
+  pub stopped-fault : (f : Fault) → f.0 ≢ 97 → Stops (written_as mid was) (written_as new failed) n (answers.Fault f) t e → ((w : ℕ) → length given ≤ w → P given w) → Result
   stopped-fault f other (inl h) here =
       let same : f ≡ e.fault = cc (h.0) in
       let at : e.tally.written ≡ length given + 1 = rw h.2 (ap (λ k. k + 1) d.1) in
@@ -143,7 +144,7 @@ module _ (P : List Answer → ℕ → Type 0) (given : List Answer) (n : ℕ) (t
   stopped-fault f other (inr (inr h)) here = fault_cut f h.0 h.1 (inr (h.2, h.3, h.4, h.5)) here
 
   -- whichever it was
-  pub stopped-with : (a : Answer) → OnFault a (λ f. f ≢ 97) → Stops mid new was failed n a t e → (is_fault a ≡ true → (w : ℕ) → length given ≤ w → P given w)
+  pub stopped-with : (a : Answer) → OnFault a (λ f. f ≢ 97) → Stops (written_as mid was) (written_as new failed) n a t e → (is_fault a ≡ true → (w : ℕ) → length given ≤ w → P given w)
       → (IsAnswer a → (w : ℕ) → length given ≤ w → P (given ++ a ∷ []) w) → Result
   stopped-with answers.Ok other s here more = stopped-answer answers.Ok tt s (more tt)
   stopped-with (answers.Refused why) other s here more = stopped-answer (answers.Refused why) tt s (more tt)

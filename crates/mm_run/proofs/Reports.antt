@@ -16,6 +16,7 @@ use Rattle.mm_run.specs.Told.{AreTold}
 use Rattle.mm_run.specs.Runs.{AreFirstParts, IsAll, IsSome, IsStopped, RanAll, RanSome, StopsBehind, WorksOn, given_of}
 use Rattle.mm_run.proofs.Left.{parts-left}
 use Rattle.mm_run.proofs.Lists.{as_many, counted-answers, length-answers}
+use Rattle.mm_definitions.specs.Streams.{written_as}
 
 pub ran-all : {D : Type 0} (p : Package) (moment : ℕ) (bytes : List ℕ) (settled : Package → Type 0) (may_leave : D → Type 0) (stands_for : D → Package → Type 0) (old new : Option (List ℕ)) (t : Tally)
     (given : List Answer) → ((q : Package) → settled q → Leaves may_leave stands_for q) → AreTold given t old new → IsAll p moment (strip_bom bytes) states.StartRecord settled given
@@ -56,7 +57,7 @@ ran-some-less p moment bytes works works2 failed failed2 may_leave stands_for ol
 }
 
 pub ran-some : {D : Type 0} (p : Package) (moment : ℕ) (bytes : List ℕ) (before failed : Bool) (settled : Package → Type 0) (may_leave : D → Type 0) (stands_for : D → Package → Type 0) (old new : Option (List ℕ))
-    (was down : Bool) (e : RunFault) (given : List Answer) → IsStopped given e old new was down → IsSome p moment (strip_bom bytes) states.StartRecord before failed settled may_leave stands_for given e.tally.written
+    (was down : Bool) (e : RunFault) (given : List Answer) → IsStopped given e (written_as old was) (written_as new down) → IsSome p moment (strip_bom bytes) states.StartRecord before failed settled may_leave stands_for given e.tally.written
     → RanSome p moment bytes (WorksOn before failed settled) (failed ≡ true) may_leave stands_for old new e
 ran-some p moment bytes before failed settled may_leave stands_for old new was down e given stopped some =
     let readings = some.readings in

@@ -21,6 +21,7 @@ use Rattle.mm_run.specs.Readings.{Reading, IsReadAs, AreReadAs}
 use Rattle.mm_run.specs.Answers.{answer_to, after, answers_to, calls_of, accepted_of}
 use Rattle.mm_run.specs.Applied.{IsSound, LeavesEither, IsApplyFault}
 use Rattle.mm_run.specs.Told.{AreCounted, IsStoppedText}
+use Rattle.mm_definitions.specs.Streams.{Written}
 
 -- a fault that has a line of its own: of a command, or of the reader, which tells it
 abbrev pub IsRunFault : ℕ → Bool → Type 0
@@ -128,8 +129,8 @@ Turns remaining old new p moment before failed (Some (answers.Fault fault)) sett
     WorksOn before failed settled p ⊎ ((fields : Record) × ReadRecord remaining old new true fields × IsAnswered fields p moment before failed (answers.Fault fault) settled may_leave stands_for)
 
 -- Some answers, counted and told up to the end of a run that a fault stopped.
-abbrev pub IsStopped : List Answer → RunFault → Option (List ℕ) → Option (List ℕ) → Bool → Bool → Type 0
-IsStopped given e old new before failed = AreCounted e.tally given × IsStoppedText given e old new × TellsWriter before failed e
+abbrev pub IsStopped : List Answer → RunFault → Written → Written → Type 0
+IsStopped given e old new = AreCounted e.tally given × IsStoppedText given e old.contents new.contents × TellsWriter old.failed new.failed e
 
 -- the records so far are these, read so and answered so; the package after them is settled, and the reader stands behind them
 pub record IsSoFar (p : Package) (moment : ℕ) (xs : List ℕ) (s : State) (source : Option (List ℕ)) (s2 : State) (settled : Package → Type 0) (given : List Answer) : Type 0 where

@@ -10,6 +10,7 @@ use Rattle.mm_definitions.specs.declared.answers.RunFault.{RunFault}
 use Rattle.mm_io.specs.Lines.{line, lines}
 use Rattle.mm_run.specs.Applied.{IsAnswer}
 use Rattle.mm_run.specs.Answers.{accepted_of, refused_of}
+use Rattle.mm_definitions.specs.Streams.{Written}
 
 -- a tally with one more answer
 abbrev pub with_answer : Answer → Tally → Tally
@@ -26,15 +27,15 @@ abbrev pub AreCounted : Tally → List Answer → Type 0
 AreCounted t given = (t.accepted ≡ accepted_of given) × (t.refused ≡ refused_of given)
 
 -- line n was written whole and flushed, and tells no fault
-abbrev pub Goes : Option (List ℕ) → Option (List ℕ) → Bool → Bool → ℕ → Answer → Tally → Tally → Type 0
-Goes old new before failed n a t t2 = IsAnswer a × (t2 ≡ with_line (with_answer a t)) × Appends old new (line n a) × (failed ≡ before)
+abbrev pub Goes : Written → Written → ℕ → Answer → Tally → Tally → Type 0
+Goes old new n a t t2 = IsAnswer a × (t2 ≡ with_line (with_answer a t)) × Appends old.contents new.contents (line n a) × (new.failed ≡ old.failed)
 
 -- the line of a fault was written whole, and the writer has not failed; or it did behind the line, or inside it
-abbrev pub Stops : Option (List ℕ) → Option (List ℕ) → Bool → Bool → ℕ → Answer → Tally → RunFault → Type 0
-Stops old new before failed n a t e =
-    ((a ≡ answers.Fault e.fault) × (failed ≡ before) × (e.tally ≡ with_line (with_answer a t)) × Appends old new (line n a))
-    ⊎ ((e.fault.0 ≡ 97) × (failed ≡ true) × (e.tally ≡ with_line (with_answer a t)) × Appends old new (line n a))
-    ⊎ ((e.fault.0 ≡ 97) × (failed ≡ true) × (e.tally ≡ with_answer a t) × (taken : ℕ) × (taken < length (line n a)) × Appends old new (take taken (line n a)))
+abbrev pub Stops : Written → Written → ℕ → Answer → Tally → RunFault → Type 0
+Stops old new n a t e =
+    ((a ≡ answers.Fault e.fault) × (new.failed ≡ old.failed) × (e.tally ≡ with_line (with_answer a t)) × Appends old.contents new.contents (line n a))
+    ⊎ ((e.fault.0 ≡ 97) × (new.failed ≡ true) × (e.tally ≡ with_line (with_answer a t)) × Appends old.contents new.contents (line n a))
+    ⊎ ((e.fault.0 ≡ 97) × (new.failed ≡ true) × (e.tally ≡ with_answer a t) × (taken : ℕ) × (taken < length (line n a)) × Appends old.contents new.contents (take taken (line n a)))
 
 -- the lines of these answers were written, and all were counted
 abbrev pub AreTold : List Answer → Tally → Option (List ℕ) → Option (List ℕ) → Type 0

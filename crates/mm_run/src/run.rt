@@ -4,7 +4,7 @@ ghost use Rattle.std.specs.Prelude.{◌≡◌, ◌+◌, ◌<◌, ◌^◌, ◌⊎
 ghost use Rattle.std.specs.Io.KnownBytes.{IsAtEnd};
 ghost use Rattle.csv.specs.Reading.{reader_source, reader_state, source_of, strip_bom};
 ghost use Rattle.csv.specs.declared.parser.State.TheVariants as states;
-ghost use Rattle.mm_definitions.specs.Streams.{inside};
+ghost use Rattle.mm_definitions.specs.Streams.{inside, written};
 ghost use Rattle.mm_definitions.specs.Streams as streams;
 ghost use Rattle.mm_definitions.specs.declared.answers.Answer.{Answer};
 ghost use Rattle.mm_io.specs.Records.{IsSetUp};
@@ -36,7 +36,7 @@ fn run_rows<A: Apply, T: Read + Tells, W: Write>(
     ensures clean { A.is_clean session.new → A.is_clean session.old }
     ensures done { IfOk result (λ t. (given : List Answer) × AreTold given t (W.contents (inside writer.old)) (W.contents (inside writer.new))
         × OnRun (A.is_clean session.new) (A.settled session.old) (source_of T.remaining rows.old) (λ p xs. IsAll p at xs (reader_state rows.old) (A.settled session.new) given)) }
-    ensures stopped { IfErr result (λ e. (given : List Answer) × IsStopped given e (W.contents (inside writer.old)) (W.contents (inside writer.new)) (streams.has_failed writer.old) (streams.has_failed writer.new)
+    ensures stopped { IfErr result (λ e. (given : List Answer) × IsStopped given e (written W.contents writer.old) (written W.contents writer.new)
         × OnRun (A.is_clean session.new) (A.settled session.old) (source_of T.remaining rows.old) (λ p xs. IsSome p at xs (reader_state rows.old) (A.has_failed session.old) (A.has_failed session.new) (A.settled session.new) (A.may_leave session.new) A.stands_for given e.tally.written)) }
     ensures working { OnOk result (streams.has_failed writer.new ≡ streams.has_failed writer.old) }
     ensures flushed { TellsFlush (streams.is_flushed writer.old) (streams.is_flushed writer.new) result }
@@ -81,7 +81,7 @@ fn run_held<'a, A: Apply, R: Read, W: Write, K: Lender>(
     ensures clean { A.is_clean session.new → A.is_clean session.old }
     ensures done { IfOk result.1 (λ t. (given : List Answer) × AreTold given t (W.contents (inside writer.old)) (W.contents (inside writer.new))
         × OnRun (A.is_clean session.new) (A.settled session.old) (option_map strip_bom (R.remaining (inside held.entry.reader.now))) (λ p xs. IsAll p at xs states.StartRecord (A.settled session.new) given)) }
-    ensures stopped { IfErr result.1 (λ e. (given : List Answer) × IsStopped given e (W.contents (inside writer.old)) (W.contents (inside writer.new)) (streams.has_failed writer.old) (streams.has_failed writer.new)
+    ensures stopped { IfErr result.1 (λ e. (given : List Answer) × IsStopped given e (written W.contents writer.old) (written W.contents writer.new)
         × OnRun (A.is_clean session.new) (A.settled session.old) (option_map strip_bom (R.remaining (inside held.entry.reader.now))) (λ p xs. IsSome p at xs states.StartRecord (A.has_failed session.old) (A.has_failed session.new) (A.settled session.new) (A.may_leave session.new) A.stands_for given e.tally.written)) }
     ensures working { OnOk result.1 (streams.has_failed writer.new ≡ streams.has_failed writer.old) }
     ensures flushed { TellsFlush (streams.is_flushed writer.old) (streams.is_flushed writer.new) result.1 }
@@ -113,7 +113,7 @@ fn run_told<A: Apply, R: Read, W: Write>(
     ensures clean { A.is_clean session.new → A.is_clean session.old }
     ensures done { IfOk result (λ t. (given : List Answer) × AreTold given t (W.contents (inside writer.old)) (W.contents (inside writer.new))
         × OnRun (A.is_clean session.new) (A.settled session.old) (option_map strip_bom (R.remaining (inside reader.old))) (λ p xs. IsAll p at xs states.StartRecord (A.settled session.new) given)) }
-    ensures stopped { IfErr result (λ e. (given : List Answer) × IsStopped given e (W.contents (inside writer.old)) (W.contents (inside writer.new)) (streams.has_failed writer.old) (streams.has_failed writer.new)
+    ensures stopped { IfErr result (λ e. (given : List Answer) × IsStopped given e (written W.contents writer.old) (written W.contents writer.new)
         × OnRun (A.is_clean session.new) (A.settled session.old) (option_map strip_bom (R.remaining (inside reader.old))) (λ p xs. IsSome p at xs states.StartRecord (A.has_failed session.old) (A.has_failed session.new) (A.settled session.new) (A.may_leave session.new) A.stands_for given e.tally.written)) }
     ensures end { OnOk result (IsAtEnd (R.remaining (inside reader.new))) }
     ensures working { OnOk result (streams.has_failed writer.new ≡ streams.has_failed writer.old) }

@@ -1,7 +1,7 @@
 //! Telling an answer: its line is written and counted.
 
 ghost use Rattle.std.specs.Prelude.{◌≡◌, ◌≢◌, ◌+◌, ◌<◌, ◌^◌, IfOk, IfErr, true};
-ghost use Rattle.mm_definitions.specs.Streams.{has_failed, inside, is_flushed};
+ghost use Rattle.mm_definitions.specs.Streams.{is_flushed, written};
 ghost use Rattle.mm_run.specs.Told.{Goes, IsNear, Stops, with_answer};
 
 use mm_definitions::answers::{Answer, Fault, RunFault, Tally};
@@ -36,9 +36,9 @@ pub(crate) fn tell<W: Write>(
     tally: Tally,
 ) -> Result<Tally, RunFault>
     requires { (tally.accepted + tally.refused + 1 ≡ n) × (tally.written + 1 ≡ n) }
-    ensures goes { IfOk result (λ t. Goes (W.contents (inside writer.old)) (W.contents (inside writer.new)) (has_failed writer.old) (has_failed writer.new) n answer tally t) }
+    ensures goes { IfOk result (λ t. Goes (written W.contents writer.old) (written W.contents writer.new) n answer tally t) }
     ensures near { IfErr result (λ e. IsNear e.tally) }
-    ensures stops { IfErr result (λ e. Stops (W.contents (inside writer.old)) (W.contents (inside writer.new)) (has_failed writer.old) (has_failed writer.new) n answer tally e) }
+    ensures stops { IfErr result (λ e. Stops (written W.contents writer.old) (written W.contents writer.new) n answer tally e) }
     ensures flushed { IfOk result (λ t. is_flushed writer.new ≡ true) }
     ensures told { IfErr result (λ e. e.fault.0 ≢ 97 → is_flushed writer.new ≡ true) }
 {

@@ -8,8 +8,9 @@ use Rattle.mm_core.specs.Adopted.{IsAdopted}
 use Rattle.mm_listing.specs.Listing.{listing}
 use Rattle.mm_listing.specs.Writing.{IsListed}
 use Rattle.mm_subcommands.specs.Looked.{IsListing}
+use Rattle.mm_definitions.specs.Streams.{written_as}
 
-pub lists : (old mid new : State) (held holds : Option (List ℕ)) (before failed : Bool) (done : Unit {0}) → IsAdopted old mid → IsListed current listing mid new held holds before failed (Ok done) → IsListing old new held holds
+pub lists : (old mid new : State) (held holds : Option (List ℕ)) (before failed : Bool) (done : Unit {0}) → IsAdopted old mid → IsListed current listing mid new (written_as held before) (written_as holds failed) (Ok done) → IsListing old new held holds
 lists old mid new held holds before failed done adopted listed =
     let early : HasCleanDisk new → HasCleanDisk mid = λ clean. omega (arith, clean, listed.survives.clean) in
     record {

@@ -4,6 +4,7 @@ use Rattle.std.specs.List.{concat}
 use Rattle.std.specs.Io.KnownBytes.{Appends}
 use Rattle.mm_definitions.specs.declared.answers.Fault.{Fault}
 use Rattle.mm_definitions.specs.declared.answers.PageFault.{PageFault}
+use Rattle.mm_definitions.specs.Streams.{Written}
 
 -- where the page is served
 abbrev pub serving_text : ℕ → List ℕ
@@ -14,9 +15,9 @@ abbrev pub page_fault_text : Fault → List ℕ
 page_fault_text fault = codes "page fault " ++ decimal fault.0 ++ codes "\n"
 
 -- The bytes were printed whole; or the writer has failed, behind a front of them.
-abbrev pub IsPrinted : Option (List ℕ) → Option (List ℕ) → Bool → Bool → List ℕ → Bool → Type 0
-IsPrinted old new before failed bytes true = Appends old new bytes × (failed ≡ before)
-IsPrinted old new before failed bytes false = (failed ≡ true) × (taken : ℕ) × (taken ≤ length bytes) × Appends old new (take taken bytes)
+abbrev pub IsPrinted : Written → Written → List ℕ → Bool → Type 0
+IsPrinted old new bytes true = Appends old.contents new.contents bytes × (new.failed ≡ old.failed)
+IsPrinted old new bytes false = (new.failed ≡ true) × (taken : ℕ) × (taken ≤ length bytes) × Appends old.contents new.contents (take taken bytes)
 
 -- 90, 91, 92, 96 or 97
 abbrev pub IsServiceFault : Fault → Type 0
@@ -47,8 +48,8 @@ status_of (fault ∷ rest) = 3
 
 -- As many connections were served as were to be, and what was printed is a line for each that met a fault; or the line of the last
 -- that was served couldn't be printed whole, and 3 is answered.
-abbrev pub IsServed : ℕ → List Outcome → Option (List ℕ) → Option (List ℕ) → Bool → Bool → ℕ → Type 0
-IsServed count outcomes old new before failed status = All IsServiceFault (faults_of outcomes)
-    × (((length outcomes ≡ count) × Appends old new (fault_lines outcomes) × (failed ≡ before) × (status ≡ status_of (faults_of outcomes)))
-    ⊎ ((length outcomes ≤ count) × (failed ≡ true) × (status ≡ 3) × (first : List Outcome) × (why : PageFault) × (outcomes ≡ first ++ Err why ∷ [])
-    × (taken : ℕ) × (taken ≤ length (page_fault_text why.0)) × Appends old new (fault_lines first ++ take taken (page_fault_text why.0))))
+abbrev pub IsServed : ℕ → List Outcome → Written → Written → ℕ → Type 0
+IsServed count outcomes old new status = All IsServiceFault (faults_of outcomes)
+    × (((length outcomes ≡ count) × Appends old.contents new.contents (fault_lines outcomes) × (new.failed ≡ old.failed) × (status ≡ status_of (faults_of outcomes)))
+    ⊎ ((length outcomes ≤ count) × (new.failed ≡ true) × (status ≡ 3) × (first : List Outcome) × (why : PageFault) × (outcomes ≡ first ++ Err why ∷ [])
+    × (taken : ℕ) × (taken ≤ length (page_fault_text why.0)) × Appends old.contents new.contents (fault_lines first ++ take taken (page_fault_text why.0))))

@@ -5,6 +5,7 @@ use Rattle.mm_io.specs.declared.sending.Sent.{Sent}
 use Rattle.mm_io.specs.declared.sending.Sent.TheVariants as sent
 use Rattle.mm_subcommands.specs.declared.stop.Stop.{Stop}
 use Rattle.mm_subcommands.specs.declared.stop.Stop.TheVariants as stops
+use Rattle.mm_definitions.specs.Streams.{Written}
 
 -- the status where all was printed, and that of a fault else
 abbrev pub status_after : Sent → ℕ → ℕ
@@ -13,9 +14,9 @@ status_after sent.Unflushed status = 3
 status_after sent.Cut status = 3
 
 -- The bytes were printed whole and the status is answered; or the writer failed, behind a front of them, and 3 is.
-abbrev pub IsTold : Option (List ℕ) → Option (List ℕ) → Bool → Bool → List ℕ → ℕ → ℕ → Type 0
-IsTold old new before failed bytes status result =
-    (became : Sent) × Sends old new before failed bytes became × (result ≡ status_after became status)
+abbrev pub IsTold : Written → Written → List ℕ → ℕ → ℕ → Type 0
+IsTold old new bytes status result =
+    (became : Sent) × Sends old new bytes became × (result ≡ status_after became status)
 
 -- a print that fails ends with 3
 abbrev pub TellsFailure : Bool → Bool → ℕ → Type 0

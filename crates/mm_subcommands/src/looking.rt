@@ -2,7 +2,7 @@
 
 ghost use Rattle.std.specs.Prelude.{◌≡◌, ◌⊎◌, false, IfOk, IfErr, OnOk};
 ghost use Rattle.sqlite.specs.Held.{state};
-ghost use Rattle.mm_definitions.specs.Streams.{has_failed, inside};
+ghost use Rattle.mm_definitions.specs.Streams.{has_failed, inside, written};
 ghost use Rattle.mm_core.specs.Adopted.{IsAdopted};
 ghost use Rattle.mm_subcommands.specs.Declined.{IsDeclined};
 ghost use Rattle.mm_subcommands.specs.Told.{IsTold, stop_status};
@@ -56,7 +56,7 @@ pub fn list_package<S: Alter + Drop, W: Write>(
 
 /// Prints what checking a package came to.
 pub fn tell_check<W: Write>(output: &mut Io<W>, outcome: Result<(), Stop>) -> u8
-    ensures { IsTold (W.contents (inside output.old)) (W.contents (inside output.new)) (has_failed output.old) (has_failed output.new) (check_text outcome) (check_status outcome) result }
+    ensures { IsTold (written W.contents output.old) (written W.contents output.new) (check_text outcome) (check_status outcome) result }
 {
     match outcome {
         Ok(()) => tell_bytes(output, b"package ok\n", DONE),

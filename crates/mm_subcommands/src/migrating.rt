@@ -2,7 +2,7 @@
 
 ghost use Rattle.std.specs.Prelude.{◌≡◌, Ok, false, IfOk, IfErr};
 ghost use Rattle.sqlite.specs.Held.{state};
-ghost use Rattle.mm_definitions.specs.Streams.{has_failed, inside};
+ghost use Rattle.mm_definitions.specs.Streams.{written};
 ghost use Rattle.mm_migrate.specs.Migrations.{IsMigration};
 ghost use Rattle.mm_subcommands.specs.Migrated.{IsUnmigrated, migrate_status, migrate_text};
 ghost use Rattle.mm_subcommands.specs.Told.{IsTold};
@@ -33,7 +33,7 @@ pub fn migrate_package<S: Alter + Drop>(
 
 /// Prints what migrating a package came to.
 pub fn tell_migration<W: Write>(output: &mut Io<W>, outcome: Result<(), Stop>) -> u8
-    ensures { IsTold (W.contents (inside output.old)) (W.contents (inside output.new)) (has_failed output.old) (has_failed output.new) (migrate_text outcome) (migrate_status outcome) result }
+    ensures { IsTold (written W.contents output.old) (written W.contents output.new) (migrate_text outcome) (migrate_status outcome) result }
 {
     match outcome {
         Ok(()) => tell_bytes(output, b"migrate ok\n", DONE),

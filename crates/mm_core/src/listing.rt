@@ -8,14 +8,13 @@ use sqlite::Alter;
 use std::io::Write;
 
 impl<S: Alter> Session<S> {
-    ghost use Rattle.std.specs.Prelude.{◌≡◌, Err, false, true};
-    ghost use Rattle.sqlite.specs.Held.{state};
+    ghost use Rattle.std.specs.Prelude.{◌≡◌, true};
     ghost use Rattle.mm_definitions.specs.Bounds.{current};
     ghost use Rattle.mm_definitions.specs.Streams.{written};
-    ghost use Rattle.mm_definitions.specs.Streams as streams;
     ghost use Rattle.mm_listing.specs.Listing.{listing};
     ghost use Rattle.mm_listing.specs.Writing.{IsListed};
-    ghost use Rattle.mm_core.specs.Parts.{held, has_failed};
+    ghost use Rattle.mm_core.specs.Parts.{has_failed};
+    ghost use Rattle.mm_core.specs.Reads.{Reads};
 
     /// Writes the listing of the package: a line for each table, and then one for each edition, by rising name. Each line
     /// is written before the next row is asked for. It writes nothing to the package.
@@ -24,9 +23,9 @@ impl<S: Alter> Session<S> {
     /// another fault a beginning of the listing was written: 97 where the writer failed, else 90 where memory was refused
     /// and 91 where the store failed. Then the session goes on, and the package and what may be left are as they were.
     pub fn list<W: Write>(&mut self, writer: &mut Io<W>) -> Result<(), Fault>
-        ensures ended { has_failed self.old ≡ true → (result ≡ Err (record { 0 = 92 })) × (self.new ≡ self.old) × (writer.new ≡ writer.old) }
-        ensures same { has_failed self.new ≡ has_failed self.old }
-        ensures listed { has_failed self.old ≡ false → IsListed current listing (state S.Store (held self.old)) (state S.Store (held self.new)) (written W.contents writer.old) (written W.contents writer.new) result }
+        ensures reads { Reads S.Store self.old self.new result (λ old new. IsListed current listing old new
+            (written W.contents writer.old) (written W.contents writer.new) result) }
+        ensures unwritten { has_failed self.old ≡ true → writer.new ≡ writer.old }
     {
         if self.failed {
             return Err(Fault::REOPEN);

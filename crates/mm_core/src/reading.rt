@@ -9,9 +9,8 @@ use mm_reads::{contents, media, related, row, tile};
 use sqlite::Alter;
 
 impl<S: Alter> Session<S> {
-    ghost use Rattle.std.specs.Prelude.{◌≡◌, pos, Err, false, true, option_map};
+    ghost use Rattle.std.specs.Prelude.{◌≡◌, pos, option_map};
     ghost use Rattle.std.specs.FinMap.{get};
-    ghost use Rattle.sqlite.specs.Held.{state};
     ghost use Rattle.mm_definitions.specs.Bounds.{current};
     ghost use Rattle.mm_definitions.specs.Keys as keys;
     ghost use Rattle.mm_definitions.specs.Keys.{item};
@@ -20,7 +19,7 @@ impl<S: Alter> Session<S> {
     ghost use Rattle.mm_reads.specs.Listing.{Lists};
     ghost use Rattle.mm_reads.specs.Related.{Tells};
     ghost use Rattle.mm_edition.specs.States.{TellsState};
-    ghost use Rattle.mm_core.specs.Parts.{held, has_failed};
+    ghost use Rattle.mm_core.specs.Reads.{Reads};
 
     /// The bytes of the tile of a pyramid at a zoom, column and row, or None where none stands there. (Tile Pyramid User
     /// Data Tables.)
@@ -34,9 +33,8 @@ impl<S: Alter> Session<S> {
         column: u32,
         row: u32,
     ) -> Result<Option<Vec<u8>>, Fault>
-        ensures ended { has_failed self.old ≡ true → (result ≡ Err (record { 0 = 92 })) × (self.new ≡ self.old) }
-        ensures same { has_failed self.new ≡ has_failed self.old }
-        ensures read { has_failed self.old ≡ false → IsRead current (state S.Store (held self.old)) (state S.Store (held self.new)) (λ p found. TellsBytes (get p.tiles (keys.tile table.now (pos zoom) (pos column) (pos row))) found) result }
+        ensures { Reads S.Store self.old self.new result (λ old new. IsRead current old new
+            (λ p found. TellsBytes (get p.tiles (keys.tile table.now (pos zoom) (pos column) (pos row))) found) result) }
     {
         if self.failed {
             return Err(Fault::REOPEN);
@@ -49,9 +47,8 @@ impl<S: Alter> Session<S> {
     /// 92 where the session has to be opened again, and then nothing is asked of the store. After another fault the session goes
     /// on, and the package and what may be left are as they were.
     pub fn media(&mut self, table: &Name, id: i64) -> Result<Option<Media>, Fault>
-        ensures ended { has_failed self.old ≡ true → (result ≡ Err (record { 0 = 92 })) × (self.new ≡ self.old) }
-        ensures same { has_failed self.new ≡ has_failed self.old }
-        ensures read { has_failed self.old ≡ false → IsRead current (state S.Store (held self.old)) (state S.Store (held self.new)) (λ p found. get p.media (item table.now id) ≡ option_map medium_of found) result }
+        ensures { Reads S.Store self.old self.new result (λ old new. IsRead current old new
+            (λ p found. get p.media (item table.now id) ≡ option_map medium_of found) result) }
     {
         if self.failed {
             return Err(Fault::REOPEN);
@@ -64,9 +61,8 @@ impl<S: Alter> Session<S> {
     /// 92 where the session has to be opened again, and then nothing is asked of the store. After another fault the session goes
     /// on, and the package and what may be left are as they were.
     pub fn row(&mut self, table: &Name, id: i64) -> Result<Option<Row>, Fault>
-        ensures ended { has_failed self.old ≡ true → (result ≡ Err (record { 0 = 92 })) × (self.new ≡ self.old) }
-        ensures same { has_failed self.new ≡ has_failed self.old }
-        ensures read { has_failed self.old ≡ false → IsRead current (state S.Store (held self.old)) (state S.Store (held self.new)) (λ p found. get p.rows (item table.now id) ≡ option_map row_of found) result }
+        ensures { Reads S.Store self.old self.new result (λ old new. IsRead current old new
+            (λ p found. get p.rows (item table.now id) ≡ option_map row_of found) result) }
     {
         if self.failed {
             return Err(Fault::REOPEN);
@@ -80,9 +76,8 @@ impl<S: Alter> Session<S> {
     /// 92 where the session has to be opened again, and then nothing is asked of the store. After another fault the session goes
     /// on, and the package and what may be left are as they were.
     pub fn contents(&mut self) -> Result<Vec<Entry>, Fault>
-        ensures ended { has_failed self.old ≡ true → (result ≡ Err (record { 0 = 92 })) × (self.new ≡ self.old) }
-        ensures same { has_failed self.new ≡ has_failed self.old }
-        ensures read { has_failed self.old ≡ false → IsRead current (state S.Store (held self.old)) (state S.Store (held self.new)) (λ p tables. Lists p tables.items) result }
+        ensures { Reads S.Store self.old self.new result (λ old new. IsRead current old new
+            (λ p tables. Lists p tables.items) result) }
     {
         if self.failed {
             return Err(Fault::REOPEN);
@@ -96,9 +91,8 @@ impl<S: Alter> Session<S> {
     /// 92 where the session has to be opened again, and then nothing is asked of the store. After another fault the session goes
     /// on, and the package and what may be left are as they were.
     pub fn related(&mut self, table: &Name, id: i64) -> Result<Option<Vec<Related>>, Fault>
-        ensures ended { has_failed self.old ≡ true → (result ≡ Err (record { 0 = 92 })) × (self.new ≡ self.old) }
-        ensures same { has_failed self.new ≡ has_failed self.old }
-        ensures read { has_failed self.old ≡ false → IsRead current (state S.Store (held self.old)) (state S.Store (held self.new)) (λ p found. Tells p table.now id found) result }
+        ensures { Reads S.Store self.old self.new result (λ old new. IsRead current old new
+            (λ p found. Tells p table.now id found) result) }
     {
         if self.failed {
             return Err(Fault::REOPEN);
@@ -111,9 +105,8 @@ impl<S: Alter> Session<S> {
     /// 92 where the session has to be opened again, and then nothing is asked of the store. After another fault the session goes
     /// on, and the package and what may be left are as they were.
     pub fn edition(&mut self, name: &Name) -> Result<Option<EditionState>, Fault>
-        ensures ended { has_failed self.old ≡ true → (result ≡ Err (record { 0 = 92 })) × (self.new ≡ self.old) }
-        ensures same { has_failed self.new ≡ has_failed self.old }
-        ensures read { has_failed self.old ≡ false → IsRead current (state S.Store (held self.old)) (state S.Store (held self.new)) (λ p found. TellsState p name.now found) result }
+        ensures { Reads S.Store self.old self.new result (λ old new. IsRead current old new
+            (λ p found. TellsState p name.now found) result) }
     {
         if self.failed {
             return Err(Fault::REOPEN);

@@ -1,5 +1,17 @@
+use Rattle.std.proofs.Common.{◌≡◌, ◌∙◌, true, false, refl, sym}
 use Rattle.mm_definitions.specs.Bounds.{current}
 use Rattle.mm_core.proofs.session.Session.tile.Goals as goal
 
-pub returns-clause-read : goal.returns-clause-read
-returns-clause-read g c working = c.tile.ensures.read current
+pub returns-then-branch : goal.returns-then-branch
+returns-then-branch g c = record {
+  ended = λ _. (refl, refl);
+  same = refl;
+  read = λ works. absurd (let clash : true ≡ false = sym c.if-branch.true ∙ works in cc);
+}
+
+pub returns : goal.returns
+returns g c = record {
+  ended = λ failed. absurd (let clash : false ≡ true = sym c.if-branch.false ∙ failed in cc);
+  same = refl;
+  read = λ works. c.tile.ensures.read current;
+}

@@ -30,7 +30,8 @@ pub fn first_number<S: Alter>(
     params: &[ValueRef<'_>],
 ) -> Result<Option<i64>, Fault>
     ensures same_reference { tx.new.conn.ghost_name ≡ tx.old.conn.ghost_name }
-    ensures asked { IsAsked (state S.Store tx.old.conn.now) (state S.Store tx.new.conn.now) sql.now (bound params.now) (λ it first. GivesNumber it first) result }
+    ensures asked { IsAsked (state S.Store tx.old.conn.now) (state S.Store tx.new.conn.now) sql.now (bound params.now)
+        (λ it first. GivesNumber it first) result }
 {
     match first(tx, sql, params)? {
         Some(row) => Ok(Some(number_in(&row, 0)?)),
@@ -46,7 +47,9 @@ fn find_blob<S: Alter>(
 ) -> Result<Option<i64>, Fault>
     requires { digest.now ≡ spec.digest_of bytes.now }
     ensures same_reference { tx.new.conn.ghost_name ≡ tx.old.conn.ghost_name }
-    ensures found { (profile : Profile) (spare : Spare) → IsMove (state S.Store tx.old.conn.now) (state S.Store tx.new.conn.now) (IsSeen spare profile (state S.Store tx.old.conn.now))
+    ensures found { (profile : Profile) (spare : Spare) →
+        IsMove (state S.Store tx.old.conn.now) (state S.Store tx.new.conn.now)
+        (IsSeen spare profile (state S.Store tx.old.conn.now))
         (λ base x it y. (y ≡ x) × IsSeen spare profile (state S.Store tx.new.conn.now) base y × IsFound y.kept.shelf bytes.now it) result }
 {
     first_number(
@@ -65,8 +68,11 @@ fn insert_blob<S: Alter>(
     requires digest { digest.now ≡ spec.digest_of bytes.now }
     requires some { bytes.now ≢ [] }
     ensures same_reference { tx.new.conn.ghost_name ≡ tx.old.conn.ghost_name }
-    ensures put { (profile : Profile) (spare : Spare) → IsMove (state S.Store tx.old.conn.now) (state S.Store tx.new.conn.now) (λ base x. IsSeen spare profile (state S.Store tx.old.conn.now) base x × Lacks x.kept.shelf bytes.now)
-        (λ base x id y. (y ≡ record x { kept = record (x.kept) { shelf = insert x.kept.shelf id (blob_of bytes.now) } }) × IsSeen (spare_too id spare) profile (state S.Store tx.new.conn.now) base y) result }
+    ensures put { (profile : Profile) (spare : Spare) →
+        IsMove (state S.Store tx.old.conn.now) (state S.Store tx.new.conn.now)
+        (λ base x. IsSeen spare profile (state S.Store tx.old.conn.now) base x × Lacks x.kept.shelf bytes.now)
+        (λ base x id y. (y ≡ record x { kept = record (x.kept) { shelf = insert x.kept.shelf id (blob_of bytes.now) } })
+        × IsSeen (spare_too id spare) profile (state S.Store tx.new.conn.now) base y) result }
 {
     run(
         tx,
@@ -80,8 +86,12 @@ fn insert_blob<S: Alter>(
 pub fn keep<S: Alter>(tx: &mut Transaction<'_, S>, bytes: &[u8]) -> Result<i64, Fault>
     requires { bytes.now ≢ [] }
     ensures same_reference { tx.new.conn.ghost_name ≡ tx.old.conn.ghost_name }
-    ensures kept { (profile : Profile) (spare : Spare) → IsMove (state S.Store tx.old.conn.now) (state S.Store tx.new.conn.now) (IsSeen spare profile (state S.Store tx.old.conn.now))
-        (λ base x id y. (y ≡ record x { kept = record (x.kept) { shelf = y.kept.shelf } }) × IsSeen (spare_too id spare) profile (state S.Store tx.new.conn.now) base y × (bytes_at y.kept.shelf id ≡ Some bytes.now)) result }
+    ensures kept { (profile : Profile) (spare : Spare) →
+        IsMove (state S.Store tx.old.conn.now) (state S.Store tx.new.conn.now)
+        (IsSeen spare profile (state S.Store tx.old.conn.now))
+        (λ base x id y. (y ≡ record x { kept = record (x.kept) { shelf = y.kept.shelf } })
+        × IsSeen (spare_too id spare) profile (state S.Store tx.new.conn.now) base y
+        × (bytes_at y.kept.shelf id ≡ Some bytes.now)) result }
 {
     let digits = digest_of(bytes);
     let digest = text_of(&digits);
@@ -94,8 +104,11 @@ pub fn keep<S: Alter>(tx: &mut Transaction<'_, S>, bytes: &[u8]) -> Result<i64, 
 /// The row of a blob, which shows its bytes, if one stands.
 fn row_of_blob<S: Alter>(tx: &mut Transaction<'_, S>, id: i64) -> Result<Option<Row>, Fault>
     ensures same_reference { tx.new.conn.ghost_name ≡ tx.old.conn.ghost_name }
-    ensures shown { (profile : Profile) (spare : Spare) → IsMove (state S.Store tx.old.conn.now) (state S.Store tx.new.conn.now) (IsSeen spare profile (state S.Store tx.old.conn.now))
-        (λ base x row y. (y ≡ x) × IsSeen spare profile (state S.Store tx.new.conn.now) base y × ShowsBytes (bytes_at y.kept.shelf id) row) result }
+    ensures shown { (profile : Profile) (spare : Spare) →
+        IsMove (state S.Store tx.old.conn.now) (state S.Store tx.new.conn.now)
+        (IsSeen spare profile (state S.Store tx.old.conn.now))
+        (λ base x row y. (y ≡ x) × IsSeen spare profile (state S.Store tx.new.conn.now) base y
+        × ShowsBytes (bytes_at y.kept.shelf id) row) result }
 {
     first(
         tx,
@@ -114,8 +127,11 @@ fn bytes_in(row: &Row) -> Result<Vec<u8>, Error>
 /// The bytes of a blob that stands. Where none does, that is a fault, 91.
 pub fn bytes_of<S: Alter>(tx: &mut Transaction<'_, S>, id: i64) -> Result<Vec<u8>, Fault>
     ensures same_reference { tx.new.conn.ghost_name ≡ tx.old.conn.ghost_name }
-    ensures told { (profile : Profile) (spare : Spare) → IsMove (state S.Store tx.old.conn.now) (state S.Store tx.new.conn.now) (IsSeen spare profile (state S.Store tx.old.conn.now))
-        (λ base x bytes y. (y ≡ x) × IsSeen spare profile (state S.Store tx.new.conn.now) base y × (bytes_at y.kept.shelf id ≡ Some bytes.items)) result }
+    ensures told { (profile : Profile) (spare : Spare) →
+        IsMove (state S.Store tx.old.conn.now) (state S.Store tx.new.conn.now)
+        (IsSeen spare profile (state S.Store tx.old.conn.now))
+        (λ base x bytes y. (y ≡ x) × IsSeen spare profile (state S.Store tx.new.conn.now) base y
+        × (bytes_at y.kept.shelf id ≡ Some bytes.items)) result }
 {
     match row_of_blob(tx, id)? {
         Some(row) => match bytes_in(&row) {
@@ -129,8 +145,11 @@ pub fn bytes_of<S: Alter>(tx: &mut Transaction<'_, S>, id: i64) -> Result<Vec<u8
 /// Whether a tile names a blob.
 fn tile_names<S: Alter>(tx: &mut Transaction<'_, S>, id: i64) -> Result<bool, Fault>
     ensures same_reference { tx.new.conn.ghost_name ≡ tx.old.conn.ghost_name }
-    ensures named { (profile : Profile) (spare : Spare) → IsMove (state S.Store tx.old.conn.now) (state S.Store tx.new.conn.now) (IsSeen spare profile (state S.Store tx.old.conn.now))
-        (λ base x it y. (y ≡ x) × IsSeen spare profile (state S.Store tx.new.conn.now) base y × TellsWhether (Names tile_id y.kept.tiles id) it) result }
+    ensures named { (profile : Profile) (spare : Spare) →
+        IsMove (state S.Store tx.old.conn.now) (state S.Store tx.new.conn.now)
+        (IsSeen spare profile (state S.Store tx.old.conn.now))
+        (λ base x it y. (y ≡ x) × IsSeen spare profile (state S.Store tx.new.conn.now) base y
+        × TellsWhether (Names tile_id y.kept.tiles id) it) result }
 {
     exists(
         tx,
@@ -142,8 +161,11 @@ fn tile_names<S: Alter>(tx: &mut Transaction<'_, S>, id: i64) -> Result<bool, Fa
 /// Whether a medium names a blob.
 fn medium_names<S: Alter>(tx: &mut Transaction<'_, S>, id: i64) -> Result<bool, Fault>
     ensures same_reference { tx.new.conn.ghost_name ≡ tx.old.conn.ghost_name }
-    ensures named { (profile : Profile) (spare : Spare) → IsMove (state S.Store tx.old.conn.now) (state S.Store tx.new.conn.now) (IsSeen spare profile (state S.Store tx.old.conn.now))
-        (λ base x it y. (y ≡ x) × IsSeen spare profile (state S.Store tx.new.conn.now) base y × TellsWhether (Names medium_id y.kept.media id) it) result }
+    ensures named { (profile : Profile) (spare : Spare) →
+        IsMove (state S.Store tx.old.conn.now) (state S.Store tx.new.conn.now)
+        (IsSeen spare profile (state S.Store tx.old.conn.now))
+        (λ base x it y. (y ≡ x) × IsSeen spare profile (state S.Store tx.new.conn.now) base y
+        × TellsWhether (Names medium_id y.kept.media id) it) result }
 {
     exists(
         tx,
@@ -155,8 +177,11 @@ fn medium_names<S: Alter>(tx: &mut Transaction<'_, S>, id: i64) -> Result<bool, 
 /// Whether a staged piece names a blob.
 fn piece_names<S: Alter>(tx: &mut Transaction<'_, S>, id: i64) -> Result<bool, Fault>
     ensures same_reference { tx.new.conn.ghost_name ≡ tx.old.conn.ghost_name }
-    ensures named { (profile : Profile) (spare : Spare) → IsMove (state S.Store tx.old.conn.now) (state S.Store tx.new.conn.now) (IsSeen spare profile (state S.Store tx.old.conn.now))
-        (λ base x it y. (y ≡ x) × IsSeen spare profile (state S.Store tx.new.conn.now) base y × TellsWhether (Names piece_id y.kept.pieces id) it) result }
+    ensures named { (profile : Profile) (spare : Spare) →
+        IsMove (state S.Store tx.old.conn.now) (state S.Store tx.new.conn.now)
+        (IsSeen spare profile (state S.Store tx.old.conn.now))
+        (λ base x it y. (y ≡ x) × IsSeen spare profile (state S.Store tx.new.conn.now) base y
+        × TellsWhether (Names piece_id y.kept.pieces id) it) result }
 {
     exists(
         tx,
@@ -168,8 +193,11 @@ fn piece_names<S: Alter>(tx: &mut Transaction<'_, S>, id: i64) -> Result<bool, F
 /// Whether a tile, a medium or a staged piece names a blob.
 fn is_named<S: Alter>(tx: &mut Transaction<'_, S>, id: i64) -> Result<bool, Fault>
     ensures same_reference { tx.new.conn.ghost_name ≡ tx.old.conn.ghost_name }
-    ensures named { (profile : Profile) (spare : Spare) → IsMove (state S.Store tx.old.conn.now) (state S.Store tx.new.conn.now) (IsSeen spare profile (state S.Store tx.old.conn.now))
-        (λ base x it y. (y ≡ x) × IsSeen spare profile (state S.Store tx.new.conn.now) base y × TellsWhether (IsNamed y.kept id) it) result }
+    ensures named { (profile : Profile) (spare : Spare) →
+        IsMove (state S.Store tx.old.conn.now) (state S.Store tx.new.conn.now)
+        (IsSeen spare profile (state S.Store tx.old.conn.now))
+        (λ base x it y. (y ≡ x) × IsSeen spare profile (state S.Store tx.new.conn.now) base y
+        × TellsWhether (IsNamed y.kept id) it) result }
 {
     if tile_names(tx, id)? {
         return Ok(true);
@@ -183,8 +211,11 @@ fn is_named<S: Alter>(tx: &mut Transaction<'_, S>, id: i64) -> Result<bool, Faul
 /// Removes a blob that nothing names.
 fn delete_blob<S: Alter>(tx: &mut Transaction<'_, S>, id: i64) -> Result<(), Fault>
     ensures same_reference { tx.new.conn.ghost_name ≡ tx.old.conn.ghost_name }
-    ensures gone { (profile : Profile) (spare : Spare) → IsMove (state S.Store tx.old.conn.now) (state S.Store tx.new.conn.now) (λ base x. IsSeen spare profile (state S.Store tx.old.conn.now) base x × ¬ IsNamed x.kept id)
-        (λ base x _ y. (y ≡ record x { kept = record (x.kept) { shelf = remove x.kept.shelf id } }) × IsSeen (spare_but id spare) profile (state S.Store tx.new.conn.now) base y) result }
+    ensures gone { (profile : Profile) (spare : Spare) →
+        IsMove (state S.Store tx.old.conn.now) (state S.Store tx.new.conn.now)
+        (λ base x. IsSeen spare profile (state S.Store tx.old.conn.now) base x × ¬ IsNamed x.kept id)
+        (λ base x _ y. (y ≡ record x { kept = record (x.kept) { shelf = remove x.kept.shelf id } })
+        × IsSeen (spare_but id spare) profile (state S.Store tx.new.conn.now) base y) result }
 {
     run(tx, "DELETE FROM mm_blobs WHERE id = ?1", params![id])
 }
@@ -192,8 +223,11 @@ fn delete_blob<S: Alter>(tx: &mut Transaction<'_, S>, id: i64) -> Result<(), Fau
 /// Removes the blob of an id if nothing names it any more.
 pub fn release<S: Alter>(tx: &mut Transaction<'_, S>, id: i64) -> Result<(), Fault>
     ensures same_reference { tx.new.conn.ghost_name ≡ tx.old.conn.ghost_name }
-    ensures released { (profile : Profile) (spare : Spare) → IsMove (state S.Store tx.old.conn.now) (state S.Store tx.new.conn.now) (IsSeen spare profile (state S.Store tx.old.conn.now))
-        (λ base x _ y. (y ≡ record x { kept = record (x.kept) { shelf = y.kept.shelf } }) × IsSeen (spare_but id spare) profile (state S.Store tx.new.conn.now) base y) result }
+    ensures released { (profile : Profile) (spare : Spare) →
+        IsMove (state S.Store tx.old.conn.now) (state S.Store tx.new.conn.now)
+        (IsSeen spare profile (state S.Store tx.old.conn.now))
+        (λ base x _ y. (y ≡ record x { kept = record (x.kept) { shelf = y.kept.shelf } })
+        × IsSeen (spare_but id spare) profile (state S.Store tx.new.conn.now) base y) result }
 {
     if is_named(tx, id)? {
         Ok(())
@@ -205,8 +239,12 @@ pub fn release<S: Alter>(tx: &mut Transaction<'_, S>, id: i64) -> Result<(), Fau
 /// Releases the blob that an entry named which went, if one stood.
 pub fn release_freed<S: Alter>(tx: &mut Transaction<'_, S>, freed: Option<i64>) -> Result<(), Fault>
     ensures same_reference { tx.new.conn.ghost_name ≡ tx.old.conn.ghost_name }
-    ensures released { (profile : Profile) (spare : Spare) → IsMove (state S.Store tx.old.conn.now) (state S.Store tx.new.conn.now) (λ base x. IsTrue (state S.Store tx.old.conn.now).is_open × IsSeen (spare_freed freed spare) profile (state S.Store tx.old.conn.now) base x)
-        (λ base x _ y. (y ≡ record x { kept = record (x.kept) { shelf = y.kept.shelf } }) × IsSeen spare profile (state S.Store tx.new.conn.now) base y) result }
+    ensures released { (profile : Profile) (spare : Spare) →
+        IsMove (state S.Store tx.old.conn.now) (state S.Store tx.new.conn.now)
+        (λ base x. IsTrue (state S.Store tx.old.conn.now).is_open
+        × IsSeen (spare_freed freed spare) profile (state S.Store tx.old.conn.now) base x)
+        (λ base x _ y. (y ≡ record x { kept = record (x.kept) { shelf = y.kept.shelf } })
+        × IsSeen spare profile (state S.Store tx.new.conn.now) base y) result }
 {
     match freed {
         Some(id) => release(tx, id),
@@ -217,8 +255,11 @@ pub fn release_freed<S: Alter>(tx: &mut Transaction<'_, S>, freed: Option<i64>) 
 /// Releases the blob whose id a row begins with.
 fn release_in<S: Alter>(tx: &mut Transaction<'_, S>, row: &Row) -> Result<(), Fault>
     ensures same_reference { tx.new.conn.ghost_name ≡ tx.old.conn.ghost_name }
-    ensures released { (profile : Profile) (spare : Spare) → IsMove (state S.Store tx.old.conn.now) (state S.Store tx.new.conn.now) (IsSeen (spare_each (row.now ∷ []) spare) profile (state S.Store tx.old.conn.now))
-        (λ base x _ y. (y ≡ record x { kept = record (x.kept) { shelf = y.kept.shelf } }) × IsSeen spare profile (state S.Store tx.new.conn.now) base y) result }
+    ensures released { (profile : Profile) (spare : Spare) →
+        IsMove (state S.Store tx.old.conn.now) (state S.Store tx.new.conn.now)
+        (IsSeen (spare_each (row.now ∷ []) spare) profile (state S.Store tx.old.conn.now))
+        (λ base x _ y. (y ≡ record x { kept = record (x.kept) { shelf = y.kept.shelf } })
+        × IsSeen spare profile (state S.Store tx.new.conn.now) base y) result }
 {
     let id = number_in(row, 0)?;
     release(tx, id)
@@ -227,8 +268,12 @@ fn release_in<S: Alter>(tx: &mut Transaction<'_, S>, row: &Row) -> Result<(), Fa
 /// Releases each of the blobs whose ids these rows begin with.
 pub fn release_each<S: Alter>(tx: &mut Transaction<'_, S>, rows: &[Row]) -> Result<(), Fault>
     ensures same_reference { tx.new.conn.ghost_name ≡ tx.old.conn.ghost_name }
-    ensures released { (profile : Profile) (spare : Spare) → IsMove (state S.Store tx.old.conn.now) (state S.Store tx.new.conn.now) (λ base x. IsTrue (state S.Store tx.old.conn.now).is_open × IsSeen (spare_each rows.now spare) profile (state S.Store tx.old.conn.now) base x)
-        (λ base x _ y. (y ≡ record x { kept = record (x.kept) { shelf = y.kept.shelf } }) × IsSeen spare profile (state S.Store tx.new.conn.now) base y) result }
+    ensures released { (profile : Profile) (spare : Spare) →
+        IsMove (state S.Store tx.old.conn.now) (state S.Store tx.new.conn.now)
+        (λ base x. IsTrue (state S.Store tx.old.conn.now).is_open
+        × IsSeen (spare_each rows.now spare) profile (state S.Store tx.old.conn.now) base x)
+        (λ base x _ y. (y ≡ record x { kept = record (x.kept) { shelf = y.kept.shelf } })
+        × IsSeen spare profile (state S.Store tx.new.conn.now) base y) result }
 {
     for row in rows {
         release_in(tx, row)?;
@@ -239,7 +284,9 @@ pub fn release_each<S: Alter>(tx: &mut Transaction<'_, S>, rows: &[Row]) -> Resu
 /// The ids of the blobs that nothing names.
 fn unnamed<S: Alter>(tx: &mut Transaction<'_, S>) -> Result<Vec<Row>, Fault>
     ensures same_reference { tx.new.conn.ghost_name ≡ tx.old.conn.ghost_name }
-    ensures listed { (profile : Profile) (spare : Spare) → IsMove (state S.Store tx.old.conn.now) (state S.Store tx.new.conn.now) (IsSeen spare profile (state S.Store tx.old.conn.now))
+    ensures listed { (profile : Profile) (spare : Spare) →
+        IsMove (state S.Store tx.old.conn.now) (state S.Store tx.new.conn.now)
+        (IsSeen spare profile (state S.Store tx.old.conn.now))
         (λ base x rows y. (y ≡ x) × IsSeen (spare_each rows.items no_spare) profile (state S.Store tx.new.conn.now) base y) result }
 {
     all(
@@ -252,8 +299,11 @@ fn unnamed<S: Alter>(tx: &mut Transaction<'_, S>) -> Result<Vec<Row>, Fault>
 /// Removes every blob that nothing names.
 pub fn sweep<S: Alter>(tx: &mut Transaction<'_, S>) -> Result<(), Fault>
     ensures same_reference { tx.new.conn.ghost_name ≡ tx.old.conn.ghost_name }
-    ensures swept { (profile : Profile) (spare : Spare) → IsMove (state S.Store tx.old.conn.now) (state S.Store tx.new.conn.now) (IsSeen spare profile (state S.Store tx.old.conn.now))
-        (λ base x _ y. (y ≡ record x { kept = record (x.kept) { shelf = y.kept.shelf } }) × IsSeen no_spare profile (state S.Store tx.new.conn.now) base y) result }
+    ensures swept { (profile : Profile) (spare : Spare) →
+        IsMove (state S.Store tx.old.conn.now) (state S.Store tx.new.conn.now)
+        (IsSeen spare profile (state S.Store tx.old.conn.now))
+        (λ base x _ y. (y ≡ record x { kept = record (x.kept) { shelf = y.kept.shelf } })
+        × IsSeen no_spare profile (state S.Store tx.new.conn.now) base y) result }
 {
     let rows = unnamed(tx)?;
     release_each(tx, rows.as_slice())

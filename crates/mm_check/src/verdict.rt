@@ -17,7 +17,8 @@ use sqlite::{Alter, Connection};
 fn one_rule<S: Alter>(conn: &mut Connection<S>, unit: Unit, k: u8) -> Result<bool, Fault>
     requires low { 1 ≤ k }
     requires high { k < 16 }
-    ensures { IsCheck (profile_of unit) (state S.Store conn.old) (state S.Store conn.new) (Before (profile_of unit) k) (rule (profile_of unit) k) result }
+    ensures { IsCheck (profile_of unit) (state S.Store conn.old) (state S.Store conn.new) (Before (profile_of unit) k)
+        (rule (profile_of unit) k) result }
 {
     match k {
         1 => systems::given_systems(conn),

@@ -234,7 +234,8 @@ pub(crate) fn run_command<S: Alter>(
 ) -> Result<Outcome, Fault>
     requires { rehearses command.now ≡ false }
     ensures same_reference { tx.new.conn.ghost_name ≡ tx.old.conn.ghost_name }
-    ensures tried { (moment : ℕ) → IsStamp moment at.now → IsTried current command.now moment (state S.Store tx.old.conn.now) (state S.Store tx.new.conn.now) result }
+    ensures tried { (moment : ℕ) → IsStamp moment at.now →
+        IsTried current command.now moment (state S.Store tx.old.conn.now) (state S.Store tx.new.conn.now) result }
 {
     match command {
         Command::Srs { .. } | Command::Table { .. } | Command::Drop { .. } => {

@@ -153,7 +153,8 @@ impl<S: Alter> Session<S> {
         ensures ended { has_failed self.old ≡ true → (result ≡ Answer.Fault (record { 0 = 92 })) × (self.new ≡ self.old) }
         ensures working { has_failed self.old ≡ false → OnFault result (λ fault. (fault ≡ 90) ⊎ (fault ≡ 91)) }
         ensures fails { has_failed self.old ≡ false → has_failed self.new ≡ is_fault result }
-        ensures applied { has_failed self.old ≡ false → IsApplied command.now at (state S.Store (held self.old)) (state S.Store (held self.new)) result }
+        ensures applied { has_failed self.old ≡ false → IsApplied command.now at (state S.Store (held self.old))
+            (state S.Store (held self.new)) result }
         ensures keeps { (p : Package) → Meets current p → Meets current (step p command.now at) }
     {
         // The proof reads from these that the moment and the command are within their limits.
@@ -199,20 +200,30 @@ impl<S: Alter> Session<S> {
         at: Moment,
     ) -> Result<Tally, RunFault>
         ensures clean { HasCleanDisk (state S.Store (held self.new)) → HasCleanDisk (state S.Store (held self.old)) }
-        ensures done { IfOk result (λ t. OnRun (HasCleanDisk (state S.Store (held self.new))) (λ p. IsSettled current (state S.Store (held self.old)) p) (R.remaining (inside reader.old))
-            (λ p bytes. RanAll p at bytes (λ q. IsSettled current (state S.Store (held self.new)) q) (λ db. (state S.Store (held self.new)).may_leave db) Stands (W.contents (inside writer.old)) (W.contents (inside writer.new)) t)) }
+        ensures done { IfOk result (λ t. OnRun (HasCleanDisk (state S.Store (held self.new)))
+            (λ p. IsSettled current (state S.Store (held self.old)) p) (R.remaining (inside reader.old))
+            (λ p bytes. RanAll p at bytes (λ q. IsSettled current (state S.Store (held self.new)) q)
+            (λ db. (state S.Store (held self.new)).may_leave db) Stands (W.contents (inside writer.old))
+            (W.contents (inside writer.new)) t)) }
         ensures end { OnOk result (IsAtEnd (R.remaining (inside reader.new))) }
         ensures working { OnOk result (streams.has_failed writer.new ≡ streams.has_failed writer.old) }
         ensures flushed { TellsFlush (streams.is_flushed writer.old) (streams.is_flushed writer.new) result }
-        ensures stopped { IfErr result (λ e. OnRun (HasCleanDisk (state S.Store (held self.new))) (λ p. IsSettled current (state S.Store (held self.old)) p) (R.remaining (inside reader.old))
-            (λ p bytes. RanSome p at bytes (WorksOn (has_failed self.old) (has_failed self.new) (λ q. IsSettled current (state S.Store (held self.new)) q)) (has_failed self.new ≡ true) (λ db. (state S.Store (held self.new)).may_leave db) Stands (W.contents (inside writer.old)) (W.contents (inside writer.new)) e)) }
+        ensures stopped { IfErr result (λ e. OnRun (HasCleanDisk (state S.Store (held self.new)))
+            (λ p. IsSettled current (state S.Store (held self.old)) p) (R.remaining (inside reader.old))
+            (λ p bytes. RanSome p at bytes (WorksOn (has_failed self.old) (has_failed self.new)
+            (λ q. IsSettled current (state S.Store (held self.new)) q)) (has_failed self.new ≡ true)
+            (λ db. (state S.Store (held self.new)).may_leave db) Stands (W.contents (inside writer.old))
+            (W.contents (inside writer.new)) e)) }
         ensures near { IfErr result (λ e. IsNear e.tally) }
         ensures session { TellsFailureOf (has_failed self.old) (has_failed self.new) (self.new ≡ self.old) result }
         ensures writer { IfErr result (TellsWriter (streams.has_failed writer.old) (streams.has_failed writer.new)) }
         ensures why { IfErr result (λ e. (e.fault.0 ≡ 97) ⊎ IsRunFault e.fault.0 (streams.has_failed reader.new)) }
         ensures kept { OnSound (HasCleanDisk (state S.Store (held self.new))) (λ p. IsSettled current (state S.Store (held self.old)) p)
-            (IsKept (has_failed self.old) (has_failed self.new) (λ q. IsSettled current (state S.Store (held self.new)) q) (λ db. (state S.Store (held self.new)).may_leave db) Stands) }
-        ensures ended { OnEnded (has_failed self.old) (R.remaining (inside reader.old)) (λ bytes. RanEnded bytes (W.contents (inside writer.old)) (W.contents (inside writer.new)) result) }
+            (IsKept (has_failed self.old) (has_failed self.new)
+            (λ q. IsSettled current (state S.Store (held self.new)) q)
+            (λ db. (state S.Store (held self.new)).may_leave db) Stands) }
+        ensures ended { OnEnded (has_failed self.old) (R.remaining (inside reader.old))
+            (λ bytes. RanEnded bytes (W.contents (inside writer.old)) (W.contents (inside writer.new)) result) }
     {
         let alloc = self.alloc;
         run_list(alloc, self, reader, writer, at)

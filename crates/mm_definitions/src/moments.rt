@@ -164,7 +164,8 @@ fn time_in(bytes: &[u8]) -> u64
 /// The date that the bytes show, where they show one.
 fn date_in(bytes: &[u8]) -> Option<Date>
     requires { length bytes.now ≡ 24 }
-    ensures stands { IsSome result ↔ IsDate (pos (spec.year_in bytes.now)) (pos (spec.pair_at bytes.now 5)) (pos (spec.pair_at bytes.now 8)) }
+    ensures stands { IsSome result ↔ IsDate (pos (spec.year_in bytes.now)) (pos (spec.pair_at bytes.now 5))
+        (pos (spec.pair_at bytes.now 8)) }
     ensures value { IfSome result (IsYmd (pos (spec.year_in bytes.now)) (pos (spec.pair_at bytes.now 5)) (pos (spec.pair_at bytes.now 8))) }
 {
     Date::new(

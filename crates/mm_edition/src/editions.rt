@@ -45,7 +45,8 @@ fn written_state<S: Alter>(
     edition: &str,
 ) -> Result<Option<String>, Fault>
     ensures same_reference { tx.new.conn.ghost_name ≡ tx.old.conn.ghost_name }
-    ensures look { (profile : Profile) → IsLook profile (state S.Store tx.old.conn.now) (state S.Store tx.new.conn.now) (λ p text. get p.editions edition.now ≡ option_map string_bytes text) result }
+    ensures look { (profile : Profile) → IsLook profile (state S.Store tx.old.conn.now) (state S.Store tx.new.conn.now)
+        (λ p text. get p.editions edition.now ≡ option_map string_bytes text) result }
 {
     first_text(
         tx,
@@ -60,7 +61,8 @@ pub(crate) fn standing_of<S: Alter>(
     edition: &str,
 ) -> Result<Option<Standing>, Fault>
     ensures same_reference { tx.new.conn.ghost_name ≡ tx.old.conn.ghost_name }
-    ensures look { (profile : Profile) → IsLook profile (state S.Store tx.old.conn.now) (state S.Store tx.new.conn.now) (λ p standing. get p.editions edition.now ≡ option_map standing_text standing) result }
+    ensures look { (profile : Profile) → IsLook profile (state S.Store tx.old.conn.now) (state S.Store tx.new.conn.now)
+        (λ p standing. get p.editions edition.now ≡ option_map standing_text standing) result }
 {
     match written_state(tx, edition)? {
         Some(text) => match standing_named(text.as_str()) {
@@ -74,7 +76,8 @@ pub(crate) fn standing_of<S: Alter>(
 /// Puts an open edition, where none has the name.
 fn insert_edition<S: Alter>(tx: &mut Transaction<'_, S>, edition: &str) -> Result<(), Fault>
     ensures same_reference { tx.new.conn.ghost_name ≡ tx.old.conn.ghost_name }
-    ensures change { (profile : Profile) → IsChange profile (state S.Store tx.old.conn.now) (state S.Store tx.new.conn.now) (λ p. get p.editions edition.now ≡ None)
+    ensures change { (profile : Profile) → IsChange profile (state S.Store tx.old.conn.now)
+        (state S.Store tx.new.conn.now) (λ p. get p.editions edition.now ≡ None)
         (λ p. record p { editions = insert p.editions edition.now open_state }) result }
 {
     run(
@@ -87,7 +90,8 @@ fn insert_edition<S: Alter>(tx: &mut Transaction<'_, S>, edition: &str) -> Resul
 /// The command `edition`: opens an edition without pieces. Refused 50 where one has the name, open or published.
 pub fn open_edition<S: Alter>(tx: &mut Transaction<'_, S>, edition: &Name) -> Result<Outcome, Fault>
     ensures same_reference { tx.new.conn.ghost_name ≡ tx.old.conn.ghost_name }
-    ensures lent { (profile : Profile) (moment : ℕ) → IsLent profile (commands.Edition edition.now) moment (state S.Store tx.old.conn.now) (state S.Store tx.new.conn.now) result }
+    ensures lent { (profile : Profile) (moment : ℕ) → IsLent profile (commands.Edition edition.now) moment
+        (state S.Store tx.old.conn.now) (state S.Store tx.new.conn.now) result }
 {
     let edition = edition.as_str();
     match standing_of(tx, edition)? {
@@ -102,8 +106,10 @@ pub fn open_edition<S: Alter>(tx: &mut Transaction<'_, S>, edition: &Name) -> Re
 fn delete_edition_rows<S: Alter>(tx: &mut Transaction<'_, S>, edition: &str) -> Result<(), Fault>
     ensures same_reference { tx.new.conn.ghost_name ≡ tx.old.conn.ghost_name }
     ensures gone { (profile : Profile) (more : Spare) → IsMove (state S.Store tx.old.conn.now) (state S.Store tx.new.conn.now)
-        (λ base x. IsSeen no_spare profile (state S.Store tx.old.conn.now) base x × ((z : ℤ) → FreedByEdition edition.now x.kept z → more z ≡ true))
-        (λ base x _ y. (y.content ≡ without_edition_rows edition.now x.content) × IsSeen more profile (state S.Store tx.new.conn.now) base y) result }
+        (λ base x. IsSeen no_spare profile (state S.Store tx.old.conn.now) base x
+        × ((z : ℤ) → FreedByEdition edition.now x.kept z → more z ≡ true))
+        (λ base x _ y. (y.content ≡ without_edition_rows edition.now x.content)
+        × IsSeen more profile (state S.Store tx.new.conn.now) base y) result }
 {
     run(
         tx,
@@ -115,7 +121,8 @@ fn delete_edition_rows<S: Alter>(tx: &mut Transaction<'_, S>, edition: &str) -> 
 /// Removes an edition with its pieces, and the blobs that nothing names any more.
 fn delete_edition<S: Alter>(tx: &mut Transaction<'_, S>, edition: &str) -> Result<(), Fault>
     ensures same_reference { tx.new.conn.ghost_name ≡ tx.old.conn.ghost_name }
-    ensures change { (profile : Profile) → IsChange profile (state S.Store tx.old.conn.now) (state S.Store tx.new.conn.now) (λ p. ⊤) (without_edition_rows edition.now) result }
+    ensures change { (profile : Profile) → IsChange profile (state S.Store tx.old.conn.now)
+        (state S.Store tx.new.conn.now) (λ p. ⊤) (without_edition_rows edition.now) result }
 {
     let blobs = blobs_of_pieces(tx, edition)?;
     delete_edition_rows(tx, edition)?;
@@ -129,7 +136,8 @@ pub(crate) fn closed_refusal<S: Alter>(
     edition: &str,
 ) -> Result<Option<u8>, Fault>
     ensures same_reference { tx.new.conn.ghost_name ≡ tx.old.conn.ghost_name }
-    ensures look { (profile : Profile) → IsLook profile (state S.Store tx.old.conn.now) (state S.Store tx.new.conn.now) (λ p why. why ≡ least (own_reasons p (commands.Discard edition.now))) result }
+    ensures look { (profile : Profile) → IsLook profile (state S.Store tx.old.conn.now) (state S.Store tx.new.conn.now)
+        (λ p why. why ≡ least (own_reasons p (commands.Discard edition.now))) result }
 {
     match standing_of(tx, edition)? {
         Some(Standing::Open) => Ok(None),
@@ -142,7 +150,8 @@ pub(crate) fn closed_refusal<S: Alter>(
 /// published.
 pub fn discard<S: Alter>(tx: &mut Transaction<'_, S>, edition: &Name) -> Result<Outcome, Fault>
     ensures same_reference { tx.new.conn.ghost_name ≡ tx.old.conn.ghost_name }
-    ensures lent { (profile : Profile) (moment : ℕ) → IsLent profile (commands.Discard edition.now) moment (state S.Store tx.old.conn.now) (state S.Store tx.new.conn.now) result }
+    ensures lent { (profile : Profile) (moment : ℕ) → IsLent profile (commands.Discard edition.now) moment
+        (state S.Store tx.old.conn.now) (state S.Store tx.new.conn.now) result }
 {
     let edition = edition.as_str();
     if let Some(number) = closed_refusal(tx, edition)? {

@@ -35,7 +35,8 @@ pub(crate) fn has_piece<S: Alter>(
     number: i64,
 ) -> Result<bool, Fault>
     ensures same_reference { tx.new.conn.ghost_name ≡ tx.old.conn.ghost_name }
-    ensures look { (profile : Profile) → IsLook profile (state S.Store tx.old.conn.now) (state S.Store tx.new.conn.now) (λ p found. found ≡ contains_key p.pieces (keys.piece edition.now number)) result }
+    ensures look { (profile : Profile) → IsLook profile (state S.Store tx.old.conn.now) (state S.Store tx.new.conn.now)
+        (λ p found. found ≡ contains_key p.pieces (keys.piece edition.now number)) result }
 {
     exists(
         tx,
@@ -51,9 +52,13 @@ fn row_of_piece<S: Alter>(
     number: i64,
 ) -> Result<Option<Row>, Fault>
     ensures same_reference { tx.new.conn.ghost_name ≡ tx.old.conn.ghost_name }
-    ensures shown { (profile : Profile) (spare : Spare) → IsMove (state S.Store tx.old.conn.now) (state S.Store tx.new.conn.now) (IsSeen spare profile (state S.Store tx.old.conn.now))
-        (λ base x row y. (y ≡ x) × IsSeen spare profile (state S.Store tx.new.conn.now) base y × IsRowOf (get y.kept.pieces (keys.piece edition.now number)) row
-        × Told piece_id piece_with y.kept.shelf (get y.kept.pieces (keys.piece edition.now number)) (get y.content.pieces (keys.piece edition.now number))) result }
+    ensures shown { (profile : Profile) (spare : Spare) →
+        IsMove (state S.Store tx.old.conn.now) (state S.Store tx.new.conn.now)
+        (IsSeen spare profile (state S.Store tx.old.conn.now))
+        (λ base x row y. (y ≡ x) × IsSeen spare profile (state S.Store tx.new.conn.now) base y
+        × IsRowOf (get y.kept.pieces (keys.piece edition.now number)) row
+        × Told piece_id piece_with y.kept.shelf (get y.kept.pieces (keys.piece edition.now number))
+        (get y.content.pieces (keys.piece edition.now number))) result }
 {
     first(
         tx,
@@ -77,8 +82,12 @@ fn blob_in(row: &Row) -> Result<Option<i64>, Fault>
 /// The bytes of the blob that the row of a piece names, if it names one.
 fn bytes_of_row<S: Alter>(tx: &mut Transaction<'_, S>, row: &Row) -> Result<Option<Vec<u8>>, Fault>
     ensures same_reference { tx.new.conn.ghost_name ≡ tx.old.conn.ghost_name }
-    ensures told { (profile : Profile) (spare : Spare) → IsMove (state S.Store tx.old.conn.now) (state S.Store tx.new.conn.now) (λ base x. IsTrue (state S.Store tx.old.conn.now).is_open × IsSeen spare profile (state S.Store tx.old.conn.now) base x)
-        (λ base x bytes y. (y ≡ x) × IsSeen spare profile (state S.Store tx.new.conn.now) base y × ((blob : Option ℤ) → column row.now 11 ≡ maybe blob → StandsAt y.kept.shelf blob (plain bytes))) result }
+    ensures told { (profile : Profile) (spare : Spare) →
+        IsMove (state S.Store tx.old.conn.now) (state S.Store tx.new.conn.now)
+        (λ base x. IsTrue (state S.Store tx.old.conn.now).is_open
+        × IsSeen spare profile (state S.Store tx.old.conn.now) base x)
+        (λ base x bytes y. (y ≡ x) × IsSeen spare profile (state S.Store tx.new.conn.now) base y
+        × ((blob : Option ℤ) → column row.now 11 ≡ maybe blob → StandsAt y.kept.shelf blob (plain bytes))) result }
 {
     match blob_in(row)? {
         Some(blob) => Ok(Some(bytes_of(tx, blob)?)),
@@ -93,7 +102,8 @@ pub(crate) fn kept_piece<S: Alter>(
     number: i64,
 ) -> Result<Option<Kept>, Fault>
     ensures same_reference { tx.new.conn.ghost_name ≡ tx.old.conn.ghost_name }
-    ensures look { (profile : Profile) → IsLook profile (state S.Store tx.old.conn.now) (state S.Store tx.new.conn.now) (λ p kept. get p.pieces (keys.piece edition.now number) ≡ option_map kept_row kept) result }
+    ensures look { (profile : Profile) → IsLook profile (state S.Store tx.old.conn.now) (state S.Store tx.new.conn.now)
+        (λ p kept. get p.pieces (keys.piece edition.now number) ≡ option_map kept_row kept) result }
 {
     let Some(row) = row_of_piece(tx, edition, number)? else {
         return Ok(None);
@@ -112,7 +122,9 @@ pub fn piece<S: Alter>(
     number: u32,
 ) -> Result<Option<Piece>, Fault>
     ensures same_reference { tx.new.conn.ghost_name ≡ tx.old.conn.ghost_name }
-    ensures look { (profile : Profile) → IsLook profile (state S.Store tx.old.conn.now) (state S.Store tx.new.conn.now) (λ p found. Meets profile p → get p.pieces (keys.piece edition.now (pos number)) ≡ option_map piece_row found) result }
+    ensures look { (profile : Profile) → IsLook profile (state S.Store tx.old.conn.now) (state S.Store tx.new.conn.now)
+        (λ p found. Meets profile p → get p.pieces (keys.piece edition.now (pos number)) ≡ option_map piece_row found)
+        result }
 {
     let edition = edition.as_str();
     match kept_piece(tx, edition, i64::from(number))? {
@@ -134,8 +146,12 @@ fn insert_row<S: Alter>(
 ) -> Result<(), Fault>
     ensures same_reference { tx.new.conn.ghost_name ≡ tx.old.conn.ghost_name }
     ensures named { (profile : Profile) (spare : Spare) → IsMove (state S.Store tx.old.conn.now) (state S.Store tx.new.conn.now)
-        (λ base x. IsSeen spare profile (state S.Store tx.old.conn.now) base x × (StandsAt x.kept.shelf blob written.entry.bytes.now × (get x.content.pieces (keys.piece edition.now number) ≡ None)))
-        (λ base x _ y. (y.content ≡ record (x.content) { pieces = insert x.content.pieces (keys.piece edition.now number) (written_row written.entry) }) × IsSeen (spare_named blob spare) profile (state S.Store tx.new.conn.now) base y) result }
+        (λ base x. IsSeen spare profile (state S.Store tx.old.conn.now) base x
+        × (StandsAt x.kept.shelf blob written.entry.bytes.now
+        × (get x.content.pieces (keys.piece edition.now number) ≡ None)))
+        (λ base x _ y. (y.content ≡ record (x.content) { pieces = insert x.content.pieces
+        (keys.piece edition.now number) (written_row written.entry) })
+        × IsSeen (spare_named blob spare) profile (state S.Store tx.new.conn.now) base y) result }
 {
     run(
         tx,
@@ -167,7 +183,8 @@ pub(crate) fn insert_piece<S: Alter>(
     written: Written<'_>,
 ) -> Result<(), Fault>
     ensures same_reference { tx.new.conn.ghost_name ≡ tx.old.conn.ghost_name }
-    ensures change { (profile : Profile) → IsChange profile (state S.Store tx.old.conn.now) (state S.Store tx.new.conn.now) (λ p. get p.pieces (keys.piece edition.now number) ≡ None)
+    ensures change { (profile : Profile) → IsChange profile (state S.Store tx.old.conn.now)
+        (state S.Store tx.new.conn.now) (λ p. get p.pieces (keys.piece edition.now number) ≡ None)
         (λ p. record p { pieces = insert p.pieces (keys.piece edition.now number) (written_row written.entry) }) result }
 {
     if written.bytes.is_empty() {
@@ -183,8 +200,11 @@ pub(crate) fn blobs_of_pieces<S: Alter>(
     edition: &str,
 ) -> Result<Vec<Row>, Fault>
     ensures same_reference { tx.new.conn.ghost_name ≡ tx.old.conn.ghost_name }
-    ensures listed { (profile : Profile) (spare : Spare) → IsMove (state S.Store tx.old.conn.now) (state S.Store tx.new.conn.now) (IsSeen spare profile (state S.Store tx.old.conn.now))
-        (λ base x rows y. (y ≡ x) × IsSeen spare profile (state S.Store tx.new.conn.now) base y × ListsEach rows.items (FreedByEdition edition.now y.kept)) result }
+    ensures listed { (profile : Profile) (spare : Spare) →
+        IsMove (state S.Store tx.old.conn.now) (state S.Store tx.new.conn.now)
+        (IsSeen spare profile (state S.Store tx.old.conn.now))
+        (λ base x rows y. (y ≡ x) × IsSeen spare profile (state S.Store tx.new.conn.now) base y
+        × ListsEach rows.items (FreedByEdition edition.now y.kept)) result }
 {
     all(
         tx,

@@ -39,7 +39,8 @@ pub(crate) fn try_pieces<S: Alter>(
 ) -> Result<Option<(u32, u8)>, Fault>
     ensures same_reference { tx.new.conn.ghost_name ≡ tx.old.conn.ghost_name }
     ensures any_text { IsQuiet (state S.Store tx.old.conn.now) (state S.Store tx.new.conn.now) result }
-    ensures trial { (profile : Profile) (moment : ℕ) → IsStamp moment at.now → IsTrial profile edition.now moment (state S.Store tx.old.conn.now) (state S.Store tx.new.conn.now) result }
+    ensures trial { (profile : Profile) (moment : ℕ) → IsStamp moment at.now →
+        IsTrial profile edition.now moment (state S.Store tx.old.conn.now) (state S.Store tx.new.conn.now) result }
 {
     for number in 1..PAST_THE_LAST + 1 {
         match try_piece(tx, edition, number, at)? {
@@ -54,7 +55,8 @@ pub(crate) fn try_pieces<S: Alter>(
 /// Writes that an edition is published.
 fn mark_published<S: Alter>(tx: &mut Transaction<'_, S>, edition: &str) -> Result<(), Fault>
     ensures same_reference { tx.new.conn.ghost_name ≡ tx.old.conn.ghost_name }
-    ensures change { (profile : Profile) → IsChange profile (state S.Store tx.old.conn.now) (state S.Store tx.new.conn.now) (λ p. contains_key p.editions edition.now ≡ true)
+    ensures change { (profile : Profile) → IsChange profile (state S.Store tx.old.conn.now)
+        (state S.Store tx.new.conn.now) (λ p. contains_key p.editions edition.now ≡ true)
         (λ p. record p { editions = insert p.editions edition.now published_state }) result }
 {
     run(
@@ -68,8 +70,10 @@ fn mark_published<S: Alter>(tx: &mut Transaction<'_, S>, edition: &str) -> Resul
 fn delete_piece_rows<S: Alter>(tx: &mut Transaction<'_, S>, edition: &str) -> Result<(), Fault>
     ensures same_reference { tx.new.conn.ghost_name ≡ tx.old.conn.ghost_name }
     ensures gone { (profile : Profile) (more : Spare) → IsMove (state S.Store tx.old.conn.now) (state S.Store tx.new.conn.now)
-        (λ base x. IsSeen no_spare profile (state S.Store tx.old.conn.now) base x × ((z : ℤ) → FreedByEdition edition.now x.kept z → more z ≡ true))
-        (λ base x _ y. (y.content ≡ record (x.content) { pieces = retain_keys x.content.pieces (λ k. is_other edition.now k.edition) }) × IsSeen more profile (state S.Store tx.new.conn.now) base y) result }
+        (λ base x. IsSeen no_spare profile (state S.Store tx.old.conn.now) base x
+        × ((z : ℤ) → FreedByEdition edition.now x.kept z → more z ≡ true))
+        (λ base x _ y. (y.content ≡ record (x.content) { pieces = retain_keys x.content.pieces
+        (λ k. is_other edition.now k.edition) }) × IsSeen more profile (state S.Store tx.new.conn.now) base y) result }
 {
     run(
         tx,
@@ -92,7 +96,8 @@ fn delete_pieces<S: Alter>(tx: &mut Transaction<'_, S>, edition: &str) -> Result
 /// Publishes an edition whose pieces were done, and removes them.
 fn close_edition<S: Alter>(tx: &mut Transaction<'_, S>, edition: &str) -> Result<(), Fault>
     ensures same_reference { tx.new.conn.ghost_name ≡ tx.old.conn.ghost_name }
-    ensures change { (profile : Profile) → IsChange profile (state S.Store tx.old.conn.now) (state S.Store tx.new.conn.now) (λ p. contains_key p.editions edition.now ≡ true) (closed edition.now) result }
+    ensures change { (profile : Profile) → IsChange profile (state S.Store tx.old.conn.now)
+        (state S.Store tx.new.conn.now) (λ p. contains_key p.editions edition.now ≡ true) (closed edition.now) result }
 {
     mark_published(tx, edition)?;
     delete_pieces(tx, edition)
@@ -109,7 +114,9 @@ pub fn publish<S: Alter>(
 ) -> Result<Outcome, Fault>
     ensures same_reference { tx.new.conn.ghost_name ≡ tx.old.conn.ghost_name }
     ensures any_text { IsQuiet (state S.Store tx.old.conn.now) (state S.Store tx.new.conn.now) result }
-    ensures tried { (profile : Profile) (moment : ℕ) → IsStamp moment at.now → IsTried profile (commands.Publish edition.now) moment (state S.Store tx.old.conn.now) (state S.Store tx.new.conn.now) result }
+    ensures tried { (profile : Profile) (moment : ℕ) → IsStamp moment at.now →
+        IsTried profile (commands.Publish edition.now) moment (state S.Store tx.old.conn.now)
+        (state S.Store tx.new.conn.now) result }
 {
     let name = edition.as_str();
     if let Some(number) = closed_refusal(tx, name)? {

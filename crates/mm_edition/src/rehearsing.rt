@@ -22,7 +22,8 @@ pub fn rehearse<S: Alter>(
     requires idle { conn.old.in_transaction ≡ false }
     ensures mode { conn.new.in_transaction ≡ false }
     ensures any_text { IsQuiet (state S.Store conn.old) (state S.Store conn.new) result }
-    ensures rehearsed { (profile : Profile) (moment : ℕ) → IsStamp moment at.now → IsRehearsal profile edition.now (state S.Store conn.old) (state S.Store conn.new) result }
+    ensures rehearsed { (profile : Profile) (moment : ℕ) → IsStamp moment at.now →
+        IsRehearsal profile edition.now (state S.Store conn.old) (state S.Store conn.new) result }
 {
     let mut tx = conn.transaction();
     let outcome = publish(&mut tx, edition, at);

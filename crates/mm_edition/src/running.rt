@@ -191,7 +191,9 @@ pub(crate) fn try_piece<S: Alter>(
 ) -> Result<Turn, Fault>
     ensures same_reference { tx.new.conn.ghost_name ≡ tx.old.conn.ghost_name }
     ensures any_text { IsQuiet (state S.Store tx.old.conn.now) (state S.Store tx.new.conn.now) result }
-    ensures turn { (profile : Profile) (moment : ℕ) → IsStamp moment at.now → IsTurn profile edition.now number moment (state S.Store tx.old.conn.now) (state S.Store tx.new.conn.now) result }
+    ensures turn { (profile : Profile) (moment : ℕ) → IsStamp moment at.now →
+        IsTurn profile edition.now number moment (state S.Store tx.old.conn.now) (state S.Store tx.new.conn.now) result
+        }
 {
     let Some(found) = piece(tx, edition, number)? else {
         return Ok(Turn::End);

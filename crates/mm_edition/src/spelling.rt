@@ -15,7 +15,8 @@ use mm_definitions::texts::Text;
 
 /// A zoom, a column and a row, where the first three numbers are such.
 fn place_in(numbers: Numbers) -> Option<(Zoom, Place, Place)>
-    ensures { IfSome result (λ place. (unsigned_abs numbers.k1 ≡ place.0) × (unsigned_abs numbers.k2 ≡ place.1) × (unsigned_abs numbers.k3 ≡ place.2)) }
+    ensures { IfSome result (λ place. (unsigned_abs numbers.k1 ≡ place.0) × (unsigned_abs numbers.k2 ≡ place.1)
+        × (unsigned_abs numbers.k3 ≡ place.2)) }
 {
     Some((
         Zoom::new(numbers.k1)?,
@@ -26,7 +27,8 @@ fn place_in(numbers: Numbers) -> Option<(Zoom, Place, Place)>
 
 /// The tile that a row of the kind `tile` spells.
 fn tile_in(table: Name, kept: Kept) -> Option<Piece>
-    ensures { IfSome result (λ piece. piece ≡ pieces.Tile table (unsigned_abs kept.numbers.k1) (unsigned_abs kept.numbers.k2) (unsigned_abs kept.numbers.k3) (plain kept.bytes)) }
+    ensures { IfSome result (λ piece. piece ≡ pieces.Tile table (unsigned_abs kept.numbers.k1)
+        (unsigned_abs kept.numbers.k2) (unsigned_abs kept.numbers.k3) (plain kept.bytes)) }
 {
     let (zoom, column, row) = place_in(kept.numbers)?;
     let bytes = Bytes::new(kept.bytes?)?;
@@ -41,7 +43,8 @@ fn tile_in(table: Name, kept: Kept) -> Option<Piece>
 
 /// The removal of a tile that a row of the kind `tile-drop` spells.
 fn tile_drop_in(table: Name, kept: Kept) -> Option<Piece>
-    ensures { IfSome result (λ piece. piece ≡ pieces.TileDrop table (unsigned_abs kept.numbers.k1) (unsigned_abs kept.numbers.k2) (unsigned_abs kept.numbers.k3)) }
+    ensures { IfSome result (λ piece. piece ≡ pieces.TileDrop table (unsigned_abs kept.numbers.k1)
+        (unsigned_abs kept.numbers.k2) (unsigned_abs kept.numbers.k3)) }
 {
     let (zoom, column, row) = place_in(kept.numbers)?;
     Some(Piece::TileDrop {
@@ -54,7 +57,8 @@ fn tile_drop_in(table: Name, kept: Kept) -> Option<Piece>
 
 /// The attribute row that a row of the kind `row` spells.
 fn row_in(table: Name, kept: Kept) -> Option<Piece>
-    ensures { IfSome result (λ piece. piece ≡ pieces.Row table kept.numbers.k1 (string_bytes kept.t1) (string_bytes kept.t2) kept.numbers.k2) }
+    ensures { IfSome result (λ piece. piece ≡ pieces.Row table kept.numbers.k1 (string_bytes kept.t1)
+        (string_bytes kept.t2) kept.numbers.k2) }
 {
     let id = Id::new(kept.numbers.k1)?;
     let amount = Amount::new(kept.numbers.k2)?;
@@ -86,7 +90,8 @@ fn media_in(table: Name, kept: Kept) -> Option<Piece>
 
 /// The sides of a matrix in tiles, and those of its tiles in pixels, where four numbers are such.
 fn sides_in(numbers: Numbers) -> Option<(MatrixSide, MatrixSide, TileSide, TileSide)>
-    ensures { IfSome result (λ sides. (unsigned_abs numbers.k2 ≡ sides.0) × (unsigned_abs numbers.k3 ≡ sides.1) × (unsigned_abs numbers.k4 ≡ sides.2) × (unsigned_abs numbers.k5 ≡ sides.3)) }
+    ensures { IfSome result (λ sides. (unsigned_abs numbers.k2 ≡ sides.0) × (unsigned_abs numbers.k3 ≡ sides.1)
+        × (unsigned_abs numbers.k4 ≡ sides.2) × (unsigned_abs numbers.k5 ≡ sides.3)) }
 {
     Some((
         MatrixSide::new(numbers.k2)?,
@@ -98,7 +103,9 @@ fn sides_in(numbers: Numbers) -> Option<(MatrixSide, MatrixSide, TileSide, TileS
 
 /// The matrix that a row of the kind `matrix` spells.
 fn matrix_in(table: Name, kept: Kept) -> Option<Piece>
-    ensures { IfSome result (λ piece. piece ≡ pieces.Matrix table (unsigned_abs kept.numbers.k1) (record { mw = unsigned_abs kept.numbers.k2; mh = unsigned_abs kept.numbers.k3; tw = unsigned_abs kept.numbers.k4; th = unsigned_abs kept.numbers.k5; px = kept.numbers.k6; py = kept.numbers.k7 })) }
+    ensures { IfSome result (λ piece. piece ≡ pieces.Matrix table (unsigned_abs kept.numbers.k1)
+        (record { mw = unsigned_abs kept.numbers.k2; mh = unsigned_abs kept.numbers.k3; tw = unsigned_abs
+        kept.numbers.k4; th = unsigned_abs kept.numbers.k5; px = kept.numbers.k6; py = kept.numbers.k7 })) }
 {
     let zoom = Zoom::new(kept.numbers.k1)?;
     let (mw, mh, tw, th) = sides_in(kept.numbers)?;

@@ -35,10 +35,12 @@ pub fn import_package<S: Alter + Drop, F: Folder>(
     at: Moment,
 ) -> Result<(Connection<S>, Import), Stop>
     requires { conn.in_transaction ≡ false }
-    ensures imported { IfOk result (λ done. OnKit (HasCleanDisk (state S.Store done.0)) (λ p. IsSettled current (state S.Store conn) p) (F.files folder.old)
+    ensures imported { IfOk result (λ done. OnKit (HasCleanDisk (state S.Store done.0))
+        (λ p. IsSettled current (state S.Store conn) p) (F.files folder.old)
         (λ files p. IsImport files name.now p (state S.Store done.0) done.1)) }
     ensures kept { IfOk result (λ done. OnAnyFolder (HasCleanDisk (state S.Store done.0)) (λ p. IsSettled current (state S.Store conn) p)
-        (λ p. IsKept name.now p (λ q. IsSettled current (state S.Store done.0) q) (λ db. (state S.Store done.0).may_leave db) Stands done.1)) }
+        (λ p. IsKept name.now p (λ q. IsSettled current (state S.Store done.0) q)
+        (λ db. (state S.Store done.0).may_leave db) Stands done.1)) }
     ensures folder { IfOk result (λ done. TellsFolder (F.has_failed folder.old) (F.has_failed folder.new) done.1) }
 {
     match adopt_package(alloc, conn) {

@@ -65,7 +65,8 @@ impl<R: Read, K: Lender> Read for Source<'_, R, K> {
 
     fn read(&mut self, buf: &mut [u8]) -> io::Result<usize>
         ensures bound { ReadsAtMost result buf.new }
-        ensures bytes { ReadConsumes (R.remaining (inside self.old.held.reader.now)) (R.remaining (inside self.new.held.reader.now)) result buf.new }
+        ensures bytes { ReadConsumes (R.remaining (inside self.old.held.reader.now))
+            (R.remaining (inside self.new.held.reader.now)) result buf.new }
         ensures failed { has_failed self.new.held.reader.now ≡ (has_failed self.old.held.reader.now || is_err result) }
     {
         self.held.read(buf)

@@ -24,7 +24,8 @@ fn write_whole<W: Write>(writer: &mut Io<W>, bytes: &[u8]) -> bool
     ensures whole { result ≡ true → Appends (W.contents (inside writer.old)) (W.contents (inside writer.new)) bytes.now
         × (has_failed writer.new ≡ has_failed writer.old) }
     ensures cut { result ≡ false → (has_failed writer.new ≡ true)
-        × (taken : ℕ) × (taken < length bytes.now) × Appends (W.contents (inside writer.old)) (W.contents (inside writer.new)) (take taken bytes.now) }
+        × (taken : ℕ) × (taken < length bytes.now) × Appends (W.contents (inside writer.old))
+        (W.contents (inside writer.new)) (take taken bytes.now) }
 {
     let mut at = 0;
     while at < bytes.len() {

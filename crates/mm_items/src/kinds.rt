@@ -34,7 +34,8 @@ pub(crate) fn plain_refusal<S: Alter>(
 ) -> Result<Option<u8>, Fault>
     ensures same_reference { tx.new.conn.ghost_name ≡ tx.old.conn.ghost_name }
     ensures look { (profile : Profile) → IsLook profile (state S.Store tx.old.conn.now) (state S.Store tx.new.conn.now)
-        (λ p why. Meets profile p → why ≡ least (no_table p table.now ∷ of_another_kind p table.now (has_kind p.kinds table.now (plain_kind asked)) ∷ [])) result }
+        (λ p why. Meets profile p → why ≡ least (no_table p table.now ∷ of_another_kind p table.now
+        (has_kind p.kinds table.now (plain_kind asked)) ∷ [])) result }
 {
     let Some(kind) = kind_of(tx, table)? else {
         return Ok(Some(25));
@@ -63,7 +64,8 @@ pub(crate) fn pyramid_refusal<S: Alter>(
 ) -> Result<Option<u8>, Fault>
     ensures same_reference { tx.new.conn.ghost_name ≡ tx.old.conn.ghost_name }
     ensures look { (profile : Profile) → IsLook profile (state S.Store tx.old.conn.now) (state S.Store tx.new.conn.now)
-        (λ p why. Meets profile p → why ≡ least (no_table p table.now ∷ of_another_kind p table.now (is_pyramid p.kinds table.now) ∷ [])) result }
+        (λ p why. Meets profile p → why ≡ least (no_table p table.now ∷ of_another_kind p table.now
+        (is_pyramid p.kinds table.now) ∷ [])) result }
 {
     let Some(kind) = kind_of(tx, table)? else {
         return Ok(Some(25));

@@ -18,7 +18,9 @@ use sqlite::{Alter, Transaction, params};
 fn has_base<S: Alter>(tx: &mut Transaction<'_, S>, table: &str, id: i64) -> Result<bool, Fault>
     ensures same_reference { tx.new.conn.ghost_name ≡ tx.old.conn.ghost_name }
     ensures look { (profile : Profile) → IsLook profile (state S.Store tx.old.conn.now) (state S.Store tx.new.conn.now)
-        (λ p found. found ≡ some_entry (λ (k : Pairing) _. at_value (λ (r : Relation). same_text r.base table.now && same_number k.base_id id) (get p.relations k.mapping)) p.pairings) result }
+        (λ p found. found ≡ some_entry (λ (k : Pairing) _. at_value
+        (λ (r : Relation). same_text r.base table.now && same_number k.base_id id) (get p.relations k.mapping))
+        p.pairings) result }
 {
     exists(
         tx,
@@ -31,7 +33,9 @@ fn has_base<S: Alter>(tx: &mut Transaction<'_, S>, table: &str, id: i64) -> Resu
 fn has_related<S: Alter>(tx: &mut Transaction<'_, S>, table: &str, id: i64) -> Result<bool, Fault>
     ensures same_reference { tx.new.conn.ghost_name ≡ tx.old.conn.ghost_name }
     ensures look { (profile : Profile) → IsLook profile (state S.Store tx.old.conn.now) (state S.Store tx.new.conn.now)
-        (λ p found. found ≡ some_entry (λ (k : Pairing) _. at_value (λ (r : Relation). same_text r.related table.now && same_number k.related_id id) (get p.relations k.mapping)) p.pairings) result }
+        (λ p found. found ≡ some_entry (λ (k : Pairing) _. at_value
+        (λ (r : Relation). same_text r.related table.now && same_number k.related_id id) (get p.relations k.mapping))
+        p.pairings) result }
 {
     exists(
         tx,
@@ -48,7 +52,8 @@ pub(crate) fn is_mapped<S: Alter>(
     id: i64,
 ) -> Result<bool, Fault>
     ensures same_reference { tx.new.conn.ghost_name ≡ tx.old.conn.ghost_name }
-    ensures look { (profile : Profile) → IsLook profile (state S.Store tx.old.conn.now) (state S.Store tx.new.conn.now) (λ p found. found ≡ conditions.is_mapped p table.now id) result }
+    ensures look { (profile : Profile) → IsLook profile (state S.Store tx.old.conn.now) (state S.Store tx.new.conn.now)
+        (λ p found. found ≡ conditions.is_mapped p table.now id) result }
 {
     if has_base(tx, table, id)? {
         Ok(true)

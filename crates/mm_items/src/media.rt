@@ -37,9 +37,12 @@ fn insert_medium<S: Alter>(
     blob: i64,
 ) -> Result<(), Fault>
     ensures same_reference { tx.new.conn.ghost_name ≡ tx.old.conn.ghost_name }
-    ensures named { (profile : Profile) (spare : Spare) (bytes : List ℕ) → IsMove (state S.Store tx.old.conn.now) (state S.Store tx.new.conn.now)
-        (λ base x. IsSeen spare profile (state S.Store tx.old.conn.now) base x × ((bytes_at x.kept.shelf blob ≡ Some bytes) × (get x.kept.media (item table.now id) ≡ None)))
-        (λ base x _ y. (y ≡ with_medium (item table.now id) (medium_of blob content_type.now) bytes x) × IsSeen (spare_but blob spare) profile (state S.Store tx.new.conn.now) base y) result }
+    ensures named { (profile : Profile) (spare : Spare) (bytes : List ℕ) →
+        IsMove (state S.Store tx.old.conn.now) (state S.Store tx.new.conn.now)
+        (λ base x. IsSeen spare profile (state S.Store tx.old.conn.now) base x
+        × ((bytes_at x.kept.shelf blob ≡ Some bytes) × (get x.kept.media (item table.now id) ≡ None)))
+        (λ base x _ y. (y ≡ with_medium (item table.now id) (medium_of blob content_type.now) bytes x)
+        × IsSeen (spare_but blob spare) profile (state S.Store tx.new.conn.now) base y) result }
 {
     run(
         tx,
@@ -57,9 +60,13 @@ fn update_medium<S: Alter>(
     blob: i64,
 ) -> Result<(), Fault>
     ensures same_reference { tx.new.conn.ghost_name ≡ tx.old.conn.ghost_name }
-    ensures named { (profile : Profile) (spare : Spare) (bytes : List ℕ) (was : ℤ) → IsMove (state S.Store tx.old.conn.now) (state S.Store tx.new.conn.now)
-        (λ base x. IsSeen spare profile (state S.Store tx.old.conn.now) base x × ((bytes_at x.kept.shelf blob ≡ Some bytes) × (option_map (λ (m : MediumRow). m.blob) (get x.kept.media (item table.now id)) ≡ Some was)))
-        (λ base x _ y. (y ≡ with_medium (item table.now id) (medium_of blob content_type.now) bytes x) × IsSeen (spare_too was (spare_but blob spare)) profile (state S.Store tx.new.conn.now) base y) result }
+    ensures named { (profile : Profile) (spare : Spare) (bytes : List ℕ) (was : ℤ) →
+        IsMove (state S.Store tx.old.conn.now) (state S.Store tx.new.conn.now)
+        (λ base x. IsSeen spare profile (state S.Store tx.old.conn.now) base x
+        × ((bytes_at x.kept.shelf blob ≡ Some bytes) × (option_map
+        (λ (m : MediumRow). m.blob) (get x.kept.media (item table.now id)) ≡ Some was)))
+        (λ base x _ y. (y ≡ with_medium (item table.now id) (medium_of blob content_type.now) bytes x)
+        × IsSeen (spare_too was (spare_but blob spare)) profile (state S.Store tx.new.conn.now) base y) result }
 {
     run(
         tx,
@@ -78,9 +85,13 @@ fn name_medium<S: Alter>(
     stands: Option<i64>,
 ) -> Result<(), Fault>
     ensures same_reference { tx.new.conn.ghost_name ≡ tx.old.conn.ghost_name }
-    ensures named { (profile : Profile) (spare : Spare) (bytes : List ℕ) → IsMove (state S.Store tx.old.conn.now) (state S.Store tx.new.conn.now)
-        (λ base x. IsSeen spare profile (state S.Store tx.old.conn.now) base x × ((bytes_at x.kept.shelf blob ≡ Some bytes) × (option_map (λ (m : MediumRow). m.blob) (get x.kept.media (item table.now id)) ≡ stands)))
-        (λ base x _ y. (y ≡ with_medium (item table.now id) (medium_of blob content_type.now) bytes x) × IsSeen (spare_freed stands (spare_but blob spare)) profile (state S.Store tx.new.conn.now) base y) result }
+    ensures named { (profile : Profile) (spare : Spare) (bytes : List ℕ) →
+        IsMove (state S.Store tx.old.conn.now) (state S.Store tx.new.conn.now)
+        (λ base x. IsSeen spare profile (state S.Store tx.old.conn.now) base x
+        × ((bytes_at x.kept.shelf blob ≡ Some bytes) × (option_map
+        (λ (m : MediumRow). m.blob) (get x.kept.media (item table.now id)) ≡ stands)))
+        (λ base x _ y. (y ≡ with_medium (item table.now id) (medium_of blob content_type.now) bytes x)
+        × IsSeen (spare_freed stands (spare_but blob spare)) profile (state S.Store tx.new.conn.now) base y) result }
 {
     match stands {
         Some(_was) => update_medium(tx, table, id, content_type, blob),
@@ -98,9 +109,12 @@ pub(crate) fn give_medium<S: Alter>(
     blob: i64,
 ) -> Result<(), Fault>
     ensures same_reference { tx.new.conn.ghost_name ≡ tx.old.conn.ghost_name }
-    ensures given { (profile : Profile) (spare : Spare) (bytes : List ℕ) → IsMove (state S.Store tx.old.conn.now) (state S.Store tx.new.conn.now)
+    ensures given { (profile : Profile) (spare : Spare) (bytes : List ℕ) →
+        IsMove (state S.Store tx.old.conn.now) (state S.Store tx.new.conn.now)
         (λ base x. IsSeen spare profile (state S.Store tx.old.conn.now) base x × (bytes_at x.kept.shelf blob ≡ Some bytes))
-        (λ base x _ y. (y.content ≡ record (x.content) { media = insert x.content.media (item table.now id) (record { bytes = bytes; content_type = content_type.now }) }) × IsSeen (spare_but blob spare) profile (state S.Store tx.new.conn.now) base y) result }
+        (λ base x _ y. (y.content ≡ record (x.content) { media = insert x.content.media (item table.now id)
+        (record { bytes = bytes; content_type = content_type.now }) })
+        × IsSeen (spare_but blob spare) profile (state S.Store tx.new.conn.now) base y) result }
 {
     let stands = blob_of_medium(tx, table, id)?;
     name_medium(tx, table, id, content_type, blob, stands)?;
@@ -118,7 +132,8 @@ fn write_medium<S: Alter>(
 ) -> Result<(), Fault>
     ensures same_reference { tx.new.conn.ghost_name ≡ tx.old.conn.ghost_name }
     ensures change { (profile : Profile) → IsChange profile (state S.Store tx.old.conn.now) (state S.Store tx.new.conn.now) (λ p. ⊤)
-        (λ p. record p { media = insert p.media (item table.now id) (record { bytes = bytes.now; content_type = content_type.now }) }) result }
+        (λ p. record p { media = insert p.media (item table.now id)
+        (record { bytes = bytes.now; content_type = content_type.now }) }) result }
 {
     if bytes.is_empty() {
         return Err(Fault::STORE);
@@ -158,9 +173,12 @@ fn delete_medium_row<S: Alter>(
     id: i64,
 ) -> Result<(), Fault>
     ensures same_reference { tx.new.conn.ghost_name ≡ tx.old.conn.ghost_name }
-    ensures gone { (profile : Profile) (spare : Spare) (stands : Option ℤ) → IsMove (state S.Store tx.old.conn.now) (state S.Store tx.new.conn.now)
-        (λ base x. IsSeen spare profile (state S.Store tx.old.conn.now) base x × (option_map (λ (m : MediumRow). m.blob) (get x.kept.media (item table.now id)) ≡ stands))
-        (λ base x _ y. (y ≡ without_medium (item table.now id) x) × IsSeen (spare_freed stands spare) profile (state S.Store tx.new.conn.now) base y) result }
+    ensures gone { (profile : Profile) (spare : Spare) (stands : Option ℤ) →
+        IsMove (state S.Store tx.old.conn.now) (state S.Store tx.new.conn.now)
+        (λ base x. IsSeen spare profile (state S.Store tx.old.conn.now) base x
+        × (option_map (λ (m : MediumRow). m.blob) (get x.kept.media (item table.now id)) ≡ stands))
+        (λ base x _ y. (y ≡ without_medium (item table.now id) x)
+        × IsSeen (spare_freed stands spare) profile (state S.Store tx.new.conn.now) base y) result }
 {
     run(
         tx,

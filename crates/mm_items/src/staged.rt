@@ -31,9 +31,11 @@ fn blob_of_piece<S: Alter>(
     number: u32,
 ) -> Result<i64, Fault>
     ensures same_reference { tx.new.conn.ghost_name ≡ tx.old.conn.ghost_name }
-    ensures found { (profile : Profile) (spare : Spare) (bytes : List ℕ) → IsMove (state S.Store tx.old.conn.now) (state S.Store tx.new.conn.now)
+    ensures found { (profile : Profile) (spare : Spare) (bytes : List ℕ) →
+        IsMove (state S.Store tx.old.conn.now) (state S.Store tx.new.conn.now)
         (λ base x. IsSeen spare profile (state S.Store tx.old.conn.now) base x × HasBytes edition.now number bytes x.content)
-        (λ base x id y. (y ≡ x) × IsSeen spare profile (state S.Store tx.new.conn.now) base y × (bytes_at y.kept.shelf id ≡ Some bytes)) result }
+        (λ base x id y. (y ≡ x) × IsSeen spare profile (state S.Store tx.new.conn.now) base y
+        × (bytes_at y.kept.shelf id ≡ Some bytes)) result }
 {
     match first_number(
         tx,
@@ -56,7 +58,9 @@ fn write_tile_of_piece<S: Alter>(
     number: u32,
 ) -> Result<(), Fault>
     ensures same_reference { tx.new.conn.ghost_name ≡ tx.old.conn.ghost_name }
-    ensures change { (profile : Profile) (bytes : List ℕ) → IsChange profile (state S.Store tx.old.conn.now) (state S.Store tx.new.conn.now) (HasBytes edition.now number bytes)
+    ensures change { (profile : Profile) (bytes : List ℕ) →
+        IsChange profile (state S.Store tx.old.conn.now) (state S.Store tx.new.conn.now)
+        (HasBytes edition.now number bytes)
         (λ p. record p { tiles = insert p.tiles (tile table.now (pos zoom) (pos column) (pos row)) bytes }) result }
 {
     let blob = blob_of_piece(tx, edition, number)?;
@@ -97,7 +101,9 @@ fn write_medium_of_piece<S: Alter>(
     number: u32,
 ) -> Result<(), Fault>
     ensures same_reference { tx.new.conn.ghost_name ≡ tx.old.conn.ghost_name }
-    ensures change { (profile : Profile) (bytes : List ℕ) → IsChange profile (state S.Store tx.old.conn.now) (state S.Store tx.new.conn.now) (HasBytes edition.now number bytes)
+    ensures change { (profile : Profile) (bytes : List ℕ) →
+        IsChange profile (state S.Store tx.old.conn.now) (state S.Store tx.new.conn.now)
+        (HasBytes edition.now number bytes)
         (λ p. record p { media = insert p.media (item table.now id) (record { bytes = bytes; content_type = content_type.now }) }) result }
 {
     let blob = blob_of_piece(tx, edition, number)?;

@@ -34,7 +34,8 @@ fn sides_at<S: Alter>(
 ) -> Result<Option<(i64, i64)>, Fault>
     ensures same_reference { tx.new.conn.ghost_name ≡ tx.old.conn.ghost_name }
     ensures look { (profile : Profile) → IsLook profile (state S.Store tx.old.conn.now) (state S.Store tx.new.conn.now)
-        (λ p sides. option_map (λ (g : Grid). (g.matrix_width, g.matrix_height)) (get p.matrices (level table.now (pos zoom))) ≡ sides) result }
+        (λ p sides. option_map (λ (g : Grid). (g.matrix_width, g.matrix_height))
+        (get p.matrices (level table.now (pos zoom))) ≡ sides) result }
 {
     first_pair(
         tx,
@@ -52,7 +53,8 @@ fn has_tile<S: Alter>(
     row: u32,
 ) -> Result<bool, Fault>
     ensures same_reference { tx.new.conn.ghost_name ≡ tx.old.conn.ghost_name }
-    ensures look { (profile : Profile) → IsLook profile (state S.Store tx.old.conn.now) (state S.Store tx.new.conn.now) (λ p found. found ≡ contains_key p.tiles (tile table.now (pos zoom) (pos column) (pos row))) result }
+    ensures look { (profile : Profile) → IsLook profile (state S.Store tx.old.conn.now) (state S.Store tx.new.conn.now)
+        (λ p found. found ≡ contains_key p.tiles (tile table.now (pos zoom) (pos column) (pos row))) result }
 {
     exists(
         tx,
@@ -71,9 +73,13 @@ fn insert_tile<S: Alter>(
     blob: i64,
 ) -> Result<(), Fault>
     ensures same_reference { tx.new.conn.ghost_name ≡ tx.old.conn.ghost_name }
-    ensures named { (profile : Profile) (spare : Spare) (bytes : List ℕ) → IsMove (state S.Store tx.old.conn.now) (state S.Store tx.new.conn.now)
-        (λ base x. IsSeen spare profile (state S.Store tx.old.conn.now) base x × ((bytes_at x.kept.shelf blob ≡ Some bytes) × (get x.kept.tiles (tile table.now (pos zoom) (pos column) (pos row)) ≡ None)))
-        (λ base x _ y. (y ≡ with_tile (tile table.now (pos zoom) (pos column) (pos row)) blob bytes x) × IsSeen (spare_but blob spare) profile (state S.Store tx.new.conn.now) base y) result }
+    ensures named { (profile : Profile) (spare : Spare) (bytes : List ℕ) →
+        IsMove (state S.Store tx.old.conn.now) (state S.Store tx.new.conn.now)
+        (λ base x. IsSeen spare profile (state S.Store tx.old.conn.now) base x
+        × ((bytes_at x.kept.shelf blob ≡ Some bytes) × (get x.kept.tiles
+        (tile table.now (pos zoom) (pos column) (pos row)) ≡ None)))
+        (λ base x _ y. (y ≡ with_tile (tile table.now (pos zoom) (pos column) (pos row)) blob bytes x)
+        × IsSeen (spare_but blob spare) profile (state S.Store tx.new.conn.now) base y) result }
 {
     run(
         tx,
@@ -92,9 +98,13 @@ fn update_tile<S: Alter>(
     blob: i64,
 ) -> Result<(), Fault>
     ensures same_reference { tx.new.conn.ghost_name ≡ tx.old.conn.ghost_name }
-    ensures named { (profile : Profile) (spare : Spare) (bytes : List ℕ) (was : ℤ) → IsMove (state S.Store tx.old.conn.now) (state S.Store tx.new.conn.now)
-        (λ base x. IsSeen spare profile (state S.Store tx.old.conn.now) base x × ((bytes_at x.kept.shelf blob ≡ Some bytes) × (get x.kept.tiles (tile table.now (pos zoom) (pos column) (pos row)) ≡ Some was)))
-        (λ base x _ y. (y ≡ with_tile (tile table.now (pos zoom) (pos column) (pos row)) blob bytes x) × IsSeen (spare_too was (spare_but blob spare)) profile (state S.Store tx.new.conn.now) base y) result }
+    ensures named { (profile : Profile) (spare : Spare) (bytes : List ℕ) (was : ℤ) →
+        IsMove (state S.Store tx.old.conn.now) (state S.Store tx.new.conn.now)
+        (λ base x. IsSeen spare profile (state S.Store tx.old.conn.now) base x
+        × ((bytes_at x.kept.shelf blob ≡ Some bytes) × (get x.kept.tiles
+        (tile table.now (pos zoom) (pos column) (pos row)) ≡ Some was)))
+        (λ base x _ y. (y ≡ with_tile (tile table.now (pos zoom) (pos column) (pos row)) blob bytes x)
+        × IsSeen (spare_too was (spare_but blob spare)) profile (state S.Store tx.new.conn.now) base y) result }
 {
     run(
         tx,
@@ -114,9 +124,13 @@ fn name_tile<S: Alter>(
     stands: Option<i64>,
 ) -> Result<(), Fault>
     ensures same_reference { tx.new.conn.ghost_name ≡ tx.old.conn.ghost_name }
-    ensures named { (profile : Profile) (spare : Spare) (bytes : List ℕ) → IsMove (state S.Store tx.old.conn.now) (state S.Store tx.new.conn.now)
-        (λ base x. IsSeen spare profile (state S.Store tx.old.conn.now) base x × ((bytes_at x.kept.shelf blob ≡ Some bytes) × (get x.kept.tiles (tile table.now (pos zoom) (pos column) (pos row)) ≡ stands)))
-        (λ base x _ y. (y ≡ with_tile (tile table.now (pos zoom) (pos column) (pos row)) blob bytes x) × IsSeen (spare_freed stands (spare_but blob spare)) profile (state S.Store tx.new.conn.now) base y) result }
+    ensures named { (profile : Profile) (spare : Spare) (bytes : List ℕ) →
+        IsMove (state S.Store tx.old.conn.now) (state S.Store tx.new.conn.now)
+        (λ base x. IsSeen spare profile (state S.Store tx.old.conn.now) base x
+        × ((bytes_at x.kept.shelf blob ≡ Some bytes) × (get x.kept.tiles
+        (tile table.now (pos zoom) (pos column) (pos row)) ≡ stands)))
+        (λ base x _ y. (y ≡ with_tile (tile table.now (pos zoom) (pos column) (pos row)) blob bytes x)
+        × IsSeen (spare_freed stands (spare_but blob spare)) profile (state S.Store tx.new.conn.now) base y) result }
 {
     match stands {
         Some(_was) => update_tile(tx, table, zoom, column, row, blob),
@@ -135,9 +149,12 @@ pub(crate) fn give_tile<S: Alter>(
     blob: i64,
 ) -> Result<(), Fault>
     ensures same_reference { tx.new.conn.ghost_name ≡ tx.old.conn.ghost_name }
-    ensures given { (profile : Profile) (spare : Spare) (bytes : List ℕ) → IsMove (state S.Store tx.old.conn.now) (state S.Store tx.new.conn.now)
+    ensures given { (profile : Profile) (spare : Spare) (bytes : List ℕ) →
+        IsMove (state S.Store tx.old.conn.now) (state S.Store tx.new.conn.now)
         (λ base x. IsSeen spare profile (state S.Store tx.old.conn.now) base x × (bytes_at x.kept.shelf blob ≡ Some bytes))
-        (λ base x _ y. (y.content ≡ record (x.content) { tiles = insert x.content.tiles (tile table.now (pos zoom) (pos column) (pos row)) bytes }) × IsSeen (spare_but blob spare) profile (state S.Store tx.new.conn.now) base y) result }
+        (λ base x _ y. (y.content ≡ record (x.content) { tiles = insert x.content.tiles
+        (tile table.now (pos zoom) (pos column) (pos row)) bytes })
+        × IsSeen (spare_but blob spare) profile (state S.Store tx.new.conn.now) base y) result }
 {
     let stands = blob_of_tile(tx, table, zoom, column, row)?;
     name_tile(tx, table, zoom, column, row, blob, stands)?;
@@ -174,9 +191,12 @@ fn delete_tile_row<S: Alter>(
     row: u32,
 ) -> Result<(), Fault>
     ensures same_reference { tx.new.conn.ghost_name ≡ tx.old.conn.ghost_name }
-    ensures gone { (profile : Profile) (spare : Spare) (stands : Option ℤ) → IsMove (state S.Store tx.old.conn.now) (state S.Store tx.new.conn.now)
-        (λ base x. IsSeen spare profile (state S.Store tx.old.conn.now) base x × (get x.kept.tiles (tile table.now (pos zoom) (pos column) (pos row)) ≡ stands))
-        (λ base x _ y. (y ≡ without_tile (tile table.now (pos zoom) (pos column) (pos row)) x) × IsSeen (spare_freed stands spare) profile (state S.Store tx.new.conn.now) base y) result }
+    ensures gone { (profile : Profile) (spare : Spare) (stands : Option ℤ) →
+        IsMove (state S.Store tx.old.conn.now) (state S.Store tx.new.conn.now)
+        (λ base x. IsSeen spare profile (state S.Store tx.old.conn.now) base x
+        × (get x.kept.tiles (tile table.now (pos zoom) (pos column) (pos row)) ≡ stands))
+        (λ base x _ y. (y ≡ without_tile (tile table.now (pos zoom) (pos column) (pos row)) x)
+        × IsSeen (spare_freed stands spare) profile (state S.Store tx.new.conn.now) base y) result }
 {
     run(
         tx,

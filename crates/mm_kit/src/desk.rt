@@ -20,5 +20,6 @@ pub trait Desk: Apply {
         ensures same { Self.has_failed self.new ≡ Self.has_failed self.old }
         ensures clean { Self.is_clean self.new → Self.is_clean self.old }
         ensures settled { Self.is_clean self.new → (p : Package) → Self.settled self.old p → Meets current p → Self.settled self.new p }
-        ensures tells { IfOk result (λ found. Self.is_clean self.new → (p : Package) → Self.settled self.old p → Meets current p → TellsState p name.now found) };
+        ensures tells { IfOk result (λ found. Self.is_clean self.new → (p : Package) → Self.settled self.old p →
+            Meets current p → TellsState p name.now found) };
 }

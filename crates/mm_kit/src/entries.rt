@@ -138,7 +138,8 @@ fn least_fault(number: u8, piece: Result<Piece, ReadFault>) -> ReadFault
 
 /// The entry of a number and the record of a piece.
 fn read_record(alloc: Global, place: u32, number: &str, rest: Vec<&str>) -> Result<Entry, ReadFault>
-    ensures { ReadsTo (IsEntry place (number.now ∷ map (λ f. f.now) rest.entry.items)) (IsLeast (HoldsAgainstEntry place (number.now ∷ map (λ f. f.now) rest.entry.items))) result }
+    ensures { ReadsTo (IsEntry place (number.now ∷ map (λ f. f.now) rest.entry.items))
+        (IsLeast (HoldsAgainstEntry place (number.now ∷ map (λ f. f.now) rest.entry.items))) result }
 {
     let mut fields = rest;
     let Ok(file) = show(&mut fields) else {
@@ -162,7 +163,8 @@ fn read_record(alloc: Global, place: u32, number: &str, rest: Vec<&str>) -> Resu
 /// 4,096th, 56 where its number isn't its place, 57 where the name of its file is out of form. Memory is answered only for
 /// want of memory.
 pub(crate) fn read_entry(alloc: Global, place: u32, fields: &[&str]) -> Result<Entry, ReadFault>
-    ensures { ReadsTo (IsEntry place (map (λ f. f.now) fields.now)) (IsLeast (HoldsAgainstEntry place (map (λ f. f.now) fields.now))) result }
+    ensures { ReadsTo (IsEntry place (map (λ f. f.now) fields.now))
+        (IsLeast (HoldsAgainstEntry place (map (λ f. f.now) fields.now))) result }
 {
     let [number, rest @ ..] = fields else {
         return Err(ReadFault::refused(10));

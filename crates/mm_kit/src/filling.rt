@@ -19,7 +19,8 @@ fn read_bytes<const MOST: usize, F: Folder>(
     folder: &mut F,
     name: &FileName,
 ) -> Result<Result<Bytes<MOST>, u8>, FolderFault>
-    ensures reads { IfOk result (λ r. IfSome (F.files folder.old) (λ these. (make : List ℕ → SpecPiece) → made make r ≡ with_file MOST make (these name.now))) }
+    ensures reads { IfOk result (λ r. IfSome (F.files folder.old)
+        (λ these. (make : List ℕ → SpecPiece) → made make r ≡ with_file MOST make (these name.now))) }
     ensures stays { F.files folder.new ≡ F.files folder.old }
     ensures fails { F.has_failed folder.new ≡ (F.has_failed folder.old || is_failure result) }
 {

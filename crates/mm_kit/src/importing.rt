@@ -53,7 +53,8 @@ fn import_entries<A: Desk, F: Folder>(
     ensures stopped { IfErr result (λ e. OnKit (A.is_clean desk.new) (A.settled desk.old) (F.files folder.old)
         (λ files p. MayBeStaged files name.now entries.items p (A.may_leave desk.new) A.stands_for e.staged)) }
     ensures session { TellsFailureOf (A.has_failed desk.old) (A.has_failed desk.new) (desk.new ≡ desk.old) result }
-    ensures kept { OnAnyFolder (A.is_clean desk.new) (A.settled desk.old) (λ p. IsKept name.now p (A.settled desk.new) (A.may_leave desk.new) A.stands_for result) }
+    ensures kept { OnAnyFolder (A.is_clean desk.new) (A.settled desk.old)
+        (λ p. IsKept name.now p (A.settled desk.new) (A.may_leave desk.new) A.stands_for result) }
     ensures folder { TellsFolder (F.has_failed folder.old) (F.has_failed folder.new) result }
     ensures why { IfErr result (λ e. IsKitFault e.fault.0) }
 {
@@ -95,7 +96,8 @@ pub(crate) fn import_folder<A: Desk, F: Folder>(
         (λ files p. IsStopped files name.now p (A.may_leave desk.new) A.stands_for e.staged)) }
     ensures session { TellsFailureOf (A.has_failed desk.old) (A.has_failed desk.new) (desk.new ≡ desk.old) result }
     ensures needed { IfErr result (λ e. e.fault.0 ≡ 92 → AsksForPackage (F.files folder.old)) }
-    ensures kept { OnAnyFolder (A.is_clean desk.new) (A.settled desk.old) (λ p. IsKept name.now p (A.settled desk.new) (A.may_leave desk.new) A.stands_for result) }
+    ensures kept { OnAnyFolder (A.is_clean desk.new) (A.settled desk.old)
+        (λ p. IsKept name.now p (A.settled desk.new) (A.may_leave desk.new) A.stands_for result) }
     ensures folder { TellsFolder (F.has_failed folder.old) (F.has_failed folder.new) result }
     ensures why { IfErr result (λ e. IsKitFault e.fault.0) }
 {

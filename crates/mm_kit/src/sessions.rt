@@ -47,11 +47,13 @@ pub fn import_kit<S: Alter, F: Folder>(
     ensures clean { HasCleanDisk (state S.Store (held session.new)) → HasCleanDisk (state S.Store (held session.old)) }
 
     // The answer is that of the kit on the package, and the session is settled for one whose edition has grown along the kit.
-    ensures answered { IfOk result (λ a. OnKit (HasCleanDisk (state S.Store (held session.new))) (λ p. IsSettled current (state S.Store (held session.old)) p) (F.files folder.old)
+    ensures answered { IfOk result (λ a. OnKit (HasCleanDisk (state S.Store (held session.new)))
+        (λ p. IsSettled current (state S.Store (held session.old)) p) (F.files folder.old)
         (λ files p. IsAnswered files name.now p (λ q. IsSettled current (state S.Store (held session.new)) q) a)) }
 
     // With a fault each database that may be left stands for such a package, with as many pieces as were answered ok, or one more.
-    ensures stopped { IfErr result (λ e. OnKit (HasCleanDisk (state S.Store (held session.new))) (λ p. IsSettled current (state S.Store (held session.old)) p) (F.files folder.old)
+    ensures stopped { IfErr result (λ e. OnKit (HasCleanDisk (state S.Store (held session.new)))
+        (λ p. IsSettled current (state S.Store (held session.old)) p) (F.files folder.old)
         (λ files p. IsStopped files name.now p (λ db. (state S.Store (held session.new)).may_leave db) Stands e.staged)) }
 
     // A session that has to be opened again is left as it was, and 92 comes only there.
@@ -61,8 +63,10 @@ pub fn import_kit<S: Alter, F: Folder>(
     ensures needed { IfErr result (λ e. e.fault.0 ≡ 92 → AsksForPackage (F.files folder.old)) }
 
     // Of every folder, one that tells nothing too: the rules hold, and nothing but the edition's pieces has changed, of which none is lost.
-    ensures kept { OnAnyFolder (HasCleanDisk (state S.Store (held session.new))) (λ p. IsSettled current (state S.Store (held session.old)) p)
-        (λ p. IsKept name.now p (λ q. IsSettled current (state S.Store (held session.new)) q) (λ db. (state S.Store (held session.new)).may_leave db) Stands result) }
+    ensures kept { OnAnyFolder (HasCleanDisk (state S.Store (held session.new)))
+        (λ p. IsSettled current (state S.Store (held session.old)) p)
+        (λ p. IsKept name.now p (λ q. IsSettled current (state S.Store (held session.new)) q)
+        (λ db. (state S.Store (held session.new)).may_leave db) Stands result) }
 
     // 96 is the folder's, and the folder tells it.
     ensures folder { TellsFolder (F.has_failed folder.old) (F.has_failed folder.new) result }

@@ -101,12 +101,16 @@ pub(crate) fn stage_all<A: Desk, F: Folder>(
     requires working { A.has_failed desk.old ≡ false }
     ensures clean { A.is_clean desk.new → A.is_clean desk.old }
     ensures answered { IfOk result (λ a. OnKit (A.is_clean desk.new) (A.settled desk.old) (F.files folder.old)
-        (λ files p. (old : List SpecPiece) → HasPieces p edition.now old → length old ≤ length entries.items → AreStaged files edition.now entries.items p old (A.settled desk.new) a)) }
+        (λ files p. (old : List SpecPiece) → HasPieces p edition.now old → length old ≤ length entries.items →
+        AreStaged files edition.now entries.items p old (A.settled desk.new) a)) }
     ensures stopped { IfErr result (λ e. OnKit (A.is_clean desk.new) (A.settled desk.old) (F.files folder.old)
-        (λ files p. (old : List SpecPiece) → HasPieces p edition.now old → MayBeStaged files edition.now entries.items p (A.may_leave desk.new) A.stands_for e.staged)) }
+        (λ files p. (old : List SpecPiece) → HasPieces p edition.now old →
+        MayBeStaged files edition.now entries.items p (A.may_leave desk.new) A.stands_for e.staged)) }
     ensures session { IfOk result (λ a. A.has_failed desk.new ≡ false) }
     ensures fault { IfErr result (λ e. (e.fault.0 ≢ 92) × (e.fault.0 ≡ 96 → A.has_failed desk.new ≡ false)) }
-    ensures kept { OnAnyFolder (A.is_clean desk.new) (A.settled desk.old) (λ p. (old : List SpecPiece) → HasPieces p edition.now old → IsKept edition.now p (A.settled desk.new) (A.may_leave desk.new) A.stands_for result) }
+    ensures kept { OnAnyFolder (A.is_clean desk.new) (A.settled desk.old)
+        (λ p. (old : List SpecPiece) → HasPieces p edition.now old →
+        IsKept edition.now p (A.settled desk.new) (A.may_leave desk.new) A.stands_for result) }
     ensures folder { TellsFolder (F.has_failed folder.old) (F.has_failed folder.new) result }
     ensures why { IfErr result (λ e. IsKitFault e.fault.0) }
 {

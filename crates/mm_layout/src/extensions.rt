@@ -17,7 +17,8 @@ pub(crate) fn insert_zoom_row<S: Alter>(
     table: &str,
 ) -> Result<(), Fault>
     ensures same_reference { tx.new.conn.ghost_name ≡ tx.old.conn.ghost_name }
-    ensures change { (profile : Profile) → IsChange profile (state S.Store tx.old.conn.now) (state S.Store tx.new.conn.now) (λ p. get p.extensions (zoom_extension table.now) ≡ None)
+    ensures change { (profile : Profile) → IsChange profile (state S.Store tx.old.conn.now)
+        (state S.Store tx.new.conn.now) (λ p. get p.extensions (zoom_extension table.now) ≡ None)
         (λ p. record p { extensions = insert p.extensions (zoom_extension table.now) 1 }) result }
 {
     run(

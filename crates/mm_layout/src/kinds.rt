@@ -36,7 +36,8 @@ pub(crate) fn text_of_step(step: Step) -> &'static str
 /// What the registry writes of a table.
 fn registered<S: Alter>(tx: &mut Transaction<'_, S>, table: &str) -> Result<Option<String>, Fault>
     ensures same_reference { tx.new.conn.ghost_name ≡ tx.old.conn.ghost_name }
-    ensures look { (profile : Profile) → IsLook profile (state S.Store tx.old.conn.now) (state S.Store tx.new.conn.now) (λ p text. get p.kinds table.now ≡ option_map string_bytes text) result }
+    ensures look { (profile : Profile) → IsLook profile (state S.Store tx.old.conn.now) (state S.Store tx.new.conn.now)
+        (λ p text. get p.kinds table.now ≡ option_map string_bytes text) result }
 {
     first_text(
         tx,
@@ -48,7 +49,8 @@ fn registered<S: Alter>(tx: &mut Transaction<'_, S>, table: &str) -> Result<Opti
 /// The kind of a table, where it is registered. A text that is no kind is a fault, 91.
 pub fn kind_of<S: Alter>(tx: &mut Transaction<'_, S>, table: &str) -> Result<Option<Kind>, Fault>
     ensures same_reference { tx.new.conn.ghost_name ≡ tx.old.conn.ghost_name }
-    ensures look { (profile : Profile) → IsLook profile (state S.Store tx.old.conn.now) (state S.Store tx.new.conn.now) (λ p kind. get p.kinds table.now ≡ option_map kind_text kind) result }
+    ensures look { (profile : Profile) → IsLook profile (state S.Store tx.old.conn.now) (state S.Store tx.new.conn.now)
+        (λ p kind. get p.kinds table.now ≡ option_map kind_text kind) result }
 {
     match registered(tx, table)? {
         Some(text) => match Kind::named(text.as_str()) {
@@ -66,7 +68,8 @@ pub(crate) fn insert_kind<S: Alter>(
     kind: &str,
 ) -> Result<(), Fault>
     ensures same_reference { tx.new.conn.ghost_name ≡ tx.old.conn.ghost_name }
-    ensures change { (profile : Profile) → IsChange profile (state S.Store tx.old.conn.now) (state S.Store tx.new.conn.now) (λ p. get p.kinds table.now ≡ None)
+    ensures change { (profile : Profile) → IsChange profile (state S.Store tx.old.conn.now)
+        (state S.Store tx.new.conn.now) (λ p. get p.kinds table.now ≡ None)
         (λ p. record p { kinds = insert p.kinds table.now kind.now }) result }
 {
     run(

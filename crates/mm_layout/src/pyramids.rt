@@ -35,7 +35,8 @@ fn insert_pyramid_contents<S: Alter>(
     at: &str,
 ) -> Result<(), Fault>
     ensures same_reference { tx.new.conn.ghost_name ≡ tx.old.conn.ghost_name }
-    ensures change { (profile : Profile) → IsChange profile (state S.Store tx.old.conn.now) (state S.Store tx.new.conn.now) (λ p. get p.contents table.now ≡ None)
+    ensures change { (profile : Profile) → IsChange profile (state S.Store tx.old.conn.now)
+        (state S.Store tx.new.conn.now) (λ p. get p.contents table.now ≡ None)
         (λ p. record p { contents = insert p.contents table.now (pyramid_contents identifier.now at.now srs (box_of extent.now)) }) result }
 {
     run(
@@ -62,7 +63,8 @@ fn insert_matrix_set<S: Alter>(
     extent: &Extent,
 ) -> Result<(), Fault>
     ensures same_reference { tx.new.conn.ghost_name ≡ tx.old.conn.ghost_name }
-    ensures change { (profile : Profile) → IsChange profile (state S.Store tx.old.conn.now) (state S.Store tx.new.conn.now) (λ p. get p.sets table.now ≡ None)
+    ensures change { (profile : Profile) → IsChange profile (state S.Store tx.old.conn.now)
+        (state S.Store tx.new.conn.now) (λ p. get p.sets table.now ≡ None)
         (λ p. record p { sets = insert p.sets table.now (record { system = srs; box = box_of extent.now }) }) result }
 {
     run(
@@ -90,7 +92,8 @@ fn insert_pyramid<S: Alter>(
     at: &str,
 ) -> Result<(), Fault>
     ensures same_reference { tx.new.conn.ghost_name ≡ tx.old.conn.ghost_name }
-    ensures change { (profile : Profile) → IsChange profile (state S.Store tx.old.conn.now) (state S.Store tx.new.conn.now) (IsUnregistered table.now)
+    ensures change { (profile : Profile) → IsChange profile (state S.Store tx.old.conn.now)
+        (state S.Store tx.new.conn.now) (IsUnregistered table.now)
         (λ p. with_pyramid p table.now identifier.now srs (box_of extent.now) step at.now) result }
 {
     insert_pyramid_contents(tx, table, identifier, srs, extent, at)?;
@@ -118,7 +121,8 @@ fn pyramid_refusal<S: Alter>(
 ) -> Result<Option<u8>, Fault>
     ensures same_reference { tx.new.conn.ghost_name ≡ tx.old.conn.ghost_name }
     ensures look { (profile : Profile) → IsLook profile (state S.Store tx.old.conn.now) (state S.Store tx.new.conn.now)
-        (λ p why. (step : Step) → why ≡ least (own_reasons p (commands.Pyramid table.now identifier.now srs min_x min_y max_x max_y step))) result }
+        (λ p why. (step : Step) → why ≡ least (own_reasons p
+        (commands.Pyramid table.now identifier.now srs min_x min_y max_x max_y step))) result }
 {
     if !has_system(tx, srs)? {
         return Ok(Some(21));
@@ -156,7 +160,8 @@ pub fn add_pyramid<S: Alter>(
     at: &str,
 ) -> Result<Outcome, Fault>
     ensures same_reference { tx.new.conn.ghost_name ≡ tx.old.conn.ghost_name }
-    ensures lent { (profile : Profile) → IsLentAt profile (commands.Pyramid table.now identifier.now srs min_x min_y max_x max_y step) at.now
+    ensures lent { (profile : Profile) → IsLentAt profile
+        (commands.Pyramid table.now identifier.now srs min_x min_y max_x max_y step) at.now
         (state S.Store tx.old.conn.now) (state S.Store tx.new.conn.now) result }
 {
     let table = table.as_str();

@@ -78,7 +78,8 @@ impl RowTest for System {
 
 /// Of rule 16, what it asks of reference systems.
 pub fn systems_within<S: Alter>(conn: &mut Connection<S>) -> Result<bool, Fault>
-    ensures { (profile : Profile) → IsCheck profile (state S.Store conn.old) (state S.Store conn.new) (λ _. ⊤) (λ p. SystemsAreWithin p) result }
+    ensures { (profile : Profile) → IsCheck profile (state S.Store conn.old) (state S.Store conn.new) (λ _. ⊤)
+        (λ p. SystemsAreWithin p) result }
 {
     each_passes(
         conn,
@@ -135,7 +136,8 @@ impl RowTest for Contents {
 
 /// Of rule 16, what it asks of contents.
 pub fn contents_within<S: Alter>(conn: &mut Connection<S>, unit: Unit) -> Result<bool, Fault>
-    ensures { IsCheck (profile_of unit) (state S.Store conn.old) (state S.Store conn.new) (λ _. ⊤) (λ p. ContentsAreWithin (profile_of unit) p) result }
+    ensures { IsCheck (profile_of unit) (state S.Store conn.old) (state S.Store conn.new) (λ _. ⊤)
+        (λ p. ContentsAreWithin (profile_of unit) p) result }
 {
     each_passes(
         conn,
@@ -164,7 +166,8 @@ impl RowTest for Kind {
 
 /// Of rule 16, what it asks of the registry.
 pub fn kinds_within<S: Alter>(conn: &mut Connection<S>) -> Result<bool, Fault>
-    ensures { (profile : Profile) → IsCheck profile (state S.Store conn.old) (state S.Store conn.new) (λ _. ⊤) (λ p. KindsAreWithin p) result }
+    ensures { (profile : Profile) → IsCheck profile (state S.Store conn.old) (state S.Store conn.new) (λ _. ⊤)
+        (λ p. KindsAreWithin p) result }
 {
     each_passes(
         conn,
@@ -209,7 +212,8 @@ impl RowTest for MatrixSet {
 
 /// Of rule 16, what it asks of matrix sets.
 pub fn sets_within<S: Alter>(conn: &mut Connection<S>, unit: Unit) -> Result<bool, Fault>
-    ensures { IsCheck (profile_of unit) (state S.Store conn.old) (state S.Store conn.new) (λ _. ⊤) (λ p. SetsAreWithin (profile_of unit) p) result }
+    ensures { IsCheck (profile_of unit) (state S.Store conn.old) (state S.Store conn.new) (λ _. ⊤)
+        (λ p. SetsAreWithin (profile_of unit) p) result }
 {
     each_passes(
         conn,
@@ -260,7 +264,8 @@ impl RowTest for Matrix {
 
 /// Of rule 16, what it asks of matrices.
 pub fn matrices_within<S: Alter>(conn: &mut Connection<S>, unit: Unit) -> Result<bool, Fault>
-    ensures { IsCheck (profile_of unit) (state S.Store conn.old) (state S.Store conn.new) (λ _. ⊤) (λ p. MatricesAreWithin (profile_of unit) p) result }
+    ensures { IsCheck (profile_of unit) (state S.Store conn.old) (state S.Store conn.new) (λ _. ⊤)
+        (λ p. MatricesAreWithin (profile_of unit) p) result }
 {
     each_passes(
         conn,
@@ -299,7 +304,8 @@ impl RowTest for Extension {
 
 /// Of rule 16, what it asks of extension rows.
 pub fn extensions_within<S: Alter>(conn: &mut Connection<S>) -> Result<bool, Fault>
-    ensures { (profile : Profile) → IsCheck profile (state S.Store conn.old) (state S.Store conn.new) (λ _. ⊤) (λ p. ExtensionsAreWithin p) result }
+    ensures { (profile : Profile) → IsCheck profile (state S.Store conn.old) (state S.Store conn.new) (λ _. ⊤)
+        (λ p. ExtensionsAreWithin p) result }
 {
     each_passes(
         conn,
@@ -338,7 +344,8 @@ impl RowTest for Tile {
 
 /// Of rule 16, what it asks of tiles.
 pub fn tiles_within<S: Alter>(conn: &mut Connection<S>) -> Result<bool, Fault>
-    ensures { (profile : Profile) → IsCheck profile (state S.Store conn.old) (state S.Store conn.new) (λ _. ⊤) (λ p. TilesAreWithin p) result }
+    ensures { (profile : Profile) → IsCheck profile (state S.Store conn.old) (state S.Store conn.new) (λ _. ⊤)
+        (λ p. TilesAreWithin p) result }
 {
     each_passes(
         conn,
@@ -377,7 +384,8 @@ impl RowTest for Item {
 
 /// Of rule 16, what it asks of attribute rows.
 pub fn rows_within<S: Alter>(conn: &mut Connection<S>) -> Result<bool, Fault>
-    ensures { (profile : Profile) → IsCheck profile (state S.Store conn.old) (state S.Store conn.new) (λ _. ⊤) (λ p. RowsAreWithin p) result }
+    ensures { (profile : Profile) → IsCheck profile (state S.Store conn.old) (state S.Store conn.new) (λ _. ⊤)
+        (λ p. RowsAreWithin p) result }
 {
     each_passes(
         conn,
@@ -413,7 +421,8 @@ impl RowTest for Medium {
 
 /// Of rule 16, what it asks of media.
 pub fn media_within<S: Alter>(conn: &mut Connection<S>) -> Result<bool, Fault>
-    ensures { (profile : Profile) → IsCheck profile (state S.Store conn.old) (state S.Store conn.new) (λ _. ⊤) (λ p. MediaAreWithin p) result }
+    ensures { (profile : Profile) → IsCheck profile (state S.Store conn.old) (state S.Store conn.new) (λ _. ⊤)
+        (λ p. MediaAreWithin p) result }
 {
     each_passes(
         conn,
@@ -455,7 +464,8 @@ impl RowTest for Relation {
 
 /// Of rule 16, what it asks of relations.
 pub fn relations_within<S: Alter>(conn: &mut Connection<S>) -> Result<bool, Fault>
-    ensures { (profile : Profile) → IsCheck profile (state S.Store conn.old) (state S.Store conn.new) (λ _. ⊤) (λ p. RelationsAreWithin p) result }
+    ensures { (profile : Profile) → IsCheck profile (state S.Store conn.old) (state S.Store conn.new) (λ _. ⊤)
+        (λ p. RelationsAreWithin p) result }
 {
     each_passes(
         conn,
@@ -488,7 +498,8 @@ impl RowTest for Pairing {
 
 /// Of rule 16, what it asks of mapping rows.
 pub fn pairings_within<S: Alter>(conn: &mut Connection<S>) -> Result<bool, Fault>
-    ensures { (profile : Profile) → IsCheck profile (state S.Store conn.old) (state S.Store conn.new) (λ _. ⊤) (λ p. PairingsAreWithin p) result }
+    ensures { (profile : Profile) → IsCheck profile (state S.Store conn.old) (state S.Store conn.new) (λ _. ⊤)
+        (λ p. PairingsAreWithin p) result }
 {
     each_passes(
         conn,
@@ -517,7 +528,8 @@ impl RowTest for Edition {
 
 /// Of rule 16, what it asks of editions.
 pub fn editions_within<S: Alter>(conn: &mut Connection<S>) -> Result<bool, Fault>
-    ensures { (profile : Profile) → IsCheck profile (state S.Store conn.old) (state S.Store conn.new) (λ _. ⊤) (λ p. EditionsAreWithin p) result }
+    ensures { (profile : Profile) → IsCheck profile (state S.Store conn.old) (state S.Store conn.new) (λ _. ⊤)
+        (λ p. EditionsAreWithin p) result }
 {
     each_passes(
         conn,
@@ -546,7 +558,8 @@ impl RowTest for Piece {
 
 /// Of rule 16, what it asks of staged pieces.
 pub fn pieces_within<S: Alter>(conn: &mut Connection<S>) -> Result<bool, Fault>
-    ensures { (profile : Profile) → IsCheck profile (state S.Store conn.old) (state S.Store conn.new) (λ _. ⊤) (λ p. PiecesAreWithin p) result }
+    ensures { (profile : Profile) → IsCheck profile (state S.Store conn.old) (state S.Store conn.new) (λ _. ⊤)
+        (λ p. PiecesAreWithin p) result }
 {
     each_passes(
         conn,
@@ -582,7 +595,8 @@ fn one_limit<S: Alter>(conn: &mut Connection<S>, unit: Unit, k: u8) -> Result<bo
 
 /// Rule 16: every name, number, text and length is within its limits.
 pub fn limits<S: Alter>(conn: &mut Connection<S>, unit: Unit) -> Result<bool, Fault>
-    ensures { IsCheck (profile_of unit) (state S.Store conn.old) (state S.Store conn.new) (λ _. ⊤) (λ p. Limits (profile_of unit) p) result }
+    ensures { IsCheck (profile_of unit) (state S.Store conn.old) (state S.Store conn.new) (λ _. ⊤)
+        (λ p. Limits (profile_of unit) p) result }
 {
     'parts: for k in 1..14u8 {
         match one_limit(conn, unit, k) {

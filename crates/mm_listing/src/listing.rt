@@ -37,7 +37,8 @@ impl<W: Write> Visitor for TableLines<'_, W> {
     ghost use Rattle.mm_listing.specs.Shown.{ShowsTable};
     ghost use Rattle.mm_listing.specs.Writing.{TakesLine};
 
-    ghost takes = { λ old row new result. (new.output.ghost_name ≡ old.output.ghost_name) × TakesLine ShowsTable (written W.contents old.output.now) (written W.contents new.output.now) row result };
+    ghost takes = { λ old row new result. (new.output.ghost_name ≡ old.output.ghost_name)
+        × TakesLine ShowsTable (written W.contents old.output.now) (written W.contents new.output.now) row result };
 
     fn take(&mut self, row: &Row) -> Result<bool, Fault> {
         let line = table_in(row)?;
@@ -56,7 +57,8 @@ impl<W: Write> Visitor for EditionLines<'_, W> {
     ghost use Rattle.mm_listing.specs.Shown.{ShowsEdition};
     ghost use Rattle.mm_listing.specs.Writing.{TakesLine};
 
-    ghost takes = { λ old row new result. (new.output.ghost_name ≡ old.output.ghost_name) × TakesLine ShowsEdition (written W.contents old.output.now) (written W.contents new.output.now) row result };
+    ghost takes = { λ old row new result. (new.output.ghost_name ≡ old.output.ghost_name)
+        × TakesLine ShowsEdition (written W.contents old.output.now) (written W.contents new.output.now) row result };
 
     fn take(&mut self, row: &Row) -> Result<bool, Fault> {
         let line = edition_in(row)?;
@@ -72,7 +74,8 @@ fn show_tables<S: Alter, W: Write>(
     requires { conn.old.in_transaction ≡ false }
     ensures same_reference { lines.new.output.ghost_name ≡ lines.old.output.ghost_name }
     ensures mode { conn.new.in_transaction ≡ false }
-    ensures listed { (profile : Profile) → IsListed profile tables (state S.Store conn.old) (state S.Store conn.new) (written W.contents lines.old.output.now) (written W.contents lines.new.output.now) result }
+    ensures listed { (profile : Profile) → IsListed profile tables (state S.Store conn.old) (state S.Store conn.new)
+        (written W.contents lines.old.output.now) (written W.contents lines.new.output.now) result }
 {
     walk(
         conn,
@@ -90,7 +93,8 @@ fn list_tables<S: Alter, W: Write>(
 ) -> Result<(), Fault>
     requires { conn.old.in_transaction ≡ false }
     ensures mode { conn.new.in_transaction ≡ false }
-    ensures listed { (profile : Profile) → IsListed profile tables (state S.Store conn.old) (state S.Store conn.new) (written W.contents output.old) (written W.contents output.new) result }
+    ensures listed { (profile : Profile) → IsListed profile tables (state S.Store conn.old) (state S.Store conn.new)
+        (written W.contents output.old) (written W.contents output.new) result }
 {
     let mut lines = TableLines { output };
     let shown = show_tables(conn, &mut lines);
@@ -108,7 +112,8 @@ fn show_editions<S: Alter, W: Write>(
     requires { conn.old.in_transaction ≡ false }
     ensures same_reference { lines.new.output.ghost_name ≡ lines.old.output.ghost_name }
     ensures mode { conn.new.in_transaction ≡ false }
-    ensures listed { (profile : Profile) → IsListed profile editions (state S.Store conn.old) (state S.Store conn.new) (written W.contents lines.old.output.now) (written W.contents lines.new.output.now) result }
+    ensures listed { (profile : Profile) → IsListed profile editions (state S.Store conn.old) (state S.Store conn.new)
+        (written W.contents lines.old.output.now) (written W.contents lines.new.output.now) result }
 {
     walk(
         conn,
@@ -126,7 +131,8 @@ fn list_editions<S: Alter, W: Write>(
 ) -> Result<(), Fault>
     requires { conn.old.in_transaction ≡ false }
     ensures mode { conn.new.in_transaction ≡ false }
-    ensures listed { (profile : Profile) → IsListed profile editions (state S.Store conn.old) (state S.Store conn.new) (written W.contents output.old) (written W.contents output.new) result }
+    ensures listed { (profile : Profile) → IsListed profile editions (state S.Store conn.old) (state S.Store conn.new)
+        (written W.contents output.old) (written W.contents output.new) result }
 {
     let mut lines = EditionLines { output };
     let shown = show_editions(conn, &mut lines);
@@ -147,7 +153,8 @@ fn list_editions<S: Alter, W: Write>(
 pub fn list<S: Alter, W: Write>(conn: &mut Connection<S>, output: &mut Io<W>) -> Result<(), Fault>
     requires { conn.old.in_transaction ≡ false }
     ensures mode { conn.new.in_transaction ≡ false }
-    ensures listed { (profile : Profile) → IsListed profile listing (state S.Store conn.old) (state S.Store conn.new) (written W.contents output.old) (written W.contents output.new) result }
+    ensures listed { (profile : Profile) → IsListed profile listing (state S.Store conn.old) (state S.Store conn.new)
+        (written W.contents output.old) (written W.contents output.new) result }
 {
     list_tables(conn, output)?;
     list_editions(conn, output)

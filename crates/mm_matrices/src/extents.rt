@@ -40,7 +40,8 @@ fn first_extent<S: Alter>(
     params: &[ValueRef<'_>],
 ) -> Result<Option<Extent>, Fault>
     ensures same_reference { tx.new.conn.ghost_name ≡ tx.old.conn.ghost_name }
-    ensures asked { IsAsked (state S.Store tx.old.conn.now) (state S.Store tx.new.conn.now) sql.now (bound params.now) (λ it first. GivesExtent it first) result }
+    ensures asked { IsAsked (state S.Store tx.old.conn.now) (state S.Store tx.new.conn.now) sql.now (bound params.now)
+        (λ it first. GivesExtent it first) result }
 {
     match first(tx, sql, params)? {
         Some(row) => match extent_in(&row) {

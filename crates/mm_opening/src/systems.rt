@@ -23,8 +23,11 @@ pub(crate) fn insert_system<S: Alter>(
     description: &str,
 ) -> Result<(), Fault>
     ensures same_reference { tx.new.conn.ghost_name ≡ tx.old.conn.ghost_name }
-    ensures change { (profile : Profile) → IsChange profile (state S.Store tx.old.conn.now) (state S.Store tx.new.conn.now) (λ p. get p.systems id ≡ None)
-        (λ p. record p { systems = insert p.systems id (record { name = name.now; organization = organization.now; organization_id = organization_id; definition = definition.now; description = description.now }) }) result }
+    ensures change { (profile : Profile) → IsChange profile (state S.Store tx.old.conn.now)
+        (state S.Store tx.new.conn.now) (λ p. get p.systems id ≡ None)
+        (λ p. record p { systems = insert p.systems id (record
+        { name = name.now; organization = organization.now; organization_id = organization_id; definition =
+        definition.now; description = description.now }) }) result }
 {
     run(
         tx,
@@ -51,7 +54,9 @@ pub fn add_srs<S: Alter>(
     description: &str,
 ) -> Result<Outcome, Fault>
     ensures same_reference { tx.new.conn.ghost_name ≡ tx.old.conn.ghost_name }
-    ensures lent { (profile : Profile) (moment : ℕ) → IsLent profile (commands.Srs id name.now organization.now organization_id definition.now description.now) moment (state S.Store tx.old.conn.now) (state S.Store tx.new.conn.now) result }
+    ensures lent { (profile : Profile) (moment : ℕ) → IsLent profile
+        (commands.Srs id name.now organization.now organization_id definition.now description.now) moment
+        (state S.Store tx.old.conn.now) (state S.Store tx.new.conn.now) result }
 {
     if has_system(tx, id)? {
         return Ok(Outcome::refused(20));

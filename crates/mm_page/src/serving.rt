@@ -50,7 +50,8 @@ fn path_response<S: Alter>(
 ) -> Result<Vec<u8>, Fault>
     ensures same { has_failed session.new ≡ has_failed session.old }
     ensures kept { LeavesPackage (state S.Store (held session.old)) (state S.Store (held session.new)) }
-    ensures response { (p : Package) → IsOn (has_failed session.old) (state S.Store (held session.old)) (state S.Store (held session.new)) p → IfOk result (λ v. WritesTo p path.now v.items) }
+    ensures response { (p : Package) → IsOn (has_failed session.old) (state S.Store (held session.old))
+        (state S.Store (held session.new)) p → IfOk result (λ v. WritesTo p path.now v.items) }
     ensures needed { IfErr result (λ fault. fault.0 ≡ 92 → (w : Wanted) × Asks path.now w) }
     ensures fault { IfErr result (IsPageFault (has_failed session.old)) }
 {
@@ -70,7 +71,8 @@ fn head_response<S: Alter>(
     requires text { IsUtf8 target.now }
     ensures same { has_failed session.new ≡ has_failed session.old }
     ensures kept { LeavesPackage (state S.Store (held session.old)) (state S.Store (held session.new)) }
-    ensures response { (p : Package) → IsOn (has_failed session.old) (state S.Store (held session.old)) (state S.Store (held session.new)) p → IfOk result (λ v. Writes p method.now target.now v.items) }
+    ensures response { (p : Package) → IsOn (has_failed session.old) (state S.Store (held session.old))
+        (state S.Store (held session.new)) p → IfOk result (λ v. Writes p method.now target.now v.items) }
     ensures needed { IfErr result (λ fault. fault.0 ≡ 92 → (method.now ≡ codes "GET") × (w : Wanted) × Asks (page.path_of target.now) w) }
     ensures fault { IfErr result (IsPageFault (has_failed session.old)) }
 {
@@ -91,11 +93,14 @@ fn respond<S: Alter, R: Read>(
 ) -> Result<Vec<u8>, Fault>
     ensures same { has_failed session.new ≡ has_failed session.old }
     ensures kept { LeavesPackage (state S.Store (held session.old)) (state S.Store (held session.new)) }
-    ensures response { IfOk result (λ v. Served (IsOn (has_failed session.old) (state S.Store (held session.old)) (state S.Store (held session.new))) (R.remaining (inside reader.old)) v.items) }
+    ensures response { IfOk result (λ v. Served (IsOn (has_failed session.old) (state S.Store (held session.old))
+        (state S.Store (held session.new))) (R.remaining (inside reader.old)) v.items) }
     ensures frugal { OnOk result (ReadsNoMore 8192 (R.remaining (inside reader.old)) (R.remaining (inside reader.new))) }
-    ensures frugal_fault { IfErr result (λ fault. (fault.0 ≡ 96) ⊎ ReadsNoMore 8192 (R.remaining (inside reader.old)) (R.remaining (inside reader.new))) }
+    ensures frugal_fault { IfErr result (λ fault. (fault.0 ≡ 96)
+        ⊎ ReadsNoMore 8192 (R.remaining (inside reader.old)) (R.remaining (inside reader.new))) }
     ensures needed { IfErr result (λ fault. fault.0 ≡ 92 → AsksForPart (R.remaining (inside reader.old))) }
-    ensures fault { IfErr result (λ fault. IsPageFault (has_failed session.old) fault ⊎ ((fault.0 ≡ 96) × (streams.has_failed reader.new ≡ true))) }
+    ensures fault { IfErr result (λ fault. IsPageFault (has_failed session.old) fault
+        ⊎ ((fault.0 ≡ 96) × (streams.has_failed reader.new ≡ true))) }
 {
     let mut buf = [0; 8192];
     let mut headers = [EMPTY_HEADER_SPAN; 64];
@@ -124,14 +129,18 @@ pub fn serve_one<S: Alter, R: Read, W: Write>(
 ) -> Result<(), PageFault>
     ensures same { has_failed session.new ≡ has_failed session.old }
     ensures kept { LeavesPackage (state S.Store (held session.old)) (state S.Store (held session.new)) }
-    ensures served { OnOk result (ServedTo (IsOn (has_failed session.old) (state S.Store (held session.old)) (state S.Store (held session.new)))
+    ensures served { OnOk result (ServedTo (IsOn (has_failed session.old) (state S.Store (held session.old))
+        (state S.Store (held session.new)))
         (R.remaining (inside reader.old)) (W.contents (inside writer.old)) (W.contents (inside writer.new))) }
     ensures working { OnOk result (streams.has_failed writer.new ≡ streams.has_failed writer.old) }
     ensures frugal { OnOk result (ReadsNoMore 8192 (R.remaining (inside reader.old)) (R.remaining (inside reader.new))) }
-    ensures frugal_fault { IfErr result (λ e. (e.0.0 ≡ 96) ⊎ ReadsNoMore 8192 (R.remaining (inside reader.old)) (R.remaining (inside reader.new))) }
+    ensures frugal_fault { IfErr result (λ e. (e.0.0 ≡ 96)
+        ⊎ ReadsNoMore 8192 (R.remaining (inside reader.old)) (R.remaining (inside reader.new))) }
     ensures needed { IfErr result (λ e. e.0.0 ≡ 92 → AsksForPart (R.remaining (inside reader.old))) }
-    ensures stopped { IfErr result (λ e. Stopped (has_failed session.old) (IsOn (has_failed session.old) (state S.Store (held session.old)) (state S.Store (held session.new)))
-        (R.remaining (inside reader.old)) (streams.has_failed reader.new) (W.contents (inside writer.old)) (W.contents (inside writer.new)) (streams.has_failed writer.new) e.0) }
+    ensures stopped { IfErr result (λ e. Stopped (has_failed session.old)
+        (IsOn (has_failed session.old) (state S.Store (held session.old)) (state S.Store (held session.new)))
+        (R.remaining (inside reader.old)) (streams.has_failed reader.new) (W.contents (inside writer.old))
+        (W.contents (inside writer.new)) (streams.has_failed writer.new) e.0) }
 {
     let response = match respond(alloc, session, reader) {
         Ok(response) => response,

@@ -109,7 +109,8 @@ fn serve_file<S: Start, W: Write>(
     ensures working { IfOk result (λ status. (status ≡ 3) ⊎ (streams.has_failed output.new ≡ streams.has_failed output.old)) }
     ensures served { IfOk result (IsServing port count (written W.contents output.old) (written W.contents output.new)) }
     ensures unused { IfErr result (λ why. streams.has_failed output.new ≡ streams.has_failed output.old) }
-    ensures stopped { IfErr result (λ why. IsQuiet (written W.contents output.old) (written W.contents output.new) ⊎ WasServed port count (written W.contents output.old) (written W.contents output.new)) }
+    ensures stopped { IfErr result (λ why. IsQuiet (written W.contents output.old) (written W.contents output.new)
+        ⊎ WasServed port count (written W.contents output.old) (written W.contents output.new)) }
 {
     let conn = open_old(rt, path, start)?;
     let mut session = match adopt_package(rt.alloc(), conn) {

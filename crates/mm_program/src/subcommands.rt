@@ -85,7 +85,8 @@ fn run_told<R: Read, W: Write>(
 
 /// Prints what the reader of the words answered in place of a request: help, or what is wrong with them.
 fn tell_words<W: Write>(output: &mut Io<W>, error: clap::Error) -> u8
-    ensures told { TellsStatus (arguments.status_of (kind_of error)) (written W.contents output.old) (written W.contents output.new) result }
+    ensures told { TellsStatus (arguments.status_of (kind_of error)) (written W.contents output.old)
+        (written W.contents output.new) result }
     ensures status { result ≤ 4 }
     ensures unprinted { TellsFailure (has_failed output.old) (has_failed output.new) result }
 {
@@ -103,7 +104,8 @@ pub fn program<R: Read, W: Write>(
     input: &mut Io<R>,
     output: &mut Io<W>,
 ) -> u8
-    ensures told { TellsWords (map (λ word. word.now) words.entry.now) (written W.contents output.old) (written W.contents output.new) result }
+    ensures told { TellsWords (map (λ word. word.now) words.entry.now) (written W.contents output.old)
+        (written W.contents output.new) result }
     ensures status { result ≤ 4 }
     ensures unprinted { TellsFailure (has_failed output.old) (has_failed output.new) result }
 {

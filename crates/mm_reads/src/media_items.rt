@@ -46,8 +46,11 @@ fn row_of_medium<S: Alter>(
     id: i64,
 ) -> Result<Option<Row>, Fault>
     ensures same_reference { tx.new.conn.ghost_name ≡ tx.old.conn.ghost_name }
-    ensures shown { (profile : Profile) (spare : Spare) → IsMove (state S.Store tx.old.conn.now) (state S.Store tx.new.conn.now) (IsSeen spare profile (state S.Store tx.old.conn.now))
-        (λ base x row y. (y ≡ x) × IsSeen spare profile (state S.Store tx.new.conn.now) base y × IsRowOf (get y.kept.media (item table.now id)) row
+    ensures shown { (profile : Profile) (spare : Spare) →
+        IsMove (state S.Store tx.old.conn.now) (state S.Store tx.new.conn.now)
+        (IsSeen spare profile (state S.Store tx.old.conn.now))
+        (λ base x row y. (y ≡ x) × IsSeen spare profile (state S.Store tx.new.conn.now) base y
+        × IsRowOf (get y.kept.media (item table.now id)) row
         × Told medium_id medium_with y.kept.shelf (get y.kept.media (item table.now id)) (get y.content.media (item table.now id))) result }
 {
     first(
@@ -60,8 +63,12 @@ fn row_of_medium<S: Alter>(
 /// The medium of a row, with the bytes of the blob that it names.
 fn medium_in<S: Alter>(tx: &mut Transaction<'_, S>, row: &Row) -> Result<Media, Fault>
     ensures same_reference { tx.new.conn.ghost_name ≡ tx.old.conn.ghost_name }
-    ensures told { (profile : Profile) (spare : Spare) → IsMove (state S.Store tx.old.conn.now) (state S.Store tx.new.conn.now) (IsSeen spare profile (state S.Store tx.old.conn.now))
-        (λ base x m y. (y ≡ x) × IsSeen spare profile (state S.Store tx.new.conn.now) base y × ((r : MediumRow) → ShowsMedium row.now r → (bytes_at y.kept.shelf r.blob ≡ Some m.bytes) × (r.content_type ≡ m.content_type))) result }
+    ensures told { (profile : Profile) (spare : Spare) →
+        IsMove (state S.Store tx.old.conn.now) (state S.Store tx.new.conn.now)
+        (IsSeen spare profile (state S.Store tx.old.conn.now))
+        (λ base x m y. (y ≡ x) × IsSeen spare profile (state S.Store tx.new.conn.now) base y
+        × ((r : MediumRow) → ShowsMedium row.now r → (bytes_at y.kept.shelf r.blob ≡ Some m.bytes)
+        × (r.content_type ≡ m.content_type))) result }
 {
     let blob = number_in(row, 0)?;
     let content_type = text_in(row, 1)?;
@@ -76,7 +83,8 @@ fn medium_at<S: Alter>(
     id: i64,
 ) -> Result<Option<Media>, Fault>
     ensures same_reference { tx.new.conn.ghost_name ≡ tx.old.conn.ghost_name }
-    ensures look { (profile : Profile) → IsLook profile (state S.Store tx.old.conn.now) (state S.Store tx.new.conn.now) (λ p found. get p.media (item table.now id) ≡ option_map medium_of found) result }
+    ensures look { (profile : Profile) → IsLook profile (state S.Store tx.old.conn.now) (state S.Store tx.new.conn.now)
+        (λ p found. get p.media (item table.now id) ≡ option_map medium_of found) result }
 {
     match row_of_medium(tx, table, id)? {
         Some(row) => Ok(Some(medium_in(tx, &row)?)),
@@ -93,7 +101,8 @@ pub fn media<S: Alter>(
 ) -> Result<Option<Media>, Fault>
     requires { conn.old.in_transaction ≡ false }
     ensures mode { conn.new.in_transaction ≡ false }
-    ensures read { (profile : Profile) → IsRead profile (state S.Store conn.old) (state S.Store conn.new) (λ p found. get p.media (item table.now id) ≡ option_map medium_of found) result }
+    ensures read { (profile : Profile) → IsRead profile (state S.Store conn.old) (state S.Store conn.new)
+        (λ p found. get p.media (item table.now id) ≡ option_map medium_of found) result }
 {
     let mut tx = conn.transaction();
     let found = medium_at(&mut tx, table.as_str(), id);

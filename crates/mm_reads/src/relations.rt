@@ -63,7 +63,8 @@ fn listed<S: Alter>(
 ) -> Result<Vec<Related>, Fault>
     requires { conn.old.in_transaction ≡ false }
     ensures mode { conn.new.in_transaction ≡ false }
-    ensures read { (profile : Profile) → IsRead profile (state S.Store conn.old) (state S.Store conn.new) (λ p items. Lists p table.now id items.items) result }
+    ensures read { (profile : Profile) → IsRead profile (state S.Store conn.old) (state S.Store conn.new)
+        (λ p items. Lists p table.now id items.items) result }
 {
     let mut gathered = Gathered {
         items: Vec::new(alloc),
@@ -88,7 +89,8 @@ pub fn related<S: Alter>(
 ) -> Result<Option<Vec<Related>>, Fault>
     requires { conn.old.in_transaction ≡ false }
     ensures mode { conn.new.in_transaction ≡ false }
-    ensures read { (profile : Profile) → IsRead profile (state S.Store conn.old) (state S.Store conn.new) (λ p found. Tells p table.now id found) result }
+    ensures read { (profile : Profile) → IsRead profile (state S.Store conn.old) (state S.Store conn.new)
+        (λ p found. Tells p table.now id found) result }
 {
     let table = table.as_str();
     if !stands(conn, table, id)? {

@@ -61,7 +61,8 @@ fn number_field(text: &str, least: i64, most: i64) -> Result<i64, ReadFault>
 /// A number from 1 to `MOST`.
 pub(crate) fn positive_field<const MOST: u64>(text: &str) -> Result<Positive<MOST>, ReadFault>
     requires { MOST < 2 ^ 63 }
-    ensures { ReadsTo (λ z. Holds (NumberFrom (pos 1) (pos MOST)) text.now (Whole z)) (IsAgainst (NumberFrom (pos 1) (pos MOST)) text.now) result }
+    ensures { ReadsTo (λ z. Holds (NumberFrom (pos 1) (pos MOST)) text.now (Whole z))
+        (IsAgainst (NumberFrom (pos 1) (pos MOST)) text.now) result }
 {
     let number = number_field(text, 1, MOST as i64)?;
     match Positive::new(number) {
@@ -73,7 +74,8 @@ pub(crate) fn positive_field<const MOST: u64>(text: &str) -> Result<Positive<MOS
 /// A number that is at most `MOST` away from 0.
 pub(crate) fn signed_field<const MOST: u64>(text: &str) -> Result<Signed<MOST>, ReadFault>
     requires { MOST < 2 ^ 63 }
-    ensures { ReadsTo (λ z. Holds (NumberFrom (neg_ℤ (pos MOST)) (pos MOST)) text.now (Whole z)) (IsAgainst (NumberFrom (neg_ℤ (pos MOST)) (pos MOST)) text.now) result }
+    ensures { ReadsTo (λ z. Holds (NumberFrom (neg_ℤ (pos MOST)) (pos MOST)) text.now (Whole z))
+        (IsAgainst (NumberFrom (neg_ℤ (pos MOST)) (pos MOST)) text.now) result }
 {
     let number = number_field(text, -(MOST as i64), MOST as i64)?;
     match Signed::new(number) {
@@ -108,7 +110,8 @@ pub(crate) fn zoom_field(text: &str) -> Result<Zoom, ReadFault>
 pub(crate) fn count_field<const LEAST: u32, const MOST: u32>(
     text: &str,
 ) -> Result<Count<LEAST, MOST>, ReadFault>
-    ensures { ReadsTo (λ n. Holds (NumberFrom (pos LEAST) (pos MOST)) text.now (Whole (pos n))) (IsAgainst (NumberFrom (pos LEAST) (pos MOST)) text.now) result }
+    ensures { ReadsTo (λ n. Holds (NumberFrom (pos LEAST) (pos MOST)) text.now (Whole (pos n)))
+        (IsAgainst (NumberFrom (pos LEAST) (pos MOST)) text.now) result }
 {
     let number = number_field(text, LEAST as i64, MOST as i64)?;
     match Count::new(number) {

@@ -215,7 +215,8 @@ fn read_matrix(fields: &[&str]) -> Result<Piece, ReadFault>
 
 /// The piece that a record of one of the nine kinds spells.
 fn piece_of(alloc: Global, fields: &[&str]) -> Result<Piece, ReadFault>
-    ensures { ReadsTo (SpellsPiece current (map (λ f. f.now) fields.now)) (IsLeast (HoldsAgainstPiece current (map (λ f. f.now) fields.now))) result }
+    ensures { ReadsTo (SpellsPiece current (map (λ f. f.now) fields.now))
+        (IsLeast (HoldsAgainstPiece current (map (λ f. f.now) fields.now))) result }
 {
     let [word, rest @ ..] = fields else {
         return Err(ReadFault::refused(10));
@@ -238,7 +239,8 @@ fn piece_of(alloc: Global, fields: &[&str]) -> Result<Piece, ReadFault>
 /// of no piece, 11 where a number or length is outside its limits, 12 where a name is none. Memory is answered only
 /// for want of memory.
 pub fn read_piece(alloc: Global, fields: &[&str]) -> Result<Piece, ReadFault>
-    ensures reads { ReadsTo (SpellsPiece current (map (λ f. f.now) fields.now)) (IsLeast (HoldsAgainstPiece current (map (λ f. f.now) fields.now))) result }
+    ensures reads { ReadsTo (SpellsPiece current (map (λ f. f.now) fields.now))
+        (IsLeast (HoldsAgainstPiece current (map (λ f. f.now) fields.now))) result }
     ensures within { IfOk result (IsPieceWithin current) }
 {
     piece_of(alloc, fields)

@@ -357,7 +357,8 @@ fn command_of(piece: Piece) -> Command
 
 /// The command that the record of a piece spells.
 fn read_edit(alloc: Global, fields: &[&str]) -> Result<Command, ReadFault>
-    ensures { ReadsTo (λ c. (q : Piece) × (c ≡ piece_command q) × SpellsPiece current (map (λ f. f.now) fields.now) q) (IsLeast (HoldsAgainstPiece current (map (λ f. f.now) fields.now))) result }
+    ensures { ReadsTo (λ c. (q : Piece) × (c ≡ piece_command q) × SpellsPiece current (map (λ f. f.now) fields.now) q)
+        (IsLeast (HoldsAgainstPiece current (map (λ f. f.now) fields.now))) result }
 {
     let piece = read_piece(alloc, fields)?;
     Ok(command_of(piece))
@@ -390,7 +391,8 @@ fn command_in(alloc: Global, fields: &[&str]) -> Result<Command, ReadFault>
 /// record of no command, 11 where a number or length is outside its limits, 12 where a name is none. Memory is
 /// answered only for want of memory.
 pub fn read_command(alloc: Global, fields: &[&str]) -> Result<Command, ReadFault>
-    ensures reads { ReadsTo (Spells current (map (λ f. f.now) fields.now)) (IsLeast (HoldsAgainst current (map (λ f. f.now) fields.now))) result }
+    ensures reads { ReadsTo (Spells current (map (λ f. f.now) fields.now))
+        (IsLeast (HoldsAgainst current (map (λ f. f.now) fields.now))) result }
     ensures within { IfOk result (IsWithin current) }
 {
     command_in(alloc, fields)

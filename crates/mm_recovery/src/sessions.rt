@@ -63,7 +63,9 @@ pub fn run_and_recover<D: Crash + Drop, R: Read, W: Write>(
     ensures flushed { TellsFlush (is_flushed writer.old) (is_flushed writer.new) result.0 }
     ensures working { IfOk result.1 (λ again. has_failed again ≡ false) }
     ensures is_open { IfOk result.1 (λ again. HasCleanDisk (file_state (held again)) → IsTrue (file_state (held again)).is_open) }
-    ensures recovered { IfOk result.1 (λ again. IsRunRecovered (file_state (held session)) (file_state (held again)) (R.remaining (inside reader.old)) (W.contents (inside writer.old)) (W.contents (inside writer.new)) at result.0) }
+    ensures recovered { IfOk result.1 (λ again. IsRunRecovered (file_state (held session)) (file_state (held again))
+        (R.remaining (inside reader.old)) (W.contents (inside writer.old)) (W.contents (inside writer.new)) at result.0)
+        }
     ensures not_recovered { IfErr result.1 (λ e. IsRunNotRecovered (file_state (held session)) (R.remaining (inside reader.old)) e.0 e.1) }
 {
     let mut session = session;

@@ -66,7 +66,8 @@ fn insert_pairing<S: Alter>(
     related_id: i64,
 ) -> Result<(), Fault>
     ensures same_reference { tx.new.conn.ghost_name ≡ tx.old.conn.ghost_name }
-    ensures change { (profile : Profile) → IsChange profile (state S.Store tx.old.conn.now) (state S.Store tx.new.conn.now) (λ p. get p.pairings (pairing mapping.now base_id related_id) ≡ None)
+    ensures change { (profile : Profile) → IsChange profile (state S.Store tx.old.conn.now)
+        (state S.Store tx.new.conn.now) (λ p. get p.pairings (pairing mapping.now base_id related_id) ≡ None)
         (λ p. record p { pairings = insert p.pairings (pairing mapping.now base_id related_id) tt }) result }
 {
     run(
@@ -86,7 +87,8 @@ pub fn add_map<S: Alter>(
     related_id: i64,
 ) -> Result<Outcome, Fault>
     ensures same_reference { tx.new.conn.ghost_name ≡ tx.old.conn.ghost_name }
-    ensures lent { (profile : Profile) (moment : ℕ) → IsLent profile (commands.Map mapping.now base_id related_id) moment (state S.Store tx.old.conn.now) (state S.Store tx.new.conn.now) result }
+    ensures lent { (profile : Profile) (moment : ℕ) → IsLent profile (commands.Map mapping.now base_id related_id)
+        moment (state S.Store tx.old.conn.now) (state S.Store tx.new.conn.now) result }
 {
     let mapping = mapping.as_str();
     if let Some(number) = map_refusal(tx, mapping, base_id, related_id)? {
@@ -144,7 +146,8 @@ pub fn drop_map<S: Alter>(
     related_id: i64,
 ) -> Result<Outcome, Fault>
     ensures same_reference { tx.new.conn.ghost_name ≡ tx.old.conn.ghost_name }
-    ensures lent { (profile : Profile) (moment : ℕ) → IsLent profile (commands.MapDrop mapping.now base_id related_id) moment (state S.Store tx.old.conn.now) (state S.Store tx.new.conn.now) result }
+    ensures lent { (profile : Profile) (moment : ℕ) → IsLent profile (commands.MapDrop mapping.now base_id related_id)
+        moment (state S.Store tx.old.conn.now) (state S.Store tx.new.conn.now) result }
 {
     let mapping = mapping.as_str();
     if let Some(number) = map_drop_refusal(tx, mapping, base_id, related_id)? {

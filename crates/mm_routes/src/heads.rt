@@ -21,7 +21,8 @@ pub fn read_head<R: Read>(
     buf: &mut [u8],
     headers: &mut [HeaderSpan],
 ) -> Result<Option<(usize, RequestSpans)>, Fault>
-    ensures head { IfOk result (λ o. IfSome (R.remaining (inside reader.old)) (λ input. Heads (length buf.old) (length headers.old) input buf.new headers.new o)) }
+    ensures head { IfOk result (λ o. IfSome (R.remaining (inside reader.old))
+        (λ input. Heads (length buf.old) (length headers.old) input buf.new headers.new o)) }
     ensures lies { IfOk result (λ o. Lies buf.new headers.new o) }
     ensures frugal { OnOk result (ReadsNoMore (length buf.old) (R.remaining (inside reader.old)) (R.remaining (inside reader.new))) }
     ensures fault { IfErr result (λ f. (f.0 ≡ 96) × (has_failed reader.new ≡ true)) }

@@ -69,7 +69,8 @@ fn name_of(params: &Params<'_, '_>, key: &str) -> Option<Name>
 
 fn number_of(params: &Params<'_, '_>, key: &str, least: i64, most: i64) -> Option<i64>
     ensures bounds { IfSome result (λ z. (least ≤ℤ z) × (z ≤ℤ most)) }
-    ensures number { (v : Text) → Took params.now key.now v → MatchOption result ((z : ℤ) → ¬ (Numbers least most v z)) (λ z. Numbers least most v z) }
+    ensures number { (v : Text) → Took params.now key.now v → MatchOption result ((z : ℤ) → ¬ (Numbers least most v z))
+        (λ z. Numbers least most v z) }
 {
     let text = params.get(key)?;
     match read_number(text, least, most) {
@@ -79,7 +80,9 @@ fn number_of(params: &Params<'_, '_>, key: &str, least: i64, most: i64) -> Optio
 }
 
 fn tile_wanted(params: &Params<'_, '_>) -> Option<Wanted>
-    ensures { (t z c r : Text) → TookTile params.now t z c r → MatchOption result ((w : page.Wanted) → ¬ (Asks (tile_path t z c r) w)) (λ w. Asks (tile_path t z c r) (asked w)) }
+    ensures { (t z c r : Text) → TookTile params.now t z c r →
+        MatchOption result ((w : page.Wanted) → ¬ (Asks (tile_path t z c r) w))
+        (λ w. Asks (tile_path t z c r) (asked w)) }
 {
     let Some(table) = name_of(params, "table") else {
         return None;
@@ -102,7 +105,8 @@ fn tile_wanted(params: &Params<'_, '_>) -> Option<Wanted>
 }
 
 fn row_wanted(params: &Params<'_, '_>) -> Option<(Name, i64)>
-    ensures { (t i : Text) → TookRow params.now t i → MatchOption result (¬ (IsRow t i)) (λ r. (r.0 ≡ t) × IsName t × Numbers (pos 1) (pos 9007199254740992) i r.1) }
+    ensures { (t i : Text) → TookRow params.now t i → MatchOption result (¬ (IsRow t i))
+        (λ r. (r.0 ≡ t) × IsName t × Numbers (pos 1) (pos 9007199254740992) i r.1) }
 {
     let Some(table) = name_of(params, "table") else {
         return None;

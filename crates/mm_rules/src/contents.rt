@@ -48,7 +48,8 @@ impl RowTest for MayName {
 
 /// Of rule 2, what it asks of contents.
 pub fn contents_systems<S: Alter>(conn: &mut Connection<S>) -> Result<bool, Fault>
-    ensures { (profile : Profile) → IsCheck profile (state S.Store conn.old) (state S.Store conn.new) (λ _. ⊤) (λ p. ContentsSystems p) result }
+    ensures { (profile : Profile) → IsCheck profile (state S.Store conn.old) (state S.Store conn.new) (λ _. ⊤)
+        (λ p. ContentsSystems p) result }
 {
     each_passes(
         conn,
@@ -72,7 +73,8 @@ pub fn set_systems<S: Alter>(conn: &mut Connection<S>) -> Result<bool, Fault>
 
 /// Rule 2: each system that is named stands, and no pyramid names a geographic one.
 pub fn named_systems<S: Alter>(conn: &mut Connection<S>) -> Result<bool, Fault>
-    ensures { (profile : Profile) → IsCheck profile (state S.Store conn.old) (state S.Store conn.new) (λ _. ⊤) (λ p. NamedSystems p.systems p.contents p.kinds p.sets) result }
+    ensures { (profile : Profile) → IsCheck profile (state S.Store conn.old) (state S.Store conn.new) (λ _. ⊤)
+        (λ p. NamedSystems p.systems p.contents p.kinds p.sets) result }
 {
     if contents_systems(conn)? {
         set_systems(conn)
@@ -100,7 +102,8 @@ impl RowTest for Same {
 
 /// Rule 3: identifiers differ.
 pub fn distinct_identifiers<S: Alter>(conn: &mut Connection<S>) -> Result<bool, Fault>
-    ensures { (profile : Profile) → IsCheck profile (state S.Store conn.old) (state S.Store conn.new) (λ _. ⊤) (λ p. DistinctIdentifiers p.contents) result }
+    ensures { (profile : Profile) → IsCheck profile (state S.Store conn.old) (state S.Store conn.new) (λ _. ⊤)
+        (λ p. DistinctIdentifiers p.contents) result }
 {
     each_passes(
         conn,
@@ -127,7 +130,8 @@ impl RowTest for Absent {
 
 /// Of rule 4, that no mapping has the name of a table.
 pub fn mapping_names<S: Alter>(conn: &mut Connection<S>) -> Result<bool, Fault>
-    ensures { (profile : Profile) → IsCheck profile (state S.Store conn.old) (state S.Store conn.new) (λ _. ⊤) (λ p. MappingNames p) result }
+    ensures { (profile : Profile) → IsCheck profile (state S.Store conn.old) (state S.Store conn.new) (λ _. ⊤)
+        (λ p. MappingNames p) result }
 {
     each_passes(
         conn,
@@ -139,7 +143,8 @@ pub fn mapping_names<S: Alter>(conn: &mut Connection<S>) -> Result<bool, Fault>
 
 /// Rule 4, where rule 16 holds: no mapping has the name of a table.
 pub fn names<S: Alter>(conn: &mut Connection<S>) -> Result<bool, Fault>
-    ensures { (profile : Profile) → IsCheck profile (state S.Store conn.old) (state S.Store conn.new) (λ p. Limits profile p) (λ p. Names p.contents p.relations p.editions) result }
+    ensures { (profile : Profile) → IsCheck profile (state S.Store conn.old) (state S.Store conn.new)
+        (λ p. Limits profile p) (λ p. Names p.contents p.relations p.editions) result }
 {
     mapping_names(conn)
 }
@@ -237,7 +242,8 @@ pub fn registered<S: Alter>(conn: &mut Connection<S>) -> Result<bool, Fault>
 
 /// Of rule 5, that each kind is that of a table.
 pub fn kinds_have_contents<S: Alter>(conn: &mut Connection<S>) -> Result<bool, Fault>
-    ensures { (profile : Profile) → IsCheck profile (state S.Store conn.old) (state S.Store conn.new) (λ _. ⊤) (λ p. KindsHaveContents p) result }
+    ensures { (profile : Profile) → IsCheck profile (state S.Store conn.old) (state S.Store conn.new) (λ _. ⊤)
+        (λ p. KindsHaveContents p) result }
 {
     each_passes(
         conn,
@@ -249,7 +255,8 @@ pub fn kinds_have_contents<S: Alter>(conn: &mut Connection<S>) -> Result<bool, F
 
 /// Of rule 5, that each matrix set is that of a table.
 pub fn sets_have_contents<S: Alter>(conn: &mut Connection<S>) -> Result<bool, Fault>
-    ensures { (profile : Profile) → IsCheck profile (state S.Store conn.old) (state S.Store conn.new) (λ _. ⊤) (λ p. SetsHaveContents p) result }
+    ensures { (profile : Profile) → IsCheck profile (state S.Store conn.old) (state S.Store conn.new) (λ _. ⊤)
+        (λ p. SetsHaveContents p) result }
 {
     each_passes(
         conn,
@@ -261,7 +268,8 @@ pub fn sets_have_contents<S: Alter>(conn: &mut Connection<S>) -> Result<bool, Fa
 
 /// Of rule 5, that kinds and matrix sets are those of tables.
 pub fn have_contents<S: Alter>(conn: &mut Connection<S>) -> Result<bool, Fault>
-    ensures { (profile : Profile) → IsCheck profile (state S.Store conn.old) (state S.Store conn.new) (λ _. ⊤) (λ p. KindsHaveContents p × SetsHaveContents p) result }
+    ensures { (profile : Profile) → IsCheck profile (state S.Store conn.old) (state S.Store conn.new) (λ _. ⊤)
+        (λ p. KindsHaveContents p × SetsHaveContents p) result }
 {
     if kinds_have_contents(conn)? {
         sets_have_contents(conn)
@@ -272,7 +280,8 @@ pub fn have_contents<S: Alter>(conn: &mut Connection<S>) -> Result<bool, Fault>
 
 /// Rule 5: the registry, the contents and the matrix sets speak of the same tables.
 pub fn registry<S: Alter>(conn: &mut Connection<S>) -> Result<bool, Fault>
-    ensures { (profile : Profile) → IsCheck profile (state S.Store conn.old) (state S.Store conn.new) (λ _. ⊤) (λ p. Registry p.contents p.kinds p.sets) result }
+    ensures { (profile : Profile) → IsCheck profile (state S.Store conn.old) (state S.Store conn.new) (λ _. ⊤)
+        (λ p. Registry p.contents p.kinds p.sets) result }
 {
     if registered(conn)? {
         have_contents(conn)
@@ -326,7 +335,8 @@ pub fn set_extents<S: Alter>(conn: &mut Connection<S>) -> Result<bool, Fault>
 
 /// Of rule 6, what it asks of contents.
 pub fn contents_extents<S: Alter>(conn: &mut Connection<S>) -> Result<bool, Fault>
-    ensures { (profile : Profile) → IsCheck profile (state S.Store conn.old) (state S.Store conn.new) (λ _. ⊤) (λ p. ContentsExtents p) result }
+    ensures { (profile : Profile) → IsCheck profile (state S.Store conn.old) (state S.Store conn.new) (λ _. ⊤)
+        (λ p. ContentsExtents p) result }
 {
     each_passes(
         conn,
@@ -338,7 +348,8 @@ pub fn contents_extents<S: Alter>(conn: &mut Connection<S>) -> Result<bool, Faul
 
 /// Rule 6: extents are not empty.
 pub fn extents<S: Alter>(conn: &mut Connection<S>) -> Result<bool, Fault>
-    ensures { (profile : Profile) → IsCheck profile (state S.Store conn.old) (state S.Store conn.new) (λ _. ⊤) (λ p. Extents p.contents p.sets) result }
+    ensures { (profile : Profile) → IsCheck profile (state S.Store conn.old) (state S.Store conn.new) (λ _. ⊤)
+        (λ p. Extents p.contents p.sets) result }
 {
     if set_extents(conn)? {
         contents_extents(conn)

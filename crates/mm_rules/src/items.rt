@@ -32,7 +32,8 @@ impl RowTest for OfAttributes {
 
 /// Of rule 11, what it asks of attribute rows.
 pub fn rows_in_tables<S: Alter>(conn: &mut Connection<S>) -> Result<bool, Fault>
-    ensures { (profile : Profile) → IsCheck profile (state S.Store conn.old) (state S.Store conn.new) (λ _. ⊤) (λ p. RowsInTables p) result }
+    ensures { (profile : Profile) → IsCheck profile (state S.Store conn.old) (state S.Store conn.new) (λ _. ⊤)
+        (λ p. RowsInTables p) result }
 {
     each_passes(
         conn,
@@ -59,7 +60,8 @@ impl RowTest for OfMedia {
 
 /// Of rule 11, what it asks of media.
 pub fn media_in_tables<S: Alter>(conn: &mut Connection<S>) -> Result<bool, Fault>
-    ensures { (profile : Profile) → IsCheck profile (state S.Store conn.old) (state S.Store conn.new) (λ _. ⊤) (λ p. MediaInTables p) result }
+    ensures { (profile : Profile) → IsCheck profile (state S.Store conn.old) (state S.Store conn.new) (λ _. ⊤)
+        (λ p. MediaInTables p) result }
 {
     each_passes(
         conn,
@@ -71,7 +73,8 @@ pub fn media_in_tables<S: Alter>(conn: &mut Connection<S>) -> Result<bool, Fault
 
 /// Rule 11: rows and media belong to tables of their kind.
 pub fn items<S: Alter>(conn: &mut Connection<S>) -> Result<bool, Fault>
-    ensures { (profile : Profile) → IsCheck profile (state S.Store conn.old) (state S.Store conn.new) (λ _. ⊤) (λ p. Items p.kinds p.rows p.media) result }
+    ensures { (profile : Profile) → IsCheck profile (state S.Store conn.old) (state S.Store conn.new) (λ _. ⊤)
+        (λ p. Items p.kinds p.rows p.media) result }
 {
     if rows_in_tables(conn)? {
         media_in_tables(conn)
@@ -124,7 +127,8 @@ impl RowTest for Suited {
 
 /// Rule 12: relations join tables of the kinds that their names ask for.
 pub fn relations_suited<S: Alter>(conn: &mut Connection<S>) -> Result<bool, Fault>
-    ensures { (profile : Profile) → IsCheck profile (state S.Store conn.old) (state S.Store conn.new) (λ _. ⊤) (λ p. RelationsSuited p.kinds p.relations) result }
+    ensures { (profile : Profile) → IsCheck profile (state S.Store conn.old) (state S.Store conn.new) (λ _. ⊤)
+        (λ p. RelationsSuited p.kinds p.relations) result }
 {
     each_passes(
         conn,
@@ -161,7 +165,8 @@ impl RowTest for Joined {
 
 /// Rule 13: each mapping row names a relation, and both its ends stand.
 pub fn pairings_join<S: Alter>(conn: &mut Connection<S>) -> Result<bool, Fault>
-    ensures { (profile : Profile) → IsCheck profile (state S.Store conn.old) (state S.Store conn.new) (λ _. ⊤) (λ p. PairingsJoin p.rows p.media p.relations p.pairings) result }
+    ensures { (profile : Profile) → IsCheck profile (state S.Store conn.old) (state S.Store conn.new) (λ _. ⊤)
+        (λ p. PairingsJoin p.rows p.media p.relations p.pairings) result }
 {
     each_passes(
         conn,

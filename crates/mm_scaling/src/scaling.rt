@@ -18,7 +18,9 @@ use sqlite::{Alter, Connection, Transaction};
 /// Tells the extent of every contents row in the smaller unit.
 fn scale_contents<S: Alter>(tx: &mut Transaction<'_, S>) -> Result<(), Fault>
     ensures same_reference { tx.new.conn.ghost_name ≡ tx.old.conn.ghost_name }
-    ensures change { (profile : Profile) → IsChange profile (state S.Store tx.old.conn.now) (state S.Store tx.new.conn.now) (λ p. Each p.contents (ContentsWithin millimetres)) (λ p. record p { contents = change_values finer_contents p.contents }) result }
+    ensures change { (profile : Profile) → IsChange profile (state S.Store tx.old.conn.now)
+        (state S.Store tx.new.conn.now) (λ p. Each p.contents (ContentsWithin millimetres))
+        (λ p. record p { contents = change_values finer_contents p.contents }) result }
 {
     run(
         tx,
@@ -30,7 +32,9 @@ fn scale_contents<S: Alter>(tx: &mut Transaction<'_, S>) -> Result<(), Fault>
 /// Tells every box in the smaller unit.
 fn scale_matrix_sets<S: Alter>(tx: &mut Transaction<'_, S>) -> Result<(), Fault>
     ensures same_reference { tx.new.conn.ghost_name ≡ tx.old.conn.ghost_name }
-    ensures change { (profile : Profile) → IsChange profile (state S.Store tx.old.conn.now) (state S.Store tx.new.conn.now) (λ p. Each p.sets (SetWithin millimetres)) (λ p. record p { sets = change_values finer_set p.sets }) result }
+    ensures change { (profile : Profile) → IsChange profile (state S.Store tx.old.conn.now)
+        (state S.Store tx.new.conn.now) (λ p. Each p.sets (SetWithin millimetres))
+        (λ p. record p { sets = change_values finer_set p.sets }) result }
 {
     run(
         tx,
@@ -42,7 +46,9 @@ fn scale_matrix_sets<S: Alter>(tx: &mut Transaction<'_, S>) -> Result<(), Fault>
 /// Tells both pixel sizes of every matrix in the smaller unit.
 fn scale_matrices<S: Alter>(tx: &mut Transaction<'_, S>) -> Result<(), Fault>
     ensures same_reference { tx.new.conn.ghost_name ≡ tx.old.conn.ghost_name }
-    ensures change { (profile : Profile) → IsChange profile (state S.Store tx.old.conn.now) (state S.Store tx.new.conn.now) (λ p. Each p.matrices (MatrixWithin millimetres)) (λ p. record p { matrices = change_values finer_grid p.matrices }) result }
+    ensures change { (profile : Profile) → IsChange profile (state S.Store tx.old.conn.now)
+        (state S.Store tx.new.conn.now) (λ p. Each p.matrices (MatrixWithin millimetres))
+        (λ p. record p { matrices = change_values finer_grid p.matrices }) result }
 {
     run(
         tx,
@@ -54,7 +60,8 @@ fn scale_matrices<S: Alter>(tx: &mut Transaction<'_, S>) -> Result<(), Fault>
 /// Says in the profile's row that the unit is the smaller one.
 fn set_version<S: Alter>(tx: &mut Transaction<'_, S>) -> Result<(), Fault>
     ensures same_reference { tx.new.conn.ghost_name ≡ tx.old.conn.ghost_name }
-    ensures moved { (from : Profile) → IsMove from micrometres (state S.Store tx.old.conn.now) (state S.Store tx.new.conn.now) (λ p. ⊤) (λ p. p) result }
+    ensures moved { (from : Profile) → IsMove from micrometres (state S.Store tx.old.conn.now)
+        (state S.Store tx.new.conn.now) (λ p. ⊤) (λ p. p) result }
 {
     run(tx, "UPDATE mm_profile SET version = 2", &[])
 }
@@ -62,7 +69,8 @@ fn set_version<S: Alter>(tx: &mut Transaction<'_, S>) -> Result<(), Fault>
 /// Tells all numbers of a package in the smaller unit.
 fn scale_tables<S: Alter>(tx: &mut Transaction<'_, S>) -> Result<(), Fault>
     ensures same_reference { tx.new.conn.ghost_name ≡ tx.old.conn.ghost_name }
-    ensures change { (profile : Profile) → IsChange profile (state S.Store tx.old.conn.now) (state S.Store tx.new.conn.now) (λ p. Limits millimetres p) scale result }
+    ensures change { (profile : Profile) → IsChange profile (state S.Store tx.old.conn.now)
+        (state S.Store tx.new.conn.now) (λ p. Limits millimetres p) scale result }
 {
     scale_contents(tx)?;
     scale_matrix_sets(tx)?;
@@ -72,7 +80,8 @@ fn scale_tables<S: Alter>(tx: &mut Transaction<'_, S>) -> Result<(), Fault>
 /// Tells a package of whole millimetres in whole micrometres, and says so in its profile's row.
 fn scale_all<S: Alter>(tx: &mut Transaction<'_, S>) -> Result<(), Fault>
     ensures same_reference { tx.new.conn.ghost_name ≡ tx.old.conn.ghost_name }
-    ensures moved { IsMove millimetres micrometres (state S.Store tx.old.conn.now) (state S.Store tx.new.conn.now) (λ p. Limits millimetres p) scale result }
+    ensures moved { IsMove millimetres micrometres (state S.Store tx.old.conn.now) (state S.Store tx.new.conn.now)
+        (λ p. Limits millimetres p) scale result }
 {
     scale_tables(tx)?;
     set_version(tx)

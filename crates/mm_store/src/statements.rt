@@ -42,9 +42,11 @@ pub fn first<S: Alter>(
     params: &[ValueRef<'_>],
 ) -> Result<Option<Row>, Fault>
     ensures same_reference { tx.new.conn.ghost_name ≡ tx.old.conn.ghost_name }
-    ensures asked { IsAsked (state S.Store tx.old.conn.now) (state S.Store tx.new.conn.now) sql.now (bound params.now) (λ it first. it ≡ first) result }
+    ensures asked { IsAsked (state S.Store tx.old.conn.now) (state S.Store tx.new.conn.now) sql.now (bound params.now)
+        (λ it first. it ≡ first) result }
     ensures failed { HasCleanDisk (state S.Store tx.new.conn.now) → IfErr result (λ fault. (e : Error) × (fault ≡ told_as e)
-        × (FailsToQuery sql.now (bound params.now) (state S.Store tx.old.conn.now) (state S.Store tx.new.conn.now) e ⊎ IsTooLate sql.now (bound params.now) (state S.Store tx.old.conn.now) (state S.Store tx.new.conn.now) e)) }
+        × (FailsToQuery sql.now (bound params.now) (state S.Store tx.old.conn.now) (state S.Store tx.new.conn.now) e
+        ⊎ IsTooLate sql.now (bound params.now) (state S.Store tx.old.conn.now) (state S.Store tx.new.conn.now) e)) }
 {
     match tx.query_all(sql, params) {
         Ok(rows) => Ok(first_of(rows)),
@@ -59,7 +61,8 @@ pub fn all<S: Alter>(
     params: &[ValueRef<'_>],
 ) -> Result<Vec<Row>, Fault>
     ensures same_reference { tx.new.conn.ghost_name ≡ tx.old.conn.ghost_name }
-    ensures listed { IsListed (state S.Store tx.old.conn.now) (state S.Store tx.new.conn.now) sql.now (bound params.now) (λ rows. rows.items) result }
+    ensures listed { IsListed (state S.Store tx.old.conn.now) (state S.Store tx.new.conn.now) sql.now (bound params.now)
+        (λ rows. rows.items) result }
 {
     let shown = tx.query_all(sql, params);
     match shown {
@@ -75,9 +78,11 @@ pub fn exists<S: Alter>(
     params: &[ValueRef<'_>],
 ) -> Result<bool, Fault>
     ensures same_reference { tx.new.conn.ghost_name ≡ tx.old.conn.ghost_name }
-    ensures asked { IsAsked (state S.Store tx.old.conn.now) (state S.Store tx.new.conn.now) sql.now (bound params.now) (λ it first. it ≡ is_some first) result }
+    ensures asked { IsAsked (state S.Store tx.old.conn.now) (state S.Store tx.new.conn.now) sql.now (bound params.now)
+        (λ it first. it ≡ is_some first) result }
     ensures failed { HasCleanDisk (state S.Store tx.new.conn.now) → IfErr result (λ fault. (e : Error) × (fault ≡ told_as e)
-        × (FailsToQuery sql.now (bound params.now) (state S.Store tx.old.conn.now) (state S.Store tx.new.conn.now) e ⊎ IsTooLate sql.now (bound params.now) (state S.Store tx.old.conn.now) (state S.Store tx.new.conn.now) e)) }
+        × (FailsToQuery sql.now (bound params.now) (state S.Store tx.old.conn.now) (state S.Store tx.new.conn.now) e
+        ⊎ IsTooLate sql.now (bound params.now) (state S.Store tx.old.conn.now) (state S.Store tx.new.conn.now) e)) }
 {
     let row = first(tx, sql, params)?;
     Ok(row.is_some())
@@ -90,7 +95,8 @@ pub fn first_text<S: Alter>(
     params: &[ValueRef<'_>],
 ) -> Result<Option<String>, Fault>
     ensures same_reference { tx.new.conn.ghost_name ≡ tx.old.conn.ghost_name }
-    ensures asked { IsAsked (state S.Store tx.old.conn.now) (state S.Store tx.new.conn.now) sql.now (bound params.now) (λ it first. GivesText it first) result }
+    ensures asked { IsAsked (state S.Store tx.old.conn.now) (state S.Store tx.new.conn.now) sql.now (bound params.now)
+        (λ it first. GivesText it first) result }
 {
     match first(tx, sql, params)? {
         Some(row) => match row.get(0) {
@@ -114,7 +120,8 @@ pub fn first_pair<S: Alter>(
     params: &[ValueRef<'_>],
 ) -> Result<Option<(i64, i64)>, Fault>
     ensures same_reference { tx.new.conn.ghost_name ≡ tx.old.conn.ghost_name }
-    ensures asked { IsAsked (state S.Store tx.old.conn.now) (state S.Store tx.new.conn.now) sql.now (bound params.now) (λ it first. GivesPair it first) result }
+    ensures asked { IsAsked (state S.Store tx.old.conn.now) (state S.Store tx.new.conn.now) sql.now (bound params.now)
+        (λ it first. GivesPair it first) result }
 {
     match first(tx, sql, params)? {
         Some(row) => match pair_in(&row) {

@@ -39,7 +39,8 @@ pub fn list_package<S: Alter + Drop, W: Write>(
 ) -> Result<Connection<S>, Stop>
     requires { conn.in_transaction ≡ false }
     ensures working { OnOk result (has_failed output.new ≡ has_failed output.old) }
-    ensures listed { IfOk result (λ end. IsListing (state S.Store conn) (state S.Store end) (W.contents (inside output.old)) (W.contents (inside output.new))) }
+    ensures listed { IfOk result (λ end. IsListing (state S.Store conn) (state S.Store end)
+        (W.contents (inside output.old)) (W.contents (inside output.new))) }
     ensures stopped { IfErr result (λ why. (output.new ≡ output.old) ⊎ (stop_status why ≡ 3)) }
 {
     match adopt_package(alloc, conn) {

@@ -33,7 +33,8 @@ pub fn migrate_package<S: Alter + Drop>(
 
 /// Prints what migrating a package came to.
 pub fn tell_migration<W: Write>(output: &mut Io<W>, outcome: Result<(), Stop>) -> u8
-    ensures { IsTold (written W.contents output.old) (written W.contents output.new) (migrate_text outcome) (migrate_status outcome) result }
+    ensures { IsTold (written W.contents output.old) (written W.contents output.new) (migrate_text outcome)
+        (migrate_status outcome) result }
 {
     match outcome {
         Ok(()) => tell_bytes(output, b"migrate ok\n", DONE),

@@ -81,8 +81,10 @@ fn run_session<S: Alter, R: Read, W: Write>(
     ensures status { result ≤ 3 }
     ensures working { (result ≡ 3) ⊎ (has_failed output.new ≡ has_failed output.old) }
     ensures clean { HasCleanDisk (state S.Store (held session.new)) → HasCleanDisk (state S.Store (held session.old)) }
-    ensures ran { OnRun (HasCleanDisk (state S.Store (held session.new))) (λ p. IsSettled current (state S.Store (held session.old)) p) (R.remaining (inside input.old))
-        (λ p bytes. IsRun p at bytes (state S.Store (held session.new)) (W.contents (inside output.old)) (W.contents (inside output.new)) result) }
+    ensures ran { OnRun (HasCleanDisk (state S.Store (held session.new)))
+        (λ p. IsSettled current (state S.Store (held session.old)) p) (R.remaining (inside input.old))
+        (λ p bytes. IsRun p at bytes (state S.Store (held session.new)) (W.contents (inside output.old))
+        (W.contents (inside output.new)) result) }
 {
     match session.run_list(input, output, at) {
         Ok(tally) if tally.refused == 0 => DONE,
@@ -103,7 +105,8 @@ pub fn run_package<S: Alter + Drop, R: Read, W: Write>(
     requires { conn.in_transaction ≡ false }
     ensures status { IfOk result (λ ran. ran.1 ≤ 3) }
     ensures working { IfOk result (λ ran. (ran.1 ≡ 3) ⊎ (has_failed output.new ≡ has_failed output.old)) }
-    ensures ran { IfOk result (λ ran. OnRun (HasCleanDisk (state S.Store ran.0)) (λ p. IsSettled current (state S.Store conn) p) (R.remaining (inside input.old))
+    ensures ran { IfOk result (λ ran. OnRun (HasCleanDisk (state S.Store ran.0))
+        (λ p. IsSettled current (state S.Store conn) p) (R.remaining (inside input.old))
         (λ p bytes. IsRun p at bytes (state S.Store ran.0) (W.contents (inside output.old)) (W.contents (inside output.new)) ran.1)) }
     ensures unused { IfErr result (λ why. output.new ≡ output.old) }
 {

@@ -44,36 +44,36 @@ count = record (new_rule (codes "count")) {
 -- ---- the subcommands
 
 -- a subcommand of this name, which takes FILE
-abbrev pub with_file : Text → App
-with_file name = with_rule (new_app name) file
+abbrev pub with_file_word : Text → App
+with_file_word name = with_rule (new_app name) file
 
 -- init FILE: makes a new package
 abbrev pub init : App
-init = with_file (codes "init")
+init = with_file_word (codes "init")
 
--- run FILE [--at MS]: applies the records of the input
-abbrev pub run : App
-run = with_rule (with_file (codes "run")) at
+-- run_subcommand FILE [--at MS]: applies the records of the input
+abbrev pub run_subcommand : App
+run_subcommand = with_rule (with_file_word (codes "run_subcommand")) at
 
 -- kit FILE EDITION FOLDER [--at MS]: stages the pieces of the kit in FOLDER
 abbrev pub kit : App
-kit = with_rule (with_rule (with_rule (with_file (codes "kit")) (word (codes "EDITION"))) (word (codes "FOLDER"))) at
+kit = with_rule (with_rule (with_rule (with_file_word (codes "kit")) (word (codes "EDITION"))) (word (codes "FOLDER"))) at
 
 -- check FILE: decides the sixteen rules
 abbrev pub check : App
-check = with_file (codes "check")
+check = with_file_word (codes "check")
 
 -- list FILE: lists the tables and the editions
 abbrev pub list : App
-list = with_file (codes "list")
+list = with_file_word (codes "list")
 
 -- migrate FILE: brings a package of profile 1 to profile 2
 abbrev pub migrate : App
-migrate = with_file (codes "migrate")
+migrate = with_file_word (codes "migrate")
 
 -- serve FILE --port P --count N: serves the page
 abbrev pub serve : App
-serve = with_rule (with_rule (with_file (codes "serve")) port) count
+serve = with_rule (with_rule (with_file_word (codes "serve")) port) count
 
 -- ---- the whole
 
@@ -88,7 +88,7 @@ start = record {
 abbrev pub command_line : App
 command_line =
     with_subcommand (with_subcommand (with_subcommand (with_subcommand (with_subcommand (with_subcommand (with_subcommand start
-    init.top) run.top) kit.top) check.top) list.top) serve.top) migrate.top
+    init.top) run_subcommand.top) kit.top) check.top) list.top) serve.top) migrate.top
 
 -- ---- the values that are made of it
 

@@ -10,14 +10,14 @@ use Rattle.mm_arguments.specs.declared.requests.Request.{Request}
 use Rattle.mm_arguments.specs.declared.requests.Request.TheVariants.{Init, Run, Kit, Check, List as Tables, Serve, Migrate}
 
 -- a port is at least 1, and so many connections are served: 1 to 1,000,000
-abbrev pub IsWithin : Request → Type 0
-IsWithin (Init file) = ⊤
-IsWithin (Run file at) = ⊤
-IsWithin (Kit file edition folder at) = ⊤
-IsWithin (Check file) = ⊤
-IsWithin (Tables file) = ⊤
-IsWithin (Migrate file) = ⊤
-IsWithin (Serve file port count) = (1 ≤ port) × (1 ≤ count) × (count ≤ 1000000)
+abbrev pub IsRequestWithin : Request → Type 0
+IsRequestWithin (Init file) = ⊤
+IsRequestWithin (Run file at) = ⊤
+IsRequestWithin (Kit file edition folder at) = ⊤
+IsRequestWithin (Check file) = ⊤
+IsRequestWithin (Tables file) = ⊤
+IsRequestWithin (Migrate file) = ⊤
+IsRequestWithin (Serve file port count) = (1 ≤ port) × (1 ≤ count) × (count ≤ 1000000)
 
 -- ---- what the words of a subcommand give
 

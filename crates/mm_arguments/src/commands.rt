@@ -76,7 +76,7 @@ fn init_command<'a>(alloc: Global) -> Result<Command<'a>, AllocError>
 }
 
 fn run_command<'a>(alloc: Global) -> Result<Command<'a>, AllocError>
-    ensures { IfOk result (IsCommand line.run) }
+    ensures { IfOk result (IsCommand line.run_subcommand) }
 {
     Command::new(alloc, "run")
         .about("Applies the CSV records of standard input, and answers each with a line")

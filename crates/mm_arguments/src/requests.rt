@@ -3,7 +3,7 @@
 ghost use Rattle.std.specs.Prelude.{◌≡◌, ◌⊎◌, IfOk, IfSome, codes, map};
 ghost use Rattle.clap.specs.Words.{FailsBy, fault_of, found_of, kind_of, rows_of};
 ghost use Rattle.mm_arguments.specs.CommandLine.{command_line};
-ghost use Rattle.mm_arguments.specs.Requests.{Asks, AsksFor, IsMoment, IsWithin, IsWord};
+ghost use Rattle.mm_arguments.specs.Requests.{Asks, AsksFor, IsMoment, IsRequestWithin, IsWord};
 ghost use Rattle.mm_arguments.specs.Requests as spec;
 
 use crate::commands::command;
@@ -65,7 +65,7 @@ fn word_of<'a>(matches: &ArgMatches<'a>, id: &str) -> Option<&'a str>
 
 fn kit_of<'a>(file: &'a str, matches: &ArgMatches<'a>) -> Option<Request<'a>>
     requires { IsWord (rows_of (found_of matches.now)) (codes "FILE") file }
-    ensures within { IfSome result IsWithin }
+    ensures within { IfSome result IsRequestWithin }
     ensures asks { IfSome result (AsksFor (codes "kit") (rows_of (found_of matches.now))) }
 {
     Some(Request::Kit {
@@ -79,7 +79,7 @@ fn kit_of<'a>(file: &'a str, matches: &ArgMatches<'a>) -> Option<Request<'a>>
 // `clap` has tested the ranges, for the message that it prints. The clause rests on this test.
 fn serve_of<'a>(file: &'a str, matches: &ArgMatches<'a>) -> Option<Request<'a>>
     requires { IsWord (rows_of (found_of matches.now)) (codes "FILE") file }
-    ensures within { IfSome result IsWithin }
+    ensures within { IfSome result IsRequestWithin }
     ensures asks { IfSome result (AsksFor (codes "serve") (rows_of (found_of matches.now))) }
 {
     let port = matches.get_one::<u16>("port")?;
@@ -91,7 +91,7 @@ fn serve_of<'a>(file: &'a str, matches: &ArgMatches<'a>) -> Option<Request<'a>>
 }
 
 fn request_of<'a>(name: &str, matches: &ArgMatches<'a>) -> Option<Request<'a>>
-    ensures within { IfSome result IsWithin }
+    ensures within { IfSome result IsRequestWithin }
     ensures asks { IfSome result (AsksFor name.now (rows_of (found_of matches.now))) }
 {
     let file = word_of(matches, "FILE")?;
@@ -119,7 +119,7 @@ fn request_of<'a>(name: &str, matches: &ArgMatches<'a>) -> Option<Request<'a>>
 /// itself, with a line end behind it. But for want of memory it comes only where the command line has a fault on the
 /// words, and is of its kind.
 pub fn read_arguments<'a>(alloc: Global, words: &'a [&'a str]) -> Result<Request<'a>, Error>
-    ensures within { IfOk result IsWithin }
+    ensures within { IfOk result IsRequestWithin }
     ensures asks { IfOk result (Asks (map (λ word. word.now) words.entry.now)) }
     ensures fails { FailsBy (fault_of command_line (map (λ word. word.now) words.entry.now)) result }
 {

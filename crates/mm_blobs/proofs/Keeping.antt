@@ -30,7 +30,7 @@ use Rattle.mm_store.proofs.Keys as parts
 use Rattle.mm_store.proofs.Keys.{by_number}
 use Rattle.std.specs.declared.cmp.Ordering.{Ordering}
 use Rattle.mm_definitions.specs.Package.{Package}
-use Rattle.mm_store.specs.Blobs.{Blob, Shelf, AreBlobs, blob_of, blob_row, bytes_at, digest_of, StandsAt, Told, Names}
+use Rattle.mm_store.specs.Blobs.{Blob, Shelf, AreBlobs, blob_of, blob_row, bytes_at, digest_of, StandsAt, Told, NamesBlob}
 use Rattle.mm_store.specs.Kept.{Kept, Spare, Keeps, IsNamed, tile_id, tile_with, medium_id, medium_with, piece_id, piece_with}
 use Rattle.mm_store.specs.Stands.{HoldingBut}
 use Rattle.mm_blobs.specs.Views.{View, HoldsAs, spare_too, spare_but, Lacks, IsFound, TellsWhether}
@@ -214,7 +214,7 @@ module _ (spare : Spare) (tables : Trees) (x : Kept) (p : Package) (h : Keeps sp
     at_left None bytes n e = e
     at_left (Some z) bytes n e = bytes_left z bytes (λ same. n (ap Some same)) e
 
-    told_left : {K I V : Type 0} {R : K → K → Ordering} (id_of : I → Option ℤ) (filled : I → List ℕ → V) (ids : FinMap R I) → ¬ Names id_of ids id → (k : K) (o : Option I) (entry : Option V) → get ids k ≡ o → Told id_of filled x.shelf o entry → Told id_of filled shorter o entry
+    told_left : {K I V : Type 0} {R : K → K → Ordering} (id_of : I → Option ℤ) (filled : I → List ℕ → V) (ids : FinMap R I) → ¬ NamesBlob id_of ids id → (k : K) (o : Option I) (entry : Option V) → get ids k ≡ o → Told id_of filled x.shelf o entry → Told id_of filled shorter o entry
     told_left id_of filled ids none k None entry is e = e
     told_left id_of filled ids none k (Some i) entry is e = (e.0, at_left (id_of i) e.0 (λ names. none (k, i, is, names)) e.1, e.2)
 
@@ -239,7 +239,7 @@ module _ (spare : Spare) (tables : Trees) (x : Kept) (p : Package) (h : Keeps sp
 
 module _ {K I : Type 0} {R : K → K → Ordering} (id_of : I → Option ℤ) (row_of : K → I → Row) (rows : List Row) (ids : FinMap R I) (h : Holds past_rowid row_of rows ids) (id : ℤ) (test : Row → Bool)
     (hits : (r : Row) (k : K) (i : I) → past_rowid r ≡ row_of k i → id_of i ≡ Some id → test r ≡ true) (only : (r : Row) (k : K) (i : I) → past_rowid r ≡ row_of k i → test r ≡ true → id_of i ≡ Some id) where
-  pub told_names : (it : Bool) → list_any test rows ≡ it → TellsWhether (Names id_of ids id) it
+  pub told_names : (it : Bool) → list_any test rows ≡ it → TellsWhether (NamesBlob id_of ids id) it
   told_names true is =
       let r = some_has test rows is in
       let at = h.sound r.0 r.1 in
@@ -291,6 +291,6 @@ pub shelf_again : (x y z : View) → y ≡ reshelved x y.kept.shelf → z ≡ re
 shelf_again x y z p q = q ∙ (λ i. reshelved (p i) z.kept.shelf)
 
 -- where no tile and no medium names it, a staged piece does or nothing does
-pub none_of_three : (kept : Kept) (id : ℤ) (it : Bool) → ¬ Names tile_id kept.tiles id → ¬ Names medium_id kept.media id → TellsWhether (Names piece_id kept.pieces id) it → TellsWhether (IsNamed kept id) it
+pub none_of_three : (kept : Kept) (id : ℤ) (it : Bool) → ¬ NamesBlob tile_id kept.tiles id → ¬ NamesBlob medium_id kept.media id → TellsWhether (NamesBlob piece_id kept.pieces id) it → TellsWhether (IsNamed kept id) it
 none_of_three kept id true no_tile no_medium piece = inr (inr piece)
 none_of_three kept id false no_tile no_medium no_piece = λ named. elim named [ inl tile ↦ no_tile tile | inr others ↦ elim others [ inl medium ↦ no_medium medium | inr piece ↦ no_piece piece ] ]

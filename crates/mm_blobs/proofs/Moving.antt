@@ -9,7 +9,7 @@ use Rattle.sql_forms.proofs.States.{shown_open}
 use Rattle.mm_definitions.specs.declared.answers.Fault.{Fault}
 use Rattle.mm_store.specs.Faults.{IsStoreFault}
 use Rattle.mm_store.specs.Stands.{Ground, StandsOn}
-use Rattle.mm_store.specs.Statements.{CommitsNothing, KeepsGround, IsRun, IsAsked, IsListed}
+use Rattle.mm_store.specs.Statements.{CommitsNothing, KeepsGround, IsRun, IsAsked, AreGiven}
 use Rattle.mm_store.proofs.Shapes.{quiet_then}
 use Rattle.mm_schema.specs.Tables.{schema}
 use Rattle.mm_definitions.specs.Bounds.{Profile}
@@ -112,7 +112,7 @@ module _ (profile : Profile) (old new : State) (sql : List ℕ) (given : Row) (b
     }
 
   -- a query all of whose rows tell this
-  module _ {T : Type 0} (rows_of : T → List Row) (Says : View → T → Type 0) (result : Result T Fault) (listed : IsListed old new sql given rows_of result)
+  module _ {T : Type 0} (rows_of : T → List Row) (Says : View → T → Type 0) (result : Result T Fault) (listed : AreGiven old new sql given rows_of result)
       (finds : (t : T) → IsReady schema old → Shown sql given old new (rows_of t) → IsUnchanged old new × ((x : View) → HoldsAs before profile.version (seen old) x → Says x t)) where
     shown : (ground : Ground) (x : View) → IsSeen before profile old ground x → (r : Result T Fault) → IfOk r (λ t. Shown sql given old new (rows_of t))
         → IfOk r (λ t. IsTrue new.is_open × (y : View) × ((y ≡ x) × IsSeen before profile new ground y × Says y t))

@@ -13,7 +13,7 @@ use Rattle.mm_definitions.specs.Keys.{same_number, TileKey, tile_cmp, Item, item
 use Rattle.mm_definitions.specs.Package.{Package, Medium, PieceRow}
 use Rattle.mm_definitions.proofs.Parts.{IsKeyOrder, same_key, same_some, at_put, beside_put, at_remove, beside_remove}
 use Rattle.mm_definitions.proofs.KeyLaws.{numbers, tile_keys, items, piece_keys}
-use Rattle.mm_store.specs.Blobs.{Shelf, StandsAt, Told, Tells, Names}
+use Rattle.mm_store.specs.Blobs.{Shelf, StandsAt, Told, Tells, NamesBlob}
 use Rattle.mm_store.specs.Kept.{Kept, Spare, Keeps, IsNamed, tile_id, tile_with, medium_id, medium_with, piece_id, piece_with}
 use Rattle.mm_store.specs.Rows.{past_rowid, tile_row, MediumRow, medium_row, StagedRow, staged_row}
 use Rattle.mm_blobs.specs.Views.{View, HoldsAs, spare_too, spare_but}
@@ -57,16 +57,16 @@ module _ {K I V : Type 0} {R : K → K → Ordering} (o : IsKeyOrder R) (id_of :
   ]
 
 module _ {K I : Type 0} {R : K → K → Ordering} (o : IsKeyOrder R) (id_of : I → Option ℤ) (ids : FinMap R I) (k : K) where
-  pub names_put : (i : I) (z : ℤ) → id_of i ≡ Some z → Names id_of (insert ids k i) z
+  pub names_put : (i : I) (z : ℤ) → id_of i ≡ Some z → NamesBlob id_of (insert ids k i) z
   names_put i z is = (k, i, at_put o ids k i, is)
 
-  pub named_put : (i : I) (z : ℤ) → Names id_of ids z → Names id_of (insert ids k i) z ⊎ NamedAt id_of ids k z
+  pub named_put : (i : I) (z : ℤ) → NamesBlob id_of ids z → NamesBlob id_of (insert ids k i) z ⊎ NamedAt id_of ids k z
   named_put i z names = elim (same_key o names.0 k) [
     | inl same ↦ inr (names.1, ap (get ids) (sym same.0) ∙ names.2, names.3)
     | inr other ↦ inl (names.0, names.1, beside_put o ids k i names.0 other.0 ∙ names.2, names.3)
   ]
 
-  pub named_removed : (z : ℤ) → Names id_of ids z → Names id_of (remove ids k) z ⊎ NamedAt id_of ids k z
+  pub named_removed : (z : ℤ) → NamesBlob id_of ids z → NamesBlob id_of (remove ids k) z ⊎ NamedAt id_of ids k z
   named_removed z names = elim (same_key o names.0 k) [
     | inl same ↦ inr (names.1, ap (get ids) (sym same.0) ∙ names.2, names.3)
     | inr other ↦ inl (names.0, names.1, beside_remove o ids k names.0 other.0 ∙ names.2, names.3)

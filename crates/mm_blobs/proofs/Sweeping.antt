@@ -32,7 +32,7 @@ use Rattle.mm_schema.specs.Statements.{unnamed_blobs}
 use Rattle.mm_schema.proofs.Selecting as statement
 use Rattle.mm_definitions.specs.Package.{Package}
 use Rattle.mm_definitions.proofs.Parts.{true_or_false}
-use Rattle.mm_store.specs.Blobs.{Blob, blob_row, Names}
+use Rattle.mm_store.specs.Blobs.{Blob, blob_row, NamesBlob}
 use Rattle.mm_store.specs.Kept.{Kept, Spare, no_spare, Keeps, IsNamed, tile_id, medium_id, piece_id}
 use Rattle.mm_store.specs.Rows.{tile_row, medium_row, staged_row}
 use Rattle.mm_blobs.specs.Views.{spare_each}

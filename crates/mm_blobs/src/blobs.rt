@@ -7,7 +7,7 @@ ghost use Rattle.sqlite.specs.Order.{column};
 ghost use Rattle.sqlite.specs.Values.{bound};
 ghost use Rattle.sqlite.specs.Held.{state};
 ghost use Rattle.mm_store.specs.Statements.{IsAsked};
-ghost use Rattle.mm_store.specs.Blobs.{blob_of, bytes_at, Names};
+ghost use Rattle.mm_store.specs.Blobs.{blob_of, bytes_at, NamesBlob};
 ghost use Rattle.mm_store.specs.Blobs as spec;
 ghost use Rattle.mm_definitions.specs.Bounds.{Profile};
 ghost use Rattle.mm_store.specs.Kept.{Spare, no_spare, IsNamed, tile_id, medium_id, piece_id};
@@ -149,7 +149,7 @@ fn tile_names<S: Alter>(tx: &mut Transaction<'_, S>, id: i64) -> Result<bool, Fa
         IsMove (state S.Store tx.old.conn.now) (state S.Store tx.new.conn.now)
         (IsSeen spare profile (state S.Store tx.old.conn.now))
         (λ base x it y. (y ≡ x) × IsSeen spare profile (state S.Store tx.new.conn.now) base y
-        × TellsWhether (Names tile_id y.kept.tiles id) it) result }
+        × TellsWhether (NamesBlob tile_id y.kept.tiles id) it) result }
 {
     exists(
         tx,
@@ -165,7 +165,7 @@ fn medium_names<S: Alter>(tx: &mut Transaction<'_, S>, id: i64) -> Result<bool, 
         IsMove (state S.Store tx.old.conn.now) (state S.Store tx.new.conn.now)
         (IsSeen spare profile (state S.Store tx.old.conn.now))
         (λ base x it y. (y ≡ x) × IsSeen spare profile (state S.Store tx.new.conn.now) base y
-        × TellsWhether (Names medium_id y.kept.media id) it) result }
+        × TellsWhether (NamesBlob medium_id y.kept.media id) it) result }
 {
     exists(
         tx,
@@ -181,7 +181,7 @@ fn piece_names<S: Alter>(tx: &mut Transaction<'_, S>, id: i64) -> Result<bool, F
         IsMove (state S.Store tx.old.conn.now) (state S.Store tx.new.conn.now)
         (IsSeen spare profile (state S.Store tx.old.conn.now))
         (λ base x it y. (y ≡ x) × IsSeen spare profile (state S.Store tx.new.conn.now) base y
-        × TellsWhether (Names piece_id y.kept.pieces id) it) result }
+        × TellsWhether (NamesBlob piece_id y.kept.pieces id) it) result }
 {
     exists(
         tx,

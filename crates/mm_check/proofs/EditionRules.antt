@@ -31,7 +31,7 @@ use Rattle.mm_store.specs.Kept.{piece_id, piece_with}
 use Rattle.mm_blobs.proofs.Naming.{told_there}
 use Rattle.mm_queries.specs.Columns.{is_there}
 use Rattle.mm_limits.specs.LimitRows.{bytes_by}
-use Rattle.mm_check.specs.PieceRows.{IsContent, IsMatrix, IsStateRow, IsOpenRow, IsNumberedRow, IsSpelledRow, IsPut, IsDrop}
+use Rattle.mm_check.specs.PieceRows.{IsContent, IsMatrix, IsStateRow, IsOpenRow, IsNumberedRow, IsSpelledRow, PutsEntry, IsDrop}
 use Rattle.mm_rules.specs.Parts.{EditionStates, PiecesOfOpen, PiecesNumbered, PiecesSpelled}
 use Rattle.mm_queries.proofs.Joined.{after_rowid, covered, each_row, joined}
 use Rattle.mm_queries.proofs.Named.{also, each_named, data_of, joined_blob}
@@ -161,7 +161,7 @@ to_content profile v d data_is named h = go h.1
     no_bytes : is_there d ≡ false → v.bytes ≡ []
     no_bytes = none_from v.bytes d data_is
 
-    go : IsPut (shown v d) ⊎ IsDrop (shown v d) → IsSpelled profile v
+    go : PutsEntry (shown v d) ⊎ IsDrop (shown v d) → IsSpelled profile v
     go (inl (inl (is, (zoom, column, row), (a, b), bytes))) =
         let z = natural v.k1 zoom.0 in let c = natural v.k2 column.0 in let r = natural v.k3 row.0 in
         (Tile v.name (unsigned_abs v.k1) (unsigned_abs v.k2) (unsigned_abs v.k3) v.bytes, same_row v _ _ _ _ _ _ _ (same_some is) z c r z4 z5 z6 z7 (same_some a) (same_some b) refl, (named, subst IsZoom z zoom, subst IsTilePlace c column, subst IsTilePlace r row, bytes_from v.bytes d data_is IsTileBytes bytes), tt)

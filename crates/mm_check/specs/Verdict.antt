@@ -9,26 +9,26 @@ use Rattle.mm_store.specs.Faults.{IsStoreFault}
 use Rattle.mm_store.specs.Seen.{IsSeenAs}
 use Rattle.mm_store.specs.Stands.{IsSettled}
 use Rattle.mm_store.specs.Statements.{CommitsNothing}
-use Rattle.mm_queries.specs.InTurn.{either, HoldsBelow}
+use Rattle.mm_queries.specs.InTurn.{chosen, HoldsBelow}
 
 -- rule k, from 1 to 15; each other number is 16
 unfoldable pub rule : Profile → ℕ → Package → Type 0
 rule profile k p =
-    either (k == 1) (GivenSystems p.systems)
-    (either (k == 2) (NamedSystems p.systems p.contents p.kinds p.sets)
-    (either (k == 3) (DistinctIdentifiers p.contents)
-    (either (k == 4) (Names p.contents p.relations p.editions)
-    (either (k == 5) (Registry p.contents p.kinds p.sets)
-    (either (k == 6) (Extents p.contents p.sets)
-    (either (k == 7) (MatricesFit p.kinds p.sets p.matrices)
-    (either (k == 8) (HigherIsFiner p.matrices)
-    (either (k == 9) (NextIsHalved p.kinds p.matrices)
-    (either (k == 10) (TilesInside p.matrices p.tiles)
-    (either (k == 11) (Items p.kinds p.rows p.media)
-    (either (k == 12) (RelationsSuited p.kinds p.relations)
-    (either (k == 13) (PairingsJoin p.rows p.media p.relations p.pairings)
-    (either (k == 14) (ExactExtensions p.kinds p.relations p.extensions)
-    (either (k == 15) (Editions profile p.editions p.pieces)
+    chosen (k == 1) (GivenSystems p.systems)
+    (chosen (k == 2) (NamedSystems p.systems p.contents p.kinds p.sets)
+    (chosen (k == 3) (DistinctIdentifiers p.contents)
+    (chosen (k == 4) (Names p.contents p.relations p.editions)
+    (chosen (k == 5) (Registry p.contents p.kinds p.sets)
+    (chosen (k == 6) (Extents p.contents p.sets)
+    (chosen (k == 7) (MatricesFit p.kinds p.sets p.matrices)
+    (chosen (k == 8) (HigherIsFiner p.matrices)
+    (chosen (k == 9) (NextIsHalved p.kinds p.matrices)
+    (chosen (k == 10) (TilesInside p.matrices p.tiles)
+    (chosen (k == 11) (Items p.kinds p.rows p.media)
+    (chosen (k == 12) (RelationsSuited p.kinds p.relations)
+    (chosen (k == 13) (PairingsJoin p.rows p.media p.relations p.pairings)
+    (chosen (k == 14) (ExactExtensions p.kinds p.relations p.extensions)
+    (chosen (k == 15) (Editions profile p.editions p.pieces)
     (Limits profile p)))))))))))))))
 
 -- rule 16 holds, and each from 1 to k - 1

@@ -9,7 +9,7 @@ ghost use Rattle.mm_queries.specs.Check.{IsCheck};
 ghost use Rattle.mm_queries.specs.Columns.{bytes_of};
 ghost use Rattle.mm_rules.specs.Parts.{EditionStates, PiecesOfOpen, PiecesNumbered, PiecesSpelled};
 ghost use Rattle.mm_definitions.specs.Units.{profile_of};
-ghost use Rattle.mm_check.specs.PieceRows.{IsStateRow, IsOpenRow, IsNumberedRow, IsSpelledRow, IsOfKind, AreSides, AreUnused, IsContent, IsMatrix, HasNoTexts, HasNoBytes, IsPlace, IsItem, IsPair, IsTile, IsTileDrop, IsRow, IsItemDrop, IsMedia, IsMap, IsPut, IsDrop};
+ghost use Rattle.mm_check.specs.PieceRows.{IsStateRow, IsOpenRow, IsNumberedRow, IsSpelledRow, IsOfKind, AreSides, AreUnused, IsContent, IsMatrix, HasNoTexts, HasNoBytes, IsPlaceOfTile, IsItem, IsPair, IsTile, IsTileDrop, PutsRow, IsItemDrop, IsMedia, IsMap, PutsEntry, IsDrop};
 
 use mm_definitions::answers::Fault;
 use mm_definitions::limits::{
@@ -133,7 +133,7 @@ fn has_no_bytes(row: &Row) -> bool
 }
 
 fn is_place(row: &Row) -> bool
-    ensures { IsTrue result ↔ IsPlace row.now }
+    ensures { IsTrue result ↔ IsPlaceOfTile row.now }
 {
     is_within(row, Spelled::K1, 0, LAST_ZOOM as i64)
         && is_within(row, Spelled::K2, 0, LAST_PLACE as i64)
@@ -175,7 +175,7 @@ fn is_tile_drop(row: &Row) -> bool
 }
 
 fn is_row(row: &Row) -> bool
-    ensures { IsTrue result ↔ IsRow row.now }
+    ensures { IsTrue result ↔ PutsRow row.now }
 {
     text_is(row, Spelled::KIND, "row")
         && is_within(row, Spelled::K1, 1, LAST_ID as i64)
@@ -209,7 +209,7 @@ fn is_map(row: &Row, kind: &str) -> bool
 }
 
 fn is_put(row: &Row) -> bool
-    ensures { IsTrue result ↔ IsPut row.now }
+    ensures { IsTrue result ↔ PutsEntry row.now }
 {
     is_tile(row) || is_row(row) || is_media(row) || is_map(row, "map")
 }

@@ -12,7 +12,7 @@ use Rattle.mm_store.proofs.Seen.{seen_of, settled_still}
 use Rattle.mm_store.proofs.Shapes.{quiet_then}
 use Rattle.mm_opening.specs.Opening.{IsBlank}
 use Rattle.mm_store.specs.Statements.{CommitsNothing}
-use Rattle.mm_opening.specs.Look.{Answers, FindsNone, IsLooked, Agrees, ShowsProfile}
+use Rattle.mm_opening.specs.Look.{AnswersLook, FindsNone, IsLooked, Agrees, ShowsProfile}
 use Rattle.mm_opening.proofs.Looking.{shows_profile, still_blank}
 use Rattle.mm_walk.proofs.Resting.{seen_still}
 use Rattle.mm_check.specs.Verdict.{IsVerified}
@@ -62,7 +62,7 @@ settled_same profile s p is it = record {
 
 -- ---- the profile's row stopped it
 
-profile_told : (old new : State) (why : Open) → Answers old new (Err why) → TellsProfile old new why
+profile_told : (old new : State) (why : Open) → AnswersLook old new (Err why) → TellsProfile old new why
 profile_told old new (opens.Version version) it = it
 profile_told old new opens.NoProfile it = it
 profile_told old new opens.BadProfile it = it
@@ -82,7 +82,7 @@ declined p (opens.Rule rule) it = absurd it
 declined p (opens.Fault fault) it = tt
 
 -- the look tells nothing of the blobs
-form_untold : (old new : State) (why : Open) → Answers old new (Err why) → TellsForm old (Err why)
+form_untold : (old new : State) (why : Open) → AnswersLook old new (Err why) → TellsForm old (Err why)
 form_untold old new (opens.Version version) it = tt
 form_untold old new opens.NoProfile it = tt
 form_untold old new opens.BadProfile it = tt
@@ -104,7 +104,7 @@ look_failed old new why looked = record {
 
 -- ---- the form of the blobs was asked
 
-unchanged_by : (old new : State) → Answers old new (Ok tt) → IsUnchanged old new
+unchanged_by : (old new : State) → AnswersLook old new (Ok tt) → IsUnchanged old new
 unchanged_by old new (inl it) = it.2
 unchanged_by old new (inr it) = absurd it.2
 

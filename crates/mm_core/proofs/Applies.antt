@@ -9,10 +9,10 @@ use Rattle.mm_definitions.specs.declared.answers.Answer.TheVariants as answer
 use Rattle.mm_definitions.specs.declared.commands.Command.{Command}
 use Rattle.mm_store.specs.Stands.{IsSettled}
 use Rattle.mm_run.specs.Applied as run
-use Rattle.mm_core.specs.Applied.{IsApplied, Stands}
+use Rattle.mm_core.specs.Applied.{IsAppliedTo, Stands}
 
 module _ (old new : State) (c : Command) (moment : ℕ) (a : Answer) where
-  pub applied_so : (failed : Bool) → (failed ≡ true → (a ≡ answer.Fault (record { 0 = 92 })) × (new ≡ old)) → (failed ≡ false → IsApplied c moment old new a)
+  pub applied_so : (failed : Bool) → (failed ≡ true → (a ≡ answer.Fault (record { 0 = 92 })) × (new ≡ old)) → (failed ≡ false → IsAppliedTo c moment old new a)
       → HasCleanDisk new → (p : Package) → IsSettled current old p → Meets current p
       → run.IsApplied p c moment a (IsSettled current new) new.may_leave Stands
   applied_so true ended applied clean p settled meets =
@@ -20,6 +20,6 @@ module _ (old new : State) (c : Command) (moment : ℕ) (a : Answer) where
       rw it.0 (λ db may. inl (settled.left db (subst (λ (s : State). s.may_leave db) it.1 may)))
   applied_so false ended applied clean p settled meets = (applied refl).answers clean p (record { settled = settled; meets = meets })
 
-  pub clean_so : (failed : Bool) → (failed ≡ true → new ≡ old) → (failed ≡ false → IsApplied c moment old new a) → HasCleanDisk new → HasCleanDisk old
+  pub clean_so : (failed : Bool) → (failed ≡ true → new ≡ old) → (failed ≡ false → IsAppliedTo c moment old new a) → HasCleanDisk new → HasCleanDisk old
   clean_so true ended applied clean = subst HasCleanDisk (ended refl) clean
   clean_so false ended applied clean = let h = (applied refl).survives.clean in omega (arith, h)

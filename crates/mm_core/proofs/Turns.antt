@@ -19,39 +19,39 @@ use Rattle.mm_definitions.specs.Keys.{Text}
 use Rattle.mm_definitions.specs.declared.commands.Command.{Command}
 use Rattle.mm_definitions.specs.declared.commands.Command.TheVariants as commands
 use Rattle.mm_laws.proofs.Closed.{rehearse_same}
-use Rattle.mm_store.specs.Stands.{ground_of, IsInside, IsSettled}
+use Rattle.mm_store.specs.Stands.{ground_of, StandsInside, IsSettled}
 use Rattle.mm_store.specs.Faults.{IsStoreFault}
 use Rattle.mm_store.specs.Statements.{CommitsNothing}
-use Rattle.mm_store.specs.Shapes.{IsPut, IsTried}
+use Rattle.mm_store.specs.Shapes.{ComesTo, IsTried}
 use Rattle.mm_store.proofs.Transactions.{OnlyCommitted, settles, rolled_quiet, rolled_back}
 use Rattle.mm_edition.specs.Rehearsals.{IsRehearsal}
-use Rattle.mm_core.specs.Applied.{IsApplied, IsReady, MayCommit, Stands}
+use Rattle.mm_core.specs.Applied.{IsAppliedTo, IsSettledFor, MayCommitStep, Stands}
 
 module _ {S : Type 0} (g : Ghosts S) (was now : Held S) (begun : now ≡ record was { in_transaction = true }) (ended last : State)
     (c : Command) (moment : ℕ) (result : Result Outcome Fault) (tried : IsTried current c moment (state g now) ended result) where
   abbrev old : State
   old = state g was
 
-  put : (p : Package) → IsReady old p → IsPut current (state g now) (ground_of old) p
+  put : (p : Package) → IsSettledFor old p → ComesTo current (state g now) (ground_of old) p
   put p it = record { meets = it.meets; inside = rw begun (record { mode = refl; back = λ is_open. (refl, is_open); reads = it.settled.reads }) }
 
   module _ (is : result ≡ Ok Done) where
-    done : HasCleanDisk ended → (p : Package) → IsReady old p → (refusal p c ≡ None) × IsTrue ended.is_open × IsInside current ended (ground_of old) (step p c moment)
+    done : HasCleanDisk ended → (p : Package) → IsSettledFor old p → (refusal p c ≡ None) × IsTrue ended.is_open × StandsInside current ended (ground_of old) (step p c moment)
     done clean p it = (rw is at tried.tries) clean (ground_of old) p (put p it)
 
-    commits : Survives ended last (λ db. db ≡ ended.now.trees) → Survives old last (MayCommit old c moment)
-    commits h = survives_begin g was last (MayCommit old c moment) (rw begun at (survives_then (state g now) ended last _ _ (MayCommit old c moment) (λ _ db none. absurd none)
+    commits : Survives ended last (λ db. db ≡ ended.now.trees) → Survives old last (MayCommitStep old c moment)
+    commits h = survives_begin g was last (MayCommitStep old c moment) (rw begun at (survives_then (state g now) ended last _ _ (MayCommitStep old c moment) (λ _ db none. absurd none)
         (λ clean db same p it. let its = done (omega (arith, h.clean)) p it in (its.0, subst (λ t. Stands t (step p c moment)) (sym same) (its.2.reads its.1).stands)) tried.survives h))
 
     pub committed : OnlyCommitted last → Survives ended last (λ db. db ≡ ended.now.trees) → (HasCleanDisk last → Shows ended last ended.now ended.now false)
-        → IsApplied c moment old last answer.Ok
+        → IsAppliedTo c moment old last answer.Ok
     committed law h shows = record {
       survives = commits h;
       stays_open = λ clean lasting. (shows clean).is_open;
       answers = λ clean p it. let its = done (omega (arith, h.clean)) p it in (its.0, settles current ended last (ground_of old) (step p c moment) law (shows clean) its.2);
     }
 
-    pub in_doubt : (fault : Fault) → Survives ended last (λ db. db ≡ ended.now.trees) → IsApplied c moment old last (answer.Fault fault)
+    pub in_doubt : (fault : Fault) → Survives ended last (λ db. db ≡ ended.now.trees) → IsAppliedTo c moment old last (answer.Fault fault)
     in_doubt fault h = record {
       survives = commits h;
       stays_open = λ clean. tt;
@@ -63,12 +63,12 @@ module _ {S : Type 0} (g : Ghosts S) (was now : Held S) (begun : now ≡ record 
     quiet : CommitsNothing old last
     quiet = rolled_quiet g was now begun ended last tried.survives two
 
-    left_before : HasCleanDisk last → (p : Package) → IsReady old p → (db : Trees) → last.may_leave db → Stands db p
+    left_before : HasCleanDisk last → (p : Package) → IsSettledFor old p → (db : Trees) → last.may_leave db → Stands db p
     left_before clean p it db may = elim (quiet.crash clean db may) [ inl before ↦ it.settled.left db before | inr none ↦ absurd none ]
 
-    pub refused : (why : Refusal) → result ≡ Ok (Refused why) → (HasCleanDisk last → IsRolledBack ended last) → IsApplied c moment old last (answer.Refused why)
+    pub refused : (why : Refusal) → result ≡ Ok (Refused why) → (HasCleanDisk last → IsRolledBack ended last) → IsAppliedTo c moment old last (answer.Refused why)
     refused why is undone = record {
-      survives = survives_weaker old last (λ _. ⊥) (MayCommit old c moment) (λ _ db none. absurd none) quiet;
+      survives = survives_weaker old last (λ _. ⊥) (MayCommitStep old c moment) (λ _ db none. absurd none) quiet;
       stays_open = λ clean. tt;
       answers = λ clean p it. (
         (rw is at tried.tries) (omega (arith, two.clean)) (ground_of old) p (put p it),
@@ -76,15 +76,15 @@ module _ {S : Type 0} (g : Ghosts S) (was now : Held S) (begun : now ≡ record 
       );
     }
 
-    pub gave_up : (fault : Fault) → IsApplied c moment old last (answer.Fault fault)
+    pub gave_up : (fault : Fault) → IsAppliedTo c moment old last (answer.Fault fault)
     gave_up fault = record {
-      survives = survives_weaker old last (λ _. ⊥) (MayCommit old c moment) (λ _ db none. absurd none) quiet;
+      survives = survives_weaker old last (λ _. ⊥) (MayCommitStep old c moment) (λ _ db none. absurd none) quiet;
       stays_open = λ clean. tt;
       answers = λ clean p it db may. inl (left_before clean p it db may);
     }
 
 -- a command that is given up before its transaction begins
-pub not_begun : (before : State) (c : Command) (moment : ℕ) (fault : Fault) → IsApplied c moment before before (answer.Fault fault)
+pub not_begun : (before : State) (c : Command) (moment : ℕ) (fault : Fault) → IsAppliedTo c moment before before (answer.Fault fault)
 not_begun before c moment fault = record {
   survives = record { clean = le_refl _; shield = λ s. s; counts = le_refl _; limit = refl; closes = λ clean is_open. inl is_open; crash = λ clean db may. inl may };
   stays_open = λ clean. tt;
@@ -102,10 +102,10 @@ store_fault result fault is h = either (rw is at h)
 -- ---- a rehearsal
 
 module _ (old new : State) (edition : Text) (moment : ℕ) (result : Result Outcome Fault) where
-  quietly : IsRehearsal current edition old new result → Survives old new (MayCommit old (commands.Rehearse edition) moment)
-  quietly it = survives_weaker old new (λ _. ⊥) (MayCommit old (commands.Rehearse edition) moment) (λ _ db none. absurd none) it.survives
+  quietly : IsRehearsal current edition old new result → Survives old new (MayCommitStep old (commands.Rehearse edition) moment)
+  quietly it = survives_weaker old new (λ _. ⊥) (MayCommitStep old (commands.Rehearse edition) moment) (λ _ db none. absurd none) it.survives
 
-  pub rehearsed_well : result ≡ Ok Done → IsRehearsal current edition old new result → IsApplied (commands.Rehearse edition) moment old new answer.Ok
+  pub rehearsed_well : result ≡ Ok Done → IsRehearsal current edition old new result → IsAppliedTo (commands.Rehearse edition) moment old new answer.Ok
   rehearsed_well is it = record {
     survives = quietly it;
     stays_open = λ clean lasting. absurd (let e : true ≡ false = lasting in cc);
@@ -115,14 +115,14 @@ module _ (old new : State) (edition : Text) (moment : ℕ) (result : Result Outc
     );
   }
 
-  pub rehearsed_refused : (why : Refusal) → result ≡ Ok (Refused why) → IsRehearsal current edition old new result → IsApplied (commands.Rehearse edition) moment old new (answer.Refused why)
+  pub rehearsed_refused : (why : Refusal) → result ≡ Ok (Refused why) → IsRehearsal current edition old new result → IsAppliedTo (commands.Rehearse edition) moment old new (answer.Refused why)
   rehearsed_refused why is it = record {
     survives = quietly it;
     stays_open = λ clean. tt;
     answers = λ clean p ready. ((rw is at it.answers) clean p ready.meets ready.settled, it.settled clean p ready.meets ready.settled);
   }
 
-  pub rehearsed_in_vain : (fault : Fault) → IsRehearsal current edition old new result → IsApplied (commands.Rehearse edition) moment old new (answer.Fault fault)
+  pub rehearsed_in_vain : (fault : Fault) → IsRehearsal current edition old new result → IsAppliedTo (commands.Rehearse edition) moment old new (answer.Fault fault)
   rehearsed_in_vain fault it = record {
     survives = quietly it;
     stays_open = λ clean. tt;

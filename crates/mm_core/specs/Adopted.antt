@@ -10,7 +10,7 @@ use Rattle.mm_store.specs.Stands.{ReadsAs, IsSettled}
 use Rattle.mm_store.specs.Statements.{CommitsNothing}
 use Rattle.mm_store.specs.Faults.{IsStoreFault}
 use Rattle.mm_opening.specs.Opening.{IsBlank}
-use Rattle.mm_opening.specs.Look.{ShowsProfile, Answers}
+use Rattle.mm_opening.specs.Look.{ShowsProfile, AnswersLook}
 use Rattle.mm_check.specs.Verdict.{IsFailing}
 use Rattle.mm_shelf.specs.Form.{BlobsStand, TellsForm}
 
@@ -41,7 +41,7 @@ abbrev pub TellsProfile : State → State → Open → Type 0
 TellsProfile old new opens.BadBlobs = ShowsProfile current.version old × IsOfThisVersion old
 TellsProfile old new (opens.Rule rule) = ShowsProfile current.version old × IsOfThisVersion old
 TellsProfile old new (opens.Fault fault) = IsStoreFault fault
-TellsProfile old new why = Answers old new (Err why)
+TellsProfile old new why = AnswersLook old new (Err why)
 
 -- Where there was no table, there is none still, and it is told that there is no profile; or there was a fault.
 abbrev pub DeclinesNone : State → Open → Type 0

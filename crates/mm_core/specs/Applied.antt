@@ -18,13 +18,13 @@ abbrev pub Stands : Trees → Package → Type 0
 Stands db p = StandsFor current.version db p
 
 -- settled for a package that meets the rules
-pub record IsReady (old : State) (p : Package) : Type 0 where
+pub record IsSettledFor (old : State) (p : Package) : Type 0 where
   pub settled : IsSettled current old p
   pub meets : Meets current p
 
 -- what the call may commit
-abbrev pub MayCommit : State → Command → ℕ → Trees → Type 0
-MayCommit old c moment db = (p : Package) → IsReady old p → (refusal p c ≡ None) × Stands db (step p c moment)
+abbrev pub MayCommitStep : State → Command → ℕ → Trees → Type 0
+MayCommitStep old c moment db = (p : Package) → IsSettledFor old p → (refusal p c ≡ None) × Stands db (step p c moment)
 
 -- the store is open after a command that is done for good; a rehearsal may close it as it is rolled back
 abbrev pub StaysOpen : Command → State → Answer → Type 0
@@ -33,7 +33,7 @@ StaysOpen c new _ = ⊤
 
 -- `Ok` settles the connection for the step, a refusal for the package as it was; after a fault each database that may be
 -- left stands for the one or, where nothing refuses the command, for the other.
-pub record IsApplied (c : Command) (moment : ℕ) (old new : State) (answer : Answer) : Type 0 where
-  pub survives : Survives old new (MayCommit old c moment)
+pub record IsAppliedTo (c : Command) (moment : ℕ) (old new : State) (answer : Answer) : Type 0 where
+  pub survives : Survives old new (MayCommitStep old c moment)
   pub stays_open : HasCleanDisk new → StaysOpen c new answer
-  pub answers : HasCleanDisk new → (p : Package) → IsReady old p → run.IsApplied p c moment answer (IsSettled current new) new.may_leave Stands
+  pub answers : HasCleanDisk new → (p : Package) → IsSettledFor old p → run.IsApplied p c moment answer (IsSettled current new) new.may_leave Stands

@@ -4,11 +4,11 @@ use Rattle.mm_definitions.specs.declared.commands.Command.{Command}
 use Rattle.mm_definitions.specs.declared.commands.Command.TheVariants as commands
 
 -- it changes reference systems or tables
-abbrev pub lays_out : Command → Bool
-lays_out (commands.Srs id name organization organization_id definition description) = true
-lays_out (commands.Table table kind identifier) = true
-lays_out (commands.Drop table) = true
-lays_out _ = false
+abbrev pub is_layout_change : Command → Bool
+is_layout_change (commands.Srs id name organization organization_id definition description) = true
+is_layout_change (commands.Table table kind identifier) = true
+is_layout_change (commands.Drop table) = true
+is_layout_change _ = false
 
 -- it changes pyramids or matrices
 abbrev pub lays_out_pyramid : Command → Bool
@@ -17,26 +17,26 @@ lays_out_pyramid (commands.Matrix table zoom matrix) = true
 lays_out_pyramid _ = false
 
 -- it changes a tile
-abbrev pub changes_tile : Command → Bool
-changes_tile (commands.Tile table zoom column row bytes) = true
-changes_tile (commands.TileDrop table zoom column row) = true
-changes_tile _ = false
+abbrev pub is_tile_change : Command → Bool
+is_tile_change (commands.Tile table zoom column row bytes) = true
+is_tile_change (commands.TileDrop table zoom column row) = true
+is_tile_change _ = false
 
 -- it changes an attribute row or a media row
-abbrev pub changes_item : Command → Bool
-changes_item (commands.Row table id title note amount) = true
-changes_item (commands.RowDrop table id) = true
-changes_item (commands.Media table id content_type bytes) = true
-changes_item (commands.MediaDrop table id) = true
-changes_item _ = false
+abbrev pub is_item_change : Command → Bool
+is_item_change (commands.Row table id title note amount) = true
+is_item_change (commands.RowDrop table id) = true
+is_item_change (commands.Media table id content_type bytes) = true
+is_item_change (commands.MediaDrop table id) = true
+is_item_change _ = false
 
 -- it changes relations or mapping rows
-abbrev pub relates : Command → Bool
-relates (commands.Relation mapping base related name) = true
-relates (commands.RelationDrop mapping) = true
-relates (commands.Map mapping base_id related_id) = true
-relates (commands.MapDrop mapping base_id related_id) = true
-relates _ = false
+abbrev pub is_relation_change : Command → Bool
+is_relation_change (commands.Relation mapping base related name) = true
+is_relation_change (commands.RelationDrop mapping) = true
+is_relation_change (commands.Map mapping base_id related_id) = true
+is_relation_change (commands.MapDrop mapping base_id related_id) = true
+is_relation_change _ = false
 
 -- it changes an edition that is not published yet, and no content
 abbrev pub prepares_edition : Command → Bool

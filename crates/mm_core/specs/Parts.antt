@@ -9,5 +9,5 @@ abbrev pub held : {S : Type 0} {g : Ghosts S} → Session S g → Held S
 held session = session.conn
 
 -- an earlier command was answered a fault
-abbrev pub has_failed : {S : Type 0} {g : Ghosts S} → Session S g → Bool
-has_failed session = session.failed
+abbrev pub must_reopen : {S : Type 0} {g : Ghosts S} → Session S g → Bool
+must_reopen session = session.failed

@@ -5,7 +5,7 @@ ghost use Rattle.sqlite.specs.Held.{state};
 ghost use Rattle.mm_definitions.specs.Stamp.{IsStamp};
 ghost use Rattle.mm_run.specs.Applied.{OnFault};
 ghost use Rattle.mm_definitions.specs.declared.commands.Command.TheVariants as commands;
-ghost use Rattle.mm_core.specs.Applied.{IsApplied};
+ghost use Rattle.mm_core.specs.Applied.{IsAppliedTo};
 ghost use Rattle.mm_core.specs.Groups.{rehearses};
 
 use crate::dispatching::run_command;
@@ -31,7 +31,7 @@ fn run_transaction<S: Alter>(
     requires stamped { IsStamp moment at.now }
     ensures mode { conn.new.in_transaction ≡ false }
     ensures faults { OnFault result (λ fault. (fault ≡ 90) ⊎ (fault ≡ 91)) }
-    ensures applied { IsApplied command.now moment (state S.Store conn.old) (state S.Store conn.new) result }
+    ensures applied { IsAppliedTo command.now moment (state S.Store conn.old) (state S.Store conn.new) result }
 {
     let mut tx = conn.transaction();
     match run_command(&mut tx, command, at) {
@@ -61,7 +61,7 @@ fn rehearse_once<S: Alter>(
     requires stamped { IsStamp moment at.now }
     ensures mode { conn.new.in_transaction ≡ false }
     ensures faults { OnFault result (λ fault. (fault ≡ 90) ⊎ (fault ≡ 91)) }
-    ensures applied { IsApplied (commands.Rehearse edition.now) moment (state S.Store conn.old) (state S.Store conn.new) result }
+    ensures applied { IsAppliedTo (commands.Rehearse edition.now) moment (state S.Store conn.old) (state S.Store conn.new) result }
 {
     match rehearse(conn, edition, at) {
         Ok(Outcome::Done) => Answer::Ok,
@@ -81,7 +81,7 @@ pub(crate) fn apply_once<S: Alter>(
     requires idle { conn.old.in_transaction ≡ false }
     ensures mode { conn.new.in_transaction ≡ false }
     ensures faults { OnFault result (λ fault. (fault ≡ 90) ⊎ (fault ≡ 91)) }
-    ensures applied { IsApplied command.now moment (state S.Store conn.old) (state S.Store conn.new) result }
+    ensures applied { IsAppliedTo command.now moment (state S.Store conn.old) (state S.Store conn.new) result }
 {
     let at = match stamp(alloc, moment) {
         Ok(at) => at,

@@ -6,7 +6,7 @@ ghost use Rattle.mm_definitions.specs.Bounds.{current};
 ghost use Rattle.mm_definitions.specs.Stamp.{IsStamp};
 ghost use Rattle.mm_store.specs.Shapes.{IsLent, IsTried};
 ghost use Rattle.mm_layout.specs.Stamped.{IsLentAt};
-ghost use Rattle.mm_core.specs.Groups.{lays_out, lays_out_pyramid, changes_tile, changes_item, relates, prepares_edition, rehearses};
+ghost use Rattle.mm_core.specs.Groups.{is_layout_change, lays_out_pyramid, is_tile_change, is_item_change, is_relation_change, prepares_edition, rehearses};
 
 use mm_definitions::answers::{Fault, Outcome};
 use mm_definitions::commands::Command;
@@ -24,7 +24,7 @@ fn lay_out<S: Alter>(
     command: &Command,
     at: &str,
 ) -> Result<Outcome, Fault>
-    requires { lays_out command.now ≡ true }
+    requires { is_layout_change command.now ≡ true }
     ensures same_reference { tx.new.conn.ghost_name ≡ tx.old.conn.ghost_name }
     ensures lent { IsLentAt current command.now at.now (state S.Store tx.old.conn.now) (state S.Store tx.new.conn.now) result }
 {
@@ -102,7 +102,7 @@ fn change_tile<S: Alter>(
     command: &Command,
     at: &str,
 ) -> Result<Outcome, Fault>
-    requires { changes_tile command.now ≡ true }
+    requires { is_tile_change command.now ≡ true }
     ensures same_reference { tx.new.conn.ghost_name ≡ tx.old.conn.ghost_name }
     ensures lent { IsLentAt current command.now at.now (state S.Store tx.old.conn.now) (state S.Store tx.new.conn.now) result }
 {
@@ -138,7 +138,7 @@ fn change_item<S: Alter>(
     command: &Command,
     at: &str,
 ) -> Result<Outcome, Fault>
-    requires { changes_item command.now ≡ true }
+    requires { is_item_change command.now ≡ true }
     ensures same_reference { tx.new.conn.ghost_name ≡ tx.old.conn.ghost_name }
     ensures lent { IsLentAt current command.now at.now (state S.Store tx.old.conn.now) (state S.Store tx.new.conn.now) result }
 {
@@ -179,7 +179,7 @@ fn change_item<S: Alter>(
 
 /// The commands that relate rows and media to each other.
 fn relate<S: Alter>(tx: &mut Transaction<'_, S>, command: &Command) -> Result<Outcome, Fault>
-    requires { relates command.now ≡ true }
+    requires { is_relation_change command.now ≡ true }
     ensures same_reference { tx.new.conn.ghost_name ≡ tx.old.conn.ghost_name }
     ensures lent { (moment : ℕ) → IsLent current command.now moment (state S.Store tx.old.conn.now) (state S.Store tx.new.conn.now) result }
 {

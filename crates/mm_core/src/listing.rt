@@ -13,7 +13,7 @@ impl<S: Alter> Session<S> {
     ghost use Rattle.mm_definitions.specs.Streams.{written};
     ghost use Rattle.mm_listing.specs.Listing.{listing};
     ghost use Rattle.mm_listing.specs.Writing.{IsListed};
-    ghost use Rattle.mm_core.specs.Parts.{has_failed};
+    ghost use Rattle.mm_core.specs.Parts.{must_reopen};
     ghost use Rattle.mm_core.specs.Reads.{Reads};
 
     /// Writes the listing of the package: a line for each table, and then one for each edition, by rising name. Each line
@@ -25,7 +25,7 @@ impl<S: Alter> Session<S> {
     pub fn list<W: Write>(&mut self, writer: &mut Io<W>) -> Result<(), Fault>
         ensures reads { Reads S.Store self.old self.new result (λ old new. IsListed current listing old new
             (written W.contents writer.old) (written W.contents writer.new) result) }
-        ensures unwritten { has_failed self.old ≡ true → writer.new ≡ writer.old }
+        ensures unwritten { must_reopen self.old ≡ true → writer.new ≡ writer.old }
     {
         if self.failed {
             return Err(Fault::REOPEN);

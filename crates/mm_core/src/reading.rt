@@ -15,9 +15,9 @@ impl<S: Alter> Session<S> {
     ghost use Rattle.mm_definitions.specs.Keys as keys;
     ghost use Rattle.mm_definitions.specs.Keys.{item};
     ghost use Rattle.mm_store.specs.Seen.{IsRead};
-    ghost use Rattle.mm_reads.specs.Told.{TellsBytes, medium_of, row_of};
-    ghost use Rattle.mm_reads.specs.Listing.{Lists};
-    ghost use Rattle.mm_reads.specs.Related.{Tells};
+    ghost use Rattle.mm_reads.specs.Told.{TellsBytes, medium_told, row_told};
+    ghost use Rattle.mm_reads.specs.Listing.{ListsTables};
+    ghost use Rattle.mm_reads.specs.Related.{TellsMates};
     ghost use Rattle.mm_edition.specs.States.{TellsState};
     ghost use Rattle.mm_core.specs.Reads.{Reads};
 
@@ -48,7 +48,7 @@ impl<S: Alter> Session<S> {
     /// on, and the package and what may be left are as they were.
     pub fn media(&mut self, table: &Name, id: i64) -> Result<Option<Media>, Fault>
         ensures { Reads S.Store self.old self.new result (λ old new. IsRead current old new
-            (λ p found. get p.media (item table.now id) ≡ option_map medium_of found) result) }
+            (λ p found. get p.media (item table.now id) ≡ option_map medium_told found) result) }
     {
         if self.failed {
             return Err(Fault::REOPEN);
@@ -62,7 +62,7 @@ impl<S: Alter> Session<S> {
     /// on, and the package and what may be left are as they were.
     pub fn row(&mut self, table: &Name, id: i64) -> Result<Option<Row>, Fault>
         ensures { Reads S.Store self.old self.new result (λ old new. IsRead current old new
-            (λ p found. get p.rows (item table.now id) ≡ option_map row_of found) result) }
+            (λ p found. get p.rows (item table.now id) ≡ option_map row_told found) result) }
     {
         if self.failed {
             return Err(Fault::REOPEN);
@@ -77,7 +77,7 @@ impl<S: Alter> Session<S> {
     /// on, and the package and what may be left are as they were.
     pub fn contents(&mut self) -> Result<Vec<Entry>, Fault>
         ensures { Reads S.Store self.old self.new result (λ old new. IsRead current old new
-            (λ p tables. Lists p tables.items) result) }
+            (λ p tables. ListsTables p tables.items) result) }
     {
         if self.failed {
             return Err(Fault::REOPEN);
@@ -92,7 +92,7 @@ impl<S: Alter> Session<S> {
     /// on, and the package and what may be left are as they were.
     pub fn related(&mut self, table: &Name, id: i64) -> Result<Option<Vec<Related>>, Fault>
         ensures { Reads S.Store self.old self.new result (λ old new. IsRead current old new
-            (λ p found. Tells p table.now id found) result) }
+            (λ p found. TellsMates p table.now id found) result) }
     {
         if self.failed {
             return Err(Fault::REOPEN);

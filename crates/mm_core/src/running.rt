@@ -28,7 +28,7 @@ impl<S: Alter> Apply for Session<S> {
 
     ghost settled = { λ s p. IsSettled current (state S.Store (held s)) p };
 
-    ghost has_failed = { λ s. parts.has_failed s };
+    ghost has_failed = { λ s. parts.must_reopen s };
 
     fn apply(&mut self, command: &Command, at: Moment) -> Answer {
         self.apply(command, at)

@@ -33,13 +33,13 @@ impl<S: Alter> Session<S> {
     ghost use Rattle.mm_core.specs.Adopted.{IsAdopted, IsNotAdopted};
     ghost use Rattle.mm_core.specs.Sessions.{IsCreated, IsNotCreated};
     ghost use Rattle.mm_migrate.specs.Migrations.{IsMigration};
-    ghost use Rattle.mm_core.specs.Parts.{held, has_failed};
+    ghost use Rattle.mm_core.specs.Parts.{held, must_reopen};
 
     /// Makes a new package on a connection whose database has no table, in one commit that is the last call of the store. On a
     /// fault the connection is handed back, and each database that may be left has no table or stands for the new package.
     pub fn create(alloc: Global, conn: Connection<S>) -> Result<Session<S>, (Connection<S>, Fault)>
         requires { conn.in_transaction ≡ false }
-        ensures working { IfOk result (λ session. has_failed session ≡ false) }
+        ensures working { IfOk result (λ session. must_reopen session ≡ false) }
         ensures created { IfOk result (λ session. IsCreated (state S.Store conn) (state S.Store (held session))) }
         ensures faults { IfErr result (λ e. (e.1.0 ≡ 90) ⊎ (e.1.0 ≡ 91)) }
         ensures handed_back { IfErr result (λ e. e.0.in_transaction ≡ false) }
@@ -67,7 +67,7 @@ impl<S: Alter> Session<S> {
     /// memory was refused, and else 91.
     pub fn adopt(alloc: Global, conn: Connection<S>) -> Result<Session<S>, (Connection<S>, Open)>
         requires { conn.in_transaction ≡ false }
-        ensures working { IfOk result (λ session. has_failed session ≡ false) }
+        ensures working { IfOk result (λ session. must_reopen session ≡ false) }
         ensures adopted { IfOk result (λ session. IsAdopted (state S.Store conn) (state S.Store (held session))) }
         ensures handed_back { IfErr result (λ e. e.0.in_transaction ≡ false) }
         ensures not_adopted { IfErr result (λ e. IsNotAdopted (state S.Store conn) (state S.Store e.0) e.1) }
@@ -104,7 +104,7 @@ impl<S: Alter> Session<S> {
     /// it was or wholly for it in micrometres.
     pub fn migrate(alloc: Global, conn: Connection<S>) -> Result<Session<S>, (Connection<S>, Open)>
         requires { conn.in_transaction ≡ false }
-        ensures working { IfOk result (λ session. has_failed session ≡ false) }
+        ensures working { IfOk result (λ session. must_reopen session ≡ false) }
         ensures migrated { IfOk result (λ session. IsMigration (state S.Store conn) (state S.Store (held session)) (Ok tt)) }
         ensures handed_back { IfErr result (λ e. e.0.in_transaction ≡ false) }
         ensures not_migrated { IfErr result (λ e. IsMigration (state S.Store conn) (state S.Store e.0) (Err e.1)) }
@@ -141,8 +141,8 @@ impl<S: Alter> Session<S> {
     ghost use Rattle.mm_definitions.specs.Step.{step};
     ghost use Rattle.mm_run.specs.Answers.{is_fault};
     ghost use Rattle.mm_run.specs.Applied.{OnFault};
-    ghost use Rattle.mm_core.specs.Applied.{IsApplied};
-    ghost use Rattle.mm_core.specs.Parts.{held, has_failed};
+    ghost use Rattle.mm_core.specs.Applied.{IsAppliedTo};
+    ghost use Rattle.mm_core.specs.Parts.{held, must_reopen};
 
     /// Applies one command at a moment, in one transaction whose commit is the last call of the store; that of a
     /// rehearsal is rolled back. `Ok` where it is
@@ -150,10 +150,10 @@ impl<S: Alter> Session<S> {
     /// 92 and makes no call of the store. The fields of each command are within their limits, by their types, so that the
     /// package after it keeps the rules.
     pub fn apply(&mut self, command: &Command, at: Moment) -> Answer
-        ensures ended { has_failed self.old ≡ true → (result ≡ Answer.Fault (record { 0 = 92 })) × (self.new ≡ self.old) }
-        ensures working { has_failed self.old ≡ false → OnFault result (λ fault. (fault ≡ 90) ⊎ (fault ≡ 91)) }
-        ensures fails { has_failed self.old ≡ false → has_failed self.new ≡ is_fault result }
-        ensures applied { has_failed self.old ≡ false → IsApplied command.now at (state S.Store (held self.old))
+        ensures ended { must_reopen self.old ≡ true → (result ≡ Answer.Fault (record { 0 = 92 })) × (self.new ≡ self.old) }
+        ensures working { must_reopen self.old ≡ false → OnFault result (λ fault. (fault ≡ 90) ⊎ (fault ≡ 91)) }
+        ensures fails { must_reopen self.old ≡ false → must_reopen self.new ≡ is_fault result }
+        ensures applied { must_reopen self.old ≡ false → IsAppliedTo command.now at (state S.Store (held self.old))
             (state S.Store (held self.new)) result }
         ensures keeps { (p : Package) → Meets current p → Meets current (step p command.now at) }
     {
@@ -180,9 +180,9 @@ impl<S: Alter> Session<S> {
     ghost use Rattle.mm_store.specs.Stands.{IsSettled};
     ghost use Rattle.mm_run.specs.Told.{IsNear};
     ghost use Rattle.mm_run.specs.Ended.{OnEnded, RanEnded};
-    ghost use Rattle.mm_run.specs.Runs.{IsKept, IsRunFault, OnRun, OnSound, RanAll, RanSome, TellsFailureOf, TellsFlush, TellsWriter, WorksOn};
+    ghost use Rattle.mm_run.specs.Runs.{IsKept, IsRunFault, OnRun, OnSound, RanAll, RanSome, RunTellsReopening, TellsFlush, TellsWriter, WorksOn};
     ghost use Rattle.mm_core.specs.Applied.{Stands};
-    ghost use Rattle.mm_core.specs.Parts.{held, has_failed};
+    ghost use Rattle.mm_core.specs.Parts.{held, must_reopen};
 
     /// Reads records to the end and answers each with a line, which is written and flushed before the next record is
     /// read. Each command is applied at the moment that is handed in. At each exit every database that may be left is
@@ -210,19 +210,19 @@ impl<S: Alter> Session<S> {
         ensures flushed { TellsFlush (streams.is_flushed writer.old) (streams.is_flushed writer.new) result }
         ensures stopped { IfErr result (λ e. OnRun (HasCleanDisk (state S.Store (held self.new)))
             (λ p. IsSettled current (state S.Store (held self.old)) p) (R.remaining (inside reader.old))
-            (λ p bytes. RanSome p at bytes (WorksOn (has_failed self.old) (has_failed self.new)
-            (λ q. IsSettled current (state S.Store (held self.new)) q)) (has_failed self.new ≡ true)
+            (λ p bytes. RanSome p at bytes (WorksOn (must_reopen self.old) (must_reopen self.new)
+            (λ q. IsSettled current (state S.Store (held self.new)) q)) (must_reopen self.new ≡ true)
             (λ db. (state S.Store (held self.new)).may_leave db) Stands (W.contents (inside writer.old))
             (W.contents (inside writer.new)) e)) }
         ensures near { IfErr result (λ e. IsNear e.tally) }
-        ensures session { TellsFailureOf (has_failed self.old) (has_failed self.new) (self.new ≡ self.old) result }
+        ensures session { RunTellsReopening (must_reopen self.old) (must_reopen self.new) (self.new ≡ self.old) result }
         ensures writer { IfErr result (TellsWriter (streams.has_failed writer.old) (streams.has_failed writer.new)) }
         ensures why { IfErr result (λ e. (e.fault.0 ≡ 97) ⊎ IsRunFault e.fault.0 (streams.has_failed reader.new)) }
         ensures kept { OnSound (HasCleanDisk (state S.Store (held self.new))) (λ p. IsSettled current (state S.Store (held self.old)) p)
-            (IsKept (has_failed self.old) (has_failed self.new)
+            (IsKept (must_reopen self.old) (must_reopen self.new)
             (λ q. IsSettled current (state S.Store (held self.new)) q)
             (λ db. (state S.Store (held self.new)).may_leave db) Stands) }
-        ensures ended { OnEnded (has_failed self.old) (R.remaining (inside reader.old))
+        ensures ended { OnEnded (must_reopen self.old) (R.remaining (inside reader.old))
             (λ bytes. RanEnded bytes (W.contents (inside writer.old)) (W.contents (inside writer.new)) result) }
     {
         let alloc = self.alloc;

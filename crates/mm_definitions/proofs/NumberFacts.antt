@@ -3,7 +3,7 @@ use Rattle.std.proofs.Common.{◌≡◌, ◌≤◌, ◌<◌, ◌+◌, ◌-◌, �
 use Rattle.std.specs.Prelude.{get_or}
 use Rattle.std.proofs.lemmas.List.{drop_more}
 use Rattle.std.proofs.lemmas.Int.{ints}
-use Rattle.mm_definitions.specs.Numbers.{AreDigits, Spells, signed, value_from}
+use Rattle.mm_definitions.specs.Numbers.{AreDigits, SpellsNumber, signed, value_from}
 
 pub value-le : (n : ℕ) (digits : List ℕ) → n ≤ value_from n digits
 unfolding value_from
@@ -27,10 +27,10 @@ pub zero-digits : AreDigits (48 ∷ [])
 zero-digits zero d lt = (omega arith, omega arith)
 zero-digits (suc k) d lt = absurd (omega arith)
 
-pub zero-spells : (z : ℤ) → (Spells (48 ∷ []) z → z ≡ pos 0) × (z ≡ pos 0 → Spells (48 ∷ []) z)
+pub zero-spells : (z : ℤ) → (SpellsNumber (48 ∷ []) z → z ≡ pos 0) × (z ≡ pos 0 → SpellsNumber (48 ∷ []) z)
 zero-spells z = (by, λ e. inl (refl, e))
   where
-    by : Spells (48 ∷ []) z → z ≡ pos 0
+    by : SpellsNumber (48 ∷ []) z → z ≡ pos 0
     by (inl h) = h.1
     by (inr (inl h)) = absurd (omega (arith, h.0.0))
     by (inr (inr h)) = cc h.1

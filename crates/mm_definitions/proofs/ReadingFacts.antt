@@ -9,9 +9,9 @@ use Rattle.hex.specs.Hex.{decode_of}
 use Rattle.hex.specs.declared.error.FromHexError.{FromHexError}
 use Rattle.mm_definitions.specs.Bounds.{current, IsId, IsSystemNumber, IsCoordinate, IsPixelSize, IsAmount, IsLong}
 use Rattle.mm_definitions.specs.Keys.{Text}
-use Rattle.mm_definitions.specs.Numbers.{Spells, LeadDigits, value_from}
+use Rattle.mm_definitions.specs.Numbers.{SpellsNumber, LeadDigits, value_from}
 use Rattle.mm_definitions.specs.Reading.{ReadsTo, both_of}
-use Rattle.mm_definitions.specs.Fields.{Field, OneOf, NumberFrom, BytesTo, TextOf, AnIdentifier, AContentType, AName, Value, Whole, Plain, Holds, IsAgainst, AllHold, IsAgainstSome}
+use Rattle.mm_definitions.specs.Fields.{Field, OneOf, NumberFrom, BytesTo, TextOf, AnIdentifier, AContentType, AName, Value, Whole, Plain, HoldsValue, IsAgainst, AllHold, IsAgainstSome}
 use Rattle.mm_definitions.specs.Records.{IsLeast}
 use Rattle.mm_definitions.specs.declared.answers.Refusal.{Refusal}
 use Rattle.mm_definitions.specs.declared.answers.ReadFault.{ReadFault}
@@ -27,7 +27,7 @@ no_zero text e h = let g : LeadDigits (48 ∷ []) = subst LeadDigits e h in absu
 zero_minus : (text : Text) (ds : List ℕ) → text ≡ 48 ∷ [] → text ≡ 45 ∷ ds → ⊥
 zero_minus text ds a b = let e : 48 ≡ 45 = ap (λ l. get_or l 0 0) (sym a ∙ b) in absurd (omega (arith, e))
 
-pub spells_one : (text : Text) (y z : ℤ) → Spells text y → Spells text z → y ≡ z
+pub spells_one : (text : Text) (y z : ℤ) → SpellsNumber text y → SpellsNumber text z → y ≡ z
 spells_one text y z (inl a) (inl b) = a.1 ∙ sym b.1
 spells_one text y z (inl a) (inr (inl b)) = absurd (no_zero text a.0 b.0)
 spells_one text y z (inl a) (inr (inr b)) = absurd (zero_minus text b.0 a.0 b.1)
@@ -52,7 +52,7 @@ not_both (Err f) bytes e h = absurd (cc)
 one_value : (r : Result (List ℕ) FromHexError) (a b : List ℕ) → r ≡ Ok a → r ≡ Ok b → a ≡ b
 one_value r a b e f = cc
 
-pub not_against : (f : Field) (t : Text) (v : Value) (n : ℕ) → Holds f t v → IsAgainst f t n → ⊥
+pub not_against : (f : Field) (t : Text) (v : Value) (n : ℕ) → HoldsValue f t v → IsAgainst f t n → ⊥
 not_against (OneOf words) t (Plain v) n h a = a.1 h.1
 not_against (OneOf words) t (Whole v) n h a = h
 not_against (NumberFrom low high) t (Plain v) n h a = h
@@ -95,7 +95,7 @@ none_against (f ∷ fs) (t ∷ ts) [] n h a = h
 none_against (f ∷ fs) (t ∷ ts) (v ∷ vs) n h (inl a) = not_against f t v n h.0 a
 none_against (f ∷ fs) (t ∷ ts) (v ∷ vs) n h (inr a) = none_against fs ts vs n h.1 a
 
-pub read_last : {A : Type 0} (value : A → Value) (f : Field) (t : Text) (a : Result A ReadFault) → ReadsTo (λ x. Holds f t (value x)) (IsAgainst f t) a
+pub read_last : {A : Type 0} (value : A → Value) (f : Field) (t : Text) (a : Result A ReadFault) → ReadsTo (λ x. HoldsValue f t (value x)) (IsAgainst f t) a
     → ReadsTo (λ x. AllHold (f ∷ []) (t ∷ []) (value x ∷ [])) (IsLeast (IsAgainstSome (f ∷ []) (t ∷ []))) a
 read_last value f t (Ok x) h = (h, tt)
 read_last value f t (Err faults.Memory) h = tt
@@ -105,7 +105,7 @@ read_last value f t (Err (faults.Refused r)) h = (h.0, record { is_held = inl h.
     least m (inl b) = let e : r.number ≡ m = one_against f t r.number m h.1 b in omega (arith, e)
     least m (inr b) = absurd b
 
-pub first_holds : (f : Field) (fs : List Field) (t : Text) (ts : List Text) (v : Value) (n : ℕ) → Holds f t v → IsLeast (IsAgainstSome fs ts) n → IsLeast (IsAgainstSome (f ∷ fs) (t ∷ ts)) n
+pub first_holds : (f : Field) (fs : List Field) (t : Text) (ts : List Text) (v : Value) (n : ℕ) → HoldsValue f t v → IsLeast (IsAgainstSome fs ts) n → IsLeast (IsAgainstSome (f ∷ fs) (t ∷ ts)) n
 first_holds f fs t ts v n h l = record { is_held = inr l.is_held; is_least = least }
   where
     least : (m : ℕ) → IsAgainst f t m ⊎ IsAgainstSome fs ts m → n ≤ m
@@ -142,7 +142,7 @@ module _ {A B : Type 0} (value : A → Value) (values : B → List Value) (f : F
   lower one other true e a l = (a.0, first_lower f fs t ts one.number other.number a.1 l.1 (grind (arith, nat_tests, e)))
   lower one other false e a l = (l.0, rest_lower f fs t ts one.number other.number a.1 l.1 (grind (arith, nat_tests, e)))
 
-  pub read_both : (a : Result A ReadFault) (b : Result B ReadFault) → ReadsTo (λ x. Holds f t (value x)) (IsAgainst f t) a → ReadsTo (λ y. AllHold fs ts (values y)) (IsLeast (IsAgainstSome fs ts)) b → Reads (both_of a b)
+  pub read_both : (a : Result A ReadFault) (b : Result B ReadFault) → ReadsTo (λ x. HoldsValue f t (value x)) (IsAgainst f t) a → ReadsTo (λ y. AllHold fs ts (values y)) (IsLeast (IsAgainstSome fs ts)) b → Reads (both_of a b)
   read_both (Ok x) (Ok y) h k = (h, k)
   read_both (Ok x) (Err faults.Memory) h k = tt
   read_both (Ok x) (Err (faults.Refused r)) h k = (k.0, first_holds f fs t ts (value x) r.number h k.1)
@@ -154,7 +154,7 @@ module _ {A B : Type 0} (value : A → Value) (values : B → List Value) (f : F
 -- a field, and a list of fields, as they were read
 pub record IsField {A : Type 0} (f : Field) (t : Text) (a : Result A ReadFault) : Type 0 where
   pub value : A → Value
-  pub reads : ReadsTo (λ x. Holds f t (value x)) (IsAgainst f t) a
+  pub reads : ReadsTo (λ x. HoldsValue f t (value x)) (IsAgainst f t) a
 
 pub record AreFields {A : Type 0} (fs : List Field) (ts : List Text) (a : Result A ReadFault) : Type 0 where
   pub values : A → List Value

@@ -27,21 +27,21 @@ IsOneOf [] t = ⊥
 IsOneOf (word ∷ words) t = (t ≡ word) ⊎ IsOneOf words t
 
 -- the field's text is this value, within the limits
-abbrev pub Holds : Field → Text → Value → Type 0
-Holds (OneOf words) t (Plain v) = (v ≡ t) × IsOneOf words t
-Holds (NumberFrom low high) t (Whole z) = numbers.Spells t z × IsFrom low high z
-Holds (BytesTo most) t (Plain v) = reads_bytes most t v
-Holds (TextOf least most) t (Plain v) = reads_text (IsText least most) t v
-Holds AnIdentifier t (Plain v) = reads_text IsIdentifier t v
-Holds AContentType t (Plain v) = reads_text IsContentType t v
-Holds AName t (Plain v) = reads_text IsName t v
-Holds _ t v = ⊥
+abbrev pub HoldsValue : Field → Text → Value → Type 0
+HoldsValue (OneOf words) t (Plain v) = (v ≡ t) × IsOneOf words t
+HoldsValue (NumberFrom low high) t (Whole z) = numbers.SpellsNumber t z × IsFrom low high z
+HoldsValue (BytesTo most) t (Plain v) = reads_bytes most t v
+HoldsValue (TextOf least most) t (Plain v) = reads_text (IsText least most) t v
+HoldsValue AnIdentifier t (Plain v) = reads_text IsIdentifier t v
+HoldsValue AContentType t (Plain v) = reads_text IsContentType t v
+HoldsValue AName t (Plain v) = reads_text IsName t v
+HoldsValue _ t v = ⊥
 
 -- the number holds against the field's text: 10 where it is no number, bytes or word of the choice; 11 where its
 -- value or length is outside the limits; 12 where it is no name
 abbrev pub IsAgainst : Field → Text → ℕ → Type 0
 IsAgainst (OneOf words) t n = (n ≡ 10) × ¬ (IsOneOf words t)
-IsAgainst (NumberFrom low high) t n = ((n ≡ 10) × ((z : ℤ) → ¬ (numbers.Spells t z))) ⊎ ((n ≡ 11) × (z : ℤ) × numbers.Spells t z × ((z <ℤ low) ⊎ (high <ℤ z)))
+IsAgainst (NumberFrom low high) t n = ((n ≡ 10) × ((z : ℤ) → ¬ (numbers.SpellsNumber t z))) ⊎ ((n ≡ 11) × (z : ℤ) × numbers.SpellsNumber t z × ((z <ℤ low) ⊎ (high <ℤ z)))
 IsAgainst (BytesTo most) t n = refuses_bytes most t n
 IsAgainst (TextOf least most) t n = refuses_unless (IsText least most) 11 t n
 IsAgainst AnIdentifier t n = refuses_unless IsIdentifier 11 t n
@@ -52,7 +52,7 @@ IsAgainst AName t n = refuses_unless IsName 12 t n
 -- as many texts as fields, each of which holds its value
 abbrev pub AllHold : List Field → List Text → List Value → Type 0
 AllHold [] [] [] = ⊤
-AllHold (f ∷ fs) (t ∷ ts) (v ∷ vs) = Holds f t v × AllHold fs ts vs
+AllHold (f ∷ fs) (t ∷ ts) (v ∷ vs) = HoldsValue f t v × AllHold fs ts vs
 AllHold _ _ _ = ⊥
 
 -- the number holds against one of the texts, or is 10 where they are too few or too many

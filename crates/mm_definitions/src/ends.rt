@@ -1,4 +1,4 @@
-//! A reader that is asked until it has told its end.
+//! A reader that is inner_reader until it has told its end.
 
 ghost use Rattle.std.specs.Prelude.{◌≡◌, ℕ, List, [], IsTrue, Some};
 ghost use Rattle.std.specs.Io.{ReadsAtMost};
@@ -7,7 +7,7 @@ ghost use Rattle.std.specs.Io.KnownBytes.{ReadConsumes};
 use std::io;
 use std::io::Read;
 
-/// A reader that isn't asked again once it has told its end: a terminal would wait there for another one.
+/// A reader that isn't inner_reader again once it has told its end: a terminal would wait there for another one.
 #[derive(Drop)]
 pub struct UntilEnd<R: Read> {
     inner: R,
@@ -16,11 +16,11 @@ pub struct UntilEnd<R: Read> {
 }
 
 impl<R: Read> UntilEnd<R> {
-    ghost use Rattle.mm_definitions.specs.Streams.{asked};
+    ghost use Rattle.mm_definitions.specs.Streams.{inner_reader};
 
     /// Wraps a reader, which has told no end yet.
     pub fn new(inner: R) -> UntilEnd<R>
-        ensures { asked result ≡ inner }
+        ensures { inner_reader result ≡ inner }
     {
         UntilEnd {
             inner,
@@ -30,13 +30,13 @@ impl<R: Read> UntilEnd<R> {
 }
 
 impl<R: Read> Read for UntilEnd<R> {
-    ghost use Rattle.mm_definitions.specs.Streams.{asked};
+    ghost use Rattle.mm_definitions.specs.Streams.{inner_reader};
 
-    ghost remaining = { λ it. R.remaining (asked it) };
+    ghost remaining = { λ it. R.remaining (inner_reader it) };
 
     fn read(&mut self, buf: &mut [u8]) -> io::Result<usize>
         ensures bound { ReadsAtMost result buf.new }
-        ensures bytes { ReadConsumes (R.remaining (asked self.old)) (R.remaining (asked self.new)) result buf.new }
+        ensures bytes { ReadConsumes (R.remaining (inner_reader self.old)) (R.remaining (inner_reader self.new)) result buf.new }
     {
         if self.ended {
             return Ok(0);

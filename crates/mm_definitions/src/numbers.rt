@@ -2,7 +2,7 @@
 
 ghost use Rattle.std.specs.Prelude.{◌≡◌, ◌<◌, ◌≤◌, ◌^◌, ◌⊎◌, ◌↔◌, ℤ, pos, ◌≤ℤ◌, ◌<ℤ◌, IsTrue, MatchOption, IfOk, IfErr, FitsSigned};
 ghost use Rattle.std.specs.Int.{w64};
-ghost use Rattle.mm_definitions.specs.Numbers.{AreDigits, LeadDigits, Spells, signed, value_from};
+ghost use Rattle.mm_definitions.specs.Numbers.{AreDigits, LeadDigits, SpellsNumber, signed, value_from};
 
 // Whether these are digits, the first of which isn't 0.
 fn has_lead(text: &[u8]) -> bool
@@ -51,8 +51,8 @@ fn with_sign(negative: bool, n: u64) -> Option<i64>
 
 // The sign of a number, and its digits.
 fn parts(text: &[u8]) -> Option<(bool, &[u8])>
-    ensures { MatchOption result ((z : ℤ) → ¬ (Spells text.now z)) (λ p. AreDigits p.1.now
-        × ((z : ℤ) → Spells text.now z ↔ z ≡ signed p.0 (value_from 0 p.1.now))) }
+    ensures { MatchOption result ((z : ℤ) → ¬ (SpellsNumber text.now z)) (λ p. AreDigits p.1.now
+        × ((z : ℤ) → SpellsNumber text.now z ↔ z ≡ signed p.0 (value_from 0 p.1.now))) }
 {
     if text == b"0".as_slice() {
         return Some((false, text));
@@ -66,9 +66,9 @@ fn parts(text: &[u8]) -> Option<(bool, &[u8])>
 
 /// The number that a text spells: 10 where there is none, and 11 where it isn't from `least` to `most`.
 pub fn read_number(text: &str, least: i64, most: i64) -> Result<i64, u8>
-    ensures ok { IfOk result (λ z. Spells text.now z × (least ≤ℤ z) × (z ≤ℤ most)) }
-    ensures err { IfErr result (λ e. ((e ≡ 10) × ((z : ℤ) → ¬ (Spells text.now z)))
-        ⊎ ((e ≡ 11) × (z : ℤ) × Spells text.now z × ((z <ℤ least) ⊎ (most <ℤ z)))) }
+    ensures ok { IfOk result (λ z. SpellsNumber text.now z × (least ≤ℤ z) × (z ≤ℤ most)) }
+    ensures err { IfErr result (λ e. ((e ≡ 10) × ((z : ℤ) → ¬ (SpellsNumber text.now z)))
+        ⊎ ((e ≡ 11) × (z : ℤ) × SpellsNumber text.now z × ((z <ℤ least) ⊎ (most <ℤ z)))) }
 {
     let Some((negative, digits)) = parts(text.as_bytes()) else {
         return Err(10);

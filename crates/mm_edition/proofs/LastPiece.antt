@@ -38,7 +38,7 @@ use Rattle.mm_laws.proofs.Counted.{piece_count-is}
 use Rattle.mm_laws.proofs.KindFacts.{are_same}
 use Rattle.mm_store.specs.Rows.{past_rowid, StagedRow, staged_row}
 use Rattle.mm_store.specs.Seen.{IsRead}
-use Rattle.mm_edition.specs.States.{GivesNumber, IsLast}
+use Rattle.mm_edition.specs.States.{GivesPieceNumber, IsLast}
 
 not_less : (a b : ℤ) → is_lt (int_cmp a b) ≡ false → b ≤ℤ a
 not_less a b h = go (int_cmp a b) (int_ranks a b) h
@@ -78,7 +78,7 @@ module _ (rows : List Row) (ids : FinMap piece_cmp StagedRow) (m : PiecesPart) (
       let r = h.complete (piece edition number) v.0 v.1 in
       (v.0, r.0, r.1, tells r.0 (piece edition number) v.0 r.2 ∙ same_itself texts edition, r.2)
 
-  pub last_found : (last : Option ℕ) (first : Option Row) → GivesNumber last first
+  pub last_found : (last : Option ℕ) (first : Option Row) → GivesPieceNumber last first
       → FindsFirst (passes last_terms (of_edition edition)) (by_column (col 1 2) falling (of_edition edition)) (shows number_term (of_edition edition)) rows first
       → IsLast m edition last
   last_found None first gives finds =

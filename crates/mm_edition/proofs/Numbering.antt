@@ -20,7 +20,7 @@ use Rattle.mm_laws.proofs.Again.{same_row}
 use Rattle.mm_laws.proofs.Published.{row_itself}
 use Rattle.mm_laws.proofs.Counted.{piece_count-is}
 use Rattle.mm_layout.proofs.Reasons.{first_of}
-use Rattle.mm_edition.specs.Places.{IsPlace, IsBehind, IsPlaceAt, IsPlaceBehind, IsRoom, TellsBehind}
+use Rattle.mm_edition.specs.Places.{IsPlace, IsNextNumber, IsPlaceAt, IsPlaceBehind, IsRoom, TellsBehind}
 use Rattle.mm_edition.specs.declared.staging.Place.{Place}
 use Rattle.mm_edition.specs.declared.staging.Place.TheVariants.{Equal, Next, Refused}
 
@@ -150,7 +150,7 @@ module _ (p : Package) (edition : Text) (number : ℤ) (q : Piece) where
       outside_n : pos n <ℤ number
       outside_n = beyond n number (λ h. let s : Stands p.pieces (piece edition number) = (numbered number).1 (low.0, h) in let f : false ≡ true = sym (ap is_some gone) ∙ s in cc)
 
-      is_next : IsBehind p edition number → number ≡ pos (n + 1)
+      is_next : IsNextNumber p edition number → number ≡ pos (n + 1)
       is_next (inl first) = first_next n number first outside_n
       is_next (inr before) = behind_next n number ((numbered (number -ℤ pos 1)).0 before).1 outside_n
 
@@ -173,7 +173,7 @@ module _ (p : Package) (edition : Text) (number : ℤ) (q : Piece) where
               let f : false ≡ true = sym is.2 ∙ s in cc)
 
       -- the next number, of which there is room
-      pub stage_next : IsBehind p edition number → number ≤ℤ pos 4096 → why ≡ None
+      pub stage_next : IsNextNumber p edition number → number ≤ℤ pos 4096 → why ≡ None
       stage_next is room = (stage_behind Next (is, room)).0
 
 -- of a package that meets the rules
@@ -187,7 +187,7 @@ module _ (profile : Profile) (p : Package) (edition : Text) (number : ℤ) (q : 
   pub unplaced : get p.pieces (piece edition number) ≡ None → (place : Place) → IsPlaceBehind p edition number place → IsPlace p edition number q place
   unplaced gone place at = let it = meets.q15.numbered edition open_is in stage_behind p edition number q it.0 it.1 it.2 low open_is gone place at
 
-pub place_next : (p : Package) (edition : Text) (number : ℤ) (place : Place) → IsBehind p edition number → IsRoom number place → IsPlaceBehind p edition number place
+pub place_next : (p : Package) (edition : Text) (number : ℤ) (place : Place) → IsNextNumber p edition number → IsRoom number place → IsPlaceBehind p edition number place
 place_next p edition number Equal is room = absurd room
 place_next p edition number Next is room = (is, room)
 place_next p edition number (Refused w) is room = inl (room.0, is, room.1)

@@ -14,14 +14,14 @@ use Rattle.mm_definitions.specs.declared.answers.Outcome.TheVariants.{Done, Refu
 use Rattle.mm_definitions.specs.declared.commands.Command.TheVariants as commands
 use Rattle.mm_store.specs.Stands.{ground_of, IsSettled}
 use Rattle.mm_store.specs.Statements.{CommitsNothing}
-use Rattle.mm_store.specs.Shapes.{IsPut, IsTried, Tries}
+use Rattle.mm_store.specs.Shapes.{ComesTo, IsTried, Tries}
 use Rattle.mm_store.proofs.Transactions.{rolled_quiet, rolled_back}
 use Rattle.mm_edition.specs.Quiet.{IsQuiet}
 use Rattle.mm_edition.specs.Rehearsals.{TellsRefusal, IsRehearsal}
 
 module _ {S : Type 0} (g : Ghosts S) (was now : Held S) (begun : now ≡ record was { in_transaction = true }) (ended last : State) (profile : Profile) (edition : Text) (moment : ℕ)
     (result : Result Outcome Fault) (tried : IsTried profile (commands.Publish edition) moment (state g now) ended result) (two : CommitsNothing ended last) (undone : HasCleanDisk last → IsRolledBack ended last) where
-  put : (p : Package) → Meets profile p → IsSettled profile (state g was) p → IsPut profile (state g now) (ground_of (state g was)) p
+  put : (p : Package) → Meets profile p → IsSettled profile (state g was) p → ComesTo profile (state g now) (ground_of (state g was)) p
   put p meets settled = record { meets = meets; inside = rw begun (record { mode = refl; back = λ is_open. (refl, is_open); reads = settled.reads }) }
 
   tells : (p next : Package) (r : Result Outcome Fault) → Tries profile ended (ground_of (state g was)) p (refusal p (commands.Publish edition)) next r → TellsRefusal p edition r

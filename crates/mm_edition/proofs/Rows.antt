@@ -20,13 +20,13 @@ use Rattle.mm_store.specs.Rows.{past_rowid, maybe, StagedRow, staged_row}
 use Rattle.mm_store.proofs.Parts.{finds_none, finds_some}
 use Rattle.mm_store.proofs.Keys as parts
 use Rattle.mm_store.proofs.Keys.{by_piece, by_text}
-use Rattle.mm_edition.specs.Kept.{Shows, IsRowOf}
+use Rattle.mm_edition.specs.Kept.{Shows, IsPieceRow}
 
 abbrev pub piece_terms : List Term
 piece_terms = col 1 3 ∷ col 1 4 ∷ col 1 5 ∷ col 1 6 ∷ col 1 7 ∷ col 1 8 ∷ col 1 9 ∷ col 1 10 ∷ col 1 11 ∷ col 1 12 ∷ col 1 13 ∷ col 1 14 ∷ []
 
 -- the columns that are asked for, of a row that holds the piece
-pub shown_piece : (k : PieceKey) (v : StagedRow) (params r : Row) → past_rowid r ≡ staged_row k v → IsRowOf (Some v) (Some (shows piece_terms params r))
+pub shown_piece : (k : PieceKey) (v : StagedRow) (params r : Row) → past_rowid r ≡ staged_row k v → IsPieceRow (Some v) (Some (shows piece_terms params r))
 shown_piece k v params r is =
     let at : (i : ℕ) → _ = λ i. columns_are r (staged_row k v) i is in (
       record {
@@ -70,25 +70,25 @@ one_bytes shelf None a b p q = p ∙ sym q
 one_bytes shelf (Some id) a b p q = same_some (sym p ∙ q)
 
 -- the entry of the package is the piece of the row, with the bytes of the blob that the row names
-pub row_tells : (shelf : Shelf) (o : Option StagedRow) (entry : Option PieceRow) (shown : Row) (a : PieceRow) → IsRowOf o (Some shown) → Told piece_id piece_with shelf o entry → Shows shown a
+pub row_tells : (shelf : Shelf) (o : Option StagedRow) (entry : Option PieceRow) (shown : Row) (a : PieceRow) → IsPieceRow o (Some shown) → Told piece_id piece_with shelf o entry → Shows shown a
     → ((blob : Option ℤ) → column shown 11 ≡ maybe blob → StandsAt shelf blob a.bytes) → entry ≡ Some a
 row_tells shelf None entry shown a is told s stands = absurd is
 row_tells shelf (Some r) entry shown a is told s stands = told.2 ∙ ap Some (one_piece shown (piece_with r told.0) a (with_bytes shown r told.0 is.0) s (one_bytes shelf r.blob told.0 a.bytes told.1 (stands r.blob is.1)))
 
-pub no_row_tells : (shelf : Shelf) (o : Option StagedRow) (entry : Option PieceRow) → IsRowOf o None → Told piece_id piece_with shelf o entry → entry ≡ None
+pub no_row_tells : (shelf : Shelf) (o : Option StagedRow) (entry : Option PieceRow) → IsPieceRow o None → Told piece_id piece_with shelf o entry → entry ≡ None
 no_row_tells shelf None entry is told = told
 no_row_tells shelf (Some r) entry is told = absurd is
 
 -- the row that was looked up by the key shows the piece of the key
 module _ (rows : List Row) (ids : FinMap piece_cmp StagedRow) (h : Holds past_rowid staged_row rows ids) (k : PieceKey) (params : Row) where
-  by_row : (first : Option Row) → Finds (by_piece k) (shows piece_terms params) rows first → IsRowOf (get ids k) first
-  by_row None found = subst (λ o. IsRowOf o None) (sym (finds_none parts.pieces rows ids h k (shows piece_terms params) found)) tt
+  by_row : (first : Option Row) → Finds (by_piece k) (shows piece_terms params) rows first → IsPieceRow (get ids k) first
+  by_row None found = subst (λ o. IsPieceRow o None) (sym (finds_none parts.pieces rows ids h k (shows piece_terms params) found)) tt
   by_row (Some row) found =
       let at = finds_some parts.pieces rows ids h k (shows piece_terms params) row found in
-      subst (λ o. IsRowOf o (Some row)) (sym at.1) (subst (λ r. IsRowOf (Some at.0) (Some r)) (sym at.4) (shown_piece k at.0 params at.2 at.3))
+      subst (λ o. IsPieceRow o (Some row)) (sym at.1) (subst (λ r. IsPieceRow (Some at.0) (Some r)) (sym at.4) (shown_piece k at.0 params at.2 at.3))
 
-  pub found_row : (x first : Option Row) → x ≡ first → Finds (by_piece k) (shows piece_terms params) rows first → IsRowOf (get ids k) x
-  found_row x first gives found = subst (IsRowOf (get ids k)) (sym gives) (by_row first found)
+  pub found_row : (x first : Option Row) → x ≡ first → Finds (by_piece k) (shows piece_terms params) rows first → IsPieceRow (get ids k) x
+  found_row x first gives found = subst (IsPieceRow (get ids k)) (sym gives) (by_row first found)
 
 -- whether a row is of another edition
 and_true : (b : Bool) → (b && true) ≡ b

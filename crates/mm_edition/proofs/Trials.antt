@@ -19,7 +19,7 @@ use Rattle.mm_store.specs.Stands.{Ground, StandsOn}
 use Rattle.mm_store.specs.Statements.{CommitsNothing}
 use Rattle.mm_store.specs.Faults.{store}
 use Rattle.mm_store.proofs.Shapes.{quiet_then}
-use Rattle.mm_edition.specs.Turns.{IsReady, Takes, IsTurn, Tells, IsTrial}
+use Rattle.mm_edition.specs.Turns.{StandsReady, Takes, IsTurn, Tells, IsTrial}
 use Rattle.mm_edition.specs.declared.running.Turn.{Turn}
 use Rattle.mm_edition.specs.declared.running.Turn.TheVariants.{Done, End, Refused}
 use Rattle.mm_edition.proofs.InOrder.{AreFrom, pieces_in_order}
@@ -60,14 +60,14 @@ module _ (profile : Profile) (edition : Text) (moment : ℕ) where
   -- The pieces before this number were done in turn, the transaction stands for what they gave, and the rest goes on from it.
   pub record IsOn (number : ℕ) (s : State) (ground : Ground) (p : Package) : Type 0 where
     pub edited : Package
-    pub ready : IsReady profile s ground edited
+    pub ready : StandsReady profile s ground edited
     pub editions : edited.editions ≡ p.editions
     pub pieces : edited.pieces ≡ p.pieces
     pub rest : List (PieceKey × PieceRow)
     pub are : AreFrom p.pieces edition number rest
     pub goes_on : trial rest edited (stamp moment) ≡ edition_trial p edition (stamp moment)
 
-  pub begins : (s : State) (ground : Ground) (p : Package) → IsReady profile s ground p → get p.editions edition ≡ Some open_state → IsOn 1 s ground p
+  pub begins : (s : State) (ground : Ground) (p : Package) → StandsReady profile s ground p → get p.editions edition ≡ Some open_state → IsOn 1 s ground p
   begins s ground p ready open_is = record {
     edited = p;
     ready = ready;
@@ -114,7 +114,7 @@ module _ (profile : Profile) (edition : Text) (moment : ℕ) where
 
   -- ---- the loop: what is done before this number, and then one turn
   module _ (number : ℕ) (old mid : State) (quiet : CommitsNothing old mid)
-      (so_far : HasCleanDisk mid → (ground : Ground) (p : Package) → IsReady profile old ground p → get p.editions edition ≡ Some open_state → IsOn number mid ground p) where
+      (so_far : HasCleanDisk mid → (ground : Ground) (p : Package) → StandsReady profile old ground p → get p.editions edition ≡ Some open_state → IsOn number mid ground p) where
     pub trial_endless : IsTrial profile edition moment old mid (Err store)
     trial_endless = record {
       survives = quiet;
@@ -133,7 +133,7 @@ module _ (profile : Profile) (edition : Text) (moment : ℕ) where
       }
 
       module _ (it : Turn) (turn : IsTurn profile edition number moment mid new (Ok it)) where
-        stands_on : HasCleanDisk new → (ground : Ground) (p : Package) → IsReady profile old ground p → get p.editions edition ≡ Some open_state → StandsOn new ground
+        stands_on : HasCleanDisk new → (ground : Ground) (p : Package) → StandsReady profile old ground p → get p.editions edition ≡ Some open_state → StandsOn new ground
         stands_on clean ground p ready open_is = let on = so_far (omega (arith, turn.survives.clean)) ground p ready open_is in turn.on clean ground on.edited on.ready
 
         pub trial_ended : it ≡ End → IsTrial profile edition moment old new (Ok None)
@@ -156,7 +156,7 @@ module _ (profile : Profile) (edition : Text) (moment : ℕ) where
           faults = tt;
         }
 
-        pub goes_on_after : it ≡ Done → HasCleanDisk new → (ground : Ground) (p : Package) → IsReady profile old ground p → get p.editions edition ≡ Some open_state → IsOn (number + 1) new ground p
+        pub goes_on_after : it ≡ Done → HasCleanDisk new → (ground : Ground) (p : Package) → StandsReady profile old ground p → get p.editions edition ≡ Some open_state → IsOn (number + 1) new ground p
         goes_on_after is clean ground p ready open_is =
             let on = so_far (omega (arith, turn.survives.clean)) ground p ready open_is in
             subst (λ n. IsOn n new ground p) (one_after number) (one_more_done number mid new ground p on (subst (Takes profile edition number moment new ground on.edited) is (turn.takes clean ground on.edited on.ready)))

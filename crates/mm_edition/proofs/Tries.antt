@@ -17,10 +17,10 @@ use Rattle.mm_definitions.specs.declared.answers.Outcome.TheVariants as outcome
 use Rattle.mm_definitions.specs.declared.commands.Command.TheVariants as commands
 use Rattle.mm_definitions.proofs.Parts.{same_some}
 use Rattle.mm_laws.proofs.AnyStamp.{any_stamp}
-use Rattle.mm_store.specs.Stands.{Ground, IsInside}
-use Rattle.mm_store.specs.Shapes.{IsLook, IsChange, IsPut, IsTried}
+use Rattle.mm_store.specs.Stands.{Ground, StandsInside}
+use Rattle.mm_store.specs.Shapes.{IsLook, IsChange, ComesTo, IsTried}
 use Rattle.mm_store.proofs.Shapes.{quiet_then}
-use Rattle.mm_edition.specs.Turns.{IsReady, IsTrial}
+use Rattle.mm_edition.specs.Turns.{StandsReady, IsTrial}
 
 -- the refusal as a function of how the edition stands and what the trial gives
 abbrev of_publish : Option Text → Result Package PieceRefusal → Option Refusal
@@ -92,7 +92,7 @@ module _ (profile : Profile) (edition : Text) where
 
     module _ (why : Option ℕ) (none : why ≡ None) (look : IsLook profile old mid Why (Ok why)) (new : State) where
       -- the trial begins on the same package, whose edition is open
-      ready : HasCleanDisk mid → (ground : Ground) (p : Package) → IsPut profile old ground p → IsReady profile mid ground p × (get p.editions edition ≡ Some open_state)
+      ready : HasCleanDisk mid → (ground : Ground) (p : Package) → ComesTo profile old ground p → StandsReady profile mid ground p × (get p.editions edition ≡ Some open_state)
       ready clean ground p it =
           let found = look.looked clean ground p it.inside in
           (record { meets = it.meets; inside = found.1 }, stands_open p it.meets (sym none ∙ found.2))
@@ -118,8 +118,8 @@ module _ (profile : Profile) (edition : Text) where
 
       -- the edition is closed behind the trial
       module _ (piece : Option PieceRefusal) (went : piece ≡ None) (trial : IsTrial profile edition moment mid new (Ok piece)) (end : State) where
-        edited : HasCleanDisk new → (ground : Ground) (p : Package) → IsPut profile old ground p
-            → (q : Package) × (edition_trial p edition (stamp moment) ≡ Ok q) × IsInside profile new ground q × (contains_key q.editions edition ≡ true) × (get p.editions edition ≡ Some open_state)
+        edited : HasCleanDisk new → (ground : Ground) (p : Package) → ComesTo profile old ground p
+            → (q : Package) × (edition_trial p edition (stamp moment) ≡ Ok q) × StandsInside profile new ground q × (contains_key q.editions edition ≡ true) × (get p.editions edition ≡ Some open_state)
         edited clean ground p it =
             let at = ready (omega (arith, trial.survives.clean)) ground p it in
             let told = (rw went at trial.tells) clean ground p at.0 at.1 in
@@ -132,7 +132,7 @@ module _ (profile : Profile) (edition : Text) where
           tries = λ clean ground p it.
               let at = edited (omega (arith, change.survives.clean)) ground p it in
               let made = change.made clean ground at.0 at.2 at.3 in
-              (accepted p it.meets moment at.4 at.0 at.1, made.0, subst (IsInside profile end ground) (sym (step_is p it.meets moment at.4 at.0 at.1)) made.1);
+              (accepted p it.meets moment at.4 at.0 at.1, made.0, subst (StandsInside profile end ground) (sym (step_is p it.meets moment at.4 at.0 at.1)) made.1);
           faults = tt;
         }
 

@@ -25,12 +25,12 @@ use Rattle.mm_laws.proofs.Again.{same_limits}
 use Rattle.mm_laws.proofs.Published.{by_kind, piece_keeps}
 use Rattle.mm_laws.proofs.OneStamp.{stamped_moment, stamp_only}
 use Rattle.mm_laws.proofs.StampFound.{stamp_is}
-use Rattle.mm_store.specs.Stands.{Ground, IsInside}
-use Rattle.mm_store.specs.Shapes.{IsLook, IsPut}
+use Rattle.mm_store.specs.Stands.{Ground, StandsInside}
+use Rattle.mm_store.specs.Shapes.{IsLook, ComesTo}
 use Rattle.mm_layout.specs.Stamped.{step_at, IsLentAt, IsLentWhere}
 use Rattle.mm_items.specs.Staged.{HasBytes}
 use Rattle.mm_store.proofs.Shapes.{quiet_then}
-use Rattle.mm_edition.specs.Turns.{HoldsPiece, IsReady, IsTurn}
+use Rattle.mm_edition.specs.Turns.{HoldsPiece, StandsReady, IsTurn}
 use Rattle.mm_edition.specs.declared.running.Turn.TheVariants.{Done, End, Refused}
 
 -- ---- a piece as its command
@@ -110,12 +110,12 @@ module _ (profile : Profile) (edition : Text) (number moment : ℕ) where
 
   module _ (old mid new : State) (found : Option Piece) (q : Piece) (is : found ≡ Some q) (look : IsLook profile old mid Found (Ok found)) where
     -- the piece's command comes to the transaction behind the look
-    put : (at : State) (ground : Ground) (p : Package) → IsReady profile old ground p → IsInside profile mid ground p → Found p found → IsPut profile mid ground p
+    put : (at : State) (ground : Ground) (p : Package) → StandsReady profile old ground p → StandsInside profile mid ground p → Found p found → ComesTo profile mid ground p
     put at ground p it inside says =
         let there = says it.meets ∙ ap (option_map piece_row) is in
         record { meets = it.meets; inside = inside }
 
-    found_there : (ground : Ground) (p : Package) → IsReady profile old ground p → Found p found → HoldsPiece edition number q p
+    found_there : (ground : Ground) (p : Package) → StandsReady profile old ground p → Found p found → HoldsPiece edition number q p
     found_there ground p it says = says it.meets ∙ ap (option_map piece_row) is
 
     module _ (at : Text) (result : Result Outcome Fault) (lent : IsLentWhere (HoldsPiece edition number q) profile (piece_command q) at mid new result) where
@@ -138,7 +138,7 @@ module _ (profile : Profile) (edition : Text) (number moment : ℕ) where
               none,
               record {
                 meets = piece_keeps q profile p moment (stamp moment) it.meets within low (stamp_is moment low) none;
-                inside = subst (IsInside profile new ground) next end.2;
+                inside = subst (StandsInside profile new ground) next end.2;
               },
             );
         faults = tt;

@@ -12,9 +12,9 @@ use Rattle.mm_edition.specs.declared.kept.Kept.{Kept}
 use Rattle.mm_edition.specs.declared.kept.Written.{Written}
 
 -- no bytes where there are none
-abbrev pub plain : {A : Type 0} → Option (Vec ℕ A) → List ℕ
-plain None = []
-plain (Some bytes) = bytes.items
+abbrev pub bytes_or_none : {A : Type 0} → Option (Vec ℕ A) → List ℕ
+bytes_or_none None = []
+bytes_or_none (Some bytes) = bytes.items
 
 -- the row of a piece that was read, with the bytes of its blob
 abbrev pub kept_row : Kept → PieceRow
@@ -30,7 +30,7 @@ kept_row k = record {
   k7 = k.numbers.k7;
   t1 = string_bytes k.t1;
   t2 = string_bytes k.t2;
-  bytes = plain k.bytes;
+  bytes = bytes_or_none k.bytes;
 }
 
 -- the row that is to be written
@@ -79,10 +79,10 @@ pub record Shows (shown : Row) (r : PieceRow) : Type 0 where
   pub t2 : column shown 10 ≡ Words r.t2
 
 -- a row that was asked for by its key shows the piece and the blob that it names, and there is none where there is no piece
-abbrev pub IsRowOf : Option StagedRow → Option Row → Type 0
-IsRowOf None None = ⊤
-IsRowOf (Some r) (Some shown) = Shows shown (piece_with r []) × (column shown 11 ≡ maybe r.blob)
-IsRowOf _ _ = ⊥
+abbrev pub IsPieceRow : Option StagedRow → Option Row → Type 0
+IsPieceRow None None = ⊤
+IsPieceRow (Some r) (Some shown) = Shows shown (piece_with r []) × (column shown 11 ≡ maybe r.blob)
+IsPieceRow _ _ = ⊥
 
 -- what is written of a piece, with the blob of its bytes
 abbrev pub staged_of : Written → Option ℤ → StagedRow

@@ -23,8 +23,8 @@ IsPlaceAt written row Next = ⊥
 IsPlaceAt written row (Refused why) = (why ≡ 52) × (written ≢ row)
 
 -- the first number, or one behind a piece that stands
-abbrev pub IsBehind : Package → Text → ℤ → Type 0
-IsBehind p edition number = (number ≤ℤ pos 1) ⊎ (contains_key p.pieces (piece edition (number -ℤ pos 1)) ≡ true)
+abbrev pub IsNextNumber : Package → Text → ℤ → Type 0
+IsNextNumber p edition number = (number ≤ℤ pos 1) ⊎ (contains_key p.pieces (piece edition (number -ℤ pos 1)) ≡ true)
 
 -- Behind means so, and not behind that there is a number before and no piece has it.
 pub record TellsBehind (p : Package) (edition : Text) (number : ℤ) (behind : Bool) : Type 0 where
@@ -40,7 +40,7 @@ IsRoom number (Refused why) = (why ≡ 54) × (pos 4096 <ℤ number)
 -- of a number at which no piece stands
 abbrev pub IsPlaceBehind : Package → Text → ℤ → Place → Type 0
 IsPlaceBehind p edition number Equal = ⊥
-IsPlaceBehind p edition number Next = IsBehind p edition number × (number ≤ℤ pos 4096)
+IsPlaceBehind p edition number Next = IsNextNumber p edition number × (number ≤ℤ pos 4096)
 IsPlaceBehind p edition number (Refused why) =
-    ((why ≡ 54) × IsBehind p edition number × (pos 4096 <ℤ number))
+    ((why ≡ 54) × IsNextNumber p edition number × (pos 4096 <ℤ number))
     ⊎ ((why ≡ 52) × (pos 1 <ℤ number) × (contains_key p.pieces (piece edition (number -ℤ pos 1)) ≡ false))

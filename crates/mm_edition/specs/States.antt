@@ -22,6 +22,6 @@ IsLast pieces edition None = (number : ℤ) → ¬ (Stands pieces (piece edition
 IsLast pieces edition (Some last) = Stands pieces (piece edition (pos last)) × ((number : ℤ) → Stands pieces (piece edition number) → number ≤ℤ pos last)
 
 -- the row has this number in its first column
-abbrev pub GivesNumber : Option ℕ → Option Row → Type 0
-GivesNumber None first = first ≡ None
-GivesNumber (Some number) first = (row : Row) × (first ≡ Some row) × (column row 0 ≡ Int (pos number))
+abbrev pub GivesPieceNumber : Option ℕ → Option Row → Type 0
+GivesPieceNumber None first = first ≡ None
+GivesPieceNumber (Some number) first = (row : Row) × (first ≡ Some row) × (column row 0 ≡ Int (pos number))

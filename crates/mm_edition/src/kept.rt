@@ -3,7 +3,7 @@
 ghost use Rattle.std.specs.Prelude.{◌≡◌, ◌↔◌, IfOk, IsTrue, true, pos, []};
 ghost use Rattle.mm_definitions.specs.PieceGroups.{changes_tile, changes_item, changes_mapping, puts_matrix};
 ghost use Rattle.mm_definitions.specs.Pieces.{piece_of, piece_row};
-ghost use Rattle.mm_edition.specs.Kept.{kept_row, written_row, plain, HasNumbers, AreNumbers, Shows};
+ghost use Rattle.mm_edition.specs.Kept.{kept_row, written_row, bytes_or_none, HasNumbers, AreNumbers, Shows};
 
 use mm_definitions::commands::Piece;
 use sqlite::{Error, Row};
@@ -93,7 +93,7 @@ fn are_written(numbers: Numbers, written: Written<'_>) -> bool
 
 /// Whether a piece has exactly these bytes.
 fn has_bytes(kept: &Kept, bytes: &[u8]) -> bool
-    ensures { IsTrue result ↔ (bytes.now ≡ plain kept.now.bytes) }
+    ensures { IsTrue result ↔ (bytes.now ≡ bytes_or_none kept.now.bytes) }
 {
     match &kept.bytes {
         Some(kept) => kept.as_slice() == bytes,

@@ -16,7 +16,7 @@ ghost use Rattle.mm_store.specs.Rows.{maybe};
 ghost use Rattle.mm_store.specs.Shapes.{IsLook, IsChange};
 ghost use Rattle.mm_blobs.specs.Moves.{IsMove};
 ghost use Rattle.mm_blobs.specs.Views.{IsSeen, ListsEach};
-ghost use Rattle.mm_edition.specs.Kept.{kept_row, written_row, plain, spare_named, IsRowOf};
+ghost use Rattle.mm_edition.specs.Kept.{kept_row, written_row, bytes_or_none, spare_named, IsPieceRow};
 
 use crate::kept::{Kept, Written, kept_in};
 use crate::spelling::spelled;
@@ -56,7 +56,7 @@ fn row_of_piece<S: Alter>(
         IsMove (state S.Store tx.old.conn.now) (state S.Store tx.new.conn.now)
         (IsSeen spare profile (state S.Store tx.old.conn.now))
         (λ base x row y. (y ≡ x) × IsSeen spare profile (state S.Store tx.new.conn.now) base y
-        × IsRowOf (get y.kept.pieces (keys.piece edition.now number)) row
+        × IsPieceRow (get y.kept.pieces (keys.piece edition.now number)) row
         × Told piece_id piece_with y.kept.shelf (get y.kept.pieces (keys.piece edition.now number))
         (get y.content.pieces (keys.piece edition.now number))) result }
 {
@@ -87,7 +87,7 @@ fn bytes_of_row<S: Alter>(tx: &mut Transaction<'_, S>, row: &Row) -> Result<Opti
         (λ base x. IsTrue (state S.Store tx.old.conn.now).is_open
         × IsSeen spare profile (state S.Store tx.old.conn.now) base x)
         (λ base x bytes y. (y ≡ x) × IsSeen spare profile (state S.Store tx.new.conn.now) base y
-        × ((blob : Option ℤ) → column row.now 11 ≡ maybe blob → StandsAt y.kept.shelf blob (plain bytes))) result }
+        × ((blob : Option ℤ) → column row.now 11 ≡ maybe blob → StandsAt y.kept.shelf blob (bytes_or_none bytes))) result }
 {
     match blob_in(row)? {
         Some(blob) => Ok(Some(bytes_of(tx, blob)?)),

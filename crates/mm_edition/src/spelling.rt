@@ -3,7 +3,7 @@
 ghost use Rattle.std.specs.Prelude.{◌≡◌, IfSome, Some, string_bytes, unsigned_abs};
 ghost use Rattle.mm_definitions.specs.Pieces.{piece_by_kind};
 ghost use Rattle.mm_definitions.specs.declared.commands.Piece.TheVariants as pieces;
-ghost use Rattle.mm_edition.specs.Kept.{kept_row, plain};
+ghost use Rattle.mm_edition.specs.Kept.{kept_row, bytes_or_none};
 
 use crate::kept::{Kept, Numbers};
 use mm_definitions::bounded::{Amount, Id, MatrixSide, PixelSize, Place, TileSide, Zoom};
@@ -28,7 +28,7 @@ fn place_in(numbers: Numbers) -> Option<(Zoom, Place, Place)>
 /// The tile that a row of the kind `tile` spells.
 fn tile_in(table: Name, kept: Kept) -> Option<Piece>
     ensures { IfSome result (λ piece. piece ≡ pieces.Tile table (unsigned_abs kept.numbers.k1)
-        (unsigned_abs kept.numbers.k2) (unsigned_abs kept.numbers.k3) (plain kept.bytes)) }
+        (unsigned_abs kept.numbers.k2) (unsigned_abs kept.numbers.k3) (bytes_or_none kept.bytes)) }
 {
     let (zoom, column, row) = place_in(kept.numbers)?;
     let bytes = Bytes::new(kept.bytes?)?;
@@ -75,7 +75,7 @@ fn row_in(table: Name, kept: Kept) -> Option<Piece>
 
 /// The media item that a row of the kind `media` spells.
 fn media_in(table: Name, kept: Kept) -> Option<Piece>
-    ensures { IfSome result (λ piece. piece ≡ pieces.Media table kept.numbers.k1 (string_bytes kept.t1) (plain kept.bytes)) }
+    ensures { IfSome result (λ piece. piece ≡ pieces.Media table kept.numbers.k1 (string_bytes kept.t1) (bytes_or_none kept.bytes)) }
 {
     let id = Id::new(kept.numbers.k1)?;
     let content_type = ContentType::new(kept.t1)?;

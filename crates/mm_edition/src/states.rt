@@ -8,7 +8,7 @@ ghost use Rattle.mm_definitions.specs.Rules.{Meets};
 ghost use Rattle.mm_store.specs.Seen.{IsRead};
 ghost use Rattle.mm_store.specs.Shapes.{IsLook};
 ghost use Rattle.mm_store.specs.Statements.{IsAsked};
-ghost use Rattle.mm_edition.specs.States.{GivesNumber, IsLast, TellsState};
+ghost use Rattle.mm_edition.specs.States.{GivesPieceNumber, IsLast, TellsState};
 
 use crate::editions::{Standing, standing_of};
 use mm_definitions::answers::Fault;
@@ -27,7 +27,7 @@ fn first_number<S: Alter>(
 ) -> Result<Option<u32>, Fault>
     ensures same_reference { tx.new.conn.ghost_name ≡ tx.old.conn.ghost_name }
     ensures asked { IsAsked (state S.Store tx.old.conn.now) (state S.Store tx.new.conn.now) sql.now (bound params.now)
-        (λ it first. GivesNumber it first) result }
+        (λ it first. GivesPieceNumber it first) result }
 {
     match first(tx, sql, params)? {
         Some(row) => match row.get(0) {

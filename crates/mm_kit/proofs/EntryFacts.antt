@@ -5,7 +5,7 @@ use Rattle.std.specs.Borrow.{Bor}
 use Rattle.std.proofs.lemmas.List.{take_all}
 use Rattle.mm_definitions.specs.Fields.{IsAgainst, Whole}
 use Rattle.mm_definitions.specs.Keys.{Text}
-use Rattle.mm_definitions.specs.Numbers.{Spells}
+use Rattle.mm_definitions.specs.Numbers.{SpellsNumber}
 use Rattle.mm_definitions.specs.Records.{SpellsPiece, HoldsAgainstPiece, IsLeast, id_field}
 use Rattle.mm_definitions.specs.declared.commands.Piece.{Piece}
 use Rattle.mm_definitions.proofs.ReadingFacts.{not_against, one_against, one_more, spells_one, texts_of, text_at}
@@ -17,7 +17,7 @@ use Rattle.mm_definitions.specs.Reading.{ReadsTo, refused}
 use Rattle.mm_definitions.specs.declared.answers.ReadFault.{ReadFault}
 use Rattle.mm_definitions.specs.declared.answers.ReadFault.TheVariants as faults
 use Rattle.mm_kit.specs.declared.entries.Entry.{Entry}
-use Rattle.mm_kit.specs.Entries.{HoldsAgainstEntry, IsEntry, IsPlaced, entry_of, file_of, least_fault, shown}
+use Rattle.mm_kit.specs.Entries.{HoldsAgainstEntry, IsEntry, IsLeftToAsk, entry_of, file_of, least_fault, shown}
 
 -- the fields behind the first, as a slice pattern gives them
 abbrev pub rest_of : List (Bor Text) → List (Bor Text)
@@ -65,7 +65,7 @@ module _ (place : ℕ) (word : Text) (r : Record) where
     is_least = below_all b (omega (arith, low_piece (shown r) b l.is_held)) (λ m k. same_or_less a b m le (one_against id_field word m a k h)) l.is_least;
   }
 
-  module _ (z : ℤ) (spells : Spells word z) (low : pos 1 ≤ℤ z) (high : z ≤ℤ pos 9007199254740992) where
+  module _ (z : ℤ) (spells : SpellsNumber word z) (low : pos 1 ≤ℤ z) (high : z ≤ℤ pos 9007199254740992) where
     number_free : (m : ℕ) → IsAgainst id_field word m → ⊥
     number_free m h = not_against id_field word (Whole z) m (spells, (low, high)) h
 
@@ -73,7 +73,7 @@ module _ (place : ℕ) (word : Text) (r : Record) where
     piece_alone b l = record { is_held = inr (inl l.is_held); is_least = below_all b (omega (arith, low_piece (shown r) b l.is_held)) (λ m k. absurd (number_free m k)) l.is_least }
 
     module _ (q : Piece) (is : SpellsPiece current (shown r) q) where
-      pub placed_least : (n : ℕ) → IsPlaced place z (file_of r) (Err n) → IsLeast Held n
+      pub placed_least : (n : ℕ) → IsLeftToAsk place z (file_of r) (Err n) → IsLeast Held n
       placed_least n (inl h) = record {
         is_held = inr (inr (inl h));
         is_least = below_all n (omega (arith, h.0)) (λ m k. absurd (number_free m k)) (λ m k. absurd (none_against_piece current (shown r) q m is k));
@@ -98,11 +98,11 @@ module _ (place : ℕ) (word : Text) (r : Record) where
           least m (inl k) = absurd (number_free m k)
           least m (inr (inl k)) = absurd (none_against_piece current (shown r) q m is k)
           least m (inr (inr (inl k))) = absurd (omega (arith, k.1, h.1))
-          least m (inr (inr (inr (inl k)))) = absurd (k.1 (subst (Spells word) h.2 spells))
+          least m (inr (inr (inr (inl k)))) = absurd (k.1 (subst (SpellsNumber word) h.2 spells))
           least m (inr (inr (inr (inr k)))) = omega (arith, h.0, k.0)
 
-      pub placed_entry : (file : Option Text) → IsPlaced place z (file_of r) (Ok file) → IsEntry place (word ∷ r) (entry_of q file)
-      placed_entry file h = (subst (Spells word) h.1 spells, h.0, h.3, q, is, ap (entry_of q) h.2)
+      pub placed_entry : (file : Option Text) → IsLeftToAsk place z (file_of r) (Ok file) → IsEntry place (word ∷ r) (entry_of q file)
+      placed_entry file h = (subst (SpellsNumber word) h.1 spells, h.0, h.3, q, is, ap (entry_of q) h.2)
 
   pub number_alone : (a : ℕ) (q : Piece) → IsAgainst id_field word a → SpellsPiece current (shown r) q → IsLeast Held a
   number_alone a q h is = record {
@@ -125,7 +125,7 @@ module _ (place : ℕ) (word : Text) (r : Record) where
       by false e = (refl, number_first n why.number h reads.1 (ltb-false why.number n e))
 
   -- whose number is read
-  module _ (z : ℤ) (spells : Spells word z) (low : pos 1 ≤ℤ z) (high : z ≤ℤ pos 9007199254740992) where
+  module _ (z : ℤ) (spells : SpellsNumber word z) (low : pos 1 ≤ℤ z) (high : z ≤ℤ pos 9007199254740992) where
     pub piece_refused : (fault : ReadFault) → ReadsTo (SpellsPiece current (shown r)) (IsLeast (HoldsAgainstPiece current (shown r))) (Err fault) → ReadsTo {A = Entry} (IsEntry place (word ∷ r)) (IsLeast Held) (Err fault)
     piece_refused faults.Memory reads = tt
     piece_refused (faults.Refused why) reads = (reads.0, piece_alone z spells low high why.number reads.1)

@@ -3,7 +3,7 @@ use Rattle.std.proofs.Common.{◌≡◌, ◌∙◌, ◌⊎◌, inl, inr, ℕ, Bo
 use Rattle.std.specs.Prelude.{◌==◌, ◌||◌}
 use Rattle.std.proofs.lemmas.Bool.{ne_eqb}
 use Rattle.mm_run.specs.Applied.{IsApplyFault}
-use Rattle.mm_kit.specs.Folders.{is_own, number_of}
+use Rattle.mm_kit.specs.Folders.{is_own, fault_number}
 use Rattle.mm_kit.specs.Imports.{IsKitFault}
 use Rattle.mm_kit.specs.declared.folders.Found.{Found}
 use Rattle.mm_kit.specs.declared.folders.FolderFault.{FolderFault}
@@ -15,11 +15,11 @@ as_before true = refl
 as_before false = refl
 
 -- a fault of the folder is told by its number
-pub told : (before failed : Bool) (fault : FolderFault) (n : ℕ) → n ≡ number_of fault → failed ≡ (before || is_own fault) → failed ≡ (before || (n == 96))
+pub told : (before failed : Bool) (fault : FolderFault) (n : ℕ) → n ≡ fault_number fault → failed ≡ (before || is_own fault) → failed ≡ (before || (n == 96))
 told before failed Memory n is fails = rw is fails
 told before failed Failed n is fails = rw is fails
 
-pub kit_fault : (fault : FolderFault) (n : ℕ) → n ≡ number_of fault → IsKitFault n
+pub kit_fault : (fault : FolderFault) (n : ℕ) → n ≡ fault_number fault → IsKitFault n
 kit_fault Memory n is = inl is
 kit_fault Failed n is = inr (inr (inr is))
 

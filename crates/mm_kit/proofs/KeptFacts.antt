@@ -13,19 +13,19 @@ use Rattle.mm_definitions.specs.declared.commands.Command.TheVariants as command
 use Rattle.mm_definitions.specs.declared.commands.Piece.{Piece}
 use Rattle.mm_store.proofs.Refusals.{refused}
 use Rattle.mm_kit.specs.Editions.{HasPieces}
-use Rattle.mm_kit.specs.Imports.{IsFirstOf, IsPassedBy, Keeps, SameBut}
+use Rattle.mm_kit.specs.Imports.{IsFirstOf, IsPassedBy, KeepsOthers, SameBut}
 use Rattle.mm_kit.proofs.LawFacts.{numbered-in}
 use Rattle.mm_kit.proofs.StageFacts.{end_step, equal_step, grown, has_grown, has_one, other_refused, same_grown, same_or_other}
 
 -- a package keeps its own pieces
-pub keeps_itself : (name : Text) (p : Package) → Keeps name p p
+pub keeps_itself : (name : Text) (p : Package) → KeepsOthers name p p
 keeps_itself name p = (record { parts = refl; others = λ k d. refl }, λ old has. (old, has, ([], sym (append-nil old))))
 
 -- at first nothing was passed
 pub passed_by-none : (name : Text) (p : Package) (old : List Piece) → HasPieces p name old → IsPassedBy 0 name p old p
 passed_by-none name p old before = (old, before, omega arith, ([], sym (append-nil old)), record { parts = refl; others = λ k d. refl })
 
-pub kept : (k : ℕ) (name : Text) (p : Package) (old : List Piece) (q : Package) → HasPieces p name old → IsPassedBy k name p old q → Keeps name p q
+pub kept : (k : ℕ) (name : Text) (p : Package) (old : List Piece) (q : Package) → HasPieces p name old → IsPassedBy k name p old q → KeepsOthers name p q
 kept k name p old q before (new, has, long, front, same) =
     (same, λ other stands. (new, has, subst (λ l. IsFirstOf l new) (has_one p name old other before stands) front))
 
@@ -66,7 +66,7 @@ module _ (name : Text) (p q : Package) (old : List Piece) (meets : Meets current
 
   -- one that is in doubt
   pub kept_in_doubt : {D : Type 0} (stands_for : D → Package → Type 0) (db : D) → HasPieces p name old → k < 4096 → IsPassedBy k name p old q → (moment : ℕ) → Meets current (step q c moment)
-      → stands_for db q ⊎ ((refusal q c ≡ None) × stands_for db (step q c moment)) → (r : Package) × stands_for db r × Meets current r × Keeps name p r
+      → stands_for db q ⊎ ((refusal q c ≡ None) × stands_for db (step q c moment)) → (r : Package) × stands_for db r × Meets current r × KeepsOthers name p r
   kept_in_doubt stands_for db before less passed moment next (inl stands) = (q, stands, meets, kept k name p old q before passed)
   kept_in_doubt stands_for db before less passed moment next (inr (free, stands)) =
       (step q c moment, stands, next, kept (k + 1) name p old (step q c moment) before (passed_by-more less passed free moment))

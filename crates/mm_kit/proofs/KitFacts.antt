@@ -15,7 +15,7 @@ use Rattle.mm_edition.specs.States.{TellsState}
 use Rattle.mm_run.specs.Applied.{IsSound}
 use Rattle.mm_kit.specs.Editions.{Edition, Open, Published, IsEdition, HasPieces}
 use Rattle.mm_kit.specs.Folders.{Files}
-use Rattle.mm_kit.specs.Imports.{IsAnswered, AreImported, AreStaged, GrowsAlong, IsCounted, OnlyGrows, MayBeStaged, IsStopped}
+use Rattle.mm_kit.specs.Imports.{IsImportAnswered, AreImported, AreStaged, GrowsAlong, IsCounted, OnlyGrows, MayBeStaged, IsImportStopped}
 use Rattle.mm_kit.specs.Kits.{edition_answer, kit_of}
 use Rattle.mm_kit.specs.Lists.{IsKitList}
 use Rattle.mm_kit.specs.declared.entries.Entry.{Entry}
@@ -45,7 +45,7 @@ some_edition p name meets = by (get p.editions name) refl
     ]
 
 module _ (files : Files) (name : Text) (p : Package) where
-  pub imported : (entries : List Entry) (a : Staged) (settled : Package → Type 0) → IsKitList files (Ok entries) → AreImported files name entries p settled a → IsAnswered files name p settled a
+  pub imported : (entries : List Entry) (a : Staged) (settled : Package → Type 0) → IsKitList files (Ok entries) → AreImported files name entries p settled a → IsImportAnswered files name p settled a
   imported entries a settled read it = record {
     list = Ok entries;
     read = read;
@@ -59,7 +59,7 @@ module _ (files : Files) (name : Text) (p : Package) where
   }
 
   -- a list that is refused
-  pub no_kit : (place number : ℕ) (settled : Package → Type 0) → IsKitList files (Err (place, number)) → IsSound settled p → IsAnswered files name p settled (Refused place number)
+  pub no_kit : (place number : ℕ) (settled : Package → Type 0) → IsKitList files (Err (place, number)) → IsSound settled p → IsImportAnswered files name p settled (Refused place number)
   no_kit place number settled read sound =
       let it = some_edition p name sound.1 in
       record {
@@ -79,12 +79,12 @@ module _ (files : Files) (name : Text) (p : Package) where
   along list read q (inr grown) = inr (list, read, grown)
 
   pub stopped_some : {D : Type 0} (entries : List Entry) (may_leave : D → Type 0) (stands_for : D → Package → Type 0) (s : ℕ) → IsKitList files (Ok entries) → MayBeStaged files name entries p may_leave stands_for s
-      → IsStopped files name p may_leave stands_for s
+      → IsImportStopped files name p may_leave stands_for s
   stopped_some entries may_leave stands_for s read left db may =
       let (q, stands, meets, grows, counted) = left db may in
       (q, stands, meets, along (Ok entries) read q grows, counted)
 
-  pub stopped_at_once : {D : Type 0} (may_leave : D → Type 0) (stands_for : D → Package → Type 0) → Meets current p → ((db : D) → may_leave db → stands_for db p) → IsStopped files name p may_leave stands_for 0
+  pub stopped_at_once : {D : Type 0} (may_leave : D → Type 0) (stands_for : D → Package → Type 0) → Meets current p → ((db : D) → may_leave db → stands_for db p) → IsImportStopped files name p may_leave stands_for 0
   stopped_at_once may_leave stands_for meets left db may = (p, left db may, meets, inl refl, as_it_was name p)
 
   pub staged_at_once : {D : Type 0} (entries : List Entry) (may_leave : D → Type 0) (stands_for : D → Package → Type 0) → Meets current p → ((db : D) → may_leave db → stands_for db p) → MayBeStaged files name entries p may_leave stands_for 0

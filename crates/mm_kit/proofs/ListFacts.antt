@@ -12,7 +12,7 @@ use Rattle.mm_definitions.specs.declared.commands.Piece.TheVariants as pieces
 use Rattle.mm_definitions.specs.Keys.{Text}
 use Rattle.mm_io.specs.Records.{Record}
 use Rattle.mm_io.proofs.RecordsFacts.{records-all, records-first}
-use Rattle.mm_kit.specs.Entries.{IsEntry, IsReadAs, entry_of, file_of}
+use Rattle.mm_kit.specs.Entries.{IsEntry, IsEntryReadAs, entry_of, file_of}
 use Rattle.mm_kit.specs.Lists.{AreEntries, AreSoFar, IsFirstRefused}
 use Rattle.mm_kit.specs.declared.entries.Entry.{Entry}
 
@@ -22,26 +22,26 @@ entry_few : (place : ℕ) (r : Record) (e : Entry) → IsEntry place r e → pla
 entry_few place [] e h = absurd h
 entry_few place (number ∷ r) e h = h.1
 
-pub read_few : (place : ℕ) (r : Record) (e : Entry) → IsReadAs place r (Ok e) → place ≤ 4096
+pub read_few : (place : ℕ) (r : Record) (e : Entry) → IsEntryReadAs place r (Ok e) → place ≤ 4096
 read_few place r e h = entry_few place r e h.1
 
 -- ---- one more record
 
-entries-more : (place : ℕ) (rows : List Record) (entries : List Entry) (r : Record) (e : Entry) → AreEntries place rows entries → IsReadAs (place + length rows) r (Ok e) → AreEntries place (rows ++ r ∷ []) (entries ++ e ∷ [])
+entries-more : (place : ℕ) (rows : List Record) (entries : List Entry) (r : Record) (e : Entry) → AreEntries place rows entries → IsEntryReadAs (place + length rows) r (Ok e) → AreEntries place (rows ++ r ∷ []) (entries ++ e ∷ [])
 unfolding AreEntries
-entries-more place [] [] r e h read = let same : place + length {A = Record} [] ≡ place = omega arith in (subst (λ k. IsReadAs k r (Ok e)) same read, tt)
+entries-more place [] [] r e h read = let same : place + length {A = Record} [] ≡ place = omega arith in (subst (λ k. IsEntryReadAs k r (Ok e)) same read, tt)
 entries-more place [] (x ∷ xs) r e h read = absurd h
 entries-more place (y ∷ ys) [] r e h read = absurd h
 entries-more place (y ∷ ys) (x ∷ xs) r e h read =
     let same : place + length (y ∷ ys) ≡ place + 1 + length ys = omega arith in
-    (h.0, entries-more (place + 1) ys xs r e h.1 (subst (λ k. IsReadAs k r (Ok e)) same read))
+    (h.0, entries-more (place + 1) ys xs r e h.1 (subst (λ k. IsEntryReadAs k r (Ok e)) same read))
 
 pub so_far-none : (bytes : List ℕ) (source : Option (List ℕ)) → source ≡ Some bytes → AreSoFar bytes source states.StartRecord [] 1
 unfolding Reached AreEntries
 so_far-none bytes source e = record { rows = []; rest = bytes; here = e; reached = (refl, refl); count = refl; read = tt }
 
 pub so_far-more : {T : Type 0} (rem : T → Option (List ℕ)) (a b : Reader T) (bytes : List ℕ) (r : Record) (e : Entry) (entries : List Entry) (place : ℕ)
-    → a.config ≡ default_config → AreSoFar bytes (source_of rem a) a.state entries place → ReadRecord rem a b true r → IsReadAs place r (Ok e)
+    → a.config ≡ default_config → AreSoFar bytes (source_of rem a) a.state entries place → ReadRecord rem a b true r → IsEntryReadAs place r (Ok e)
     → AreSoFar bytes (source_of rem b) b.state (entries ++ e ∷ []) (place + 1)
 so_far-more rem a b bytes r e entries place config s read good =
     let (zs, at, reached) = rows-more rem a b r default_config states.StartRecord bytes s.rest s.rows config s.here s.reached read in
@@ -52,7 +52,7 @@ so_far-more rem a b bytes r e entries place config s read good =
       here = at;
       reached = reached;
       count = omega (arith, s.count, length-append s.rows (r ∷ []));
-      read = entries-more 1 s.rows entries r e s.read (subst (λ k. IsReadAs k r (Ok e)) here good);
+      read = entries-more 1 s.rows entries r e s.read (subst (λ k. IsEntryReadAs k r (Ok e)) here good);
     }
 
 pub all-read : {T : Type 0} (rem : T → Option (List ℕ)) (a b : Reader T) (bytes : List ℕ) (r : Record) (entries : List Entry) (place : ℕ)
@@ -62,7 +62,7 @@ all-read rem a b bytes r entries place config s read =
     subst (λ rows. AreEntries 1 rows entries) all s.read
 
 pub one-refused : {T : Type 0} (rem : T → Option (List ℕ)) (a b : Reader T) (bytes : List ℕ) (r : Record) (n : ℕ) (entries : List Entry) (place : ℕ)
-    → a.config ≡ default_config → AreSoFar bytes (source_of rem a) a.state entries place → ReadRecord rem a b true r → IsReadAs place r (Err n)
+    → a.config ≡ default_config → AreSoFar bytes (source_of rem a) a.state entries place → ReadRecord rem a b true r → IsEntryReadAs place r (Err n)
     → IsFirstRefused (records default_config bytes) place n
 one-refused rem a b bytes r n entries place config s read bad =
     let (zs, at, reached) = rows-more rem a b r default_config states.StartRecord bytes s.rest s.rows config s.here s.reached read in

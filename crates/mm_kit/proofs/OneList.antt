@@ -7,8 +7,8 @@ use Rattle.mm_definitions.specs.Records.{id_field}
 use Rattle.mm_definitions.proofs.ReadingFacts.{not_against}
 use Rattle.mm_laws.proofs.Spelled.{none_against_piece, one_least, one_piece}
 use Rattle.mm_io.specs.Records.{Record, records_of}
-use Rattle.mm_kit.specs.Entries.{HoldsAgainstEntry, IsEntry, IsReadAs, entry_of, file_of, shown}
-use Rattle.mm_kit.specs.Lists.{AreEntries, IsListOf, IsListed}
+use Rattle.mm_kit.specs.Entries.{HoldsAgainstEntry, IsEntry, IsEntryReadAs, entry_of, file_of, shown}
+use Rattle.mm_kit.specs.Lists.{AreEntries, IsListOf, IsListRead}
 use Rattle.mm_kit.specs.declared.entries.Entry.{Entry}
 
 -- ---- one record
@@ -29,7 +29,7 @@ none_against place (number ∷ r) e n low h (inr (inr (inl k))) = absurd (omega 
 none_against place (number ∷ r) e n low h (inr (inr (inr (inl k)))) = k.1 h.0
 none_against place (number ∷ r) e n low h (inr (inr (inr (inr k)))) = k.1 h.2
 
-one_reading : (place : ℕ) (r : Record) (a b : Result Entry ℕ) → 1 ≤ place → IsReadAs place r a → IsReadAs place r b → a ≡ b
+one_reading : (place : ℕ) (r : Record) (a b : Result Entry ℕ) → 1 ≤ place → IsEntryReadAs place r a → IsEntryReadAs place r b → a ≡ b
 one_reading place r (Ok a) (Ok b) low h k = ap Ok (one_entry place r a b h.1 k.1)
 one_reading place r (Ok a) (Err n) low h (inl k) = absurd (none_against place r a n low h.1 k.1.is_held)
 one_reading place r (Ok a) (Err n) low h (inr k) = absurd (k.0 h.0)
@@ -57,7 +57,7 @@ record IsRefusedFrom (place : ℕ) (rows : List Record) (at : ℕ × ℕ) : Type
   place_is : at.0 ≡ place + length before
   entries : List Entry
   read : AreEntries place before entries
-  refused : IsReadAs (place + length before) row (Err at.1)
+  refused : IsEntryReadAs (place + length before) row (Err at.1)
 
 abbrev ListedFrom : ℕ → List Record → Result (List Entry) (ℕ × ℕ) → Type 0
 ListedFrom place rows (Ok entries) = AreEntries place rows entries
@@ -66,21 +66,21 @@ ListedFrom place rows (Err at) = IsRefusedFrom place rows at
 -- what a list comes to, by its first record
 abbrev First : ℕ → Record → List Record → Result (List Entry) (ℕ × ℕ) → Type 0
 First place r rows (Ok []) = ⊥
-First place r rows (Ok (e ∷ entries)) = IsReadAs place r (Ok e) × ListedFrom (place + 1) rows (Ok entries)
-First place r rows (Err at) = (IsReadAs place r (Err at.1) × (at.0 ≡ place)) ⊎ ((e : Entry) × IsReadAs place r (Ok e) × ListedFrom (place + 1) rows (Err at))
+First place r rows (Ok (e ∷ entries)) = IsEntryReadAs place r (Ok e) × ListedFrom (place + 1) rows (Ok entries)
+First place r rows (Err at) = (IsEntryReadAs place r (Err at.1) × (at.0 ≡ place)) ⊎ ((e : Entry) × IsEntryReadAs place r (Ok e) × ListedFrom (place + 1) rows (Err at))
 
 opened_refused : (place : ℕ) (r : Record) (rows : List Record) (at : ℕ × ℕ) (before : List Record) (row : Record) (after : List Record) (entries : List Entry) → r ∷ rows ≡ before ++ row ∷ after → at.0 ≡ place + length before
-    → AreEntries place before entries → IsReadAs (place + length before) row (Err at.1) → First place r rows (Err at)
+    → AreEntries place before entries → IsEntryReadAs (place + length before) row (Err at.1) → First place r rows (Err at)
 unfolding AreEntries
 opened_refused place r rows at [] row after entries are place_is read refused =
     let here : place + length {A = Record} [] ≡ place = omega arith in
-    inl (subst (λ x. IsReadAs place x (Err at.1)) (sym (same_head are)) (subst (λ k. IsReadAs k row (Err at.1)) here refused), place_is ∙ here)
+    inl (subst (λ x. IsEntryReadAs place x (Err at.1)) (sym (same_head are)) (subst (λ k. IsEntryReadAs k row (Err at.1)) here refused), place_is ∙ here)
 opened_refused place r rows at (y ∷ ys) row after [] are place_is read refused = absurd read
 opened_refused place r rows at (y ∷ ys) row after (e ∷ es) are place_is read refused =
     let on : place + length (y ∷ ys) ≡ place + 1 + length ys = omega arith in
     inr (
       e,
-      subst (λ x. IsReadAs place x (Ok e)) (sym (same_head are)) read.0,
+      subst (λ x. IsEntryReadAs place x (Ok e)) (sym (same_head are)) read.0,
       record {
         before = ys;
         row = row;
@@ -89,7 +89,7 @@ opened_refused place r rows at (y ∷ ys) row after (e ∷ es) are place_is read
         place_is = place_is ∙ on;
         entries = es;
         read = read.1;
-        refused = subst (λ k. IsReadAs k row (Err at.1)) on refused;
+        refused = subst (λ k. IsEntryReadAs k row (Err at.1)) on refused;
       },
     )
 
@@ -99,7 +99,7 @@ opened place r rows (Ok []) h = absurd h
 opened place r rows (Ok (e ∷ es)) h = (h.0, h.1)
 opened place r rows (Err at) h = opened_refused place r rows at h.before h.row h.after h.entries h.are h.place_is h.read h.refused
 
-not_both : {A : Type 0} (place : ℕ) (r : Record) (e : Entry) (n : ℕ) → 1 ≤ place → IsReadAs place r (Ok e) → IsReadAs place r (Err n) → A
+not_both : {A : Type 0} (place : ℕ) (r : Record) (e : Entry) (n : ℕ) → 1 ≤ place → IsEntryReadAs place r (Ok e) → IsEntryReadAs place r (Err n) → A
 not_both place r e n low h k = absurd (let f : ◌≡◌ {A = Result Entry ℕ} (Ok e) (Err n) = one_reading place r (Ok e) (Err n) low h k in cc)
 
 none_refused : (place : ℕ) (at : ℕ × ℕ) → IsRefusedFrom place [] at → ⊥
@@ -139,11 +139,11 @@ one_from [] place low (Ok []) (Err bt) h k = absurd (none_refused place bt k)
 one_from [] place low (Err at) b h k = absurd (none_refused place at h)
 one_from (r ∷ rows) place low a b h k = one_of_each place r rows low (one_from rows (place + 1) (omega (arith, low))) a b (opened place r rows a h) (opened place r rows b k)
 
-from_one : (rows : List Record) (list : Result (List Entry) (ℕ × ℕ)) → IsListed rows list → ListedFrom 1 rows list
+from_one : (rows : List Record) (list : Result (List Entry) (ℕ × ℕ)) → IsListRead rows list → ListedFrom 1 rows list
 from_one rows (Ok entries) h = h
 from_one rows (Err at) h =
     let here : at.0 ≡ 1 + length h.before = omega (arith, h.place_is) in
-    record { before = h.before; row = h.row; after = h.after; are = h.are; place_is = here; entries = h.entries; read = h.read; refused = subst (λ k. IsReadAs k h.row (Err at.1)) here h.refused }
+    record { before = h.before; row = h.row; after = h.after; are = h.are; place_is = here; entries = h.entries; read = h.read; refused = subst (λ k. IsEntryReadAs k h.row (Err at.1)) here h.refused }
 
 pub one_list : (file : Option (List ℕ)) (a b : Result (List Entry) (ℕ × ℕ)) → IsListOf file a → IsListOf file b → a ≡ b
 one_list None a b h k = h ∙ sym k

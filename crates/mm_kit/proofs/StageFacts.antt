@@ -25,12 +25,12 @@ use Rattle.mm_laws.proofs.Again.{same_row}
 use Rattle.mm_laws.proofs.Counted.{piece_count-is}
 use Rattle.mm_laws.proofs.Published.{read_back, row_itself}
 use Rattle.mm_store.proofs.Refusals.{accepted_for, refused, refused_for}
-use Rattle.mm_edition.specs.Places.{IsBehind}
+use Rattle.mm_edition.specs.Places.{IsNextNumber}
 use Rattle.mm_edition.proofs.Numbering.{stage_equal, stage_other, stage_next, again}
 use Rattle.mm_kit.specs.Editions.{HasPieces, numbered}
 use Rattle.mm_kit.specs.Folders.{Files}
 use Rattle.mm_kit.specs.Kits.{against, beside, filled, first_number, kit_pieces}
-use Rattle.mm_kit.specs.Imports.{IsFirstOf, SameBut, OnlyGrows, HasFirst, HasWhole, IsCounted, IsPassed, IsSoFar}
+use Rattle.mm_kit.specs.Imports.{IsFirstOf, SameBut, OnlyGrows, HasFirst, HasWhole, IsCounted, IsPassed, IsImportedSoFar}
 use Rattle.mm_kit.specs.declared.entries.Entry.{Entry}
 
 -- ---- pieces by their numbers
@@ -151,7 +151,7 @@ module _ (p : Package) (name : Text) (list : List Piece) (meets : Meets current 
       by None e = refl
       by (Some r) e = absurd (past_last (length list) ((h.numbers (pos (length list + 1))).0 (ap is_some e)).1)
 
-  behind : IsBehind p name (pos (length list + 1))
+  behind : IsNextNumber p name (pos (length list + 1))
   behind = by (length list) refl
     where
       first : (n : ℕ) → n ≡ 0 → pos (n + 1) ≤ℤ pos 1
@@ -163,7 +163,7 @@ module _ (p : Package) (name : Text) (list : List Piece) (meets : Meets current 
       ranged : (n m : ℕ) → n ≡ suc m → (pos 1 ≤ℤ pos n) × (pos n ≤ℤ pos n)
       ranged n m e = (omega (arith, ints, e), omega (arith, ints))
 
-      by : (m : ℕ) → length list ≡ m → IsBehind p name (pos (length list + 1))
+      by : (m : ℕ) → length list ≡ m → IsNextNumber p name (pos (length list + 1))
       by zero e = inl (first (length list) e)
       by (suc m) e = inr (ap (λ z. contains_key p.pieces (piece name z)) (before_is (length list)) ∙ (h.numbers (pos (length list))).1 (ranged (length list) m e))
 
@@ -320,7 +320,7 @@ module _ (name : Text) (p q : Package) (old done : List Piece) (before : HasPiec
 
 -- ---- the loop
 
-pub so_far-none : (files : Files) (name : Text) (entries : List Entry) (p : Package) (old : List Piece) → IsSoFar files name entries entries p old 0 p
+pub so_far-none : (files : Files) (name : Text) (entries : List Entry) (p : Package) (old : List Piece) → IsImportedSoFar files name entries entries p old 0 p
 so_far-none files name entries p old = record {
   done = [];
   count = refl;
@@ -331,8 +331,8 @@ so_far-none files name entries p old = record {
 }
 
 module _ (files : Files) (name : Text) (entries : List Entry) (p : Package) (old : List Piece) (before : HasPieces p name old) where
-  pub so_far-more : (left : List Entry) (e : Entry) (x : Piece) (k : ℕ) (q : Package) → IsSoFar files name entries (e ∷ left) p old k q → filled files e ≡ Ok x → k < 4096 → Meets current q
-      → (moment : ℕ) → refusal q (commands.Stage name (pos (k + 1)) x) ≡ None → IsSoFar files name entries left p old (k + 1) (step q (commands.Stage name (pos (k + 1)) x) moment)
+  pub so_far-more : (left : List Entry) (e : Entry) (x : Piece) (k : ℕ) (q : Package) → IsImportedSoFar files name entries (e ∷ left) p old k q → filled files e ≡ Ok x → k < 4096 → Meets current q
+      → (moment : ℕ) → refusal q (commands.Stage name (pos (k + 1)) x) ≡ None → IsImportedSoFar files name entries left p old (k + 1) (step q (commands.Stage name (pos (k + 1)) x) moment)
   unfolding first_number kit_pieces
   so_far-more left e x k q s full less meets moment ok =
       let free : refusal q (commands.Stage name (pos (length s.done + 1)) x) ≡ None = rw (s.count) ok in
@@ -348,7 +348,7 @@ module _ (files : Files) (name : Text) (entries : List Entry) (p : Package) (old
       }
 
   -- ---- what stands then
-  pub grows : (left : List Entry) (k : ℕ) (q : Package) → IsSoFar files name entries left p old k q → OnlyGrows name (kit_pieces files entries) p q
+  pub grows : (left : List Entry) (k : ℕ) (q : Package) → IsImportedSoFar files name entries left p old k q → OnlyGrows name (kit_pieces files entries) p q
   grows left k q s = by s.passed
     where
       by : IsPassed name p old s.done q → OnlyGrows name (kit_pieces files entries) p q
@@ -360,14 +360,14 @@ module _ (files : Files) (name : Text) (entries : List Entry) (p : Package) (old
   size k done q count (inl (same, (rest, e))) = (old, subst (λ r. HasPieces r name old) (sym same) before, sym (max-eq_left (omega (arith, count, ap length e, length-append done rest))))
   size k done q count (inr ((rest, e), has, same)) = (done, has, count ∙ sym (max-eq_right (omega (arith, count, ap length e, length-append old rest))))
 
-  pub counted : (left : List Entry) (k : ℕ) (q : Package) → IsSoFar files name entries left p old k q → IsCounted k name p q
+  pub counted : (left : List Entry) (k : ℕ) (q : Package) → IsImportedSoFar files name entries left p old k q → IsCounted k name p q
   counted left k q s old2 has2 =
       let it = size k s.done q s.count s.passed in
       let is : old2 ≡ old = has_one p name old2 old has2 before in
       (it.0, it.1, inl (it.2 ∙ ap (λ l. max (length l) k) (sym is)))
 
   -- the same, where one more may stand
-  pub doubted : (left : List Entry) (k : ℕ) (q : Package) → IsSoFar files name entries left p old (k + 1) q → IsCounted k name p q
+  pub doubted : (left : List Entry) (k : ℕ) (q : Package) → IsImportedSoFar files name entries left p old (k + 1) q → IsCounted k name p q
   doubted left k q s old2 has2 =
       let it = size (k + 1) s.done q s.count s.passed in
       let is : old2 ≡ old = has_one p name old2 old has2 before in
@@ -379,7 +379,7 @@ module _ (files : Files) (name : Text) (entries : List Entry) (p : Package) (old
       by new all (inl it) = inl (all ∙ max-eq_left it.1 ∙ sym (max-eq_left (omega (arith, it.1))))
 
   -- ---- the answers
-  pub number_refused : (left : List Entry) (e : Entry) (x : Piece) (k : ℕ) (q : Package) → IsSoFar files name entries (e ∷ left) p old k q → filled files e ≡ Ok x → k < 4096 → Meets current q
+  pub number_refused : (left : List Entry) (e : Entry) (x : Piece) (k : ℕ) (q : Package) → IsImportedSoFar files name entries (e ∷ left) p old k q → filled files e ≡ Ok x → k < 4096 → Meets current q
       → (why : Refusal) → refusal q (commands.Stage name (pos (k + 1)) x) ≡ Some why → (first_number (against files old) 1 entries ≡ Some (k + 1, why.number)) × (why.number ≡ 52)
   unfolding first_number
   number_refused left e x k q s full less meets why bad =
@@ -388,7 +388,7 @@ module _ (files : Files) (name : Text) (entries : List Entry) (p : Package) (old
       let (number, is) = rw (s.count) at turn in
       (s.answer ∙ rw (full, number) refl, is)
 
-  pub number_unfilled : (left : List Entry) (e : Entry) (k n : ℕ) (q : Package) → IsSoFar files name entries (e ∷ left) p old k q → filled files e ≡ Err n → first_number (against files old) 1 entries ≡ Some (k + 1, n)
+  pub number_unfilled : (left : List Entry) (e : Entry) (k n : ℕ) (q : Package) → IsImportedSoFar files name entries (e ∷ left) p old k q → filled files e ≡ Err n → first_number (against files old) 1 entries ≡ Some (k + 1, n)
   unfolding first_number
   number_unfilled left e k n q s lacks = s.answer ∙ rw lacks refl
 
@@ -403,7 +403,7 @@ module _ (files : Files) (name : Text) (entries : List Entry) (p : Package) (old
       subst (λ r. HasPieces r name done) (sym same) (subst (HasPieces p name) (e ∙ ap (λ l. done ++ l) no_more ∙ append-nil done) before)
   all_staged done q (inr it) h = it.1
 
-  pub has_first : (left : List Entry) (e : Entry) (k n : ℕ) (q : Package) → IsSoFar files name entries (e ∷ left) p old k q → filled files e ≡ Err n → HasFirst files name entries p q n
+  pub has_first : (left : List Entry) (e : Entry) (k n : ℕ) (q : Package) → IsImportedSoFar files name entries (e ∷ left) p old k q → filled files e ≡ Err n → HasFirst files name entries p q n
   unfolding kit_pieces
   has_first left e k n q s lacks why old2 has2 (rest, front) =
       let is : old2 ≡ old = has_one p name old2 old has2 before in
@@ -411,14 +411,14 @@ module _ (files : Files) (name : Text) (entries : List Entry) (p : Package) (old
       let long : s.done ≡ old ++ rest = sym kit ∙ front ∙ ap (λ l. l ++ rest) is in
       subst (HasPieces q name) (sym kit) (all_staged s.done q s.passed (omega (arith, ap length long, length-append old rest)))
 
-  pub has_whole : (k : ℕ) (q : Package) → IsSoFar files name entries [] p old k q → length old ≤ k → (first_number (against files old) 1 entries ≡ None) × HasWhole files name entries q k
+  pub has_whole : (k : ℕ) (q : Package) → IsImportedSoFar files name entries [] p old k q → length old ≤ k → (first_number (against files old) 1 entries ≡ None) × HasWhole files name entries q k
   unfolding first_number kit_pieces
   has_whole k q s most =
       let kit : kit_pieces files entries ≡ s.done = s.kit ∙ append-nil s.done in
       (s.answer, record { whole = s.whole; pieces = subst (HasPieces q name) (sym kit) (all_staged s.done q s.passed (omega (arith, s.count, most))); count = ap length kit ∙ s.count })
 
   -- ---- a command in doubt
-  pub left_in_doubt : {D : Type 0} (stands_for : D → Package → Type 0) (db : D) (left : List Entry) (e : Entry) (x : Piece) (k : ℕ) (q : Package) → IsSoFar files name entries (e ∷ left) p old k q → filled files e ≡ Ok x → k < 4096 → Meets current q
+  pub left_in_doubt : {D : Type 0} (stands_for : D → Package → Type 0) (db : D) (left : List Entry) (e : Entry) (x : Piece) (k : ℕ) (q : Package) → IsImportedSoFar files name entries (e ∷ left) p old k q → filled files e ≡ Ok x → k < 4096 → Meets current q
       → (moment : ℕ) → Meets current (step q (commands.Stage name (pos (k + 1)) x) moment)
       → stands_for db q ⊎ ((refusal q (commands.Stage name (pos (k + 1)) x) ≡ None) × stands_for db (step q (commands.Stage name (pos (k + 1)) x) moment))
       → (r : Package) × stands_for db r × Meets current r × OnlyGrows name (kit_pieces files entries) p r × IsCounted k name p r

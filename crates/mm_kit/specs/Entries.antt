@@ -6,7 +6,7 @@ use Rattle.std.specs.Borrow.{Bor}
 use Rattle.csv.specs.Records.{AllText}
 use Rattle.mm_definitions.specs.Fields.{IsAgainst}
 use Rattle.mm_definitions.specs.Keys.{Text}
-use Rattle.mm_definitions.specs.Numbers.{Spells}
+use Rattle.mm_definitions.specs.Numbers.{SpellsNumber}
 use Rattle.mm_definitions.specs.Reading.{refused}
 use Rattle.mm_definitions.specs.declared.answers.ReadFault.{ReadFault}
 use Rattle.mm_definitions.specs.declared.answers.ReadFault.TheVariants as faults
@@ -45,19 +45,19 @@ IsInForm (Some name) = IsFileName name
 -- the record at this place of the list is this entry
 abbrev pub IsEntry : ℕ → Record → Entry → Type 0
 IsEntry place [] e = ⊥
-IsEntry place (number ∷ r) e = Spells number (pos place) × (place ≤ 4096) × IsInForm (file_of r) × (q : Piece) × SpellsPiece current (shown r) q × (e ≡ entry_of q (file_of r))
+IsEntry place (number ∷ r) e = SpellsNumber number (pos place) × (place ≤ 4096) × IsInForm (file_of r) × (q : Piece) × SpellsPiece current (shown r) q × (e ≡ entry_of q (file_of r))
 
 -- The numbers against the record at this place: 10 to 12 as against every record of a piece, 54 where there are too many
 -- records, 56 where its number isn't its place, 57 where the file's name is out of form.
 abbrev pub HoldsAgainstEntry : ℕ → Record → ℕ → Type 0
 HoldsAgainstEntry place [] n = n ≡ 10
 HoldsAgainstEntry place (number ∷ r) n =
-    IsAgainst id_field number n ⊎ HoldsAgainstPiece current (shown r) n ⊎ ((n ≡ 54) × (4096 < place)) ⊎ ((n ≡ 56) × ¬ (Spells number (pos place))) ⊎ ((n ≡ 57) × ¬ (IsInForm (file_of r)))
+    IsAgainst id_field number n ⊎ HoldsAgainstPiece current (shown r) n ⊎ ((n ≡ 54) × (4096 < place)) ⊎ ((n ≡ 56) × ¬ (SpellsNumber number (pos place))) ⊎ ((n ≡ 57) × ¬ (IsInForm (file_of r)))
 
 -- The entry, or the least number that is against the record. One with a field that isn't text is refused 10.
-abbrev pub IsReadAs : ℕ → Record → Result Entry ℕ → Type 0
-IsReadAs place r (Ok e) = AllText r × IsEntry place r e
-IsReadAs place r (Err n) = (AllText r × IsLeast (HoldsAgainstEntry place r) n) ⊎ (¬ (AllText r) × (n ≡ 10))
+abbrev pub IsEntryReadAs : ℕ → Record → Result Entry ℕ → Type 0
+IsEntryReadAs place r (Ok e) = AllText r × IsEntry place r e
+IsEntryReadAs place r (Err n) = (AllText r × IsLeast (HoldsAgainstEntry place r) n) ⊎ (¬ (AllText r) × (n ≡ 10))
 
 -- ---- inside the reader
 -- a field that may be missing, as its text
@@ -71,9 +71,9 @@ file_read field (Ok file) = (file ≡ field) × IsInForm field
 file_read field (Err n) = (n ≡ 57) × ¬ (IsInForm field)
 
 -- what is left to be asked of a record whose number and piece were read
-abbrev pub IsPlaced : ℕ → ℤ → Option Text → Result (Option Text) ℕ → Type 0
-IsPlaced place number field (Ok file) = (place ≤ 4096) × (number ≡ pos place) × (file ≡ field) × IsInForm field
-IsPlaced place number field (Err n) =
+abbrev pub IsLeftToAsk : ℕ → ℤ → Option Text → Result (Option Text) ℕ → Type 0
+IsLeftToAsk place number field (Ok file) = (place ≤ 4096) × (number ≡ pos place) × (file ≡ field) × IsInForm field
+IsLeftToAsk place number field (Err n) =
     ((n ≡ 54) × (4096 < place)) ⊎ ((n ≡ 56) × (place ≤ 4096) × (number ≢ pos place)) ⊎ ((n ≡ 57) × (place ≤ 4096) × (number ≡ pos place) × ¬ (IsInForm field))
 
 -- the least number that is against a record whose number is refused; want of memory goes before all

@@ -11,10 +11,10 @@ abbrev pub Files : Type 0
 Files = Text → Option (List ℕ)
 
 -- what is found of a file, where so many bytes were asked for at most
-abbrev pub Finds : Option (List ℕ) → ℕ → Found → Type 0
-Finds file most (Bytes v) = (file ≡ Some v.items) × (length v.items ≤ most)
-Finds file most TooLong = (bytes : List ℕ) × (file ≡ Some bytes) × (most < length bytes)
-Finds file most Missing = file ≡ None
+abbrev pub FindsFile : Option (List ℕ) → ℕ → Found → Type 0
+FindsFile file most (Bytes v) = (file ≡ Some v.items) × (length v.items ≤ most)
+FindsFile file most TooLong = (bytes : List ℕ) × (file ≡ Some bytes) × (most < length bytes)
+FindsFile file most Missing = file ≡ None
 
 -- the fault is the folder's own
 abbrev pub is_own : FolderFault → Bool
@@ -27,6 +27,6 @@ is_failure (Ok a) = false
 is_failure (Err fault) = is_own fault
 
 -- the fault that an import tells of it: 90 want of memory, 96 the folder
-abbrev pub number_of : FolderFault → ℕ
-number_of Memory = 90
-number_of Failed = 96
+abbrev pub fault_number : FolderFault → ℕ
+fault_number Memory = 90
+fault_number Failed = 96

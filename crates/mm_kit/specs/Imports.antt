@@ -60,7 +60,7 @@ HasAnswered files name (Err at) p q (Complete n) = ⊥
 HasAnswered files name (Err at) p q (Refused place number) = ⊤
 
 -- The answer is that of the kit on the package, and the session is then settled for a package that has grown along the kit.
-pub record IsAnswered (files : Files) (name : Text) (p : Package) (settled : Package → Type 0) (answer : Staged) : Type 0 where
+pub record IsImportAnswered (files : Files) (name : Text) (p : Package) (settled : Package → Type 0) (answer : Staged) : Type 0 where
   pub list : Result (List Entry) (ℕ × ℕ)
   pub read : IsKitList files list
   pub edition : Option Edition
@@ -83,8 +83,8 @@ abbrev pub GrowsAlong : Files → Text → Package → Package → Type 0
 GrowsAlong files name p q = (q ≡ p) ⊎ ((list : Result (List Entry) (ℕ × ℕ)) × IsKitList files list × IsGrown name (kit_of files list) p q)
 
 -- each database that may be left stands for such a package, which meets the rules
-abbrev pub IsStopped : {D : Type 0} → Files → Text → Package → (D → Type 0) → (D → Package → Type 0) → ℕ → Type 0
-IsStopped {D} files name p may_leave stands_for s =
+abbrev pub IsImportStopped : {D : Type 0} → Files → Text → Package → (D → Type 0) → (D → Package → Type 0) → ℕ → Type 0
+IsImportStopped {D} files name p may_leave stands_for s =
     (db : D) → may_leave db → (q : Package) × stands_for db q × Meets current q × GrowsAlong files name p q × IsCounted s name p q
 
 -- ---- what is promised where
@@ -117,22 +117,22 @@ abbrev pub KeepsPieces : Text → Package → Package → Type 0
 KeepsPieces name p q = (old : List Piece) → HasPieces p name old → (new : List Piece) × HasPieces q name new × IsFirstOf old new
 
 -- nothing but the edition's pieces differs, and those that it had stand
-abbrev pub Keeps : Text → Package → Package → Type 0
-Keeps name p q = SameBut name p q × KeepsPieces name p q
+abbrev pub KeepsOthers : Text → Package → Package → Type 0
+KeepsOthers name p q = SameBut name p q × KeepsPieces name p q
 
 -- The session is settled for such a package, or each database that may be left stands for one, and it meets the rules.
-abbrev pub IsKept : {D : Type 0} → Text → Package → (Package → Type 0) → (D → Type 0) → (D → Package → Type 0) → Result Staged KitFault → Type 0
-IsKept name p settled may_leave stands_for (Ok a) = (q : Package) × IsSound settled q × Keeps name p q
-IsKept {D} name p settled may_leave stands_for (Err e) = (db : D) → may_leave db → (q : Package) × stands_for db q × Meets current q × Keeps name p q
+abbrev pub IsImportKept : {D : Type 0} → Text → Package → (Package → Type 0) → (D → Type 0) → (D → Package → Type 0) → Result Staged KitFault → Type 0
+IsImportKept name p settled may_leave stands_for (Ok a) = (q : Package) × IsSound settled q × KeepsOthers name p q
+IsImportKept {D} name p settled may_leave stands_for (Err e) = (db : D) → may_leave db → (q : Package) × stands_for db q × Meets current q × KeepsOthers name p q
 
 -- the list of the folder is a kit's, so its pieces are to be staged
 abbrev pub AsksForPackage : Option Files → Type 0
 AsksForPackage told = (files : Files) → told ≡ Some files → (entries : List Entry) × IsKitList files (Ok entries)
 
 -- What an import tells of a session that has to be opened again: it is as it was, nothing is staged, and 92 comes only there.
-abbrev pub TellsFailureOf : Bool → Bool → Type 0 → Result Staged KitFault → Type 0
-TellsFailureOf before failed same (Ok a) = (failed ≡ before) × (before ≡ true → same)
-TellsFailureOf before failed same (Err e) = (e.fault.0 ≡ 92 → before ≡ true) × (e.fault.0 ≡ 96 → failed ≡ before) × (before ≡ true → same × (e.staged ≡ 0))
+abbrev pub ImportTellsReopening : Bool → Bool → Type 0 → Result Staged KitFault → Type 0
+ImportTellsReopening before failed same (Ok a) = (failed ≡ before) × (before ≡ true → same)
+ImportTellsReopening before failed same (Err e) = (e.fault.0 ≡ 92 → before ≡ true) × (e.fault.0 ≡ 96 → failed ≡ before) × (before ≡ true → same × (e.staged ≡ 0))
 
 -- ---- inside the import
 
@@ -145,7 +145,7 @@ abbrev pub IsPassedBy : ℕ → Text → Package → List Piece → Package → 
 IsPassedBy k name p old q = (new : List Piece) × HasPieces q name new × (k ≤ length new) × IsFirstOf old new × SameBut name p q
 
 -- After k entries, where these are left: what is still to be staged, and the answer, are those of the entries left.
-pub record IsSoFar (files : Files) (name : Text) (entries left : List Entry) (p : Package) (old : List Piece) (k : ℕ) (q : Package) : Type 0 where
+pub record IsImportedSoFar (files : Files) (name : Text) (entries left : List Entry) (p : Package) (old : List Piece) (k : ℕ) (q : Package) : Type 0 where
   pub done : List Piece
   pub count : length done ≡ k
   pub kit : kit_pieces files entries ≡ done ++ kit_pieces files left

@@ -7,7 +7,7 @@ use Rattle.mm_definitions.specs.declared.answers.ReadFault.{ReadFault}
 use Rattle.mm_definitions.specs.declared.answers.ReadFault.TheVariants as faults
 use Rattle.mm_definitions.specs.Bounds.{current, IsName, IsZoom, IsTilePlace, IsId, IsContentType}
 use Rattle.mm_io.specs.Records.{Record, records_of}
-use Rattle.mm_kit.specs.Entries.{IsReadAs}
+use Rattle.mm_kit.specs.Entries.{IsEntryReadAs}
 use Rattle.mm_kit.specs.Folders.{Files}
 use Rattle.mm_kit.specs.declared.entries.Entry.{Entry}
 use Rattle.mm_kit.specs.declared.entries.Entry.TheVariants.{Ready, Tile, Media}
@@ -17,7 +17,7 @@ use Rattle.mm_kit.specs.declared.lists.Listed.TheVariants.{Entries, Refused}
 -- the records from this place on are these entries
 unfoldable pub AreEntries : ℕ → List Record → List Entry → Type 0
 AreEntries place [] [] = ⊤
-AreEntries place (r ∷ rs) (e ∷ es) = IsReadAs place r (Ok e) × AreEntries (place + 1) rs es
+AreEntries place (r ∷ rs) (e ∷ es) = IsEntryReadAs place r (Ok e) × AreEntries (place + 1) rs es
 AreEntries _ _ _ = ⊥
 
 -- the record at this place is refused with this number, and those before it are entries
@@ -29,17 +29,17 @@ pub record IsFirstRefused (rows : List Record) (place number : ℕ) : Type 0 whe
   pub place_is : place ≡ length before + 1
   pub entries : List Entry
   pub read : AreEntries 1 before entries
-  pub refused : IsReadAs place row (Err number)
+  pub refused : IsEntryReadAs place row (Err number)
 
 -- the entries of the records, or the place and the number of the first that is refused
-abbrev pub IsListed : List Record → Result (List Entry) (ℕ × ℕ) → Type 0
-IsListed rows (Ok entries) = AreEntries 1 rows entries
-IsListed rows (Err at) = IsFirstRefused rows at.0 at.1
+abbrev pub IsListRead : List Record → Result (List Entry) (ℕ × ℕ) → Type 0
+IsListRead rows (Ok entries) = AreEntries 1 rows entries
+IsListRead rows (Err at) = IsFirstRefused rows at.0 at.1
 
 -- the list of a folder: 57 where it has none, 11 where it is too long
 abbrev pub IsListOf : Option (List ℕ) → Result (List Entry) (ℕ × ℕ) → Type 0
 IsListOf None list = list ≡ Err (0, 57)
-IsListOf (Some bytes) list = ((16777216 < length bytes) × (list ≡ Err (0, 11))) ⊎ ((length bytes ≤ 16777216) × IsListed (records_of bytes) list)
+IsListOf (Some bytes) list = ((16777216 < length bytes) × (list ≡ Err (0, 11))) ⊎ ((length bytes ≤ 16777216) × IsListRead (records_of bytes) list)
 
 -- the list of a kit is that of its file `kit.csv`
 abbrev pub IsKitList : Files → Result (List Entry) (ℕ × ℕ) → Type 0
@@ -47,15 +47,15 @@ IsKitList files list = IsListOf (files (codes "kit.csv")) list
 
 -- ---- what the readers answer
 -- what was read, as the entries or as place and number of the record that is refused
-abbrev pub listing : Listed → Result (List Entry) (ℕ × ℕ)
-listing (Entries entries) = Ok entries.items
-listing (Refused place number) = Err (place, number)
+abbrev pub list_read : Listed → Result (List Entry) (ℕ × ℕ)
+list_read (Entries entries) = Ok entries.items
+list_read (Refused place number) = Err (place, number)
 
 -- want of memory says nothing of the record
-abbrev pub IsRead : ℕ → Record → Result Entry ReadFault → Type 0
-IsRead place r (Ok e) = IsReadAs place r (Ok e)
-IsRead place r (Err (faults.Refused why)) = (why.piece ≡ None) × IsReadAs place r (Err why.number)
-IsRead place r (Err faults.Memory) = ⊤
+abbrev pub IsEntryRead : ℕ → Record → Result Entry ReadFault → Type 0
+IsEntryRead place r (Ok e) = IsEntryReadAs place r (Ok e)
+IsEntryRead place r (Err (faults.Refused why)) = (why.piece ≡ None) × IsEntryReadAs place r (Err why.number)
+IsEntryRead place r (Err faults.Memory) = ⊤
 
 -- not too many entries
 abbrev pub AreFew : List Entry → Type 0

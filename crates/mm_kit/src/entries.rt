@@ -4,9 +4,9 @@ ghost use Rattle.std.specs.Prelude.{◌≡◌, ◌∷◌, IfOk, map};
 ghost use Rattle.mm_kit.specs.Entries as entries;
 ghost use Rattle.mm_definitions.specs.Reading.{ReadsTo};
 ghost use Rattle.mm_definitions.specs.Records.{IsLeast, id_field};
-ghost use Rattle.mm_definitions.specs.Fields.{Holds, IsAgainst, Whole};
+ghost use Rattle.mm_definitions.specs.Fields.{HoldsValue, IsAgainst, Whole};
 ghost use Rattle.mm_definitions.specs.declared.answers.ReadFault.TheVariants as faults;
-ghost use Rattle.mm_kit.specs.Entries.{HoldsAgainstEntry, IsEntry, IsInForm, IsPlaced, entry_of, file_of, file_read, shown, text_of};
+ghost use Rattle.mm_kit.specs.Entries.{HoldsAgainstEntry, IsEntry, IsInForm, IsLeftToAsk, entry_of, file_of, file_read, shown, text_of};
 
 use crate::file_names::FileName;
 use mm_definitions::answers::ReadFault;
@@ -108,7 +108,7 @@ fn read_file(field: Option<&str>) -> Result<Option<FileName>, u8>
 /// The file's name, where nothing is against a record of a piece at this place: 54 where there are too many records, 56
 /// where its number isn't its place, 57 where the file's name is out of form.
 fn place_record(place: u32, number: i64, field: Option<&str>) -> Result<Option<FileName>, u8>
-    ensures { IsPlaced place number (text_of field.entry) result }
+    ensures { IsLeftToAsk place number (text_of field.entry) result }
 {
     if place > MOST_PIECES {
         return Err(54);

@@ -3,8 +3,8 @@
 ghost use Rattle.std.specs.Prelude.{◌≡◌, ◌≢◌, ◌⊎◌, ◌||◌, IfOk, IfErr, Some, false, true};
 ghost use Rattle.mm_definitions.specs.Package.{Package};
 ghost use Rattle.mm_kit.specs.Folders.{Files, is_failure};
-ghost use Rattle.mm_kit.specs.Imports.{AreImported, AsksForPackage, IsAnswered, IsKept, IsKitFault, IsStopped, MayBeStaged, OnAnyFolder, OnKit, TellsFailureOf, TellsFolder};
-ghost use Rattle.mm_kit.specs.Lists.{AreFew, AreSound, IsKitList, listing};
+ghost use Rattle.mm_kit.specs.Imports.{AreImported, AsksForPackage, IsImportAnswered, IsImportKept, IsKitFault, IsImportStopped, MayBeStaged, OnAnyFolder, OnKit, ImportTellsReopening, TellsFolder};
+ghost use Rattle.mm_kit.specs.Lists.{AreFew, AreSound, IsKitList, list_read};
 
 use crate::desk::Desk;
 use crate::entries::Entry;
@@ -22,7 +22,7 @@ const MOST_BYTES: u64 = 16_777_216;
 
 /// The entries of the folder's list, or the answer where there are none.
 fn find_list<F: Folder>(alloc: Global, folder: &mut F) -> Result<Listed, FolderFault>
-    ensures lists { IfOk result (λ l. (files : Files) → F.files folder.old ≡ Some files → IsKitList files (listing l)) }
+    ensures lists { IfOk result (λ l. (files : Files) → F.files folder.old ≡ Some files → IsKitList files (list_read l)) }
     ensures sound { IfOk result AreSound }
     ensures stays { F.files folder.new ≡ F.files folder.old }
     ensures fails { F.has_failed folder.new ≡ (F.has_failed folder.old || is_failure result) }
@@ -52,9 +52,9 @@ fn import_entries<A: Desk, F: Folder>(
         (λ files p. AreImported files name.now entries.items p (A.settled desk.new) a)) }
     ensures stopped { IfErr result (λ e. OnKit (A.is_clean desk.new) (A.settled desk.old) (F.files folder.old)
         (λ files p. MayBeStaged files name.now entries.items p (A.may_leave desk.new) A.stands_for e.staged)) }
-    ensures session { TellsFailureOf (A.has_failed desk.old) (A.has_failed desk.new) (desk.new ≡ desk.old) result }
+    ensures session { ImportTellsReopening (A.has_failed desk.old) (A.has_failed desk.new) (desk.new ≡ desk.old) result }
     ensures kept { OnAnyFolder (A.is_clean desk.new) (A.settled desk.old)
-        (λ p. IsKept name.now p (A.settled desk.new) (A.may_leave desk.new) A.stands_for result) }
+        (λ p. IsImportKept name.now p (A.settled desk.new) (A.may_leave desk.new) A.stands_for result) }
     ensures folder { TellsFolder (F.has_failed folder.old) (F.has_failed folder.new) result }
     ensures why { IfErr result (λ e. IsKitFault e.fault.0) }
 {
@@ -91,13 +91,13 @@ pub(crate) fn import_folder<A: Desk, F: Folder>(
 ) -> Result<Staged, KitFault>
     ensures clean { A.is_clean desk.new → A.is_clean desk.old }
     ensures answered { IfOk result (λ a. OnKit (A.is_clean desk.new) (A.settled desk.old) (F.files folder.old)
-        (λ files p. IsAnswered files name.now p (A.settled desk.new) a)) }
+        (λ files p. IsImportAnswered files name.now p (A.settled desk.new) a)) }
     ensures stopped { IfErr result (λ e. OnKit (A.is_clean desk.new) (A.settled desk.old) (F.files folder.old)
-        (λ files p. IsStopped files name.now p (A.may_leave desk.new) A.stands_for e.staged)) }
-    ensures session { TellsFailureOf (A.has_failed desk.old) (A.has_failed desk.new) (desk.new ≡ desk.old) result }
+        (λ files p. IsImportStopped files name.now p (A.may_leave desk.new) A.stands_for e.staged)) }
+    ensures session { ImportTellsReopening (A.has_failed desk.old) (A.has_failed desk.new) (desk.new ≡ desk.old) result }
     ensures needed { IfErr result (λ e. e.fault.0 ≡ 92 → AsksForPackage (F.files folder.old)) }
     ensures kept { OnAnyFolder (A.is_clean desk.new) (A.settled desk.old)
-        (λ p. IsKept name.now p (A.settled desk.new) (A.may_leave desk.new) A.stands_for result) }
+        (λ p. IsImportKept name.now p (A.settled desk.new) (A.may_leave desk.new) A.stands_for result) }
     ensures folder { TellsFolder (F.has_failed folder.old) (F.has_failed folder.new) result }
     ensures why { IfErr result (λ e. IsKitFault e.fault.0) }
 {

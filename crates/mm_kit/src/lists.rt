@@ -6,7 +6,7 @@ ghost use Rattle.csv.specs.Records.{fields_of};
 ghost use Rattle.csv.specs.declared.parser.State.TheVariants as states;
 ghost use Rattle.mm_io.specs.Records.{IsSetUp, NextRow, records_of};
 ghost use Rattle.csv.specs.Reading.{default_config, records};
-ghost use Rattle.mm_kit.specs.Lists.{AreSound, IsListed, IsRead, listing};
+ghost use Rattle.mm_kit.specs.Lists.{AreSound, IsListRead, IsEntryRead, list_read};
 
 use crate::entries::{Entry, read_entry};
 use csv::{ByteRecord, Reader, StringRecord};
@@ -42,7 +42,7 @@ fn next_record<T: Read>(
 
 /// The entry of a record at a place. One with a field that isn't text is refused 10.
 fn read_row(alloc: Global, place: u32, row: ByteRecord) -> Result<Entry, ReadFault>
-    ensures { IsRead place (fields_of row) result }
+    ensures { IsEntryRead place (fields_of row) result }
 {
     let Ok(text) = StringRecord::from_byte_record(row) else {
         return Err(ReadFault::refused(10));
@@ -58,7 +58,7 @@ fn read_rows<T: Read>(alloc: Global, rows: &mut Reader<T>) -> Result<Listed, All
     requires { IsSetUp rows.old }
     ensures lists { IfOk result (λ l. (bytes : List ℕ) → source_of T.remaining rows.old ≡ Some bytes →
         reader_state rows.old ≡ states.StartRecord
-        → IsListed (records default_config bytes) (listing l)) }
+        → IsListRead (records default_config bytes) (list_read l)) }
     ensures sound { IfOk result AreSound }
 {
     let mut entries = Vec::new(alloc);
@@ -81,7 +81,7 @@ fn read_rows<T: Read>(alloc: Global, rows: &mut Reader<T>) -> Result<Listed, All
 
 /// The entries of a list, or its first record that is refused.
 pub(crate) fn read_list(alloc: Global, bytes: &[u8]) -> Result<Listed, AllocError>
-    ensures lists { IfOk result (λ l. IsListed (records_of bytes.now) (listing l)) }
+    ensures lists { IfOk result (λ l. IsListRead (records_of bytes.now) (list_read l)) }
     ensures sound { IfOk result AreSound }
 {
     let mut rows = open_rows(alloc, bytes);

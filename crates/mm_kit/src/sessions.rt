@@ -6,8 +6,8 @@ ghost use Rattle.sqlite.specs.State.{HasCleanDisk};
 ghost use Rattle.mm_definitions.specs.Bounds.{current};
 ghost use Rattle.mm_store.specs.Stands.{IsSettled};
 ghost use Rattle.mm_core.specs.Applied.{Stands};
-ghost use Rattle.mm_core.specs.Parts.{held, has_failed};
-ghost use Rattle.mm_kit.specs.Imports.{AsksForPackage, IsAnswered, IsKept, IsKitFault, IsStopped, OnAnyFolder, OnKit, TellsFailureOf, TellsFolder};
+ghost use Rattle.mm_core.specs.Parts.{held, must_reopen};
+ghost use Rattle.mm_kit.specs.Imports.{AsksForPackage, IsImportAnswered, IsImportKept, IsKitFault, IsImportStopped, OnAnyFolder, OnKit, ImportTellsReopening, TellsFolder};
 
 use crate::desk::Desk;
 use crate::folders::Folder;
@@ -49,15 +49,15 @@ pub fn import_kit<S: Alter, F: Folder>(
     // The answer is that of the kit on the package, and the session is settled for one whose edition has grown along the kit.
     ensures answered { IfOk result (λ a. OnKit (HasCleanDisk (state S.Store (held session.new)))
         (λ p. IsSettled current (state S.Store (held session.old)) p) (F.files folder.old)
-        (λ files p. IsAnswered files name.now p (λ q. IsSettled current (state S.Store (held session.new)) q) a)) }
+        (λ files p. IsImportAnswered files name.now p (λ q. IsSettled current (state S.Store (held session.new)) q) a)) }
 
     // With a fault each database that may be left stands for such a package, with as many pieces as were answered ok, or one more.
     ensures stopped { IfErr result (λ e. OnKit (HasCleanDisk (state S.Store (held session.new)))
         (λ p. IsSettled current (state S.Store (held session.old)) p) (F.files folder.old)
-        (λ files p. IsStopped files name.now p (λ db. (state S.Store (held session.new)).may_leave db) Stands e.staged)) }
+        (λ files p. IsImportStopped files name.now p (λ db. (state S.Store (held session.new)).may_leave db) Stands e.staged)) }
 
     // A session that has to be opened again is left as it was, and 92 comes only there.
-    ensures session { TellsFailureOf (has_failed session.old) (has_failed session.new) (session.new ≡ session.old) result }
+    ensures session { ImportTellsReopening (must_reopen session.old) (must_reopen session.new) (session.new ≡ session.old) result }
 
     // The package is asked only where the list is a kit's.
     ensures needed { IfErr result (λ e. e.fault.0 ≡ 92 → AsksForPackage (F.files folder.old)) }
@@ -65,7 +65,7 @@ pub fn import_kit<S: Alter, F: Folder>(
     // Of every folder, one that tells nothing too: the rules hold, and nothing but the edition's pieces has changed, of which none is lost.
     ensures kept { OnAnyFolder (HasCleanDisk (state S.Store (held session.new)))
         (λ p. IsSettled current (state S.Store (held session.old)) p)
-        (λ p. IsKept name.now p (λ q. IsSettled current (state S.Store (held session.new)) q)
+        (λ p. IsImportKept name.now p (λ q. IsSettled current (state S.Store (held session.new)) q)
         (λ db. (state S.Store (held session.new)).may_leave db) Stands result) }
 
     // 96 is the folder's, and the folder tells it.

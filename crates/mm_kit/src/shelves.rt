@@ -3,7 +3,7 @@
 ghost use Rattle.std.specs.Prelude.{◌≡◌, IfErr, IfOk, Some};
 ghost use Rattle.mm_kit.specs.declared.folders.FolderFault.TheVariants as folder_faults;
 ghost use Rattle.mm_kit.specs.Shelves.{IsOnShelf, file_at};
-ghost use Rattle.mm_kit.specs.Folders.{Finds};
+ghost use Rattle.mm_kit.specs.Folders.{FindsFile};
 
 use crate::folders::{Folder, FolderFault, Found};
 use std::alloc::Global;
@@ -36,7 +36,7 @@ fn find_file<'a>(files: &'a [ShelfFile], name: &str) -> Option<&'a ShelfFile>
 
 /// A copy of a file's bytes, where they are not too many.
 fn copy_file(alloc: Global, file: &ShelfFile, most: u64) -> Result<Found, FolderFault>
-    ensures finds { IfOk result (λ found. Finds (Some file.now.bytes.items) most found) }
+    ensures finds { IfOk result (λ found. FindsFile (Some file.now.bytes.items) most found) }
     ensures memory { IfErr result (λ fault. fault ≡ folder_faults.Memory) }
 {
     if file.bytes.len() as u64 > most {

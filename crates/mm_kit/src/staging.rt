@@ -11,8 +11,8 @@ ghost use Rattle.mm_definitions.specs.declared.commands.Piece.{Piece as SpecPiec
 ghost use Rattle.mm_run.specs.Answers.{is_fault};
 ghost use Rattle.mm_run.specs.Applied.{IsApplied, IsApplyFault, IsSound, OnFault};
 ghost use Rattle.mm_kit.specs.Editions.{HasPieces};
-ghost use Rattle.mm_kit.specs.Folders.{Files, number_of};
-ghost use Rattle.mm_kit.specs.Imports.{AreStaged, IsKept, IsKitFault, MayBeStaged, OnAnyFolder, OnKit, TellsFailureOf, TellsFolder};
+ghost use Rattle.mm_kit.specs.Folders.{Files, fault_number};
+ghost use Rattle.mm_kit.specs.Imports.{AreStaged, IsImportKept, IsKitFault, MayBeStaged, OnAnyFolder, OnKit, ImportTellsReopening, TellsFolder};
 ghost use Rattle.mm_kit.specs.Lists.{AreFew};
 
 use crate::desk::Desk;
@@ -40,7 +40,7 @@ fn same_name(name: &Name) -> Name
 
 /// A folder's fault as one of the import.
 pub(crate) fn folder_fault(fault: FolderFault) -> Fault
-    ensures { result.0 ≡ number_of fault }
+    ensures { result.0 ≡ fault_number fault }
 {
     match fault {
         FolderFault::Memory => Fault::MEMORY,
@@ -110,7 +110,7 @@ pub(crate) fn stage_all<A: Desk, F: Folder>(
     ensures fault { IfErr result (λ e. (e.fault.0 ≢ 92) × (e.fault.0 ≡ 96 → A.has_failed desk.new ≡ false)) }
     ensures kept { OnAnyFolder (A.is_clean desk.new) (A.settled desk.old)
         (λ p. (old : List SpecPiece) → HasPieces p edition.now old →
-        IsKept edition.now p (A.settled desk.new) (A.may_leave desk.new) A.stands_for result) }
+        IsImportKept edition.now p (A.settled desk.new) (A.may_leave desk.new) A.stands_for result) }
     ensures folder { TellsFolder (F.has_failed folder.old) (F.has_failed folder.new) result }
     ensures why { IfErr result (λ e. IsKitFault e.fault.0) }
 {

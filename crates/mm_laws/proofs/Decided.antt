@@ -11,8 +11,8 @@ use Rattle.hex.specs.Hex.{decode_of}
 use Rattle.hex.specs.declared.error.FromHexError.{FromHexError}
 use Rattle.mm_definitions.specs.Keys.{Text}
 use Rattle.mm_definitions.specs.Bounds.{IsLong, IsText, IsIdentifier, IsContentType, IsWord, IsName, begins_with_letter, is_letter_or_digit, has_zero, is_control, is_word_byte, is_slash}
-use Rattle.mm_definitions.specs.Numbers.{Spells, IsDigit, AreDigits, LeadDigits, value_from}
-use Rattle.mm_definitions.specs.Fields.{Field, OneOf, NumberFrom, BytesTo, TextOf, AnIdentifier, AContentType, AName, Value, Whole, Plain, IsOneOf, Holds, IsAgainst, AllHold, IsAgainstSome}
+use Rattle.mm_definitions.specs.Numbers.{SpellsNumber, IsDigit, AreDigits, LeadDigits, value_from}
+use Rattle.mm_definitions.specs.Fields.{Field, OneOf, NumberFrom, BytesTo, TextOf, AnIdentifier, AContentType, AName, Value, Whole, Plain, IsOneOf, HoldsValue, IsAgainst, AllHold, IsAgainstSome}
 use Rattle.mm_definitions.proofs.ReadingFacts.{first_holds, rest_holds, first_lower, rest_lower}
 use Rattle.mm_definitions.specs.Records.{Form, IsLeast}
 
@@ -156,17 +156,17 @@ behind_minus (d ∷ ds) = by (d == 45) refl (lead_or_not ds)
     by true e (inr h) = inr (λ digits is lead. let same : digits ≡ ds = cc in h (subst LeadDigits same lead))
     by false e h = inr (λ digits is lead. let same : d ≡ 45 = cc in let g = (Decides-eqb d 45).1 same in absurd (cc))
 
-number_or_not : (t : Text) → ((z : ℤ) × Spells t z) ⊎ ((z : ℤ) → ¬ (Spells t z))
+number_or_not : (t : Text) → ((z : ℤ) × SpellsNumber t z) ⊎ ((z : ℤ) → ¬ (SpellsNumber t z))
 number_or_not t = by (bytes_eq t (48 ∷ [])) refl (lead_or_not t) (behind_minus t)
   where
-    none : bytes_eq t (48 ∷ []) ≡ false → ¬ (LeadDigits t) → ((digits : List ℕ) → t ≡ 45 ∷ digits → ¬ (LeadDigits digits)) → (z : ℤ) → Spells t z → ⊥
+    none : bytes_eq t (48 ∷ []) ≡ false → ¬ (LeadDigits t) → ((digits : List ℕ) → t ≡ 45 ∷ digits → ¬ (LeadDigits digits)) → (z : ℤ) → SpellsNumber t z → ⊥
     none e h k z (inl a) = let g = (bytes_eq-Decides t (48 ∷ [])).1 a.0 in absurd (cc)
     none e h k z (inr (inl a)) = h a.0
     none e h k z (inr (inr a)) = k a.0 a.1 a.2
 
     by : (v : Bool) → bytes_eq t (48 ∷ []) ≡ v → LeadDigits t ⊎ ¬ (LeadDigits t)
         → ((digits : List ℕ) × (t ≡ 45 ∷ digits) × LeadDigits digits) ⊎ ((digits : List ℕ) → t ≡ 45 ∷ digits → ¬ (LeadDigits digits))
-        → ((z : ℤ) × Spells t z) ⊎ ((z : ℤ) → ¬ (Spells t z))
+        → ((z : ℤ) × SpellsNumber t z) ⊎ ((z : ℤ) → ¬ (SpellsNumber t z))
     by true e h k = inl (pos 0, inl ((bytes_eq-Decides t (48 ∷ [])).0 e, refl))
     by false e (inl h) k = inl (pos (value_from 0 t), inr (inl (h, refl)))
     by false e (inr h) (inl k) = inl (neg_ℤ (pos (value_from 0 k.0)), inr (inr (k.0, k.1, k.2, refl)))
@@ -174,17 +174,17 @@ number_or_not t = by (bytes_eq t (48 ∷ [])) refl (lead_or_not t) (behind_minus
 
 -- ---- a field holds a value, or a number is against it
 abbrev Decided : Field → Text → Type 0
-Decided f t = ((v : Value) × Holds f t v) ⊎ ((n : ℕ) × IsAgainst f t n)
+Decided f t = ((v : Value) × HoldsValue f t v) ⊎ ((n : ℕ) × IsAgainst f t n)
 
 number_decided : (low high : ℤ) (t : Text) → Decided (NumberFrom low high) t
 number_decided low high t = by (number_or_not t)
   where
-    within : (z : ℤ) → Spells t z → (low ≤ℤ z) ⊎ (z <ℤ low) → (z ≤ℤ high) ⊎ (high <ℤ z) → Decided (NumberFrom low high) t
+    within : (z : ℤ) → SpellsNumber t z → (low ≤ℤ z) ⊎ (z <ℤ low) → (z ≤ℤ high) ⊎ (high <ℤ z) → Decided (NumberFrom low high) t
     within z s (inl a) (inl b) = inl (Whole z, (s, (a, b)))
     within z s (inl a) (inr b) = inr (11, inr (refl, z, s, inr b))
     within z s (inr a) b = inr (11, inr (refl, z, s, inl a))
 
-    by : ((z : ℤ) × Spells t z) ⊎ ((z : ℤ) → ¬ (Spells t z)) → Decided (NumberFrom low high) t
+    by : ((z : ℤ) × SpellsNumber t z) ⊎ ((z : ℤ) → ¬ (SpellsNumber t z)) → Decided (NumberFrom low high) t
     by (inl h) = within h.0 h.1 (low_or_not low h.0) (low_or_not h.0 high)
     by (inr h) = inr (10, inl (refl, h))
 
@@ -199,7 +199,7 @@ bytes_decided most t = by (decode_of t) refl
     by (Ok bytes) e = long bytes e (long_or_not 1 most bytes)
     by (Err fault) e = inr (10, inl (refl, subst IsErr (sym e) (search rules)))
 
-text_decided : (f : Field) (P : Text → Type 0) (wanted : ℕ) (t : Text) → (P t → Holds f t (Plain t)) → (¬ (P t) → IsAgainst f t wanted) → P t ⊎ ¬ (P t) → Decided f t
+text_decided : (f : Field) (P : Text → Type 0) (wanted : ℕ) (t : Text) → (P t → HoldsValue f t (Plain t)) → (¬ (P t) → IsAgainst f t wanted) → P t ⊎ ¬ (P t) → Decided f t
 text_decided f P wanted t within without (inl h) = inl (Plain t, within h)
 text_decided f P wanted t within without (inr h) = inr (wanted, without h)
 

@@ -8,7 +8,7 @@ use Rattle.mm_definitions.specs.Bounds.{Profile}
 use Rattle.mm_definitions.specs.Package.{kind_text}
 use Rattle.mm_definitions.specs.Effects.{step_kind, plain_kind}
 use Rattle.mm_definitions.specs.Conditions.{relation_text}
-use Rattle.mm_definitions.specs.Fields.{Field, OneOf, NumberFrom, BytesTo, TextOf, AnIdentifier, AContentType, AName, Value, Whole, Plain, Holds, AllHold}
+use Rattle.mm_definitions.specs.Fields.{Field, OneOf, NumberFrom, BytesTo, TextOf, AnIdentifier, AContentType, AName, Value, Whole, Plain, HoldsValue, AllHold}
 use Rattle.mm_definitions.specs.Records.{Form, form_of, piece_forms, other_forms, record_form, stage_form, with_piece, id_field, step_words, kind_words, relation_words, IsLeast, IsMet, IsUnmet, Spells, HoldsAgainst, SpellsPiece, HoldsAgainstPiece, command_word, command_values, piece_word, piece_values}
 use Rattle.mm_definitions.specs.Records as forms
 use Rattle.mm_definitions.specs.declared.commands.Piece.{Piece}
@@ -40,7 +40,7 @@ abbrev relation_shape : Shape
 relation_shape v = Plain (relation_text (relation_of (plain_of v)))
 
 abbrev IsShape : Field → Shape → Type 0
-IsShape f s = (t : Text) (v : Value) → Holds f t v → v ≡ s v
+IsShape f s = (t : Text) (v : Value) → HoldsValue f t v → v ≡ s v
 
 name_shape : IsShape AName plain_shape
 name_shape t (Plain x) h = refl
@@ -264,7 +264,7 @@ commands_made profile = (
   ),
 )
 
-staged_made : (a b word : Text) (ts : List Text) (v w x : Value) (vs : List Value) → Holds AName a v → Holds id_field b w → Holds (OneOf (word ∷ [])) word x → IsPieceMade word vs
+staged_made : (a b word : Text) (ts : List Text) (v w x : Value) (vs : List Value) → HoldsValue AName a v → HoldsValue id_field b w → HoldsValue (OneOf (word ∷ [])) word x → IsPieceMade word vs
     → IsCommandMade (codes "stage") (v ∷ w ∷ x ∷ vs)
 staged_made a b word ts v w x vs h k l (q, is, are) =
     let e : v ≡ Plain (plain_of v) = name_shape a v h in
@@ -272,7 +272,7 @@ staged_made a b word ts v w x vs h k l (q, is, are) =
     let g : x ≡ Plain (piece_word q) = by x l in
     (commands.Stage (plain_of v) (whole_of w) q, refl, cc)
   where
-    by : (x : Value) → Holds (OneOf (word ∷ [])) word x → x ≡ Plain (piece_word q)
+    by : (x : Value) → HoldsValue (OneOf (word ∷ [])) word x → x ≡ Plain (piece_word q)
     by (Plain y) l = ap Plain (l.0 ∙ is)
     by (Whole z) l = absurd l
 

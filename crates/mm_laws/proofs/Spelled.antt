@@ -5,7 +5,7 @@ use Rattle.hex.specs.Hex.{decode_of}
 use Rattle.hex.specs.declared.error.FromHexError.{FromHexError}
 use Rattle.mm_definitions.specs.Keys.{Text}
 use Rattle.mm_definitions.specs.Bounds.{Profile}
-use Rattle.mm_definitions.specs.Fields.{Field, OneOf, NumberFrom, BytesTo, TextOf, AnIdentifier, AContentType, AName, Value, Whole, Plain, Holds, IsAgainst, AllHold, IsAgainstSome}
+use Rattle.mm_definitions.specs.Fields.{Field, OneOf, NumberFrom, BytesTo, TextOf, AnIdentifier, AContentType, AName, Value, Whole, Plain, HoldsValue, IsAgainst, AllHold, IsAgainstSome}
 use Rattle.mm_definitions.specs.Records.{Form, IsLeast, IsMet, IsUnmet, Spells, HoldsAgainst, SpellsPiece, HoldsAgainstPiece, record_form, piece_form, command_word, command_values, piece_word, piece_values}
 use Rattle.mm_definitions.specs.Pieces.{piece_command}
 use Rattle.mm_definitions.specs.declared.commands.Step.{Step}
@@ -27,7 +27,7 @@ use Rattle.mm_laws.specs.Laws.{IsReadingNumber}
 bytes_one : (r : Result (List ℕ) FromHexError) (a b : List ℕ) → r ≡ Ok a → r ≡ Ok b → a ≡ b
 bytes_one r a b e f = cc
 
-holds_one : (f : Field) (t : Text) (v w : Value) → Holds f t v → Holds f t w → v ≡ w
+holds_one : (f : Field) (t : Text) (v w : Value) → HoldsValue f t v → HoldsValue f t w → v ≡ w
 holds_one (OneOf words) t (Plain v) (Plain w) h k = ap Plain (h.0 ∙ sym k.0)
 holds_one (OneOf words) t (Plain v) (Whole z) h k = absurd k
 holds_one (OneOf words) t (Whole y) w h k = absurd h

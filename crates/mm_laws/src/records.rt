@@ -48,5 +48,5 @@ pub fn each_number_is_10_11_or_12()
 
 /// A text spells one number at most.
 pub fn a_text_spells_one_number_at_most()
-    ensures { (text : Text) (y z : ℤ) → numbers.Spells text y → numbers.Spells text z → y ≡ z }
+    ensures { (text : Text) (y z : ℤ) → numbers.SpellsNumber text y → numbers.SpellsNumber text z → y ≡ z }
 {}

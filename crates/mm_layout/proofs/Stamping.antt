@@ -13,7 +13,7 @@ use Rattle.mm_definitions.specs.declared.answers.Outcome.TheVariants.{Done, Refu
 use Rattle.mm_definitions.specs.declared.answers.Refusal.{Refusal}
 use Rattle.mm_definitions.specs.declared.commands.Command.{Command}
 use Rattle.mm_laws.proofs.OneStamp.{stamp_only}
-use Rattle.mm_store.specs.Stands.{IsInside}
+use Rattle.mm_store.specs.Stands.{StandsInside}
 use Rattle.mm_store.specs.Shapes.{IsLook, IsChange, IsLent, Answers}
 use Rattle.mm_store.proofs.Shapes.{quiet_then}
 use Rattle.mm_layout.specs.Stamped.{step_at, IsLentAt, IsLentWhere}
@@ -61,7 +61,7 @@ module _ {Held : Package → Type 0} (profile : Profile) (c : Command) (at : Tex
           let found = look.looked (omega (arith, made.survives.clean)) ground p it.inside in
           let f = finds p it.meets found.2 held in
           let end = made.made clean ground p found.1 f.0 in
-          (f.1, end.0, subst (IsInside profile new ground) (sym (ap (λ r. unless_refused r (done p c at) p) f.1 ∙ f.2)) end.1);
+          (f.1, end.0, subst (StandsInside profile new ground) (sym (ap (λ r. unless_refused r (done p c at) p) f.1 ∙ f.2)) end.1);
       faults = tt;
     }
 

@@ -11,7 +11,7 @@ use Rattle.mm_definitions.specs.declared.commands.Command.{Command}
 use Rattle.mm_store.specs.Stands.{Ground, StandsOn}
 use Rattle.mm_store.specs.Faults.{IsStoreFault}
 use Rattle.mm_store.specs.Statements.{CommitsNothing}
-use Rattle.mm_store.specs.Shapes.{IsPut, Answers}
+use Rattle.mm_store.specs.Shapes.{ComesTo, Answers}
 
 -- the package after a command that writes this text
 abbrev pub step_at : Package → Command → Text → Package
@@ -20,8 +20,8 @@ step_at p c at = unless_refused (refusal p c) (done p c at) p
 -- as `IsLent`, with this text in place of the stamp of a moment, and on a package of which this holds too
 pub record IsLentWhere (When : Package → Type 0) (profile : Profile) (c : Command) (at : Text) (old new : State) (result : Result Outcome Fault) : Type 0 where
   pub survives : CommitsNothing old new
-  pub on : HasCleanDisk new → (ground : Ground) (p : Package) → IsPut profile old ground p → When p → StandsOn new ground
-  pub answers : HasCleanDisk new → (ground : Ground) (p : Package) → IsPut profile old ground p → When p → Answers profile new ground p (refusal p c) (step_at p c at) result
+  pub on : HasCleanDisk new → (ground : Ground) (p : Package) → ComesTo profile old ground p → When p → StandsOn new ground
+  pub answers : HasCleanDisk new → (ground : Ground) (p : Package) → ComesTo profile old ground p → When p → Answers profile new ground p (refusal p c) (step_at p c at) result
   pub faults : IfErr result IsStoreFault
 
 -- the same on every package

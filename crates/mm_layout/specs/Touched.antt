@@ -11,7 +11,7 @@ use Rattle.mm_definitions.specs.declared.answers.Fault.{Fault}
 use Rattle.mm_definitions.specs.declared.answers.Outcome.{Outcome}
 use Rattle.mm_definitions.specs.declared.answers.Outcome.TheVariants.{Done, Refused}
 use Rattle.mm_definitions.specs.declared.answers.Refusal.{Refusal}
-use Rattle.mm_store.specs.Stands.{Ground, StandsOn, IsInside}
+use Rattle.mm_store.specs.Stands.{Ground, StandsOn, StandsInside}
 use Rattle.mm_store.specs.Faults.{IsStoreFault}
 use Rattle.mm_store.specs.Statements.{CommitsNothing}
 
@@ -21,13 +21,13 @@ no_such_table = record { number = 25; piece = None }
 
 -- done only where a table has the name, and refused only where none has
 abbrev pub Touches : Profile → State → Ground → Package → Text → Text → Result Outcome Fault → Type 0
-Touches profile new ground p table at (Ok Done) = Stands p.contents table × IsTrue new.is_open × IsInside profile new ground (touch p table at)
-Touches profile new ground p table at (Ok (Refused why)) = (contains_key p.contents table ≡ false) × (why ≡ no_such_table) × IsInside profile new ground p
+Touches profile new ground p table at (Ok Done) = Stands p.contents table × IsTrue new.is_open × StandsInside profile new ground (touch p table at)
+Touches profile new ground p table at (Ok (Refused why)) = (contains_key p.contents table ≡ false) × (why ≡ no_such_table) × StandsInside profile new ground p
 Touches profile new ground p table at (Err fault) = ⊤
 
 -- No rule is asked of the package.
 pub record IsTouched (profile : Profile) (table at : Text) (old new : State) (result : Result Outcome Fault) : Type 0 where
   pub survives : CommitsNothing old new
-  pub on : HasCleanDisk new → (ground : Ground) (p : Package) → IsInside profile old ground p → StandsOn new ground
-  pub answers : HasCleanDisk new → (ground : Ground) (p : Package) → IsInside profile old ground p → Touches profile new ground p table at result
+  pub on : HasCleanDisk new → (ground : Ground) (p : Package) → StandsInside profile old ground p → StandsOn new ground
+  pub answers : HasCleanDisk new → (ground : Ground) (p : Package) → StandsInside profile old ground p → Touches profile new ground p table at result
   pub faults : IfErr result IsStoreFault

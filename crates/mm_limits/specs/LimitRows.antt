@@ -8,17 +8,17 @@ use Rattle.mm_definitions.specs.Parts.{Each}
 use Rattle.mm_definitions.specs.Package.{Package}
 use Rattle.mm_definitions.specs.Rules.{AreSystemNumbers, SystemWithin, ContentsWithin, KindWithin, SetWithin, MatrixWithin, ExtensionWithin, TileWithin, RowWithin, MediumWithin, RelationWithin, PairingWithin, EditionWithin, PieceWithin}
 use Rattle.mm_definitions.specs.Stamp.{IsSomeStamp}
-use Rattle.mm_queries.specs.Columns.{number_of, words_of, bytes_of}
-use Rattle.mm_queries.specs.InTurn.{either}
+use Rattle.mm_queries.specs.Columns.{number_of, text_bytes, bytes_of}
+use Rattle.mm_queries.specs.InTurn.{chosen}
 
 -- ---- a column
 -- it holds a text, which is UTF-8 and meets P
 abbrev pub text_by : (List ℕ → Type 0) → Value → Type 0
-text_by P v = MatchOption (words_of v) ⊥ (λ text. IsUtf8 text × P text)
+text_by P v = MatchOption (text_bytes v) ⊥ (λ text. IsUtf8 text × P text)
 
 -- where it holds a text, that is UTF-8 and meets P
 abbrev pub text_if_any : (List ℕ → Type 0) → Value → Type 0
-text_if_any P v = IfSome (words_of v) (λ text. IsUtf8 text × P text)
+text_if_any P v = IfSome (text_bytes v) (λ text. IsUtf8 text × P text)
 
 -- it holds a number, which meets P
 abbrev pub number_by : (ℤ → Type 0) → Value → Type 0
@@ -51,7 +51,7 @@ pub record IsContentsWithinRow (profile : Profile) (r : Row) : Type 0 where
   pub table : text_by IsName (column r 0)
   pub data_type : text_by IsClean (column r 1)
   pub identifier : text_by IsIdentifier (column r 2)
-  pub description : words_of (column r 3) ≡ Some []
+  pub description : text_bytes (column r 3) ≡ Some []
   pub last_change : text_by IsSomeStamp (column r 4)
   pub min_x : number_if_any (IsCoordinate profile) (column r 5)
   pub min_y : number_if_any (IsCoordinate profile) (column r 6)
@@ -196,16 +196,16 @@ PiecesAreWithin p = Each p.pieces PieceWithin
 -- part k, from 1 to 12; each other number is 13
 unfoldable pub part : Profile → ℕ → Package → Type 0
 part profile k p =
-    either (k == 1) (SystemsAreWithin p)
-    (either (k == 2) (ContentsAreWithin profile p)
-    (either (k == 3) (KindsAreWithin p)
-    (either (k == 4) (SetsAreWithin profile p)
-    (either (k == 5) (MatricesAreWithin profile p)
-    (either (k == 6) (ExtensionsAreWithin p)
-    (either (k == 7) (TilesAreWithin p)
-    (either (k == 8) (RowsAreWithin p)
-    (either (k == 9) (MediaAreWithin p)
-    (either (k == 10) (RelationsAreWithin p)
-    (either (k == 11) (PairingsAreWithin p)
-    (either (k == 12) (EditionsAreWithin p)
+    chosen (k == 1) (SystemsAreWithin p)
+    (chosen (k == 2) (ContentsAreWithin profile p)
+    (chosen (k == 3) (KindsAreWithin p)
+    (chosen (k == 4) (SetsAreWithin profile p)
+    (chosen (k == 5) (MatricesAreWithin profile p)
+    (chosen (k == 6) (ExtensionsAreWithin p)
+    (chosen (k == 7) (TilesAreWithin p)
+    (chosen (k == 8) (RowsAreWithin p)
+    (chosen (k == 9) (MediaAreWithin p)
+    (chosen (k == 10) (RelationsAreWithin p)
+    (chosen (k == 11) (PairingsAreWithin p)
+    (chosen (k == 12) (EditionsAreWithin p)
     (PiecesAreWithin p))))))))))))

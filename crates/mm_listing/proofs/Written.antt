@@ -12,7 +12,7 @@ use Rattle.mm_store.proofs.Seen.{settled_still}
 use Rattle.mm_store.proofs.Shapes.{quiet_then}
 use Rattle.mm_walk.specs.Walk.{OnlyAsks, Takes, Ends, IsWalk}
 use Rattle.mm_walk.proofs.Resting.{seen_still, ends_rest}
-use Rattle.mm_listing.specs.Writing.{IsBegun, TakesLine, IsWritten, TellsWriter, IsListed}
+use Rattle.mm_listing.specs.Writing.{IsBegun, TakesLine, IsWritten, ListingTellsWriter, IsListed}
 use Rattle.mm_listing.proofs.Fronts.{ShowsEach, Fronts}
 use Rattle.mm_definitions.specs.Streams.{written_as}
 
@@ -46,23 +46,23 @@ module _ (Shows : Row → List ℕ → Type 0) where
 
     -- ---- what the writer tells
 
-    after_step : (v u : V) (row : Row) (result : Result Bool Fault) → takes v row u result → TellsWriter (failed v) (failed u) (done_of result)
+    after_step : (v u : V) (row : Row) (result : Result Bool Fault) → takes v row u result → ListingTellsWriter (failed v) (failed u) (done_of result)
     after_step v u row (Ok goes) step = (writes v u row (Ok goes) step).2.2
     after_step v u row (Err fault) step = told (writes v u row (Err fault) step)
       where
-        told : TakesLine Shows (written_as (held v) (failed v)) (written_as (held u) (failed u)) row (Err fault) → TellsWriter (failed v) (failed u) (Err fault)
+        told : TakesLine Shows (written_as (held v) (failed v)) (written_as (held u) (failed u)) row (Err fault) → ListingTellsWriter (failed v) (failed u) (Err fault)
         told (inl it) = inl (it.0, it.2)
         told (inr it) = inr (it.2.0, it.2.1)
 
     pub tells_writer : (v w : V) (result : Result Bool Fault) → IfErr result (λ fault. IsStoreFault fault ⊎ ((before : V) × (row : Row) × takes before row w (Err fault)))
-        → (rows : List Row) × (Takes takes v rows w ⊎ ((before : V) × (row : Row) × Takes takes v rows before × takes before row w result)) → TellsWriter (failed v) (failed w) (done_of result)
+        → (rows : List Row) × (Takes takes v rows w ⊎ ((before : V) × (row : Row) × Takes takes v rows before × takes before row w result)) → ListingTellsWriter (failed v) (failed w) (done_of result)
     tells_writer v w result faults (rows, inr it) =
-        subst (λ f. TellsWriter f (failed w) (done_of result)) (taken v it.0 rows it.2).3 (after_step it.0 w it.1 result it.3)
+        subst (λ f. ListingTellsWriter f (failed w) (done_of result)) (taken v it.0 rows it.2).3 (after_step it.0 w it.1 result it.3)
     tells_writer v w (Ok goes) faults (rows, inl it) = (taken v w rows it).3
     tells_writer v w (Err fault) (inl stored) (rows, inl it) = inl (stored, (taken v w rows it).3)
     tells_writer v w (Err fault) (inr last) (rows, inl it) = stopped (writes last.0 w last.1 (Err fault) last.2)
       where
-        stopped : TakesLine Shows (written_as (held last.0) (failed last.0)) (written_as (held w) (failed w)) last.1 (Err fault) → TellsWriter (failed v) (failed w) (Err fault)
+        stopped : TakesLine Shows (written_as (held last.0) (failed last.0)) (written_as (held w) (failed w)) last.1 (Err fault) → ListingTellsWriter (failed v) (failed w) (Err fault)
         stopped (inl t) = inl (t.0, (taken v w rows it).3)
         stopped (inr t) = inr (t.2.0, t.2.1)
 
@@ -124,8 +124,8 @@ module _ {V N : Type 0} {takes : V → Row → V → Result Bool Fault → Type 
 -- ---- one text after another
 
 module _ (profile : Profile) (first second : Package → List ℕ) (old mid new : State) (held between holds : Option (List ℕ)) (before middle failed : Bool) where
-  tells_then : middle ≡ before → (result : Result (Unit {0}) Fault) → TellsWriter middle failed result → TellsWriter before failed result
-  tells_then same result h = subst (λ b. TellsWriter b failed result) same h
+  tells_then : middle ≡ before → (result : Result (Unit {0}) Fault) → ListingTellsWriter middle failed result → ListingTellsWriter before failed result
+  tells_then same result h = subst (λ b. ListingTellsWriter b failed result) same h
 
   written_then : (one two : List ℕ) (result : Result (Unit {0}) Fault) → Appends held between one → IsWritten between holds two result → IsWritten held holds (one ++ two) result
   written_then one two (Ok done) h k = appends_then held between holds one two h k

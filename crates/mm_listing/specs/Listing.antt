@@ -42,13 +42,13 @@ abbrev pub edition_line : Package → Text × Text → Text
 edition_line p (name, state) = if same_text state open_state then open_text name (piece_count p name) else published_text name
 
 -- by rising name
-abbrev pub tables : Package → Text
-tables p = flat_map (table_line p) (entries p.contents)
+abbrev pub table_lines : Package → Text
+table_lines p = flat_map (table_line p) (entries p.contents)
 
 -- the lines of the editions, by rising name
 abbrev pub editions : Package → Text
 editions p = flat_map (edition_line p) (entries p.editions)
 
--- the lines of the tables, and behind them those of the editions
+-- the lines of the table_lines, and behind them those of the editions
 abbrev pub listing : Package → Text
-listing p = tables p ++ editions p
+listing p = table_lines p ++ editions p

@@ -41,9 +41,9 @@ IsWritten old new text (Ok done) = Appends old new text
 IsWritten old new text (Err fault) = IsBegun old new text
 
 -- 97 is answered exactly where the writer failed, and else 90 or 91
-abbrev pub TellsWriter : Bool → Bool → Result (Unit {0}) Fault → Type 0
-TellsWriter before failed (Ok done) = failed ≡ before
-TellsWriter before failed (Err fault) = (IsStoreFault fault × (failed ≡ before)) ⊎ ((fault ≡ unwritten) × (failed ≡ true))
+abbrev pub ListingTellsWriter : Bool → Bool → Result (Unit {0}) Fault → Type 0
+ListingTellsWriter before failed (Ok done) = failed ≡ before
+ListingTellsWriter before failed (Err fault) = (IsStoreFault fault × (failed ≡ before)) ⊎ ((fault ≡ unwritten) × (failed ≡ true))
 
 -- It commits nothing, leaves the connection reading as before, and settled where it was, and writes the text of the package that it reads as.
 pub record IsListed (profile : Profile) (text : Package → List ℕ) (old new : State) (held holds : Written) (result : Result (Unit {0}) Fault) : Type 0 where
@@ -51,4 +51,4 @@ pub record IsListed (profile : Profile) (text : Package → List ℕ) (old new :
   pub seen : HasCleanDisk new → (p : Package) → IsSeenAs profile old p → IsSeenAs profile new p
   pub settled : HasCleanDisk new → (p : Package) → IsSettled profile old p → IsSettled profile new p
   pub written : HasCleanDisk new → (p : Package) → IsSeenAs profile old p → IsWritten held.contents holds.contents (text p) result
-  pub writer : TellsWriter held.failed holds.failed result
+  pub writer : ListingTellsWriter held.failed holds.failed result

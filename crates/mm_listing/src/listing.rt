@@ -1,10 +1,10 @@
-//! The walks over the tables and the editions, in which each line is written before the next row is asked for.
+//! The walks over the table_lines and the editions, in which each line is written before the next row is asked for.
 
 ghost use Rattle.std.specs.Prelude.{◌≡◌, false};
 ghost use Rattle.sqlite.specs.Held.{state};
 ghost use Rattle.mm_definitions.specs.Bounds.{Profile};
 ghost use Rattle.mm_definitions.specs.Streams.{written};
-ghost use Rattle.mm_listing.specs.Listing.{editions, listing, tables};
+ghost use Rattle.mm_listing.specs.Listing.{editions, listing, table_lines};
 ghost use Rattle.mm_listing.specs.Writing.{IsListed, SendsLine};
 
 use crate::shown::{edition_in, table_in};
@@ -66,7 +66,7 @@ impl<W: Write> Visitor for EditionLines<'_, W> {
     }
 }
 
-/// Shows the tables to the visitor.
+/// Shows the table_lines to the visitor.
 fn show_tables<S: Alter, W: Write>(
     conn: &mut Connection<S>,
     lines: &mut TableLines<'_, W>,
@@ -74,7 +74,7 @@ fn show_tables<S: Alter, W: Write>(
     requires { conn.old.in_transaction ≡ false }
     ensures same_reference { lines.new.output.ghost_name ≡ lines.old.output.ghost_name }
     ensures mode { conn.new.in_transaction ≡ false }
-    ensures listed { (profile : Profile) → IsListed profile tables (state S.Store conn.old) (state S.Store conn.new)
+    ensures listed { (profile : Profile) → IsListed profile table_lines (state S.Store conn.old) (state S.Store conn.new)
         (written W.contents lines.old.output.now) (written W.contents lines.new.output.now) result }
 {
     walk(
@@ -86,14 +86,14 @@ fn show_tables<S: Alter, W: Write>(
     Ok(())
 }
 
-/// The lines of the tables.
+/// The lines of the table_lines.
 fn list_tables<S: Alter, W: Write>(
     conn: &mut Connection<S>,
     output: &mut Io<W>,
 ) -> Result<(), Fault>
     requires { conn.old.in_transaction ≡ false }
     ensures mode { conn.new.in_transaction ≡ false }
-    ensures listed { (profile : Profile) → IsListed profile tables (state S.Store conn.old) (state S.Store conn.new)
+    ensures listed { (profile : Profile) → IsListed profile table_lines (state S.Store conn.old) (state S.Store conn.new)
         (written W.contents output.old) (written W.contents output.new) result }
 {
     let mut lines = TableLines { output };

@@ -17,13 +17,13 @@ use Rattle.mm_store.specs.Statements.{CommitsNothing}
 use Rattle.mm_store.proofs.Asking.{told_fault}
 use Rattle.mm_store.proofs.Seen.{seen_of}
 use Rattle.mm_store.proofs.Shapes.{quiet_then}
-use Rattle.mm_opening.specs.Look.{Answers, IsLooked, Agrees, ShowsProfile}
+use Rattle.mm_opening.specs.Look.{AnswersLook, IsLooked, Agrees, ShowsProfile}
 use Rattle.mm_opening.proofs.Looking.{asked_still}
 use Rattle.mm_check.specs.Verdict.{IsVerified}
 use Rattle.mm_shelf.specs.Form.{AreInForm, IsFormCheck, TellsForm}
 use Rattle.mm_shelf.proofs.Reading.{asked_stands, asked_fails, told_as_before, formed_for}
 use Rattle.mm_scaling.specs.Moves.{MayScale, StandsForEither, IsRescaled}
-use Rattle.mm_migrate.specs.Migrations.{Judged, IsChecked, Adopts, Migrates, TellsNumber, NoNumber, OnlyStoreFaults, IsRefusal, MayCommit, IsMigration, IsOlder}
+use Rattle.mm_migrate.specs.Migrations.{Judged, IsChecked, Adopts, Migrates, TellsNumber, NoNumber, OnlyStoreFaults, IsRefusal, MayCommitScaled, IsMigration, IsOlder}
 
 -- ---- the check
 
@@ -164,8 +164,8 @@ module _ (old mid : State) where
 
 -- ---- by what the look at the profile's row answers
 
-committing_nothing : (old new : State) → CommitsNothing old new → Survives old new (MayCommit old)
-committing_nothing old new h = survives_weaker old new (λ _. ⊥) (MayCommit old) (λ _ db none. absurd none) h
+committing_nothing : (old new : State) → CommitsNothing old new → Survives old new (MayCommitScaled old)
+committing_nothing old new h = survives_weaker old new (λ _. ⊥) (MayCommitScaled old) (λ _ db none. absurd none) h
 
 other_versions : millimetres.version ≡ micrometres.version → ⊥
 other_versions e = absurd (cc)
@@ -192,11 +192,11 @@ module _ (old mid : State) where
   looked_well : IsLooked old mid (Ok tt) → HasCleanDisk mid → (p : Package) → IsSettled micrometres old p → IsSettled micrometres mid p
   looked_well looked clean p it = go (looked.answers clean)
     where
-      go : Answers old mid (Ok tt) → IsSettled micrometres mid p
+      go : AnswersLook old mid (Ok tt) → IsSettled micrometres mid p
       go (inl a) = unchanged_settled micrometres old mid p looked.survives clean a.2 it
       go (inr a) = absurd a.2
 
-  unchanged_well : Answers old mid (Ok tt) → IsUnchanged old mid
+  unchanged_well : AnswersLook old mid (Ok tt) → IsUnchanged old mid
   unchanged_well (inl a) = a.2
   unchanged_well (inr a) = absurd a.2
 
@@ -218,15 +218,15 @@ module _ (old mid : State) where
   looked_older : IsLooked old mid (Err (opens.Version millimetres.version)) → HasCleanDisk mid → (p : Package) → IsSettled millimetres old p → IsSettled millimetres mid p
   looked_older looked clean p it = go (looked.answers clean)
     where
-      go : Answers old mid (Err (opens.Version millimetres.version)) → IsSettled millimetres mid p
+      go : AnswersLook old mid (Err (opens.Version millimetres.version)) → IsSettled millimetres mid p
       go (inl a) = unchanged_settled millimetres old mid p looked.survives clean a.2 it
       go (inr a) = absurd a.2
 
-  shows_version : Answers old mid (Err (opens.Version millimetres.version)) → ShowsProfile millimetres.version old
+  shows_version : AnswersLook old mid (Err (opens.Version millimetres.version)) → ShowsProfile millimetres.version old
   shows_version (inl it) = (it.0, asked_still old mid it.0 it.1, it.3.0)
   shows_version (inr it) = absurd it.2
 
-  unchanged_older : Answers old mid (Err (opens.Version millimetres.version)) → IsUnchanged old mid
+  unchanged_older : AnswersLook old mid (Err (opens.Version millimetres.version)) → IsUnchanged old mid
   unchanged_older (inl a) = a.2
   unchanged_older (inr a) = absurd a.2
 
@@ -235,7 +235,7 @@ module _ (old mid : State) where
       let at : IsLooked old mid (Err (opens.Version millimetres.version)) = subst (λ w. IsLooked old mid (Err w)) is looked in
       let early : HasCleanDisk new → HasCleanDisk mid = λ clean. omega (arith, clean, it.survives.clean) in
       record {
-        survives = survives_then old mid new _ _ (MayCommit old) (λ _ db none. absurd none)
+        survives = survives_then old mid new _ _ (MayCommitScaled old) (λ _ db none. absurd none)
             (λ clean db all. (shows_version (at.answers (early_from it clean)), λ p s. all p (looked_older at (early_from it clean) p s.0, s.1))) at.survives it.survives;
         is_open = it.is_open;
         refused = λ is. quiet_then old mid new at.survives (it.refused is);
@@ -251,7 +251,7 @@ module _ (old mid : State) where
 
   -- ---- any other answer of the look
 
-  told : (why : Open) → why ≢ opens.Version millimetres.version → Answers old mid (Err why) → TellsNumber old mid (Err why)
+  told : (why : Open) → why ≢ opens.Version millimetres.version → AnswersLook old mid (Err why) → TellsNumber old mid (Err why)
   told (opens.Version version) other it = (it, λ e. other (ap opens.Version e))
   told opens.NoProfile other it = it
   told opens.BadProfile other it = it
@@ -275,7 +275,7 @@ module _ (old mid : State) where
   not_migrated (opens.Rule rule) p other quiet clean s it = absurd it
   not_migrated (opens.Fault fault) p other quiet clean s it = λ db may. inl (left_before millimetres old mid p quiet clean s db may)
 
-  fault_told : (why : Open) → Answers old mid (Err why) → OnlyStoreFaults (Err why)
+  fault_told : (why : Open) → AnswersLook old mid (Err why) → OnlyStoreFaults (Err why)
   fault_told (opens.Version version) it = tt
   fault_told opens.NoProfile it = tt
   fault_told opens.BadProfile it = tt
@@ -285,7 +285,7 @@ module _ (old mid : State) where
   fault_told (opens.Fault fault) (inr it) = told_fault it.0 fault it.2.1
 
   -- the look tells nothing of the blobs
-  form_untold : (why : Open) → Answers old mid (Err why) → TellsForm old (Err why)
+  form_untold : (why : Open) → AnswersLook old mid (Err why) → TellsForm old (Err why)
   form_untold (opens.Version version) it = tt
   form_untold opens.NoProfile it = tt
   form_untold opens.BadProfile it = tt

@@ -11,7 +11,7 @@ use Rattle.mm_definitions.specs.Scale.{scale}
 use Rattle.mm_store.specs.Stands.{StandsFor, IsSettled}
 use Rattle.mm_store.specs.Faults.{IsStoreFault}
 use Rattle.mm_store.specs.Statements.{CommitsNothing}
-use Rattle.mm_opening.specs.Look.{Answers, ShowsProfile}
+use Rattle.mm_opening.specs.Look.{AnswersLook, ShowsProfile}
 use Rattle.mm_check.specs.Verdict.{IsFailing}
 use Rattle.mm_shelf.specs.Form.{TellsForm}
 use Rattle.mm_scaling.specs.Moves.{MayScale, StandsForEither}
@@ -64,14 +64,14 @@ Migrates p new (Err _) = ⊥
 
 -- 93, 94 and 95 are as the look at the profile's row gives it, and another version than these two
 abbrev pub TellsNumber : State → State → Result (Unit {0}) Open → Type 0
-TellsNumber old new (Err (opens.Version version)) = Answers old new (Err (opens.Version version)) × (version ≢ millimetres.version)
-TellsNumber old new (Err opens.NoProfile) = Answers old new (Err opens.NoProfile)
-TellsNumber old new (Err opens.BadProfile) = Answers old new (Err opens.BadProfile)
+TellsNumber old new (Err (opens.Version version)) = AnswersLook old new (Err (opens.Version version)) × (version ≢ millimetres.version)
+TellsNumber old new (Err opens.NoProfile) = AnswersLook old new (Err opens.NoProfile)
+TellsNumber old new (Err opens.BadProfile) = AnswersLook old new (Err opens.BadProfile)
 TellsNumber old new _ = ⊤
 
 -- what may be committed: of a database whose profile's table shows that of millimetres, the package in micrometres; of others nothing
-abbrev pub MayCommit : State → Trees → Type 0
-MayCommit old db = ShowsProfile millimetres.version old × ((p : Package) → MayScale old p → StandsFor micrometres.version db (scale p))
+abbrev pub MayCommitScaled : State → Trees → Type 0
+MayCommitScaled old db = ShowsProfile millimetres.version old × ((p : Package) → MayScale old p → StandsFor micrometres.version db (scale p))
 
 -- an opening number or a rule
 abbrev pub IsRefusal : Result (Unit {0}) Open → Type 0
@@ -81,7 +81,7 @@ IsRefusal (Err _) = ⊤
 
 -- `Ok` leaves the store open. What may be left, and what is told, is as the profile of the package has it.
 pub record IsMigration (old new : State) (result : Result (Unit {0}) Open) : Type 0 where
-  pub survives : Survives old new (MayCommit old)
+  pub survives : Survives old new (MayCommitScaled old)
   pub is_open : HasCleanDisk new → OnOk result (IsTrue new.is_open)
   pub refused : IsRefusal result → CommitsNothing old new
   pub adopts : HasCleanDisk new → (p : Package) → IsSettled micrometres old p → Adopts p new result

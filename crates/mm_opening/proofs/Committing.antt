@@ -5,12 +5,12 @@ use Rattle.sqlite.specs.Held.{Held, state}
 use Rattle.sqlite.specs.Store.{Ghosts}
 use Rattle.sqlite.proofs.StateLemmas.{survives_then}
 use Rattle.sqlite.proofs.Callers.{survives_begin}
-use Rattle.mm_schema.specs.Made.{first_of}
+use Rattle.mm_schema.specs.Made.{first_tables}
 use Rattle.mm_definitions.specs.Bounds.{Profile}
 use Rattle.mm_definitions.specs.Opening.{opening}
 use Rattle.mm_definitions.specs.declared.answers.Fault.{Fault}
 use Rattle.mm_store.specs.Faults.{IsStoreFault}
-use Rattle.mm_store.specs.Stands.{StandsFor, ground_of, IsInside, IsSettled}
+use Rattle.mm_store.specs.Stands.{StandsFor, ground_of, StandsInside, IsSettled}
 use Rattle.mm_store.specs.Statements.{CommitsNothing}
 use Rattle.mm_store.proofs.Transactions.{OnlyCommitted, settles}
 use Rattle.mm_opening.specs.Opening.{IsBlank, IsBareAt, IsMaking, IsInit}
@@ -19,7 +19,7 @@ module _ (profile : Profile) {S : Type 0} (g : Ghosts S) (was now : Held S) (beg
   abbrev old : State
   old = state g was
 
-  begins_blank : IsBlank old → IsBareAt (first_of 0) (state g now) (ground_of old)
+  begins_blank : IsBlank old → IsBareAt (first_tables 0) (state g now) (ground_of old)
   begins_blank it = rw begun (record { mode = refl; back = λ is_open. (refl, is_open); bare = λ up. record { schema_is = it.schema_is up; empty = tt } })
 
   -- each database that may be left was there before, or stands for the opening package
@@ -34,13 +34,13 @@ module _ (profile : Profile) {S : Type 0} (g : Ghosts S) (was now : Held S) (beg
   }
 
   -- the transaction was rolled back
-  pub init_undone : {T : Type 0} (fault : Fault) → IsMaking {T = T} (first_of 0) (state g now) ended profile opening (Err fault) → CommitsNothing ended last → IsInit profile old last (Err fault)
+  pub init_undone : {T : Type 0} (fault : Fault) → IsMaking {T = T} (first_tables 0) (state g now) ended profile opening (Err fault) → CommitsNothing ended last → IsInit profile old last (Err fault)
   init_undone fault making h =
       whole (Err fault) (survives_begin g was last _ (rw begun at (survives_then (state g now) ended last _ _ (λ db. IsBlank old → StandsFor profile.version db opening) (λ _ db none. absurd none) (λ _ db none. absurd none) making.survives h)))
       (λ clean. tt) (λ clean it. tt) making.faults
 
-  module _ {T : Type 0} (t : T) (making : IsMaking (first_of 0) (state g now) ended profile opening (Ok t)) (h : Survives ended last (λ db. db ≡ ended.now.trees)) where
-    done : HasCleanDisk ended → IsBlank old → IsTrue ended.is_open × IsInside profile ended (ground_of old) opening
+  module _ {T : Type 0} (t : T) (making : IsMaking (first_tables 0) (state g now) ended profile opening (Ok t)) (h : Survives ended last (λ db. db ≡ ended.now.trees)) where
+    done : HasCleanDisk ended → IsBlank old → IsTrue ended.is_open × StandsInside profile ended (ground_of old) opening
     done clean it = making.made clean (ground_of old) (begins_blank it)
 
     commits : Survives old last (λ db. IsBlank old → StandsFor profile.version db opening)

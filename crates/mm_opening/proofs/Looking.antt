@@ -34,7 +34,7 @@ use Rattle.mm_store.specs.Statements.{CommitsNothing}
 use Rattle.mm_opening.proofs.Refusing.{stopped, never_refused}
 use Rattle.mm_schema.specs.Made.{no_schema}
 use Rattle.mm_opening.specs.Opening.{IsBlank}
-use Rattle.mm_opening.specs.Look.{stops, IsProfile, ShowsProfile, Judges, Tells, Answers, Agrees, FindsNone, IsLooked}
+use Rattle.mm_opening.specs.Look.{stops, IsProfile, ShowsProfile, Judges, TellsError, AnswersLook, Agrees, FindsNone, IsLooked}
 
 -- ---- The text is a query, whatever the schema.
 
@@ -82,7 +82,7 @@ module _ (old new : State) where
       let it = subst (ShowsRows old new profile_rows h.0 (timed [] h.0.formats h.1.now) rows) none h.2 in
       (h.0, h.1, subst (ShowsRows old old profile_rows h.0 (timed [] h.0.formats h.1.now) rows) (sym none) (it.0, it.1, it.2, unchanged_still it.3))
 
-  pub shows_profile : Answers old new (Ok tt) → ShowsProfile current.version old
+  pub shows_profile : AnswersLook old new (Ok tt) → ShowsProfile current.version old
   shows_profile (inl it) = (it.0, asked_still it.0 it.1, it.3)
   shows_profile (inr it) = absurd it.2
 
@@ -157,7 +157,7 @@ module _ (old new : State) (it : IsBlank old) where
       by_schema : old.now.schema ≡ no_schema → Shown profile_rows [] old new rows → ⊥
       by_schema is h = true≢false (sym (ap is_compiled (sym (ap (λ s. understood s profile_rows) is) ∙ h.1.is)) ∙ unread)
 
-  none_told : (result : Result (Unit {0}) Open) → Answers old new result → FindsNone old new result
+  none_told : (result : Result (Unit {0}) Open) → AnswersLook old new result → FindsNone old new result
   none_told result (inl h) = absurd (none_shown h.0 h.1)
   none_told (Err opens.NoProfile) (inr h) = refused_as_was old new h.0 h.2 h.1
   none_told (Err (opens.Fault fault)) (inr h) = tt
@@ -175,7 +175,7 @@ still_blank old new survives same clean it = record {
   left = λ db may. elim (survives.crash clean db may) [ inl before ↦ it.left db before | inr none ↦ absurd none ];
 }
 
-untold : (version : ℤ) (e : Error) (result : Result (Unit {0}) Open) → (stops e ≡ false → ⊥) → Tells e result → Agrees version result
+untold : (version : ℤ) (e : Error) (result : Result (Unit {0}) Open) → (stops e ≡ false → ⊥) → TellsError e result → Agrees version result
 untold version e (Ok u) stopped h = absurd h
 untold version e (Err (opens.Version other)) stopped h = absurd h
 untold version e (Err opens.BadProfile) stopped h = absurd h
@@ -194,7 +194,7 @@ module _ (old new : State) (h : Survives old new (CommitsShowing profile_rows []
     none = λ clean it. none_told old new it result (inl (rows, shows clean, unchanged old new rows (shows clean), judges));
   }
 
-  pub refused : (e : Error) → (HasCleanDisk new → FailsToQuery profile_rows [] old new e) → Tells e result → IsLooked old new result
+  pub refused : (e : Error) → (HasCleanDisk new → FailsToQuery profile_rows [] old new e) → TellsError e result → IsLooked old new result
   refused e fails tells = record {
     survives = quiet old new h;
     rests = λ clean. refused_rests old new e (fails clean);

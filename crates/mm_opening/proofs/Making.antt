@@ -21,7 +21,7 @@ use Rattle.mm_definitions.proofs.KeyLaws.{numbers}
 use Rattle.mm_store.specs.Rows.{Counts}
 use Rattle.mm_store.specs.Blobs.{Shelf, Told, Tells}
 use Rattle.mm_store.specs.Kept.{Kept, tile_id, tile_with, medium_id, medium_with, piece_id, piece_with}
-use Rattle.mm_store.specs.Stands.{Holding, Ground, IsInside, profile_row}
+use Rattle.mm_store.specs.Stands.{Holding, Ground, StandsInside, profile_row}
 use Rattle.mm_store.specs.Statements.{IsRun}
 use Rattle.mm_store.specs.Shapes.{IsChange}
 use Rattle.mm_store.proofs.Parts.{holds_none}
@@ -76,7 +76,7 @@ module _ (profile : Profile) (old new : State) (sql : List ℕ) (given : Row) wh
       → ((db : Trees) → ((t : ℕ) → db t ≡ []) → Holding profile.version (tables db) p) → IsMaking schema old new profile p result
   makes tables p result run leaves holds = record { survives = run.survives; made = λ clean ground it. go ground it result (run.ran clean it.mode); faults = run.faults }
     where
-      go : (ground : Ground) → IsBareAt schema old ground → (r : Result (Unit {0}) Fault) → OnOk r ((count : ℕ) × ExecutesInside 0 sql given old new (Ok count)) → OnOk r (IsTrue new.is_open × IsInside profile new ground p)
+      go : (ground : Ground) → IsBareAt schema old ground → (r : Result (Unit {0}) Fault) → OnOk r ((count : ℕ) × ExecutesInside 0 sql given old new (Ok count)) → OnOk r (IsTrue new.is_open × StandsInside profile new ground p)
       go ground it (Err e) ran = tt
       go ground it (Ok u) ran =
           let up = ran.1.1.was_open in

@@ -45,16 +45,16 @@ Judges rows (Err opens.BadBlobs) = ⊥
 Judges rows (Err (opens.Rule rule)) = ⊥
 
 -- how an error of the query is told
-abbrev pub Tells : Error → Result (Unit {0}) Open → Type 0
-Tells e (Err opens.NoProfile) = stops e ≡ false
-Tells e (Err (opens.Fault fault)) = (stops e ≡ true) × (fault ≡ told_as e)
-Tells e _ = ⊥
+abbrev pub TellsError : Error → Result (Unit {0}) Open → Type 0
+TellsError e (Err opens.NoProfile) = stops e ≡ false
+TellsError e (Err (opens.Fault fault)) = (stops e ≡ true) × (fault ≡ told_as e)
+TellsError e _ = ⊥
 
 -- The answer judges the rows that the query shows, and leaves all as it was, or tells the error with which it fails.
-abbrev pub Answers : State → State → Result (Unit {0}) Open → Type 0
-Answers old new result =
+abbrev pub AnswersLook : State → State → Result (Unit {0}) Open → Type 0
+AnswersLook old new result =
     ((rows : List Row) × Shown profile_rows [] old new rows × IsUnchanged old new × Judges rows result)
-    ⊎ ((e : Error) × FailsToQuery profile_rows [] old new e × Tells e result)
+    ⊎ ((e : Error) × FailsToQuery profile_rows [] old new e × TellsError e result)
 
 -- what is answered of a database that stands for a package under a version, unless a fault is
 abbrev pub Agrees : ℤ → Result (Unit {0}) Open → Type 0
@@ -76,6 +76,6 @@ FindsNone old new _ = ⊥
 pub record IsLooked (old new : State) (result : Result (Unit {0}) Open) : Type 0 where
   pub survives : CommitsNothing old new
   pub rests : HasCleanDisk new → IsUnchanged old new ⊎ IsRolledBack old new
-  pub answers : HasCleanDisk new → Answers old new result
+  pub answers : HasCleanDisk new → AnswersLook old new result
   pub agrees : HasCleanDisk new → (version : ℤ) (p : Package) → (IsTrue old.is_open → ReadsAs version old.now p) → Agrees version result
   pub none : HasCleanDisk new → IsBlank old → FindsNone old new result

@@ -12,7 +12,7 @@ use Rattle.mm_definitions.specs.Opening.{opening}
 use Rattle.mm_definitions.specs.Package.{Package}
 use Rattle.mm_definitions.specs.declared.answers.Fault.{Fault}
 use Rattle.mm_store.specs.Faults.{IsStoreFault}
-use Rattle.mm_store.specs.Stands.{StandsFor, Ground, StandsOn, IsInside, IsSettled}
+use Rattle.mm_store.specs.Stands.{StandsFor, Ground, StandsOn, StandsInside, IsSettled}
 use Rattle.mm_store.specs.Statements.{CommitsNothing}
 
 -- the package with no entry, which meets no rules
@@ -55,7 +55,7 @@ module _ {T : Type 0} (from : Schema) (old new : State) where
   -- what a call makes of them to a package
   pub record IsMaking (profile : Profile) (p : Package) (result : Result T Fault) : Type 0 where
     pub survives : CommitsNothing old new
-    pub made : HasCleanDisk new → (ground : Ground) → IsBareAt from old ground → OnOk result (IsTrue new.is_open × IsInside profile new ground p)
+    pub made : HasCleanDisk new → (ground : Ground) → IsBareAt from old ground → OnOk result (IsTrue new.is_open × StandsInside profile new ground p)
     pub faults : IfErr result IsStoreFault
 
 -- ---- the whole

@@ -5,7 +5,7 @@ ghost use Rattle.sqlite.specs.Held.{state};
 ghost use Rattle.mm_definitions.specs.Bounds.{Profile, current};
 ghost use Rattle.mm_definitions.specs.Opening.{opening};
 ghost use Rattle.mm_schema.specs.Tables.{schema};
-ghost use Rattle.mm_schema.specs.Made.{first_of};
+ghost use Rattle.mm_schema.specs.Made.{first_tables};
 ghost use Rattle.mm_opening.specs.Opening.{IsMaking, IsInit, given_systems};
 
 use crate::extensions::insert_related_row;
@@ -54,7 +54,7 @@ fn put_systems<S: Alter>(tx: &mut Transaction<'_, S>) -> Result<(), Fault>
 /// Makes the tables where there is none, and puts what every package has into them.
 fn make<S: Alter>(tx: &mut Transaction<'_, S>) -> Result<(), Fault>
     ensures same_reference { tx.new.conn.ghost_name ≡ tx.old.conn.ghost_name }
-    ensures made { IsMaking (first_of 0) (state S.Store tx.old.conn.now) (state S.Store tx.new.conn.now) current opening result }
+    ensures made { IsMaking (first_tables 0) (state S.Store tx.old.conn.now) (state S.Store tx.new.conn.now) current opening result }
 {
     create_tables(tx)?;
     put_systems(tx)?;

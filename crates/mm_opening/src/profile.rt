@@ -8,7 +8,7 @@ ghost use Rattle.mm_definitions.specs.Bounds.{Profile};
 ghost use Rattle.mm_schema.specs.Tables.{schema};
 ghost use Rattle.mm_store.specs.Faults.{memory};
 ghost use Rattle.mm_opening.specs.Opening.{nothing, IsMaking};
-ghost use Rattle.mm_opening.specs.Look.{Judges, Tells, IsLooked, stops};
+ghost use Rattle.mm_opening.specs.Look.{Judges, TellsError, IsLooked, stops};
 
 use mm_definitions::answers::{Fault, Open};
 use mm_store::faults::{fault_of, wants_memory};
@@ -97,7 +97,7 @@ fn is_stop(error: &Error) -> bool
 
 /// How an error of the query is told.
 fn refusal_of(error: Error) -> Result<(), Open>
-    ensures { Tells error result }
+    ensures { TellsError error result }
 {
     if is_stop(&error) {
         Err(Open::Fault(fault_of(error)))

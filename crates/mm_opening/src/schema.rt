@@ -3,7 +3,7 @@
 ghost use Rattle.std.specs.Prelude.{◌≡◌};
 ghost use Rattle.sqlite.specs.Held.{state};
 ghost use Rattle.mm_schema.specs.Tables.{schema};
-ghost use Rattle.mm_schema.specs.Made.{first_of, with_pieces};
+ghost use Rattle.mm_schema.specs.Made.{first_tables, with_pieces};
 ghost use Rattle.mm_opening.specs.Opening.{IsCreating};
 
 use mm_definitions::answers::Fault;
@@ -13,7 +13,7 @@ use sqlite::{Alter, Transaction};
 /// Makes the tables of systems, contents, matrix sets and matrices.
 fn create_pyramid_tables<S: Alter>(tx: &mut Transaction<'_, S>) -> Result<(), Fault>
     ensures same_reference { tx.new.conn.ghost_name ≡ tx.old.conn.ghost_name }
-    ensures made { IsCreating (first_of 0) (state S.Store tx.old.conn.now) (state S.Store tx.new.conn.now) (first_of 4) result }
+    ensures made { IsCreating (first_tables 0) (state S.Store tx.old.conn.now) (state S.Store tx.new.conn.now) (first_tables 4) result }
 {
     run(
         tx,
@@ -40,7 +40,7 @@ fn create_pyramid_tables<S: Alter>(tx: &mut Transaction<'_, S>) -> Result<(), Fa
 /// Makes the tables of extensions, relations and the profile.
 fn create_further_tables<S: Alter>(tx: &mut Transaction<'_, S>) -> Result<(), Fault>
     ensures same_reference { tx.new.conn.ghost_name ≡ tx.old.conn.ghost_name }
-    ensures made { IsCreating (first_of 4) (state S.Store tx.old.conn.now) (state S.Store tx.new.conn.now) (first_of 7) result }
+    ensures made { IsCreating (first_tables 4) (state S.Store tx.old.conn.now) (state S.Store tx.new.conn.now) (first_tables 7) result }
 {
     run(
         tx,
@@ -62,7 +62,7 @@ fn create_further_tables<S: Alter>(tx: &mut Transaction<'_, S>) -> Result<(), Fa
 /// Makes the tables of kinds, tiles, attribute rows and media.
 fn create_content_tables<S: Alter>(tx: &mut Transaction<'_, S>) -> Result<(), Fault>
     ensures same_reference { tx.new.conn.ghost_name ≡ tx.old.conn.ghost_name }
-    ensures made { IsCreating (first_of 7) (state S.Store tx.old.conn.now) (state S.Store tx.new.conn.now) (first_of 11) result }
+    ensures made { IsCreating (first_tables 7) (state S.Store tx.old.conn.now) (state S.Store tx.new.conn.now) (first_tables 11) result }
 {
     run(
         tx,
@@ -89,7 +89,7 @@ fn create_content_tables<S: Alter>(tx: &mut Transaction<'_, S>) -> Result<(), Fa
 /// Makes the tables of mapping rows, editions and pieces.
 fn create_edition_tables<S: Alter>(tx: &mut Transaction<'_, S>) -> Result<(), Fault>
     ensures same_reference { tx.new.conn.ghost_name ≡ tx.old.conn.ghost_name }
-    ensures made { IsCreating (first_of 11) (state S.Store tx.old.conn.now) (state S.Store tx.new.conn.now) (first_of 14) result }
+    ensures made { IsCreating (first_tables 11) (state S.Store tx.old.conn.now) (state S.Store tx.new.conn.now) (first_tables 14) result }
 {
     run(
         tx,
@@ -111,7 +111,7 @@ fn create_edition_tables<S: Alter>(tx: &mut Transaction<'_, S>) -> Result<(), Fa
 /// Makes the table of blobs, and the indexes that find a blob by its digest and what names it.
 fn create_blob_table<S: Alter>(tx: &mut Transaction<'_, S>) -> Result<(), Fault>
     ensures same_reference { tx.new.conn.ghost_name ≡ tx.old.conn.ghost_name }
-    ensures made { IsCreating (first_of 14) (state S.Store tx.old.conn.now) (state S.Store tx.new.conn.now) with_pieces result }
+    ensures made { IsCreating (first_tables 14) (state S.Store tx.old.conn.now) (state S.Store tx.new.conn.now) with_pieces result }
 {
     run(
         tx,
@@ -139,7 +139,7 @@ fn create_mapping_index<S: Alter>(tx: &mut Transaction<'_, S>) -> Result<(), Fau
 /// Makes the 15 tables and the five indexes where there is none.
 pub(crate) fn create_tables<S: Alter>(tx: &mut Transaction<'_, S>) -> Result<(), Fault>
     ensures same_reference { tx.new.conn.ghost_name ≡ tx.old.conn.ghost_name }
-    ensures made { IsCreating (first_of 0) (state S.Store tx.old.conn.now) (state S.Store tx.new.conn.now) schema result }
+    ensures made { IsCreating (first_tables 0) (state S.Store tx.old.conn.now) (state S.Store tx.new.conn.now) schema result }
 {
     create_pyramid_tables(tx)?;
     create_further_tables(tx)?;

@@ -7,10 +7,10 @@ use Rattle.serde_json.specs.Written.{compact_text, has_float, items_have_float}
 use Rattle.mm_definitions.specs.Package.{Box}
 use Rattle.mm_reads.specs.Listing.{Listed}
 use Rattle.mm_reads.specs.Related.{Mate}
-use Rattle.mm_page.specs.Lists.{mate_data, table_data, table_data_at, whole}
+use Rattle.mm_page.specs.Lists.{mate_data, table_data, table_data_at, whole_number}
 
--- a whole number is no float
-whole_clean : (z : ℤ) → has_float (whole z) ≡ false
+-- a whole_number number is no float
+whole_clean : (z : ℤ) → has_float (whole_number z) ≡ false
 whole_clean (pos n) = refl
 whole_clean (negsuc n) = refl
 

@@ -4,7 +4,7 @@ use Rattle.httparse.proofs.GrammarLemmas.{request_unique}
 use Rattle.mm_definitions.specs.Package.{Package}
 use Rattle.mm_definitions.specs.Keys.{Text}
 use Rattle.mm_definitions.proofs.ReadingFacts.{spells_one}
-use Rattle.mm_routes.specs.Asked.{Asks, Contents, Media, Related, Tile, Wanted}
+use Rattle.mm_routes.specs.Asked.{IsRouted, Contents, Media, Related, Tile, Wanted}
 use Rattle.mm_routes.specs.Responses.{response_of}
 use Rattle.mm_routes.specs.Routes.{IsPart}
 use Rattle.mm_routes.proofs.NumberFacts.{name_part, spelled_part}
@@ -25,7 +25,7 @@ tiles_one path t z c r t2 z2 c2 r2 e f pt pt2 pz pz2 pc pc2 =
     (a1, a2, a3, b3)
 
 -- a path asks for one thing
-pub asks_one : (path : Text) (w v : Wanted) → Asks path w → Asks path v → w ≡ v
+pub asks_one : (path : Text) (w v : Wanted) → IsRouted path w → IsRouted path v → w ≡ v
 asks_one path (Tile t n d e) (Tile t2 n2 d2 e2) (z, c, r, is, name, nz, nc, nr) (z2, c2, r2, is2, name2, nz2, nc2, nr2) =
     let (a1, a2, a3, a4) = tiles_one path t z c r t2 z2 c2 r2 is is2 (name_part t name) (name_part t2 name2) (spelled_part z n nz.0) (spelled_part z2 n2 nz2.0) (spelled_part c d nc.0) (spelled_part c2 d2 nc2.0) in
     let q1 : n ≡ n2 = spells_one z2 n n2 (rw a2 at nz.0) nz2.0 in

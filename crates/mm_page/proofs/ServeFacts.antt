@@ -1,7 +1,7 @@
 -- What is handed on from one result to the next.
 use Rattle.std.proofs.Common.{◌≡◌, Result, Ok, Err, IfOk}
 use Rattle.mm_definitions.specs.declared.answers.Fault.{Fault}
-use Rattle.mm_page.specs.Served.{Gives}
+use Rattle.mm_page.specs.Served.{ShowsValue}
 
 pub told : {A E F : Type 0} (P : A → Type 0) (r : Result A F) (made : Result A E) → IfOk r (λ v. made ≡ Ok v) → IfOk made P → IfOk r P
 told P (Err f) made e h = tt
@@ -17,10 +17,10 @@ under P (Err f) h = tt
 under P (Ok v) h = h
 
 -- an answer that shows a part is one that equals it
-pub gives : {A B : Type 0} (shown : A → B) (part : B) (r : Result A Fault) → IfOk r (λ v. shown v ≡ part) → Gives shown part r
+pub gives : {A B : Type 0} (shown : A → B) (part : B) (r : Result A Fault) → IfOk r (λ v. shown v ≡ part) → ShowsValue shown part r
 gives shown part (Ok v) h = h
 gives shown part (Err f) h = tt
 
-pub given : {A B : Type 0} (shown : A → B) (part : B) (r : Result A Fault) → Gives shown part r → IfOk r (λ v. shown v ≡ part)
+pub given : {A B : Type 0} (shown : A → B) (part : B) (r : Result A Fault) → ShowsValue shown part r → IfOk r (λ v. shown v ≡ part)
 given shown part (Ok v) h = h
 given shown part (Err f) h = tt

@@ -9,9 +9,9 @@ use Rattle.mm_definitions.specs.Package.{Box}
 use Rattle.mm_reads.specs.Listing.{Listed}
 use Rattle.mm_reads.specs.Related.{Mate}
 
--- a whole number, as JSON
-abbrev pub whole : ℤ → Data
-whole z = number (of_integer z)
+-- a whole_number number, as JSON
+abbrev pub whole_number : ℤ → Data
+whole_number z = number (of_integer z)
 
 -- a text that every package that meets the rules has
 abbrev pub words : Option Text → Data
@@ -19,12 +19,12 @@ words text = string (unwrap_or text [])
 
 -- what an item is related to by one mapping row: the related id, the mapping, the relation's name and the related table
 abbrev pub mate_data : Mate → Data
-mate_data m = object (member (codes "id") (whole m.id) (member (codes "mapping") (string m.mapping)
+mate_data m = object (member (codes "id") (whole_number m.id) (member (codes "mapping") (string m.mapping)
     (member (codes "name") (words m.name) (member (codes "table") (words m.table) no_members))))
 
 -- an extent: min_x, min_y, max_x and max_y, in micrometres
 abbrev pub extent_data : Box → Data
-extent_data b = array (item (whole b.min_x) (item (whole b.min_y) (item (whole b.max_x) (item (whole b.max_y) no_items))))
+extent_data b = array (item (whole_number b.min_x) (item (whole_number b.min_y) (item (whole_number b.max_x) (item (whole_number b.max_y) no_items))))
 
 -- A pyramid has its place, and the data type `tiles`; every other table has none, and the data type `attributes`.
 abbrev pub table_data_at : Listed → Option (ℤ × Box) → Data
@@ -33,7 +33,7 @@ table_data_at t None = object (member (codes "data_type") (string (codes "attrib
     (member (codes "last_change") (string t.last_change) (member (codes "table") (string t.table) no_members)))))
 table_data_at t (Some (system, extent)) = object (member (codes "data_type") (string (codes "tiles")) (member (codes "extent") (extent_data extent)
     (member (codes "identifier") (string t.identifier) (member (codes "kind") (words t.kind)
-    (member (codes "last_change") (string t.last_change) (member (codes "srs_id") (whole system) (member (codes "table") (string t.table) no_members)))))))
+    (member (codes "last_change") (string t.last_change) (member (codes "srs_id") (whole_number system) (member (codes "table") (string t.table) no_members)))))))
 
 -- a table, with its system and its extent where it is a pyramid
 abbrev pub table_data : Listed → Data

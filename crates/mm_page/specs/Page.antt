@@ -6,11 +6,11 @@ use Rattle.httparse.specs.Grammar.{RequestHead}
 use Rattle.mm_definitions.specs.Keys.{Text, item}
 use Rattle.mm_definitions.specs.Keys as keys
 use Rattle.mm_definitions.specs.Package.{Package}
-use Rattle.mm_routes.specs.Asked.{Asks, Contents, Media, Related, Tile, Wanted}
+use Rattle.mm_routes.specs.Asked.{IsRouted, Contents, Media, Related, Tile, Wanted}
 use Rattle.mm_routes.specs.Heads.{IsHead}
 use Rattle.mm_routes.specs.Responses.{BadRequest, Found, NotAllowed, NotFound, Reply, response_of}
 use Rattle.mm_page.specs.Lists.{mates_text, tables_text}
-use Rattle.mm_page.specs.Shown.{mates, tables}
+use Rattle.mm_page.specs.Shown.{mates, shown_tables}
 
 -- 404 where nothing stands
 abbrev pub where_found : {A : Type 0} → Option A → (A → Reply) → Reply
@@ -22,7 +22,7 @@ abbrev pub reply_of : Package → Wanted → Reply
 reply_of p (Tile table zoom column row) = where_found (get p.tiles (keys.tile table zoom column row)) (λ bytes. Found (codes "application/octet-stream") bytes)
 reply_of p (Media table id) = where_found (get p.media (item table id)) (λ medium. Found medium.content_type medium.bytes)
 reply_of p (Related table id) = where_found (mates p table id) (λ found. Found (codes "application/json") (mates_text found))
-reply_of p Contents = Found (codes "application/json") (tables_text (tables p))
+reply_of p Contents = Found (codes "application/json") (tables_text (shown_tables p))
 
 -- the target before its first question mark
 abbrev pub path_of : Text → Text
@@ -31,8 +31,8 @@ path_of target = before_first (λ b. b == 63) target
 -- the bytes answer a path: 404 where it asks for nothing
 abbrev pub WritesTo : Package → Text → Text → Type 0
 WritesTo p path bytes =
-    ((w : Wanted) × Asks path w × (bytes ≡ response_of (reply_of p w)))
-    ⊎ (((w : Wanted) → ¬ (Asks path w)) × (bytes ≡ response_of NotFound))
+    ((w : Wanted) × IsRouted path w × (bytes ≡ response_of (reply_of p w)))
+    ⊎ (((w : Wanted) → ¬ (IsRouted path w)) × (bytes ≡ response_of NotFound))
 
 -- the bytes answer a request's method and target: 405 to every method but GET
 abbrev pub Writes : Package → Text → Text → Text → Type 0

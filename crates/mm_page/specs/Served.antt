@@ -11,7 +11,7 @@ use Rattle.mm_store.specs.Seen.{IsSeenAs}
 use Rattle.mm_store.specs.Stands.{IsSettled}
 use Rattle.mm_store.specs.Statements.{CommitsNothing}
 use Rattle.httparse.specs.Grammar.{RequestHead}
-use Rattle.mm_routes.specs.Asked.{Asks, Wanted}
+use Rattle.mm_routes.specs.Asked.{IsRouted, Wanted}
 use Rattle.mm_routes.specs.Heads.{IsHead}
 use Rattle.mm_page.specs.Page.{Page, path_of}
 
@@ -28,13 +28,13 @@ abbrev pub IsOn : Bool → State → State → Package → Type 0
 IsOn failed old new p = failed ≡ false → HasCleanDisk new × Meets current p × IsSeenAs current old p
 
 -- an answer shows this value, and a fault shows nothing
-abbrev pub Gives : {A B : Type 0} → (A → B) → B → Result A Fault → Type 0
-Gives shown value (Ok a) = shown a ≡ value
-Gives shown value (Err fault) = ⊤
+abbrev pub ShowsValue : {A B : Type 0} → (A → B) → B → Result A Fault → Type 0
+ShowsValue shown value (Ok a) = shown a ≡ value
+ShowsValue shown value (Err fault) = ⊤
 
 -- an answer shows that part of each package that the session is on; a fault shows nothing
-abbrev pub Answers : {A B : Type 0} → (Package → Type 0) → (A → B) → (Package → B) → Result A Fault → Type 0
-Answers on shown part result = (p : Package) → on p → Gives shown (part p) result
+abbrev pub ShowsPart : {A B : Type 0} → (Package → Type 0) → (A → B) → (Package → B) → Result A Fault → Type 0
+ShowsPart on shown part result = (p : Package) → on p → ShowsValue shown (part p) result
 
 -- 90 want of memory, 91 the store, and 92 of a session that has to be opened again
 abbrev pub IsPageFault : Bool → Fault → Type 0
@@ -63,4 +63,4 @@ Stopped failed on source reading old new writing fault =
 
 -- the input asks for a part of the package
 abbrev pub AsksForPart : Option Text → Type 0
-AsksForPart source = (input : Text) → source ≡ Some input → (h : RequestHead) × IsHead 8192 64 input h × (h.method ≡ codes "GET") × (w : Wanted) × Asks (path_of h.target) w
+AsksForPart source = (input : Text) → source ≡ Some input → (h : RequestHead) × IsHead 8192 64 input h × (h.method ≡ codes "GET") × (w : Wanted) × IsRouted (path_of h.target) w

@@ -4,7 +4,7 @@ ghost use Rattle.std.specs.Prelude.{◌≡◌, IfOk, map, string_bytes};
 ghost use Rattle.serde_json.specs.View.{view};
 ghost use Rattle.mm_definitions.specs.Package.{kind_text};
 ghost use Rattle.mm_reads.specs.Listing as listing;
-ghost use Rattle.mm_reads.specs.Related.{told};
+ghost use Rattle.mm_reads.specs.Related.{mate_told};
 ghost use Rattle.mm_page.specs.Lists.{mate_data, mates_text, table_data, tables_text};
 
 use mm_definitions::commands::Kind;
@@ -25,7 +25,7 @@ fn word_of(kind: Kind) -> &'static str
 }
 
 fn mate_value(alloc: Global, mate: &Related) -> Result<Value, AllocError>
-    ensures { IfOk result (λ v. view v ≡ mate_data (told mate.now)) }
+    ensures { IfOk result (λ v. view v ≡ mate_data (mate_told mate.now)) }
 {
     json!(in alloc; {
         "id": mate.id,
@@ -36,7 +36,7 @@ fn mate_value(alloc: Global, mate: &Related) -> Result<Value, AllocError>
 }
 
 fn table_value(alloc: Global, entry: &Entry) -> Result<Value, AllocError>
-    ensures { IfOk result (λ v. view v ≡ table_data (listing.told entry.now)) }
+    ensures { IfOk result (λ v. view v ≡ table_data (listing.table_told entry.now)) }
 {
     match entry.place {
         Some((system, extent)) => json!(in alloc; {
@@ -60,7 +60,7 @@ fn table_value(alloc: Global, entry: &Entry) -> Result<Value, AllocError>
 
 /// What an item is related to, as JSON.
 pub fn mates_json(alloc: Global, mates: &[Related]) -> Result<String, AllocError>
-    ensures { IfOk result (λ s. string_bytes s ≡ mates_text (map told mates.now)) }
+    ensures { IfOk result (λ s. string_bytes s ≡ mates_text (map mate_told mates.now)) }
 {
     let mut values = Vec::new(alloc);
     for mate in mates {
@@ -71,7 +71,7 @@ pub fn mates_json(alloc: Global, mates: &[Related]) -> Result<String, AllocError
 
 /// The tables as JSON.
 pub fn tables_json(alloc: Global, tables: &[Entry]) -> Result<String, AllocError>
-    ensures { IfOk result (λ s. string_bytes s ≡ tables_text (map listing.told tables.now)) }
+    ensures { IfOk result (λ s. string_bytes s ≡ tables_text (map listing.table_told tables.now)) }
 {
     let mut values = Vec::new(alloc);
     for entry in tables {

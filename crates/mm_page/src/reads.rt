@@ -5,12 +5,12 @@ ghost use Rattle.std.specs.FinMap.{get};
 ghost use Rattle.sqlite.specs.Held.{state};
 ghost use Rattle.mm_definitions.specs.Keys.{item};
 ghost use Rattle.mm_definitions.specs.Keys as keys;
-ghost use Rattle.mm_reads.specs.Told.{medium_of};
+ghost use Rattle.mm_reads.specs.Told.{medium_told};
 ghost use Rattle.mm_reads.specs.Listing as listing;
-ghost use Rattle.mm_reads.specs.Related.{told};
-ghost use Rattle.mm_core.specs.Parts.{held, has_failed};
-ghost use Rattle.mm_page.specs.Served.{Answers, IsOn, IsPageFault, LeavesPackage};
-ghost use Rattle.mm_page.specs.Shown.{mates, tables};
+ghost use Rattle.mm_reads.specs.Related.{mate_told};
+ghost use Rattle.mm_core.specs.Parts.{held, must_reopen};
+ghost use Rattle.mm_page.specs.Served.{ShowsPart, IsOn, IsPageFault, LeavesPackage};
+ghost use Rattle.mm_page.specs.Shown.{mates, shown_tables};
 
 use mm_core::Session;
 use mm_definitions::answers::Fault;
@@ -26,11 +26,11 @@ pub fn read_tile<S: Alter>(
     column: u32,
     row: u32,
 ) -> Result<Option<Vec<u8>>, Fault>
-    ensures same { has_failed session.new ≡ has_failed session.old }
+    ensures same { must_reopen session.new ≡ must_reopen session.old }
     ensures kept { LeavesPackage (state S.Store (held session.old)) (state S.Store (held session.new)) }
-    ensures value { Answers (IsOn (has_failed session.old) (state S.Store (held session.old)) (state S.Store (held session.new)))
+    ensures value { ShowsPart (IsOn (must_reopen session.old) (state S.Store (held session.old)) (state S.Store (held session.new)))
         (option_map (λ v. v.items)) (λ p. get p.tiles (keys.tile table.now (pos zoom) (pos column) (pos row))) result }
-    ensures fault { IfErr result (IsPageFault (has_failed session.old)) }
+    ensures fault { IfErr result (IsPageFault (must_reopen session.old)) }
 {
     session.tile(table, zoom, column, row)
 }
@@ -41,11 +41,11 @@ pub fn read_media<S: Alter>(
     table: &Name,
     id: i64,
 ) -> Result<Option<Media>, Fault>
-    ensures same { has_failed session.new ≡ has_failed session.old }
+    ensures same { must_reopen session.new ≡ must_reopen session.old }
     ensures kept { LeavesPackage (state S.Store (held session.old)) (state S.Store (held session.new)) }
-    ensures value { Answers (IsOn (has_failed session.old) (state S.Store (held session.old)) (state S.Store (held session.new)))
-        (option_map medium_of) (λ p. get p.media (item table.now id)) result }
-    ensures fault { IfErr result (IsPageFault (has_failed session.old)) }
+    ensures value { ShowsPart (IsOn (must_reopen session.old) (state S.Store (held session.old)) (state S.Store (held session.new)))
+        (option_map medium_told) (λ p. get p.media (item table.now id)) result }
+    ensures fault { IfErr result (IsPageFault (must_reopen session.old)) }
 {
     session.media(table, id)
 }
@@ -56,22 +56,22 @@ pub fn read_mates<S: Alter>(
     table: &Name,
     id: i64,
 ) -> Result<Option<Vec<Related>>, Fault>
-    ensures same { has_failed session.new ≡ has_failed session.old }
+    ensures same { must_reopen session.new ≡ must_reopen session.old }
     ensures kept { LeavesPackage (state S.Store (held session.old)) (state S.Store (held session.new)) }
-    ensures value { Answers (IsOn (has_failed session.old) (state S.Store (held session.old)) (state S.Store (held session.new)))
-        (option_map (λ v. map told v.items)) (λ p. mates p table.now id) result }
-    ensures fault { IfErr result (IsPageFault (has_failed session.old)) }
+    ensures value { ShowsPart (IsOn (must_reopen session.old) (state S.Store (held session.old)) (state S.Store (held session.new)))
+        (option_map (λ v. map mate_told v.items)) (λ p. mates p table.now id) result }
+    ensures fault { IfErr result (IsPageFault (must_reopen session.old)) }
 {
     session.related(table, id)
 }
 
-/// The tables by rising name.
+/// The shown_tables by rising name.
 pub fn read_tables<S: Alter>(session: &mut Session<S>) -> Result<Vec<Entry>, Fault>
-    ensures same { has_failed session.new ≡ has_failed session.old }
+    ensures same { must_reopen session.new ≡ must_reopen session.old }
     ensures kept { LeavesPackage (state S.Store (held session.old)) (state S.Store (held session.new)) }
-    ensures value { Answers (IsOn (has_failed session.old) (state S.Store (held session.old)) (state S.Store (held session.new)))
-        (λ v. map listing.told v.items) tables result }
-    ensures fault { IfErr result (IsPageFault (has_failed session.old)) }
+    ensures value { ShowsPart (IsOn (must_reopen session.old) (state S.Store (held session.old)) (state S.Store (held session.new)))
+        (λ v. map listing.table_told v.items) shown_tables result }
+    ensures fault { IfErr result (IsPageFault (must_reopen session.old)) }
 {
     session.contents()
 }

@@ -2,12 +2,12 @@
 
 ghost use Rattle.std.specs.Prelude.{◌≡◌, pos, IfErr, IfOk, Ok};
 ghost use Rattle.sqlite.specs.Held.{state};
-ghost use Rattle.mm_core.specs.Parts.{held, has_failed};
+ghost use Rattle.mm_core.specs.Parts.{held, must_reopen};
 ghost use Rattle.mm_routes.specs.Asked as page;
 ghost use Rattle.mm_routes.specs.Responses.{response_of};
 ghost use Rattle.mm_routes.specs.Routes.{asked};
 ghost use Rattle.mm_page.specs.Page.{reply_of};
-ghost use Rattle.mm_page.specs.Served.{Answers, IsOn, IsPageFault, LeavesPackage};
+ghost use Rattle.mm_page.specs.Served.{ShowsPart, IsOn, IsPageFault, LeavesPackage};
 
 use crate::lists::{mates_json, tables_json};
 use crate::reads::{read_mates, read_media, read_tables, read_tile};
@@ -38,11 +38,11 @@ fn tile_reply<S: Alter>(
     column: u32,
     row: u32,
 ) -> Result<Vec<u8>, Fault>
-    ensures same { has_failed session.new ≡ has_failed session.old }
+    ensures same { must_reopen session.new ≡ must_reopen session.old }
     ensures kept { LeavesPackage (state S.Store (held session.old)) (state S.Store (held session.new)) }
-    ensures reply { Answers (IsOn (has_failed session.old) (state S.Store (held session.old)) (state S.Store (held session.new)))
+    ensures reply { ShowsPart (IsOn (must_reopen session.old) (state S.Store (held session.old)) (state S.Store (held session.new)))
         (λ v. v.items) (λ p. response_of (reply_of p (page.Tile table.now (pos zoom) (pos column) (pos row)))) result }
-    ensures fault { IfErr result (IsPageFault (has_failed session.old)) }
+    ensures fault { IfErr result (IsPageFault (must_reopen session.old)) }
 {
     match read_tile(session, table, zoom, column, row)? {
         Some(bytes) => printed(found(alloc, "application/octet-stream", &bytes)),
@@ -56,11 +56,11 @@ fn media_reply<S: Alter>(
     table: &Name,
     id: i64,
 ) -> Result<Vec<u8>, Fault>
-    ensures same { has_failed session.new ≡ has_failed session.old }
+    ensures same { must_reopen session.new ≡ must_reopen session.old }
     ensures kept { LeavesPackage (state S.Store (held session.old)) (state S.Store (held session.new)) }
-    ensures reply { Answers (IsOn (has_failed session.old) (state S.Store (held session.old)) (state S.Store (held session.new)))
+    ensures reply { ShowsPart (IsOn (must_reopen session.old) (state S.Store (held session.old)) (state S.Store (held session.new)))
         (λ v. v.items) (λ p. response_of (reply_of p (page.Media table.now id))) result }
-    ensures fault { IfErr result (IsPageFault (has_failed session.old)) }
+    ensures fault { IfErr result (IsPageFault (must_reopen session.old)) }
 {
     match read_media(session, table, id)? {
         Some(media) => printed(found(alloc, media.content_type.as_str(), media.bytes.as_slice())),
@@ -74,11 +74,11 @@ fn related_reply<S: Alter>(
     table: &Name,
     id: i64,
 ) -> Result<Vec<u8>, Fault>
-    ensures same { has_failed session.new ≡ has_failed session.old }
+    ensures same { must_reopen session.new ≡ must_reopen session.old }
     ensures kept { LeavesPackage (state S.Store (held session.old)) (state S.Store (held session.new)) }
-    ensures reply { Answers (IsOn (has_failed session.old) (state S.Store (held session.old)) (state S.Store (held session.new)))
+    ensures reply { ShowsPart (IsOn (must_reopen session.old) (state S.Store (held session.old)) (state S.Store (held session.new)))
         (λ v. v.items) (λ p. response_of (reply_of p (page.Related table.now id))) result }
-    ensures fault { IfErr result (IsPageFault (has_failed session.old)) }
+    ensures fault { IfErr result (IsPageFault (must_reopen session.old)) }
 {
     match read_mates(session, table, id)? {
         Some(mates) => match mates_json(alloc, &mates) {
@@ -90,11 +90,11 @@ fn related_reply<S: Alter>(
 }
 
 fn contents_reply<S: Alter>(alloc: Global, session: &mut Session<S>) -> Result<Vec<u8>, Fault>
-    ensures same { has_failed session.new ≡ has_failed session.old }
+    ensures same { must_reopen session.new ≡ must_reopen session.old }
     ensures kept { LeavesPackage (state S.Store (held session.old)) (state S.Store (held session.new)) }
-    ensures reply { Answers (IsOn (has_failed session.old) (state S.Store (held session.old)) (state S.Store (held session.new)))
+    ensures reply { ShowsPart (IsOn (must_reopen session.old) (state S.Store (held session.old)) (state S.Store (held session.new)))
         (λ v. v.items) (λ p. response_of (reply_of p page.Contents)) result }
-    ensures fault { IfErr result (IsPageFault (has_failed session.old)) }
+    ensures fault { IfErr result (IsPageFault (must_reopen session.old)) }
 {
     let tables = read_tables(session)?;
     match tables_json(alloc, &tables) {
@@ -109,11 +109,11 @@ pub fn reply<S: Alter>(
     session: &mut Session<S>,
     wanted: Wanted,
 ) -> Result<Vec<u8>, Fault>
-    ensures same { has_failed session.new ≡ has_failed session.old }
+    ensures same { must_reopen session.new ≡ must_reopen session.old }
     ensures kept { LeavesPackage (state S.Store (held session.old)) (state S.Store (held session.new)) }
-    ensures reply { Answers (IsOn (has_failed session.old) (state S.Store (held session.old)) (state S.Store (held session.new)))
+    ensures reply { ShowsPart (IsOn (must_reopen session.old) (state S.Store (held session.old)) (state S.Store (held session.new)))
         (λ v. v.items) (λ p. response_of (reply_of p (asked wanted))) result }
-    ensures fault { IfErr result (IsPageFault (has_failed session.old)) }
+    ensures fault { IfErr result (IsPageFault (must_reopen session.old)) }
 {
     match wanted {
         Wanted::Tile {

@@ -6,10 +6,10 @@ ghost use Rattle.mm_definitions.specs.Keys.{Text};
 ghost use Rattle.mm_definitions.specs.Package.{Package};
 ghost use Rattle.mm_definitions.specs.Streams.{inside};
 ghost use Rattle.mm_definitions.specs.Streams as streams;
-ghost use Rattle.mm_core.specs.Parts.{held, has_failed};
+ghost use Rattle.mm_core.specs.Parts.{held, must_reopen};
 ghost use Rattle.mm_page.specs.Page.{Page, Writes, WritesTo};
 ghost use Rattle.mm_page.specs.Page as page;
-ghost use Rattle.mm_routes.specs.Asked.{Asks, Wanted};
+ghost use Rattle.mm_routes.specs.Asked.{IsRouted, Wanted};
 ghost use Rattle.mm_routes.specs.Heads.{ReadsNoMore};
 ghost use Rattle.mm_page.specs.Served.{AsksForPart, IsOn, IsPageFault, LeavesPackage, Served, ServedTo, Stopped};
 
@@ -48,12 +48,12 @@ fn path_response<S: Alter>(
     session: &mut Session<S>,
     path: &str,
 ) -> Result<Vec<u8>, Fault>
-    ensures same { has_failed session.new ≡ has_failed session.old }
+    ensures same { must_reopen session.new ≡ must_reopen session.old }
     ensures kept { LeavesPackage (state S.Store (held session.old)) (state S.Store (held session.new)) }
-    ensures response { (p : Package) → IsOn (has_failed session.old) (state S.Store (held session.old))
+    ensures response { (p : Package) → IsOn (must_reopen session.old) (state S.Store (held session.old))
         (state S.Store (held session.new)) p → IfOk result (λ v. WritesTo p path.now v.items) }
-    ensures needed { IfErr result (λ fault. fault.0 ≡ 92 → (w : Wanted) × Asks path.now w) }
-    ensures fault { IfErr result (IsPageFault (has_failed session.old)) }
+    ensures needed { IfErr result (λ fault. fault.0 ≡ 92 → (w : Wanted) × IsRouted path.now w) }
+    ensures fault { IfErr result (IsPageFault (must_reopen session.old)) }
 {
     match read_path(alloc, path)? {
         Some(wanted) => reply(alloc, session, wanted),
@@ -69,12 +69,12 @@ fn head_response<S: Alter>(
     target: &[u8],
 ) -> Result<Vec<u8>, Fault>
     requires text { IsUtf8 target.now }
-    ensures same { has_failed session.new ≡ has_failed session.old }
+    ensures same { must_reopen session.new ≡ must_reopen session.old }
     ensures kept { LeavesPackage (state S.Store (held session.old)) (state S.Store (held session.new)) }
-    ensures response { (p : Package) → IsOn (has_failed session.old) (state S.Store (held session.old))
+    ensures response { (p : Package) → IsOn (must_reopen session.old) (state S.Store (held session.old))
         (state S.Store (held session.new)) p → IfOk result (λ v. Writes p method.now target.now v.items) }
-    ensures needed { IfErr result (λ fault. fault.0 ≡ 92 → (method.now ≡ codes "GET") × (w : Wanted) × Asks (page.path_of target.now) w) }
-    ensures fault { IfErr result (IsPageFault (has_failed session.old)) }
+    ensures needed { IfErr result (λ fault. fault.0 ≡ 92 → (method.now ≡ codes "GET") × (w : Wanted) × IsRouted (page.path_of target.now) w) }
+    ensures fault { IfErr result (IsPageFault (must_reopen session.old)) }
 {
     if !is_get(method) {
         return printed(not_allowed(alloc));
@@ -91,15 +91,15 @@ fn respond<S: Alter, R: Read>(
     session: &mut Session<S>,
     reader: &mut Io<R>,
 ) -> Result<Vec<u8>, Fault>
-    ensures same { has_failed session.new ≡ has_failed session.old }
+    ensures same { must_reopen session.new ≡ must_reopen session.old }
     ensures kept { LeavesPackage (state S.Store (held session.old)) (state S.Store (held session.new)) }
-    ensures response { IfOk result (λ v. Served (IsOn (has_failed session.old) (state S.Store (held session.old))
+    ensures response { IfOk result (λ v. Served (IsOn (must_reopen session.old) (state S.Store (held session.old))
         (state S.Store (held session.new))) (R.remaining (inside reader.old)) v.items) }
     ensures frugal { OnOk result (ReadsNoMore 8192 (R.remaining (inside reader.old)) (R.remaining (inside reader.new))) }
     ensures frugal_fault { IfErr result (λ fault. (fault.0 ≡ 96)
         ⊎ ReadsNoMore 8192 (R.remaining (inside reader.old)) (R.remaining (inside reader.new))) }
     ensures needed { IfErr result (λ fault. fault.0 ≡ 92 → AsksForPart (R.remaining (inside reader.old))) }
-    ensures fault { IfErr result (λ fault. IsPageFault (has_failed session.old) fault
+    ensures fault { IfErr result (λ fault. IsPageFault (must_reopen session.old) fault
         ⊎ ((fault.0 ≡ 96) × (streams.has_failed reader.new ≡ true))) }
 {
     let mut buf = [0; 8192];
@@ -127,9 +127,9 @@ pub fn serve_one<S: Alter, R: Read, W: Write>(
     reader: &mut Io<R>,
     writer: &mut Io<W>,
 ) -> Result<(), PageFault>
-    ensures same { has_failed session.new ≡ has_failed session.old }
+    ensures same { must_reopen session.new ≡ must_reopen session.old }
     ensures kept { LeavesPackage (state S.Store (held session.old)) (state S.Store (held session.new)) }
-    ensures served { OnOk result (ServedTo (IsOn (has_failed session.old) (state S.Store (held session.old))
+    ensures served { OnOk result (ServedTo (IsOn (must_reopen session.old) (state S.Store (held session.old))
         (state S.Store (held session.new)))
         (R.remaining (inside reader.old)) (W.contents (inside writer.old)) (W.contents (inside writer.new))) }
     ensures working { OnOk result (streams.has_failed writer.new ≡ streams.has_failed writer.old) }
@@ -137,8 +137,8 @@ pub fn serve_one<S: Alter, R: Read, W: Write>(
     ensures frugal_fault { IfErr result (λ e. (e.0.0 ≡ 96)
         ⊎ ReadsNoMore 8192 (R.remaining (inside reader.old)) (R.remaining (inside reader.new))) }
     ensures needed { IfErr result (λ e. e.0.0 ≡ 92 → AsksForPart (R.remaining (inside reader.old))) }
-    ensures stopped { IfErr result (λ e. Stopped (has_failed session.old)
-        (IsOn (has_failed session.old) (state S.Store (held session.old)) (state S.Store (held session.new)))
+    ensures stopped { IfErr result (λ e. Stopped (must_reopen session.old)
+        (IsOn (must_reopen session.old) (state S.Store (held session.old)) (state S.Store (held session.new)))
         (R.remaining (inside reader.old)) (streams.has_failed reader.new) (W.contents (inside writer.old))
         (W.contents (inside writer.new)) (streams.has_failed writer.new) e.0) }
 {

@@ -8,7 +8,7 @@ use Rattle.std.proofs.lemmas.List.Elements.{All-append, All-cons}
 use Rattle.std.proofs.lemmas.List.Folds.{concat-append}
 use Rattle.mm_definitions.specs.declared.answers.Fault.{Fault}
 use Rattle.mm_definitions.specs.declared.answers.PageFault.{PageFault}
-use Rattle.mm_subcommands.specs.Pages.{IsPrinted, IsServed, IsServiceFault, Outcome, TellsMore, fault_lines, faults_of, page_fault_text, status_of}
+use Rattle.mm_subcommands.specs.Pages.{IsPrinted, IsServed, IsServiceFault, Outcome, TellsMore, fault_lines, faults_of, page_fault_text, service_status}
 use Rattle.mm_definitions.specs.Streams.{written_as}
 
 -- ---- one more outcome
@@ -32,7 +32,7 @@ lines-more outcomes why =
     ap (λ l. concat (map page_fault_text l)) (faults-err outcomes why) ∙ ap concat (map-append page_fault_text (faults_of outcomes) (why.0 ∷ []))
     ∙ concat-append (map page_fault_text (faults_of outcomes)) (page_fault_text why.0 ∷ []) ∙ ap (λ l. fault_lines outcomes ++ l) (append-nil (page_fault_text why.0))
 
-status-more : (faults : List Fault) (fault : Fault) → status_of (faults ++ fault ∷ []) ≡ 3
+status-more : (faults : List Fault) (fault : Fault) → service_status (faults ++ fault ∷ []) ≡ 3
 status-more [] fault = refl
 status-more (first ∷ rest) fault = refl
 
@@ -67,7 +67,7 @@ pub record Told (count : ℕ) (log now : Option (List Outcome)) (old new : Optio
   pub all : All IsServiceFault (faults_of outcomes)
   pub text : Appends old new (fault_lines outcomes)
   pub working : failed ≡ before
-  pub status_is : status ≡ status_of (faults_of outcomes)
+  pub status_is : status ≡ service_status (faults_of outcomes)
 
 -- none yet
 pub told_none : (log : Option (List Outcome)) (held : Option (List ℕ)) (working : Bool) → Told 0 log log held held working working 0
@@ -86,7 +86,7 @@ told_on count log mid now old new before failed status done it more =
       all = subst (All IsServiceFault) (sym same) it.all;
       text = subst (λ l. Appends old new (concat (map page_fault_text l))) (sym same) it.text;
       working = it.working;
-      status_is = it.status_is ∙ ap status_of (sym same);
+      status_is = it.status_is ∙ ap service_status (sym same);
     }
 
 -- one more, with a fault that was printed whole
@@ -100,7 +100,7 @@ told_more count log mid now old held new before between failed status why it mor
   all = all_more it.outcomes why it.all is;
   text = subst (λ l. Appends old new l) (sym (lines-more it.outcomes why)) (Appends-trans _ _ _ _ _ it.text printed.0);
   working = printed.1 ∙ it.working;
-  status_is = sym (ap status_of (faults-err it.outcomes why) ∙ status-more (faults_of it.outcomes) why.0);
+  status_is = sym (ap service_status (faults-err it.outcomes why) ∙ status-more (faults_of it.outcomes) why.0);
 }
 
 -- what is promised of so many at most, by what tells them

@@ -17,12 +17,12 @@ abbrev pub WasServed : ℕ → ℕ → Written → Written → Type 0
 WasServed port count old new = (status : ℕ) × (status ≢ 3) × IsServing port count old new status
 
 -- nothing was printed
-abbrev pub IsQuiet : Written → Written → Type 0
-IsQuiet old new = (new.contents ≡ old.contents) × (new.failed ≡ old.failed)
+abbrev pub PrintsNothing : Written → Written → Type 0
+PrintsNothing old new = (new.contents ≡ old.contents) × (new.failed ≡ old.failed)
 
 -- The package was served; or why it was not is told, which is also told where the files could not be closed behind a service without a fault.
 abbrev pub TellsServe : ℕ → ℕ → Written → Written → ℕ → Type 0
 TellsServe port count old new result =
     IsServing port count old new result
-    ⊎ ((why : Stop) × (between : Written) × (IsQuiet old between ⊎ WasServed port count old between)
+    ⊎ ((why : Stop) × (between : Written) × (PrintsNothing old between ⊎ WasServed port count old between)
     × IsTold between new (stop_text why) (stop_status why) result)

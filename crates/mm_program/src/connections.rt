@@ -4,7 +4,7 @@ ghost use Rattle.std.specs.Prelude.{◌≡◌, ◌∷◌, [], IfErr, List, Optio
 ghost use Rattle.sqlite.specs.Held.{state};
 ghost use Rattle.mm_definitions.specs.Streams.{written};
 ghost use Rattle.mm_definitions.specs.Streams as streams;
-ghost use Rattle.mm_core.specs.Parts.{held, has_failed};
+ghost use Rattle.mm_core.specs.Parts.{held, must_reopen};
 ghost use Rattle.mm_page.specs.Served.{LeavesPackage};
 ghost use Rattle.mm_subcommands.specs.Pages.{IsServed, IsServiceFault, Outcome, TellsMore};
 
@@ -23,7 +23,7 @@ pub trait Serves<S: Alter> {
 
     /// Serves the next connection; the session stays as it is.
     fn serve_next(&mut self, alloc: Global, session: &mut Session<S>) -> Result<(), PageFault>
-        ensures same { has_failed session.new ≡ has_failed session.old }
+        ensures same { must_reopen session.new ≡ must_reopen session.old }
         ensures kept { LeavesPackage (state S.Store (held session.old)) (state S.Store (held session.new)) }
         ensures fault { IfErr result (λ why. IsServiceFault why.0) }
         ensures told { TellsMore (outcomes self.old) (outcomes self.new) (result ∷ []) };
@@ -39,7 +39,7 @@ pub fn serve_on<S: Alter, L: Serves<S>, W: Write>(
     count: u32,
     output: &mut Io<W>,
 ) -> u8
-    ensures same { has_failed session.new ≡ has_failed session.old }
+    ensures same { must_reopen session.new ≡ must_reopen session.old }
     ensures kept { LeavesPackage (state S.Store (held session.old)) (state S.Store (held session.new)) }
     ensures served { (outcomes : List Outcome) × TellsMore (L.outcomes listener.old) (L.outcomes listener.new) outcomes
         × IsServed count outcomes (written W.contents output.old) (written W.contents output.new) result }

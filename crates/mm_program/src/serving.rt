@@ -4,7 +4,7 @@ ghost use Rattle.std.specs.Prelude.{◌≡◌, ◌≤◌, ◌⊎◌, IfErr, IfOk
 ghost use Rattle.mm_definitions.specs.Streams.{written};
 ghost use Rattle.mm_definitions.specs.Streams as streams;
 ghost use Rattle.mm_subcommands.specs.Told.{TellsFailure};
-ghost use Rattle.mm_program.specs.Served.{IsQuiet, IsServing, TellsServe, WasServed};
+ghost use Rattle.mm_program.specs.Served.{PrintsNothing, IsServing, TellsServe, WasServed};
 
 use crate::connections::{Serves, serve_on};
 use crate::files::{close_after, close_files, open_old};
@@ -109,7 +109,7 @@ fn serve_file<S: Start, W: Write>(
     ensures working { IfOk result (λ status. (status ≡ 3) ⊎ (streams.has_failed output.new ≡ streams.has_failed output.old)) }
     ensures served { IfOk result (IsServing port count (written W.contents output.old) (written W.contents output.new)) }
     ensures unused { IfErr result (λ why. streams.has_failed output.new ≡ streams.has_failed output.old) }
-    ensures stopped { IfErr result (λ why. IsQuiet (written W.contents output.old) (written W.contents output.new)
+    ensures stopped { IfErr result (λ why. PrintsNothing (written W.contents output.old) (written W.contents output.new)
         ⊎ WasServed port count (written W.contents output.old) (written W.contents output.new)) }
 {
     let conn = open_old(rt, path, start)?;

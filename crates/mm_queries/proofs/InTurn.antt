@@ -12,9 +12,9 @@ use Rattle.mm_store.proofs.Shapes.{quiet_then}
 use Rattle.mm_store.specs.Seen.{IsSeenAs}
 use Rattle.mm_queries.specs.Check.{IsCheck}
 use Rattle.mm_queries.proofs.Compose.{as_told}
-use Rattle.mm_queries.specs.InTurn.{either, HoldsBelow, HasPassed}
+use Rattle.mm_queries.specs.InTurn.{chosen, HoldsBelow, HasPassed}
 
-pub either_holds : (b : Bool) (A B : Type 0) → A → B → either b A B
+pub either_holds : (b : Bool) (A B : Type 0) → A → B → chosen b A B
 either_holds true A B a b = a
 either_holds false A B a b = b
 

@@ -20,9 +20,9 @@ bytes_of (Blob bytes) = Some bytes
 bytes_of _ = None
 
 -- the bytes of the text, UTF-8 or not, where the value is a text
-abbrev pub words_of : Value → Option (List ℕ)
-words_of (Words text) = Some text
-words_of _ = None
+abbrev pub text_bytes : Value → Option (List ℕ)
+text_bytes (Words text) = Some text
+text_bytes _ = None
 
 -- no text that is UTF-8
 abbrev pub Unread : Option (List ℕ) → Type 0
@@ -31,7 +31,7 @@ Unread (Some text) = IsUtf8 text → ⊥
 
 -- the text of the kind of a pyramid
 abbrev pub IsPyramidKind : Value → Type 0
-IsPyramidKind v = (words_of v ≡ Some (codes "two")) ⊎ (words_of v ≡ Some (codes "other"))
+IsPyramidKind v = (text_bytes v ≡ Some (codes "two")) ⊎ (text_bytes v ≡ Some (codes "other"))
 
 -- two texts that are the same
 abbrev pub same_words_by : Value → Value → Type 0

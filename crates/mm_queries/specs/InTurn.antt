@@ -8,9 +8,9 @@ use Rattle.mm_store.specs.Stands.{IsSettled}
 use Rattle.mm_store.specs.Statements.{CommitsNothing}
 
 -- the first of two where the test is true, else the second
-abbrev pub either : Bool → Type 0 → Type 0 → Type 0
-either true A B = A
-either false A B = B
+abbrev pub chosen : Bool → Type 0 → Type 0 → Type 0
+chosen true A B = A
+chosen false A B = B
 
 -- each rule of a numbered family holds from 1 to k - 1
 abbrev pub HoldsBelow : (ℕ → Package → Type 0) → ℕ → Package → Type 0

@@ -3,7 +3,7 @@
 ghost use Rattle.std.specs.Prelude.{◌≡◌, ◌↔◌, Some, None, IsTrue, MatchOption};
 ghost use Rattle.sqlite_value.specs.Value.{owned};
 ghost use Rattle.sqlite.specs.Order.{column};
-ghost use Rattle.mm_queries.specs.Columns.{number_of, is_there, words_of, IsPyramidKind, same_words_by, bytes_of, Unread};
+ghost use Rattle.mm_queries.specs.Columns.{number_of, is_there, text_bytes, IsPyramidKind, same_words_by, bytes_of, Unread};
 
 use sqlite::Row;
 use sqlite::types::ValueRef;
@@ -47,7 +47,7 @@ pub fn same_number(row: &Row, at: usize, other: usize) -> bool
 
 /// Whether a column holds this text.
 pub fn text_is(row: &Row, at: usize, text: &str) -> bool
-    ensures { IsTrue result ↔ words_of (column row.now at) ≡ Some text.now }
+    ensures { IsTrue result ↔ text_bytes (column row.now at) ≡ Some text.now }
 {
     match value(row, at) {
         ValueRef::Text(bytes) => bytes == text.as_bytes(),
@@ -74,7 +74,7 @@ pub fn is_pyramid(row: &Row, at: usize) -> bool
 
 /// The bytes of the text in a column.
 pub fn words(row: &Row, at: usize) -> Option<&[u8]>
-    ensures { MatchOption result (words_of (column row.now at) ≡ None) (λ bytes. words_of (column row.now at) ≡ Some bytes.now) }
+    ensures { MatchOption result (text_bytes (column row.now at) ≡ None) (λ bytes. text_bytes (column row.now at) ≡ Some bytes.now) }
 {
     match value(row, at) {
         ValueRef::Text(bytes) => Some(bytes),
@@ -84,7 +84,7 @@ pub fn words(row: &Row, at: usize) -> Option<&[u8]>
 
 /// The text in a column, where it is UTF-8.
 pub fn text(row: &Row, at: usize) -> Option<&str>
-    ensures { MatchOption result (Unread (words_of (column row.now at))) (λ text. words_of (column row.now at) ≡ Some text.now) }
+    ensures { MatchOption result (Unread (text_bytes (column row.now at))) (λ text. text_bytes (column row.now at) ≡ Some text.now) }
 {
     match words(row, at) {
         Some(bytes) => match std::str::from_utf8(bytes) {

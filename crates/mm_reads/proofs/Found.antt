@@ -20,7 +20,7 @@ use Rattle.mm_store.specs.Rows.{past_rowid, attribute_row, MediumRow, medium_row
 use Rattle.mm_store.proofs.Keys as parts
 use Rattle.mm_store.proofs.Keys.{by_item}
 use Rattle.mm_store.proofs.Parts.{IsPart, finds_none, finds_some}
-use Rattle.mm_reads.specs.Told.{TellsBytes, Gives, ShowsMedium, IsRowOf, ShowsRow, medium_of, row_of}
+use Rattle.mm_reads.specs.Told.{TellsBytes, Gives, ShowsMedium, IsMediumRow, ShowsRow, medium_told, row_told}
 
 pub same_words : {a b : Text} → Words a ≡ Words b → a ≡ b
 same_words e = cc
@@ -29,8 +29,8 @@ pub same_int : {a b : ℤ} → Int a ≡ Int b → a ≡ b
 same_int e = cc
 
 -- what is told of the row that the query shows is the entry
-module _ {K V T : Type 0} {R : K → K → Ordering} {part : Row → Row} {row_of : K → V → Row} {test : K → Row → Bool} (it : IsPart R part row_of test) (rows : List Row) (m : FinMap R V) (h : Holds part row_of rows m) (k : K)
-    (show : Row → Row) (Shows : Row → T → Type 0) (of : T → V) (tells : (r : Row) (v : V) (x : T) → part r ≡ row_of k v → Shows (show r) x → v ≡ of x) where
+module _ {K V T : Type 0} {R : K → K → Ordering} {part : Row → Row} {row_told : K → V → Row} {test : K → Row → Bool} (it : IsPart R part row_told test) (rows : List Row) (m : FinMap R V) (h : Holds part row_told rows m) (k : K)
+    (show : Row → Row) (Shows : Row → T → Type 0) (of : T → V) (tells : (r : Row) (v : V) (x : T) → part r ≡ row_told k v → Shows (show r) x → v ≡ of x) where
   pub entry_found : (o : Option T) (first : Option Row) → Gives Shows o first → Finds (test k) show rows first → get m k ≡ option_map of o
   entry_found None first gives found = finds_none it rows m h k show (subst (Finds (test k) show rows) gives found)
   entry_found (Some x) first gives found =
@@ -48,25 +48,25 @@ module _ (rows : List Row) (ids : FinMap item_cmp MediumRow) (h : Holds past_row
   abbrev medium_shown : Row → Row
   medium_shown = shows (col 1 3 ∷ col 1 4 ∷ []) params
 
-  by_row : (first : Option Row) → Finds (by_item k) medium_shown rows first → IsRowOf (get ids k) first
-  by_row None found = subst (λ o. IsRowOf o None) (sym (finds_none parts.media rows ids h k medium_shown found)) tt
+  by_row : (first : Option Row) → Finds (by_item k) medium_shown rows first → IsMediumRow (get ids k) first
+  by_row None found = subst (λ o. IsMediumRow o None) (sym (finds_none parts.media rows ids h k medium_shown found)) tt
   by_row (Some row) found =
       let at = finds_some parts.media rows ids h k medium_shown row found in
-      subst (λ o. IsRowOf o (Some row)) (sym at.1) (subst (λ r. ShowsMedium r at.0) (sym at.4) (record { blob = columns_are at.2 (medium_row k at.0) 2 at.3; content_type = columns_are at.2 (medium_row k at.0) 3 at.3 }))
+      subst (λ o. IsMediumRow o (Some row)) (sym at.1) (subst (λ r. ShowsMedium r at.0) (sym at.4) (record { blob = columns_are at.2 (medium_row k at.0) 2 at.3; content_type = columns_are at.2 (medium_row k at.0) 3 at.3 }))
 
-  pub medium_found : (x first : Option Row) → x ≡ first → Finds (by_item k) medium_shown rows first → IsRowOf (get ids k) x
-  medium_found x first gives found = subst (IsRowOf (get ids k)) (sym gives) (by_row first found)
+  pub medium_found : (x first : Option Row) → x ≡ first → Finds (by_item k) medium_shown rows first → IsMediumRow (get ids k) x
+  medium_found x first gives found = subst (IsMediumRow (get ids k)) (sym gives) (by_row first found)
 
 -- the medium of a row, with the bytes of the blob that it names
-pub medium_told : (shelf : Shelf) (o : Option MediumRow) (entry : Option Medium) (row : Row) (m : Media) → IsRowOf o (Some row) → Told medium_id medium_with shelf o entry
-    → ((r : MediumRow) → ShowsMedium row r → (bytes_at shelf r.blob ≡ Some m.bytes) × (r.content_type ≡ m.content_type)) → entry ≡ Some (medium_of m)
+pub medium_told : (shelf : Shelf) (o : Option MediumRow) (entry : Option Medium) (row : Row) (m : Media) → IsMediumRow o (Some row) → Told medium_id medium_with shelf o entry
+    → ((r : MediumRow) → ShowsMedium row r → (bytes_at shelf r.blob ≡ Some m.bytes) × (r.content_type ≡ m.content_type)) → entry ≡ Some (medium_told m)
 medium_told shelf None entry row m is told tells = absurd is
 medium_told shelf (Some r) entry row m is told tells =
     let it = tells r is in
     let bytes : told.0 ≡ m.bytes = same_some (sym told.1 ∙ it.0) in
     told.2 ∙ (λ i. Some (record { bytes = bytes i; content_type = it.1 i }))
 
-pub no_medium : (shelf : Shelf) (o : Option MediumRow) (entry : Option Medium) → IsRowOf o None → Told medium_id medium_with shelf o entry → entry ≡ None
+pub no_medium : (shelf : Shelf) (o : Option MediumRow) (entry : Option Medium) → IsMediumRow o None → Told medium_id medium_with shelf o entry → entry ≡ None
 no_medium shelf None entry is told = told
 no_medium shelf (Some r) entry is told = absurd is
 
@@ -74,7 +74,7 @@ no_medium shelf (Some r) entry is told = absurd is
 pub tile_told : (shelf : Shelf) (id : ℤ) (entry : Option (List ℕ)) (bytes : List ℕ) → Told tile_id tile_with shelf (Some id) entry → bytes_at shelf id ≡ Some bytes → entry ≡ Some bytes
 tile_told shelf id entry bytes told is = told.2 ∙ ap Some (same_some (sym told.1 ∙ is))
 
-pub row_told : (k : Item) (params r : Row) (v : AttributeRow) (x : RowTold) → past_rowid r ≡ attribute_row k v → ShowsRow (shows (col 1 3 ∷ col 1 4 ∷ col 1 5 ∷ []) params r) x → v ≡ row_of x
+pub row_told : (k : Item) (params r : Row) (v : AttributeRow) (x : RowTold) → past_rowid r ≡ attribute_row k v → ShowsRow (shows (col 1 3 ∷ col 1 4 ∷ col 1 5 ∷ []) params r) x → v ≡ row_told x
 row_told k params r v x is shown =
     let a = same_words (sym (columns_are r (attribute_row k v) 2 is) ∙ shown.title) in
     let b = same_words (sym (columns_are r (attribute_row k v) 3 is) ∙ shown.note) in

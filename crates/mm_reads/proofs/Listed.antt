@@ -41,7 +41,7 @@ use Rattle.mm_definitions.specs.declared.extents.Extent.{Extent}
 use Rattle.mm_store.specs.Rows.{past_rowid, contents_row, kind_row, maybe}
 use Rattle.mm_store.proofs.Keys as parts
 use Rattle.mm_store.proofs.Keys.{by_text}
-use Rattle.mm_reads.specs.Listing.{placed, listed, place_told, told, Lists, IsShown, ShowsPlaceOf, ShowsEntry}
+use Rattle.mm_reads.specs.Listing.{placed, listed, place_told, table_told, ListsTables, IsShown, ShowsPlaceOf, ShowsEntry}
 use Rattle.mm_reads.proofs.Found.{same_words}
 use Rattle.mm_reads.proofs.InOrder.{Picks, picked, Enters, entered, all_entered, entries_are}
 
@@ -171,8 +171,8 @@ module _ (p : Package) (tables kinds : List Row) (ht : Holds past_rowid contents
   kind_is k (Some kind) xs one t is =
       ap Some (same_words (sym (columns_are one.0 (kind_row k kind) 1 one.2) ∙ ap (λ ys. column (first_or_none ys) 2) (sym one.1) ∙ is))
 
-  -- what is told of a row is what the package has
-  told_is : (r : Row) (k : Text) (c : Contents) → past_rowid r ≡ contents_row k c → (e : Entry) → ShowsEntry (show kinds r) e → told e ≡ listed p (k, c)
+  -- what is table_told of a row is what the package has
+  told_is : (r : Row) (k : Text) (c : Contents) → past_rowid r ≡ contents_row k c → (e : Entry) → ShowsEntry (show kinds r) e → table_told e ≡ listed p (k, c)
   told_is r k c is e it =
       let table = same_words (sym it.table ∙ columns_are r (contents_row k c) 0 is) in
       let got = kind_is k (get p.kinds k) (filter (joins r) kinds)
@@ -185,8 +185,8 @@ module _ (p : Package) (tables kinds : List Row) (ht : Holds past_rowid contents
       ∙ ap (λ o. if tiled o then placed c.system c.min_x c.min_y c.max_x c.max_y else None) (sym got) in
       λ i. record { table = table i; kind = sym got i; identifier = identifier i; last_change = last_change i; place = place i }
 
-  told_all : (ys : List Row) (all : AllByRecursion (Enters parts.contents tables p.contents ht ut) ys) (es : List Entry) → ShowsAll (map (show kinds) ys) es → map told es ≡ map (listed p) (entered parts.contents tables p.contents ht ut ys all)
-  told_all [] all es none = ap (map told) none
+  told_all : (ys : List Row) (all : AllByRecursion (Enters parts.contents tables p.contents ht ut) ys) (es : List Entry) → ShowsAll (map (show kinds) ys) es → map table_told es ≡ map (listed p) (entered parts.contents tables p.contents ht ut ys all)
+  told_all [] all es none = ap (map table_told) none
   told_all (y ∷ ys) all [] it = absurd it
   told_all (y ∷ ys) all (e ∷ es) it =
       let one = told_is y all.0.0 all.0.1 all.0.3 e it.0 in
@@ -205,7 +205,7 @@ module _ (p : Package) (tables kinds : List Row) (ht : Holds past_rowid contents
     rises_as r s k l c d is also low =
         ap is_gt (sym (value_cmp-Text k l) ∙ sym (then-Equal (value_cmp (Words k) (Words l)))) ∙ rw (columns_are r (contents_row k c) 0 is, columns_are s (contents_row l d) 0 also) at low
 
-    pub lists_tables : (rows : List Row) → IsAnswer (query joined [] shown by_name no_limit) db [] rows → (es : List Entry) → ShowsAll rows es → Lists p es
+    pub lists_tables : (rows : List Row) → IsAnswer (query joined [] shown by_name no_limit) db [] rows → (es : List Entry) → ShowsAll rows es → ListsTables p es
     lists_tables rows a es it =
         let found = in_order joined [] shown by_name db [] rows a (env_at kinds) tables matched in
         let all = all_entered parts.contents tables p.contents ht ut (InOrder joined [] shown by_name db [] rows a (env_at kinds) tables matched) rises_as found.0 found.1 in

@@ -33,7 +33,7 @@ use Rattle.mm_definitions.proofs.KeyLaws.{texts, numbers, pairing_keys}
 use Rattle.mm_laws.proofs.KindFacts.{at_true, are_same}
 use Rattle.mm_store.specs.Rows.{past_rowid, past_id, relation_row, pairing_row}
 use Rattle.mm_items.proofs.Ends.{base_tells}
-use Rattle.mm_reads.specs.Related.{is_from, mapping_rows, mate, told, Lists, ShowsRelated}
+use Rattle.mm_reads.specs.Related.{is_from, mapping_rows, mate, mate_told, ListsMates, ShowsRelated}
 use Rattle.mm_reads.proofs.Asked.{terms, asked}
 use Rattle.mm_reads.proofs.Distinct.{distinct_map}
 use Rattle.mm_reads.proofs.Mates.{IsMatch, IsMate, out, ties, env, passing, mate_of, mate_key, cmp_is, one_key, match_of, beside, beside_has, has_beside, all_apart}
@@ -56,7 +56,7 @@ both : (a b : Bool) → T a → T b → T (a && b)
 both true b p q = q
 both false b p q = p
 
--- each row shows the entry that is told of it
+-- each row shows the entry that is mate_told of it
 abbrev pub ShowsAll : List Row → List Related → Type 0
 ShowsAll [] items = items ≡ []
 ShowsAll (r ∷ rows) [] = ⊥
@@ -115,9 +115,9 @@ module _ (p : Package) (table : Text) (id : ℤ) where
       later off (o, inl same, a, is) = absurd (off (sym is ∙ one_key p table id o x a all.0 (ap (ties o) (sym same) ∙ ap is_eq (tied_itself (output_cmp_total asked) o))))
       later off (o, inr there, a, is) = (o, there, a, is)
 
-  -- ---- what is told of them
+  -- ---- what is mate_told of them
 
-  told_is : (o : Output) (a : Is o) (t : Related) → ShowsRelated o.1 t → told t ≡ mate p (a.key, tt)
+  told_is : (o : Output) (a : Is o) (t : Related) → ShowsRelated o.1 t → mate_told t ≡ mate p (a.key, tt)
   told_is o a t it =
       let mapping = same_words (sym it.mapping ∙ ap (λ (r : Row). column r 0) a.shows) in
       let name = same_words (sym it.name ∙ ap (λ (r : Row). column r 1) a.shows) in
@@ -127,8 +127,8 @@ module _ (p : Package) (table : Text) (id : ℤ) where
       let mated = ap Some other ∙ sym (ap (option_map (λ (r : Relation). r.related)) a.related) in
       λ i. record { mapping = mapping i; name = named i; table = mated i; id = number i }
 
-  told_all : (xs : List Output) (all : AllByRecursion Is xs) (items : List Related) → ShowsAll (map (λ (o : Output). o.1) xs) items → map told items ≡ map (mate p) (entered xs all)
-  told_all [] all items none = ap (map told) none
+  told_all : (xs : List Output) (all : AllByRecursion Is xs) (items : List Related) → ShowsAll (map (λ (o : Output). o.1) xs) items → map mate_told items ≡ map (mate p) (entered xs all)
+  told_all [] all items none = ap (map mate_told) none
   told_all (x ∷ xs) all [] it = absurd it
   told_all (x ∷ xs) all (t ∷ items) it =
       let one = told_is x all.0 t it.0 in
@@ -171,7 +171,7 @@ module _ (p : Package) (table : Text) (id : ℤ) where
           mate_key p table id r.0 m.0 it,
         )
 
-    pub lists_mates : (rows : List Row) → IsAnswer asked db params rows → (items : List Related) → ShowsAll rows items → Lists p table id items
+    pub lists_mates : (rows : List Row) → IsAnswer asked db params rows → (items : List Related) → ShowsAll rows items → ListsMates p table id items
     lists_mates rows a items it =
         let kept : a.kept ≡ map out envs = a.distinct ∙ ap (map out) (a.grouped ∙ matched) in
         let same : IsPermutation (map out envs) a.ordered = subst (λ k. IsPermutation k a.ordered) kept a.same in

@@ -16,13 +16,13 @@ use Rattle.mm_store.specs.Seen.{IsSeenAs, IsRead}
 use Rattle.mm_store.proofs.Seen.{settled_still}
 use Rattle.mm_walk.specs.Walk.{Takes, Ends, IsWalk}
 use Rattle.mm_walk.proofs.Resting.{seen_still, ends_rest}
-use Rattle.mm_reads.specs.Listing.{Gathers, Lists}
+use Rattle.mm_reads.specs.Listing.{GathersTables, ListsTables}
 use Rattle.mm_reads.proofs.Asking.{list_asks}
 use Rattle.mm_reads.proofs.Listed.{list_text, list_tables, ShowsAll, lists_tables}
 
 -- ---- the walk of a visitor that keeps what it gathers
 
-module _ {V : Type 0} (takes : V → Row → V → Result Bool Fault → Type 0) (items : V → List Entry) (gathers : (v u : V) (row : Row) (result : Result Bool Fault) → takes v row u result → Gathers (items v) row (items u) result) where
+module _ {V : Type 0} (takes : V → Row → V → Result Bool Fault → Type 0) (items : V → List Entry) (gathers : (v u : V) (row : Row) (result : Result Bool Fault) → takes v row u result → GathersTables (items v) row (items u) result) where
   gathered : (v w : V) (rows : List Row) → Takes takes v rows w → (es : List Entry) × (items w ≡ items v ++ es) × ShowsAll rows es
   gathered v w [] same = ([], ap items (sym same) ∙ sym (append-nil (items v)), refl)
   gathered v w (r ∷ rows) (u, step, more) =
@@ -32,7 +32,7 @@ module _ {V : Type 0} (takes : V → Row → V → Result Bool Fault → Type 0)
 
   module _ (old new : State) (v w : V) (empty : items v ≡ []) where
     module _ (profile : Profile) where
-      tables_told : (p : Package) → IsSeenAs profile old p → (result : Result Bool Fault) → Ends takes list_text [] old new v w result → IfOk result (λ _. Lists p (items w))
+      tables_told : (p : Package) → IsSeenAs profile old p → (result : Result Bool Fault) → Ends takes list_text [] old new v w result → IfOk result (λ _. ListsTables p (items w))
       tables_told p it (Err fault) h = tt
       tables_told p it (Ok false) h = absurd (let e : false ≡ true = (gathers h.before w h.last (Ok false) h.ends).0 in cc)
       tables_told p it (Ok true) h =
@@ -40,7 +40,7 @@ module _ {V : Type 0} (takes : V → Row → V → Result Bool Fault → Type 0)
           let read = shows_as old new list_text [] schema at.schema_is _ list_tables.compiled list_tables.plain list_tables.unlisted h.rows h.shown in
           let all = gathered v w h.rows h.taken in
           let holds = at.stands.holds in
-          subst (Lists p) (sym (all.1 ∙ ap (λ es. es ++ all.0) empty))
+          subst (ListsTables p) (sym (all.1 ∙ ap (λ es. es ++ all.0) empty))
           (lists_tables p (tables_of schema old.now.trees 1) (tables_of schema old.now.trees 13) holds.contents holds.kinds (at.stands.rows 1).rise (at.stands.rows 13).rise _ (no_overlay old.now.trees 1) (no_overlay old.now.trees 13) h.rows (read.0.answer Null) all.0 all.2)
 
       -- the entries, where the walk came to its end
@@ -50,7 +50,7 @@ module _ {V : Type 0} (takes : V → Row → V → Result Bool Fault → Type 0)
       Found (Err fault) (Ok entries) = ⊥
       Found (Err fault) (Err other) = fault ≡ other
 
-      pub read_by_walk : (result : Result Bool Fault) (last : Result (Vec Entry Global) Fault) → IsWalk takes list_text [] old new v w result → Found result last → IsRead profile old new (λ p (tables : Vec Entry Global). Lists p tables.items) last
+      pub read_by_walk : (result : Result Bool Fault) (last : Result (Vec Entry Global) Fault) → IsWalk takes list_text [] old new v w result → Found result last → IsRead profile old new (λ p (tables : Vec Entry Global). ListsTables p tables.items) last
       read_by_walk result last it found = record {
         survives = it.survives (list_asks old.now.schema);
         seen = seen;
@@ -62,8 +62,8 @@ module _ {V : Type 0} (takes : V → Row → V → Result Bool Fault → Type 0)
           seen : HasCleanDisk new → (p : Package) → IsSeenAs profile old p → IsSeenAs profile new p
           seen clean p = seen_still profile old new p (ends_rest takes list_text [] old new v w result (it.walked clean (list_asks old.now.schema)))
 
-          says : (p : Package) (result : Result Bool Fault) (last : Result (Vec Entry Global) Fault) → Found result last → IfOk result (λ _. Lists p (items w)) → IfOk last (λ tables. Lists p tables.items)
-          says p (Ok goes) (Ok entries) same h = subst (Lists p) (sym same) h
+          says : (p : Package) (result : Result Bool Fault) (last : Result (Vec Entry Global) Fault) → Found result last → IfOk result (λ _. ListsTables p (items w)) → IfOk last (λ tables. ListsTables p tables.items)
+          says p (Ok goes) (Ok entries) same h = subst (ListsTables p) (sym same) h
           says p (Err fault) (Ok entries) none h = absurd none
           says p result (Err fault) found h = tt
 

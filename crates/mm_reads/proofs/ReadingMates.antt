@@ -19,7 +19,7 @@ use Rattle.mm_store.proofs.Seen.{settled_still}
 use Rattle.mm_store.proofs.Shapes.{quiet_then}
 use Rattle.mm_walk.specs.Walk.{Takes, Ends, IsWalk}
 use Rattle.mm_walk.proofs.Resting.{seen_still, ends_rest}
-use Rattle.mm_reads.specs.Related.{Gathers, Lists}
+use Rattle.mm_reads.specs.Related.{GathersMates, ListsMates}
 use Rattle.mm_reads.proofs.Asked as asked
 use Rattle.mm_reads.proofs.Asked.{listed_text}
 use Rattle.mm_reads.proofs.OnlyAsks.{only_asks}
@@ -34,7 +34,7 @@ Found gathered (Ok goes) (Err fault) = ⊥
 Found gathered (Err fault) (Ok found) = ⊥
 Found gathered (Err fault) (Err other) = fault ≡ other
 
-module _ {V : Type 0} (takes : V → Row → V → Result Bool Fault → Type 0) (items : V → List Related) (gathers : (v u : V) (row : Row) (result : Result Bool Fault) → takes v row u result → Gathers (items v) row (items u) result) where
+module _ {V : Type 0} (takes : V → Row → V → Result Bool Fault → Type 0) (items : V → List Related) (gathers : (v u : V) (row : Row) (result : Result Bool Fault) → takes v row u result → GathersMates (items v) row (items u) result) where
   gathered : (v w : V) (rows : List Row) → Takes takes v rows w → (found : List Related) × (items w ≡ items v ++ found) × ShowsAll rows found
   gathered v w [] same = ([], ap items (sym same) ∙ sym (append-nil (items v)), refl)
   gathered v w (r ∷ rows) (u, step, more) =
@@ -44,7 +44,7 @@ module _ {V : Type 0} (takes : V → Row → V → Result Bool Fault → Type 0)
 
   module _ (table : Text) (id : ℤ) (given : Row) (same : given ≡ Words table ∷ Int id ∷ []) (old new : State) (v w : V) (empty : items v ≡ []) where
     module _ (profile : Profile) where
-      items_told : (p : Package) → IsSeenAs profile old p → (result : Result Bool Fault) → Ends takes listed_text given old new v w result → IfOk result (λ _. Lists p table id (items w))
+      items_told : (p : Package) → IsSeenAs profile old p → (result : Result Bool Fault) → Ends takes listed_text given old new v w result → IfOk result (λ _. ListsMates p table id (items w))
       items_told p it (Err fault) h = tt
       items_told p it (Ok false) h = absurd (let e : false ≡ true = (gathers h.before w h.last (Ok false) h.ends).0 in cc)
       items_told p it (Ok true) h =
@@ -53,10 +53,10 @@ module _ {V : Type 0} (takes : V → Row → V → Result Bool Fault → Type 0)
           let read = shows_as old new listed_text params schema at.schema_is _ asked.listed.compiled asked.listed.plain asked.listed.unlisted h.rows (subst (λ x. Shown listed_text x old new h.rows) same h.shown) in
           let all = gathered v w h.rows h.taken in
           let holds = at.stands.holds in
-          subst (Lists p table id) (sym (all.1 ∙ ap (λ found. found ++ all.0) empty))
+          subst (ListsMates p table id) (sym (all.1 ∙ ap (λ found. found ++ all.0) empty))
           (lists_mates p table id (tables_of schema old.now.trees 10) (tables_of schema old.now.trees 21) holds.relations holds.pairings (at.stands.rows 10).rise (at.stands.rows 21).rise _ (no_overlay old.now.trees 10) (no_overlay old.now.trees 21) h.rows (read.0.answer Null) all.0 all.2)
 
-      pub read_by_walk : (result : Result Bool Fault) (last : Result (Vec Related Global) Fault) → IsWalk takes listed_text given old new v w result → Found (items w) result last → IsRead profile old new (λ p (found : Vec Related Global). Lists p table id found.items) last
+      pub read_by_walk : (result : Result Bool Fault) (last : Result (Vec Related Global) Fault) → IsWalk takes listed_text given old new v w result → Found (items w) result last → IsRead profile old new (λ p (found : Vec Related Global). ListsMates p table id found.items) last
       read_by_walk result last it found = record {
         survives = it.survives (only_asks old.now.schema);
         seen = seen;
@@ -68,8 +68,8 @@ module _ {V : Type 0} (takes : V → Row → V → Result Bool Fault → Type 0)
           seen : HasCleanDisk new → (p : Package) → IsSeenAs profile old p → IsSeenAs profile new p
           seen clean p = seen_still profile old new p (ends_rest takes listed_text given old new v w result (it.walked clean (only_asks old.now.schema)))
 
-          says : (p : Package) (result : Result Bool Fault) (last : Result (Vec Related Global) Fault) → Found (items w) result last → IfOk result (λ _. Lists p table id (items w)) → IfOk last (λ found. Lists p table id found.items)
-          says p (Ok goes) (Ok found) same h = subst (Lists p table id) (sym same) h
+          says : (p : Package) (result : Result Bool Fault) (last : Result (Vec Related Global) Fault) → Found (items w) result last → IfOk result (λ _. ListsMates p table id (items w)) → IfOk last (λ found. ListsMates p table id found.items)
+          says p (Ok goes) (Ok found) same h = subst (ListsMates p table id) (sym same) h
           says p (Err fault) (Ok found) none h = absurd none
           says p result (Err fault) found h = tt
 

@@ -41,17 +41,17 @@ mate p e = record {
   id = e.0.related_id;
 }
 
--- the same of an entry that is told
-abbrev pub told : Related → Mate
-told r = record { mapping = r.mapping; name = Some r.name; table = Some r.table; id = r.id }
+-- the same of an entry that is mate_told
+abbrev pub mate_told : Related → Mate
+mate_told r = record { mapping = r.mapping; name = Some r.name; table = Some r.table; id = r.id }
 
 -- the entries are what the item's mapping rows relate to, in their order
-abbrev pub Lists : Package → Text → ℤ → List Related → Type 0
-Lists p table id items = map told items ≡ map (mate p) (mapping_rows p table id)
+abbrev pub ListsMates : Package → Text → ℤ → List Related → Type 0
+ListsMates p table id items = map mate_told items ≡ map (mate p) (mapping_rows p table id)
 
 -- None exactly where there is no such item
-abbrev pub Tells : {A : Type 0} → Package → Text → ℤ → Option (Vec Related A) → Type 0
-Tells p table id found = MatchOption found (is_item p table id ≡ false) (λ items. (is_item p table id ≡ true) × Lists p table id items.items)
+abbrev pub TellsMates : {A : Type 0} → Package → Text → ℤ → Option (Vec Related A) → Type 0
+TellsMates p table id found = MatchOption found (is_item p table id ≡ false) (λ items. (is_item p table id ≡ true) × ListsMates p table id items.items)
 
 -- ---- the rows
 
@@ -63,5 +63,5 @@ pub record ShowsRelated (row : Row) (r : Related) : Type 0 where
   pub id : column row 3 ≡ Int r.id
 
 -- one more item is gathered, which the row shows
-abbrev pub Gathers : List Related → Row → List Related → Result Bool Fault → Type 0
-Gathers old row new result = MatchResult result (λ goes. (goes ≡ true) × (r : Related) × ShowsRelated row r × (new ≡ old ++ r ∷ [])) IsStoreFault
+abbrev pub GathersMates : List Related → Row → List Related → Result Bool Fault → Type 0
+GathersMates old row new result = MatchResult result (λ goes. (goes ≡ true) × (r : Related) × ShowsRelated row r × (new ≡ old ++ r ∷ [])) IsStoreFault

@@ -13,12 +13,12 @@ abbrev pub TellsBytes : {A : Type 0} → Option (List ℕ) → Option (Vec ℕ A
 TellsBytes entry found = MatchOption found (entry ≡ None) (λ bytes. entry ≡ Some bytes.items)
 
 -- a medium and an attribute row, as they are told
-abbrev pub medium_of : Media → Medium
-medium_of m = record { bytes = m.bytes; content_type = m.content_type }
+abbrev pub medium_told : Media → Medium
+medium_told m = record { bytes = m.bytes; content_type = m.content_type }
 
 -- an attribute row that is told, as the package has it
-abbrev pub row_of : RowTold → AttributeRow
-row_of r = record { title = r.title; note = r.note; amount = r.amount }
+abbrev pub row_told : RowTold → AttributeRow
+row_told r = record { title = r.title; note = r.note; amount = r.amount }
 
 -- what is told of the first row of a query: nothing where it has none
 abbrev pub Gives : {T : Type 0} → (Row → T → Type 0) → Option T → Option Row → Type 0
@@ -31,10 +31,10 @@ pub record ShowsMedium (row : Row) (m : MediumRow) : Type 0 where
   pub content_type : column row 1 ≡ Words m.content_type
 
 -- a row that was asked for by its key shows the medium, and there is none where there is no medium
-abbrev pub IsRowOf : Option MediumRow → Option Row → Type 0
-IsRowOf None None = ⊤
-IsRowOf (Some m) (Some row) = ShowsMedium row m
-IsRowOf _ _ = ⊥
+abbrev pub IsMediumRow : Option MediumRow → Option Row → Type 0
+IsMediumRow None None = ⊤
+IsMediumRow (Some m) (Some row) = ShowsMedium row m
+IsMediumRow _ _ = ⊥
 
 -- the row shows title, note and amount of an attribute row
 pub record ShowsRow (row : Row) (r : RowTold) : Type 0 where

@@ -8,7 +8,7 @@ ghost use Rattle.mm_definitions.specs.Bounds.{Profile};
 ghost use Rattle.mm_definitions.specs.Package.{kind_text};
 ghost use Rattle.mm_store.specs.Faults.{IsStoreFault};
 ghost use Rattle.mm_store.specs.Seen.{IsRead};
-ghost use Rattle.mm_reads.specs.Listing.{ShowsPlace, ShowsPlaceOf, ShowsEntry, Gathers, Lists};
+ghost use Rattle.mm_reads.specs.Listing.{ShowsPlace, ShowsPlaceOf, ShowsEntry, GathersTables, ListsTables};
 
 use mm_definitions::answers::Fault;
 use mm_definitions::commands::Kind;
@@ -115,9 +115,9 @@ struct Gathered {
 }
 
 impl Visitor for Gathered {
-    ghost use Rattle.mm_reads.specs.Listing.{Gathers};
+    ghost use Rattle.mm_reads.specs.Listing.{GathersTables};
 
-    ghost takes = { λ old row new result. Gathers old.entries.items row new.entries.items result };
+    ghost takes = { λ old row new result. GathersTables old.entries.items row new.entries.items result };
 
     fn take(&mut self, row: &Row) -> Result<bool, Fault> {
         let entry = entry_in(row)?;
@@ -135,7 +135,7 @@ pub fn contents<S: Alter>(alloc: Global, conn: &mut Connection<S>) -> Result<Vec
     requires { conn.old.in_transaction ≡ false }
     ensures mode { conn.new.in_transaction ≡ false }
     ensures read { (profile : Profile) → IsRead profile (state S.Store conn.old) (state S.Store conn.new)
-        (λ p tables. Lists p tables.items) result }
+        (λ p tables. ListsTables p tables.items) result }
 {
     let mut gathered = Gathered {
         entries: Vec::new(alloc),

@@ -5,7 +5,7 @@ ghost use Rattle.sqlite.specs.Held.{state};
 ghost use Rattle.mm_definitions.specs.Bounds.{Profile};
 ghost use Rattle.mm_store.specs.Faults.{IsStoreFault};
 ghost use Rattle.mm_store.specs.Seen.{IsRead};
-ghost use Rattle.mm_reads.specs.Related.{ShowsRelated, Gathers, Lists, Tells};
+ghost use Rattle.mm_reads.specs.Related.{ShowsRelated, GathersMates, ListsMates, TellsMates};
 
 use crate::items::stands;
 use mm_definitions::answers::Fault;
@@ -40,9 +40,9 @@ struct Gathered {
 }
 
 impl Visitor for Gathered {
-    ghost use Rattle.mm_reads.specs.Related.{Gathers};
+    ghost use Rattle.mm_reads.specs.Related.{GathersMates};
 
-    ghost takes = { λ old row new result. Gathers old.items.items row new.items.items result };
+    ghost takes = { λ old row new result. GathersMates old.items.items row new.items.items result };
 
     fn take(&mut self, row: &Row) -> Result<bool, Fault> {
         let item = related_in(row)?;
@@ -64,7 +64,7 @@ fn listed<S: Alter>(
     requires { conn.old.in_transaction ≡ false }
     ensures mode { conn.new.in_transaction ≡ false }
     ensures read { (profile : Profile) → IsRead profile (state S.Store conn.old) (state S.Store conn.new)
-        (λ p items. Lists p table.now id items.items) result }
+        (λ p items. ListsMates p table.now id items.items) result }
 {
     let mut gathered = Gathered {
         items: Vec::new(alloc),
@@ -90,7 +90,7 @@ pub fn related<S: Alter>(
     requires { conn.old.in_transaction ≡ false }
     ensures mode { conn.new.in_transaction ≡ false }
     ensures read { (profile : Profile) → IsRead profile (state S.Store conn.old) (state S.Store conn.new)
-        (λ p found. Tells p table.now id found) result }
+        (λ p found. TellsMates p table.now id found) result }
 {
     let table = table.as_str();
     if !stands(conn, table, id)? {

@@ -7,7 +7,7 @@ use Rattle.std.proofs.lemmas.Slice.Eq.{bytes_eq-Decides}
 use Rattle.mm_definitions.specs.Keys.{Text}
 use Rattle.mm_definitions.specs.Bounds.{IsFrom, IsLong, IsText, IsIdentifier, IsContentType, IsName, current}
 use Rattle.mm_definitions.specs.Reading.{ReadsTo}
-use Rattle.mm_definitions.specs.Fields.{Field, OneOf, NumberFrom, BytesTo, TextOf, AnIdentifier, AContentType, AName, Value, Whole, Plain, Holds, AllHold, IsAgainstSome}
+use Rattle.mm_definitions.specs.Fields.{Field, OneOf, NumberFrom, BytesTo, TextOf, AnIdentifier, AContentType, AName, Value, Whole, Plain, HoldsValue, AllHold, IsAgainstSome}
 use Rattle.mm_definitions.specs.Records.{Form, form_of, piece_forms, piece_form, other_forms, record_form, stage_form, with_piece, id_field, IsLeast, IsMet, IsUnmet, SpellsPiece, HoldsAgainstPiece, Spells, HoldsAgainst, piece_word, piece_values, command_word, command_values}
 use Rattle.mm_definitions.specs.Records as forms
 use Rattle.mm_definitions.specs.Pieces.{piece_command}
@@ -137,7 +137,7 @@ LimitOf AContentType (Plain v) = IsContentType v
 LimitOf AName (Plain v) = IsName v
 LimitOf _ v = ⊤
 
-holds_within : (f : Field) (t : Text) (v : Value) → Holds f t v → LimitOf f v
+holds_within : (f : Field) (t : Text) (v : Value) → HoldsValue f t v → LimitOf f v
 holds_within (OneOf words) t v h = tt
 holds_within (NumberFrom low high) t (Whole z) h = h.1
 holds_within (NumberFrom low high) t (Plain v) h = tt

@@ -2,7 +2,7 @@
 
 ghost use Rattle.std.specs.Prelude.{◌≡◌, ◌<◌, ◌^◌, pos, neg_ℤ};
 ghost use Rattle.mm_definitions.specs.Reading.{ReadsTo, both_of};
-ghost use Rattle.mm_definitions.specs.Fields.{Holds, IsAgainst, Plain, Whole, NumberFrom, AName};
+ghost use Rattle.mm_definitions.specs.Fields.{HoldsValue, IsAgainst, Plain, Whole, NumberFrom, AName};
 ghost use Rattle.mm_definitions.specs.Package.{kind_text};
 ghost use Rattle.mm_definitions.specs.Effects.{step_kind, plain_kind};
 ghost use Rattle.mm_definitions.specs.Conditions.{relation_text};
@@ -40,7 +40,7 @@ pub(crate) fn both<A: Drop, B: Drop>(
 
 /// A name: 12 where it is none.
 pub(crate) fn name_field(text: &str) -> Result<Name, ReadFault>
-    ensures { ReadsTo (λ v. Holds AName text.now (Plain v)) (IsAgainst AName text.now) result }
+    ensures { ReadsTo (λ v. HoldsValue AName text.now (Plain v)) (IsAgainst AName text.now) result }
 {
     match Name::read(text) {
         Some(name) => Ok(name),
@@ -50,7 +50,7 @@ pub(crate) fn name_field(text: &str) -> Result<Name, ReadFault>
 
 /// A number from `least` to `most`: 10 where it is none, 11 where it lies outside.
 fn number_field(text: &str, least: i64, most: i64) -> Result<i64, ReadFault>
-    ensures { ReadsTo (λ z. Holds (NumberFrom least most) text.now (Whole z)) (IsAgainst (NumberFrom least most) text.now) result }
+    ensures { ReadsTo (λ z. HoldsValue (NumberFrom least most) text.now (Whole z)) (IsAgainst (NumberFrom least most) text.now) result }
 {
     match read_number(text, least, most) {
         Ok(number) => Ok(number),
@@ -61,7 +61,7 @@ fn number_field(text: &str, least: i64, most: i64) -> Result<i64, ReadFault>
 /// A number from 1 to `MOST`.
 pub(crate) fn positive_field<const MOST: u64>(text: &str) -> Result<Positive<MOST>, ReadFault>
     requires { MOST < 2 ^ 63 }
-    ensures { ReadsTo (λ z. Holds (NumberFrom (pos 1) (pos MOST)) text.now (Whole z))
+    ensures { ReadsTo (λ z. HoldsValue (NumberFrom (pos 1) (pos MOST)) text.now (Whole z))
         (IsAgainst (NumberFrom (pos 1) (pos MOST)) text.now) result }
 {
     let number = number_field(text, 1, MOST as i64)?;
@@ -74,7 +74,7 @@ pub(crate) fn positive_field<const MOST: u64>(text: &str) -> Result<Positive<MOS
 /// A number that is at most `MOST` away from 0.
 pub(crate) fn signed_field<const MOST: u64>(text: &str) -> Result<Signed<MOST>, ReadFault>
     requires { MOST < 2 ^ 63 }
-    ensures { ReadsTo (λ z. Holds (NumberFrom (neg_ℤ (pos MOST)) (pos MOST)) text.now (Whole z))
+    ensures { ReadsTo (λ z. HoldsValue (NumberFrom (neg_ℤ (pos MOST)) (pos MOST)) text.now (Whole z))
         (IsAgainst (NumberFrom (neg_ℤ (pos MOST)) (pos MOST)) text.now) result }
 {
     let number = number_field(text, -(MOST as i64), MOST as i64)?;
@@ -86,7 +86,7 @@ pub(crate) fn signed_field<const MOST: u64>(text: &str) -> Result<Signed<MOST>, 
 
 /// The number of any reference system.
 pub(crate) fn system_field(text: &str) -> Result<SystemNumber, ReadFault>
-    ensures { ReadsTo (λ z. Holds forms.named_system text.now (Whole z)) (IsAgainst forms.named_system text.now) result }
+    ensures { ReadsTo (λ z. HoldsValue forms.named_system text.now (Whole z)) (IsAgainst forms.named_system text.now) result }
 {
     let number = number_field(text, -1, LAST_ID as i64)?;
     match SystemNumber::new(number) {
@@ -97,7 +97,7 @@ pub(crate) fn system_field(text: &str) -> Result<SystemNumber, ReadFault>
 
 /// A zoom level.
 pub(crate) fn zoom_field(text: &str) -> Result<Zoom, ReadFault>
-    ensures { ReadsTo (λ z. Holds forms.zoom_field text.now (Whole (pos z))) (IsAgainst forms.zoom_field text.now) result }
+    ensures { ReadsTo (λ z. HoldsValue forms.zoom_field text.now (Whole (pos z))) (IsAgainst forms.zoom_field text.now) result }
 {
     let number = number_field(text, 0, LAST_ZOOM as i64)?;
     match Zoom::new(number) {
@@ -110,7 +110,7 @@ pub(crate) fn zoom_field(text: &str) -> Result<Zoom, ReadFault>
 pub(crate) fn count_field<const LEAST: u32, const MOST: u32>(
     text: &str,
 ) -> Result<Count<LEAST, MOST>, ReadFault>
-    ensures { ReadsTo (λ n. Holds (NumberFrom (pos LEAST) (pos MOST)) text.now (Whole (pos n)))
+    ensures { ReadsTo (λ n. HoldsValue (NumberFrom (pos LEAST) (pos MOST)) text.now (Whole (pos n)))
         (IsAgainst (NumberFrom (pos LEAST) (pos MOST)) text.now) result }
 {
     let number = number_field(text, LEAST as i64, MOST as i64)?;
@@ -122,7 +122,7 @@ pub(crate) fn count_field<const LEAST: u32, const MOST: u32>(
 
 /// How a pyramid's pixel sizes go: `two` or `other`.
 pub(crate) fn step_field(text: &str) -> Result<Step, ReadFault>
-    ensures { ReadsTo (λ step. Holds step_words text.now (Plain (kind_text (step_kind step)))) (IsAgainst step_words text.now) result }
+    ensures { ReadsTo (λ step. HoldsValue step_words text.now (Plain (kind_text (step_kind step)))) (IsAgainst step_words text.now) result }
 {
     match text {
         "two" => Ok(Step::Two),
@@ -133,7 +133,7 @@ pub(crate) fn step_field(text: &str) -> Result<Step, ReadFault>
 
 /// The kind of a table: `attributes` or `media`.
 pub(crate) fn kind_field(text: &str) -> Result<PlainKind, ReadFault>
-    ensures { ReadsTo (λ kind. Holds kind_words text.now (Plain (kind_text (plain_kind kind)))) (IsAgainst kind_words text.now) result }
+    ensures { ReadsTo (λ kind. HoldsValue kind_words text.now (Plain (kind_text (plain_kind kind)))) (IsAgainst kind_words text.now) result }
 {
     match text {
         "attributes" => Ok(PlainKind::Attributes),
@@ -144,7 +144,7 @@ pub(crate) fn kind_field(text: &str) -> Result<PlainKind, ReadFault>
 
 /// The name of a relation: `media` or `simple_attributes`.
 pub(crate) fn relation_field(text: &str) -> Result<RelationName, ReadFault>
-    ensures { ReadsTo (λ name. Holds relation_words text.now (Plain (relation_text name))) (IsAgainst relation_words text.now) result }
+    ensures { ReadsTo (λ name. HoldsValue relation_words text.now (Plain (relation_text name))) (IsAgainst relation_words text.now) result }
 {
     match text {
         "media" => Ok(RelationName::Media),

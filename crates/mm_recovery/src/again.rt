@@ -4,7 +4,7 @@ ghost use Rattle.std.specs.Prelude.{◌≡◌, ◌↔◌, false, IfOk, IfErr, Is
 ghost use Rattle.sqlite.specs.Held.{state};
 ghost use Rattle.sqlite.specs.Files.{file_state};
 ghost use Rattle.mm_definitions.specs.declared.answers.Open.TheVariants as opens;
-ghost use Rattle.mm_core.specs.Parts.{held, has_failed};
+ghost use Rattle.mm_core.specs.Parts.{held, must_reopen};
 ghost use Rattle.mm_recovery.specs.Made.{IsMadeOrFound, IsNeither, IsMadeAgain, IsNotMadeAgain};
 
 use crate::making::create_and_recover;
@@ -33,7 +33,7 @@ pub fn create_or_adopt<S: Alter + Drop>(
     conn: Connection<S>,
 ) -> Result<Session<S>, (Connection<S>, Open)>
     requires { conn.in_transaction ≡ false }
-    ensures working { IfOk result (λ session. has_failed session ≡ false) }
+    ensures working { IfOk result (λ session. must_reopen session ≡ false) }
     ensures made_or_found { IfOk result (λ session. IsMadeOrFound (state S.Store conn) (state S.Store (held session))) }
     ensures handed_back { IfErr result (λ e. e.0.in_transaction ≡ false) }
     ensures neither { IfErr result (λ e. IsNeither (state S.Store conn) (state S.Store e.0) e.1) }
@@ -63,7 +63,7 @@ pub fn create_again<D: Crash + Drop>(
     options: Options,
 ) -> Result<Session<FileStore<D>>, NotRecovered<D>>
     requires { conn.in_transaction ≡ false }
-    ensures working { IfOk result (λ session. has_failed session ≡ false) }
+    ensures working { IfOk result (λ session. must_reopen session ≡ false) }
     ensures made { IfOk result (λ session. IsMadeAgain (file_state conn) (file_state (held session))) }
     ensures not_made { IfErr result (λ e. IsNotMadeAgain (file_state conn) e.0 e.1) }
 {

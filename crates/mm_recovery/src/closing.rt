@@ -2,7 +2,7 @@
 
 ghost use Rattle.std.specs.Prelude.{◌≡◌, false, IfOk, IfErr};
 ghost use Rattle.sqlite.specs.Files.{file_state};
-ghost use Rattle.mm_core.specs.Parts.{held, has_failed};
+ghost use Rattle.mm_core.specs.Parts.{held, must_reopen};
 ghost use Rattle.mm_recovery.specs.Recovered.{IsReopened, IsNotReopened};
 
 use crate::files::open_after_close;
@@ -24,7 +24,7 @@ pub fn close_and_adopt<D: Disk + Drop>(
     session: Session<FileStore<D>>,
     options: Options,
 ) -> Result<Session<FileStore<D>>, NotRecovered<D>>
-    ensures working { IfOk result (λ again. has_failed again ≡ false) }
+    ensures working { IfOk result (λ again. must_reopen again ≡ false) }
     ensures reopened { IfOk result (λ again. IsReopened (file_state (held session)) (file_state (held again))) }
     ensures not_reopened { IfErr result (λ e. IsNotReopened (file_state (held session)) e.0 e.1) }
 {

@@ -3,7 +3,7 @@
 ghost use Rattle.std.specs.Prelude.{◌≡◌, false, IfOk, IfErr, IsTrue};
 ghost use Rattle.sqlite.specs.Files.{file_state};
 ghost use Rattle.mm_store.specs.Faults.{IsStoreFault};
-ghost use Rattle.mm_core.specs.Parts.{held, has_failed};
+ghost use Rattle.mm_core.specs.Parts.{held, must_reopen};
 ghost use Rattle.mm_recovery.specs.Made.{IsMadeOn, IsLeftOn};
 ghost use Rattle.mm_recovery.specs.Recovered.{IsMakingRecovered};
 
@@ -30,7 +30,7 @@ pub fn create_on<D: Disk + Drop>(
 ) -> Result<Session<FileStore<D>>, NotMade<D>>
     requires log { IsTrue (D.Disk.is_usable files.log) }
     requires db { IsTrue (D.Disk.is_usable files.db) }
-    ensures working { IfOk result (λ session. has_failed session ≡ false) }
+    ensures working { IfOk result (λ session. must_reopen session ≡ false) }
     ensures made { IfOk result (λ session. IsMadeOn D.Disk files (file_state (held session))) }
     ensures left { IfErr result (λ e. IsLeftOn D.Disk files e.0) }
     ensures faults { IfErr result (λ e. IsStoreFault e.1) }

@@ -5,7 +5,7 @@ ghost use Rattle.sqlite.specs.Files.{file_state};
 ghost use Rattle.sqlite.specs.State.{HasCleanDisk};
 ghost use Rattle.mm_definitions.specs.Streams.{inside, is_flushed};
 ghost use Rattle.mm_run.specs.Runs.{TellsFlush};
-ghost use Rattle.mm_core.specs.Parts.{held, has_failed};
+ghost use Rattle.mm_core.specs.Parts.{held, must_reopen};
 ghost use Rattle.mm_recovery.specs.Recovered.{IsRecovered, IsNotRecovered, IsRunRecovered, IsRunNotRecovered};
 
 use crate::files::open_after_crash;
@@ -33,7 +33,7 @@ pub fn recover_after_crash<D: Crash + Drop>(
     session: Session<FileStore<D>>,
     options: Options,
 ) -> Result<Session<FileStore<D>>, NotRecovered<D>>
-    ensures working { IfOk result (λ again. has_failed again ≡ false) }
+    ensures working { IfOk result (λ again. must_reopen again ≡ false) }
     ensures recovered { IfOk result (λ again. IsRecovered (file_state (held session)) (file_state (held again))) }
     ensures not_recovered { IfErr result (λ e. IsNotRecovered (file_state (held session)) e.0 e.1) }
 {
@@ -61,7 +61,7 @@ pub fn run_and_recover<D: Crash + Drop, R: Read, W: Write>(
     Result<Session<FileStore<D>>, NotRecovered<D>>,
 )
     ensures flushed { TellsFlush (is_flushed writer.old) (is_flushed writer.new) result.0 }
-    ensures working { IfOk result.1 (λ again. has_failed again ≡ false) }
+    ensures working { IfOk result.1 (λ again. must_reopen again ≡ false) }
     ensures is_open { IfOk result.1 (λ again. HasCleanDisk (file_state (held again)) → IsTrue (file_state (held again)).is_open) }
     ensures recovered { IfOk result.1 (λ again. IsRunRecovered (file_state (held session)) (file_state (held again))
         (R.remaining (inside reader.old)) (W.contents (inside writer.old)) (W.contents (inside writer.new)) at result.0)

@@ -11,8 +11,8 @@ use Rattle.matchit.specs.Params.{AllText, walk}
 use Rattle.matchit.proofs.RenameLemmas.{seek-rename}
 use Rattle.mm_definitions.specs.Keys.{Text}
 use Rattle.mm_definitions.specs.Bounds.{IsName}
-use Rattle.mm_routes.specs.Asked.{Asks, Wanted, Tile, Media, Related, Contents, Numbers, path_from}
-use Rattle.mm_routes.specs.Routes.{IsPart, IsRow, media_path, numbered, page_rows, related_path, row_of, row_pairs, tile_pairs, tile_path, tile_row, media_row, related_row}
+use Rattle.mm_routes.specs.Asked.{IsRouted, Wanted, Tile, Media, Related, Contents, Numbers, path_from}
+use Rattle.mm_routes.specs.Routes.{IsPart, IsRowPath, media_path, numbered_patterns, page_rows, related_path, route_of, row_pairs, tile_pairs, tile_path, tile_route, media_row, related_row}
 use Rattle.mm_routes.specs.declared.routes.Route.{Route}
 use Rattle.mm_routes.specs.declared.routes.Route.TheVariants as route
 use Rattle.mm_routes.proofs.WalkFacts.{media_walk, related_walk, tile_walk}
@@ -44,7 +44,7 @@ same_front (x ∷ a) b (y ∷ c) d ha hc e =
 abbrev pub IsTile : Text → Text → Text → Text → Type 0
 IsTile t z c r = IsName t × ((n : ℤ) × Numbers (pos 0) (pos 30) z n) × ((n : ℤ) × Numbers (pos 0) (pos 1073741823) c n) × ((n : ℤ) × Numbers (pos 0) (pos 1073741823) r n)
 
-pub tile_only : (t z c r : Text) (w : Wanted) → IsPart t → IsPart z → IsPart c → Asks (tile_path t z c r) w → IsTile t z c r
+pub tile_only : (t z c r : Text) (w : Wanted) → IsPart t → IsPart z → IsPart c → IsRouted (tile_path t z c r) w → IsTile t z c r
 tile_only t z c r (Tile u n d e) pt pz pc (z2, c2, r2, is, name, nz, nc, nr) =
     let (a1, b1) = same_front t (z ++ 47 ∷ (c ++ 47 ∷ r)) u (z2 ++ 47 ∷ (c2 ++ 47 ∷ r2)) pt.0 (name_part u name).0 (ap (drop 7) is) in
     let (a2, b2) = same_front z (c ++ 47 ∷ r) z2 (c2 ++ 47 ∷ r2) pz.0 (spelled_part z2 n nz.0).0 b1 in
@@ -54,7 +54,7 @@ tile_only t z c r (Media u n) pt pz pc (i, is, n1, n2) = absurd (let q : 116 ≡
 tile_only t z c r (Related u n) pt pz pc (i, is, n1, n2) = absurd (let q : 116 ≡ 114 = ap second is in omega (arith, q))
 tile_only t z c r Contents pt pz pc is = absurd (let q : 116 ≡ 99 = ap second is in omega (arith, q))
 
-pub media_only : (t i : Text) (w : Wanted) → IsPart t → Asks (media_path t i) w → IsRow t i
+pub media_only : (t i : Text) (w : Wanted) → IsPart t → IsRouted (media_path t i) w → IsRowPath t i
 media_only t i (Media u n) pt (i2, is, name, ni) =
     let (a1, b1) = same_front t i u i2 pt.0 (name_part u name).0 (ap (drop 7) is) in
     (rw a1 name, n, rw b1 ni)
@@ -62,7 +62,7 @@ media_only t i (Tile u n d e) pt (z2, c2, r2, is, n1, n2, n3, n4) = absurd (let 
 media_only t i (Related u n) pt (i2, is, n1, n2) = absurd (let q : 109 ≡ 114 = ap second is in omega (arith, q))
 media_only t i Contents pt is = absurd (let q : 109 ≡ 99 = ap second is in omega (arith, q))
 
-pub related_only : (t i : Text) (w : Wanted) → IsPart t → Asks (related_path t i) w → IsRow t i
+pub related_only : (t i : Text) (w : Wanted) → IsPart t → IsRouted (related_path t i) w → IsRowPath t i
 related_only t i (Related u n) pt (i2, is, name, ni) =
     let (a1, b1) = same_front t i u i2 pt.0 (name_part u name).0 (ap (drop 9) is) in
     (rw a1 name, n, rw b1 ni)
@@ -116,20 +116,20 @@ pub related_texts : (t i : Text) → IsAscii (related_path t i) → AllText (row
 related_texts t i h = row_texts t i (ascii_right (codes "/related/") (t ++ 47 ∷ i) h)
 
 -- the route that a path takes
-pub taken : (path : Text) (m : RouteOf Route) → IsText path → first page_rows path ≡ Some m → (k : ℕ) × (m ≡ row_of k) × Formed k path
-taken path m low h = by (first numbered path) refl
+pub taken : (path : Text) (m : RouteOf Route) → IsText path → first page_rows path ≡ Some m → (k : ℕ) × (m ≡ route_of k) × Formed k path
+taken path m low h = by (first numbered_patterns path) refl
   where
-    by : (o : Option ℕ) → first numbered path ≡ o → (k : ℕ) × (m ≡ row_of k) × Formed k path
-    by None e = absurd (let f : None ≡ Some m = sym (ap (map_key row_of) e) ∙ sym (seek-rename row_of 0 numbered path) ∙ h in cc)
+    by : (o : Option ℕ) → first numbered_patterns path ≡ o → (k : ℕ) × (m ≡ route_of k) × Formed k path
+    by None e = absurd (let f : None ≡ Some m = sym (ap (map_key route_of) e) ∙ sym (seek-rename route_of 0 numbered_patterns path) ∙ h in cc)
     by (Some k) e =
-        let f : Some (row_of k) ≡ Some m = sym (ap (map_key row_of) e) ∙ sym (seek-rename row_of 0 numbered path) ∙ h in
-        (k, (let g : row_of k ≡ m = cc in sym g), path_back path k low e)
+        let f : Some (route_of k) ≡ Some m = sym (ap (map_key route_of) e) ∙ sym (seek-rename route_of 0 numbered_patterns path) ∙ h in
+        (k, (let g : route_of k ≡ m = cc in sym g), path_back path k low e)
 
 -- what no route takes asks for nothing
-goes_on : (path : Text) (k : ℕ) → first numbered path ≡ Some k → first page_rows path ≡ None → ⊥
-goes_on path k e h = let f : Some (row_of k) ≡ None = sym (ap (map_key row_of) e) ∙ sym (seek-rename row_of 0 numbered path) ∙ h in cc
+goes_on : (path : Text) (k : ℕ) → first numbered_patterns path ≡ Some k → first page_rows path ≡ None → ⊥
+goes_on path k e h = let f : Some (route_of k) ≡ None = sym (ap (map_key route_of) e) ∙ sym (seek-rename route_of 0 numbered_patterns path) ∙ h in cc
 
-pub untaken : (path : Text) → IsText path → first page_rows path ≡ None → (w : Wanted) → ¬ (Asks path w)
+pub untaken : (path : Text) → IsText path → first page_rows path ≡ None → (w : Wanted) → ¬ (IsRouted path w)
 untaken path low h (Tile t n d e) (z, c, r, is, name, nz, nc, nr) =
     goes_on path 0 (rw is (tile_goes t z c r (rw is at low) (name_part t name) (spelled_part z n nz.0) (spelled_part c d nc.0) (spelled_part r e nr.0))) h
 untaken path low h (Media t n) (i, is, name, ni) = goes_on path 1 (rw is (media_goes t i (rw is at low) (name_part t name) (spelled_part i n ni.0))) h
@@ -156,14 +156,14 @@ IsMatch path m route.Media = IsMediaMatch path m
 IsMatch path m route.Related = IsRelatedMatch path m
 IsMatch path m route.Contents = path ≡ path_from (codes "contents" ∷ [])
 
-from_row : (path : Text) (k : ℕ) → IsAscii path → Formed k path → IsMatch path (row_of k) (row_of k).value
+from_row : (path : Text) (k : ℕ) → IsAscii path → Formed k path → IsMatch path (route_of k) (route_of k).value
 from_row path k low (inl (n, t, z, c, r, is, pt, pz, pc, pr)) =
-    subst (λ j. IsMatch path (row_of j) (row_of j).value) (sym n) (t, z, c, r, is, ap (λ p. pairs_at tile_row p) is ∙ tile_walk t z c r pt pz pc pr, tile_texts t z c r (rw is at low), pt, pz, pc, pr)
+    subst (λ j. IsMatch path (route_of j) (route_of j).value) (sym n) (t, z, c, r, is, ap (λ p. pairs_at tile_route p) is ∙ tile_walk t z c r pt pz pc pr, tile_texts t z c r (rw is at low), pt, pz, pc, pr)
 from_row path k low (inr (inl (n, t, i, is, pt, pi))) =
-    subst (λ j. IsMatch path (row_of j) (row_of j).value) (sym n) (t, i, is, ap (λ p. pairs_at media_row p) is ∙ media_walk t i pt pi, media_texts t i (rw is at low), pt)
+    subst (λ j. IsMatch path (route_of j) (route_of j).value) (sym n) (t, i, is, ap (λ p. pairs_at media_row p) is ∙ media_walk t i pt pi, media_texts t i (rw is at low), pt)
 from_row path k low (inr (inr (inl (n, t, i, is, pt, pi)))) =
-    subst (λ j. IsMatch path (row_of j) (row_of j).value) (sym n) (t, i, is, ap (λ p. pairs_at related_row p) is ∙ related_walk t i pt pi, related_texts t i (rw is at low), pt)
-from_row path k low (inr (inr (inr (n, is)))) = subst (λ j. IsMatch path (row_of j) (row_of j).value) (sym n) is
+    subst (λ j. IsMatch path (route_of j) (route_of j).value) (sym n) (t, i, is, ap (λ p. pairs_at related_row p) is ∙ related_walk t i pt pi, related_texts t i (rw is at low), pt)
+from_row path k low (inr (inr (inr (n, is)))) = subst (λ j. IsMatch path (route_of j) (route_of j).value) (sym n) is
 
 pub matched : (path : Text) (m : RouteOf Route) → IsAscii path → first page_rows path ≡ Some m → IsMatch path m m.value
 matched path m low h =
@@ -174,7 +174,7 @@ matched path m low h =
 part_ascii : (a b : Text) → IsAscii a → IsAscii b → IsAscii (a ++ 47 ∷ b)
 part_ascii a b ha hb = IsAscii-append a (47 ∷ b) ha (IsAscii-append (47 ∷ []) b (ascii_word (47 ∷ []) refl) hb)
 
-pub asks_ascii : (path : Text) (w : Wanted) → Asks path w → IsAscii path
+pub asks_ascii : (path : Text) (w : Wanted) → IsRouted path w → IsAscii path
 asks_ascii path (Tile t n d e) (z, c, r, is, name, nz, nc, nr) =
     rw is (IsAscii-append (codes "/tiles/") _ (ascii_word (codes "/tiles/") refl)
     (part_ascii t _ (name_ascii t name) (part_ascii z _ (spelled_ascii z n nz.0) (part_ascii c r (spelled_ascii c d nc.0) (spelled_ascii r e nr.0)))))

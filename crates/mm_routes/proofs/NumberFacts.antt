@@ -10,7 +10,7 @@ use Rattle.std.proofs.lemmas.Str.Ascii.{IsAscii-nil}
 use Rattle.matchit.specs.Seek.{has_slash}
 use Rattle.mm_definitions.specs.Bounds.{IsName, is_letter_or_digit}
 use Rattle.mm_routes.specs.Routes.{IsPart}
-use Rattle.mm_definitions.specs.Numbers.{AreDigits, IsDigit, LeadDigits, Spells}
+use Rattle.mm_definitions.specs.Numbers.{AreDigits, IsDigit, LeadDigits, SpellsNumber}
 
 -- what is no slash before what has none
 onward : (b : ℕ) (rest : List ℕ) → b ≢ 47 → has_slash rest ≡ false → has_slash (b ∷ rest) ≡ false
@@ -54,7 +54,7 @@ lead_part : (digits : List ℕ) → LeadDigits digits → IsPart digits
 lead_part [] h = absurd h
 lead_part (b ∷ rest) h = (onward b rest (λ e. omega (arith, h.0, e)) (digits_clean rest h.2), omega arith)
 
-pub spelled_part : (text : List ℕ) (z : ℤ) → Spells text z → IsPart text
+pub spelled_part : (text : List ℕ) (z : ℤ) → SpellsNumber text z → IsPart text
 spelled_part text z (inl (e, f)) = rw e (refl, (let l : 0 < 1 = omega arith in l))
 spelled_part text z (inr (inl (h, f))) = lead_part text h
 spelled_part text z (inr (inr (d, e, h, f))) = rw e (onward 45 d (λ q. omega (arith, q)) (lead_part d h).0, (let l : 0 < length (45 ∷ d) = omega arith in l))
@@ -87,7 +87,7 @@ lead_ascii : (digits : List ℕ) → LeadDigits digits → IsAscii digits
 lead_ascii [] h = absurd h
 lead_ascii (b ∷ rest) h = first_ascii b rest (omega (arith, h.1)) (digits_ascii rest h.2)
 
-pub spelled_ascii : (text : List ℕ) (z : ℤ) → Spells text z → IsAscii text
+pub spelled_ascii : (text : List ℕ) (z : ℤ) → SpellsNumber text z → IsAscii text
 spelled_ascii text z (inl (e, f)) = rw e (first_ascii 48 [] (omega arith) IsAscii-nil)
 spelled_ascii text z (inr (inl (h, f))) = lead_ascii text h
 spelled_ascii text z (inr (inr (d, e, h, f))) = rw e (first_ascii 45 d (omega arith) (lead_ascii d h))

@@ -9,7 +9,7 @@ use Rattle.matchit.specs.Seek.{step, seek, first, has_slash}
 use Rattle.matchit.specs.Level.{IsText}
 use Rattle.matchit.proofs.SeekLemmas.{first-prefix, seek-empty}
 use Rattle.mm_definitions.specs.Keys.{Text}
-use Rattle.mm_routes.specs.Routes.{IsPart, media_path, numbered, related_path, tile_path}
+use Rattle.mm_routes.specs.Routes.{IsPart, media_path, numbered_patterns, related_path, tile_path}
 use Rattle.mm_routes.proofs.SeekFacts.{byte_step, cut, last-goes, last-none-slash, mid-empty, mid-goes, mid-none}
 
 pub low_text : (w : List ℕ) → list_all (λ b. ltb b 256) w ≡ true → IsText w
@@ -22,33 +22,33 @@ text_parts (x ∷ a) b h = let p = text_parts a b h.1 in ((h.0, p.0), p.1)
 
 -- a path of a route's form leads to it
 
-pub tile_goes : (t z c r : Text) → IsText (tile_path t z c r) → IsPart t → IsPart z → IsPart c → IsPart r → first numbered (tile_path t z c r) ≡ Some 0
+pub tile_goes : (t z c r : Text) → IsText (tile_path t z c r) → IsPart t → IsPart z → IsPart c → IsPart r → first numbered_patterns (tile_path t z c r) ≡ Some 0
 tile_goes t z c r low pt pz pc pr =
     let lt = text_parts t (47 ∷ (z ++ 47 ∷ (c ++ 47 ∷ r))) (text_parts (codes "/tiles/") (t ++ 47 ∷ (z ++ 47 ∷ (c ++ 47 ∷ r))) low).1 in
     let lz = text_parts z (47 ∷ (c ++ 47 ∷ r)) lt.1.1 in
     let lc = text_parts c (47 ∷ r) lz.1.1 in
-    byte_step numbered 47 _ refl refl
-    ∙ byte_step (step 47 numbered) 116 _ refl refl
+    byte_step numbered_patterns 47 _ refl refl
+    ∙ byte_step (step 47 numbered_patterns) 116 _ refl refl
     ∙ first-prefix (codes "iles/") ((256 ∷ 47 ∷ 256 ∷ 47 ∷ 256 ∷ 47 ∷ 256 ∷ [], 0) ∷ []) (codes "iles/" ++ (t ++ 47 ∷ (z ++ 47 ∷ (c ++ 47 ∷ r)))) (low_text (codes "iles/") refl)
     ∙ mid-goes t (z ++ 47 ∷ (c ++ 47 ∷ r)) (256 ∷ 47 ∷ 256 ∷ 47 ∷ 256 ∷ []) 0 lt.0 pt.0 pt.1
     ∙ mid-goes z (c ++ 47 ∷ r) (256 ∷ 47 ∷ 256 ∷ []) 0 lz.0 pz.0 pz.1
     ∙ mid-goes c r (256 ∷ []) 0 lc.0 pc.0 pc.1
     ∙ last-goes r 0 lc.1.1 pr.0 pr.1
 
-pub media_goes : (t i : Text) → IsText (media_path t i) → IsPart t → IsPart i → first numbered (media_path t i) ≡ Some 1
+pub media_goes : (t i : Text) → IsText (media_path t i) → IsPart t → IsPart i → first numbered_patterns (media_path t i) ≡ Some 1
 media_goes t i low pt pi =
     let lt = text_parts t (47 ∷ i) (text_parts (codes "/media/") (t ++ 47 ∷ i) low).1 in
-    byte_step numbered 47 _ refl refl
-    ∙ byte_step (step 47 numbered) 109 _ refl refl
+    byte_step numbered_patterns 47 _ refl refl
+    ∙ byte_step (step 47 numbered_patterns) 109 _ refl refl
     ∙ first-prefix (codes "edia/") ((256 ∷ 47 ∷ 256 ∷ [], 1) ∷ []) (codes "edia/" ++ (t ++ 47 ∷ i)) (low_text (codes "edia/") refl)
     ∙ mid-goes t i (256 ∷ []) 1 lt.0 pt.0 pt.1
     ∙ last-goes i 1 lt.1.1 pi.0 pi.1
 
-pub related_goes : (t i : Text) → IsText (related_path t i) → IsPart t → IsPart i → first numbered (related_path t i) ≡ Some 2
+pub related_goes : (t i : Text) → IsText (related_path t i) → IsPart t → IsPart i → first numbered_patterns (related_path t i) ≡ Some 2
 related_goes t i low pt pi =
     let lt = text_parts t (47 ∷ i) (text_parts (codes "/related/") (t ++ 47 ∷ i) low).1 in
-    byte_step numbered 47 _ refl refl
-    ∙ byte_step (step 47 numbered) 114 _ refl refl
+    byte_step numbered_patterns 47 _ refl refl
+    ∙ byte_step (step 47 numbered_patterns) 114 _ refl refl
     ∙ first-prefix (codes "elated/") ((256 ∷ 47 ∷ 256 ∷ [], 2) ∷ []) (codes "elated/" ++ (t ++ 47 ∷ i)) (low_text (codes "elated/") refl)
     ∙ mid-goes t i (256 ∷ []) 2 lt.0 pt.0 pt.1
     ∙ last-goes i 2 lt.1.1 pi.0 pi.1
@@ -57,10 +57,10 @@ at_end : seek {K = ℕ} 0 (([], 3) ∷ []) [] ≡ Some 3
 unfolding seek
 at_end = refl
 
-pub contents_goes : first numbered (codes "/contents") ≡ Some 3
+pub contents_goes : first numbered_patterns (codes "/contents") ≡ Some 3
 contents_goes =
-    byte_step numbered 47 _ refl refl
-    ∙ byte_step (step 47 numbered) 99 _ refl refl
+    byte_step numbered_patterns 47 _ refl refl
+    ∙ byte_step (step 47 numbered_patterns) 99 _ refl refl
     ∙ first-prefix (codes "ontents") (([], 3) ∷ []) (codes "ontents") (low_text (codes "ontents") refl)
     ∙ at_end
 
@@ -137,9 +137,9 @@ cons : (y a : ℕ) (q p : Text) → y ≡ a → q ≡ p → 47 ∷ y ∷ q ≡ 4
 cons y a q p e f = rw (e, f) refl
 
 -- the second byte of a path tells which route it may take
-second_back : (y : ℕ) (q : Text) (k : ℕ) → IsText (y ∷ q) → Goes (step 47 numbered) (y ∷ q) k → Formed k (47 ∷ y ∷ q)
+second_back : (y : ℕ) (q : Text) (k : ℕ) → IsText (y ∷ q) → Goes (step 47 numbered_patterns) (y ∷ q) k → Formed k (47 ∷ y ∷ q)
 second_back y q k low h =
-    let h1 : Goes (step y (step 47 numbered)) q k = sym (byte_step (step 47 numbered) y q refl refl) ∙ h in
+    let h1 : Goes (step y (step 47 numbered_patterns)) q k = sym (byte_step (step 47 numbered_patterns) y q refl refl) ∙ h in
     elim (cases_eq y 99) [
       | inl e ↦
           let (rest, is, lr, hr) = word_back (codes "ontents") [] q 3 k (low_text (codes "ontents") refl) low.1 (rw e at h1) in
@@ -164,14 +164,14 @@ second_back y q k low h =
       ]
     ]
 
-pub path_back : (path : Text) (k : ℕ) → IsText path → first numbered path ≡ Some k → Formed k path
+pub path_back : (path : Text) (k : ℕ) → IsText path → first numbered_patterns path ≡ Some k → Formed k path
 unfolding seek
 path_back [] k low h = no_route k None refl h
 path_back (x ∷ p) k low h = elim (cases_eq x 47) [
-  | inl e ↦ by p e low.1 (sym (byte_step numbered x p refl refl) ∙ h)
-  | inr other ↦ no_route k _ (let a : (47 == x) ≡ false = grind (arith, nat_tests) in byte_step numbered x p refl refl ∙ (rw a (seek-empty 0 p))) h
+  | inl e ↦ by p e low.1 (sym (byte_step numbered_patterns x p refl refl) ∙ h)
+  | inr other ↦ no_route k _ (let a : (47 == x) ≡ false = grind (arith, nat_tests) in byte_step numbered_patterns x p refl refl ∙ (rw a (seek-empty 0 p))) h
 ]
   where
-    by : (p : Text) → x ≡ 47 → IsText p → Goes (step x numbered) p k → Formed k (x ∷ p)
+    by : (p : Text) → x ≡ 47 → IsText p → Goes (step x numbered_patterns) p k → Formed k (x ∷ p)
     by [] e low h = no_route k None refl (rw e at h)
     by (y ∷ q) e low h = subst (λ z. Formed k (z ∷ y ∷ q)) (sym e) (second_back y q k low (rw e at h))

@@ -8,7 +8,7 @@ use Rattle.matchit.specs.Seek.{has_slash, segment}
 use Rattle.matchit.specs.Level.{IsText}
 use Rattle.matchit.specs.Params.{after_token, part_of, walk, wild_from, wild_stop}
 use Rattle.mm_definitions.specs.Keys.{Text}
-use Rattle.mm_routes.specs.Routes.{IsPart, media_path, media_row, related_path, related_row, row_pairs, tile_pairs, tile_path, tile_row}
+use Rattle.mm_routes.specs.Routes.{IsPart, media_path, media_row, related_path, related_row, row_pairs, tile_pairs, tile_path, tile_route}
 use Rattle.mm_routes.proofs.SeekFacts.{segment-slashed}
 use Rattle.mm_routes.proofs.RouteFacts.{low_text}
 
@@ -91,16 +91,16 @@ walk-last pattern text path name token at lit v pat low size is at_low =
 
 -- the parameters of each route
 
-pub tile_walk : (t z c r : Text) → IsPart t → IsPart z → IsPart c → IsPart r → walk tile_row.pattern tile_row.text (tile_path t z c r) tile_row.names 0 0 ≡ tile_pairs t z c r
+pub tile_walk : (t z c r : Text) → IsPart t → IsPart z → IsPart c → IsPart r → walk tile_route.pattern tile_route.text (tile_path t z c r) tile_route.names 0 0 ≡ tile_pairs t z c r
 tile_walk t z c r pt pz pc pr =
     let path = tile_path t z c r in
-    let (e1, w1, d1, l1) = walk-mid tile_row.pattern tile_row.text path (8, 13) ((16, 17) ∷ (20, 21) ∷ (24, 25) ∷ []) 0 8 0 (codes "/tiles/") (256 ∷ 47 ∷ 256 ∷ 47 ∷ 256 ∷ []) t (z ++ 47 ∷ (c ++ 47 ∷ r))
+    let (e1, w1, d1, l1) = walk-mid tile_route.pattern tile_route.text path (8, 13) ((16, 17) ∷ (20, 21) ∷ (24, 25) ∷ []) 0 8 0 (codes "/tiles/") (256 ∷ 47 ∷ 256 ∷ 47 ∷ 256 ∷ []) t (z ++ 47 ∷ (c ++ 47 ∷ r))
     refl (low_text (codes "/tiles/") refl) refl (omega arith) (omega arith) refl refl refl (omega arith) pt.0 in
-    let (e2, w2, d2, l2) = walk-mid tile_row.pattern tile_row.text path (16, 17) ((20, 21) ∷ (24, 25) ∷ []) 8 10 e1 (47 ∷ []) (256 ∷ 47 ∷ 256 ∷ []) z (c ++ 47 ∷ r)
+    let (e2, w2, d2, l2) = walk-mid tile_route.pattern tile_route.text path (16, 17) ((20, 21) ∷ (24, 25) ∷ []) 8 10 e1 (47 ∷ []) (256 ∷ 47 ∷ 256 ∷ []) z (c ++ 47 ∷ r)
     refl (low_text (47 ∷ []) refl) refl (omega arith) (omega arith) refl refl d1 l1 pz.0 in
-    let (e3, w3, d3, l3) = walk-mid tile_row.pattern tile_row.text path (20, 21) ((24, 25) ∷ []) 10 12 e2 (47 ∷ []) (256 ∷ []) c r
+    let (e3, w3, d3, l3) = walk-mid tile_route.pattern tile_route.text path (20, 21) ((24, 25) ∷ []) 10 12 e2 (47 ∷ []) (256 ∷ []) c r
     refl (low_text (47 ∷ []) refl) refl (omega arith) (omega arith) refl refl d2 l2 pc.0 in
-    let w4 = walk-last tile_row.pattern tile_row.text path (24, 25) 12 e3 (47 ∷ []) r refl (low_text (47 ∷ []) refl) refl d3 l3 in
+    let w4 = walk-last tile_route.pattern tile_route.text path (24, 25) 12 e3 (47 ∷ []) r refl (low_text (47 ∷ []) refl) refl d3 l3 in
     w1 ∙ ap (λ l. (codes "table", t) ∷ l) (w2 ∙ ap (λ l. (codes "z", z) ∷ l) (w3 ∙ ap (λ l. (codes "c", c) ∷ l) w4))
 
 pub media_walk : (t i : Text) → IsPart t → IsPart i → walk media_row.pattern media_row.text (media_path t i) media_row.names 0 0 ≡ row_pairs t i

@@ -2,7 +2,7 @@
 use Rattle.std.specs.Prelude.{◌≡◌, ℤ, pos, ◌≤ℤ◌, [], ◌∷◌, ◌++◌, List, codes}
 use Rattle.mm_definitions.specs.Bounds.{IsName}
 use Rattle.mm_definitions.specs.Keys.{Text}
-use Rattle.mm_definitions.specs.Numbers.{Spells}
+use Rattle.mm_definitions.specs.Numbers.{SpellsNumber}
 
 -- a tile, a medium, what an item is related to, or the tables
 pub data Wanted : Type 0 where
@@ -13,7 +13,7 @@ pub data Wanted : Type 0 where
 
 -- the text spells this number, which is within these limits
 abbrev pub Numbers : ℤ → ℤ → Text → ℤ → Type 0
-Numbers least most text z = Spells text z × (least ≤ℤ z) × (z ≤ℤ most)
+Numbers least most text z = SpellsNumber text z × (least ≤ℤ z) × (z ≤ℤ most)
 
 -- a path of these parts, each after a slash
 abbrev pub path_from : List Text → Text
@@ -22,14 +22,14 @@ path_from (part ∷ []) = 47 ∷ part
 path_from (part ∷ next ∷ rest) = 47 ∷ (part ++ path_from (next ∷ rest))
 
 -- The table of routes: a table's name, then numbers within their limits.
-abbrev pub Asks : Text → Wanted → Type 0
-Asks path (Tile table z c r) = (zoom column row : Text)
+abbrev pub IsRouted : Text → Wanted → Type 0
+IsRouted path (Tile table z c r) = (zoom column row : Text)
     × (path ≡ path_from (codes "tiles" ∷ table ∷ zoom ∷ column ∷ row ∷ []))
     × IsName table × Numbers (pos 0) (pos 30) zoom z × Numbers (pos 0) (pos 1073741823) column c × Numbers (pos 0) (pos 1073741823) row r
-Asks path (Media table i) = (id : Text)
+IsRouted path (Media table i) = (id : Text)
     × (path ≡ path_from (codes "media" ∷ table ∷ id ∷ []))
     × IsName table × Numbers (pos 1) (pos 9007199254740992) id i
-Asks path (Related table i) = (id : Text)
+IsRouted path (Related table i) = (id : Text)
     × (path ≡ path_from (codes "related" ∷ table ∷ id ∷ []))
     × IsName table × Numbers (pos 1) (pos 9007199254740992) id i
-Asks path Contents = path ≡ path_from (codes "contents" ∷ [])
+IsRouted path Contents = path ≡ path_from (codes "contents" ∷ [])

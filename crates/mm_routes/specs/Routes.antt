@@ -19,8 +19,8 @@ abbrev pub hole : List ℕ → List ℕ
 hole rest = 256 ∷ rest
 
 -- the patterns, by number
-abbrev pub numbered : Rows
-numbered =
+abbrev pub numbered_patterns : Rows
+numbered_patterns =
     (codes "/contents", 3)
     ∷ (codes "/media/" ++ hole (47 ∷ hole []), 1)
     ∷ (codes "/related/" ++ hole (47 ∷ hole []), 2)
@@ -28,8 +28,8 @@ numbered =
     ∷ []
 
 -- the route of a tile, with the places of the parameters' names in its text
-abbrev pub tile_row : RouteOf Route
-tile_row = record {
+abbrev pub tile_route : RouteOf Route
+tile_route = record {
   pattern = codes "/tiles/" ++ hole (47 ∷ hole (47 ∷ hole (47 ∷ hole [])));
   text = codes "/tiles/{table}/{z}/{c}/{r}";
   names = (8, 13) ∷ (16, 17) ∷ (20, 21) ∷ (24, 25) ∷ [];
@@ -55,8 +55,8 @@ related_row = record {
 }
 
 -- the route of the tables
-abbrev pub contents_row : RouteOf Route
-contents_row = record {
+abbrev pub contents_route : RouteOf Route
+contents_route = record {
   pattern = codes "/contents";
   text = codes "/contents";
   names = [];
@@ -64,15 +64,15 @@ contents_row = record {
 }
 
 -- the route of a number
-abbrev pub row_of : ℕ → RouteOf Route
-row_of zero = tile_row
-row_of (suc zero) = media_row
-row_of (suc (suc zero)) = related_row
-row_of (suc (suc (suc n))) = contents_row
+abbrev pub route_of : ℕ → RouteOf Route
+route_of zero = tile_route
+route_of (suc zero) = media_row
+route_of (suc (suc zero)) = related_row
+route_of (suc (suc (suc n))) = contents_route
 
 -- the four routes, as the router has them
 abbrev pub page_rows : RowsOf (RouteOf Route)
-page_rows = rename row_of numbered
+page_rows = rename route_of numbered_patterns
 
 -- a part of a path between slashes
 abbrev pub IsPart : Text → Type 0
@@ -119,8 +119,8 @@ abbrev pub TookRow : Params → Text → Text → Type 0
 TookRow p t i = AllText (pairs_of p) × (pairs_of p ≡ row_pairs t i)
 
 -- the texts name a row
-abbrev pub IsRow : Text → Text → Type 0
-IsRow t i = IsName t × (n : ℤ) × page.Numbers (pos 1) (pos 9007199254740992) i n
+abbrev pub IsRowPath : Text → Text → Type 0
+IsRowPath t i = IsName t × (n : ℤ) × page.Numbers (pos 1) (pos 9007199254740992) i n
 
 -- what the code's value asks for
 abbrev pub asked : Wanted → page.Wanted

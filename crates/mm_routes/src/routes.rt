@@ -4,9 +4,9 @@ ghost use Rattle.std.specs.Prelude.{◌≡◌, ℤ, pos, ◌≤ℤ◌, IfOk, IfE
 ghost use Rattle.std.specs.Str.{IsAscii};
 ghost use Rattle.mm_definitions.specs.Bounds.{IsName};
 ghost use Rattle.mm_definitions.specs.Keys.{Text};
-ghost use Rattle.mm_routes.specs.Asked.{Asks, Numbers};
+ghost use Rattle.mm_routes.specs.Asked.{IsRouted, Numbers};
 ghost use Rattle.mm_routes.specs.Asked as page;
-ghost use Rattle.mm_routes.specs.Routes.{IsRow, Took, TookRow, TookTile, asked, page_rows, tile_path};
+ghost use Rattle.mm_routes.specs.Routes.{IsRowPath, Took, TookRow, TookTile, asked, page_rows, tile_path};
 
 use matchit::{InsertError, Params, Router};
 use mm_definitions::answers::Fault;
@@ -81,8 +81,8 @@ fn number_of(params: &Params<'_, '_>, key: &str, least: i64, most: i64) -> Optio
 
 fn tile_wanted(params: &Params<'_, '_>) -> Option<Wanted>
     ensures { (t z c r : Text) → TookTile params.now t z c r →
-        MatchOption result ((w : page.Wanted) → ¬ (Asks (tile_path t z c r) w))
-        (λ w. Asks (tile_path t z c r) (asked w)) }
+        MatchOption result ((w : page.Wanted) → ¬ (IsRouted (tile_path t z c r) w))
+        (λ w. IsRouted (tile_path t z c r) (asked w)) }
 {
     let Some(table) = name_of(params, "table") else {
         return None;
@@ -105,7 +105,7 @@ fn tile_wanted(params: &Params<'_, '_>) -> Option<Wanted>
 }
 
 fn row_wanted(params: &Params<'_, '_>) -> Option<(Name, i64)>
-    ensures { (t i : Text) → TookRow params.now t i → MatchOption result (¬ (IsRow t i))
+    ensures { (t i : Text) → TookRow params.now t i → MatchOption result (¬ (IsRowPath t i))
         (λ r. (r.0 ≡ t) × IsName t × Numbers (pos 1) (pos 9007199254740992) i r.1) }
 {
     let Some(table) = name_of(params, "table") else {
@@ -121,7 +121,7 @@ fn row_wanted(params: &Params<'_, '_>) -> Option<(Name, i64)>
 fn routed(router: &Router<Route>, path: &str) -> Option<Wanted>
     requires routes { router.now ≡ page_rows }
     requires ascii { IsAscii path.now }
-    ensures { MatchOption result ((w : page.Wanted) → ¬ (Asks path.now w)) (λ w. Asks path.now (asked w)) }
+    ensures { MatchOption result ((w : page.Wanted) → ¬ (IsRouted path.now w)) (λ w. IsRouted path.now (asked w)) }
 {
     let Ok(found) = router.at(path) else {
         return None;
@@ -143,7 +143,7 @@ fn routed(router: &Router<Route>, path: &str) -> Option<Wanted>
 /// What a path asks for, or None where it takes no route, or a part of it is no name or number within its limits.
 /// 90 where there is no memory for the routes.
 pub fn read_path(alloc: Global, path: &str) -> Result<Option<Wanted>, Fault>
-    ensures wanted { IfOk result (λ wanted. MatchOption wanted ((w : page.Wanted) → ¬ (Asks path.now w)) (λ w. Asks path.now (asked w))) }
+    ensures wanted { IfOk result (λ wanted. MatchOption wanted ((w : page.Wanted) → ¬ (IsRouted path.now w)) (λ w. IsRouted path.now (asked w))) }
     ensures fault { IfErr result (λ f. f.0 ≡ 90) }
 {
     if !path.is_ascii() {

@@ -19,7 +19,7 @@ use Rattle.mm_definitions.specs.declared.commands.Kind.TheVariants.{Two, Other, 
 use Rattle.mm_definitions.proofs.Parts.{same_some}
 use Rattle.mm_store.specs.Rows.{maybe, system_row, contents_row, kind_row, set_row, relation_row}
 use Rattle.mm_store.specs.Stands.{StandsFor}
-use Rattle.mm_queries.specs.Columns.{number_of, words_of, is_there}
+use Rattle.mm_queries.specs.Columns.{number_of, text_bytes, is_there}
 use Rattle.mm_rules.specs.ContentsRows.{MayNameRow, IsSameRow, IsThereRow, IsAbsentRow, IsOrderedRow, IsPlacedRow, IsUnplacedRow, IsRegisteredRow}
 use Rattle.mm_rules.specs.Parts.{ContentsSystems, SetSystems, MappingNames, Registered, KindsHaveContents, SetsHaveContents, SetExtents, ContentsExtents}
 use Rattle.mm_queries.proofs.Joined.{as_whole, after_rowid, after_id, covered, covered_whole, covered_id, each_row, joined}
@@ -139,10 +139,10 @@ unplaced_is v c (Some s) = (
   λ (t, a, b, d, e, f, s). absurd (let f = s in cc),
 )
 
-suits_is : (v : Value) (c : Contents) (o : Option MatrixSet) → IsRegisteredRow (with_set v c o) ↔ ((kind : Kind) × (words_of v ≡ Some (kind_text kind)) × Suits kind c o)
+suits_is : (v : Value) (c : Contents) (o : Option MatrixSet) → IsRegisteredRow (with_set v c o) ↔ ((kind : Kind) × (text_bytes v ≡ Some (kind_text kind)) × Suits kind c o)
 suits_is v c o = (to o, from o)
   where
-    to : (o : Option MatrixSet) → IsRegisteredRow (with_set v c o) → (kind : Kind) × (words_of v ≡ Some (kind_text kind)) × Suits kind c o
+    to : (o : Option MatrixSet) → IsRegisteredRow (with_set v c o) → (kind : Kind) × (text_bytes v ≡ Some (kind_text kind)) × Suits kind c o
     to None (inl (inl is, h)) = (Two, is, (placed_is v c None).0 h)
     to None (inl (inr is, h)) = (Other, is, (placed_is v c None).0 h)
     to None (inr (inl is, h)) = (Attributes, is, (unplaced_is v c None).0 h)
@@ -152,7 +152,7 @@ suits_is v c o = (to o, from o)
     to (Some s) (inr (inl is, h)) = (Attributes, is, (unplaced_is v c (Some s)).0 h)
     to (Some s) (inr (inr is, h)) = (Media, is, (unplaced_is v c (Some s)).0 h)
 
-    from : (o : Option MatrixSet) → (kind : Kind) × (words_of v ≡ Some (kind_text kind)) × Suits kind c o → IsRegisteredRow (with_set v c o)
+    from : (o : Option MatrixSet) → (kind : Kind) × (text_bytes v ≡ Some (kind_text kind)) × Suits kind c o → IsRegisteredRow (with_set v c o)
     from None (Two, is, h) = inl (inl is, (placed_is v c None).1 h)
     from None (Other, is, h) = inl (inr is, (placed_is v c None).1 h)
     from None (Attributes, is, h) = inr (inl is, (unplaced_is v c None).1 h)
@@ -169,8 +169,8 @@ registered version db p stands known =
     (with_its_set k c Null) (λ v y. with_its_set k c (Words v)))
   where
     with_its_set : (k : Text) (c : Contents) (v : Value) → ((r : Row) → lists.Has (or_nulls (filter (λ r. equal Binary (column r 1) (Words k) && true) (db 4))) r → IsRegisteredRow (row_of v c (column r 3) (column r 4) (column r 5) (column r 6) (column r 2)))
-        ↔ ((kind : Kind) × (words_of v ≡ Some (kind_text kind)) × Suits kind c (get p.sets k))
-    with_its_set k c v = joined after_rowid set_row (db 4) p.sets (covered (λ m s. (_, _, refl)) stands.holds.sets) _ k (λ m s y. name_is m k) _ (λ o. (kind : Kind) × (words_of v ≡ Some (kind_text kind)) × Suits kind c o) (suits_is v c None) (λ s y. suits_is v c (Some s))
+        ↔ ((kind : Kind) × (text_bytes v ≡ Some (kind_text kind)) × Suits kind c (get p.sets k))
+    with_its_set k c v = joined after_rowid set_row (db 4) p.sets (covered (λ m s. (_, _, refl)) stands.holds.sets) _ k (λ m s y. name_is m k) _ (λ o. (kind : Kind) × (text_bytes v ≡ Some (kind_text kind)) × Suits kind c o) (suits_is v c None) (λ s y. suits_is v c (Some s))
 
 -- ---- rule 6
 pub set_extents : Says [] (inner 4 end) [] (col 1 3 ∷ col 1 4 ∷ col 1 5 ∷ col 1 6 ∷ []) IsOrderedRow (λ _. ⊤) SetExtents

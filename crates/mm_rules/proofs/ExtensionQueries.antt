@@ -40,12 +40,12 @@ pub quiet_unnamed_once : IsQuiet text.unnamed_once
 unfolding everything
 quiet_unnamed_once = λ schema base. refl
 
-pub general_extension : IsQuery schema text.general_extension (inner 12 (left 8 (same_as 2 1 (lit (Words (codes "gpkgext_relations"))) ∷ same_as 2 2 (lit Null) ∷ same_as 2 3 (lit (Words (codes "gpkg_related_tables"))) ∷ same_as 2 4 (lit (Words (codes "OGC 18-000"))) ∷ same_as 2 5 (lit (Words (codes "read-write"))) ∷ []) end)) [] (col 2 3 ∷ [])
+pub general_extension : IsQuery schema text.ask_general_extension (inner 12 (left 8 (same_as 2 1 (lit (Words (codes "gpkgext_relations"))) ∷ same_as 2 2 (lit Null) ∷ same_as 2 3 (lit (Words (codes "gpkg_related_tables"))) ∷ same_as 2 4 (lit (Words (codes "OGC 18-000"))) ∷ same_as 2 5 (lit (Words (codes "read-write"))) ∷ []) end)) [] (col 2 3 ∷ [])
     [] (codes "extension_name" ∷ [])
 unfolding understood everything
 general_extension = record { compiled = refl; plain = (refl, refl); unlisted = refl }
 
-pub quiet_general_extension : IsQuiet text.general_extension
+pub quiet_general_extension : IsQuiet text.ask_general_extension
 unfolding everything
 quiet_general_extension = λ schema base. refl
 

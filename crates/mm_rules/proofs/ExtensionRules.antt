@@ -31,7 +31,7 @@ use Rattle.mm_definitions.proofs.Parts.{same_some, same_itself, some_of}
 use Rattle.mm_definitions.proofs.KeyLaws.{texts, extension_keys}
 use Rattle.mm_store.specs.Rows.{maybe_words, extension_row, extension_of, is_extension, relation_row, kind_row, as_count}
 use Rattle.mm_store.specs.Stands.{StandsFor, profile_row}
-use Rattle.mm_queries.specs.Columns.{words_of, is_there}
+use Rattle.mm_queries.specs.Columns.{text_bytes, is_there}
 use Rattle.mm_rules.specs.ExtensionRows.{NoRow, IsWantedRow, IsStandingRow, IsMarkedRow, IsRelated, IsZoomOther}
 use Rattle.mm_rules.specs.Parts.{ExtensionsWanted, NamedOnce, UnnamedOnce, ExtensionsOnce, GeneralExtension, MappingExtensions, ZoomExtensions}
 use Rattle.mm_queries.proofs.Counted.{counts_cover, counted_in, is_that}
@@ -151,7 +151,7 @@ absent_words : (o : Option Text) → (is_there (maybe_words o) ≡ false) ↔ (o
 absent_words None = (λ _. refl, λ _. refl)
 absent_words (Some t) = (λ e. absurd (let f : true ≡ false = e in cc), λ e. absurd (let f = e in cc))
 
-words_maybe : (o : Option Text) → words_of (maybe_words o) ≡ o
+words_maybe : (o : Option Text) → text_bytes (maybe_words o) ≡ o
 words_maybe None = refl
 words_maybe (Some t) = refl
 
@@ -171,11 +171,11 @@ zoom_is e v w = (
 abbrev Wants : Extension → Text → Type 0 → Option Text → Type 0
 Wants e t Mapping kind = ((t ≡ codes "gpkgext_relations") × IsRelatedOne e) ⊎ ((Mapping × IsRelatedOne e) ⊎ ((kind ≡ Some (codes "other")) × IsZoomOne e))
 
-wants_is : (e : Extension) (t : Text) (v w : Value) → e.table ≡ Some t → IsWantedRow (row_of e v w) ↔ Wants e t (IsTrue (is_there v)) (words_of w)
+wants_is : (e : Extension) (t : Text) (v w : Value) → e.table ≡ Some t → IsWantedRow (row_of e v w) ↔ Wants e t (IsTrue (is_there v)) (text_bytes w)
 wants_is e t v w at =
     let r = related_is e v w in
     let z = zoom_is e v w in
-    let first : words_of (maybe_words e.table) ≡ Some t = words_maybe e.table ∙ at in
+    let first : text_bytes (maybe_words e.table) ≡ Some t = words_maybe e.table ∙ at in
     let there : IsTrue (is_there (maybe_words e.table)) = subst (λ o. IsTrue (is_there (maybe_words o))) (sym at) refl in (
       λ h. elim h [
         | inl a ↦ inl (same_some (sym first ∙ a.0), r.0 a.1)
@@ -224,7 +224,7 @@ never_none p e at (inr (inr z)) = let f = sym at ∙ ap (λ (x : Extension). x.t
 
 never_shown : (e : Extension) (v w : Value) → e.table ≡ None → IsWantedRow (row_of e v w) → ⊥
 never_shown e v w at h =
-    let none : words_of (maybe_words e.table) ≡ None = words_maybe e.table ∙ at in
+    let none : text_bytes (maybe_words e.table) ≡ None = words_maybe e.table ∙ at in
     let gone : IsTrue (is_there (maybe_words e.table)) → ⊥ = λ there. let f : false ≡ true = subst (λ o. IsTrue (is_there (maybe_words o))) at there in cc in
     elim h [
       | inl a ↦ let f = sym none ∙ a.0 in cc

@@ -19,7 +19,7 @@ use Rattle.mm_definitions.proofs.Parts.{same_some}
 use Rattle.mm_store.specs.Rows.{kind_row, attribute_row, MediumRow, medium_row, relation_row, pairing_row}
 use Rattle.mm_store.specs.Kept.{medium_id, medium_with}
 use Rattle.mm_store.specs.Stands.{StandsFor}
-use Rattle.mm_queries.specs.Columns.{words_of, is_there}
+use Rattle.mm_queries.specs.Columns.{text_bytes, is_there}
 use Rattle.mm_rules.specs.ItemRows.{IsAttributesRow, IsMediaRow, IsSuitedRow, IsJoinedRow}
 use Rattle.mm_rules.specs.Parts.{RowsInTables, MediaInTables}
 use Rattle.mm_queries.proofs.Joined.{after_rowid, after_id, covered, covered_id, each_row, joined, some_joined}
@@ -57,7 +57,7 @@ related_from : {A B : Type 0} {x y z : Text} → (((x ≡ y) × A) ⊎ ((x ≡ z
 related_from (inl h) = inl (ap Some h.0, h.1)
 related_from (inr h) = inr (ap Some h.0, h.1)
 
-suited_is : (r : Relation) (v w : Value) → IsSuitedRow (v ∷ w ∷ Words r.base_column ∷ Words r.related_column ∷ Words r.name ∷ []) ↔ IsSuitedBy (words_of v) (words_of w) r
+suited_is : (r : Relation) (v w : Value) → IsSuitedRow (v ∷ w ∷ Words r.base_column ∷ Words r.related_column ∷ Words r.name ∷ []) ↔ IsSuitedBy (text_bytes v) (text_bytes w) r
 suited_is r v w = (
   λ h. record { base_is = h.base; related_is = related_to (λ a. a) (λ a. a) h.related; base_column = same_some h.base_column; related_column = same_some h.related_column },
   λ h. record { base = h.base_is; related = related_from h.related_is; base_column = ap Some h.base_column; related_column = ap Some h.related_column },
@@ -78,8 +78,8 @@ relations_suited version db p stands known =
         → ((q : Row) → lists.Has (or_nulls (filter (λ q. equal Binary (column q 1) (Words t) && true) (db 13))) q → Q q) ↔ P (get p.kinds t)
     kinds_at Q P t none some = joined after_rowid kind_row (db 13) p.kinds (covered (λ m v. (_, _, refl)) stands.holds.kinds) _ t (λ m v y. name_is m t) Q P none some
 
-    with_related : (r : Relation) (v : Value) → Related db r v ↔ IsSuitedBy (words_of v) (get p.kinds r.related) r
-    with_related r v = kinds_at (λ q. IsSuitedRow (v ∷ column q 2 ∷ Words r.base_column ∷ Words r.related_column ∷ Words r.name ∷ [])) (λ o. IsSuitedBy (words_of v) o r) r.related (suited_is r v Null) (λ w y. suited_is r v (Words w))
+    with_related : (r : Relation) (v : Value) → Related db r v ↔ IsSuitedBy (text_bytes v) (get p.kinds r.related) r
+    with_related r v = kinds_at (λ q. IsSuitedRow (v ∷ column q 2 ∷ Words r.base_column ∷ Words r.related_column ∷ Words r.name ∷ [])) (λ o. IsSuitedBy (text_bytes v) o r) r.related (suited_is r v Null) (λ w y. suited_is r v (Words w))
 
     with_base : (r : Relation) → ((q : Row) → lists.Has (or_nulls (filter (λ q. equal Binary (column q 1) (Words r.base) && true) (db 13))) q → Related db r (column q 2)) ↔ IsSuitedBy (get p.kinds r.base) (get p.kinds r.related) r
     with_base r = kinds_at (λ q. Related db r (column q 2)) (λ o. IsSuitedBy o (get p.kinds r.related) r) r.base (with_related r Null) (λ v y. with_related r (Words v))

@@ -2,7 +2,7 @@
 use Rattle.std.specs.Prelude.{◌≡◌, ◌⊎◌, false, codes, Some, IfSome, IsTrue}
 use Rattle.sqlite.specs.Order.{Row, column}
 use Rattle.mm_definitions.specs.Rules.{IsPlane, IsOrdered}
-use Rattle.mm_queries.specs.Columns.{number_of, words_of, is_there, IsPyramidKind, same_words_by}
+use Rattle.mm_queries.specs.Columns.{number_of, text_bytes, is_there, IsPyramidKind, same_words_by}
 
 -- a system, the same if it stands, and a kind
 abbrev pub MayNameRow : Row → Type 0
@@ -26,7 +26,7 @@ IsOrderedRow r = IsOrdered (number_of (column r 0)) (number_of (column r 2)) × 
 
 -- a kind, a contents row, and its matrix set if there is one
 pub record IsPlacedRow (r : Row) : Type 0 where
-  pub data_type : words_of (column r 1) ≡ Some (codes "tiles")
+  pub data_type : text_bytes (column r 1) ≡ Some (codes "tiles")
   pub there : IsTrue (is_there (column r 11))
   pub min_x : number_of (column r 2) ≡ number_of (column r 7)
   pub min_y : number_of (column r 3) ≡ number_of (column r 8)
@@ -36,7 +36,7 @@ pub record IsPlacedRow (r : Row) : Type 0 where
 
 -- a kind, a contents row without extent and system, and no matrix set
 pub record IsUnplacedRow (r : Row) : Type 0 where
-  pub data_type : words_of (column r 1) ≡ Some (codes "attributes")
+  pub data_type : text_bytes (column r 1) ≡ Some (codes "attributes")
   pub min_x : is_there (column r 2) ≡ false
   pub min_y : is_there (column r 3) ≡ false
   pub max_x : is_there (column r 4) ≡ false
@@ -46,4 +46,4 @@ pub record IsUnplacedRow (r : Row) : Type 0 where
 
 -- a kind that suits the contents row: a pyramid is placed as its matrix set says, and other tables have no place
 abbrev pub IsRegisteredRow : Row → Type 0
-IsRegisteredRow r = (IsPyramidKind (column r 0) × IsPlacedRow r) ⊎ (((words_of (column r 0) ≡ Some (codes "attributes")) ⊎ (words_of (column r 0) ≡ Some (codes "media"))) × IsUnplacedRow r)
+IsRegisteredRow r = (IsPyramidKind (column r 0) × IsPlacedRow r) ⊎ (((text_bytes (column r 0) ≡ Some (codes "attributes")) ⊎ (text_bytes (column r 0) ≡ Some (codes "media"))) × IsUnplacedRow r)

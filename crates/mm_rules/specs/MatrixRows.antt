@@ -1,7 +1,7 @@
 -- What the tests of rows of matrices ask.
 use Rattle.std.specs.Prelude.{◌≡◌, ℤ, pos, ◌<ℤ◌, ◌+ℤ◌, ◌-ℤ◌, ◌*ℤ◌, codes, Option, Some}
 use Rattle.sqlite.specs.Order.{Row, column}
-use Rattle.mm_queries.specs.Columns.{number_of, words_of, IsPyramidKind}
+use Rattle.mm_queries.specs.Columns.{number_of, text_bytes, IsPyramidKind}
 
 -- an extent from low to high is covered by so many tiles of so many pixels of this size
 abbrev pub covered_by : Option ℤ → Option ℤ → Option ℤ → Option ℤ → Option ℤ → Type 0
@@ -35,5 +35,5 @@ halved_by _ _ _ _ = ⊥
 
 -- a kind, two zooms, and the pixel sizes at them
 abbrev pub IsHalvedRow : Row → Type 0
-IsHalvedRow r = words_of (column r 0) ≡ Some (codes "two") → next_by (number_of (column r 1)) (number_of (column r 2))
+IsHalvedRow r = text_bytes (column r 0) ≡ Some (codes "two") → next_by (number_of (column r 1)) (number_of (column r 2))
     → halved_by (number_of (column r 3)) (number_of (column r 4)) (number_of (column r 5)) (number_of (column r 6))

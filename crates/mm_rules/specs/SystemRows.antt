@@ -4,12 +4,12 @@ use Rattle.sqlite.specs.Order.{Row, column}
 use Rattle.sqlite.specs.declared.types.Value.{Value}
 use Rattle.mm_definitions.specs.Package.{System}
 use Rattle.mm_definitions.specs.Rules.{geographic, undefined_cartesian, undefined_geographic}
-use Rattle.mm_queries.specs.Columns.{number_of, words_of}
+use Rattle.mm_queries.specs.Columns.{number_of, text_bytes}
 
 -- five columns show this system
 abbrev pub shows_by : System → Value → Value → Value → Value → Value → Type 0
 shows_by s name organization organization_id definition description =
-    (words_of name ≡ Some s.name) × (words_of organization ≡ Some s.organization) × (number_of organization_id ≡ Some s.organization_id) × (words_of definition ≡ Some s.definition) × (words_of description ≡ Some s.description)
+    (text_bytes name ≡ Some s.name) × (text_bytes organization ≡ Some s.organization) × (number_of organization_id ≡ Some s.organization_id) × (text_bytes definition ≡ Some s.definition) × (text_bytes description ≡ Some s.description)
 
 -- the three given systems, five columns each
 pub record IsGivenRow (r : Row) : Type 0 where

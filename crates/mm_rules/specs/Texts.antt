@@ -70,8 +70,8 @@ abbrev pub pairings_join : List ℕ
 pairings_join = codes "SELECT r.mapping_table_name, a.id, b.id, c.id, d.id FROM mm_map AS m LEFT JOIN gpkgext_relations AS r ON r.mapping_table_name = m.mapping LEFT JOIN mm_rows AS a ON a.table_name = r.base_table_name AND a.id = m.base_id LEFT JOIN mm_media AS b ON b.table_name = r.base_table_name AND b.id = m.base_id LEFT JOIN mm_rows AS c ON c.table_name = r.related_table_name AND c.id = m.related_id LEFT JOIN mm_media AS d ON d.table_name = r.related_table_name AND d.id = m.related_id ORDER BY m.mapping, m.base_id, m.related_id"
 
 -- the columns beside the number of the systems ?1, ?2 and ?3, as they stand, in one row, since `mm_profile` has one
-abbrev pub given_systems : List ℕ
-given_systems = codes "SELECT a.srs_name, a.organization, a.organization_coordsys_id, a.definition, a.description, b.srs_name, b.organization, b.organization_coordsys_id, b.definition, b.description, c.srs_name, c.organization, c.organization_coordsys_id, c.definition, c.description FROM mm_profile AS v LEFT JOIN gpkg_spatial_ref_sys AS a ON a.srs_id = ?1 LEFT JOIN gpkg_spatial_ref_sys AS b ON b.srs_id = ?2 LEFT JOIN gpkg_spatial_ref_sys AS c ON c.srs_id = ?3"
+abbrev pub ask_given_systems : List ℕ
+ask_given_systems = codes "SELECT a.srs_name, a.organization, a.organization_coordsys_id, a.definition, a.description, b.srs_name, b.organization, b.organization_coordsys_id, b.definition, b.description, c.srs_name, c.organization, c.organization_coordsys_id, c.definition, c.description FROM mm_profile AS v LEFT JOIN gpkg_spatial_ref_sys AS a ON a.srs_id = ?1 LEFT JOIN gpkg_spatial_ref_sys AS b ON b.srs_id = ?2 LEFT JOIN gpkg_spatial_ref_sys AS c ON c.srs_id = ?3"
 
 -- the state of each edition
 abbrev pub edition_states : List ℕ
@@ -102,8 +102,8 @@ abbrev pub unnamed_once : List ℕ
 unnamed_once = codes "SELECT 1 FROM gpkg_extensions AS a JOIN gpkg_extensions AS b ON a.rowid < b.rowid AND a.table_name IS NULL AND b.table_name IS NULL AND b.column_name IS a.column_name AND b.extension_name IS a.extension_name AND b.definition IS a.definition AND b.scope IS a.scope"
 
 -- the extension row of `gpkgext_relations`, if it stands, in one row, since `mm_profile` has one
-abbrev pub general_extension : List ℕ
-general_extension = codes "SELECT e.extension_name FROM mm_profile AS v LEFT JOIN gpkg_extensions AS e ON e.table_name IS 'gpkgext_relations' AND e.column_name IS NULL AND e.extension_name IS 'gpkg_related_tables' AND e.definition IS 'OGC 18-000' AND e.scope IS 'read-write'"
+abbrev pub ask_general_extension : List ℕ
+ask_general_extension = codes "SELECT e.extension_name FROM mm_profile AS v LEFT JOIN gpkg_extensions AS e ON e.table_name IS 'gpkgext_relations' AND e.column_name IS NULL AND e.extension_name IS 'gpkg_related_tables' AND e.definition IS 'OGC 18-000' AND e.scope IS 'read-write'"
 
 -- for each mapping its extension row, if it stands
 abbrev pub mapping_extensions : List ℕ

@@ -6,9 +6,9 @@ use Rattle.mm_definitions.specs.declared.answers.Answer.TheVariants as answers
 use Rattle.mm_definitions.specs.declared.answers.RunFault.{RunFault}
 use Rattle.mm_definitions.specs.declared.answers.Tally.{Tally}
 use Rattle.mm_run.specs.Answers.{is_fault}
-use Rattle.mm_run.specs.Applied.{IsAnswer, IsApplyFault, OnFault, TellsFailure}
+use Rattle.mm_run.specs.Applied.{IsAnswer, IsApplyFault, OnFault, TellsReopening}
 use Rattle.mm_run.specs.Told.{Stops, with_answer, with_line}
-use Rattle.mm_run.specs.Runs.{TellsFailureOf}
+use Rattle.mm_run.specs.Runs.{RunTellsReopening}
 use Rattle.mm_definitions.specs.Streams.{written_as}
 
 no_such : (f : ℕ) → IsApplyFault f → f ≡ 96 → ⊥
@@ -18,7 +18,7 @@ no_such f (inr (inr e)) h = absurd (omega arith)
 
 -- a command was applied
 pub applied-tells : (before failed : Bool) (same : Type 0) (a : Answer) → OnFault a IsApplyFault → (before ≡ true → (a ≡ answers.Fault (record { 0 = 92 })) × same)
-    → (before ≡ false → OnFault a (λ f. f ≢ 92)) → (before ≡ false → failed ≡ is_fault a) → TellsFailure before failed same a
+    → (before ≡ false → OnFault a (λ f. f ≢ 92)) → (before ≡ false → failed ≡ is_fault a) → TellsReopening before failed same a
 applied-tells true failed same answers.Ok faults ended working fails = absurd (let e : answers.Ok ≡ answers.Fault (record { 0 = 92 }) = (ended refl).0 in cc)
 applied-tells false failed same answers.Ok faults ended working fails = (refl, fails refl)
 applied-tells true failed same (answers.Refused why) faults ended working fails = absurd (let e : answers.Refused why ≡ answers.Fault (record { 0 = 92 }) = (ended refl).0 in cc)
@@ -31,12 +31,12 @@ applied-tells false failed same (answers.Fault f) faults ended working fails =
     (λ e. absurd (working refl e), λ e. (refl, fails refl), λ e. absurd (no_such f.0 faults e), λ e. absurd (let g : false ≡ true = e in cc))
 
 -- an answer that is no fault
-pub goes-same : (a : Answer) (before failed : Bool) (same : Type 0) → IsAnswer a → TellsFailure before failed same a → failed ≡ before
+pub goes-same : (a : Answer) (before failed : Bool) (same : Type 0) → IsAnswer a → TellsReopening before failed same a → failed ≡ before
 goes-same answers.Ok before failed same good h = h.1 ∙ sym h.0
 goes-same (answers.Refused why) before failed same good h = h.0
 goes-same (answers.Fault f) before failed same good h = absurd good
 
-pub goes-ended : (a : Answer) (before failed : Bool) (same : Type 0) (t t2 : Tally) → IsAnswer a → TellsFailure before failed same a → before ≡ true → t2 ≡ with_line (with_answer a t)
+pub goes-ended : (a : Answer) (before failed : Bool) (same : Type 0) (t t2 : Tally) → IsAnswer a → TellsReopening before failed same a → before ≡ true → t2 ≡ with_line (with_answer a t)
     → same × (t2.accepted ≡ t.accepted)
 goes-ended answers.Ok before failed same t t2 good h was e = absurd (let f : false ≡ true = sym h.0 ∙ was in cc)
 goes-ended (answers.Refused why) before failed same t t2 good h was e = (h.1 was, ap (λ (x : Tally). x.accepted) e)
@@ -51,7 +51,7 @@ accepted-stopped a t e old new was failed n (inr (inr h)) = ap (λ (x : Tally). 
 module _ {S : Type 0} (x y z : S) (first before failed : Bool) (t : Tally) (e : RunFault) (old new : Option (List ℕ)) (was writer : Bool) (n : ℕ)
     (so_far : before ≡ first) (ended : first ≡ true → (y ≡ x) × (t.accepted ≡ 0)) where
   abbrev Result : Type 0
-  Result = TellsFailureOf first failed (z ≡ x) (Err e)
+  Result = RunTellsReopening first failed (z ≡ x) (Err e)
 
   at_writer : e.fault.0 ≡ 97 → (first ≡ true → (z ≡ x) × (e.tally.accepted ≡ 0)) → Result
   at_writer is kept = (λ q. absurd (omega arith), λ q. absurd (omega arith), λ q. absurd (omega arith), kept)
@@ -59,7 +59,7 @@ module _ {S : Type 0} (x y z : S) (first before failed : Bool) (t : Tally) (e : 
   kept-refused : (e.tally.accepted ≡ t.accepted) → (before ≡ true → z ≡ y) → first ≡ true → (z ≡ x) × (e.tally.accepted ≡ 0)
   kept-refused count same was = let on = ended was in (same (so_far ∙ was) ∙ on.0, count ∙ on.1)
 
-  at_fault : (f : Fault) → f ≡ e.fault → TellsFailure before failed (z ≡ y) (answers.Fault f) → e.tally.accepted ≡ t.accepted → Result
+  at_fault : (f : Fault) → f ≡ e.fault → TellsReopening before failed (z ≡ y) (answers.Fault f) → e.tally.accepted ≡ t.accepted → Result
   at_fault f is h count =
       let number : f.0 ≡ e.fault.0 = ap (λ (x : Fault). x.0) is in (
         λ q. sym so_far ∙ h.0 (number ∙ q),
@@ -71,7 +71,7 @@ module _ {S : Type 0} (x y z : S) (first before failed : Bool) (t : Tally) (e : 
   accepted_none : before ≡ false → first ≡ true → (z ≡ x) × (e.tally.accepted ≡ 0)
   accepted_none is was = absurd (let g : false ≡ true = sym is ∙ (so_far ∙ was) in cc)
 
-  by_answer : (a : Answer) → TellsFailure before failed (z ≡ y) a → Stops (written_as old was) (written_as new writer) n a t e → e.tally.accepted ≡ (with_answer a t).accepted → Result
+  by_answer : (a : Answer) → TellsReopening before failed (z ≡ y) a → Stops (written_as old was) (written_as new writer) n a t e → e.tally.accepted ≡ (with_answer a t).accepted → Result
   by_answer answers.Ok h (inl s) count = absurd (let g : answers.Ok ≡ answers.Fault e.fault = s.0 in cc)
   by_answer answers.Ok h (inr (inl s)) count = at_writer s.0 (accepted_none h.0)
   by_answer answers.Ok h (inr (inr s)) count = at_writer s.0 (accepted_none h.0)
@@ -82,5 +82,5 @@ module _ {S : Type 0} (x y z : S) (first before failed : Bool) (t : Tally) (e : 
   by_answer (answers.Fault f) h (inr (inl s)) count = at_writer s.0 (kept-refused count h.3)
   by_answer (answers.Fault f) h (inr (inr s)) count = at_writer s.0 (kept-refused count h.3)
 
-  pub stops-failing : (a : Answer) → TellsFailure before failed (z ≡ y) a → Stops (written_as old was) (written_as new writer) n a t e → Result
+  pub stops-failing : (a : Answer) → TellsReopening before failed (z ≡ y) a → Stops (written_as old was) (written_as new writer) n a t e → Result
   stops-failing a h s = by_answer a h s (accepted-stopped a t e old new was writer n s)

@@ -8,16 +8,16 @@ use Rattle.mm_definitions.specs.declared.answers.Answer.{Answer}
 use Rattle.mm_definitions.specs.declared.answers.Answer.TheVariants as answers
 use Rattle.mm_io.specs.Records.{Record}
 use Rattle.mm_run.specs.Answers.{after}
-use Rattle.mm_run.specs.Applied.{IsSound, Leaves, TellsFailure}
+use Rattle.mm_run.specs.Applied.{IsSound, LeavesOnly, TellsReopening}
 use Rattle.mm_run.specs.Runs.{IsAnswered, IsKept, OnSound}
 
-module _ {D : Type 0} (settled : Package → Type 0) (may_leave : D → Type 0) (stands_for : D → Package → Type 0) (law : (q : Package) → settled q → Leaves may_leave stands_for q) where
+module _ {D : Type 0} (settled : Package → Type 0) (may_leave : D → Type 0) (stands_for : D → Package → Type 0) (law : (q : Package) → settled q → LeavesOnly may_leave stands_for q) where
   -- a session at rest
   pub kept-sound : (before failed : Bool) (p : Package) → IsSound settled p → IsKept before failed settled may_leave stands_for
   kept-sound before failed p sound = (λ db may. (p, law p sound.0 db may, sound.1), λ _. (p, sound))
 
   -- a record was read and answered
-  pub kept-answered : (fields : Record) (p : Package) (moment : ℕ) (before failed : Bool) (x : Answer) (same : Type 0) → Meets current p → (same → settled p) → TellsFailure before failed same x
+  pub kept-answered : (fields : Record) (p : Package) (moment : ℕ) (before failed : Bool) (x : Answer) (same : Type 0) → Meets current p → (same → settled p) → TellsReopening before failed same x
       → IsAnswered fields p moment before failed x settled may_leave stands_for → IsKept before failed settled may_leave stands_for
   kept-answered fields p moment before failed answers.Ok same meets back tells h = kept-sound before failed (after p moment h.0) h.3
   kept-answered fields p moment before failed (answers.Refused why) same meets back tells h = kept-sound before failed (after p moment h.0) h.3

@@ -18,7 +18,7 @@ use Rattle.mm_definitions.specs.declared.commands.Command.{Command}
 use Rattle.mm_io.specs.Records.{Record}
 use Rattle.mm_run.specs.Readings.{Reading, IsReadAs, AreReadAs}
 use Rattle.mm_run.specs.Answers.{answer_of, answers_to, calls_of, is_fault, accepted_of}
-use Rattle.mm_run.specs.Applied.{IsSound, Leaves, LeavesEither, IsAnswer}
+use Rattle.mm_run.specs.Applied.{IsSound, LeavesOnly, LeavesEither, IsAnswer}
 use Rattle.mm_run.specs.Runs.{AreFirstParts, IsAll, IsSoFar, IsSome, Turns, WorksOn}
 use Rattle.mm_run.proofs.Answered.{goes_on}
 use Rattle.mm_run.proofs.Lists.{accepted_of-more, answers-more, at_most_one, length-answers, none_read, part_of, read_more, run-more}
@@ -58,7 +58,7 @@ whole_of p moment given readings were = front_of p moment given readings [] were
 
 module _ {D : Type 0} (p : Package) (moment : ℕ) (may_leave : D → Type 0) (stands_for : D → Package → Type 0) where
   -- where all that may be left stands for the package after the records
-  pub parts-left : (readings : List Reading) (acknowledged : ℕ) → Leaves may_leave stands_for (run p (calls_of moment readings)) → Meets current (run p (calls_of moment readings))
+  pub parts-left : (readings : List Reading) (acknowledged : ℕ) → LeavesOnly may_leave stands_for (run p (calls_of moment readings)) → Meets current (run p (calls_of moment readings))
       → acknowledged ≤ accepted_of (answers_to p moment readings) → accepted_of (answers_to p moment readings) ≤ acknowledged + 1
       → AreFirstParts may_leave stands_for p (calls_of moment readings) acknowledged
   parts-left readings acknowledged leaves meets least most db may = (
@@ -71,7 +71,7 @@ module _ {D : Type 0} (p : Package) (moment : ℕ) (may_leave : D → Type 0) (s
   module _ (xs : List ℕ) (s : State) (before failed : Bool) (settled : Package → Type 0) (given : List Answer) where
     -- all the records were answered, or all that were read
     some-of : (rows : List Record) (state : State) (rest : List ℕ) (readings : List Reading) (w : ℕ) → Reached default_config s xs rows state rest → AreReadAs rows readings
-        → given ≡ answers_to p moment readings → Leaves may_leave stands_for (run p (calls_of moment readings)) → WorksOn before failed settled (run p (calls_of moment readings))
+        → given ≡ answers_to p moment readings → LeavesOnly may_leave stands_for (run p (calls_of moment readings)) → WorksOn before failed settled (run p (calls_of moment readings))
         → accepted_of (take w given) ≤ accepted_of given → accepted_of given ≤ accepted_of (take w given) + 1
         → IsSome p moment xs s before failed settled may_leave stands_for given w
     some-of rows state rest readings w reached read were leaves works least most =
@@ -91,7 +91,7 @@ module _ {D : Type 0} (p : Package) (moment : ℕ) (may_leave : D → Type 0) (s
     whole_front : (w : ℕ) → length given ≤ w → accepted_of (take w given) ≡ accepted_of given
     whole_front w h = ap accepted_of (take_all w given h)
 
-    module _ (law : (q : Package) → settled q → Leaves may_leave stands_for q) (same : failed ≡ before) where
+    module _ (law : (q : Package) → settled q → LeavesOnly may_leave stands_for q) (same : failed ≡ before) where
       -- of a run that is at rest
       pub some-so_far : (source : Option (List ℕ)) (s2 : State) → IsSoFar p moment xs s source s2 settled given → (w : ℕ) → length given ≤ w
           → IsSome p moment xs s before failed settled may_leave stands_for given w
@@ -106,7 +106,7 @@ module _ {D : Type 0} (p : Package) (moment : ℕ) (may_leave : D → Type 0) (s
 
 -- the line of the last answer may be missing
 pub some-last : {D : Type 0} (p : Package) (moment : ℕ) (may_leave : D → Type 0) (stands_for : D → Package → Type 0) (xs : List ℕ) (s : State) (before failed : Bool) (settled : Package → Type 0)
-    (given : List Answer) (a : Answer) → ((q : Package) → settled q → Leaves may_leave stands_for q) → failed ≡ before → (source : Option (List ℕ)) (s2 : State)
+    (given : List Answer) (a : Answer) → ((q : Package) → settled q → LeavesOnly may_leave stands_for q) → failed ≡ before → (source : Option (List ℕ)) (s2 : State)
     → IsSoFar p moment xs s source s2 settled (given ++ a ∷ []) → (w : ℕ) → length given ≤ w → IsSome p moment xs s before failed settled may_leave stands_for (given ++ a ∷ []) w
 some-last p moment may_leave stands_for xs s before failed settled given a law same source s2 h w enough =
     some-of p moment may_leave stands_for xs s before failed settled (given ++ a ∷ []) h.rows s2 h.rest h.readings w h.reached h.read h.were
@@ -149,7 +149,7 @@ module _ {D T : Type 0} (remaining : T → Option (List ℕ)) (a b : Reader T) (
         stands = sound;
       }
 
-  module _ (law : (q : Package) → settled2 q → Leaves may_leave stands_for q) (so_far : before ≡ first) where
+  module _ (law : (q : Package) → settled2 q → LeavesOnly may_leave stands_for q) (so_far : before ≡ first) where
     -- nothing of it was done
     some-before : (w : ℕ) → length given ≤ w → WorksOn before failed settled2 here → IsSome p moment xs s first failed settled2 may_leave stands_for given w
     some-before w enough works =

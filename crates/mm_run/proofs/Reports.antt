@@ -11,7 +11,7 @@ use Rattle.mm_io.specs.Records.{records_of}
 use Rattle.mm_io.proofs.RecordsFacts.{records-all, records-first}
 use Rattle.mm_run.specs.Readings.{Reading, AreReadAs}
 use Rattle.mm_run.specs.Answers.{answers_to, calls_of, accepted_of, refused_of}
-use Rattle.mm_run.specs.Applied.{Leaves}
+use Rattle.mm_run.specs.Applied.{LeavesOnly}
 use Rattle.mm_run.specs.Told.{AreTold}
 use Rattle.mm_run.specs.Runs.{AreFirstParts, IsAll, IsSome, IsStopped, RanAll, RanSome, StopsBehind, WorksOn, given_of}
 use Rattle.mm_run.proofs.Left.{parts-left}
@@ -19,7 +19,7 @@ use Rattle.mm_run.proofs.Lists.{as_many, counted-answers, length-answers}
 use Rattle.mm_definitions.specs.Streams.{written_as}
 
 pub ran-all : {D : Type 0} (p : Package) (moment : ℕ) (bytes : List ℕ) (settled : Package → Type 0) (may_leave : D → Type 0) (stands_for : D → Package → Type 0) (old new : Option (List ℕ)) (t : Tally)
-    (given : List Answer) → ((q : Package) → settled q → Leaves may_leave stands_for q) → AreTold given t old new → IsAll p moment (strip_bom bytes) states.StartRecord settled given
+    (given : List Answer) → ((q : Package) → settled q → LeavesOnly may_leave stands_for q) → AreTold given t old new → IsAll p moment (strip_bom bytes) states.StartRecord settled given
     → RanAll p moment bytes settled may_leave stands_for old new t
 ran-all p moment bytes settled may_leave stands_for old new t given law told all =
     let same : all.rows ≡ records_of bytes = records-all (strip_bom bytes) all.rows all.are in

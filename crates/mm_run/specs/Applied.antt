@@ -13,8 +13,8 @@ abbrev pub IsSound : (Package → Type 0) → Package → Type 0
 IsSound settled p = settled p × Meets current p
 
 -- each database that may be left stands for this package
-abbrev pub Leaves : {D : Type 0} → (D → Type 0) → (D → Package → Type 0) → Package → Type 0
-Leaves {D} may_leave stands_for p = (db : D) → may_leave db → stands_for db p
+abbrev pub LeavesOnly : {D : Type 0} → (D → Type 0) → (D → Package → Type 0) → Package → Type 0
+LeavesOnly {D} may_leave stands_for p = (db : D) → may_leave db → stands_for db p
 
 -- each stands for the package as it was or, where nothing refuses the command, for the one that the step gives
 abbrev pub LeavesEither : {D : Type 0} → (D → Type 0) → (D → Package → Type 0) → Package → Command → ℕ → Type 0
@@ -45,8 +45,8 @@ IsAnswer (answers.Fault fault) = ⊥
 
 -- What an answer tells of a session that has to be opened again: whether it had to before, and has to now. One that had
 -- to before is the same now, and accepts nothing; 92 comes only there, and after 91 it has to.
-abbrev pub TellsFailure : Bool → Bool → Type 0 → Answer → Type 0
-TellsFailure before failed same answers.Ok = (before ≡ false) × (failed ≡ false)
-TellsFailure before failed same (answers.Refused why) = (failed ≡ before) × (before ≡ true → same)
-TellsFailure before failed same (answers.Fault fault) =
+abbrev pub TellsReopening : Bool → Bool → Type 0 → Answer → Type 0
+TellsReopening before failed same answers.Ok = (before ≡ false) × (failed ≡ false)
+TellsReopening before failed same (answers.Refused why) = (failed ≡ before) × (before ≡ true → same)
+TellsReopening before failed same (answers.Fault fault) =
     (fault.0 ≡ 92 → before ≡ true) × (fault.0 ≡ 91 → (before ≡ false) × (failed ≡ true)) × (fault.0 ≡ 96 → failed ≡ before) × (before ≡ true → same)

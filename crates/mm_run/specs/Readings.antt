@@ -27,7 +27,7 @@ AreReadAs (fields ∷ rows) (reading ∷ readings) = IsReadAs fields reading × 
 AreReadAs _ _ = ⊥
 
 -- what a reader of records answers; want of memory says nothing of the record
-abbrev pub IsRead : Record → Result Command ReadFault → Type 0
-IsRead fields (Ok command) = IsReadAs fields (Ok command)
-IsRead fields (Err (faults.Refused why)) = (why.piece ≡ None) × IsReadAs fields (Err why.number)
-IsRead fields (Err faults.Memory) = ⊤
+abbrev pub IsCommandRead : Record → Result Command ReadFault → Type 0
+IsCommandRead fields (Ok command) = IsReadAs fields (Ok command)
+IsCommandRead fields (Err (faults.Refused why)) = (why.piece ≡ None) × IsReadAs fields (Err why.number)
+IsCommandRead fields (Err faults.Memory) = ⊤

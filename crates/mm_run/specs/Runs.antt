@@ -92,9 +92,9 @@ pub record RanSome {D : Type 0} (p : Package) (moment : ℕ) (bytes : List ℕ) 
 
 -- What a run tells of a session that has to be opened again. One that had to before is the same after the run, and
 -- accepted nothing; 92 comes only there, and after 91 it has to.
-abbrev pub TellsFailureOf : Bool → Bool → Type 0 → Result Tally RunFault → Type 0
-TellsFailureOf before failed same (Ok t) = (failed ≡ before) × (before ≡ true → same × (t.accepted ≡ 0))
-TellsFailureOf before failed same (Err e) =
+abbrev pub RunTellsReopening : Bool → Bool → Type 0 → Result Tally RunFault → Type 0
+RunTellsReopening before failed same (Ok t) = (failed ≡ before) × (before ≡ true → same × (t.accepted ≡ 0))
+RunTellsReopening before failed same (Err e) =
     (e.fault.0 ≡ 92 → before ≡ true) × (e.fault.0 ≡ 91 → (before ≡ false) × (failed ≡ true)) × (e.fault.0 ≡ 96 → failed ≡ before)
     × (before ≡ true → same × (e.tally.accepted ≡ 0))
 

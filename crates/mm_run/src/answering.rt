@@ -5,7 +5,7 @@ ghost use Rattle.csv.specs.Reading.{reader_source};
 ghost use Rattle.csv.specs.Records.{fields_of};
 ghost use Rattle.mm_definitions.specs.Package.{Package};
 ghost use Rattle.mm_io.specs.Records.{IsSetUp};
-ghost use Rattle.mm_run.specs.Applied.{IsAnswer, IsApplyFault, IsSound, OnFault, TellsFailure};
+ghost use Rattle.mm_run.specs.Applied.{IsAnswer, IsApplyFault, IsSound, OnFault, TellsReopening};
 ghost use Rattle.mm_run.specs.Ended.{IsEnded, IsEndedTurn};
 ghost use Rattle.mm_run.specs.Runs.{IsAnswered, IsKept, IsRunFault, OnSound, Turns};
 
@@ -21,7 +21,7 @@ use std::io::Read;
 /// Answers a record: applies the command that it spells.
 fn answer_row<A: Apply>(alloc: Global, session: &mut A, row: ByteRecord, at: Moment) -> Answer
     ensures faults { OnFault result IsApplyFault }
-    ensures session { TellsFailure (A.has_failed session.old) (A.has_failed session.new) (session.new ≡ session.old) result }
+    ensures session { TellsReopening (A.has_failed session.old) (A.has_failed session.new) (session.new ≡ session.old) result }
     ensures clean { A.is_clean session.new → A.is_clean session.old }
     ensures answered { A.is_clean session.new → (p : Package) → IsSound (A.settled session.old) p
         → IsAnswered (fields_of row) p at (A.has_failed session.old) (A.has_failed session.new) result
@@ -50,7 +50,7 @@ pub(crate) fn turn<A: Apply, T: Read + Tells>(
     requires { IsSetUp rows.old }
     ensures stays { IfSome result (λ a. IsAnswer a → IsSetUp rows.new) }
     ensures faults { IfSome result (λ a. OnFault a (λ f. IsRunFault f (T.has_failed (reader_source rows.new)))) }
-    ensures going { IfSome result (TellsFailure (A.has_failed session.old) (A.has_failed session.new) (session.new ≡ session.old)) }
+    ensures going { IfSome result (TellsReopening (A.has_failed session.old) (A.has_failed session.new) (session.new ≡ session.old)) }
     ensures still { IfNone result (session.new ≡ session.old) }
     ensures clean { A.is_clean session.new → A.is_clean session.old }
     ensures turns { A.is_clean session.new → (p : Package) → IsSound (A.settled session.old) p

@@ -2,7 +2,7 @@
 
 ghost use Rattle.csv.specs.Records.{fields_of};
 ghost use Rattle.std.specs.Prelude.{◌≡◌};
-ghost use Rattle.mm_run.specs.Readings.{IsRead};
+ghost use Rattle.mm_run.specs.Readings.{IsCommandRead};
 
 use csv::{ByteRecord, StringRecord};
 use mm_definitions::answers::ReadFault;
@@ -13,7 +13,7 @@ use std::alloc::Global;
 
 /// The command that a record spells. One with a field that isn't text is refused 10.
 pub(crate) fn read_row(alloc: Global, row: ByteRecord) -> Result<Command, ReadFault>
-    ensures { IsRead (fields_of row) result }
+    ensures { IsCommandRead (fields_of row) result }
 {
     let Ok(text) = StringRecord::from_byte_record(row) else {
         return Err(ReadFault::refused(10));

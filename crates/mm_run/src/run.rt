@@ -10,7 +10,7 @@ ghost use Rattle.mm_definitions.specs.declared.answers.Answer.{Answer};
 ghost use Rattle.mm_io.specs.Records.{IsSetUp};
 ghost use Rattle.mm_run.specs.Told.{AreTold, IsNear};
 ghost use Rattle.mm_run.specs.Ended.{IsEndedRun, OnEnded, RanEnded};
-ghost use Rattle.mm_run.specs.Runs.{IsAll, IsKept, IsRunFault, IsSome, IsStopped, OnRun, OnSound, RanAll, RanSome, TellsFailureOf, TellsFlush, TellsWriter, WorksOn};
+ghost use Rattle.mm_run.specs.Runs.{IsAll, IsKept, IsRunFault, IsSome, IsStopped, OnRun, OnSound, RanAll, RanSome, RunTellsReopening, TellsFlush, TellsWriter, WorksOn};
 
 use crate::answering::turn;
 use crate::apply::Apply;
@@ -47,7 +47,7 @@ fn run_rows<A: Apply, T: Read + Tells, W: Write>(
     ensures flushed { TellsFlush (streams.is_flushed writer.old) (streams.is_flushed writer.new) result }
     ensures small { IfOk result (λ t. (t.accepted + t.refused ≡ t.written) × (t.written + 1 < 2 ^ 64)) }
     ensures near { IfErr result (λ e. IsNear e.tally) }
-    ensures session { TellsFailureOf (A.has_failed session.old) (A.has_failed session.new) (session.new ≡ session.old) result }
+    ensures session { RunTellsReopening (A.has_failed session.old) (A.has_failed session.new) (session.new ≡ session.old) result }
     ensures why { IfErr result (λ e. (e.fault.0 ≡ 97) ⊎ IsRunFault e.fault.0 (T.has_failed (reader_source rows.new))) }
     ensures kept { OnSound (A.is_clean session.new) (A.settled session.old)
         (IsKept (A.has_failed session.old) (A.has_failed session.new) (A.settled session.new) (A.may_leave session.new)
@@ -103,7 +103,7 @@ fn run_held<'a, A: Apply, R: Read, W: Write, K: Lender>(
     ensures flushed { TellsFlush (streams.is_flushed writer.old) (streams.is_flushed writer.new) result.1 }
     ensures small { IfOk result.1 (λ t. (t.accepted + t.refused ≡ t.written) × (t.written + 1 < 2 ^ 64)) }
     ensures near { IfErr result.1 (λ e. IsNear e.tally) }
-    ensures session { TellsFailureOf (A.has_failed session.old) (A.has_failed session.new) (session.new ≡ session.old) result.1 }
+    ensures session { RunTellsReopening (A.has_failed session.old) (A.has_failed session.new) (session.new ≡ session.old) result.1 }
     ensures why { IfErr result.1 (λ e. (e.fault.0 ≡ 97) ⊎ IsRunFault e.fault.0 (streams.has_failed result.0.reader.now)) }
     ensures kept { OnSound (A.is_clean session.new) (A.settled session.old)
         (IsKept (A.has_failed session.old) (A.has_failed session.new) (A.settled session.new) (A.may_leave session.new)
@@ -146,7 +146,7 @@ fn run_told<A: Apply, R: Read, W: Write>(
     ensures working { OnOk result (streams.has_failed writer.new ≡ streams.has_failed writer.old) }
     ensures flushed { TellsFlush (streams.is_flushed writer.old) (streams.is_flushed writer.new) result }
     ensures near { IfErr result (λ e. IsNear e.tally) }
-    ensures session { TellsFailureOf (A.has_failed session.old) (A.has_failed session.new) (session.new ≡ session.old) result }
+    ensures session { RunTellsReopening (A.has_failed session.old) (A.has_failed session.new) (session.new ≡ session.old) result }
     ensures why { IfErr result (λ e. (e.fault.0 ≡ 97) ⊎ IsRunFault e.fault.0 (streams.has_failed reader.new)) }
     ensures kept { OnSound (A.is_clean session.new) (A.settled session.old)
         (IsKept (A.has_failed session.old) (A.has_failed session.new) (A.settled session.new) (A.may_leave session.new)
@@ -209,7 +209,7 @@ pub fn run_list<A: Apply, R: Read, W: Write>(
     ensures near { IfErr result (λ e. IsNear e.tally) }
 
     // One that has to be opened again is left as it was; 92 comes only there.
-    ensures session { TellsFailureOf (A.has_failed session.old) (A.has_failed session.new) (session.new ≡ session.old) result }
+    ensures session { RunTellsReopening (A.has_failed session.old) (A.has_failed session.new) (session.new ≡ session.old) result }
 
     // 97 is the writer's, and told wherever it fails; 96 is the reader's; the others are faults of commands and of reading.
     ensures writer { IfErr result (TellsWriter (streams.has_failed writer.old) (streams.has_failed writer.new)) }

@@ -11,16 +11,16 @@ use Rattle.mm_definitions.specs.Rules.{Limits}
 use Rattle.mm_definitions.specs.declared.answers.Fault.{Fault}
 use Rattle.mm_definitions.specs.Scale.{scale}
 use Rattle.mm_store.specs.Faults.{IsStoreFault}
-use Rattle.mm_store.specs.Stands.{StandsFor, ground_of, IsInside, IsSettled}
+use Rattle.mm_store.specs.Stands.{StandsFor, ground_of, StandsInside, IsSettled}
 use Rattle.mm_store.specs.Statements.{CommitsNothing}
 use Rattle.mm_store.proofs.Transactions.{OnlyCommitted, settles}
-use Rattle.mm_scaling.specs.Moves.{IsMove, IsRescaled, MayScale}
+use Rattle.mm_scaling.specs.Moves.{IsScaling, IsRescaled, MayScale}
 
 module _ {S : Type 0} (g : Ghosts S) (was now : Held S) (begun : now ≡ record was { in_transaction = true }) (ended last : State) where
   abbrev old : State
   old = state g was
 
-  inside : (p : Package) → MayScale old p → IsInside millimetres (state g now) (ground_of old) p
+  inside : (p : Package) → MayScale old p → StandsInside millimetres (state g now) (ground_of old) p
   inside p it = rw begun (record { mode = refl; back = λ is_open. (refl, is_open); reads = it.0.reads })
 
   whole : (result : Result (Unit {0}) Fault) → Survives old last (λ db. (p : Package) → MayScale old p → StandsFor micrometres.version db (scale p))
@@ -35,13 +35,13 @@ module _ {S : Type 0} (g : Ghosts S) (was now : Held S) (begun : now ≡ record 
   }
 
   -- the transaction was rolled back
-  pub undone : {T : Type 0} (fault : Fault) → IsMove millimetres micrometres (state g now) ended (λ p. Limits millimetres p) scale {T = T} (Err fault) → CommitsNothing ended last → IsRescaled old last (Err fault)
+  pub undone : {T : Type 0} (fault : Fault) → IsScaling millimetres micrometres (state g now) ended (λ p. Limits millimetres p) scale {T = T} (Err fault) → CommitsNothing ended last → IsRescaled old last (Err fault)
   undone fault moved h =
       whole (Err fault) (survives_begin g was last _ (rw begun at (survives_then (state g now) ended last _ _ (λ db. (p : Package) → MayScale old p → StandsFor micrometres.version db (scale p)) (λ _ db none. absurd none) (λ _ db none. absurd none) moved.survives h)))
       (λ clean. tt) (λ clean p it. tt) moved.faults
 
-  module _ {T : Type 0} (t : T) (moved : IsMove millimetres micrometres (state g now) ended (λ p. Limits millimetres p) scale (Ok t)) (h : Survives ended last (λ db. db ≡ ended.now.trees)) where
-    done : HasCleanDisk ended → (p : Package) → MayScale old p → IsTrue ended.is_open × IsInside micrometres ended (ground_of old) (scale p)
+  module _ {T : Type 0} (t : T) (moved : IsScaling millimetres micrometres (state g now) ended (λ p. Limits millimetres p) scale (Ok t)) (h : Survives ended last (λ db. db ≡ ended.now.trees)) where
+    done : HasCleanDisk ended → (p : Package) → MayScale old p → IsTrue ended.is_open × StandsInside micrometres ended (ground_of old) (scale p)
     done clean p it = moved.made clean (ground_of old) p (inside p it) it.1
 
     commits : Survives old last (λ db. (p : Package) → MayScale old p → StandsFor micrometres.version db (scale p))

@@ -7,15 +7,15 @@ use Rattle.mm_definitions.specs.Package.{Package}
 use Rattle.mm_definitions.specs.Rules.{Limits}
 use Rattle.mm_definitions.specs.declared.answers.Fault.{Fault}
 use Rattle.mm_definitions.specs.Scale.{scale}
-use Rattle.mm_store.specs.Stands.{StandsFor, Ground, StandsOn, IsInside, IsSettled}
+use Rattle.mm_store.specs.Stands.{StandsFor, Ground, StandsOn, StandsInside, IsSettled}
 use Rattle.mm_store.specs.Faults.{IsStoreFault}
 use Rattle.mm_store.specs.Statements.{CommitsNothing}
 
 -- a call that makes of a package under one profile a package under another, where it may
-pub record IsMove (from to : Profile) (old new : State) (When : Package → Type 0) (next : Package → Package) {T : Type 0} (result : Result T Fault) : Type 0 where
+pub record IsScaling (from to : Profile) (old new : State) (When : Package → Type 0) (next : Package → Package) {T : Type 0} (result : Result T Fault) : Type 0 where
   pub survives : CommitsNothing old new
-  pub on : HasCleanDisk new → (ground : Ground) (p : Package) → IsInside from old ground p → When p → StandsOn new ground
-  pub made : HasCleanDisk new → (ground : Ground) (p : Package) → IsInside from old ground p → When p → OnOk result (IsTrue new.is_open × IsInside to new ground (next p))
+  pub on : HasCleanDisk new → (ground : Ground) (p : Package) → StandsInside from old ground p → When p → StandsOn new ground
+  pub made : HasCleanDisk new → (ground : Ground) (p : Package) → StandsInside from old ground p → When p → OnOk result (IsTrue new.is_open × StandsInside to new ground (next p))
   pub faults : IfErr result IsStoreFault
 
 -- the package in millimetres, whose numbers are within the limits

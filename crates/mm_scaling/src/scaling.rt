@@ -8,7 +8,7 @@ ghost use Rattle.mm_definitions.specs.Rules.{ContentsWithin, SetWithin, MatrixWi
 ghost use Rattle.mm_definitions.specs.Parts.{change_values};
 ghost use Rattle.mm_definitions.specs.Scale.{finer_contents, finer_set, finer_grid, scale};
 ghost use Rattle.mm_store.specs.Shapes.{IsChange};
-ghost use Rattle.mm_scaling.specs.Moves.{IsMove, IsRescaled};
+ghost use Rattle.mm_scaling.specs.Moves.{IsScaling, IsRescaled};
 
 use mm_definitions::answers::Fault;
 use mm_store::faults::fault_of;
@@ -60,7 +60,7 @@ fn scale_matrices<S: Alter>(tx: &mut Transaction<'_, S>) -> Result<(), Fault>
 /// Says in the profile's row that the unit is the smaller one.
 fn set_version<S: Alter>(tx: &mut Transaction<'_, S>) -> Result<(), Fault>
     ensures same_reference { tx.new.conn.ghost_name ≡ tx.old.conn.ghost_name }
-    ensures moved { (from : Profile) → IsMove from micrometres (state S.Store tx.old.conn.now)
+    ensures moved { (from : Profile) → IsScaling from micrometres (state S.Store tx.old.conn.now)
         (state S.Store tx.new.conn.now) (λ p. ⊤) (λ p. p) result }
 {
     run(tx, "UPDATE mm_profile SET version = 2", &[])
@@ -80,7 +80,7 @@ fn scale_tables<S: Alter>(tx: &mut Transaction<'_, S>) -> Result<(), Fault>
 /// Tells a package of whole millimetres in whole micrometres, and says so in its profile's row.
 fn scale_all<S: Alter>(tx: &mut Transaction<'_, S>) -> Result<(), Fault>
     ensures same_reference { tx.new.conn.ghost_name ≡ tx.old.conn.ghost_name }
-    ensures moved { IsMove millimetres micrometres (state S.Store tx.old.conn.now) (state S.Store tx.new.conn.now)
+    ensures moved { IsScaling millimetres micrometres (state S.Store tx.old.conn.now) (state S.Store tx.new.conn.now)
         (λ p. Limits millimetres p) scale result }
 {
     scale_tables(tx)?;

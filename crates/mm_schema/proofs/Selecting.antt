@@ -106,7 +106,7 @@ pub last_piece : IsSelect schema text.last_piece 25 (over 25 (equals 1 0 ∷ [])
 unfolding understood everything
 last_piece = record { compiled = refl; plain = (refl, refl); unlisted = refl; listed = refl }
 
-pub piece_values : IsSelect schema text.piece_values 25 (first_of 25 (equals 1 0 ∷ equals 2 1 ∷ []) (col 1 3 ∷ col 1 4 ∷ col 1 5 ∷ col 1 6 ∷ col 1 7 ∷ col 1 8 ∷ col 1 9 ∷ col 1 10 ∷ col 1 11 ∷ col 1 12 ∷ col 1 13 ∷ col 1 14 ∷ [])) (codes "kind" ∷ codes "name" ∷ codes "k1" ∷ codes "k2" ∷ codes "k3" ∷ codes "k4" ∷ codes "k5" ∷ codes "k6" ∷ codes "k7" ∷ codes "t1" ∷ codes "t2" ∷ codes "blob" ∷ [])
+pub piece_values : IsSelect schema text.piece_columns 25 (first_of 25 (equals 1 0 ∷ equals 2 1 ∷ []) (col 1 3 ∷ col 1 4 ∷ col 1 5 ∷ col 1 6 ∷ col 1 7 ∷ col 1 8 ∷ col 1 9 ∷ col 1 10 ∷ col 1 11 ∷ col 1 12 ∷ col 1 13 ∷ col 1 14 ∷ [])) (codes "kind" ∷ codes "name" ∷ codes "k1" ∷ codes "k2" ∷ codes "k3" ∷ codes "k4" ∷ codes "k5" ∷ codes "k6" ∷ codes "k7" ∷ codes "t1" ∷ codes "t2" ∷ codes "blob" ∷ [])
 unfolding understood everything
 piece_values = record { compiled = refl; plain = (refl, refl); unlisted = refl; listed = refl }
 

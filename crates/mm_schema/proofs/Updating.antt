@@ -10,7 +10,7 @@ use Rattle.sql_forms.proofs.Updates.{IsUpdate}
 use Rattle.mm_schema.specs.Tables.{schema, gpkg_contents, mm_tiles, mm_rows, mm_media, mm_editions}
 use Rattle.mm_schema.specs.Statements as text
 
-pub touch : IsUpdate schema text.touch 1 gpkg_contents (equals 1 0 ∷ compares Ne 5 1 ∷ []) (col 1 1 ∷ col 1 2 ∷ col 1 3 ∷ col 1 4 ∷ col 0 1 ∷ col 1 6 ∷ col 1 7 ∷ col 1 8 ∷ col 1 9 ∷ col 1 10 ∷ [])
+pub touch : IsUpdate schema text.touch_contents 1 gpkg_contents (equals 1 0 ∷ compares Ne 5 1 ∷ []) (col 1 1 ∷ col 1 2 ∷ col 1 3 ∷ col 1 4 ∷ col 0 1 ∷ col 1 6 ∷ col 1 7 ∷ col 1 8 ∷ col 1 9 ∷ col 1 10 ∷ [])
 unfolding understood everything
 touch = record { compiled = refl; plain = (refl, refl); placed = refl; idle = λ moves. refl; none = refl }
 

@@ -18,27 +18,27 @@ abbrev pub no_schema : Schema
 no_schema = record { tables = []; indexes = []; views = [] }
 
 -- the schema of the first so many tables, made in turn
-abbrev pub first_of : ℕ → Schema
-first_of n = fold created no_schema (map unplaced (take n tables.tables))
+abbrev pub first_tables : ℕ → Schema
+first_tables n = fold created no_schema (map unplaced (take n tables.tables))
 
 -- each text, with the table that it is to define
 abbrev pub definitions : List (List ℕ × Table)
 definitions =
-    (creates.gpkg_spatial_ref_sys, tables.gpkg_spatial_ref_sys)
-    ∷ (creates.gpkg_contents, tables.gpkg_contents)
-    ∷ (creates.gpkg_tile_matrix_set, tables.gpkg_tile_matrix_set)
-    ∷ (creates.gpkg_tile_matrix, tables.gpkg_tile_matrix)
-    ∷ (creates.gpkg_extensions, tables.gpkg_extensions)
-    ∷ (creates.gpkgext_relations, tables.gpkgext_relations)
-    ∷ (creates.mm_profile, tables.mm_profile)
-    ∷ (creates.mm_tables, tables.mm_tables)
-    ∷ (creates.mm_tiles, tables.mm_tiles)
-    ∷ (creates.mm_rows, tables.mm_rows)
-    ∷ (creates.mm_media, tables.mm_media)
-    ∷ (creates.mm_map, tables.mm_map)
-    ∷ (creates.mm_editions, tables.mm_editions)
-    ∷ (creates.mm_pieces, tables.mm_pieces)
-    ∷ (creates.mm_blobs, tables.mm_blobs) ∷ []
+    (creates.create_gpkg_spatial_ref_sys, tables.gpkg_spatial_ref_sys)
+    ∷ (creates.create_gpkg_contents, tables.gpkg_contents)
+    ∷ (creates.create_gpkg_tile_matrix_set, tables.gpkg_tile_matrix_set)
+    ∷ (creates.create_gpkg_tile_matrix, tables.gpkg_tile_matrix)
+    ∷ (creates.create_gpkg_extensions, tables.gpkg_extensions)
+    ∷ (creates.create_gpkgext_relations, tables.gpkgext_relations)
+    ∷ (creates.create_mm_profile, tables.mm_profile)
+    ∷ (creates.create_mm_tables, tables.mm_tables)
+    ∷ (creates.create_mm_tiles, tables.mm_tiles)
+    ∷ (creates.create_mm_rows, tables.mm_rows)
+    ∷ (creates.create_mm_media, tables.mm_media)
+    ∷ (creates.create_mm_map, tables.mm_map)
+    ∷ (creates.create_mm_editions, tables.mm_editions)
+    ∷ (creates.create_mm_pieces, tables.mm_pieces)
+    ∷ (creates.create_mm_blobs, tables.mm_blobs) ∷ []
 
 -- the text defines the table
 abbrev pub Defines : List ℕ × Table → Type 0
@@ -56,7 +56,7 @@ unplaced_index i = record i { tree = 0 }
 
 -- the fifteen tables and the index on the digests of blobs
 abbrev pub with_digest : Schema
-with_digest = indexed (first_of 15) tables.mm_blobs (unplaced_index tables.mm_blobs_digest)
+with_digest = indexed (first_tables 15) tables.mm_blobs (unplaced_index tables.mm_blobs_digest)
 
 -- and the index on the blobs of tiles
 abbrev pub with_tiles : Schema

@@ -40,8 +40,8 @@ abbrev pub insert_plain_contents : List ℕ
 insert_plain_contents = codes "INSERT INTO gpkg_contents (table_name, data_type, identifier, description, last_change) VALUES (?1, 'attributes', ?2, '', ?3)"
 
 -- sets last_change of a table: its name, and the stamp
-abbrev pub touch : List ℕ
-touch = codes "UPDATE gpkg_contents SET last_change = ?2 WHERE table_name = ?1 AND last_change <> ?2"
+abbrev pub touch_contents : List ℕ
+touch_contents = codes "UPDATE gpkg_contents SET last_change = ?2 WHERE table_name = ?1 AND last_change <> ?2"
 
 -- removes a contents row, and by CASCADE kind, matrix set, matrices, tiles, attribute rows and media of the table; blobs stay
 abbrev pub delete_table : List ℕ
@@ -234,8 +234,8 @@ abbrev pub last_piece : List ℕ
 last_piece = codes "SELECT piece_no FROM mm_pieces WHERE edition = ?1 ORDER BY piece_no DESC LIMIT 1"
 
 -- the columns of a staged piece behind its key
-abbrev pub piece_values : List ℕ
-piece_values = codes "SELECT kind, name, k1, k2, k3, k4, k5, k6, k7, t1, t2, blob FROM mm_pieces WHERE edition = ?1 AND piece_no = ?2 LIMIT 1"
+abbrev pub piece_columns : List ℕ
+piece_columns = codes "SELECT kind, name, k1, k2, k3, k4, k5, k6, k7, t1, t2, blob FROM mm_pieces WHERE edition = ?1 AND piece_no = ?2 LIMIT 1"
 
 -- puts a staged piece: its edition, number and the columns behind its key
 abbrev pub insert_piece : List ℕ

@@ -21,7 +21,7 @@ use Rattle.mm_store.specs.Faults.{IsStoreFault}
 use Rattle.mm_store.specs.Seen.{IsSeenAs}
 use Rattle.mm_store.specs.Stands.{IsSettled, ReadsAs, profile_row}
 use Rattle.mm_store.specs.Statements.{CommitsNothing}
-use Rattle.mm_queries.specs.Columns.{words_of, bytes_of}
+use Rattle.mm_queries.specs.Columns.{text_bytes, bytes_of}
 
 -- The four tables hold these entries that name blobs, and these blobs, whatever form they have.
 pub record KeepsAs (db : Database) (kept : Kept) : Type 0 where
@@ -40,7 +40,7 @@ is_digested_by _ _ = ⊥
 
 -- a blob's digest, and its bytes, which have it
 abbrev pub IsDigestedRow : Row → Type 0
-IsDigestedRow r = is_digested_by (words_of (column r 0)) (bytes_of (column r 1))
+IsDigestedRow r = is_digested_by (text_bytes (column r 0)) (bytes_of (column r 1))
 
 -- each digest is right, and no blob is empty
 abbrev pub AreDigested : Kept → Type 0

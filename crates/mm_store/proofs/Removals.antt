@@ -17,7 +17,7 @@ use Rattle.mm_definitions.specs.Effects.{is_other}
 use Rattle.mm_definitions.specs.Package.{Package, Relation}
 use Rattle.mm_store.specs.Rows.{past_rowid, past_id, relation_row, MediumRow, StagedRow}
 use Rattle.mm_store.specs.Stands.{HoldingBut}
-use Rattle.mm_store.specs.Blobs.{Shelf, Blob, Told, Tells, Names}
+use Rattle.mm_store.specs.Blobs.{Shelf, Blob, Told, Tells, NamesBlob}
 use Rattle.mm_store.specs.Kept.{Kept, Spare, Keeps, IsNamed, tile_id, tile_with, medium_id, medium_with, piece_id, piece_with}
 use Rattle.mm_store.specs.Removals.{without_table_rows, without_relation_rows, without_edition_rows, kept_without_table, kept_without_edition, Freed, FreedByTable, FreedByEdition}
 use Rattle.mm_store.proofs.Parts.{removes_where, retains}
@@ -35,7 +35,7 @@ module _ {K I V : Type 0} {R : K → K → Ordering} (o : IsKeyOrder R) (id_of :
   ]
 
   -- a blob that an entry names is named by one that is left, or freed by one that goes
-  pub named_left : (id : ℤ) → Names id_of ids id → Names id_of (retain_keys ids keep) id ⊎ Freed id_of ids keep id
+  pub named_left : (id : ℤ) → NamesBlob id_of ids id → NamesBlob id_of (retain_keys ids keep) id ⊎ Freed id_of ids keep id
   named_left id names = elim (true_or_false (keep names.0)) [
     | inl stays ↦ inl (names.0, names.1, kept o ids keep names.0 stays ∙ names.2, names.3)
     | inr goes ↦ inr (names.0, names.1, goes, names.2, names.3)

@@ -6,7 +6,7 @@ use Rattle.sqlite.specs.Store.{Ghosts}
 use Rattle.mm_definitions.specs.Bounds.{Profile}
 use Rattle.mm_definitions.specs.Package.{Package}
 use Rattle.mm_definitions.specs.declared.answers.Fault.{Fault}
-use Rattle.mm_store.specs.Stands.{ReadsAs, ground_of, StandsOn, IsInside, IsSettled}
+use Rattle.mm_store.specs.Stands.{ReadsAs, ground_of, StandsOn, StandsInside, IsSettled}
 use Rattle.mm_store.specs.Statements.{CommitsNothing}
 use Rattle.mm_store.specs.Shapes.{IsLook}
 use Rattle.mm_store.specs.Seen.{IsSeenAs, IsRead}
@@ -23,7 +23,7 @@ settled_still profile old new p quiet clean same it =
 
 -- a transaction that was rolled back leaves what was seen
 module _ {S : Type 0} (g : Ghosts S) (was now : Held S) (begun : now ≡ record was { in_transaction = true }) (ended last : State) where
-  begins : (profile : Profile) (p : Package) → IsSeenAs profile (state g was) p → IsInside profile (state g now) (ground_of (state g was)) p
+  begins : (profile : Profile) (p : Package) → IsSeenAs profile (state g was) p → StandsInside profile (state g now) (ground_of (state g was)) p
   begins profile p it = rw begun (record { mode = refl; back = λ is_open. (refl, is_open); reads = it.reads })
 
   seen_back : (profile : Profile) (p : Package) → IsSeenAs profile (state g was) p → IsRolledBack ended last → StandsOn ended (ground_of (state g was)) → IsSeenAs profile last p

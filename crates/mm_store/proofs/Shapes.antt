@@ -12,7 +12,7 @@ use Rattle.mm_definitions.specs.declared.answers.Outcome.{Outcome}
 use Rattle.mm_definitions.specs.declared.answers.Outcome.TheVariants.{Done, Refused}
 use Rattle.mm_definitions.specs.declared.answers.Refusal.{Refusal}
 use Rattle.mm_definitions.specs.declared.commands.Command.{Command}
-use Rattle.mm_store.specs.Stands.{Ground, IsInside}
+use Rattle.mm_store.specs.Stands.{Ground, StandsInside}
 use Rattle.mm_store.specs.Statements.{CommitsNothing}
 use Rattle.mm_store.specs.Shapes.{IsLook, IsChange, IsLent, IsTried, Answers, Tries}
 
@@ -70,7 +70,7 @@ module _ (profile : Profile) where
     made = λ clean ground p it where_it.
         let found = one.looked (omega (arith, two.survives.clean)) ground p it in
         let s = so p where_it found.2 in
-        subst (λ q. OnOk r (IsTrue c.is_open × IsInside profile c ground q)) (sym s.1) (two.made clean ground p found.1 s.0);
+        subst (λ q. OnOk r (IsTrue c.is_open × StandsInside profile c ground q)) (sym s.1) (two.made clean ground p found.1 s.0);
     faults = two.faults;
   }
 
@@ -132,7 +132,7 @@ module _ (profile : Profile) where
             let found = look.looked (omega (arith, made.survives.clean)) ground p it.inside in
             let f = finds p it.meets found.2 in
             let end = made.made clean ground p found.1 f.0 in
-            (f.1, end.0, subst (IsInside profile new ground) (sym (step_done p c moment f.1 ∙ f.2)) end.1);
+            (f.1, end.0, subst (StandsInside profile new ground) (sym (step_done p c moment f.1 ∙ f.2)) end.1);
         faults = tt;
       }
 

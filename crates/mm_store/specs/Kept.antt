@@ -7,7 +7,7 @@ use Rattle.mm_schema.specs.Tables.{mm_tiles, mm_media, mm_pieces, mm_blobs}
 use Rattle.mm_definitions.specs.Keys.{tile_cmp, item_cmp, piece_cmp}
 use Rattle.mm_definitions.specs.Package.{Package, Medium, PieceRow}
 use Rattle.mm_store.specs.Rows.{whole, past_rowid, tile_row, MediumRow, medium_row, StagedRow, staged_row}
-use Rattle.mm_store.specs.Blobs.{Blob, Shelf, AreBlobs, blob_row, Tells, Names}
+use Rattle.mm_store.specs.Blobs.{Blob, Shelf, AreBlobs, blob_row, Tells, NamesBlob}
 
 -- ---- the id that an entry names, and the entry with bytes in its place
 
@@ -46,7 +46,7 @@ pub record Kept : Type 0 where
 
 -- a tile, a medium or a piece names the blob
 abbrev pub IsNamed : Kept → ℤ → Type 0
-IsNamed kept id = Names tile_id kept.tiles id ⊎ (Names medium_id kept.media id ⊎ Names piece_id kept.pieces id)
+IsNamed kept id = NamesBlob tile_id kept.tiles id ⊎ (NamesBlob medium_id kept.media id ⊎ NamesBlob piece_id kept.pieces id)
 
 -- which blobs may stand though nothing names them
 abbrev pub Spare : Type 0

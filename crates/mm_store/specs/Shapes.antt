@@ -10,7 +10,7 @@ use Rattle.mm_definitions.specs.declared.answers.Outcome.{Outcome}
 use Rattle.mm_definitions.specs.declared.answers.Outcome.TheVariants.{Done, Refused}
 use Rattle.mm_definitions.specs.declared.answers.Refusal.{Refusal}
 use Rattle.mm_definitions.specs.declared.commands.Command.{Command}
-use Rattle.mm_store.specs.Stands.{Ground, StandsOn, IsInside}
+use Rattle.mm_store.specs.Stands.{Ground, StandsOn, StandsInside}
 use Rattle.mm_store.specs.Faults.{IsStoreFault}
 use Rattle.mm_store.specs.Statements.{CommitsNothing}
 
@@ -22,27 +22,27 @@ module _ (profile : Profile) {T : Type 0} (old new : State) where
   -- a call that only looks, and answers so of the package
   pub record IsLook (Says : Package → T → Type 0) (result : Result T Fault) : Type 0 where
     pub survives : CommitsNothing old new
-    pub on : HasCleanDisk new → (ground : Ground) (p : Package) → IsInside profile old ground p → StandsOn new ground
-    pub looked : HasCleanDisk new → (ground : Ground) (p : Package) → IsInside profile old ground p → IfOk result (λ it. IsTrue new.is_open × IsInside profile new ground p × Says p it)
+    pub on : HasCleanDisk new → (ground : Ground) (p : Package) → StandsInside profile old ground p → StandsOn new ground
+    pub looked : HasCleanDisk new → (ground : Ground) (p : Package) → StandsInside profile old ground p → IfOk result (λ it. IsTrue new.is_open × StandsInside profile new ground p × Says p it)
     pub faults : IfErr result IsStoreFault
 
   -- a call that makes one change where it may
   pub record IsChange (When : Package → Type 0) (next : Package → Package) (result : Result T Fault) : Type 0 where
     pub survives : CommitsNothing old new
-    pub on : HasCleanDisk new → (ground : Ground) (p : Package) → IsInside profile old ground p → When p → StandsOn new ground
-    pub made : HasCleanDisk new → (ground : Ground) (p : Package) → IsInside profile old ground p → When p → OnOk result (IsTrue new.is_open × IsInside profile new ground (next p))
+    pub on : HasCleanDisk new → (ground : Ground) (p : Package) → StandsInside profile old ground p → When p → StandsOn new ground
+    pub made : HasCleanDisk new → (ground : Ground) (p : Package) → StandsInside profile old ground p → When p → OnOk result (IsTrue new.is_open × StandsInside profile new ground (next p))
     pub faults : IfErr result IsStoreFault
 
 -- ---- a command
 
 -- done only where it is not refused, and then the transaction stands for the package after it
 abbrev pub IsDone : Profile → State → Ground → Option Refusal → Package → Type 0
-IsDone profile new ground refusal next = (refusal ≡ None) × IsTrue new.is_open × IsInside profile new ground next
+IsDone profile new ground refusal next = (refusal ≡ None) × IsTrue new.is_open × StandsInside profile new ground next
 
 -- `Done` as above; `Refused` only with this refusal, and then the transaction stands for the package as before; a fault says nothing
 abbrev pub Answers : Profile → State → Ground → Package → Option Refusal → Package → Result Outcome Fault → Type 0
 Answers profile new ground p refusal next (Ok Done) = IsDone profile new ground refusal next
-Answers profile new ground p refusal next (Ok (Refused why)) = (refusal ≡ Some why) × IsInside profile new ground p
+Answers profile new ground p refusal next (Ok (Refused why)) = (refusal ≡ Some why) × StandsInside profile new ground p
 Answers profile new ground p refusal next (Err fault) = ⊤
 
 -- the same with nothing said of the transaction after a refusal
@@ -52,21 +52,21 @@ Tries profile new ground p refusal next (Ok (Refused why)) = refusal ≡ Some wh
 Tries profile new ground p refusal next (Err fault) = ⊤
 
 -- The command comes to a transaction that stands for a package that meets the rules.
-pub record IsPut (profile : Profile) (s : State) (ground : Ground) (p : Package) : Type 0 where
+pub record ComesTo (profile : Profile) (s : State) (ground : Ground) (p : Package) : Type 0 where
   pub meets : Meets profile p
-  pub inside : IsInside profile s ground p
+  pub inside : StandsInside profile s ground p
 
 module _ (profile : Profile) (c : Command) (moment : ℕ) (old new : State) (result : Result Outcome Fault) where
   -- The shape of each command that is lent a transaction.
   pub record IsLent : Type 0 where
     pub survives : CommitsNothing old new
-    pub on : HasCleanDisk new → (ground : Ground) (p : Package) → IsPut profile old ground p → StandsOn new ground
-    pub answers : HasCleanDisk new → (ground : Ground) (p : Package) → IsPut profile old ground p → Answers profile new ground p (refusal p c) (step p c moment) result
+    pub on : HasCleanDisk new → (ground : Ground) (p : Package) → ComesTo profile old ground p → StandsOn new ground
+    pub answers : HasCleanDisk new → (ground : Ground) (p : Package) → ComesTo profile old ground p → Answers profile new ground p (refusal p c) (step p c moment) result
     pub faults : IfErr result IsStoreFault
 
   -- The weaker shape of a command of many steps, whose transaction is rolled back after a refusal.
   pub record IsTried : Type 0 where
     pub survives : CommitsNothing old new
-    pub on : HasCleanDisk new → (ground : Ground) (p : Package) → IsPut profile old ground p → StandsOn new ground
-    pub tries : HasCleanDisk new → (ground : Ground) (p : Package) → IsPut profile old ground p → Tries profile new ground p (refusal p c) (step p c moment) result
+    pub on : HasCleanDisk new → (ground : Ground) (p : Package) → ComesTo profile old ground p → StandsOn new ground
+    pub tries : HasCleanDisk new → (ground : Ground) (p : Package) → ComesTo profile old ground p → Tries profile new ground p (refusal p c) (step p c moment) result
     pub faults : IfErr result IsStoreFault

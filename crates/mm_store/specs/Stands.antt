@@ -77,8 +77,8 @@ pub record IsInsideBut (spare : Spare) (profile : Profile) (s : State) (ground :
   pub reads : IsTrue s.is_open → ReadsAsBut spare profile.version s.now p
 
 -- and sees it with all its bytes kept once
-abbrev pub IsInside : Profile → State → Ground → Package → Type 0
-IsInside = IsInsideBut no_spare
+abbrev pub StandsInside : Profile → State → Ground → Package → Type 0
+StandsInside = IsInsideBut no_spare
 
 -- no transaction is open, the connection reads as the package, and each database that may be left stands for it
 pub record IsSettled (profile : Profile) (s : State) (p : Package) : Type 0 where

@@ -34,7 +34,7 @@ module _ {T : Type 0} (old new : State) (sql : List ℕ) (params : Row) where
     pub faults : IfErr result IsStoreFault
 
   -- The query was asked, and shows all these rows.
-  pub record IsListed (rows_of : T → List Row) (result : Result T Fault) : Type 0 where
+  pub record AreGiven (rows_of : T → List Row) (result : Result T Fault) : Type 0 where
     pub survives : CommitsNothing old new
     pub on : KeepsGround old new
     pub lists : HasCleanDisk new → IfOk result (λ it. Shown sql params old new (rows_of it))

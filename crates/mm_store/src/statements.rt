@@ -7,7 +7,7 @@ ghost use Rattle.sqlite.specs.Order.{column};
 ghost use Rattle.sqlite.specs.State.{HasCleanDisk, FailsToQuery, IsTooLate};
 ghost use Rattle.sqlite.specs.declared.types.Value.TheVariants.{Int};
 ghost use Rattle.mm_store.specs.Faults.{told_as};
-ghost use Rattle.mm_store.specs.Statements.{IsRun, IsAsked, IsListed, GivesText, GivesPair};
+ghost use Rattle.mm_store.specs.Statements.{IsRun, IsAsked, AreGiven, GivesText, GivesPair};
 
 use crate::faults::fault_of;
 use mm_definitions::answers::Fault;
@@ -61,7 +61,7 @@ pub fn all<S: Alter>(
     params: &[ValueRef<'_>],
 ) -> Result<Vec<Row>, Fault>
     ensures same_reference { tx.new.conn.ghost_name ≡ tx.old.conn.ghost_name }
-    ensures listed { IsListed (state S.Store tx.old.conn.now) (state S.Store tx.new.conn.now) sql.now (bound params.now)
+    ensures listed { AreGiven (state S.Store tx.old.conn.now) (state S.Store tx.new.conn.now) sql.now (bound params.now)
         (λ rows. rows.items) result }
 {
     let shown = tx.query_all(sql, params);

@@ -42,14 +42,14 @@ abbrev pub TellsMore : Option (List Outcome) → Option (List Outcome) → List 
 TellsMore old new outcomes = new ≡ option_map (λ before. before ++ outcomes) old
 
 -- 0 where no connection met a fault, and else 3
-abbrev pub status_of : List Fault → ℕ
-status_of [] = 0
-status_of (fault ∷ rest) = 3
+abbrev pub service_status : List Fault → ℕ
+service_status [] = 0
+service_status (fault ∷ rest) = 3
 
 -- As many connections were served as were to be, and what was printed is a line for each that met a fault; or the line of the last
 -- that was served couldn't be printed whole, and 3 is answered.
 abbrev pub IsServed : ℕ → List Outcome → Written → Written → ℕ → Type 0
 IsServed count outcomes old new status = All IsServiceFault (faults_of outcomes)
-    × (((length outcomes ≡ count) × Appends old.contents new.contents (fault_lines outcomes) × (new.failed ≡ old.failed) × (status ≡ status_of (faults_of outcomes)))
+    × (((length outcomes ≡ count) × Appends old.contents new.contents (fault_lines outcomes) × (new.failed ≡ old.failed) × (status ≡ service_status (faults_of outcomes)))
     ⊎ ((length outcomes ≤ count) × (new.failed ≡ true) × (status ≡ 3) × (first : List Outcome) × (why : PageFault) × (outcomes ≡ first ++ Err why ∷ [])
     × (taken : ℕ) × (taken ≤ length (page_fault_text why.0)) × Appends old.contents new.contents (fault_lines first ++ take taken (page_fault_text why.0))))

@@ -61,7 +61,7 @@ pub fn adopt_package<S: Alter + Drop>(
     conn: Connection<S>,
 ) -> Result<Session<S>, (Connection<S>, Stop)>
     requires { conn.in_transaction ≡ false }
-    ensures working { IfOk result (λ session. sessions.has_failed session ≡ false) }
+    ensures working { IfOk result (λ session. sessions.must_reopen session ≡ false) }
     ensures adopted { IfOk result (λ session. IsAdopted (state S.Store conn) (state S.Store (held session))) }
     ensures declined { IfErr result (λ e. IsDeclined (state S.Store conn) (state S.Store e.0) e.1) }
 {

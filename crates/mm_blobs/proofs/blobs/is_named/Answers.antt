@@ -1,7 +1,7 @@
 use Rattle.std.proofs.Common.{◌≡◌, ◌⊎◌, inl, inr, ℤ, Bool, Ok, Err, true, false, refl, sym, ap, subst, ◌∙◌, rules, w64, to_z, of_z, to_z-of_z}
 use Rattle.std.proofs.lemmas.Result.{err_from_is_err_and}
 use Rattle.sqlite.specs.Held.{state}
-use Rattle.mm_store.specs.Blobs.{Names}
+use Rattle.mm_store.specs.Blobs.{NamesBlob}
 use Rattle.mm_store.specs.Kept.{Kept, IsNamed, tile_id, medium_id, piece_id}
 use Rattle.mm_blobs.specs.Views.{View, IsSeen, TellsWhether}
 use Rattle.mm_blobs.proofs.Moving.{moves_as, then_moves, move_failed}
@@ -13,7 +13,7 @@ returns-then-branch-clause-named g c profile spare =
     let n = to_z w64 (of_z w64 c.args.id) in
     let back : n ≡ c.args.id = search (rules, to_z-of_z) in
     moves_as _ _ c.in_ok-tile_names.field-0 true (c.in_ok-tile_names.ensures.named profile spare) (λ base x it. it)
-    (λ base x y it last. (last.0, last.1, subst (IsNamed y.kept) back (inl (subst (TellsWhether (Names tile_id y.kept.tiles n)) c.if-branch.true last.2))))
+    (λ base x y it last. (last.0, last.1, subst (IsNamed y.kept) back (inl (subst (TellsWhether (NamesBlob tile_id y.kept.tiles n)) c.if-branch.true last.2))))
 
 pub returns-in_err-tile_names-clause-named : goal.returns-in_err-tile_names-clause-named
 returns-in_err-tile_names-clause-named g c profile spare =
@@ -27,9 +27,9 @@ returns-then-branch-2-clause-named g c profile spare =
     let back : n ≡ c.args.id = search (rules, to_z-of_z) in
     let second = c.in_ok-medium_names in
     moves_as _ new second.field-0 true
-    (then_moves (λ base x it z. (z ≡ x) × IsSeen spare profile new base z × TellsWhether (Names medium_id z.kept.media n) it) _ _ new c.in_ok-tile_names.field-0 (Ok second.field-0) (c.in_ok-tile_names.ensures.named profile spare) (second.ensures.named profile spare)
+    (then_moves (λ base x it z. (z ≡ x) × IsSeen spare profile new base z × TellsWhether (NamesBlob medium_id z.kept.media n) it) _ _ new c.in_ok-tile_names.field-0 (Ok second.field-0) (c.in_ok-tile_names.ensures.named profile spare) (second.ensures.named profile spare)
     (λ base x y it mid. mid.1) (λ base x y z t it mid last. (last.0 ∙ mid.0, last.1, last.2)))
-    (λ base x it. it) (λ base x y it last. (last.0, last.1, subst (IsNamed y.kept) back (inr (inl (subst (TellsWhether (Names medium_id y.kept.media n)) c.if-branch-2.true last.2)))))
+    (λ base x it. it) (λ base x y it last. (last.0, last.1, subst (IsNamed y.kept) back (inr (inl (subst (TellsWhether (NamesBlob medium_id y.kept.media n)) c.if-branch-2.true last.2)))))
 
 pub returns-in_err-medium_names-clause-named : goal.returns-in_err-medium_names-clause-named
 returns-in_err-medium_names-clause-named g c profile spare =
@@ -49,14 +49,14 @@ returns-clause-named g c profile spare =
     let first = c.in_ok-tile_names in
     let second = c.in_ok-medium_names in
     then_moves (λ base x it z. (z ≡ x) × IsSeen spare profile new base z × TellsWhether (IsNamed z.kept c.args.id) it) _ mid new second.field-0 c.piece_names.result
-    (then_moves (λ base x it z. (z ≡ x) × IsSeen spare profile mid base z × ¬ Names tile_id z.kept.tiles n × TellsWhether (Names medium_id z.kept.media n) it) _ _ mid first.field-0 (Ok second.field-0) (first.ensures.named profile spare)
+    (then_moves (λ base x it z. (z ≡ x) × IsSeen spare profile mid base z × ¬ NamesBlob tile_id z.kept.tiles n × TellsWhether (NamesBlob medium_id z.kept.media n) it) _ _ mid first.field-0 (Ok second.field-0) (first.ensures.named profile spare)
     (second.ensures.named profile spare) (λ base x y it seen. seen.1)
-    (λ base x y z t it seen last. (last.0 ∙ seen.0, last.1, subst (λ (v : View). ¬ Names tile_id v.kept.tiles n) (sym last.0) (subst (TellsWhether (Names tile_id y.kept.tiles n)) c.if-branch.false seen.2), last.2)))
+    (λ base x y z t it seen last. (last.0 ∙ seen.0, last.1, subst (λ (v : View). ¬ NamesBlob tile_id v.kept.tiles n) (sym last.0) (subst (TellsWhether (NamesBlob tile_id y.kept.tiles n)) c.if-branch.false seen.2), last.2)))
     (c.piece_names.ensures.named profile spare) (λ base x y it seen. seen.1)
     (λ base x y z t it seen last. (
       last.0 ∙ seen.0,
       last.1,
       subst (λ k. TellsWhether (IsNamed z.kept k) t) back
-          (none_of_three z.kept n t (subst (λ (v : View). ¬ Names tile_id v.kept.tiles n) (sym last.0) seen.2)
-          (subst (λ (v : View). ¬ Names medium_id v.kept.media n) (sym last.0) (subst (TellsWhether (Names medium_id y.kept.media n)) c.if-branch-2.false seen.3)) last.2),
+          (none_of_three z.kept n t (subst (λ (v : View). ¬ NamesBlob tile_id v.kept.tiles n) (sym last.0) seen.2)
+          (subst (λ (v : View). ¬ NamesBlob medium_id v.kept.media n) (sym last.0) (subst (TellsWhether (NamesBlob medium_id y.kept.media n)) c.if-branch-2.false seen.3)) last.2),
     ))

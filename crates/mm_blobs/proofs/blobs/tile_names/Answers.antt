@@ -4,7 +4,7 @@ use Rattle.sqlite.specs.Held.{state}
 use Rattle.sql_forms.proofs.Keys.{columns_are}
 use Rattle.sql_forms.proofs.Selects.{selects_any}
 use Rattle.mm_schema.proofs.Selecting as statement
-use Rattle.mm_store.specs.Blobs.{Names}
+use Rattle.mm_store.specs.Blobs.{NamesBlob}
 use Rattle.mm_store.specs.Kept.{tile_id}
 use Rattle.mm_store.specs.Rows.{tile_row}
 use Rattle.mm_blobs.specs.Views.{TellsWhether}
@@ -17,7 +17,7 @@ returns-clause-named g c profile spare =
     let old = state g.S.Store c.args.tx.now.conn.now in
     let new = state g.S.Store c.exists.new.tx.conn.now in
     let id = c.args.id in
-    looks profile old new _ _ spare (λ it first. it ≡ is_some first) (λ x it. TellsWhether (Names tile_id x.kept.tiles id) it) c.exists.result c.exists.ensures.asked (λ it first ready shown gives.
+    looks profile old new _ _ spare (λ it first. it ≡ is_some first) (λ x it. TellsWhether (NamesBlob tile_id x.kept.tiles id) it) c.exists.result c.exists.ensures.asked (λ it first ready shown gives.
     let read = selects_any _ _ _ _ _ _ statement.tile_of_blob old new ready.schema_is (Int id ∷ []) _ (search rules) first shown in (
       read.0,
       λ x h. told_names tile_id tile_row (seen old 15) x.kept.tiles (kept_in spare spare profile.version (seen old) x h).tiles id (at_id 5 id)

@@ -1,14 +1,14 @@
 use Rattle.std.proofs.Common.{rules, Ok, ap, ◌∙◌}
 use Rattle.sqlite.specs.Held.{state}
 use Rattle.mm_definitions.specs.declared.answers.Answer.TheVariants as answer
-use Rattle.mm_core.specs.Applied.{IsApplied}
+use Rattle.mm_core.specs.Applied.{IsAppliedTo}
 use Rattle.mm_core.proofs.Turns.{committed, in_doubt, refused, gave_up, store_fault}
 use Rattle.mm_core.proofs.applying.run_transaction.Goals as goal
 
 pub returns-in-Ok-clause-applied : goal.returns-in-Ok-clause-applied
 returns-in-Ok-clause-applied g c =
     let end = c.commit.new.self.0 in
-    let it : IsApplied c.args.command.now c.args.moment (state g.S.Store c.args.conn.now) (state g.S.Store end) answer.Ok =
+    let it : IsAppliedTo c.args.command.now c.args.moment (state g.S.Store c.args.conn.now) (state g.S.Store end) answer.Ok =
     committed g.S.Store c.args.conn.now c.transaction-tx.result.conn.now c.transaction-tx.ensures.begun (state g.S.Store c.run_command.new.tx.conn.now) (state g.S.Store end) c.args.command.now c.args.moment
     c.run_command.result (c.run_command.ensures.tried c.args.moment c.requires.stamped) (c.in-Ok-Done.is ∙ ap Ok c.in-Ok-Done.field-0-is) (λ db. g.met.S.Store.settled end.store db) c.commit.ensures.survives (λ clean. (c.in-Ok.ensures.ok clean).1) in
     search rules
@@ -16,7 +16,7 @@ returns-in-Ok-clause-applied g c =
 pub returns-in-Err-commit-clause-applied : goal.returns-in-Err-commit-clause-applied
 returns-in-Err-commit-clause-applied g c =
     let end = c.commit.new.self.0 in
-    let it : IsApplied c.args.command.now c.args.moment (state g.S.Store c.args.conn.now) (state g.S.Store end) (answer.Fault c.fault_of.result) =
+    let it : IsAppliedTo c.args.command.now c.args.moment (state g.S.Store c.args.conn.now) (state g.S.Store end) (answer.Fault c.fault_of.result) =
     in_doubt g.S.Store c.args.conn.now c.transaction-tx.result.conn.now c.transaction-tx.ensures.begun (state g.S.Store c.run_command.new.tx.conn.now) (state g.S.Store end) c.args.command.now c.args.moment
     c.run_command.result (c.run_command.ensures.tried c.args.moment c.requires.stamped) (c.in-Ok-Done.is ∙ ap Ok c.in-Ok-Done.field-0-is) c.fault_of.result c.commit.ensures.survives in
     search rules
@@ -24,7 +24,7 @@ returns-in-Err-commit-clause-applied g c =
 pub returns-in-Ok-Refused-clause-applied : goal.returns-in-Ok-Refused-clause-applied
 returns-in-Ok-Refused-clause-applied g c =
     let end = c.rollback.new.self.0 in
-    let it : IsApplied c.args.command.now c.args.moment (state g.S.Store c.args.conn.now) (state g.S.Store end) (answer.Refused c.in-Ok-Refused.why) =
+    let it : IsAppliedTo c.args.command.now c.args.moment (state g.S.Store c.args.conn.now) (state g.S.Store end) (answer.Refused c.in-Ok-Refused.why) =
     refused g.S.Store c.args.conn.now c.transaction-tx.result.conn.now c.transaction-tx.ensures.begun (state g.S.Store c.run_command.new.tx.conn.now) (state g.S.Store end) c.args.command.now c.args.moment
     c.run_command.result (c.run_command.ensures.tried c.args.moment c.requires.stamped) c.rollback.ensures.survives c.in-Ok-Refused.why (c.in-Ok-Refused.is ∙ ap Ok c.in-Ok-Refused.field-0-is) c.rollback.ensures.undone in
     search rules
@@ -32,7 +32,7 @@ returns-in-Ok-Refused-clause-applied g c =
 pub returns-in-Err-clause-applied : goal.returns-in-Err-clause-applied
 returns-in-Err-clause-applied g c =
     let end = c.rollback-in-Err.new.self.0 in
-    let it : IsApplied c.args.command.now c.args.moment (state g.S.Store c.args.conn.now) (state g.S.Store end) (answer.Fault c.in-Err.fault) =
+    let it : IsAppliedTo c.args.command.now c.args.moment (state g.S.Store c.args.conn.now) (state g.S.Store end) (answer.Fault c.in-Err.fault) =
     gave_up g.S.Store c.args.conn.now c.transaction-tx.result.conn.now c.transaction-tx.ensures.begun (state g.S.Store c.run_command.new.tx.conn.now) (state g.S.Store end) c.args.command.now c.args.moment
     c.run_command.result (c.run_command.ensures.tried c.args.moment c.requires.stamped) c.rollback-in-Err.ensures.survives c.in-Err.fault in
     search rules

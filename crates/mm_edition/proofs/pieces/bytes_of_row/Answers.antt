@@ -7,7 +7,7 @@ use Rattle.mm_store.specs.Rows.{maybe}
 use Rattle.mm_blobs.specs.Views.{View, IsSeen}
 use Rattle.mm_blobs.proofs.Moving.{moves_as, move_failed}
 use Rattle.mm_blobs.proofs.Releasing.{commits_nothing}
-use Rattle.mm_edition.specs.Kept.{plain}
+use Rattle.mm_edition.specs.Kept.{bytes_or_none}
 use Rattle.mm_edition.proofs.Naming.{one_blob}
 use Rattle.mm_edition.proofs.pieces.bytes_of_row.Goals as goal
 
@@ -20,8 +20,8 @@ returns-in-Some-clause-told g c profile spare =
     let bytes = c.in_ok-bytes_of.field-0 in
     let back : to_z w64 (of_z w64 blob) ≡ blob = search (rules, to_z-of_z) in
     let named : column row 11 ≡ maybe (Some blob) = c.in_ok-blob_in.ensures.shown ∙ ap maybe c.in-Some.is in
-    moves_as {Less = λ base x it y. (y ≡ x) × IsSeen spare profile s1 base y × ((o : Option ℤ) → column row 11 ≡ maybe o → StandsAt y.kept.shelf o (plain it))} s0 s1 bytes (Some bytes) ((rw back at c.in_ok-bytes_of.ensures.told) profile spare) (λ base x it. it.1)
-    (λ base x y it last. (last.0, last.1, λ o is. subst (λ (q : Option ℤ). StandsAt y.kept.shelf q (plain (Some bytes))) (one_blob (Some blob) o (sym named ∙ is)) last.2))
+    moves_as {Less = λ base x it y. (y ≡ x) × IsSeen spare profile s1 base y × ((o : Option ℤ) → column row 11 ≡ maybe o → StandsAt y.kept.shelf o (bytes_or_none it))} s0 s1 bytes (Some bytes) ((rw back at c.in_ok-bytes_of.ensures.told) profile spare) (λ base x it. it.1)
+    (λ base x y it last. (last.0, last.1, λ o is. subst (λ (q : Option ℤ). StandsAt y.kept.shelf q (bytes_or_none (Some bytes))) (one_blob (Some blob) o (sym named ∙ is)) last.2))
 
 pub returns-in_err-bytes_of-clause-told : goal.returns-in_err-bytes_of-clause-told
 returns-in_err-bytes_of-clause-told g c profile spare =

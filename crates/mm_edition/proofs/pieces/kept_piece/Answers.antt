@@ -13,7 +13,7 @@ use Rattle.mm_store.proofs.Asking.{told_fault}
 use Rattle.mm_blobs.specs.Views.{View, IsSeen}
 use Rattle.mm_blobs.proofs.Moving.{then_moves_open, then_failed, moves_as, move_untold}
 use Rattle.mm_blobs.proofs.Opening.{tells_of, tidy_untold}
-use Rattle.mm_edition.specs.Kept.{kept_row, plain, Shows, IsRowOf}
+use Rattle.mm_edition.specs.Kept.{kept_row, bytes_or_none, Shows, IsPieceRow}
 use Rattle.mm_definitions.specs.Package.{PieceRow}
 use Rattle.mm_edition.proofs.Rows.{row_tells, no_row_tells}
 use Rattle.mm_edition.proofs.pieces.kept_piece.Goals as goal
@@ -26,7 +26,7 @@ returns-in_default-clause-look g c profile =
     let key = piece a.edition.now a.number in
     tells_of profile s0 s1 (Ok None) (λ p kept. get p.pieces key ≡ option_map kept_row kept)
     (moves_as {Less = λ base x kept y. (y ≡ x) × IsSeen no_spare profile s1 base y × (get y.content.pieces key ≡ option_map kept_row kept)} s0 s1 c.in_ok-row_of_piece.field-0 None ((rw (to_z-of_z c.ranges.number) at c.in_ok-row_of_piece.ensures.shown) profile no_spare) (λ base x it. it)
-    (λ base x y it last. (last.0, last.1, no_row_tells y.kept.shelf (get y.kept.pieces key) (get y.content.pieces key) (subst (IsRowOf (get y.kept.pieces key)) c.in_default.is last.2) last.3)))
+    (λ base x y it last. (last.0, last.1, no_row_tells y.kept.shelf (get y.kept.pieces key) (get y.content.pieces key) (subst (IsPieceRow (get y.kept.pieces key)) c.in_default.is last.2) last.3)))
 
 pub returns-in_err-row_of_piece-clause-look : goal.returns-in_err-row_of_piece-clause-look
 returns-in_err-row_of_piece-clause-look g c profile =
@@ -51,19 +51,19 @@ returns-in-Ok-clause-look g c profile =
     let row = c.in-Some.row in
     let bytes = c.in_ok-bytes.bytes in
     let both = then_moves_open (λ base x it y. (y ≡ x) × IsSeen no_spare profile s2 base y
-    × ((z : PieceRow) → Shows row z → plain it ≡ z.bytes → get y.content.pieces key ≡ Some z)) s0 s1 s2 c.in_ok-row_of_piece.field-0 (Ok bytes) ((rw (to_z-of_z c.ranges.number) at c.in_ok-row_of_piece.ensures.shown) profile no_spare) (c.in_ok-bytes.ensures.told profile no_spare)
+    × ((z : PieceRow) → Shows row z → bytes_or_none it ≡ z.bytes → get y.content.pieces key ≡ Some z)) s0 s1 s2 c.in_ok-row_of_piece.field-0 (Ok bytes) ((rw (to_z-of_z c.ranges.number) at c.in_ok-row_of_piece.ensures.shown) profile no_spare) (c.in_ok-bytes.ensures.told profile no_spare)
     (λ base x y up it mid. (up, mid.1))
     (λ base x y z it o mid last. (
       last.0 ∙ mid.0,
       last.1,
       λ q shown same. subst (λ (v : View). get v.content.pieces key ≡ Some q) (sym last.0)
-          (row_tells y.kept.shelf (get y.kept.pieces key) (get y.content.pieces key) row q (subst (IsRowOf (get y.kept.pieces key)) c.in-Some.is mid.2) mid.3 shown
-          (λ blob is. subst (StandsAt y.kept.shelf blob) same (subst (λ (v : View). StandsAt v.kept.shelf blob (plain it)) last.0 (last.2 blob is)))),
+          (row_tells y.kept.shelf (get y.kept.pieces key) (get y.content.pieces key) row q (subst (IsPieceRow (get y.kept.pieces key)) c.in-Some.is mid.2) mid.3 shown
+          (λ blob is. subst (StandsAt y.kept.shelf blob) same (subst (λ (v : View). StandsAt v.kept.shelf blob (bytes_or_none it)) last.0 (last.2 blob is)))),
     )) in
     let kept = c.in-Ok.kept in
     tells_of profile s0 s2 (Ok (Some kept)) (λ p it. get p.pieces key ≡ option_map kept_row it)
     (moves_as {Less = λ base x it y. (y ≡ x) × IsSeen no_spare profile s2 base y × (get y.content.pieces key ≡ option_map kept_row it)} s0 s2 bytes (Some kept) both (λ base x it. it)
-    (λ base x y it last. (last.0, last.1, last.2 (kept_row kept) c.in-Ok.ensures.shown (ap plain (sym c.in-Ok.ensures.bytes)))))
+    (λ base x y it last. (last.0, last.1, last.2 (kept_row kept) c.in-Ok.ensures.shown (ap bytes_or_none (sym c.in-Ok.ensures.bytes)))))
 
 pub returns-in-Err-clause-look : goal.returns-in-Err-clause-look
 returns-in-Err-clause-look g c profile =
@@ -75,13 +75,13 @@ returns-in-Err-clause-look g c profile =
     let row = c.in-Some.row in
     let bytes = c.in_ok-bytes.bytes in
     let both = then_moves_open (λ base x it y. (y ≡ x) × IsSeen no_spare profile s2 base y
-    × ((z : PieceRow) → Shows row z → plain it ≡ z.bytes → get y.content.pieces key ≡ Some z)) s0 s1 s2 c.in_ok-row_of_piece.field-0 (Ok bytes) ((rw (to_z-of_z c.ranges.number) at c.in_ok-row_of_piece.ensures.shown) profile no_spare) (c.in_ok-bytes.ensures.told profile no_spare)
+    × ((z : PieceRow) → Shows row z → bytes_or_none it ≡ z.bytes → get y.content.pieces key ≡ Some z)) s0 s1 s2 c.in_ok-row_of_piece.field-0 (Ok bytes) ((rw (to_z-of_z c.ranges.number) at c.in_ok-row_of_piece.ensures.shown) profile no_spare) (c.in_ok-bytes.ensures.told profile no_spare)
     (λ base x y up it mid. (up, mid.1))
     (λ base x y z it o mid last. (
       last.0 ∙ mid.0,
       last.1,
       λ q shown same. subst (λ (v : View). get v.content.pieces key ≡ Some q) (sym last.0)
-          (row_tells y.kept.shelf (get y.kept.pieces key) (get y.content.pieces key) row q (subst (IsRowOf (get y.kept.pieces key)) c.in-Some.is mid.2) mid.3 shown
-          (λ blob is. subst (StandsAt y.kept.shelf blob) same (subst (λ (v : View). StandsAt v.kept.shelf blob (plain it)) last.0 (last.2 blob is)))),
+          (row_tells y.kept.shelf (get y.kept.pieces key) (get y.content.pieces key) row q (subst (IsPieceRow (get y.kept.pieces key)) c.in-Some.is mid.2) mid.3 shown
+          (λ blob is. subst (StandsAt y.kept.shelf blob) same (subst (λ (v : View). StandsAt v.kept.shelf blob (bytes_or_none it)) last.0 (last.2 blob is)))),
     )) in
     tidy_untold profile {T = Option (List ℕ)} {Last = λ base x it y. ⊤} s0 s2 (λ p it. get p.pieces key ≡ option_map kept_row it) c.fault_of.result (move_untold s0 s2 bytes c.fault_of.result both (told_fault c.in-Err.error c.fault_of.result c.fault_of.ensures))

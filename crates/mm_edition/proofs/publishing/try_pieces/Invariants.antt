@@ -7,7 +7,7 @@ use Rattle.mm_definitions.specs.Package.{Package, open_state}
 use Rattle.mm_definitions.specs.Stamp.{IsStamp}
 use Rattle.mm_store.specs.Stands.{Ground}
 use Rattle.mm_store.specs.Statements.{CommitsNothing}
-use Rattle.mm_edition.specs.Turns.{IsReady}
+use Rattle.mm_edition.specs.Turns.{StandsReady}
 use Rattle.mm_edition.proofs.Trials.{IsOn}
 use Rattle.mm_edition.proofs.publishing.try_pieces.Given as goal
 
@@ -16,6 +16,6 @@ invariant-loop-number g l = record {
   same : l.tx.conn.ghost_name ≡ l.fn.tx.conn.ghost_name;
   quiet : CommitsNothing (state g.S.Store l.fn.tx.conn.now) (state g.S.Store l.tx.conn.now);
   goes : (profile : Profile) (moment : ℕ) → IsStamp moment l.fn.at → CommitsNothing (state g.S.Store l.fn.tx.conn.now) (state g.S.Store l.tx.conn.now)
-      × (HasCleanDisk (state g.S.Store l.tx.conn.now) → (ground : Ground) (p : Package) → IsReady profile (state g.S.Store l.fn.tx.conn.now) ground p
+      × (HasCleanDisk (state g.S.Store l.tx.conn.now) → (ground : Ground) (p : Package) → StandsReady profile (state g.S.Store l.fn.tx.conn.now) ground p
       → get p.editions l.fn.edition ≡ Some open_state → IsOn profile l.fn.edition moment l.number (state g.S.Store l.tx.conn.now) ground p);
 }

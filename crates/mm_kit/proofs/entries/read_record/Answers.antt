@@ -4,7 +4,7 @@ use Rattle.std.proofs.Math.Facts.{to_z-of_z}
 use mir.Val.{SFits}
 use Rattle.mm_definitions.specs.Reading.{ReadsTo}
 use Rattle.mm_definitions.specs.Records.{HoldsAgainstPiece, IsLeast, SpellsPiece}
-use Rattle.mm_kit.specs.Entries.{IsPlaced, file_of, shown}
+use Rattle.mm_kit.specs.Entries.{IsLeftToAsk, file_of, shown}
 use Rattle.mm_kit.proofs.EntryFacts.{number_refused, piece_refused, placed_entry, placed_least}
 use Rattle.mm_kit.proofs.entries.read_record.Goals as goal
 
@@ -13,7 +13,7 @@ returns-in-Ok-piece c =
     let fits : SFits w64 c.in-Ok-read_number.number = search rules in
     let (spells, low, high) = c.in-Ok-read_number.ensures.ok in
     let is = rw (c.as_slice.ensures.value, c.in-Ok.ensures.shown) at c.in-Ok-piece.ensures.reads in
-    let placed : IsPlaced c.args.place c.in-Ok-read_number.number (file_of (map (λ f. f.now) c.args.rest.items)) (Err c.in-Err-place_record.number) = rw (to_z-of_z fits, c.in-Ok.ensures.file) at c.in-Err-place_record.ensures in
+    let placed : IsLeftToAsk c.args.place c.in-Ok-read_number.number (file_of (map (λ f. f.now) c.args.rest.items)) (Err c.in-Err-place_record.number) = rw (to_z-of_z fits, c.in-Ok.ensures.file) at c.in-Err-place_record.ensures in
     rw c.refused.ensures (refl, placed_least c.args.place c.args.number.now (map (λ f. f.now) c.args.rest.items) c.in-Ok-read_number.number spells low high c.in-Ok-piece.piece is _ placed)
 
 pub returns-in-Ok-read_number : goal.returns-in-Ok-read_number
@@ -27,7 +27,7 @@ returns-in-Ok-place_record c =
     let fits : SFits w64 c.in-Ok-read_number.number = search rules in
     let (spells, low, high) = c.in-Ok-read_number.ensures.ok in
     let is = rw (c.as_slice.ensures.value, c.in-Ok.ensures.shown) at c.in-Ok-piece.ensures.reads in
-    let placed : IsPlaced c.args.place c.in-Ok-read_number.number (file_of (map (λ f. f.now) c.args.rest.items)) (Ok c.in-Ok-place_record.file) = rw (to_z-of_z fits, c.in-Ok.ensures.file) at c.in-Ok-place_record.ensures in
+    let placed : IsLeftToAsk c.args.place c.in-Ok-read_number.number (file_of (map (λ f. f.now) c.args.rest.items)) (Ok c.in-Ok-place_record.file) = rw (to_z-of_z fits, c.in-Ok.ensures.file) at c.in-Ok-place_record.ensures in
     rw c.place_entry.ensures (placed_entry c.args.place c.args.number.now (map (λ f. f.now) c.args.rest.items) c.in-Ok-read_number.number spells low high c.in-Ok-piece.piece is c.in-Ok-place_record.file placed)
 
 pub returns : goal.returns

@@ -2,7 +2,7 @@ use Rattle.std.proofs.Common.{◌≡◌, ◌≤◌, length, [], ◌∷◌, ap, s
 use Rattle.std.specs.Result.{is_ok}
 use Rattle.std.specs.Prelude.{Ok, Err}
 use Rattle.csv.specs.Records.{fields_of}
-use Rattle.mm_kit.specs.Entries.{IsReadAs}
+use Rattle.mm_kit.specs.Entries.{IsEntryReadAs}
 use Rattle.mm_kit.proofs.ListFacts.{all-read, one-refused, read_few, so_far-more, so_far-none}
 use Rattle.mm_kit.proofs.lists.read_rows.Goals as goal
 
@@ -19,7 +19,7 @@ loop-place-init g c =
 pub returns-in-Err-Refused-clause-lists : goal.returns-in-Err-Refused-clause-lists
 returns-in-Err-Refused-clause-lists g c bytes tells starts =
     let at = c.loop-place in
-    let bad : IsReadAs at.place (fields_of c.in-Some.row) (Err c.in-Err-Refused.why.number) = (rw (c.in-Err-Refused.field-0-is) at c.in-Err-Refused.ensures).1 in
+    let bad : IsEntryReadAs at.place (fields_of c.in-Some.row) (Err c.in-Err-Refused.why.number) = (rw (c.in-Err-Refused.field-0-is) at c.in-Err-Refused.ensures).1 in
     let read = rw c.in-Some.is at c.in_ok-next_record.ensures.reads in
     rw c.in-Err-Refused.why-is (one-refused g.T.Read.remaining at.rows c.next_record.new.rows bytes _ _ at.entries.items at.place at.invariant.set_up.config (at.invariant.so_far bytes tells starts) read bad)
 
@@ -32,7 +32,7 @@ returns-in-None-clause-lists g c bytes tells starts =
 pub loop-place-preserved : goal.loop-place-preserved
 loop-place-preserved g c =
     let at = c.loop-place in
-    let good : IsReadAs at.place (fields_of c.in-Some.row) (Ok c.in-Ok.entry) = c.in-Ok.ensures in
+    let good : IsEntryReadAs at.place (fields_of c.in-Some.row) (Ok c.in-Ok.entry) = c.in-Ok.ensures in
     let read = rw c.in-Some.is at c.in_ok-next_record.ensures.reads in
     let pushed : is_ok c.push.result ≡ true = search rules in
     let items = rw pushed at c.push.ensures.items in

@@ -5,7 +5,7 @@ use Rattle.mm_definitions.specs.declared.commands.Piece.{Piece}
 use Rattle.mm_run.specs.Applied.{IsSound}
 use Rattle.mm_kit.specs.Editions.{HasPieces}
 use Rattle.mm_kit.specs.Folders.{Files}
-use Rattle.mm_kit.specs.Imports.{IsPassedBy, IsSoFar}
+use Rattle.mm_kit.specs.Imports.{IsPassedBy, IsImportedSoFar}
 use Rattle.mm_kit.proofs.staging.stage_all.Given as goal
 
 abbrev pub invariant-loop-entry : goal.invariant-loop-entry
@@ -23,5 +23,5 @@ invariant-loop-entry g l = record {
       → (q : Package) × IsSound (g.A.Apply.settled l.desk) q × IsPassedBy (length l.yielded) l.fn.edition p old q;
   so_far : g.A.Apply.is_clean l.desk → (p : Package) → IsSound (g.A.Apply.settled l.fn.desk) p → (these : Files) → g.F.Folder.files l.fn.folder ≡ Some these
       → (old : List Piece) → HasPieces p l.fn.edition old
-      → (q : Package) × IsSound (g.A.Apply.settled l.desk) q × IsSoFar these l.fn.edition l.fn.entries.items (into_iter_items l.entry-iterator) p old (length l.yielded) q;
+      → (q : Package) × IsSound (g.A.Apply.settled l.desk) q × IsImportedSoFar these l.fn.edition l.fn.entries.items (into_iter_items l.entry-iterator) p old (length l.yielded) q;
 }

@@ -1,13 +1,13 @@
 use Rattle.std.proofs.Common.{inl, inr, sym, subst}
 use Rattle.std.proofs.lemmas.Bool.{cases_Bool}
 use Rattle.sqlite.specs.Held.{state}
-use Rattle.mm_core.specs.Parts.{held, has_failed}
+use Rattle.mm_core.specs.Parts.{held, must_reopen}
 use Rattle.mm_page.specs.Served.{LeavesPackage}
 use Rattle.mm_page.proofs.Leaving.{leaves_by, leaves_same}
 use Rattle.mm_page.proofs.reads.read_media.Goals as goal
 
 pub returns-clause-kept : goal.returns-clause-kept
-returns-clause-kept g c = elim (cases_Bool (has_failed c.args.session.now)) [
+returns-clause-kept g c = elim (cases_Bool (must_reopen c.args.session.now)) [
   | inl failed ↦
       subst (λ s. LeavesPackage (state g.S.Store (held c.args.session.now)) (state g.S.Store (held s))) (sym (c.media.ensures.ended failed).1)
       (leaves_same (state g.S.Store (held c.args.session.now)))

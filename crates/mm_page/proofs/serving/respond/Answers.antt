@@ -3,8 +3,8 @@ use Rattle.std.proofs.lemmas.Result.{IfErr-weaker}
 use Rattle.sqlite.specs.Held.{state}
 use Rattle.mm_definitions.specs.Package.{Package}
 use Rattle.mm_definitions.specs.Streams.{inside}
-use Rattle.mm_core.specs.Parts.{held, has_failed}
-use Rattle.mm_routes.specs.Asked.{Asks}
+use Rattle.mm_core.specs.Parts.{held, must_reopen}
+use Rattle.mm_routes.specs.Asked.{IsRouted}
 use Rattle.mm_page.specs.Page.{Writes, path_of}
 use Rattle.mm_page.specs.Served.{IsOn, Served}
 use Rattle.mm_page.proofs.ServeFacts.{under, weaker}
@@ -13,7 +13,7 @@ use Rattle.mm_page.proofs.serving.respond.Goals as goal
 pub returns-in-Some-clause-response : goal.returns-in-Some-clause-response
 returns-in-Some-clause-response g c =
     let old = c.args.session.now in
-    let on = IsOn (has_failed old) (state g.S.Store (held old)) (state g.S.Store (held c.head_response.new.session)) in
+    let on = IsOn (must_reopen old) (state g.S.Store (held old)) (state g.S.Store (held c.head_response.new.session)) in
     let all = under {X = (p : Package) × on p} (λ x v. Writes x.0 c.of.result.now c.of-in-Some.result.now v.items) c.head_response.result (λ x. c.head_response.ensures.response x.0 x.1) in
     weaker _ (λ v. Served on (g.R.Read.remaining (inside c.args.reader.now)) v.items) c.head_response.result
     (λ v w p st input e.
@@ -29,5 +29,5 @@ returns-in-Some-clause-needed g c =
     (λ fault asked is input e.
     let (fits, within, h, head, at) = rw (e, c.in-Some.is) at c.in_ok-read_head.ensures.head in
     let it = asked is in
-    (h, head, sym (c.of.ensures ∙ at.method) ∙ it.0, it.1, subst (λ t. Asks (path_of t) it.1) (c.of-in-Some.ensures ∙ at.path) it.2))
+    (h, head, sym (c.of.ensures ∙ at.method) ∙ it.0, it.1, subst (λ t. IsRouted (path_of t) it.1) (c.of-in-Some.ensures ∙ at.path) it.2))
     c.head_response.ensures.needed

@@ -4,12 +4,12 @@ use Rattle.sqlite.specs.Order.{Row}
 use Rattle.sqlite.specs.Held.{state}
 use Rattle.mm_definitions.specs.declared.answers.Fault.{Fault}
 use Rattle.mm_reads.specs.declared.listing.Gathered.{Gathered}
-use Rattle.mm_reads.specs.Listing.{Gathers}
+use Rattle.mm_reads.specs.Listing.{GathersTables}
 use Rattle.mm_reads.proofs.Reading.{Found, read_by_walk}
 use Rattle.mm_reads.proofs.listing.contents.Goals as goal
 
 abbrev takes : Gathered → Row → Gathered → Result Bool Fault → Type 0
-takes old row new result = Gathers old.entries.items row new.entries.items result
+takes old row new result = GathersTables old.entries.items row new.entries.items result
 
 pub returns-clause-read : goal.returns-clause-read
 returns-clause-read g c profile =

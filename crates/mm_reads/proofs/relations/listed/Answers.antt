@@ -4,12 +4,12 @@ use Rattle.sqlite.specs.Order.{Row}
 use Rattle.sqlite.specs.Held.{state}
 use Rattle.mm_definitions.specs.declared.answers.Fault.{Fault}
 use Rattle.mm_reads.specs.declared.relations.Gathered.{Gathered}
-use Rattle.mm_reads.specs.Related.{Gathers}
+use Rattle.mm_reads.specs.Related.{GathersMates}
 use Rattle.mm_reads.proofs.ReadingMates.{Found, read_by_walk}
 use Rattle.mm_reads.proofs.relations.listed.Goals as goal
 
 abbrev takes : Gathered → Row → Gathered → Result Bool Fault → Type 0
-takes old row new result = Gathers old.items.items row new.items.items result
+takes old row new result = GathersMates old.items.items row new.items.items result
 
 pub returns-clause-read : goal.returns-clause-read
 returns-clause-read g c profile =

@@ -2,7 +2,7 @@ use Rattle.std.proofs.Common.{◌∙◌, MatchOption, subst, sym, ap, rules, w64
 use Rattle.std.proofs.lemmas.Int.{to_z-of_z}
 use mir.Val.{SFits}
 use Rattle.matchit.specs.Params.{AllText, walk}
-use Rattle.mm_routes.specs.Asked.{Asks, Wanted}
+use Rattle.mm_routes.specs.Asked.{IsRouted, Wanted}
 use Rattle.mm_routes.specs.Routes.{asked}
 use Rattle.mm_routes.proofs.AskFacts.{ascii_text, matched, media_only, related_only, untaken}
 use Rattle.mm_routes.proofs.routes.routed.Goals as goal
@@ -17,7 +17,7 @@ returns-in-Tile g =
     let f = g.in-Ok.found.params in
     let same = ap (λ p. walk f.pattern.now f.text.now p f.names.now 0 0) g.in-Ok.ensures.path ∙ pairs in
     let told = g.tile_wanted.ensures t z c r (subst AllText (sym same) all, same, pt, pz, pc, pr) in
-    subst (λ p. MatchOption g.tile_wanted.result ((w : Wanted) → ¬ (Asks p w)) (λ w. Asks p (asked w))) (sym is) told
+    subst (λ p. MatchOption g.tile_wanted.result ((w : Wanted) → ¬ (IsRouted p w)) (λ w. IsRouted p (asked w))) (sym is) told
 
 pub returns-in-Some : goal.returns-in-Some
 returns-in-Some g =

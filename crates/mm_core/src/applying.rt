@@ -24,17 +24,17 @@ fn run_transaction<S: Alter>(
     conn: &mut Connection<S>,
     command: &Command,
     moment: Moment,
-    at: &str,
+    last_change: &str,
 ) -> Answer
     requires idle { conn.old.in_transaction ≡ false }
     requires lasting { rehearses command.now ≡ false }
-    requires stamped { IsStamp moment at.now }
+    requires stamped { IsStamp moment last_change.now }
     ensures mode { conn.new.in_transaction ≡ false }
     ensures faults { OnFault result (λ fault. (fault ≡ 90) ⊎ (fault ≡ 91)) }
     ensures applied { IsAppliedTo command.now moment (state S.Store conn.old) (state S.Store conn.new) result }
 {
     let mut tx = conn.transaction();
-    match run_command(&mut tx, command, at) {
+    match run_command(&mut tx, command, last_change) {
         Ok(Outcome::Done) => match tx.commit() {
             Ok(()) => Answer::Ok,
             Err(error) => Answer::Fault(fault_of(error)),
@@ -55,15 +55,15 @@ fn rehearse_once<S: Alter>(
     conn: &mut Connection<S>,
     edition: &Name,
     moment: Moment,
-    at: &str,
+    last_change: &str,
 ) -> Answer
     requires idle { conn.old.in_transaction ≡ false }
-    requires stamped { IsStamp moment at.now }
+    requires stamped { IsStamp moment last_change.now }
     ensures mode { conn.new.in_transaction ≡ false }
     ensures faults { OnFault result (λ fault. (fault ≡ 90) ⊎ (fault ≡ 91)) }
     ensures applied { IsAppliedTo (commands.Rehearse edition.now) moment (state S.Store conn.old) (state S.Store conn.new) result }
 {
-    match rehearse(conn, edition, at) {
+    match rehearse(conn, edition, last_change) {
         Ok(Outcome::Done) => Answer::Ok,
         Ok(Outcome::Refused(why)) => Answer::Refused(why),
         Err(fault) => Answer::Fault(fault),

@@ -22,11 +22,11 @@ use sqlite::{Alter, Transaction};
 fn lay_out<S: Alter>(
     tx: &mut Transaction<'_, S>,
     command: &Command,
-    at: &str,
+    last_change: &str,
 ) -> Result<Outcome, Fault>
     requires { is_layout_change command.now ≡ true }
     ensures same_reference { tx.new.conn.ghost_name ≡ tx.old.conn.ghost_name }
-    ensures lent { IsLentAt current command.now at.now (state S.Store tx.old.conn.now) (state S.Store tx.new.conn.now) result }
+    ensures lent { IsLentAt current command.now last_change.now (state S.Store tx.old.conn.now) (state S.Store tx.new.conn.now) result }
 {
     match command {
         Command::Srs {
@@ -49,7 +49,7 @@ fn lay_out<S: Alter>(
             table,
             kind,
             identifier,
-        } => add_table(tx, table, *kind, identifier.as_str(), at),
+        } => add_table(tx, table, *kind, identifier.as_str(), last_change),
         Command::Drop { table } => drop_table(tx, table),
         _ => unreachable!(),
     }
@@ -59,11 +59,11 @@ fn lay_out<S: Alter>(
 fn lay_out_pyramid<S: Alter>(
     tx: &mut Transaction<'_, S>,
     command: &Command,
-    at: &str,
+    last_change: &str,
 ) -> Result<Outcome, Fault>
     requires { lays_out_pyramid command.now ≡ true }
     ensures same_reference { tx.new.conn.ghost_name ≡ tx.old.conn.ghost_name }
-    ensures lent { IsLentAt current command.now at.now (state S.Store tx.old.conn.now) (state S.Store tx.new.conn.now) result }
+    ensures lent { IsLentAt current command.now last_change.now (state S.Store tx.old.conn.now) (state S.Store tx.new.conn.now) result }
 {
     match command {
         Command::Pyramid {
@@ -85,13 +85,13 @@ fn lay_out_pyramid<S: Alter>(
             max_x.get(),
             max_y.get(),
             *step,
-            at,
+            last_change,
         ),
         Command::Matrix {
             table,
             zoom,
             matrix,
-        } => add_matrix(tx, table, zoom.get(), matrix, at),
+        } => add_matrix(tx, table, zoom.get(), matrix, last_change),
         _ => unreachable!(),
     }
 }
@@ -100,11 +100,11 @@ fn lay_out_pyramid<S: Alter>(
 fn change_tile<S: Alter>(
     tx: &mut Transaction<'_, S>,
     command: &Command,
-    at: &str,
+    last_change: &str,
 ) -> Result<Outcome, Fault>
     requires { is_tile_change command.now ≡ true }
     ensures same_reference { tx.new.conn.ghost_name ≡ tx.old.conn.ghost_name }
-    ensures lent { IsLentAt current command.now at.now (state S.Store tx.old.conn.now) (state S.Store tx.new.conn.now) result }
+    ensures lent { IsLentAt current command.now last_change.now (state S.Store tx.old.conn.now) (state S.Store tx.new.conn.now) result }
 {
     match command {
         Command::Tile {
@@ -120,14 +120,14 @@ fn change_tile<S: Alter>(
             column.get(),
             row.get(),
             bytes.as_slice(),
-            at,
+            last_change,
         ),
         Command::TileDrop {
             table,
             zoom,
             column,
             row,
-        } => drop_tile(tx, table, zoom.get(), column.get(), row.get(), at),
+        } => drop_tile(tx, table, zoom.get(), column.get(), row.get(), last_change),
         _ => unreachable!(),
     }
 }
@@ -136,11 +136,11 @@ fn change_tile<S: Alter>(
 fn change_item<S: Alter>(
     tx: &mut Transaction<'_, S>,
     command: &Command,
-    at: &str,
+    last_change: &str,
 ) -> Result<Outcome, Fault>
     requires { is_item_change command.now ≡ true }
     ensures same_reference { tx.new.conn.ghost_name ≡ tx.old.conn.ghost_name }
-    ensures lent { IsLentAt current command.now at.now (state S.Store tx.old.conn.now) (state S.Store tx.new.conn.now) result }
+    ensures lent { IsLentAt current command.now last_change.now (state S.Store tx.old.conn.now) (state S.Store tx.new.conn.now) result }
 {
     match command {
         Command::Row {
@@ -156,9 +156,9 @@ fn change_item<S: Alter>(
             title.as_str(),
             note.as_str(),
             amount.get(),
-            at,
+            last_change,
         ),
-        Command::RowDrop { table, id } => drop_row(tx, table, id.get(), at),
+        Command::RowDrop { table, id } => drop_row(tx, table, id.get(), last_change),
         Command::Media {
             table,
             id,
@@ -170,9 +170,9 @@ fn change_item<S: Alter>(
             id.get(),
             content_type.as_str(),
             bytes.as_slice(),
-            at,
+            last_change,
         ),
-        Command::MediaDrop { table, id } => drop_media(tx, table, id.get(), at),
+        Command::MediaDrop { table, id } => drop_media(tx, table, id.get(), last_change),
         _ => unreachable!(),
     }
 }
@@ -230,23 +230,23 @@ fn prepare_edition<S: Alter>(
 pub(crate) fn run_command<S: Alter>(
     tx: &mut Transaction<'_, S>,
     command: &Command,
-    at: &str,
+    last_change: &str,
 ) -> Result<Outcome, Fault>
     requires { rehearses command.now ≡ false }
     ensures same_reference { tx.new.conn.ghost_name ≡ tx.old.conn.ghost_name }
-    ensures tried { (moment : ℕ) → IsStamp moment at.now →
+    ensures tried { (moment : ℕ) → IsStamp moment last_change.now →
         IsTried current command.now moment (state S.Store tx.old.conn.now) (state S.Store tx.new.conn.now) result }
 {
     match command {
         Command::Srs { .. } | Command::Table { .. } | Command::Drop { .. } => {
-            lay_out(tx, command, at)
+            lay_out(tx, command, last_change)
         }
-        Command::Pyramid { .. } | Command::Matrix { .. } => lay_out_pyramid(tx, command, at),
-        Command::Tile { .. } | Command::TileDrop { .. } => change_tile(tx, command, at),
+        Command::Pyramid { .. } | Command::Matrix { .. } => lay_out_pyramid(tx, command, last_change),
+        Command::Tile { .. } | Command::TileDrop { .. } => change_tile(tx, command, last_change),
         Command::Row { .. }
         | Command::RowDrop { .. }
         | Command::Media { .. }
-        | Command::MediaDrop { .. } => change_item(tx, command, at),
+        | Command::MediaDrop { .. } => change_item(tx, command, last_change),
         Command::Relation { .. }
         | Command::RelationDrop { .. }
         | Command::Map { .. }
@@ -254,7 +254,7 @@ pub(crate) fn run_command<S: Alter>(
         Command::Edition { .. } | Command::Discard { .. } | Command::Stage { .. } => {
             prepare_edition(tx, command)
         }
-        Command::Publish { edition } => publish(tx, edition, at),
+        Command::Publish { edition } => publish(tx, edition, last_change),
         Command::Rehearse { .. } => unreachable!(),
     }
 }

@@ -35,15 +35,15 @@ const PAST_THE_LAST: u32 = MOST_PIECES + 1;
 pub(crate) fn try_pieces<S: Alter>(
     tx: &mut Transaction<'_, S>,
     edition: &Name,
-    at: &str,
+    last_change: &str,
 ) -> Result<Option<(u32, u8)>, Fault>
     ensures same_reference { tx.new.conn.ghost_name ≡ tx.old.conn.ghost_name }
     ensures any_text { IsQuiet (state S.Store tx.old.conn.now) (state S.Store tx.new.conn.now) result }
-    ensures trial { (profile : Profile) (moment : ℕ) → IsStamp moment at.now →
+    ensures trial { (profile : Profile) (moment : ℕ) → IsStamp moment last_change.now →
         IsTrial profile edition.now moment (state S.Store tx.old.conn.now) (state S.Store tx.new.conn.now) result }
 {
     for number in 1..PAST_THE_LAST + 1 {
-        match try_piece(tx, edition, number, at)? {
+        match try_piece(tx, edition, number, last_change)? {
             Turn::Done => {}
             Turn::End => return Ok(None),
             Turn::Refused(why) => return Ok(Some((number, why))),
@@ -110,11 +110,11 @@ fn close_edition<S: Alter>(tx: &mut Transaction<'_, S>, edition: &str) -> Result
 pub fn publish<S: Alter>(
     tx: &mut Transaction<'_, S>,
     edition: &Name,
-    at: &str,
+    last_change: &str,
 ) -> Result<Outcome, Fault>
     ensures same_reference { tx.new.conn.ghost_name ≡ tx.old.conn.ghost_name }
     ensures any_text { IsQuiet (state S.Store tx.old.conn.now) (state S.Store tx.new.conn.now) result }
-    ensures tried { (profile : Profile) (moment : ℕ) → IsStamp moment at.now →
+    ensures tried { (profile : Profile) (moment : ℕ) → IsStamp moment last_change.now →
         IsTried profile (commands.Publish edition.now) moment (state S.Store tx.old.conn.now)
         (state S.Store tx.new.conn.now) result }
 {
@@ -122,7 +122,7 @@ pub fn publish<S: Alter>(
     if let Some(number) = closed_refusal(tx, name)? {
         return Ok(Outcome::refused(number));
     }
-    match try_pieces(tx, edition, at)? {
+    match try_pieces(tx, edition, last_change)? {
         None => {}
         Some(piece) => {
             return Ok(Outcome::Refused(Refusal {

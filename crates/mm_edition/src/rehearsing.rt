@@ -17,16 +17,16 @@ use sqlite::{Alter, Connection};
 pub fn rehearse<S: Alter>(
     conn: &mut Connection<S>,
     edition: &Name,
-    at: &str,
+    last_change: &str,
 ) -> Result<Outcome, Fault>
     requires idle { conn.old.in_transaction ≡ false }
     ensures mode { conn.new.in_transaction ≡ false }
     ensures any_text { IsQuiet (state S.Store conn.old) (state S.Store conn.new) result }
-    ensures rehearsed { (profile : Profile) (moment : ℕ) → IsStamp moment at.now →
+    ensures rehearsed { (profile : Profile) (moment : ℕ) → IsStamp moment last_change.now →
         IsRehearsal profile edition.now (state S.Store conn.old) (state S.Store conn.new) result }
 {
     let mut tx = conn.transaction();
-    let outcome = publish(&mut tx, edition, at);
+    let outcome = publish(&mut tx, edition, last_change);
     tx.rollback();
     outcome
 }

@@ -34,11 +34,11 @@ fn run_tile<S: Alter>(
     edition: &Name,
     number: u32,
     piece: &Piece,
-    at: &str,
+    last_change: &str,
 ) -> Result<Outcome, Fault>
     requires { changes_tile piece.now ≡ true }
     ensures same_reference { tx.new.conn.ghost_name ≡ tx.old.conn.ghost_name }
-    ensures lent { (profile : Profile) → IsLentWhere (HoldsPiece edition.now number piece.now) profile (piece_command piece.now) at.now
+    ensures lent { (profile : Profile) → IsLentWhere (HoldsPiece edition.now number piece.now) profile (piece_command piece.now) last_change.now
         (state S.Store tx.old.conn.now) (state S.Store tx.new.conn.now) result }
 {
     match piece {
@@ -56,14 +56,14 @@ fn run_tile<S: Alter>(
             row.get(),
             edition,
             number,
-            at,
+            last_change,
         ),
         Piece::TileDrop {
             table,
             zoom,
             column,
             row,
-        } => drop_tile(tx, table, zoom.get(), column.get(), row.get(), at),
+        } => drop_tile(tx, table, zoom.get(), column.get(), row.get(), last_change),
         _ => unreachable!(),
     }
 }
@@ -75,11 +75,11 @@ fn run_item<S: Alter>(
     edition: &Name,
     number: u32,
     piece: &Piece,
-    at: &str,
+    last_change: &str,
 ) -> Result<Outcome, Fault>
     requires { changes_item piece.now ≡ true }
     ensures same_reference { tx.new.conn.ghost_name ≡ tx.old.conn.ghost_name }
-    ensures lent { (profile : Profile) → IsLentWhere (HoldsPiece edition.now number piece.now) profile (piece_command piece.now) at.now
+    ensures lent { (profile : Profile) → IsLentWhere (HoldsPiece edition.now number piece.now) profile (piece_command piece.now) last_change.now
         (state S.Store tx.old.conn.now) (state S.Store tx.new.conn.now) result }
 {
     match piece {
@@ -96,9 +96,9 @@ fn run_item<S: Alter>(
             title.as_str(),
             note.as_str(),
             amount.get(),
-            at,
+            last_change,
         ),
-        Piece::RowDrop { table, id } => drop_row(tx, table, id.get(), at),
+        Piece::RowDrop { table, id } => drop_row(tx, table, id.get(), last_change),
         Piece::Media {
             table,
             id,
@@ -111,9 +111,9 @@ fn run_item<S: Alter>(
             content_type.as_str(),
             edition,
             number,
-            at,
+            last_change,
         ),
-        Piece::MediaDrop { table, id } => drop_media(tx, table, id.get(), at),
+        Piece::MediaDrop { table, id } => drop_media(tx, table, id.get(), last_change),
         _ => unreachable!(),
     }
 }
@@ -144,11 +144,11 @@ fn run_mapping<S: Alter>(tx: &mut Transaction<'_, S>, piece: &Piece) -> Result<O
 fn run_matrix<S: Alter>(
     tx: &mut Transaction<'_, S>,
     piece: &Piece,
-    at: &str,
+    last_change: &str,
 ) -> Result<Outcome, Fault>
     requires { puts_matrix piece.now ≡ true }
     ensures same_reference { tx.new.conn.ghost_name ≡ tx.old.conn.ghost_name }
-    ensures lent { (profile : Profile) → IsLentAt profile (piece_command piece.now) at.now
+    ensures lent { (profile : Profile) → IsLentAt profile (piece_command piece.now) last_change.now
         (state S.Store tx.old.conn.now) (state S.Store tx.new.conn.now) result }
 {
     match piece {
@@ -156,7 +156,7 @@ fn run_matrix<S: Alter>(
             table,
             zoom,
             matrix,
-        } => add_matrix(tx, table, zoom.get(), matrix, at),
+        } => add_matrix(tx, table, zoom.get(), matrix, last_change),
         _ => unreachable!(),
     }
 }
@@ -167,18 +167,18 @@ fn run_piece<S: Alter>(
     edition: &Name,
     number: u32,
     piece: &Piece,
-    at: &str,
+    last_change: &str,
 ) -> Result<Outcome, Fault>
     ensures same_reference { tx.new.conn.ghost_name ≡ tx.old.conn.ghost_name }
-    ensures lent { (profile : Profile) → IsLentWhere (HoldsPiece edition.now number piece.now) profile (piece_command piece.now) at.now
+    ensures lent { (profile : Profile) → IsLentWhere (HoldsPiece edition.now number piece.now) profile (piece_command piece.now) last_change.now
         (state S.Store tx.old.conn.now) (state S.Store tx.new.conn.now) result }
 {
     match piece {
-        Piece::Tile { .. } | Piece::TileDrop { .. } => run_tile(tx, edition, number, piece, at),
+        Piece::Tile { .. } | Piece::TileDrop { .. } => run_tile(tx, edition, number, piece, last_change),
         Piece::Row { .. } | Piece::RowDrop { .. } | Piece::Media { .. } | Piece::MediaDrop { .. } =>
-            run_item(tx, edition, number, piece, at),
+            run_item(tx, edition, number, piece, last_change),
         Piece::Map { .. } | Piece::MapDrop { .. } => run_mapping(tx, piece),
-        Piece::Matrix { .. } => run_matrix(tx, piece, at),
+        Piece::Matrix { .. } => run_matrix(tx, piece, last_change),
     }
 }
 
@@ -187,18 +187,18 @@ pub(crate) fn try_piece<S: Alter>(
     tx: &mut Transaction<'_, S>,
     edition: &Name,
     number: u32,
-    at: &str,
+    last_change: &str,
 ) -> Result<Turn, Fault>
     ensures same_reference { tx.new.conn.ghost_name ≡ tx.old.conn.ghost_name }
     ensures any_text { IsQuiet (state S.Store tx.old.conn.now) (state S.Store tx.new.conn.now) result }
-    ensures turn { (profile : Profile) (moment : ℕ) → IsStamp moment at.now →
+    ensures turn { (profile : Profile) (moment : ℕ) → IsStamp moment last_change.now →
         IsTurn profile edition.now number moment (state S.Store tx.old.conn.now) (state S.Store tx.new.conn.now) result
         }
 {
     let Some(found) = piece(tx, edition, number)? else {
         return Ok(Turn::End);
     };
-    match run_piece(tx, edition, number, &found, at)? {
+    match run_piece(tx, edition, number, &found, last_change)? {
         Outcome::Done => Ok(Turn::Done),
         Outcome::Refused(why) => Ok(Turn::Refused(why.number)),
     }

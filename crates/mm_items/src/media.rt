@@ -151,10 +151,10 @@ pub fn put_media<S: Alter>(
     id: i64,
     content_type: &str,
     bytes: &[u8],
-    at: &str,
+    last_change: &str,
 ) -> Result<Outcome, Fault>
     ensures same_reference { tx.new.conn.ghost_name ≡ tx.old.conn.ghost_name }
-    ensures lent { (profile : Profile) → IsLentAt profile (commands.Media table.now id content_type.now bytes.now) at.now
+    ensures lent { (profile : Profile) → IsLentAt profile (commands.Media table.now id content_type.now bytes.now) last_change.now
         (state S.Store tx.old.conn.now) (state S.Store tx.new.conn.now) result }
 {
     let table = table.as_str();
@@ -162,7 +162,7 @@ pub fn put_media<S: Alter>(
         return Ok(Outcome::refused(number));
     }
     write_medium(tx, table, id, content_type, bytes)?;
-    set_last_change(tx, table, at)?;
+    set_last_change(tx, table, last_change)?;
     Ok(Outcome::Done)
 }
 
@@ -228,10 +228,10 @@ pub fn drop_media<S: Alter>(
     tx: &mut Transaction<'_, S>,
     table: &Name,
     id: i64,
-    at: &str,
+    last_change: &str,
 ) -> Result<Outcome, Fault>
     ensures same_reference { tx.new.conn.ghost_name ≡ tx.old.conn.ghost_name }
-    ensures lent { (profile : Profile) → IsLentAt profile (commands.MediaDrop table.now id) at.now
+    ensures lent { (profile : Profile) → IsLentAt profile (commands.MediaDrop table.now id) last_change.now
         (state S.Store tx.old.conn.now) (state S.Store tx.new.conn.now) result }
 {
     let table = table.as_str();
@@ -239,6 +239,6 @@ pub fn drop_media<S: Alter>(
         return Ok(Outcome::refused(number));
     }
     delete_medium(tx, table, id)?;
-    set_last_change(tx, table, at)?;
+    set_last_change(tx, table, last_change)?;
     Ok(Outcome::Done)
 }

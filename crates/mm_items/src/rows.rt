@@ -95,10 +95,10 @@ pub fn put_row<S: Alter>(
     title: &str,
     note: &str,
     amount: i64,
-    at: &str,
+    last_change: &str,
 ) -> Result<Outcome, Fault>
     ensures same_reference { tx.new.conn.ghost_name ≡ tx.old.conn.ghost_name }
-    ensures lent { (profile : Profile) → IsLentAt profile (commands.Row table.now id title.now note.now amount) at.now
+    ensures lent { (profile : Profile) → IsLentAt profile (commands.Row table.now id title.now note.now amount) last_change.now
         (state S.Store tx.old.conn.now) (state S.Store tx.new.conn.now) result }
 {
     let table = table.as_str();
@@ -106,7 +106,7 @@ pub fn put_row<S: Alter>(
         return Ok(Outcome::refused(number));
     }
     write_row(tx, table, id, title, note, amount)?;
-    set_last_change(tx, table, at)?;
+    set_last_change(tx, table, last_change)?;
     Ok(Outcome::Done)
 }
 
@@ -153,10 +153,10 @@ pub fn drop_row<S: Alter>(
     tx: &mut Transaction<'_, S>,
     table: &Name,
     id: i64,
-    at: &str,
+    last_change: &str,
 ) -> Result<Outcome, Fault>
     ensures same_reference { tx.new.conn.ghost_name ≡ tx.old.conn.ghost_name }
-    ensures lent { (profile : Profile) → IsLentAt profile (commands.RowDrop table.now id) at.now
+    ensures lent { (profile : Profile) → IsLentAt profile (commands.RowDrop table.now id) last_change.now
         (state S.Store tx.old.conn.now) (state S.Store tx.new.conn.now) result }
 {
     let table = table.as_str();
@@ -164,6 +164,6 @@ pub fn drop_row<S: Alter>(
         return Ok(Outcome::refused(number));
     }
     delete_row(tx, table, id)?;
-    set_last_change(tx, table, at)?;
+    set_last_change(tx, table, last_change)?;
     Ok(Outcome::Done)
 }

@@ -76,18 +76,18 @@ pub fn put_tile_of_piece<S: Alter>(
     row: u32,
     edition: &Name,
     number: u32,
-    at: &str,
+    last_change: &str,
 ) -> Result<Outcome, Fault>
     ensures same_reference { tx.new.conn.ghost_name ≡ tx.old.conn.ghost_name }
     ensures lent { (profile : Profile) (bytes : List ℕ) → IsLentWhere (HasBytes edition.now number bytes) profile
-        (commands.Tile table.now zoom column row bytes) at.now (state S.Store tx.old.conn.now) (state S.Store tx.new.conn.now) result }
+        (commands.Tile table.now zoom column row bytes) last_change.now (state S.Store tx.old.conn.now) (state S.Store tx.new.conn.now) result }
 {
     let table = table.as_str();
     if let Some(number) = tile_refusal(tx, table, zoom, column, row)? {
         return Ok(Outcome::refused(number));
     }
     write_tile_of_piece(tx, table, zoom, column, row, edition.as_str(), number)?;
-    set_last_change(tx, table, at)?;
+    set_last_change(tx, table, last_change)?;
     Ok(Outcome::Done)
 }
 
@@ -118,17 +118,17 @@ pub fn put_media_of_piece<S: Alter>(
     content_type: &str,
     edition: &Name,
     number: u32,
-    at: &str,
+    last_change: &str,
 ) -> Result<Outcome, Fault>
     ensures same_reference { tx.new.conn.ghost_name ≡ tx.old.conn.ghost_name }
     ensures lent { (profile : Profile) (bytes : List ℕ) → IsLentWhere (HasBytes edition.now number bytes) profile
-        (commands.Media table.now id content_type.now bytes) at.now (state S.Store tx.old.conn.now) (state S.Store tx.new.conn.now) result }
+        (commands.Media table.now id content_type.now bytes) last_change.now (state S.Store tx.old.conn.now) (state S.Store tx.new.conn.now) result }
 {
     let table = table.as_str();
     if let Some(number) = plain_refusal(tx, table, PlainKind::Media)? {
         return Ok(Outcome::refused(number));
     }
     write_medium_of_piece(tx, table, id, content_type, edition.as_str(), number)?;
-    set_last_change(tx, table, at)?;
+    set_last_change(tx, table, last_change)?;
     Ok(Outcome::Done)
 }

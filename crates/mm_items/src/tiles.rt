@@ -265,10 +265,10 @@ pub fn put_tile<S: Alter>(
     column: u32,
     row: u32,
     bytes: &[u8],
-    at: &str,
+    last_change: &str,
 ) -> Result<Outcome, Fault>
     ensures same_reference { tx.new.conn.ghost_name ≡ tx.old.conn.ghost_name }
-    ensures lent { (profile : Profile) → IsLentAt profile (commands.Tile table.now zoom column row bytes.now) at.now
+    ensures lent { (profile : Profile) → IsLentAt profile (commands.Tile table.now zoom column row bytes.now) last_change.now
         (state S.Store tx.old.conn.now) (state S.Store tx.new.conn.now) result }
 {
     let table = table.as_str();
@@ -276,7 +276,7 @@ pub fn put_tile<S: Alter>(
         return Ok(Outcome::refused(number));
     }
     write_tile(tx, table, zoom, column, row, bytes)?;
-    set_last_change(tx, table, at)?;
+    set_last_change(tx, table, last_change)?;
     Ok(Outcome::Done)
 }
 
@@ -311,10 +311,10 @@ pub fn drop_tile<S: Alter>(
     zoom: u8,
     column: u32,
     row: u32,
-    at: &str,
+    last_change: &str,
 ) -> Result<Outcome, Fault>
     ensures same_reference { tx.new.conn.ghost_name ≡ tx.old.conn.ghost_name }
-    ensures lent { (profile : Profile) → IsLentAt profile (commands.TileDrop table.now zoom column row) at.now
+    ensures lent { (profile : Profile) → IsLentAt profile (commands.TileDrop table.now zoom column row) last_change.now
         (state S.Store tx.old.conn.now) (state S.Store tx.new.conn.now) result }
 {
     let table = table.as_str();
@@ -322,6 +322,6 @@ pub fn drop_tile<S: Alter>(
         return Ok(Outcome::refused(number));
     }
     delete_tile(tx, table, zoom, column, row)?;
-    set_last_change(tx, table, at)?;
+    set_last_change(tx, table, last_change)?;
     Ok(Outcome::Done)
 }

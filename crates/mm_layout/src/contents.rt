@@ -64,16 +64,16 @@ pub fn is_taken<S: Alter>(tx: &mut Transaction<'_, S>, name: &str) -> Result<boo
 pub fn set_last_change<S: Alter>(
     tx: &mut Transaction<'_, S>,
     table: &str,
-    at: &str,
+    last_change: &str,
 ) -> Result<(), Fault>
     ensures same_reference { tx.new.conn.ghost_name ≡ tx.old.conn.ghost_name }
     ensures change { (profile : Profile) → IsChange profile (state S.Store tx.old.conn.now)
-        (state S.Store tx.new.conn.now) (λ p. ⊤) (λ p. effects.touch p table.now at.now) result }
+        (state S.Store tx.new.conn.now) (λ p. ⊤) (λ p. effects.touch p table.now last_change.now) result }
 {
     run(
         tx,
         "UPDATE gpkg_contents SET last_change = ?2 WHERE table_name = ?1 AND last_change <> ?2",
-        params![table, at],
+        params![table, last_change],
     )
 }
 
@@ -82,17 +82,17 @@ pub fn set_last_change<S: Alter>(
 pub fn touch<S: Alter>(
     tx: &mut Transaction<'_, S>,
     table: &Name,
-    at: &str,
+    last_change: &str,
 ) -> Result<Outcome, Fault>
     ensures same_reference { tx.new.conn.ghost_name ≡ tx.old.conn.ghost_name }
-    ensures touched { (profile : Profile) → IsTouched profile table.now at.now (state S.Store tx.old.conn.now)
+    ensures touched { (profile : Profile) → IsTouched profile table.now last_change.now (state S.Store tx.old.conn.now)
         (state S.Store tx.new.conn.now) result }
 {
     let table = table.as_str();
     if !has_table(tx, table)? {
         return Ok(Outcome::refused(25));
     }
-    set_last_change(tx, table, at)?;
+    set_last_change(tx, table, last_change)?;
     Ok(Outcome::Done)
 }
 
@@ -101,16 +101,16 @@ pub(crate) fn insert_plain_contents<S: Alter>(
     tx: &mut Transaction<'_, S>,
     table: &str,
     identifier: &str,
-    at: &str,
+    last_change: &str,
 ) -> Result<(), Fault>
     ensures same_reference { tx.new.conn.ghost_name ≡ tx.old.conn.ghost_name }
     ensures change { (profile : Profile) → IsChange profile (state S.Store tx.old.conn.now)
         (state S.Store tx.new.conn.now) (λ p. get p.contents table.now ≡ None)
-        (λ p. record p { contents = insert p.contents table.now (plain_contents identifier.now at.now) }) result }
+        (λ p. record p { contents = insert p.contents table.now (plain_contents identifier.now last_change.now) }) result }
 {
     run(
         tx,
         "INSERT INTO gpkg_contents (table_name, data_type, identifier, description, last_change) VALUES (?1, 'attributes', ?2, '', ?3)",
-        params![table, identifier, at],
+        params![table, identifier, last_change],
     )
 }

@@ -32,12 +32,12 @@ fn insert_pyramid_contents<S: Alter>(
     identifier: &str,
     srs: i64,
     extent: &Extent,
-    at: &str,
+    last_change: &str,
 ) -> Result<(), Fault>
     ensures same_reference { tx.new.conn.ghost_name ≡ tx.old.conn.ghost_name }
     ensures change { (profile : Profile) → IsChange profile (state S.Store tx.old.conn.now)
         (state S.Store tx.new.conn.now) (λ p. get p.contents table.now ≡ None)
-        (λ p. record p { contents = insert p.contents table.now (pyramid_contents identifier.now at.now srs (box_of extent.now)) }) result }
+        (λ p. record p { contents = insert p.contents table.now (pyramid_contents identifier.now last_change.now srs (box_of extent.now)) }) result }
 {
     run(
         tx,
@@ -45,7 +45,7 @@ fn insert_pyramid_contents<S: Alter>(
         params![
             table,
             identifier,
-            at,
+            last_change,
             extent.min_x,
             extent.min_y,
             extent.max_x,
@@ -89,14 +89,14 @@ fn insert_pyramid<S: Alter>(
     srs: i64,
     extent: &Extent,
     step: Step,
-    at: &str,
+    last_change: &str,
 ) -> Result<(), Fault>
     ensures same_reference { tx.new.conn.ghost_name ≡ tx.old.conn.ghost_name }
     ensures change { (profile : Profile) → IsChange profile (state S.Store tx.old.conn.now)
         (state S.Store tx.new.conn.now) (IsUnregistered table.now)
-        (λ p. with_pyramid p table.now identifier.now srs (box_of extent.now) step at.now) result }
+        (λ p. with_pyramid p table.now identifier.now srs (box_of extent.now) step last_change.now) result }
 {
-    insert_pyramid_contents(tx, table, identifier, srs, extent, at)?;
+    insert_pyramid_contents(tx, table, identifier, srs, extent, last_change)?;
     insert_kind(tx, table, text_of_step(step))?;
     insert_matrix_set(tx, table, srs, extent)
 }
@@ -157,11 +157,11 @@ pub fn add_pyramid<S: Alter>(
     max_x: i64,
     max_y: i64,
     step: Step,
-    at: &str,
+    last_change: &str,
 ) -> Result<Outcome, Fault>
     ensures same_reference { tx.new.conn.ghost_name ≡ tx.old.conn.ghost_name }
     ensures lent { (profile : Profile) → IsLentAt profile
-        (commands.Pyramid table.now identifier.now srs min_x min_y max_x max_y step) at.now
+        (commands.Pyramid table.now identifier.now srs min_x min_y max_x max_y step) last_change.now
         (state S.Store tx.old.conn.now) (state S.Store tx.new.conn.now) result }
 {
     let table = table.as_str();
@@ -174,7 +174,7 @@ pub fn add_pyramid<S: Alter>(
         max_x,
         max_y,
     };
-    insert_pyramid(tx, table, identifier, srs, &extent, step, at)?;
+    insert_pyramid(tx, table, identifier, srs, &extent, step, last_change)?;
     match step {
         Step::Two => Ok(Outcome::Done),
         Step::Other => {

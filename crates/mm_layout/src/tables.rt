@@ -56,17 +56,17 @@ pub fn add_table<S: Alter>(
     table: &Name,
     kind: PlainKind,
     identifier: &str,
-    at: &str,
+    last_change: &str,
 ) -> Result<Outcome, Fault>
     ensures same_reference { tx.new.conn.ghost_name ≡ tx.old.conn.ghost_name }
-    ensures lent { (profile : Profile) → IsLentAt profile (commands.Table table.now kind identifier.now) at.now
+    ensures lent { (profile : Profile) → IsLentAt profile (commands.Table table.now kind identifier.now) last_change.now
         (state S.Store tx.old.conn.now) (state S.Store tx.new.conn.now) result }
 {
     let table = table.as_str();
     if let Some(number) = table_refusal(tx, table, identifier)? {
         return Ok(Outcome::refused(number));
     }
-    insert_plain_contents(tx, table, identifier, at)?;
+    insert_plain_contents(tx, table, identifier, last_change)?;
     insert_kind(tx, table, text_of_kind(kind))?;
     Ok(Outcome::Done)
 }

@@ -114,10 +114,10 @@ pub fn add_matrix<S: Alter>(
     table: &Name,
     zoom: u8,
     matrix: &Matrix,
-    at: &str,
+    last_change: &str,
 ) -> Result<Outcome, Fault>
     ensures same_reference { tx.new.conn.ghost_name ≡ tx.old.conn.ghost_name }
-    ensures lent { (profile : Profile) → IsLentAt profile (commands.Matrix table.now zoom matrix.now) at.now
+    ensures lent { (profile : Profile) → IsLentAt profile (commands.Matrix table.now zoom matrix.now) last_change.now
         (state S.Store tx.old.conn.now) (state S.Store tx.new.conn.now) result }
 {
     let table = table.as_str();
@@ -125,6 +125,6 @@ pub fn add_matrix<S: Alter>(
         return Ok(Outcome::refused(number));
     }
     insert_matrix(tx, table, zoom, matrix)?;
-    set_last_change(tx, table, at)?;
+    set_last_change(tx, table, last_change)?;
     Ok(Outcome::Done)
 }

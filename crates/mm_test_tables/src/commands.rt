@@ -111,7 +111,7 @@ fn call_srs<S: Alter>(tx: &mut Transaction<'_, S>, fields: &[&str]) -> Option<u8
     ))
 }
 
-fn call_pyramid<S: Alter>(tx: &mut Transaction<'_, S>, fields: &[&str], at: &str) -> Option<u8> {
+fn call_pyramid<S: Alter>(tx: &mut Transaction<'_, S>, fields: &[&str], last_change: &str) -> Option<u8> {
     let [table, identifier, srs, min_x, min_y, max_x, max_y, kind] = fields else {
         return None;
     };
@@ -121,32 +121,32 @@ fn call_pyramid<S: Alter>(tx: &mut Transaction<'_, S>, fields: &[&str], at: &str
     let kind = step(kind)?;
     let table = Name::read(table)?;
     number_of(add_pyramid(
-        tx, &table, identifier, srs, min_x, min_y, max_x, max_y, kind, at,
+        tx, &table, identifier, srs, min_x, min_y, max_x, max_y, kind, last_change,
     ))
 }
 
-fn call_matrix<S: Alter>(tx: &mut Transaction<'_, S>, fields: &[&str], at: &str) -> Option<u8> {
+fn call_matrix<S: Alter>(tx: &mut Transaction<'_, S>, fields: &[&str], last_change: &str) -> Option<u8> {
     let [table, level, sizes @ ..] = fields else {
         return None;
     };
     let level = zoom(level)?;
     let matrix = matrix(sizes)?;
-    number_of(add_matrix(tx, &Name::read(table)?, level, &matrix, at))
+    number_of(add_matrix(tx, &Name::read(table)?, level, &matrix, last_change))
 }
 
-fn call_table<S: Alter>(tx: &mut Transaction<'_, S>, fields: &[&str], at: &str) -> Option<u8> {
+fn call_table<S: Alter>(tx: &mut Transaction<'_, S>, fields: &[&str], last_change: &str) -> Option<u8> {
     let [table, kind, identifier] = fields else {
         return None;
     };
     let kind = plain_kind(kind)?;
-    number_of(add_table(tx, &Name::read(table)?, kind, identifier, at))
+    number_of(add_table(tx, &Name::read(table)?, kind, identifier, last_change))
 }
 
 fn call_tile<S: Alter>(
     alloc: Global,
     tx: &mut Transaction<'_, S>,
     fields: &[&str],
-    at: &str,
+    last_change: &str,
 ) -> Option<u8> {
     let [table, level, column, row, bytes] = fields else {
         return None;
@@ -155,32 +155,32 @@ fn call_tile<S: Alter>(
     let (column, row) = (count(column)?, count(row)?);
     let bytes = TileBytes::read(alloc, bytes).ok()?;
     let table = Name::read(table)?;
-    number_of(put_tile(tx, &table, level, column, row, bytes.as_slice(), at))
+    number_of(put_tile(tx, &table, level, column, row, bytes.as_slice(), last_change))
 }
 
-fn call_tile_drop<S: Alter>(tx: &mut Transaction<'_, S>, fields: &[&str], at: &str) -> Option<u8> {
+fn call_tile_drop<S: Alter>(tx: &mut Transaction<'_, S>, fields: &[&str], last_change: &str) -> Option<u8> {
     let [table, level, column, row] = fields else {
         return None;
     };
     let level = zoom(level)?;
     let (column, row) = (count(column)?, count(row)?);
     let table = Name::read(table)?;
-    number_of(drop_tile(tx, &table, level, column, row, at))
+    number_of(drop_tile(tx, &table, level, column, row, last_change))
 }
 
-fn call_row<S: Alter>(tx: &mut Transaction<'_, S>, fields: &[&str], at: &str) -> Option<u8> {
+fn call_row<S: Alter>(tx: &mut Transaction<'_, S>, fields: &[&str], last_change: &str) -> Option<u8> {
     let [table, id, title, note, amount] = fields else {
         return None;
     };
     let (id, amount) = (number(id)?, number(amount)?);
-    number_of(put_row(tx, &Name::read(table)?, id, title, note, amount, at))
+    number_of(put_row(tx, &Name::read(table)?, id, title, note, amount, last_change))
 }
 
 fn call_media<S: Alter>(
     alloc: Global,
     tx: &mut Transaction<'_, S>,
     fields: &[&str],
-    at: &str,
+    last_change: &str,
 ) -> Option<u8> {
     let [table, id, content_type, bytes] = fields else {
         return None;
@@ -188,14 +188,14 @@ fn call_media<S: Alter>(
     let id = number(id)?;
     let bytes = MediaBytes::read(alloc, bytes).ok()?;
     let table = Name::read(table)?;
-    number_of(put_media(tx, &table, id, content_type, bytes.as_slice(), at))
+    number_of(put_media(tx, &table, id, content_type, bytes.as_slice(), last_change))
 }
 
 fn call_item_drop<S: Alter>(
     tx: &mut Transaction<'_, S>,
     word: &str,
     fields: &[&str],
-    at: &str,
+    last_change: &str,
 ) -> Option<u8> {
     let [table, id] = fields else {
         return None;
@@ -203,8 +203,8 @@ fn call_item_drop<S: Alter>(
     let id = number(id)?;
     let table = Name::read(table)?;
     match word {
-        "row-drop" => number_of(drop_row(tx, &table, id, at)),
-        _ => number_of(drop_media(tx, &table, id, at)),
+        "row-drop" => number_of(drop_row(tx, &table, id, last_change)),
+        _ => number_of(drop_media(tx, &table, id, last_change)),
     }
 }
 
@@ -236,7 +236,7 @@ fn call_named<S: Alter>(
     tx: &mut Transaction<'_, S>,
     word: &str,
     fields: &[&str],
-    at: &str,
+    last_change: &str,
 ) -> Option<u8> {
     let [name] = fields else {
         return None;
@@ -245,7 +245,7 @@ fn call_named<S: Alter>(
     match word {
         "drop" => number_of(drop_table(tx, &name)),
         "relation-drop" => number_of(drop_relation(tx, &name)),
-        "touch" => number_of(touch(tx, &name, at)),
+        "touch" => number_of(touch(tx, &name, last_change)),
         _ => None,
     }
 }
@@ -255,23 +255,23 @@ fn call<S: Alter>(
     alloc: Global,
     tx: &mut Transaction<'_, S>,
     record: &str,
-    at: &str,
+    last_change: &str,
 ) -> Option<u8> {
     let fields = fields_of(alloc, record, ',')?;
     let (word, fields) = fields.split_first()?;
     match *word {
         "srs" => call_srs(tx, fields),
-        "pyramid" => call_pyramid(tx, fields, at),
-        "matrix" => call_matrix(tx, fields, at),
-        "table" => call_table(tx, fields, at),
-        "tile" => call_tile(alloc, tx, fields, at),
-        "tile-drop" => call_tile_drop(tx, fields, at),
-        "row" => call_row(tx, fields, at),
-        "media" => call_media(alloc, tx, fields, at),
-        "row-drop" | "media-drop" => call_item_drop(tx, word, fields, at),
+        "pyramid" => call_pyramid(tx, fields, last_change),
+        "matrix" => call_matrix(tx, fields, last_change),
+        "table" => call_table(tx, fields, last_change),
+        "tile" => call_tile(alloc, tx, fields, last_change),
+        "tile-drop" => call_tile_drop(tx, fields, last_change),
+        "row" => call_row(tx, fields, last_change),
+        "media" => call_media(alloc, tx, fields, last_change),
+        "row-drop" | "media-drop" => call_item_drop(tx, word, fields, last_change),
         "relation" => call_relation(tx, fields),
         "map" | "map-drop" => call_map(tx, word, fields),
-        _ => call_named(tx, word, fields, at),
+        _ => call_named(tx, word, fields, last_change),
     }
 }
 
@@ -280,13 +280,13 @@ pub(crate) fn answer<S: Alter>(
     alloc: Global,
     conn: &mut Connection<S>,
     record: &str,
-    at: &str,
+    last_change: &str,
 ) -> Option<u8> {
     if !conn.is_autocommit() {
         return None;
     }
     let mut tx = conn.transaction();
-    let number = call(alloc, &mut tx, record, at);
+    let number = call(alloc, &mut tx, record, last_change);
     tx.commit().ok()?;
     number
 }
@@ -295,12 +295,12 @@ fn answers<S: Alter>(
     alloc: Global,
     tx: &mut Transaction<'_, S>,
     list: &str,
-    at: &str,
+    last_change: &str,
 ) -> Option<String> {
     let mut text = String::new(alloc);
     for line in list.lines() {
         let (_, record) = line.split_once(' ')?;
-        let number = call(alloc, tx, record, at)?;
+        let number = call(alloc, tx, record, last_change)?;
         writeln!(text, "{number} {record}").ok()?;
     }
     Some(text)
@@ -311,13 +311,13 @@ pub(crate) fn answers_in_one<S: Alter>(
     alloc: Global,
     conn: &mut Connection<S>,
     list: &str,
-    at: &str,
+    last_change: &str,
 ) -> Option<String> {
     if !conn.is_autocommit() {
         return None;
     }
     let mut tx = conn.transaction();
-    let text = answers(alloc, &mut tx, list, at);
+    let text = answers(alloc, &mut tx, list, last_change);
     tx.commit().ok()?;
     text
 }

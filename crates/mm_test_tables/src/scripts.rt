@@ -20,7 +20,7 @@ fn tell<S: Alter>(
     alloc: Global,
     conn: &mut Connection<S>,
     line: &str,
-    at: &str,
+    last_change: &str,
     text: &mut String,
 ) -> Option<()> {
     let (mark, rest) = line.split_once(' ')?;
@@ -38,7 +38,7 @@ fn tell<S: Alter>(
             ask(alloc, conn, rest, text)
         }
         _ => {
-            let number = answer(alloc, conn, rest, at)?;
+            let number = answer(alloc, conn, rest, last_change)?;
             writeln!(text, "{number} {rest}").ok()
         }
     }
@@ -49,11 +49,11 @@ pub(crate) fn told<S: Alter>(
     alloc: Global,
     conn: &mut Connection<S>,
     script: &str,
-    at: &str,
+    last_change: &str,
 ) -> Option<String> {
     let mut text = String::new(alloc);
     for line in script.lines() {
-        if !line.ends_with('|') && tell(alloc, conn, line, at, &mut text).is_none() {
+        if !line.ends_with('|') && tell(alloc, conn, line, last_change, &mut text).is_none() {
             writeln!(text, "not played: {line}").ok()?;
         }
     }
@@ -73,9 +73,9 @@ pub(crate) fn package(alloc: Global, scripts: &[&str]) -> Option<Connection<MemS
 }
 
 /// The script with the answers that a package is given, of which other scripts come first.
-pub(crate) fn told_on(alloc: Global, first: &[&str], script: &str, at: &str) -> Option<String> {
+pub(crate) fn told_on(alloc: Global, first: &[&str], script: &str, last_change: &str) -> Option<String> {
     let mut conn = package(alloc, first)?;
-    told(alloc, &mut conn, script, at)
+    told(alloc, &mut conn, script, last_change)
 }
 
 /// The script with the answers that are given where each of its changes is made on a package of its own, which is then asked.

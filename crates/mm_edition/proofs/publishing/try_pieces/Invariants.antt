@@ -15,7 +15,7 @@ abbrev pub invariant-loop-number : goal.invariant-loop-number
 invariant-loop-number g l = record {
   same : l.tx.conn.ghost_name ≡ l.fn.tx.conn.ghost_name;
   quiet : CommitsNothing (state g.S.Store l.fn.tx.conn.now) (state g.S.Store l.tx.conn.now);
-  goes : (profile : Profile) (moment : ℕ) → IsStamp moment l.fn.at → CommitsNothing (state g.S.Store l.fn.tx.conn.now) (state g.S.Store l.tx.conn.now)
+  goes : (profile : Profile) (moment : ℕ) → IsStamp moment l.fn.last_change → CommitsNothing (state g.S.Store l.fn.tx.conn.now) (state g.S.Store l.tx.conn.now)
       × (HasCleanDisk (state g.S.Store l.tx.conn.now) → (ground : Ground) (p : Package) → StandsReady profile (state g.S.Store l.fn.tx.conn.now) ground p
       → get p.editions l.fn.edition ≡ Some open_state → IsOn profile l.fn.edition moment l.number (state g.S.Store l.tx.conn.now) ground p);
 }

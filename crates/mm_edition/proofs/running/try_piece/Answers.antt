@@ -34,15 +34,15 @@ returns-in_err-piece-clause-turn g c profile moment stamped =
 
 pub returns-in-Done-clause-turn : goal.returns-in-Done-clause-turn
 returns-in-Done-clause-turn g c profile moment stamped =
-    turn_done profile _ _ moment _ _ _ _ c.in-Some.found c.in-Some.is (c.in_ok-piece.ensures.look profile) c.args.at.now c.run_piece.result (c.run_piece.ensures.lent profile) stamped
+    turn_done profile _ _ moment _ _ _ _ c.in-Some.found c.in-Some.is (c.in_ok-piece.ensures.look profile) c.args.last_change.now c.run_piece.result (c.run_piece.ensures.lent profile) stamped
     (c.in_ok-run_piece.was ∙ ap Ok c.in-Done.is)
 
 pub returns-in-Refused-clause-turn : goal.returns-in-Refused-clause-turn
 returns-in-Refused-clause-turn g c profile moment stamped =
-    turn_refused profile _ _ moment _ _ _ _ c.in-Some.found c.in-Some.is (c.in_ok-piece.ensures.look profile) c.args.at.now c.run_piece.result (c.run_piece.ensures.lent profile) c.in-Refused.why
+    turn_refused profile _ _ moment _ _ _ _ c.in-Some.found c.in-Some.is (c.in_ok-piece.ensures.look profile) c.args.last_change.now c.run_piece.result (c.run_piece.ensures.lent profile) c.in-Refused.why
     (c.in_ok-run_piece.was ∙ ap Ok c.in-Refused.is)
 
 pub returns-in_err-run_piece-clause-turn : goal.returns-in_err-run_piece-clause-turn
 returns-in_err-run_piece-clause-turn g c profile moment stamped =
     let p = err_from_is_err_and c.from_residual-in_err-run_piece.result c.from_residual-in_err-run_piece.ensures.1 in
-    rw (p.1, p.2) (turn_gave_up profile _ _ moment _ _ _ _ c.in-Some.found c.in-Some.is (c.in_ok-piece.ensures.look profile) c.args.at.now c.run_piece.result (c.run_piece.ensures.lent profile) c.in_err-run_piece.field-0.0 c.in_err-run_piece.was)
+    rw (p.1, p.2) (turn_gave_up profile _ _ moment _ _ _ _ c.in-Some.found c.in-Some.is (c.in_ok-piece.ensures.look profile) c.args.last_change.now c.run_piece.result (c.run_piece.ensures.lent profile) c.in_err-run_piece.field-0.0 c.in_err-run_piece.was)

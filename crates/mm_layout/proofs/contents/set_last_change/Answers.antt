@@ -15,7 +15,7 @@ returns-clause-change g c profile =
     let old = state g.S.Store c.args.tx.now.conn.now in
     let new = state g.S.Store c.run.new.tx.conn.now in
     let table = c.args.table.now in
-    let at = c.args.at.now in
+    let at = c.args.last_change.now in
     changes profile old new _ _ (λ db. with_tree db 1 (touched_rows table at db)) (λ p. ⊤) (λ p. touch p table at) c.run.result c.run.ensures.run
     (λ count ready h. has_changed _ _ _ _ _ _ statement.touch old new ready (Words table ∷ Words at ∷ []) _ (Ok count) (search rules) h)
     (λ p rows h any. touches profile.version (seen old) p h table at)

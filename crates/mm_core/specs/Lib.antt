@@ -1,4 +1,3 @@
-pub mod Groups
 pub mod Sessions
 pub mod Adopted
 pub mod Applied

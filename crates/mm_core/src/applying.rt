@@ -6,7 +6,7 @@ ghost use Rattle.mm_definitions.specs.Stamp.{IsStamp};
 ghost use Rattle.mm_run.specs.Applied.{OnFault};
 ghost use Rattle.mm_definitions.specs.declared.commands.Command.TheVariants as commands;
 ghost use Rattle.mm_core.specs.Applied.{IsAppliedTo};
-ghost use Rattle.mm_core.specs.Groups.{rehearses};
+ghost use Rattle.mm_definitions.specs.CommandGroups.{rehearses};
 
 use crate::dispatching::run_command;
 use mm_definitions::answers::{Answer, Fault, Outcome};

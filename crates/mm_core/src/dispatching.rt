@@ -6,7 +6,7 @@ ghost use Rattle.mm_definitions.specs.Bounds.{current};
 ghost use Rattle.mm_definitions.specs.Stamp.{IsStamp};
 ghost use Rattle.mm_store.specs.Shapes.{IsLent, IsTried};
 ghost use Rattle.mm_layout.specs.Stamped.{IsLentAt};
-ghost use Rattle.mm_core.specs.Groups.{is_layout_change, lays_out_pyramid, is_tile_change, is_item_change, is_relation_change, prepares_edition, rehearses};
+ghost use Rattle.mm_definitions.specs.CommandGroups.{is_layout_change, lays_out_pyramid, is_tile_change, is_item_change, is_relation_change, prepares_edition, rehearses};
 
 use mm_definitions::answers::{Fault, Outcome};
 use mm_definitions::commands::Command;
@@ -241,7 +241,11 @@ pub(crate) fn run_command<S: Alter>(
         Command::Srs { .. } | Command::Table { .. } | Command::Drop { .. } => {
             lay_out(tx, command, last_change)
         }
-        Command::Pyramid { .. } | Command::Matrix { .. } => lay_out_pyramid(tx, command, last_change),
+        Command::Pyramid { .. } | Command::Matrix { .. } => lay_out_pyramid(
+            tx,
+            command,
+            last_change,
+        ),
         Command::Tile { .. } | Command::TileDrop { .. } => change_tile(tx, command, last_change),
         Command::Row { .. }
         | Command::RowDrop { .. }

@@ -3,32 +3,52 @@ use Rattle.std.specs.Prelude.{Bool, true, false}
 use Rattle.mm_definitions.specs.declared.commands.Command.{Command}
 use Rattle.mm_definitions.specs.declared.commands.Command.TheVariants as commands
 
--- it changes reference systems, tables, pyramids or matrices
-abbrev pub lays_out : Command → Bool
-lays_out (commands.Srs id name organization organization_id definition description) = true
-lays_out (commands.Pyramid table identifier srs min_x min_y max_x max_y step) = true
-lays_out (commands.Matrix table zoom matrix) = true
-lays_out (commands.Table table kind identifier) = true
-lays_out (commands.Drop table) = true
-lays_out _ = false
+-- it changes reference systems or tables
+abbrev pub is_layout_change : Command → Bool
+is_layout_change (commands.Srs id name organization organization_id definition description) = true
+is_layout_change (commands.Table table kind identifier) = true
+is_layout_change (commands.Drop table) = true
+is_layout_change _ = false
 
--- it changes a tile, an attribute row or a medium
-abbrev pub changes_content : Command → Bool
-changes_content (commands.Tile table zoom column row bytes) = true
-changes_content (commands.TileDrop table zoom column row) = true
-changes_content (commands.Row table id title note amount) = true
-changes_content (commands.RowDrop table id) = true
-changes_content (commands.Media table id content_type bytes) = true
-changes_content (commands.MediaDrop table id) = true
-changes_content _ = false
+-- it changes pyramids or matrices
+abbrev pub lays_out_pyramid : Command → Bool
+lays_out_pyramid (commands.Pyramid table identifier srs min_x min_y max_x max_y step) = true
+lays_out_pyramid (commands.Matrix table zoom matrix) = true
+lays_out_pyramid _ = false
+
+-- it changes a tile
+abbrev pub is_tile_change : Command → Bool
+is_tile_change (commands.Tile table zoom column row bytes) = true
+is_tile_change (commands.TileDrop table zoom column row) = true
+is_tile_change _ = false
+
+-- it changes an attribute row or a media row
+abbrev pub is_item_change : Command → Bool
+is_item_change (commands.Row table id title note amount) = true
+is_item_change (commands.RowDrop table id) = true
+is_item_change (commands.Media table id content_type bytes) = true
+is_item_change (commands.MediaDrop table id) = true
+is_item_change _ = false
 
 -- it changes relations or mapping rows
-abbrev pub relates : Command → Bool
-relates (commands.Relation mapping base related name) = true
-relates (commands.RelationDrop mapping) = true
-relates (commands.Map mapping base_id related_id) = true
-relates (commands.MapDrop mapping base_id related_id) = true
-relates _ = false
+abbrev pub is_relation_change : Command → Bool
+is_relation_change (commands.Relation mapping base related name) = true
+is_relation_change (commands.RelationDrop mapping) = true
+is_relation_change (commands.Map mapping base_id related_id) = true
+is_relation_change (commands.MapDrop mapping base_id related_id) = true
+is_relation_change _ = false
+
+-- it changes an edition that is not published yet, and no content
+abbrev pub prepares_edition : Command → Bool
+prepares_edition (commands.Edition name) = true
+prepares_edition (commands.Discard name) = true
+prepares_edition (commands.Stage edition number piece) = true
+prepares_edition _ = false
+
+-- it changes nothing, whatever it is answered
+abbrev pub rehearses : Command → Bool
+rehearses (commands.Rehearse edition) = true
+rehearses _ = false
 
 -- it opens, fills, discards, publishes or rehearses an edition
 abbrev pub works_on_editions : Command → Bool

@@ -2,7 +2,7 @@
 
 ghost use Rattle.std.specs.Prelude.{◌≡◌, true};
 ghost use Rattle.mm_definitions.specs.Bounds.{current};
-ghost use Rattle.mm_definitions.specs.CommandGroups.{lays_out, changes_content, relates, works_on_editions};
+ghost use Rattle.mm_definitions.specs.CommandGroups.{is_layout_change, lays_out_pyramid, is_tile_change, is_item_change, is_relation_change, works_on_editions};
 ghost use Rattle.mm_definitions.specs.PieceGroups.{changes_tile, changes_item, changes_mapping};
 ghost use Rattle.mm_definitions.specs.Within.{IsWithin, IsPieceWithin, IsMatrixWithin};
 
@@ -151,9 +151,9 @@ impl Piece {
     }
 }
 
-/// A command that lays out reference systems, tables, pyramids or matrices.
+/// A command that lays out a reference system or a table.
 fn layout_is_within(command: &Command)
-    requires { lays_out command.now ≡ true }
+    requires { is_layout_change command.now ≡ true }
     ensures { IsWithin current command.now }
 {
     match command {
@@ -172,6 +172,27 @@ fn layout_is_within(command: &Command)
             definition.as_str();
             description.as_str();
         }
+        Command::Table {
+            table,
+            identifier,
+            ..
+        } => {
+            table.as_str();
+            identifier.as_str();
+        }
+        Command::Drop { table } => {
+            table.as_str();
+        }
+        _ => unreachable!(),
+    }
+}
+
+/// A command that lays out a pyramid or a tile matrix.
+fn pyramid_is_within(command: &Command)
+    requires { lays_out_pyramid command.now ≡ true }
+    ensures { IsWithin current command.now }
+{
+    match command {
         Command::Pyramid {
             table,
             identifier,
@@ -198,17 +219,6 @@ fn layout_is_within(command: &Command)
             table.as_str();
             zoom.get();
             matrix_is_within(matrix);
-        }
-        Command::Table {
-            table,
-            identifier,
-            ..
-        } => {
-            table.as_str();
-            identifier.as_str();
-        }
-        Command::Drop { table } => {
-            table.as_str();
         }
         _ => unreachable!(),
     }
@@ -245,9 +255,9 @@ fn edition_is_within(command: &Command)
     }
 }
 
-/// A command that changes a tile, an attribute row or a medium.
-fn content_is_within(command: &Command)
-    requires { changes_content command.now ≡ true }
+/// A command that changes a tile.
+fn tile_command_is_within(command: &Command)
+    requires { is_tile_change command.now ≡ true }
     ensures { IsWithin current command.now }
 {
     match command {
@@ -275,6 +285,16 @@ fn content_is_within(command: &Command)
             column.get();
             row.get();
         }
+        _ => unreachable!(),
+    }
+}
+
+/// A command that changes an attribute row or a medium.
+fn item_command_is_within(command: &Command)
+    requires { is_item_change command.now ≡ true }
+    ensures { IsWithin current command.now }
+{
+    match command {
         Command::Row {
             table,
             id,
@@ -313,7 +333,7 @@ fn content_is_within(command: &Command)
 
 /// A command that changes relations or mapping rows.
 fn relation_is_within(command: &Command)
-    requires { relates command.now ≡ true }
+    requires { is_relation_change command.now ≡ true }
     ensures { IsWithin current command.now }
 {
     match command {
@@ -361,17 +381,15 @@ impl Command {
         ensures { IsWithin current self.now }
     {
         match self {
-            Command::Srs { .. }
-            | Command::Pyramid { .. }
-            | Command::Matrix { .. }
-            | Command::Table { .. }
-            | Command::Drop { .. } => layout_is_within(self),
-            Command::Tile { .. }
-            | Command::TileDrop { .. }
-            | Command::Row { .. }
+            Command::Srs { .. } | Command::Table { .. } | Command::Drop { .. } => {
+                layout_is_within(self)
+            }
+            Command::Pyramid { .. } | Command::Matrix { .. } => pyramid_is_within(self),
+            Command::Tile { .. } | Command::TileDrop { .. } => tile_command_is_within(self),
+            Command::Row { .. }
             | Command::RowDrop { .. }
             | Command::Media { .. }
-            | Command::MediaDrop { .. } => content_is_within(self),
+            | Command::MediaDrop { .. } => item_command_is_within(self),
             Command::Relation { .. }
             | Command::RelationDrop { .. }
             | Command::Map { .. }

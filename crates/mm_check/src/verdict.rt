@@ -46,16 +46,12 @@ fn one_rule<S: Alter>(conn: &mut Connection<S>, unit: Unit, k: u8) -> Result<boo
 pub fn verify<S: Alter>(conn: &mut Connection<S>, unit: Unit) -> Result<Option<u8>, Fault>
     ensures { IsVerified (profile_of unit) (state S.Store conn.old) (state S.Store conn.new) result }
 {
-    match limits(conn, unit) {
-        Ok(true) => {}
-        Ok(false) => return Ok(Some(16)),
-        Err(fault) => return Err(fault),
+    if !limits(conn, unit)? {
+        return Ok(Some(16));
     }
     'rules: for k in 1..16u8 {
-        match one_rule(conn, unit, k) {
-            Ok(true) => {}
-            Ok(false) => return Ok(Some(k)),
-            Err(fault) => return Err(fault),
+        if !one_rule(conn, unit, k)? {
+            return Ok(Some(k));
         }
     }
     Ok(None)

@@ -599,10 +599,8 @@ pub fn limits<S: Alter>(conn: &mut Connection<S>, unit: Unit) -> Result<bool, Fa
         (λ p. Limits (profile_of unit) p) result }
 {
     'parts: for k in 1..14u8 {
-        match one_limit(conn, unit, k) {
-            Ok(true) => {}
-            Ok(false) => return Ok(false),
-            Err(fault) => return Err(fault),
+        if !one_limit(conn, unit, k)? {
+            return Ok(false);
         }
     }
     Ok(true)

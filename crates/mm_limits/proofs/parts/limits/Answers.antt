@@ -1,4 +1,5 @@
-use Rattle.std.proofs.Common.{◌≡◌, ◌≤◌, arith}
+use Rattle.std.proofs.Common.{◌≡◌, ◌≤◌, Ok, Err, refl, arith}
+use Rattle.std.proofs.lemmas.Result.{err_from_is_err_and}
 use Rattle.sqlite.specs.Held.{state}
 use Rattle.mm_definitions.specs.Units.{profile_of}
 use Rattle.mm_limits.proofs.LimitParts.{no_part, part_passes, part_stops, part_fails, parts_pass}
@@ -9,15 +10,16 @@ parts-init g c = no_part (profile_of c.args.unit) (state g.S.Store c.args.conn.n
 
 pub parts-preserved : goal.parts-preserved
 parts-preserved g c =
-    part_passes (profile_of c.args.unit) (state g.S.Store c.args.conn.now) (state g.S.Store c.parts.conn) (state g.S.Store c.one_limit.new.conn) c.parts.k c.parts.invariant c.one_limit.result c.in-Ok-true.is c.in-Ok-true.field-0-test c.one_limit.ensures
+    part_passes (profile_of c.args.unit) (state g.S.Store c.args.conn.now) (state g.S.Store c.parts.conn) (state g.S.Store c.one_limit.new.conn) c.parts.k c.parts.invariant (Ok c.in_ok-one_limit.field-0) refl c.if-not-branch.false c.in_ok-one_limit.ensures
 
-pub returns-in-Ok-false : goal.returns-in-Ok-false
-returns-in-Ok-false g c =
-    part_stops (profile_of c.args.unit) (state g.S.Store c.args.conn.now) (state g.S.Store c.parts.conn) (state g.S.Store c.one_limit.new.conn) c.parts.k c.parts.invariant c.one_limit.result c.in-Ok-false.is c.in-Ok-false.field-0-test c.one_limit.ensures
+pub returns-then-not-branch : goal.returns-then-not-branch
+returns-then-not-branch g c =
+    part_stops (profile_of c.args.unit) (state g.S.Store c.args.conn.now) (state g.S.Store c.parts.conn) (state g.S.Store c.one_limit.new.conn) c.parts.k c.parts.invariant (Ok c.in_ok-one_limit.field-0) refl c.if-not-branch.true c.in_ok-one_limit.ensures
 
-pub returns-in-Err : goal.returns-in-Err
-returns-in-Err g c =
-    part_fails (profile_of c.args.unit) (state g.S.Store c.args.conn.now) (state g.S.Store c.parts.conn) (state g.S.Store c.one_limit.new.conn) c.parts.k c.parts.invariant c.one_limit.result c.in-Err.fault c.in-Err.is c.one_limit.ensures
+pub returns-in_err-one_limit : goal.returns-in_err-one_limit
+returns-in_err-one_limit g c =
+    let p = err_from_is_err_and c.from_residual.result c.from_residual.ensures.1 in
+    rw (p.1, p.2) (part_fails (profile_of c.args.unit) (state g.S.Store c.args.conn.now) (state g.S.Store c.parts.conn) (state g.S.Store c.one_limit.new.conn) c.parts.k c.parts.invariant (Err c.in_err-one_limit.field-0.0) c.in_err-one_limit.field-0.0 refl c.in_err-one_limit.ensures)
 
 pub returns : goal.returns
 returns g c =

@@ -1,11 +1,10 @@
 -- What an import tells of its folder.
-use Rattle.std.proofs.Common.{◌≡◌, ◌∙◌, ◌⊎◌, inl, inr, ℕ, Bool, true, false, refl, sym, ap, arith}
+use Rattle.std.proofs.Common.{◌≡◌, ◌∙◌, ◌⊎◌, inl, inr, ℕ, Bool, true, false, refl, sym, arith}
 use Rattle.std.specs.Prelude.{◌==◌, ◌||◌}
 use Rattle.std.proofs.lemmas.Bool.{ne_eqb}
 use Rattle.mm_run.specs.Applied.{IsApplyFault}
 use Rattle.mm_kit.specs.Folders.{is_own, fault_number}
 use Rattle.mm_kit.specs.Imports.{IsKitFault}
-use Rattle.mm_kit.specs.declared.folders.Found.{Found}
 use Rattle.mm_kit.specs.declared.folders.FolderFault.{FolderFault}
 use Rattle.mm_kit.specs.declared.folders.FolderFault.TheVariants.{Memory, Failed}
 
@@ -26,7 +25,7 @@ kit_fault Failed n is = inr (inr (inr is))
 not_96 : (n m : ℕ) → n ≡ m → (m ≡ 96 → ⊥) → (n == 96) ≡ false
 not_96 n m is other = ne_eqb n 96 (λ e. absurd (other (sym is ∙ e)))
 
--- a fault of the desk is none of the folder
+-- a fault of the editor is none of the folder
 pub no_folders : (n : ℕ) → IsApplyFault n → (n == 96) ≡ false
 no_folders n (inl is) = not_96 n 90 is (λ e. absurd (omega (arith, e)))
 no_folders n (inr (inl is)) = not_96 n 91 is (λ e. absurd (omega (arith, e)))

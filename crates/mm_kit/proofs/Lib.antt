@@ -5,7 +5,7 @@ pub mod KitFacts
 pub mod ListFacts
 pub mod ReadFacts
 pub mod LawFacts
-pub mod ShelfFacts
+pub mod MemoryFolderFacts
 pub mod OneList
 pub mod KeptFacts
 pub mod FolderFacts

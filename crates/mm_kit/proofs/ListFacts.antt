@@ -1,18 +1,14 @@
 -- The entries of a list, record by record.
-use Rattle.mm_definitions.specs.Bounds.{current}
-use Rattle.std.proofs.Common.{◌≡◌, ◌∙◌, ◌≤◌, ◌+◌, ◌++◌, ℕ, List, [], ◌∷◌, take, drop, length, Option, Some, None, Ok, Err, true, false, refl, sym, ap, subst, arith, length-append, append_assoc}
-use Rattle.std.specs.Prelude.{⊤}
+use Rattle.std.proofs.Common.{◌≡◌, ◌∙◌, ◌≤◌, ◌+◌, ◌++◌, ℕ, List, [], ◌∷◌, take, drop, length, Option, Some, Ok, Err, true, false, refl, sym, ap, subst, arith, length-append, append_assoc}
 use Rattle.std.proofs.lemmas.List.{take-append-drop}
 use Rattle.csv.specs.Reading.{Reached, ReadRecord, default_config, records, source_of}
 use Rattle.csv.specs.declared.parser.State.TheVariants as states
 use Rattle.csv.specs.declared.reader.Reader.{Reader}
 use Rattle.csv.proofs.ReadFacts.{rows-end, rows-more}
-use Rattle.mm_definitions.specs.declared.commands.Piece.{Piece}
 use Rattle.mm_definitions.specs.declared.commands.Piece.TheVariants as pieces
-use Rattle.mm_definitions.specs.Keys.{Text}
 use Rattle.mm_io.specs.Records.{Record}
 use Rattle.mm_io.proofs.RecordsFacts.{records-all, records-first}
-use Rattle.mm_kit.specs.Entries.{IsEntry, IsEntryReadAs, entry_of, file_of}
+use Rattle.mm_kit.specs.Entries.{IsEntry, IsEntryReadAs}
 use Rattle.mm_kit.specs.Lists.{AreEntries, AreSoFar, IsFirstRefused}
 use Rattle.mm_kit.specs.declared.entries.Entry.{Entry}
 

@@ -5,4 +5,4 @@ pub mod Lists
 pub mod Editions
 pub mod Kits
 pub mod Imports
-pub mod Shelves
+pub mod MemoryFolders

@@ -6,7 +6,7 @@ ghost use Rattle.mm_kit.specs.Folders.{Files, is_failure};
 ghost use Rattle.mm_kit.specs.Imports.{AreImported, AsksForPackage, IsImportAnswered, IsImportKept, IsKitFault, IsImportStopped, MayBeStaged, OnAnyFolder, OnKit, ImportTellsReopening, TellsFolder};
 ghost use Rattle.mm_kit.specs.Lists.{AreFew, AreSound, IsKitList, list_read};
 
-use crate::desk::Desk;
+use crate::editor::Editor;
 use crate::entries::Entry;
 use crate::folders::{Folder, FolderFault, Found};
 use crate::lists::{Listed, read_list};
@@ -38,28 +38,28 @@ fn find_list<F: Folder>(alloc: Global, folder: &mut F) -> Result<Listed, FolderF
 }
 
 /// The import of a list's entries: the edition, then each piece.
-fn import_entries<A: Desk, F: Folder>(
+fn import_entries<A: Editor, F: Folder>(
     alloc: Global,
-    desk: &mut A,
+    editor: &mut A,
     name: &Name,
     folder: &mut F,
     entries: Vec<Entry>,
     at: Moment,
 ) -> Result<Staged, KitFault>
     requires { AreFew entries.items }
-    ensures clean { A.is_clean desk.new → A.is_clean desk.old }
-    ensures answered { IfOk result (λ a. OnKit (A.is_clean desk.new) (A.settled desk.old) (F.files folder.old)
-        (λ files p. AreImported files name.now entries.items p (A.settled desk.new) a)) }
-    ensures stopped { IfErr result (λ e. OnKit (A.is_clean desk.new) (A.settled desk.old) (F.files folder.old)
-        (λ files p. MayBeStaged files name.now entries.items p (A.may_leave desk.new) A.stands_for e.staged)) }
-    ensures session { ImportTellsReopening (A.has_failed desk.old) (A.has_failed desk.new) (desk.new ≡ desk.old) result }
-    ensures kept { OnAnyFolder (A.is_clean desk.new) (A.settled desk.old)
-        (λ p. IsImportKept name.now p (A.settled desk.new) (A.may_leave desk.new) A.stands_for result) }
+    ensures clean { A.is_clean editor.new → A.is_clean editor.old }
+    ensures answered { IfOk result (λ a. OnKit (A.is_clean editor.new) (A.settled editor.old) (F.files folder.old)
+        (λ files p. AreImported files name.now entries.items p (A.settled editor.new) a)) }
+    ensures stopped { IfErr result (λ e. OnKit (A.is_clean editor.new) (A.settled editor.old) (F.files folder.old)
+        (λ files p. MayBeStaged files name.now entries.items p (A.may_leave editor.new) A.stands_for e.staged)) }
+    ensures session { ImportTellsReopening (A.has_failed editor.old) (A.has_failed editor.new) (editor.new ≡ editor.old) result }
+    ensures kept { OnAnyFolder (A.is_clean editor.new) (A.settled editor.old)
+        (λ p. IsImportKept name.now p (A.settled editor.new) (A.may_leave editor.new) A.stands_for result) }
     ensures folder { TellsFolder (F.has_failed folder.old) (F.has_failed folder.new) result }
     ensures why { IfErr result (λ e. IsKitFault e.fault.0) }
 {
     let records = entries.len() as u32;
-    match desk.edition(name) {
+    match editor.edition(name) {
         Ok(Some(EditionState::Open(pieces))) => {
             if records < pieces {
                 return Ok(Staged::Refused {
@@ -67,7 +67,7 @@ fn import_entries<A: Desk, F: Folder>(
                     number: 52,
                 });
             }
-            stage_all(alloc, desk, name, folder, entries, at)
+            stage_all(alloc, editor, name, folder, entries, at)
         }
         Ok(Some(EditionState::Published)) => Ok(Staged::Refused {
             piece: 0,
@@ -82,27 +82,27 @@ fn import_entries<A: Desk, F: Folder>(
 }
 
 /// The import of a folder's kit into an edition.
-pub(crate) fn import_folder<A: Desk, F: Folder>(
+pub(crate) fn import_folder<A: Editor, F: Folder>(
     alloc: Global,
-    desk: &mut A,
+    editor: &mut A,
     name: &Name,
     folder: &mut F,
     at: Moment,
 ) -> Result<Staged, KitFault>
-    ensures clean { A.is_clean desk.new → A.is_clean desk.old }
-    ensures answered { IfOk result (λ a. OnKit (A.is_clean desk.new) (A.settled desk.old) (F.files folder.old)
-        (λ files p. IsImportAnswered files name.now p (A.settled desk.new) a)) }
-    ensures stopped { IfErr result (λ e. OnKit (A.is_clean desk.new) (A.settled desk.old) (F.files folder.old)
-        (λ files p. IsImportStopped files name.now p (A.may_leave desk.new) A.stands_for e.staged)) }
-    ensures session { ImportTellsReopening (A.has_failed desk.old) (A.has_failed desk.new) (desk.new ≡ desk.old) result }
+    ensures clean { A.is_clean editor.new → A.is_clean editor.old }
+    ensures answered { IfOk result (λ a. OnKit (A.is_clean editor.new) (A.settled editor.old) (F.files folder.old)
+        (λ files p. IsImportAnswered files name.now p (A.settled editor.new) a)) }
+    ensures stopped { IfErr result (λ e. OnKit (A.is_clean editor.new) (A.settled editor.old) (F.files folder.old)
+        (λ files p. IsImportStopped files name.now p (A.may_leave editor.new) A.stands_for e.staged)) }
+    ensures session { ImportTellsReopening (A.has_failed editor.old) (A.has_failed editor.new) (editor.new ≡ editor.old) result }
     ensures needed { IfErr result (λ e. e.fault.0 ≡ 92 → AsksForPackage (F.files folder.old)) }
-    ensures kept { OnAnyFolder (A.is_clean desk.new) (A.settled desk.old)
-        (λ p. IsImportKept name.now p (A.settled desk.new) (A.may_leave desk.new) A.stands_for result) }
+    ensures kept { OnAnyFolder (A.is_clean editor.new) (A.settled editor.old)
+        (λ p. IsImportKept name.now p (A.settled editor.new) (A.may_leave editor.new) A.stands_for result) }
     ensures folder { TellsFolder (F.has_failed folder.old) (F.has_failed folder.new) result }
     ensures why { IfErr result (λ e. IsKitFault e.fault.0) }
 {
     match find_list(alloc, folder) {
-        Ok(Listed::Entries(entries)) => import_entries(alloc, desk, name, folder, entries, at),
+        Ok(Listed::Entries(entries)) => import_entries(alloc, editor, name, folder, entries, at),
         Ok(Listed::Refused(piece, number)) => Ok(Staged::Refused { piece, number }),
         Err(fault) => Err(KitFault {
             fault: folder_fault(fault),

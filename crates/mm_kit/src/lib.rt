@@ -1,7 +1,7 @@
 //! Kits: a list of pieces and the files that it names, and their import into an edition, which may be stopped and begun again
 //! any number of times. What is staged is a first part of the kit, and all of it where the import answers that it is complete.
 //!
-//! - `desk`: what a kit is imported on.
+//! - `editor`: what a kit is imported on.
 //! - `entries`: a record of the list.
 //! - `file_names`: the names that files may have.
 //! - `filling`: a piece with the bytes of its file.
@@ -10,11 +10,11 @@
 //! - `laws`: what imports come to.
 //! - `lists`: the list.
 //! - `sessions`: the import on a session.
-//! - `shelves`: a folder in memory.
+//! - `memory`: a folder in memory.
 //! - `staging`: one piece after another.
 #![tactic(auto)]
 
-mod desk;
+mod editor;
 mod entries;
 mod file_names;
 mod filling;
@@ -22,14 +22,14 @@ mod folders;
 mod importing;
 pub mod laws;
 mod lists;
+mod memory;
 mod sessions;
-mod shelves;
 mod staging;
 
-pub use desk::Desk;
+pub use editor::Editor;
 pub use entries::Entry;
 pub use file_names::FileName;
 pub use folders::{Folder, FolderFault, Found};
 pub use lists::Listed;
+pub use memory::{MemoryFile, MemoryFolder};
 pub use sessions::import_kit;
-pub use shelves::{Shelf, ShelfFile};

@@ -9,7 +9,7 @@ ghost use Rattle.mm_core.specs.Applied.{Stands};
 ghost use Rattle.mm_core.specs.Parts.{held, must_reopen};
 ghost use Rattle.mm_kit.specs.Imports.{AsksForPackage, IsImportAnswered, IsImportKept, IsKitFault, IsImportStopped, OnAnyFolder, OnKit, ImportTellsReopening, TellsFolder};
 
-use crate::desk::Desk;
+use crate::editor::Editor;
 use crate::folders::Folder;
 use crate::importing::import_folder;
 use mm_core::Session;
@@ -20,7 +20,7 @@ use mm_definitions::names::Name;
 use sqlite::Alter;
 use std::alloc::Global;
 
-impl<S: Alter> Desk for Session<S> {
+impl<S: Alter> Editor for Session<S> {
     fn edition(&mut self, name: &Name) -> Result<Option<EditionState>, Fault> {
         self.edition(name)
     }

@@ -10,12 +10,13 @@ ghost use Rattle.mm_definitions.specs.declared.commands.Command.TheVariants as c
 ghost use Rattle.mm_definitions.specs.declared.commands.Piece.{Piece as SpecPiece};
 ghost use Rattle.mm_run.specs.Answers.{is_fault};
 ghost use Rattle.mm_run.specs.Applied.{IsApplied, IsApplyFault, IsSound, OnFault};
+ghost use Rattle.mm_run.specs.Sessions.{shown};
 ghost use Rattle.mm_kit.specs.Editions.{HasPieces};
 ghost use Rattle.mm_kit.specs.Folders.{Files, fault_number};
 ghost use Rattle.mm_kit.specs.Imports.{AreStaged, IsImportKept, IsKitFault, MayBeStaged, OnAnyFolder, OnKit, ImportTellsReopening, TellsFolder};
 ghost use Rattle.mm_kit.specs.Lists.{AreFew};
 
-use crate::desk::Desk;
+use crate::editor::Editor;
 use crate::entries::Entry;
 use crate::filling::fill;
 use crate::folders::{Folder, FolderFault};
@@ -61,7 +62,7 @@ fn id_of(number: u32) -> Id
 
 /// The command that stages one piece.
 fn stage_piece<A: Apply>(
-    desk: &mut A,
+    editor: &mut A,
     edition: &Name,
     number: u32,
     piece: Piece,
@@ -70,12 +71,12 @@ fn stage_piece<A: Apply>(
     requires { 0 < number }
     ensures keeps { (p : Package) → Meets current p → Meets current (step p (commands.Stage edition.now (pos number) piece) at) }
     ensures faults { OnFault result IsApplyFault }
-    ensures ended { A.has_failed desk.old ≡ true → (result ≡ answers.Fault (record { 0 = 92 })) × (desk.new ≡ desk.old) }
-    ensures working { A.has_failed desk.old ≡ false → OnFault result (λ fault. fault ≢ 92) }
-    ensures fails { A.has_failed desk.old ≡ false → A.has_failed desk.new ≡ is_fault result }
-    ensures clean { A.is_clean desk.new → A.is_clean desk.old }
-    ensures applied { A.is_clean desk.new → (p : Package) → A.settled desk.old p → Meets current p
-        → IsApplied p (commands.Stage edition.now (pos number) piece) at result (A.settled desk.new) (A.may_leave desk.new) A.stands_for }
+    ensures ended { A.has_failed editor.old ≡ true → (result ≡ answers.Fault (record { 0 = 92 })) × (editor.new ≡ editor.old) }
+    ensures working { A.has_failed editor.old ≡ false → OnFault result (λ fault. fault ≢ 92) }
+    ensures fails { A.has_failed editor.old ≡ false → A.has_failed editor.new ≡ is_fault result }
+    ensures clean { A.is_clean editor.new → A.is_clean editor.old }
+    ensures applied { A.is_clean editor.new → (p : Package) → A.settled editor.old p → Meets current p
+        → IsApplied p (commands.Stage edition.now (pos number) piece) at result (shown A.Apply editor.new) }
 {
     // The proof reads from these that the moment and the command are within their limits.
     let _milliseconds = at.milliseconds();
@@ -85,32 +86,32 @@ fn stage_piece<A: Apply>(
         piece,
     };
     command.is_within();
-    desk.apply(&command, at)
+    editor.apply(&command, at)
 }
 
 /// Stages the pieces of the entries in order, up to the first that is refused.
-pub(crate) fn stage_all<A: Desk, F: Folder>(
+pub(crate) fn stage_all<A: Editor, F: Folder>(
     alloc: Global,
-    desk: &mut A,
+    editor: &mut A,
     edition: &Name,
     folder: &mut F,
     entries: Vec<Entry>,
     at: Moment,
 ) -> Result<Staged, KitFault>
     requires few { AreFew entries.items }
-    requires working { A.has_failed desk.old ≡ false }
-    ensures clean { A.is_clean desk.new → A.is_clean desk.old }
-    ensures answered { IfOk result (λ a. OnKit (A.is_clean desk.new) (A.settled desk.old) (F.files folder.old)
+    requires working { A.has_failed editor.old ≡ false }
+    ensures clean { A.is_clean editor.new → A.is_clean editor.old }
+    ensures answered { IfOk result (λ a. OnKit (A.is_clean editor.new) (A.settled editor.old) (F.files folder.old)
         (λ files p. (old : List SpecPiece) → HasPieces p edition.now old → length old ≤ length entries.items →
-        AreStaged files edition.now entries.items p old (A.settled desk.new) a)) }
-    ensures stopped { IfErr result (λ e. OnKit (A.is_clean desk.new) (A.settled desk.old) (F.files folder.old)
+        AreStaged files edition.now entries.items p old (A.settled editor.new) a)) }
+    ensures stopped { IfErr result (λ e. OnKit (A.is_clean editor.new) (A.settled editor.old) (F.files folder.old)
         (λ files p. (old : List SpecPiece) → HasPieces p edition.now old →
-        MayBeStaged files edition.now entries.items p (A.may_leave desk.new) A.stands_for e.staged)) }
-    ensures session { IfOk result (λ a. A.has_failed desk.new ≡ false) }
-    ensures fault { IfErr result (λ e. (e.fault.0 ≢ 92) × (e.fault.0 ≡ 96 → A.has_failed desk.new ≡ false)) }
-    ensures kept { OnAnyFolder (A.is_clean desk.new) (A.settled desk.old)
+        MayBeStaged files edition.now entries.items p (A.may_leave editor.new) A.stands_for e.staged)) }
+    ensures session { IfOk result (λ a. A.has_failed editor.new ≡ false) }
+    ensures fault { IfErr result (λ e. (e.fault.0 ≢ 92) × (e.fault.0 ≡ 96 → A.has_failed editor.new ≡ false)) }
+    ensures kept { OnAnyFolder (A.is_clean editor.new) (A.settled editor.old)
         (λ p. (old : List SpecPiece) → HasPieces p edition.now old →
-        IsImportKept edition.now p (A.settled desk.new) (A.may_leave desk.new) A.stands_for result) }
+        IsImportKept edition.now p (A.settled editor.new) (A.may_leave editor.new) A.stands_for result) }
     ensures folder { TellsFolder (F.has_failed folder.old) (F.has_failed folder.new) result }
     ensures why { IfErr result (λ e. IsKitFault e.fault.0) }
 {
@@ -131,7 +132,7 @@ pub(crate) fn stage_all<A: Desk, F: Folder>(
                 });
             }
         };
-        match stage_piece(desk, edition, staged + 1, piece, at) {
+        match stage_piece(editor, edition, staged + 1, piece, at) {
             Answer::Ok => staged += 1,
             Answer::Refused(why) => {
                 return Ok(Staged::Refused {

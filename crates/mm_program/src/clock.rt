@@ -44,7 +44,7 @@ fn time_now(rt: &HostRuntime) -> Now {
 }
 
 /// The moment that the words give, or else the clock's.
-pub fn moment_of(rt: &HostRuntime, at: Option<Moment>) -> Now
+pub fn moment_or_now(rt: &HostRuntime, at: Option<Moment>) -> Now
     ensures given { IfSome at (λ moment. result ≡ Now.At moment) }
 {
     match at {

@@ -6,7 +6,7 @@ ghost use Rattle.mm_subcommands.specs.Told.{TellsFailure};
 ghost use Rattle.mm_program.specs.Files.{IsFew};
 ghost use Rattle.mm_program.specs.Told.{TellsKit};
 
-use crate::clock::{Now, moment_of};
+use crate::clock::{Now, moment_or_now};
 use crate::files::{close_after, open_old};
 use mm_definitions::answers::Fault;
 use mm_definitions::moments::Moment;
@@ -116,7 +116,7 @@ pub(crate) fn kit_told<W: Write>(
     let Some(name) = Name::read(edition) else {
         return tell_bytes(output, b"kit refused 0 12\n", REFUSED);
     };
-    let moment = match moment_of(rt, at) {
+    let moment = match moment_or_now(rt, at) {
         Now::At(moment) => moment,
         Now::Outside => return tell_bytes(output, b"refused 11\n", REFUSED),
         Now::Unread => return tell_stop(output, Stop::Fault(Fault::INPUT)),

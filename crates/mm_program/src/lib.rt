@@ -2,7 +2,7 @@
 //!
 //! - `subcommands`: what each subcommand does.
 //! - `kits`: a folder of the system, and the import of its kit.
-//! - `looking`: those that change nothing.
+//! - `reporting`: those that change nothing.
 //! - `migrating`: the one that brings a package of profile 1 to micrometres.
 //! - `files`: the package's file and its journal.
 //! - `connections`: the page served to one connection after another.
@@ -14,8 +14,8 @@ mod clock;
 mod connections;
 mod files;
 mod kits;
-mod looking;
 mod migrating;
+mod reporting;
 mod serving;
 mod subcommands;
 

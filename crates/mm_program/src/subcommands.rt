@@ -8,11 +8,11 @@ ghost use Rattle.mm_subcommands.specs.Told.{TellsFailure, stop_status};
 ghost use Rattle.mm_program.specs.Files.{StopsNew};
 ghost use Rattle.mm_program.specs.Told.{TellsDecline, TellsInit, TellsStatus, TellsWords};
 
-use crate::clock::{Now, moment_of};
+use crate::clock::{Now, moment_or_now};
 use crate::files::{close_after, close_files, open_new, open_old};
 use crate::kits::kit_told;
-use crate::looking::{check_told, list_told};
 use crate::migrating::migrate_told;
+use crate::reporting::{check_told, list_told};
 use crate::serving::serve_told;
 use mm_arguments::{Request, read_arguments, status_of};
 use mm_definitions::answers::Fault;
@@ -72,7 +72,7 @@ fn run_told<R: Read, W: Write>(
     ensures status { result ≤ 4 }
     ensures unprinted { TellsFailure (has_failed output.old) (has_failed output.new) result }
 {
-    let moment = match moment_of(rt, at) {
+    let moment = match moment_or_now(rt, at) {
         Now::At(moment) => moment,
         Now::Outside => return tell_bytes(output, b"refused 11\n", REFUSED),
         Now::Unread => return tell_stop(output, Stop::Fault(Fault::INPUT)),

@@ -1,24 +1,24 @@
 //! The work of the program on a connection to a package, over any store, and what is printed of it.
 //!
 //! - `package`: making a package, and running a list of records on one.
-//! - `looking`: what changes nothing: the whole check, and the listing.
+//! - `reporting`: what changes nothing: the whole check, and the listing.
 //! - `migrating`: bringing a package of profile 1 to micrometres.
 //! - `pages`: what is printed while the page is served.
 //! - `stop`: why the work was not done.
 //! - `tell`: what is printed, byte for byte, and the exit status that goes with it.
 #![tactic(auto)]
 
-mod looking;
 mod migrating;
 mod package;
 mod pages;
+mod reporting;
 mod stop;
 mod tell;
 
-pub use looking::{check_package, list_package, tell_check};
 pub use migrating::{migrate_package, tell_migration};
 pub use package::{adopt_package, make_package, run_package};
 pub use pages::{tell_page_fault, tell_serving};
+pub use reporting::{check_package, list_package, tell_check};
 pub use stop::Stop;
 pub use tell::{
     DONE, FAULT, NO_PACKAGE, REFUSED, USAGE, numbered_line, put, tell_bytes, tell_init, tell_stop,

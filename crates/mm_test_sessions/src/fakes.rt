@@ -1,7 +1,7 @@
 //! Writers, readers and folders that fail.
 
 use mm_definitions::streams::Io;
-use mm_kit::{Folder, FolderFault, Found, Shelf};
+use mm_kit::{Folder, FolderFault, Found, MemoryFolder};
 use std::alloc::Global;
 use std::io;
 use std::io::{ErrorKind, Read, Write};
@@ -93,16 +93,16 @@ impl Read for Slow<'_> {
 /// A folder in memory, one of whose reads fails, counted from 1.
 #[derive(Drop)]
 pub(crate) struct Torn {
-    shelf: Shelf,
+    files: MemoryFolder,
     reads: u32,
     failing: u32,
     failed: bool,
 }
 
 /// A folder whose read of this number fails, and none where it is 0.
-pub(crate) fn torn_folder(shelf: Shelf, failing: u32) -> Torn {
+pub(crate) fn torn_folder(files: MemoryFolder, failing: u32) -> Torn {
     Torn {
-        shelf,
+        files,
         reads: 0,
         failing,
         failed: false,
@@ -122,7 +122,7 @@ impl Folder for Torn {
             self.failed = true;
             return Err(FolderFault::Failed);
         }
-        match self.shelf.read(alloc, name, most) {
+        match self.files.read(alloc, name, most) {
             Ok(found) => Ok(found),
             Err(_) => Err(FolderFault::Memory),
         }

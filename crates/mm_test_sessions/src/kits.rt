@@ -6,7 +6,7 @@ use mm_definitions::answers::{KitFault, Staged};
 use mm_definitions::entries::EditionState;
 use mm_definitions::moments::Moment;
 use mm_definitions::names::Name;
-use mm_kit::{Folder, Shelf, ShelfFile, import_kit};
+use mm_kit::{Folder, MemoryFile, MemoryFolder, import_kit};
 use mm_test_packages::{FINER, PYRAMID, RELATED, answers, session_after, text_of};
 use sqlite::MemStore;
 use std::alloc::Global;
@@ -18,30 +18,30 @@ fn session_of(alloc: Global) -> Option<Session<MemStore>> {
     session_after(alloc, &[PYRAMID, FINER, RELATED, "edition,k\n"])
 }
 
-/// Puts a file on a shelf.
-fn put(alloc: Global, shelf: &mut Shelf, name: &str, bytes: &[u8]) -> Option<()> {
-    let mut file = ShelfFile {
+/// Puts a file on a folder.
+fn put(alloc: Global, files: &mut MemoryFolder, name: &str, bytes: &[u8]) -> Option<()> {
+    let mut file = MemoryFile {
         name: String::new(alloc),
         bytes: Vec::new(alloc),
     };
     file.name.push_str(name).ok()?;
     file.bytes.extend_from_slice(bytes).ok()?;
-    shelf.files.push(file).ok()
+    files.files.push(file).ok()
 }
 
-/// A shelf with this list, with `a.bin`, `c.bin` and `a..b`, and with `b.bin` where it has bytes.
-fn shelf_of(alloc: Global, list: &[u8], second: Option<&[u8]>) -> Option<Shelf> {
-    let mut shelf = Shelf {
+/// A folder with this list, with `a.bin`, `c.bin` and `a..b`, and with `b.bin` where it has bytes.
+fn folder_of(alloc: Global, list: &[u8], second: Option<&[u8]>) -> Option<MemoryFolder> {
+    let mut files = MemoryFolder {
         files: Vec::new(alloc),
     };
-    put(alloc, &mut shelf, "kit.csv", list)?;
-    put(alloc, &mut shelf, "a.bin", b"\x01")?;
-    put(alloc, &mut shelf, "c.bin", b"\x03")?;
-    put(alloc, &mut shelf, "a..b", b"\x04")?;
+    put(alloc, &mut files, "kit.csv", list)?;
+    put(alloc, &mut files, "a.bin", b"\x01")?;
+    put(alloc, &mut files, "c.bin", b"\x03")?;
+    put(alloc, &mut files, "a..b", b"\x04")?;
     if let Some(bytes) = second {
-        put(alloc, &mut shelf, "b.bin", bytes)?;
+        put(alloc, &mut files, "b.bin", bytes)?;
     }
-    Some(shelf)
+    Some(files)
 }
 
 fn import_text(alloc: Global, import: Result<Staged, KitFault>) -> Option<String> {
@@ -125,8 +125,8 @@ fn imported_line(alloc: Global, session: &mut Session<MemStore>, line: &str) -> 
     let (second, rest) = rest.split_once(' ')?;
     let (failing, list) = rest.split_once(' ')?;
     let list = list_of(alloc, list)?;
-    let shelf = shelf_of(alloc, list.as_bytes(), second_of(second))?;
-    let mut folder = torn_folder(shelf, failing.parse().ok()?);
+    let files = folder_of(alloc, list.as_bytes(), second_of(second))?;
+    let mut folder = torn_folder(files, failing.parse().ok()?);
     let told = imported(alloc, session, edition, &mut folder)?;
     if folder.failed() == told.starts_with("fault 96") {
         Some(told)
@@ -218,8 +218,8 @@ fn imported_list(
     list: &[u8],
     second: &[u8],
 ) -> Option<String> {
-    let mut shelf = shelf_of(alloc, list, Some(second))?;
-    imported(alloc, session, "k", &mut shelf)
+    let mut files = folder_of(alloc, list, Some(second))?;
+    imported(alloc, session, "k", &mut files)
 }
 
 /// What the import of a list that is no text answers.

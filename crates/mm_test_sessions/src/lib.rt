@@ -2,7 +2,7 @@
 //! of the product is proved a second time with its own.
 //!
 //! - `fakes`: writers, readers and folders that fail.
-//! - `runs`: a run on a desk of the tests' own.
+//! - `runs`: a run on systems of the tests' own.
 //! - `sessions`: what is answered, adopted, checked and listed.
 //! - `kits`: imports of folders in memory.
 //! - `pages`: requests and their responses.

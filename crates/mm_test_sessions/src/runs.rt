@@ -1,4 +1,4 @@
-//! Runs on a desk of the tests' own, with writers and readers that fail.
+//! Runs on systems of the tests' own, with writers and readers that fail.
 
 ghost use Rattle.std.specs.Prelude.{◌≡◌};
 ghost use Rattle.mm_run.specs.Applied.{OnFault};
@@ -17,15 +17,15 @@ use std::test::Fail;
 
 // The numbers of the systems that stand. Nothing is claimed of it. It answers so many commands before its store fails.
 #[derive(Drop)]
-struct Desk {
+struct Systems {
     systems: Vec<i64>,
     left: u32,
     moment: u64,
     failed: bool,
 }
 
-fn new_desk(alloc: Global, left: u32) -> Desk {
-    Desk {
+fn new_systems(alloc: Global, left: u32) -> Systems {
+    Systems {
         systems: Vec::new(alloc),
         left,
         moment: 0,
@@ -42,7 +42,7 @@ fn refused(number: u8) -> Answer
     })
 }
 
-impl Desk {
+impl Systems {
     ghost use Rattle.std.specs.Prelude.{◌≡◌};
     ghost use Rattle.mm_run.specs.Applied.{OnFault};
 
@@ -68,7 +68,7 @@ impl Desk {
     }
 }
 
-impl Apply for Desk {
+impl Apply for Systems {
     ghost use Rattle.std.specs.Prelude.{ℕ, ⊤};
 
     ghost Database = { ℕ };
@@ -101,25 +101,25 @@ const TWO_EQUAL: &[u8] = b"srs,5001,A,NONE,1,undefined,\nsrs,5001,A,NONE,1,undef
 /// Runs the records that the reader gives: the fault or 0, and the tally.
 fn run<R: Read, W: io::Write>(
     alloc: Global,
-    desk: &mut Desk,
+    systems: &mut Systems,
     reader: &mut Io<R>,
     writer: &mut Io<W>,
 ) -> Option<(u8, Tally)> {
-    match run_list(alloc, desk, reader, writer, Moment::new(951868799999)?) {
+    match run_list(alloc, systems, reader, writer, Moment::new(951868799999)?) {
         Ok(tally) => Some((0, tally)),
         Err(stopped) => Some((stopped.fault.0, stopped.tally)),
     }
 }
 
-/// What a run on the desk comes to, and the bytes that the writer took: `FAULT ACCEPTED REFUSED WRITTEN BYTES`.
+/// What a run on the systems comes to, and the bytes that the writer took: `FAULT ACCEPTED REFUSED WRITTEN BYTES`.
 fn ran<R: Read>(
     alloc: Global,
-    desk: &mut Desk,
+    systems: &mut Systems,
     reader: &mut Io<R>,
     writer: Io<Short>,
 ) -> Option<String> {
     let mut writer = writer;
-    let (fault, tally) = run(alloc, desk, reader, &mut writer)?;
+    let (fault, tally) = run(alloc, systems, reader, &mut writer)?;
     if writer.failed() != (fault == 97) || reader.failed() != (fault == 96) {
         return None;
     }
@@ -133,12 +133,12 @@ fn ran<R: Read>(
     format!(in alloc; "{fault} {accepted} {refused} {written} {bytes}").ok()
 }
 
-/// What a run of these records comes to on a desk that answers so many commands, by a writer that takes so many bytes.
+/// What a run of these records comes to on systems that answers so many commands, by a writer that takes so many bytes.
 fn ran_on(alloc: Global, left: u32, records: &[u8], room: usize) -> Option<String> {
-    let mut desk = new_desk(alloc, left);
+    let mut systems = new_systems(alloc, left);
     ran(
         alloc,
-        &mut desk,
+        &mut systems,
         &mut Io::new(records),
         short_writer(alloc, room),
     )
@@ -157,16 +157,16 @@ fn answers_each_record(rt: HostRuntime) -> Result<(), Fail> {
     Ok(())
 }
 
-/// The moment at which a desk is told to do the commands of a run.
+/// The moment at which systems is told to do the commands of a run.
 fn moment_told(alloc: Global) -> Option<u64> {
-    let mut desk = new_desk(alloc, 9);
+    let mut systems = new_systems(alloc, 9);
     ran(
         alloc,
-        &mut desk,
+        &mut systems,
         &mut Io::new(RECORDS),
         short_writer(alloc, 99),
     )?;
-    Some(desk.moment)
+    Some(systems.moment)
 }
 
 #[test]
@@ -215,10 +215,10 @@ fn tells_where_the_writer_failed(rt: HostRuntime) -> Result<(), Fail> {
 
 /// What a run of two equal records comes to where the writer can't be flushed.
 fn unflushed_run(alloc: Global) -> Option<String> {
-    let mut desk = new_desk(alloc, 9);
+    let mut systems = new_systems(alloc, 9);
     ran(
         alloc,
-        &mut desk,
+        &mut systems,
         &mut Io::new(TWO_EQUAL),
         unflushed_writer(alloc),
     )
@@ -239,7 +239,7 @@ fn broken_runs(alloc: Global) -> Option<String> {
         let mut reader = torn_reader(TWO_EQUAL, 1, failing);
         let told = ran(
             alloc,
-            &mut new_desk(alloc, 9),
+            &mut new_systems(alloc, 9),
             &mut reader,
             short_writer(alloc, 99),
         )?;
@@ -259,18 +259,18 @@ fn tells_where_the_reader_failed(rt: HostRuntime) -> Result<(), Fail> {
     Ok(())
 }
 
-/// What two runs come to on a desk whose store fails at the second command.
+/// What two runs come to on systems whose store fails at the second command.
 fn failed_runs(alloc: Global) -> Option<String> {
-    let mut desk = new_desk(alloc, 1);
+    let mut systems = new_systems(alloc, 1);
     let first = ran(
         alloc,
-        &mut desk,
+        &mut systems,
         &mut Io::new(TWO_EQUAL),
         short_writer(alloc, 99),
     )?;
     let second = ran(
         alloc,
-        &mut desk,
+        &mut systems,
         &mut Io::new(TWO_EQUAL),
         short_writer(alloc, 99),
     )?;

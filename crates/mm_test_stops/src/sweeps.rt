@@ -85,19 +85,19 @@ fn standings(alloc: Global, image: &Image, case: Case) -> Option<Vec<String>> {
 
 /// A case with what it begins with, and what stands after each number of its steps.
 #[derive(Drop)]
-struct Ground {
+struct Expected {
     case: Case,
     image: Image,
     texts: Vec<String>,
 }
 
-fn ground_of(alloc: Global, case: Case) -> Option<Ground> {
+fn expected_of(alloc: Global, case: Case) -> Option<Expected> {
     let image = image_at(alloc, case.start)?;
     let texts = standings(alloc, &image, case)?;
-    Some(Ground { case, image, texts })
+    Some(Expected { case, image, texts })
 }
 
-impl Ground {
+impl Expected {
     /// Whether this stands after so many steps.
     fn stands_after(&self, steps: usize, found: &str) -> bool {
         match self.texts.get(steps) {
@@ -125,18 +125,24 @@ enum Came {
 }
 
 /// Does the work of a case, where a file fails from its call of this number on.
-fn ran(alloc: Global, ground: &Ground, failure: Failure, which: Which, first: u64) -> Option<Came> {
+fn ran(
+    alloc: Global,
+    expected: &Expected,
+    failure: Failure,
+    which: Which,
+    first: u64,
+) -> Option<Came> {
     let plans = Plans::new();
-    let files = files_of(alloc, &ground.image, &plans)?;
+    let files = files_of(alloc, &expected.image, &plans)?;
     plans.fail(which, failure.calls(first));
-    let steps = ground.case.work.steps();
-    let Some((told, files)) = left_after(alloc, files, ground.case, steps, failure, &plans) else {
+    let steps = expected.case.work.steps();
+    let Some((told, files)) = left_after(alloc, files, expected.case, steps, failure, &plans) else {
         return Some(Came::Wrong);
     };
     let has_failed = plans.has_failed(which);
     plans.fail(which, 0..0);
     let found = found_on(alloc, files, failure)?;
-    if !ground.is_first_part(told, found.as_str()) {
+    if !expected.is_first_part(told, found.as_str()) {
         return Some(Came::Wrong);
     }
     match (has_failed, told.ended) {
@@ -147,9 +153,9 @@ fn ran(alloc: Global, ground: &Ground, failure: Failure, which: Which, first: u6
 }
 
 /// How many calls of a file fail in turn until a run meets no failure; or else the first whose run is wrong.
-fn swept(alloc: Global, ground: &Ground, failure: Failure, which: Which) -> Result<u64, u64> {
+fn swept(alloc: Global, expected: &Expected, failure: Failure, which: Which) -> Result<u64, u64> {
     for first in 0..10000u64 {
-        match ran(alloc, ground, failure, which, first) {
+        match ran(alloc, expected, failure, which, first) {
             Some(Came::Whole) => return Ok(first),
             Some(Came::FirstPart) => {}
             Some(Came::Wrong) | None => return Err(first),
@@ -159,9 +165,14 @@ fn swept(alloc: Global, ground: &Ground, failure: Failure, which: Which) -> Resu
 }
 
 /// Puts how many calls of the log and of the database fail in turn.
-fn put_counts(alloc: Global, ground: &Ground, failure: Failure, text: &mut String) -> Option<()> {
+fn put_counts(
+    alloc: Global,
+    expected: &Expected,
+    failure: Failure,
+    text: &mut String,
+) -> Option<()> {
     for which in [Which::Log, Which::Database] {
-        match swept(alloc, ground, failure, which) {
+        match swept(alloc, expected, failure, which) {
             Ok(0) => write!(text, ", {which:?} not stopped").ok()?,
             Ok(count) => write!(text, " {count}").ok()?,
             Err(first) => write!(text, ", {failure:?} of {which:?} at {first} wrong").ok()?,
@@ -173,10 +184,10 @@ fn put_counts(alloc: Global, ground: &Ground, failure: Failure, text: &mut Strin
 /// The name of a case, with how many calls of the log and of the database stop, and how many lapse.
 fn counted(alloc: Global, case: Case) -> Option<String> {
     let mut text = String::new(alloc);
-    let ground = ground_of(alloc, case)?;
+    let expected = expected_of(alloc, case)?;
     write!(text, "{}:", case.name).ok()?;
-    put_counts(alloc, &ground, Failure::Stop, &mut text)?;
-    put_counts(alloc, &ground, Failure::Lapse, &mut text)?;
+    put_counts(alloc, &expected, Failure::Stop, &mut text)?;
+    put_counts(alloc, &expected, Failure::Lapse, &mut text)?;
     Some(text)
 }
 

@@ -8,7 +8,7 @@ use mm_definitions::commands::Command;
 use mm_definitions::moments::Moment;
 use mm_definitions::names::Name;
 use mm_definitions::streams::Io;
-use mm_kit::{Shelf, ShelfFile, import_kit};
+use mm_kit::{MemoryFile, MemoryFolder, import_kit};
 use mm_test_packages::run;
 use sqlite::{Alter, Connection};
 use std::alloc::Global;
@@ -73,27 +73,27 @@ fn run_first<S: Alter>(
     Some(Told { steps, ended })
 }
 
-/// Puts a file on a shelf.
-fn put(alloc: Global, shelf: &mut Shelf, name: &str, bytes: &[u8]) -> Option<()> {
-    let mut file = ShelfFile {
+/// Puts a file on a folder.
+fn put(alloc: Global, files: &mut MemoryFolder, name: &str, bytes: &[u8]) -> Option<()> {
+    let mut file = MemoryFile {
         name: String::new(alloc),
         bytes: Vec::new(alloc),
     };
     file.name.push_str(name).ok()?;
     file.bytes.extend_from_slice(bytes).ok()?;
-    shelf.files.push(file).ok()
+    files.files.push(file).ok()
 }
 
 /// A folder of a kit with this list.
-fn shelf_of(alloc: Global, list: &[u8]) -> Option<Shelf> {
-    let mut shelf = Shelf {
+fn folder_of(alloc: Global, list: &[u8]) -> Option<MemoryFolder> {
+    let mut files = MemoryFolder {
         files: Vec::new(alloc),
     };
-    put(alloc, &mut shelf, "kit.csv", list)?;
-    put(alloc, &mut shelf, "a.bin", b"\x01")?;
-    put(alloc, &mut shelf, "b.bin", b"\x02")?;
-    put(alloc, &mut shelf, "c.bin", b"\x03")?;
-    Some(shelf)
+    put(alloc, &mut files, "kit.csv", list)?;
+    put(alloc, &mut files, "a.bin", b"\x01")?;
+    put(alloc, &mut files, "b.bin", b"\x02")?;
+    put(alloc, &mut files, "c.bin", b"\x03")?;
+    Some(files)
 }
 
 /// Imports the kit of the first so many records into the edition `k`.
@@ -103,9 +103,9 @@ fn import_first<S: Alter>(
     records: &str,
     lines: usize,
 ) -> Option<Told> {
-    let mut shelf = shelf_of(alloc, first_lines(records, lines))?;
+    let mut files = folder_of(alloc, first_lines(records, lines))?;
     let edition = Name::read("k")?;
-    match import_kit(alloc, session, &edition, &mut shelf, Moment::new(0)?) {
+    match import_kit(alloc, session, &edition, &mut files, Moment::new(0)?) {
         Ok(Staged::Complete(count)) => Some(Told {
             steps: usize::try_from(count).ok()?,
             ended: true,

@@ -5,7 +5,6 @@ use Rattle.mm_edition.specs.States.{TellsState}
 use Rattle.mm_kit.proofs.EditionFacts.{open_has}
 use Rattle.mm_kit.proofs.KitFacts.{imported_longer, imported_none, imported_open, imported_published, staged_at_once}
 use Rattle.mm_kit.proofs.KeptFacts.{keeps_itself}
-use Rattle.mm_kit.proofs.FolderFacts.{as_before, desk_fault, still_told}
 use Rattle.mm_kit.proofs.importing.import_entries.Goals as goal
 
 pub returns-else-records-pieces-clause-answered : goal.returns-else-records-pieces-clause-answered

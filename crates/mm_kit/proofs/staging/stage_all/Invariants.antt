@@ -15,13 +15,13 @@ invariant-loop-entry g l = record {
   count : l.staged ≡ length l.yielded;
   items : l.yielded ++ into_iter_items l.entry-iterator ≡ l.fn.entries.items;
   len : into_iter_len l.entry-iterator ≡ length (into_iter_items l.entry-iterator);
-  clean : g.A.Apply.is_clean l.desk → g.A.Apply.is_clean l.fn.desk;
-  working : g.A.Apply.has_failed l.desk ≡ false;
+  clean : g.A.Apply.is_clean l.editor → g.A.Apply.is_clean l.fn.editor;
+  working : g.A.Apply.has_failed l.editor ≡ false;
   folder : g.F.Folder.has_failed l.folder ≡ g.F.Folder.has_failed l.fn.folder;
   files : g.F.Folder.files l.folder ≡ g.F.Folder.files l.fn.folder;
-  kept : g.A.Apply.is_clean l.desk → (p : Package) → IsSound (g.A.Apply.settled l.fn.desk) p → (old : List Piece) → HasPieces p l.fn.edition old
-      → (q : Package) × IsSound (g.A.Apply.settled l.desk) q × IsPassedBy (length l.yielded) l.fn.edition p old q;
-  so_far : g.A.Apply.is_clean l.desk → (p : Package) → IsSound (g.A.Apply.settled l.fn.desk) p → (these : Files) → g.F.Folder.files l.fn.folder ≡ Some these
+  kept : g.A.Apply.is_clean l.editor → (p : Package) → IsSound (g.A.Apply.settled l.fn.editor) p → (old : List Piece) → HasPieces p l.fn.edition old
+      → (q : Package) × IsSound (g.A.Apply.settled l.editor) q × IsPassedBy (length l.yielded) l.fn.edition p old q;
+  so_far : g.A.Apply.is_clean l.editor → (p : Package) → IsSound (g.A.Apply.settled l.fn.editor) p → (these : Files) → g.F.Folder.files l.fn.folder ≡ Some these
       → (old : List Piece) → HasPieces p l.fn.edition old
-      → (q : Package) × IsSound (g.A.Apply.settled l.desk) q × IsImportedSoFar these l.fn.edition l.fn.entries.items (into_iter_items l.entry-iterator) p old (length l.yielded) q;
+      → (q : Package) × IsSound (g.A.Apply.settled l.editor) q × IsImportedSoFar these l.fn.edition l.fn.entries.items (into_iter_items l.entry-iterator) p old (length l.yielded) q;
 }

@@ -1,7 +1,7 @@
 use Rattle.std.proofs.Common.{◌≡◌, ◌<◌, ◌∙◌, length, true, false, rules}
 use Rattle.std.specs.Prelude.{bytes_eq, string_bytes}
-use Rattle.mm_kit.proofs.ShelfFacts.{end, met, passed}
-use Rattle.mm_kit.proofs.shelves.find_file.Goals as goal
+use Rattle.mm_kit.proofs.MemoryFolderFacts.{end, met, passed}
+use Rattle.mm_kit.proofs.memory.find_file.Goals as goal
 
 pub returns-then-eq : goal.returns-then-eq
 returns-then-eq c =

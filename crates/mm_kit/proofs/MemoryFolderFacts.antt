@@ -3,18 +3,18 @@ use Rattle.std.proofs.Common.{◌≡◌, ◌∙◌, ◌<◌, ◌≤◌, ◌+◌,
 use Rattle.std.proofs.Math.Seq.{drop-cons}
 use Rattle.std.specs.Prelude.{bytes_eq, string_bytes, get_or, if◌then◌else◌}
 use Rattle.mm_definitions.specs.Keys.{Text}
-use Rattle.mm_kit.specs.Shelves.{file_at}
-use Rattle.mm_kit.specs.declared.shelves.ShelfFile.{ShelfFile}
+use Rattle.mm_kit.specs.MemoryFolders.{file_at}
+use Rattle.mm_kit.specs.declared.memory.MemoryFile.{MemoryFile}
 
-drop-nil : (i : ℕ) → drop {A = ShelfFile} i [] ≡ []
+drop-nil : (i : ℕ) → drop {A = MemoryFile} i [] ≡ []
 drop-nil zero = refl
 drop-nil (suc i) = refl
 
 -- the file at a place, and those behind it
-step : (files : List ShelfFile) (i : ℕ) (d : ShelfFile) → i < length files → drop i files ≡ get_or files i d ∷ drop (i + 1) files
+step : (files : List MemoryFile) (i : ℕ) (d : MemoryFile) → i < length files → drop i files ≡ get_or files i d ∷ drop (i + 1) files
 step files i d h = let e : suc i ≡ i + 1 = omega arith in drop-cons files i d h ∙ ap (λ k. get_or files i d ∷ drop k files) e
 
-module _ (files : List ShelfFile) (name : Text) (i : ℕ) (d file : ShelfFile) (h : i < length files) (is : file ≡ get_or files i d) where
+module _ (files : List MemoryFile) (name : Text) (i : ℕ) (d file : MemoryFile) (h : i < length files) (is : file ≡ get_or files i d) where
   opened : drop i files ≡ file ∷ drop (i + 1) files
   opened = step files i d h ∙ ap (λ x. x ∷ drop (i + 1) files) (sym is)
 
@@ -26,7 +26,7 @@ module _ (files : List ShelfFile) (name : Text) (i : ℕ) (d file : ShelfFile) (
   unfolding file_at
   met same = ap (λ l. file_at l name) opened ∙ ap (λ b. if b then Some file.bytes.items else file_at (drop (i + 1) files) name) same
 
-pub end : (files : List ShelfFile) (name : Text) (i : ℕ) → length files ≤ i → file_at (drop i files) name ≡ None
+pub end : (files : List MemoryFile) (name : Text) (i : ℕ) → length files ≤ i → file_at (drop i files) name ≡ None
 unfolding file_at
 end [] name i h = ap (λ l. file_at l name) (drop-nil i)
 end (x ∷ xs) name zero h = absurd (omega (arith, h))

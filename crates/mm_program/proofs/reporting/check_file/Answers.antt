@@ -1,5 +1,5 @@
 use Rattle.mm_program.proofs.StopFacts.{closes, declines}
-use Rattle.mm_program.proofs.looking.check_file.Goals as goal
+use Rattle.mm_program.proofs.reporting.check_file.Goals as goal
 
 pub returns-in-Ok : goal.returns-in-Ok
 returns-in-Ok g c = closes c.close_files.result c.close_files.ensures

@@ -2,7 +2,7 @@
 
 ghost use Rattle.std.specs.Prelude.{◌≡◌, IfErr, IfOk, Some};
 ghost use Rattle.mm_kit.specs.declared.folders.FolderFault.TheVariants as folder_faults;
-ghost use Rattle.mm_kit.specs.Shelves.{IsOnShelf, file_at};
+ghost use Rattle.mm_kit.specs.MemoryFolders.{IsInFolder, file_at};
 ghost use Rattle.mm_kit.specs.Folders.{FindsFile};
 
 use crate::folders::{Folder, FolderFault, Found};
@@ -10,20 +10,20 @@ use std::alloc::Global;
 
 /// A file in memory.
 #[derive(Drop)]
-pub struct ShelfFile {
+pub struct MemoryFile {
     pub name: String,
     pub bytes: Vec<u8>,
 }
 
 /// A folder of files in memory, which tells them. Of files of one name the first is found.
 #[derive(Drop)]
-pub struct Shelf {
-    pub files: Vec<ShelfFile>,
+pub struct MemoryFolder {
+    pub files: Vec<MemoryFile>,
 }
 
 /// The first file of a name.
-fn find_file<'a>(files: &'a [ShelfFile], name: &str) -> Option<&'a ShelfFile>
-    ensures { IsOnShelf (file_at files.now name.now) result }
+fn find_file<'a>(files: &'a [MemoryFile], name: &str) -> Option<&'a MemoryFile>
+    ensures { IsInFolder (file_at files.now name.now) result }
 {
     'files: for i in 0..files.len() {
         let file = &files[i];
@@ -35,7 +35,7 @@ fn find_file<'a>(files: &'a [ShelfFile], name: &str) -> Option<&'a ShelfFile>
 }
 
 /// A copy of a file's bytes, where they are not too many.
-fn copy_file(alloc: Global, file: &ShelfFile, most: u64) -> Result<Found, FolderFault>
+fn copy_file(alloc: Global, file: &MemoryFile, most: u64) -> Result<Found, FolderFault>
     ensures finds { IfOk result (λ found. FindsFile (Some file.now.bytes.items) most found) }
     ensures memory { IfErr result (λ fault. fault ≡ folder_faults.Memory) }
 {
@@ -49,9 +49,9 @@ fn copy_file(alloc: Global, file: &ShelfFile, most: u64) -> Result<Found, Folder
     }
 }
 
-impl Folder for Shelf {
+impl Folder for MemoryFolder {
     ghost use Rattle.std.specs.Prelude.{Some, false};
-    ghost use Rattle.mm_kit.specs.Shelves.{file_at};
+    ghost use Rattle.mm_kit.specs.MemoryFolders.{file_at};
 
     ghost files = { λ s. Some (file_at s.files.items) };
 

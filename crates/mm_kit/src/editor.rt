@@ -12,7 +12,7 @@ use mm_definitions::names::Name;
 use mm_run::Apply;
 
 /// A thing that commands are applied to, and that tells how an edition stands.
-pub trait Desk: Apply {
+pub trait Editor: Apply {
     /// How an edition stands, or None where none has the name.
     fn edition(&mut self, name: &Name) -> Result<Option<EditionState>, Fault>
         ensures ended { Self.has_failed self.old ≡ true → (result ≡ Err (record { 0 = 92 })) × (self.new ≡ self.old) }

@@ -25,10 +25,8 @@ pub fn check_package<S: Alter + Drop>(
     ensures checked { IfOk result (λ checked. IsAdopted (state S.Store conn) (state S.Store checked)) }
     ensures declined { IfErr result (λ e. IsDeclined (state S.Store conn) (state S.Store e.0) e.1) }
 {
-    match adopt_package(alloc, conn) {
-        Ok(session) => Ok(session.close()),
-        Err(e) => Err(e),
-    }
+    let session = adopt_package(alloc, conn)?;
+    Ok(session.close())
 }
 
 /// Writes the listing of the package, and hands the connection back. At a fault a beginning of the listing was written.

@@ -19,7 +19,7 @@ use Rattle.mm_check.specs.Verdict.{IsVerified}
 use Rattle.mm_shelf.specs.Form.{AreInForm, IsFormCheck, BlobsStand, TellsForm}
 use Rattle.mm_shelf.proofs.Reading.{asked_stands, asked_fails, stand_as_before, fail_as_before, formed_for}
 use Rattle.mm_core.specs.Adopted.{IsAdopted, IsOfThisVersion, Declines, DeclinesNone, TellsProfile, IsNotAdopted}
-use Rattle.std.specs.Prelude.{ℕ, pos}
+use Rattle.std.specs.Prelude.{ℕ}
 
 -- what is known of a database that passed the look and the form of its blobs
 pub record IsOpened (old new : State) : Type 0 where

@@ -1,7 +1,10 @@
 -- What a clause reads of a session.
 use Rattle.std.specs.Prelude.{Bool}
-use Rattle.sqlite.specs.Held.{Held}
+use Rattle.sqlite.specs.Tree.{Trees}
+use Rattle.sqlite.specs.Held.{Held, state}
 use Rattle.sqlite.specs.Store.{Ghosts}
+use Rattle.mm_run.specs.Shown.{Shown}
+use Rattle.mm_core.specs.Applied.{shown_on}
 use Rattle.mm_core.specs.declared.session.Session.{Session}
 
 -- its connection
@@ -11,3 +14,7 @@ held session = session.conn
 -- an earlier command was answered a fault
 abbrev pub must_reopen : {S : Type 0} {g : Ghosts S} → Session S g → Bool
 must_reopen session = session.failed
+
+-- what it shows
+abbrev pub shown : {S : Type 0} (g : Ghosts S) → Session S g → Shown Trees
+shown g session = shown_on (must_reopen session) (state g (held session))

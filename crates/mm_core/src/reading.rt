@@ -15,7 +15,7 @@ impl<S: Alter> Session<S> {
     ghost use Rattle.mm_definitions.specs.Keys as keys;
     ghost use Rattle.mm_definitions.specs.Keys.{item};
     ghost use Rattle.mm_store.specs.Seen.{IsRead};
-    ghost use Rattle.mm_reads.specs.Told.{TellsBytes, medium_told, row_told};
+    ghost use Rattle.mm_reads.specs.Told.{TellsBytes, shown_medium, shown_row};
     ghost use Rattle.mm_reads.specs.Listing.{ListsTables};
     ghost use Rattle.mm_reads.specs.Related.{TellsMates};
     ghost use Rattle.mm_edition.specs.States.{TellsState};
@@ -48,7 +48,7 @@ impl<S: Alter> Session<S> {
     /// on, and the package and what may be left are as they were.
     pub fn media(&mut self, table: &Name, id: i64) -> Result<Option<Media>, Fault>
         ensures { Reads S.Store self.old self.new result (λ old new. IsRead current old new
-            (λ p found. get p.media (item table.now id) ≡ option_map medium_told found) result) }
+            (λ p found. get p.media (item table.now id) ≡ option_map shown_medium found) result) }
     {
         if self.failed {
             return Err(Fault::REOPEN);
@@ -62,7 +62,7 @@ impl<S: Alter> Session<S> {
     /// on, and the package and what may be left are as they were.
     pub fn row(&mut self, table: &Name, id: i64) -> Result<Option<Row>, Fault>
         ensures { Reads S.Store self.old self.new result (λ old new. IsRead current old new
-            (λ p found. get p.rows (item table.now id) ≡ option_map row_told found) result) }
+            (λ p found. get p.rows (item table.now id) ≡ option_map shown_row found) result) }
     {
         if self.failed {
             return Err(Fault::REOPEN);

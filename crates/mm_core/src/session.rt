@@ -109,14 +109,12 @@ impl<S: Alter> Session<S> {
         ensures handed_back { IfErr result (λ e. e.0.in_transaction ≡ false) }
         ensures not_migrated { IfErr result (λ e. IsMigration (state S.Store conn) (state S.Store e.0) (Err e.1)) }
     {
-        match migrate(conn) {
-            Ok(conn) => Ok(Session {
-                conn,
-                alloc,
-                failed: false,
-            }),
-            Err(e) => Err(e),
-        }
+        let conn = migrate(conn)?;
+        Ok(Session {
+            conn,
+            alloc,
+            failed: false,
+        })
     }
 
     /// Hands the connection back, and makes no call of the store.
@@ -175,14 +173,13 @@ impl<S: Alter> Session<S> {
     ghost use Rattle.sqlite.specs.Held.{state};
     ghost use Rattle.sqlite.specs.State.{HasCleanDisk};
     ghost use Rattle.mm_definitions.specs.Bounds.{current};
-    ghost use Rattle.mm_definitions.specs.Streams.{inside};
+    ghost use Rattle.mm_definitions.specs.Streams.{inside, written};
     ghost use Rattle.mm_definitions.specs.Streams as streams;
     ghost use Rattle.mm_store.specs.Stands.{IsSettled};
     ghost use Rattle.mm_run.specs.Told.{IsNear};
     ghost use Rattle.mm_run.specs.Ended.{OnEnded, RanEnded};
     ghost use Rattle.mm_run.specs.Runs.{IsKept, IsRunFault, OnRun, OnSound, RanAll, RanSome, RunTellsReopening, TellsFlush, TellsWriter, WorksOn};
-    ghost use Rattle.mm_core.specs.Applied.{Stands};
-    ghost use Rattle.mm_core.specs.Parts.{held, must_reopen};
+    ghost use Rattle.mm_core.specs.Parts.{held, must_reopen, shown};
 
     /// Reads records to the end and answers each with a line, which is written and flushed before the next record is
     /// read. Each command is applied at the moment that is handed in. At each exit every database that may be left is
@@ -202,28 +199,24 @@ impl<S: Alter> Session<S> {
         ensures clean { HasCleanDisk (state S.Store (held self.new)) → HasCleanDisk (state S.Store (held self.old)) }
         ensures done { IfOk result (λ t. OnRun (HasCleanDisk (state S.Store (held self.new)))
             (λ p. IsSettled current (state S.Store (held self.old)) p) (R.remaining (inside reader.old))
-            (λ p bytes. RanAll p at bytes (λ q. IsSettled current (state S.Store (held self.new)) q)
-            (λ db. (state S.Store (held self.new)).may_leave db) Stands (W.contents (inside writer.old))
-            (W.contents (inside writer.new)) t)) }
+            (λ p bytes. RanAll p at bytes (shown S.Store self.new)
+            (written W.contents writer.old) (written W.contents writer.new) t)) }
         ensures end { OnOk result (IsAtEnd (R.remaining (inside reader.new))) }
         ensures working { OnOk result (streams.has_failed writer.new ≡ streams.has_failed writer.old) }
         ensures flushed { TellsFlush (streams.is_flushed writer.old) (streams.is_flushed writer.new) result }
         ensures stopped { IfErr result (λ e. OnRun (HasCleanDisk (state S.Store (held self.new)))
             (λ p. IsSettled current (state S.Store (held self.old)) p) (R.remaining (inside reader.old))
-            (λ p bytes. RanSome p at bytes (WorksOn (must_reopen self.old) (must_reopen self.new)
-            (λ q. IsSettled current (state S.Store (held self.new)) q)) (must_reopen self.new ≡ true)
-            (λ db. (state S.Store (held self.new)).may_leave db) Stands (W.contents (inside writer.old))
-            (W.contents (inside writer.new)) e)) }
+            (λ p bytes. RanSome p at bytes (WorksOn (must_reopen self.old) (shown S.Store self.new))
+            (must_reopen self.new ≡ true) (shown S.Store self.new)
+            (written W.contents writer.old) (written W.contents writer.new) e)) }
         ensures near { IfErr result (λ e. IsNear e.tally) }
         ensures session { RunTellsReopening (must_reopen self.old) (must_reopen self.new) (self.new ≡ self.old) result }
         ensures writer { IfErr result (TellsWriter (streams.has_failed writer.old) (streams.has_failed writer.new)) }
         ensures why { IfErr result (λ e. (e.fault.0 ≡ 97) ⊎ IsRunFault e.fault.0 (streams.has_failed reader.new)) }
         ensures kept { OnSound (HasCleanDisk (state S.Store (held self.new))) (λ p. IsSettled current (state S.Store (held self.old)) p)
-            (IsKept (must_reopen self.old) (must_reopen self.new)
-            (λ q. IsSettled current (state S.Store (held self.new)) q)
-            (λ db. (state S.Store (held self.new)).may_leave db) Stands) }
+            (IsKept (must_reopen self.old) (shown S.Store self.new)) }
         ensures ended { OnEnded (must_reopen self.old) (R.remaining (inside reader.old))
-            (λ bytes. RanEnded bytes (W.contents (inside writer.old)) (W.contents (inside writer.new)) result) }
+            (λ bytes. RanEnded bytes (written W.contents writer.old) (written W.contents writer.new) result) }
     {
         let alloc = self.alloc;
         run_list(alloc, self, reader, writer, at)

@@ -12,8 +12,9 @@ use Rattle.mm_definitions.specs.declared.answers.Open.TheVariants as opens
 use Rattle.mm_check.specs.Verdict.{rule, IsFailing}
 use Rattle.mm_queries.proofs.InTurn.{either_holds}
 use Rattle.mm_core.specs.Adopted.{IsAdopted, IsNotAdopted, Declines}
-use Rattle.mm_core.specs.Applied.{Stands}
+use Rattle.mm_core.specs.Applied.{Stands, shown_on}
 use Rattle.mm_definitions.specs.Runs.{run}
+use Rattle.mm_definitions.specs.Streams.{Written}
 use Rattle.mm_definitions.specs.declared.answers.Tally.{Tally}
 use Rattle.mm_definitions.specs.declared.answers.RunFault.{RunFault}
 use Rattle.mm_run.specs.Answers.{calls_of}
@@ -136,9 +137,9 @@ module _ (old mid new : State) (finds : FindsLeft mid new) where
 
 -- ---- the run of a list, and then a crash
 
-module _ (mid again : State) (recovered : IsRecovered mid again) (clean : HasCleanDisk again) (p : Package) (moment : ℕ) (bytes : List ℕ) (old new : Option (List ℕ)) where
-  found_after_all : (t : Tally) → RanAll p moment bytes (λ q. IsSettled current mid q) (λ db. mid.may_leave db) Stands old new t → ∥ RanAndFound again p moment bytes old new (Ok t) ∥₁
-  found_after_all t it = ∥∥₁_map (recovered.found clean) (λ found.
+module _ (mid again : State) (recovered : IsRecovered mid again) (clean : HasCleanDisk again) (p : Package) (moment : ℕ) (bytes : List ℕ) (old new : Written) where
+  found_after_all : (failed : Bool) (t : Tally) → RanAll p moment bytes (shown_on failed mid) old new t → ∥ RanAndFound again p moment bytes old new (Ok t) ∥₁
+  found_after_all failed t it = ∥∥₁_map (recovered.found clean) (λ found.
       let left = it.left found.0 found.1 in
       record {
         readings = it.readings;
@@ -151,11 +152,11 @@ module _ (mid again : State) (recovered : IsRecovered mid again) (clean : HasCle
         left = λ _ may. (left.0, (found.2 left.0 left.1).0, left.2, left.3);
       })
 
-  found_after_some : (before failed : Bool) (e : RunFault) → RanSome p moment bytes (WorksOn before failed (λ q. IsSettled current mid q)) (failed ≡ true) (λ db. mid.may_leave db) Stands old new e → ∥ RanAndFound again p moment bytes old new (Err e) ∥₁
+  found_after_some : (before failed : Bool) (e : RunFault) → RanSome p moment bytes (WorksOn before (shown_on failed mid)) (failed ≡ true) (shown_on failed mid) old new e → ∥ RanAndFound again p moment bytes old new (Err e) ∥₁
   found_after_some before failed e it = ∥∥₁_map (recovered.found clean) (λ found.
       let left = it.left found.0 found.1 in
       record {
-        session = stops-behind p moment it.readings (e.tally.accepted + e.tally.refused) _ _ _ _ (λ (q : Package) (works : WorksOn before failed (λ r. IsSettled current mid r) q). (found.2 q (works.1.0.left found.0 found.1)).0) (λ _. tt) it.session;
+        session = stops-behind p moment it.readings (e.tally.accepted + e.tally.refused) _ _ _ _ (λ (q : Package) (works : WorksOn before (shown_on failed mid) q). (found.2 q (works.1.0.left found.0 found.1)).0) (λ _. tt) it.session;
         readings = it.readings;
         read = it.read;
         text = it.text;
@@ -163,19 +164,19 @@ module _ (mid again : State) (recovered : IsRecovered mid again) (clean : HasCle
         left = λ _ may. (left.0, (found.2 left.0 left.1).0, left.2, left.3);
       })
 
-module _ (old mid : State) (source : Option (List ℕ)) (moment : ℕ) (text text_now : Option (List ℕ)) (before failed : Bool) where
+module _ (old mid : State) (source : Option (List ℕ)) (moment : ℕ) (writer writer_now : Written) (before failed : Bool) where
   abbrev pub RunTells : Result Tally RunFault → Type 0
   RunTells ran =
-      IfOk ran (λ t. OnRun (HasCleanDisk mid) (λ p. IsSettled current old p) source (λ p bytes. RanAll p moment bytes (λ q. IsSettled current mid q) (λ db. mid.may_leave db) Stands text text_now t))
-      × IfErr ran (λ e. OnRun (HasCleanDisk mid) (λ p. IsSettled current old p) source (λ p bytes. RanSome p moment bytes (WorksOn before failed (λ q. IsSettled current mid q)) (failed ≡ true) (λ db. mid.may_leave db) Stands text text_now e))
+      IfOk ran (λ t. OnRun (HasCleanDisk mid) (λ p. IsSettled current old p) source (λ p bytes. RanAll p moment bytes (shown_on failed mid) writer writer_now t))
+      × IfErr ran (λ e. OnRun (HasCleanDisk mid) (λ p. IsSettled current old p) source (λ p bytes. RanSome p moment bytes (WorksOn before (shown_on failed mid)) (failed ≡ true) (shown_on failed mid) writer writer_now e))
 
   left_by : (ran : Result Tally RunFault) → RunTells ran → OnRun (HasCleanDisk mid) (λ p. IsSettled current old p) source (λ p bytes. LeavesPackages mid)
   left_by (Ok t) told clean p sound bytes is = λ db may. let left = (told.0 clean p sound bytes is).left db may in (left.0, left.1, left.3)
   left_by (Err e) told clean p sound bytes is = λ db may. let left = (told.1 clean p sound bytes is).left db may in (left.0, left.1, left.3)
 
-  pub run_recovers : (again : State) (ran : Result Tally RunFault) → RunTells ran → IsRecovered mid again → IsRunRecovered old again source text text_now moment ran
-  run_recovers again (Ok t) told recovered clean p sound bytes is = found_after_all mid again recovered clean p moment bytes text text_now t (told.0 (recovered.clean clean) p sound bytes is)
-  run_recovers again (Err e) told recovered clean p sound bytes is = found_after_some mid again recovered clean p moment bytes text text_now before failed e (told.1 (recovered.clean clean) p sound bytes is)
+  pub run_recovers : (again : State) (ran : Result Tally RunFault) → RunTells ran → IsRecovered mid again → IsRunRecovered old again source writer writer_now moment ran
+  run_recovers again (Ok t) told recovered clean p sound bytes is = found_after_all mid again recovered clean p moment bytes writer writer_now failed t (told.0 (recovered.clean clean) p sound bytes is)
+  run_recovers again (Err e) told recovered clean p sound bytes is = found_after_some mid again recovered clean p moment bytes writer writer_now before failed e (told.1 (recovered.clean clean) p sound bytes is)
 
   pub run_declines : {D : Type 0} {g : Ghosts D} (conn : Option (Held (FileStore D g))) (why : Open) (ran : Result Tally RunFault) → RunTells ran → IsNotRecovered mid conn why → IsRunNotRecovered old source conn why
   run_declines {D} {g} None why ran told it = it

@@ -1,5 +1,5 @@
 -- What becomes of a session whose files crash.
-use Rattle.std.specs.Prelude.{ℕ, ⊤, ◌⊎◌, List, Option, Some, None, Result, Ok, Err, IsTrue}
+use Rattle.std.specs.Prelude.{ℕ, false, ⊤, ◌⊎◌, List, Option, Some, None, Result, Ok, Err, IsTrue}
 use Rattle.sqlite.specs.Tree.{Trees}
 use Rattle.sqlite.specs.Held.{Held}
 use Rattle.sqlite.specs.Files.{file_state}
@@ -18,6 +18,8 @@ use Rattle.mm_definitions.specs.declared.answers.RunFault.{RunFault}
 use Rattle.mm_store.specs.Faults.{IsStoreFault}
 use Rattle.mm_store.specs.Stands.{IsSettled}
 use Rattle.mm_opening.specs.Opening.{IsBlank}
+use Rattle.mm_definitions.specs.Streams.{Written}
+use Rattle.mm_run.specs.Shown.{Shown}
 use Rattle.mm_run.specs.Runs.{OnRun, RanAll, RanSome}
 use Rattle.mm_core.specs.Applied.{Stands}
 
@@ -75,15 +77,19 @@ module _ {D : Type 0} {g : Ghosts D} where
 
 -- ---- the run of a list, and then a crash
 
+-- what an adopted session shows, in place of each database that a crash might leave
+abbrev pub shown_again : State → Shown (Unit {0})
+shown_again again = record { failed = false; settled = λ p. IsSettled current again p; may_leave = λ _. ⊤; stands_for = λ _ p. IsSettled current again p }
+
 -- What the run of a list tells (`RanAll`, `RanSome`: the records that were read, the text that was written, the tally), with the
 -- session that is then adopted in place of each database that a crash might leave: it is settled for the package of a first
 -- part of the accepted commands, with every one in it whose line was written whole. Unless a command failed, that is the package
 -- after the answers that were given.
-abbrev pub RanAndFound : State → Package → ℕ → List ℕ → Option (List ℕ) → Option (List ℕ) → Result Tally RunFault → Type 0
-RanAndFound again p moment bytes old new (Ok tally) = RanAll {D = Unit {0}} p moment bytes (IsSettled current again) (λ _. ⊤) (λ _ q. IsSettled current again q) old new tally
-RanAndFound again p moment bytes old new (Err stopped) = RanSome {D = Unit {0}} p moment bytes (IsSettled current again) ⊤ (λ _. ⊤) (λ _ q. IsSettled current again q) old new stopped
+abbrev pub RanAndFound : State → Package → ℕ → List ℕ → Written → Written → Result Tally RunFault → Type 0
+RanAndFound again p moment bytes old new (Ok tally) = RanAll p moment bytes (shown_again again) old new tally
+RanAndFound again p moment bytes old new (Err stopped) = RanSome p moment bytes (IsSettled current again) ⊤ (shown_again again) old new stopped
 
--- After the run of a list on a session that was settled for a package that meets the rules, by what the writer held before and after.
-abbrev pub IsRunRecovered : State → State → Option (List ℕ) → Option (List ℕ) → Option (List ℕ) → ℕ → Result Tally RunFault → Type 0
-IsRunRecovered old again source text text_now moment ran =
-    OnRun (HasCleanDisk again) (λ p. IsSettled current old p) source (λ p bytes. ∥ RanAndFound again p moment bytes text text_now ran ∥₁)
+-- After the run of a list on a session that was settled for a package that meets the rules, by the writer before and after.
+abbrev pub IsRunRecovered : State → State → Option (List ℕ) → Written → Written → ℕ → Result Tally RunFault → Type 0
+IsRunRecovered old again source writer writer_now moment ran =
+    OnRun (HasCleanDisk again) (λ p. IsSettled current old p) source (λ p bytes. ∥ RanAndFound again p moment bytes writer writer_now ran ∥₁)

@@ -3,7 +3,7 @@
 ghost use Rattle.std.specs.Prelude.{◌≡◌, false, IfOk, IfErr, IsTrue};
 ghost use Rattle.sqlite.specs.Files.{file_state};
 ghost use Rattle.sqlite.specs.State.{HasCleanDisk};
-ghost use Rattle.mm_definitions.specs.Streams.{inside, is_flushed};
+ghost use Rattle.mm_definitions.specs.Streams.{inside, is_flushed, written};
 ghost use Rattle.mm_run.specs.Runs.{TellsFlush};
 ghost use Rattle.mm_core.specs.Parts.{held, must_reopen};
 ghost use Rattle.mm_recovery.specs.Recovered.{IsRecovered, IsNotRecovered, IsRunRecovered, IsRunNotRecovered};
@@ -64,8 +64,7 @@ pub fn run_and_recover<D: Crash + Drop, R: Read, W: Write>(
     ensures working { IfOk result.1 (λ again. must_reopen again ≡ false) }
     ensures is_open { IfOk result.1 (λ again. HasCleanDisk (file_state (held again)) → IsTrue (file_state (held again)).is_open) }
     ensures recovered { IfOk result.1 (λ again. IsRunRecovered (file_state (held session)) (file_state (held again))
-        (R.remaining (inside reader.old)) (W.contents (inside writer.old)) (W.contents (inside writer.new)) at result.0)
-        }
+        (R.remaining (inside reader.old)) (written W.contents writer.old) (written W.contents writer.new) at result.0) }
     ensures not_recovered { IfErr result.1 (λ e. IsRunNotRecovered (file_state (held session)) (R.remaining (inside reader.old)) e.0 e.1) }
 {
     let mut session = session;

@@ -14,6 +14,7 @@ use Rattle.mm_run.specs.Readings.{Reading, IsReadAs}
 use Rattle.mm_run.specs.Answers.{answer_of, answer_to, after, plain, is_fault}
 use Rattle.mm_run.specs.Applied.{IsApplied, IsSound, IsAnswer, OnFault}
 use Rattle.mm_run.specs.Runs.{IsAnswered, Turns}
+use Rattle.mm_run.specs.Shown.{Shown}
 use Rattle.mm_laws.proofs.RunFacts.{refused_same}
 use Rattle.mm_run.proofs.Keeps.{spelled_within, step_meets}
 
@@ -24,19 +25,19 @@ fault-fails before failed (answers.Refused why) ended fails = tt
 fault-fails true failed (answers.Fault f) ended fails = ended refl
 fault-fails false failed (answers.Fault f) ended fails = fails refl
 
-module _ {D : Type 0} (fields : Record) (p : Package) (moment : ℕ) (before failed : Bool) (settled : Package → Type 0) (may_leave : D → Type 0) (stands_for : D → Package → Type 0) where
+module _ {D : Type 0} (fields : Record) (p : Package) (moment : ℕ) (before : Bool) (shows : Shown D) where
   -- a command was applied
-  pub answered_command : (c : Command) (a : Answer) → IsReadAs fields (Ok c) → IsMoment moment → Meets current p → OnFault a (λ _. failed ≡ true)
-      → IsApplied p c moment a settled may_leave stands_for → IsAnswered fields p moment before failed a settled may_leave stands_for
+  pub answered_command : (c : Command) (a : Answer) → IsReadAs fields (Ok c) → IsMoment moment → Meets current p → OnFault a (λ _. shows.failed ≡ true)
+      → IsApplied p c moment a shows → IsAnswered fields p moment before a shows
   answered_command c answers.Ok read low meets fails h =
       (Ok c, read, ap answer_of (sym h.0), (h.1, step_meets p c moment low meets (spelled_within fields c read.1)))
   answered_command c (answers.Refused why) read low meets fails h =
-      (Ok c, read, ap answer_of (sym h.0), subst (IsSound settled) (sym (refused_same p c moment why h.0)) (h.1, meets))
+      (Ok c, read, ap answer_of (sym h.0), subst (IsSound shows.settled) (sym (refused_same p c moment why h.0)) (h.1, meets))
   answered_command c (answers.Fault fault) read low meets fails h = inr (fails, c, read, step_meets p c moment low meets (spelled_within fields c read.1), h)
 
   -- a record that spells no command
-  pub answered_refusal : (why : Refusal) → why.piece ≡ None → IsReadAs fields (Err why.number) → IsSound settled p
-      → IsAnswered fields p moment before failed (answers.Refused why) settled may_leave stands_for
+  pub answered_refusal : (why : Refusal) → why.piece ≡ None → IsReadAs fields (Err why.number) → IsSound shows.settled p
+      → IsAnswered fields p moment before (answers.Refused why) shows
   answered_refusal why none read sound = (Err why.number, read, ap answers.Refused (whole why none), sound)
     where
       whole : (why : Refusal) → why.piece ≡ None → why ≡ plain why.number
@@ -44,15 +45,15 @@ module _ {D : Type 0} (fields : Record) (p : Package) (moment : ℕ) (before fai
 
   -- a record was read and answered
   pub turned : {T : Type 0} (remaining : T → Option (List ℕ)) (a b : Reader T) (x : Answer) → ReadRecord remaining a b true fields
-      → IsAnswered fields p moment before failed x settled may_leave stands_for → Turns remaining a b p moment before failed (Some x) settled may_leave stands_for
+      → IsAnswered fields p moment before x shows → Turns remaining a b p moment before (Some x) shows
   turned remaining a b answers.Ok read h = (fields, read, h)
   turned remaining a b (answers.Refused why) read h = (fields, read, h)
   turned remaining a b (answers.Fault fault) read h = inr (fields, read, h)
 
 -- what an answer that is no fault says
-pub goes_on : {D T : Type 0} (remaining : T → Option (List ℕ)) (a b : Reader T) (p : Package) (moment : ℕ) (before failed : Bool) (settled : Package → Type 0) (may_leave : D → Type 0) (stands_for : D → Package → Type 0)
-    (x : Answer) → IsAnswer x → Turns remaining a b p moment before failed (Some x) settled may_leave stands_for
-    → (fields : Record) × ReadRecord remaining a b true fields × (reading : Reading) × IsReadAs fields reading × (x ≡ answer_to p reading) × IsSound settled (after p moment reading)
-goes_on remaining a b p moment before failed settled may_leave stands_for answers.Ok good h = (h.0, h.1, h.2.0, h.2.1, h.2.2, h.2.3)
-goes_on remaining a b p moment before failed settled may_leave stands_for (answers.Refused why) good h = (h.0, h.1, h.2.0, h.2.1, h.2.2, h.2.3)
-goes_on remaining a b p moment before failed settled may_leave stands_for (answers.Fault fault) good h = absurd good
+pub goes_on : {D T : Type 0} (remaining : T → Option (List ℕ)) (a b : Reader T) (p : Package) (moment : ℕ) (before : Bool) (shows : Shown D) (x : Answer) → IsAnswer x
+    → Turns remaining a b p moment before (Some x) shows
+    → (fields : Record) × ReadRecord remaining a b true fields × (reading : Reading) × IsReadAs fields reading × (x ≡ answer_to p reading) × IsSound shows.settled (after p moment reading)
+goes_on remaining a b p moment before shows answers.Ok good h = (h.0, h.1, h.2.0, h.2.1, h.2.2, h.2.3)
+goes_on remaining a b p moment before shows (answers.Refused why) good h = (h.0, h.1, h.2.0, h.2.1, h.2.2, h.2.3)
+goes_on remaining a b p moment before shows (answers.Fault fault) good h = absurd good

@@ -21,7 +21,7 @@ use Rattle.mm_run.specs.Told.{AreTold, AreCounted, Goes, IsStoppedText, Stops}
 use Rattle.mm_run.specs.Runs.{IsStopped}
 use Rattle.mm_run.specs.Ended.{AreAllRefused, AreRefused, AreRefusedSoFar, IsEndedAt, IsEndedRun, IsEndedTurn, IsReadNext, RanEnded, SpellsNext, refusals}
 use Rattle.mm_run.proofs.Loops.{stopped-fault, stopped-with, told-more}
-use Rattle.mm_definitions.specs.Streams.{written_as}
+use Rattle.mm_definitions.specs.Streams.{Written, written_as}
 
 -- ---- refusals
 refused-more : (rows : List Record) (numbers : List ℕ) (fields : Record) (number : ℕ) → AreRefused rows numbers → IsReadAs fields (Err number)
@@ -211,7 +211,7 @@ spells bytes rows numbers read (fields, command, s2, rest, reached, is) =
       subst (λ n. IsReadAs (get_or (records_of bytes) n []) (Ok command)) size (subst (λ l. IsReadAs l (Ok command)) (sym next.1) is),
     )
 
-pub ran-ended : (bytes : List ℕ) (old new : Option (List ℕ)) (r : Result Tally RunFault) → IsEndedRun (strip_bom bytes) states.StartRecord old new r → RanEnded bytes old new r
+pub ran-ended : (bytes : List ℕ) (old new : Written) (r : Result Tally RunFault) → IsEndedRun (strip_bom bytes) states.StartRecord old new r → RanEnded bytes old new r
 ran-ended bytes old new (Ok t) h = record {
   numbers = h.numbers;
   read = subst (λ l. AreRefused l h.numbers) (records-all (strip_bom bytes) h.rows h.are) h.read;

@@ -18,6 +18,7 @@ use Rattle.mm_definitions.specs.declared.commands.Command.{Command}
 use Rattle.mm_io.specs.Records.{Record}
 use Rattle.mm_run.specs.Readings.{Reading, IsReadAs, AreReadAs}
 use Rattle.mm_run.specs.Answers.{answer_of, answers_to, calls_of, is_fault, accepted_of}
+use Rattle.mm_run.specs.Shown.{Shown}
 use Rattle.mm_run.specs.Applied.{IsSound, LeavesOnly, LeavesEither, IsAnswer}
 use Rattle.mm_run.specs.Runs.{AreFirstParts, IsAll, IsSoFar, IsSome, Turns, WorksOn}
 use Rattle.mm_run.proofs.Answered.{goes_on}
@@ -56,11 +57,11 @@ whole_of : (p : Package) (moment : ℕ) (given : List Answer) (readings : List R
     → given ≡ answers_to p moment (take (length given) readings)
 whole_of p moment given readings were = front_of p moment given readings [] were ∙ ap (λ l. answers_to p moment (take (length given) l)) (append-nil readings)
 
-module _ {D : Type 0} (p : Package) (moment : ℕ) (may_leave : D → Type 0) (stands_for : D → Package → Type 0) where
+module _ {D : Type 0} (p : Package) (moment : ℕ) (shows : Shown D) where
   -- where all that may be left stands for the package after the records
-  pub parts-left : (readings : List Reading) (acknowledged : ℕ) → LeavesOnly may_leave stands_for (run p (calls_of moment readings)) → Meets current (run p (calls_of moment readings))
+  pub parts-left : (readings : List Reading) (acknowledged : ℕ) → LeavesOnly shows (run p (calls_of moment readings)) → Meets current (run p (calls_of moment readings))
       → acknowledged ≤ accepted_of (answers_to p moment readings) → accepted_of (answers_to p moment readings) ≤ acknowledged + 1
-      → AreFirstParts may_leave stands_for p (calls_of moment readings) acknowledged
+      → AreFirstParts shows p (calls_of moment readings) acknowledged
   parts-left readings acknowledged leaves meets least most db may = (
     run p (calls_of moment readings),
     leaves db may,
@@ -68,12 +69,12 @@ module _ {D : Type 0} (p : Package) (moment : ℕ) (may_leave : D → Type 0) (s
     meets,
   )
 
-  module _ (xs : List ℕ) (s : State) (before failed : Bool) (settled : Package → Type 0) (given : List Answer) where
+  module _ (xs : List ℕ) (s : State) (before : Bool) (given : List Answer) where
     -- all the records were answered, or all that were read
     some-of : (rows : List Record) (state : State) (rest : List ℕ) (readings : List Reading) (w : ℕ) → Reached default_config s xs rows state rest → AreReadAs rows readings
-        → given ≡ answers_to p moment readings → LeavesOnly may_leave stands_for (run p (calls_of moment readings)) → WorksOn before failed settled (run p (calls_of moment readings))
+        → given ≡ answers_to p moment readings → LeavesOnly shows (run p (calls_of moment readings)) → WorksOn before shows (run p (calls_of moment readings))
         → accepted_of (take w given) ≤ accepted_of given → accepted_of given ≤ accepted_of (take w given) + 1
-        → IsSome p moment xs s before failed settled may_leave stands_for given w
+        → IsSome p moment xs s before shows given w
     some-of rows state rest readings w reached read were leaves works least most =
         let count : accepted_of given ≡ accepted_of (answers_to p moment readings) = ap accepted_of were in
         record {
@@ -91,39 +92,38 @@ module _ {D : Type 0} (p : Package) (moment : ℕ) (may_leave : D → Type 0) (s
     whole_front : (w : ℕ) → length given ≤ w → accepted_of (take w given) ≡ accepted_of given
     whole_front w h = ap accepted_of (take_all w given h)
 
-    module _ (law : (q : Package) → settled q → LeavesOnly may_leave stands_for q) (same : failed ≡ before) where
+    module _ (law : (q : Package) → shows.settled q → LeavesOnly shows q) (same : shows.failed ≡ before) where
       -- of a run that is at rest
-      pub some-so_far : (source : Option (List ℕ)) (s2 : State) → IsSoFar p moment xs s source s2 settled given → (w : ℕ) → length given ≤ w
-          → IsSome p moment xs s before failed settled may_leave stands_for given w
+      pub some-so_far : (source : Option (List ℕ)) (s2 : State) → IsSoFar p moment xs s source s2 shows.settled given → (w : ℕ) → length given ≤ w
+          → IsSome p moment xs s before shows given w
       some-so_far source s2 h w enough =
           let front = whole_front w enough in
           some-of h.rows s2 h.rest h.readings w h.reached h.read h.were (law (run p (calls_of moment h.readings)) h.stands.0) (same, h.stands) (omega (arith, front)) (omega (arith, front))
 
-      pub some-all : IsAll p moment xs s settled given → (w : ℕ) → length given ≤ w → IsSome p moment xs s before failed settled may_leave stands_for given w
+      pub some-all : IsAll p moment xs s shows.settled given → (w : ℕ) → length given ≤ w → IsSome p moment xs s before shows given w
       some-all h w enough =
           let front = whole_front w enough in
           some-of h.rows h.are.0 h.are.1 h.readings w h.are.2 h.read h.were (law (run p (calls_of moment h.readings)) h.stands.0) (same, h.stands) (omega (arith, front)) (omega (arith, front))
 
 -- the line of the last answer may be missing
-pub some-last : {D : Type 0} (p : Package) (moment : ℕ) (may_leave : D → Type 0) (stands_for : D → Package → Type 0) (xs : List ℕ) (s : State) (before failed : Bool) (settled : Package → Type 0)
-    (given : List Answer) (a : Answer) → ((q : Package) → settled q → LeavesOnly may_leave stands_for q) → failed ≡ before → (source : Option (List ℕ)) (s2 : State)
-    → IsSoFar p moment xs s source s2 settled (given ++ a ∷ []) → (w : ℕ) → length given ≤ w → IsSome p moment xs s before failed settled may_leave stands_for (given ++ a ∷ []) w
-some-last p moment may_leave stands_for xs s before failed settled given a law same source s2 h w enough =
-    some-of p moment may_leave stands_for xs s before failed settled (given ++ a ∷ []) h.rows s2 h.rest h.readings w h.reached h.read h.were
+pub some-last : {D : Type 0} (p : Package) (moment : ℕ) (shows : Shown D) (xs : List ℕ) (s : State) (before : Bool) (given : List Answer) (a : Answer) → ((q : Package) → shows.settled q → LeavesOnly shows q) → shows.failed ≡ before → (source : Option (List ℕ)) (s2 : State)
+    → IsSoFar p moment xs s source s2 shows.settled (given ++ a ∷ []) → (w : ℕ) → length given ≤ w → IsSome p moment xs s before shows (given ++ a ∷ []) w
+some-last p moment shows xs s before given a law same source s2 h w enough =
+    some-of p moment shows xs s before (given ++ a ∷ []) h.rows s2 h.rest h.readings w h.reached h.read h.were
     (law (run p (calls_of moment h.readings)) h.stands.0) (same, h.stands) (accepted-front (given ++ a ∷ []) w) (accepted-last given a w enough)
 
 -- ---- one more record
-module _ {D T : Type 0} (remaining : T → Option (List ℕ)) (a b : Reader T) (p : Package) (moment : ℕ) (xs : List ℕ) (s : State) (settled settled2 : Package → Type 0)
-    (may_leave : D → Type 0) (stands_for : D → Package → Type 0) (first before failed : Bool) (given : List Answer) (config : a.config ≡ default_config)
+module _ {D T : Type 0} (remaining : T → Option (List ℕ)) (a b : Reader T) (p : Package) (moment : ℕ) (xs : List ℕ) (s : State) (settled : Package → Type 0) (shows : Shown D)
+    (first before : Bool) (given : List Answer) (config : a.config ≡ default_config)
     (h : IsSoFar p moment xs s (source_of remaining a) a.state settled given) where
   abbrev here : Package
   here = run p (calls_of moment h.readings)
 
   -- it was answered
-  pub so_far-more : (x : Answer) → ((q : Package) → IsSound settled q → Turns remaining a b q moment before failed (Some x) settled2 may_leave stands_for) → IsAnswer x
-      → IsSoFar p moment xs s (source_of remaining b) b.state settled2 (given ++ x ∷ [])
+  pub so_far-more : (x : Answer) → ((q : Package) → IsSound settled q → Turns remaining a b q moment before (Some x) shows) → IsAnswer x
+      → IsSoFar p moment xs s (source_of remaining b) b.state shows.settled (given ++ x ∷ [])
   so_far-more x turn good =
-      let (fields, read, reading, is, same, sound) = goes_on remaining a b here moment before failed settled2 may_leave stands_for x good (turn here h.stands) in
+      let (fields, read, reading, is, same, sound) = goes_on remaining a b here moment before shows x good (turn here h.stands) in
       let (zs, at, reached) = rows-more remaining a b fields default_config s xs h.rest h.rows config h.here h.reached read in
       record {
         rows = h.rows ++ fields ∷ [];
@@ -133,11 +133,11 @@ module _ {D T : Type 0} (remaining : T → Option (List ℕ)) (a b : Reader T) (
         readings = h.readings ++ reading ∷ [];
         read = read_more h.rows h.readings fields reading h.read is;
         were = ap (λ l. l ++ x ∷ []) h.were ∙ (ap (λ y. answers_to p moment h.readings ++ y ∷ []) same ∙ sym (answers-more p moment h.readings reading));
-        stands = subst (IsSound settled2) (sym (run-more p moment h.readings reading)) sound;
+        stands = subst (IsSound shows.settled) (sym (run-more p moment h.readings reading)) sound;
       }
 
   -- there was none
-  pub all-answered : ((q : Package) → IsSound settled q → Turns remaining a b q moment before failed None settled2 may_leave stands_for) → IsAll p moment xs s settled2 given
+  pub all-answered : ((q : Package) → IsSound settled q → Turns remaining a b q moment before None shows) → IsAll p moment xs s shows.settled given
   all-answered turn =
       let (fields, read, sound) = turn here h.stands in
       record {
@@ -149,18 +149,18 @@ module _ {D T : Type 0} (remaining : T → Option (List ℕ)) (a b : Reader T) (
         stands = sound;
       }
 
-  module _ (law : (q : Package) → settled2 q → LeavesOnly may_leave stands_for q) (so_far : before ≡ first) where
+  module _ (law : (q : Package) → shows.settled q → LeavesOnly shows q) (so_far : before ≡ first) where
     -- nothing of it was done
-    some-before : (w : ℕ) → length given ≤ w → WorksOn before failed settled2 here → IsSome p moment xs s first failed settled2 may_leave stands_for given w
+    some-before : (w : ℕ) → length given ≤ w → WorksOn before shows here → IsSome p moment xs s first shows given w
     some-before w enough works =
-        let front = whole_front p moment may_leave stands_for xs s first failed settled2 given w enough in
-        some-of p moment may_leave stands_for xs s first failed settled2 given h.rows a.state h.rest h.readings w h.reached h.read h.were (law here works.1.0) (works.0 ∙ so_far, works.1) (omega (arith, front)) (omega (arith, front))
+        let front = whole_front p moment shows xs s first given w enough in
+        some-of p moment shows xs s first given h.rows a.state h.rest h.readings w h.reached h.read h.were (law here works.1.0) (works.0 ∙ so_far, works.1) (omega (arith, front)) (omega (arith, front))
 
     -- it may have been done
-    some-doubt : (w : ℕ) → length given ≤ w → (fields : Record) → ReadRecord remaining a b true fields → failed ≡ true → (command : Command) → IsReadAs fields (Ok command)
-        → Meets current (step here command moment) → LeavesEither may_leave stands_for here command moment → IsSome p moment xs s first failed settled2 may_leave stands_for given w
+    some-doubt : (w : ℕ) → length given ≤ w → (fields : Record) → ReadRecord remaining a b true fields → shows.failed ≡ true → (command : Command) → IsReadAs fields (Ok command)
+        → Meets current (step here command moment) → LeavesEither shows here command moment → IsSome p moment xs s first shows given w
     some-doubt w enough fields read down command is meets either =
-        let front = whole_front p moment may_leave stands_for xs s first failed settled2 given w enough in
+        let front = whole_front p moment shows xs s first given w enough in
         let count : accepted_of given ≡ accepted_of (answers_to p moment h.readings) = ap accepted_of h.were in
         let (zs, at, reached) = rows-more remaining a b fields default_config s xs h.rest h.rows config h.here h.reached read in
         let after_it : run p (calls_of moment (h.readings ++ Ok command ∷ [])) ≡ step here command moment = run-more p moment h.readings (Ok command) in
@@ -179,9 +179,9 @@ module _ {D T : Type 0} (remaining : T → Option (List ℕ)) (a b : Reader T) (
           ];
         }
       where
-        done : (db : D) → refusal here command ≡ None → stands_for db (step here command moment) → accepted_of (take w given) ≡ accepted_of given
+        done : (db : D) → refusal here command ≡ None → shows.stands_for db (step here command moment) → accepted_of (take w given) ≡ accepted_of given
             → accepted_of given ≡ accepted_of (answers_to p moment h.readings) → run p (calls_of moment (h.readings ++ Ok command ∷ [])) ≡ step here command moment
-            → (q : Package) × stands_for db q × IsFirstPart p (calls_of moment (h.readings ++ Ok command ∷ [])) (accepted_of (take w given)) q × Meets current q
+            → (q : Package) × shows.stands_for db q × IsFirstPart p (calls_of moment (h.readings ++ Ok command ∷ [])) (accepted_of (take w given)) q × Meets current q
         done db none stands front count after_it =
             let more : answers_to p moment (h.readings ++ Ok command ∷ []) ≡ answers_to p moment h.readings ++ answers.Ok ∷ [] =
             answers-more p moment h.readings (Ok command) ∙ ap (λ r. answers_to p moment h.readings ++ answer_of r ∷ []) none in
@@ -196,8 +196,8 @@ module _ {D T : Type 0} (remaining : T → Option (List ℕ)) (a b : Reader T) (
             )
 
     -- it was answered with a fault
-    some-fault : (fault : Fault) → ((q : Package) → IsSound settled q → Turns remaining a b q moment before failed (Some (answers.Fault fault)) settled2 may_leave stands_for)
-        → (w : ℕ) → length given ≤ w → IsSome p moment xs s first failed settled2 may_leave stands_for given w
+    some-fault : (fault : Fault) → ((q : Package) → IsSound settled q → Turns remaining a b q moment before (Some (answers.Fault fault)) shows)
+        → (w : ℕ) → length given ≤ w → IsSome p moment xs s first shows given w
     some-fault fault turn w enough = elim (turn here h.stands) [
       | inl works ↦ some-before w enough works
       | inr tried ↦ elim tried.2 [
@@ -206,8 +206,8 @@ module _ {D T : Type 0} (remaining : T → Option (List ℕ)) (a b : Reader T) (
       ]
     ]
 
-    pub some-faulted : (x : Answer) → is_fault x ≡ true → ((q : Package) → IsSound settled q → Turns remaining a b q moment before failed (Some x) settled2 may_leave stands_for)
-        → (w : ℕ) → length given ≤ w → IsSome p moment xs s first failed settled2 may_leave stands_for given w
+    pub some-faulted : (x : Answer) → is_fault x ≡ true → ((q : Package) → IsSound settled q → Turns remaining a b q moment before (Some x) shows)
+        → (w : ℕ) → length given ≤ w → IsSome p moment xs s first shows given w
     some-faulted answers.Ok faulted turn w enough = absurd (let e : false ≡ true = faulted in cc)
     some-faulted (answers.Refused why) faulted turn w enough = absurd (let e : false ≡ true = faulted in cc)
     some-faulted (answers.Fault fault) faulted turn w enough = some-fault fault turn w enough

@@ -12,16 +12,16 @@ use Rattle.mm_io.proofs.RecordsFacts.{records-all, records-first}
 use Rattle.mm_run.specs.Readings.{Reading, AreReadAs}
 use Rattle.mm_run.specs.Answers.{answers_to, calls_of, accepted_of, refused_of}
 use Rattle.mm_run.specs.Applied.{LeavesOnly}
+use Rattle.mm_run.specs.Shown.{Shown}
 use Rattle.mm_run.specs.Told.{AreTold}
 use Rattle.mm_run.specs.Runs.{AreFirstParts, IsAll, IsSome, IsStopped, RanAll, RanSome, StopsBehind, WorksOn, given_of}
 use Rattle.mm_run.proofs.Left.{parts-left}
 use Rattle.mm_run.proofs.Lists.{as_many, counted-answers, length-answers}
-use Rattle.mm_definitions.specs.Streams.{written_as}
+use Rattle.mm_definitions.specs.Streams.{Written}
 
-pub ran-all : {D : Type 0} (p : Package) (moment : ℕ) (bytes : List ℕ) (settled : Package → Type 0) (may_leave : D → Type 0) (stands_for : D → Package → Type 0) (old new : Option (List ℕ)) (t : Tally)
-    (given : List Answer) → ((q : Package) → settled q → LeavesOnly may_leave stands_for q) → AreTold given t old new → IsAll p moment (strip_bom bytes) states.StartRecord settled given
-    → RanAll p moment bytes settled may_leave stands_for old new t
-ran-all p moment bytes settled may_leave stands_for old new t given law told all =
+pub ran-all : {D : Type 0} (p : Package) (moment : ℕ) (bytes : List ℕ) (shows : Shown D) (old new : Written) (t : Tally) (given : List Answer) → ((q : Package) → shows.settled q → LeavesOnly shows q)
+    → AreTold given t old.contents new.contents → IsAll p moment (strip_bom bytes) states.StartRecord shows.settled given → RanAll p moment bytes shows old new t
+ran-all p moment bytes shows old new t given law told all =
     let same : all.rows ≡ records_of bytes = records-all (strip_bom bytes) all.rows all.are in
     let readings = all.readings in
     let size : length (records_of bytes) ≡ length readings = ap length (sym same) ∙ as_many all.rows readings all.read in
@@ -35,8 +35,22 @@ ran-all p moment bytes settled may_leave stands_for old new t given law told all
       all = omega (arith, a, b, size, counted-answers p moment readings);
       written = told.1 ∙ (ap length all.were ∙ (length-answers p moment readings ∙ sym size));
       stands = all.stands;
-      left = parts-left p moment may_leave stands_for readings t.accepted (law (run p (calls_of moment readings)) all.stands.0) all.stands.1 (omega (arith, a)) (omega (arith, a));
+      left = parts-left p moment shows readings t.accepted (law (run p (calls_of moment readings)) all.stands.0) all.stands.1 (omega (arith, a)) (omega (arith, a));
     }
+
+-- the same, whether the session has to be opened again or not
+pub ran-all-flagged : {D : Type 0} (p : Package) (moment : ℕ) (bytes : List ℕ) (shows : Shown D) (failed : Bool) (old new : Written) (t : Tally) → RanAll p moment bytes shows old new t
+    → RanAll p moment bytes (record shows { failed = failed }) old new t
+ran-all-flagged p moment bytes shows failed old new t it = record {
+  readings = it.readings;
+  read = it.read;
+  text = it.text;
+  counted = it.counted;
+  all = it.all;
+  written = it.written;
+  stands = it.stands;
+  left = it.left;
+}
 
 -- where a run stopped, told of less
 pub stops-behind : (p : Package) (moment : ℕ) (readings : List Reading) (answered : ℕ) (works works2 : Package → Type 0) (failed failed2 : Type 0)
@@ -44,10 +58,9 @@ pub stops-behind : (p : Package) (moment : ℕ) (readings : List Reading) (answe
 stops-behind p moment readings answered works works2 failed failed2 on down (inl it) = inl (it.0, on (run p (calls_of moment readings)) it.1)
 stops-behind p moment readings answered works works2 failed failed2 on down (inr it) = inr (down it.0, it.1, it.2, it.3, it.4)
 
-pub ran-some-less : {D : Type 0} (p : Package) (moment : ℕ) (bytes : List ℕ) (works works2 : Package → Type 0) (failed failed2 : Type 0) (may_leave : D → Type 0) (stands_for : D → Package → Type 0)
-    (old new : Option (List ℕ)) (e : RunFault) → ((q : Package) → works q → works2 q) → (failed → failed2)
-    → RanSome p moment bytes works failed may_leave stands_for old new e → RanSome p moment bytes works2 failed2 may_leave stands_for old new e
-ran-some-less p moment bytes works works2 failed failed2 may_leave stands_for old new e on down it = record {
+pub ran-some-less : {D : Type 0} (p : Package) (moment : ℕ) (bytes : List ℕ) (works works2 : Package → Type 0) (failed failed2 : Type 0) (shows : Shown D) (flag : Bool) (old new : Written) (e : RunFault) → ((q : Package) → works q → works2 q) → (failed → failed2)
+    → RanSome p moment bytes works failed shows old new e → RanSome p moment bytes works2 failed2 (record shows { failed = flag }) old new e
+ran-some-less p moment bytes works works2 failed failed2 shows flag old new e on down it = record {
   readings = it.readings;
   read = it.read;
   text = it.text;
@@ -56,10 +69,9 @@ ran-some-less p moment bytes works works2 failed failed2 may_leave stands_for ol
   left = it.left;
 }
 
-pub ran-some : {D : Type 0} (p : Package) (moment : ℕ) (bytes : List ℕ) (before failed : Bool) (settled : Package → Type 0) (may_leave : D → Type 0) (stands_for : D → Package → Type 0) (old new : Option (List ℕ))
-    (was down : Bool) (e : RunFault) (given : List Answer) → IsStopped given e (written_as old was) (written_as new down) → IsSome p moment (strip_bom bytes) states.StartRecord before failed settled may_leave stands_for given e.tally.written
-    → RanSome p moment bytes (WorksOn before failed settled) (failed ≡ true) may_leave stands_for old new e
-ran-some p moment bytes before failed settled may_leave stands_for old new was down e given stopped some =
+pub ran-some : {D : Type 0} (p : Package) (moment : ℕ) (bytes : List ℕ) (before : Bool) (shows : Shown D) (old new : Written) (e : RunFault) (given : List Answer) → IsStopped given e old new
+    → IsSome p moment (strip_bom bytes) states.StartRecord before shows given e.tally.written → RanSome p moment bytes (WorksOn before shows) (shows.failed ≡ true) shows old new e
+ran-some p moment bytes before shows old new e given stopped some =
     let readings = some.readings in
     let first : some.rows ≡ take (length some.rows) (records_of bytes) = records-first some.state (strip_bom bytes) some.rest some.rows some.reached in
     let size : length some.rows ≡ length readings = as_many some.rows readings some.read in
@@ -74,6 +86,6 @@ ran-some p moment bytes before failed settled may_leave stands_for old new was d
       read = subst (λ l. AreReadAs l readings) rows some.read;
       text = rw same stopped.1;
       counted = rw same stopped.0;
-      session = subst (λ n. StopsBehind (WorksOn before failed settled) (failed ≡ true) p moment readings n) (sym count) some.session;
-      left = subst (λ n. AreFirstParts may_leave stands_for p (calls_of moment readings) n) (ap (λ l. accepted_of (take e.tally.written l)) (sym same)) some.left;
+      session = subst (λ n. StopsBehind (WorksOn before shows) (shows.failed ≡ true) p moment readings n) (sym count) some.session;
+      left = subst (λ n. AreFirstParts shows p (calls_of moment readings) n) (ap (λ l. accepted_of (take e.tally.written l)) (sym same)) some.left;
     }

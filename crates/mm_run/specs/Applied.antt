@@ -7,25 +7,26 @@ use Rattle.mm_definitions.specs.Step.{refusal, step}
 use Rattle.mm_definitions.specs.declared.answers.Answer.{Answer}
 use Rattle.mm_definitions.specs.declared.answers.Answer.TheVariants as answers
 use Rattle.mm_definitions.specs.declared.commands.Command.{Command}
+use Rattle.mm_run.specs.Shown.{Shown}
 
 -- settled for a package that meets the rules
 abbrev pub IsSound : (Package → Type 0) → Package → Type 0
 IsSound settled p = settled p × Meets current p
 
 -- each database that may be left stands for this package
-abbrev pub LeavesOnly : {D : Type 0} → (D → Type 0) → (D → Package → Type 0) → Package → Type 0
-LeavesOnly {D} may_leave stands_for p = (db : D) → may_leave db → stands_for db p
+abbrev pub LeavesOnly : {D : Type 0} → Shown D → Package → Type 0
+LeavesOnly {D} shows p = (db : D) → shows.may_leave db → shows.stands_for db p
 
 -- each stands for the package as it was or, where nothing refuses the command, for the one that the step gives
-abbrev pub LeavesEither : {D : Type 0} → (D → Type 0) → (D → Package → Type 0) → Package → Command → ℕ → Type 0
-LeavesEither {D} may_leave stands_for p command moment =
-    (db : D) → may_leave db → stands_for db p ⊎ ((refusal p command ≡ None) × stands_for db (step p command moment))
+abbrev pub LeavesEither : {D : Type 0} → Shown D → Package → Command → ℕ → Type 0
+LeavesEither {D} shows p command moment =
+    (db : D) → shows.may_leave db → shows.stands_for db p ⊎ ((refusal p command ≡ None) × shows.stands_for db (step p command moment))
 
 -- what is answered, and what then is settled or may be left
-abbrev pub IsApplied : {D : Type 0} → Package → Command → ℕ → Answer → (Package → Type 0) → (D → Type 0) → (D → Package → Type 0) → Type 0
-IsApplied p command moment answers.Ok settled may_leave stands_for = (refusal p command ≡ None) × settled (step p command moment)
-IsApplied p command moment (answers.Refused why) settled may_leave stands_for = (refusal p command ≡ Some why) × settled p
-IsApplied p command moment (answers.Fault fault) settled may_leave stands_for = LeavesEither may_leave stands_for p command moment
+abbrev pub IsApplied : {D : Type 0} → Package → Command → ℕ → Answer → Shown D → Type 0
+IsApplied p command moment answers.Ok shows = (refusal p command ≡ None) × shows.settled (step p command moment)
+IsApplied p command moment (answers.Refused why) shows = (refusal p command ≡ Some why) × shows.settled p
+IsApplied p command moment (answers.Fault fault) shows = LeavesEither shows p command moment
 
 -- a fault of a command: 90 want of memory, 91 the store, 92 open again
 abbrev pub IsApplyFault : ℕ → Type 0

@@ -15,6 +15,7 @@ use Rattle.mm_io.specs.Records.{Record, records_of}
 use Rattle.mm_run.specs.Readings.{IsReadAs}
 use Rattle.mm_run.specs.Answers.{plain}
 use Rattle.mm_run.specs.Told.{AreCounted, AreTold, IsStoppedText}
+use Rattle.mm_definitions.specs.Streams.{Written}
 
 -- the refusals with these numbers, as answers
 unfoldable pub refusals : List ℕ → List Answer
@@ -32,26 +33,26 @@ abbrev pub SpellsNext : List ℕ → ℕ → Type 0
 SpellsNext bytes count = (count < length (records_of bytes)) × (command : Command) × IsReadAs (get_or (records_of bytes) count []) (Ok command)
 
 -- No record of the bytes spells a command; the line of each tells its refusal, and so many are counted.
-pub record EndedAll (bytes : List ℕ) (old new : Option (List ℕ)) (t : Tally) : Type 0 where
+pub record EndedAll (bytes : List ℕ) (old new : Written) (t : Tally) : Type 0 where
   pub numbers : List ℕ
   pub read : AreRefused (records_of bytes) numbers
-  pub text : Appends old new (concat (lines (refusals numbers)))
+  pub text : Appends old.contents new.contents (concat (lines (refusals numbers)))
   pub accepted : t.accepted ≡ 0
   pub refused : t.refused ≡ length numbers
   pub written : t.written ≡ length numbers
 
 -- The first records spell no command, and are answered with their refusals. The fault is 92 only where the next one spells a
 -- command.
-pub record EndedSome (bytes : List ℕ) (old new : Option (List ℕ)) (e : RunFault) : Type 0 where
+pub record EndedSome (bytes : List ℕ) (old new : Written) (e : RunFault) : Type 0 where
   pub numbers : List ℕ
   pub read : AreRefused (take (length numbers) (records_of bytes)) numbers
-  pub text : IsStoppedText (refusals numbers) e old new
+  pub text : IsStoppedText (refusals numbers) e old.contents new.contents
   pub accepted : e.tally.accepted ≡ 0
   pub refused : e.tally.refused ≡ length numbers
   pub next : e.fault.0 ≡ 92 → SpellsNext bytes (length numbers)
 
--- by what the writer held and then holds
-abbrev pub RanEnded : List ℕ → Option (List ℕ) → Option (List ℕ) → Result Tally RunFault → Type 0
+-- by the writer before and after
+abbrev pub RanEnded : List ℕ → Written → Written → Result Tally RunFault → Type 0
 RanEnded bytes old new (Ok t) = EndedAll bytes old new t
 RanEnded bytes old new (Err e) = EndedSome bytes old new e
 
@@ -109,6 +110,6 @@ pub record IsEndedAt (xs : List ℕ) (s : State) (e : RunFault) (old new : Optio
   pub next : e.fault.0 ≡ 92 → IsReadNext xs s rows
 
 -- the records of these bytes, from a state of the reader
-abbrev pub IsEndedRun : List ℕ → State → Option (List ℕ) → Option (List ℕ) → Result Tally RunFault → Type 0
-IsEndedRun xs s old new (Ok t) = AreAllRefused xs s t old new
-IsEndedRun xs s old new (Err e) = IsEndedAt xs s e old new
+abbrev pub IsEndedRun : List ℕ → State → Written → Written → Result Tally RunFault → Type 0
+IsEndedRun xs s old new (Ok t) = AreAllRefused xs s t old.contents new.contents
+IsEndedRun xs s old new (Err e) = IsEndedAt xs s e old.contents new.contents

@@ -19,6 +19,7 @@ use Rattle.mm_io.specs.Lines.{lines}
 use Rattle.mm_io.specs.Records.{Record, records_of}
 use Rattle.mm_run.specs.Readings.{Reading, IsReadAs, AreReadAs}
 use Rattle.mm_run.specs.Answers.{answer_to, after, answers_to, calls_of, accepted_of}
+use Rattle.mm_run.specs.Shown.{Shown}
 use Rattle.mm_run.specs.Applied.{IsSound, LeavesEither, IsApplyFault}
 use Rattle.mm_run.specs.Told.{AreCounted, IsStoppedText}
 use Rattle.mm_definitions.specs.Streams.{Written}
@@ -29,9 +30,9 @@ IsRunFault fault failed = IsApplyFault fault ⊎ ((fault ≡ 96) × (failed ≡ 
 
 -- Each database that may be left stands for a first part of these calls, of which so many were acknowledged; and that
 -- package meets the rules.
-abbrev pub AreFirstParts : {D : Type 0} → (D → Type 0) → (D → Package → Type 0) → Package → List Call → ℕ → Type 0
-AreFirstParts {D} may_leave stands_for p calls acknowledged =
-    (db : D) → may_leave db → (q : Package) × stands_for db q × IsFirstPart p calls acknowledged q × Meets current q
+abbrev pub AreFirstParts : {D : Type 0} → Shown D → Package → List Call → ℕ → Type 0
+AreFirstParts {D} shows p calls acknowledged =
+    (db : D) → shows.may_leave db → (q : Package) × shows.stands_for db q × IsFirstPart p calls acknowledged q × Meets current q
 
 -- the answers that were given: those to the records that were counted
 abbrev pub given_of : Package → ℕ → List Reading → Tally → List Answer
@@ -49,8 +50,8 @@ StopsBehind works failed p moment readings answered =
     ⊎ (failed × (first : List Reading) × (command : Command) × (readings ≡ first ++ Ok command ∷ []) × (length first ≡ answered))
 
 -- the session works as it did, settled for this package
-abbrev pub WorksOn : Bool → Bool → (Package → Type 0) → Package → Type 0
-WorksOn before failed settled p = (failed ≡ before) × IsSound settled p
+abbrev pub WorksOn : {D : Type 0} → Bool → Shown D → Package → Type 0
+WorksOn before shows p = (shows.failed ≡ before) × IsSound shows.settled p
 
 -- What holds for a package that the session was settled for and for the bytes that the reader had still to give, where
 -- the store was clean.
@@ -63,32 +64,31 @@ OnSound clean settled P = clean → (p : Package) → IsSound settled p → P
 
 -- Each database that may be left stands for a package that meets the rules; and a session that has not failed in between is
 -- settled for one.
-abbrev pub IsKept : {D : Type 0} → Bool → Bool → (Package → Type 0) → (D → Type 0) → (D → Package → Type 0) → Type 0
-IsKept {D} before failed settled may_leave stands_for =
-    ((db : D) → may_leave db → (q : Package) × stands_for db q × Meets current q)
-    × (failed ≡ before → (q : Package) × IsSound settled q)
+abbrev pub IsKept : {D : Type 0} → Bool → Shown D → Type 0
+IsKept {D} before shows =
+    ((db : D) → shows.may_leave db → (q : Package) × shows.stands_for db q × Meets current q)
+    × (shows.failed ≡ before → (q : Package) × IsSound shows.settled q)
 
 -- A run without a fault: each record of the bytes is answered, and all that is accepted stands.
-pub record RanAll {D : Type 0} (p : Package) (moment : ℕ) (bytes : List ℕ) (settled : Package → Type 0) (may_leave : D → Type 0) (stands_for : D → Package → Type 0)
-    (old new : Option (List ℕ)) (t : Tally) : Type 0 where
+pub record RanAll {D : Type 0} (p : Package) (moment : ℕ) (bytes : List ℕ) (shows : Shown D) (old new : Written) (t : Tally) : Type 0 where
   pub readings : List Reading
   pub read : AreReadAs (records_of bytes) readings
-  pub text : Appends old new (concat (lines (answers_to p moment readings)))
+  pub text : Appends old.contents new.contents (concat (lines (answers_to p moment readings)))
   pub counted : AreCounted t (answers_to p moment readings)
   pub all : t.accepted + t.refused ≡ length (records_of bytes)
   pub written : t.written ≡ length (records_of bytes)
-  pub stands : IsSound settled (run p (calls_of moment readings))
-  pub left : AreFirstParts may_leave stands_for p (calls_of moment readings) t.accepted
+  pub stands : IsSound shows.settled (run p (calls_of moment readings))
+  pub left : AreFirstParts shows p (calls_of moment readings) t.accepted
 
 -- A run with a fault: the first records are answered, and what may be left is a first part of what was read.
-pub record RanSome {D : Type 0} (p : Package) (moment : ℕ) (bytes : List ℕ) (works : Package → Type 0) (failed : Type 0) (may_leave : D → Type 0) (stands_for : D → Package → Type 0)
-    (old new : Option (List ℕ)) (e : RunFault) : Type 0 where
+pub record RanSome {D : Type 0} (p : Package) (moment : ℕ) (bytes : List ℕ) (works : Package → Type 0) (failed : Type 0)
+    (shows : Shown D) (old new : Written) (e : RunFault) : Type 0 where
   pub readings : List Reading
   pub read : AreReadAs (take (length readings) (records_of bytes)) readings
-  pub text : IsStoppedText (given_of p moment readings e.tally) e old new
+  pub text : IsStoppedText (given_of p moment readings e.tally) e old.contents new.contents
   pub counted : AreCounted e.tally (given_of p moment readings e.tally)
   pub session : StopsBehind works failed p moment readings (e.tally.accepted + e.tally.refused)
-  pub left : AreFirstParts may_leave stands_for p (calls_of moment readings) (acknowledged_of p moment readings e.tally)
+  pub left : AreFirstParts shows p (calls_of moment readings) (acknowledged_of p moment readings e.tally)
 
 -- What a run tells of a session that has to be opened again. One that had to before is the same after the run, and
 -- accepted nothing; 92 comes only there, and after 91 it has to.
@@ -109,24 +109,24 @@ TellsFlush before flushed (Err e) = e.fault.0 ≢ 97 → flushed ≡ true
 
 -- ---- inside a run
 -- the answer to a record, and what then is settled or may be left
-abbrev pub IsAnswered : {D : Type 0} → Record → Package → ℕ → Bool → Bool → Answer → (Package → Type 0) → (D → Type 0) → (D → Package → Type 0) → Type 0
-IsAnswered fields p moment before failed (answers.Fault fault) settled may_leave stands_for =
-    WorksOn before failed settled p
-    ⊎ ((failed ≡ true) × (command : Command) × IsReadAs fields (Ok command) × Meets current (step p command moment) × LeavesEither may_leave stands_for p command moment)
-IsAnswered fields p moment before failed answers.Ok settled may_leave stands_for =
-    (reading : Reading) × IsReadAs fields reading × (answers.Ok ≡ answer_to p reading) × IsSound settled (after p moment reading)
-IsAnswered fields p moment before failed (answers.Refused why) settled may_leave stands_for =
-    (reading : Reading) × IsReadAs fields reading × (answers.Refused why ≡ answer_to p reading) × IsSound settled (after p moment reading)
+abbrev pub IsAnswered : {D : Type 0} → Record → Package → ℕ → Bool → Answer → Shown D → Type 0
+IsAnswered fields p moment before (answers.Fault fault) shows =
+    WorksOn before shows p
+    ⊎ ((shows.failed ≡ true) × (command : Command) × IsReadAs fields (Ok command) × Meets current (step p command moment) × LeavesEither shows p command moment)
+IsAnswered fields p moment before answers.Ok shows =
+    (reading : Reading) × IsReadAs fields reading × (answers.Ok ≡ answer_to p reading) × IsSound shows.settled (after p moment reading)
+IsAnswered fields p moment before (answers.Refused why) shows =
+    (reading : Reading) × IsReadAs fields reading × (answers.Refused why ≡ answer_to p reading) × IsSound shows.settled (after p moment reading)
 
 -- a record was read and answered, or couldn't be read, or the end was reached
-abbrev pub Turns : {D T : Type 0} → (T → Option (List ℕ)) → Reader T → Reader T → Package → ℕ → Bool → Bool → Option Answer → (Package → Type 0) → (D → Type 0) → (D → Package → Type 0) → Type 0
-Turns remaining old new p moment before failed None settled may_leave stands_for = (fields : Record) × ReadRecord remaining old new false fields × IsSound settled p
-Turns remaining old new p moment before failed (Some answers.Ok) settled may_leave stands_for =
-    (fields : Record) × ReadRecord remaining old new true fields × IsAnswered fields p moment before failed answers.Ok settled may_leave stands_for
-Turns remaining old new p moment before failed (Some (answers.Refused why)) settled may_leave stands_for =
-    (fields : Record) × ReadRecord remaining old new true fields × IsAnswered fields p moment before failed (answers.Refused why) settled may_leave stands_for
-Turns remaining old new p moment before failed (Some (answers.Fault fault)) settled may_leave stands_for =
-    WorksOn before failed settled p ⊎ ((fields : Record) × ReadRecord remaining old new true fields × IsAnswered fields p moment before failed (answers.Fault fault) settled may_leave stands_for)
+abbrev pub Turns : {D T : Type 0} → (T → Option (List ℕ)) → Reader T → Reader T → Package → ℕ → Bool → Option Answer → Shown D → Type 0
+Turns remaining old new p moment before None shows = (fields : Record) × ReadRecord remaining old new false fields × IsSound shows.settled p
+Turns remaining old new p moment before (Some answers.Ok) shows =
+    (fields : Record) × ReadRecord remaining old new true fields × IsAnswered fields p moment before answers.Ok shows
+Turns remaining old new p moment before (Some (answers.Refused why)) shows =
+    (fields : Record) × ReadRecord remaining old new true fields × IsAnswered fields p moment before (answers.Refused why) shows
+Turns remaining old new p moment before (Some (answers.Fault fault)) shows =
+    WorksOn before shows p ⊎ ((fields : Record) × ReadRecord remaining old new true fields × IsAnswered fields p moment before (answers.Fault fault) shows)
 
 -- Some answers, counted and told up to the end of a run that a fault stopped.
 abbrev pub IsStopped : List Answer → RunFault → Written → Written → Type 0
@@ -153,7 +153,7 @@ pub record IsAll (p : Package) (moment : ℕ) (xs : List ℕ) (s : State) (settl
   pub stands : IsSound settled (run p (calls_of moment readings))
 
 -- the first records are these, the first answers those given, and so much may be left
-pub record IsSome {D : Type 0} (p : Package) (moment : ℕ) (xs : List ℕ) (s : State) (before failed : Bool) (settled : Package → Type 0) (may_leave : D → Type 0) (stands_for : D → Package → Type 0)
+pub record IsSome {D : Type 0} (p : Package) (moment : ℕ) (xs : List ℕ) (s : State) (before : Bool) (shows : Shown D)
     (given : List Answer) (written : ℕ) : Type 0 where
   pub rows : List Record
   pub state : State
@@ -162,5 +162,5 @@ pub record IsSome {D : Type 0} (p : Package) (moment : ℕ) (xs : List ℕ) (s :
   pub readings : List Reading
   pub read : AreReadAs rows readings
   pub were : given ≡ answers_to p moment (take (length given) readings)
-  pub session : StopsBehind (WorksOn before failed settled) (failed ≡ true) p moment readings (length given)
-  pub left : AreFirstParts may_leave stands_for p (calls_of moment readings) (accepted_of (take written given))
+  pub session : StopsBehind (WorksOn before shows) (shows.failed ≡ true) p moment readings (length given)
+  pub left : AreFirstParts shows p (calls_of moment readings) (accepted_of (take written given))

@@ -8,6 +8,7 @@ ghost use Rattle.mm_io.specs.Records.{IsSetUp};
 ghost use Rattle.mm_run.specs.Applied.{IsAnswer, IsApplyFault, IsSound, OnFault, TellsReopening};
 ghost use Rattle.mm_run.specs.Ended.{IsEnded, IsEndedTurn};
 ghost use Rattle.mm_run.specs.Runs.{IsAnswered, IsKept, IsRunFault, OnSound, Turns};
+ghost use Rattle.mm_run.specs.Sessions.{shown};
 
 use crate::apply::Apply;
 use crate::reading::read_row;
@@ -24,11 +25,9 @@ fn answer_row<A: Apply>(alloc: Global, session: &mut A, row: ByteRecord, at: Mom
     ensures session { TellsReopening (A.has_failed session.old) (A.has_failed session.new) (session.new ≡ session.old) result }
     ensures clean { A.is_clean session.new → A.is_clean session.old }
     ensures answered { A.is_clean session.new → (p : Package) → IsSound (A.settled session.old) p
-        → IsAnswered (fields_of row) p at (A.has_failed session.old) (A.has_failed session.new) result
-        (A.settled session.new) (A.may_leave session.new) A.stands_for }
+        → IsAnswered (fields_of row) p at (A.has_failed session.old) result (shown A.Apply session.new) }
     ensures kept { OnSound (A.is_clean session.new) (A.settled session.old)
-        (IsKept (A.has_failed session.old) (A.has_failed session.new) (A.settled session.new) (A.may_leave session.new)
-        A.stands_for) }
+        (IsKept (A.has_failed session.old) (shown A.Apply session.new)) }
     ensures ended { A.has_failed session.old ≡ true → IsEnded (fields_of row) result }
 {
     // The proof reads from this that the moment is within its limits.
@@ -54,11 +53,9 @@ pub(crate) fn turn<A: Apply, T: Read + Tells>(
     ensures still { IfNone result (session.new ≡ session.old) }
     ensures clean { A.is_clean session.new → A.is_clean session.old }
     ensures turns { A.is_clean session.new → (p : Package) → IsSound (A.settled session.old) p
-        → Turns T.remaining rows.old rows.new p at (A.has_failed session.old) (A.has_failed session.new) result
-        (A.settled session.new) (A.may_leave session.new) A.stands_for }
+        → Turns T.remaining rows.old rows.new p at (A.has_failed session.old) result (shown A.Apply session.new) }
     ensures kept { OnSound (A.is_clean session.new) (A.settled session.old)
-        (IsKept (A.has_failed session.old) (A.has_failed session.new) (A.settled session.new) (A.may_leave session.new)
-        A.stands_for) }
+        (IsKept (A.has_failed session.old) (shown A.Apply session.new)) }
     ensures ended { A.has_failed session.old ≡ true → IsEndedTurn T.remaining rows.old rows.new result }
 {
     match next_row(alloc, rows) {

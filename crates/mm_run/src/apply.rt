@@ -6,6 +6,7 @@ ghost use Rattle.mm_definitions.specs.Package.{Package};
 ghost use Rattle.mm_definitions.specs.Rules.{Meets};
 ghost use Rattle.mm_run.specs.Answers.{is_fault};
 ghost use Rattle.mm_run.specs.Applied.{IsApplied, IsApplyFault, OnFault};
+ghost use Rattle.mm_run.specs.Shown.{shown_by};
 
 use mm_definitions::answers::{Answer, Fault};
 use mm_definitions::commands::Command;
@@ -39,7 +40,7 @@ pub trait Apply {
         ensures fails { has_failed self.old ≡ false → has_failed self.new ≡ is_fault result }
         ensures clean { is_clean self.new → is_clean self.old }
         ensures applied { is_clean self.new → (p : Package) → settled self.old p → Meets current p
-            → IsApplied p command.now at result (settled self.new) (may_leave self.new) stands_for };
+            → IsApplied p command.now at result (shown_by has_failed settled may_leave stands_for self.new) };
 
     ghost leaves_settled: { (s : Self) (p : Package) → settled s p → (db : Database) → may_leave s db → stands_for db p };
 }

@@ -11,6 +11,7 @@ ghost use Rattle.mm_io.specs.Records.{IsSetUp};
 ghost use Rattle.mm_run.specs.Told.{AreTold, IsNear};
 ghost use Rattle.mm_run.specs.Ended.{IsEndedRun, OnEnded, RanEnded};
 ghost use Rattle.mm_run.specs.Runs.{IsAll, IsKept, IsRunFault, IsSome, IsStopped, OnRun, OnSound, RanAll, RanSome, RunTellsReopening, TellsFlush, TellsWriter, WorksOn};
+ghost use Rattle.mm_run.specs.Sessions.{shown};
 
 use crate::answering::turn;
 use crate::apply::Apply;
@@ -41,8 +42,8 @@ fn run_rows<A: Apply, T: Read + Tells, W: Write>(
     ensures stopped { IfErr result (λ e. (given : List Answer)
         × IsStopped given e (written W.contents writer.old) (written W.contents writer.new)
         × OnRun (A.is_clean session.new) (A.settled session.old) (source_of T.remaining rows.old)
-        (λ p xs. IsSome p at xs (reader_state rows.old) (A.has_failed session.old) (A.has_failed session.new)
-        (A.settled session.new) (A.may_leave session.new) A.stands_for given e.tally.written)) }
+        (λ p xs. IsSome p at xs (reader_state rows.old) (A.has_failed session.old) (shown A.Apply session.new) given
+        e.tally.written)) }
     ensures working { OnOk result (streams.has_failed writer.new ≡ streams.has_failed writer.old) }
     ensures flushed { TellsFlush (streams.is_flushed writer.old) (streams.is_flushed writer.new) result }
     ensures small { IfOk result (λ t. (t.accepted + t.refused ≡ t.written) × (t.written + 1 < 2 ^ 64)) }
@@ -50,10 +51,9 @@ fn run_rows<A: Apply, T: Read + Tells, W: Write>(
     ensures session { RunTellsReopening (A.has_failed session.old) (A.has_failed session.new) (session.new ≡ session.old) result }
     ensures why { IfErr result (λ e. (e.fault.0 ≡ 97) ⊎ IsRunFault e.fault.0 (T.has_failed (reader_source rows.new))) }
     ensures kept { OnSound (A.is_clean session.new) (A.settled session.old)
-        (IsKept (A.has_failed session.old) (A.has_failed session.new) (A.settled session.new) (A.may_leave session.new)
-        A.stands_for) }
+        (IsKept (A.has_failed session.old) (shown A.Apply session.new)) }
     ensures ended { OnEnded (A.has_failed session.old) (source_of T.remaining rows.old)
-        (λ xs. IsEndedRun xs (reader_state rows.old) (W.contents (inside writer.old)) (W.contents (inside writer.new))
+        (λ xs. IsEndedRun xs (reader_state rows.old) (written W.contents writer.old) (written W.contents writer.new)
         result) }
 {
     let mut tally = Tally {
@@ -97,8 +97,8 @@ fn run_held<'a, A: Apply, R: Read, W: Write, K: Lender>(
         × IsStopped given e (written W.contents writer.old) (written W.contents writer.new)
         × OnRun (A.is_clean session.new) (A.settled session.old)
         (option_map strip_bom (R.remaining (inside held.entry.reader.now)))
-        (λ p xs. IsSome p at xs states.StartRecord (A.has_failed session.old) (A.has_failed session.new)
-        (A.settled session.new) (A.may_leave session.new) A.stands_for given e.tally.written)) }
+        (λ p xs. IsSome p at xs states.StartRecord (A.has_failed session.old) (shown A.Apply session.new) given
+        e.tally.written)) }
     ensures working { OnOk result.1 (streams.has_failed writer.new ≡ streams.has_failed writer.old) }
     ensures flushed { TellsFlush (streams.is_flushed writer.old) (streams.is_flushed writer.new) result.1 }
     ensures small { IfOk result.1 (λ t. (t.accepted + t.refused ≡ t.written) × (t.written + 1 < 2 ^ 64)) }
@@ -106,11 +106,9 @@ fn run_held<'a, A: Apply, R: Read, W: Write, K: Lender>(
     ensures session { RunTellsReopening (A.has_failed session.old) (A.has_failed session.new) (session.new ≡ session.old) result.1 }
     ensures why { IfErr result.1 (λ e. (e.fault.0 ≡ 97) ⊎ IsRunFault e.fault.0 (streams.has_failed result.0.reader.now)) }
     ensures kept { OnSound (A.is_clean session.new) (A.settled session.old)
-        (IsKept (A.has_failed session.old) (A.has_failed session.new) (A.settled session.new) (A.may_leave session.new)
-        A.stands_for) }
-    ensures ended { OnEnded (A.has_failed session.old) (option_map strip_bom
-        (R.remaining (inside held.entry.reader.now))) (λ xs. IsEndedRun xs states.StartRecord
-        (W.contents (inside writer.old)) (W.contents (inside writer.new)) result.1) }
+        (IsKept (A.has_failed session.old) (shown A.Apply session.new)) }
+    ensures ended { OnEnded (A.has_failed session.old) (option_map strip_bom (R.remaining (inside held.entry.reader.now)))
+        (λ xs. IsEndedRun xs states.StartRecord (written W.contents writer.old) (written W.contents writer.new) result.1) }
 {
     let source = Source::<'a, R, K> {
         held,
@@ -123,7 +121,7 @@ fn run_held<'a, A: Apply, R: Read, W: Write, K: Lender>(
 }
 
 /// The run, up to the end of the reader.
-fn run_told<A: Apply, R: Read, W: Write>(
+fn run_to_end<A: Apply, R: Read, W: Write>(
     alloc: Global,
     session: &mut A,
     reader: &mut Io<R>,
@@ -140,8 +138,8 @@ fn run_told<A: Apply, R: Read, W: Write>(
         × IsStopped given e (written W.contents writer.old) (written W.contents writer.new)
         × OnRun (A.is_clean session.new) (A.settled session.old)
         (option_map strip_bom (R.remaining (inside reader.old)))
-        (λ p xs. IsSome p at xs states.StartRecord (A.has_failed session.old) (A.has_failed session.new)
-        (A.settled session.new) (A.may_leave session.new) A.stands_for given e.tally.written)) }
+        (λ p xs. IsSome p at xs states.StartRecord (A.has_failed session.old) (shown A.Apply session.new) given
+        e.tally.written)) }
     ensures end { OnOk result (IsAtEnd (R.remaining (inside reader.new))) }
     ensures working { OnOk result (streams.has_failed writer.new ≡ streams.has_failed writer.old) }
     ensures flushed { TellsFlush (streams.is_flushed writer.old) (streams.is_flushed writer.new) result }
@@ -149,11 +147,9 @@ fn run_told<A: Apply, R: Read, W: Write>(
     ensures session { RunTellsReopening (A.has_failed session.old) (A.has_failed session.new) (session.new ≡ session.old) result }
     ensures why { IfErr result (λ e. (e.fault.0 ≡ 97) ⊎ IsRunFault e.fault.0 (streams.has_failed reader.new)) }
     ensures kept { OnSound (A.is_clean session.new) (A.settled session.old)
-        (IsKept (A.has_failed session.old) (A.has_failed session.new) (A.settled session.new) (A.may_leave session.new)
-        A.stands_for) }
+        (IsKept (A.has_failed session.old) (shown A.Apply session.new)) }
     ensures ended { OnEnded (A.has_failed session.old) (option_map strip_bom (R.remaining (inside reader.old)))
-        (λ xs. IsEndedRun xs states.StartRecord (W.contents (inside writer.old)) (W.contents (inside writer.new))
-        result) }
+        (λ xs. IsEndedRun xs states.StartRecord (written W.contents writer.old) (written W.contents writer.new) result) }
 {
     let (held, outcome) = run_held::<A, R, W, Brand>(alloc, session, Held { reader }, writer, at);
     let Held { reader: inner } = held;
@@ -194,8 +190,8 @@ pub fn run_list<A: Apply, R: Read, W: Write>(
 
     // Without a fault each record is answered, the reader is at its end, and all that was accepted stands.
     ensures done { IfOk result (λ t. OnRun (A.is_clean session.new) (A.settled session.old) (R.remaining (inside reader.old))
-        (λ p bytes. RanAll p at bytes (A.settled session.new) (A.may_leave session.new) A.stands_for
-        (W.contents (inside writer.old)) (W.contents (inside writer.new)) t)) }
+        (λ p bytes. RanAll p at bytes (shown A.Apply session.new)
+        (written W.contents writer.old) (written W.contents writer.new) t)) }
     ensures end { OnOk result (IsAtEnd (R.remaining (inside reader.new))) }
     ensures working { OnOk result (streams.has_failed writer.new ≡ streams.has_failed writer.old) }
     ensures flushed { TellsFlush (streams.is_flushed writer.old) (streams.is_flushed writer.new) result }
@@ -203,9 +199,9 @@ pub fn run_list<A: Apply, R: Read, W: Write>(
     // With one the first records are, and what may be left is a first part of the accepted commands. Where no command failed the
     // session works on, settled for the package after them.
     ensures stopped { IfErr result (λ e. OnRun (A.is_clean session.new) (A.settled session.old) (R.remaining (inside reader.old))
-        (λ p bytes. RanSome p at bytes (WorksOn (A.has_failed session.old) (A.has_failed session.new)
-        (A.settled session.new)) (A.has_failed session.new ≡ true) (A.may_leave session.new) A.stands_for
-        (W.contents (inside writer.old)) (W.contents (inside writer.new)) e)) }
+        (λ p bytes. RanSome p at bytes (WorksOn (A.has_failed session.old) (shown A.Apply session.new))
+        (A.has_failed session.new ≡ true) (shown A.Apply session.new)
+        (written W.contents writer.old) (written W.contents writer.new) e)) }
     ensures near { IfErr result (λ e. IsNear e.tally) }
 
     // One that has to be opened again is left as it was; 92 comes only there.
@@ -217,14 +213,13 @@ pub fn run_list<A: Apply, R: Read, W: Write>(
 
     // Whatever the reader tells: the package that a crash may leave, and the one that the session goes on with, meet the rules.
     ensures kept { OnSound (A.is_clean session.new) (A.settled session.old)
-        (IsKept (A.has_failed session.old) (A.has_failed session.new) (A.settled session.new) (A.may_leave session.new)
-        A.stands_for) }
+        (IsKept (A.has_failed session.old) (shown A.Apply session.new)) }
 
     // One that has to be opened again answers the records that spell no command, and 92 for the first that spells one.
     ensures ended { OnEnded (A.has_failed session.old) (R.remaining (inside reader.old))
-        (λ bytes. RanEnded bytes (W.contents (inside writer.old)) (W.contents (inside writer.new)) result) }
+        (λ bytes. RanEnded bytes (written W.contents writer.old) (written W.contents writer.new) result) }
 {
-    match run_told(alloc, session, reader, writer, at) {
+    match run_to_end(alloc, session, reader, writer, at) {
         Ok(tally) => Ok(tally),
         Err(e) => Err(e),
     }

@@ -4,7 +4,7 @@ ghost use Rattle.std.specs.Prelude.{◌≡◌, ◌≤◌, ◌⊎◌, false, IfOk
 ghost use Rattle.sqlite.specs.Held.{state};
 ghost use Rattle.sqlite.specs.State.{HasCleanDisk};
 ghost use Rattle.mm_definitions.specs.Bounds.{current};
-ghost use Rattle.mm_definitions.specs.Streams.{has_failed, inside};
+ghost use Rattle.mm_definitions.specs.Streams.{has_failed, inside, written};
 ghost use Rattle.mm_store.specs.Stands.{IsSettled};
 ghost use Rattle.mm_run.specs.Runs.{OnRun};
 ghost use Rattle.mm_core.specs.Adopted.{IsAdopted};
@@ -13,7 +13,7 @@ ghost use Rattle.mm_core.specs.Parts as sessions;
 ghost use Rattle.mm_core.specs.Sessions.{IsCreated};
 ghost use Rattle.mm_subcommands.specs.Declined.{IsDeclined};
 ghost use Rattle.mm_subcommands.specs.Declined as declined;
-ghost use Rattle.mm_subcommands.specs.Ran.{IsRun};
+ghost use Rattle.mm_subcommands.specs.Ran.{IsListRun};
 ghost use Rattle.mm_subcommands.specs.Stops.{StopsMaking};
 
 use crate::stop::Stop;
@@ -83,8 +83,8 @@ fn run_session<S: Alter, R: Read, W: Write>(
     ensures clean { HasCleanDisk (state S.Store (held session.new)) → HasCleanDisk (state S.Store (held session.old)) }
     ensures ran { OnRun (HasCleanDisk (state S.Store (held session.new)))
         (λ p. IsSettled current (state S.Store (held session.old)) p) (R.remaining (inside input.old))
-        (λ p bytes. IsRun p at bytes (state S.Store (held session.new)) (W.contents (inside output.old))
-        (W.contents (inside output.new)) result) }
+        (λ p bytes. IsListRun p at bytes (state S.Store (held session.new))
+        (written W.contents output.old) (written W.contents output.new) result) }
 {
     match session.run_list(input, output, at) {
         Ok(tally) if tally.refused == 0 => DONE,
@@ -107,7 +107,8 @@ pub fn run_package<S: Alter + Drop, R: Read, W: Write>(
     ensures working { IfOk result (λ ran. (ran.1 ≡ 3) ⊎ (has_failed output.new ≡ has_failed output.old)) }
     ensures ran { IfOk result (λ ran. OnRun (HasCleanDisk (state S.Store ran.0))
         (λ p. IsSettled current (state S.Store conn) p) (R.remaining (inside input.old))
-        (λ p bytes. IsRun p at bytes (state S.Store ran.0) (W.contents (inside output.old)) (W.contents (inside output.new)) ran.1)) }
+        (λ p bytes. IsListRun p at bytes (state S.Store ran.0)
+        (written W.contents output.old) (written W.contents output.new) ran.1)) }
     ensures unused { IfErr result (λ why. output.new ≡ output.old) }
 {
     match adopt_package(alloc, conn) {

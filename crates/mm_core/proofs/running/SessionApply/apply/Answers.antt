@@ -6,5 +6,5 @@ use Rattle.mm_core.proofs.running.SessionApply.apply.Goals as goal
 
 pub returns-clause-applied : goal.returns-clause-applied
 returns-clause-applied g c clean p settled meets =
-    applied_so _ _ c.args.command.now c.args.at c.apply.result (must_reopen c.args.self.now)
+    applied_so _ _ c.args.command.now c.args.at c.apply.result _ (must_reopen c.args.self.now)
     (λ was. let it = c.apply.ensures.ended was in (it.0, ap (λ s. state g.S.Store (held s)) it.1)) c.apply.ensures.applied clean p settled meets

@@ -1,17 +1,16 @@
 use Rattle.std.proofs.Common.{◌≡◌, ◌∙◌, true, false, refl, sym}
-use Rattle.mm_definitions.specs.Bounds.{current}
 use Rattle.mm_core.proofs.session.Session.check.Goals as goal
 
-pub returns-then-branch : goal.returns-then-branch
-returns-then-branch g c = record {
+pub returns-then-self : goal.returns-then-self
+returns-then-self g c = record {
   ended = λ _. (refl, refl);
   same = refl;
-  read = λ works. absurd (let clash : true ≡ false = sym c.if-branch.true ∙ works in cc);
+  read = λ works. absurd (let clash : true ≡ false = sym c.if-self.true ∙ works in cc);
 }
 
 pub returns : goal.returns
 returns g c = record {
-  ended = λ failed. absurd (let clash : false ≡ true = sym c.if-branch.false ∙ failed in cc);
+  ended = λ failed. absurd (let clash : false ≡ true = sym c.if-self.false ∙ failed in cc);
   same = refl;
   read = λ works. c.verify.ensures;
 }

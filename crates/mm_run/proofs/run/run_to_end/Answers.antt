@@ -3,10 +3,11 @@ use Rattle.csv.specs.Reading.{strip_bom}
 use Rattle.csv.specs.declared.parser.State.TheVariants as states
 use Rattle.mm_definitions.specs.Streams.{inside}
 use Rattle.mm_run.specs.Runs.{IsSome, OnRun}
+use Rattle.mm_run.specs.Sessions.{shown}
 use Rattle.mm_run.proofs.Loops.{read_not_writer, stopped-fault}
 use Rattle.mm_run.proofs.Ended.{ended-behind, read_not_92}
 use Rattle.mm_run.proofs.Left.{some-all}
-use Rattle.mm_run.proofs.run.run_told.Goals as goal
+use Rattle.mm_run.proofs.run.run_to_end.Goals as goal
 
 pub returns-in-Err-tell-clause-stopped : goal.returns-in-Err-tell-clause-stopped
 returns-in-Err-tell-clause-stopped g c =
@@ -19,10 +20,10 @@ returns-in-Err-tell-clause-stopped g c =
     let same = (rw c.in-Ok.is at c.run_held-held.ensures.session).0 in
     stopped-fault
     (λ told w. OnRun (g.A.Apply.is_clean new) (g.A.Apply.settled c.args.session.now) (option_map strip_bom (g.R.Read.remaining (inside c.args.reader.now)))
-    (λ p xs. IsSome p c.args.at xs states.StartRecord first (g.A.Apply.has_failed new) (g.A.Apply.settled new) (g.A.Apply.may_leave new) g.A.Apply.stands_for told w))
+    (λ p xs. IsSome p c.args.at xs states.StartRecord first (shown g.A.Apply new) told w))
     given (t.written + 1) t c.in-Err-tell.e _ _ _ _ _ _ at told (rw c.in-Ok.is at c.run_held-held.ensures.working) fault (read_not_writer fault.0 _ c.in-Err-drain.ensures.fault) c.in-Err-tell.ensures.stops
     (λ w enough clean p sound xs here.
-    some-all p c.args.at (g.A.Apply.may_leave new) g.A.Apply.stands_for xs states.StartRecord first (g.A.Apply.has_failed new) (g.A.Apply.settled new) given (g.met.A.Apply.leaves_settled new) same (all clean p sound xs here) w enough)
+    some-all p c.args.at (shown g.A.Apply new) xs states.StartRecord first given (g.met.A.Apply.leaves_settled new) same (all clean p sound xs here) w enough)
 
 pub returns-in-Err-tell-clause-ended : goal.returns-in-Err-tell-clause-ended
 returns-in-Err-tell-clause-ended g c was xs here =

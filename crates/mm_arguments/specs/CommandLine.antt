@@ -51,9 +51,9 @@ with_file_word name = with_rule (new_app name) file
 abbrev pub init : App
 init = with_file_word (codes "init")
 
--- run_subcommand FILE [--at MS]: applies the records of the input
+-- run FILE [--at MS]: applies the records of the input
 abbrev pub run_subcommand : App
-run_subcommand = with_rule (with_file_word (codes "run_subcommand")) at
+run_subcommand = with_rule (with_file_word (codes "run")) at
 
 -- kit FILE EDITION FOLDER [--at MS]: stages the pieces of the kit in FOLDER
 abbrev pub kit : App

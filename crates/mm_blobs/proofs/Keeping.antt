@@ -1,10 +1,10 @@
 -- Blobs and tiles against the rows of their tables.
-use Rattle.std.proofs.Common.{◌≡◌, ◌≢◌, ◌⊎◌, inl, inr, ℕ, ℤ, Bool, true, false, not, ◌&&◌, ◌||◌, List, [], ◌∷◌, Option, Some, None, option_map, refl, sym, ap, subst, subst₂, ◌∙◌}
-use Rattle.std.specs.Ordering.{is_eq, int_cmp, nat_cmp, eq_by_cmp, ordering_then}
+use Rattle.std.proofs.Common.{◌≡◌, ◌≢◌, inl, inr, ℕ, ℤ, Bool, true, false, ◌&&◌, ◌||◌, List, [], ◌∷◌, Option, Some, None, option_map, refl, sym, ap, subst, ◌∙◌}
+use Rattle.std.specs.Ordering.{is_eq, nat_cmp}
 use Rattle.std.specs.Cmp.Lexicographic.{slice_cmp}
 use Rattle.std.specs.List.{list_any}
 use Rattle.std.specs.FinMap.{FinMap, get, insert, remove}
-use Rattle.std.proofs.lemmas.Bool.{and_parts, false_from_ne_true, both_ways}
+use Rattle.std.proofs.lemmas.Bool.{and_parts, both_ways}
 use Rattle.sqlite.specs.declared.types.Value.TheVariants.{Null, Int, Text as Words, Blob as Bytes}
 use Rattle.sqlite_value.specs.declared.keys.Collation.TheVariants.{Binary}
 use Rattle.sqlite_value.specs.Order.{value_cmp}
@@ -12,27 +12,24 @@ use Rattle.sqlite_value.proofs.OrderLemmas.{value_cmp-Int, value_cmp-Blob}
 use Rattle.sqlite.specs.Ops.{binary}
 use Rattle.sqlite.specs.Order.{Row, column}
 use Rattle.sqlite.specs.Tree.{Trees, with_tree, put_row, rowid}
-use Rattle.sqlite.specs.Edit.{next_rowid, is_taken}
+use Rattle.sqlite.specs.Edit.{is_taken}
 use Rattle.sqlite_schema.specs.Rules.{equal}
-use Rattle.sqlite_rules.specs.Lists.{Has}
 use Rattle.sqlite_rules.proofs.ListLemmas.{some_from, some_has}
-use Rattle.sql_forms.specs.Tables.{AreRows, has_key, Finds, without}
+use Rattle.sql_forms.specs.Tables.{has_key, Finds, without}
 use Rattle.sql_forms.specs.Maps.{Holds}
-use Rattle.sql_forms.proofs.Keys.{as_truth, equal_text, equal_int, columns_are, chosen_is_free}
-use Rattle.sql_forms.proofs.Lists.{and_true}
+use Rattle.sql_forms.proofs.Keys.{as_truth, equal_text, equal_int}
 use Rattle.sql_forms.proofs.Rows.{equal_is}
-use Rattle.mm_definitions.specs.Keys.{Text, text_cmp, TileKey, tile_cmp, tile, same_number}
-use Rattle.mm_definitions.proofs.Parts.{same_some, not_none, same_key, same_itself, apart, at_put, beside_put, after_put, at_remove, beside_remove, true_or_false}
-use Rattle.mm_definitions.proofs.KeyLaws.{numbers, texts, tile_keys}
-use Rattle.mm_store.specs.Rows.{whole, past_rowid, maybe}
-use Rattle.mm_store.proofs.Parts.{IsPart, puts, removes}
+use Rattle.mm_definitions.specs.Keys.{Text, tile}
+use Rattle.mm_definitions.proofs.Parts.{not_none, same_key, same_itself, apart, beside_put, after_put, at_remove, beside_remove}
+use Rattle.mm_definitions.proofs.KeyLaws.{numbers, texts}
+use Rattle.mm_store.specs.Rows.{past_rowid, maybe}
+use Rattle.mm_store.proofs.Parts.{puts, removes}
 use Rattle.mm_store.proofs.Keys as parts
 use Rattle.mm_store.proofs.Keys.{by_number}
 use Rattle.std.specs.declared.cmp.Ordering.{Ordering}
 use Rattle.mm_definitions.specs.Package.{Package}
 use Rattle.mm_store.specs.Blobs.{Blob, Shelf, AreBlobs, blob_of, blob_row, bytes_at, digest_of, StandsAt, Told, NamesBlob}
 use Rattle.mm_store.specs.Kept.{Kept, Spare, Keeps, IsNamed, tile_id, tile_with, medium_id, medium_with, piece_id, piece_with}
-use Rattle.mm_store.specs.Stands.{HoldingBut}
 use Rattle.mm_blobs.specs.Views.{View, HoldsAs, spare_too, spare_but, Lacks, IsFound, TellsWhether}
 use Rattle.mm_blobs.specs.Moves.{GivesNumber}
 

@@ -1,14 +1,14 @@
 -- Statements and queries as moves, and one move after another.
-use Rattle.std.proofs.Common.{◌≡◌, ℕ, List, Option, Result, Ok, Err, IfOk, OnOk, IfErr, IsTrue, sym, ap, subst, ◌∙◌, arith, refl}
+use Rattle.std.proofs.Common.{◌≡◌, ℕ, List, Option, Result, Ok, Err, IfOk, OnOk, IfErr, IsTrue, sym, subst, ◌∙◌, arith, refl}
 use Rattle.sqlite.specs.Order.{Row}
 use Rattle.sqlite.specs.Tree.{Trees}
 use Rattle.sqlite.specs.State.{State, HasCleanDisk, Shown, ExecutesInside, IsUnchanged}
 use Rattle.sqlite_catalog.specs.Listing.{IsSound}
-use Rattle.sql_forms.specs.Tables.{tables_of, AreTables, IsReady, Leaves, IsFirstShown}
+use Rattle.sql_forms.specs.Tables.{tables_of, IsReady, Leaves, IsFirstShown}
 use Rattle.sql_forms.proofs.States.{shown_open}
 use Rattle.mm_definitions.specs.declared.answers.Fault.{Fault}
 use Rattle.mm_store.specs.Faults.{IsStoreFault}
-use Rattle.mm_store.specs.Stands.{Ground, StandsOn}
+use Rattle.mm_store.specs.Stands.{Ground}
 use Rattle.mm_store.specs.Statements.{CommitsNothing, KeepsGround, IsRun, IsAsked, AreGiven}
 use Rattle.mm_store.proofs.Shapes.{quiet_then}
 use Rattle.mm_schema.specs.Tables.{schema}

@@ -14,7 +14,7 @@ use Rattle.mm_definitions.specs.Package.{Package, Medium, PieceRow}
 use Rattle.mm_definitions.proofs.Parts.{IsKeyOrder, same_key, same_some, at_put, beside_put, at_remove, beside_remove}
 use Rattle.mm_definitions.proofs.KeyLaws.{numbers, tile_keys, items, piece_keys}
 use Rattle.mm_store.specs.Blobs.{Shelf, StandsAt, Told, Tells, NamesBlob}
-use Rattle.mm_store.specs.Kept.{Kept, Spare, Keeps, IsNamed, tile_id, tile_with, medium_id, medium_with, piece_id, piece_with}
+use Rattle.mm_store.specs.Kept.{Kept, Spare, Keeps, tile_id, tile_with, medium_id, medium_with, piece_id, piece_with}
 use Rattle.mm_store.specs.Rows.{past_rowid, tile_row, MediumRow, medium_row, StagedRow, staged_row}
 use Rattle.mm_blobs.specs.Views.{View, HoldsAs, spare_too, spare_but}
 use Rattle.mm_blobs.specs.Entries.{NamedAt, spare_freed}

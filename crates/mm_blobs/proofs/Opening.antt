@@ -1,5 +1,5 @@
 -- From a package that a transaction sees to how it is kept, and back.
-use Rattle.std.proofs.Common.{◌≡◌, ◌⊎◌, inl, inr, ℤ, Some, Bool, true, false, refl, IsTrue, Result, Ok, Err, IfOk, OnOk, ap, subst}
+use Rattle.std.proofs.Common.{◌≡◌, ◌⊎◌, inl, inr, ℤ, Some, true, refl, IsTrue, Result, Ok, Err, IfOk, OnOk, ap, subst}
 use Rattle.std.specs.Prelude.{⊤}
 use Rattle.std.specs.FinMap.{empty, get}
 use Rattle.std.proofs.lemmas.Bool.{both_ways}

@@ -1,6 +1,5 @@
 -- The bytes of a blob, from the row that shows them.
 use Rattle.std.proofs.Common.{◌≡◌, ℕ, ℤ, List, [], ◌∷◌, Option, Some, None, option_map, sym, ap, subst, ◌∙◌}
-use Rattle.std.specs.FinMap.{get}
 use Rattle.sqlite.specs.declared.types.Value.TheVariants.{Blob as Bytes}
 use Rattle.sqlite.specs.Order.{Row, column}
 use Rattle.sqlite.specs.Term.{col}
@@ -8,11 +7,10 @@ use Rattle.sql_forms.specs.Tables.{Finds}
 use Rattle.sql_forms.specs.Maps.{Holds}
 use Rattle.sql_forms.proofs.Selects.{shows}
 use Rattle.mm_store.specs.Rows.{whole}
-use Rattle.mm_store.specs.Blobs.{Blob, Shelf, blob_row, bytes_at, StandsAt}
+use Rattle.mm_store.specs.Blobs.{Blob, Shelf, blob_row, bytes_at}
 use Rattle.mm_store.proofs.Parts.{finds_none, finds_some}
 use Rattle.mm_store.proofs.Keys as parts
 use Rattle.mm_store.proofs.Keys.{by_number}
-use Rattle.mm_definitions.proofs.Parts.{same_some}
 use Rattle.mm_blobs.specs.Moves.{ShowsBytes}
 
 module _ (rows : List Row) (shelf : Shelf) (h : Holds whole blob_row rows shelf) (id : ℤ) (params : Row) where

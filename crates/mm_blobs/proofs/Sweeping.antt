@@ -1,5 +1,5 @@
 -- The blobs that nothing names, as one query lists them.
-use Rattle.std.proofs.Common.{◌≡◌, ◌⊎◌, inl, inr, ℕ, ℤ, pos, Bool, true, false, ◌&&◌, ◌||◌, ◌++◌, List, [], ◌∷◌, length, if◌then◌else◌, Option, Some, None, refl, sym, ap, subst, ◌∙◌}
+use Rattle.std.proofs.Common.{◌≡◌, ◌⊎◌, inl, inr, ℕ, ℤ, pos, Bool, true, false, ◌++◌, List, [], ◌∷◌, length, if◌then◌else◌, Some, refl, sym, ap, subst, ◌∙◌}
 use Rattle.std.specs.Prelude.{min}
 use Rattle.std.specs.List.{list_any, list_all, flat_map}
 use Rattle.std.specs.FinMap.{get}
@@ -12,7 +12,7 @@ use Rattle.sqlite_sql.specs.declared.ops.UnaryOp.TheVariants.{Not}
 use Rattle.sqlite.specs.Ops.{unary}
 use Rattle.sqlite.specs.Order.{Row}
 use Rattle.sqlite.specs.Term.{Term, Env, col, op1, op2, holds}
-use Rattle.sqlite.specs.Query.{Join, Query, inner, counted, end, matches, IsAnswer}
+use Rattle.sqlite.specs.Query.{Join, inner, counted, end, matches, IsAnswer}
 use Rattle.sqlite.specs.Program.{overlay}
 use Rattle.sqlite.specs.Tree.{Trees}
 use Rattle.sqlite.specs.Effect.{Answers}
@@ -32,7 +32,7 @@ use Rattle.mm_schema.specs.Statements.{unnamed_blobs}
 use Rattle.mm_schema.proofs.Selecting as statement
 use Rattle.mm_definitions.specs.Package.{Package}
 use Rattle.mm_definitions.proofs.Parts.{true_or_false}
-use Rattle.mm_store.specs.Blobs.{Blob, blob_row, NamesBlob}
+use Rattle.mm_store.specs.Blobs.{Blob, blob_row}
 use Rattle.mm_store.specs.Kept.{Kept, Spare, no_spare, Keeps, IsNamed, tile_id, medium_id, piece_id}
 use Rattle.mm_store.specs.Rows.{tile_row, medium_row, staged_row}
 use Rattle.mm_blobs.specs.Views.{spare_each}

@@ -1,5 +1,5 @@
 -- A package together with how its bytes are kept.
-use Rattle.std.specs.Prelude.{◌≡◌, ◌≢◌, ◌⊎◌, ℕ, ℤ, Bool, true, false, ◌&&◌, ◌||◌, not, List, [], ◌∷◌, IsTrue, Option, Some, None}
+use Rattle.std.specs.Prelude.{◌≡◌, ◌≢◌, ℕ, ℤ, Bool, true, false, ◌&&◌, ◌||◌, not, List, [], ◌∷◌, IsTrue, Option, Some, None}
 use Rattle.std.specs.List.{list_any}
 use Rattle.std.specs.FinMap.{get}
 use Rattle.sqlite.specs.declared.types.Value.TheVariants.{Int}
@@ -14,7 +14,7 @@ use Rattle.mm_definitions.specs.Bounds.{Profile}
 use Rattle.mm_definitions.specs.Keys.{same_number}
 use Rattle.mm_definitions.specs.Package.{Package}
 use Rattle.mm_store.specs.Blobs.{Blob, Shelf, bytes_at}
-use Rattle.mm_store.specs.Kept.{Kept, Spare, IsNamed}
+use Rattle.mm_store.specs.Kept.{Kept, Spare}
 use Rattle.mm_store.specs.Stands.{HoldingBut, Ground, StandsOn}
 
 -- this blob too may stand though nothing names it

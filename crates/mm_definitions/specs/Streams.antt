@@ -28,6 +28,6 @@ written contents io = written_as (contents (inside io)) (has_failed io)
 abbrev pub is_flushed : {T : Type 0} → Io T → Bool
 is_flushed io = io.flushed
 
--- the reader that is inner_reader until it has told its end
+-- the reader that is asked until it has told its end
 abbrev pub inner_reader : {R : Type 0} {ghosts : Ghosts R} → UntilEnd R ghosts → R
 inner_reader reader = reader.inner

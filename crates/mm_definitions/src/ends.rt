@@ -1,4 +1,4 @@
-//! A reader that is inner_reader until it has told its end.
+//! A reader that is asked until it has told its end.
 
 ghost use Rattle.std.specs.Prelude.{◌≡◌, ℕ, List, [], IsTrue, Some};
 ghost use Rattle.std.specs.Io.{ReadsAtMost};
@@ -7,7 +7,7 @@ ghost use Rattle.std.specs.Io.KnownBytes.{ReadConsumes};
 use std::io;
 use std::io::Read;
 
-/// A reader that isn't inner_reader again once it has told its end: a terminal would wait there for another one.
+/// A reader that isn't asked again once it has told its end: a terminal would wait there for another one.
 #[derive(Drop)]
 pub struct UntilEnd<R: Read> {
     inner: R,

@@ -21,7 +21,6 @@ use Rattle.mm_definitions.specs.declared.commands.Command.{Command}
 use Rattle.mm_definitions.specs.declared.commands.Piece.{Piece}
 use Rattle.mm_definitions.specs.declared.commands.Piece.TheVariants as pieces
 use Rattle.mm_definitions.proofs.Parts.{same_some}
-use Rattle.mm_laws.proofs.Again.{same_limits}
 use Rattle.mm_laws.proofs.Published.{by_kind, piece_keeps}
 use Rattle.mm_laws.proofs.OneStamp.{stamped_moment, stamp_only}
 use Rattle.mm_laws.proofs.StampFound.{stamp_is}

@@ -149,8 +149,10 @@ fn insert_row<S: Alter>(
         (λ base x. IsSeen spare profile (state S.Store tx.old.conn.now) base x
         × (StandsAt x.kept.shelf blob written.entry.bytes.now
         × (get x.content.pieces (keys.piece edition.now number) ≡ None)))
-        (λ base x _ y. (y.content ≡ record (x.content) { pieces = insert x.content.pieces
-        (keys.piece edition.now number) (written_row written.entry) })
+        (λ base x _ y. (y.content ≡ record (x.content) {
+          pieces = insert x.content.pieces
+              (keys.piece edition.now number) (written_row written.entry);
+        })
         × IsSeen (spare_named blob spare) profile (state S.Store tx.new.conn.now) base y) result }
 {
     run(

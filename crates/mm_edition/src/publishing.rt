@@ -72,8 +72,10 @@ fn delete_piece_rows<S: Alter>(tx: &mut Transaction<'_, S>, edition: &str) -> Re
     ensures gone { (profile : Profile) (more : Spare) → IsMove (state S.Store tx.old.conn.now) (state S.Store tx.new.conn.now)
         (λ base x. IsSeen no_spare profile (state S.Store tx.old.conn.now) base x
         × ((z : ℤ) → FreedByEdition edition.now x.kept z → more z ≡ true))
-        (λ base x _ y. (y.content ≡ record (x.content) { pieces = retain_keys x.content.pieces
-        (λ k. is_other edition.now k.edition) }) × IsSeen more profile (state S.Store tx.new.conn.now) base y) result }
+        (λ base x _ y. (y.content ≡ record (x.content) {
+          pieces = retain_keys x.content.pieces
+              (λ k. is_other edition.now k.edition);
+        }) × IsSeen more profile (state S.Store tx.new.conn.now) base y) result }
 {
     run(
         tx,

@@ -174,7 +174,13 @@ fn run_piece<S: Alter>(
         (state S.Store tx.old.conn.now) (state S.Store tx.new.conn.now) result }
 {
     match piece {
-        Piece::Tile { .. } | Piece::TileDrop { .. } => run_tile(tx, edition, number, piece, last_change),
+        Piece::Tile { .. } | Piece::TileDrop { .. } => run_tile(
+            tx,
+            edition,
+            number,
+            piece,
+            last_change,
+        ),
         Piece::Row { .. } | Piece::RowDrop { .. } | Piece::Media { .. } | Piece::MediaDrop { .. } =>
             run_item(tx, edition, number, piece, last_change),
         Piece::Map { .. } | Piece::MapDrop { .. } => run_mapping(tx, piece),
@@ -192,8 +198,7 @@ pub(crate) fn try_piece<S: Alter>(
     ensures same_reference { tx.new.conn.ghost_name ≡ tx.old.conn.ghost_name }
     ensures any_text { IsQuiet (state S.Store tx.old.conn.now) (state S.Store tx.new.conn.now) result }
     ensures turn { (profile : Profile) (moment : ℕ) → IsStamp moment last_change.now →
-        IsTurn profile edition.now number moment (state S.Store tx.old.conn.now) (state S.Store tx.new.conn.now) result
-        }
+        IsTurn profile edition.now number moment (state S.Store tx.old.conn.now) (state S.Store tx.new.conn.now) result }
 {
     let Some(found) = piece(tx, edition, number)? else {
         return Ok(Turn::End);

@@ -104,8 +104,15 @@ fn sides_in(numbers: Numbers) -> Option<(MatrixSide, MatrixSide, TileSide, TileS
 /// The matrix that a row of the kind `matrix` spells.
 fn matrix_in(table: Name, kept: Kept) -> Option<Piece>
     ensures { IfSome result (λ piece. piece ≡ pieces.Matrix table (unsigned_abs kept.numbers.k1)
-        (record { mw = unsigned_abs kept.numbers.k2; mh = unsigned_abs kept.numbers.k3; tw = unsigned_abs
-        kept.numbers.k4; th = unsigned_abs kept.numbers.k5; px = kept.numbers.k6; py = kept.numbers.k7 })) }
+        (record {
+          mw = unsigned_abs kept.numbers.k2;
+          mh = unsigned_abs kept.numbers.k3;
+          tw = unsigned_abs
+              kept.numbers.k4;
+          th = unsigned_abs kept.numbers.k5;
+          px = kept.numbers.k6;
+          py = kept.numbers.k7;
+        })) }
 {
     let zoom = Zoom::new(kept.numbers.k1)?;
     let (mw, mh, tw, th) = sides_in(kept.numbers)?;

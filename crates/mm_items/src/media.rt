@@ -112,8 +112,10 @@ pub(crate) fn give_medium<S: Alter>(
     ensures given { (profile : Profile) (spare : Spare) (bytes : List ℕ) →
         IsMove (state S.Store tx.old.conn.now) (state S.Store tx.new.conn.now)
         (λ base x. IsSeen spare profile (state S.Store tx.old.conn.now) base x × (bytes_at x.kept.shelf blob ≡ Some bytes))
-        (λ base x _ y. (y.content ≡ record (x.content) { media = insert x.content.media (item table.now id)
-        (record { bytes = bytes; content_type = content_type.now }) })
+        (λ base x _ y. (y.content ≡ record (x.content) {
+          media = insert x.content.media (item table.now id)
+              (record { bytes = bytes; content_type = content_type.now });
+        })
         × IsSeen (spare_but blob spare) profile (state S.Store tx.new.conn.now) base y) result }
 {
     let stands = blob_of_medium(tx, table, id)?;
@@ -132,8 +134,10 @@ fn write_medium<S: Alter>(
 ) -> Result<(), Fault>
     ensures same_reference { tx.new.conn.ghost_name ≡ tx.old.conn.ghost_name }
     ensures change { (profile : Profile) → IsChange profile (state S.Store tx.old.conn.now) (state S.Store tx.new.conn.now) (λ p. ⊤)
-        (λ p. record p { media = insert p.media (item table.now id)
-        (record { bytes = bytes.now; content_type = content_type.now }) }) result }
+        (λ p. record p {
+          media = insert p.media (item table.now id)
+              (record { bytes = bytes.now; content_type = content_type.now });
+        }) result }
 {
     if bytes.is_empty() {
         return Err(Fault::STORE);

@@ -32,8 +32,10 @@ fn insert_row<S: Alter>(
     ensures same_reference { tx.new.conn.ghost_name ≡ tx.old.conn.ghost_name }
     ensures change { (profile : Profile) → IsChange profile (state S.Store tx.old.conn.now)
         (state S.Store tx.new.conn.now) (λ p. get p.rows (item table.now id) ≡ None)
-        (λ p. record p { rows = insert p.rows (item table.now id)
-        (record { title = title.now; note = note.now; amount = amount }) }) result }
+        (λ p. record p {
+          rows = insert p.rows (item table.now id)
+              (record { title = title.now; note = note.now; amount = amount });
+        }) result }
 {
     run(
         tx,
@@ -54,8 +56,10 @@ fn update_row<S: Alter>(
     ensures same_reference { tx.new.conn.ghost_name ≡ tx.old.conn.ghost_name }
     ensures change { (profile : Profile) → IsChange profile (state S.Store tx.old.conn.now)
         (state S.Store tx.new.conn.now) (λ p. contains_key p.rows (item table.now id) ≡ true)
-        (λ p. record p { rows = insert p.rows (item table.now id)
-        (record { title = title.now; note = note.now; amount = amount }) }) result }
+        (λ p. record p {
+          rows = insert p.rows (item table.now id)
+              (record { title = title.now; note = note.now; amount = amount });
+        }) result }
 {
     run(
         tx,
@@ -75,8 +79,10 @@ fn write_row<S: Alter>(
 ) -> Result<(), Fault>
     ensures same_reference { tx.new.conn.ghost_name ≡ tx.old.conn.ghost_name }
     ensures change { (profile : Profile) → IsChange profile (state S.Store tx.old.conn.now) (state S.Store tx.new.conn.now) (λ p. ⊤)
-        (λ p. record p { rows = insert p.rows (item table.now id)
-        (record { title = title.now; note = note.now; amount = amount }) }) result }
+        (λ p. record p {
+          rows = insert p.rows (item table.now id)
+              (record { title = title.now; note = note.now; amount = amount });
+        }) result }
 {
     if has_row(tx, table, id)? {
         update_row(tx, table, id, title, note, amount)

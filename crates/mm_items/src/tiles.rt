@@ -152,8 +152,10 @@ pub(crate) fn give_tile<S: Alter>(
     ensures given { (profile : Profile) (spare : Spare) (bytes : List ℕ) →
         IsMove (state S.Store tx.old.conn.now) (state S.Store tx.new.conn.now)
         (λ base x. IsSeen spare profile (state S.Store tx.old.conn.now) base x × (bytes_at x.kept.shelf blob ≡ Some bytes))
-        (λ base x _ y. (y.content ≡ record (x.content) { tiles = insert x.content.tiles
-        (tile table.now (pos zoom) (pos column) (pos row)) bytes })
+        (λ base x _ y. (y.content ≡ record (x.content) {
+          tiles = insert x.content.tiles
+              (tile table.now (pos zoom) (pos column) (pos row)) bytes;
+        })
         × IsSeen (spare_but blob spare) profile (state S.Store tx.new.conn.now) base y) result }
 {
     let stands = blob_of_tile(tx, table, zoom, column, row)?;

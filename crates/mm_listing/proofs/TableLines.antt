@@ -1,4 +1,4 @@
--- The lines of the table_lines, from the rows that the query shows.
+-- The lines of the tables, from the rows that the query shows.
 use Rattle.std.proofs.Common.{◌≡◌, ℕ, pos, Bool, true, false, cond, ◌&&◌, List, [], ◌∷◌, ◌++◌, map, filter, length, Some, None, codes, refl, sym, ap, subst, ◌∙◌, arith}
 use Rattle.std.specs.Prelude.{ℤ, if◌then◌else◌, ◌||◌, unwrap_or, min}
 use Rattle.std.specs.Ordering.{is_gt}
@@ -174,7 +174,7 @@ module _ (version : ℤ) (p : Package) (trees : Trees) (h : Holding version tree
   rises_as r s k l c d is also low =
       ap is_gt (sym (value_cmp-Text k l) ∙ sym (then-Equal (value_cmp (Words k) (Words l)))) ∙ rw (columns_are r (contents_row k c) 0 is, columns_are s (contents_row l d) 0 also) at low
 
-  -- the lines of the first rows of an answer are the first lines of the table_lines
+  -- the lines of the first rows of an answer are the first lines of the tables
   pub tables_front : (rows tail : List Row) → IsAnswer (query joined [] shown by_name no_limit) db [] (rows ++ tail) → (text : List ℕ) → ShowsEach ShowsTable rows text → Fronts (table_lines p) text tail
   tables_front rows tail a text each =
       let found = in_order joined [] shown by_name db [] (rows ++ tail) a (env_at db kinds) contents_rows matched in

@@ -12,9 +12,14 @@ use Rattle.mm_store.proofs.Seen.{settled_still}
 use Rattle.mm_store.proofs.Shapes.{quiet_then}
 use Rattle.mm_walk.specs.Walk.{OnlyAsks, Takes, Ends, IsWalk}
 use Rattle.mm_walk.proofs.Resting.{seen_still, ends_rest}
-use Rattle.mm_listing.specs.Writing.{IsBegun, TakesLine, IsWritten, ListingTellsWriter, IsListed}
+use Rattle.mm_listing.specs.Writing.{IsBegun, SendsLine, TakesLine, IsWritten, ListingTellsWriter, IsListed}
 use Rattle.mm_listing.proofs.Fronts.{ShowsEach, Fronts}
-use Rattle.mm_definitions.specs.Streams.{written_as}
+use Rattle.mm_definitions.specs.Streams.{Written, written_as}
+
+-- the line that the row shows is taken as it is sent
+pub line_taken : (Shows : Row → List ℕ → Type 0) (old new : Written) (row : Row) (line : List ℕ) (result : Result Bool Fault) → Shows row line → SendsLine old new line result → TakesLine Shows old new row result
+line_taken Shows old new row line (Ok goes) shows sent = (line, shows, sent)
+line_taken Shows old new row line (Err fault) shows sent = inr (line, shows, sent)
 
 appends_none : (old new : Option (List ℕ)) → new ≡ old → Appends old new []
 appends_none None new same = tt

@@ -49,6 +49,6 @@ table_lines p = flat_map (table_line p) (entries p.contents)
 abbrev pub editions : Package → Text
 editions p = flat_map (edition_line p) (entries p.editions)
 
--- the lines of the table_lines, and behind them those of the editions
+-- the lines of the tables, and behind them those of the editions
 abbrev pub listing : Package → Text
 listing p = table_lines p ++ editions p

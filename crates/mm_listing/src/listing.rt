@@ -1,4 +1,4 @@
-//! The walks over the table_lines and the editions, in which each line is written before the next row is asked for.
+//! The walks over the tables and the editions, in which each line is written before the next row is asked for.
 
 ghost use Rattle.std.specs.Prelude.{◌≡◌, false};
 ghost use Rattle.sqlite.specs.Held.{state};
@@ -66,7 +66,7 @@ impl<W: Write> Visitor for EditionLines<'_, W> {
     }
 }
 
-/// Shows the table_lines to the visitor.
+/// Shows the tables to the visitor.
 fn show_tables<S: Alter, W: Write>(
     conn: &mut Connection<S>,
     lines: &mut TableLines<'_, W>,
@@ -86,7 +86,7 @@ fn show_tables<S: Alter, W: Write>(
     Ok(())
 }
 
-/// The lines of the table_lines.
+/// The lines of the tables.
 fn list_tables<S: Alter, W: Write>(
     conn: &mut Connection<S>,
     output: &mut Io<W>,

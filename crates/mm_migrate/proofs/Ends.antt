@@ -1,12 +1,10 @@
 -- How a migration comes to its ends.
-use Rattle.std.proofs.Common.{◌≡◌, ◌≢◌, inl, inr, ℕ, ℤ, pos, Bool, true, false, Option, Some, None, Result, Ok, Err, OnOk, IfOk, IsTrue, refl, sym, ap, subst, ◌∙◌, arith}
-use Rattle.std.specs.Prelude.{⊤}
+use Rattle.std.proofs.Common.{◌≡◌, ◌≢◌, inl, inr, ℕ, true, false, Option, Some, None, Result, Ok, Err, refl, sym, ap, subst, ◌∙◌, arith}
 use Rattle.sqlite.specs.Tree.{Trees}
 use Rattle.sqlite.specs.State.{State, HasCleanDisk, Survives, IsUnchanged}
 use Rattle.sqlite.proofs.StateLemmas.{survives_then, survives_weaker}
 use Rattle.mm_definitions.specs.Bounds.{Profile, millimetres, micrometres}
 use Rattle.mm_definitions.specs.Package.{Package}
-use Rattle.mm_definitions.specs.Rules.{Meets}
 use Rattle.mm_definitions.specs.declared.answers.Fault.{Fault}
 use Rattle.mm_definitions.specs.declared.answers.Open.{Open}
 use Rattle.mm_definitions.specs.declared.answers.Open.TheVariants as opens
@@ -22,8 +20,8 @@ use Rattle.mm_opening.proofs.Looking.{asked_still}
 use Rattle.mm_check.specs.Verdict.{IsVerified}
 use Rattle.mm_shelf.specs.Form.{AreInForm, IsFormCheck, TellsForm}
 use Rattle.mm_shelf.proofs.Reading.{asked_stands, asked_fails, told_as_before, formed_for}
-use Rattle.mm_scaling.specs.Moves.{MayScale, StandsForEither, IsRescaled}
-use Rattle.mm_migrate.specs.Migrations.{Judged, IsChecked, Adopts, Migrates, TellsNumber, NoNumber, OnlyStoreFaults, IsRefusal, MayCommitScaled, IsMigration, IsOlder}
+use Rattle.mm_scaling.specs.Moves.{MayScale, IsRescaled}
+use Rattle.mm_migrate.specs.Migrations.{Judged, IsChecked, Adopts, Migrates, TellsNumber, NoNumber, OnlyStoreFaults, MayCommitScaled, IsMigration, IsOlder}
 
 -- ---- the check
 

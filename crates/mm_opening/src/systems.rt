@@ -25,9 +25,16 @@ pub(crate) fn insert_system<S: Alter>(
     ensures same_reference { tx.new.conn.ghost_name ≡ tx.old.conn.ghost_name }
     ensures change { (profile : Profile) → IsChange profile (state S.Store tx.old.conn.now)
         (state S.Store tx.new.conn.now) (λ p. get p.systems id ≡ None)
-        (λ p. record p { systems = insert p.systems id (record
-        { name = name.now; organization = organization.now; organization_id = organization_id; definition =
-        definition.now; description = description.now }) }) result }
+        (λ p. record p {
+          systems = insert p.systems id (record {
+            name = name.now;
+            organization = organization.now;
+            organization_id = organization_id;
+            definition =
+                definition.now;
+            description = description.now;
+          });
+        }) result }
 {
     run(
         tx,

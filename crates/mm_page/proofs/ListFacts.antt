@@ -9,7 +9,7 @@ use Rattle.mm_reads.specs.Listing.{Listed}
 use Rattle.mm_reads.specs.Related.{Mate}
 use Rattle.mm_page.specs.Lists.{mate_data, table_data, table_data_at, whole_number}
 
--- a whole_number number is no float
+-- a whole number is no float
 whole_clean : (z : ℤ) → has_float (whole_number z) ≡ false
 whole_clean (pos n) = refl
 whole_clean (negsuc n) = refl

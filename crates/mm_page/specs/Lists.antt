@@ -9,7 +9,7 @@ use Rattle.mm_definitions.specs.Package.{Box}
 use Rattle.mm_reads.specs.Listing.{Listed}
 use Rattle.mm_reads.specs.Related.{Mate}
 
--- a whole_number number, as JSON
+-- a whole number, as JSON
 abbrev pub whole_number : ℤ → Data
 whole_number z = number (of_integer z)
 

@@ -10,6 +10,6 @@ use Rattle.mm_reads.specs.Related.{Mate, is_item, mapping_rows, mate}
 abbrev pub mates : Package → Text → ℤ → Option (List Mate)
 mates p table id = if is_item p table id then Some (map (mate p) (mapping_rows p table id)) else None
 
--- the shown_tables of the contents, by rising name
+-- the tables of the contents, by rising name
 abbrev pub shown_tables : Package → List Listed
 shown_tables p = map (listed p) (entries p.contents)

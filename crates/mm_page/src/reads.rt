@@ -5,7 +5,7 @@ ghost use Rattle.std.specs.FinMap.{get};
 ghost use Rattle.sqlite.specs.Held.{state};
 ghost use Rattle.mm_definitions.specs.Keys.{item};
 ghost use Rattle.mm_definitions.specs.Keys as keys;
-ghost use Rattle.mm_reads.specs.Told.{medium_told};
+ghost use Rattle.mm_reads.specs.Told.{shown_medium};
 ghost use Rattle.mm_reads.specs.Listing as listing;
 ghost use Rattle.mm_reads.specs.Related.{mate_told};
 ghost use Rattle.mm_core.specs.Parts.{held, must_reopen};
@@ -44,7 +44,7 @@ pub fn read_media<S: Alter>(
     ensures same { must_reopen session.new ≡ must_reopen session.old }
     ensures kept { LeavesPackage (state S.Store (held session.old)) (state S.Store (held session.new)) }
     ensures value { ShowsPart (IsOn (must_reopen session.old) (state S.Store (held session.old)) (state S.Store (held session.new)))
-        (option_map medium_told) (λ p. get p.media (item table.now id)) result }
+        (option_map shown_medium) (λ p. get p.media (item table.now id)) result }
     ensures fault { IfErr result (IsPageFault (must_reopen session.old)) }
 {
     session.media(table, id)
@@ -65,7 +65,7 @@ pub fn read_mates<S: Alter>(
     session.related(table, id)
 }
 
-/// The shown_tables by rising name.
+/// The tables by rising name.
 pub fn read_tables<S: Alter>(session: &mut Session<S>) -> Result<Vec<Entry>, Fault>
     ensures same { must_reopen session.new ≡ must_reopen session.old }
     ensures kept { LeavesPackage (state S.Store (held session.old)) (state S.Store (held session.new)) }

@@ -20,7 +20,7 @@ use Rattle.mm_store.specs.Rows.{past_rowid, attribute_row, MediumRow, medium_row
 use Rattle.mm_store.proofs.Keys as parts
 use Rattle.mm_store.proofs.Keys.{by_item}
 use Rattle.mm_store.proofs.Parts.{IsPart, finds_none, finds_some}
-use Rattle.mm_reads.specs.Told.{TellsBytes, Gives, ShowsMedium, IsMediumRow, ShowsRow, medium_told, row_told}
+use Rattle.mm_reads.specs.Told.{TellsBytes, Gives, ShowsMedium, IsMediumRow, ShowsRow, shown_medium, shown_row}
 
 pub same_words : {a b : Text} → Words a ≡ Words b → a ≡ b
 same_words e = cc
@@ -29,8 +29,8 @@ pub same_int : {a b : ℤ} → Int a ≡ Int b → a ≡ b
 same_int e = cc
 
 -- what is told of the row that the query shows is the entry
-module _ {K V T : Type 0} {R : K → K → Ordering} {part : Row → Row} {row_told : K → V → Row} {test : K → Row → Bool} (it : IsPart R part row_told test) (rows : List Row) (m : FinMap R V) (h : Holds part row_told rows m) (k : K)
-    (show : Row → Row) (Shows : Row → T → Type 0) (of : T → V) (tells : (r : Row) (v : V) (x : T) → part r ≡ row_told k v → Shows (show r) x → v ≡ of x) where
+module _ {K V T : Type 0} {R : K → K → Ordering} {part : Row → Row} {shown : K → V → Row} {test : K → Row → Bool} (it : IsPart R part shown test) (rows : List Row) (m : FinMap R V) (h : Holds part shown rows m) (k : K)
+    (show : Row → Row) (Shows : Row → T → Type 0) (of : T → V) (tells : (r : Row) (v : V) (x : T) → part r ≡ shown k v → Shows (show r) x → v ≡ of x) where
   pub entry_found : (o : Option T) (first : Option Row) → Gives Shows o first → Finds (test k) show rows first → get m k ≡ option_map of o
   entry_found None first gives found = finds_none it rows m h k show (subst (Finds (test k) show rows) gives found)
   entry_found (Some x) first gives found =
@@ -59,7 +59,7 @@ module _ (rows : List Row) (ids : FinMap item_cmp MediumRow) (h : Holds past_row
 
 -- the medium of a row, with the bytes of the blob that it names
 pub medium_told : (shelf : Shelf) (o : Option MediumRow) (entry : Option Medium) (row : Row) (m : Media) → IsMediumRow o (Some row) → Told medium_id medium_with shelf o entry
-    → ((r : MediumRow) → ShowsMedium row r → (bytes_at shelf r.blob ≡ Some m.bytes) × (r.content_type ≡ m.content_type)) → entry ≡ Some (medium_told m)
+    → ((r : MediumRow) → ShowsMedium row r → (bytes_at shelf r.blob ≡ Some m.bytes) × (r.content_type ≡ m.content_type)) → entry ≡ Some (shown_medium m)
 medium_told shelf None entry row m is told tells = absurd is
 medium_told shelf (Some r) entry row m is told tells =
     let it = tells r is in
@@ -74,7 +74,7 @@ no_medium shelf (Some r) entry is told = absurd is
 pub tile_told : (shelf : Shelf) (id : ℤ) (entry : Option (List ℕ)) (bytes : List ℕ) → Told tile_id tile_with shelf (Some id) entry → bytes_at shelf id ≡ Some bytes → entry ≡ Some bytes
 tile_told shelf id entry bytes told is = told.2 ∙ ap Some (same_some (sym told.1 ∙ is))
 
-pub row_told : (k : Item) (params r : Row) (v : AttributeRow) (x : RowTold) → past_rowid r ≡ attribute_row k v → ShowsRow (shows (col 1 3 ∷ col 1 4 ∷ col 1 5 ∷ []) params r) x → v ≡ row_told x
+pub row_told : (k : Item) (params r : Row) (v : AttributeRow) (x : RowTold) → past_rowid r ≡ attribute_row k v → ShowsRow (shows (col 1 3 ∷ col 1 4 ∷ col 1 5 ∷ []) params r) x → v ≡ shown_row x
 row_told k params r v x is shown =
     let a = same_words (sym (columns_are r (attribute_row k v) 2 is) ∙ shown.title) in
     let b = same_words (sym (columns_are r (attribute_row k v) 3 is) ∙ shown.note) in

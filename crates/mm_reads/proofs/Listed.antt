@@ -171,7 +171,7 @@ module _ (p : Package) (tables kinds : List Row) (ht : Holds past_rowid contents
   kind_is k (Some kind) xs one t is =
       ap Some (same_words (sym (columns_are one.0 (kind_row k kind) 1 one.2) ∙ ap (λ ys. column (first_or_none ys) 2) (sym one.1) ∙ is))
 
-  -- what is table_told of a row is what the package has
+  -- what is told of a row is what the package has
   told_is : (r : Row) (k : Text) (c : Contents) → past_rowid r ≡ contents_row k c → (e : Entry) → ShowsEntry (show kinds r) e → table_told e ≡ listed p (k, c)
   told_is r k c is e it =
       let table = same_words (sym it.table ∙ columns_are r (contents_row k c) 0 is) in

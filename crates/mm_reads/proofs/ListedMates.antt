@@ -56,7 +56,7 @@ both : (a b : Bool) → T a → T b → T (a && b)
 both true b p q = q
 both false b p q = p
 
--- each row shows the entry that is mate_told of it
+-- each row shows the entry that is told of it
 abbrev pub ShowsAll : List Row → List Related → Type 0
 ShowsAll [] items = items ≡ []
 ShowsAll (r ∷ rows) [] = ⊥
@@ -115,7 +115,7 @@ module _ (p : Package) (table : Text) (id : ℤ) where
       later off (o, inl same, a, is) = absurd (off (sym is ∙ one_key p table id o x a all.0 (ap (ties o) (sym same) ∙ ap is_eq (tied_itself (output_cmp_total asked) o))))
       later off (o, inr there, a, is) = (o, there, a, is)
 
-  -- ---- what is mate_told of them
+  -- ---- what is told of them
 
   told_is : (o : Output) (a : Is o) (t : Related) → ShowsRelated o.1 t → mate_told t ≡ mate p (a.key, tt)
   told_is o a t it =

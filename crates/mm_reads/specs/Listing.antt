@@ -38,12 +38,12 @@ listed p (table, c) = record {
   place = if is_pyramid p.kinds table then placed c.system c.min_x c.min_y c.max_x c.max_y else None;
 }
 
--- a system and an extent, if there are any, as they are table_told
+-- a system and an extent, if there are any, as they are told
 abbrev pub place_told : Option (ℤ × Extent) → Option (ℤ × Box)
 place_told None = None
 place_told (Some (system, extent)) = Some (system, box_of extent)
 
--- a table as it is table_told, with its kind as the registry writes it
+-- a table as it is told, with its kind as the registry writes it
 abbrev pub table_told : Entry → Listed
 table_told e = record { table = e.table; kind = Some (kind_text e.kind); identifier = e.identifier; last_change = e.last_change; place = place_told e.place }
 
@@ -61,7 +61,7 @@ pub record ShowsPlace (row : Row) (place : ℤ × Extent) : Type 0 where
   pub max_x : column row 7 ≡ Int place.1.max_x
   pub max_y : column row 8 ≡ Int place.1.max_y
 
--- a place is table_told, and the row shows it
+-- a place is told, and the row shows it
 abbrev pub IsShown : Row → Option (ℤ × Extent) → Type 0
 IsShown row None = ⊥
 IsShown row (Some place) = ShowsPlace row place

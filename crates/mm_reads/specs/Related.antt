@@ -41,7 +41,7 @@ mate p e = record {
   id = e.0.related_id;
 }
 
--- the same of an entry that is mate_told
+-- the same of an entry that is told
 abbrev pub mate_told : Related → Mate
 mate_told r = record { mapping = r.mapping; name = Some r.name; table = Some r.table; id = r.id }
 

@@ -13,12 +13,12 @@ abbrev pub TellsBytes : {A : Type 0} → Option (List ℕ) → Option (Vec ℕ A
 TellsBytes entry found = MatchOption found (entry ≡ None) (λ bytes. entry ≡ Some bytes.items)
 
 -- a medium and an attribute row, as they are told
-abbrev pub medium_told : Media → Medium
-medium_told m = record { bytes = m.bytes; content_type = m.content_type }
+abbrev pub shown_medium : Media → Medium
+shown_medium m = record { bytes = m.bytes; content_type = m.content_type }
 
 -- an attribute row that is told, as the package has it
-abbrev pub row_told : RowTold → AttributeRow
-row_told r = record { title = r.title; note = r.note; amount = r.amount }
+abbrev pub shown_row : RowTold → AttributeRow
+shown_row r = record { title = r.title; note = r.note; amount = r.amount }
 
 -- what is told of the first row of a query: nothing where it has none
 abbrev pub Gives : {T : Type 0} → (Row → T → Type 0) → Option T → Option Row → Type 0

@@ -13,7 +13,7 @@ ghost use Rattle.mm_store.specs.Seen.{IsRead};
 ghost use Rattle.mm_store.specs.Shapes.{IsLook};
 ghost use Rattle.mm_blobs.specs.Moves.{IsMove};
 ghost use Rattle.mm_blobs.specs.Views.{IsSeen};
-ghost use Rattle.mm_reads.specs.Told.{ShowsMedium, IsMediumRow, medium_told};
+ghost use Rattle.mm_reads.specs.Told.{ShowsMedium, IsMediumRow, shown_medium};
 
 use mm_blobs::blobs::bytes_of;
 use mm_definitions::answers::Fault;
@@ -84,7 +84,7 @@ fn medium_at<S: Alter>(
 ) -> Result<Option<Media>, Fault>
     ensures same_reference { tx.new.conn.ghost_name ≡ tx.old.conn.ghost_name }
     ensures look { (profile : Profile) → IsLook profile (state S.Store tx.old.conn.now) (state S.Store tx.new.conn.now)
-        (λ p found. get p.media (item table.now id) ≡ option_map medium_told found) result }
+        (λ p found. get p.media (item table.now id) ≡ option_map shown_medium found) result }
 {
     match row_of_medium(tx, table, id)? {
         Some(row) => Ok(Some(medium_in(tx, &row)?)),
@@ -102,7 +102,7 @@ pub fn media<S: Alter>(
     requires { conn.old.in_transaction ≡ false }
     ensures mode { conn.new.in_transaction ≡ false }
     ensures read { (profile : Profile) → IsRead profile (state S.Store conn.old) (state S.Store conn.new)
-        (λ p found. get p.media (item table.now id) ≡ option_map medium_told found) result }
+        (λ p found. get p.media (item table.now id) ≡ option_map shown_medium found) result }
 {
     let mut tx = conn.transaction();
     let found = medium_at(&mut tx, table.as_str(), id);

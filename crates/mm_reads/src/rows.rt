@@ -10,7 +10,7 @@ ghost use Rattle.mm_store.specs.Faults.{IsStoreFault};
 ghost use Rattle.mm_store.specs.Seen.{IsRead};
 ghost use Rattle.mm_store.specs.Shapes.{IsLook};
 ghost use Rattle.mm_store.specs.Statements.{IsAsked};
-ghost use Rattle.mm_reads.specs.Told.{Gives, ShowsRow, row_told};
+ghost use Rattle.mm_reads.specs.Told.{Gives, ShowsRow, shown_row};
 
 use mm_definitions::answers::Fault;
 use mm_definitions::entries::Row;
@@ -55,7 +55,7 @@ fn first_row<S: Alter>(
 fn row_at<S: Alter>(tx: &mut Transaction<'_, S>, table: &str, id: i64) -> Result<Option<Row>, Fault>
     ensures same_reference { tx.new.conn.ghost_name ≡ tx.old.conn.ghost_name }
     ensures look { (profile : Profile) → IsLook profile (state S.Store tx.old.conn.now) (state S.Store tx.new.conn.now)
-        (λ p found. get p.rows (item table.now id) ≡ option_map row_told found) result }
+        (λ p found. get p.rows (item table.now id) ≡ option_map shown_row found) result }
 {
     first_row(
         tx,
@@ -70,7 +70,7 @@ pub fn row<S: Alter>(conn: &mut Connection<S>, table: &Name, id: i64) -> Result<
     requires { conn.old.in_transaction ≡ false }
     ensures mode { conn.new.in_transaction ≡ false }
     ensures read { (profile : Profile) → IsRead profile (state S.Store conn.old) (state S.Store conn.new)
-        (λ p found. get p.rows (item table.now id) ≡ option_map row_told found) result }
+        (λ p found. get p.rows (item table.now id) ≡ option_map shown_row found) result }
 {
     let mut tx = conn.transaction();
     let found = row_at(&mut tx, table.as_str(), id);

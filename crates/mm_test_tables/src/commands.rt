@@ -111,7 +111,11 @@ fn call_srs<S: Alter>(tx: &mut Transaction<'_, S>, fields: &[&str]) -> Option<u8
     ))
 }
 
-fn call_pyramid<S: Alter>(tx: &mut Transaction<'_, S>, fields: &[&str], last_change: &str) -> Option<u8> {
+fn call_pyramid<S: Alter>(
+    tx: &mut Transaction<'_, S>,
+    fields: &[&str],
+    last_change: &str,
+) -> Option<u8> {
     let [table, identifier, srs, min_x, min_y, max_x, max_y, kind] = fields else {
         return None;
     };
@@ -121,11 +125,24 @@ fn call_pyramid<S: Alter>(tx: &mut Transaction<'_, S>, fields: &[&str], last_cha
     let kind = step(kind)?;
     let table = Name::read(table)?;
     number_of(add_pyramid(
-        tx, &table, identifier, srs, min_x, min_y, max_x, max_y, kind, last_change,
+        tx,
+        &table,
+        identifier,
+        srs,
+        min_x,
+        min_y,
+        max_x,
+        max_y,
+        kind,
+        last_change,
     ))
 }
 
-fn call_matrix<S: Alter>(tx: &mut Transaction<'_, S>, fields: &[&str], last_change: &str) -> Option<u8> {
+fn call_matrix<S: Alter>(
+    tx: &mut Transaction<'_, S>,
+    fields: &[&str],
+    last_change: &str,
+) -> Option<u8> {
     let [table, level, sizes @ ..] = fields else {
         return None;
     };
@@ -134,7 +151,11 @@ fn call_matrix<S: Alter>(tx: &mut Transaction<'_, S>, fields: &[&str], last_chan
     number_of(add_matrix(tx, &Name::read(table)?, level, &matrix, last_change))
 }
 
-fn call_table<S: Alter>(tx: &mut Transaction<'_, S>, fields: &[&str], last_change: &str) -> Option<u8> {
+fn call_table<S: Alter>(
+    tx: &mut Transaction<'_, S>,
+    fields: &[&str],
+    last_change: &str,
+) -> Option<u8> {
     let [table, kind, identifier] = fields else {
         return None;
     };
@@ -155,10 +176,22 @@ fn call_tile<S: Alter>(
     let (column, row) = (count(column)?, count(row)?);
     let bytes = TileBytes::read(alloc, bytes).ok()?;
     let table = Name::read(table)?;
-    number_of(put_tile(tx, &table, level, column, row, bytes.as_slice(), last_change))
+    number_of(put_tile(
+        tx,
+        &table,
+        level,
+        column,
+        row,
+        bytes.as_slice(),
+        last_change,
+    ))
 }
 
-fn call_tile_drop<S: Alter>(tx: &mut Transaction<'_, S>, fields: &[&str], last_change: &str) -> Option<u8> {
+fn call_tile_drop<S: Alter>(
+    tx: &mut Transaction<'_, S>,
+    fields: &[&str],
+    last_change: &str,
+) -> Option<u8> {
     let [table, level, column, row] = fields else {
         return None;
     };
@@ -168,12 +201,24 @@ fn call_tile_drop<S: Alter>(tx: &mut Transaction<'_, S>, fields: &[&str], last_c
     number_of(drop_tile(tx, &table, level, column, row, last_change))
 }
 
-fn call_row<S: Alter>(tx: &mut Transaction<'_, S>, fields: &[&str], last_change: &str) -> Option<u8> {
+fn call_row<S: Alter>(
+    tx: &mut Transaction<'_, S>,
+    fields: &[&str],
+    last_change: &str,
+) -> Option<u8> {
     let [table, id, title, note, amount] = fields else {
         return None;
     };
     let (id, amount) = (number(id)?, number(amount)?);
-    number_of(put_row(tx, &Name::read(table)?, id, title, note, amount, last_change))
+    number_of(put_row(
+        tx,
+        &Name::read(table)?,
+        id,
+        title,
+        note,
+        amount,
+        last_change,
+    ))
 }
 
 fn call_media<S: Alter>(

@@ -73,7 +73,12 @@ pub(crate) fn package(alloc: Global, scripts: &[&str]) -> Option<Connection<MemS
 }
 
 /// The script with the answers that a package is given, of which other scripts come first.
-pub(crate) fn told_on(alloc: Global, first: &[&str], script: &str, last_change: &str) -> Option<String> {
+pub(crate) fn told_on(
+    alloc: Global,
+    first: &[&str],
+    script: &str,
+    last_change: &str,
+) -> Option<String> {
     let mut conn = package(alloc, first)?;
     told(alloc, &mut conn, script, last_change)
 }

@@ -1,4 +1,4 @@
-use Rattle.std.proofs.Common.{◌≡◌, [], ◌∷◌, Ok, rules}
+use Rattle.std.proofs.Common.{[], ◌∷◌, Ok, rules}
 use Rattle.std.specs.FinMap.{remove}
 use Rattle.sqlite.specs.declared.types.Value.TheVariants.{Int}
 use Rattle.sqlite.specs.Tree.{with_tree}

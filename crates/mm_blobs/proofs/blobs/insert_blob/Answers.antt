@@ -11,7 +11,7 @@ use Rattle.mm_store.specs.Blobs.{blob_of}
 use Rattle.mm_schema.proofs.Inserting as statement
 use Rattle.mm_blobs.specs.Views.{HoldsAs, Lacks, spare_too, IsSeen}
 use Rattle.mm_blobs.specs.Moves.{IsMove}
-use Rattle.mm_blobs.proofs.Moving.{moves, move_failed, seen}
+use Rattle.mm_blobs.proofs.Moving.{moves, seen}
 use Rattle.sql_forms.proofs.Inserted.{inserted_id}
 use Rattle.mm_blobs.proofs.Keeping.{keeps_more, kept_in, holds_with}
 use Rattle.mm_blobs.proofs.blobs.insert_blob.Goals as goal

@@ -1,8 +1,8 @@
-use Rattle.std.proofs.Common.{◌≡◌, ◌⊎◌, inl, inr, ℤ, Bool, Ok, Err, true, false, refl, sym, ap, subst, ◌∙◌, rules, w64, to_z, of_z, to_z-of_z}
+use Rattle.std.proofs.Common.{◌≡◌, inl, inr, Ok, Err, true, sym, subst, ◌∙◌, rules, w64, to_z, of_z, to_z-of_z}
 use Rattle.std.proofs.lemmas.Result.{err_from_is_err_and}
 use Rattle.sqlite.specs.Held.{state}
 use Rattle.mm_store.specs.Blobs.{NamesBlob}
-use Rattle.mm_store.specs.Kept.{Kept, IsNamed, tile_id, medium_id, piece_id}
+use Rattle.mm_store.specs.Kept.{IsNamed, tile_id, medium_id}
 use Rattle.mm_blobs.specs.Views.{View, IsSeen, TellsWhether}
 use Rattle.mm_blobs.proofs.Moving.{moves_as, then_moves, move_failed}
 use Rattle.mm_blobs.proofs.Keeping.{none_of_three}

@@ -1,9 +1,9 @@
-use Rattle.std.proofs.Common.{◌≡◌, Ok, true, false, refl, sym, ap, subst, ◌∙◌, rules, w64, to_z, of_z, to_z-of_z}
+use Rattle.std.proofs.Common.{◌≡◌, true, subst, rules, w64, to_z, of_z, to_z-of_z}
 use Rattle.std.proofs.lemmas.Result.{err_from_is_err_and}
 use Rattle.sqlite.specs.Held.{state}
 use Rattle.std.specs.FinMap.{remove}
 use Rattle.mm_store.specs.Kept.{IsNamed}
-use Rattle.mm_blobs.specs.Views.{View, spare_but, IsSeen, TellsWhether}
+use Rattle.mm_blobs.specs.Views.{spare_but, IsSeen, TellsWhether}
 use Rattle.mm_blobs.proofs.Moving.{moves_as, then_moves, move_failed, inside_looser}
 use Rattle.mm_blobs.proofs.Keeping.{keeps_named, kept_in, holds_still, same_but_shelf, shelf_in}
 use Rattle.mm_blobs.proofs.blobs.release.Goals as goal

@@ -1,7 +1,7 @@
-use Rattle.std.proofs.Common.{◌≡◌, Some, None, Ok, true, refl, sym, ap, subst, ◌∙◌, rules, w64, to_z, of_z, to_z-of_z}
+use Rattle.std.proofs.Common.{◌≡◌, Some, refl, sym, ap, subst, ◌∙◌, rules, w64, to_z, of_z, to_z-of_z}
 use Rattle.sqlite.specs.Held.{state}
 use Rattle.mm_blobs.specs.Entries.{spare_freed}
-use Rattle.mm_blobs.specs.Views.{spare_too, spare_but, IsSeen}
+use Rattle.mm_blobs.specs.Views.{spare_but, IsSeen}
 use Rattle.mm_blobs.proofs.Keeping.{same_but_shelf}
 use Rattle.mm_blobs.proofs.Moving.{moves_less}
 use Rattle.mm_blobs.proofs.Opening.{seen_looser}

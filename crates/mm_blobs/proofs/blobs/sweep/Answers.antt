@@ -1,8 +1,8 @@
-use Rattle.std.proofs.Common.{◌≡◌, Ok, Err, sym, subst}
+use Rattle.std.proofs.Common.{◌≡◌, sym, subst}
 use Rattle.std.proofs.lemmas.Result.{err_from_is_err_and}
 use Rattle.sqlite.specs.Held.{state}
 use Rattle.mm_store.specs.Kept.{no_spare}
-use Rattle.mm_blobs.specs.Views.{View, IsSeen, spare_each}
+use Rattle.mm_blobs.specs.Views.{IsSeen, spare_each}
 use Rattle.mm_blobs.proofs.Keeping.{same_but_shelf, shelf_again}
 use Rattle.mm_blobs.proofs.Moving.{then_moves_open, move_failed}
 use Rattle.mm_blobs.proofs.blobs.sweep.Goals as goal

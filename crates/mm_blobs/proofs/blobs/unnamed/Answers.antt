@@ -1,9 +1,9 @@
-use Rattle.std.proofs.Common.{◌≡◌, ◌⊎◌, ℤ, true, Some, sym, subst, rules}
+use Rattle.std.proofs.Common.{◌≡◌, ◌⊎◌, ℤ, true, Some, rules}
 use Rattle.std.specs.FinMap.{get}
 use Rattle.sqlite.specs.Held.{state}
 use Rattle.mm_store.specs.Blobs.{Blob}
 use Rattle.mm_store.specs.Kept.{no_spare, IsNamed}
-use Rattle.mm_blobs.specs.Views.{View, IsSeen, spare_each}
+use Rattle.mm_blobs.specs.Views.{IsSeen, spare_each}
 use Rattle.mm_blobs.proofs.Keeping.{kept_in}
 use Rattle.mm_blobs.proofs.Moving.{lists, moves_less, seen}
 use Rattle.mm_blobs.proofs.Opening.{seen_named}

@@ -7,20 +7,20 @@ use Rattle.mm_edition.proofs.editions.discard.Goals as goal
 pub returns-in-Some-clause-lent : goal.returns-in-Some-clause-lent
 returns-in-Some-clause-lent g c profile moment =
     rw (← c.as_str-edition.ensures.text)
-    (rw (sym c.refused.ensures) (refuses profile _ moment _ _ _ (refused c.in-Some.number) (c.in_ok-closed_refusal.ensures.look profile) (λ p meets says. refused_for _ c.in-Some.number (sym says ∙ c.in-Some.is))))
+    (rw c.refused.ensures (refuses profile _ moment _ _ _ (refused c.in-Some.number) (c.in_ok-number.ensures.look profile) (λ p meets says. refused_for _ c.in-Some.number (sym says ∙ c.in-Some.is))))
 
-pub returns-in_err-closed_refusal-clause-lent : goal.returns-in_err-closed_refusal-clause-lent
-returns-in_err-closed_refusal-clause-lent g c profile moment =
+pub returns-in_err-number-clause-lent : goal.returns-in_err-number-clause-lent
+returns-in_err-number-clause-lent g c profile moment =
     let p = err_from_is_err_and c.from_residual.result c.from_residual.ensures.1 in
-    rw (p.1, p.2) (rw (← c.as_str-edition.ensures.text) (look_gave_up profile _ moment _ _ _ (c.in_err-closed_refusal.ensures.look profile)))
+    rw (p.1, p.2) (rw (← c.as_str-edition.ensures.text) (look_gave_up profile _ moment _ _ _ (c.in_err-number.ensures.look profile)))
 
 pub returns-clause-lent : goal.returns-clause-lent
 returns-clause-lent g c profile moment =
     rw (← c.as_str-edition.ensures.text)
-    (accepts profile _ moment _ _ _ _ (c.in_ok-closed_refusal.ensures.look profile) _ (c.in_ok-delete_edition.ensures.change profile) (λ p meets says. (tt, accepted_for _ (sym says ∙ c.in_default.is), refl)))
+    (accepts profile _ moment _ _ _ _ (c.in_ok-number.ensures.look profile) _ (c.in_ok-delete_edition.ensures.change profile) (λ p meets says. (tt, accepted_for _ (sym says ∙ c.in_default.is), refl)))
 
 pub returns-in_err-delete_edition-clause-lent : goal.returns-in_err-delete_edition-clause-lent
 returns-in_err-delete_edition-clause-lent g c profile moment =
     let p = err_from_is_err_and c.from_residual-in_err-delete_edition.result c.from_residual-in_err-delete_edition.ensures.1 in
     rw (p.1, p.2) (rw (← c.as_str-edition.ensures.text)
-    (change_gave_up profile _ moment _ _ _ _ (c.in_ok-closed_refusal.ensures.look profile) _ (c.in_err-delete_edition.ensures.change profile) (λ p meets says. tt)))
+    (change_gave_up profile _ moment _ _ _ _ (c.in_ok-number.ensures.look profile) _ (c.in_err-delete_edition.ensures.change profile) (λ p meets says. tt)))

@@ -1,4 +1,4 @@
-use Rattle.std.proofs.Common.{option_map, refl, ap, ◌∙◌, sym}
+use Rattle.std.proofs.Common.{option_map, refl, ap, ◌∙◌}
 use Rattle.std.proofs.lemmas.Result.{err_from_is_err_and}
 use Rattle.mm_store.proofs.Refusals.{refused, refused_for, accepted_for}
 use Rattle.mm_store.proofs.Shapes.{refuses, accepts, look_gave_up, change_gave_up}
@@ -10,7 +10,7 @@ pub returns-in-Some-clause-lent : goal.returns-in-Some-clause-lent
 returns-in-Some-clause-lent g c profile moment =
     let edition = c.as_str-edition.result.now in
     rw (← c.as_str-edition.ensures.text)
-    (rw (sym c.refused.ensures) (refuses profile _ moment _ _ _ (refused 50) (c.in_ok-standing_of.ensures.look profile)
+    (rw c.refused.ensures (refuses profile _ moment _ _ _ (refused 50) (c.in_ok-standing_of.ensures.look profile)
     (λ p meets says. refused_for _ 50 (taken_50 p edition (says ∙ ap (option_map standing_text) c.in-Some.is)))))
 
 pub returns-in_err-standing_of-clause-lent : goal.returns-in_err-standing_of-clause-lent

@@ -6,15 +6,15 @@ use Rattle.mm_edition.proofs.editions.standing_of.Goals as goal
 
 pub returns-in-Some-standing_named-clause-look : goal.returns-in-Some-standing_named-clause-look
 returns-in-Some-standing_named-clause-look g c profile =
-    look_as profile _ _ _ _ (c.in_ok-written_state.ensures.look profile) (λ p says. says ∙ ap (option_map string_bytes) c.in-Some.is ∙ ap Some (sym c.as_str.ensures.value ∙ c.in-Some-standing_named.ensures))
+    look_as profile _ _ _ _ (c.in_ok-text.ensures.look profile) (λ p says. says ∙ ap (option_map string_bytes) c.in-Some.is ∙ ap Some (sym c.as_str.ensures.value ∙ c.in-Some-standing_named.ensures))
 
-pub returns-in-None-standing_named-clause-look : goal.returns-in-None-standing_named-clause-look
-returns-in-None-standing_named-clause-look g c profile = look_denied profile _ _ _ (c.in_ok-written_state.ensures.look profile)
+pub returns-in-Some-clause-look : goal.returns-in-Some-clause-look
+returns-in-Some-clause-look g c profile = look_denied profile _ _ _ (c.in_ok-text.ensures.look profile)
 
-pub returns-in-None-clause-look : goal.returns-in-None-clause-look
-returns-in-None-clause-look g c profile = look_as profile _ _ _ _ (c.in_ok-written_state.ensures.look profile) (λ p says. says ∙ ap (option_map string_bytes) c.in-None.is)
+pub returns-clause-look : goal.returns-clause-look
+returns-clause-look g c profile = look_as profile _ _ _ _ (c.in_ok-text.ensures.look profile) (λ p says. says ∙ ap (option_map string_bytes) c.in-None.is)
 
-pub returns-in_err-written_state-clause-look : goal.returns-in_err-written_state-clause-look
-returns-in_err-written_state-clause-look g c profile =
+pub returns-in_err-text-clause-look : goal.returns-in_err-text-clause-look
+returns-in_err-text-clause-look g c profile =
     let p = err_from_is_err_and c.from_residual.result c.from_residual.ensures.1 in
-    rw (p.1, p.2) (look_failed profile _ _ _ (c.in_err-written_state.ensures.look profile))
+    rw (p.1, p.2) (look_failed profile _ _ _ (c.in_err-text.ensures.look profile))

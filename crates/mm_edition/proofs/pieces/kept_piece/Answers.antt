@@ -1,14 +1,12 @@
-use Rattle.std.proofs.Common.{◌≡◌, ℕ, ℤ, List, Ok, Err, Some, None, Option, option_map, sym, ap, subst, ◌∙◌}
+use Rattle.std.proofs.Common.{◌≡◌, ℕ, List, Ok, Err, Some, None, Option, option_map, sym, ap, subst, ◌∙◌}
 use Rattle.std.proofs.Math.Facts.{to_z-of_z}
 use Rattle.std.proofs.lemmas.Result.{err_from_is_err_and}
 use Rattle.std.specs.FinMap.{get}
 use Rattle.std.specs.Prelude.{⊤}
 use Rattle.sqlite.specs.Held.{state}
-use Rattle.sqlite.specs.Order.{column}
 use Rattle.mm_definitions.specs.Keys.{piece}
 use Rattle.mm_store.specs.Blobs.{StandsAt}
 use Rattle.mm_store.specs.Kept.{no_spare}
-use Rattle.mm_store.specs.Rows.{maybe}
 use Rattle.mm_store.proofs.Asking.{told_fault}
 use Rattle.mm_blobs.specs.Views.{View, IsSeen}
 use Rattle.mm_blobs.proofs.Moving.{then_moves_open, then_failed, moves_as, move_untold}
@@ -25,21 +23,21 @@ returns-in_default-clause-look g c profile =
     let s1 = state g.S.Store c.row_of_piece.new.tx.conn.now in
     let key = piece a.edition.now a.number in
     tells_of profile s0 s1 (Ok None) (λ p kept. get p.pieces key ≡ option_map kept_row kept)
-    (moves_as {Less = λ base x kept y. (y ≡ x) × IsSeen no_spare profile s1 base y × (get y.content.pieces key ≡ option_map kept_row kept)} s0 s1 c.in_ok-row_of_piece.field-0 None ((rw (to_z-of_z c.ranges.number) at c.in_ok-row_of_piece.ensures.shown) profile no_spare) (λ base x it. it)
+    (moves_as {Less = λ base x kept y. (y ≡ x) × IsSeen no_spare profile s1 base y × (get y.content.pieces key ≡ option_map kept_row kept)} s0 s1 c.in_ok-row.field-0 None ((rw (to_z-of_z c.ranges.number) at c.in_ok-row.ensures.shown) profile no_spare) (λ base x it. it)
     (λ base x y it last. (last.0, last.1, no_row_tells y.kept.shelf (get y.kept.pieces key) (get y.content.pieces key) (subst (IsPieceRow (get y.kept.pieces key)) c.in_default.is last.2) last.3)))
 
-pub returns-in_err-row_of_piece-clause-look : goal.returns-in_err-row_of_piece-clause-look
-returns-in_err-row_of_piece-clause-look g c profile =
+pub returns-in_err-row-clause-look : goal.returns-in_err-row-clause-look
+returns-in_err-row-clause-look g c profile =
     let p = err_from_is_err_and c.from_residual.result c.from_residual.ensures.1 in
     let key = piece c.args.edition.now c.args.number in
-    rw (p.1, p.2) (tidy_untold profile _ _ (λ p kept. get p.pieces key ≡ option_map kept_row kept) c.in_err-row_of_piece.field-0.0 (c.in_err-row_of_piece.ensures.shown profile no_spare))
+    rw (p.1, p.2) (tidy_untold profile _ _ (λ p kept. get p.pieces key ≡ option_map kept_row kept) c.in_err-row.field-0.0 (c.in_err-row.ensures.shown profile no_spare))
 
 pub returns-in_err-bytes-clause-look : goal.returns-in_err-bytes-clause-look
 returns-in_err-bytes-clause-look g c profile =
     let p = err_from_is_err_and c.from_residual-in_err-bytes.result c.from_residual-in_err-bytes.ensures.1 in
     let key = piece c.args.edition.now c.args.number in
     rw (p.1, p.2) (tidy_untold profile _ _ (λ p kept. get p.pieces key ≡ option_map kept_row kept) c.in_err-bytes.field-0.0
-    (then_failed _ _ _ c.in_ok-row_of_piece.field-0 c.in_err-bytes.field-0.0 (c.in_ok-row_of_piece.ensures.shown profile no_spare) (c.in_err-bytes.ensures.told profile no_spare) (λ base x y up it mid. (up, mid.1))))
+    (then_failed _ _ _ c.in_ok-row.field-0 c.in_err-bytes.field-0.0 (c.in_ok-row.ensures.shown profile no_spare) (c.in_err-bytes.ensures.told profile no_spare) (λ base x y up it mid. (up, mid.1))))
 
 pub returns-in-Ok-clause-look : goal.returns-in-Ok-clause-look
 returns-in-Ok-clause-look g c profile =
@@ -51,7 +49,7 @@ returns-in-Ok-clause-look g c profile =
     let row = c.in-Some.row in
     let bytes = c.in_ok-bytes.bytes in
     let both = then_moves_open (λ base x it y. (y ≡ x) × IsSeen no_spare profile s2 base y
-    × ((z : PieceRow) → Shows row z → bytes_or_none it ≡ z.bytes → get y.content.pieces key ≡ Some z)) s0 s1 s2 c.in_ok-row_of_piece.field-0 (Ok bytes) ((rw (to_z-of_z c.ranges.number) at c.in_ok-row_of_piece.ensures.shown) profile no_spare) (c.in_ok-bytes.ensures.told profile no_spare)
+    × ((z : PieceRow) → Shows row z → bytes_or_none it ≡ z.bytes → get y.content.pieces key ≡ Some z)) s0 s1 s2 c.in_ok-row.field-0 (Ok bytes) ((rw (to_z-of_z c.ranges.number) at c.in_ok-row.ensures.shown) profile no_spare) (c.in_ok-bytes.ensures.told profile no_spare)
     (λ base x y up it mid. (up, mid.1))
     (λ base x y z it o mid last. (
       last.0 ∙ mid.0,
@@ -65,8 +63,8 @@ returns-in-Ok-clause-look g c profile =
     (moves_as {Less = λ base x it y. (y ≡ x) × IsSeen no_spare profile s2 base y × (get y.content.pieces key ≡ option_map kept_row it)} s0 s2 bytes (Some kept) both (λ base x it. it)
     (λ base x y it last. (last.0, last.1, last.2 (kept_row kept) c.in-Ok.ensures.shown (ap bytes_or_none (sym c.in-Ok.ensures.bytes)))))
 
-pub returns-in-Err-clause-look : goal.returns-in-Err-clause-look
-returns-in-Err-clause-look g c profile =
+pub returns-clause-look : goal.returns-clause-look
+returns-clause-look g c profile =
     let a = c.args in
     let s0 = state g.S.Store a.tx.now.conn.now in
     let s1 = state g.S.Store c.row_of_piece.new.tx.conn.now in
@@ -75,7 +73,7 @@ returns-in-Err-clause-look g c profile =
     let row = c.in-Some.row in
     let bytes = c.in_ok-bytes.bytes in
     let both = then_moves_open (λ base x it y. (y ≡ x) × IsSeen no_spare profile s2 base y
-    × ((z : PieceRow) → Shows row z → bytes_or_none it ≡ z.bytes → get y.content.pieces key ≡ Some z)) s0 s1 s2 c.in_ok-row_of_piece.field-0 (Ok bytes) ((rw (to_z-of_z c.ranges.number) at c.in_ok-row_of_piece.ensures.shown) profile no_spare) (c.in_ok-bytes.ensures.told profile no_spare)
+    × ((z : PieceRow) → Shows row z → bytes_or_none it ≡ z.bytes → get y.content.pieces key ≡ Some z)) s0 s1 s2 c.in_ok-row.field-0 (Ok bytes) ((rw (to_z-of_z c.ranges.number) at c.in_ok-row.ensures.shown) profile no_spare) (c.in_ok-bytes.ensures.told profile no_spare)
     (λ base x y up it mid. (up, mid.1))
     (λ base x y z it o mid last. (
       last.0 ∙ mid.0,

@@ -24,18 +24,18 @@ returns-in_err-standing_of-clause-look g c profile =
 
 pub returns-in-Some-clause-look : goal.returns-in-Some-clause-look
 returns-in-Some-clause-look g c profile =
-    look_as profile _ _ _ _ (looks_then profile _ _ _ _ _ (c.in_ok-standing_of.ensures.look profile) ((rw (to_z-of_z c.ranges.number) at c.in_ok-kept_piece.ensures.look) profile))
+    look_as profile _ _ _ _ (looks_then profile _ _ _ _ _ (c.in_ok-standing_of.ensures.look profile) ((rw (to_z-of_z c.ranges.number) at c.in_ok-kept.ensures.look) profile))
     (λ p says meets low q is. placed profile p c.args.edition.now c.args.number q meets low (says.0 ∙ ap (option_map standing_text) (c.in-Some-Open.is ∙ ap Some c.in-Some-Open.field-0-is))
     _ _ is (says.1 ∙ ap (option_map kept_row) c.in-Some.is) c.place_at.result c.place_at.ensures)
 
-pub returns-in-None-kept_piece-clause-look : goal.returns-in-None-kept_piece-clause-look
-returns-in-None-kept_piece-clause-look g c profile =
+pub returns-in-None-2-clause-look : goal.returns-in-None-2-clause-look
+returns-in-None-2-clause-look g c profile =
     look_weaker profile _ _ _
-    (looks_then profile _ _ _ _ _ (looks_then profile _ _ _ _ _ (c.in_ok-standing_of.ensures.look profile) ((rw (to_z-of_z c.ranges.number) at c.in_ok-kept_piece.ensures.look) profile)) ((rw (to_z-of_z c.ranges.number) at c.place_behind.ensures.look) profile))
+    (looks_then profile _ _ _ _ _ (looks_then profile _ _ _ _ _ (c.in_ok-standing_of.ensures.look profile) ((rw (to_z-of_z c.ranges.number) at c.in_ok-kept.ensures.look) profile)) ((rw (to_z-of_z c.ranges.number) at c.place_behind.ensures.look) profile))
     (λ p place says meets low q is. unplaced profile p c.args.edition.now c.args.number q meets low (says.0.0 ∙ ap (option_map standing_text) (c.in-Some-Open.is ∙ ap Some c.in-Some-Open.field-0-is))
-    (says.0.1 ∙ ap (option_map kept_row) c.in-None-kept_piece.is) place says.1)
+    (says.0.1 ∙ ap (option_map kept_row) c.in-None-2.is) place says.1)
 
-pub returns-in_err-kept_piece-clause-look : goal.returns-in_err-kept_piece-clause-look
-returns-in_err-kept_piece-clause-look g c profile =
-    let p = err_from_is_err_and c.from_residual-in_err-kept_piece.result c.from_residual-in_err-kept_piece.ensures.1 in
-    rw (p.1, p.2) (look_failed profile _ _ _ (looks_then profile _ _ _ _ _ (c.in_ok-standing_of.ensures.look profile) (c.in_err-kept_piece.ensures.look profile)))
+pub returns-in_err-kept-clause-look : goal.returns-in_err-kept-clause-look
+returns-in_err-kept-clause-look g c profile =
+    let p = err_from_is_err_and c.from_residual-in_err-kept.result c.from_residual-in_err-kept.ensures.1 in
+    rw (p.1, p.2) (look_failed profile _ _ _ (looks_then profile _ _ _ _ _ (c.in_ok-standing_of.ensures.look profile) (c.in_err-kept.ensures.look profile)))

@@ -1,4 +1,4 @@
-use Rattle.std.proofs.Common.{refl, subst, sym}
+use Rattle.std.proofs.Common.{refl, subst}
 use Rattle.std.proofs.Math.Facts.{to_z-of_z}
 use Rattle.std.proofs.lemmas.Result.{err_from_is_err_and}
 use Rattle.mm_store.proofs.Refusals.{refused, refused_for, accepted_for}
@@ -21,7 +21,7 @@ returns-in-Equal-clause-lent g c profile moment =
 pub returns-in-Refused-clause-lent : goal.returns-in-Refused-clause-lent
 returns-in-Refused-clause-lent g c profile moment =
     let a = c.args in
-    rw (sym c.refused.ensures) (refuses profile _ moment _ _ _ (refused c.in-Refused.number) ((rw (to_z-of_z c.ranges.number) at c.in_ok-place_of.ensures.look) profile)
+    rw c.refused.ensures (refuses profile _ moment _ _ _ (refused c.in-Refused.number) ((rw (to_z-of_z c.ranges.number) at c.in_ok-place_of.ensures.look) profile)
     (λ p meets says.
     refused_for _ c.in-Refused.number (subst (IsPlace p a.edition.now a.number a.piece.now) c.in-Refused.is (says meets c.requires a.piece.now c.as_written-written.ensures))))
 

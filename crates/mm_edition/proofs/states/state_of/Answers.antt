@@ -8,7 +8,7 @@ use Rattle.mm_edition.proofs.states.state_of.Goals as goal
 
 pub returns-in-Some-clause-look : goal.returns-in-Some-clause-look
 returns-in-Some-clause-look g c profile =
-    look_as profile _ _ _ _ (looks_then profile _ _ _ _ _ (c.in_ok-standing_of.ensures.look profile) (c.in_ok-last_number.ensures.look profile))
+    look_as profile _ _ _ _ (looks_then profile _ _ _ _ _ (c.in_ok-standing_of.ensures.look profile) (c.in_ok-number-in-Some-Open.ensures.look profile))
     (λ p says meets.
     let open_is = says.0 ∙ ap (option_map standing_text) (c.in-Some-Open.is ∙ ap Some c.in-Some-Open.field-0-is) in
     (open_is, count_is profile p c.args.edition.now meets open_is _ (subst (IsLast p.pieces c.args.edition.now) c.in-Some.is says.1)))
@@ -16,24 +16,24 @@ returns-in-Some-clause-look g c profile =
 pub returns-in-None-clause-look : goal.returns-in-None-clause-look
 returns-in-None-clause-look g c profile = look_as profile _ _ _ _ (c.in_ok-standing_of.ensures.look profile) (λ p says meets. says ∙ ap (option_map standing_text) c.in-None.is)
 
-pub returns-in-None-last_number-clause-look : goal.returns-in-None-last_number-clause-look
-returns-in-None-last_number-clause-look g c profile =
-    look_as profile _ _ _ _ (looks_then profile _ _ _ _ _ (c.in_ok-standing_of.ensures.look profile) (c.in_ok-last_number.ensures.look profile))
+pub returns-in-None-2-clause-look : goal.returns-in-None-2-clause-look
+returns-in-None-2-clause-look g c profile =
+    look_as profile _ _ _ _ (looks_then profile _ _ _ _ _ (c.in_ok-standing_of.ensures.look profile) (c.in_ok-number-in-Some-Open.ensures.look profile))
     (λ p says meets.
     let open_is = says.0 ∙ ap (option_map standing_text) (c.in-Some-Open.is ∙ ap Some c.in-Some-Open.field-0-is) in
-    (open_is, none_is profile p c.args.edition.now meets open_is (subst (IsLast p.pieces c.args.edition.now) c.in-None-last_number.is says.1)))
+    (open_is, none_is profile p c.args.edition.now meets open_is (subst (IsLast p.pieces c.args.edition.now) c.in-None-2.is says.1)))
 
 pub returns-in-Some-Published-clause-look : goal.returns-in-Some-Published-clause-look
 returns-in-Some-Published-clause-look g c profile =
     look_as profile _ _ _ _ (c.in_ok-standing_of.ensures.look profile)
     (λ p says meets. says ∙ ap (option_map standing_text) (c.in-Some-Published.is ∙ ap Some c.in-Some-Published.field-0-is))
 
-pub returns-in_err-last_number-clause-look : goal.returns-in_err-last_number-clause-look
-returns-in_err-last_number-clause-look g c profile =
-    let p = err_from_is_err_and c.from_residual.result c.from_residual.ensures.1 in
-    rw (p.1, p.2) (look_failed profile _ _ _ (looks_then profile _ _ _ _ _ (c.in_ok-standing_of.ensures.look profile) (c.in_err-last_number.ensures.look profile)))
+pub returns-in_err-number-in-Some-Open-clause-look : goal.returns-in_err-number-in-Some-Open-clause-look
+returns-in_err-number-in-Some-Open-clause-look g c profile =
+    let p = err_from_is_err_and c.from_residual-in_err-number-in-Some-Open.result c.from_residual-in_err-number-in-Some-Open.ensures.1 in
+    rw (p.1, p.2) (look_failed profile _ _ _ (looks_then profile _ _ _ _ _ (c.in_ok-standing_of.ensures.look profile) (c.in_err-number-in-Some-Open.ensures.look profile)))
 
 pub returns-in_err-standing_of-clause-look : goal.returns-in_err-standing_of-clause-look
 returns-in_err-standing_of-clause-look g c profile =
-    let p = err_from_is_err_and c.from_residual-in_err-standing_of.result c.from_residual-in_err-standing_of.ensures.1 in
+    let p = err_from_is_err_and c.from_residual.result c.from_residual.ensures.1 in
     rw (p.1, p.2) (look_failed profile _ _ _ (c.in_err-standing_of.ensures.look profile))

@@ -1,6 +1,6 @@
-use Rattle.std.proofs.Common.{◌≡◌, Ok, Some, option_map, ap, subst, ◌∙◌, rules, w64, to_z, of_z, to_z-of_z}
+use Rattle.std.proofs.Common.{◌≡◌, Ok, Some, ap, ◌∙◌, to_z, of_z, to_z-of_z}
 use Rattle.std.proofs.lemmas.Result.{err_from_is_err_and}
-use Rattle.std.specs.FinMap.{get, insert}
+use Rattle.std.specs.FinMap.{insert}
 use Rattle.sqlite.specs.Held.{state}
 use Rattle.mm_definitions.specs.Keys.{item}
 use Rattle.mm_definitions.specs.Package.{Package}

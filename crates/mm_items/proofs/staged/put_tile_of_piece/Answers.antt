@@ -8,7 +8,7 @@ use Rattle.mm_items.proofs.staged.put_tile_of_piece.Goals as goal
 pub returns-in-Some-clause-lent : goal.returns-in-Some-clause-lent
 returns-in-Some-clause-lent g c profile bytes =
     rw (← c.as_str-table.ensures.text)
-    (rw (sym c.refused.ensures) (refuses_at profile _ _ _ _ _ (refused c.in-Some.number) (c.in_ok-number.ensures.look profile) (λ p meets says. refused_for _ c.in-Some.number (sym (says meets bytes) ∙ c.in-Some.is))))
+    (rw c.refused.ensures (refuses_at profile _ _ _ _ _ (refused c.in-Some.number) (c.in_ok-number.ensures.look profile) (λ p meets says. refused_for _ c.in-Some.number (sym (says meets bytes) ∙ c.in-Some.is))))
 
 pub returns-in_err-number-clause-lent : goal.returns-in_err-number-clause-lent
 returns-in_err-number-clause-lent g c profile bytes =

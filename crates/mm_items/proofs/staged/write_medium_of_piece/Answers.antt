@@ -1,4 +1,4 @@
-use Rattle.std.proofs.Common.{◌≡◌, Ok, Some, true, ap, ◌∙◌, rules, w64, to_z, of_z, to_z-of_z}
+use Rattle.std.proofs.Common.{◌≡◌, ap, ◌∙◌, rules, w64, to_z, of_z, to_z-of_z}
 use Rattle.std.proofs.lemmas.Result.{err_from_is_err_and}
 use Rattle.std.specs.FinMap.{insert}
 use Rattle.sqlite.specs.Held.{state}
@@ -6,7 +6,7 @@ use Rattle.mm_definitions.specs.Keys.{item}
 use Rattle.mm_definitions.specs.Package.{Package}
 use Rattle.mm_store.specs.Kept.{no_spare}
 use Rattle.mm_blobs.specs.Views.{View, IsSeen, spare_but}
-use Rattle.mm_blobs.proofs.Moving.{then_moves, moves_where}
+use Rattle.mm_blobs.proofs.Moving.{then_moves}
 use Rattle.mm_blobs.proofs.Opening.{tidy_change, seen_looser}
 use Rattle.mm_items.proofs.Staging.{failed_where}
 use Rattle.mm_items.specs.Staged.{HasBytes}

@@ -1,7 +1,7 @@
-use Rattle.std.proofs.Common.{◌≡◌, Ok, Err, pos, option_map, refl, ap, ◌∙◌}
+use Rattle.std.proofs.Common.{◌≡◌, Ok, pos, ap, ◌∙◌}
 use Rattle.std.proofs.lemmas.Result.{err_from_is_err_and}
 use Rattle.std.specs.Prelude.{⊤}
-use Rattle.std.specs.FinMap.{get, remove}
+use Rattle.std.specs.FinMap.{remove}
 use Rattle.sqlite.specs.Held.{state}
 use Rattle.mm_definitions.specs.Keys.{tile}
 use Rattle.mm_definitions.specs.Package.{Package}

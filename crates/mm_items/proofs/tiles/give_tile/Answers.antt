@@ -1,13 +1,13 @@
-use Rattle.std.proofs.Common.{◌≡◌, Ok, Some, pos, ap, subst, ◌∙◌, rules, w64, to_z, of_z, to_z-of_z}
+use Rattle.std.proofs.Common.{◌≡◌, Ok, Some, pos, ap, ◌∙◌, to_z, of_z, to_z-of_z}
 use Rattle.std.proofs.lemmas.Result.{err_from_is_err_and}
-use Rattle.std.specs.FinMap.{get, insert}
+use Rattle.std.specs.FinMap.{insert}
 use Rattle.sqlite.specs.Held.{state}
 use Rattle.mm_definitions.specs.Keys.{tile}
 use Rattle.mm_definitions.specs.Package.{Package}
 use Rattle.mm_store.specs.Blobs.{bytes_at}
 use Rattle.mm_blobs.specs.Entries.{spare_freed}
 use Rattle.mm_blobs.specs.Views.{View, IsSeen, spare_but}
-use Rattle.mm_blobs.proofs.Moving.{then_moves, then_moves_open, then_failed, moves_where, moves_less, move_failed}
+use Rattle.mm_blobs.proofs.Moving.{then_moves, then_moves_open, then_failed, moves_where, move_failed}
 use Rattle.mm_items.proofs.tiles.give_tile.Goals as goal
 
 pub returns-in_err-stands-clause-given : goal.returns-in_err-stands-clause-given

@@ -1,4 +1,4 @@
-use Rattle.std.proofs.Common.{◌≡◌, inr, Ok, Some, pos, refl, ap, ◌∙◌, rules, w64, to_z, of_z, to_z-of_z}
+use Rattle.std.proofs.Common.{◌≡◌, inr, pos, refl, ap, ◌∙◌, rules, w64, to_z, of_z, to_z-of_z}
 use Rattle.std.proofs.lemmas.Result.{err_from_is_err_and}
 use Rattle.std.specs.Prelude.{⊤}
 use Rattle.std.specs.FinMap.{insert}
@@ -7,7 +7,7 @@ use Rattle.mm_definitions.specs.Keys.{tile}
 use Rattle.mm_definitions.specs.Package.{Package}
 use Rattle.mm_store.specs.Kept.{no_spare}
 use Rattle.mm_blobs.specs.Views.{View, IsSeen, spare_too, spare_but}
-use Rattle.mm_blobs.proofs.Moving.{then_moves, then_failed}
+use Rattle.mm_blobs.proofs.Moving.{then_moves}
 use Rattle.mm_blobs.proofs.Naming.{named_again}
 use Rattle.mm_blobs.proofs.Opening.{tidies, tidy_failed, seen_looser}
 use Rattle.mm_blobs.proofs.Releasing.{commits_nothing}

@@ -1,11 +1,10 @@
-use Rattle.std.proofs.Common.{sym}
 use Rattle.std.proofs.lemmas.Result.{err_from_is_err_and}
 use Rattle.mm_layout.proofs.Touched.{refused_25, look_failed, touched, change_failed}
 use Rattle.mm_layout.proofs.contents.touch.Goals as goal
 
 pub returns-then-not-branch-clause-touched : goal.returns-then-not-branch-clause-touched
 returns-then-not-branch-clause-touched g c profile =
-    rw (← c.as_str-table.ensures.text) (rw (sym c.refused.ensures) (refused_25 profile _ _ _ _ _ c.if-not-branch.true (c.in_ok-has_table.ensures.look profile)))
+    rw (← c.as_str-table.ensures.text) (rw c.refused.ensures (refused_25 profile _ _ _ _ _ c.if-not-branch.true (c.in_ok-has_table.ensures.look profile)))
 
 pub returns-in_err-has_table-clause-touched : goal.returns-in_err-has_table-clause-touched
 returns-in_err-has_table-clause-touched g c profile =

@@ -16,7 +16,7 @@ pub returns-in-Some-clause-lent : goal.returns-in-Some-clause-lent
 returns-in-Some-clause-lent g c profile =
     let r = c.ranges in
     rw (← c.as_str-table.ensures.text)
-    (rw (sym c.refused.ensures) (refuses_at profile _ _ _ _ _ (refused c.in-Some.number) ((rw (to_z-of_z r.srs, to_z-of_z r.min_x, to_z-of_z r.min_y, to_z-of_z r.max_x, to_z-of_z r.max_y) at c.in_ok-number.ensures.look) profile)
+    (rw c.refused.ensures (refuses_at profile _ _ _ _ _ (refused c.in-Some.number) ((rw (to_z-of_z r.srs, to_z-of_z r.min_x, to_z-of_z r.min_y, to_z-of_z r.max_x, to_z-of_z r.max_y) at c.in_ok-number.ensures.look) profile)
     (λ p meets says. refused_for _ c.in-Some.number (sym (says c.args.step) ∙ c.in-Some.is))))
 
 pub returns-in_err-number-clause-lent : goal.returns-in_err-number-clause-lent
@@ -48,7 +48,7 @@ returns-in-Two-clause-lent g c profile =
     let none = sym c.in_default.is ∙ says a.step in (
       unregistered profile p meets table (pyramid_is_new p table a.identifier.now a.srs a.min_x a.min_y a.max_x a.max_y a.step none),
       accepted_for _ (sym none),
-      ap (with_zoom_row (with_pyramid p table a.identifier.now a.srs bounds a.step a.at.now) table) c.in-Two.is,
+      ap (with_zoom_row (with_pyramid p table a.identifier.now a.srs bounds a.step a.last_change.now) table) c.in-Two.is,
     )))
 
 pub returns-in_ok-insert_zoom_row-in-Other-clause-lent : goal.returns-in_ok-insert_zoom_row-in-Other-clause-lent
@@ -68,7 +68,7 @@ returns-in_ok-insert_zoom_row-in-Other-clause-lent g c profile =
     let new = pyramid_is_new p table a.identifier.now a.srs a.min_x a.min_y a.max_x a.max_y a.step none in (
       (unregistered profile p meets table new, no_zoom_row profile p meets table new),
       accepted_for _ (sym none),
-      ap (with_zoom_row (with_pyramid p table a.identifier.now a.srs bounds a.step a.at.now) table) c.in-Other.is,
+      ap (with_zoom_row (with_pyramid p table a.identifier.now a.srs bounds a.step a.last_change.now) table) c.in-Other.is,
     )))
 
 pub returns-in_err-insert_zoom_row-in-Other-clause-lent : goal.returns-in_err-insert_zoom_row-in-Other-clause-lent

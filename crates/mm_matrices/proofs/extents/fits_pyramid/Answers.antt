@@ -13,15 +13,15 @@ pub returns-in-Some-clause-look : goal.returns-in-Some-clause-look
 returns-in-Some-clause-look g c profile =
     let a = c.args in
     let told = fits_is (box_of c.in-Some.extent) (grid a.matrix.now) c.fits.result c.fits.ensures in
-    look_as profile _ _ _ _ (c.in_ok-extent_of.ensures.look profile)
+    look_as profile _ _ _ _ (c.in_ok-extent.ensures.look profile)
     (λ p says.
     let set = set_of (get p.sets a.table.now) (box_of c.in-Some.extent) (says ∙ ap (option_map box_of) c.in-Some.is) in
     (set.0, set.1, told ∙ ap (λ (b : Box). is_product b (grid a.matrix.now)) (sym set.2)))
 
 pub returns-in-None-clause-look : goal.returns-in-None-clause-look
-returns-in-None-clause-look g c profile = look_denied profile _ _ _ (c.in_ok-extent_of.ensures.look profile)
+returns-in-None-clause-look g c profile = look_denied profile _ _ _ (c.in_ok-extent.ensures.look profile)
 
-pub returns-in_err-extent_of-clause-look : goal.returns-in_err-extent_of-clause-look
-returns-in_err-extent_of-clause-look g c profile =
+pub returns-in_err-extent-clause-look : goal.returns-in_err-extent-clause-look
+returns-in_err-extent-clause-look g c profile =
     let p = err_from_is_err_and c.from_residual.result c.from_residual.ensures.1 in
-    rw (p.1, p.2) (look_failed profile _ _ _ (c.in_err-extent_of.ensures.look profile))
+    rw (p.1, p.2) (look_failed profile _ _ _ (c.in_err-extent.ensures.look profile))

@@ -9,12 +9,12 @@ use Rattle.mm_matrices.proofs.matrices.add_matrix.Goals as goal
 pub returns-in-Some-clause-lent : goal.returns-in-Some-clause-lent
 returns-in-Some-clause-lent g c profile =
     rw (← c.as_str-table.ensures.text)
-    (rw (sym c.refused.ensures) (refuses_at profile _ _ _ _ _ (refused c.in-Some.number) (c.in_ok-matrix_refusal.ensures.look profile) (λ p meets says. refused_for _ c.in-Some.number (sym (says meets) ∙ c.in-Some.is))))
+    (rw c.refused.ensures (refuses_at profile _ _ _ _ _ (refused c.in-Some.number) (c.in_ok-number.ensures.look profile) (λ p meets says. refused_for _ c.in-Some.number (sym (says meets) ∙ c.in-Some.is))))
 
-pub returns-in_err-matrix_refusal-clause-lent : goal.returns-in_err-matrix_refusal-clause-lent
-returns-in_err-matrix_refusal-clause-lent g c profile =
+pub returns-in_err-number-clause-lent : goal.returns-in_err-number-clause-lent
+returns-in_err-number-clause-lent g c profile =
     let p = err_from_is_err_and c.from_residual.result c.from_residual.ensures.1 in
-    rw (p.1, p.2) (rw (← c.as_str-table.ensures.text) (look_gave_up_at profile _ _ _ _ _ (c.in_err-matrix_refusal.ensures.look profile)))
+    rw (p.1, p.2) (rw (← c.as_str-table.ensures.text) (look_gave_up_at profile _ _ _ _ _ (c.in_err-number.ensures.look profile)))
 
 pub returns-in_err-insert_matrix-clause-lent : goal.returns-in_err-insert_matrix-clause-lent
 returns-in_err-insert_matrix-clause-lent g c profile =
@@ -22,7 +22,7 @@ returns-in_err-insert_matrix-clause-lent g c profile =
     let a = c.args in
     let table = c.as_str-table.result.now in
     rw (p.1, p.2) (rw (← c.as_str-table.ensures.text)
-    (change_gave_up_at profile _ _ _ _ _ _ (c.in_ok-matrix_refusal.ensures.look profile) _ (c.in_err-insert_matrix.ensures.change profile)
+    (change_gave_up_at profile _ _ _ _ _ _ (c.in_ok-number.ensures.look profile) _ (c.in_err-insert_matrix.ensures.change profile)
     (λ p meets says any. matrix_is_new p table a.zoom a.matrix.now (sym c.in_default.is ∙ says meets))))
 
 pub returns-clause-lent : goal.returns-clause-lent
@@ -30,7 +30,7 @@ returns-clause-lent g c profile =
     let a = c.args in
     let table = c.as_str-table.result.now in
     rw (← c.as_str-table.ensures.text)
-    (accepts_at profile _ _ _ _ _ _ (c.in_ok-matrix_refusal.ensures.look profile) _ (changes_then profile _ _ _ _ _ (c.in_ok-insert_matrix.ensures.change profile) (c.in_ok-set_last_change.ensures.change profile) (λ p new. tt))
+    (accepts_at profile _ _ _ _ _ _ (c.in_ok-number.ensures.look profile) _ (changes_then profile _ _ _ _ _ (c.in_ok-insert_matrix.ensures.change profile) (c.in_ok-set_last_change.ensures.change profile) (λ p new. tt))
     (λ p meets says any.
     let none = sym c.in_default.is ∙ says meets in
     (matrix_is_new p table a.zoom a.matrix.now none, accepted_for _ (sym none), refl)))
@@ -41,5 +41,5 @@ returns-in_err-set_last_change-clause-lent g c profile =
     let a = c.args in
     let table = c.as_str-table.result.now in
     rw (p.1, p.2) (rw (← c.as_str-table.ensures.text)
-    (change_gave_up_at profile _ _ _ _ _ _ (c.in_ok-matrix_refusal.ensures.look profile) _ (changes_then profile _ _ _ _ _ (c.in_ok-insert_matrix.ensures.change profile) (c.in_err-set_last_change.ensures.change profile) (λ p new. tt))
+    (change_gave_up_at profile _ _ _ _ _ _ (c.in_ok-number.ensures.look profile) _ (changes_then profile _ _ _ _ _ (c.in_ok-insert_matrix.ensures.change profile) (c.in_err-set_last_change.ensures.change profile) (λ p new. tt))
     (λ p meets says any. matrix_is_new p table a.zoom a.matrix.now (sym c.in_default.is ∙ says meets))))

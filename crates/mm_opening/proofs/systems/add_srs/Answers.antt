@@ -16,7 +16,7 @@ returns-in_err-has_system-clause-lent g c profile moment =
 pub returns-then-branch-clause-lent : goal.returns-then-branch-clause-lent
 returns-then-branch-clause-lent g c profile moment =
     let a = c.args in
-    rw (sym c.refused.ensures) (refuses profile _ moment _ _ _ (refused 20) ((rw (to_z-of_z c.ranges.id) at c.in_ok-has_system.ensures.look) profile)
+    rw c.refused.ensures (refuses profile _ moment _ _ _ (refused 20) ((rw (to_z-of_z c.ranges.id) at c.in_ok-has_system.ensures.look) profile)
     (λ p meets says. srs_taken p a.id a.organization_id a.name.now a.organization.now a.definition.now a.description.now (sym says ∙ c.if-branch.true)))
 
 pub returns-clause-lent : goal.returns-clause-lent

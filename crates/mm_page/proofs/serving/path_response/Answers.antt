@@ -9,7 +9,7 @@ use Rattle.mm_page.proofs.serving.path_response.Goals as goal
 pub returns-in-Some-clause-response : goal.returns-in-Some-clause-response
 returns-in-Some-clause-response g c = λ p on.
     let wanted = asked c.in-Some.wanted in
-    let asks : IsRouted c.args.path.now wanted = rw c.in-Some.is at c.in_ok-read_path.ensures.wanted in
+    let asks : IsRouted c.args.path.now wanted = rw c.in-Some.is at c.in_ok-wanted.ensures.wanted in
     weaker (λ v. v.items ≡ response_of (reply_of p wanted)) (λ v. WritesTo p c.args.path.now v.items) c.reply.result
     (λ v e. inl (wanted, asks, e))
     (given (λ v. v.items) (response_of (reply_of p wanted)) c.reply.result (c.reply.ensures.reply p on))

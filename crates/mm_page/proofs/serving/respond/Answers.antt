@@ -17,7 +17,7 @@ returns-in-Some-clause-response g c =
     let all = under {X = (p : Package) × on p} (λ x v. Writes x.0 c.of.result.now c.of-in-Some.result.now v.items) c.head_response.result (λ x. c.head_response.ensures.response x.0 x.1) in
     weaker _ (λ v. Served on (g.R.Read.remaining (inside c.args.reader.now)) v.items) c.head_response.result
     (λ v w p st input e.
-    let (fits, within, h, is, at) = rw (e, c.in-Some.is) at c.in_ok-read_head.ensures.head in
+    let (fits, within, h, is, at) = rw (e, c.in-Some.is) at c.in_ok-n.ensures.head in
     let method = c.of.ensures ∙ at.method in
     let target = c.of-in-Some.ensures ∙ at.path in
     inl (h, is, subst (λ t. Writes p h.method t v.items) target (subst (λ m. Writes p m c.of-in-Some.result.now v.items) method (w (p, st)))))
@@ -27,7 +27,7 @@ pub returns-in-Some-clause-needed : goal.returns-in-Some-clause-needed
 returns-in-Some-clause-needed g c =
     IfErr-weaker c.head_response.result _ _
     (λ fault asked is input e.
-    let (fits, within, h, head, at) = rw (e, c.in-Some.is) at c.in_ok-read_head.ensures.head in
+    let (fits, within, h, head, at) = rw (e, c.in-Some.is) at c.in_ok-n.ensures.head in
     let it = asked is in
     (h, head, sym (c.of.ensures ∙ at.method) ∙ it.0, it.1, subst (λ t. IsRouted (path_of t) it.1) (c.of-in-Some.ensures ∙ at.path) it.2))
     c.head_response.ensures.needed

@@ -8,48 +8,48 @@ use Rattle.mm_relations.proofs.ends.end_refusal.Goals as goal
 
 pub returns-in_default-clause-look : goal.returns-in_default-clause-look
 returns-in_default-clause-look g c profile =
-    look_as profile _ _ _ _ (c.in_ok-kind_of.ensures.look profile) (λ p says. unregistered_end p c.args.table.now c.args.id (says ∙ ap (option_map kind_text) c.in_default.is))
+    look_as profile _ _ _ _ (c.in_ok-kind.ensures.look profile) (λ p says. unregistered_end p c.args.table.now c.args.id (says ∙ ap (option_map kind_text) c.in_default.is))
 
-pub returns-in_err-kind_of-clause-look : goal.returns-in_err-kind_of-clause-look
-returns-in_err-kind_of-clause-look g c profile =
+pub returns-in_err-kind-clause-look : goal.returns-in_err-kind-clause-look
+returns-in_err-kind-clause-look g c profile =
     let p = err_from_is_err_and c.from_residual.result c.from_residual.ensures.1 in
-    rw (p.1, p.2) (look_failed profile _ _ _ (c.in_err-kind_of.ensures.look profile))
+    rw (p.1, p.2) (look_failed profile _ _ _ (c.in_err-kind.ensures.look profile))
 
 pub returns-then-branch-clause-look : goal.returns-then-branch-clause-look
 returns-then-branch-clause-look g c profile =
     let a = c.args in
-    look_as profile _ _ _ _ (looks_then profile _ _ _ _ _ (c.in_ok-kind_of.ensures.look profile) ((rw (to_z-of_z c.ranges.id) at c.in_ok-has_row.ensures.look) profile))
+    look_as profile _ _ _ _ (looks_then profile _ _ _ _ _ (c.in_ok-kind.ensures.look profile) ((rw (to_z-of_z c.ranges.id) at c.in_ok-has_row-in-Attributes.ensures.look) profile))
     (λ p says. row_end p a.table.now a.id (says.0 ∙ ap (option_map kind_text) (c.in-Some.is ∙ ap Some c.in-Attributes.is)) _ (sym says.1 ∙ c.if-branch.true))
 
 pub returns-else-branch-clause-look : goal.returns-else-branch-clause-look
 returns-else-branch-clause-look g c profile =
     let a = c.args in
-    look_as profile _ _ _ _ (looks_then profile _ _ _ _ _ (c.in_ok-kind_of.ensures.look profile) ((rw (to_z-of_z c.ranges.id) at c.in_ok-has_row.ensures.look) profile))
+    look_as profile _ _ _ _ (looks_then profile _ _ _ _ _ (c.in_ok-kind.ensures.look profile) ((rw (to_z-of_z c.ranges.id) at c.in_ok-has_row-in-Attributes.ensures.look) profile))
     (λ p says. row_end p a.table.now a.id (says.0 ∙ ap (option_map kind_text) (c.in-Some.is ∙ ap Some c.in-Attributes.is)) _ (sym says.1 ∙ c.if-branch.false))
 
-pub returns-in_err-has_row-clause-look : goal.returns-in_err-has_row-clause-look
-returns-in_err-has_row-clause-look g c profile =
-    let p = err_from_is_err_and c.from_residual-in_err-has_row.result c.from_residual-in_err-has_row.ensures.1 in
-    rw (p.1, p.2) (look_failed profile _ _ _ (looks_then profile _ _ _ _ _ (c.in_ok-kind_of.ensures.look profile) (c.in_err-has_row.ensures.look profile)))
+pub returns-in_err-has_row-in-Attributes-clause-look : goal.returns-in_err-has_row-in-Attributes-clause-look
+returns-in_err-has_row-in-Attributes-clause-look g c profile =
+    let p = err_from_is_err_and c.from_residual-in_err-has_row-in-Attributes.result c.from_residual-in_err-has_row-in-Attributes.ensures.1 in
+    rw (p.1, p.2) (look_failed profile _ _ _ (looks_then profile _ _ _ _ _ (c.in_ok-kind.ensures.look profile) (c.in_err-has_row-in-Attributes.ensures.look profile)))
 
 pub returns-then-branch-2-clause-look : goal.returns-then-branch-2-clause-look
 returns-then-branch-2-clause-look g c profile =
     let a = c.args in
-    look_as profile _ _ _ _ (looks_then profile _ _ _ _ _ (c.in_ok-kind_of.ensures.look profile) ((rw (to_z-of_z c.ranges.id) at c.in_ok-has_medium.ensures.look) profile))
+    look_as profile _ _ _ _ (looks_then profile _ _ _ _ _ (c.in_ok-kind.ensures.look profile) ((rw (to_z-of_z c.ranges.id) at c.in_ok-has_medium-in-Media.ensures.look) profile))
     (λ p says. medium_end p a.table.now a.id (says.0 ∙ ap (option_map kind_text) (c.in-Some.is ∙ ap Some c.in-Media.is)) _ (sym says.1 ∙ c.if-branch-2.true))
 
 pub returns-else-branch-2-clause-look : goal.returns-else-branch-2-clause-look
 returns-else-branch-2-clause-look g c profile =
     let a = c.args in
-    look_as profile _ _ _ _ (looks_then profile _ _ _ _ _ (c.in_ok-kind_of.ensures.look profile) ((rw (to_z-of_z c.ranges.id) at c.in_ok-has_medium.ensures.look) profile))
+    look_as profile _ _ _ _ (looks_then profile _ _ _ _ _ (c.in_ok-kind.ensures.look profile) ((rw (to_z-of_z c.ranges.id) at c.in_ok-has_medium-in-Media.ensures.look) profile))
     (λ p says. medium_end p a.table.now a.id (says.0 ∙ ap (option_map kind_text) (c.in-Some.is ∙ ap Some c.in-Media.is)) _ (sym says.1 ∙ c.if-branch-2.false))
 
-pub returns-in_err-has_medium-clause-look : goal.returns-in_err-has_medium-clause-look
-returns-in_err-has_medium-clause-look g c profile =
-    let p = err_from_is_err_and c.from_residual-in_err-has_medium.result c.from_residual-in_err-has_medium.ensures.1 in
-    rw (p.1, p.2) (look_failed profile _ _ _ (looks_then profile _ _ _ _ _ (c.in_ok-kind_of.ensures.look profile) (c.in_err-has_medium.ensures.look profile)))
+pub returns-in_err-has_medium-in-Media-clause-look : goal.returns-in_err-has_medium-in-Media-clause-look
+returns-in_err-has_medium-in-Media-clause-look g c profile =
+    let p = err_from_is_err_and c.from_residual-in_err-has_medium-in-Media.result c.from_residual-in_err-has_medium-in-Media.ensures.1 in
+    rw (p.1, p.2) (look_failed profile _ _ _ (looks_then profile _ _ _ _ _ (c.in_ok-kind.ensures.look profile) (c.in_err-has_medium-in-Media.ensures.look profile)))
 
 pub returns-in-Two-clause-look : goal.returns-in-Two-clause-look
 returns-in-Two-clause-look g c profile =
     let a = c.args in
-    look_as profile _ _ _ _ (c.in_ok-kind_of.ensures.look profile) (λ p says. pyramid_end p a.table.now a.id c.in-Some.kind (says ∙ ap (option_map kind_text) c.in-Some.is) c.in-Two.is)
+    look_as profile _ _ _ _ (c.in_ok-kind.ensures.look profile) (λ p says. pyramid_end p a.table.now a.id c.in-Some.kind (says ∙ ap (option_map kind_text) c.in-Some.is) c.in-Two.is)

@@ -13,27 +13,27 @@ returns-in-Ok-clause-look g c profile =
     let new = state g.S.Store c.first.new.tx.conn.now in
     let mapping = c.args.mapping.now in
     let pair = c.in-Ok.ends in
-    look_as profile _ _ _ _ (ends_look profile old new mapping _ (search rules) _ c.in_ok-first.ensures.asked)
+    look_as profile _ _ _ _ (ends_look profile old new mapping _ (search rules) _ c.in_ok-row.ensures.asked)
     (λ p says. ends_told (get p.relations mapping) c.in-Some.row (subst (EndsShown (get p.relations mapping)) c.in-Some.is says) (string_bytes pair.0) (string_bytes pair.1) c.in-Ok.ensures.0 c.in-Ok.ensures.1)
 
-pub returns-in-Err-clause-look : goal.returns-in-Err-clause-look
-returns-in-Err-clause-look g c profile =
+pub returns-in-Some-clause-look : goal.returns-in-Some-clause-look
+returns-in-Some-clause-look g c profile =
     let old = state g.S.Store c.args.tx.now.conn.now in
     let new = state g.S.Store c.first.new.tx.conn.now in
     let mapping = c.args.mapping.now in
-    rw c.fault_of.ensures (look_told profile _ _ _ c.in-Err.error (ends_look profile old new mapping _ (search rules) _ c.in_ok-first.ensures.asked))
+    rw c.fault_of.ensures (look_told profile _ _ _ c.in-Err.error (ends_look profile old new mapping _ (search rules) _ c.in_ok-row.ensures.asked))
 
-pub returns-in-None-clause-look : goal.returns-in-None-clause-look
-returns-in-None-clause-look g c profile =
+pub returns-clause-look : goal.returns-clause-look
+returns-clause-look g c profile =
     let old = state g.S.Store c.args.tx.now.conn.now in
     let new = state g.S.Store c.first.new.tx.conn.now in
     let mapping = c.args.mapping.now in
-    look_as profile _ _ _ _ (ends_look profile old new mapping _ (search rules) _ c.in_ok-first.ensures.asked)
+    look_as profile _ _ _ _ (ends_look profile old new mapping _ (search rules) _ c.in_ok-row.ensures.asked)
     (λ p says. ap (option_map ends) (subst (EndsShown (get p.relations mapping)) c.in-None.is says))
 
-pub returns-in_err-first-clause-look : goal.returns-in_err-first-clause-look
-returns-in_err-first-clause-look g c profile =
+pub returns-in_err-row-clause-look : goal.returns-in_err-row-clause-look
+returns-in_err-row-clause-look g c profile =
     let p = err_from_is_err_and c.from_residual.result c.from_residual.ensures.1 in
     let old = state g.S.Store c.args.tx.now.conn.now in
     let new = state g.S.Store c.first.new.tx.conn.now in
-    rw (p.1, p.2) (look_failed profile _ _ _ (ends_look profile old new c.args.mapping.now _ (search rules) _ c.in_err-first.ensures.asked))
+    rw (p.1, p.2) (look_failed profile _ _ _ (ends_look profile old new c.args.mapping.now _ (search rules) _ c.in_err-row.ensures.asked))

@@ -13,13 +13,13 @@ pub returns-in-Some-clause-lent : goal.returns-in-Some-clause-lent
 returns-in-Some-clause-lent g c profile moment =
     let r = c.ranges in
     rw (← c.as_str-mapping.ensures.text)
-    (rw (sym c.refused.ensures) (refuses profile _ moment _ _ _ (refused c.in-Some.number) ((rw (to_z-of_z r.base_id, to_z-of_z r.related_id) at c.in_ok-map_refusal.ensures.look) profile)
+    (rw c.refused.ensures (refuses profile _ moment _ _ _ (refused c.in-Some.number) ((rw (to_z-of_z r.base_id, to_z-of_z r.related_id) at c.in_ok-number.ensures.look) profile)
     (λ p meets says. refused_for _ c.in-Some.number (sym says ∙ c.in-Some.is))))
 
-pub returns-in_err-map_refusal-clause-lent : goal.returns-in_err-map_refusal-clause-lent
-returns-in_err-map_refusal-clause-lent g c profile moment =
+pub returns-in_err-number-clause-lent : goal.returns-in_err-number-clause-lent
+returns-in_err-number-clause-lent g c profile moment =
     let p = err_from_is_err_and c.from_residual.result c.from_residual.ensures.1 in
-    rw (p.1, p.2) (rw (← c.as_str-mapping.ensures.text) (look_gave_up profile _ moment _ _ _ (c.in_err-map_refusal.ensures.look profile)))
+    rw (p.1, p.2) (rw (← c.as_str-mapping.ensures.text) (look_gave_up profile _ moment _ _ _ (c.in_err-number.ensures.look profile)))
 
 pub returns-clause-lent : goal.returns-clause-lent
 returns-clause-lent g c profile moment =
@@ -27,7 +27,7 @@ returns-clause-lent g c profile moment =
     let r = c.ranges in
     let mapping = c.as_str-mapping.result.now in
     rw (← c.as_str-mapping.ensures.text)
-    (accepts profile _ moment _ _ _ _ ((rw (to_z-of_z r.base_id, to_z-of_z r.related_id) at c.in_ok-map_refusal.ensures.look) profile) _
+    (accepts profile _ moment _ _ _ _ ((rw (to_z-of_z r.base_id, to_z-of_z r.related_id) at c.in_ok-number.ensures.look) profile) _
     ((rw (to_z-of_z r.base_id, to_z-of_z r.related_id) at c.in_ok-insert_pairing.ensures.change) profile)
     (λ p meets says.
     let none = sym c.in_default.is ∙ says in
@@ -40,6 +40,6 @@ returns-in_err-insert_pairing-clause-lent g c profile moment =
     let r = c.ranges in
     let mapping = c.as_str-mapping.result.now in
     rw (p.1, p.2) (rw (← c.as_str-mapping.ensures.text)
-    (change_gave_up profile _ moment _ _ _ _ ((rw (to_z-of_z r.base_id, to_z-of_z r.related_id) at c.in_ok-map_refusal.ensures.look) profile) _
+    (change_gave_up profile _ moment _ _ _ _ ((rw (to_z-of_z r.base_id, to_z-of_z r.related_id) at c.in_ok-number.ensures.look) profile) _
     ((rw (to_z-of_z r.base_id, to_z-of_z r.related_id) at c.in_err-insert_pairing.ensures.change) profile)
     (λ p meets says. none_of (get p.pairings (pairing mapping a.base_id a.related_id)) (map_is_new p mapping a.base_id a.related_id (sym c.in_default.is ∙ says)))))

@@ -9,19 +9,19 @@ pub returns-in-Some-clause-lent : goal.returns-in-Some-clause-lent
 returns-in-Some-clause-lent g c profile moment =
     let r = c.ranges in
     rw (← c.as_str-mapping.ensures.text)
-    (rw (sym c.refused.ensures) (refuses profile _ moment _ _ _ (refused c.in-Some.number) ((rw (to_z-of_z r.base_id, to_z-of_z r.related_id) at c.in_ok-map_drop_refusal.ensures.look) profile)
+    (rw c.refused.ensures (refuses profile _ moment _ _ _ (refused c.in-Some.number) ((rw (to_z-of_z r.base_id, to_z-of_z r.related_id) at c.in_ok-number.ensures.look) profile)
     (λ p meets says. refused_for _ c.in-Some.number (sym says ∙ c.in-Some.is))))
 
-pub returns-in_err-map_drop_refusal-clause-lent : goal.returns-in_err-map_drop_refusal-clause-lent
-returns-in_err-map_drop_refusal-clause-lent g c profile moment =
+pub returns-in_err-number-clause-lent : goal.returns-in_err-number-clause-lent
+returns-in_err-number-clause-lent g c profile moment =
     let p = err_from_is_err_and c.from_residual.result c.from_residual.ensures.1 in
-    rw (p.1, p.2) (rw (← c.as_str-mapping.ensures.text) (look_gave_up profile _ moment _ _ _ (c.in_err-map_drop_refusal.ensures.look profile)))
+    rw (p.1, p.2) (rw (← c.as_str-mapping.ensures.text) (look_gave_up profile _ moment _ _ _ (c.in_err-number.ensures.look profile)))
 
 pub returns-clause-lent : goal.returns-clause-lent
 returns-clause-lent g c profile moment =
     let r = c.ranges in
     rw (← c.as_str-mapping.ensures.text)
-    (accepts profile _ moment _ _ _ _ ((rw (to_z-of_z r.base_id, to_z-of_z r.related_id) at c.in_ok-map_drop_refusal.ensures.look) profile) _
+    (accepts profile _ moment _ _ _ _ ((rw (to_z-of_z r.base_id, to_z-of_z r.related_id) at c.in_ok-number.ensures.look) profile) _
     ((rw (to_z-of_z r.base_id, to_z-of_z r.related_id) at c.in_ok-delete_pairing.ensures.change) profile)
     (λ p meets says. (tt, accepted_for _ (sym says ∙ c.in_default.is), refl)))
 
@@ -30,4 +30,4 @@ returns-in_err-delete_pairing-clause-lent g c profile moment =
     let p = err_from_is_err_and c.from_residual-in_err-delete_pairing.result c.from_residual-in_err-delete_pairing.ensures.1 in
     let r = c.ranges in
     rw (p.1, p.2) (rw (← c.as_str-mapping.ensures.text)
-    (change_gave_up profile _ moment _ _ _ _ (c.in_ok-map_drop_refusal.ensures.look profile) _ (c.in_err-delete_pairing.ensures.change profile) (λ p meets says. tt)))
+    (change_gave_up profile _ moment _ _ _ _ (c.in_ok-number.ensures.look profile) _ (c.in_err-delete_pairing.ensures.change profile) (λ p meets says. tt)))

@@ -5,10 +5,10 @@ use Rattle.mm_store.proofs.Shapes.{look_as, look_failed, looks_then}
 use Rattle.mm_relations.proofs.Refusing.{map_drop_44, map_drop_46, map_drop_free}
 use Rattle.mm_relations.proofs.maps.map_drop_refusal.Goals as goal
 
-pub returns-then-not-has_relation-clause-look : goal.returns-then-not-has_relation-clause-look
-returns-then-not-has_relation-clause-look g c profile =
+pub returns-then-not-branch-clause-look : goal.returns-then-not-branch-clause-look
+returns-then-not-branch-clause-look g c profile =
     let a = c.args in
-    look_as profile _ _ _ _ (c.in_ok-has_relation.ensures.look profile) (λ p says. map_drop_44 p a.mapping.now a.base_id a.related_id (sym says ∙ c.if-not-has_relation.false))
+    look_as profile _ _ _ _ (c.in_ok-has_relation.ensures.look profile) (λ p says. map_drop_44 p a.mapping.now a.base_id a.related_id (sym says ∙ c.if-not-branch.true))
 
 pub returns-in_err-has_relation-clause-look : goal.returns-in_err-has_relation-clause-look
 returns-in_err-has_relation-clause-look g c profile =
@@ -20,14 +20,14 @@ returns-then-branch-clause-look g c profile =
     let a = c.args in
     let r = c.ranges in
     look_as profile _ _ _ _ (looks_then profile _ _ _ _ _ (c.in_ok-has_relation.ensures.look profile) ((rw (to_z-of_z r.base_id, to_z-of_z r.related_id) at c.in_ok-has_pairing.ensures.look) profile))
-    (λ p says. map_drop_free p a.mapping.now a.base_id a.related_id (sym says.0 ∙ c.if-not-has_relation.true) (sym says.1 ∙ c.if-branch.true))
+    (λ p says. map_drop_free p a.mapping.now a.base_id a.related_id (sym says.0 ∙ c.if-not-branch.false) (sym says.1 ∙ c.if-branch.true))
 
 pub returns-else-branch-clause-look : goal.returns-else-branch-clause-look
 returns-else-branch-clause-look g c profile =
     let a = c.args in
     let r = c.ranges in
     look_as profile _ _ _ _ (looks_then profile _ _ _ _ _ (c.in_ok-has_relation.ensures.look profile) ((rw (to_z-of_z r.base_id, to_z-of_z r.related_id) at c.in_ok-has_pairing.ensures.look) profile))
-    (λ p says. map_drop_46 p a.mapping.now a.base_id a.related_id (sym says.0 ∙ c.if-not-has_relation.true) (sym says.1 ∙ c.if-branch.false))
+    (λ p says. map_drop_46 p a.mapping.now a.base_id a.related_id (sym says.0 ∙ c.if-not-branch.false) (sym says.1 ∙ c.if-branch.false))
 
 pub returns-in_err-has_pairing-clause-look : goal.returns-in_err-has_pairing-clause-look
 returns-in_err-has_pairing-clause-look g c profile =

@@ -5,12 +5,12 @@ use Rattle.mm_store.proofs.Shapes.{refuses, accepts, look_gave_up, change_gave_u
 use Rattle.mm_relations.proofs.Refusing.{relation_drop_44, relation_drop_free}
 use Rattle.mm_relations.proofs.relations.drop_relation.Goals as goal
 
-pub returns-then-not-has_relation-clause-lent : goal.returns-then-not-has_relation-clause-lent
-returns-then-not-has_relation-clause-lent g c profile moment =
+pub returns-then-not-branch-clause-lent : goal.returns-then-not-branch-clause-lent
+returns-then-not-branch-clause-lent g c profile moment =
     let mapping = c.as_str-mapping.result.now in
     rw (← c.as_str-mapping.ensures.text)
-    (rw (sym c.refused.ensures) (refuses profile _ moment _ _ _ (refused 44) (c.in_ok-has_relation.ensures.look profile)
-    (λ p meets says. refused_for _ 44 (relation_drop_44 p mapping (sym says ∙ c.if-not-has_relation.false)))))
+    (rw c.refused.ensures (refuses profile _ moment _ _ _ (refused 44) (c.in_ok-has_relation.ensures.look profile)
+    (λ p meets says. refused_for _ 44 (relation_drop_44 p mapping (sym says ∙ c.if-not-branch.true)))))
 
 pub returns-in_err-has_relation-clause-lent : goal.returns-in_err-has_relation-clause-lent
 returns-in_err-has_relation-clause-lent g c profile moment =
@@ -28,7 +28,7 @@ returns-clause-lent g c profile moment =
     let mapping = c.as_str-mapping.result.now in
     rw (← c.as_str-mapping.ensures.text)
     (accepts profile _ moment _ _ _ _ (c.in_ok-has_relation.ensures.look profile) _ (changes_then profile _ _ _ _ _ (c.in_ok-delete_relation.ensures.change profile) (c.in_ok-delete_related_row.ensures.change profile) (λ p any. tt))
-    (λ p meets says. (tt, accepted_for _ (relation_drop_free p mapping (sym says ∙ c.if-not-has_relation.true)), refl)))
+    (λ p meets says. (tt, accepted_for _ (relation_drop_free p mapping (sym says ∙ c.if-not-branch.false)), refl)))
 
 pub returns-in_err-delete_related_row-clause-lent : goal.returns-in_err-delete_related_row-clause-lent
 returns-in_err-delete_related_row-clause-lent g c profile moment =

@@ -7,25 +7,25 @@ use Rattle.mm_relations.proofs.relations.relate.Goals as goal
 
 pub returns-in-Some-clause-lent : goal.returns-in-Some-clause-lent
 returns-in-Some-clause-lent g c profile moment =
-    rw (sym c.refused.ensures) (refuses profile _ moment _ _ _ (refused c.in-Some.number) (c.in_ok-relation_refusal.ensures.look profile) (λ p meets says. refused_for _ c.in-Some.number (sym (says meets) ∙ c.in-Some.is)))
+    rw c.refused.ensures (refuses profile _ moment _ _ _ (refused c.in-Some.number) (c.in_ok-number.ensures.look profile) (λ p meets says. refused_for _ c.in-Some.number (sym (says meets) ∙ c.in-Some.is)))
 
-pub returns-in_err-relation_refusal-clause-lent : goal.returns-in_err-relation_refusal-clause-lent
-returns-in_err-relation_refusal-clause-lent g c profile moment =
+pub returns-in_err-number-clause-lent : goal.returns-in_err-number-clause-lent
+returns-in_err-number-clause-lent g c profile moment =
     let p = err_from_is_err_and c.from_residual.result c.from_residual.ensures.1 in
-    rw (p.1, p.2) (look_gave_up profile _ moment _ _ _ (c.in_err-relation_refusal.ensures.look profile))
+    rw (p.1, p.2) (look_gave_up profile _ moment _ _ _ (c.in_err-number.ensures.look profile))
 
 pub returns-in_err-insert_relation-clause-lent : goal.returns-in_err-insert_relation-clause-lent
 returns-in_err-insert_relation-clause-lent g c profile moment =
     let p = err_from_is_err_and c.from_residual-in_err-insert_relation.result c.from_residual-in_err-insert_relation.ensures.1 in
     let a = c.args in
-    rw (p.1, p.2) (change_gave_up profile _ moment _ _ _ _ (c.in_ok-relation_refusal.ensures.look profile) _
+    rw (p.1, p.2) (change_gave_up profile _ moment _ _ _ _ (c.in_ok-number.ensures.look profile) _
     (change_where profile (IsNew a.mapping.now) _ _ _ (c.in_err-insert_relation.ensures.change profile) (λ p new. new.0))
     (λ p meets says. is_new profile p meets a.mapping.now a.base.now a.related.now a.name c.requires (sym c.in_default.is ∙ says meets)))
 
 pub returns-clause-lent : goal.returns-clause-lent
 returns-clause-lent g c profile moment =
     let a = c.args in
-    accepts profile _ moment _ _ _ _ (c.in_ok-relation_refusal.ensures.look profile) _
+    accepts profile _ moment _ _ _ _ (c.in_ok-number.ensures.look profile) _
     (changes_then profile _ _ _ _ _ (change_where profile (IsNew a.mapping.now) _ _ _ ((rw c.text_of_name.ensures at c.in_ok-insert_relation.ensures.change) profile) (λ p new. new.0))
     (c.in_ok-insert_related_row.ensures.change profile) (λ p new. new.1))
     (λ p meets says.
@@ -36,7 +36,7 @@ pub returns-in_err-insert_related_row-clause-lent : goal.returns-in_err-insert_r
 returns-in_err-insert_related_row-clause-lent g c profile moment =
     let p = err_from_is_err_and c.from_residual-in_err-insert_related_row.result c.from_residual-in_err-insert_related_row.ensures.1 in
     let a = c.args in
-    rw (p.1, p.2) (change_gave_up profile _ moment _ _ _ _ (c.in_ok-relation_refusal.ensures.look profile) _
+    rw (p.1, p.2) (change_gave_up profile _ moment _ _ _ _ (c.in_ok-number.ensures.look profile) _
     (changes_then profile _ _ _ _ _ (change_where profile (IsNew a.mapping.now) _ _ _ (c.in_ok-insert_relation.ensures.change profile) (λ p new. new.0))
     (c.in_err-insert_related_row.ensures.change profile) (λ p new. new.1))
     (λ p meets says. is_new profile p meets a.mapping.now a.base.now a.related.now a.name c.requires (sym c.in_default.is ∙ says meets)))

@@ -26,16 +26,16 @@ returns-then-not-branch g c =
     (λ clean. rw c.in-Ok-Some.is at (moved.same clean)) c.in-Ok-Some.row.now (λ clean given has. (rw (c.in-Ok-Some.is, c.in-Ok-Some.field-0-is) at (moved.ok clean)) _ _ given has) c.take.new.self step in
     search rules
 
-pub returns-in_err-take : goal.returns-in_err-take
-returns-in_err-take g c =
+pub returns-in_err-take-in-Ok-Some : goal.returns-in_err-take-in-Ok-Some
+returns-in_err-take-in-Ok-Some g c =
     let p = err_from_is_err_and c.from_residual.result c.from_residual.ensures.1 in
     let moved = c.next.follows.holds-at-none in
     let new = c.next.follows.lender-at-none.conn.now in
     let takes = g.V.Visitor.takes in
-    let step : takes c.rows.visitor c.in-Ok-Some.row.now c.take.new.self (Err c.in_err-take.field-0.0) = search rules in
-    let it : IsWalk takes c.args.sql.now (bound c.args.params.now) (state g.S.Store c.args.conn.now) (state g.S.Store new) c.args.visitor.now c.take.new.self (Err c.in_err-take.field-0.0) =
+    let step : takes c.rows.visitor c.in-Ok-Some.row.now c.take.new.self (Err c.in_err-take-in-Ok-Some.field-0.0) = search rules in
+    let it : IsWalk takes c.args.sql.now (bound c.args.params.now) (state g.S.Store c.args.conn.now) (state g.S.Store new) c.args.visitor.now c.take.new.self (Err c.in_err-take-in-Ok-Some.field-0.0) =
     gave_up g.S.Store takes c.args.sql.now (bound c.args.params.now) c.args.conn.now c.rows.rows.conn.now c.args.visitor.now c.rows.visitor c.rows.invariant.1 new moved.mode moved.survives
-    (λ clean. rw c.in-Ok-Some.is at (moved.same clean)) c.in-Ok-Some.row.now (λ clean given has. (rw (c.in-Ok-Some.is, c.in-Ok-Some.field-0-is) at (moved.ok clean)) _ _ given has) c.take.new.self c.in_err-take.field-0.0 step in
+    (λ clean. rw c.in-Ok-Some.is at (moved.same clean)) c.in-Ok-Some.row.now (λ clean given has. (rw (c.in-Ok-Some.is, c.in-Ok-Some.field-0-is) at (moved.ok clean)) _ _ given has) c.take.new.self c.in_err-take-in-Ok-Some.field-0.0 step in
     rw (p.1, p.2) (search rules)
 
 pub returns-in-Ok-None : goal.returns-in-Ok-None

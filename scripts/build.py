@@ -5,8 +5,8 @@
 
 `rt run` builds what stands below a program crate by crate, and rt's own commands wait for one another where they share a library. So
 this calls the toolchain's own code in one process: each crate as `rt lib` builds it, in the lanes of `rt ci`, one a processor, as many
-as memory holds; a crate gets the processors that stand idle as jobs. What is built already stays as it is. With another toolchain than
-the one that this was written for it does nothing, and `rt run` builds all.
+as memory holds; a crate gets the processors that stand idle as jobs. What is built already stays as it is. With another kit than those
+that this was written for it does nothing, and `rt run` builds all.
 """
 import copy
 import os
@@ -16,7 +16,7 @@ import tempfile
 import threading
 import time
 
-from toolchain import is_known, load_rt
+from toolchain import kit, load_rt
 
 PROGRAM = "mm_cli"
 
@@ -52,13 +52,14 @@ def build(crate, jobs, progress):
 
 
 def main(words):
-    if not is_known():
-        print("build: this kit's rt is not the one that this was written for: the crates are built one by one", flush=True)
+    if not kit():
+        print("build: this kit's rt is none that this was written for: the crates are built one by one", flush=True)
         return 0
     rt = load_rt()
     rt.rtlib.guarded()
-    # (what another clone on this machine built of the same text is taken)
-    rt.share_work(True)
+    if kit() == "13f":
+        # what another clone on this machine built of the same text is taken
+        rt.share_work(True)
     root = os.path.dirname(os.path.dirname(os.path.abspath(__file__)))
     top = rt.rtlib.Crate(f"{root}/crates/{words[0] if words else PROGRAM}", root, {})
     crates = top.below()

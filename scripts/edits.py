@@ -4,6 +4,9 @@ An edit is a wrong body that the check must refuse. `rt ci` tries each in a chec
 loads the libraries each time. A function's proof rests on the contracts of what it calls and never on their bodies. So edits of different
 functions stand here in one copy of the crate, and each counts as refused only where its own function has a goal of its own unproved, and not for
 a callee that is not proved. What a check leaves open is tried once more with others, and then alone, as rt does it; so is an edit that touches more than bodies.
+
+rt asks in one of two ways, by its kit: for the answer to each edit in a lane of its own, over a proved crate (`Batches`), or for those of a
+crate in turn, each over what the checks before it proved (`all_in_turn`).
 """
 import contextlib
 import os
@@ -231,3 +234,50 @@ class Batches:
                 self.rt.linked(seed, f"{room}/seed")
                 return tried_together(self.rt, self.crate, part, flags, f"{room}/seed")
         return {}
+
+
+class InTurn:
+    """The edits of one crate, tried in one lane, each check over what those before it proved."""
+
+    def __init__(self, rt, crate, flags, kept):
+        self.rt, self.crate, self.flags, self.kept = rt, crate, flags, kept
+        self.answers, self.checks = {}, 0
+
+    def try_all(self, trials):
+        """Answers each edit, as rt.must_fail does."""
+        left = trials
+        while left:
+            batch = next_batch([it for it in left if it.touches])[0] or left[:1]
+            left = self.try_batch(batch) + [it for it in left if it not in batch]
+
+    def try_batch(self, batch):
+        """Answers the edits of a batch, and returns those that are to be tried with others again."""
+        stack = [batch]
+        while stack:
+            part = stack.pop()
+            self.checks += 1
+            if len(part) == 1:
+                self.answers[part[0]] = self.rt.must_fail(self.crate, part[0].edit, self.flags, self.kept)
+                continue
+            said = tried_together(self.rt, self.crate, part, self.flags, self.kept)
+            self.answers.update({it: (True, line) for it, line in (said or {}).items()})
+            if said is None:
+                stack += [part[len(part) // 2 :], part[: len(part) // 2]]
+            elif not said:
+                stack += [[it] for it in part]
+        return [it for it in batch if it not in self.answers]
+
+
+def all_in_turn(rt, crate, edits, flags, kept):
+    """Returns the answers to a crate's edits in their order, as rt.must_fail_all does, and how many checks there were.
+
+    No edit fails by a batch: what was not refused is tried again alone, from nothing, and so are all where the crate without an edit is not
+    proved over the work that these checks kept.
+    """
+    trials = [Trial(rt, crate, it) for it in edits]
+    tried = InTurn(rt, crate, flags, kept)
+    tried.try_all(trials)
+    is_sound = not rt.checked(crate, {}, flags, kept).returncode
+    again = [it for it in trials if not is_sound or not tried.answers[it][0]]
+    tried.answers.update({it: rt.must_fail(crate, it.edit, flags) for it in again})
+    return [tried.answers[it] for it in trials], tried.checks + 1 + len(again)

@@ -1,20 +1,29 @@
 #!/usr/bin/env python3
 """The gate on the crates: all that `rt ci` does, by its own code, with the must-fail edits of a crate tried many to a check.
 
-    scripts/gate.py [--anew]     at the top of the repository; the last line is 'N passed, M failed'
+    scripts/gate.py              at the top of the repository; the last line is 'N passed, M failed'
+    scripts/gate.py --anew       the same, with nothing taken of what rt kept of earlier runs on this machine
+    scripts/gate.py --changed    the same as the first, but the edits of a crate are left out where .ci/tried has the sum of all that they rest on: the
+                                 crate's own files, the code, specs and lemmas of what stands below it, crates.txt and the kit. Each such crate is
+                                 named and none of its edits is counted; every seventh crate's are tried all the same
 
-Only the trying of edits (scripts/edits.py) is not rt's own. What rt ci keeps on a machine of what it passed is taken here too, and what is passed
-here is kept: an edit that was tried among others under a name that only this script asks for, and only while scripts/edits.py stays as it is. --anew takes
-nothing. With another kit than the one that this was written for `rt ci` runs as it is.
+A run that tried all edits and in which nothing failed writes .ci/tried. Only the trying of edits (scripts/edits.py) is not rt's own. With another kit
+than those that this was written for `rt ci` runs as it is.
 """
 import hashlib
 import os
 import subprocess
 import sys
+import tempfile
 import threading
+import time
 
-from edits import Batches
-from toolchain import RT, is_known, load_rt
+from edits import Batches, all_in_turn
+from toolchain import RT, kit, load_rt
+
+TRIED = ".ci/tried"
+# With --changed one crate in so many is tried whether or not it has changed, another one with each commit.
+TRIED_ALL_THE_SAME = 7
 
 
 def sum_of_batches():
@@ -23,9 +32,117 @@ def sum_of_batches():
         return hashlib.sha256(it.read()).hexdigest()
 
 
-def patched():
-    """Returns rt as a module that tries the edits of a crate in batches."""
-    rt = load_rt()
+def crates():
+    """Returns what crates.txt says: the libraries that each crate stands on, by its name."""
+    with open("crates.txt", encoding="utf-8") as it:
+        lines = [line.partition("#")[0].partition(":") for line in it]
+    return {name.split()[0]: libraries.split() for name, _, libraries in lines if name.strip()}
+
+
+def below(said, name):
+    """Returns the names of the crates of this repository below one of them."""
+    found, left = set(), [name]
+    while left:
+        new = {it for it in said[left.pop()] if it in said} - found
+        found |= new
+        left += new
+    return sorted(found)
+
+
+def files_for(name, is_own):
+    """Yields the files of a crate that its own edits rest on, or those of the crates above it."""
+    for part in ("src", "specs", "proofs", "must-fail") if is_own else ("src", "specs", "proofs"):
+        for at, folders, files in os.walk(f"crates/{name}/{part}"):
+            # of the proofs below, the lemmas can be cited above, and a function's own folder can't
+            folders[:] = [] if part == "proofs" and not is_own else sorted(folders)
+            yield from (f"{at}/{file}" for file in sorted(files))
+
+
+def sum_for(said, name):
+    """Returns a sum of all that the answers to a crate's edits rest on."""
+    version = subprocess.run([RT, "version"], capture_output=True, text=True, check=True).stdout
+    made = hashlib.sha256(repr((sum_of_batches(), version)).encode())
+    for at in [name, *below(said, name)]:
+        made.update(repr((at, said[at])).encode())
+        for path in files_for(at, is_own=at == name):
+            with open(path, "rb") as it:
+                made.update(repr((path, it.read())).encode())
+    return made.hexdigest()[:32]
+
+
+def sums():
+    """Returns the sum of each crate that has edits, by its name."""
+    said = crates()
+    return {name: sum_for(said, name) for name in sorted(said) if os.path.isdir(f"crates/{name}/must-fail")}
+
+
+def read_tried():
+    """Returns the lines of .ci/tried: the kit, the crate and the sum under which all its edits were refused."""
+    if not os.path.isfile(TRIED):
+        return []
+    with open(TRIED, encoding="utf-8") as it:
+        return [tuple(line.split()) for line in it if line.strip() and not line.startswith("#")]
+
+
+def write_tried(made):
+    """Writes the sums of this kit into .ci/tried, and leaves those of other kits."""
+    lines = [it for it in read_tried() if it[0] != kit()] + [(kit(), name, sum_) for name, sum_ in made.items()]
+    os.makedirs(os.path.dirname(TRIED), exist_ok=True)
+    with open(TRIED, "w", encoding="utf-8") as it:
+        it.write("# The kits and the sums under which all must-fail edits of a crate were tried and refused (scripts/gate.py).\n")
+        it.writelines(f"{' '.join(line)}\n" for line in sorted(lines))
+
+
+def left_out(made, turn):
+    """Returns the crates that are as they were when all their edits were tried, but for a few of them in turn."""
+    tried = set(read_tried())
+    return [name for at, (name, it) in enumerate(made.items()) if (kit(), name, it) in tried and (at - turn) % TRIED_ALL_THE_SAME]
+
+
+def leave_out(rt, same):
+    """Has the gate pass over the edits of these crates, and names them."""
+    edits_of = rt.edits_of
+    rt.edits_of = lambda crate: ([] if crate.name in same else edits_of(crate)[0], edits_of(crate)[1])
+    for name in same:
+        rt.say(f"{name}: its must-fail edits are not tried: nothing that they rest on has changed since all were")
+
+
+def commits():
+    """Returns how many commits lead to this one, or 0 outside a clone."""
+    ran = subprocess.run(["git", "rev-list", "--count", "HEAD"], capture_output=True, text=True)
+    return int(ran.stdout) if ran.returncode == 0 else 0
+
+
+def spare_jobs(rt):
+    """Returns how many jobs a check of edits may use: one, and one more for each processor that stands idle, as memory allows."""
+    idle = rt.processors() - os.getloadavg()[0]
+    return max(1, min(4, 1 + int(idle), int(rt.free() / 4e9)))
+
+
+def try_in_turn(rt):
+    """Has rt of the kit 13b, which tries the edits of a crate in turn, try them in batches."""
+    alone, checked_by = rt.must_fail_all, rt.checked
+
+    def checked(crate, texts, flags, kept):
+        return checked_by(crate, texts, ["--jobs", str(spare_jobs(rt))], kept)
+
+    def must_fail_all(crate, edits, flags):
+        if len(edits) < 2:
+            return alone(crate, edits, flags)
+        began = time.time()
+        with tempfile.TemporaryDirectory(prefix="rt-edits-") as kept:
+            answers, checks = all_in_turn(rt, crate, edits, flags, kept)
+        rt.say(f"{crate.name}: {len(edits)} must-fail edits in {checks} checks, {time.time() - began:.0f} s")
+        return answers
+
+    rt.must_fail_all, rt.checked = must_fail_all, checked
+
+
+def try_over_a_proved_crate(rt):
+    """Has rt of the kit 13f, which tries each edit over a proved crate and keeps what it passed, try them in batches.
+
+    What is refused in a batch is kept too, under a name that only this script asks for, and only while scripts/edits.py stays as it is.
+    """
     alone, lanes, keeping, batches, by_name = rt.must_fail, rt.in_lanes, threading.Lock(), set(), {}
     by_batches = sum_of_batches()
 
@@ -46,8 +163,8 @@ def patched():
         """Returns the crate's edits but those that an earlier run tried."""
         with keeping:
             if crate.name not in by_name:
-                sum = rt.kept.key(crate)
-                left = [it for it in rt.edits_of(crate)[0] if not rt.kept.tried(rt.kept.of_edit(it, sum))]
+                sum_ = rt.kept.key(crate)
+                left = [it for it in rt.edits_of(crate)[0] if not rt.kept.tried(rt.kept.of_edit(it, sum_))]
                 by_name[crate.name] = Batches(rt, crate, left)
             return by_name[crate.name]
 
@@ -65,18 +182,32 @@ def patched():
         return lanes({key: (waits, spread(key, lines), *others) for key, (waits, lines, *others) in tasks.items()})
 
     rt.Kept, rt.must_fail, rt.in_lanes = Kept, must_fail, in_lanes
-    return rt
+
+
+def gate(is_anew, is_changed):
+    """Runs rt's own gate with the edits in batches, and returns its status."""
+    rt, made = load_rt(), sums()
+    same = left_out(made, commits()) if is_changed else []
+    leave_out(rt, same)
+    if kit() == "13b":
+        try_in_turn(rt)
+        status = rt.ci()
+    else:
+        try_over_a_proved_crate(rt)
+        status = rt.where_disk_lasts(rt.ci, is_anew)
+    if status == 0 and not same and sums() == made:
+        write_tried(made)
+    return status
 
 
 def main(words):
-    if words not in ([], ["--anew"]):
+    if words not in ([], ["--anew"], ["--changed"]):
         print(__doc__, end="", file=sys.stderr)
         return 2
-    if not is_known():
-        print("gate: this kit's rt is not the one that scripts/gate.py was written for: rt ci runs as it is", flush=True)
-        return subprocess.run([RT, "ci", *words]).returncode
-    rt = patched()
-    return rt.where_disk_lasts(rt.ci, bool(words))
+    if not kit():
+        print("gate: this kit's rt is none that scripts/gate.py was written for: rt ci runs as it is", flush=True)
+        return subprocess.run([RT, "ci", *(it for it in words if it != "--changed")]).returncode
+    return gate("--anew" in words, "--changed" in words)
 
 
 if __name__ == "__main__":

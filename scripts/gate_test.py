@@ -5,12 +5,17 @@
 
 A true edit breaks what its function promises. A harmless one breaks nothing: it calls a function that a true edit breaks (beside it in
 the batch), stands in a function with no contract, comes second to another edit of its function, or turns a clause and no body.
+
+Of what `scripts/gate.py --changed` leaves out it asks on two crates, with no prover: after each change the crates whose edits are tried again.
 """
 import os
 import re
 import subprocess
 import sys
 import tempfile
+
+sys.dont_write_bytecode = True
+import gate as the_gate
 
 GATE = f"{os.path.dirname(os.path.abspath(__file__))}/gate.py"
 SOURCE = """//! Functions on numbers, for the test of the gate.
@@ -87,6 +92,41 @@ def make_workspace(root):
         write(f"{root}/crates/tiny/must-fail/{name}.edit", f"file: src/lib.rt\nold: {old}\nnew: {new}\n")
 
 
+# A file of one of two crates, `upper` on `lower`, and the crates whose edits rest on it.
+RESTS = {
+    "crates/lower/src/lib.rt": ["lower", "upper"],
+    "crates/lower/specs/Numbers.antt": ["lower", "upper"],
+    "crates/lower/proofs/Lemmas.antt": ["lower", "upper"],
+    "crates/lower/proofs/first/Answers.antt": ["lower"],
+    "crates/lower/must-fail/wrong.edit": ["lower"],
+    "crates/upper/proofs/second/Answers.antt": ["upper"],
+    "crates/upper/must-fail/wrong.edit": ["upper"],
+}
+
+
+def tried_after(path):
+    """Returns the crates that are not left out once the file has changed since all were tried."""
+    made = the_gate.sums()
+    the_gate.write_tried(made)
+    write(path, f"{path} as it is now\n")
+    now = the_gate.sums()
+    # (no crate's turn)
+    return [name for name in now if name not in the_gate.left_out(now, turn=2)]
+
+
+def what_changed_is_tried(root):
+    """Returns what is not as it should be, a line each."""
+    os.chdir(root)
+    write("./crates.txt", "# two\nlower: csv\nupper: lower csv\n")
+    for path in RESTS:
+        write(path, f"{path}\n")
+    wrong = [f"{path}: {tried}\n" for path, wanted in RESTS.items() if (tried := tried_after(path)) != wanted]
+    made = the_gate.sums()
+    the_gate.write_tried(made)
+    in_turn = [[it for it in made if it not in the_gate.left_out(made, turn)] for turn in range(the_gate.TRIED_ALL_THE_SAME)]
+    return wrong + ([] if in_turn == [["lower"], ["upper"], [], [], [], [], []] else [f"in turn: {in_turn}\n"])
+
+
 def tell(what, is_well, said):
     print(f"{what}: {'ok' if is_well else 'FAILED'}", flush=True)
     if not is_well:
@@ -106,6 +146,11 @@ def failed_in(said):
 
 def main():
     told = []
+    with tempfile.TemporaryDirectory(prefix="gate-test-") as root:
+        before = os.getcwd()
+        wrong = what_changed_is_tried(root) if the_gate.kit() else []
+        os.chdir(before)
+        told.append(tell("what has changed is tried again", not wrong, "".join(wrong)))
     with tempfile.TemporaryDirectory(prefix="gate-test-") as root:
         make_workspace(root)
         wanted = sorted(f"tiny/{name}.edit" for name in HARMLESS)

@@ -8,21 +8,24 @@ import sys
 
 sys.dont_write_bytecode = True
 RT = os.path.realpath(shutil.which("rt") or "rt")
-# The sum of rt and rtlib.py of the kit that the scripts were written for.
-WRITTEN_FOR = "42f45cabc00d8256b495acdd1525789c67c745f97a56c0ec7ec54298d0396699"
+# The kits that the scripts were written for, by the sum of their rt and rtlib.py.
+WRITTEN_FOR = {
+    "cfb286b97f5e9b9fb95da55dcbe60499937d0d0ee07a201bc33cd95c5f4aa1d3": "13b",
+    "42f45cabc00d8256b495acdd1525789c67c745f97a56c0ec7ec54298d0396699": "13f",
+}
 
 # How much of the memory that rt foresees for a check was seen to be taken. By its own figure rt leaves processors idle on a machine of 24 GB; a
 # check that is killed for memory is run again with one job.
 MEMORY_TAKEN = 0.6
 
 
-def is_known():
-    """Returns whether this kit's rt is the one that the scripts were written for."""
+def kit():
+    """Returns which of the kits that the scripts were written for this one is, or None."""
     made = hashlib.sha256()
     for name in (RT, f"{os.path.dirname(RT)}/rtlib.py"):
         with open(name, "rb") as it:
             made.update(it.read())
-    return made.hexdigest() == WRITTEN_FOR
+    return WRITTEN_FOR.get(made.hexdigest())
 
 
 def load_rt():

@@ -10,9 +10,9 @@ use Rattle.clap.specs.declared.parser.matches.Found.{Found}
 use Rattle.clap.specs.declared.parser.matches.MatchedArg.{MatchedArg}
 use Rattle.clap.specs.declared.parser.matches.SubCommand.{SubCommand}
 use Rattle.clap.proofs.WalkLemmas.{first_value-rows, one_text-rows, raw_values-rows}
-use Rattle.mm_arguments.specs.Requests.{IsWord}
+use Rattle.mm_arguments.specs.Requests.{IsGivenWord}
 
-pub word_read : (f : Found) (id : Text) (o : Option (Bor Text)) → option_map (λ s. s.now) o ≡ first_value f id → IfSome o (IsWord (rows_of f) id)
+pub word_read : (f : Found) (id : Text) (o : Option (Bor Text)) → option_map (λ s. s.now) o ≡ first_value f id → IfSome o (IsGivenWord (rows_of f) id)
 word_read f id None e = tt
 word_read f id (Some w) e = sym (e ∙ first_value-rows f id)
 

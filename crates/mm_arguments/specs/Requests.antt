@@ -23,8 +23,8 @@ IsRequestWithin (Serve file port count) = (1 ≤ port) × (1 ≤ count) × (coun
 
 module _ (rows : List Row) where
   -- the word of this argument
-  abbrev pub IsWord : Text → Bor Text → Type 0
-  IsWord id word = first_of id rows ≡ Some word.now
+  abbrev pub IsGivenWord : Text → Bor Text → Type 0
+  IsGivenWord id word = first_of id rows ≡ Some word.now
 
   -- the number that stands behind an option
   abbrev pub IsNumber : Text → ℕ → Type 0
@@ -32,21 +32,21 @@ module _ (rows : List Row) where
       × IsNumeral 10 (without_leading_plus text) × (number ≡ digits_value 10 (without_leading_plus text))
 
   -- the moment, where the words give one
-  abbrev pub IsMoment : Option ℕ → Type 0
-  IsMoment None = all_of (codes "at") rows ≡ None
-  IsMoment (Some at) = (text : Text) × (one_of (codes "at") rows ≡ Some text)
+  abbrev pub IsGivenMoment : Option ℕ → Type 0
+  IsGivenMoment None = all_of (codes "at") rows ≡ None
+  IsGivenMoment (Some at) = (text : Text) × (one_of (codes "at") rows ≡ Some text)
       × IsNumeral 10 (without_leading_sign text) × (pos at ≡ signed_digits_value 10 text)
 
 -- the subcommand and its words ask for this
 abbrev pub AsksFor : Text → List Row → Request → Type 0
-AsksFor name rows (Init file) = (name ≡ codes "init") × IsWord rows (codes "FILE") file
-AsksFor name rows (Run file at) = (name ≡ codes "run") × IsWord rows (codes "FILE") file × IsMoment rows at
-AsksFor name rows (Kit file edition folder at) = (name ≡ codes "kit") × IsWord rows (codes "FILE") file
-    × IsWord rows (codes "EDITION") edition × IsWord rows (codes "FOLDER") folder × IsMoment rows at
-AsksFor name rows (Check file) = (name ≡ codes "check") × IsWord rows (codes "FILE") file
-AsksFor name rows (Tables file) = (name ≡ codes "list") × IsWord rows (codes "FILE") file
-AsksFor name rows (Migrate file) = (name ≡ codes "migrate") × IsWord rows (codes "FILE") file
-AsksFor name rows (Serve file port count) = (name ≡ codes "serve") × IsWord rows (codes "FILE") file
+AsksFor name rows (Init file) = (name ≡ codes "init") × IsGivenWord rows (codes "FILE") file
+AsksFor name rows (Run file at) = (name ≡ codes "run") × IsGivenWord rows (codes "FILE") file × IsGivenMoment rows at
+AsksFor name rows (Kit file edition folder at) = (name ≡ codes "kit") × IsGivenWord rows (codes "FILE") file
+    × IsGivenWord rows (codes "EDITION") edition × IsGivenWord rows (codes "FOLDER") folder × IsGivenMoment rows at
+AsksFor name rows (Check file) = (name ≡ codes "check") × IsGivenWord rows (codes "FILE") file
+AsksFor name rows (Tables file) = (name ≡ codes "list") × IsGivenWord rows (codes "FILE") file
+AsksFor name rows (Migrate file) = (name ≡ codes "migrate") × IsGivenWord rows (codes "FILE") file
+AsksFor name rows (Serve file port count) = (name ≡ codes "serve") × IsGivenWord rows (codes "FILE") file
     × IsNumber rows (codes "port") port × IsNumber rows (codes "count") count
 
 -- the words ask for this: of what `clap` reads of them on the command line

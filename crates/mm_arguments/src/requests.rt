@@ -3,7 +3,7 @@
 ghost use Rattle.std.specs.Prelude.{◌≡◌, ◌⊎◌, IfOk, IfSome, codes, map};
 ghost use Rattle.clap.specs.Words.{FailsBy, fault_of, found_of, kind_of, rows_of};
 ghost use Rattle.mm_arguments.specs.CommandLine.{command_line};
-ghost use Rattle.mm_arguments.specs.Requests.{Asks, AsksFor, IsMoment, IsRequestWithin, IsWord};
+ghost use Rattle.mm_arguments.specs.Requests.{Asks, AsksFor, IsGivenMoment, IsRequestWithin, IsGivenWord};
 ghost use Rattle.mm_arguments.specs.Requests as spec;
 
 use crate::commands::command;
@@ -47,7 +47,7 @@ pub enum Request<'a> {
 
 // `clap` has tested the range, for the message that it prints. The clause rests on the test of `Moment::new`.
 fn moment_of(matches: &ArgMatches) -> Option<Option<Moment>>
-    ensures { IfSome result (IsMoment (rows_of (found_of matches.now))) }
+    ensures { IfSome result (IsGivenMoment (rows_of (found_of matches.now))) }
 {
     if !matches.contains_id("at") {
         return Some(None);
@@ -58,13 +58,13 @@ fn moment_of(matches: &ArgMatches) -> Option<Option<Moment>>
 
 /// The word of an argument.
 fn word_of<'a>(matches: &ArgMatches<'a>, id: &str) -> Option<&'a str>
-    ensures { IfSome result (IsWord (rows_of (found_of matches.now)) id.now) }
+    ensures { IfSome result (IsGivenWord (rows_of (found_of matches.now)) id.now) }
 {
     matches.get_str(id)
 }
 
 fn kit_of<'a>(file: &'a str, matches: &ArgMatches<'a>) -> Option<Request<'a>>
-    requires { IsWord (rows_of (found_of matches.now)) (codes "FILE") file }
+    requires { IsGivenWord (rows_of (found_of matches.now)) (codes "FILE") file }
     ensures within { IfSome result IsRequestWithin }
     ensures asks { IfSome result (AsksFor (codes "kit") (rows_of (found_of matches.now))) }
 {
@@ -78,7 +78,7 @@ fn kit_of<'a>(file: &'a str, matches: &ArgMatches<'a>) -> Option<Request<'a>>
 
 // `clap` has tested the ranges, for the message that it prints. The clause rests on this test.
 fn serve_of<'a>(file: &'a str, matches: &ArgMatches<'a>) -> Option<Request<'a>>
-    requires { IsWord (rows_of (found_of matches.now)) (codes "FILE") file }
+    requires { IsGivenWord (rows_of (found_of matches.now)) (codes "FILE") file }
     ensures within { IfSome result IsRequestWithin }
     ensures asks { IfSome result (AsksFor (codes "serve") (rows_of (found_of matches.now))) }
 {

@@ -25,7 +25,7 @@ use Rattle.mm_store.specs.Statements.{CommitsNothing}
 use Rattle.mm_store.specs.Shapes.{ComesTo, IsTried}
 use Rattle.mm_store.proofs.Transactions.{OnlyCommitted, settles, rolled_quiet, rolled_back}
 use Rattle.mm_edition.specs.Rehearsals.{IsRehearsal}
-use Rattle.mm_core.specs.Applied.{IsAppliedTo, IsSettledFor, MayCommitStep, Stands}
+use Rattle.mm_core.specs.Applied.{IsAppliedTo, IsSettledFor, MayCommitStep, StandsForCurrent}
 
 module _ {S : Type 0} (g : Ghosts S) (was now : Held S) (begun : now ≡ record was { in_transaction = true }) (ended last : State)
     (c : Command) (moment : ℕ) (result : Result Outcome Fault) (tried : IsTried current c moment (state g now) ended result) where
@@ -41,7 +41,7 @@ module _ {S : Type 0} (g : Ghosts S) (was now : Held S) (begun : now ≡ record 
 
     commits : Survives ended last (λ db. db ≡ ended.now.trees) → Survives old last (MayCommitStep old c moment)
     commits h = survives_begin g was last (MayCommitStep old c moment) (rw begun at (survives_then (state g now) ended last _ _ (MayCommitStep old c moment) (λ _ db none. absurd none)
-        (λ clean db same p it. let its = done (omega (arith, h.clean)) p it in (its.0, subst (λ t. Stands t (step p c moment)) (sym same) (its.2.reads its.1).stands)) tried.survives h))
+        (λ clean db same p it. let its = done (omega (arith, h.clean)) p it in (its.0, subst (λ t. StandsForCurrent t (step p c moment)) (sym same) (its.2.reads its.1).stands)) tried.survives h))
 
     pub committed : OnlyCommitted last → Survives ended last (λ db. db ≡ ended.now.trees) → (HasCleanDisk last → Shows ended last ended.now ended.now false)
         → IsAppliedTo c moment old last answer.Ok
@@ -63,7 +63,7 @@ module _ {S : Type 0} (g : Ghosts S) (was now : Held S) (begun : now ≡ record 
     quiet : CommitsNothing old last
     quiet = rolled_quiet g was now begun ended last tried.survives two
 
-    left_before : HasCleanDisk last → (p : Package) → IsSettledFor old p → (db : Trees) → last.may_leave db → Stands db p
+    left_before : HasCleanDisk last → (p : Package) → IsSettledFor old p → (db : Trees) → last.may_leave db → StandsForCurrent db p
     left_before clean p it db may = elim (quiet.crash clean db may) [ inl before ↦ it.settled.left db before | inr none ↦ absurd none ]
 
     pub refused : (why : Refusal) → result ≡ Ok (Refused why) → (HasCleanDisk last → IsRolledBack ended last) → IsAppliedTo c moment old last (answer.Refused why)

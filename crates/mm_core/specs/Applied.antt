@@ -16,12 +16,12 @@ use Rattle.mm_run.specs.Shown.{Shown}
 use Rattle.mm_definitions.specs.CommandGroups.{rehearses}
 
 -- the database stands for the package, in the profile of this program
-abbrev pub Stands : Trees → Package → Type 0
-Stands db p = StandsFor current.version db p
+abbrev pub StandsForCurrent : Trees → Package → Type 0
+StandsForCurrent db p = StandsFor current.version db p
 
 -- what a session on a connection in this state shows, by whether it has to be opened again
 abbrev pub shown_on : Bool → State → Shown Trees
-shown_on failed s = record { failed = failed; settled = λ p. IsSettled current s p; may_leave = λ db. s.may_leave db; stands_for = Stands }
+shown_on failed s = record { failed = failed; settled = λ p. IsSettled current s p; may_leave = λ db. s.may_leave db; stands_for = StandsForCurrent }
 
 -- settled for a package that meets the rules
 pub record IsSettledFor (old : State) (p : Package) : Type 0 where
@@ -30,7 +30,7 @@ pub record IsSettledFor (old : State) (p : Package) : Type 0 where
 
 -- what the call may commit
 abbrev pub MayCommitStep : State → Command → ℕ → Trees → Type 0
-MayCommitStep old c moment db = (p : Package) → IsSettledFor old p → (refusal p c ≡ None) × Stands db (step p c moment)
+MayCommitStep old c moment db = (p : Package) → IsSettledFor old p → (refusal p c ≡ None) × StandsForCurrent db (step p c moment)
 
 -- the store is open after a command that is done for good; a rehearsal may close it as it is rolled back
 abbrev pub StaysOpen : Command → State → Answer → Type 0

@@ -2,7 +2,7 @@
 
 ghost use Rattle.mm_definitions.specs.Bounds.{current};
 ghost use Rattle.mm_store.specs.Stands.{IsSettled};
-ghost use Rattle.mm_core.specs.Applied.{Stands};
+ghost use Rattle.mm_core.specs.Applied.{StandsForCurrent};
 ghost use Rattle.mm_core.specs.Parts.{held};
 ghost use Rattle.mm_core.specs.Parts as parts;
 ghost use Rattle.sqlite.specs.Held.{state};
@@ -20,7 +20,7 @@ impl<S: Alter> Apply for Session<S> {
 
     ghost Database = { Trees };
 
-    ghost stands_for = { Stands };
+    ghost stands_for = { StandsForCurrent };
 
     ghost may_leave = { λ s db. (state S.Store (held s)).may_leave db };
 

@@ -17,6 +17,7 @@ pub record Written : Type 0 where
   pub contents : Option (List ℕ)
   pub failed : Bool
 
+-- the two of a writer, as one value
 abbrev pub written_as : Option (List ℕ) → Bool → Written
 written_as contents failed = record { contents = contents; failed = failed }
 

@@ -19,7 +19,7 @@ use Rattle.mm_store.specs.Stands.{Ground, StandsOn}
 use Rattle.mm_store.specs.Statements.{CommitsNothing}
 use Rattle.mm_store.specs.Faults.{store}
 use Rattle.mm_store.proofs.Shapes.{quiet_then}
-use Rattle.mm_edition.specs.Turns.{StandsReady, Takes, IsTurn, Tells, IsTrial}
+use Rattle.mm_edition.specs.Turns.{StandsReady, TakesTurn, IsTurn, TellsTrial, IsTrial}
 use Rattle.mm_edition.specs.declared.running.Turn.{Turn}
 use Rattle.mm_edition.specs.declared.running.Turn.TheVariants.{Done, End, Refused}
 use Rattle.mm_edition.proofs.InOrder.{AreFrom, pieces_in_order}
@@ -79,7 +79,7 @@ module _ (profile : Profile) (edition : Text) (moment : ℕ) where
   }
 
   module _ (number : ℕ) (mid new : State) (ground : Ground) (p : Package) where
-    pub one_more_done : (on : IsOn number mid ground p) → Takes profile edition number moment new ground on.edited Done → IsOn (suc number) new ground p
+    pub one_more_done : (on : IsOn number mid ground p) → TakesTurn profile edition number moment new ground on.edited Done → IsOn (suc number) new ground p
     one_more_done on (x, there, none, ready) = by on.rest on.are on.goes_on
       where
         by : (rest : List (PieceKey × PieceRow)) → AreFrom p.pieces edition number rest → trial rest on.edited (stamp moment) ≡ edition_trial p edition (stamp moment) → IsOn (suc number) new ground p
@@ -96,14 +96,14 @@ module _ (profile : Profile) (edition : Text) (moment : ℕ) where
               goes_on = sym (trial_is on.edited e es x row_is (stamp moment) None none) ∙ goes_on;
             }
 
-    pub all_done : (on : IsOn number mid ground p) → Takes profile edition number moment new ground on.edited End → Tells profile edition moment new ground p None
+    pub all_done : (on : IsOn number mid ground p) → TakesTurn profile edition number moment new ground on.edited End → TellsTrial profile edition moment new ground p None
     all_done on (none, up, ready) = (on.edited, sym on.goes_on ∙ by on.rest on.are, on.editions, up, ready)
       where
         by : (rest : List (PieceKey × PieceRow)) → AreFrom p.pieces edition number rest → trial rest on.edited (stamp moment) ≡ Ok on.edited
         by [] are = refl
         by (e ∷ es) are = absurd (not_none are.1 (ap (get p.pieces) are.0 ∙ (ap (λ m. get m (piece edition (pos number))) (sym on.pieces) ∙ none)))
 
-    pub first_refused : (on : IsOn number mid ground p) (why : ℕ) → Takes profile edition number moment new ground on.edited (Refused why) → Tells profile edition moment new ground p (Some (number, why))
+    pub first_refused : (on : IsOn number mid ground p) (why : ℕ) → TakesTurn profile edition number moment new ground on.edited (Refused why) → TellsTrial profile edition moment new ground p (Some (number, why))
     first_refused on why (x, there, reason) = sym on.goes_on ∙ by on.rest on.are
       where
         by : (rest : List (PieceKey × PieceRow)) → AreFrom p.pieces edition number rest → trial rest on.edited (stamp moment) ≡ Err (number, why)
@@ -142,7 +142,7 @@ module _ (profile : Profile) (edition : Text) (moment : ℕ) where
           on = stands_on;
           tells = λ clean ground p ready open_is.
               let on = so_far (omega (arith, turn.survives.clean)) ground p ready open_is in
-              all_done number mid new ground p on (subst (Takes profile edition number moment new ground on.edited) is (turn.takes clean ground on.edited on.ready));
+              all_done number mid new ground p on (subst (TakesTurn profile edition number moment new ground on.edited) is (turn.takes clean ground on.edited on.ready));
           faults = tt;
         }
 
@@ -152,11 +152,11 @@ module _ (profile : Profile) (edition : Text) (moment : ℕ) where
           on = stands_on;
           tells = λ clean ground p ready open_is.
               let on = so_far (omega (arith, turn.survives.clean)) ground p ready open_is in
-              first_refused number mid new ground p on why (subst (Takes profile edition number moment new ground on.edited) is (turn.takes clean ground on.edited on.ready));
+              first_refused number mid new ground p on why (subst (TakesTurn profile edition number moment new ground on.edited) is (turn.takes clean ground on.edited on.ready));
           faults = tt;
         }
 
         pub goes_on_after : it ≡ Done → HasCleanDisk new → (ground : Ground) (p : Package) → StandsReady profile old ground p → get p.editions edition ≡ Some open_state → IsOn (number + 1) new ground p
         goes_on_after is clean ground p ready open_is =
             let on = so_far (omega (arith, turn.survives.clean)) ground p ready open_is in
-            subst (λ n. IsOn n new ground p) (one_after number) (one_more_done number mid new ground p on (subst (Takes profile edition number moment new ground on.edited) is (turn.takes clean ground on.edited on.ready)))
+            subst (λ n. IsOn n new ground p) (one_after number) (one_more_done number mid new ground p on (subst (TakesTurn profile edition number moment new ground on.edited) is (turn.takes clean ground on.edited on.ready)))

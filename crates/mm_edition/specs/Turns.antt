@@ -30,28 +30,28 @@ pub record StandsReady (profile : Profile) (s : State) (ground : Ground) (p : Pa
 
 module _ (profile : Profile) (edition : Text) (number moment : ℕ) where
   -- The piece stands and nothing refuses it, and the transaction then stands for what it gives; or there is none; or it is refused.
-  abbrev pub Takes : State → Ground → Package → Turn → Type 0
-  Takes new ground p Done =
+  abbrev pub TakesTurn : State → Ground → Package → Turn → Type 0
+  TakesTurn new ground p Done =
       (q : Piece) × (get p.pieces (piece edition (pos number)) ≡ Some (piece_row q)) × (least (piece_reasons p q) ≡ None) × StandsReady profile new ground (piece_effect p q (stamp moment))
-  Takes new ground p End = (get p.pieces (piece edition (pos number)) ≡ None) × IsTrue new.is_open × StandsReady profile new ground p
-  Takes new ground p (Refused why) = (q : Piece) × (get p.pieces (piece edition (pos number)) ≡ Some (piece_row q)) × (least (piece_reasons p q) ≡ Some why)
+  TakesTurn new ground p End = (get p.pieces (piece edition (pos number)) ≡ None) × IsTrue new.is_open × StandsReady profile new ground p
+  TakesTurn new ground p (Refused why) = (q : Piece) × (get p.pieces (piece edition (pos number)) ≡ Some (piece_row q)) × (least (piece_reasons p q) ≡ Some why)
 
   -- It commits nothing, a rollback goes back to where it did, and what it answers says what became of the piece of the number.
   pub record IsTurn (old new : State) (result : Result Turn Fault) : Type 0 where
     pub survives : CommitsNothing old new
     pub on : HasCleanDisk new → (ground : Ground) (p : Package) → StandsReady profile old ground p → StandsOn new ground
-    pub takes : HasCleanDisk new → (ground : Ground) (p : Package) → StandsReady profile old ground p → IfOk result (Takes new ground p)
+    pub takes : HasCleanDisk new → (ground : Ground) (p : Package) → StandsReady profile old ground p → IfOk result (TakesTurn new ground p)
     pub faults : IfErr result IsStoreFault
 
 module _ (profile : Profile) (edition : Text) (moment : ℕ) where
   -- All pieces were done in turn, and the transaction stands for what they gave; or the first that is refused is told.
-  abbrev pub Tells : State → Ground → Package → Option (ℕ × ℕ) → Type 0
-  Tells new ground p None = (q : Package) × (edition_trial p edition (stamp moment) ≡ Ok q) × (q.editions ≡ p.editions) × IsTrue new.is_open × StandsReady profile new ground q
-  Tells new ground p (Some refused) = edition_trial p edition (stamp moment) ≡ Err refused
+  abbrev pub TellsTrial : State → Ground → Package → Option (ℕ × ℕ) → Type 0
+  TellsTrial new ground p None = (q : Package) × (edition_trial p edition (stamp moment) ≡ Ok q) × (q.editions ≡ p.editions) × IsTrue new.is_open × StandsReady profile new ground q
+  TellsTrial new ground p (Some refused) = edition_trial p edition (stamp moment) ≡ Err refused
 
   -- It commits nothing, a rollback goes back to where it did, and what it answers says what became of the pieces of an open edition.
   pub record IsTrial (old new : State) (result : Result (Option (ℕ × ℕ)) Fault) : Type 0 where
     pub survives : CommitsNothing old new
     pub on : HasCleanDisk new → (ground : Ground) (p : Package) → StandsReady profile old ground p → get p.editions edition ≡ Some open_state → StandsOn new ground
-    pub tells : HasCleanDisk new → (ground : Ground) (p : Package) → StandsReady profile old ground p → get p.editions edition ≡ Some open_state → IfOk result (Tells new ground p)
+    pub tells : HasCleanDisk new → (ground : Ground) (p : Package) → StandsReady profile old ground p → get p.editions edition ≡ Some open_state → IfOk result (TellsTrial new ground p)
     pub faults : IfErr result IsStoreFault

@@ -8,14 +8,14 @@ use Rattle.mm_definitions.specs.declared.answers.Staged.{Staged}
 use Rattle.mm_definitions.specs.declared.answers.Staged.TheVariants as answers
 use Rattle.mm_definitions.specs.declared.answers.KitFault.{KitFault}
 use Rattle.mm_store.specs.Stands.{IsSettled}
-use Rattle.mm_core.specs.Applied.{Stands}
+use Rattle.mm_core.specs.Applied.{StandsForCurrent}
 use Rattle.mm_kit.specs.Folders.{Files}
 use Rattle.mm_kit.specs.Imports.{IsImportAnswered, IsImportStopped}
 
 -- answered, and the connection is settled for the package after it; or stopped by a fault, and so much may be left
 abbrev pub IsImport : Files → Text → Package → State → Result Staged KitFault → Type 0
 IsImport files name p new (Ok answer) = IsImportAnswered files name p (λ q. IsSettled current new q) answer
-IsImport files name p new (Err stopped) = IsImportStopped files name p (λ db. new.may_leave db) Stands stopped.staged
+IsImport files name p new (Err stopped) = IsImportStopped files name p (λ db. new.may_leave db) StandsForCurrent stopped.staged
 
 -- the line of an import that was answered: the number of pieces, or the piece that was refused and its number
 abbrev pub staged_text : Staged → List ℕ

@@ -6,7 +6,7 @@ ghost use Rattle.sqlite.specs.State.{HasCleanDisk};
 ghost use Rattle.mm_definitions.specs.Bounds.{current};
 ghost use Rattle.mm_definitions.specs.Streams.{written};
 ghost use Rattle.mm_store.specs.Stands.{IsSettled};
-ghost use Rattle.mm_core.specs.Applied.{Stands};
+ghost use Rattle.mm_core.specs.Applied.{StandsForCurrent};
 ghost use Rattle.mm_kit.specs.Imports.{IsImportKept, OnAnyFolder, OnKit, TellsFolder};
 ghost use Rattle.mm_imports.specs.Kits.{IsImport, kit_status, kit_text, staged_status, staged_text};
 ghost use Rattle.mm_subcommands.specs.Told.{IsTold};
@@ -40,7 +40,7 @@ pub fn import_package<S: Alter + Drop, F: Folder>(
         (λ files p. IsImport files name.now p (state S.Store done.0) done.1)) }
     ensures kept { IfOk result (λ done. OnAnyFolder (HasCleanDisk (state S.Store done.0)) (λ p. IsSettled current (state S.Store conn) p)
         (λ p. IsImportKept name.now p (λ q. IsSettled current (state S.Store done.0) q)
-        (λ db. (state S.Store done.0).may_leave db) Stands done.1)) }
+        (λ db. (state S.Store done.0).may_leave db) StandsForCurrent done.1)) }
     ensures folder { IfOk result (λ done. TellsFolder (F.has_failed folder.old) (F.has_failed folder.new) done.1) }
 {
     match adopt_package(alloc, conn) {

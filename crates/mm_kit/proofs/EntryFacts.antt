@@ -17,7 +17,7 @@ use Rattle.mm_definitions.specs.Reading.{ReadsTo, refused}
 use Rattle.mm_definitions.specs.declared.answers.ReadFault.{ReadFault}
 use Rattle.mm_definitions.specs.declared.answers.ReadFault.TheVariants as faults
 use Rattle.mm_kit.specs.declared.entries.Entry.{Entry}
-use Rattle.mm_kit.specs.Entries.{HoldsAgainstEntry, IsEntry, IsLeftToAsk, entry_of, file_of, least_fault, shown}
+use Rattle.mm_kit.specs.Entries.{HoldsAgainstEntry, IsEntry, IsLeftToAsk, entry_of, file_of, least_fault, without_file}
 
 -- the fields behind the first, as a slice pattern gives them
 abbrev pub rest_of : List (Bor Text) → List (Bor Text)
@@ -43,7 +43,7 @@ module _ (place : ℕ) (word : Text) (r : Record) where
   Held = HoldsAgainstEntry place (word ∷ r)
 
   -- a number that is low enough and below those against the number and the piece is below all
-  below_all : (n : ℕ) → n ≤ 54 → ((m : ℕ) → IsAgainst id_field word m → n ≤ m) → ((m : ℕ) → HoldsAgainstPiece current (shown r) m → n ≤ m) → (m : ℕ) → Held m → n ≤ m
+  below_all : (n : ℕ) → n ≤ 54 → ((m : ℕ) → IsAgainst id_field word m → n ≤ m) → ((m : ℕ) → HoldsAgainstPiece current (without_file r) m → n ≤ m) → (m : ℕ) → Held m → n ≤ m
   below_all n low one two m (inl h) = one m h
   below_all n low one two m (inr (inl h)) = two m h
   below_all n low one two m (inr (inr (inl h))) = omega (arith, low, h.0)
@@ -53,30 +53,30 @@ module _ (place : ℕ) (word : Text) (r : Record) where
   same_or_less : (a n m : ℕ) → n ≤ a → m ≡ a → n ≤ m
   same_or_less a n m h e = omega (arith, h, e)
 
-  pub number_first : (a b : ℕ) → IsAgainst id_field word a → IsLeast (HoldsAgainstPiece current (shown r)) b → a ≤ b → IsLeast Held a
+  pub number_first : (a b : ℕ) → IsAgainst id_field word a → IsLeast (HoldsAgainstPiece current (without_file r)) b → a ≤ b → IsLeast Held a
   number_first a b h l le = record {
     is_held = inl h;
     is_least = below_all a (omega (arith, low_number word a h)) (λ m k. same_or_less a a m (omega arith) (one_against id_field word m a k h)) (λ m k. omega (arith, le, l.is_least m k));
   }
 
-  pub piece_first : (a b : ℕ) → IsAgainst id_field word a → IsLeast (HoldsAgainstPiece current (shown r)) b → b ≤ a → IsLeast Held b
+  pub piece_first : (a b : ℕ) → IsAgainst id_field word a → IsLeast (HoldsAgainstPiece current (without_file r)) b → b ≤ a → IsLeast Held b
   piece_first a b h l le = record {
     is_held = inr (inl l.is_held);
-    is_least = below_all b (omega (arith, low_piece (shown r) b l.is_held)) (λ m k. same_or_less a b m le (one_against id_field word m a k h)) l.is_least;
+    is_least = below_all b (omega (arith, low_piece (without_file r) b l.is_held)) (λ m k. same_or_less a b m le (one_against id_field word m a k h)) l.is_least;
   }
 
   module _ (z : ℤ) (spells : SpellsNumber word z) (low : pos 1 ≤ℤ z) (high : z ≤ℤ pos 9007199254740992) where
     number_free : (m : ℕ) → IsAgainst id_field word m → ⊥
     number_free m h = not_against id_field word (Whole z) m (spells, (low, high)) h
 
-    pub piece_alone : (b : ℕ) → IsLeast (HoldsAgainstPiece current (shown r)) b → IsLeast Held b
-    piece_alone b l = record { is_held = inr (inl l.is_held); is_least = below_all b (omega (arith, low_piece (shown r) b l.is_held)) (λ m k. absurd (number_free m k)) l.is_least }
+    pub piece_alone : (b : ℕ) → IsLeast (HoldsAgainstPiece current (without_file r)) b → IsLeast Held b
+    piece_alone b l = record { is_held = inr (inl l.is_held); is_least = below_all b (omega (arith, low_piece (without_file r) b l.is_held)) (λ m k. absurd (number_free m k)) l.is_least }
 
-    module _ (q : Piece) (is : SpellsPiece current (shown r) q) where
+    module _ (q : Piece) (is : SpellsPiece current (without_file r) q) where
       pub placed_least : (n : ℕ) → IsLeftToAsk place z (file_of r) (Err n) → IsLeast Held n
       placed_least n (inl h) = record {
         is_held = inr (inr (inl h));
-        is_least = below_all n (omega (arith, h.0)) (λ m k. absurd (number_free m k)) (λ m k. absurd (none_against_piece current (shown r) q m is k));
+        is_least = below_all n (omega (arith, h.0)) (λ m k. absurd (number_free m k)) (λ m k. absurd (none_against_piece current (without_file r) q m is k));
       }
       placed_least n (inr (inl h)) = record {
         is_held = inr (inr (inr (inl (h.0, λ s. h.2 (spells_one word z (pos place) spells s)))));
@@ -85,7 +85,7 @@ module _ (place : ℕ) (word : Text) (r : Record) where
         where
           least : (m : ℕ) → Held m → n ≤ m
           least m (inl k) = absurd (number_free m k)
-          least m (inr (inl k)) = absurd (none_against_piece current (shown r) q m is k)
+          least m (inr (inl k)) = absurd (none_against_piece current (without_file r) q m is k)
           least m (inr (inr (inl k))) = absurd (omega (arith, k.1, h.1))
           least m (inr (inr (inr (inl k)))) = omega (arith, h.0, k.0)
           least m (inr (inr (inr (inr k)))) = omega (arith, h.0, k.0)
@@ -96,7 +96,7 @@ module _ (place : ℕ) (word : Text) (r : Record) where
         where
           least : (m : ℕ) → Held m → n ≤ m
           least m (inl k) = absurd (number_free m k)
-          least m (inr (inl k)) = absurd (none_against_piece current (shown r) q m is k)
+          least m (inr (inl k)) = absurd (none_against_piece current (without_file r) q m is k)
           least m (inr (inr (inl k))) = absurd (omega (arith, k.1, h.1))
           least m (inr (inr (inr (inl k)))) = absurd (k.1 (subst (SpellsNumber word) h.2 spells))
           least m (inr (inr (inr (inr k)))) = omega (arith, h.0, k.0)
@@ -104,14 +104,14 @@ module _ (place : ℕ) (word : Text) (r : Record) where
       pub placed_entry : (file : Option Text) → IsLeftToAsk place z (file_of r) (Ok file) → IsEntry place (word ∷ r) (entry_of q file)
       placed_entry file h = (subst (SpellsNumber word) h.1 spells, h.0, h.3, q, is, ap (entry_of q) h.2)
 
-  pub number_alone : (a : ℕ) (q : Piece) → IsAgainst id_field word a → SpellsPiece current (shown r) q → IsLeast Held a
+  pub number_alone : (a : ℕ) (q : Piece) → IsAgainst id_field word a → SpellsPiece current (without_file r) q → IsLeast Held a
   number_alone a q h is = record {
     is_held = inl h;
-    is_least = below_all a (omega (arith, low_number word a h)) (λ m k. same_or_less a a m (omega arith) (one_against id_field word m a k h)) (λ m k. absurd (none_against_piece current (shown r) q m is k));
+    is_least = below_all a (omega (arith, low_number word a h)) (λ m k. same_or_less a a m (omega arith) (one_against id_field word m a k h)) (λ m k. absurd (none_against_piece current (without_file r) q m is k));
   }
 
   -- whose number is refused
-  pub number_refused : (n : ℕ) (piece : Result Piece ReadFault) → IsAgainst id_field word n → ReadsTo (SpellsPiece current (shown r)) (IsLeast (HoldsAgainstPiece current (shown r))) piece
+  pub number_refused : (n : ℕ) (piece : Result Piece ReadFault) → IsAgainst id_field word n → ReadsTo (SpellsPiece current (without_file r)) (IsLeast (HoldsAgainstPiece current (without_file r))) piece
       → ReadsTo {A = Entry} (IsEntry place (word ∷ r)) (IsLeast Held) (Err (least_fault n piece))
   number_refused n (Ok q) h reads = (refl, number_alone n q h reads)
   number_refused n (Err faults.Memory) h reads = tt
@@ -126,7 +126,7 @@ module _ (place : ℕ) (word : Text) (r : Record) where
 
   -- whose number is read
   module _ (z : ℤ) (spells : SpellsNumber word z) (low : pos 1 ≤ℤ z) (high : z ≤ℤ pos 9007199254740992) where
-    pub piece_refused : (fault : ReadFault) → ReadsTo (SpellsPiece current (shown r)) (IsLeast (HoldsAgainstPiece current (shown r))) (Err fault) → ReadsTo {A = Entry} (IsEntry place (word ∷ r)) (IsLeast Held) (Err fault)
+    pub piece_refused : (fault : ReadFault) → ReadsTo (SpellsPiece current (without_file r)) (IsLeast (HoldsAgainstPiece current (without_file r))) (Err fault) → ReadsTo {A = Entry} (IsEntry place (word ∷ r)) (IsLeast Held) (Err fault)
     piece_refused faults.Memory reads = tt
     piece_refused (faults.Refused why) reads = (reads.0, piece_alone z spells low high why.number reads.1)
 

@@ -7,7 +7,7 @@ use Rattle.mm_definitions.specs.Records.{id_field}
 use Rattle.mm_definitions.proofs.ReadingFacts.{not_against}
 use Rattle.mm_laws.proofs.Spelled.{none_against_piece, one_least, one_piece}
 use Rattle.mm_io.specs.Records.{Record, records_of}
-use Rattle.mm_kit.specs.Entries.{HoldsAgainstEntry, IsEntry, IsEntryReadAs, entry_of, file_of, shown}
+use Rattle.mm_kit.specs.Entries.{HoldsAgainstEntry, IsEntry, IsEntryReadAs, entry_of, file_of, without_file}
 use Rattle.mm_kit.specs.Lists.{AreEntries, IsListOf, IsListRead}
 use Rattle.mm_kit.specs.declared.entries.Entry.{Entry}
 
@@ -15,7 +15,7 @@ use Rattle.mm_kit.specs.declared.entries.Entry.{Entry}
 
 one_entry : (place : ℕ) (r : Record) (a b : Entry) → IsEntry place r a → IsEntry place r b → a ≡ b
 one_entry place [] a b h k = absurd h
-one_entry place (number ∷ r) a b h k = h.5 ∙ ap (λ q. entry_of q (file_of r)) (one_piece current (shown r) h.3 k.3 h.4 k.4) ∙ sym k.5
+one_entry place (number ∷ r) a b h k = h.5 ∙ ap (λ q. entry_of q (file_of r)) (one_piece current (without_file r) h.3 k.3 h.4 k.4) ∙ sym k.5
 
 in_range : (place : ℕ) → 1 ≤ place → place ≤ 4096 → IsId (pos place)
 in_range place a b = (omega (arith, ints, a), omega (arith, ints, b))
@@ -24,7 +24,7 @@ in_range place a b = (omega (arith, ints, a), omega (arith, ints, b))
 none_against : (place : ℕ) (r : Record) (e : Entry) (n : ℕ) → 1 ≤ place → IsEntry place r e → HoldsAgainstEntry place r n → ⊥
 none_against place [] e n low h k = h
 none_against place (number ∷ r) e n low h (inl k) = not_against id_field number (Whole (pos place)) n (h.0, in_range place low h.1) k
-none_against place (number ∷ r) e n low h (inr (inl k)) = none_against_piece current (shown r) h.3 n h.4 k
+none_against place (number ∷ r) e n low h (inr (inl k)) = none_against_piece current (without_file r) h.3 n h.4 k
 none_against place (number ∷ r) e n low h (inr (inr (inl k))) = absurd (omega (arith, k.1, h.1))
 none_against place (number ∷ r) e n low h (inr (inr (inr (inl k)))) = k.1 h.0
 none_against place (number ∷ r) e n low h (inr (inr (inr (inr k)))) = k.1 h.2

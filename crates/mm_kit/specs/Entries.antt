@@ -28,8 +28,8 @@ abbrev pub file_of : Record → Option Text
 file_of r = if takes_file r then Some (get_or r (length r - 1) []) else None
 
 -- the piece's record, with 00 in the place of the file's name
-abbrev pub shown : Record → Record
-shown r = if takes_file r then take (length r - 1) r ++ codes "00" ∷ [] else r
+abbrev pub without_file : Record → Record
+without_file r = if takes_file r then take (length r - 1) r ++ codes "00" ∷ [] else r
 
 -- the entry of the piece that is then spelled
 abbrev pub entry_of : Piece → Option Text → Entry
@@ -45,14 +45,14 @@ IsInForm (Some name) = IsFileName name
 -- the record at this place of the list is this entry
 abbrev pub IsEntry : ℕ → Record → Entry → Type 0
 IsEntry place [] e = ⊥
-IsEntry place (number ∷ r) e = SpellsNumber number (pos place) × (place ≤ 4096) × IsInForm (file_of r) × (q : Piece) × SpellsPiece current (shown r) q × (e ≡ entry_of q (file_of r))
+IsEntry place (number ∷ r) e = SpellsNumber number (pos place) × (place ≤ 4096) × IsInForm (file_of r) × (q : Piece) × SpellsPiece current (without_file r) q × (e ≡ entry_of q (file_of r))
 
 -- The numbers against the record at this place: 10 to 12 as against every record of a piece, 54 where there are too many
 -- records, 56 where its number isn't its place, 57 where the file's name is out of form.
 abbrev pub HoldsAgainstEntry : ℕ → Record → ℕ → Type 0
 HoldsAgainstEntry place [] n = n ≡ 10
 HoldsAgainstEntry place (number ∷ r) n =
-    IsAgainst id_field number n ⊎ HoldsAgainstPiece current (shown r) n ⊎ ((n ≡ 54) × (4096 < place)) ⊎ ((n ≡ 56) × ¬ (SpellsNumber number (pos place))) ⊎ ((n ≡ 57) × ¬ (IsInForm (file_of r)))
+    IsAgainst id_field number n ⊎ HoldsAgainstPiece current (without_file r) n ⊎ ((n ≡ 54) × (4096 < place)) ⊎ ((n ≡ 56) × ¬ (SpellsNumber number (pos place))) ⊎ ((n ≡ 57) × ¬ (IsInForm (file_of r)))
 
 -- The entry, or the least number that is against the record. One with a field that isn't text is refused 10.
 abbrev pub IsEntryReadAs : ℕ → Record → Result Entry ℕ → Type 0

@@ -12,7 +12,7 @@ use Rattle.mm_definitions.specs.declared.answers.KitFault.{KitFault}
 use Rattle.mm_run.specs.Applied.{IsSound}
 use Rattle.mm_kit.specs.Editions.{Edition, HasPieces, IsEdition}
 use Rattle.mm_kit.specs.Folders.{Files}
-use Rattle.mm_kit.specs.Kits.{IsWhole, against, edition_answer, filled, error_of, first_answer, first_number, kit_answer, kit_of, kit_pieces}
+use Rattle.mm_kit.specs.Kits.{IsWholeKit, against, edition_answer, filled, error_of, first_answer, first_number, kit_answer, kit_of, kit_pieces}
 use Rattle.mm_kit.specs.Lists.{IsKitList}
 use Rattle.mm_kit.specs.declared.entries.Entry.{Entry}
 
@@ -43,7 +43,7 @@ OnlyGrows name kit p q = (q ≡ p) ⊎ IsGrown name kit p q
 
 -- complete: the kit is whole, has so many pieces, and they are the edition's
 pub record HasWhole (files : Files) (name : Text) (entries : List Entry) (q : Package) (n : ℕ) : Type 0 where
-  pub whole : IsWhole files entries
+  pub whole : IsWholeKit files entries
   pub pieces : HasPieces q name (kit_pieces files entries)
   pub count : length (kit_pieces files entries) ≡ n
 

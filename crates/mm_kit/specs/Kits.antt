@@ -56,8 +56,8 @@ first_number condition i [] = None
 first_number condition i (e ∷ rest) = or_later i (condition i e) (first_number condition (i + 1) rest)
 
 -- each file is there and has a length within its limits
-abbrev pub IsWhole : Files → List Entry → Type 0
-IsWhole files entries = first_number (λ i e. error_of (filled files e)) 1 entries ≡ None
+abbrev pub IsWholeKit : Files → List Entry → Type 0
+IsWholeKit files entries = first_number (λ i e. error_of (filled files e)) 1 entries ≡ None
 
 -- ---- the answer
 

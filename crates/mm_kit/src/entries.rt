@@ -6,7 +6,7 @@ ghost use Rattle.mm_definitions.specs.Reading.{ReadsTo};
 ghost use Rattle.mm_definitions.specs.Records.{IsLeast, id_field};
 ghost use Rattle.mm_definitions.specs.Fields.{HoldsValue, IsAgainst, Whole};
 ghost use Rattle.mm_definitions.specs.declared.answers.ReadFault.TheVariants as faults;
-ghost use Rattle.mm_kit.specs.Entries.{HoldsAgainstEntry, IsEntry, IsInForm, IsLeftToAsk, entry_of, file_of, file_read, shown, text_of};
+ghost use Rattle.mm_kit.specs.Entries.{HoldsAgainstEntry, IsEntry, IsInForm, IsLeftToAsk, entry_of, file_of, file_read, without_file, text_of};
 
 use crate::file_names::FileName;
 use mm_definitions::answers::ReadFault;
@@ -41,7 +41,7 @@ pub enum Entry {
 /// Takes out the last field where the record is one of a tile or a media item, and puts `00` in its place.
 fn show<'a>(fields: &mut Vec<&'a str>) -> Result<Option<&'a str>, AllocError>
     ensures file { IfOk result (λ file. text_of file ≡ file_of (map (λ f. f.now) fields.old.items)) }
-    ensures shown { IfOk result (λ file. map (λ f. f.now) fields.new.items ≡ shown (map (λ f. f.now) fields.old.items)) }
+    ensures shown { IfOk result (λ file. map (λ f. f.now) fields.new.items ≡ without_file (map (λ f. f.now) fields.old.items)) }
 {
     let Some(word) = fields.first() else {
         return Ok(None);

@@ -5,7 +5,7 @@ ghost use Rattle.sqlite.specs.Held.{state};
 ghost use Rattle.sqlite.specs.State.{HasCleanDisk};
 ghost use Rattle.mm_definitions.specs.Bounds.{current};
 ghost use Rattle.mm_store.specs.Stands.{IsSettled};
-ghost use Rattle.mm_core.specs.Applied.{Stands};
+ghost use Rattle.mm_core.specs.Applied.{StandsForCurrent};
 ghost use Rattle.mm_core.specs.Parts.{held, must_reopen};
 ghost use Rattle.mm_kit.specs.Imports.{AsksForPackage, IsImportAnswered, IsImportKept, IsKitFault, IsImportStopped, OnAnyFolder, OnKit, ImportTellsReopening, TellsFolder};
 
@@ -54,7 +54,7 @@ pub fn import_kit<S: Alter, F: Folder>(
     // With a fault each database that may be left stands for such a package, with as many pieces as were answered ok, or one more.
     ensures stopped { IfErr result (λ e. OnKit (HasCleanDisk (state S.Store (held session.new)))
         (λ p. IsSettled current (state S.Store (held session.old)) p) (F.files folder.old)
-        (λ files p. IsImportStopped files name.now p (λ db. (state S.Store (held session.new)).may_leave db) Stands e.staged)) }
+        (λ files p. IsImportStopped files name.now p (λ db. (state S.Store (held session.new)).may_leave db) StandsForCurrent e.staged)) }
 
     // A session that has to be opened again is left as it was, and 92 comes only there.
     ensures session { ImportTellsReopening (must_reopen session.old) (must_reopen session.new) (session.new ≡ session.old) result }
@@ -66,7 +66,7 @@ pub fn import_kit<S: Alter, F: Folder>(
     ensures kept { OnAnyFolder (HasCleanDisk (state S.Store (held session.new)))
         (λ p. IsSettled current (state S.Store (held session.old)) p)
         (λ p. IsImportKept name.now p (λ q. IsSettled current (state S.Store (held session.new)) q)
-        (λ db. (state S.Store (held session.new)).may_leave db) Stands result) }
+        (λ db. (state S.Store (held session.new)).may_leave db) StandsForCurrent result) }
 
     // 96 is the folder's, and the folder tells it.
     ensures folder { TellsFolder (F.has_failed folder.old) (F.has_failed folder.new) result }

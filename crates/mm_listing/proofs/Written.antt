@@ -10,7 +10,7 @@ use Rattle.mm_store.specs.Faults.{IsStoreFault}
 use Rattle.mm_store.specs.Seen.{IsSeenAs}
 use Rattle.mm_store.proofs.Seen.{settled_still}
 use Rattle.mm_store.proofs.Shapes.{quiet_then}
-use Rattle.mm_walk.specs.Walk.{OnlyAsks, Takes, Ends, IsWalk}
+use Rattle.mm_walk.specs.Walk.{OnlyAsks, TakesRows, Ends, IsWalk}
 use Rattle.mm_walk.proofs.Resting.{seen_still, ends_rest}
 use Rattle.mm_listing.specs.Writing.{IsBegun, SendsLine, TakesLine, IsWritten, ListingTellsWriter, IsListed}
 use Rattle.mm_listing.proofs.Fronts.{ShowsEach, Fronts}
@@ -42,7 +42,7 @@ module _ (Shows : Row → List ℕ → Type 0) where
   each_more (r ∷ rows) last text line (one, rest, first, more, is) shown = (one, rest ++ line, first, each_more rows last rest line more shown, ap (λ t. t ++ line) is ∙ append_assoc one rest line)
 
   module _ {V : Type 0} (takes : V → Row → V → Result Bool Fault → Type 0) (held : V → Option (List ℕ)) (failed : V → Bool) (writes : (v u : V) (row : Row) (result : Result Bool Fault) → takes v row u result → TakesLine Shows (written_as (held v) (failed v)) (written_as (held u) (failed u)) row result) where
-    taken : (v w : V) (rows : List Row) → Takes takes v rows w → (text : List ℕ) × ShowsEach Shows rows text × Appends (held v) (held w) text × (failed w ≡ failed v)
+    taken : (v w : V) (rows : List Row) → TakesRows takes v rows w → (text : List ℕ) × ShowsEach Shows rows text × Appends (held v) (held w) text × (failed w ≡ failed v)
     taken v w [] same = ([], refl, appends_none (held v) (held w) (ap held (sym same)), ap failed (sym same))
     taken v w (r ∷ rows) (u, step, more) =
         let one = writes v u r (Ok true) step in
@@ -60,7 +60,7 @@ module _ (Shows : Row → List ℕ → Type 0) where
         told (inr it) = inr (it.2.0, it.2.1)
 
     pub tells_writer : (v w : V) (result : Result Bool Fault) → IfErr result (λ fault. IsStoreFault fault ⊎ ((before : V) × (row : Row) × takes before row w (Err fault)))
-        → (rows : List Row) × (Takes takes v rows w ⊎ ((before : V) × (row : Row) × Takes takes v rows before × takes before row w result)) → ListingTellsWriter (failed v) (failed w) (done_of result)
+        → (rows : List Row) × (TakesRows takes v rows w ⊎ ((before : V) × (row : Row) × TakesRows takes v rows before × takes before row w result)) → ListingTellsWriter (failed v) (failed w) (done_of result)
     tells_writer v w result faults (rows, inr it) =
         subst (λ f. ListingTellsWriter f (failed w) (done_of result)) (taken v it.0 rows it.2).3 (after_step it.0 w it.1 result it.3)
     tells_writer v w (Ok goes) faults (rows, inl it) = (taken v w rows it).3
@@ -119,7 +119,7 @@ module _ (Shows : Row → List ℕ → Type 0) where
 
 -- what no step changes is as it was
 module _ {V N : Type 0} {takes : V → Row → V → Result Bool Fault → Type 0} {sql : List ℕ} {params : Row} {old new : State} {v w : V} {result : Result Bool Fault} (it : IsWalk takes sql params old new v w result) (name : V → N) (keeps : (v u : V) (row : Row) (result : Result Bool Fault) → takes v row u result → name u ≡ name v) where
-  keeps_all : (v w : V) (rows : List Row) → Takes takes v rows w → name w ≡ name v
+  keeps_all : (v w : V) (rows : List Row) → TakesRows takes v rows w → name w ≡ name v
   keeps_all v w [] same = ap name (sym same)
   keeps_all v w (r ∷ rows) (u, step, more) = keeps_all u w rows more ∙ keeps v u r (Ok true) step
 

@@ -14,7 +14,7 @@ use Rattle.mm_definitions.specs.declared.entries.Entry.{Entry}
 use Rattle.mm_store.specs.Faults.{IsStoreFault}
 use Rattle.mm_store.specs.Seen.{IsSeenAs, IsRead}
 use Rattle.mm_store.proofs.Seen.{settled_still}
-use Rattle.mm_walk.specs.Walk.{Takes, Ends, IsWalk}
+use Rattle.mm_walk.specs.Walk.{TakesRows, Ends, IsWalk}
 use Rattle.mm_walk.proofs.Resting.{seen_still, ends_rest}
 use Rattle.mm_reads.specs.Listing.{GathersTables, ListsTables}
 use Rattle.mm_reads.proofs.Asking.{list_asks}
@@ -23,7 +23,7 @@ use Rattle.mm_reads.proofs.Listed.{list_text, list_tables, ShowsAll, lists_table
 -- ---- the walk of a visitor that keeps what it gathers
 
 module _ {V : Type 0} (takes : V → Row → V → Result Bool Fault → Type 0) (items : V → List Entry) (gathers : (v u : V) (row : Row) (result : Result Bool Fault) → takes v row u result → GathersTables (items v) row (items u) result) where
-  gathered : (v w : V) (rows : List Row) → Takes takes v rows w → (es : List Entry) × (items w ≡ items v ++ es) × ShowsAll rows es
+  gathered : (v w : V) (rows : List Row) → TakesRows takes v rows w → (es : List Entry) × (items w ≡ items v ++ es) × ShowsAll rows es
   gathered v w [] same = ([], ap items (sym same) ∙ sym (append-nil (items v)), refl)
   gathered v w (r ∷ rows) (u, step, more) =
       let one = gathers v u r (Ok true) step in

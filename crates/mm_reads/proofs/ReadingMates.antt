@@ -17,7 +17,7 @@ use Rattle.mm_store.specs.Faults.{IsStoreFault}
 use Rattle.mm_store.specs.Seen.{IsSeenAs, IsRead}
 use Rattle.mm_store.proofs.Seen.{settled_still}
 use Rattle.mm_store.proofs.Shapes.{quiet_then}
-use Rattle.mm_walk.specs.Walk.{Takes, Ends, IsWalk}
+use Rattle.mm_walk.specs.Walk.{TakesRows, Ends, IsWalk}
 use Rattle.mm_walk.proofs.Resting.{seen_still, ends_rest}
 use Rattle.mm_reads.specs.Related.{GathersMates, ListsMates}
 use Rattle.mm_reads.proofs.Asked as asked
@@ -35,7 +35,7 @@ Found gathered (Err fault) (Ok found) = ⊥
 Found gathered (Err fault) (Err other) = fault ≡ other
 
 module _ {V : Type 0} (takes : V → Row → V → Result Bool Fault → Type 0) (items : V → List Related) (gathers : (v u : V) (row : Row) (result : Result Bool Fault) → takes v row u result → GathersMates (items v) row (items u) result) where
-  gathered : (v w : V) (rows : List Row) → Takes takes v rows w → (found : List Related) × (items w ≡ items v ++ found) × ShowsAll rows found
+  gathered : (v w : V) (rows : List Row) → TakesRows takes v rows w → (found : List Related) × (items w ≡ items v ++ found) × ShowsAll rows found
   gathered v w [] same = ([], ap items (sym same) ∙ sym (append-nil (items v)), refl)
   gathered v w (r ∷ rows) (u, step, more) =
       let one = gathers v u r (Ok true) step in

@@ -12,7 +12,7 @@ use Rattle.mm_definitions.specs.declared.answers.Open.TheVariants as opens
 use Rattle.mm_check.specs.Verdict.{rule, IsFailing}
 use Rattle.mm_queries.proofs.InTurn.{either_holds}
 use Rattle.mm_core.specs.Adopted.{IsAdopted, IsNotAdopted, Declines}
-use Rattle.mm_core.specs.Applied.{Stands, shown_on}
+use Rattle.mm_core.specs.Applied.{StandsForCurrent, shown_on}
 use Rattle.mm_definitions.specs.Runs.{run}
 use Rattle.mm_definitions.specs.Streams.{Written}
 use Rattle.mm_definitions.specs.declared.answers.Tally.{Tally}
@@ -64,7 +64,7 @@ recovers_by old mid new finds adopted =
       found = λ clean. ∥∥₁_map (finds.found (early clean)) (λ may. (
         mid.committed.trees,
         may,
-        λ (p : Package) (stands : Stands mid.committed.trees p).
+        λ (p : Package) (stands : StandsForCurrent mid.committed.trees p).
             let was = finds.settled (early clean) p stands in (adopted.settled clean p was, adopted.meets clean p was),
       ));
     }
@@ -98,17 +98,17 @@ reopens_by old mid new finds adopted =
       clean = λ clean. finds.clean (early clean);
       is_open = adopted.is_open;
       settled = λ clean p stands.
-          let was = finds.settled (early clean) p (subst (λ db. Stands db p) (sym (finds.found (early clean))) stands) in (adopted.settled clean p was, adopted.meets clean p was);
+          let was = finds.settled (early clean) p (subst (λ db. StandsForCurrent db p) (sym (finds.found (early clean))) stands) in (adopted.settled clean p was, adopted.meets clean p was);
     }
 
 module _ (old mid new : State) (finds : FindsCommitted old mid) where
-  refuses : (why : Open) → IsNotAdopted mid new why → is_fault why ≡ false → HasCleanDisk new → (p : Package) → Stands old.committed.trees p → Meets current p → ⊥
+  refuses : (why : Open) → IsNotAdopted mid new why → is_fault why ≡ false → HasCleanDisk new → (p : Package) → StandsForCurrent old.committed.trees p → Meets current p → ⊥
   refuses why declined other clean p stands meets =
       let early : HasCleanDisk mid = omega (arith, clean, declined.survives.clean) in
-      let was = finds.settled early p (subst (λ db. Stands db p) (sym (finds.found early)) stands) in
+      let was = finds.settled early p (subst (λ db. StandsForCurrent db p) (sym (finds.found early)) stands) in
       none_is_declined p why meets (declined.declines clean p was) other
 
-  refused_for : (why : Open) → IsNotAdopted mid new why → HasCleanDisk new → (p : Package) → Stands old.committed.trees p → Meets current p → IsFault why
+  refused_for : (why : Open) → IsNotAdopted mid new why → HasCleanDisk new → (p : Package) → StandsForCurrent old.committed.trees p → Meets current p → IsFault why
   refused_for (opens.Fault fault) declined clean p stands meets = declined.profile clean
   refused_for (opens.Rule k) declined clean p stands meets = refuses (opens.Rule k) declined refl clean p stands meets
   refused_for (opens.Version version) declined clean p stands meets = refuses (opens.Version version) declined refl clean p stands meets
@@ -116,7 +116,7 @@ module _ (old mid new : State) (finds : FindsCommitted old mid) where
   refused_for opens.BadProfile declined clean p stands meets = refuses opens.BadProfile declined refl clean p stands meets
   refused_for opens.BadBlobs declined clean p stands meets = refuses opens.BadBlobs declined refl clean p stands meets
 
-  pub not_reopened_by : (why : Open) → IsNotAdopted mid new why → (HasCleanDisk new → HasCleanDisk old) × (HasCleanDisk new → (p : Package) → Stands old.committed.trees p → Meets current p → IsFault why)
+  pub not_reopened_by : (why : Open) → IsNotAdopted mid new why → (HasCleanDisk new → HasCleanDisk old) × (HasCleanDisk new → (p : Package) → StandsForCurrent old.committed.trees p → Meets current p → IsFault why)
   not_reopened_by why declined = ((λ clean. finds.clean (omega (arith, clean, declined.survives.clean))), refused_for why declined)
 
 -- ---- the making of a package, and then a crash

@@ -21,7 +21,7 @@ use Rattle.mm_opening.specs.Opening.{IsBlank}
 use Rattle.mm_definitions.specs.Streams.{Written}
 use Rattle.mm_run.specs.Shown.{Shown}
 use Rattle.mm_run.specs.Runs.{OnRun, RanAll, RanSome}
-use Rattle.mm_core.specs.Applied.{Stands}
+use Rattle.mm_core.specs.Applied.{StandsForCurrent}
 
 -- settled for the package, which meets the rules
 abbrev pub IsSoundOn : State → Package → Type 0
@@ -31,11 +31,11 @@ IsSoundOn s p = IsSettled current s p × Meets current p
 pub record IsRecovered (old new : State) : Type 0 where
   pub clean : HasCleanDisk new → HasCleanDisk old
   pub is_open : HasCleanDisk new → IsTrue new.is_open
-  pub found : HasCleanDisk new → ∥ ((db : Trees) × old.may_leave db × ((p : Package) → Stands db p → IsSoundOn new p)) ∥₁
+  pub found : HasCleanDisk new → ∥ ((db : Trees) × old.may_leave db × ((p : Package) → StandsForCurrent db p → IsSoundOn new p)) ∥₁
 
 -- each database that may be left stands for a package that meets the rules
 abbrev pub LeavesPackages : State → Type 0
-LeavesPackages s = (db : Trees) → s.may_leave db → (p : Package) × Stands db p × Meets current p
+LeavesPackages s = (db : Trees) → s.may_leave db → (p : Package) × StandsForCurrent db p × Meets current p
 
 -- a fault, and no opening number and no rule
 abbrev pub IsFault : Open → Type 0
@@ -66,14 +66,14 @@ IsMakingRecovered old new (Err fault) = HasCleanDisk new → IsBlank old → ∥
 pub record IsReopened (old new : State) : Type 0 where
   pub clean : HasCleanDisk new → HasCleanDisk old
   pub is_open : HasCleanDisk new → IsTrue new.is_open
-  pub settled : HasCleanDisk new → (p : Package) → Stands old.committed.trees p → IsSoundOn new p
+  pub settled : HasCleanDisk new → (p : Package) → StandsForCurrent old.committed.trees p → IsSoundOn new p
 
 module _ {D : Type 0} {g : Ghosts D} where
   -- The files could not be opened; or they were, and then it is a fault where a package that meets the rules was committed last.
   abbrev pub IsNotReopened : State → Option (Held (FileStore D g)) → Open → Type 0
   IsNotReopened old None why = IsFault why
   IsNotReopened old (Some conn) why = (HasCleanDisk (file_state conn) → HasCleanDisk old)
-      × (HasCleanDisk (file_state conn) → (p : Package) → Stands old.committed.trees p → Meets current p → IsFault why)
+      × (HasCleanDisk (file_state conn) → (p : Package) → StandsForCurrent old.committed.trees p → Meets current p → IsFault why)
 
 -- ---- the run of a list, and then a crash
 

@@ -16,7 +16,7 @@ use Rattle.sqlite.specs.Held.{Held, state}
 use Rattle.sqlite.specs.Given.{Returns, HasGiven, HasBegun}
 use Rattle.mm_definitions.specs.declared.answers.Fault.{Fault}
 use Rattle.mm_store.specs.Statements.{CommitsNothing}
-use Rattle.mm_walk.specs.Walk.{OnlyAsks, Rests, Takes}
+use Rattle.mm_walk.specs.Walk.{OnlyAsks, Rests, TakesRows}
 
 none_some : {X : Type 0} (o : Option X) → o ≡ None → IsSome o → ⊥
 none_some None is h = absurd (let e : false ≡ true = h in cc)
@@ -64,6 +64,6 @@ module _ (sql : List ℕ) (params : Row) where
       inl shows.3
 
 module _ {V : Type 0} (takes : V → Row → V → Result Bool Fault → Type 0) where
-  pub takes_one_more : (v u w : V) (rows : List Row) (row : Row) → Takes takes v rows u → takes u row w (Ok true) → Takes takes v (rows ++ row ∷ []) w
+  pub takes_one_more : (v u w : V) (rows : List Row) (row : Row) → TakesRows takes v rows u → takes u row w (Ok true) → TakesRows takes v (rows ++ row ∷ []) w
   takes_one_more v u w [] row is step = (w, subst (λ x. takes x row w (Ok true)) (sym is) step, refl)
   takes_one_more v u w (r ∷ rows) row (x, first, more) step = (x, first, takes_one_more x u w rows row more step)

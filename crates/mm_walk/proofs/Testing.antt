@@ -15,7 +15,7 @@ use Rattle.sqlite.proofs.Callers.{IsPlain, reads_as, begins_as}
 use Rattle.sql_forms.specs.Forms.{query, no_limit, alone}
 use Rattle.mm_definitions.specs.declared.answers.Fault.{Fault}
 use Rattle.mm_store.specs.Faults.{IsStoreFault}
-use Rattle.mm_walk.specs.Walk.{OnlyAsks, Rests, Takes, Ends, IsWalk}
+use Rattle.mm_walk.specs.Walk.{OnlyAsks, Rests, TakesRows, Ends, IsWalk}
 use Rattle.mm_walk.specs.RowTests.{IsQuery, AllShown, TellsAll}
 use Rattle.mm_walk.proofs.Matches.{all_split, all_good, each_good}
 
@@ -55,7 +55,7 @@ module _ {V : Type 0} (takes : V → Row → V → Result Bool Fault → Type 0)
   halts v w row h there = let t = tests v w row _ h in let e : t.1.0 ≡ true = t.1.2.1 there in let f = ok_is false t.1.0 t.1.1 in let k : false ≡ true = f ∙ e in cc
 
   -- the visitor stays, and each row is good
-  all_taken : (v w : V) (rows : List Row) → Takes takes v rows w → (w ≡ v) × AllByRecursion (good v) rows
+  all_taken : (v w : V) (rows : List Row) → TakesRows takes v rows w → (w ≡ v) × AllByRecursion (good v) rows
   all_taken v w [] same = (sym same, tt)
   all_taken v w (r ∷ rows) (u, first, more) =
       let one = goes v u r first in

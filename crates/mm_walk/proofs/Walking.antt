@@ -11,7 +11,7 @@ use Rattle.sqlite.specs.Given.{HasGiven, HasBegun}
 use Rattle.mm_definitions.specs.declared.answers.Fault.{Fault}
 use Rattle.mm_store.specs.Faults.{told_as, IsStoreFault}
 use Rattle.mm_store.proofs.Asking.{told_fault}
-use Rattle.mm_walk.specs.Walk.{OnlyAsks, Rests, IsFront, Takes, IsEndedAt, IsWalk}
+use Rattle.mm_walk.specs.Walk.{OnlyAsks, Rests, IsFront, TakesRows, IsEndedWalk, IsWalk}
 use Rattle.mm_walk.proofs.Given.{begun_asking, commits_nothing, begins_before, shown_before, refused_rests, takes_one_more}
 
 module _ {S V : Type 0} (g : Ghosts S) (takes : V → Row → V → Result Bool Fault → Type 0) (sql : List ℕ) (params : Row) where
@@ -19,8 +19,8 @@ module _ {S V : Type 0} (g : Ghosts S) (takes : V → Row → V → Result Bool 
   pub record SoFar (old now : Held S) (v w : V) : Type 0 where
     pub mode : old.in_transaction ≡ false → now.in_transaction ≡ false
     pub survives : Survives (state g old) (state g now) (CommitsShowing sql params (state g old))
-    pub visited : (rows : List Row) × Takes takes v rows w
-    pub given : HasCleanDisk (state g now) → OnlyAsks old.schema sql → (rows : List Row) × HasGiven g sql params now rows × IsUnchanged (state g old) (state g now) × Takes takes v rows w
+    pub visited : (rows : List Row) × TakesRows takes v rows w
+    pub given : HasCleanDisk (state g now) → OnlyAsks old.schema sql → (rows : List Row) × HasGiven g sql params now rows × IsUnchanged (state g old) (state g now) × TakesRows takes v rows w
 
   pub begun_so_far : (old now : Held S) (v : V) → (old.in_transaction ≡ false → now.in_transaction ≡ false) → Survives (state g old) (state g now) (CommitsShowing sql params (state g old))
       → (HasCleanDisk (state g now) → HasBegun g sql params old now) → SoFar old now v v
@@ -117,7 +117,7 @@ module _ {S V : Type 0} (g : Ghosts S) (takes : V → Row → V → Result Bool 
                 (it.0 ++ row ∷ [], gives clean it.0 it.1, all_same clean asks, takes_one_more takes v w u it.0 row it.3 step);
           }
 
-          at_last : (result : Result Bool Fault) → takes w row u result → HasCleanDisk (state g new) → OnlyAsks old.schema sql → IsEndedAt takes sql params (state g old) (state g new) v u result
+          at_last : (result : Result Bool Fault) → takes w row u result → HasCleanDisk (state g new) → OnlyAsks old.schema sql → IsEndedWalk takes sql params (state g old) (state g new) v u result
           at_last result step clean asks =
               let it = far.given (was_clean clean) asks in
               let all = all_same clean asks in

@@ -23,13 +23,13 @@ IsFront sql params s rows = (rows ≡ []) ⊎ (IsTrue s.is_open × Begins sql pa
 
 module _ {V : Type 0} (takes : V → Row → V → Result Bool Fault → Type 0) where
   -- the visitor took each of the rows and went on
-  abbrev pub Takes : V → List Row → V → Type 0
-  Takes v [] w = v ≡ w
-  Takes v (r ∷ rows) w = (u : V) × takes v r u (Ok true) × Takes u rows w
+  abbrev pub TakesRows : V → List Row → V → Type 0
+  TakesRows v [] w = v ≡ w
+  TakesRows v (r ∷ rows) w = (u : V) × takes v r u (Ok true) × TakesRows u rows w
 
   -- some rows were taken, and it may be that the last of them ended the walk so
   abbrev pub Visits : V → V → Result Bool Fault → Type 0
-  Visits v w result = (rows : List Row) × (Takes v rows w ⊎ ((before : V) × (row : Row) × Takes v rows before × takes before row w result))
+  Visits v w result = (rows : List Row) × (TakesRows v rows w ⊎ ((before : V) × (row : Row) × TakesRows v rows before × takes before row w result))
 
   module _ (sql : List ℕ) (params : Row) (old new : State) (v w : V) where
     -- it took all rows of an answer
@@ -37,16 +37,16 @@ module _ {V : Type 0} (takes : V → Row → V → Result Bool Fault → Type 0)
       pub same : IsUnchanged old new
       pub rows : List Row
       pub shown : Shown sql params old new rows
-      pub taken : Takes v rows w
+      pub taken : TakesRows v rows w
 
     -- it took the first rows of an answer, and at the last of them it ended the walk so
-    pub record IsEndedAt (result : Result Bool Fault) : Type 0 where
+    pub record IsEndedWalk (result : Result Bool Fault) : Type 0 where
       pub same : IsUnchanged old new
       pub rows : List Row
       pub last : Row
       pub begins : Begins sql params old (rows ++ last ∷ [])
       pub before : V
-      pub taken : Takes v rows before
+      pub taken : TakesRows v rows before
       pub ends : takes before last w result
 
     -- it took the first rows of an answer, and then the store failed
@@ -54,13 +54,14 @@ module _ {V : Type 0} (takes : V → Row → V → Result Bool Fault → Type 0)
       pub rests : Rests old new
       pub rows : List Row
       pub begins : IsFront sql params old rows
-      pub taken : Takes v rows w
+      pub taken : TakesRows v rows w
       pub told : IsStoreFault fault
 
+    -- how the walk ended, by its answer
     abbrev pub Ends : Result Bool Fault → Type 0
     Ends (Ok true) = IsWhole
-    Ends (Ok false) = IsEndedAt (Ok false)
-    Ends (Err fault) = IsEndedAt (Err fault) ⊎ IsCutOff fault
+    Ends (Ok false) = IsEndedWalk (Ok false)
+    Ends (Err fault) = IsEndedWalk (Err fault) ⊎ IsCutOff fault
 
     -- It commits nothing, and what it answers says over which rows it went.
     pub record IsWalk (result : Result Bool Fault) : Type 0 where

@@ -38,7 +38,8 @@ fn run_tile<S: Alter>(
 ) -> Result<Outcome, Fault>
     requires { changes_tile piece.now ≡ true }
     ensures same_reference { tx.new.conn.ghost_name ≡ tx.old.conn.ghost_name }
-    ensures lent { (profile : Profile) → IsLentWhere (HoldsPiece edition.now number piece.now) profile (piece_command piece.now) last_change.now
+    ensures lent { (profile : Profile) → IsLentWhere (HoldsPiece edition.now number piece.now) profile
+        (piece_command piece.now) last_change.now
         (state S.Store tx.old.conn.now) (state S.Store tx.new.conn.now) result }
 {
     match piece {
@@ -79,7 +80,8 @@ fn run_item<S: Alter>(
 ) -> Result<Outcome, Fault>
     requires { changes_item piece.now ≡ true }
     ensures same_reference { tx.new.conn.ghost_name ≡ tx.old.conn.ghost_name }
-    ensures lent { (profile : Profile) → IsLentWhere (HoldsPiece edition.now number piece.now) profile (piece_command piece.now) last_change.now
+    ensures lent { (profile : Profile) → IsLentWhere (HoldsPiece edition.now number piece.now) profile
+        (piece_command piece.now) last_change.now
         (state S.Store tx.old.conn.now) (state S.Store tx.new.conn.now) result }
 {
     match piece {
@@ -170,7 +172,8 @@ fn run_piece<S: Alter>(
     last_change: &str,
 ) -> Result<Outcome, Fault>
     ensures same_reference { tx.new.conn.ghost_name ≡ tx.old.conn.ghost_name }
-    ensures lent { (profile : Profile) → IsLentWhere (HoldsPiece edition.now number piece.now) profile (piece_command piece.now) last_change.now
+    ensures lent { (profile : Profile) → IsLentWhere (HoldsPiece edition.now number piece.now) profile
+        (piece_command piece.now) last_change.now
         (state S.Store tx.old.conn.now) (state S.Store tx.new.conn.now) result }
 {
     match piece {

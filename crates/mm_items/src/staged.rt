@@ -80,7 +80,8 @@ pub fn put_tile_of_piece<S: Alter>(
 ) -> Result<Outcome, Fault>
     ensures same_reference { tx.new.conn.ghost_name ≡ tx.old.conn.ghost_name }
     ensures lent { (profile : Profile) (bytes : List ℕ) → IsLentWhere (HasBytes edition.now number bytes) profile
-        (commands.Tile table.now zoom column row bytes) last_change.now (state S.Store tx.old.conn.now) (state S.Store tx.new.conn.now) result }
+        (commands.Tile table.now zoom column row bytes) last_change.now
+        (state S.Store tx.old.conn.now) (state S.Store tx.new.conn.now) result }
 {
     let table = table.as_str();
     if let Some(number) = tile_refusal(tx, table, zoom, column, row)? {
@@ -122,7 +123,8 @@ pub fn put_media_of_piece<S: Alter>(
 ) -> Result<Outcome, Fault>
     ensures same_reference { tx.new.conn.ghost_name ≡ tx.old.conn.ghost_name }
     ensures lent { (profile : Profile) (bytes : List ℕ) → IsLentWhere (HasBytes edition.now number bytes) profile
-        (commands.Media table.now id content_type.now bytes) last_change.now (state S.Store tx.old.conn.now) (state S.Store tx.new.conn.now) result }
+        (commands.Media table.now id content_type.now bytes) last_change.now
+        (state S.Store tx.old.conn.now) (state S.Store tx.new.conn.now) result }
 {
     let table = table.as_str();
     if let Some(number) = plain_refusal(tx, table, PlainKind::Media)? {

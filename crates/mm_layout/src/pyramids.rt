@@ -37,7 +37,10 @@ fn insert_pyramid_contents<S: Alter>(
     ensures same_reference { tx.new.conn.ghost_name ≡ tx.old.conn.ghost_name }
     ensures change { (profile : Profile) → IsChange profile (state S.Store tx.old.conn.now)
         (state S.Store tx.new.conn.now) (λ p. get p.contents table.now ≡ None)
-        (λ p. record p { contents = insert p.contents table.now (pyramid_contents identifier.now last_change.now srs (box_of extent.now)) }) result }
+        (λ p. record p {
+          contents = insert p.contents table.now
+              (pyramid_contents identifier.now last_change.now srs (box_of extent.now));
+        }) result }
 {
     run(
         tx,

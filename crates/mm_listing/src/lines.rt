@@ -69,7 +69,9 @@ fn put_table(
     count: u64,
     time: &[u8],
 ) -> Result<(), Fault>
-    ensures put { OnOk result (line.new.items ≡ line.old.items ++ left_in (codes "                        ") name.now ++ codes " " ++ left_in (codes "          ") kind.now ++ codes " " ++ right_in (codes "          ") (decimal count) ++ codes " " ++ time.now ++ codes " ") }
+    ensures put { OnOk result (line.new.items ≡ line.old.items ++ left_in (codes "                        ") name.now ++ codes " "
+        ++ left_in (codes "          ") kind.now ++ codes " "
+        ++ right_in (codes "          ") (decimal count) ++ codes " " ++ time.now ++ codes " ") }
     ensures fault { IfErr result IsStoreFault }
 {
     put_left(line, name, NAME)?;

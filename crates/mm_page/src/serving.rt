@@ -73,7 +73,8 @@ fn head_response<S: Alter>(
     ensures kept { LeavesPackage (state S.Store (held session.old)) (state S.Store (held session.new)) }
     ensures response { (p : Package) → IsOn (must_reopen session.old) (state S.Store (held session.old))
         (state S.Store (held session.new)) p → IfOk result (λ v. Writes p method.now target.now v.items) }
-    ensures needed { IfErr result (λ fault. fault.0 ≡ 92 → (method.now ≡ codes "GET") × (w : Wanted) × IsRouted (page.path_of target.now) w) }
+    ensures needed { IfErr result (λ fault. fault.0 ≡ 92
+        → (method.now ≡ codes "GET") × (w : Wanted) × IsRouted (page.path_of target.now) w) }
     ensures fault { IfErr result (IsPageFault (must_reopen session.old)) }
 {
     if !is_get(method) {

@@ -133,7 +133,8 @@ pub(crate) fn step_field(text: &str) -> Result<Step, ReadFault>
 
 /// The kind of a table: `attributes` or `media`.
 pub(crate) fn kind_field(text: &str) -> Result<PlainKind, ReadFault>
-    ensures { ReadsTo (λ kind. HoldsValue kind_words text.now (Plain (kind_text (plain_kind kind)))) (IsAgainst kind_words text.now) result }
+    ensures { ReadsTo (λ kind. HoldsValue kind_words text.now (Plain (kind_text (plain_kind kind))))
+        (IsAgainst kind_words text.now) result }
 {
     match text {
         "attributes" => Ok(PlainKind::Attributes),

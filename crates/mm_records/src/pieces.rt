@@ -18,7 +18,8 @@ use std::alloc::Global;
 
 /// `tile,TABLE,Z,C,R,HEX`
 fn read_tile(alloc: Global, fields: &[&str]) -> Result<Piece, ReadFault>
-    ensures { ReadsTo (λ c. (piece_word c ≡ codes "tile") × AllHold forms.tile_form (map (λ f. f.now) fields.now) (piece_values c)) (IsLeast (IsAgainstSome forms.tile_form (map (λ f. f.now) fields.now))) result }
+    ensures { ReadsTo (λ c. (piece_word c ≡ codes "tile") × AllHold forms.tile_form (map (λ f. f.now) fields.now) (piece_values c))
+        (IsLeast (IsAgainstSome forms.tile_form (map (λ f. f.now) fields.now))) result }
 {
     let [table, zoom, column, row, bytes] = fields else {
         return Err(ReadFault::refused(10));
@@ -44,7 +45,9 @@ fn read_tile(alloc: Global, fields: &[&str]) -> Result<Piece, ReadFault>
 
 /// `tile-drop,TABLE,Z,C,R`
 fn read_tile_drop(fields: &[&str]) -> Result<Piece, ReadFault>
-    ensures { ReadsTo (λ c. (piece_word c ≡ codes "tile-drop") × AllHold forms.tile_drop_form (map (λ f. f.now) fields.now) (piece_values c)) (IsLeast (IsAgainstSome forms.tile_drop_form (map (λ f. f.now) fields.now))) result }
+    ensures { ReadsTo (λ c. (piece_word c ≡ codes "tile-drop")
+        × AllHold forms.tile_drop_form (map (λ f. f.now) fields.now) (piece_values c))
+        (IsLeast (IsAgainstSome forms.tile_drop_form (map (λ f. f.now) fields.now))) result }
 {
     let [table, zoom, column, row] = fields else {
         return Err(ReadFault::refused(10));
@@ -66,7 +69,8 @@ fn read_tile_drop(fields: &[&str]) -> Result<Piece, ReadFault>
 
 /// `row,TABLE,ID,TITLE,NOTE,AMOUNT`
 fn read_row(alloc: Global, fields: &[&str]) -> Result<Piece, ReadFault>
-    ensures { ReadsTo (λ c. (piece_word c ≡ codes "row") × AllHold forms.row_form (map (λ f. f.now) fields.now) (piece_values c)) (IsLeast (IsAgainstSome forms.row_form (map (λ f. f.now) fields.now))) result }
+    ensures { ReadsTo (λ c. (piece_word c ≡ codes "row") × AllHold forms.row_form (map (λ f. f.now) fields.now) (piece_values c))
+        (IsLeast (IsAgainstSome forms.row_form (map (λ f. f.now) fields.now))) result }
 {
     let [table, id, title, note, amount] = fields else {
         return Err(ReadFault::refused(10));
@@ -92,7 +96,8 @@ fn read_row(alloc: Global, fields: &[&str]) -> Result<Piece, ReadFault>
 
 /// `row-drop,TABLE,ID`
 fn read_row_drop(fields: &[&str]) -> Result<Piece, ReadFault>
-    ensures { ReadsTo (λ c. (piece_word c ≡ codes "row-drop") × AllHold forms.item_form (map (λ f. f.now) fields.now) (piece_values c)) (IsLeast (IsAgainstSome forms.item_form (map (λ f. f.now) fields.now))) result }
+    ensures { ReadsTo (λ c. (piece_word c ≡ codes "row-drop") × AllHold forms.item_form (map (λ f. f.now) fields.now) (piece_values c))
+        (IsLeast (IsAgainstSome forms.item_form (map (λ f. f.now) fields.now))) result }
 {
     let [table, id] = fields else {
         return Err(ReadFault::refused(10));
@@ -103,7 +108,8 @@ fn read_row_drop(fields: &[&str]) -> Result<Piece, ReadFault>
 
 /// `media,TABLE,ID,TYPE,HEX`
 fn read_media(alloc: Global, fields: &[&str]) -> Result<Piece, ReadFault>
-    ensures { ReadsTo (λ c. (piece_word c ≡ codes "media") × AllHold forms.media_form (map (λ f. f.now) fields.now) (piece_values c)) (IsLeast (IsAgainstSome forms.media_form (map (λ f. f.now) fields.now))) result }
+    ensures { ReadsTo (λ c. (piece_word c ≡ codes "media") × AllHold forms.media_form (map (λ f. f.now) fields.now) (piece_values c))
+        (IsLeast (IsAgainstSome forms.media_form (map (λ f. f.now) fields.now))) result }
 {
     let [table, id, content_type, bytes] = fields else {
         return Err(ReadFault::refused(10));
@@ -128,7 +134,8 @@ fn read_media(alloc: Global, fields: &[&str]) -> Result<Piece, ReadFault>
 
 /// `media-drop,TABLE,ID`
 fn read_media_drop(fields: &[&str]) -> Result<Piece, ReadFault>
-    ensures { ReadsTo (λ c. (piece_word c ≡ codes "media-drop") × AllHold forms.item_form (map (λ f. f.now) fields.now) (piece_values c)) (IsLeast (IsAgainstSome forms.item_form (map (λ f. f.now) fields.now))) result }
+    ensures { ReadsTo (λ c. (piece_word c ≡ codes "media-drop") × AllHold forms.item_form (map (λ f. f.now) fields.now) (piece_values c))
+        (IsLeast (IsAgainstSome forms.item_form (map (λ f. f.now) fields.now))) result }
 {
     let [table, id] = fields else {
         return Err(ReadFault::refused(10));
@@ -139,7 +146,8 @@ fn read_media_drop(fields: &[&str]) -> Result<Piece, ReadFault>
 
 /// `map,MAPPING,BASEID,RELID`
 fn read_map(fields: &[&str]) -> Result<Piece, ReadFault>
-    ensures { ReadsTo (λ c. (piece_word c ≡ codes "map") × AllHold forms.map_form (map (λ f. f.now) fields.now) (piece_values c)) (IsLeast (IsAgainstSome forms.map_form (map (λ f. f.now) fields.now))) result }
+    ensures { ReadsTo (λ c. (piece_word c ≡ codes "map") × AllHold forms.map_form (map (λ f. f.now) fields.now) (piece_values c))
+        (IsLeast (IsAgainstSome forms.map_form (map (λ f. f.now) fields.now))) result }
 {
     let [mapping, base_id, related_id] = fields else {
         return Err(ReadFault::refused(10));
@@ -157,7 +165,8 @@ fn read_map(fields: &[&str]) -> Result<Piece, ReadFault>
 
 /// `map-drop,MAPPING,BASEID,RELID`
 fn read_map_drop(fields: &[&str]) -> Result<Piece, ReadFault>
-    ensures { ReadsTo (λ c. (piece_word c ≡ codes "map-drop") × AllHold forms.map_form (map (λ f. f.now) fields.now) (piece_values c)) (IsLeast (IsAgainstSome forms.map_form (map (λ f. f.now) fields.now))) result }
+    ensures { ReadsTo (λ c. (piece_word c ≡ codes "map-drop") × AllHold forms.map_form (map (λ f. f.now) fields.now) (piece_values c))
+        (IsLeast (IsAgainstSome forms.map_form (map (λ f. f.now) fields.now))) result }
 {
     let [mapping, base_id, related_id] = fields else {
         return Err(ReadFault::refused(10));
@@ -175,7 +184,9 @@ fn read_map_drop(fields: &[&str]) -> Result<Piece, ReadFault>
 
 /// `matrix,TABLE,Z,MW,MH,TW,TH,PX,PY`
 fn read_matrix(fields: &[&str]) -> Result<Piece, ReadFault>
-    ensures { ReadsTo (λ c. (piece_word c ≡ codes "matrix") × AllHold (forms.matrix_form current) (map (λ f. f.now) fields.now) (piece_values c)) (IsLeast (IsAgainstSome (forms.matrix_form current) (map (λ f. f.now) fields.now))) result }
+    ensures { ReadsTo (λ c. (piece_word c ≡ codes "matrix")
+        × AllHold (forms.matrix_form current) (map (λ f. f.now) fields.now) (piece_values c))
+        (IsLeast (IsAgainstSome (forms.matrix_form current) (map (λ f. f.now) fields.now))) result }
 {
     let [table, zoom, mw, mh, tw, th, px, py] = fields else {
         return Err(ReadFault::refused(10));

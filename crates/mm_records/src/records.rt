@@ -24,7 +24,8 @@ use std::alloc::Global;
 
 /// `srs,ID,NAME,ORG,ORGID,DEFINITION,DESCRIPTION`
 fn read_srs(alloc: Global, fields: &[&str]) -> Result<Command, ReadFault>
-    ensures { ReadsTo (λ c. (command_word c ≡ codes "srs") × AllHold forms.srs_form (map (λ f. f.now) fields.now) (command_values c)) (IsLeast (IsAgainstSome forms.srs_form (map (λ f. f.now) fields.now))) result }
+    ensures { ReadsTo (λ c. (command_word c ≡ codes "srs") × AllHold forms.srs_form (map (λ f. f.now) fields.now) (command_values c))
+        (IsLeast (IsAgainstSome forms.srs_form (map (λ f. f.now) fields.now))) result }
 {
     let [
         id,
@@ -65,7 +66,9 @@ fn read_srs(alloc: Global, fields: &[&str]) -> Result<Command, ReadFault>
 
 /// `pyramid,TABLE,IDENTIFIER,SRS,MINX,MINY,MAXX,MAXY,STEP`
 fn read_pyramid(alloc: Global, fields: &[&str]) -> Result<Command, ReadFault>
-    ensures { ReadsTo (λ c. (command_word c ≡ codes "pyramid") × AllHold (forms.pyramid_form current) (map (λ f. f.now) fields.now) (command_values c)) (IsLeast (IsAgainstSome (forms.pyramid_form current) (map (λ f. f.now) fields.now))) result }
+    ensures { ReadsTo (λ c. (command_word c ≡ codes "pyramid")
+        × AllHold (forms.pyramid_form current) (map (λ f. f.now) fields.now) (command_values c))
+        (IsLeast (IsAgainstSome (forms.pyramid_form current) (map (λ f. f.now) fields.now))) result }
 {
     let [table, identifier, srs, min_x, min_y, max_x, max_y, step] = fields else {
         return Err(ReadFault::refused(10));
@@ -103,7 +106,8 @@ fn read_pyramid(alloc: Global, fields: &[&str]) -> Result<Command, ReadFault>
 
 /// `table,TABLE,KIND,IDENTIFIER`
 fn read_table(alloc: Global, fields: &[&str]) -> Result<Command, ReadFault>
-    ensures { ReadsTo (λ c. (command_word c ≡ codes "table") × AllHold forms.table_form (map (λ f. f.now) fields.now) (command_values c)) (IsLeast (IsAgainstSome forms.table_form (map (λ f. f.now) fields.now))) result }
+    ensures { ReadsTo (λ c. (command_word c ≡ codes "table") × AllHold forms.table_form (map (λ f. f.now) fields.now) (command_values c))
+        (IsLeast (IsAgainstSome forms.table_form (map (λ f. f.now) fields.now))) result }
 {
     let [table, kind, identifier] = fields else {
         return Err(ReadFault::refused(10));
@@ -121,7 +125,8 @@ fn read_table(alloc: Global, fields: &[&str]) -> Result<Command, ReadFault>
 
 /// `drop,TABLE`
 fn read_drop(fields: &[&str]) -> Result<Command, ReadFault>
-    ensures { ReadsTo (λ c. (command_word c ≡ codes "drop") × AllHold forms.name_form (map (λ f. f.now) fields.now) (command_values c)) (IsLeast (IsAgainstSome forms.name_form (map (λ f. f.now) fields.now))) result }
+    ensures { ReadsTo (λ c. (command_word c ≡ codes "drop") × AllHold forms.name_form (map (λ f. f.now) fields.now) (command_values c))
+        (IsLeast (IsAgainstSome forms.name_form (map (λ f. f.now) fields.now))) result }
 {
     let [table] = fields else {
         return Err(ReadFault::refused(10));
@@ -132,7 +137,9 @@ fn read_drop(fields: &[&str]) -> Result<Command, ReadFault>
 
 /// `relation,MAPPING,BASE,RELATED,NAME`
 fn read_relation(fields: &[&str]) -> Result<Command, ReadFault>
-    ensures { ReadsTo (λ c. (command_word c ≡ codes "relation") × AllHold forms.relation_form (map (λ f. f.now) fields.now) (command_values c)) (IsLeast (IsAgainstSome forms.relation_form (map (λ f. f.now) fields.now))) result }
+    ensures { ReadsTo (λ c. (command_word c ≡ codes "relation")
+        × AllHold forms.relation_form (map (λ f. f.now) fields.now) (command_values c))
+        (IsLeast (IsAgainstSome forms.relation_form (map (λ f. f.now) fields.now))) result }
 {
     let [mapping, base, related, name] = fields else {
         return Err(ReadFault::refused(10));
@@ -154,7 +161,9 @@ fn read_relation(fields: &[&str]) -> Result<Command, ReadFault>
 
 /// `relation-drop,MAPPING`
 fn read_relation_drop(fields: &[&str]) -> Result<Command, ReadFault>
-    ensures { ReadsTo (λ c. (command_word c ≡ codes "relation-drop") × AllHold forms.name_form (map (λ f. f.now) fields.now) (command_values c)) (IsLeast (IsAgainstSome forms.name_form (map (λ f. f.now) fields.now))) result }
+    ensures { ReadsTo (λ c. (command_word c ≡ codes "relation-drop")
+        × AllHold forms.name_form (map (λ f. f.now) fields.now) (command_values c))
+        (IsLeast (IsAgainstSome forms.name_form (map (λ f. f.now) fields.now))) result }
 {
     let [mapping] = fields else {
         return Err(ReadFault::refused(10));
@@ -165,7 +174,8 @@ fn read_relation_drop(fields: &[&str]) -> Result<Command, ReadFault>
 
 /// `edition,NAME`
 fn read_edition(fields: &[&str]) -> Result<Command, ReadFault>
-    ensures { ReadsTo (λ c. (command_word c ≡ codes "edition") × AllHold forms.name_form (map (λ f. f.now) fields.now) (command_values c)) (IsLeast (IsAgainstSome forms.name_form (map (λ f. f.now) fields.now))) result }
+    ensures { ReadsTo (λ c. (command_word c ≡ codes "edition") × AllHold forms.name_form (map (λ f. f.now) fields.now) (command_values c))
+        (IsLeast (IsAgainstSome forms.name_form (map (λ f. f.now) fields.now))) result }
 {
     let [name] = fields else {
         return Err(ReadFault::refused(10));
@@ -176,7 +186,8 @@ fn read_edition(fields: &[&str]) -> Result<Command, ReadFault>
 
 /// `discard,NAME`
 fn read_discard(fields: &[&str]) -> Result<Command, ReadFault>
-    ensures { ReadsTo (λ c. (command_word c ≡ codes "discard") × AllHold forms.name_form (map (λ f. f.now) fields.now) (command_values c)) (IsLeast (IsAgainstSome forms.name_form (map (λ f. f.now) fields.now))) result }
+    ensures { ReadsTo (λ c. (command_word c ≡ codes "discard") × AllHold forms.name_form (map (λ f. f.now) fields.now) (command_values c))
+        (IsLeast (IsAgainstSome forms.name_form (map (λ f. f.now) fields.now))) result }
 {
     let [name] = fields else {
         return Err(ReadFault::refused(10));
@@ -187,7 +198,8 @@ fn read_discard(fields: &[&str]) -> Result<Command, ReadFault>
 
 /// `publish,EDITION`
 fn read_publish(fields: &[&str]) -> Result<Command, ReadFault>
-    ensures { ReadsTo (λ c. (command_word c ≡ codes "publish") × AllHold forms.name_form (map (λ f. f.now) fields.now) (command_values c)) (IsLeast (IsAgainstSome forms.name_form (map (λ f. f.now) fields.now))) result }
+    ensures { ReadsTo (λ c. (command_word c ≡ codes "publish") × AllHold forms.name_form (map (λ f. f.now) fields.now) (command_values c))
+        (IsLeast (IsAgainstSome forms.name_form (map (λ f. f.now) fields.now))) result }
 {
     let [edition] = fields else {
         return Err(ReadFault::refused(10));
@@ -198,7 +210,8 @@ fn read_publish(fields: &[&str]) -> Result<Command, ReadFault>
 
 /// `rehearse,EDITION`
 fn read_rehearse(fields: &[&str]) -> Result<Command, ReadFault>
-    ensures { ReadsTo (λ c. (command_word c ≡ codes "rehearse") × AllHold forms.name_form (map (λ f. f.now) fields.now) (command_values c)) (IsLeast (IsAgainstSome forms.name_form (map (λ f. f.now) fields.now))) result }
+    ensures { ReadsTo (λ c. (command_word c ≡ codes "rehearse") × AllHold forms.name_form (map (λ f. f.now) fields.now) (command_values c))
+        (IsLeast (IsAgainstSome forms.name_form (map (λ f. f.now) fields.now))) result }
 {
     let [edition] = fields else {
         return Err(ReadFault::refused(10));
@@ -209,7 +222,9 @@ fn read_rehearse(fields: &[&str]) -> Result<Command, ReadFault>
 
 /// `stage,EDITION,NO,PIECE..`
 fn read_stage(alloc: Global, fields: &[&str]) -> Result<Command, ReadFault>
-    ensures { ReadsTo (λ c. (command_word c ≡ codes "stage") × IsMet (stage_form current (map (λ f. f.now) fields.now)) (map (λ f. f.now) fields.now) (command_values c)) (IsLeast (IsUnmet (stage_form current (map (λ f. f.now) fields.now)) (map (λ f. f.now) fields.now))) result }
+    ensures { ReadsTo (λ c. (command_word c ≡ codes "stage")
+        × IsMet (stage_form current (map (λ f. f.now) fields.now)) (map (λ f. f.now) fields.now) (command_values c))
+        (IsLeast (IsUnmet (stage_form current (map (λ f. f.now) fields.now)) (map (λ f. f.now) fields.now))) result }
 {
     let [edition, number, piece @ ..] = fields else {
         return Err(ReadFault::refused(10));

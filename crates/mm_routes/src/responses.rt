@@ -22,7 +22,8 @@ fn joined(
     header: &str,
     body: &[u8],
 ) -> Result<Vec<u8>, AllocError>
-    ensures { IfOk result (λ v. v.items ≡ codes "HTTP/1.1 " ++ code.now ++ codes " " ++ reason.now ++ codes "\r\n" ++ header.now ++ framed body.now) }
+    ensures { IfOk result (λ v. v.items ≡ codes "HTTP/1.1 " ++ code.now ++ codes " " ++ reason.now
+        ++ codes "\r\n" ++ header.now ++ framed body.now) }
 {
     let text = format!(in alloc;
         "HTTP/1.1 {code} {reason}\r\n{header}Content-Length: {}\r\nConnection: close\r\n\r\n",
@@ -39,7 +40,8 @@ fn response(
     header: &str,
     body: &[u8],
 ) -> Result<Vec<u8>, AllocError>
-    ensures { IfOk result (λ v. v.items ≡ codes "HTTP/1.1 " ++ code_digits status ++ codes " " ++ reason status ++ codes "\r\n" ++ header.now ++ framed body.now) }
+    ensures { IfOk result (λ v. v.items ≡ codes "HTTP/1.1 " ++ code_digits status ++ codes " " ++ reason status
+        ++ codes "\r\n" ++ header.now ++ framed body.now) }
 {
     joined(alloc, status.as_str(), reason_of(status), header, body)
 }

@@ -143,7 +143,8 @@ fn routed(router: &Router<Route>, path: &str) -> Option<Wanted>
 /// What a path asks for, or None where it takes no route, or a part of it is no name or number within its limits.
 /// 90 where there is no memory for the routes.
 pub fn read_path(alloc: Global, path: &str) -> Result<Option<Wanted>, Fault>
-    ensures wanted { IfOk result (λ wanted. MatchOption wanted ((w : page.Wanted) → ¬ (IsRouted path.now w)) (λ w. IsRouted path.now (asked w))) }
+    ensures wanted { IfOk result (λ wanted. MatchOption wanted ((w : page.Wanted) → ¬ (IsRouted path.now w))
+        (λ w. IsRouted path.now (asked w))) }
     ensures fault { IfErr result (λ f. f.0 ≡ 90) }
 {
     if !path.is_ascii() {

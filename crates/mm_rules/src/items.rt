@@ -85,14 +85,18 @@ pub fn items<S: Alter>(conn: &mut Connection<S>) -> Result<bool, Fault>
 
 /// Whether the kind of a relation's base is one that a base may have.
 fn is_base(row: &Row) -> bool
-    ensures { IsTrue result ↔ (text_bytes (column row.now 0) ≡ Some (codes "attributes")) ⊎ (text_bytes (column row.now 0) ≡ Some (codes "media")) }
+    ensures { IsTrue result ↔ (text_bytes (column row.now 0) ≡ Some (codes "attributes"))
+        ⊎ (text_bytes (column row.now 0) ≡ Some (codes "media")) }
 {
     text_is(row, Suited::BASE_KIND, "attributes") || text_is(row, Suited::BASE_KIND, "media")
 }
 
 /// Whether the kind of the related table is the one that the relation's name asks for.
 fn is_related(row: &Row) -> bool
-    ensures { IsTrue result ↔ ((text_bytes (column row.now 4) ≡ Some (codes "media")) × (text_bytes (column row.now 1) ≡ Some (codes "media"))) ⊎ ((text_bytes (column row.now 4) ≡ Some (codes "simple_attributes")) × (text_bytes (column row.now 1) ≡ Some (codes "attributes"))) }
+    ensures { IsTrue result
+        ↔ ((text_bytes (column row.now 4) ≡ Some (codes "media")) × (text_bytes (column row.now 1) ≡ Some (codes "media")))
+        ⊎ ((text_bytes (column row.now 4) ≡ Some (codes "simple_attributes"))
+        × (text_bytes (column row.now 1) ≡ Some (codes "attributes"))) }
 {
     text_is(row, Suited::NAME, "media") && text_is(row, Suited::RELATED_KIND, "media")
         || text_is(row, Suited::NAME, "simple_attributes")

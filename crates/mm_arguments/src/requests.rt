@@ -121,7 +121,8 @@ fn request_of<'a>(name: &str, matches: &ArgMatches<'a>) -> Option<Request<'a>>
 pub fn read_arguments<'a>(alloc: Global, words: &'a [&'a str]) -> Result<Request<'a>, Error>
     ensures within { IfOk result IsRequestWithin }
     ensures asks { IfOk result (Asks (map (λ word. word.now) words.entry.now)) }
-    ensures fails { FailsBy (fault_of command_line (map (λ word. word.now) words.entry.now)) result }
+    ensures fails { FailsBy
+        (fault_of command_line (map (λ word. word.now) words.entry.now)) result }
 {
     let matches = command(alloc)?.try_get_matches_from(words)?;
     let asked = match matches.subcommand() {

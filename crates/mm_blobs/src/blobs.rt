@@ -30,8 +30,8 @@ pub fn first_number<S: Alter>(
     params: &[ValueRef<'_>],
 ) -> Result<Option<i64>, Fault>
     ensures same_reference { tx.new.conn.ghost_name ≡ tx.old.conn.ghost_name }
-    ensures asked { IsAsked (state S.Store tx.old.conn.now) (state S.Store tx.new.conn.now) sql.now (bound params.now)
-        (λ it first. GivesNumber it first) result }
+    ensures asked { IsAsked (state S.Store tx.old.conn.now) (state S.Store tx.new.conn.now) sql.now
+        (bound params.now) (λ it first. GivesNumber it first) result }
 {
     match first(tx, sql, params)? {
         Some(row) => Ok(Some(number_in(&row, 0)?)),
@@ -47,10 +47,11 @@ fn find_blob<S: Alter>(
 ) -> Result<Option<i64>, Fault>
     requires { digest.now ≡ spec.digest_of bytes.now }
     ensures same_reference { tx.new.conn.ghost_name ≡ tx.old.conn.ghost_name }
-    ensures found { (profile : Profile) (spare : Spare) →
-        IsMove (state S.Store tx.old.conn.now) (state S.Store tx.new.conn.now)
+    ensures found { (profile : Profile) (spare : Spare)
+        → IsMove (state S.Store tx.old.conn.now) (state S.Store tx.new.conn.now)
         (IsSeen spare profile (state S.Store tx.old.conn.now))
-        (λ base x it y. (y ≡ x) × IsSeen spare profile (state S.Store tx.new.conn.now) base y × IsFound y.kept.shelf bytes.now it) result }
+        (λ base x it y. (y ≡ x) × IsSeen spare profile (state S.Store tx.new.conn.now) base y
+        × IsFound y.kept.shelf bytes.now it) result }
 {
     first_number(
         tx,
@@ -68,10 +69,13 @@ fn insert_blob<S: Alter>(
     requires digest { digest.now ≡ spec.digest_of bytes.now }
     requires some { bytes.now ≢ [] }
     ensures same_reference { tx.new.conn.ghost_name ≡ tx.old.conn.ghost_name }
-    ensures put { (profile : Profile) (spare : Spare) →
-        IsMove (state S.Store tx.old.conn.now) (state S.Store tx.new.conn.now)
-        (λ base x. IsSeen spare profile (state S.Store tx.old.conn.now) base x × Lacks x.kept.shelf bytes.now)
-        (λ base x id y. (y ≡ record x { kept = record (x.kept) { shelf = insert x.kept.shelf id (blob_of bytes.now) } })
+    ensures put { (profile : Profile) (spare : Spare)
+        → IsMove (state S.Store tx.old.conn.now) (state S.Store tx.new.conn.now)
+        (λ base x. IsSeen spare profile (state S.Store tx.old.conn.now) base x
+        × Lacks x.kept.shelf bytes.now)
+        (λ base x id y.
+        (y ≡ record x
+        { kept = record (x.kept) { shelf = insert x.kept.shelf id (blob_of bytes.now) } })
         × IsSeen (spare_too id spare) profile (state S.Store tx.new.conn.now) base y) result }
 {
     run(
@@ -211,9 +215,10 @@ fn is_named<S: Alter>(tx: &mut Transaction<'_, S>, id: i64) -> Result<bool, Faul
 /// Removes a blob that nothing names.
 fn delete_blob<S: Alter>(tx: &mut Transaction<'_, S>, id: i64) -> Result<(), Fault>
     ensures same_reference { tx.new.conn.ghost_name ≡ tx.old.conn.ghost_name }
-    ensures gone { (profile : Profile) (spare : Spare) →
-        IsMove (state S.Store tx.old.conn.now) (state S.Store tx.new.conn.now)
-        (λ base x. IsSeen spare profile (state S.Store tx.old.conn.now) base x × ¬ IsNamed x.kept id)
+    ensures gone { (profile : Profile) (spare : Spare)
+        → IsMove (state S.Store tx.old.conn.now) (state S.Store tx.new.conn.now)
+        (λ base x. IsSeen spare profile (state S.Store tx.old.conn.now) base x
+        × ¬ IsNamed x.kept id)
         (λ base x _ y. (y ≡ record x { kept = record (x.kept) { shelf = remove x.kept.shelf id } })
         × IsSeen (spare_but id spare) profile (state S.Store tx.new.conn.now) base y) result }
 {
@@ -284,10 +289,12 @@ pub fn release_each<S: Alter>(tx: &mut Transaction<'_, S>, rows: &[Row]) -> Resu
 /// The ids of the blobs that nothing names.
 fn unnamed<S: Alter>(tx: &mut Transaction<'_, S>) -> Result<Vec<Row>, Fault>
     ensures same_reference { tx.new.conn.ghost_name ≡ tx.old.conn.ghost_name }
-    ensures listed { (profile : Profile) (spare : Spare) →
-        IsMove (state S.Store tx.old.conn.now) (state S.Store tx.new.conn.now)
+    ensures listed { (profile : Profile) (spare : Spare)
+        → IsMove (state S.Store tx.old.conn.now) (state S.Store tx.new.conn.now)
         (IsSeen spare profile (state S.Store tx.old.conn.now))
-        (λ base x rows y. (y ≡ x) × IsSeen (spare_each rows.items no_spare) profile (state S.Store tx.new.conn.now) base y) result }
+        (λ base x rows y. (y ≡ x)
+        × IsSeen (spare_each rows.items no_spare) profile (state S.Store tx.new.conn.now)
+        base y) result }
 {
     all(
         tx,

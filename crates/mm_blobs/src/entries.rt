@@ -24,12 +24,13 @@ pub fn blob_of_tile<S: Alter>(
     row: u32,
 ) -> Result<Option<i64>, Fault>
     ensures same_reference { tx.new.conn.ghost_name ≡ tx.old.conn.ghost_name }
-    ensures found { (profile : Profile) (spare : Spare) →
-        IsMove (state S.Store tx.old.conn.now) (state S.Store tx.new.conn.now)
+    ensures found { (profile : Profile) (spare : Spare)
+        → IsMove (state S.Store tx.old.conn.now) (state S.Store tx.new.conn.now)
         (IsSeen spare profile (state S.Store tx.old.conn.now))
         (λ base x it y. (y ≡ x) × IsSeen spare profile (state S.Store tx.new.conn.now) base y
         × (get y.kept.tiles (tile table.now (pos zoom) (pos column) (pos row)) ≡ it)
-        × Told tile_id tile_with y.kept.shelf it (get y.content.tiles (tile table.now (pos zoom) (pos column) (pos row)))) result }
+        × Told tile_id tile_with y.kept.shelf it
+        (get y.content.tiles (tile table.now (pos zoom) (pos column) (pos row)))) result }
 {
     first_number(
         tx,
@@ -45,11 +46,12 @@ pub fn blob_of_medium<S: Alter>(
     id: i64,
 ) -> Result<Option<i64>, Fault>
     ensures same_reference { tx.new.conn.ghost_name ≡ tx.old.conn.ghost_name }
-    ensures found { (profile : Profile) (spare : Spare) →
-        IsMove (state S.Store tx.old.conn.now) (state S.Store tx.new.conn.now)
+    ensures found { (profile : Profile) (spare : Spare)
+        → IsMove (state S.Store tx.old.conn.now) (state S.Store tx.new.conn.now)
         (IsSeen spare profile (state S.Store tx.old.conn.now))
         (λ base x it y. (y ≡ x) × IsSeen spare profile (state S.Store tx.new.conn.now) base y
-        × (option_map (λ (m : MediumRow). m.blob) (get y.kept.media (item table.now id)) ≡ it)) result }
+        × (option_map (λ (m : MediumRow). m.blob) (get y.kept.media (item table.now id))
+        ≡ it)) result }
 {
     first_number(
         tx,

@@ -41,8 +41,9 @@ impl RowTest for State {
 
 /// Of rule 15, that each edition is open or published.
 pub fn edition_states<S: Alter>(conn: &mut Connection<S>) -> Result<bool, Fault>
-    ensures { (profile : Profile) → IsCheck profile (state S.Store conn.old) (state S.Store conn.new)
-        (λ p. Limits profile p) (λ p. EditionStates p) result }
+    ensures { (profile : Profile)
+        → IsCheck profile (state S.Store conn.old) (state S.Store conn.new) (λ p. Limits profile p)
+        (λ p. EditionStates p) result }
 {
     each_passes(
         conn,
@@ -69,8 +70,9 @@ impl RowTest for OfOpen {
 
 /// Of rule 15, that each piece is one of an open edition.
 pub fn pieces_of_open<S: Alter>(conn: &mut Connection<S>) -> Result<bool, Fault>
-    ensures { (profile : Profile) → IsCheck profile (state S.Store conn.old) (state S.Store conn.new)
-        (λ p. Limits profile p) (λ p. PiecesOfOpen p) result }
+    ensures { (profile : Profile)
+        → IsCheck profile (state S.Store conn.old) (state S.Store conn.new) (λ p. Limits profile p)
+        (λ p. PiecesOfOpen p) result }
 {
     each_passes(
         conn,
@@ -100,8 +102,9 @@ impl RowTest for Numbered {
 
 /// Of rule 15, where rule 16 holds, that each piece follows another or is the first, and is one of the first 4,096.
 pub fn pieces_numbered<S: Alter>(conn: &mut Connection<S>) -> Result<bool, Fault>
-    ensures { (profile : Profile) → IsCheck profile (state S.Store conn.old) (state S.Store conn.new)
-        (λ p. Limits profile p) (λ p. PiecesNumbered p) result }
+    ensures { (profile : Profile)
+        → IsCheck profile (state S.Store conn.old) (state S.Store conn.new) (λ p. Limits profile p)
+        (λ p. PiecesNumbered p) result }
 {
     each_passes(
         conn,
@@ -307,7 +310,8 @@ pub fn pieces_spelled<S: Alter>(conn: &mut Connection<S>, unit: Unit) -> Result<
 /// Of rule 15, what it asks of each piece but its edition.
 pub fn pieces_alone<S: Alter>(conn: &mut Connection<S>, unit: Unit) -> Result<bool, Fault>
     ensures { IsCheck (profile_of unit) (state S.Store conn.old) (state S.Store conn.new)
-        (λ p. Limits (profile_of unit) p) (λ p. PiecesSpelled (profile_of unit) p × PiecesNumbered p) result }
+        (λ p. Limits (profile_of unit) p)
+        (λ p. PiecesSpelled (profile_of unit) p × PiecesNumbered p) result }
 {
     if pieces_spelled(conn, unit)? {
         pieces_numbered(conn)
@@ -319,8 +323,8 @@ pub fn pieces_alone<S: Alter>(conn: &mut Connection<S>, unit: Unit) -> Result<bo
 /// Of rule 15, what it asks of each piece.
 pub fn pieces<S: Alter>(conn: &mut Connection<S>, unit: Unit) -> Result<bool, Fault>
     ensures { IsCheck (profile_of unit) (state S.Store conn.old) (state S.Store conn.new)
-        (λ p. Limits (profile_of unit) p) (λ p. PiecesOfOpen p × (PiecesSpelled (profile_of unit) p × PiecesNumbered p))
-        result }
+        (λ p. Limits (profile_of unit) p)
+        (λ p. PiecesOfOpen p × (PiecesSpelled (profile_of unit) p × PiecesNumbered p)) result }
 {
     if pieces_of_open(conn)? {
         pieces_alone(conn, unit)
@@ -332,7 +336,8 @@ pub fn pieces<S: Alter>(conn: &mut Connection<S>, unit: Unit) -> Result<bool, Fa
 /// Rule 15, where rule 16 holds: editions are open or published, and the pieces of open ones are numbered from 1 and spell what they should.
 pub fn editions<S: Alter>(conn: &mut Connection<S>, unit: Unit) -> Result<bool, Fault>
     ensures { IsCheck (profile_of unit) (state S.Store conn.old) (state S.Store conn.new)
-        (λ p. Limits (profile_of unit) p) (λ p. Editions (profile_of unit) p.editions p.pieces) result }
+        (λ p. Limits (profile_of unit) p)
+        (λ p. Editions (profile_of unit) p.editions p.pieces) result }
 {
     if edition_states(conn)? {
         pieces(conn, unit)

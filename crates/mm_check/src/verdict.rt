@@ -17,8 +17,8 @@ use sqlite::{Alter, Connection};
 fn one_rule<S: Alter>(conn: &mut Connection<S>, unit: Unit, k: u8) -> Result<bool, Fault>
     requires low { 1 ≤ k }
     requires high { k < 16 }
-    ensures { IsCheck (profile_of unit) (state S.Store conn.old) (state S.Store conn.new) (Before (profile_of unit) k)
-        (rule (profile_of unit) k) result }
+    ensures { IsCheck (profile_of unit) (state S.Store conn.old) (state S.Store conn.new)
+        (Before (profile_of unit) k) (rule (profile_of unit) k) result }
 {
     match k {
         1 => systems::given_systems(conn),
@@ -44,7 +44,8 @@ fn one_rule<S: Alter>(conn: &mut Connection<S>, unit: Unit, k: u8) -> Result<boo
 /// meets all sixteen rules, 16 where rule 16 fails, else the least rule that fails. It writes nothing. A fault is 90 where
 /// memory was refused and 91 where the store failed, and never stands for a rule that fails.
 pub fn verify<S: Alter>(conn: &mut Connection<S>, unit: Unit) -> Result<Option<u8>, Fault>
-    ensures { IsVerified (profile_of unit) (state S.Store conn.old) (state S.Store conn.new) result }
+    ensures { IsVerified (profile_of unit)
+        (state S.Store conn.old) (state S.Store conn.new) result }
 {
     if !limits(conn, unit)? {
         return Ok(Some(16));

@@ -31,7 +31,8 @@ fn run_transaction<S: Alter>(
     requires stamped { IsStamp moment last_change.now }
     ensures mode { conn.new.in_transaction ≡ false }
     ensures faults { OnFault result (λ fault. (fault ≡ 90) ⊎ (fault ≡ 91)) }
-    ensures applied { IsAppliedTo command.now moment (state S.Store conn.old) (state S.Store conn.new) result }
+    ensures applied { IsAppliedTo command.now moment
+        (state S.Store conn.old) (state S.Store conn.new) result }
 {
     let mut tx = conn.transaction();
     match run_command(&mut tx, command, last_change) {
@@ -61,7 +62,8 @@ fn rehearse_once<S: Alter>(
     requires stamped { IsStamp moment last_change.now }
     ensures mode { conn.new.in_transaction ≡ false }
     ensures faults { OnFault result (λ fault. (fault ≡ 90) ⊎ (fault ≡ 91)) }
-    ensures applied { IsAppliedTo (commands.Rehearse edition.now) moment (state S.Store conn.old) (state S.Store conn.new) result }
+    ensures applied { IsAppliedTo (commands.Rehearse edition.now) moment
+        (state S.Store conn.old) (state S.Store conn.new) result }
 {
     match rehearse(conn, edition, last_change) {
         Ok(Outcome::Done) => Answer::Ok,
@@ -81,7 +83,8 @@ pub(crate) fn apply_once<S: Alter>(
     requires idle { conn.old.in_transaction ≡ false }
     ensures mode { conn.new.in_transaction ≡ false }
     ensures faults { OnFault result (λ fault. (fault ≡ 90) ⊎ (fault ≡ 91)) }
-    ensures applied { IsAppliedTo command.now moment (state S.Store conn.old) (state S.Store conn.new) result }
+    ensures applied { IsAppliedTo command.now moment
+        (state S.Store conn.old) (state S.Store conn.new) result }
 {
     let at = match stamp(alloc, moment) {
         Ok(at) => at,

@@ -17,7 +17,8 @@ impl<S: Alter> Session<S> {
     /// 92 where the session has to be opened again, and then nothing is asked of the store. After another fault (90 where
     /// memory was refused, and else 91) the session goes on, and the package and what may be left are as they were.
     pub fn check(&mut self) -> Result<Option<u8>, Fault>
-        ensures { Reads S.Store self.old self.new result (λ old new. IsVerified current old new result) }
+        ensures { Reads S.Store self.old self.new result
+            (λ old new. IsVerified current old new result) }
     {
         if self.failed {
             return Err(Fault::REOPEN);

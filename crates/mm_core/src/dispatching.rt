@@ -26,7 +26,8 @@ fn lay_out<S: Alter>(
 ) -> Result<Outcome, Fault>
     requires { is_layout_change command.now ≡ true }
     ensures same_reference { tx.new.conn.ghost_name ≡ tx.old.conn.ghost_name }
-    ensures lent { IsLentAt current command.now last_change.now (state S.Store tx.old.conn.now) (state S.Store tx.new.conn.now) result }
+    ensures lent { IsLentAt current command.now last_change.now
+        (state S.Store tx.old.conn.now) (state S.Store tx.new.conn.now) result }
 {
     match command {
         Command::Srs {
@@ -63,7 +64,8 @@ fn lay_out_pyramid<S: Alter>(
 ) -> Result<Outcome, Fault>
     requires { lays_out_pyramid command.now ≡ true }
     ensures same_reference { tx.new.conn.ghost_name ≡ tx.old.conn.ghost_name }
-    ensures lent { IsLentAt current command.now last_change.now (state S.Store tx.old.conn.now) (state S.Store tx.new.conn.now) result }
+    ensures lent { IsLentAt current command.now last_change.now
+        (state S.Store tx.old.conn.now) (state S.Store tx.new.conn.now) result }
 {
     match command {
         Command::Pyramid {
@@ -104,7 +106,8 @@ fn change_tile<S: Alter>(
 ) -> Result<Outcome, Fault>
     requires { is_tile_change command.now ≡ true }
     ensures same_reference { tx.new.conn.ghost_name ≡ tx.old.conn.ghost_name }
-    ensures lent { IsLentAt current command.now last_change.now (state S.Store tx.old.conn.now) (state S.Store tx.new.conn.now) result }
+    ensures lent { IsLentAt current command.now last_change.now
+        (state S.Store tx.old.conn.now) (state S.Store tx.new.conn.now) result }
 {
     match command {
         Command::Tile {
@@ -140,7 +143,8 @@ fn change_item<S: Alter>(
 ) -> Result<Outcome, Fault>
     requires { is_item_change command.now ≡ true }
     ensures same_reference { tx.new.conn.ghost_name ≡ tx.old.conn.ghost_name }
-    ensures lent { IsLentAt current command.now last_change.now (state S.Store tx.old.conn.now) (state S.Store tx.new.conn.now) result }
+    ensures lent { IsLentAt current command.now last_change.now
+        (state S.Store tx.old.conn.now) (state S.Store tx.new.conn.now) result }
 {
     match command {
         Command::Row {
@@ -181,7 +185,9 @@ fn change_item<S: Alter>(
 fn relate<S: Alter>(tx: &mut Transaction<'_, S>, command: &Command) -> Result<Outcome, Fault>
     requires { is_relation_change command.now ≡ true }
     ensures same_reference { tx.new.conn.ghost_name ≡ tx.old.conn.ghost_name }
-    ensures lent { (moment : ℕ) → IsLent current command.now moment (state S.Store tx.old.conn.now) (state S.Store tx.new.conn.now) result }
+    ensures lent { (moment : ℕ)
+        → IsLent current command.now moment
+        (state S.Store tx.old.conn.now) (state S.Store tx.new.conn.now) result }
 {
     match command {
         Command::Relation {
@@ -212,7 +218,9 @@ fn prepare_edition<S: Alter>(
 ) -> Result<Outcome, Fault>
     requires { prepares_edition command.now ≡ true }
     ensures same_reference { tx.new.conn.ghost_name ≡ tx.old.conn.ghost_name }
-    ensures lent { (moment : ℕ) → IsLent current command.now moment (state S.Store tx.old.conn.now) (state S.Store tx.new.conn.now) result }
+    ensures lent { (moment : ℕ)
+        → IsLent current command.now moment
+        (state S.Store tx.old.conn.now) (state S.Store tx.new.conn.now) result }
 {
     match command {
         Command::Edition { name } => open_edition(tx, name),
@@ -234,8 +242,9 @@ pub(crate) fn run_command<S: Alter>(
 ) -> Result<Outcome, Fault>
     requires { rehearses command.now ≡ false }
     ensures same_reference { tx.new.conn.ghost_name ≡ tx.old.conn.ghost_name }
-    ensures tried { (moment : ℕ) → IsStamp moment last_change.now →
-        IsTried current command.now moment (state S.Store tx.old.conn.now) (state S.Store tx.new.conn.now) result }
+    ensures tried { (moment : ℕ) → IsStamp moment last_change.now
+        → IsTried current command.now moment
+        (state S.Store tx.old.conn.now) (state S.Store tx.new.conn.now) result }
 {
     match command {
         Command::Srs { .. } | Command::Table { .. } | Command::Drop { .. } => {

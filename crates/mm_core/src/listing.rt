@@ -23,8 +23,9 @@ impl<S: Alter> Session<S> {
     /// another fault a beginning of the listing was written: 97 where the writer failed, else 90 where memory was refused
     /// and 91 where the store failed. Then the session goes on, and the package and what may be left are as they were.
     pub fn list<W: Write>(&mut self, writer: &mut Io<W>) -> Result<(), Fault>
-        ensures reads { Reads S.Store self.old self.new result (λ old new. IsListed current listing old new
-            (written W.contents writer.old) (written W.contents writer.new) result) }
+        ensures reads { Reads S.Store self.old self.new result
+            (λ old new. IsListed current listing old new (written W.contents writer.old)
+            (written W.contents writer.new) result) }
         ensures unwritten { must_reopen self.old ≡ true → writer.new ≡ writer.old }
     {
         if self.failed {

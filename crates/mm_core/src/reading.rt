@@ -33,8 +33,11 @@ impl<S: Alter> Session<S> {
         column: u32,
         row: u32,
     ) -> Result<Option<Vec<u8>>, Fault>
-        ensures { Reads S.Store self.old self.new result (λ old new. IsRead current old new
-            (λ p found. TellsBytes (get p.tiles (keys.tile table.now (pos zoom) (pos column) (pos row))) found) result) }
+        ensures { Reads S.Store self.old self.new result
+            (λ old new. IsRead current old new
+            (λ p found. TellsBytes
+            (get p.tiles (keys.tile table.now (pos zoom) (pos column) (pos row)))
+            found) result) }
     {
         if self.failed {
             return Err(Fault::REOPEN);

@@ -40,10 +40,12 @@ impl<S: Alter> Session<S> {
     pub fn create(alloc: Global, conn: Connection<S>) -> Result<Session<S>, (Connection<S>, Fault)>
         requires { conn.in_transaction ≡ false }
         ensures working { IfOk result (λ session. must_reopen session ≡ false) }
-        ensures created { IfOk result (λ session. IsCreated (state S.Store conn) (state S.Store (held session))) }
+        ensures created { IfOk result
+            (λ session. IsCreated (state S.Store conn) (state S.Store (held session))) }
         ensures faults { IfErr result (λ e. (e.1.0 ≡ 90) ⊎ (e.1.0 ≡ 91)) }
         ensures handed_back { IfErr result (λ e. e.0.in_transaction ≡ false) }
-        ensures not_created { IfErr result (λ e. IsNotCreated (state S.Store conn) (state S.Store e.0)) }
+        ensures not_created { IfErr result
+            (λ e. IsNotCreated (state S.Store conn) (state S.Store e.0)) }
     {
         let mut conn = conn;
         match init(&mut conn) {
@@ -68,9 +70,11 @@ impl<S: Alter> Session<S> {
     pub fn adopt(alloc: Global, conn: Connection<S>) -> Result<Session<S>, (Connection<S>, Open)>
         requires { conn.in_transaction ≡ false }
         ensures working { IfOk result (λ session. must_reopen session ≡ false) }
-        ensures adopted { IfOk result (λ session. IsAdopted (state S.Store conn) (state S.Store (held session))) }
+        ensures adopted { IfOk result
+            (λ session. IsAdopted (state S.Store conn) (state S.Store (held session))) }
         ensures handed_back { IfErr result (λ e. e.0.in_transaction ≡ false) }
-        ensures not_adopted { IfErr result (λ e. IsNotAdopted (state S.Store conn) (state S.Store e.0) e.1) }
+        ensures not_adopted { IfErr result
+            (λ e. IsNotAdopted (state S.Store conn) (state S.Store e.0) e.1) }
     {
         let mut conn = conn;
         match look(&mut conn) {
@@ -105,9 +109,11 @@ impl<S: Alter> Session<S> {
     pub fn migrate(alloc: Global, conn: Connection<S>) -> Result<Session<S>, (Connection<S>, Open)>
         requires { conn.in_transaction ≡ false }
         ensures working { IfOk result (λ session. must_reopen session ≡ false) }
-        ensures migrated { IfOk result (λ session. IsMigration (state S.Store conn) (state S.Store (held session)) (Ok tt)) }
+        ensures migrated { IfOk result
+            (λ session. IsMigration (state S.Store conn) (state S.Store (held session)) (Ok tt)) }
         ensures handed_back { IfErr result (λ e. e.0.in_transaction ≡ false) }
-        ensures not_migrated { IfErr result (λ e. IsMigration (state S.Store conn) (state S.Store e.0) (Err e.1)) }
+        ensures not_migrated { IfErr result
+            (λ e. IsMigration (state S.Store conn) (state S.Store e.0) (Err e.1)) }
     {
         let conn = migrate(conn)?;
         Ok(Session {
@@ -148,11 +154,14 @@ impl<S: Alter> Session<S> {
     /// 92 and makes no call of the store. The fields of each command are within their limits, by their types, so that the
     /// package after it keeps the rules.
     pub fn apply(&mut self, command: &Command, at: Moment) -> Answer
-        ensures ended { must_reopen self.old ≡ true → (result ≡ Answer.Fault (record { 0 = 92 })) × (self.new ≡ self.old) }
-        ensures working { must_reopen self.old ≡ false → OnFault result (λ fault. (fault ≡ 90) ⊎ (fault ≡ 91)) }
+        ensures ended { must_reopen self.old ≡ true → (result ≡ Answer.Fault (record { 0 = 92 }))
+            × (self.new ≡ self.old) }
+        ensures working { must_reopen self.old ≡ false
+            → OnFault result (λ fault. (fault ≡ 90) ⊎ (fault ≡ 91)) }
         ensures fails { must_reopen self.old ≡ false → must_reopen self.new ≡ is_fault result }
-        ensures applied { must_reopen self.old ≡ false → IsAppliedTo command.now at (state S.Store (held self.old))
-            (state S.Store (held self.new)) result }
+        ensures applied { must_reopen self.old ≡ false
+            → IsAppliedTo command.now at
+            (state S.Store (held self.old)) (state S.Store (held self.new)) result }
         ensures keeps { (p : Package) → Meets current p → Meets current (step p command.now at) }
     {
         // The proof reads from these that the moment and the command are within their limits.
@@ -196,27 +205,40 @@ impl<S: Alter> Session<S> {
         writer: &mut Io<W>,
         at: Moment,
     ) -> Result<Tally, RunFault>
-        ensures clean { HasCleanDisk (state S.Store (held self.new)) → HasCleanDisk (state S.Store (held self.old)) }
-        ensures done { IfOk result (λ t. OnRun (HasCleanDisk (state S.Store (held self.new)))
-            (λ p. IsSettled current (state S.Store (held self.old)) p) (R.remaining (inside reader.old))
+        ensures clean { HasCleanDisk (state S.Store (held self.new))
+            → HasCleanDisk (state S.Store (held self.old)) }
+        ensures done { IfOk result
+            (λ t. OnRun (HasCleanDisk (state S.Store (held self.new)))
+            (λ p. IsSettled current (state S.Store (held self.old)) p)
+            (R.remaining (inside reader.old))
             (λ p bytes. RanAll p at bytes (shown S.Store self.new)
             (written W.contents writer.old) (written W.contents writer.new) t)) }
         ensures end { OnOk result (IsAtEnd (R.remaining (inside reader.new))) }
-        ensures working { OnOk result (streams.has_failed writer.new ≡ streams.has_failed writer.old) }
-        ensures flushed { TellsFlush (streams.is_flushed writer.old) (streams.is_flushed writer.new) result }
-        ensures stopped { IfErr result (λ e. OnRun (HasCleanDisk (state S.Store (held self.new)))
-            (λ p. IsSettled current (state S.Store (held self.old)) p) (R.remaining (inside reader.old))
-            (λ p bytes. RanSome p at bytes (WorksOn (must_reopen self.old) (shown S.Store self.new))
+        ensures working { OnOk result
+            (streams.has_failed writer.new ≡ streams.has_failed writer.old) }
+        ensures flushed { TellsFlush (streams.is_flushed writer.old)
+            (streams.is_flushed writer.new) result }
+        ensures stopped { IfErr result
+            (λ e. OnRun (HasCleanDisk (state S.Store (held self.new)))
+            (λ p. IsSettled current (state S.Store (held self.old)) p)
+            (R.remaining (inside reader.old))
+            (λ p bytes. RanSome p at bytes
+            (WorksOn (must_reopen self.old) (shown S.Store self.new))
             (must_reopen self.new ≡ true) (shown S.Store self.new)
             (written W.contents writer.old) (written W.contents writer.new) e)) }
         ensures near { IfErr result (λ e. IsNear e.tally) }
-        ensures session { RunTellsReopening (must_reopen self.old) (must_reopen self.new) (self.new ≡ self.old) result }
-        ensures writer { IfErr result (TellsWriter (streams.has_failed writer.old) (streams.has_failed writer.new)) }
-        ensures why { IfErr result (λ e. (e.fault.0 ≡ 97) ⊎ IsRunFault e.fault.0 (streams.has_failed reader.new)) }
-        ensures kept { OnSound (HasCleanDisk (state S.Store (held self.new))) (λ p. IsSettled current (state S.Store (held self.old)) p)
+        ensures session { RunTellsReopening (must_reopen self.old) (must_reopen self.new)
+            (self.new ≡ self.old) result }
+        ensures writer { IfErr result
+            (TellsWriter (streams.has_failed writer.old) (streams.has_failed writer.new)) }
+        ensures why { IfErr result
+            (λ e. (e.fault.0 ≡ 97) ⊎ IsRunFault e.fault.0 (streams.has_failed reader.new)) }
+        ensures kept { OnSound (HasCleanDisk (state S.Store (held self.new)))
+            (λ p. IsSettled current (state S.Store (held self.old)) p)
             (IsKept (must_reopen self.old) (shown S.Store self.new)) }
         ensures ended { OnEnded (must_reopen self.old) (R.remaining (inside reader.old))
-            (λ bytes. RanEnded bytes (written W.contents writer.old) (written W.contents writer.new) result) }
+            (λ bytes. RanEnded bytes (written W.contents writer.old)
+            (written W.contents writer.new) result) }
     {
         let alloc = self.alloc;
         run_list(alloc, self, reader, writer, at)

@@ -34,7 +34,8 @@ pub enum Kind {
 impl Kind {
     /// The kind that the registry of a package writes so, or None where it writes none so.
     pub fn named(text: &str) -> Option<Kind>
-        ensures { MatchOption result ((kind : KindValue) → text.now ≢ kind_text kind) (λ kind. text.now ≡ kind_text kind) }
+        ensures { MatchOption result ((kind : KindValue) → text.now ≢ kind_text kind)
+            (λ kind. text.now ≡ kind_text kind) }
     {
         match text {
             "two" => Some(Kind::Two),

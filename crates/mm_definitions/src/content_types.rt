@@ -87,7 +87,8 @@ impl ContentType {
 
     /// A copy of the text: 11 where it is no content type.
     pub fn read(alloc: Global, text: &str) -> Result<ContentType, ReadFault>
-        ensures { ReadsTo (reads_text IsContentType text.now) (refuses_unless IsContentType 11 text.now) result }
+        ensures { ReadsTo (reads_text IsContentType text.now)
+            (refuses_unless IsContentType 11 text.now) result }
     {
         if !is_content_type(text) {
             return Err(ReadFault::refused(11));

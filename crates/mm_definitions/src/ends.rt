@@ -36,7 +36,8 @@ impl<R: Read> Read for UntilEnd<R> {
 
     fn read(&mut self, buf: &mut [u8]) -> io::Result<usize>
         ensures bound { ReadsAtMost result buf.new }
-        ensures bytes { ReadConsumes (R.remaining (inner_reader self.old)) (R.remaining (inner_reader self.new)) result buf.new }
+        ensures bytes { ReadConsumes (R.remaining (inner_reader self.old))
+            (R.remaining (inner_reader self.new)) result buf.new }
     {
         if self.ended {
             return Ok(0);

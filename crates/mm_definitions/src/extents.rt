@@ -30,8 +30,11 @@ impl Extent {
 
     /// The extent with these bounds, where they are within the limits and it is not empty.
     pub fn new(min_x: i64, min_y: i64, max_x: i64, max_y: i64) -> Option<Extent>
-        ensures within { IsSome result ↔ IsExtent current (record { min_x = min_x; min_y = min_y; max_x = max_x; max_y = max_y }) }
-        ensures value { IfSome result (λ e. e ≡ record { min_x = min_x; min_y = min_y; max_x = max_x; max_y = max_y }) }
+        ensures within { IsSome result
+            ↔ IsExtent current
+            (record { min_x = min_x; min_y = min_y; max_x = max_x; max_y = max_y }) }
+        ensures value { IfSome result
+            (λ e. e ≡ record { min_x = min_x; min_y = min_y; max_x = max_x; max_y = max_y }) }
     {
         if !is_coordinate(min_x) {
             return None;

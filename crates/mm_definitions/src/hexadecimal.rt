@@ -44,7 +44,8 @@ fn guessed_right(alloc: Global, text: &str) -> Result<Option<Vec<u8>>, AllocErro
 /// The bytes that a text spells in hexadecimal digits of either case, or None where it spells none. To compare a guess is
 /// several times as fast as to decode; where it fails the crate decides.
 pub(crate) fn decoded(alloc: Global, text: &str) -> Result<Option<Vec<u8>>, AllocError>
-    ensures { IfOk result (λ o. MatchOption o (IsErr (decode_of text.now)) (λ v. decode_of text.now ≡ Ok v.items)) }
+    ensures { IfOk result
+        (λ o. MatchOption o (IsErr (decode_of text.now)) (λ v. decode_of text.now ≡ Ok v.items)) }
 {
     if let Some(bytes) = guessed_right(alloc, text)? {
         return Ok(Some(bytes));

@@ -66,7 +66,8 @@ impl Identifier {
 
     /// A copy of the text: 11 where it is outside the limits.
     pub fn read(alloc: Global, text: &str) -> Result<Identifier, ReadFault>
-        ensures { ReadsTo (reads_text IsIdentifier text.now) (refuses_unless IsIdentifier 11 text.now) result }
+        ensures { ReadsTo (reads_text IsIdentifier text.now)
+            (refuses_unless IsIdentifier 11 text.now) result }
     {
         if !is_identifier(text) {
             return Err(ReadFault::refused(11));

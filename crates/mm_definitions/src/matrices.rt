@@ -39,7 +39,8 @@ fn is_next(low: u8, high: u8) -> bool
 
 /// Whether two matrices of one pyramid suit each other, the first at the lower zoom.
 fn suits_above(halved: bool, low: u8, coarse: &Matrix, high: u8, fine: &Matrix) -> bool
-    ensures { result ≡ conditions.suits_above halved (pos low) (grid coarse.now) (pos high) (grid fine.now) }
+    ensures { result ≡ conditions.suits_above halved (pos low) (grid coarse.now) (pos high)
+        (grid fine.now) }
 {
     if !is_finer(coarse, fine) {
         return false;
@@ -71,7 +72,8 @@ pub fn neighbours(
     above: Option<(u8, Matrix)>,
     step: Step,
 ) -> bool
-    ensures { result ≡ spec.neighbours (zoomed below) (pos z) (grid m.now) (zoomed above) (is_halved step) }
+    ensures { result ≡ spec.neighbours (zoomed below) (pos z) (grid m.now) (zoomed above)
+        (is_halved step) }
 {
     let halved = is_two(step);
     if let Some((low, coarse)) = below {

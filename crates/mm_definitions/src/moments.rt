@@ -35,7 +35,8 @@ impl Model for Moment {
 impl Moment {
     /// The moment, where it is within the limits.
     pub fn new(milliseconds: i64) -> Option<Moment>
-        ensures within { IsSome result ↔ (pos 0 ≤ℤ milliseconds × milliseconds ≤ℤ pos 253402300799999) }
+        ensures within { IsSome result
+            ↔ (pos 0 ≤ℤ milliseconds × milliseconds ≤ℤ pos 253402300799999) }
         ensures value { IfSome result (λ m. pos m ≡ milliseconds) }
     {
         if milliseconds < 0 || milliseconds > 253402300799999 {
@@ -164,9 +165,12 @@ fn time_in(bytes: &[u8]) -> u64
 /// The date that the bytes show, where they show one.
 fn date_in(bytes: &[u8]) -> Option<Date>
     requires { length bytes.now ≡ 24 }
-    ensures stands { IsSome result ↔ IsDate (pos (spec.year_in bytes.now)) (pos (spec.pair_at bytes.now 5))
+    ensures stands { IsSome result
+        ↔ IsDate (pos (spec.year_in bytes.now)) (pos (spec.pair_at bytes.now 5))
         (pos (spec.pair_at bytes.now 8)) }
-    ensures value { IfSome result (IsYmd (pos (spec.year_in bytes.now)) (pos (spec.pair_at bytes.now 5)) (pos (spec.pair_at bytes.now 8))) }
+    ensures value { IfSome result
+        (IsYmd (pos (spec.year_in bytes.now)) (pos (spec.pair_at bytes.now 5))
+        (pos (spec.pair_at bytes.now 8))) }
 {
     Date::new(
         year_in(bytes) as i16,

@@ -57,7 +57,9 @@ fn has_other_byte(text: &[u8]) -> bool
 
 /// Whether a name would be one of the standard's, the store's or this editor's own tables.
 fn is_reserved(text: &[u8]) -> bool
-    ensures { result ≡ (starts_with nat_eq text.now (codes "gpkg") || starts_with nat_eq text.now (codes "sqlite")
+    ensures { result
+        ≡ (starts_with nat_eq text.now (codes "gpkg")
+        || starts_with nat_eq text.now (codes "sqlite")
         || starts_with nat_eq text.now (codes "mm_")) }
 {
     text.starts_with(b"gpkg") || text.starts_with(b"sqlite") || text.starts_with(b"mm_")

@@ -23,7 +23,8 @@ fn all_digits(text: &[u8]) -> bool
 // The value of some digits, where it is below 2^64.
 fn magnitude(digits: &[u8]) -> Option<u64>
     requires { AreDigits digits.now }
-    ensures { MatchOption result (2 ^ 64 ≤ value_from 0 digits.now) (λ n. n ≡ value_from 0 digits.now) }
+    ensures { MatchOption result (2 ^ 64 ≤ value_from 0 digits.now)
+        (λ n. n ≡ value_from 0 digits.now) }
 {
     let mut n = 0u64;
     for d in digits {
@@ -40,7 +41,8 @@ fn magnitude(digits: &[u8]) -> Option<u64>
 
 // A magnitude with its sign, where it fits.
 fn with_sign(negative: bool, n: u64) -> Option<i64>
-    ensures { MatchOption result (¬ (FitsSigned w64 (signed negative n))) (λ z. z ≡ signed negative n) }
+    ensures { MatchOption result (¬ (FitsSigned w64 (signed negative n)))
+        (λ z. z ≡ signed negative n) }
 {
     match i64::try_from(n) {
         Ok(z) => Some(if negative { -z } else { z }),

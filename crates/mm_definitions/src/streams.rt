@@ -52,7 +52,8 @@ impl<R: Read> Read for Io<R> {
 
     fn read(&mut self, buf: &mut [u8]) -> io::Result<usize>
         ensures bound { ReadsAtMost result buf.new }
-        ensures bytes { ReadConsumes (R.remaining (inside self.old)) (R.remaining (inside self.new)) result buf.new }
+        ensures bytes { ReadConsumes (R.remaining (inside self.old)) (R.remaining (inside self.new))
+            result buf.new }
         ensures failed { has_failed self.new ≡ (has_failed self.old || is_err result) }
     {
         let result = self.inner.read(buf);
@@ -63,7 +64,8 @@ impl<R: Read> Read for Io<R> {
     }
 
     fn read_exact(&mut self, buf: &mut [u8]) -> io::Result<()>
-        ensures bytes { OnOk result (Consumes (R.remaining (inside self.old)) (R.remaining (inside self.new)) buf.new) }
+        ensures bytes { OnOk result
+            (Consumes (R.remaining (inside self.old)) (R.remaining (inside self.new)) buf.new) }
         ensures failed { has_failed self.new ≡ (has_failed self.old || is_err result) }
     {
         let result = self.inner.read_exact(buf);
@@ -80,7 +82,8 @@ impl<W: Write> Write for Io<W> {
     /// A writer that takes nothing of some bytes has failed, as in `write_all`.
     fn write(&mut self, buf: &[u8]) -> io::Result<usize>
         ensures bound { WritesAtMost result buf.now }
-        ensures bytes { WriteAppends (W.contents (inside self.old)) (W.contents (inside self.new)) result buf.now }
+        ensures bytes { WriteAppends (W.contents (inside self.old)) (W.contents (inside self.new))
+            result buf.now }
         ensures failed { has_failed self.new ≡ (has_failed self.old || is_err result) }
         ensures progress { IfOk result (λ n. 0 < length buf.now → 0 < n) }
         ensures flushed { is_flushed self.new ≡ false }
@@ -117,7 +120,8 @@ impl<W: Write> Write for Io<W> {
     }
 
     fn write_all(&mut self, buf: &[u8]) -> io::Result<()>
-        ensures bytes { OnOk result (Appends (W.contents (inside self.old)) (W.contents (inside self.new)) buf.now) }
+        ensures bytes { OnOk result
+            (Appends (W.contents (inside self.old)) (W.contents (inside self.new)) buf.now) }
         ensures failed { has_failed self.new ≡ (has_failed self.old || is_err result) }
         ensures flushed { is_flushed self.new ≡ false }
     {

@@ -68,7 +68,8 @@ impl<const LEAST: usize, const MOST: usize> Text<LEAST, MOST> {
 
     /// A copy of the text: 11 where it is outside the limits.
     pub fn read(alloc: Global, text: &str) -> Result<Self, ReadFault>
-        ensures { ReadsTo (reads_text (IsText LEAST MOST) text.now) (refuses_unless (IsText LEAST MOST) 11 text.now) result }
+        ensures { ReadsTo (reads_text (IsText LEAST MOST) text.now)
+            (refuses_unless (IsText LEAST MOST) 11 text.now) result }
     {
         if !is_text(text, LEAST, MOST) {
             return Err(ReadFault::refused(11));

@@ -45,7 +45,8 @@ fn written_state<S: Alter>(
     edition: &str,
 ) -> Result<Option<String>, Fault>
     ensures same_reference { tx.new.conn.ghost_name ≡ tx.old.conn.ghost_name }
-    ensures look { (profile : Profile) → IsLook profile (state S.Store tx.old.conn.now) (state S.Store tx.new.conn.now)
+    ensures look { (profile : Profile)
+        → IsLook profile (state S.Store tx.old.conn.now) (state S.Store tx.new.conn.now)
         (λ p text. get p.editions edition.now ≡ option_map string_bytes text) result }
 {
     first_text(
@@ -61,7 +62,8 @@ pub(crate) fn standing_of<S: Alter>(
     edition: &str,
 ) -> Result<Option<Standing>, Fault>
     ensures same_reference { tx.new.conn.ghost_name ≡ tx.old.conn.ghost_name }
-    ensures look { (profile : Profile) → IsLook profile (state S.Store tx.old.conn.now) (state S.Store tx.new.conn.now)
+    ensures look { (profile : Profile)
+        → IsLook profile (state S.Store tx.old.conn.now) (state S.Store tx.new.conn.now)
         (λ p standing. get p.editions edition.now ≡ option_map standing_text standing) result }
 {
     match written_state(tx, edition)? {
@@ -90,7 +92,8 @@ fn insert_edition<S: Alter>(tx: &mut Transaction<'_, S>, edition: &str) -> Resul
 /// The command `edition`: opens an edition without pieces. Refused 50 where one has the name, open or published.
 pub fn open_edition<S: Alter>(tx: &mut Transaction<'_, S>, edition: &Name) -> Result<Outcome, Fault>
     ensures same_reference { tx.new.conn.ghost_name ≡ tx.old.conn.ghost_name }
-    ensures lent { (profile : Profile) (moment : ℕ) → IsLent profile (commands.Edition edition.now) moment
+    ensures lent { (profile : Profile) (moment : ℕ)
+        → IsLent profile (commands.Edition edition.now) moment
         (state S.Store tx.old.conn.now) (state S.Store tx.new.conn.now) result }
 {
     let edition = edition.as_str();
@@ -105,7 +108,8 @@ pub fn open_edition<S: Alter>(tx: &mut Transaction<'_, S>, edition: &Name) -> Re
 /// Removes the row of an edition, and by its key those of its pieces. Blobs stay that nothing names any more.
 fn delete_edition_rows<S: Alter>(tx: &mut Transaction<'_, S>, edition: &str) -> Result<(), Fault>
     ensures same_reference { tx.new.conn.ghost_name ≡ tx.old.conn.ghost_name }
-    ensures gone { (profile : Profile) (more : Spare) → IsMove (state S.Store tx.old.conn.now) (state S.Store tx.new.conn.now)
+    ensures gone { (profile : Profile) (more : Spare)
+        → IsMove (state S.Store tx.old.conn.now) (state S.Store tx.new.conn.now)
         (λ base x. IsSeen no_spare profile (state S.Store tx.old.conn.now) base x
         × ((z : ℤ) → FreedByEdition edition.now x.kept z → more z ≡ true))
         (λ base x _ y. (y.content ≡ without_edition_rows edition.now x.content)
@@ -136,7 +140,8 @@ pub(crate) fn closed_refusal<S: Alter>(
     edition: &str,
 ) -> Result<Option<u8>, Fault>
     ensures same_reference { tx.new.conn.ghost_name ≡ tx.old.conn.ghost_name }
-    ensures look { (profile : Profile) → IsLook profile (state S.Store tx.old.conn.now) (state S.Store tx.new.conn.now)
+    ensures look { (profile : Profile)
+        → IsLook profile (state S.Store tx.old.conn.now) (state S.Store tx.new.conn.now)
         (λ p why. why ≡ least (own_reasons p (commands.Discard edition.now))) result }
 {
     match standing_of(tx, edition)? {
@@ -150,7 +155,8 @@ pub(crate) fn closed_refusal<S: Alter>(
 /// published.
 pub fn discard<S: Alter>(tx: &mut Transaction<'_, S>, edition: &Name) -> Result<Outcome, Fault>
     ensures same_reference { tx.new.conn.ghost_name ≡ tx.old.conn.ghost_name }
-    ensures lent { (profile : Profile) (moment : ℕ) → IsLent profile (commands.Discard edition.now) moment
+    ensures lent { (profile : Profile) (moment : ℕ)
+        → IsLent profile (commands.Discard edition.now) moment
         (state S.Store tx.old.conn.now) (state S.Store tx.new.conn.now) result }
 {
     let edition = edition.as_str();

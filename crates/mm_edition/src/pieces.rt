@@ -35,7 +35,8 @@ pub(crate) fn has_piece<S: Alter>(
     number: i64,
 ) -> Result<bool, Fault>
     ensures same_reference { tx.new.conn.ghost_name ≡ tx.old.conn.ghost_name }
-    ensures look { (profile : Profile) → IsLook profile (state S.Store tx.old.conn.now) (state S.Store tx.new.conn.now)
+    ensures look { (profile : Profile)
+        → IsLook profile (state S.Store tx.old.conn.now) (state S.Store tx.new.conn.now)
         (λ p found. found ≡ contains_key p.pieces (keys.piece edition.now number)) result }
 {
     exists(
@@ -82,12 +83,13 @@ fn blob_in(row: &Row) -> Result<Option<i64>, Fault>
 /// The bytes of the blob that the row of a piece names, if it names one.
 fn bytes_of_row<S: Alter>(tx: &mut Transaction<'_, S>, row: &Row) -> Result<Option<Vec<u8>>, Fault>
     ensures same_reference { tx.new.conn.ghost_name ≡ tx.old.conn.ghost_name }
-    ensures told { (profile : Profile) (spare : Spare) →
-        IsMove (state S.Store tx.old.conn.now) (state S.Store tx.new.conn.now)
+    ensures told { (profile : Profile) (spare : Spare)
+        → IsMove (state S.Store tx.old.conn.now) (state S.Store tx.new.conn.now)
         (λ base x. IsTrue (state S.Store tx.old.conn.now).is_open
         × IsSeen spare profile (state S.Store tx.old.conn.now) base x)
         (λ base x bytes y. (y ≡ x) × IsSeen spare profile (state S.Store tx.new.conn.now) base y
-        × ((blob : Option ℤ) → column row.now 11 ≡ maybe blob → StandsAt y.kept.shelf blob (bytes_or_none bytes))) result }
+        × ((blob : Option ℤ) → column row.now 11 ≡ maybe blob
+        → StandsAt y.kept.shelf blob (bytes_or_none bytes))) result }
 {
     match blob_in(row)? {
         Some(blob) => Ok(Some(bytes_of(tx, blob)?)),
@@ -102,7 +104,8 @@ pub(crate) fn kept_piece<S: Alter>(
     number: i64,
 ) -> Result<Option<Kept>, Fault>
     ensures same_reference { tx.new.conn.ghost_name ≡ tx.old.conn.ghost_name }
-    ensures look { (profile : Profile) → IsLook profile (state S.Store tx.old.conn.now) (state S.Store tx.new.conn.now)
+    ensures look { (profile : Profile)
+        → IsLook profile (state S.Store tx.old.conn.now) (state S.Store tx.new.conn.now)
         (λ p kept. get p.pieces (keys.piece edition.now number) ≡ option_map kept_row kept) result }
 {
     let Some(row) = row_of_piece(tx, edition, number)? else {
@@ -122,9 +125,10 @@ pub fn piece<S: Alter>(
     number: u32,
 ) -> Result<Option<Piece>, Fault>
     ensures same_reference { tx.new.conn.ghost_name ≡ tx.old.conn.ghost_name }
-    ensures look { (profile : Profile) → IsLook profile (state S.Store tx.old.conn.now) (state S.Store tx.new.conn.now)
-        (λ p found. Meets profile p → get p.pieces (keys.piece edition.now (pos number)) ≡ option_map piece_row found)
-        result }
+    ensures look { (profile : Profile)
+        → IsLook profile (state S.Store tx.old.conn.now) (state S.Store tx.new.conn.now)
+        (λ p found. Meets profile p → get p.pieces (keys.piece edition.now (pos number))
+        ≡ option_map piece_row found) result }
 {
     let edition = edition.as_str();
     match kept_piece(tx, edition, i64::from(number))? {
@@ -145,15 +149,18 @@ fn insert_row<S: Alter>(
     blob: Option<i64>,
 ) -> Result<(), Fault>
     ensures same_reference { tx.new.conn.ghost_name ≡ tx.old.conn.ghost_name }
-    ensures named { (profile : Profile) (spare : Spare) → IsMove (state S.Store tx.old.conn.now) (state S.Store tx.new.conn.now)
+    ensures named { (profile : Profile) (spare : Spare)
+        → IsMove (state S.Store tx.old.conn.now) (state S.Store tx.new.conn.now)
         (λ base x. IsSeen spare profile (state S.Store tx.old.conn.now) base x
         × (StandsAt x.kept.shelf blob written.entry.bytes.now
         × (get x.content.pieces (keys.piece edition.now number) ≡ None)))
-        (λ base x _ y. (y.content ≡ record (x.content) {
-          pieces = insert x.content.pieces
-              (keys.piece edition.now number) (written_row written.entry);
+        (λ base x _ y.
+        (y.content ≡ record (x.content) {
+          pieces = insert x.content.pieces (keys.piece edition.now number)
+              (written_row written.entry);
         })
-        × IsSeen (spare_named blob spare) profile (state S.Store tx.new.conn.now) base y) result }
+        × IsSeen (spare_named blob spare) profile (state S.Store tx.new.conn.now)
+        base y) result }
 {
     run(
         tx,
@@ -185,9 +192,13 @@ pub(crate) fn insert_piece<S: Alter>(
     written: Written<'_>,
 ) -> Result<(), Fault>
     ensures same_reference { tx.new.conn.ghost_name ≡ tx.old.conn.ghost_name }
-    ensures change { (profile : Profile) → IsChange profile (state S.Store tx.old.conn.now)
-        (state S.Store tx.new.conn.now) (λ p. get p.pieces (keys.piece edition.now number) ≡ None)
-        (λ p. record p { pieces = insert p.pieces (keys.piece edition.now number) (written_row written.entry) }) result }
+    ensures change { (profile : Profile)
+        → IsChange profile (state S.Store tx.old.conn.now) (state S.Store tx.new.conn.now)
+        (λ p. get p.pieces (keys.piece edition.now number) ≡ None)
+        (λ p. record p {
+          pieces = insert p.pieces (keys.piece edition.now number)
+              (written_row written.entry);
+        }) result }
 {
     if written.bytes.is_empty() {
         return insert_row(tx, edition, number, written, None);

@@ -38,9 +38,11 @@ pub(crate) fn try_pieces<S: Alter>(
     last_change: &str,
 ) -> Result<Option<(u32, u8)>, Fault>
     ensures same_reference { tx.new.conn.ghost_name ≡ tx.old.conn.ghost_name }
-    ensures any_text { IsQuiet (state S.Store tx.old.conn.now) (state S.Store tx.new.conn.now) result }
-    ensures trial { (profile : Profile) (moment : ℕ) → IsStamp moment last_change.now →
-        IsTrial profile edition.now moment (state S.Store tx.old.conn.now) (state S.Store tx.new.conn.now) result }
+    ensures any_text { IsQuiet
+        (state S.Store tx.old.conn.now) (state S.Store tx.new.conn.now) result }
+    ensures trial { (profile : Profile) (moment : ℕ) → IsStamp moment last_change.now
+        → IsTrial profile edition.now moment
+        (state S.Store tx.old.conn.now) (state S.Store tx.new.conn.now) result }
 {
     for number in 1..PAST_THE_LAST + 1 {
         match try_piece(tx, edition, number, last_change)? {
@@ -69,13 +71,14 @@ fn mark_published<S: Alter>(tx: &mut Transaction<'_, S>, edition: &str) -> Resul
 /// Removes the rows of the pieces of an edition. Blobs stay that nothing names any more.
 fn delete_piece_rows<S: Alter>(tx: &mut Transaction<'_, S>, edition: &str) -> Result<(), Fault>
     ensures same_reference { tx.new.conn.ghost_name ≡ tx.old.conn.ghost_name }
-    ensures gone { (profile : Profile) (more : Spare) → IsMove (state S.Store tx.old.conn.now) (state S.Store tx.new.conn.now)
+    ensures gone { (profile : Profile) (more : Spare)
+        → IsMove (state S.Store tx.old.conn.now) (state S.Store tx.new.conn.now)
         (λ base x. IsSeen no_spare profile (state S.Store tx.old.conn.now) base x
         × ((z : ℤ) → FreedByEdition edition.now x.kept z → more z ≡ true))
-        (λ base x _ y. (y.content ≡ record (x.content) {
-          pieces = retain_keys x.content.pieces
-              (λ k. is_other edition.now k.edition);
-        }) × IsSeen more profile (state S.Store tx.new.conn.now) base y) result }
+        (λ base x _ y.
+        (y.content ≡ record (x.content)
+        { pieces = retain_keys x.content.pieces (λ k. is_other edition.now k.edition) })
+        × IsSeen more profile (state S.Store tx.new.conn.now) base y) result }
 {
     run(
         tx,
@@ -87,8 +90,10 @@ fn delete_piece_rows<S: Alter>(tx: &mut Transaction<'_, S>, edition: &str) -> Re
 /// Removes the pieces of an edition, and the blobs that nothing names any more.
 fn delete_pieces<S: Alter>(tx: &mut Transaction<'_, S>, edition: &str) -> Result<(), Fault>
     ensures same_reference { tx.new.conn.ghost_name ≡ tx.old.conn.ghost_name }
-    ensures change { (profile : Profile) → IsChange profile (state S.Store tx.old.conn.now) (state S.Store tx.new.conn.now) (λ p. ⊤)
-        (λ p. record p { pieces = retain_keys p.pieces (λ k. is_other edition.now k.edition) }) result }
+    ensures change { (profile : Profile)
+        → IsChange profile (state S.Store tx.old.conn.now) (state S.Store tx.new.conn.now) (λ p. ⊤)
+        (λ p. record p
+        { pieces = retain_keys p.pieces (λ k. is_other edition.now k.edition) }) result }
 {
     let blobs = blobs_of_pieces(tx, edition)?;
     delete_piece_rows(tx, edition)?;
@@ -98,8 +103,9 @@ fn delete_pieces<S: Alter>(tx: &mut Transaction<'_, S>, edition: &str) -> Result
 /// Publishes an edition whose pieces were done, and removes them.
 fn close_edition<S: Alter>(tx: &mut Transaction<'_, S>, edition: &str) -> Result<(), Fault>
     ensures same_reference { tx.new.conn.ghost_name ≡ tx.old.conn.ghost_name }
-    ensures change { (profile : Profile) → IsChange profile (state S.Store tx.old.conn.now)
-        (state S.Store tx.new.conn.now) (λ p. contains_key p.editions edition.now ≡ true) (closed edition.now) result }
+    ensures change { (profile : Profile)
+        → IsChange profile (state S.Store tx.old.conn.now) (state S.Store tx.new.conn.now)
+        (λ p. contains_key p.editions edition.now ≡ true) (closed edition.now) result }
 {
     mark_published(tx, edition)?;
     delete_pieces(tx, edition)
@@ -115,7 +121,8 @@ pub fn publish<S: Alter>(
     last_change: &str,
 ) -> Result<Outcome, Fault>
     ensures same_reference { tx.new.conn.ghost_name ≡ tx.old.conn.ghost_name }
-    ensures any_text { IsQuiet (state S.Store tx.old.conn.now) (state S.Store tx.new.conn.now) result }
+    ensures any_text { IsQuiet
+        (state S.Store tx.old.conn.now) (state S.Store tx.new.conn.now) result }
     ensures tried { (profile : Profile) (moment : ℕ) → IsStamp moment last_change.now →
         IsTried profile (commands.Publish edition.now) moment (state S.Store tx.old.conn.now)
         (state S.Store tx.new.conn.now) result }

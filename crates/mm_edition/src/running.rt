@@ -38,9 +38,9 @@ fn run_tile<S: Alter>(
 ) -> Result<Outcome, Fault>
     requires { changes_tile piece.now ≡ true }
     ensures same_reference { tx.new.conn.ghost_name ≡ tx.old.conn.ghost_name }
-    ensures lent { (profile : Profile) → IsLentWhere (HoldsPiece edition.now number piece.now) profile
-        (piece_command piece.now) last_change.now
-        (state S.Store tx.old.conn.now) (state S.Store tx.new.conn.now) result }
+    ensures lent { (profile : Profile)
+        → IsLentWhere (HoldsPiece edition.now number piece.now) profile (piece_command piece.now)
+        last_change.now (state S.Store tx.old.conn.now) (state S.Store tx.new.conn.now) result }
 {
     match piece {
         Piece::Tile {
@@ -80,9 +80,9 @@ fn run_item<S: Alter>(
 ) -> Result<Outcome, Fault>
     requires { changes_item piece.now ≡ true }
     ensures same_reference { tx.new.conn.ghost_name ≡ tx.old.conn.ghost_name }
-    ensures lent { (profile : Profile) → IsLentWhere (HoldsPiece edition.now number piece.now) profile
-        (piece_command piece.now) last_change.now
-        (state S.Store tx.old.conn.now) (state S.Store tx.new.conn.now) result }
+    ensures lent { (profile : Profile)
+        → IsLentWhere (HoldsPiece edition.now number piece.now) profile (piece_command piece.now)
+        last_change.now (state S.Store tx.old.conn.now) (state S.Store tx.new.conn.now) result }
 {
     match piece {
         Piece::Row {
@@ -124,7 +124,8 @@ fn run_item<S: Alter>(
 fn run_mapping<S: Alter>(tx: &mut Transaction<'_, S>, piece: &Piece) -> Result<Outcome, Fault>
     requires { changes_mapping piece.now ≡ true }
     ensures same_reference { tx.new.conn.ghost_name ≡ tx.old.conn.ghost_name }
-    ensures lent { (profile : Profile) (text : Text) → IsLentAt profile (piece_command piece.now) text
+    ensures lent { (profile : Profile) (text : Text)
+        → IsLentAt profile (piece_command piece.now) text
         (state S.Store tx.old.conn.now) (state S.Store tx.new.conn.now) result }
 {
     match piece {
@@ -172,9 +173,9 @@ fn run_piece<S: Alter>(
     last_change: &str,
 ) -> Result<Outcome, Fault>
     ensures same_reference { tx.new.conn.ghost_name ≡ tx.old.conn.ghost_name }
-    ensures lent { (profile : Profile) → IsLentWhere (HoldsPiece edition.now number piece.now) profile
-        (piece_command piece.now) last_change.now
-        (state S.Store tx.old.conn.now) (state S.Store tx.new.conn.now) result }
+    ensures lent { (profile : Profile)
+        → IsLentWhere (HoldsPiece edition.now number piece.now) profile (piece_command piece.now)
+        last_change.now (state S.Store tx.old.conn.now) (state S.Store tx.new.conn.now) result }
 {
     match piece {
         Piece::Tile { .. } | Piece::TileDrop { .. } => run_tile(
@@ -199,9 +200,11 @@ pub(crate) fn try_piece<S: Alter>(
     last_change: &str,
 ) -> Result<Turn, Fault>
     ensures same_reference { tx.new.conn.ghost_name ≡ tx.old.conn.ghost_name }
-    ensures any_text { IsQuiet (state S.Store tx.old.conn.now) (state S.Store tx.new.conn.now) result }
-    ensures turn { (profile : Profile) (moment : ℕ) → IsStamp moment last_change.now →
-        IsTurn profile edition.now number moment (state S.Store tx.old.conn.now) (state S.Store tx.new.conn.now) result }
+    ensures any_text { IsQuiet
+        (state S.Store tx.old.conn.now) (state S.Store tx.new.conn.now) result }
+    ensures turn { (profile : Profile) (moment : ℕ) → IsStamp moment last_change.now
+        → IsTurn profile edition.now number moment
+        (state S.Store tx.old.conn.now) (state S.Store tx.new.conn.now) result }
 {
     let Some(found) = piece(tx, edition, number)? else {
         return Ok(Turn::End);

@@ -15,8 +15,8 @@ use mm_definitions::texts::Text;
 
 /// A zoom, a column and a row, where the first three numbers are such.
 fn place_in(numbers: Numbers) -> Option<(Zoom, Place, Place)>
-    ensures { IfSome result (λ place. (unsigned_abs numbers.k1 ≡ place.0) × (unsigned_abs numbers.k2 ≡ place.1)
-        × (unsigned_abs numbers.k3 ≡ place.2)) }
+    ensures { IfSome result (λ place. (unsigned_abs numbers.k1 ≡ place.0)
+        × (unsigned_abs numbers.k2 ≡ place.1) × (unsigned_abs numbers.k3 ≡ place.2)) }
 {
     Some((
         Zoom::new(numbers.k1)?,
@@ -57,7 +57,8 @@ fn tile_drop_in(table: Name, kept: Kept) -> Option<Piece>
 
 /// The attribute row that a row of the kind `row` spells.
 fn row_in(table: Name, kept: Kept) -> Option<Piece>
-    ensures { IfSome result (λ piece. piece ≡ pieces.Row table kept.numbers.k1 (string_bytes kept.t1)
+    ensures { IfSome result
+        (λ piece. piece ≡ pieces.Row table kept.numbers.k1 (string_bytes kept.t1)
         (string_bytes kept.t2) kept.numbers.k2) }
 {
     let id = Id::new(kept.numbers.k1)?;
@@ -75,7 +76,9 @@ fn row_in(table: Name, kept: Kept) -> Option<Piece>
 
 /// The media item that a row of the kind `media` spells.
 fn media_in(table: Name, kept: Kept) -> Option<Piece>
-    ensures { IfSome result (λ piece. piece ≡ pieces.Media table kept.numbers.k1 (string_bytes kept.t1) (bytes_or_none kept.bytes)) }
+    ensures { IfSome result
+        (λ piece. piece ≡ pieces.Media table kept.numbers.k1 (string_bytes kept.t1)
+        (bytes_or_none kept.bytes)) }
 {
     let id = Id::new(kept.numbers.k1)?;
     let content_type = ContentType::new(kept.t1)?;
@@ -90,8 +93,9 @@ fn media_in(table: Name, kept: Kept) -> Option<Piece>
 
 /// The sides of a matrix in tiles, and those of its tiles in pixels, where four numbers are such.
 fn sides_in(numbers: Numbers) -> Option<(MatrixSide, MatrixSide, TileSide, TileSide)>
-    ensures { IfSome result (λ sides. (unsigned_abs numbers.k2 ≡ sides.0) × (unsigned_abs numbers.k3 ≡ sides.1)
-        × (unsigned_abs numbers.k4 ≡ sides.2) × (unsigned_abs numbers.k5 ≡ sides.3)) }
+    ensures { IfSome result (λ sides. (unsigned_abs numbers.k2 ≡ sides.0)
+        × (unsigned_abs numbers.k3 ≡ sides.1) × (unsigned_abs numbers.k4 ≡ sides.2)
+        × (unsigned_abs numbers.k5 ≡ sides.3)) }
 {
     Some((
         MatrixSide::new(numbers.k2)?,

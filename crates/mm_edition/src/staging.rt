@@ -55,7 +55,8 @@ fn is_behind<S: Alter>(
     number: i64,
 ) -> Result<bool, Fault>
     ensures same_reference { tx.new.conn.ghost_name ≡ tx.old.conn.ghost_name }
-    ensures look { (profile : Profile) → IsLook profile (state S.Store tx.old.conn.now) (state S.Store tx.new.conn.now)
+    ensures look { (profile : Profile)
+        → IsLook profile (state S.Store tx.old.conn.now) (state S.Store tx.new.conn.now)
         (λ p behind. TellsBehind p edition.now number behind) result }
 {
     let found = has_piece(tx, edition, number_before(number))?;
@@ -69,7 +70,8 @@ fn place_behind<S: Alter>(
     number: i64,
 ) -> Result<Place, Fault>
     ensures same_reference { tx.new.conn.ghost_name ≡ tx.old.conn.ghost_name }
-    ensures look { (profile : Profile) → IsLook profile (state S.Store tx.old.conn.now) (state S.Store tx.new.conn.now)
+    ensures look { (profile : Profile)
+        → IsLook profile (state S.Store tx.old.conn.now) (state S.Store tx.new.conn.now)
         (λ p place. IsPlaceBehind p edition.now number place) result }
 {
     if is_behind(tx, edition, number)? {
@@ -98,9 +100,11 @@ fn place_of<S: Alter>(
     written: Written<'_>,
 ) -> Result<Place, Fault>
     ensures same_reference { tx.new.conn.ghost_name ≡ tx.old.conn.ghost_name }
-    ensures look { (profile : Profile) → IsLook profile (state S.Store tx.old.conn.now) (state S.Store tx.new.conn.now)
-        (λ p place. Meets profile p → IsId number → (q : SpecPiece) → written_row written.entry ≡ piece_row q →
-        IsPlace p edition.now number q place) result }
+    ensures look { (profile : Profile)
+        → IsLook profile (state S.Store tx.old.conn.now) (state S.Store tx.new.conn.now)
+        (λ p place. Meets profile p → IsId number → (q : SpecPiece)
+        → written_row written.entry ≡ piece_row q
+        → IsPlace p edition.now number q place) result }
 {
     match standing_of(tx, edition)? {
         Some(Standing::Open) => {}
@@ -122,8 +126,9 @@ fn stage_at<S: Alter>(
 ) -> Result<Outcome, Fault>
     requires { IsId number }
     ensures same_reference { tx.new.conn.ghost_name ≡ tx.old.conn.ghost_name }
-    ensures lent { (profile : Profile) (moment : ℕ) → IsLent profile (commands.Stage edition.now number piece.now)
-        moment (state S.Store tx.old.conn.now) (state S.Store tx.new.conn.now) result }
+    ensures lent { (profile : Profile) (moment : ℕ)
+        → IsLent profile (commands.Stage edition.now number piece.now) moment
+        (state S.Store tx.old.conn.now) (state S.Store tx.new.conn.now) result }
 {
     let written = as_written(piece);
     match place_of(tx, edition, number, written)? {
@@ -145,8 +150,9 @@ pub fn stage<S: Alter>(
     piece: &Piece,
 ) -> Result<Outcome, Fault>
     ensures same_reference { tx.new.conn.ghost_name ≡ tx.old.conn.ghost_name }
-    ensures lent { (profile : Profile) (moment : ℕ) → IsLent profile (commands.Stage edition.now number piece.now)
-        moment (state S.Store tx.old.conn.now) (state S.Store tx.new.conn.now) result }
+    ensures lent { (profile : Profile) (moment : ℕ)
+        → IsLent profile (commands.Stage edition.now number piece.now) moment
+        (state S.Store tx.old.conn.now) (state S.Store tx.new.conn.now) result }
 {
     stage_at(tx, edition.as_str(), number.get(), piece)
 }

@@ -26,8 +26,8 @@ fn first_number<S: Alter>(
     params: &[ValueRef<'_>],
 ) -> Result<Option<u32>, Fault>
     ensures same_reference { tx.new.conn.ghost_name ≡ tx.old.conn.ghost_name }
-    ensures asked { IsAsked (state S.Store tx.old.conn.now) (state S.Store tx.new.conn.now) sql.now (bound params.now)
-        (λ it first. GivesPieceNumber it first) result }
+    ensures asked { IsAsked (state S.Store tx.old.conn.now) (state S.Store tx.new.conn.now) sql.now
+        (bound params.now) (λ it first. GivesPieceNumber it first) result }
 {
     match first(tx, sql, params)? {
         Some(row) => match row.get(0) {
@@ -41,7 +41,8 @@ fn first_number<S: Alter>(
 /// The last piece's number, if the edition has a piece.
 fn last_number<S: Alter>(tx: &mut Transaction<'_, S>, edition: &str) -> Result<Option<u32>, Fault>
     ensures same_reference { tx.new.conn.ghost_name ≡ tx.old.conn.ghost_name }
-    ensures look { (profile : Profile) → IsLook profile (state S.Store tx.old.conn.now) (state S.Store tx.new.conn.now)
+    ensures look { (profile : Profile)
+        → IsLook profile (state S.Store tx.old.conn.now) (state S.Store tx.new.conn.now)
         (λ p last. IsLast p.pieces edition.now last) result }
 {
     first_number(
@@ -57,7 +58,8 @@ fn state_of<S: Alter>(
     edition: &str,
 ) -> Result<Option<EditionState>, Fault>
     ensures same_reference { tx.new.conn.ghost_name ≡ tx.old.conn.ghost_name }
-    ensures look { (profile : Profile) → IsLook profile (state S.Store tx.old.conn.now) (state S.Store tx.new.conn.now)
+    ensures look { (profile : Profile)
+        → IsLook profile (state S.Store tx.old.conn.now) (state S.Store tx.new.conn.now)
         (λ p found. Meets profile p → TellsState p edition.now found) result }
 {
     match standing_of(tx, edition)? {
@@ -79,7 +81,8 @@ pub fn edition<S: Alter>(
 ) -> Result<Option<EditionState>, Fault>
     requires idle { conn.old.in_transaction ≡ false }
     ensures mode { conn.new.in_transaction ≡ false }
-    ensures read { (profile : Profile) → IsRead profile (state S.Store conn.old) (state S.Store conn.new)
+    ensures read { (profile : Profile)
+        → IsRead profile (state S.Store conn.old) (state S.Store conn.new)
         (λ p found. TellsState p edition.now found) result }
 {
     let mut tx = conn.transaction();

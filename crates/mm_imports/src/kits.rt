@@ -38,10 +38,13 @@ pub fn import_package<S: Alter + Drop, F: Folder>(
     ensures imported { IfOk result (λ done. OnKit (HasCleanDisk (state S.Store done.0))
         (λ p. IsSettled current (state S.Store conn) p) (F.files folder.old)
         (λ files p. IsImport files name.now p (state S.Store done.0) done.1)) }
-    ensures kept { IfOk result (λ done. OnAnyFolder (HasCleanDisk (state S.Store done.0)) (λ p. IsSettled current (state S.Store conn) p)
+    ensures kept { IfOk result
+        (λ done. OnAnyFolder (HasCleanDisk (state S.Store done.0))
+        (λ p. IsSettled current (state S.Store conn) p)
         (λ p. IsImportKept name.now p (λ q. IsSettled current (state S.Store done.0) q)
         (λ db. (state S.Store done.0).may_leave db) StandsForCurrent done.1)) }
-    ensures folder { IfOk result (λ done. TellsFolder (F.has_failed folder.old) (F.has_failed folder.new) done.1) }
+    ensures folder { IfOk result
+        (λ done. TellsFolder (F.has_failed folder.old) (F.has_failed folder.new) done.1) }
 {
     match adopt_package(alloc, conn) {
         Ok(session) => {
@@ -76,7 +79,8 @@ fn complete_line(count: u32) -> ArrayVec<u8, 40>
 
 /// It is built in place and takes no memory.
 fn refused_line(piece: u32, number: u8) -> ArrayVec<u8, 40>
-    ensures { result.items ≡ codes "kit refused " ++ decimal piece ++ codes " " ++ decimal number ++ codes "\n" }
+    ensures { result.items ≡ codes "kit refused " ++ decimal piece ++ codes " " ++ decimal number
+        ++ codes "\n" }
 {
     let mut line = ArrayVec::new();
     put(&mut line, b"kit refused ");
@@ -89,7 +93,8 @@ fn refused_line(piece: u32, number: u8) -> ArrayVec<u8, 40>
 
 /// Prints the answer to a kit: status 0 where it is complete, and 1 where it is refused.
 fn tell_staged<W: Write>(output: &mut Io<W>, staged: Staged) -> u8
-    ensures { IsTold (written W.contents output.old) (written W.contents output.new) (staged_text staged) (staged_status staged) result }
+    ensures { IsTold (written W.contents output.old) (written W.contents output.new)
+        (staged_text staged) (staged_status staged) result }
 {
     match staged {
         Staged::Complete(count) => {
@@ -105,7 +110,8 @@ fn tell_staged<W: Write>(output: &mut Io<W>, staged: Staged) -> u8
 
 /// Prints what an import came to: status 0 where it is complete, 1 where it is refused, 3 for a fault.
 pub fn tell_import<W: Write>(output: &mut Io<W>, import: Import) -> u8
-    ensures { IsTold (written W.contents output.old) (written W.contents output.new) (kit_text import) (kit_status import) result }
+    ensures { IsTold (written W.contents output.old) (written W.contents output.new)
+        (kit_text import) (kit_status import) result }
 {
     match import {
         Ok(staged) => tell_staged(output, staged),

@@ -17,7 +17,8 @@ use std::io::Read;
 pub fn drain<R: Read>(reader: &mut Io<R>) -> Result<(), Fault>
     ensures end { OnOk result (IsAtEnd (R.remaining (inside reader.new))) }
     ensures fault { IfErr result (λ f. IsReadFault f.0 (has_failed reader.new)) }
-    ensures endless { IfErr result (λ f. f.0 ≡ 90 → ReadAtLeast (2 ^ 64 - 1) (R.remaining (inside reader.old))
+    ensures endless { IfErr result
+        (λ f. f.0 ≡ 90 → ReadAtLeast (2 ^ 64 - 1) (R.remaining (inside reader.old))
         (R.remaining (inside reader.new))) }
 {
     let mut one = [0u8];

@@ -42,8 +42,10 @@ impl<R: Read> Read for Held<'_, R> {
 
     fn read(&mut self, buf: &mut [u8]) -> io::Result<usize>
         ensures bound { ReadsAtMost result buf.new }
-        ensures bytes { ReadConsumes (R.remaining (inside self.old.reader.now)) (R.remaining (inside self.new.reader.now)) result buf.new }
-        ensures failed { has_failed self.new.reader.now ≡ (has_failed self.old.reader.now || is_err result) }
+        ensures bytes { ReadConsumes (R.remaining (inside self.old.reader.now))
+            (R.remaining (inside self.new.reader.now)) result buf.new }
+        ensures failed { has_failed self.new.reader.now
+            ≡ (has_failed self.old.reader.now || is_err result) }
         ensures same_reference { self.new.reader.ghost_name ≡ self.old.reader.ghost_name }
     {
         self.reader.read(buf)
@@ -67,7 +69,8 @@ impl<R: Read, K: Lender> Read for Source<'_, R, K> {
         ensures bound { ReadsAtMost result buf.new }
         ensures bytes { ReadConsumes (R.remaining (inside self.old.held.reader.now))
             (R.remaining (inside self.new.held.reader.now)) result buf.new }
-        ensures failed { has_failed self.new.held.reader.now ≡ (has_failed self.old.held.reader.now || is_err result) }
+        ensures failed { has_failed self.new.held.reader.now
+            ≡ (has_failed self.old.held.reader.now || is_err result) }
     {
         self.held.read(buf)
     }

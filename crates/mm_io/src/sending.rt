@@ -21,7 +21,8 @@ pub enum Sent {
 
 // Writes the bytes, and says whether they were taken whole. If not, a front of them was.
 fn write_whole<W: Write>(writer: &mut Io<W>, bytes: &[u8]) -> bool
-    ensures whole { result ≡ true → Appends (W.contents (inside writer.old)) (W.contents (inside writer.new)) bytes.now
+    ensures whole { result ≡ true
+        → Appends (W.contents (inside writer.old)) (W.contents (inside writer.new)) bytes.now
         × (has_failed writer.new ≡ has_failed writer.old) }
     ensures cut { result ≡ false → (has_failed writer.new ≡ true)
         × (taken : ℕ) × (taken < length bytes.now) × Appends (W.contents (inside writer.old))
@@ -40,7 +41,8 @@ fn write_whole<W: Write>(writer: &mut Io<W>, bytes: &[u8]) -> bool
 /// Writes the bytes and flushes. Where the writer fails it says whether they were taken whole, and a front of them
 /// was taken if not.
 pub fn send<W: Write>(writer: &mut Io<W>, bytes: &[u8]) -> Sent
-    ensures sent { Sends (written W.contents writer.old) (written W.contents writer.new) bytes.now result }
+    ensures sent { Sends (written W.contents writer.old) (written W.contents writer.new)
+        bytes.now result }
     ensures flushed { result ≡ Sent.Flushed → is_flushed writer.new ≡ true }
 {
     if !write_whole(writer, bytes) {

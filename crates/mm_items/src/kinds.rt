@@ -33,8 +33,11 @@ pub(crate) fn plain_refusal<S: Alter>(
     asked: PlainKind,
 ) -> Result<Option<u8>, Fault>
     ensures same_reference { tx.new.conn.ghost_name ≡ tx.old.conn.ghost_name }
-    ensures look { (profile : Profile) → IsLook profile (state S.Store tx.old.conn.now) (state S.Store tx.new.conn.now)
-        (λ p why. Meets profile p → why ≡ least (no_table p table.now ∷ of_another_kind p table.now
+    ensures look { (profile : Profile)
+        → IsLook profile (state S.Store tx.old.conn.now) (state S.Store tx.new.conn.now)
+        (λ p why. Meets profile p
+        → why ≡ least
+        (no_table p table.now ∷ of_another_kind p table.now
         (has_kind p.kinds table.now (plain_kind asked)) ∷ [])) result }
 {
     let Some(kind) = kind_of(tx, table)? else {
@@ -49,7 +52,9 @@ pub(crate) fn plain_refusal<S: Alter>(
 
 /// Whether a table of this kind is a pyramid.
 fn is_tiled(kind: Kind) -> bool
-    ensures { result ≡ (same_text (kind_text kinds.Two) (kind_text kind) || same_text (kind_text kinds.Other) (kind_text kind)) }
+    ensures { result
+        ≡ (same_text (kind_text kinds.Two) (kind_text kind)
+        || same_text (kind_text kinds.Other) (kind_text kind)) }
 {
     match kind {
         Kind::Two | Kind::Other => true,
@@ -63,9 +68,12 @@ pub(crate) fn pyramid_refusal<S: Alter>(
     table: &str,
 ) -> Result<Option<u8>, Fault>
     ensures same_reference { tx.new.conn.ghost_name ≡ tx.old.conn.ghost_name }
-    ensures look { (profile : Profile) → IsLook profile (state S.Store tx.old.conn.now) (state S.Store tx.new.conn.now)
-        (λ p why. Meets profile p → why ≡ least (no_table p table.now ∷ of_another_kind p table.now
-        (is_pyramid p.kinds table.now) ∷ [])) result }
+    ensures look { (profile : Profile)
+        → IsLook profile (state S.Store tx.old.conn.now) (state S.Store tx.new.conn.now)
+        (λ p why. Meets profile p
+        → why ≡ least
+        (no_table p table.now ∷ of_another_kind p table.now (is_pyramid p.kinds table.now)
+        ∷ [])) result }
 {
     let Some(kind) = kind_of(tx, table)? else {
         return Ok(Some(25));

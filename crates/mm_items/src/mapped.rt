@@ -17,10 +17,13 @@ use sqlite::{Alter, Transaction, params};
 /// Whether a mapping row has this item of a table as its base.
 fn has_base<S: Alter>(tx: &mut Transaction<'_, S>, table: &str, id: i64) -> Result<bool, Fault>
     ensures same_reference { tx.new.conn.ghost_name ≡ tx.old.conn.ghost_name }
-    ensures look { (profile : Profile) → IsLook profile (state S.Store tx.old.conn.now) (state S.Store tx.new.conn.now)
-        (λ p found. found ≡ some_entry (λ (k : Pairing) _. at_value
-        (λ (r : Relation). same_text r.base table.now && same_number k.base_id id) (get p.relations k.mapping))
-        p.pairings) result }
+    ensures look { (profile : Profile)
+        → IsLook profile (state S.Store tx.old.conn.now) (state S.Store tx.new.conn.now)
+        (λ p found. found
+        ≡ some_entry
+        (λ (k : Pairing) _. at_value
+        (λ (r : Relation). same_text r.base table.now && same_number k.base_id id)
+        (get p.relations k.mapping)) p.pairings) result }
 {
     exists(
         tx,
@@ -32,10 +35,13 @@ fn has_base<S: Alter>(tx: &mut Transaction<'_, S>, table: &str, id: i64) -> Resu
 /// Whether a mapping row has this item of a table as its related one.
 fn has_related<S: Alter>(tx: &mut Transaction<'_, S>, table: &str, id: i64) -> Result<bool, Fault>
     ensures same_reference { tx.new.conn.ghost_name ≡ tx.old.conn.ghost_name }
-    ensures look { (profile : Profile) → IsLook profile (state S.Store tx.old.conn.now) (state S.Store tx.new.conn.now)
-        (λ p found. found ≡ some_entry (λ (k : Pairing) _. at_value
-        (λ (r : Relation). same_text r.related table.now && same_number k.related_id id) (get p.relations k.mapping))
-        p.pairings) result }
+    ensures look { (profile : Profile)
+        → IsLook profile (state S.Store tx.old.conn.now) (state S.Store tx.new.conn.now)
+        (λ p found. found
+        ≡ some_entry
+        (λ (k : Pairing) _. at_value
+        (λ (r : Relation). same_text r.related table.now && same_number k.related_id id)
+        (get p.relations k.mapping)) p.pairings) result }
 {
     exists(
         tx,
@@ -52,7 +58,8 @@ pub(crate) fn is_mapped<S: Alter>(
     id: i64,
 ) -> Result<bool, Fault>
     ensures same_reference { tx.new.conn.ghost_name ≡ tx.old.conn.ghost_name }
-    ensures look { (profile : Profile) → IsLook profile (state S.Store tx.old.conn.now) (state S.Store tx.new.conn.now)
+    ensures look { (profile : Profile)
+        → IsLook profile (state S.Store tx.old.conn.now) (state S.Store tx.new.conn.now)
         (λ p found. found ≡ conditions.is_mapped p table.now id) result }
 {
     if has_base(tx, table, id)? {

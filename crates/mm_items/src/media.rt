@@ -37,11 +37,13 @@ fn insert_medium<S: Alter>(
     blob: i64,
 ) -> Result<(), Fault>
     ensures same_reference { tx.new.conn.ghost_name ≡ tx.old.conn.ghost_name }
-    ensures named { (profile : Profile) (spare : Spare) (bytes : List ℕ) →
-        IsMove (state S.Store tx.old.conn.now) (state S.Store tx.new.conn.now)
+    ensures named { (profile : Profile) (spare : Spare) (bytes : List ℕ)
+        → IsMove (state S.Store tx.old.conn.now) (state S.Store tx.new.conn.now)
         (λ base x. IsSeen spare profile (state S.Store tx.old.conn.now) base x
-        × ((bytes_at x.kept.shelf blob ≡ Some bytes) × (get x.kept.media (item table.now id) ≡ None)))
-        (λ base x _ y. (y ≡ with_medium (item table.now id) (medium_of blob content_type.now) bytes x)
+        × ((bytes_at x.kept.shelf blob ≡ Some bytes)
+        × (get x.kept.media (item table.now id) ≡ None)))
+        (λ base x _ y.
+        (y ≡ with_medium (item table.now id) (medium_of blob content_type.now) bytes x)
         × IsSeen (spare_but blob spare) profile (state S.Store tx.new.conn.now) base y) result }
 {
     run(
@@ -60,13 +62,16 @@ fn update_medium<S: Alter>(
     blob: i64,
 ) -> Result<(), Fault>
     ensures same_reference { tx.new.conn.ghost_name ≡ tx.old.conn.ghost_name }
-    ensures named { (profile : Profile) (spare : Spare) (bytes : List ℕ) (was : ℤ) →
-        IsMove (state S.Store tx.old.conn.now) (state S.Store tx.new.conn.now)
+    ensures named { (profile : Profile) (spare : Spare) (bytes : List ℕ) (was : ℤ)
+        → IsMove (state S.Store tx.old.conn.now) (state S.Store tx.new.conn.now)
         (λ base x. IsSeen spare profile (state S.Store tx.old.conn.now) base x
-        × ((bytes_at x.kept.shelf blob ≡ Some bytes) × (option_map
-        (λ (m : MediumRow). m.blob) (get x.kept.media (item table.now id)) ≡ Some was)))
-        (λ base x _ y. (y ≡ with_medium (item table.now id) (medium_of blob content_type.now) bytes x)
-        × IsSeen (spare_too was (spare_but blob spare)) profile (state S.Store tx.new.conn.now) base y) result }
+        × ((bytes_at x.kept.shelf blob ≡ Some bytes)
+        × (option_map (λ (m : MediumRow). m.blob) (get x.kept.media (item table.now id))
+        ≡ Some was)))
+        (λ base x _ y.
+        (y ≡ with_medium (item table.now id) (medium_of blob content_type.now) bytes x)
+        × IsSeen (spare_too was (spare_but blob spare)) profile (state S.Store tx.new.conn.now)
+        base y) result }
 {
     run(
         tx,
@@ -85,13 +90,16 @@ fn name_medium<S: Alter>(
     stands: Option<i64>,
 ) -> Result<(), Fault>
     ensures same_reference { tx.new.conn.ghost_name ≡ tx.old.conn.ghost_name }
-    ensures named { (profile : Profile) (spare : Spare) (bytes : List ℕ) →
-        IsMove (state S.Store tx.old.conn.now) (state S.Store tx.new.conn.now)
+    ensures named { (profile : Profile) (spare : Spare) (bytes : List ℕ)
+        → IsMove (state S.Store tx.old.conn.now) (state S.Store tx.new.conn.now)
         (λ base x. IsSeen spare profile (state S.Store tx.old.conn.now) base x
-        × ((bytes_at x.kept.shelf blob ≡ Some bytes) × (option_map
-        (λ (m : MediumRow). m.blob) (get x.kept.media (item table.now id)) ≡ stands)))
-        (λ base x _ y. (y ≡ with_medium (item table.now id) (medium_of blob content_type.now) bytes x)
-        × IsSeen (spare_freed stands (spare_but blob spare)) profile (state S.Store tx.new.conn.now) base y) result }
+        × ((bytes_at x.kept.shelf blob ≡ Some bytes)
+        × (option_map (λ (m : MediumRow). m.blob) (get x.kept.media (item table.now id))
+        ≡ stands)))
+        (λ base x _ y.
+        (y ≡ with_medium (item table.now id) (medium_of blob content_type.now) bytes x)
+        × IsSeen (spare_freed stands (spare_but blob spare)) profile
+        (state S.Store tx.new.conn.now) base y) result }
 {
     match stands {
         Some(_was) => update_medium(tx, table, id, content_type, blob),
@@ -109,10 +117,12 @@ pub(crate) fn give_medium<S: Alter>(
     blob: i64,
 ) -> Result<(), Fault>
     ensures same_reference { tx.new.conn.ghost_name ≡ tx.old.conn.ghost_name }
-    ensures given { (profile : Profile) (spare : Spare) (bytes : List ℕ) →
-        IsMove (state S.Store tx.old.conn.now) (state S.Store tx.new.conn.now)
-        (λ base x. IsSeen spare profile (state S.Store tx.old.conn.now) base x × (bytes_at x.kept.shelf blob ≡ Some bytes))
-        (λ base x _ y. (y.content ≡ record (x.content) {
+    ensures given { (profile : Profile) (spare : Spare) (bytes : List ℕ)
+        → IsMove (state S.Store tx.old.conn.now) (state S.Store tx.new.conn.now)
+        (λ base x. IsSeen spare profile (state S.Store tx.old.conn.now) base x
+        × (bytes_at x.kept.shelf blob ≡ Some bytes))
+        (λ base x _ y.
+        (y.content ≡ record (x.content) {
           media = insert x.content.media (item table.now id)
               (record { bytes = bytes; content_type = content_type.now });
         })
@@ -133,7 +143,8 @@ fn write_medium<S: Alter>(
     bytes: &[u8],
 ) -> Result<(), Fault>
     ensures same_reference { tx.new.conn.ghost_name ≡ tx.old.conn.ghost_name }
-    ensures change { (profile : Profile) → IsChange profile (state S.Store tx.old.conn.now) (state S.Store tx.new.conn.now) (λ p. ⊤)
+    ensures change { (profile : Profile)
+        → IsChange profile (state S.Store tx.old.conn.now) (state S.Store tx.new.conn.now) (λ p. ⊤)
         (λ p. record p {
           media = insert p.media (item table.now id)
               (record { bytes = bytes.now; content_type = content_type.now });
@@ -158,7 +169,8 @@ pub fn put_media<S: Alter>(
     last_change: &str,
 ) -> Result<Outcome, Fault>
     ensures same_reference { tx.new.conn.ghost_name ≡ tx.old.conn.ghost_name }
-    ensures lent { (profile : Profile) → IsLentAt profile (commands.Media table.now id content_type.now bytes.now) last_change.now
+    ensures lent { (profile : Profile)
+        → IsLentAt profile (commands.Media table.now id content_type.now bytes.now) last_change.now
         (state S.Store tx.old.conn.now) (state S.Store tx.new.conn.now) result }
 {
     let table = table.as_str();
@@ -194,7 +206,8 @@ fn delete_medium_row<S: Alter>(
 /// Removes the medium of an id, and its blob if nothing else names it.
 fn delete_medium<S: Alter>(tx: &mut Transaction<'_, S>, table: &str, id: i64) -> Result<(), Fault>
     ensures same_reference { tx.new.conn.ghost_name ≡ tx.old.conn.ghost_name }
-    ensures change { (profile : Profile) → IsChange profile (state S.Store tx.old.conn.now) (state S.Store tx.new.conn.now) (λ p. ⊤)
+    ensures change { (profile : Profile)
+        → IsChange profile (state S.Store tx.old.conn.now) (state S.Store tx.new.conn.now) (λ p. ⊤)
         (λ p. record p { media = remove p.media (item table.now id) }) result }
 {
     let stands = blob_of_medium(tx, table, id)?;
@@ -209,8 +222,10 @@ fn medium_drop_refusal<S: Alter>(
     id: i64,
 ) -> Result<Option<u8>, Fault>
     ensures same_reference { tx.new.conn.ghost_name ≡ tx.old.conn.ghost_name }
-    ensures look { (profile : Profile) → IsLook profile (state S.Store tx.old.conn.now) (state S.Store tx.new.conn.now)
-        (λ p why. Meets profile p → why ≡ least (own_reasons p (commands.MediaDrop table.now id))) result }
+    ensures look { (profile : Profile)
+        → IsLook profile (state S.Store tx.old.conn.now) (state S.Store tx.new.conn.now)
+        (λ p why. Meets profile p
+        → why ≡ least (own_reasons p (commands.MediaDrop table.now id))) result }
 {
     if let Some(number) = plain_refusal(tx, table, PlainKind::Media)? {
         return Ok(Some(number));
@@ -235,7 +250,8 @@ pub fn drop_media<S: Alter>(
     last_change: &str,
 ) -> Result<Outcome, Fault>
     ensures same_reference { tx.new.conn.ghost_name ≡ tx.old.conn.ghost_name }
-    ensures lent { (profile : Profile) → IsLentAt profile (commands.MediaDrop table.now id) last_change.now
+    ensures lent { (profile : Profile)
+        → IsLentAt profile (commands.MediaDrop table.now id) last_change.now
         (state S.Store tx.old.conn.now) (state S.Store tx.new.conn.now) result }
 {
     let table = table.as_str();

@@ -78,7 +78,8 @@ fn write_row<S: Alter>(
     amount: i64,
 ) -> Result<(), Fault>
     ensures same_reference { tx.new.conn.ghost_name ≡ tx.old.conn.ghost_name }
-    ensures change { (profile : Profile) → IsChange profile (state S.Store tx.old.conn.now) (state S.Store tx.new.conn.now) (λ p. ⊤)
+    ensures change { (profile : Profile)
+        → IsChange profile (state S.Store tx.old.conn.now) (state S.Store tx.new.conn.now) (λ p. ⊤)
         (λ p. record p {
           rows = insert p.rows (item table.now id)
               (record { title = title.now; note = note.now; amount = amount });
@@ -104,7 +105,8 @@ pub fn put_row<S: Alter>(
     last_change: &str,
 ) -> Result<Outcome, Fault>
     ensures same_reference { tx.new.conn.ghost_name ≡ tx.old.conn.ghost_name }
-    ensures lent { (profile : Profile) → IsLentAt profile (commands.Row table.now id title.now note.now amount) last_change.now
+    ensures lent { (profile : Profile)
+        → IsLentAt profile (commands.Row table.now id title.now note.now amount) last_change.now
         (state S.Store tx.old.conn.now) (state S.Store tx.new.conn.now) result }
 {
     let table = table.as_str();
@@ -119,7 +121,8 @@ pub fn put_row<S: Alter>(
 /// Removes the row of an id.
 fn delete_row<S: Alter>(tx: &mut Transaction<'_, S>, table: &str, id: i64) -> Result<(), Fault>
     ensures same_reference { tx.new.conn.ghost_name ≡ tx.old.conn.ghost_name }
-    ensures change { (profile : Profile) → IsChange profile (state S.Store tx.old.conn.now) (state S.Store tx.new.conn.now) (λ p. ⊤)
+    ensures change { (profile : Profile)
+        → IsChange profile (state S.Store tx.old.conn.now) (state S.Store tx.new.conn.now) (λ p. ⊤)
         (λ p. record p { rows = remove p.rows (item table.now id) }) result }
 {
     run(
@@ -136,8 +139,10 @@ fn row_drop_refusal<S: Alter>(
     id: i64,
 ) -> Result<Option<u8>, Fault>
     ensures same_reference { tx.new.conn.ghost_name ≡ tx.old.conn.ghost_name }
-    ensures look { (profile : Profile) → IsLook profile (state S.Store tx.old.conn.now) (state S.Store tx.new.conn.now)
-        (λ p why. Meets profile p → why ≡ least (own_reasons p (commands.RowDrop table.now id))) result }
+    ensures look { (profile : Profile)
+        → IsLook profile (state S.Store tx.old.conn.now) (state S.Store tx.new.conn.now)
+        (λ p why. Meets profile p
+        → why ≡ least (own_reasons p (commands.RowDrop table.now id))) result }
 {
     if let Some(number) = plain_refusal(tx, table, PlainKind::Attributes)? {
         return Ok(Some(number));
@@ -162,7 +167,8 @@ pub fn drop_row<S: Alter>(
     last_change: &str,
 ) -> Result<Outcome, Fault>
     ensures same_reference { tx.new.conn.ghost_name ≡ tx.old.conn.ghost_name }
-    ensures lent { (profile : Profile) → IsLentAt profile (commands.RowDrop table.now id) last_change.now
+    ensures lent { (profile : Profile)
+        → IsLentAt profile (commands.RowDrop table.now id) last_change.now
         (state S.Store tx.old.conn.now) (state S.Store tx.new.conn.now) result }
 {
     let table = table.as_str();

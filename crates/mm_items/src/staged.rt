@@ -31,9 +31,10 @@ fn blob_of_piece<S: Alter>(
     number: u32,
 ) -> Result<i64, Fault>
     ensures same_reference { tx.new.conn.ghost_name ≡ tx.old.conn.ghost_name }
-    ensures found { (profile : Profile) (spare : Spare) (bytes : List ℕ) →
-        IsMove (state S.Store tx.old.conn.now) (state S.Store tx.new.conn.now)
-        (λ base x. IsSeen spare profile (state S.Store tx.old.conn.now) base x × HasBytes edition.now number bytes x.content)
+    ensures found { (profile : Profile) (spare : Spare) (bytes : List ℕ)
+        → IsMove (state S.Store tx.old.conn.now) (state S.Store tx.new.conn.now)
+        (λ base x. IsSeen spare profile (state S.Store tx.old.conn.now) base x
+        × HasBytes edition.now number bytes x.content)
         (λ base x id y. (y ≡ x) × IsSeen spare profile (state S.Store tx.new.conn.now) base y
         × (bytes_at y.kept.shelf id ≡ Some bytes)) result }
 {
@@ -58,10 +59,13 @@ fn write_tile_of_piece<S: Alter>(
     number: u32,
 ) -> Result<(), Fault>
     ensures same_reference { tx.new.conn.ghost_name ≡ tx.old.conn.ghost_name }
-    ensures change { (profile : Profile) (bytes : List ℕ) →
-        IsChange profile (state S.Store tx.old.conn.now) (state S.Store tx.new.conn.now)
+    ensures change { (profile : Profile) (bytes : List ℕ)
+        → IsChange profile (state S.Store tx.old.conn.now) (state S.Store tx.new.conn.now)
         (HasBytes edition.now number bytes)
-        (λ p. record p { tiles = insert p.tiles (tile table.now (pos zoom) (pos column) (pos row)) bytes }) result }
+        (λ p. record p {
+          tiles = insert p.tiles (tile table.now (pos zoom) (pos column) (pos row))
+              bytes;
+        }) result }
 {
     let blob = blob_of_piece(tx, edition, number)?;
     give_tile(tx, table, zoom, column, row, blob)
@@ -79,7 +83,8 @@ pub fn put_tile_of_piece<S: Alter>(
     last_change: &str,
 ) -> Result<Outcome, Fault>
     ensures same_reference { tx.new.conn.ghost_name ≡ tx.old.conn.ghost_name }
-    ensures lent { (profile : Profile) (bytes : List ℕ) → IsLentWhere (HasBytes edition.now number bytes) profile
+    ensures lent { (profile : Profile) (bytes : List ℕ)
+        → IsLentWhere (HasBytes edition.now number bytes) profile
         (commands.Tile table.now zoom column row bytes) last_change.now
         (state S.Store tx.old.conn.now) (state S.Store tx.new.conn.now) result }
 {
@@ -102,10 +107,13 @@ fn write_medium_of_piece<S: Alter>(
     number: u32,
 ) -> Result<(), Fault>
     ensures same_reference { tx.new.conn.ghost_name ≡ tx.old.conn.ghost_name }
-    ensures change { (profile : Profile) (bytes : List ℕ) →
-        IsChange profile (state S.Store tx.old.conn.now) (state S.Store tx.new.conn.now)
+    ensures change { (profile : Profile) (bytes : List ℕ)
+        → IsChange profile (state S.Store tx.old.conn.now) (state S.Store tx.new.conn.now)
         (HasBytes edition.now number bytes)
-        (λ p. record p { media = insert p.media (item table.now id) (record { bytes = bytes; content_type = content_type.now }) }) result }
+        (λ p. record p {
+          media = insert p.media (item table.now id)
+              (record { bytes = bytes; content_type = content_type.now });
+        }) result }
 {
     let blob = blob_of_piece(tx, edition, number)?;
     give_medium(tx, table, id, content_type, blob)
@@ -122,7 +130,8 @@ pub fn put_media_of_piece<S: Alter>(
     last_change: &str,
 ) -> Result<Outcome, Fault>
     ensures same_reference { tx.new.conn.ghost_name ≡ tx.old.conn.ghost_name }
-    ensures lent { (profile : Profile) (bytes : List ℕ) → IsLentWhere (HasBytes edition.now number bytes) profile
+    ensures lent { (profile : Profile) (bytes : List ℕ)
+        → IsLentWhere (HasBytes edition.now number bytes) profile
         (commands.Media table.now id content_type.now bytes) last_change.now
         (state S.Store tx.old.conn.now) (state S.Store tx.new.conn.now) result }
 {

@@ -33,7 +33,8 @@ fn sides_at<S: Alter>(
     zoom: u8,
 ) -> Result<Option<(i64, i64)>, Fault>
     ensures same_reference { tx.new.conn.ghost_name ≡ tx.old.conn.ghost_name }
-    ensures look { (profile : Profile) → IsLook profile (state S.Store tx.old.conn.now) (state S.Store tx.new.conn.now)
+    ensures look { (profile : Profile)
+        → IsLook profile (state S.Store tx.old.conn.now) (state S.Store tx.new.conn.now)
         (λ p sides. option_map (λ (g : Grid). (g.matrix_width, g.matrix_height))
         (get p.matrices (level table.now (pos zoom))) ≡ sides) result }
 {
@@ -53,8 +54,10 @@ fn has_tile<S: Alter>(
     row: u32,
 ) -> Result<bool, Fault>
     ensures same_reference { tx.new.conn.ghost_name ≡ tx.old.conn.ghost_name }
-    ensures look { (profile : Profile) → IsLook profile (state S.Store tx.old.conn.now) (state S.Store tx.new.conn.now)
-        (λ p found. found ≡ contains_key p.tiles (tile table.now (pos zoom) (pos column) (pos row))) result }
+    ensures look { (profile : Profile)
+        → IsLook profile (state S.Store tx.old.conn.now) (state S.Store tx.new.conn.now)
+        (λ p found. found ≡ contains_key p.tiles
+        (tile table.now (pos zoom) (pos column) (pos row))) result }
 {
     exists(
         tx,
@@ -73,12 +76,13 @@ fn insert_tile<S: Alter>(
     blob: i64,
 ) -> Result<(), Fault>
     ensures same_reference { tx.new.conn.ghost_name ≡ tx.old.conn.ghost_name }
-    ensures named { (profile : Profile) (spare : Spare) (bytes : List ℕ) →
-        IsMove (state S.Store tx.old.conn.now) (state S.Store tx.new.conn.now)
+    ensures named { (profile : Profile) (spare : Spare) (bytes : List ℕ)
+        → IsMove (state S.Store tx.old.conn.now) (state S.Store tx.new.conn.now)
         (λ base x. IsSeen spare profile (state S.Store tx.old.conn.now) base x
-        × ((bytes_at x.kept.shelf blob ≡ Some bytes) × (get x.kept.tiles
-        (tile table.now (pos zoom) (pos column) (pos row)) ≡ None)))
-        (λ base x _ y. (y ≡ with_tile (tile table.now (pos zoom) (pos column) (pos row)) blob bytes x)
+        × ((bytes_at x.kept.shelf blob ≡ Some bytes)
+        × (get x.kept.tiles (tile table.now (pos zoom) (pos column) (pos row)) ≡ None)))
+        (λ base x _ y.
+        (y ≡ with_tile (tile table.now (pos zoom) (pos column) (pos row)) blob bytes x)
         × IsSeen (spare_but blob spare) profile (state S.Store tx.new.conn.now) base y) result }
 {
     run(
@@ -98,13 +102,15 @@ fn update_tile<S: Alter>(
     blob: i64,
 ) -> Result<(), Fault>
     ensures same_reference { tx.new.conn.ghost_name ≡ tx.old.conn.ghost_name }
-    ensures named { (profile : Profile) (spare : Spare) (bytes : List ℕ) (was : ℤ) →
-        IsMove (state S.Store tx.old.conn.now) (state S.Store tx.new.conn.now)
+    ensures named { (profile : Profile) (spare : Spare) (bytes : List ℕ) (was : ℤ)
+        → IsMove (state S.Store tx.old.conn.now) (state S.Store tx.new.conn.now)
         (λ base x. IsSeen spare profile (state S.Store tx.old.conn.now) base x
-        × ((bytes_at x.kept.shelf blob ≡ Some bytes) × (get x.kept.tiles
-        (tile table.now (pos zoom) (pos column) (pos row)) ≡ Some was)))
-        (λ base x _ y. (y ≡ with_tile (tile table.now (pos zoom) (pos column) (pos row)) blob bytes x)
-        × IsSeen (spare_too was (spare_but blob spare)) profile (state S.Store tx.new.conn.now) base y) result }
+        × ((bytes_at x.kept.shelf blob ≡ Some bytes)
+        × (get x.kept.tiles (tile table.now (pos zoom) (pos column) (pos row)) ≡ Some was)))
+        (λ base x _ y.
+        (y ≡ with_tile (tile table.now (pos zoom) (pos column) (pos row)) blob bytes x)
+        × IsSeen (spare_too was (spare_but blob spare)) profile (state S.Store tx.new.conn.now)
+        base y) result }
 {
     run(
         tx,
@@ -124,13 +130,15 @@ fn name_tile<S: Alter>(
     stands: Option<i64>,
 ) -> Result<(), Fault>
     ensures same_reference { tx.new.conn.ghost_name ≡ tx.old.conn.ghost_name }
-    ensures named { (profile : Profile) (spare : Spare) (bytes : List ℕ) →
-        IsMove (state S.Store tx.old.conn.now) (state S.Store tx.new.conn.now)
+    ensures named { (profile : Profile) (spare : Spare) (bytes : List ℕ)
+        → IsMove (state S.Store tx.old.conn.now) (state S.Store tx.new.conn.now)
         (λ base x. IsSeen spare profile (state S.Store tx.old.conn.now) base x
-        × ((bytes_at x.kept.shelf blob ≡ Some bytes) × (get x.kept.tiles
-        (tile table.now (pos zoom) (pos column) (pos row)) ≡ stands)))
-        (λ base x _ y. (y ≡ with_tile (tile table.now (pos zoom) (pos column) (pos row)) blob bytes x)
-        × IsSeen (spare_freed stands (spare_but blob spare)) profile (state S.Store tx.new.conn.now) base y) result }
+        × ((bytes_at x.kept.shelf blob ≡ Some bytes)
+        × (get x.kept.tiles (tile table.now (pos zoom) (pos column) (pos row)) ≡ stands)))
+        (λ base x _ y.
+        (y ≡ with_tile (tile table.now (pos zoom) (pos column) (pos row)) blob bytes x)
+        × IsSeen (spare_freed stands (spare_but blob spare)) profile
+        (state S.Store tx.new.conn.now) base y) result }
 {
     match stands {
         Some(_was) => update_tile(tx, table, zoom, column, row, blob),
@@ -149,14 +157,16 @@ pub(crate) fn give_tile<S: Alter>(
     blob: i64,
 ) -> Result<(), Fault>
     ensures same_reference { tx.new.conn.ghost_name ≡ tx.old.conn.ghost_name }
-    ensures given { (profile : Profile) (spare : Spare) (bytes : List ℕ) →
-        IsMove (state S.Store tx.old.conn.now) (state S.Store tx.new.conn.now)
-        (λ base x. IsSeen spare profile (state S.Store tx.old.conn.now) base x × (bytes_at x.kept.shelf blob ≡ Some bytes))
-        (λ base x _ y. (y.content ≡ record (x.content) {
-          tiles = insert x.content.tiles
-              (tile table.now (pos zoom) (pos column) (pos row)) bytes;
-        })
-        × IsSeen (spare_but blob spare) profile (state S.Store tx.new.conn.now) base y) result }
+    ensures given { (profile : Profile) (spare : Spare) (bytes : List ℕ)
+        → IsMove (state S.Store tx.old.conn.now) (state S.Store tx.new.conn.now)
+        (λ base x. IsSeen spare profile (state S.Store tx.old.conn.now) base x
+        × (bytes_at x.kept.shelf blob ≡ Some bytes))
+        (λ base x _ y.
+        (y.content ≡ record (x.content) {
+          tiles = insert x.content.tiles (tile table.now (pos zoom) (pos column) (pos row))
+              bytes;
+        }) × IsSeen (spare_but blob spare) profile
+        (state S.Store tx.new.conn.now) base y) result }
 {
     let stands = blob_of_tile(tx, table, zoom, column, row)?;
     name_tile(tx, table, zoom, column, row, blob, stands)?;
@@ -174,8 +184,12 @@ fn write_tile<S: Alter>(
     bytes: &[u8],
 ) -> Result<(), Fault>
     ensures same_reference { tx.new.conn.ghost_name ≡ tx.old.conn.ghost_name }
-    ensures change { (profile : Profile) → IsChange profile (state S.Store tx.old.conn.now) (state S.Store tx.new.conn.now) (λ p. ⊤)
-        (λ p. record p { tiles = insert p.tiles (tile table.now (pos zoom) (pos column) (pos row)) bytes.now }) result }
+    ensures change { (profile : Profile)
+        → IsChange profile (state S.Store tx.old.conn.now) (state S.Store tx.new.conn.now) (λ p. ⊤)
+        (λ p. record p {
+          tiles = insert p.tiles (tile table.now (pos zoom) (pos column) (pos row))
+              bytes.now;
+        }) result }
 {
     if bytes.is_empty() {
         return Err(Fault::STORE);
@@ -216,8 +230,10 @@ fn delete_tile<S: Alter>(
     row: u32,
 ) -> Result<(), Fault>
     ensures same_reference { tx.new.conn.ghost_name ≡ tx.old.conn.ghost_name }
-    ensures change { (profile : Profile) → IsChange profile (state S.Store tx.old.conn.now) (state S.Store tx.new.conn.now) (λ p. ⊤)
-        (λ p. record p { tiles = remove p.tiles (tile table.now (pos zoom) (pos column) (pos row)) }) result }
+    ensures change { (profile : Profile)
+        → IsChange profile (state S.Store tx.old.conn.now) (state S.Store tx.new.conn.now) (λ p. ⊤)
+        (λ p. record p
+        { tiles = remove p.tiles (tile table.now (pos zoom) (pos column) (pos row)) }) result }
 {
     let stands = blob_of_tile(tx, table, zoom, column, row)?;
     delete_tile_row(tx, table, zoom, column, row)?;
@@ -240,8 +256,10 @@ pub(crate) fn tile_refusal<S: Alter>(
     row: u32,
 ) -> Result<Option<u8>, Fault>
     ensures same_reference { tx.new.conn.ghost_name ≡ tx.old.conn.ghost_name }
-    ensures look { (profile : Profile) → IsLook profile (state S.Store tx.old.conn.now) (state S.Store tx.new.conn.now)
-        (λ p why. Meets profile p → (bytes : List ℕ) → why ≡ least (own_reasons p (commands.Tile table.now zoom column row bytes))) result }
+    ensures look { (profile : Profile)
+        → IsLook profile (state S.Store tx.old.conn.now) (state S.Store tx.new.conn.now)
+        (λ p why. Meets profile p → (bytes : List ℕ)
+        → why ≡ least (own_reasons p (commands.Tile table.now zoom column row bytes))) result }
 {
     if let Some(number) = pyramid_refusal(tx, table)? {
         return Ok(Some(number));
@@ -270,7 +288,8 @@ pub fn put_tile<S: Alter>(
     last_change: &str,
 ) -> Result<Outcome, Fault>
     ensures same_reference { tx.new.conn.ghost_name ≡ tx.old.conn.ghost_name }
-    ensures lent { (profile : Profile) → IsLentAt profile (commands.Tile table.now zoom column row bytes.now) last_change.now
+    ensures lent { (profile : Profile)
+        → IsLentAt profile (commands.Tile table.now zoom column row bytes.now) last_change.now
         (state S.Store tx.old.conn.now) (state S.Store tx.new.conn.now) result }
 {
     let table = table.as_str();
@@ -291,8 +310,10 @@ fn tile_drop_refusal<S: Alter>(
     row: u32,
 ) -> Result<Option<u8>, Fault>
     ensures same_reference { tx.new.conn.ghost_name ≡ tx.old.conn.ghost_name }
-    ensures look { (profile : Profile) → IsLook profile (state S.Store tx.old.conn.now) (state S.Store tx.new.conn.now)
-        (λ p why. Meets profile p → why ≡ least (own_reasons p (commands.TileDrop table.now zoom column row))) result }
+    ensures look { (profile : Profile)
+        → IsLook profile (state S.Store tx.old.conn.now) (state S.Store tx.new.conn.now)
+        (λ p why. Meets profile p
+        → why ≡ least (own_reasons p (commands.TileDrop table.now zoom column row))) result }
 {
     if let Some(number) = pyramid_refusal(tx, table)? {
         return Ok(Some(number));
@@ -316,7 +337,8 @@ pub fn drop_tile<S: Alter>(
     last_change: &str,
 ) -> Result<Outcome, Fault>
     ensures same_reference { tx.new.conn.ghost_name ≡ tx.old.conn.ghost_name }
-    ensures lent { (profile : Profile) → IsLentAt profile (commands.TileDrop table.now zoom column row) last_change.now
+    ensures lent { (profile : Profile)
+        → IsLentAt profile (commands.TileDrop table.now zoom column row) last_change.now
         (state S.Store tx.old.conn.now) (state S.Store tx.new.conn.now) result }
 {
     let table = table.as_str();

@@ -15,11 +15,15 @@ use mm_run::Apply;
 pub trait Editor: Apply {
     /// How an edition stands, or None where none has the name.
     fn edition(&mut self, name: &Name) -> Result<Option<EditionState>, Fault>
-        ensures ended { Self.has_failed self.old ≡ true → (result ≡ Err (record { 0 = 92 })) × (self.new ≡ self.old) }
-        ensures faults { Self.has_failed self.old ≡ false → IfErr result (λ fault. (fault.0 ≡ 90) ⊎ (fault.0 ≡ 91)) }
+        ensures ended { Self.has_failed self.old ≡ true → (result ≡ Err (record { 0 = 92 }))
+            × (self.new ≡ self.old) }
+        ensures faults { Self.has_failed self.old ≡ false
+            → IfErr result (λ fault. (fault.0 ≡ 90) ⊎ (fault.0 ≡ 91)) }
         ensures same { Self.has_failed self.new ≡ Self.has_failed self.old }
         ensures clean { Self.is_clean self.new → Self.is_clean self.old }
-        ensures settled { Self.is_clean self.new → (p : Package) → Self.settled self.old p → Meets current p → Self.settled self.new p }
-        ensures tells { IfOk result (λ found. Self.is_clean self.new → (p : Package) → Self.settled self.old p →
-            Meets current p → TellsState p name.now found) };
+        ensures settled { Self.is_clean self.new → (p : Package) → Self.settled self.old p
+            → Meets current p → Self.settled self.new p }
+        ensures tells { IfOk result
+            (λ found. Self.is_clean self.new → (p : Package) → Self.settled self.old p
+            → Meets current p → TellsState p name.now found) };
 }

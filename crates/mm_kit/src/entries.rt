@@ -40,8 +40,11 @@ pub enum Entry {
 
 /// Takes out the last field where the record is one of a tile or a media item, and puts `00` in its place.
 fn show<'a>(fields: &mut Vec<&'a str>) -> Result<Option<&'a str>, AllocError>
-    ensures file { IfOk result (λ file. text_of file ≡ file_of (map (λ f. f.now) fields.old.items)) }
-    ensures shown { IfOk result (λ file. map (λ f. f.now) fields.new.items ≡ without_file (map (λ f. f.now) fields.old.items)) }
+    ensures file { IfOk result
+        (λ file. text_of file ≡ file_of (map (λ f. f.now) fields.old.items)) }
+    ensures shown { IfOk result
+        (λ file. map (λ f. f.now) fields.new.items
+        ≡ without_file (map (λ f. f.now) fields.old.items)) }
 {
     let Some(word) = fields.first() else {
         return Ok(None);
@@ -139,7 +142,8 @@ fn least_fault(number: u8, piece: Result<Piece, ReadFault>) -> ReadFault
 /// The entry of a number and the record of a piece.
 fn read_record(alloc: Global, place: u32, number: &str, rest: Vec<&str>) -> Result<Entry, ReadFault>
     ensures { ReadsTo (IsEntry place (number.now ∷ map (λ f. f.now) rest.entry.items))
-        (IsLeast (HoldsAgainstEntry place (number.now ∷ map (λ f. f.now) rest.entry.items))) result }
+        (IsLeast (HoldsAgainstEntry place
+        (number.now ∷ map (λ f. f.now) rest.entry.items))) result }
 {
     let mut fields = rest;
     let Ok(file) = show(&mut fields) else {

@@ -19,8 +19,10 @@ fn read_bytes<const MOST: usize, F: Folder>(
     folder: &mut F,
     name: &FileName,
 ) -> Result<Result<Bytes<MOST>, u8>, FolderFault>
-    ensures reads { IfOk result (λ r. IfSome (F.files folder.old)
-        (λ these. (make : List ℕ → SpecPiece) → made make r ≡ with_file MOST make (these name.now))) }
+    ensures reads { IfOk result
+        (λ r. IfSome (F.files folder.old)
+        (λ these. (make : List ℕ → SpecPiece)
+        → made make r ≡ with_file MOST make (these name.now))) }
     ensures stays { F.files folder.new ≡ F.files folder.old }
     ensures fails { F.has_failed folder.new ≡ (F.has_failed folder.old || is_failure result) }
 {
@@ -41,7 +43,8 @@ pub(crate) fn fill<F: Folder>(
     folder: &mut F,
     entry: Entry,
 ) -> Result<Result<Piece, u8>, FolderFault>
-    ensures fills { IfOk result (λ r. IfSome (F.files folder.old) (λ these. r ≡ filled these entry)) }
+    ensures fills { IfOk result
+        (λ r. IfSome (F.files folder.old) (λ these. r ≡ filled these entry)) }
     ensures stays { F.files folder.new ≡ F.files folder.old }
     ensures fails { F.has_failed folder.new ≡ (F.has_failed folder.old || is_failure result) }
 {

@@ -33,7 +33,8 @@ pub trait Folder {
 
     /// The bytes of a file, where they are `most` at most.
     fn read(&mut self, alloc: Global, name: &str, most: u64) -> Result<Found, FolderFault>
-        ensures finds { IfOk result (λ found. IfSome (files self.old) (λ these. FindsFile (these name.now) most found)) }
+        ensures finds { IfOk result
+            (λ found. IfSome (files self.old) (λ these. FindsFile (these name.now) most found)) }
         ensures stays { files self.new ≡ files self.old }
         ensures fails { has_failed self.new ≡ (has_failed self.old || is_failure result) };
 

@@ -22,7 +22,8 @@ const MOST_BYTES: u64 = 16_777_216;
 
 /// The entries of the folder's list, or the answer where there are none.
 fn find_list<F: Folder>(alloc: Global, folder: &mut F) -> Result<Listed, FolderFault>
-    ensures lists { IfOk result (λ l. (files : Files) → F.files folder.old ≡ Some files → IsKitList files (list_read l)) }
+    ensures lists { IfOk result
+        (λ l. (files : Files) → F.files folder.old ≡ Some files → IsKitList files (list_read l)) }
     ensures sound { IfOk result AreSound }
     ensures stays { F.files folder.new ≡ F.files folder.old }
     ensures fails { F.has_failed folder.new ≡ (F.has_failed folder.old || is_failure result) }
@@ -48,13 +49,18 @@ fn import_entries<A: Editor, F: Folder>(
 ) -> Result<Staged, KitFault>
     requires { AreFew entries.items }
     ensures clean { A.is_clean editor.new → A.is_clean editor.old }
-    ensures answered { IfOk result (λ a. OnKit (A.is_clean editor.new) (A.settled editor.old) (F.files folder.old)
+    ensures answered { IfOk result
+        (λ a. OnKit (A.is_clean editor.new) (A.settled editor.old) (F.files folder.old)
         (λ files p. AreImported files name.now entries.items p (A.settled editor.new) a)) }
-    ensures stopped { IfErr result (λ e. OnKit (A.is_clean editor.new) (A.settled editor.old) (F.files folder.old)
-        (λ files p. MayBeStaged files name.now entries.items p (A.may_leave editor.new) A.stands_for e.staged)) }
-    ensures session { ImportTellsReopening (A.has_failed editor.old) (A.has_failed editor.new) (editor.new ≡ editor.old) result }
+    ensures stopped { IfErr result
+        (λ e. OnKit (A.is_clean editor.new) (A.settled editor.old) (F.files folder.old)
+        (λ files p. MayBeStaged files name.now entries.items p (A.may_leave editor.new)
+        A.stands_for e.staged)) }
+    ensures session { ImportTellsReopening (A.has_failed editor.old) (A.has_failed editor.new)
+        (editor.new ≡ editor.old) result }
     ensures kept { OnAnyFolder (A.is_clean editor.new) (A.settled editor.old)
-        (λ p. IsImportKept name.now p (A.settled editor.new) (A.may_leave editor.new) A.stands_for result) }
+        (λ p. IsImportKept name.now p (A.settled editor.new) (A.may_leave editor.new)
+        A.stands_for result) }
     ensures folder { TellsFolder (F.has_failed folder.old) (F.has_failed folder.new) result }
     ensures why { IfErr result (λ e. IsKitFault e.fault.0) }
 {
@@ -90,14 +96,19 @@ pub(crate) fn import_folder<A: Editor, F: Folder>(
     at: Moment,
 ) -> Result<Staged, KitFault>
     ensures clean { A.is_clean editor.new → A.is_clean editor.old }
-    ensures answered { IfOk result (λ a. OnKit (A.is_clean editor.new) (A.settled editor.old) (F.files folder.old)
+    ensures answered { IfOk result
+        (λ a. OnKit (A.is_clean editor.new) (A.settled editor.old) (F.files folder.old)
         (λ files p. IsImportAnswered files name.now p (A.settled editor.new) a)) }
-    ensures stopped { IfErr result (λ e. OnKit (A.is_clean editor.new) (A.settled editor.old) (F.files folder.old)
-        (λ files p. IsImportStopped files name.now p (A.may_leave editor.new) A.stands_for e.staged)) }
-    ensures session { ImportTellsReopening (A.has_failed editor.old) (A.has_failed editor.new) (editor.new ≡ editor.old) result }
+    ensures stopped { IfErr result
+        (λ e. OnKit (A.is_clean editor.new) (A.settled editor.old) (F.files folder.old)
+        (λ files p. IsImportStopped files name.now p (A.may_leave editor.new)
+        A.stands_for e.staged)) }
+    ensures session { ImportTellsReopening (A.has_failed editor.old) (A.has_failed editor.new)
+        (editor.new ≡ editor.old) result }
     ensures needed { IfErr result (λ e. e.fault.0 ≡ 92 → AsksForPackage (F.files folder.old)) }
     ensures kept { OnAnyFolder (A.is_clean editor.new) (A.settled editor.old)
-        (λ p. IsImportKept name.now p (A.settled editor.new) (A.may_leave editor.new) A.stands_for result) }
+        (λ p. IsImportKept name.now p (A.settled editor.new) (A.may_leave editor.new)
+        A.stands_for result) }
     ensures folder { TellsFolder (F.has_failed folder.old) (F.has_failed folder.new) result }
     ensures why { IfErr result (λ e. IsKitFault e.fault.0) }
 {

@@ -56,8 +56,8 @@ fn read_row(alloc: Global, place: u32, row: ByteRecord) -> Result<Entry, ReadFau
 /// The entries of the records of a reader.
 fn read_rows<T: Read>(alloc: Global, rows: &mut Reader<T>) -> Result<Listed, AllocError>
     requires { IsSetUp rows.old }
-    ensures lists { IfOk result (λ l. (bytes : List ℕ) → source_of T.remaining rows.old ≡ Some bytes →
-        reader_state rows.old ≡ states.StartRecord
+    ensures lists { IfOk result (λ l. (bytes : List ℕ) → source_of T.remaining rows.old ≡ Some bytes
+        → reader_state rows.old ≡ states.StartRecord
         → IsListRead (records default_config bytes) (list_read l)) }
     ensures sound { IfOk result AreSound }
 {

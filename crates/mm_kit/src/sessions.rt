@@ -44,20 +44,27 @@ pub fn import_kit<S: Alter, F: Folder>(
     folder: &mut F,
     at: Moment,
 ) -> Result<Staged, KitFault>
-    ensures clean { HasCleanDisk (state S.Store (held session.new)) → HasCleanDisk (state S.Store (held session.old)) }
+    ensures clean { HasCleanDisk (state S.Store (held session.new))
+        → HasCleanDisk (state S.Store (held session.old)) }
 
     // The answer is that of the kit on the package, and the session is settled for one whose edition has grown along the kit.
-    ensures answered { IfOk result (λ a. OnKit (HasCleanDisk (state S.Store (held session.new)))
+    ensures answered { IfOk result
+        (λ a. OnKit (HasCleanDisk (state S.Store (held session.new)))
         (λ p. IsSettled current (state S.Store (held session.old)) p) (F.files folder.old)
-        (λ files p. IsImportAnswered files name.now p (λ q. IsSettled current (state S.Store (held session.new)) q) a)) }
+        (λ files p. IsImportAnswered files name.now p
+        (λ q. IsSettled current (state S.Store (held session.new)) q) a)) }
 
     // With a fault each database that may be left stands for such a package, with as many pieces as were answered ok, or one more.
-    ensures stopped { IfErr result (λ e. OnKit (HasCleanDisk (state S.Store (held session.new)))
+    ensures stopped { IfErr result
+        (λ e. OnKit (HasCleanDisk (state S.Store (held session.new)))
         (λ p. IsSettled current (state S.Store (held session.old)) p) (F.files folder.old)
-        (λ files p. IsImportStopped files name.now p (λ db. (state S.Store (held session.new)).may_leave db) StandsForCurrent e.staged)) }
+        (λ files p. IsImportStopped files name.now p
+        (λ db. (state S.Store (held session.new)).may_leave db)
+        StandsForCurrent e.staged)) }
 
     // A session that has to be opened again is left as it was, and 92 comes only there.
-    ensures session { ImportTellsReopening (must_reopen session.old) (must_reopen session.new) (session.new ≡ session.old) result }
+    ensures session { ImportTellsReopening (must_reopen session.old) (must_reopen session.new)
+        (session.new ≡ session.old) result }
 
     // The package is asked only where the list is a kit's.
     ensures needed { IfErr result (λ e. e.fault.0 ≡ 92 → AsksForPackage (F.files folder.old)) }

@@ -69,14 +69,17 @@ fn stage_piece<A: Apply>(
     at: Moment,
 ) -> Answer
     requires { 0 < number }
-    ensures keeps { (p : Package) → Meets current p → Meets current (step p (commands.Stage edition.now (pos number) piece) at) }
+    ensures keeps { (p : Package) → Meets current p
+        → Meets current (step p (commands.Stage edition.now (pos number) piece) at) }
     ensures faults { OnFault result IsApplyFault }
-    ensures ended { A.has_failed editor.old ≡ true → (result ≡ answers.Fault (record { 0 = 92 })) × (editor.new ≡ editor.old) }
+    ensures ended { A.has_failed editor.old ≡ true → (result ≡ answers.Fault (record { 0 = 92 }))
+        × (editor.new ≡ editor.old) }
     ensures working { A.has_failed editor.old ≡ false → OnFault result (λ fault. fault ≢ 92) }
     ensures fails { A.has_failed editor.old ≡ false → A.has_failed editor.new ≡ is_fault result }
     ensures clean { A.is_clean editor.new → A.is_clean editor.old }
-    ensures applied { A.is_clean editor.new → (p : Package) → A.settled editor.old p → Meets current p
-        → IsApplied p (commands.Stage edition.now (pos number) piece) at result (shown A.Apply editor.new) }
+    ensures applied { A.is_clean editor.new → (p : Package) → A.settled editor.old p
+        → Meets current p → IsApplied p (commands.Stage edition.now (pos number) piece) at result
+        (shown A.Apply editor.new) }
 {
     // The proof reads from these that the moment and the command are within their limits.
     let _milliseconds = at.milliseconds();
@@ -101,17 +104,23 @@ pub(crate) fn stage_all<A: Editor, F: Folder>(
     requires few { AreFew entries.items }
     requires working { A.has_failed editor.old ≡ false }
     ensures clean { A.is_clean editor.new → A.is_clean editor.old }
-    ensures answered { IfOk result (λ a. OnKit (A.is_clean editor.new) (A.settled editor.old) (F.files folder.old)
-        (λ files p. (old : List SpecPiece) → HasPieces p edition.now old → length old ≤ length entries.items →
-        AreStaged files edition.now entries.items p old (A.settled editor.new) a)) }
-    ensures stopped { IfErr result (λ e. OnKit (A.is_clean editor.new) (A.settled editor.old) (F.files folder.old)
-        (λ files p. (old : List SpecPiece) → HasPieces p edition.now old →
-        MayBeStaged files edition.now entries.items p (A.may_leave editor.new) A.stands_for e.staged)) }
+    ensures answered { IfOk result
+        (λ a. OnKit (A.is_clean editor.new) (A.settled editor.old) (F.files folder.old)
+        (λ files p. (old : List SpecPiece) → HasPieces p edition.now old
+        → length old ≤ length entries.items
+        → AreStaged files edition.now entries.items p old (A.settled editor.new) a)) }
+    ensures stopped { IfErr result
+        (λ e. OnKit (A.is_clean editor.new) (A.settled editor.old) (F.files folder.old)
+        (λ files p. (old : List SpecPiece) → HasPieces p edition.now old
+        → MayBeStaged files edition.now entries.items p (A.may_leave editor.new)
+        A.stands_for e.staged)) }
     ensures session { IfOk result (λ a. A.has_failed editor.new ≡ false) }
-    ensures fault { IfErr result (λ e. (e.fault.0 ≢ 92) × (e.fault.0 ≡ 96 → A.has_failed editor.new ≡ false)) }
+    ensures fault { IfErr result
+        (λ e. (e.fault.0 ≢ 92) × (e.fault.0 ≡ 96 → A.has_failed editor.new ≡ false)) }
     ensures kept { OnAnyFolder (A.is_clean editor.new) (A.settled editor.old)
-        (λ p. (old : List SpecPiece) → HasPieces p edition.now old →
-        IsImportKept edition.now p (A.settled editor.new) (A.may_leave editor.new) A.stands_for result) }
+        (λ p. (old : List SpecPiece) → HasPieces p edition.now old
+        → IsImportKept edition.now p (A.settled editor.new) (A.may_leave editor.new)
+        A.stands_for result) }
     ensures folder { TellsFolder (F.has_failed folder.old) (F.has_failed folder.new) result }
     ensures why { IfErr result (λ e. IsKitFault e.fault.0) }
 {

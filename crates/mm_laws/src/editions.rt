@@ -17,15 +17,19 @@ ghost use Rattle.mm_laws.specs.Laws.{FirstRefused, IsNewEdition, IsPublished};
 
 /// A new edition is open and holds no pieces.
 pub fn a_new_edition_is_open_and_holds_no_pieces()
-    ensures { (profile : Profile) (p : Package) (name : Text) (moment : ℕ)
-        → Meets profile p → refusal p (commands.Edition name) ≡ None → IsNewEdition name (step p (commands.Edition name) moment) }
+    ensures { (profile : Profile) (p : Package) (name : Text) (moment : ℕ) → Meets profile p
+        → refusal p (commands.Edition name) ≡ None
+        → IsNewEdition name (step p (commands.Edition name) moment) }
 {}
 
 /// A piece has the reasons, the effect and the limits of the command that it spells.
 pub fn a_piece_is_its_command()
-    ensures reasons { (p : Package) (q : Piece) → own_reasons p (piece_command q) ≡ piece_reasons p q }
-    ensures effects { (p : Package) (q : Piece) (stamp : Text) → effect p (piece_command q) stamp ≡ piece_effect p q stamp }
-    ensures limits { (profile : Profile) (q : Piece) → IsWithin profile (piece_command q) ↔ IsPieceWithin profile q }
+    ensures reasons { (p : Package) (q : Piece) → own_reasons p (piece_command q)
+        ≡ piece_reasons p q }
+    ensures effects { (p : Package) (q : Piece) (stamp : Text)
+        → effect p (piece_command q) stamp ≡ piece_effect p q stamp }
+    ensures limits { (profile : Profile) (q : Piece) → IsWithin profile (piece_command q)
+        ↔ IsPieceWithin profile q }
 {}
 
 /// A row spells a piece exactly where it is the row in which that piece is kept, column for column.
@@ -43,21 +47,29 @@ pub fn an_equal_piece_staged_again_changes_nothing()
 /// Where publishing is accepted, every piece was done in turn, and the edition is published and holds no pieces.
 pub fn an_accepted_publishing_closes_the_edition()
     ensures { (p : Package) (edition : Text) (moment : ℕ)
-        → refusal p (commands.Publish edition) ≡ None → IsPublished p edition moment (step p (commands.Publish edition) moment) }
+        → refusal p (commands.Publish edition) ≡ None
+        → IsPublished p edition moment (step p (commands.Publish edition) moment) }
 {}
 
 /// Where a piece is refused on what those before it gave, publishing is refused with 53, its number and its refusal.
 pub fn the_first_refused_piece_refuses_the_publishing()
-    ensures { (p : Package) (edition : Text) (first : FirstRefused p edition) → Has p.editions edition open_state
-        → refusal p (commands.Publish edition) ≡ Some (record { number = 53; piece = Some (unsigned_abs first.key.number, first.reason) }) }
+    ensures { (p : Package) (edition : Text) (first : FirstRefused p edition)
+        → Has p.editions edition open_state → refusal p (commands.Publish edition)
+        ≡ Some (record {
+          number = 53;
+          piece = Some
+              (unsigned_abs first.key.number, first.reason);
+        }) }
 {}
 
 /// A rehearsal changes nothing, whatever it answers.
 pub fn a_rehearsal_changes_nothing()
-    ensures { (p : Package) (edition : Text) (moment : ℕ) → step p (commands.Rehearse edition) moment ≡ p }
+    ensures { (p : Package) (edition : Text) (moment : ℕ)
+        → step p (commands.Rehearse edition) moment ≡ p }
 {}
 
 /// And it answers what publishing would.
 pub fn a_rehearsal_answers_as_publishing()
-    ensures { (p : Package) (edition : Text) → refusal p (commands.Rehearse edition) ≡ refusal p (commands.Publish edition) }
+    ensures { (p : Package) (edition : Text) → refusal p (commands.Rehearse edition)
+        ≡ refusal p (commands.Publish edition) }
 {}

@@ -11,16 +11,19 @@ ghost use Rattle.mm_laws.specs.Laws.{IsNumberedRefusal};
 
 /// Whether and why a command is refused does not depend on the moment: every stamp tells the same.
 pub fn a_refusal_needs_no_moment()
-    ensures { (p : Package) (c : Command) (one other : Text) → refusal_at p c one ≡ refusal_at p c other }
+    ensures { (p : Package) (c : Command) (one other : Text)
+        → refusal_at p c one ≡ refusal_at p c other }
 {}
 
 /// Publishing is refused at every stamp alike, at the same piece and for the same reason.
 pub fn publishing_is_refused_at_every_stamp_alike()
     ensures { (p : Package) (edition one other : Text)
-        → refused_piece (edition_trial p edition one) ≡ refused_piece (edition_trial p edition other) }
+        → refused_piece (edition_trial p edition one)
+        ≡ refused_piece (edition_trial p edition other) }
 {}
 
 /// Every refusal has a number of the table, and names a piece exactly where it is 53.
 pub fn every_refusal_has_a_number_of_the_table()
-    ensures { (p : Package) (c : Command) (r : Refusal) → refusal p c ≡ Some r → IsNumberedRefusal r }
+    ensures { (p : Package) (c : Command) (r : Refusal) → refusal p c ≡ Some r
+        → IsNumberedRefusal r }
 {}

@@ -31,5 +31,6 @@ pub fn every_run_keeps_the_rules()
 /// So does what is found after a stop, however many of the accepted commands it holds.
 pub fn every_first_part_keeps_the_rules()
     ensures { (profile : Profile) (p q : Package) (calls : List Call) (acknowledged : ℕ)
-        → Meets profile p → AllWithin profile calls → IsFirstPart p calls acknowledged q → Meets profile q }
+        → Meets profile p → AllWithin profile calls → IsFirstPart p calls acknowledged q
+        → Meets profile q }
 {}

@@ -13,7 +13,8 @@ ghost use Rattle.mm_laws.specs.Laws.{IsSetOrKept, sets_last_change};
 
 /// A refused command leaves the package as it was.
 pub fn a_refused_command_changes_nothing()
-    ensures { (p : Package) (c : Command) (moment : ℕ) (r : Refusal) → refusal p c ≡ Some r → step p c moment ≡ p }
+    ensures { (p : Package) (c : Command) (moment : ℕ) (r : Refusal) → refusal p c ≡ Some r
+        → step p c moment ≡ p }
 {}
 
 /// The accepted commands alone give what the whole list gives.
@@ -29,7 +30,8 @@ pub fn one_command_is_done_wholly_or_not_at_all()
 
 /// The last package is a first part, all of it.
 pub fn the_last_package_is_a_first_part()
-    ensures { (p : Package) (calls : List Call) → IsFirstPart p calls (length (accepted p calls)) (run p calls) }
+    ensures { (p : Package) (calls : List Call)
+        → IsFirstPart p calls (length (accepted p calls)) (run p calls) }
 {}
 
 /// Where the commands before were all acknowledged, a first part of the rest is a first part of the whole list.

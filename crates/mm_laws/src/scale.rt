@@ -15,7 +15,10 @@ pub fn the_same_package_in_the_smaller_unit_meets_the_rules()
 
 /// Under each key stands what stood there, in the smaller unit.
 pub fn each_entry_is_told_in_the_smaller_unit()
-    ensures contents { (p : Package) (table : Text) → get (scale p).contents table ≡ option_map finer_contents (get p.contents table) }
-    ensures sets { (p : Package) (table : Text) → get (scale p).sets table ≡ option_map finer_set (get p.sets table) }
-    ensures matrices { (p : Package) (k : Level) → get (scale p).matrices k ≡ option_map finer_grid (get p.matrices k) }
+    ensures contents { (p : Package) (table : Text)
+        → get (scale p).contents table ≡ option_map finer_contents (get p.contents table) }
+    ensures sets { (p : Package) (table : Text) → get (scale p).sets table
+        ≡ option_map finer_set (get p.sets table) }
+    ensures matrices { (p : Package) (k : Level) → get (scale p).matrices k
+        ≡ option_map finer_grid (get p.matrices k) }
 {}

@@ -20,7 +20,8 @@ use sqlite::{Alter, Transaction, params};
 /// Whether a table has this name.
 pub(crate) fn has_table<S: Alter>(tx: &mut Transaction<'_, S>, table: &str) -> Result<bool, Fault>
     ensures same_reference { tx.new.conn.ghost_name ≡ tx.old.conn.ghost_name }
-    ensures look { (profile : Profile) → IsLook profile (state S.Store tx.old.conn.now) (state S.Store tx.new.conn.now)
+    ensures look { (profile : Profile)
+        → IsLook profile (state S.Store tx.old.conn.now) (state S.Store tx.new.conn.now)
         (λ p found. found ≡ contains_key p.contents table.now) result }
 {
     exists(
@@ -36,7 +37,8 @@ pub(crate) fn has_identifier<S: Alter>(
     identifier: &str,
 ) -> Result<bool, Fault>
     ensures same_reference { tx.new.conn.ghost_name ≡ tx.old.conn.ghost_name }
-    ensures look { (profile : Profile) → IsLook profile (state S.Store tx.old.conn.now) (state S.Store tx.new.conn.now)
+    ensures look { (profile : Profile)
+        → IsLook profile (state S.Store tx.old.conn.now) (state S.Store tx.new.conn.now)
         (λ p found. found ≡ is_identified p identifier.now) result }
 {
     exists(
@@ -49,7 +51,8 @@ pub(crate) fn has_identifier<S: Alter>(
 /// Whether a table or a mapping has this name.
 pub fn is_taken<S: Alter>(tx: &mut Transaction<'_, S>, name: &str) -> Result<bool, Fault>
     ensures same_reference { tx.new.conn.ghost_name ≡ tx.old.conn.ghost_name }
-    ensures look { (profile : Profile) → IsLook profile (state S.Store tx.old.conn.now) (state S.Store tx.new.conn.now)
+    ensures look { (profile : Profile)
+        → IsLook profile (state S.Store tx.old.conn.now) (state S.Store tx.new.conn.now)
         (λ p found. found ≡ conditions.is_taken p name.now) result }
 {
     if has_table(tx, name)? {
@@ -67,8 +70,9 @@ pub fn set_last_change<S: Alter>(
     last_change: &str,
 ) -> Result<(), Fault>
     ensures same_reference { tx.new.conn.ghost_name ≡ tx.old.conn.ghost_name }
-    ensures change { (profile : Profile) → IsChange profile (state S.Store tx.old.conn.now)
-        (state S.Store tx.new.conn.now) (λ p. ⊤) (λ p. effects.touch p table.now last_change.now) result }
+    ensures change { (profile : Profile)
+        → IsChange profile (state S.Store tx.old.conn.now) (state S.Store tx.new.conn.now) (λ p. ⊤)
+        (λ p. effects.touch p table.now last_change.now) result }
 {
     run(
         tx,
@@ -85,8 +89,9 @@ pub fn touch<S: Alter>(
     last_change: &str,
 ) -> Result<Outcome, Fault>
     ensures same_reference { tx.new.conn.ghost_name ≡ tx.old.conn.ghost_name }
-    ensures touched { (profile : Profile) → IsTouched profile table.now last_change.now (state S.Store tx.old.conn.now)
-        (state S.Store tx.new.conn.now) result }
+    ensures touched { (profile : Profile)
+        → IsTouched profile table.now last_change.now
+        (state S.Store tx.old.conn.now) (state S.Store tx.new.conn.now) result }
 {
     let table = table.as_str();
     if !has_table(tx, table)? {
@@ -104,9 +109,13 @@ pub(crate) fn insert_plain_contents<S: Alter>(
     last_change: &str,
 ) -> Result<(), Fault>
     ensures same_reference { tx.new.conn.ghost_name ≡ tx.old.conn.ghost_name }
-    ensures change { (profile : Profile) → IsChange profile (state S.Store tx.old.conn.now)
-        (state S.Store tx.new.conn.now) (λ p. get p.contents table.now ≡ None)
-        (λ p. record p { contents = insert p.contents table.now (plain_contents identifier.now last_change.now) }) result }
+    ensures change { (profile : Profile)
+        → IsChange profile (state S.Store tx.old.conn.now) (state S.Store tx.new.conn.now)
+        (λ p. get p.contents table.now ≡ None)
+        (λ p. record p {
+          contents = insert p.contents table.now
+              (plain_contents identifier.now last_change.now);
+        }) result }
 {
     run(
         tx,

@@ -36,7 +36,8 @@ pub(crate) fn text_of_step(step: Step) -> &'static str
 /// What the registry writes of a table.
 fn registered<S: Alter>(tx: &mut Transaction<'_, S>, table: &str) -> Result<Option<String>, Fault>
     ensures same_reference { tx.new.conn.ghost_name ≡ tx.old.conn.ghost_name }
-    ensures look { (profile : Profile) → IsLook profile (state S.Store tx.old.conn.now) (state S.Store tx.new.conn.now)
+    ensures look { (profile : Profile)
+        → IsLook profile (state S.Store tx.old.conn.now) (state S.Store tx.new.conn.now)
         (λ p text. get p.kinds table.now ≡ option_map string_bytes text) result }
 {
     first_text(
@@ -49,7 +50,8 @@ fn registered<S: Alter>(tx: &mut Transaction<'_, S>, table: &str) -> Result<Opti
 /// The kind of a table, where it is registered. A text that is no kind is a fault, 91.
 pub fn kind_of<S: Alter>(tx: &mut Transaction<'_, S>, table: &str) -> Result<Option<Kind>, Fault>
     ensures same_reference { tx.new.conn.ghost_name ≡ tx.old.conn.ghost_name }
-    ensures look { (profile : Profile) → IsLook profile (state S.Store tx.old.conn.now) (state S.Store tx.new.conn.now)
+    ensures look { (profile : Profile)
+        → IsLook profile (state S.Store tx.old.conn.now) (state S.Store tx.new.conn.now)
         (λ p kind. get p.kinds table.now ≡ option_map kind_text kind) result }
 {
     match registered(tx, table)? {

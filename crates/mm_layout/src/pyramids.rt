@@ -66,9 +66,13 @@ fn insert_matrix_set<S: Alter>(
     extent: &Extent,
 ) -> Result<(), Fault>
     ensures same_reference { tx.new.conn.ghost_name ≡ tx.old.conn.ghost_name }
-    ensures change { (profile : Profile) → IsChange profile (state S.Store tx.old.conn.now)
-        (state S.Store tx.new.conn.now) (λ p. get p.sets table.now ≡ None)
-        (λ p. record p { sets = insert p.sets table.now (record { system = srs; box = box_of extent.now }) }) result }
+    ensures change { (profile : Profile)
+        → IsChange profile (state S.Store tx.old.conn.now) (state S.Store tx.new.conn.now)
+        (λ p. get p.sets table.now ≡ None)
+        (λ p. record p {
+          sets = insert p.sets table.now
+              (record { system = srs; box = box_of extent.now });
+        }) result }
 {
     run(
         tx,
@@ -95,9 +99,11 @@ fn insert_pyramid<S: Alter>(
     last_change: &str,
 ) -> Result<(), Fault>
     ensures same_reference { tx.new.conn.ghost_name ≡ tx.old.conn.ghost_name }
-    ensures change { (profile : Profile) → IsChange profile (state S.Store tx.old.conn.now)
-        (state S.Store tx.new.conn.now) (IsUnregistered table.now)
-        (λ p. with_pyramid p table.now identifier.now srs (box_of extent.now) step last_change.now) result }
+    ensures change { (profile : Profile)
+        → IsChange profile (state S.Store tx.old.conn.now) (state S.Store tx.new.conn.now)
+        (IsUnregistered table.now)
+        (λ p. with_pyramid p table.now identifier.now srs (box_of extent.now) step
+        last_change.now) result }
 {
     insert_pyramid_contents(tx, table, identifier, srs, extent, last_change)?;
     insert_kind(tx, table, text_of_step(step))?;
@@ -123,9 +129,13 @@ fn pyramid_refusal<S: Alter>(
     max_y: i64,
 ) -> Result<Option<u8>, Fault>
     ensures same_reference { tx.new.conn.ghost_name ≡ tx.old.conn.ghost_name }
-    ensures look { (profile : Profile) → IsLook profile (state S.Store tx.old.conn.now) (state S.Store tx.new.conn.now)
-        (λ p why. (step : Step) → why ≡ least (own_reasons p
-        (commands.Pyramid table.now identifier.now srs min_x min_y max_x max_y step))) result }
+    ensures look { (profile : Profile)
+        → IsLook profile (state S.Store tx.old.conn.now) (state S.Store tx.new.conn.now)
+        (λ p why. (step : Step)
+        → why ≡ least
+        (own_reasons p
+        (commands.Pyramid table.now identifier.now srs min_x min_y max_x max_y
+        step))) result }
 {
     if !has_system(tx, srs)? {
         return Ok(Some(21));

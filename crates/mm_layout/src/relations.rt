@@ -14,7 +14,8 @@ use sqlite::{Alter, Transaction, params};
 /// Whether a relation has this mapping name.
 pub fn has_relation<S: Alter>(tx: &mut Transaction<'_, S>, mapping: &str) -> Result<bool, Fault>
     ensures same_reference { tx.new.conn.ghost_name ≡ tx.old.conn.ghost_name }
-    ensures look { (profile : Profile) → IsLook profile (state S.Store tx.old.conn.now) (state S.Store tx.new.conn.now)
+    ensures look { (profile : Profile)
+        → IsLook profile (state S.Store tx.old.conn.now) (state S.Store tx.new.conn.now)
         (λ p found. found ≡ contains_key p.relations mapping.now) result }
 {
     exists(
@@ -28,7 +29,8 @@ pub fn has_relation<S: Alter>(tx: &mut Transaction<'_, S>, mapping: &str) -> Res
 /// this reads the relations, which are few, and no other rows.
 pub(crate) fn uses_table<S: Alter>(tx: &mut Transaction<'_, S>, table: &str) -> Result<bool, Fault>
     ensures same_reference { tx.new.conn.ghost_name ≡ tx.old.conn.ghost_name }
-    ensures look { (profile : Profile) → IsLook profile (state S.Store tx.old.conn.now) (state S.Store tx.new.conn.now)
+    ensures look { (profile : Profile)
+        → IsLook profile (state S.Store tx.old.conn.now) (state S.Store tx.new.conn.now)
         (λ p found. found ≡ is_used p table.now) result }
 {
     exists(

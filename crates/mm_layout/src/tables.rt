@@ -35,9 +35,10 @@ fn table_refusal<S: Alter>(
     identifier: &str,
 ) -> Result<Option<u8>, Fault>
     ensures same_reference { tx.new.conn.ghost_name ≡ tx.old.conn.ghost_name }
-    ensures look { (profile : Profile) → IsLook profile (state S.Store tx.old.conn.now) (state S.Store tx.new.conn.now)
-        (λ p why. (kind : PlainKind) → why ≡ least (own_reasons p (commands.Table table.now kind identifier.now)))
-        result }
+    ensures look { (profile : Profile)
+        → IsLook profile (state S.Store tx.old.conn.now) (state S.Store tx.new.conn.now)
+        (λ p why. (kind : PlainKind)
+        → why ≡ least (own_reasons p (commands.Table table.now kind identifier.now))) result }
 {
     if is_taken(tx, table)? {
         return Ok(Some(23));
@@ -59,7 +60,8 @@ pub fn add_table<S: Alter>(
     last_change: &str,
 ) -> Result<Outcome, Fault>
     ensures same_reference { tx.new.conn.ghost_name ≡ tx.old.conn.ghost_name }
-    ensures lent { (profile : Profile) → IsLentAt profile (commands.Table table.now kind identifier.now) last_change.now
+    ensures lent { (profile : Profile)
+        → IsLentAt profile (commands.Table table.now kind identifier.now) last_change.now
         (state S.Store tx.old.conn.now) (state S.Store tx.new.conn.now) result }
 {
     let table = table.as_str();
@@ -74,11 +76,12 @@ pub fn add_table<S: Alter>(
 /// The ids of the blobs that the tiles of a table name.
 fn blobs_of_tiles<S: Alter>(tx: &mut Transaction<'_, S>, table: &str) -> Result<Vec<Row>, Fault>
     ensures same_reference { tx.new.conn.ghost_name ≡ tx.old.conn.ghost_name }
-    ensures listed { (profile : Profile) (spare : Spare) →
-        IsMove (state S.Store tx.old.conn.now) (state S.Store tx.new.conn.now)
+    ensures listed { (profile : Profile) (spare : Spare)
+        → IsMove (state S.Store tx.old.conn.now) (state S.Store tx.new.conn.now)
         (IsSeen spare profile (state S.Store tx.old.conn.now))
         (λ base x rows y. (y ≡ x) × IsSeen spare profile (state S.Store tx.new.conn.now) base y
-        × ListsEach rows.items (Freed tile_id y.kept.tiles (λ k. is_other table.now k.table))) result }
+        × ListsEach rows.items
+        (Freed tile_id y.kept.tiles (λ k. is_other table.now k.table))) result }
 {
     all(
         tx,
@@ -90,11 +93,12 @@ fn blobs_of_tiles<S: Alter>(tx: &mut Transaction<'_, S>, table: &str) -> Result<
 /// The ids of the blobs that the media of a table name.
 fn blobs_of_media<S: Alter>(tx: &mut Transaction<'_, S>, table: &str) -> Result<Vec<Row>, Fault>
     ensures same_reference { tx.new.conn.ghost_name ≡ tx.old.conn.ghost_name }
-    ensures listed { (profile : Profile) (spare : Spare) →
-        IsMove (state S.Store tx.old.conn.now) (state S.Store tx.new.conn.now)
+    ensures listed { (profile : Profile) (spare : Spare)
+        → IsMove (state S.Store tx.old.conn.now) (state S.Store tx.new.conn.now)
         (IsSeen spare profile (state S.Store tx.old.conn.now))
         (λ base x rows y. (y ≡ x) × IsSeen spare profile (state S.Store tx.new.conn.now) base y
-        × ListsEach rows.items (Freed medium_id y.kept.media (λ k. is_other table.now k.table))) result }
+        × ListsEach rows.items
+        (Freed medium_id y.kept.media (λ k. is_other table.now k.table))) result }
 {
     all(
         tx,
@@ -107,7 +111,8 @@ fn blobs_of_media<S: Alter>(tx: &mut Transaction<'_, S>, table: &str) -> Result<
 /// the attribute rows and the media that have its name. Blobs stay that nothing names any more.
 fn delete_contents<S: Alter>(tx: &mut Transaction<'_, S>, table: &str) -> Result<(), Fault>
     ensures same_reference { tx.new.conn.ghost_name ≡ tx.old.conn.ghost_name }
-    ensures gone { (profile : Profile) (more : Spare) → IsMove (state S.Store tx.old.conn.now) (state S.Store tx.new.conn.now)
+    ensures gone { (profile : Profile) (more : Spare)
+        → IsMove (state S.Store tx.old.conn.now) (state S.Store tx.new.conn.now)
         (λ base x. IsSeen no_spare profile (state S.Store tx.old.conn.now) base x
         × ((z : ℤ) → FreedByTable table.now x.kept z → more z ≡ true))
         (λ base x _ y. (y.content ≡ without_table_rows table.now x.content)
@@ -136,7 +141,8 @@ fn delete_table<S: Alter>(tx: &mut Transaction<'_, S>, table: &str) -> Result<()
 /// Why a table is not removed, if it is not.
 fn drop_refusal<S: Alter>(tx: &mut Transaction<'_, S>, table: &str) -> Result<Option<u8>, Fault>
     ensures same_reference { tx.new.conn.ghost_name ≡ tx.old.conn.ghost_name }
-    ensures look { (profile : Profile) → IsLook profile (state S.Store tx.old.conn.now) (state S.Store tx.new.conn.now)
+    ensures look { (profile : Profile)
+        → IsLook profile (state S.Store tx.old.conn.now) (state S.Store tx.new.conn.now)
         (λ p why. why ≡ least (own_reasons p (commands.Drop table.now))) result }
 {
     if !has_table(tx, table)? {
@@ -153,7 +159,8 @@ fn drop_refusal<S: Alter>(tx: &mut Transaction<'_, S>, table: &str) -> Result<Op
 /// where no table has the name, 48 where a relation uses the table.
 pub fn drop_table<S: Alter>(tx: &mut Transaction<'_, S>, table: &Name) -> Result<Outcome, Fault>
     ensures same_reference { tx.new.conn.ghost_name ≡ tx.old.conn.ghost_name }
-    ensures lent { (profile : Profile) (moment : ℕ) → IsLent profile (commands.Drop table.now) moment
+    ensures lent { (profile : Profile) (moment : ℕ)
+        → IsLent profile (commands.Drop table.now) moment
         (state S.Store tx.old.conn.now) (state S.Store tx.new.conn.now) result }
 {
     let table = table.as_str();

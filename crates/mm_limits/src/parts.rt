@@ -33,7 +33,8 @@ fn is_given(id: i64) -> bool
 
 /// Whether the numbers of a system are within their limits, which are wider for a given one.
 fn are_system_numbers(row: &Row) -> bool
-    ensures { IsTrue result ↔ numbers_by (number_of (column row.now 0)) (number_of (column row.now 3)) }
+    ensures { IsTrue result ↔ numbers_by (number_of (column row.now 0))
+        (number_of (column row.now 3)) }
 {
     match (
         number(row, System::ID),
@@ -78,7 +79,8 @@ impl RowTest for System {
 
 /// Of rule 16, what it asks of reference systems.
 pub fn systems_within<S: Alter>(conn: &mut Connection<S>) -> Result<bool, Fault>
-    ensures { (profile : Profile) → IsCheck profile (state S.Store conn.old) (state S.Store conn.new) (λ _. ⊤)
+    ensures { (profile : Profile)
+        → IsCheck profile (state S.Store conn.old) (state S.Store conn.new) (λ _. ⊤)
         (λ p. SystemsAreWithin p) result }
 {
     each_passes(
@@ -166,7 +168,8 @@ impl RowTest for Kind {
 
 /// Of rule 16, what it asks of the registry.
 pub fn kinds_within<S: Alter>(conn: &mut Connection<S>) -> Result<bool, Fault>
-    ensures { (profile : Profile) → IsCheck profile (state S.Store conn.old) (state S.Store conn.new) (λ _. ⊤)
+    ensures { (profile : Profile)
+        → IsCheck profile (state S.Store conn.old) (state S.Store conn.new) (λ _. ⊤)
         (λ p. KindsAreWithin p) result }
 {
     each_passes(
@@ -304,7 +307,8 @@ impl RowTest for Extension {
 
 /// Of rule 16, what it asks of extension rows.
 pub fn extensions_within<S: Alter>(conn: &mut Connection<S>) -> Result<bool, Fault>
-    ensures { (profile : Profile) → IsCheck profile (state S.Store conn.old) (state S.Store conn.new) (λ _. ⊤)
+    ensures { (profile : Profile)
+        → IsCheck profile (state S.Store conn.old) (state S.Store conn.new) (λ _. ⊤)
         (λ p. ExtensionsAreWithin p) result }
 {
     each_passes(
@@ -344,7 +348,8 @@ impl RowTest for Tile {
 
 /// Of rule 16, what it asks of tiles.
 pub fn tiles_within<S: Alter>(conn: &mut Connection<S>) -> Result<bool, Fault>
-    ensures { (profile : Profile) → IsCheck profile (state S.Store conn.old) (state S.Store conn.new) (λ _. ⊤)
+    ensures { (profile : Profile)
+        → IsCheck profile (state S.Store conn.old) (state S.Store conn.new) (λ _. ⊤)
         (λ p. TilesAreWithin p) result }
 {
     each_passes(
@@ -384,7 +389,8 @@ impl RowTest for Item {
 
 /// Of rule 16, what it asks of attribute rows.
 pub fn rows_within<S: Alter>(conn: &mut Connection<S>) -> Result<bool, Fault>
-    ensures { (profile : Profile) → IsCheck profile (state S.Store conn.old) (state S.Store conn.new) (λ _. ⊤)
+    ensures { (profile : Profile)
+        → IsCheck profile (state S.Store conn.old) (state S.Store conn.new) (λ _. ⊤)
         (λ p. RowsAreWithin p) result }
 {
     each_passes(
@@ -421,7 +427,8 @@ impl RowTest for Medium {
 
 /// Of rule 16, what it asks of media.
 pub fn media_within<S: Alter>(conn: &mut Connection<S>) -> Result<bool, Fault>
-    ensures { (profile : Profile) → IsCheck profile (state S.Store conn.old) (state S.Store conn.new) (λ _. ⊤)
+    ensures { (profile : Profile)
+        → IsCheck profile (state S.Store conn.old) (state S.Store conn.new) (λ _. ⊤)
         (λ p. MediaAreWithin p) result }
 {
     each_passes(
@@ -464,7 +471,8 @@ impl RowTest for Relation {
 
 /// Of rule 16, what it asks of relations.
 pub fn relations_within<S: Alter>(conn: &mut Connection<S>) -> Result<bool, Fault>
-    ensures { (profile : Profile) → IsCheck profile (state S.Store conn.old) (state S.Store conn.new) (λ _. ⊤)
+    ensures { (profile : Profile)
+        → IsCheck profile (state S.Store conn.old) (state S.Store conn.new) (λ _. ⊤)
         (λ p. RelationsAreWithin p) result }
 {
     each_passes(
@@ -498,7 +506,8 @@ impl RowTest for Pairing {
 
 /// Of rule 16, what it asks of mapping rows.
 pub fn pairings_within<S: Alter>(conn: &mut Connection<S>) -> Result<bool, Fault>
-    ensures { (profile : Profile) → IsCheck profile (state S.Store conn.old) (state S.Store conn.new) (λ _. ⊤)
+    ensures { (profile : Profile)
+        → IsCheck profile (state S.Store conn.old) (state S.Store conn.new) (λ _. ⊤)
         (λ p. PairingsAreWithin p) result }
 {
     each_passes(
@@ -528,7 +537,8 @@ impl RowTest for Edition {
 
 /// Of rule 16, what it asks of editions.
 pub fn editions_within<S: Alter>(conn: &mut Connection<S>) -> Result<bool, Fault>
-    ensures { (profile : Profile) → IsCheck profile (state S.Store conn.old) (state S.Store conn.new) (λ _. ⊤)
+    ensures { (profile : Profile)
+        → IsCheck profile (state S.Store conn.old) (state S.Store conn.new) (λ _. ⊤)
         (λ p. EditionsAreWithin p) result }
 {
     each_passes(
@@ -558,7 +568,8 @@ impl RowTest for Piece {
 
 /// Of rule 16, what it asks of staged pieces.
 pub fn pieces_within<S: Alter>(conn: &mut Connection<S>) -> Result<bool, Fault>
-    ensures { (profile : Profile) → IsCheck profile (state S.Store conn.old) (state S.Store conn.new) (λ _. ⊤)
+    ensures { (profile : Profile)
+        → IsCheck profile (state S.Store conn.old) (state S.Store conn.new) (λ _. ⊤)
         (λ p. PiecesAreWithin p) result }
 {
     each_passes(
@@ -573,7 +584,8 @@ pub fn pieces_within<S: Alter>(conn: &mut Connection<S>) -> Result<bool, Fault>
 fn one_limit<S: Alter>(conn: &mut Connection<S>, unit: Unit, k: u8) -> Result<bool, Fault>
     requires low { 1 ≤ k }
     requires high { k < 14 }
-    ensures { IsCheck (profile_of unit) (state S.Store conn.old) (state S.Store conn.new) (λ _. ⊤) (part (profile_of unit) k) result }
+    ensures { IsCheck (profile_of unit) (state S.Store conn.old) (state S.Store conn.new) (λ _. ⊤)
+        (part (profile_of unit) k) result }
 {
     match k {
         1 => systems_within(conn),

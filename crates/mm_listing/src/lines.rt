@@ -41,7 +41,8 @@ fn left_over<'a>(places: &'a [u8], text: &[u8]) -> &'a [u8]
 
 /// Appends a text, left in these places, and a space.
 fn put_left(line: &mut Line, text: &[u8], places: &[u8]) -> Result<(), Fault>
-    ensures put { OnOk result (line.new.items ≡ line.old.items ++ left_in places.now text.now ++ codes " ") }
+    ensures put { OnOk result
+        (line.new.items ≡ line.old.items ++ left_in places.now text.now ++ codes " ") }
     ensures fault { IfErr result IsStoreFault }
 {
     put(line, text)?;
@@ -51,7 +52,9 @@ fn put_left(line: &mut Line, text: &[u8], places: &[u8]) -> Result<(), Fault>
 
 /// Appends a number, right in the places of a count, and a space.
 fn put_count(line: &mut Line, count: u64) -> Result<(), Fault>
-    ensures put { OnOk result (line.new.items ≡ line.old.items ++ right_in (codes "          ") (decimal count) ++ codes " ") }
+    ensures put { OnOk result
+        (line.new.items ≡ line.old.items ++ right_in (codes "          ") (decimal count)
+        ++ codes " ") }
     ensures fault { IfErr result IsStoreFault }
 {
     let mut buffer = Buffer::new();
@@ -69,9 +72,11 @@ fn put_table(
     count: u64,
     time: &[u8],
 ) -> Result<(), Fault>
-    ensures put { OnOk result (line.new.items ≡ line.old.items ++ left_in (codes "                        ") name.now ++ codes " "
-        ++ left_in (codes "          ") kind.now ++ codes " "
-        ++ right_in (codes "          ") (decimal count) ++ codes " " ++ time.now ++ codes " ") }
+    ensures put { OnOk result
+        (line.new.items ≡ line.old.items ++ left_in (codes "                        ") name.now
+        ++ codes " " ++ left_in (codes "          ") kind.now ++ codes " "
+        ++ right_in (codes "          ") (decimal count) ++ codes " " ++ time.now
+        ++ codes " ") }
     ensures fault { IfErr result IsStoreFault }
 {
     put_left(line, name, NAME)?;
@@ -90,7 +95,8 @@ pub(crate) fn table_line(
     time: &[u8],
     identifier: &[u8],
 ) -> Result<Line, Fault>
-    ensures line { IfOk result (λ line. line.items ≡ table_text name.now kind.now count time.now identifier.now) }
+    ensures line { IfOk result
+        (λ line. line.items ≡ table_text name.now kind.now count time.now identifier.now) }
     ensures fault { IfErr result IsStoreFault }
 {
     let mut line = ArrayVec::new();

@@ -17,7 +17,8 @@ use std::io::Write;
 
 /// Writes a line, and goes on.
 fn send_line<W: Write>(output: &mut Io<W>, line: &[u8]) -> Result<bool, Fault>
-    ensures { SendsLine (written W.contents output.old) (written W.contents output.new) line.now result }
+    ensures { SendsLine (written W.contents output.old) (written W.contents output.new)
+        line.now result }
 {
     match send(output, line) {
         Sent::Flushed => Ok(true),
@@ -74,7 +75,8 @@ fn show_tables<S: Alter, W: Write>(
     requires { conn.old.in_transaction ≡ false }
     ensures same_reference { lines.new.output.ghost_name ≡ lines.old.output.ghost_name }
     ensures mode { conn.new.in_transaction ≡ false }
-    ensures listed { (profile : Profile) → IsListed profile table_lines (state S.Store conn.old) (state S.Store conn.new)
+    ensures listed { (profile : Profile)
+        → IsListed profile table_lines (state S.Store conn.old) (state S.Store conn.new)
         (written W.contents lines.old.output.now) (written W.contents lines.new.output.now) result }
 {
     walk(
@@ -93,7 +95,8 @@ fn list_tables<S: Alter, W: Write>(
 ) -> Result<(), Fault>
     requires { conn.old.in_transaction ≡ false }
     ensures mode { conn.new.in_transaction ≡ false }
-    ensures listed { (profile : Profile) → IsListed profile table_lines (state S.Store conn.old) (state S.Store conn.new)
+    ensures listed { (profile : Profile)
+        → IsListed profile table_lines (state S.Store conn.old) (state S.Store conn.new)
         (written W.contents output.old) (written W.contents output.new) result }
 {
     let mut lines = TableLines { output };
@@ -112,7 +115,8 @@ fn show_editions<S: Alter, W: Write>(
     requires { conn.old.in_transaction ≡ false }
     ensures same_reference { lines.new.output.ghost_name ≡ lines.old.output.ghost_name }
     ensures mode { conn.new.in_transaction ≡ false }
-    ensures listed { (profile : Profile) → IsListed profile editions (state S.Store conn.old) (state S.Store conn.new)
+    ensures listed { (profile : Profile)
+        → IsListed profile editions (state S.Store conn.old) (state S.Store conn.new)
         (written W.contents lines.old.output.now) (written W.contents lines.new.output.now) result }
 {
     walk(
@@ -131,7 +135,8 @@ fn list_editions<S: Alter, W: Write>(
 ) -> Result<(), Fault>
     requires { conn.old.in_transaction ≡ false }
     ensures mode { conn.new.in_transaction ≡ false }
-    ensures listed { (profile : Profile) → IsListed profile editions (state S.Store conn.old) (state S.Store conn.new)
+    ensures listed { (profile : Profile)
+        → IsListed profile editions (state S.Store conn.old) (state S.Store conn.new)
         (written W.contents output.old) (written W.contents output.new) result }
 {
     let mut lines = EditionLines { output };
@@ -153,7 +158,8 @@ fn list_editions<S: Alter, W: Write>(
 pub fn list<S: Alter, W: Write>(conn: &mut Connection<S>, output: &mut Io<W>) -> Result<(), Fault>
     requires { conn.old.in_transaction ≡ false }
     ensures mode { conn.new.in_transaction ≡ false }
-    ensures listed { (profile : Profile) → IsListed profile listing (state S.Store conn.old) (state S.Store conn.new)
+    ensures listed { (profile : Profile)
+        → IsListed profile listing (state S.Store conn.old) (state S.Store conn.new)
         (written W.contents output.old) (written W.contents output.new) result }
 {
     list_tables(conn, output)?;

@@ -40,8 +40,8 @@ fn first_extent<S: Alter>(
     params: &[ValueRef<'_>],
 ) -> Result<Option<Extent>, Fault>
     ensures same_reference { tx.new.conn.ghost_name ≡ tx.old.conn.ghost_name }
-    ensures asked { IsAsked (state S.Store tx.old.conn.now) (state S.Store tx.new.conn.now) sql.now (bound params.now)
-        (λ it first. GivesExtent it first) result }
+    ensures asked { IsAsked (state S.Store tx.old.conn.now) (state S.Store tx.new.conn.now) sql.now
+        (bound params.now) (λ it first. GivesExtent it first) result }
 {
     match first(tx, sql, params)? {
         Some(row) => match extent_in(&row) {
@@ -55,8 +55,10 @@ fn first_extent<S: Alter>(
 /// The extent of a pyramid, where it has a matrix set.
 fn extent_of<S: Alter>(tx: &mut Transaction<'_, S>, table: &str) -> Result<Option<Extent>, Fault>
     ensures same_reference { tx.new.conn.ghost_name ≡ tx.old.conn.ghost_name }
-    ensures look { (profile : Profile) → IsLook profile (state S.Store tx.old.conn.now) (state S.Store tx.new.conn.now)
-        (λ p extent. option_map (λ (s : MatrixSet). s.box) (get p.sets table.now) ≡ option_map box_of extent) result }
+    ensures look { (profile : Profile)
+        → IsLook profile (state S.Store tx.old.conn.now) (state S.Store tx.new.conn.now)
+        (λ p extent. option_map (λ (s : MatrixSet). s.box) (get p.sets table.now)
+        ≡ option_map box_of extent) result }
 {
     first_extent(
         tx,
@@ -72,8 +74,10 @@ pub(crate) fn fits_pyramid<S: Alter>(
     matrix: &Matrix,
 ) -> Result<bool, Fault>
     ensures same_reference { tx.new.conn.ghost_name ≡ tx.old.conn.ghost_name }
-    ensures look { (profile : Profile) → IsLook profile (state S.Store tx.old.conn.now) (state S.Store tx.new.conn.now)
-        (λ p covers. (s : MatrixSet) × Has p.sets table.now s × (covers ≡ is_product s.box (grid matrix.now))) result }
+    ensures look { (profile : Profile)
+        → IsLook profile (state S.Store tx.old.conn.now) (state S.Store tx.new.conn.now)
+        (λ p covers. (s : MatrixSet) × Has p.sets table.now s
+        × (covers ≡ is_product s.box (grid matrix.now))) result }
 {
     match extent_of(tx, table)? {
         Some(extent) => Ok(fits(&extent, matrix)),

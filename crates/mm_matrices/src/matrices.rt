@@ -25,7 +25,8 @@ use sqlite::{Alter, Transaction, params};
 /// Whether a matrix stands at this zoom of a table.
 fn has_matrix<S: Alter>(tx: &mut Transaction<'_, S>, table: &str, zoom: u8) -> Result<bool, Fault>
     ensures same_reference { tx.new.conn.ghost_name ≡ tx.old.conn.ghost_name }
-    ensures look { (profile : Profile) → IsLook profile (state S.Store tx.old.conn.now) (state S.Store tx.new.conn.now)
+    ensures look { (profile : Profile)
+        → IsLook profile (state S.Store tx.old.conn.now) (state S.Store tx.new.conn.now)
         (λ p found. found ≡ contains_key p.matrices (level table.now (pos zoom))) result }
 {
     exists(
@@ -43,9 +44,13 @@ fn insert_matrix<S: Alter>(
     matrix: &Matrix,
 ) -> Result<(), Fault>
     ensures same_reference { tx.new.conn.ghost_name ≡ tx.old.conn.ghost_name }
-    ensures change { (profile : Profile) → IsChange profile (state S.Store tx.old.conn.now)
-        (state S.Store tx.new.conn.now) (λ p. get p.matrices (level table.now (pos zoom)) ≡ None)
-        (λ p. record p { matrices = insert p.matrices (level table.now (pos zoom)) (grid matrix.now) }) result }
+    ensures change { (profile : Profile)
+        → IsChange profile (state S.Store tx.old.conn.now) (state S.Store tx.new.conn.now)
+        (λ p. get p.matrices (level table.now (pos zoom)) ≡ None)
+        (λ p. record p {
+          matrices = insert p.matrices (level table.now (pos zoom))
+              (grid matrix.now);
+        }) result }
 {
     run(
         tx,
@@ -82,8 +87,10 @@ fn matrix_refusal<S: Alter>(
     matrix: &Matrix,
 ) -> Result<Option<u8>, Fault>
     ensures same_reference { tx.new.conn.ghost_name ≡ tx.old.conn.ghost_name }
-    ensures look { (profile : Profile) → IsLook profile (state S.Store tx.old.conn.now) (state S.Store tx.new.conn.now)
-        (λ p why. Meets profile p → why ≡ least (own_reasons p (commands.Matrix table.now zoom matrix.now))) result }
+    ensures look { (profile : Profile)
+        → IsLook profile (state S.Store tx.old.conn.now) (state S.Store tx.new.conn.now)
+        (λ p why. Meets profile p
+        → why ≡ least (own_reasons p (commands.Matrix table.now zoom matrix.now))) result }
 {
     let Some(kind) = kind_of(tx, table)? else {
         return Ok(Some(25));
@@ -117,7 +124,8 @@ pub fn add_matrix<S: Alter>(
     last_change: &str,
 ) -> Result<Outcome, Fault>
     ensures same_reference { tx.new.conn.ghost_name ≡ tx.old.conn.ghost_name }
-    ensures lent { (profile : Profile) → IsLentAt profile (commands.Matrix table.now zoom matrix.now) last_change.now
+    ensures lent { (profile : Profile)
+        → IsLentAt profile (commands.Matrix table.now zoom matrix.now) last_change.now
         (state S.Store tx.old.conn.now) (state S.Store tx.new.conn.now) result }
 {
     let table = table.as_str();

@@ -106,8 +106,8 @@ fn first_zoomed<S: Alter>(
     params: &[ValueRef<'_>],
 ) -> Result<Option<(u8, Matrix)>, Fault>
     ensures same_reference { tx.new.conn.ghost_name ≡ tx.old.conn.ghost_name }
-    ensures asked { IsAsked (state S.Store tx.old.conn.now) (state S.Store tx.new.conn.now) sql.now (bound params.now)
-        (λ it first. GivesZoomed it first) result }
+    ensures asked { IsAsked (state S.Store tx.old.conn.now) (state S.Store tx.new.conn.now) sql.now
+        (bound params.now) (λ it first. GivesZoomed it first) result }
 {
     match first(tx, sql, params)? {
         Some(row) => Ok(Some(zoomed_in(&row)?)),
@@ -122,7 +122,8 @@ fn nearest_below<S: Alter>(
     zoom: u8,
 ) -> Result<Option<(u8, Matrix)>, Fault>
     ensures same_reference { tx.new.conn.ghost_name ≡ tx.old.conn.ghost_name }
-    ensures look { (profile : Profile) → IsLook profile (state S.Store tx.old.conn.now) (state S.Store tx.new.conn.now)
+    ensures look { (profile : Profile)
+        → IsLook profile (state S.Store tx.old.conn.now) (state S.Store tx.new.conn.now)
         (λ p below. IsNearestBelow p.matrices table.now (pos zoom) (zoomed below)) result }
 {
     first_zoomed(
@@ -139,7 +140,8 @@ fn nearest_above<S: Alter>(
     zoom: u8,
 ) -> Result<Option<(u8, Matrix)>, Fault>
     ensures same_reference { tx.new.conn.ghost_name ≡ tx.old.conn.ghost_name }
-    ensures look { (profile : Profile) → IsLook profile (state S.Store tx.old.conn.now) (state S.Store tx.new.conn.now)
+    ensures look { (profile : Profile)
+        → IsLook profile (state S.Store tx.old.conn.now) (state S.Store tx.new.conn.now)
         (λ p above. IsNearestAbove p.matrices table.now (pos zoom) (zoomed above)) result }
 {
     first_zoomed(
@@ -158,10 +160,13 @@ pub(crate) fn suits_zooms<S: Alter>(
     step: Step,
 ) -> Result<bool, Fault>
     ensures same_reference { tx.new.conn.ghost_name ≡ tx.old.conn.ghost_name }
-    ensures look { (profile : Profile) → IsLook profile (state S.Store tx.old.conn.now) (state S.Store tx.new.conn.now)
+    ensures look { (profile : Profile)
+        → IsLook profile (state S.Store tx.old.conn.now) (state S.Store tx.new.conn.now)
         (λ p suits. (below : Option Zoomed) × (above : Option Zoomed)
-        × IsNearestBelow p.matrices table.now (pos zoom) below × IsNearestAbove p.matrices table.now (pos zoom) above
-        × (suits ≡ spec.neighbours below (pos zoom) (grid matrix.now) above (is_halved step))) result }
+        × IsNearestBelow p.matrices table.now (pos zoom) below
+        × IsNearestAbove p.matrices table.now (pos zoom) above
+        × (suits ≡ spec.neighbours below (pos zoom) (grid matrix.now) above
+        (is_halved step))) result }
 {
     let below = nearest_below(tx, table, zoom)?;
     let above = nearest_above(tx, table, zoom)?;

@@ -82,9 +82,11 @@ fn migrate_on<S: Alter>(conn: &mut Connection<S>) -> Result<(), Open>
 pub fn migrate<S: Alter>(conn: Connection<S>) -> Result<Connection<S>, (Connection<S>, Open)>
     requires { conn.in_transaction ≡ false }
     ensures mode { IfOk result (λ now. now.in_transaction ≡ false) }
-    ensures migrated { IfOk result (λ now. IsMigration (state S.Store conn) (state S.Store now) (Ok tt)) }
+    ensures migrated { IfOk result
+        (λ now. IsMigration (state S.Store conn) (state S.Store now) (Ok tt)) }
     ensures handed_back { IfErr result (λ e. e.0.in_transaction ≡ false) }
-    ensures not_migrated { IfErr result (λ e. IsMigration (state S.Store conn) (state S.Store e.0) (Err e.1)) }
+    ensures not_migrated { IfErr result
+        (λ e. IsMigration (state S.Store conn) (state S.Store e.0) (Err e.1)) }
 {
     let mut conn = conn;
     match migrate_on(&mut conn) {

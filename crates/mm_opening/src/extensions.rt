@@ -14,9 +14,11 @@ use sqlite::{Alter, Transaction, params};
 /// Puts the extension row of a mapping, or that of the list of mappings. (Related Tables Extension.)
 pub fn insert_related_row<S: Alter>(tx: &mut Transaction<'_, S>, table: &str) -> Result<(), Fault>
     ensures same_reference { tx.new.conn.ghost_name ≡ tx.old.conn.ghost_name }
-    ensures change { (profile : Profile) → IsChange profile (state S.Store tx.old.conn.now)
-        (state S.Store tx.new.conn.now) (λ p. get p.extensions (mapping_extension table.now) ≡ None)
-        (λ p. record p { extensions = insert p.extensions (mapping_extension table.now) 1 }) result }
+    ensures change { (profile : Profile)
+        → IsChange profile (state S.Store tx.old.conn.now) (state S.Store tx.new.conn.now)
+        (λ p. get p.extensions (mapping_extension table.now) ≡ None)
+        (λ p. record p
+        { extensions = insert p.extensions (mapping_extension table.now) 1 }) result }
 {
     run(
         tx,

@@ -19,7 +19,8 @@ use sqlite::{Alter, Connection, Transaction};
 /// Puts the profile's row and the three given systems into tables without a row.
 fn put_systems<S: Alter>(tx: &mut Transaction<'_, S>) -> Result<(), Fault>
     ensures same_reference { tx.new.conn.ghost_name ≡ tx.old.conn.ghost_name }
-    ensures made { IsMaking schema (state S.Store tx.old.conn.now) (state S.Store tx.new.conn.now) current given_systems result }
+    ensures made { IsMaking schema (state S.Store tx.old.conn.now) (state S.Store tx.new.conn.now)
+        current given_systems result }
 {
     insert_profile(tx, 2)?;
     insert_system(
@@ -54,7 +55,8 @@ fn put_systems<S: Alter>(tx: &mut Transaction<'_, S>) -> Result<(), Fault>
 /// Makes the tables where there is none, and puts what every package has into them.
 fn make<S: Alter>(tx: &mut Transaction<'_, S>) -> Result<(), Fault>
     ensures same_reference { tx.new.conn.ghost_name ≡ tx.old.conn.ghost_name }
-    ensures made { IsMaking (first_tables 0) (state S.Store tx.old.conn.now) (state S.Store tx.new.conn.now) current opening result }
+    ensures made { IsMaking (first_tables 0)
+        (state S.Store tx.old.conn.now) (state S.Store tx.new.conn.now) current opening result }
 {
     create_tables(tx)?;
     put_systems(tx)?;

@@ -21,8 +21,9 @@ pub(crate) fn insert_profile<S: Alter>(
     version: i64,
 ) -> Result<(), Fault>
     ensures same_reference { tx.new.conn.ghost_name ≡ tx.old.conn.ghost_name }
-    ensures made { (profile : Profile) → profile.version ≡ version →
-        IsMaking schema (state S.Store tx.old.conn.now) (state S.Store tx.new.conn.now) profile nothing result }
+    ensures made { (profile : Profile) → profile.version ≡ version
+        → IsMaking schema (state S.Store tx.old.conn.now) (state S.Store tx.new.conn.now) profile
+        nothing result }
 {
     run(
         tx,
@@ -33,7 +34,8 @@ pub(crate) fn insert_profile<S: Alter>(
 
 /// The number in a column, if it holds one.
 fn number_in(row: &Row, at: usize) -> Result<Option<i64>, Fault>
-    ensures number { IfOk result (λ found. MatchOption found ((number : ℤ) → column row.now at ≢ Int number)
+    ensures number { IfOk result
+        (λ found. MatchOption found ((number : ℤ) → column row.now at ≢ Int number)
         (λ number. column row.now at ≡ Int number)) }
     ensures fault { IfErr result (λ fault. fault ≡ memory) }
 {

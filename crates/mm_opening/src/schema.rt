@@ -13,7 +13,8 @@ use sqlite::{Alter, Transaction};
 /// Makes the tables of systems, contents, matrix sets and matrices.
 fn create_pyramid_tables<S: Alter>(tx: &mut Transaction<'_, S>) -> Result<(), Fault>
     ensures same_reference { tx.new.conn.ghost_name ≡ tx.old.conn.ghost_name }
-    ensures made { IsCreating (first_tables 0) (state S.Store tx.old.conn.now) (state S.Store tx.new.conn.now) (first_tables 4) result }
+    ensures made { IsCreating (first_tables 0)
+        (state S.Store tx.old.conn.now) (state S.Store tx.new.conn.now) (first_tables 4) result }
 {
     run(
         tx,
@@ -40,7 +41,8 @@ fn create_pyramid_tables<S: Alter>(tx: &mut Transaction<'_, S>) -> Result<(), Fa
 /// Makes the tables of extensions, relations and the profile.
 fn create_further_tables<S: Alter>(tx: &mut Transaction<'_, S>) -> Result<(), Fault>
     ensures same_reference { tx.new.conn.ghost_name ≡ tx.old.conn.ghost_name }
-    ensures made { IsCreating (first_tables 4) (state S.Store tx.old.conn.now) (state S.Store tx.new.conn.now) (first_tables 7) result }
+    ensures made { IsCreating (first_tables 4)
+        (state S.Store tx.old.conn.now) (state S.Store tx.new.conn.now) (first_tables 7) result }
 {
     run(
         tx,
@@ -62,7 +64,8 @@ fn create_further_tables<S: Alter>(tx: &mut Transaction<'_, S>) -> Result<(), Fa
 /// Makes the tables of kinds, tiles, attribute rows and media.
 fn create_content_tables<S: Alter>(tx: &mut Transaction<'_, S>) -> Result<(), Fault>
     ensures same_reference { tx.new.conn.ghost_name ≡ tx.old.conn.ghost_name }
-    ensures made { IsCreating (first_tables 7) (state S.Store tx.old.conn.now) (state S.Store tx.new.conn.now) (first_tables 11) result }
+    ensures made { IsCreating (first_tables 7)
+        (state S.Store tx.old.conn.now) (state S.Store tx.new.conn.now) (first_tables 11) result }
 {
     run(
         tx,
@@ -89,7 +92,8 @@ fn create_content_tables<S: Alter>(tx: &mut Transaction<'_, S>) -> Result<(), Fa
 /// Makes the tables of mapping rows, editions and pieces.
 fn create_edition_tables<S: Alter>(tx: &mut Transaction<'_, S>) -> Result<(), Fault>
     ensures same_reference { tx.new.conn.ghost_name ≡ tx.old.conn.ghost_name }
-    ensures made { IsCreating (first_tables 11) (state S.Store tx.old.conn.now) (state S.Store tx.new.conn.now) (first_tables 14) result }
+    ensures made { IsCreating (first_tables 11)
+        (state S.Store tx.old.conn.now) (state S.Store tx.new.conn.now) (first_tables 14) result }
 {
     run(
         tx,
@@ -111,7 +115,8 @@ fn create_edition_tables<S: Alter>(tx: &mut Transaction<'_, S>) -> Result<(), Fa
 /// Makes the table of blobs, and the indexes that find a blob by its digest and what names it.
 fn create_blob_table<S: Alter>(tx: &mut Transaction<'_, S>) -> Result<(), Fault>
     ensures same_reference { tx.new.conn.ghost_name ≡ tx.old.conn.ghost_name }
-    ensures made { IsCreating (first_tables 14) (state S.Store tx.old.conn.now) (state S.Store tx.new.conn.now) with_pieces result }
+    ensures made { IsCreating (first_tables 14)
+        (state S.Store tx.old.conn.now) (state S.Store tx.new.conn.now) with_pieces result }
 {
     run(
         tx,
@@ -127,7 +132,8 @@ fn create_blob_table<S: Alter>(tx: &mut Transaction<'_, S>) -> Result<(), Fault>
 /// Makes the index that finds the mapping rows of a relation by their related id.
 fn create_mapping_index<S: Alter>(tx: &mut Transaction<'_, S>) -> Result<(), Fault>
     ensures same_reference { tx.new.conn.ghost_name ≡ tx.old.conn.ghost_name }
-    ensures made { IsCreating with_pieces (state S.Store tx.old.conn.now) (state S.Store tx.new.conn.now) schema result }
+    ensures made { IsCreating with_pieces
+        (state S.Store tx.old.conn.now) (state S.Store tx.new.conn.now) schema result }
 {
     run(
         tx,
@@ -139,7 +145,8 @@ fn create_mapping_index<S: Alter>(tx: &mut Transaction<'_, S>) -> Result<(), Fau
 /// Makes the 15 tables and the five indexes where there is none.
 pub(crate) fn create_tables<S: Alter>(tx: &mut Transaction<'_, S>) -> Result<(), Fault>
     ensures same_reference { tx.new.conn.ghost_name ≡ tx.old.conn.ghost_name }
-    ensures made { IsCreating (first_tables 0) (state S.Store tx.old.conn.now) (state S.Store tx.new.conn.now) schema result }
+    ensures made { IsCreating (first_tables 0)
+        (state S.Store tx.old.conn.now) (state S.Store tx.new.conn.now) schema result }
 {
     create_pyramid_tables(tx)?;
     create_further_tables(tx)?;

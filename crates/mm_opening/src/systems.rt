@@ -61,9 +61,10 @@ pub fn add_srs<S: Alter>(
     description: &str,
 ) -> Result<Outcome, Fault>
     ensures same_reference { tx.new.conn.ghost_name ≡ tx.old.conn.ghost_name }
-    ensures lent { (profile : Profile) (moment : ℕ) → IsLent profile
-        (commands.Srs id name.now organization.now organization_id definition.now description.now) moment
-        (state S.Store tx.old.conn.now) (state S.Store tx.new.conn.now) result }
+    ensures lent { (profile : Profile) (moment : ℕ)
+        → IsLent profile
+        (commands.Srs id name.now organization.now organization_id definition.now description.now)
+        moment (state S.Store tx.old.conn.now) (state S.Store tx.new.conn.now) result }
 {
     if has_system(tx, id)? {
         return Ok(Outcome::refused(20));

@@ -27,9 +27,13 @@ pub fn read_tile<S: Alter>(
     row: u32,
 ) -> Result<Option<Vec<u8>>, Fault>
     ensures same { must_reopen session.new ≡ must_reopen session.old }
-    ensures kept { LeavesPackage (state S.Store (held session.old)) (state S.Store (held session.new)) }
-    ensures value { ShowsPart (IsOn (must_reopen session.old) (state S.Store (held session.old)) (state S.Store (held session.new)))
-        (option_map (λ v. v.items)) (λ p. get p.tiles (keys.tile table.now (pos zoom) (pos column) (pos row))) result }
+    ensures kept { LeavesPackage
+        (state S.Store (held session.old)) (state S.Store (held session.new)) }
+    ensures value { ShowsPart
+        (IsOn (must_reopen session.old)
+        (state S.Store (held session.old)) (state S.Store (held session.new)))
+        (option_map (λ v. v.items))
+        (λ p. get p.tiles (keys.tile table.now (pos zoom) (pos column) (pos row))) result }
     ensures fault { IfErr result (IsPageFault (must_reopen session.old)) }
 {
     session.tile(table, zoom, column, row)
@@ -42,8 +46,11 @@ pub fn read_media<S: Alter>(
     id: i64,
 ) -> Result<Option<Media>, Fault>
     ensures same { must_reopen session.new ≡ must_reopen session.old }
-    ensures kept { LeavesPackage (state S.Store (held session.old)) (state S.Store (held session.new)) }
-    ensures value { ShowsPart (IsOn (must_reopen session.old) (state S.Store (held session.old)) (state S.Store (held session.new)))
+    ensures kept { LeavesPackage
+        (state S.Store (held session.old)) (state S.Store (held session.new)) }
+    ensures value { ShowsPart
+        (IsOn (must_reopen session.old)
+        (state S.Store (held session.old)) (state S.Store (held session.new)))
         (option_map shown_medium) (λ p. get p.media (item table.now id)) result }
     ensures fault { IfErr result (IsPageFault (must_reopen session.old)) }
 {
@@ -57,8 +64,11 @@ pub fn read_mates<S: Alter>(
     id: i64,
 ) -> Result<Option<Vec<Related>>, Fault>
     ensures same { must_reopen session.new ≡ must_reopen session.old }
-    ensures kept { LeavesPackage (state S.Store (held session.old)) (state S.Store (held session.new)) }
-    ensures value { ShowsPart (IsOn (must_reopen session.old) (state S.Store (held session.old)) (state S.Store (held session.new)))
+    ensures kept { LeavesPackage
+        (state S.Store (held session.old)) (state S.Store (held session.new)) }
+    ensures value { ShowsPart
+        (IsOn (must_reopen session.old)
+        (state S.Store (held session.old)) (state S.Store (held session.new)))
         (option_map (λ v. map mate_told v.items)) (λ p. mates p table.now id) result }
     ensures fault { IfErr result (IsPageFault (must_reopen session.old)) }
 {
@@ -68,8 +78,11 @@ pub fn read_mates<S: Alter>(
 /// The tables by rising name.
 pub fn read_tables<S: Alter>(session: &mut Session<S>) -> Result<Vec<Entry>, Fault>
     ensures same { must_reopen session.new ≡ must_reopen session.old }
-    ensures kept { LeavesPackage (state S.Store (held session.old)) (state S.Store (held session.new)) }
-    ensures value { ShowsPart (IsOn (must_reopen session.old) (state S.Store (held session.old)) (state S.Store (held session.new)))
+    ensures kept { LeavesPackage
+        (state S.Store (held session.old)) (state S.Store (held session.new)) }
+    ensures value { ShowsPart
+        (IsOn (must_reopen session.old)
+        (state S.Store (held session.old)) (state S.Store (held session.new)))
         (λ v. map listing.table_told v.items) shown_tables result }
     ensures fault { IfErr result (IsPageFault (must_reopen session.old)) }
 {

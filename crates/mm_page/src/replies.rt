@@ -39,9 +39,13 @@ fn tile_reply<S: Alter>(
     row: u32,
 ) -> Result<Vec<u8>, Fault>
     ensures same { must_reopen session.new ≡ must_reopen session.old }
-    ensures kept { LeavesPackage (state S.Store (held session.old)) (state S.Store (held session.new)) }
-    ensures reply { ShowsPart (IsOn (must_reopen session.old) (state S.Store (held session.old)) (state S.Store (held session.new)))
-        (λ v. v.items) (λ p. response_of (reply_of p (page.Tile table.now (pos zoom) (pos column) (pos row)))) result }
+    ensures kept { LeavesPackage
+        (state S.Store (held session.old)) (state S.Store (held session.new)) }
+    ensures reply { ShowsPart
+        (IsOn (must_reopen session.old)
+        (state S.Store (held session.old)) (state S.Store (held session.new))) (λ v. v.items)
+        (λ p. response_of
+        (reply_of p (page.Tile table.now (pos zoom) (pos column) (pos row)))) result }
     ensures fault { IfErr result (IsPageFault (must_reopen session.old)) }
 {
     match read_tile(session, table, zoom, column, row)? {
@@ -57,9 +61,12 @@ fn media_reply<S: Alter>(
     id: i64,
 ) -> Result<Vec<u8>, Fault>
     ensures same { must_reopen session.new ≡ must_reopen session.old }
-    ensures kept { LeavesPackage (state S.Store (held session.old)) (state S.Store (held session.new)) }
-    ensures reply { ShowsPart (IsOn (must_reopen session.old) (state S.Store (held session.old)) (state S.Store (held session.new)))
-        (λ v. v.items) (λ p. response_of (reply_of p (page.Media table.now id))) result }
+    ensures kept { LeavesPackage
+        (state S.Store (held session.old)) (state S.Store (held session.new)) }
+    ensures reply { ShowsPart
+        (IsOn (must_reopen session.old)
+        (state S.Store (held session.old)) (state S.Store (held session.new))) (λ v. v.items)
+        (λ p. response_of (reply_of p (page.Media table.now id))) result }
     ensures fault { IfErr result (IsPageFault (must_reopen session.old)) }
 {
     match read_media(session, table, id)? {
@@ -75,9 +82,12 @@ fn related_reply<S: Alter>(
     id: i64,
 ) -> Result<Vec<u8>, Fault>
     ensures same { must_reopen session.new ≡ must_reopen session.old }
-    ensures kept { LeavesPackage (state S.Store (held session.old)) (state S.Store (held session.new)) }
-    ensures reply { ShowsPart (IsOn (must_reopen session.old) (state S.Store (held session.old)) (state S.Store (held session.new)))
-        (λ v. v.items) (λ p. response_of (reply_of p (page.Related table.now id))) result }
+    ensures kept { LeavesPackage
+        (state S.Store (held session.old)) (state S.Store (held session.new)) }
+    ensures reply { ShowsPart
+        (IsOn (must_reopen session.old)
+        (state S.Store (held session.old)) (state S.Store (held session.new))) (λ v. v.items)
+        (λ p. response_of (reply_of p (page.Related table.now id))) result }
     ensures fault { IfErr result (IsPageFault (must_reopen session.old)) }
 {
     match read_mates(session, table, id)? {
@@ -91,9 +101,12 @@ fn related_reply<S: Alter>(
 
 fn contents_reply<S: Alter>(alloc: Global, session: &mut Session<S>) -> Result<Vec<u8>, Fault>
     ensures same { must_reopen session.new ≡ must_reopen session.old }
-    ensures kept { LeavesPackage (state S.Store (held session.old)) (state S.Store (held session.new)) }
-    ensures reply { ShowsPart (IsOn (must_reopen session.old) (state S.Store (held session.old)) (state S.Store (held session.new)))
-        (λ v. v.items) (λ p. response_of (reply_of p page.Contents)) result }
+    ensures kept { LeavesPackage
+        (state S.Store (held session.old)) (state S.Store (held session.new)) }
+    ensures reply { ShowsPart
+        (IsOn (must_reopen session.old)
+        (state S.Store (held session.old)) (state S.Store (held session.new))) (λ v. v.items)
+        (λ p. response_of (reply_of p page.Contents)) result }
     ensures fault { IfErr result (IsPageFault (must_reopen session.old)) }
 {
     let tables = read_tables(session)?;
@@ -110,9 +123,12 @@ pub fn reply<S: Alter>(
     wanted: Wanted,
 ) -> Result<Vec<u8>, Fault>
     ensures same { must_reopen session.new ≡ must_reopen session.old }
-    ensures kept { LeavesPackage (state S.Store (held session.old)) (state S.Store (held session.new)) }
-    ensures reply { ShowsPart (IsOn (must_reopen session.old) (state S.Store (held session.old)) (state S.Store (held session.new)))
-        (λ v. v.items) (λ p. response_of (reply_of p (asked wanted))) result }
+    ensures kept { LeavesPackage
+        (state S.Store (held session.old)) (state S.Store (held session.new)) }
+    ensures reply { ShowsPart
+        (IsOn (must_reopen session.old)
+        (state S.Store (held session.old)) (state S.Store (held session.new))) (λ v. v.items)
+        (λ p. response_of (reply_of p (asked wanted))) result }
     ensures fault { IfErr result (IsPageFault (must_reopen session.old)) }
 {
     match wanted {

@@ -49,9 +49,12 @@ fn path_response<S: Alter>(
     path: &str,
 ) -> Result<Vec<u8>, Fault>
     ensures same { must_reopen session.new ≡ must_reopen session.old }
-    ensures kept { LeavesPackage (state S.Store (held session.old)) (state S.Store (held session.new)) }
-    ensures response { (p : Package) → IsOn (must_reopen session.old) (state S.Store (held session.old))
-        (state S.Store (held session.new)) p → IfOk result (λ v. WritesTo p path.now v.items) }
+    ensures kept { LeavesPackage
+        (state S.Store (held session.old)) (state S.Store (held session.new)) }
+    ensures response { (p : Package)
+        → IsOn (must_reopen session.old)
+        (state S.Store (held session.old)) (state S.Store (held session.new)) p
+        → IfOk result (λ v. WritesTo p path.now v.items) }
     ensures needed { IfErr result (λ fault. fault.0 ≡ 92 → (w : Wanted) × IsRouted path.now w) }
     ensures fault { IfErr result (IsPageFault (must_reopen session.old)) }
 {
@@ -70,9 +73,12 @@ fn head_response<S: Alter>(
 ) -> Result<Vec<u8>, Fault>
     requires text { IsUtf8 target.now }
     ensures same { must_reopen session.new ≡ must_reopen session.old }
-    ensures kept { LeavesPackage (state S.Store (held session.old)) (state S.Store (held session.new)) }
-    ensures response { (p : Package) → IsOn (must_reopen session.old) (state S.Store (held session.old))
-        (state S.Store (held session.new)) p → IfOk result (λ v. Writes p method.now target.now v.items) }
+    ensures kept { LeavesPackage
+        (state S.Store (held session.old)) (state S.Store (held session.new)) }
+    ensures response { (p : Package)
+        → IsOn (must_reopen session.old)
+        (state S.Store (held session.old)) (state S.Store (held session.new)) p
+        → IfOk result (λ v. Writes p method.now target.now v.items) }
     ensures needed { IfErr result (λ fault. fault.0 ≡ 92
         → (method.now ≡ codes "GET") × (w : Wanted) × IsRouted (page.path_of target.now) w) }
     ensures fault { IfErr result (IsPageFault (must_reopen session.old)) }
@@ -93,13 +99,19 @@ fn respond<S: Alter, R: Read>(
     reader: &mut Io<R>,
 ) -> Result<Vec<u8>, Fault>
     ensures same { must_reopen session.new ≡ must_reopen session.old }
-    ensures kept { LeavesPackage (state S.Store (held session.old)) (state S.Store (held session.new)) }
-    ensures response { IfOk result (λ v. Served (IsOn (must_reopen session.old) (state S.Store (held session.old))
-        (state S.Store (held session.new))) (R.remaining (inside reader.old)) v.items) }
-    ensures frugal { OnOk result (ReadsNoMore 8192 (R.remaining (inside reader.old)) (R.remaining (inside reader.new))) }
+    ensures kept { LeavesPackage
+        (state S.Store (held session.old)) (state S.Store (held session.new)) }
+    ensures response { IfOk result
+        (λ v. Served
+        (IsOn (must_reopen session.old)
+        (state S.Store (held session.old)) (state S.Store (held session.new)))
+        (R.remaining (inside reader.old)) v.items) }
+    ensures frugal { OnOk result
+        (ReadsNoMore 8192 (R.remaining (inside reader.old)) (R.remaining (inside reader.new))) }
     ensures frugal_fault { IfErr result (λ fault. (fault.0 ≡ 96)
         ⊎ ReadsNoMore 8192 (R.remaining (inside reader.old)) (R.remaining (inside reader.new))) }
-    ensures needed { IfErr result (λ fault. fault.0 ≡ 92 → AsksForPart (R.remaining (inside reader.old))) }
+    ensures needed { IfErr result
+        (λ fault. fault.0 ≡ 92 → AsksForPart (R.remaining (inside reader.old))) }
     ensures fault { IfErr result (λ fault. IsPageFault (must_reopen session.old) fault
         ⊎ ((fault.0 ≡ 96) × (streams.has_failed reader.new ≡ true))) }
 {
@@ -129,19 +141,27 @@ pub fn serve_one<S: Alter, R: Read, W: Write>(
     writer: &mut Io<W>,
 ) -> Result<(), PageFault>
     ensures same { must_reopen session.new ≡ must_reopen session.old }
-    ensures kept { LeavesPackage (state S.Store (held session.old)) (state S.Store (held session.new)) }
-    ensures served { OnOk result (ServedTo (IsOn (must_reopen session.old) (state S.Store (held session.old))
-        (state S.Store (held session.new)))
-        (R.remaining (inside reader.old)) (W.contents (inside writer.old)) (W.contents (inside writer.new))) }
+    ensures kept { LeavesPackage
+        (state S.Store (held session.old)) (state S.Store (held session.new)) }
+    ensures served { OnOk result
+        (ServedTo (IsOn (must_reopen session.old)
+        (state S.Store (held session.old)) (state S.Store (held session.new)))
+        (R.remaining (inside reader.old)) (W.contents (inside writer.old))
+        (W.contents (inside writer.new))) }
     ensures working { OnOk result (streams.has_failed writer.new ≡ streams.has_failed writer.old) }
-    ensures frugal { OnOk result (ReadsNoMore 8192 (R.remaining (inside reader.old)) (R.remaining (inside reader.new))) }
+    ensures frugal { OnOk result
+        (ReadsNoMore 8192 (R.remaining (inside reader.old)) (R.remaining (inside reader.new))) }
     ensures frugal_fault { IfErr result (λ e. (e.0.0 ≡ 96)
         ⊎ ReadsNoMore 8192 (R.remaining (inside reader.old)) (R.remaining (inside reader.new))) }
-    ensures needed { IfErr result (λ e. e.0.0 ≡ 92 → AsksForPart (R.remaining (inside reader.old))) }
-    ensures stopped { IfErr result (λ e. Stopped (must_reopen session.old)
-        (IsOn (must_reopen session.old) (state S.Store (held session.old)) (state S.Store (held session.new)))
-        (R.remaining (inside reader.old)) (streams.has_failed reader.new) (W.contents (inside writer.old))
-        (W.contents (inside writer.new)) (streams.has_failed writer.new) e.0) }
+    ensures needed { IfErr result
+        (λ e. e.0.0 ≡ 92 → AsksForPart (R.remaining (inside reader.old))) }
+    ensures stopped { IfErr result
+        (λ e. Stopped (must_reopen session.old)
+        (IsOn (must_reopen session.old)
+        (state S.Store (held session.old)) (state S.Store (held session.new)))
+        (R.remaining (inside reader.old)) (streams.has_failed reader.new)
+        (W.contents (inside writer.old)) (W.contents (inside writer.new))
+        (streams.has_failed writer.new) e.0) }
 {
     let response = match respond(alloc, session, reader) {
         Ok(response) => response,

@@ -24,7 +24,8 @@ pub trait Serves<S: Alter> {
     /// Serves the next connection; the session stays as it is.
     fn serve_next(&mut self, alloc: Global, session: &mut Session<S>) -> Result<(), PageFault>
         ensures same { must_reopen session.new ≡ must_reopen session.old }
-        ensures kept { LeavesPackage (state S.Store (held session.old)) (state S.Store (held session.new)) }
+        ensures kept { LeavesPackage
+            (state S.Store (held session.old)) (state S.Store (held session.new)) }
         ensures fault { IfErr result (λ why. IsServiceFault why.0) }
         ensures told { TellsMore (outcomes self.old) (outcomes self.new) (result ∷ []) };
 }
@@ -40,9 +41,12 @@ pub fn serve_on<S: Alter, L: Serves<S>, W: Write>(
     output: &mut Io<W>,
 ) -> u8
     ensures same { must_reopen session.new ≡ must_reopen session.old }
-    ensures kept { LeavesPackage (state S.Store (held session.old)) (state S.Store (held session.new)) }
-    ensures served { (outcomes : List Outcome) × TellsMore (L.outcomes listener.old) (L.outcomes listener.new) outcomes
-        × IsServed count outcomes (written W.contents output.old) (written W.contents output.new) result }
+    ensures kept { LeavesPackage
+        (state S.Store (held session.old)) (state S.Store (held session.new)) }
+    ensures served { (outcomes : List Outcome)
+        × TellsMore (L.outcomes listener.old) (L.outcomes listener.new) outcomes
+        × IsServed count outcomes (written W.contents output.old)
+        (written W.contents output.new) result }
 {
     let mut status = DONE;
     for served in 0..count {

@@ -109,7 +109,8 @@ pub(crate) fn kit_told<W: Write>(
     at: Option<Moment>,
     output: &mut Io<W>,
 ) -> u8
-    ensures told { TellsKit edition.now at (written W.contents output.old) (written W.contents output.new) result }
+    ensures told { TellsKit edition.now at (written W.contents output.old)
+        (written W.contents output.new) result }
     ensures status { result ≤ 4 }
     ensures unprinted { TellsFailure (has_failed output.old) (has_failed output.new) result }
 {

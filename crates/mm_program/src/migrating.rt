@@ -24,7 +24,8 @@ fn migrate_file<S: Start>(rt: &HostRuntime, path: &str, start: S) -> Result<(), 
 
 /// The subcommand `migrate`.
 pub(crate) fn migrate_told<W: Write>(rt: &HostRuntime, path: &str, output: &mut Io<W>) -> u8
-    ensures told { TellsMigrate (written W.contents output.old) (written W.contents output.new) result }
+    ensures told { TellsMigrate (written W.contents output.old)
+        (written W.contents output.new) result }
     ensures status { result ≤ 4 }
     ensures unprinted { TellsFailure (has_failed output.old) (has_failed output.new) result }
 {

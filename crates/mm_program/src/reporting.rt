@@ -24,7 +24,8 @@ fn check_file<S: Start>(rt: &HostRuntime, path: &str, start: S) -> Result<(), St
 
 /// The subcommand `check`.
 pub(crate) fn check_told<W: Write>(rt: &HostRuntime, path: &str, output: &mut Io<W>) -> u8
-    ensures told { TellsCheck (written W.contents output.old) (written W.contents output.new) result }
+    ensures told { TellsCheck (written W.contents output.old)
+        (written W.contents output.new) result }
     ensures status { result ≤ 4 }
     ensures unprinted { TellsFailure (has_failed output.old) (has_failed output.new) result }
 {
@@ -48,7 +49,8 @@ fn list_file<S: Start, W: Write>(
 
 /// The subcommand `list`.
 pub(crate) fn list_told<W: Write>(rt: &HostRuntime, path: &str, output: &mut Io<W>) -> u8
-    ensures declined { TellsDecline (written W.contents output.old) (written W.contents output.new) result }
+    ensures declined { TellsDecline (written W.contents output.old)
+        (written W.contents output.new) result }
     ensures status { result ≤ 4 }
     ensures unprinted { TellsFailure (has_failed output.old) (has_failed output.new) result }
 {

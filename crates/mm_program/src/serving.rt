@@ -83,8 +83,10 @@ fn serve_port<S: Alter, W: Write>(
     output: &mut Io<W>,
 ) -> Result<u8, Stop>
     ensures status { IfOk result (λ status. status ≤ 3) }
-    ensures working { IfOk result (λ status. (status ≡ 3) ⊎ (streams.has_failed output.new ≡ streams.has_failed output.old)) }
-    ensures served { IfOk result (IsServing port count (written W.contents output.old) (written W.contents output.new)) }
+    ensures working { IfOk result
+        (λ status. (status ≡ 3) ⊎ (streams.has_failed output.new ≡ streams.has_failed output.old)) }
+    ensures served { IfOk result
+        (IsServing port count (written W.contents output.old) (written W.contents output.new)) }
     ensures unused { IfErr result (λ why. output.new ≡ output.old) }
 {
     let Ok(mut listener) = TcpListener::bind(rt, (Ipv4Addr::LOCALHOST, port)) else {
@@ -106,11 +108,16 @@ fn serve_file<S: Start, W: Write>(
     output: &mut Io<W>,
 ) -> Result<u8, Stop>
     ensures status { IfOk result (λ status. status ≤ 3) }
-    ensures working { IfOk result (λ status. (status ≡ 3) ⊎ (streams.has_failed output.new ≡ streams.has_failed output.old)) }
-    ensures served { IfOk result (IsServing port count (written W.contents output.old) (written W.contents output.new)) }
-    ensures unused { IfErr result (λ why. streams.has_failed output.new ≡ streams.has_failed output.old) }
-    ensures stopped { IfErr result (λ why. PrintsNothing (written W.contents output.old) (written W.contents output.new)
-        ⊎ WasServed port count (written W.contents output.old) (written W.contents output.new)) }
+    ensures working { IfOk result
+        (λ status. (status ≡ 3) ⊎ (streams.has_failed output.new ≡ streams.has_failed output.old)) }
+    ensures served { IfOk result
+        (IsServing port count (written W.contents output.old) (written W.contents output.new)) }
+    ensures unused { IfErr result
+        (λ why. streams.has_failed output.new ≡ streams.has_failed output.old) }
+    ensures stopped { IfErr result
+        (λ why. PrintsNothing (written W.contents output.old) (written W.contents output.new)
+        ⊎ WasServed port count (written W.contents output.old)
+        (written W.contents output.new)) }
 {
     let conn = open_old(rt, path, start)?;
     let mut session = match adopt_package(rt.alloc(), conn) {
@@ -134,9 +141,11 @@ pub(crate) fn serve_told<W: Write>(
     count: u32,
     output: &mut Io<W>,
 ) -> u8
-    ensures told { TellsServe port count (written W.contents output.old) (written W.contents output.new) result }
+    ensures told { TellsServe port count (written W.contents output.old)
+        (written W.contents output.new) result }
     ensures status { result ≤ 4 }
-    ensures unprinted { TellsFailure (streams.has_failed output.old) (streams.has_failed output.new) result }
+    ensures unprinted { TellsFailure (streams.has_failed output.old)
+        (streams.has_failed output.new) result }
 {
     match serve_file(rt, path, Wary, port, count, output) {
         Ok(status) => status,

@@ -42,7 +42,8 @@ fn run_file<S: Start, R: Read, W: Write>(
     at: Moment,
 ) -> Result<u8, Stop>
     ensures status { IfOk result (λ status. status ≤ 3) }
-    ensures working { IfOk result (λ status. (status ≡ 3) ⊎ (has_failed output.new ≡ has_failed output.old)) }
+    ensures working { IfOk result
+        (λ status. (status ≡ 3) ⊎ (has_failed output.new ≡ has_failed output.old)) }
     ensures unused { IfErr result (λ why. has_failed output.new ≡ has_failed output.old) }
     ensures stopped { IfErr result (λ why. (output.new ≡ output.old) ⊎ (stop_status why ≡ 3)) }
 {
@@ -53,7 +54,8 @@ fn run_file<S: Start, R: Read, W: Write>(
 
 /// The subcommand `init`.
 fn init_told<W: Write>(rt: &HostRuntime, path: &str, output: &mut Io<W>) -> u8
-    ensures told { TellsInit (written W.contents output.old) (written W.contents output.new) result }
+    ensures told { TellsInit (written W.contents output.old)
+        (written W.contents output.new) result }
     ensures status { result ≤ 4 }
     ensures unprinted { TellsFailure (has_failed output.old) (has_failed output.new) result }
 {
@@ -68,7 +70,8 @@ fn run_told<R: Read, W: Write>(
     input: &mut Io<R>,
     output: &mut Io<W>,
 ) -> u8
-    ensures declined { TellsDecline (written W.contents output.old) (written W.contents output.new) result }
+    ensures declined { TellsDecline (written W.contents output.old)
+        (written W.contents output.new) result }
     ensures status { result ≤ 4 }
     ensures unprinted { TellsFailure (has_failed output.old) (has_failed output.new) result }
 {
@@ -104,8 +107,8 @@ pub fn program<R: Read, W: Write>(
     input: &mut Io<R>,
     output: &mut Io<W>,
 ) -> u8
-    ensures told { TellsWords (map (λ word. word.now) words.entry.now) (written W.contents output.old)
-        (written W.contents output.new) result }
+    ensures told { TellsWords (map (λ word. word.now) words.entry.now)
+        (written W.contents output.old) (written W.contents output.new) result }
     ensures status { result ≤ 4 }
     ensures unprinted { TellsFailure (has_failed output.old) (has_failed output.new) result }
 {

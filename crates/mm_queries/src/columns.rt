@@ -74,7 +74,8 @@ pub fn is_pyramid(row: &Row, at: usize) -> bool
 
 /// The bytes of the text in a column.
 pub fn words(row: &Row, at: usize) -> Option<&[u8]>
-    ensures { MatchOption result (text_bytes (column row.now at) ≡ None) (λ bytes. text_bytes (column row.now at) ≡ Some bytes.now) }
+    ensures { MatchOption result (text_bytes (column row.now at) ≡ None)
+        (λ bytes. text_bytes (column row.now at) ≡ Some bytes.now) }
 {
     match value(row, at) {
         ValueRef::Text(bytes) => Some(bytes),
@@ -84,7 +85,8 @@ pub fn words(row: &Row, at: usize) -> Option<&[u8]>
 
 /// The text in a column, where it is UTF-8.
 pub fn text(row: &Row, at: usize) -> Option<&str>
-    ensures { MatchOption result (Unread (text_bytes (column row.now at))) (λ text. text_bytes (column row.now at) ≡ Some text.now) }
+    ensures { MatchOption result (Unread (text_bytes (column row.now at)))
+        (λ text. text_bytes (column row.now at) ≡ Some text.now) }
 {
     match words(row, at) {
         Some(bytes) => match std::str::from_utf8(bytes) {
@@ -97,7 +99,8 @@ pub fn text(row: &Row, at: usize) -> Option<&str>
 
 /// The bytes of the blob in a column.
 pub fn blob(row: &Row, at: usize) -> Option<&[u8]>
-    ensures { MatchOption result (bytes_of (column row.now at) ≡ None) (λ bytes. bytes_of (column row.now at) ≡ Some bytes.now) }
+    ensures { MatchOption result (bytes_of (column row.now at) ≡ None)
+        (λ bytes. bytes_of (column row.now at) ≡ Some bytes.now) }
 {
     match value(row, at) {
         ValueRef::Blob(bytes) => Some(bytes),

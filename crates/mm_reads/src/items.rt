@@ -14,7 +14,8 @@ use sqlite::{Alter, Connection, Transaction};
 /// Whether a table has an attribute row or a medium of this id, inside a transaction.
 fn has_item<S: Alter>(tx: &mut Transaction<'_, S>, table: &str, id: i64) -> Result<bool, Fault>
     ensures same_reference { tx.new.conn.ghost_name ≡ tx.old.conn.ghost_name }
-    ensures look { (profile : Profile) → IsLook profile (state S.Store tx.old.conn.now) (state S.Store tx.new.conn.now)
+    ensures look { (profile : Profile)
+        → IsLook profile (state S.Store tx.old.conn.now) (state S.Store tx.new.conn.now)
         (λ p found. found ≡ is_item p table.now id) result }
 {
     if has_row(tx, table, id)? {
@@ -32,7 +33,8 @@ pub(crate) fn stands<S: Alter>(
 ) -> Result<bool, Fault>
     requires { conn.old.in_transaction ≡ false }
     ensures mode { conn.new.in_transaction ≡ false }
-    ensures read { (profile : Profile) → IsRead profile (state S.Store conn.old) (state S.Store conn.new)
+    ensures read { (profile : Profile)
+        → IsRead profile (state S.Store conn.old) (state S.Store conn.new)
         (λ p found. found ≡ is_item p table.now id) result }
 {
     let mut tx = conn.transaction();

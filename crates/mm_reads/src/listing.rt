@@ -134,7 +134,8 @@ impl Visitor for Gathered {
 pub fn contents<S: Alter>(alloc: Global, conn: &mut Connection<S>) -> Result<Vec<Entry>, Fault>
     requires { conn.old.in_transaction ≡ false }
     ensures mode { conn.new.in_transaction ≡ false }
-    ensures read { (profile : Profile) → IsRead profile (state S.Store conn.old) (state S.Store conn.new)
+    ensures read { (profile : Profile)
+        → IsRead profile (state S.Store conn.old) (state S.Store conn.new)
         (λ p tables. ListsTables p tables.items) result }
 {
     let mut gathered = Gathered {

@@ -27,7 +27,8 @@ use sqlite::{Alter, Connection, Row, Transaction, params};
 
 /// The medium with these bytes and this content type. What no medium has is a fault, 91.
 fn medium(bytes: Vec<u8>, content_type: String) -> Result<Media, Fault>
-    ensures shown { IfOk result (λ m. (m.bytes ≡ bytes.items) × (m.content_type ≡ string_bytes content_type)) }
+    ensures shown { IfOk result
+        (λ m. (m.bytes ≡ bytes.items) × (m.content_type ≡ string_bytes content_type)) }
     ensures fault { IfErr result IsStoreFault }
 {
     match (MediaBytes::new(bytes), ContentType::new(content_type)) {
@@ -46,12 +47,13 @@ fn row_of_medium<S: Alter>(
     id: i64,
 ) -> Result<Option<Row>, Fault>
     ensures same_reference { tx.new.conn.ghost_name ≡ tx.old.conn.ghost_name }
-    ensures shown { (profile : Profile) (spare : Spare) →
-        IsMove (state S.Store tx.old.conn.now) (state S.Store tx.new.conn.now)
+    ensures shown { (profile : Profile) (spare : Spare)
+        → IsMove (state S.Store tx.old.conn.now) (state S.Store tx.new.conn.now)
         (IsSeen spare profile (state S.Store tx.old.conn.now))
         (λ base x row y. (y ≡ x) × IsSeen spare profile (state S.Store tx.new.conn.now) base y
         × IsMediumRow (get y.kept.media (item table.now id)) row
-        × Told medium_id medium_with y.kept.shelf (get y.kept.media (item table.now id)) (get y.content.media (item table.now id))) result }
+        × Told medium_id medium_with y.kept.shelf (get y.kept.media (item table.now id))
+        (get y.content.media (item table.now id))) result }
 {
     first(
         tx,
@@ -83,7 +85,8 @@ fn medium_at<S: Alter>(
     id: i64,
 ) -> Result<Option<Media>, Fault>
     ensures same_reference { tx.new.conn.ghost_name ≡ tx.old.conn.ghost_name }
-    ensures look { (profile : Profile) → IsLook profile (state S.Store tx.old.conn.now) (state S.Store tx.new.conn.now)
+    ensures look { (profile : Profile)
+        → IsLook profile (state S.Store tx.old.conn.now) (state S.Store tx.new.conn.now)
         (λ p found. get p.media (item table.now id) ≡ option_map shown_medium found) result }
 {
     match row_of_medium(tx, table, id)? {
@@ -101,7 +104,8 @@ pub fn media<S: Alter>(
 ) -> Result<Option<Media>, Fault>
     requires { conn.old.in_transaction ≡ false }
     ensures mode { conn.new.in_transaction ≡ false }
-    ensures read { (profile : Profile) → IsRead profile (state S.Store conn.old) (state S.Store conn.new)
+    ensures read { (profile : Profile)
+        → IsRead profile (state S.Store conn.old) (state S.Store conn.new)
         (λ p found. get p.media (item table.now id) ≡ option_map shown_medium found) result }
 {
     let mut tx = conn.transaction();

@@ -63,7 +63,8 @@ fn listed<S: Alter>(
 ) -> Result<Vec<Related>, Fault>
     requires { conn.old.in_transaction ≡ false }
     ensures mode { conn.new.in_transaction ≡ false }
-    ensures read { (profile : Profile) → IsRead profile (state S.Store conn.old) (state S.Store conn.new)
+    ensures read { (profile : Profile)
+        → IsRead profile (state S.Store conn.old) (state S.Store conn.new)
         (λ p items. ListsMates p table.now id items.items) result }
 {
     let mut gathered = Gathered {
@@ -89,7 +90,8 @@ pub fn related<S: Alter>(
 ) -> Result<Option<Vec<Related>>, Fault>
     requires { conn.old.in_transaction ≡ false }
     ensures mode { conn.new.in_transaction ≡ false }
-    ensures read { (profile : Profile) → IsRead profile (state S.Store conn.old) (state S.Store conn.new)
+    ensures read { (profile : Profile)
+        → IsRead profile (state S.Store conn.old) (state S.Store conn.new)
         (λ p found. TellsMates p table.now id found) result }
 {
     let table = table.as_str();

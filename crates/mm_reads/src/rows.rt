@@ -42,8 +42,8 @@ fn first_row<S: Alter>(
     params: &[ValueRef<'_>],
 ) -> Result<Option<Row>, Fault>
     ensures same_reference { tx.new.conn.ghost_name ≡ tx.old.conn.ghost_name }
-    ensures asked { IsAsked (state S.Store tx.old.conn.now) (state S.Store tx.new.conn.now) sql.now (bound params.now)
-        (λ it first. Gives ShowsRow it first) result }
+    ensures asked { IsAsked (state S.Store tx.old.conn.now) (state S.Store tx.new.conn.now) sql.now
+        (bound params.now) (λ it first. Gives ShowsRow it first) result }
 {
     match first(tx, sql, params)? {
         Some(row) => Ok(Some(row_in(&row)?)),
@@ -54,7 +54,8 @@ fn first_row<S: Alter>(
 /// The row of an id, inside a transaction.
 fn row_at<S: Alter>(tx: &mut Transaction<'_, S>, table: &str, id: i64) -> Result<Option<Row>, Fault>
     ensures same_reference { tx.new.conn.ghost_name ≡ tx.old.conn.ghost_name }
-    ensures look { (profile : Profile) → IsLook profile (state S.Store tx.old.conn.now) (state S.Store tx.new.conn.now)
+    ensures look { (profile : Profile)
+        → IsLook profile (state S.Store tx.old.conn.now) (state S.Store tx.new.conn.now)
         (λ p found. get p.rows (item table.now id) ≡ option_map shown_row found) result }
 {
     first_row(
@@ -69,7 +70,8 @@ fn row_at<S: Alter>(tx: &mut Transaction<'_, S>, table: &str, id: i64) -> Result
 pub fn row<S: Alter>(conn: &mut Connection<S>, table: &Name, id: i64) -> Result<Option<Row>, Fault>
     requires { conn.old.in_transaction ≡ false }
     ensures mode { conn.new.in_transaction ≡ false }
-    ensures read { (profile : Profile) → IsRead profile (state S.Store conn.old) (state S.Store conn.new)
+    ensures read { (profile : Profile)
+        → IsRead profile (state S.Store conn.old) (state S.Store conn.new)
         (λ p found. get p.rows (item table.now id) ≡ option_map shown_row found) result }
 {
     let mut tx = conn.transaction();

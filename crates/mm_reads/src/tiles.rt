@@ -24,8 +24,10 @@ fn bytes_at<S: Alter>(
     row: u32,
 ) -> Result<Option<Vec<u8>>, Fault>
     ensures same_reference { tx.new.conn.ghost_name ≡ tx.old.conn.ghost_name }
-    ensures look { (profile : Profile) → IsLook profile (state S.Store tx.old.conn.now) (state S.Store tx.new.conn.now)
-        (λ p found. TellsBytes (get p.tiles (tile table.now (pos zoom) (pos column) (pos row))) found) result }
+    ensures look { (profile : Profile)
+        → IsLook profile (state S.Store tx.old.conn.now) (state S.Store tx.new.conn.now)
+        (λ p found. TellsBytes (get p.tiles (tile table.now (pos zoom) (pos column) (pos row)))
+        found) result }
 {
     match blob_of_tile(tx, table, zoom, column, row)? {
         Some(blob) => Ok(Some(bytes_of(tx, blob)?)),
@@ -44,8 +46,10 @@ pub fn tile<S: Alter>(
 ) -> Result<Option<Vec<u8>>, Fault>
     requires { conn.old.in_transaction ≡ false }
     ensures mode { conn.new.in_transaction ≡ false }
-    ensures read { (profile : Profile) → IsRead profile (state S.Store conn.old) (state S.Store conn.new)
-        (λ p found. TellsBytes (get p.tiles (tile table.now (pos zoom) (pos column) (pos row))) found) result }
+    ensures read { (profile : Profile)
+        → IsRead profile (state S.Store conn.old) (state S.Store conn.new)
+        (λ p found. TellsBytes (get p.tiles (tile table.now (pos zoom) (pos column) (pos row)))
+        found) result }
 {
     let mut tx = conn.transaction();
     let found = bytes_at(&mut tx, table.as_str(), zoom, column, row);

@@ -50,7 +50,8 @@ pub(crate) fn name_field(text: &str) -> Result<Name, ReadFault>
 
 /// A number from `least` to `most`: 10 where it is none, 11 where it lies outside.
 fn number_field(text: &str, least: i64, most: i64) -> Result<i64, ReadFault>
-    ensures { ReadsTo (λ z. HoldsValue (NumberFrom least most) text.now (Whole z)) (IsAgainst (NumberFrom least most) text.now) result }
+    ensures { ReadsTo (λ z. HoldsValue (NumberFrom least most) text.now (Whole z))
+        (IsAgainst (NumberFrom least most) text.now) result }
 {
     match read_number(text, least, most) {
         Ok(number) => Ok(number),
@@ -74,7 +75,8 @@ pub(crate) fn positive_field<const MOST: u64>(text: &str) -> Result<Positive<MOS
 /// A number that is at most `MOST` away from 0.
 pub(crate) fn signed_field<const MOST: u64>(text: &str) -> Result<Signed<MOST>, ReadFault>
     requires { MOST < 2 ^ 63 }
-    ensures { ReadsTo (λ z. HoldsValue (NumberFrom (neg_ℤ (pos MOST)) (pos MOST)) text.now (Whole z))
+    ensures { ReadsTo
+        (λ z. HoldsValue (NumberFrom (neg_ℤ (pos MOST)) (pos MOST)) text.now (Whole z))
         (IsAgainst (NumberFrom (neg_ℤ (pos MOST)) (pos MOST)) text.now) result }
 {
     let number = number_field(text, -(MOST as i64), MOST as i64)?;
@@ -86,7 +88,8 @@ pub(crate) fn signed_field<const MOST: u64>(text: &str) -> Result<Signed<MOST>, 
 
 /// The number of any reference system.
 pub(crate) fn system_field(text: &str) -> Result<SystemNumber, ReadFault>
-    ensures { ReadsTo (λ z. HoldsValue forms.named_system text.now (Whole z)) (IsAgainst forms.named_system text.now) result }
+    ensures { ReadsTo (λ z. HoldsValue forms.named_system text.now (Whole z))
+        (IsAgainst forms.named_system text.now) result }
 {
     let number = number_field(text, -1, LAST_ID as i64)?;
     match SystemNumber::new(number) {
@@ -97,7 +100,8 @@ pub(crate) fn system_field(text: &str) -> Result<SystemNumber, ReadFault>
 
 /// A zoom level.
 pub(crate) fn zoom_field(text: &str) -> Result<Zoom, ReadFault>
-    ensures { ReadsTo (λ z. HoldsValue forms.zoom_field text.now (Whole (pos z))) (IsAgainst forms.zoom_field text.now) result }
+    ensures { ReadsTo (λ z. HoldsValue forms.zoom_field text.now (Whole (pos z)))
+        (IsAgainst forms.zoom_field text.now) result }
 {
     let number = number_field(text, 0, LAST_ZOOM as i64)?;
     match Zoom::new(number) {
@@ -122,7 +126,8 @@ pub(crate) fn count_field<const LEAST: u32, const MOST: u32>(
 
 /// How a pyramid's pixel sizes go: `two` or `other`.
 pub(crate) fn step_field(text: &str) -> Result<Step, ReadFault>
-    ensures { ReadsTo (λ step. HoldsValue step_words text.now (Plain (kind_text (step_kind step)))) (IsAgainst step_words text.now) result }
+    ensures { ReadsTo (λ step. HoldsValue step_words text.now (Plain (kind_text (step_kind step))))
+        (IsAgainst step_words text.now) result }
 {
     match text {
         "two" => Ok(Step::Two),
@@ -145,7 +150,8 @@ pub(crate) fn kind_field(text: &str) -> Result<PlainKind, ReadFault>
 
 /// The name of a relation: `media` or `simple_attributes`.
 pub(crate) fn relation_field(text: &str) -> Result<RelationName, ReadFault>
-    ensures { ReadsTo (λ name. HoldsValue relation_words text.now (Plain (relation_text name))) (IsAgainst relation_words text.now) result }
+    ensures { ReadsTo (λ name. HoldsValue relation_words text.now (Plain (relation_text name)))
+        (IsAgainst relation_words text.now) result }
 {
     match text {
         "media" => Ok(RelationName::Media),

@@ -18,7 +18,8 @@ use std::alloc::Global;
 
 /// `tile,TABLE,Z,C,R,HEX`
 fn read_tile(alloc: Global, fields: &[&str]) -> Result<Piece, ReadFault>
-    ensures { ReadsTo (λ c. (piece_word c ≡ codes "tile") × AllHold forms.tile_form (map (λ f. f.now) fields.now) (piece_values c))
+    ensures { ReadsTo (λ c. (piece_word c ≡ codes "tile")
+        × AllHold forms.tile_form (map (λ f. f.now) fields.now) (piece_values c))
         (IsLeast (IsAgainstSome forms.tile_form (map (λ f. f.now) fields.now))) result }
 {
     let [table, zoom, column, row, bytes] = fields else {
@@ -69,7 +70,8 @@ fn read_tile_drop(fields: &[&str]) -> Result<Piece, ReadFault>
 
 /// `row,TABLE,ID,TITLE,NOTE,AMOUNT`
 fn read_row(alloc: Global, fields: &[&str]) -> Result<Piece, ReadFault>
-    ensures { ReadsTo (λ c. (piece_word c ≡ codes "row") × AllHold forms.row_form (map (λ f. f.now) fields.now) (piece_values c))
+    ensures { ReadsTo (λ c. (piece_word c ≡ codes "row")
+        × AllHold forms.row_form (map (λ f. f.now) fields.now) (piece_values c))
         (IsLeast (IsAgainstSome forms.row_form (map (λ f. f.now) fields.now))) result }
 {
     let [table, id, title, note, amount] = fields else {
@@ -96,7 +98,8 @@ fn read_row(alloc: Global, fields: &[&str]) -> Result<Piece, ReadFault>
 
 /// `row-drop,TABLE,ID`
 fn read_row_drop(fields: &[&str]) -> Result<Piece, ReadFault>
-    ensures { ReadsTo (λ c. (piece_word c ≡ codes "row-drop") × AllHold forms.item_form (map (λ f. f.now) fields.now) (piece_values c))
+    ensures { ReadsTo (λ c. (piece_word c ≡ codes "row-drop")
+        × AllHold forms.item_form (map (λ f. f.now) fields.now) (piece_values c))
         (IsLeast (IsAgainstSome forms.item_form (map (λ f. f.now) fields.now))) result }
 {
     let [table, id] = fields else {
@@ -108,7 +111,8 @@ fn read_row_drop(fields: &[&str]) -> Result<Piece, ReadFault>
 
 /// `media,TABLE,ID,TYPE,HEX`
 fn read_media(alloc: Global, fields: &[&str]) -> Result<Piece, ReadFault>
-    ensures { ReadsTo (λ c. (piece_word c ≡ codes "media") × AllHold forms.media_form (map (λ f. f.now) fields.now) (piece_values c))
+    ensures { ReadsTo (λ c. (piece_word c ≡ codes "media")
+        × AllHold forms.media_form (map (λ f. f.now) fields.now) (piece_values c))
         (IsLeast (IsAgainstSome forms.media_form (map (λ f. f.now) fields.now))) result }
 {
     let [table, id, content_type, bytes] = fields else {
@@ -134,7 +138,8 @@ fn read_media(alloc: Global, fields: &[&str]) -> Result<Piece, ReadFault>
 
 /// `media-drop,TABLE,ID`
 fn read_media_drop(fields: &[&str]) -> Result<Piece, ReadFault>
-    ensures { ReadsTo (λ c. (piece_word c ≡ codes "media-drop") × AllHold forms.item_form (map (λ f. f.now) fields.now) (piece_values c))
+    ensures { ReadsTo (λ c. (piece_word c ≡ codes "media-drop")
+        × AllHold forms.item_form (map (λ f. f.now) fields.now) (piece_values c))
         (IsLeast (IsAgainstSome forms.item_form (map (λ f. f.now) fields.now))) result }
 {
     let [table, id] = fields else {
@@ -146,7 +151,8 @@ fn read_media_drop(fields: &[&str]) -> Result<Piece, ReadFault>
 
 /// `map,MAPPING,BASEID,RELID`
 fn read_map(fields: &[&str]) -> Result<Piece, ReadFault>
-    ensures { ReadsTo (λ c. (piece_word c ≡ codes "map") × AllHold forms.map_form (map (λ f. f.now) fields.now) (piece_values c))
+    ensures { ReadsTo (λ c. (piece_word c ≡ codes "map")
+        × AllHold forms.map_form (map (λ f. f.now) fields.now) (piece_values c))
         (IsLeast (IsAgainstSome forms.map_form (map (λ f. f.now) fields.now))) result }
 {
     let [mapping, base_id, related_id] = fields else {
@@ -165,7 +171,8 @@ fn read_map(fields: &[&str]) -> Result<Piece, ReadFault>
 
 /// `map-drop,MAPPING,BASEID,RELID`
 fn read_map_drop(fields: &[&str]) -> Result<Piece, ReadFault>
-    ensures { ReadsTo (λ c. (piece_word c ≡ codes "map-drop") × AllHold forms.map_form (map (λ f. f.now) fields.now) (piece_values c))
+    ensures { ReadsTo (λ c. (piece_word c ≡ codes "map-drop")
+        × AllHold forms.map_form (map (λ f. f.now) fields.now) (piece_values c))
         (IsLeast (IsAgainstSome forms.map_form (map (λ f. f.now) fields.now))) result }
 {
     let [mapping, base_id, related_id] = fields else {

@@ -24,7 +24,8 @@ use std::alloc::Global;
 
 /// `srs,ID,NAME,ORG,ORGID,DEFINITION,DESCRIPTION`
 fn read_srs(alloc: Global, fields: &[&str]) -> Result<Command, ReadFault>
-    ensures { ReadsTo (λ c. (command_word c ≡ codes "srs") × AllHold forms.srs_form (map (λ f. f.now) fields.now) (command_values c))
+    ensures { ReadsTo (λ c. (command_word c ≡ codes "srs")
+        × AllHold forms.srs_form (map (λ f. f.now) fields.now) (command_values c))
         (IsLeast (IsAgainstSome forms.srs_form (map (λ f. f.now) fields.now))) result }
 {
     let [
@@ -68,7 +69,8 @@ fn read_srs(alloc: Global, fields: &[&str]) -> Result<Command, ReadFault>
 fn read_pyramid(alloc: Global, fields: &[&str]) -> Result<Command, ReadFault>
     ensures { ReadsTo (λ c. (command_word c ≡ codes "pyramid")
         × AllHold (forms.pyramid_form current) (map (λ f. f.now) fields.now) (command_values c))
-        (IsLeast (IsAgainstSome (forms.pyramid_form current) (map (λ f. f.now) fields.now))) result }
+        (IsLeast (IsAgainstSome (forms.pyramid_form current)
+        (map (λ f. f.now) fields.now))) result }
 {
     let [table, identifier, srs, min_x, min_y, max_x, max_y, step] = fields else {
         return Err(ReadFault::refused(10));
@@ -106,7 +108,8 @@ fn read_pyramid(alloc: Global, fields: &[&str]) -> Result<Command, ReadFault>
 
 /// `table,TABLE,KIND,IDENTIFIER`
 fn read_table(alloc: Global, fields: &[&str]) -> Result<Command, ReadFault>
-    ensures { ReadsTo (λ c. (command_word c ≡ codes "table") × AllHold forms.table_form (map (λ f. f.now) fields.now) (command_values c))
+    ensures { ReadsTo (λ c. (command_word c ≡ codes "table")
+        × AllHold forms.table_form (map (λ f. f.now) fields.now) (command_values c))
         (IsLeast (IsAgainstSome forms.table_form (map (λ f. f.now) fields.now))) result }
 {
     let [table, kind, identifier] = fields else {
@@ -125,7 +128,8 @@ fn read_table(alloc: Global, fields: &[&str]) -> Result<Command, ReadFault>
 
 /// `drop,TABLE`
 fn read_drop(fields: &[&str]) -> Result<Command, ReadFault>
-    ensures { ReadsTo (λ c. (command_word c ≡ codes "drop") × AllHold forms.name_form (map (λ f. f.now) fields.now) (command_values c))
+    ensures { ReadsTo (λ c. (command_word c ≡ codes "drop")
+        × AllHold forms.name_form (map (λ f. f.now) fields.now) (command_values c))
         (IsLeast (IsAgainstSome forms.name_form (map (λ f. f.now) fields.now))) result }
 {
     let [table] = fields else {
@@ -174,7 +178,8 @@ fn read_relation_drop(fields: &[&str]) -> Result<Command, ReadFault>
 
 /// `edition,NAME`
 fn read_edition(fields: &[&str]) -> Result<Command, ReadFault>
-    ensures { ReadsTo (λ c. (command_word c ≡ codes "edition") × AllHold forms.name_form (map (λ f. f.now) fields.now) (command_values c))
+    ensures { ReadsTo (λ c. (command_word c ≡ codes "edition")
+        × AllHold forms.name_form (map (λ f. f.now) fields.now) (command_values c))
         (IsLeast (IsAgainstSome forms.name_form (map (λ f. f.now) fields.now))) result }
 {
     let [name] = fields else {
@@ -186,7 +191,8 @@ fn read_edition(fields: &[&str]) -> Result<Command, ReadFault>
 
 /// `discard,NAME`
 fn read_discard(fields: &[&str]) -> Result<Command, ReadFault>
-    ensures { ReadsTo (λ c. (command_word c ≡ codes "discard") × AllHold forms.name_form (map (λ f. f.now) fields.now) (command_values c))
+    ensures { ReadsTo (λ c. (command_word c ≡ codes "discard")
+        × AllHold forms.name_form (map (λ f. f.now) fields.now) (command_values c))
         (IsLeast (IsAgainstSome forms.name_form (map (λ f. f.now) fields.now))) result }
 {
     let [name] = fields else {
@@ -198,7 +204,8 @@ fn read_discard(fields: &[&str]) -> Result<Command, ReadFault>
 
 /// `publish,EDITION`
 fn read_publish(fields: &[&str]) -> Result<Command, ReadFault>
-    ensures { ReadsTo (λ c. (command_word c ≡ codes "publish") × AllHold forms.name_form (map (λ f. f.now) fields.now) (command_values c))
+    ensures { ReadsTo (λ c. (command_word c ≡ codes "publish")
+        × AllHold forms.name_form (map (λ f. f.now) fields.now) (command_values c))
         (IsLeast (IsAgainstSome forms.name_form (map (λ f. f.now) fields.now))) result }
 {
     let [edition] = fields else {
@@ -210,7 +217,8 @@ fn read_publish(fields: &[&str]) -> Result<Command, ReadFault>
 
 /// `rehearse,EDITION`
 fn read_rehearse(fields: &[&str]) -> Result<Command, ReadFault>
-    ensures { ReadsTo (λ c. (command_word c ≡ codes "rehearse") × AllHold forms.name_form (map (λ f. f.now) fields.now) (command_values c))
+    ensures { ReadsTo (λ c. (command_word c ≡ codes "rehearse")
+        × AllHold forms.name_form (map (λ f. f.now) fields.now) (command_values c))
         (IsLeast (IsAgainstSome forms.name_form (map (λ f. f.now) fields.now))) result }
 {
     let [edition] = fields else {
@@ -223,8 +231,10 @@ fn read_rehearse(fields: &[&str]) -> Result<Command, ReadFault>
 /// `stage,EDITION,NO,PIECE..`
 fn read_stage(alloc: Global, fields: &[&str]) -> Result<Command, ReadFault>
     ensures { ReadsTo (λ c. (command_word c ≡ codes "stage")
-        × IsMet (stage_form current (map (λ f. f.now) fields.now)) (map (λ f. f.now) fields.now) (command_values c))
-        (IsLeast (IsUnmet (stage_form current (map (λ f. f.now) fields.now)) (map (λ f. f.now) fields.now))) result }
+        × IsMet (stage_form current (map (λ f. f.now) fields.now)) (map (λ f. f.now) fields.now)
+        (command_values c))
+        (IsLeast (IsUnmet (stage_form current (map (λ f. f.now) fields.now))
+        (map (λ f. f.now) fields.now))) result }
 {
     let [edition, number, piece @ ..] = fields else {
         return Err(ReadFault::refused(10));
@@ -372,7 +382,8 @@ fn command_of(piece: Piece) -> Command
 
 /// The command that the record of a piece spells.
 fn read_edit(alloc: Global, fields: &[&str]) -> Result<Command, ReadFault>
-    ensures { ReadsTo (λ c. (q : Piece) × (c ≡ piece_command q) × SpellsPiece current (map (λ f. f.now) fields.now) q)
+    ensures { ReadsTo (λ c. (q : Piece) × (c ≡ piece_command q)
+        × SpellsPiece current (map (λ f. f.now) fields.now) q)
         (IsLeast (HoldsAgainstPiece current (map (λ f. f.now) fields.now))) result }
 {
     let piece = read_piece(alloc, fields)?;
@@ -381,7 +392,8 @@ fn read_edit(alloc: Global, fields: &[&str]) -> Result<Command, ReadFault>
 
 /// The command that a record spells.
 fn command_in(alloc: Global, fields: &[&str]) -> Result<Command, ReadFault>
-    ensures { ReadsTo (Spells current (map (λ f. f.now) fields.now)) (IsLeast (HoldsAgainst current (map (λ f. f.now) fields.now))) result }
+    ensures { ReadsTo (Spells current (map (λ f. f.now) fields.now))
+        (IsLeast (HoldsAgainst current (map (λ f. f.now) fields.now))) result }
 {
     let [word, rest @ ..] = fields else {
         return Err(ReadFault::refused(10));

@@ -34,7 +34,8 @@ pub fn create_or_adopt<S: Alter + Drop>(
 ) -> Result<Session<S>, (Connection<S>, Open)>
     requires { conn.in_transaction ≡ false }
     ensures working { IfOk result (λ session. must_reopen session ≡ false) }
-    ensures made_or_found { IfOk result (λ session. IsMadeOrFound (state S.Store conn) (state S.Store (held session))) }
+    ensures made_or_found { IfOk result
+        (λ session. IsMadeOrFound (state S.Store conn) (state S.Store (held session))) }
     ensures handed_back { IfErr result (λ e. e.0.in_transaction ≡ false) }
     ensures neither { IfErr result (λ e. IsNeither (state S.Store conn) (state S.Store e.0) e.1) }
 {
@@ -64,7 +65,8 @@ pub fn create_again<D: Crash + Drop>(
 ) -> Result<Session<FileStore<D>>, NotRecovered<D>>
     requires { conn.in_transaction ≡ false }
     ensures working { IfOk result (λ session. must_reopen session ≡ false) }
-    ensures made { IfOk result (λ session. IsMadeAgain (file_state conn) (file_state (held session))) }
+    ensures made { IfOk result
+        (λ session. IsMadeAgain (file_state conn) (file_state (held session))) }
     ensures not_made { IfErr result (λ e. IsNotMadeAgain (file_state conn) e.0 e.1) }
 {
     let (_, left) = create_and_recover(alloc, conn, options);

@@ -25,7 +25,8 @@ pub fn close_and_adopt<D: Disk + Drop>(
     options: Options,
 ) -> Result<Session<FileStore<D>>, NotRecovered<D>>
     ensures working { IfOk result (λ again. must_reopen again ≡ false) }
-    ensures reopened { IfOk result (λ again. IsReopened (file_state (held session)) (file_state (held again))) }
+    ensures reopened { IfOk result
+        (λ again. IsReopened (file_state (held session)) (file_state (held again))) }
     ensures not_reopened { IfErr result (λ e. IsNotReopened (file_state (held session)) e.0 e.1) }
 {
     match open_after_close(alloc, session.close(), options) {

@@ -58,7 +58,8 @@ pub fn create_and_recover<D: Crash + Drop>(
 ) -> (Result<(), Fault>, Result<Connection<FileStore<D>>, Fault>)
     requires { conn.in_transaction ≡ false }
     ensures mode { IfOk result.1 (λ again. again.in_transaction ≡ false) }
-    ensures recovered { IfOk result.1 (λ again. IsMakingRecovered (file_state conn) (file_state again) result.0) }
+    ensures recovered { IfOk result.1
+        (λ again. IsMakingRecovered (file_state conn) (file_state again) result.0) }
     ensures faults { IfErr result.1 IsStoreFault }
 {
     match Session::create(alloc, conn) {

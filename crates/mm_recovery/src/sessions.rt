@@ -34,7 +34,8 @@ pub fn recover_after_crash<D: Crash + Drop>(
     options: Options,
 ) -> Result<Session<FileStore<D>>, NotRecovered<D>>
     ensures working { IfOk result (λ again. must_reopen again ≡ false) }
-    ensures recovered { IfOk result (λ again. IsRecovered (file_state (held session)) (file_state (held again))) }
+    ensures recovered { IfOk result
+        (λ again. IsRecovered (file_state (held session)) (file_state (held again))) }
     ensures not_recovered { IfErr result (λ e. IsNotRecovered (file_state (held session)) e.0 e.1) }
 {
     match open_after_crash(alloc, session.close(), options) {
@@ -62,10 +63,16 @@ pub fn run_and_recover<D: Crash + Drop, R: Read, W: Write>(
 )
     ensures flushed { TellsFlush (is_flushed writer.old) (is_flushed writer.new) result.0 }
     ensures working { IfOk result.1 (λ again. must_reopen again ≡ false) }
-    ensures is_open { IfOk result.1 (λ again. HasCleanDisk (file_state (held again)) → IsTrue (file_state (held again)).is_open) }
-    ensures recovered { IfOk result.1 (λ again. IsRunRecovered (file_state (held session)) (file_state (held again))
-        (R.remaining (inside reader.old)) (written W.contents writer.old) (written W.contents writer.new) at result.0) }
-    ensures not_recovered { IfErr result.1 (λ e. IsRunNotRecovered (file_state (held session)) (R.remaining (inside reader.old)) e.0 e.1) }
+    ensures is_open { IfOk result.1
+        (λ again. HasCleanDisk (file_state (held again))
+        → IsTrue (file_state (held again)).is_open) }
+    ensures recovered { IfOk result.1
+        (λ again. IsRunRecovered (file_state (held session)) (file_state (held again))
+        (R.remaining (inside reader.old)) (written W.contents writer.old)
+        (written W.contents writer.new) at result.0) }
+    ensures not_recovered { IfErr result.1
+        (λ e. IsRunNotRecovered (file_state (held session))
+        (R.remaining (inside reader.old)) e.0 e.1) }
 {
     let mut session = session;
     let ran = session.run_list(reader, writer, at);

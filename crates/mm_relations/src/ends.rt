@@ -19,7 +19,8 @@ use mm_store::statements::first;
 use sqlite::{Alter, Error, Row, Transaction, params};
 
 fn texts_in(row: &Row) -> Result<(String, String), Error>
-    ensures { IfOk result (λ pair. (column row.now 0 ≡ Words (string_bytes pair.0)) × (column row.now 1 ≡ Words (string_bytes pair.1))) }
+    ensures { IfOk result (λ pair. (column row.now 0 ≡ Words (string_bytes pair.0))
+        × (column row.now 1 ≡ Words (string_bytes pair.1))) }
 {
     Ok((row.get(0)?, row.get(1)?))
 }
@@ -30,8 +31,10 @@ pub(crate) fn ends_of<S: Alter>(
     mapping: &str,
 ) -> Result<Option<(String, String)>, Fault>
     ensures same_reference { tx.new.conn.ghost_name ≡ tx.old.conn.ghost_name }
-    ensures look { (profile : Profile) → IsLook profile (state S.Store tx.old.conn.now) (state S.Store tx.new.conn.now)
-        (λ p found. option_map spec.ends (get p.relations mapping.now) ≡ option_map spec.both_bytes found) result }
+    ensures look { (profile : Profile)
+        → IsLook profile (state S.Store tx.old.conn.now) (state S.Store tx.new.conn.now)
+        (λ p found. option_map spec.ends (get p.relations mapping.now)
+        ≡ option_map spec.both_bytes found) result }
 {
     match first(
         tx,
@@ -54,8 +57,11 @@ fn end_refusal<S: Alter>(
     id: i64,
 ) -> Result<Option<u8>, Fault>
     ensures same_reference { tx.new.conn.ghost_name ≡ tx.old.conn.ghost_name }
-    ensures look { (profile : Profile) → IsLook profile (state S.Store tx.old.conn.now) (state S.Store tx.new.conn.now)
-        (λ p why. why ≡ least ((40, lacks_row p table.now id) ∷ (41, lacks_medium p table.now id) ∷ [])) result }
+    ensures look { (profile : Profile)
+        → IsLook profile (state S.Store tx.old.conn.now) (state S.Store tx.new.conn.now)
+        (λ p why. why
+        ≡ least ((40, lacks_row p table.now id) ∷ (41, lacks_medium p table.now id)
+        ∷ [])) result }
 {
     let Some(kind) = kind_of(tx, table)? else {
         return Ok(None);
@@ -99,7 +105,8 @@ pub(crate) fn ends_refusal<S: Alter>(
     related_id: i64,
 ) -> Result<Option<u8>, Fault>
     ensures same_reference { tx.new.conn.ghost_name ≡ tx.old.conn.ghost_name }
-    ensures look { (profile : Profile) → IsLook profile (state S.Store tx.old.conn.now) (state S.Store tx.new.conn.now)
+    ensures look { (profile : Profile)
+        → IsLook profile (state S.Store tx.old.conn.now) (state S.Store tx.new.conn.now)
         (λ p why. why ≡ spec.lacks p (base.now, related.now) base_id related_id) result }
 {
     let one = end_refusal(tx, base, base_id)?;

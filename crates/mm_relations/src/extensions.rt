@@ -17,8 +17,10 @@ pub(crate) fn delete_related_row<S: Alter>(
     mapping: &str,
 ) -> Result<(), Fault>
     ensures same_reference { tx.new.conn.ghost_name ≡ tx.old.conn.ghost_name }
-    ensures change { (profile : Profile) → IsChange profile (state S.Store tx.old.conn.now) (state S.Store tx.new.conn.now) (λ p. ⊤)
-        (λ p. record p { extensions = remove p.extensions (mapping_extension mapping.now) }) result }
+    ensures change { (profile : Profile)
+        → IsChange profile (state S.Store tx.old.conn.now) (state S.Store tx.new.conn.now) (λ p. ⊤)
+        (λ p. record p
+        { extensions = remove p.extensions (mapping_extension mapping.now) }) result }
 {
     run(
         tx,

@@ -24,8 +24,10 @@ fn has_pairing<S: Alter>(
     related_id: i64,
 ) -> Result<bool, Fault>
     ensures same_reference { tx.new.conn.ghost_name ≡ tx.old.conn.ghost_name }
-    ensures look { (profile : Profile) → IsLook profile (state S.Store tx.old.conn.now) (state S.Store tx.new.conn.now)
-        (λ p found. found ≡ contains_key p.pairings (pairing mapping.now base_id related_id)) result }
+    ensures look { (profile : Profile)
+        → IsLook profile (state S.Store tx.old.conn.now) (state S.Store tx.new.conn.now)
+        (λ p found. found ≡ contains_key p.pairings
+        (pairing mapping.now base_id related_id)) result }
 {
     exists(
         tx,
@@ -42,8 +44,10 @@ fn map_refusal<S: Alter>(
     related_id: i64,
 ) -> Result<Option<u8>, Fault>
     ensures same_reference { tx.new.conn.ghost_name ≡ tx.old.conn.ghost_name }
-    ensures look { (profile : Profile) → IsLook profile (state S.Store tx.old.conn.now) (state S.Store tx.new.conn.now)
-        (λ p why. why ≡ least (own_reasons p (commands.Map mapping.now base_id related_id))) result }
+    ensures look { (profile : Profile)
+        → IsLook profile (state S.Store tx.old.conn.now) (state S.Store tx.new.conn.now)
+        (λ p why. why
+        ≡ least (own_reasons p (commands.Map mapping.now base_id related_id))) result }
 {
     let Some((base, related)) = ends_of(tx, mapping)? else {
         return Ok(Some(44));
@@ -66,9 +70,11 @@ fn insert_pairing<S: Alter>(
     related_id: i64,
 ) -> Result<(), Fault>
     ensures same_reference { tx.new.conn.ghost_name ≡ tx.old.conn.ghost_name }
-    ensures change { (profile : Profile) → IsChange profile (state S.Store tx.old.conn.now)
-        (state S.Store tx.new.conn.now) (λ p. get p.pairings (pairing mapping.now base_id related_id) ≡ None)
-        (λ p. record p { pairings = insert p.pairings (pairing mapping.now base_id related_id) tt }) result }
+    ensures change { (profile : Profile)
+        → IsChange profile (state S.Store tx.old.conn.now) (state S.Store tx.new.conn.now)
+        (λ p. get p.pairings (pairing mapping.now base_id related_id) ≡ None)
+        (λ p. record p
+        { pairings = insert p.pairings (pairing mapping.now base_id related_id) tt }) result }
 {
     run(
         tx,
@@ -87,8 +93,9 @@ pub fn add_map<S: Alter>(
     related_id: i64,
 ) -> Result<Outcome, Fault>
     ensures same_reference { tx.new.conn.ghost_name ≡ tx.old.conn.ghost_name }
-    ensures lent { (profile : Profile) (moment : ℕ) → IsLent profile (commands.Map mapping.now base_id related_id)
-        moment (state S.Store tx.old.conn.now) (state S.Store tx.new.conn.now) result }
+    ensures lent { (profile : Profile) (moment : ℕ)
+        → IsLent profile (commands.Map mapping.now base_id related_id) moment
+        (state S.Store tx.old.conn.now) (state S.Store tx.new.conn.now) result }
 {
     let mapping = mapping.as_str();
     if let Some(number) = map_refusal(tx, mapping, base_id, related_id)? {
@@ -106,8 +113,10 @@ fn map_drop_refusal<S: Alter>(
     related_id: i64,
 ) -> Result<Option<u8>, Fault>
     ensures same_reference { tx.new.conn.ghost_name ≡ tx.old.conn.ghost_name }
-    ensures look { (profile : Profile) → IsLook profile (state S.Store tx.old.conn.now) (state S.Store tx.new.conn.now)
-        (λ p why. why ≡ least (own_reasons p (commands.MapDrop mapping.now base_id related_id))) result }
+    ensures look { (profile : Profile)
+        → IsLook profile (state S.Store tx.old.conn.now) (state S.Store tx.new.conn.now)
+        (λ p why. why
+        ≡ least (own_reasons p (commands.MapDrop mapping.now base_id related_id))) result }
 {
     if !has_relation(tx, mapping)? {
         return Ok(Some(44));
@@ -127,8 +136,10 @@ fn delete_pairing<S: Alter>(
     related_id: i64,
 ) -> Result<(), Fault>
     ensures same_reference { tx.new.conn.ghost_name ≡ tx.old.conn.ghost_name }
-    ensures change { (profile : Profile) → IsChange profile (state S.Store tx.old.conn.now) (state S.Store tx.new.conn.now) (λ p. ⊤)
-        (λ p. record p { pairings = remove p.pairings (pairing mapping.now base_id related_id) }) result }
+    ensures change { (profile : Profile)
+        → IsChange profile (state S.Store tx.old.conn.now) (state S.Store tx.new.conn.now) (λ p. ⊤)
+        (λ p. record p
+        { pairings = remove p.pairings (pairing mapping.now base_id related_id) }) result }
 {
     run(
         tx,
@@ -146,8 +157,9 @@ pub fn drop_map<S: Alter>(
     related_id: i64,
 ) -> Result<Outcome, Fault>
     ensures same_reference { tx.new.conn.ghost_name ≡ tx.old.conn.ghost_name }
-    ensures lent { (profile : Profile) (moment : ℕ) → IsLent profile (commands.MapDrop mapping.now base_id related_id)
-        moment (state S.Store tx.old.conn.now) (state S.Store tx.new.conn.now) result }
+    ensures lent { (profile : Profile) (moment : ℕ)
+        → IsLent profile (commands.MapDrop mapping.now base_id related_id) moment
+        (state S.Store tx.old.conn.now) (state S.Store tx.new.conn.now) result }
 {
     let mapping = mapping.as_str();
     if let Some(number) = map_drop_refusal(tx, mapping, base_id, related_id)? {

@@ -36,8 +36,10 @@ fn text_of_name(name: RelationName) -> &'static str
 /// Whether tables of these kinds can be the ends of a relation of this name: the base is no pyramid, and the related table
 /// is of the kind that the name says.
 fn suits(base: Kind, related: Kind, name: RelationName) -> bool
-    ensures { result ≡ ((same_text (kind_text kinds.Attributes) (kind_text base) || same_text (kind_text kinds.Media)
-        (kind_text base)) && same_text (kind_text (related_kind name)) (kind_text related)) }
+    ensures { result
+        ≡ ((same_text (kind_text kinds.Attributes) (kind_text base)
+        || same_text (kind_text kinds.Media) (kind_text base))
+        && same_text (kind_text (related_kind name)) (kind_text related)) }
 {
     match (base, related, name) {
         (Kind::Two | Kind::Other, _, _) => false,
@@ -56,8 +58,11 @@ fn relation_refusal<S: Alter>(
     name: RelationName,
 ) -> Result<Option<u8>, Fault>
     ensures same_reference { tx.new.conn.ghost_name ≡ tx.old.conn.ghost_name }
-    ensures look { (profile : Profile) → IsLook profile (state S.Store tx.old.conn.now) (state S.Store tx.new.conn.now)
-        (λ p why. Meets profile p → why ≡ least (own_reasons p (commands.Relation mapping.now base.now related.now name))) result }
+    ensures look { (profile : Profile)
+        → IsLook profile (state S.Store tx.old.conn.now) (state S.Store tx.new.conn.now)
+        (λ p why. Meets profile p
+        → why ≡ least
+        (own_reasons p (commands.Relation mapping.now base.now related.now name))) result }
 {
     let Some(based) = kind_of(tx, base)? else {
         return Ok(Some(25));
@@ -84,9 +89,13 @@ fn insert_relation<S: Alter>(
     name: &str,
 ) -> Result<(), Fault>
     ensures same_reference { tx.new.conn.ghost_name ≡ tx.old.conn.ghost_name }
-    ensures change { (profile : Profile) → IsChange profile (state S.Store tx.old.conn.now)
-        (state S.Store tx.new.conn.now) (λ p. get p.relations mapping.now ≡ None)
-        (λ p. record p { relations = insert p.relations mapping.now (new_relation base.now related.now name.now) }) result }
+    ensures change { (profile : Profile)
+        → IsChange profile (state S.Store tx.old.conn.now) (state S.Store tx.new.conn.now)
+        (λ p. get p.relations mapping.now ≡ None)
+        (λ p. record p {
+          relations = insert p.relations mapping.now
+              (new_relation base.now related.now name.now);
+        }) result }
 {
     run(
         tx,
@@ -105,9 +114,9 @@ fn relate<S: Alter>(
 ) -> Result<Outcome, Fault>
     requires { IsName mapping.now }
     ensures same_reference { tx.new.conn.ghost_name ≡ tx.old.conn.ghost_name }
-    ensures lent { (profile : Profile) (moment : ℕ) → IsLent profile
-        (commands.Relation mapping.now base.now related.now name) moment (state S.Store tx.old.conn.now)
-        (state S.Store tx.new.conn.now) result }
+    ensures lent { (profile : Profile) (moment : ℕ)
+        → IsLent profile (commands.Relation mapping.now base.now related.now name) moment
+        (state S.Store tx.old.conn.now) (state S.Store tx.new.conn.now) result }
 {
     if let Some(number) = relation_refusal(tx, mapping, base, related, name)? {
         return Ok(Outcome::refused(number));
@@ -128,9 +137,9 @@ pub fn add_relation<S: Alter>(
     name: RelationName,
 ) -> Result<Outcome, Fault>
     ensures same_reference { tx.new.conn.ghost_name ≡ tx.old.conn.ghost_name }
-    ensures lent { (profile : Profile) (moment : ℕ) → IsLent profile
-        (commands.Relation mapping.now base.now related.now name) moment (state S.Store tx.old.conn.now)
-        (state S.Store tx.new.conn.now) result }
+    ensures lent { (profile : Profile) (moment : ℕ)
+        → IsLent profile (commands.Relation mapping.now base.now related.now name) moment
+        (state S.Store tx.old.conn.now) (state S.Store tx.new.conn.now) result }
 {
     relate(tx, mapping.as_str(), base.as_str(), related.as_str(), name)
 }
@@ -155,7 +164,8 @@ pub fn drop_relation<S: Alter>(
     mapping: &Name,
 ) -> Result<Outcome, Fault>
     ensures same_reference { tx.new.conn.ghost_name ≡ tx.old.conn.ghost_name }
-    ensures lent { (profile : Profile) (moment : ℕ) → IsLent profile (commands.RelationDrop mapping.now) moment
+    ensures lent { (profile : Profile) (moment : ℕ)
+        → IsLent profile (commands.RelationDrop mapping.now) moment
         (state S.Store tx.old.conn.now) (state S.Store tx.new.conn.now) result }
 {
     let mapping = mapping.as_str();

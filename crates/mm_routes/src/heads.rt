@@ -24,7 +24,9 @@ pub fn read_head<R: Read>(
     ensures head { IfOk result (λ o. IfSome (R.remaining (inside reader.old))
         (λ input. Heads (length buf.old) (length headers.old) input buf.new headers.new o)) }
     ensures lies { IfOk result (λ o. Lies buf.new headers.new o) }
-    ensures frugal { OnOk result (ReadsNoMore (length buf.old) (R.remaining (inside reader.old)) (R.remaining (inside reader.new))) }
+    ensures frugal { OnOk result
+        (ReadsNoMore (length buf.old) (R.remaining (inside reader.old))
+        (R.remaining (inside reader.new))) }
     ensures fault { IfErr result (λ f. (f.0 ≡ 96) × (has_failed reader.new ≡ true)) }
 {
     let mut len = 0;
@@ -47,5 +49,6 @@ pub fn read_head<R: Read>(
 
 /// An input has at most one head.
 pub fn one_head()
-    ensures { (limit room : ℕ) (input : List ℕ) (h k : RequestHead) → IsHead limit room input h → IsHead limit room input k → h ≡ k }
+    ensures { (limit room : ℕ) (input : List ℕ) (h k : RequestHead) → IsHead limit room input h
+        → IsHead limit room input k → h ≡ k }
 {}

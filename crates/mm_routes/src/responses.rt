@@ -40,8 +40,8 @@ fn response(
     header: &str,
     body: &[u8],
 ) -> Result<Vec<u8>, AllocError>
-    ensures { IfOk result (λ v. v.items ≡ codes "HTTP/1.1 " ++ code_digits status ++ codes " " ++ reason status
-        ++ codes "\r\n" ++ header.now ++ framed body.now) }
+    ensures { IfOk result (λ v. v.items ≡ codes "HTTP/1.1 " ++ code_digits status ++ codes " "
+        ++ reason status ++ codes "\r\n" ++ header.now ++ framed body.now) }
 {
     joined(alloc, status.as_str(), reason_of(status), header, body)
 }

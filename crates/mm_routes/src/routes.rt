@@ -61,7 +61,8 @@ pub enum Wanted {
 }
 
 fn name_of(params: &Params<'_, '_>, key: &str) -> Option<Name>
-    ensures { (v : Text) → Took params.now key.now v → MatchOption result (¬ (IsName v)) (λ name. (name ≡ v) × IsName v) }
+    ensures { (v : Text) → Took params.now key.now v
+        → MatchOption result (¬ (IsName v)) (λ name. (name ≡ v) × IsName v) }
 {
     let text = params.get(key)?;
     Name::read(text)
@@ -69,8 +70,8 @@ fn name_of(params: &Params<'_, '_>, key: &str) -> Option<Name>
 
 fn number_of(params: &Params<'_, '_>, key: &str, least: i64, most: i64) -> Option<i64>
     ensures bounds { IfSome result (λ z. (least ≤ℤ z) × (z ≤ℤ most)) }
-    ensures number { (v : Text) → Took params.now key.now v → MatchOption result ((z : ℤ) → ¬ (Numbers least most v z))
-        (λ z. Numbers least most v z) }
+    ensures number { (v : Text) → Took params.now key.now v
+        → MatchOption result ((z : ℤ) → ¬ (Numbers least most v z)) (λ z. Numbers least most v z) }
 {
     let text = params.get(key)?;
     match read_number(text, least, most) {
@@ -121,7 +122,8 @@ fn row_wanted(params: &Params<'_, '_>) -> Option<(Name, i64)>
 fn routed(router: &Router<Route>, path: &str) -> Option<Wanted>
     requires routes { router.now ≡ page_rows }
     requires ascii { IsAscii path.now }
-    ensures { MatchOption result ((w : page.Wanted) → ¬ (IsRouted path.now w)) (λ w. IsRouted path.now (asked w)) }
+    ensures { MatchOption result ((w : page.Wanted) → ¬ (IsRouted path.now w))
+        (λ w. IsRouted path.now (asked w)) }
 {
     let Ok(found) = router.at(path) else {
         return None;
@@ -143,7 +145,8 @@ fn routed(router: &Router<Route>, path: &str) -> Option<Wanted>
 /// What a path asks for, or None where it takes no route, or a part of it is no name or number within its limits.
 /// 90 where there is no memory for the routes.
 pub fn read_path(alloc: Global, path: &str) -> Result<Option<Wanted>, Fault>
-    ensures wanted { IfOk result (λ wanted. MatchOption wanted ((w : page.Wanted) → ¬ (IsRouted path.now w))
+    ensures wanted { IfOk result
+        (λ wanted. MatchOption wanted ((w : page.Wanted) → ¬ (IsRouted path.now w))
         (λ w. IsRouted path.now (asked w))) }
     ensures fault { IfErr result (λ f. f.0 ≡ 90) }
 {

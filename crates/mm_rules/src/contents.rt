@@ -48,7 +48,8 @@ impl RowTest for MayName {
 
 /// Of rule 2, what it asks of contents.
 pub fn contents_systems<S: Alter>(conn: &mut Connection<S>) -> Result<bool, Fault>
-    ensures { (profile : Profile) → IsCheck profile (state S.Store conn.old) (state S.Store conn.new) (λ _. ⊤)
+    ensures { (profile : Profile)
+        → IsCheck profile (state S.Store conn.old) (state S.Store conn.new) (λ _. ⊤)
         (λ p. ContentsSystems p) result }
 {
     each_passes(
@@ -61,7 +62,9 @@ pub fn contents_systems<S: Alter>(conn: &mut Connection<S>) -> Result<bool, Faul
 
 /// Of rule 2, what it asks of matrix sets.
 pub fn set_systems<S: Alter>(conn: &mut Connection<S>) -> Result<bool, Fault>
-    ensures { (profile : Profile) → IsCheck profile (state S.Store conn.old) (state S.Store conn.new) (λ _. ⊤) (λ p. SetSystems p) result }
+    ensures { (profile : Profile)
+        → IsCheck profile (state S.Store conn.old) (state S.Store conn.new) (λ _. ⊤)
+        (λ p. SetSystems p) result }
 {
     each_passes(
         conn,
@@ -73,7 +76,8 @@ pub fn set_systems<S: Alter>(conn: &mut Connection<S>) -> Result<bool, Fault>
 
 /// Rule 2: each system that is named stands, and no pyramid names a geographic one.
 pub fn named_systems<S: Alter>(conn: &mut Connection<S>) -> Result<bool, Fault>
-    ensures { (profile : Profile) → IsCheck profile (state S.Store conn.old) (state S.Store conn.new) (λ _. ⊤)
+    ensures { (profile : Profile)
+        → IsCheck profile (state S.Store conn.old) (state S.Store conn.new) (λ _. ⊤)
         (λ p. NamedSystems p.systems p.contents p.kinds p.sets) result }
 {
     if contents_systems(conn)? {
@@ -102,7 +106,8 @@ impl RowTest for Same {
 
 /// Rule 3: identifiers differ.
 pub fn distinct_identifiers<S: Alter>(conn: &mut Connection<S>) -> Result<bool, Fault>
-    ensures { (profile : Profile) → IsCheck profile (state S.Store conn.old) (state S.Store conn.new) (λ _. ⊤)
+    ensures { (profile : Profile)
+        → IsCheck profile (state S.Store conn.old) (state S.Store conn.new) (λ _. ⊤)
         (λ p. DistinctIdentifiers p.contents) result }
 {
     each_passes(
@@ -130,7 +135,8 @@ impl RowTest for Absent {
 
 /// Of rule 4, that no mapping has the name of a table.
 pub fn mapping_names<S: Alter>(conn: &mut Connection<S>) -> Result<bool, Fault>
-    ensures { (profile : Profile) → IsCheck profile (state S.Store conn.old) (state S.Store conn.new) (λ _. ⊤)
+    ensures { (profile : Profile)
+        → IsCheck profile (state S.Store conn.old) (state S.Store conn.new) (λ _. ⊤)
         (λ p. MappingNames p) result }
 {
     each_passes(
@@ -143,8 +149,9 @@ pub fn mapping_names<S: Alter>(conn: &mut Connection<S>) -> Result<bool, Fault>
 
 /// Rule 4, where rule 16 holds: no mapping has the name of a table.
 pub fn names<S: Alter>(conn: &mut Connection<S>) -> Result<bool, Fault>
-    ensures { (profile : Profile) → IsCheck profile (state S.Store conn.old) (state S.Store conn.new)
-        (λ p. Limits profile p) (λ p. Names p.contents p.relations p.editions) result }
+    ensures { (profile : Profile)
+        → IsCheck profile (state S.Store conn.old) (state S.Store conn.new) (λ p. Limits profile p)
+        (λ p. Names p.contents p.relations p.editions) result }
 {
     mapping_names(conn)
 }
@@ -230,7 +237,9 @@ impl RowTest for Suited {
 
 /// Of rule 5, that each table has a kind that suits it.
 pub fn registered<S: Alter>(conn: &mut Connection<S>) -> Result<bool, Fault>
-    ensures { (profile : Profile) → IsCheck profile (state S.Store conn.old) (state S.Store conn.new) (λ _. ⊤) (λ p. Registered p) result }
+    ensures { (profile : Profile)
+        → IsCheck profile (state S.Store conn.old) (state S.Store conn.new) (λ _. ⊤)
+        (λ p. Registered p) result }
 {
     each_passes(
         conn,
@@ -242,7 +251,8 @@ pub fn registered<S: Alter>(conn: &mut Connection<S>) -> Result<bool, Fault>
 
 /// Of rule 5, that each kind is that of a table.
 pub fn kinds_have_contents<S: Alter>(conn: &mut Connection<S>) -> Result<bool, Fault>
-    ensures { (profile : Profile) → IsCheck profile (state S.Store conn.old) (state S.Store conn.new) (λ _. ⊤)
+    ensures { (profile : Profile)
+        → IsCheck profile (state S.Store conn.old) (state S.Store conn.new) (λ _. ⊤)
         (λ p. KindsHaveContents p) result }
 {
     each_passes(
@@ -255,7 +265,8 @@ pub fn kinds_have_contents<S: Alter>(conn: &mut Connection<S>) -> Result<bool, F
 
 /// Of rule 5, that each matrix set is that of a table.
 pub fn sets_have_contents<S: Alter>(conn: &mut Connection<S>) -> Result<bool, Fault>
-    ensures { (profile : Profile) → IsCheck profile (state S.Store conn.old) (state S.Store conn.new) (λ _. ⊤)
+    ensures { (profile : Profile)
+        → IsCheck profile (state S.Store conn.old) (state S.Store conn.new) (λ _. ⊤)
         (λ p. SetsHaveContents p) result }
 {
     each_passes(
@@ -268,7 +279,8 @@ pub fn sets_have_contents<S: Alter>(conn: &mut Connection<S>) -> Result<bool, Fa
 
 /// Of rule 5, that kinds and matrix sets are those of tables.
 pub fn have_contents<S: Alter>(conn: &mut Connection<S>) -> Result<bool, Fault>
-    ensures { (profile : Profile) → IsCheck profile (state S.Store conn.old) (state S.Store conn.new) (λ _. ⊤)
+    ensures { (profile : Profile)
+        → IsCheck profile (state S.Store conn.old) (state S.Store conn.new) (λ _. ⊤)
         (λ p. KindsHaveContents p × SetsHaveContents p) result }
 {
     if kinds_have_contents(conn)? {
@@ -280,7 +292,8 @@ pub fn have_contents<S: Alter>(conn: &mut Connection<S>) -> Result<bool, Fault>
 
 /// Rule 5: the registry, the contents and the matrix sets speak of the same tables.
 pub fn registry<S: Alter>(conn: &mut Connection<S>) -> Result<bool, Fault>
-    ensures { (profile : Profile) → IsCheck profile (state S.Store conn.old) (state S.Store conn.new) (λ _. ⊤)
+    ensures { (profile : Profile)
+        → IsCheck profile (state S.Store conn.old) (state S.Store conn.new) (λ _. ⊤)
         (λ p. Registry p.contents p.kinds p.sets) result }
 {
     if registered(conn)? {
@@ -292,7 +305,8 @@ pub fn registry<S: Alter>(conn: &mut Connection<S>) -> Result<bool, Fault>
 
 /// Whether one column is below another, where both hold numbers.
 fn are_ordered(row: &Row, low: usize, high: usize) -> bool
-    ensures { IsTrue result ↔ IsOrdered (number_of (column row.now low)) (number_of (column row.now high)) }
+    ensures { IsTrue result ↔ IsOrdered (number_of (column row.now low))
+        (number_of (column row.now high)) }
 {
     match (number(row, low), number(row, high)) {
         (Some(low), Some(high)) => low < high,
@@ -323,7 +337,9 @@ impl RowTest for Ordered {
 
 /// Of rule 6, what it asks of matrix sets.
 pub fn set_extents<S: Alter>(conn: &mut Connection<S>) -> Result<bool, Fault>
-    ensures { (profile : Profile) → IsCheck profile (state S.Store conn.old) (state S.Store conn.new) (λ _. ⊤) (λ p. SetExtents p) result }
+    ensures { (profile : Profile)
+        → IsCheck profile (state S.Store conn.old) (state S.Store conn.new) (λ _. ⊤)
+        (λ p. SetExtents p) result }
 {
     each_passes(
         conn,
@@ -335,7 +351,8 @@ pub fn set_extents<S: Alter>(conn: &mut Connection<S>) -> Result<bool, Fault>
 
 /// Of rule 6, what it asks of contents.
 pub fn contents_extents<S: Alter>(conn: &mut Connection<S>) -> Result<bool, Fault>
-    ensures { (profile : Profile) → IsCheck profile (state S.Store conn.old) (state S.Store conn.new) (λ _. ⊤)
+    ensures { (profile : Profile)
+        → IsCheck profile (state S.Store conn.old) (state S.Store conn.new) (λ _. ⊤)
         (λ p. ContentsExtents p) result }
 {
     each_passes(
@@ -348,7 +365,8 @@ pub fn contents_extents<S: Alter>(conn: &mut Connection<S>) -> Result<bool, Faul
 
 /// Rule 6: extents are not empty.
 pub fn extents<S: Alter>(conn: &mut Connection<S>) -> Result<bool, Fault>
-    ensures { (profile : Profile) → IsCheck profile (state S.Store conn.old) (state S.Store conn.new) (λ _. ⊤)
+    ensures { (profile : Profile)
+        → IsCheck profile (state S.Store conn.old) (state S.Store conn.new) (λ _. ⊤)
         (λ p. Extents p.contents p.sets) result }
 {
     if set_extents(conn)? {

@@ -63,7 +63,8 @@ impl RowTest for Wanted {
 
 /// Of rule 14, that each extension row is wanted.
 pub fn extensions_wanted<S: Alter>(conn: &mut Connection<S>) -> Result<bool, Fault>
-    ensures { (profile : Profile) → IsCheck profile (state S.Store conn.old) (state S.Store conn.new) (λ _. ⊤)
+    ensures { (profile : Profile)
+        → IsCheck profile (state S.Store conn.old) (state S.Store conn.new) (λ _. ⊤)
         (λ p. ExtensionsWanted p) result }
 {
     each_passes(
@@ -87,7 +88,9 @@ impl RowTest for Never {
 
 /// Of rule 14, that no extension row of a table stands twice.
 pub fn named_once<S: Alter>(conn: &mut Connection<S>) -> Result<bool, Fault>
-    ensures { (profile : Profile) → IsCheck profile (state S.Store conn.old) (state S.Store conn.new) (λ _. ⊤) (λ p. NamedOnce p) result }
+    ensures { (profile : Profile)
+        → IsCheck profile (state S.Store conn.old) (state S.Store conn.new) (λ _. ⊤)
+        (λ p. NamedOnce p) result }
 {
     each_passes(
         conn,
@@ -99,7 +102,9 @@ pub fn named_once<S: Alter>(conn: &mut Connection<S>) -> Result<bool, Fault>
 
 /// Of rule 14, that no extension row without a table stands twice.
 pub fn unnamed_once<S: Alter>(conn: &mut Connection<S>) -> Result<bool, Fault>
-    ensures { (profile : Profile) → IsCheck profile (state S.Store conn.old) (state S.Store conn.new) (λ _. ⊤) (λ p. UnnamedOnce p) result }
+    ensures { (profile : Profile)
+        → IsCheck profile (state S.Store conn.old) (state S.Store conn.new) (λ _. ⊤)
+        (λ p. UnnamedOnce p) result }
 {
     each_passes(
         conn,
@@ -112,7 +117,8 @@ pub fn unnamed_once<S: Alter>(conn: &mut Connection<S>) -> Result<bool, Fault>
 /// Of rule 14, that no extension row stands twice. The rows of tables are found by their index, which IS can't use; there are
 /// no others in a package that keeps the rule.
 pub fn extensions_once<S: Alter>(conn: &mut Connection<S>) -> Result<bool, Fault>
-    ensures { (profile : Profile) → IsCheck profile (state S.Store conn.old) (state S.Store conn.new) (λ _. ⊤)
+    ensures { (profile : Profile)
+        → IsCheck profile (state S.Store conn.old) (state S.Store conn.new) (λ _. ⊤)
         (λ p. ExtensionsOnce p) result }
 {
     if named_once(conn)? {
@@ -139,7 +145,8 @@ impl RowTest for Standing {
 
 /// Of rule 14, that the row of related tables stands.
 pub fn general_extension<S: Alter>(conn: &mut Connection<S>) -> Result<bool, Fault>
-    ensures { (profile : Profile) → IsCheck profile (state S.Store conn.old) (state S.Store conn.new) (λ _. ⊤)
+    ensures { (profile : Profile)
+        → IsCheck profile (state S.Store conn.old) (state S.Store conn.new) (λ _. ⊤)
         (λ p. GeneralExtension p) result }
 {
     each_passes(
@@ -152,7 +159,8 @@ pub fn general_extension<S: Alter>(conn: &mut Connection<S>) -> Result<bool, Fau
 
 /// Of rule 14, that each mapping has its row.
 pub fn mapping_extensions<S: Alter>(conn: &mut Connection<S>) -> Result<bool, Fault>
-    ensures { (profile : Profile) → IsCheck profile (state S.Store conn.old) (state S.Store conn.new) (λ _. ⊤)
+    ensures { (profile : Profile)
+        → IsCheck profile (state S.Store conn.old) (state S.Store conn.new) (λ _. ⊤)
         (λ p. MappingExtensions p) result }
 {
     each_passes(
@@ -182,7 +190,8 @@ impl RowTest for Marked {
 
 /// Of rule 14, that each pyramid of kind `other` has its row.
 pub fn zoom_extensions<S: Alter>(conn: &mut Connection<S>) -> Result<bool, Fault>
-    ensures { (profile : Profile) → IsCheck profile (state S.Store conn.old) (state S.Store conn.new) (λ _. ⊤)
+    ensures { (profile : Profile)
+        → IsCheck profile (state S.Store conn.old) (state S.Store conn.new) (λ _. ⊤)
         (λ p. ZoomExtensions p) result }
 {
     each_passes(
@@ -195,7 +204,8 @@ pub fn zoom_extensions<S: Alter>(conn: &mut Connection<S>) -> Result<bool, Fault
 
 /// Of rule 14, that each mapping and each pyramid of kind `other` has its row.
 pub fn pyramids_marked<S: Alter>(conn: &mut Connection<S>) -> Result<bool, Fault>
-    ensures { (profile : Profile) → IsCheck profile (state S.Store conn.old) (state S.Store conn.new) (λ _. ⊤)
+    ensures { (profile : Profile)
+        → IsCheck profile (state S.Store conn.old) (state S.Store conn.new) (λ _. ⊤)
         (λ p. MappingExtensions p × ZoomExtensions p) result }
 {
     if mapping_extensions(conn)? {
@@ -207,7 +217,8 @@ pub fn pyramids_marked<S: Alter>(conn: &mut Connection<S>) -> Result<bool, Fault
 
 /// Of rule 14, that each row that is wanted stands.
 pub fn all_stand<S: Alter>(conn: &mut Connection<S>) -> Result<bool, Fault>
-    ensures { (profile : Profile) → IsCheck profile (state S.Store conn.old) (state S.Store conn.new) (λ _. ⊤)
+    ensures { (profile : Profile)
+        → IsCheck profile (state S.Store conn.old) (state S.Store conn.new) (λ _. ⊤)
         (λ p. GeneralExtension p × (MappingExtensions p × ZoomExtensions p)) result }
 {
     if general_extension(conn)? {
@@ -219,8 +230,10 @@ pub fn all_stand<S: Alter>(conn: &mut Connection<S>) -> Result<bool, Fault>
 
 /// Of rule 14, that each row that is wanted stands, and no row twice.
 pub fn all_stand_once<S: Alter>(conn: &mut Connection<S>) -> Result<bool, Fault>
-    ensures { (profile : Profile) → IsCheck profile (state S.Store conn.old) (state S.Store conn.new) (λ _. ⊤)
-        (λ p. ExtensionsOnce p × (GeneralExtension p × (MappingExtensions p × ZoomExtensions p))) result }
+    ensures { (profile : Profile)
+        → IsCheck profile (state S.Store conn.old) (state S.Store conn.new) (λ _. ⊤)
+        (λ p. ExtensionsOnce p
+        × (GeneralExtension p × (MappingExtensions p × ZoomExtensions p))) result }
 {
     if extensions_once(conn)? {
         all_stand(conn)
@@ -231,7 +244,8 @@ pub fn all_stand_once<S: Alter>(conn: &mut Connection<S>) -> Result<bool, Fault>
 
 /// Rule 14: the extension rows are exactly those that are wanted, each once.
 pub fn extensions<S: Alter>(conn: &mut Connection<S>) -> Result<bool, Fault>
-    ensures { (profile : Profile) → IsCheck profile (state S.Store conn.old) (state S.Store conn.new) (λ _. ⊤)
+    ensures { (profile : Profile)
+        → IsCheck profile (state S.Store conn.old) (state S.Store conn.new) (λ _. ⊤)
         (λ p. ExactExtensions p.kinds p.relations p.extensions) result }
 {
     if extensions_wanted(conn)? {

@@ -32,7 +32,8 @@ impl RowTest for OfAttributes {
 
 /// Of rule 11, what it asks of attribute rows.
 pub fn rows_in_tables<S: Alter>(conn: &mut Connection<S>) -> Result<bool, Fault>
-    ensures { (profile : Profile) → IsCheck profile (state S.Store conn.old) (state S.Store conn.new) (λ _. ⊤)
+    ensures { (profile : Profile)
+        → IsCheck profile (state S.Store conn.old) (state S.Store conn.new) (λ _. ⊤)
         (λ p. RowsInTables p) result }
 {
     each_passes(
@@ -60,7 +61,8 @@ impl RowTest for OfMedia {
 
 /// Of rule 11, what it asks of media.
 pub fn media_in_tables<S: Alter>(conn: &mut Connection<S>) -> Result<bool, Fault>
-    ensures { (profile : Profile) → IsCheck profile (state S.Store conn.old) (state S.Store conn.new) (λ _. ⊤)
+    ensures { (profile : Profile)
+        → IsCheck profile (state S.Store conn.old) (state S.Store conn.new) (λ _. ⊤)
         (λ p. MediaInTables p) result }
 {
     each_passes(
@@ -73,7 +75,8 @@ pub fn media_in_tables<S: Alter>(conn: &mut Connection<S>) -> Result<bool, Fault
 
 /// Rule 11: rows and media belong to tables of their kind.
 pub fn items<S: Alter>(conn: &mut Connection<S>) -> Result<bool, Fault>
-    ensures { (profile : Profile) → IsCheck profile (state S.Store conn.old) (state S.Store conn.new) (λ _. ⊤)
+    ensures { (profile : Profile)
+        → IsCheck profile (state S.Store conn.old) (state S.Store conn.new) (λ _. ⊤)
         (λ p. Items p.kinds p.rows p.media) result }
 {
     if rows_in_tables(conn)? {
@@ -94,7 +97,8 @@ fn is_base(row: &Row) -> bool
 /// Whether the kind of the related table is the one that the relation's name asks for.
 fn is_related(row: &Row) -> bool
     ensures { IsTrue result
-        ↔ ((text_bytes (column row.now 4) ≡ Some (codes "media")) × (text_bytes (column row.now 1) ≡ Some (codes "media")))
+        ↔ ((text_bytes (column row.now 4) ≡ Some (codes "media"))
+        × (text_bytes (column row.now 1) ≡ Some (codes "media")))
         ⊎ ((text_bytes (column row.now 4) ≡ Some (codes "simple_attributes"))
         × (text_bytes (column row.now 1) ≡ Some (codes "attributes"))) }
 {
@@ -131,7 +135,8 @@ impl RowTest for Suited {
 
 /// Rule 12: relations join tables of the kinds that their names ask for.
 pub fn relations_suited<S: Alter>(conn: &mut Connection<S>) -> Result<bool, Fault>
-    ensures { (profile : Profile) → IsCheck profile (state S.Store conn.old) (state S.Store conn.new) (λ _. ⊤)
+    ensures { (profile : Profile)
+        → IsCheck profile (state S.Store conn.old) (state S.Store conn.new) (λ _. ⊤)
         (λ p. RelationsSuited p.kinds p.relations) result }
 {
     each_passes(
@@ -169,7 +174,8 @@ impl RowTest for Joined {
 
 /// Rule 13: each mapping row names a relation, and both its ends stand.
 pub fn pairings_join<S: Alter>(conn: &mut Connection<S>) -> Result<bool, Fault>
-    ensures { (profile : Profile) → IsCheck profile (state S.Store conn.old) (state S.Store conn.new) (λ _. ⊤)
+    ensures { (profile : Profile)
+        → IsCheck profile (state S.Store conn.old) (state S.Store conn.new) (λ _. ⊤)
         (λ p. PairingsJoin p.rows p.media p.relations p.pairings) result }
 {
     each_passes(

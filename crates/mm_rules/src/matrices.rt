@@ -24,7 +24,8 @@ fn distance(low: i64, high: i64) -> i128
 
 /// What so many tiles of so many pixels of this size measure, where a number of 128 bits holds it.
 fn measure(tiles: i64, pixels: i64, size: i64) -> Option<i128>
-    ensures { MatchOption result (¬ (FitsSigned w128 ((tiles *ℤ pixels) *ℤ size))) (λ length. length ≡ (tiles *ℤ pixels) *ℤ size) }
+    ensures { MatchOption result (¬ (FitsSigned w128 ((tiles *ℤ pixels) *ℤ size)))
+        (λ length. length ≡ (tiles *ℤ pixels) *ℤ size) }
 {
     let count = tiles as i128 * pixels as i128;
     count.checked_mul(size as i128)
@@ -49,8 +50,9 @@ fn reaches(low: i64, high: i64, tiles: i64, pixels: i64, size: i64) -> bool
 
 /// The same of the numbers in five columns.
 fn covers(row: &Row, low: usize, high: usize, tiles: usize, pixels: usize, size: usize) -> bool
-    ensures { IsTrue result ↔ covered_by (number_of (column row.now low)) (number_of (column row.now high))
-        (number_of (column row.now tiles)) (number_of (column row.now pixels)) (number_of (column row.now size)) }
+    ensures { IsTrue result ↔ covered_by (number_of (column row.now low))
+        (number_of (column row.now high)) (number_of (column row.now tiles))
+        (number_of (column row.now pixels)) (number_of (column row.now size)) }
 {
     let ends = (number(row, low), number(row, high));
     let sides = (number(row, tiles), number(row, pixels), number(row, size));
@@ -115,7 +117,8 @@ impl RowTest for Fitting {
 
 /// Rule 7: each matrix belongs to a pyramid and covers its extent exactly.
 pub fn matrices_fit<S: Alter>(conn: &mut Connection<S>) -> Result<bool, Fault>
-    ensures { (profile : Profile) → IsCheck profile (state S.Store conn.old) (state S.Store conn.new) (λ _. ⊤)
+    ensures { (profile : Profile)
+        → IsCheck profile (state S.Store conn.old) (state S.Store conn.new) (λ _. ⊤)
         (λ p. MatricesFit p.kinds p.sets p.matrices) result }
 {
     each_passes(
@@ -156,7 +159,8 @@ impl RowTest for Finer {
 
 /// Rule 8: of any two zooms of a pyramid the higher has the smaller pixels.
 pub fn higher_is_finer<S: Alter>(conn: &mut Connection<S>) -> Result<bool, Fault>
-    ensures { (profile : Profile) → IsCheck profile (state S.Store conn.old) (state S.Store conn.new) (λ _. ⊤)
+    ensures { (profile : Profile)
+        → IsCheck profile (state S.Store conn.old) (state S.Store conn.new) (λ _. ⊤)
         (λ p. HigherIsFiner p.matrices) result }
 {
     each_passes(
@@ -169,7 +173,8 @@ pub fn higher_is_finer<S: Alter>(conn: &mut Connection<S>) -> Result<bool, Fault
 
 /// Whether two columns hold a zoom and the one after it.
 fn are_next(row: &Row, low: usize, high: usize) -> bool
-    ensures { IsTrue result ↔ next_by (number_of (column row.now low)) (number_of (column row.now high)) }
+    ensures { IsTrue result ↔ next_by (number_of (column row.now low))
+        (number_of (column row.now high)) }
 {
     match (number(row, low), number(row, high)) {
         (Some(low), Some(high)) => high as i128 == low as i128 + 1,
@@ -185,8 +190,9 @@ fn is_twice(size: i64, half: i64) -> bool
 
 /// Whether the pixel sizes at the higher zoom are half of those at the lower one.
 fn are_halved(row: &Row) -> bool
-    ensures { IsTrue result ↔ halved_by (number_of (column row.now 3)) (number_of (column row.now 4))
-        (number_of (column row.now 5)) (number_of (column row.now 6)) }
+    ensures { IsTrue result ↔ halved_by (number_of (column row.now 3))
+        (number_of (column row.now 4)) (number_of (column row.now 5))
+        (number_of (column row.now 6)) }
 {
     let low = (number(row, Halved::LOW_X), number(row, Halved::LOW_Y));
     let high = (number(row, Halved::HIGH_X), number(row, Halved::HIGH_Y));
@@ -233,7 +239,8 @@ impl RowTest for Halved {
 
 /// Rule 9: in a pyramid of kind `two` the next zoom halves the pixels.
 pub fn next_is_halved<S: Alter>(conn: &mut Connection<S>) -> Result<bool, Fault>
-    ensures { (profile : Profile) → IsCheck profile (state S.Store conn.old) (state S.Store conn.new) (λ _. ⊤)
+    ensures { (profile : Profile)
+        → IsCheck profile (state S.Store conn.old) (state S.Store conn.new) (λ _. ⊤)
         (λ p. NextIsHalved p.kinds p.matrices) result }
 {
     each_passes(

@@ -15,8 +15,8 @@ use sqlite::{Alter, Connection, Row, params};
 
 /// Whether the columns of the system of geographic coordinates are as they were given.
 fn is_geographic(row: &Row) -> bool
-    ensures { IsTrue result ↔ shows_by geographic (column row.now 0) (column row.now 1) (column row.now 2)
-        (column row.now 3) (column row.now 4) }
+    ensures { IsTrue result ↔ shows_by geographic (column row.now 0) (column row.now 1)
+        (column row.now 2) (column row.now 3) (column row.now 4) }
 {
     text_is(row, Given::GEOGRAPHIC_NAME, "WGS 84 geographic")
         && text_is(row, Given::GEOGRAPHIC_ORGANIZATION, "EPSG")
@@ -27,8 +27,8 @@ fn is_geographic(row: &Row) -> bool
 
 /// Whether those of the undefined Cartesian system are.
 fn is_undefined_cartesian(row: &Row) -> bool
-    ensures { IsTrue result ↔ shows_by undefined_cartesian (column row.now 5) (column row.now 6) (column row.now 7)
-        (column row.now 8) (column row.now 9) }
+    ensures { IsTrue result ↔ shows_by undefined_cartesian (column row.now 5) (column row.now 6)
+        (column row.now 7) (column row.now 8) (column row.now 9) }
 {
     text_is(row, Given::CARTESIAN_NAME, "Undefined Cartesian")
         && text_is(row, Given::CARTESIAN_ORGANIZATION, "NONE")
@@ -43,8 +43,8 @@ fn is_undefined_cartesian(row: &Row) -> bool
 
 /// Whether those of the undefined geographic system are.
 fn is_undefined_geographic(row: &Row) -> bool
-    ensures { IsTrue result ↔ shows_by undefined_geographic (column row.now 10) (column row.now 11) (column row.now 12)
-        (column row.now 13) (column row.now 14) }
+    ensures { IsTrue result ↔ shows_by undefined_geographic (column row.now 10) (column row.now 11)
+        (column row.now 12) (column row.now 13) (column row.now 14) }
 {
     text_is(row, Given::UNDEFINED_NAME, "Undefined geographic")
         && text_is(row, Given::UNDEFINED_ORGANIZATION, "NONE")
@@ -102,7 +102,8 @@ impl RowTest for Given {
 
 /// Rule 1: the three given systems stand as they were given.
 pub fn given_systems<S: Alter>(conn: &mut Connection<S>) -> Result<bool, Fault>
-    ensures { (profile : Profile) → IsCheck profile (state S.Store conn.old) (state S.Store conn.new) (λ _. ⊤)
+    ensures { (profile : Profile)
+        → IsCheck profile (state S.Store conn.old) (state S.Store conn.new) (λ _. ⊤)
         (λ p. GivenSystems p.systems) result }
 {
     each_passes(

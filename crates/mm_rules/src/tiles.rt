@@ -42,7 +42,8 @@ impl RowTest for Inside {
 
 /// Rule 10: each tile lies in the matrix at its zoom.
 pub fn tiles_inside<S: Alter>(conn: &mut Connection<S>) -> Result<bool, Fault>
-    ensures { (profile : Profile) → IsCheck profile (state S.Store conn.old) (state S.Store conn.new) (λ _. ⊤)
+    ensures { (profile : Profile)
+        → IsCheck profile (state S.Store conn.old) (state S.Store conn.new) (λ _. ⊤)
         (λ p. TilesInside p.matrices p.tiles) result }
 {
     each_passes(

@@ -22,10 +22,12 @@ use std::io::Read;
 /// Answers a record: applies the command that it spells.
 fn answer_row<A: Apply>(alloc: Global, session: &mut A, row: ByteRecord, at: Moment) -> Answer
     ensures faults { OnFault result IsApplyFault }
-    ensures session { TellsReopening (A.has_failed session.old) (A.has_failed session.new) (session.new ≡ session.old) result }
+    ensures session { TellsReopening (A.has_failed session.old) (A.has_failed session.new)
+        (session.new ≡ session.old) result }
     ensures clean { A.is_clean session.new → A.is_clean session.old }
     ensures answered { A.is_clean session.new → (p : Package) → IsSound (A.settled session.old) p
-        → IsAnswered (fields_of row) p at (A.has_failed session.old) result (shown A.Apply session.new) }
+        → IsAnswered (fields_of row) p at (A.has_failed session.old) result
+        (shown A.Apply session.new) }
     ensures kept { OnSound (A.is_clean session.new) (A.settled session.old)
         (IsKept (A.has_failed session.old) (shown A.Apply session.new)) }
     ensures ended { A.has_failed session.old ≡ true → IsEnded (fields_of row) result }
@@ -48,15 +50,20 @@ pub(crate) fn turn<A: Apply, T: Read + Tells>(
 ) -> Option<Answer>
     requires { IsSetUp rows.old }
     ensures stays { IfSome result (λ a. IsAnswer a → IsSetUp rows.new) }
-    ensures faults { IfSome result (λ a. OnFault a (λ f. IsRunFault f (T.has_failed (reader_source rows.new)))) }
-    ensures going { IfSome result (TellsReopening (A.has_failed session.old) (A.has_failed session.new) (session.new ≡ session.old)) }
+    ensures faults { IfSome result
+        (λ a. OnFault a (λ f. IsRunFault f (T.has_failed (reader_source rows.new)))) }
+    ensures going { IfSome result
+        (TellsReopening (A.has_failed session.old) (A.has_failed session.new)
+        (session.new ≡ session.old)) }
     ensures still { IfNone result (session.new ≡ session.old) }
     ensures clean { A.is_clean session.new → A.is_clean session.old }
     ensures turns { A.is_clean session.new → (p : Package) → IsSound (A.settled session.old) p
-        → Turns T.remaining rows.old rows.new p at (A.has_failed session.old) result (shown A.Apply session.new) }
+        → Turns T.remaining rows.old rows.new p at (A.has_failed session.old) result
+        (shown A.Apply session.new) }
     ensures kept { OnSound (A.is_clean session.new) (A.settled session.old)
         (IsKept (A.has_failed session.old) (shown A.Apply session.new)) }
-    ensures ended { A.has_failed session.old ≡ true → IsEndedTurn T.remaining rows.old rows.new result }
+    ensures ended { A.has_failed session.old ≡ true
+        → IsEndedTurn T.remaining rows.old rows.new result }
 {
     match next_row(alloc, rows) {
         Ok(Some(row)) => Some(answer_row(alloc, session, row, at)),

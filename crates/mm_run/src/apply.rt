@@ -35,12 +35,14 @@ pub trait Apply {
     /// 90 or 91, where it may be done or not. After such a fault each call is answered 92 and changes nothing.
     fn apply(&mut self, command: &Command, at: Moment) -> Answer
         ensures faults { OnFault result IsApplyFault }
-        ensures ended { has_failed self.old ≡ true → (result ≡ Answer.Fault (record { 0 = 92 })) × (self.new ≡ self.old) }
+        ensures ended { has_failed self.old ≡ true → (result ≡ Answer.Fault (record { 0 = 92 }))
+            × (self.new ≡ self.old) }
         ensures working { has_failed self.old ≡ false → OnFault result (λ fault. fault ≢ 92) }
         ensures fails { has_failed self.old ≡ false → has_failed self.new ≡ is_fault result }
         ensures clean { is_clean self.new → is_clean self.old }
         ensures applied { is_clean self.new → (p : Package) → settled self.old p → Meets current p
-            → IsApplied p command.now at result (shown_by has_failed settled may_leave stands_for self.new) };
+            → IsApplied p command.now at result
+            (shown_by has_failed settled may_leave stands_for self.new) };
 
     ghost leaves_settled: { (s : Self) (p : Package) → settled s p → (db : Database) → may_leave s db → stands_for db p };
 }

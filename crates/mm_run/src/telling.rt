@@ -36,9 +36,13 @@ pub(crate) fn tell<W: Write>(
     tally: Tally,
 ) -> Result<Tally, RunFault>
     requires { (tally.accepted + tally.refused + 1 ≡ n) × (tally.written + 1 ≡ n) }
-    ensures goes { IfOk result (λ t. Goes (written W.contents writer.old) (written W.contents writer.new) n answer tally t) }
+    ensures goes { IfOk result
+        (λ t. Goes (written W.contents writer.old) (written W.contents writer.new) n
+        answer tally t) }
     ensures near { IfErr result (λ e. IsNear e.tally) }
-    ensures stops { IfErr result (λ e. Stops (written W.contents writer.old) (written W.contents writer.new) n answer tally e) }
+    ensures stops { IfErr result
+        (λ e. Stops (written W.contents writer.old) (written W.contents writer.new) n
+        answer tally e) }
     ensures flushed { IfOk result (λ t. is_flushed writer.new ≡ true) }
     ensures told { IfErr result (λ e. e.fault.0 ≢ 97 → is_flushed writer.new ≡ true) }
 {

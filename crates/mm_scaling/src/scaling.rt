@@ -80,8 +80,9 @@ fn scale_tables<S: Alter>(tx: &mut Transaction<'_, S>) -> Result<(), Fault>
 /// Tells a package of whole millimetres in whole micrometres, and says so in its profile's row.
 fn scale_all<S: Alter>(tx: &mut Transaction<'_, S>) -> Result<(), Fault>
     ensures same_reference { tx.new.conn.ghost_name ≡ tx.old.conn.ghost_name }
-    ensures moved { IsScaling millimetres micrometres (state S.Store tx.old.conn.now) (state S.Store tx.new.conn.now)
-        (λ p. Limits millimetres p) scale result }
+    ensures moved { IsScaling millimetres micrometres
+        (state S.Store tx.old.conn.now) (state S.Store tx.new.conn.now) (λ p. Limits millimetres p)
+        scale result }
 {
     scale_tables(tx)?;
     set_version(tx)

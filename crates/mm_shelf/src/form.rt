@@ -83,7 +83,8 @@ pub fn blobs_are_named<S: Alter>(conn: &mut Connection<S>) -> Result<bool, Fault
 
 /// Of the form of the blobs, what one query asks of more than one row.
 fn apart_and_named<S: Alter>(conn: &mut Connection<S>) -> Result<bool, Fault>
-    ensures { IsFormCheck (state S.Store conn.old) (state S.Store conn.new) (λ kept. AreApart kept × AreNamed kept) result }
+    ensures { IsFormCheck (state S.Store conn.old) (state S.Store conn.new)
+        (λ kept. AreApart kept × AreNamed kept) result }
 {
     if blobs_are_apart(conn)? {
         blobs_are_named(conn)
@@ -98,7 +99,8 @@ fn apart_and_named<S: Alter>(conn: &mut Connection<S>) -> Result<bool, Fault>
 /// where the store failed, and never stands for a form that fails.
 pub fn blobs_stand<S: Alter>(conn: &mut Connection<S>) -> Result<bool, Fault>
     ensures form { IsFormCheck (state S.Store conn.old) (state S.Store conn.new) AreInForm result }
-    ensures decides { HasCleanDisk (state S.Store conn.new) → DecidesReading (state S.Store conn.old) (state S.Store conn.new) result }
+    ensures decides { HasCleanDisk (state S.Store conn.new)
+        → DecidesReading (state S.Store conn.old) (state S.Store conn.new) result }
 {
     if blobs_are_digested(conn)? {
         apart_and_named(conn)

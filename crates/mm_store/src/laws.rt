@@ -7,7 +7,8 @@ ghost use Rattle.mm_store.specs.Stands.{StandsFor};
 
 /// A database stands for at most one package.
 pub fn stands_for_one()
-    ensures { (version : ℤ) (db : Trees) (p q : Package) → StandsFor version db p → StandsFor version db q → p ≡ q }
+    ensures { (version : ℤ) (db : Trees) (p q : Package) → StandsFor version db p
+        → StandsFor version db q → p ≡ q }
 {}
 
 /// A database stands for packages under one version of the profile alone.

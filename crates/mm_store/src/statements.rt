@@ -21,7 +21,8 @@ pub fn run<S: Alter>(
     params: &[ValueRef<'_>],
 ) -> Result<(), Fault>
     ensures same_reference { tx.new.conn.ghost_name ≡ tx.old.conn.ghost_name }
-    ensures run { IsRun (state S.Store tx.old.conn.now) (state S.Store tx.new.conn.now) sql.now (bound params.now) result }
+    ensures run { IsRun (state S.Store tx.old.conn.now) (state S.Store tx.new.conn.now) sql.now
+        (bound params.now) result }
 {
     match tx.execute(sql, params) {
         Ok(_) => Ok(()),
@@ -42,11 +43,14 @@ pub fn first<S: Alter>(
     params: &[ValueRef<'_>],
 ) -> Result<Option<Row>, Fault>
     ensures same_reference { tx.new.conn.ghost_name ≡ tx.old.conn.ghost_name }
-    ensures asked { IsAsked (state S.Store tx.old.conn.now) (state S.Store tx.new.conn.now) sql.now (bound params.now)
-        (λ it first. it ≡ first) result }
-    ensures failed { HasCleanDisk (state S.Store tx.new.conn.now) → IfErr result (λ fault. (e : Error) × (fault ≡ told_as e)
-        × (FailsToQuery sql.now (bound params.now) (state S.Store tx.old.conn.now) (state S.Store tx.new.conn.now) e
-        ⊎ IsTooLate sql.now (bound params.now) (state S.Store tx.old.conn.now) (state S.Store tx.new.conn.now) e)) }
+    ensures asked { IsAsked (state S.Store tx.old.conn.now) (state S.Store tx.new.conn.now) sql.now
+        (bound params.now) (λ it first. it ≡ first) result }
+    ensures failed { HasCleanDisk (state S.Store tx.new.conn.now)
+        → IfErr result (λ fault. (e : Error) × (fault ≡ told_as e)
+        × (FailsToQuery sql.now (bound params.now)
+        (state S.Store tx.old.conn.now) (state S.Store tx.new.conn.now) e
+        ⊎ IsTooLate sql.now (bound params.now)
+        (state S.Store tx.old.conn.now) (state S.Store tx.new.conn.now) e)) }
 {
     match tx.query_all(sql, params) {
         Ok(rows) => Ok(first_of(rows)),
@@ -61,8 +65,8 @@ pub fn all<S: Alter>(
     params: &[ValueRef<'_>],
 ) -> Result<Vec<Row>, Fault>
     ensures same_reference { tx.new.conn.ghost_name ≡ tx.old.conn.ghost_name }
-    ensures listed { AreGiven (state S.Store tx.old.conn.now) (state S.Store tx.new.conn.now) sql.now (bound params.now)
-        (λ rows. rows.items) result }
+    ensures listed { AreGiven (state S.Store tx.old.conn.now) (state S.Store tx.new.conn.now)
+        sql.now (bound params.now) (λ rows. rows.items) result }
 {
     let shown = tx.query_all(sql, params);
     match shown {
@@ -78,11 +82,14 @@ pub fn exists<S: Alter>(
     params: &[ValueRef<'_>],
 ) -> Result<bool, Fault>
     ensures same_reference { tx.new.conn.ghost_name ≡ tx.old.conn.ghost_name }
-    ensures asked { IsAsked (state S.Store tx.old.conn.now) (state S.Store tx.new.conn.now) sql.now (bound params.now)
-        (λ it first. it ≡ is_some first) result }
-    ensures failed { HasCleanDisk (state S.Store tx.new.conn.now) → IfErr result (λ fault. (e : Error) × (fault ≡ told_as e)
-        × (FailsToQuery sql.now (bound params.now) (state S.Store tx.old.conn.now) (state S.Store tx.new.conn.now) e
-        ⊎ IsTooLate sql.now (bound params.now) (state S.Store tx.old.conn.now) (state S.Store tx.new.conn.now) e)) }
+    ensures asked { IsAsked (state S.Store tx.old.conn.now) (state S.Store tx.new.conn.now) sql.now
+        (bound params.now) (λ it first. it ≡ is_some first) result }
+    ensures failed { HasCleanDisk (state S.Store tx.new.conn.now)
+        → IfErr result (λ fault. (e : Error) × (fault ≡ told_as e)
+        × (FailsToQuery sql.now (bound params.now)
+        (state S.Store tx.old.conn.now) (state S.Store tx.new.conn.now) e
+        ⊎ IsTooLate sql.now (bound params.now)
+        (state S.Store tx.old.conn.now) (state S.Store tx.new.conn.now) e)) }
 {
     let row = first(tx, sql, params)?;
     Ok(row.is_some())
@@ -95,8 +102,8 @@ pub fn first_text<S: Alter>(
     params: &[ValueRef<'_>],
 ) -> Result<Option<String>, Fault>
     ensures same_reference { tx.new.conn.ghost_name ≡ tx.old.conn.ghost_name }
-    ensures asked { IsAsked (state S.Store tx.old.conn.now) (state S.Store tx.new.conn.now) sql.now (bound params.now)
-        (λ it first. GivesText it first) result }
+    ensures asked { IsAsked (state S.Store tx.old.conn.now) (state S.Store tx.new.conn.now) sql.now
+        (bound params.now) (λ it first. GivesText it first) result }
 {
     match first(tx, sql, params)? {
         Some(row) => match row.get(0) {
@@ -108,7 +115,8 @@ pub fn first_text<S: Alter>(
 }
 
 fn pair_in(row: &Row) -> Result<(i64, i64), Error>
-    ensures { IfOk result (λ pair. (column row.now 0 ≡ Int pair.0) × (column row.now 1 ≡ Int pair.1)) }
+    ensures { IfOk result (λ pair. (column row.now 0 ≡ Int pair.0)
+        × (column row.now 1 ≡ Int pair.1)) }
 {
     Ok((row.get(0)?, row.get(1)?))
 }
@@ -120,8 +128,8 @@ pub fn first_pair<S: Alter>(
     params: &[ValueRef<'_>],
 ) -> Result<Option<(i64, i64)>, Fault>
     ensures same_reference { tx.new.conn.ghost_name ≡ tx.old.conn.ghost_name }
-    ensures asked { IsAsked (state S.Store tx.old.conn.now) (state S.Store tx.new.conn.now) sql.now (bound params.now)
-        (λ it first. GivesPair it first) result }
+    ensures asked { IsAsked (state S.Store tx.old.conn.now) (state S.Store tx.new.conn.now) sql.now
+        (bound params.now) (λ it first. GivesPair it first) result }
 {
     match first(tx, sql, params)? {
         Some(row) => match pair_in(&row) {

@@ -13,7 +13,8 @@ use sqlite::{Alter, Transaction, params};
 /// Whether a system has this number.
 pub fn has_system<S: Alter>(tx: &mut Transaction<'_, S>, id: i64) -> Result<bool, Fault>
     ensures same_reference { tx.new.conn.ghost_name ≡ tx.old.conn.ghost_name }
-    ensures look { (profile : Profile) → IsLook profile (state S.Store tx.old.conn.now) (state S.Store tx.new.conn.now)
+    ensures look { (profile : Profile)
+        → IsLook profile (state S.Store tx.old.conn.now) (state S.Store tx.new.conn.now)
         (λ p found. found ≡ contains_key p.systems id) result }
 {
     exists(

@@ -22,8 +22,10 @@ pub fn migrate_package<S: Alter + Drop>(
     conn: Connection<S>,
 ) -> Result<Connection<S>, (Connection<S>, Stop)>
     requires { conn.in_transaction ≡ false }
-    ensures migrated { IfOk result (λ migrated. IsMigration (state S.Store conn) (state S.Store migrated) (Ok tt)) }
-    ensures declined { IfErr result (λ e. IsUnmigrated (state S.Store conn) (state S.Store e.0) e.1) }
+    ensures migrated { IfOk result
+        (λ migrated. IsMigration (state S.Store conn) (state S.Store migrated) (Ok tt)) }
+    ensures declined { IfErr result
+        (λ e. IsUnmigrated (state S.Store conn) (state S.Store e.0) e.1) }
 {
     match Session::migrate(alloc, conn) {
         Ok(session) => Ok(session.close()),
@@ -33,8 +35,8 @@ pub fn migrate_package<S: Alter + Drop>(
 
 /// Prints what migrating a package came to.
 pub fn tell_migration<W: Write>(output: &mut Io<W>, outcome: Result<(), Stop>) -> u8
-    ensures { IsTold (written W.contents output.old) (written W.contents output.new) (migrate_text outcome)
-        (migrate_status outcome) result }
+    ensures { IsTold (written W.contents output.old) (written W.contents output.new)
+        (migrate_text outcome) (migrate_status outcome) result }
 {
     match outcome {
         Ok(()) => tell_bytes(output, b"migrate ok\n", DONE),

@@ -62,7 +62,8 @@ pub fn adopt_package<S: Alter + Drop>(
 ) -> Result<Session<S>, (Connection<S>, Stop)>
     requires { conn.in_transaction ≡ false }
     ensures working { IfOk result (λ session. sessions.must_reopen session ≡ false) }
-    ensures adopted { IfOk result (λ session. IsAdopted (state S.Store conn) (state S.Store (held session))) }
+    ensures adopted { IfOk result
+        (λ session. IsAdopted (state S.Store conn) (state S.Store (held session))) }
     ensures declined { IfErr result (λ e. IsDeclined (state S.Store conn) (state S.Store e.0) e.1) }
 {
     match Session::adopt(alloc, conn) {
@@ -80,9 +81,11 @@ fn run_session<S: Alter, R: Read, W: Write>(
 ) -> u8
     ensures status { result ≤ 3 }
     ensures working { (result ≡ 3) ⊎ (has_failed output.new ≡ has_failed output.old) }
-    ensures clean { HasCleanDisk (state S.Store (held session.new)) → HasCleanDisk (state S.Store (held session.old)) }
+    ensures clean { HasCleanDisk (state S.Store (held session.new))
+        → HasCleanDisk (state S.Store (held session.old)) }
     ensures ran { OnRun (HasCleanDisk (state S.Store (held session.new)))
-        (λ p. IsSettled current (state S.Store (held session.old)) p) (R.remaining (inside input.old))
+        (λ p. IsSettled current (state S.Store (held session.old)) p)
+        (R.remaining (inside input.old))
         (λ p bytes. IsListRun p at bytes (state S.Store (held session.new))
         (written W.contents output.old) (written W.contents output.new) result) }
 {
@@ -104,7 +107,8 @@ pub fn run_package<S: Alter + Drop, R: Read, W: Write>(
 ) -> Result<(Connection<S>, u8), Stop>
     requires { conn.in_transaction ≡ false }
     ensures status { IfOk result (λ ran. ran.1 ≤ 3) }
-    ensures working { IfOk result (λ ran. (ran.1 ≡ 3) ⊎ (has_failed output.new ≡ has_failed output.old)) }
+    ensures working { IfOk result
+        (λ ran. (ran.1 ≡ 3) ⊎ (has_failed output.new ≡ has_failed output.old)) }
     ensures ran { IfOk result (λ ran. OnRun (HasCleanDisk (state S.Store ran.0))
         (λ p. IsSettled current (state S.Store conn) p) (R.remaining (inside input.old))
         (λ p bytes. IsListRun p at bytes (state S.Store ran.0)

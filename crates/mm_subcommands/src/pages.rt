@@ -14,7 +14,8 @@ use std::io::Write;
 
 /// Prints bytes, and tells whether they were printed whole.
 fn is_printed<W: Write>(output: &mut Io<W>, bytes: &[u8]) -> bool
-    ensures { IsPrinted (written W.contents output.old) (written W.contents output.new) bytes.now result }
+    ensures { IsPrinted (written W.contents output.old) (written W.contents output.new)
+        bytes.now result }
 {
     match send(output, bytes) {
         Sent::Flushed => true,
@@ -37,7 +38,8 @@ fn serving_line(port: u16) -> ArrayVec<u8, 40>
 
 /// Prints where the page is served, and tells whether it was printed whole.
 pub fn tell_serving<W: Write>(output: &mut Io<W>, port: u16) -> bool
-    ensures { IsPrinted (written W.contents output.old) (written W.contents output.new) (serving_text port) result }
+    ensures { IsPrinted (written W.contents output.old) (written W.contents output.new)
+        (serving_text port) result }
 {
     let line = serving_line(port);
     is_printed(output, line.as_slice())
@@ -45,7 +47,8 @@ pub fn tell_serving<W: Write>(output: &mut Io<W>, port: u16) -> bool
 
 /// Prints the fault of a connection, and tells whether it was printed whole.
 pub fn tell_page_fault<W: Write>(output: &mut Io<W>, fault: PageFault) -> bool
-    ensures { IsPrinted (written W.contents output.old) (written W.contents output.new) (page_fault_text fault.0) result }
+    ensures { IsPrinted (written W.contents output.old) (written W.contents output.new)
+        (page_fault_text fault.0) result }
 {
     let line = numbered_line(b"page fault ", fault.0.0);
     is_printed(output, line.as_slice())

@@ -22,7 +22,8 @@ pub fn check_package<S: Alter + Drop>(
     conn: Connection<S>,
 ) -> Result<Connection<S>, (Connection<S>, Stop)>
     requires { conn.in_transaction ≡ false }
-    ensures checked { IfOk result (λ checked. IsAdopted (state S.Store conn) (state S.Store checked)) }
+    ensures checked { IfOk result
+        (λ checked. IsAdopted (state S.Store conn) (state S.Store checked)) }
     ensures declined { IfErr result (λ e. IsDeclined (state S.Store conn) (state S.Store e.0) e.1) }
 {
     let session = adopt_package(alloc, conn)?;
@@ -55,7 +56,8 @@ pub fn list_package<S: Alter + Drop, W: Write>(
 
 /// Prints what checking a package came to.
 pub fn tell_check<W: Write>(output: &mut Io<W>, outcome: Result<(), Stop>) -> u8
-    ensures { IsTold (written W.contents output.old) (written W.contents output.new) (check_text outcome) (check_status outcome) result }
+    ensures { IsTold (written W.contents output.old) (written W.contents output.new)
+        (check_text outcome) (check_status outcome) result }
 {
     match outcome {
         Ok(()) => tell_bytes(output, b"package ok\n", DONE),

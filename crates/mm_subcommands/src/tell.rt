@@ -52,7 +52,8 @@ pub fn numbered_line(words: &[u8], number: u8) -> ArrayVec<u8, 40>
 
 /// Prints bytes, and answers the status, or that of a fault where they can't be printed whole.
 pub fn tell_bytes<W: Write>(output: &mut Io<W>, bytes: &[u8], status: u8) -> u8
-    ensures { IsTold (written W.contents output.old) (written W.contents output.new) bytes.now status result }
+    ensures { IsTold (written W.contents output.old) (written W.contents output.new) bytes.now
+        status result }
 {
     match send(output, bytes) {
         Sent::Flushed => status,
@@ -74,7 +75,8 @@ pub fn tell_text<W: Write, D: Display + Drop>(output: &mut Io<W>, text: D, statu
 
 /// Prints why the work was not done.
 pub fn tell_stop<W: Write>(output: &mut Io<W>, why: Stop) -> u8
-    ensures { IsTold (written W.contents output.old) (written W.contents output.new) (stop_text why) (stop_status why) result }
+    ensures { IsTold (written W.contents output.old) (written W.contents output.new) (stop_text why)
+        (stop_status why) result }
 {
     match why {
         Stop::NotEmpty => tell_bytes(output, b"not empty\n", NO_PACKAGE),
@@ -95,7 +97,8 @@ pub fn tell_stop<W: Write>(output: &mut Io<W>, why: Stop) -> u8
 
 /// Prints what making a package came to.
 pub fn tell_init<W: Write>(output: &mut Io<W>, outcome: Result<(), Stop>) -> u8
-    ensures { IsTold (written W.contents output.old) (written W.contents output.new) (init_text outcome) (init_status outcome) result }
+    ensures { IsTold (written W.contents output.old) (written W.contents output.new)
+        (init_text outcome) (init_status outcome) result }
 {
     match outcome {
         Ok(()) => tell_bytes(output, b"init ok\n", DONE),

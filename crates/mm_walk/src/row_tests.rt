@@ -42,7 +42,8 @@ pub fn each_passes<S: Alter, T: RowTest>(
     params: &[ValueRef<'_>],
     test: &T,
 ) -> Result<bool, Fault>
-    ensures { TellsAll sql.now (bound params.now) (T.good test.now) (state S.Store conn.old) (state S.Store conn.new) result }
+    ensures { TellsAll sql.now (bound params.now) (T.good test.now)
+        (state S.Store conn.old) (state S.Store conn.new) result }
 {
     let mut passing = Passing { test };
     walk(conn, sql, params, &mut passing)

@@ -30,7 +30,8 @@ pub fn walk<S: Alter, V: Visitor>(
     params: &[ValueRef<'_>],
     visitor: &mut V,
 ) -> Result<bool, Fault>
-    ensures { IsWalk V.takes sql.now (bound params.now) (state S.Store conn.old) (state S.Store conn.new) visitor.old visitor.new result }
+    ensures { IsWalk V.takes sql.now (bound params.now)
+        (state S.Store conn.old) (state S.Store conn.new) visitor.old visitor.new result }
 {
     let mut rows = match conn.query(sql, params) {
         Ok(rows) => rows,

@@ -1,2 +1,1 @@
 pub mod ServiceFacts
-pub mod StopFacts

@@ -1,5 +1,5 @@
 -- The lines of the faults of connections that were served one after another.
-use Rattle.std.proofs.Common.{◌≡◌, ◌∙◌, ◌+◌, ◌<◌, ◌≤◌, ℕ, List, [], ◌∷◌, ◌++◌, map, take, length, Option, Some, None, Ok, Err, option_map, refl, sym, ap, subst, inl, inr, Bool, true, false, All, arith, length-append, append-nil, append_assoc}
+use Rattle.std.proofs.Common.{◌≡◌, ◌∙◌, ◌+◌, ◌<◌, ℕ, List, [], ◌∷◌, ◌++◌, map, length, Option, Some, None, Ok, Err, option_map, refl, sym, ap, subst, inl, inr, Bool, true, false, All, arith, length-append, append-nil, append_assoc}
 use Rattle.std.specs.List.{concat}
 use Rattle.std.specs.Io.KnownBytes.{Appends}
 use Rattle.std.proofs.KnownBytes.{Appends-nil, Appends-trans}

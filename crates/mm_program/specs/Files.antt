@@ -1,5 +1,6 @@
 -- Why a file is not opened.
-use Rattle.std.specs.Prelude.{◌≡◌, ◌≤◌, ◌⊎◌, ⊤, ℕ, length}
+use Rattle.std.specs.Prelude.{◌≡◌, ◌≤◌, ◌⊎◌, ⊤, ℕ, Bool, false, length}
+use Rattle.mm_definitions.specs.Streams.{Written}
 use Rattle.mm_definitions.specs.declared.answers.Fault.{Fault}
 use Rattle.mm_kit.specs.declared.folders.Found.{Found}
 use Rattle.mm_kit.specs.declared.folders.Found.TheVariants as found
@@ -24,6 +25,11 @@ StopsNew why = StopsAny why
 abbrev pub StopsOld : Stop → Type 0
 StopsOld (stops.NotPackage number) = number ≡ 94
 StopsOld why = StopsAny why
+
+-- Nothing was printed; or the work was done, no fault ended it, and the files could not be closed behind it.
+abbrev pub IsUndone : {Done : Type 0} → (Written → Written → Done → Type 0) → (Done → Bool) → Written → Written → Stop → Type 0
+IsUndone {Done} comes_to is_fault old new why =
+    (new ≡ old) ⊎ (StopsAny why × (done : Done) × comes_to old new done × (is_fault done ≡ false))
 
 -- no more bytes of a file than were asked for
 abbrev pub IsFew : ℕ → Found → Type 0

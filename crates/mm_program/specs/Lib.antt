@@ -2,3 +2,4 @@ pub mod Clock
 pub mod Files
 pub mod Told
 pub mod Served
+pub mod Worked

@@ -1,5 +1,5 @@
 -- What is printed while a package is served, and the exit status that goes with it.
-use Rattle.std.specs.Prelude.{◌≡◌, ◌≢◌, ◌⊎◌, ℕ, List, Option, Bool, true, false}
+use Rattle.std.specs.Prelude.{◌≡◌, ◌≢◌, ◌⊎◌, ℕ, List, true, false}
 use Rattle.mm_subcommands.specs.Pages.{IsPrinted, IsServed, Outcome, serving_text}
 use Rattle.mm_subcommands.specs.Told.{IsTold, stop_status, stop_text}
 use Rattle.mm_subcommands.specs.declared.stop.Stop.{Stop}

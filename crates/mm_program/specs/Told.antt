@@ -1,5 +1,5 @@
 -- What a subcommand prints, and the exit status that goes with it.
-use Rattle.std.specs.Prelude.{◌≡◌, ◌⊎◌, ⊤, ℕ, List, Option, None, Some, Bool, Result, Ok, Err, IfErr, codes}
+use Rattle.std.specs.Prelude.{◌≡◌, ◌⊎◌, ⊤, ℕ, List, Option, None, Some, Result, Ok, Err, IfErr, codes}
 use Rattle.mm_definitions.specs.Bounds.{IsName}
 use Rattle.mm_definitions.specs.Keys.{Text}
 use Rattle.mm_definitions.specs.declared.answers.KitFault.{KitFault}

@@ -1,21 +1,23 @@
 //! The subcommand `kit`, on a folder of the system.
 
-ghost use Rattle.std.specs.Prelude.{◌≤◌, IfOk};
+ghost use Rattle.std.specs.Prelude.{◌≡◌, ◌≤◌, ⊤, IfOk};
 ghost use Rattle.mm_definitions.specs.Streams.{has_failed, written};
 ghost use Rattle.mm_subcommands.specs.Told.{TellsFailure};
 ghost use Rattle.mm_program.specs.Files.{IsFew};
 ghost use Rattle.mm_program.specs.Told.{TellsKit};
+ghost use Rattle.mm_program.specs.Worked.{import_ends_in_fault};
 
 use crate::clock::{Now, moment_or_now};
-use crate::files::{close_after, open_old};
+use crate::files::on_old;
 use mm_definitions::answers::Fault;
 use mm_definitions::moments::Moment;
 use mm_definitions::names::Name;
 use mm_definitions::streams::Io;
+use mm_files::Works;
 use mm_imports::{Import, import_package, tell_import};
 use mm_kit::{Folder, FolderFault, Found};
 use mm_subcommands::{REFUSED, Stop, tell_bytes, tell_stop};
-use sqlite::{Start, Wary};
+use sqlite::{Alter, Connection};
 use std::alloc::Global;
 use std::io::{Read, Write};
 use std::{fs, io};
@@ -81,23 +83,62 @@ impl<'a> Folder for SystemFolder<'a> {
     }
 }
 
+/// The import of a folder's kit into an edition.
+#[derive(Drop)]
+struct Importing<'a> {
+    folder: SystemFolder<'a>,
+    edition: &'a Name,
+    at: Moment,
+}
+
+impl<'a> Works for Importing<'a> {
+    type Done = Result<Import, Stop>;
+
+    ghost comes_to = { λ work old new done. ⊤ };
+
+    ghost is_fault = { import_ends_in_fault };
+
+    fn work<S: Alter + Drop, W: Write>(
+        &mut self,
+        alloc: Global,
+        conn: Connection<S>,
+        _output: &mut Io<W>,
+    ) -> (Option<Connection<S>>, Result<Import, Stop>) {
+        match import_package(alloc, conn, self.edition, &mut self.folder, self.at) {
+            Ok((conn, import)) => (Some(conn), Ok(import)),
+            Err(why) => (None, Err(why)),
+        }
+    }
+
+    fn is_fault(done: Result<Import, Stop>) -> bool
+        ensures { result ≡ import_ends_in_fault done }
+    {
+        match done {
+            Ok(import) => import.is_err(),
+            Err(_) => true,
+        }
+    }
+}
+
 /// Imports the kit of a folder into an edition of the package of a file.
-fn import_file<S: Start>(
+fn import_file(
     rt: &HostRuntime,
     path: &str,
-    start: S,
     edition: &Name,
     folder: &str,
     at: Moment,
 ) -> Result<Import, Stop> {
-    let conn = open_old(rt, path, start)?;
-    let mut folder = SystemFolder {
+    let folder = SystemFolder {
         rt,
         path: folder,
         failed: false,
     };
-    let (conn, import) = import_package(rt.alloc(), conn, edition, &mut folder, at)?;
-    close_after(conn, import, import.is_err())
+    let mut importing = Importing {
+        folder,
+        edition,
+        at,
+    };
+    on_old(rt, path, &mut importing, &mut Io::new(io::sink()))?
 }
 
 /// The subcommand `kit`. An edition that is no name is refused before the clock is asked or the file opened.
@@ -122,7 +163,7 @@ pub(crate) fn kit_told<W: Write>(
         Now::Outside => return tell_bytes(output, b"refused 11\n", REFUSED),
         Now::Unread => return tell_stop(output, Stop::Fault(Fault::INPUT)),
     };
-    match import_file(rt, path, Wary, &name, folder, moment) {
+    match import_file(rt, path, &name, folder, moment) {
         Ok(import) => tell_import(output, import),
         Err(why) => tell_stop(output, why),
     }

@@ -20,5 +20,5 @@ mod serving;
 mod subcommands;
 
 pub use connections::{Serves, serve_on};
-pub use files::{close_files, open_new, open_old};
+pub use files::{on_new, on_old};
 pub use subcommands::program;

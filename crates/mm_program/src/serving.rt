@@ -5,15 +5,17 @@ ghost use Rattle.mm_definitions.specs.Streams.{written};
 ghost use Rattle.mm_definitions.specs.Streams as streams;
 ghost use Rattle.mm_subcommands.specs.Told.{TellsFailure};
 ghost use Rattle.mm_program.specs.Served.{PrintsNothing, IsServing, TellsServe, WasServed};
+ghost use Rattle.mm_program.specs.Worked.{IsPageServed, ends_in_fault};
 
 use crate::connections::{Serves, serve_on};
-use crate::files::{close_after, close_files, open_old};
+use crate::files::on_old;
 use mm_core::Session;
 use mm_definitions::answers::{Fault, PageFault};
 use mm_definitions::streams::Io;
+use mm_files::Works;
 use mm_page::serve_one;
 use mm_subcommands::{FAULT, Stop, adopt_package, tell_serving, tell_stop};
-use sqlite::{Alter, Start, Wary};
+use sqlite::{Alter, Connection};
 use std::alloc::Global;
 use std::io;
 use std::io::{Read, Write};
@@ -98,11 +100,50 @@ fn serve_port<S: Alter, W: Write>(
     Ok(serve_on(rt.alloc(), session, &mut listener, count, output))
 }
 
-/// Serves the package of a file. The port is bound once the file is adopted.
-fn serve_file<S: Start, W: Write>(
+/// The page of a package, served on a port to so many connections.
+#[derive(Drop)]
+struct Page<'a> {
+    rt: &'a HostRuntime,
+    port: u16,
+    count: u32,
+}
+
+impl<'a> Works for Page<'a> {
+    type Done = Result<u8, Stop>;
+
+    ghost comes_to = { λ work. IsPageServed work.port work.count };
+
+    ghost is_fault = { ends_in_fault };
+
+    // The port is bound once the package is adopted.
+    fn work<S: Alter + Drop, W: Write>(
+        &mut self,
+        alloc: Global,
+        conn: Connection<S>,
+        output: &mut Io<W>,
+    ) -> (Option<Connection<S>>, Result<u8, Stop>) {
+        let mut session = match adopt_package(alloc, conn) {
+            Ok(session) => session,
+            Err((_, why)) => return (None, Err(why)),
+        };
+        let served = serve_port(self.rt, &mut session, self.port, self.count, output);
+        (Some(session.close()), served)
+    }
+
+    fn is_fault(done: Result<u8, Stop>) -> bool
+        ensures { result ≡ ends_in_fault done }
+    {
+        match done {
+            Ok(status) => status == FAULT,
+            Err(_) => true,
+        }
+    }
+}
+
+/// Serves the package of a file.
+fn serve_file<W: Write>(
     rt: &HostRuntime,
     path: &str,
-    start: S,
     port: u16,
     count: u32,
     output: &mut Io<W>,
@@ -119,18 +160,7 @@ fn serve_file<S: Start, W: Write>(
         ⊎ WasServed port count (written W.contents output.old)
         (written W.contents output.new)) }
 {
-    let conn = open_old(rt, path, start)?;
-    let mut session = match adopt_package(rt.alloc(), conn) {
-        Ok(session) => session,
-        Err((_, why)) => return Err(why),
-    };
-    match serve_port(rt, &mut session, port, count, output) {
-        Ok(status) => close_after(session.close(), status, status == FAULT),
-        Err(why) => {
-            let _closed = close_files(session.close());
-            Err(why)
-        }
-    }
+    on_old(rt, path, &mut Page { rt, port, count }, output)?
 }
 
 /// The subcommand `serve`.
@@ -147,7 +177,7 @@ pub(crate) fn serve_told<W: Write>(
     ensures unprinted { TellsFailure (streams.has_failed output.old)
         (streams.has_failed output.new) result }
 {
-    match serve_file(rt, path, Wary, port, count, output) {
+    match serve_file(rt, path, port, count, output) {
         Ok(status) => status,
         Err(why) => tell_stop(output, why),
     }

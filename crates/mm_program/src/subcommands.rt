@@ -1,15 +1,16 @@
 //! The program as a function of its words, its input and its output.
 
-ghost use Rattle.std.specs.Prelude.{◌≡◌, ◌≤◌, ◌⊎◌, IfOk, IfErr, map};
+ghost use Rattle.std.specs.Prelude.{◌≡◌, ◌≤◌, false, IfErr, map};
 ghost use Rattle.mm_definitions.specs.Streams.{has_failed, written};
 ghost use Rattle.clap.specs.Words.{kind_of};
 ghost use Rattle.mm_arguments.specs.Requests as arguments;
-ghost use Rattle.mm_subcommands.specs.Told.{TellsFailure, stop_status};
+ghost use Rattle.mm_subcommands.specs.Told.{TellsFailure};
 ghost use Rattle.mm_program.specs.Files.{StopsNew};
 ghost use Rattle.mm_program.specs.Told.{TellsDecline, TellsInit, TellsStatus, TellsWords};
+ghost use Rattle.mm_program.specs.Worked.{IsRun, ends_in_fault};
 
 use crate::clock::{Now, moment_or_now};
-use crate::files::{close_after, close_files, open_new, open_old};
+use crate::files::{on_new, on_old};
 use crate::kits::kit_told;
 use crate::migrating::migrate_told;
 use crate::reporting::{check_told, list_told};
@@ -18,38 +19,95 @@ use mm_arguments::{Request, read_arguments, status_of};
 use mm_definitions::answers::Fault;
 use mm_definitions::moments::Moment;
 use mm_definitions::streams::Io;
+use mm_files::Works;
 use mm_subcommands::{
     FAULT, REFUSED, Stop, make_package, run_package, tell_bytes, tell_init, tell_stop, tell_text,
 };
-use sqlite::{Start, Wary};
+use sqlite::{Alter, Connection};
+use std::alloc::Global;
+use std::io;
 use std::io::{Read, Write};
 
+/// The making of a package.
+#[derive(Drop)]
+struct Making;
+
+impl Works for Making {
+    type Done = Result<(), Stop>;
+
+    ghost comes_to = { λ work old new done. IfErr done StopsNew };
+
+    ghost is_fault = { λ done. false };
+
+    fn work<S: Alter + Drop, W: Write>(
+        &mut self,
+        alloc: Global,
+        conn: Connection<S>,
+        _output: &mut Io<W>,
+    ) -> (Option<Connection<S>>, Result<(), Stop>) {
+        match make_package(alloc, conn) {
+            Ok(conn) => (Some(conn), Ok(())),
+            Err(why) => (None, Err(why)),
+        }
+    }
+
+    fn is_fault(_done: Result<(), Stop>) -> bool {
+        false
+    }
+}
+
 /// Makes a package in a new file.
-fn init_file<S: Start>(rt: &HostRuntime, path: &str, start: S) -> Result<(), Stop>
+fn init_file(rt: &HostRuntime, path: &str) -> Result<(), Stop>
     ensures { IfErr result StopsNew }
 {
-    let conn = open_new(rt, path, start)?;
-    close_files(make_package(rt.alloc(), conn)?)
+    on_new(rt, path, &mut Making, &mut Io::new(io::sink()))?
+}
+
+/// The run of the records of an input.
+#[derive(Drop)]
+struct Run<'a, R: Read> {
+    input: &'a mut Io<R>,
+    at: Moment,
+}
+
+impl<'a, R: Read> Works for Run<'a, R> {
+    type Done = Result<u8, Stop>;
+
+    ghost comes_to = { λ work. IsRun };
+
+    ghost is_fault = { ends_in_fault };
+
+    fn work<S: Alter + Drop, W: Write>(
+        &mut self,
+        alloc: Global,
+        conn: Connection<S>,
+        output: &mut Io<W>,
+    ) -> (Option<Connection<S>>, Result<u8, Stop>) {
+        match run_package(alloc, conn, self.input, output, self.at) {
+            Ok((conn, status)) => (Some(conn), Ok(status)),
+            Err(why) => (None, Err(why)),
+        }
+    }
+
+    fn is_fault(done: Result<u8, Stop>) -> bool {
+        match done {
+            Ok(status) => status == FAULT,
+            Err(_) => true,
+        }
+    }
 }
 
 /// Runs the records of the input on the package of a file.
-fn run_file<S: Start, R: Read, W: Write>(
+fn run_file<R: Read, W: Write>(
     rt: &HostRuntime,
     path: &str,
-    start: S,
     input: &mut Io<R>,
     output: &mut Io<W>,
     at: Moment,
 ) -> Result<u8, Stop>
-    ensures status { IfOk result (λ status. status ≤ 3) }
-    ensures working { IfOk result
-        (λ status. (status ≡ 3) ⊎ (has_failed output.new ≡ has_failed output.old)) }
-    ensures unused { IfErr result (λ why. has_failed output.new ≡ has_failed output.old) }
-    ensures stopped { IfErr result (λ why. (output.new ≡ output.old) ⊎ (stop_status why ≡ 3)) }
+    ensures { IsRun (written W.contents output.old) (written W.contents output.new) result }
 {
-    let conn = open_old(rt, path, start)?;
-    let (conn, status) = run_package(rt.alloc(), conn, input, output, at)?;
-    close_after(conn, status, status == FAULT)
+    on_old(rt, path, &mut Run { input, at }, output)?
 }
 
 /// The subcommand `init`.
@@ -59,7 +117,7 @@ fn init_told<W: Write>(rt: &HostRuntime, path: &str, output: &mut Io<W>) -> u8
     ensures status { result ≤ 4 }
     ensures unprinted { TellsFailure (has_failed output.old) (has_failed output.new) result }
 {
-    tell_init(output, init_file(rt, path, Wary))
+    tell_init(output, init_file(rt, path))
 }
 
 /// The subcommand `run`.
@@ -80,7 +138,7 @@ fn run_told<R: Read, W: Write>(
         Now::Outside => return tell_bytes(output, b"refused 11\n", REFUSED),
         Now::Unread => return tell_stop(output, Stop::Fault(Fault::INPUT)),
     };
-    match run_file(rt, path, Wary, input, output, moment) {
+    match run_file(rt, path, input, output, moment) {
         Ok(status) => status,
         Err(why) => tell_stop(output, why),
     }

@@ -1,8 +1,0 @@
-use Rattle.mm_program.proofs.StopFacts.{closes, unmigrated}
-use Rattle.mm_program.proofs.migrating.migrate_file.Goals as goal
-
-pub returns-in-Ok : goal.returns-in-Ok
-returns-in-Ok g c = closes c.close_files.result c.close_files.ensures
-
-pub returns : goal.returns
-returns g c = unmigrated _ _ _ c.in-Err.ensures.declined

@@ -4,8 +4,8 @@
     scripts/build.py [CRATE]     the libraries below crates/CRATE, if not given below the program mm_cli
 
 `rt run` builds what stands below a program crate by crate, and rt's own commands wait for one another where they share a library. So
-this calls the toolchain's own code in one process: each crate as `rt lib` builds it, in the lanes of `rt ci`, one a processor, as many
-as memory holds; a crate gets the processors that stand idle as jobs. What is built already stays as it is. With another kit than those
+this calls the toolchain's own code in one process: each crate as `rt lib` builds it, as many as there are processors and memory for; a crate on
+a long chain gets several processors (scripts/lanes.py). What is built already stays as it is. With another kit than those
 that this was written for it does nothing, and `rt run` builds all.
 """
 import copy
@@ -16,9 +16,13 @@ import tempfile
 import threading
 import time
 
+from lanes import Lanes, seconds_of
 from toolchain import kit, load_rt
 
 PROGRAM = "mm_cli"
+
+# How much of the free memory the checks may take by what is foreseen of them.
+MEMORY_USED = 0.85
 
 
 class Progress:
@@ -74,8 +78,9 @@ def main(words):
     for crate in crates:
         waits = [(below.name, "proof") for below in crate.below()]
         call = lambda given, jobs, crate=crate: built(crate, given, jobs)
-        tasks[crate.name, "proof"] = (waits, crate.count(rb"\n"), rt.need(crate), call)
-    given = rt.in_lanes(tasks)
+        seconds = 0 if crate.is_built() else seconds_of(crate.name, crate.count(rb"\n"))
+        tasks[crate.name, "proof"] = (waits, seconds, rt.need(crate), call)
+    given = Lanes(rt.processors(), MEMORY_USED * rt.free()).run(tasks)
     for it in held:
         os.close(it)
     return 0 if all(given.values()) else 1

@@ -186,11 +186,12 @@ def tried_together(rt, crate, batch, flags, kept):
 
 
 class Batches:
-    """The edits of one crate, for the lanes of rt ci, which ask for the answer to each: a lane that asks tries a batch of those that no other lane has taken."""
+    """The edits of one crate, for the lanes of rt ci, which ask for the answer to each: a lane that asks tries a batch of those that no other lane has taken,
+    or waits for what another tries, and lends its processor meanwhile."""
 
-    def __init__(self, rt, crate, edits):
+    def __init__(self, rt, crate, edits, lent):
         trials = [Trial(rt, crate, it) for it in edits]
-        self.rt, self.crate, self.told = rt, crate, threading.Condition()
+        self.rt, self.crate, self.lent, self.told = rt, crate, lent, threading.Condition()
         # what was said of an edit: None where it has to be tried alone
         self.said = {it.edit: None for it in trials if not it.touches}
         self.left = [it for it in trials if it.touches]
@@ -203,7 +204,8 @@ class Batches:
                     return self.said[edit]
                 batch, self.left = next_batch(sorted(self.left, key=lambda it: it.edit != edit))
                 if not batch:
-                    self.told.wait()
+                    with self.lent():
+                        self.told.wait()
                     continue
             self.try_batch(batch, flags, seed)
 

@@ -19,6 +19,7 @@ import threading
 import time
 
 from edits import Batches, all_in_turn
+from lanes import EDIT, Lanes, seconds_of, seconds_of_tests
 from toolchain import RT, kit, load_rt
 
 TRIED = ".ci/tried"
@@ -138,12 +139,24 @@ def try_in_turn(rt):
     rt.must_fail_all, rt.checked = must_fail_all, checked
 
 
+def seconds_for(key, lines):
+    """Returns how long a task of rt's is likely to take on one processor, by its key and its lines."""
+    name, kind = key[:2]
+    return {"proof": seconds_of(name, lines), "tests": seconds_of_tests(name, lines), "edits": EDIT}.get(kind, 0)
+
+
+def lanes_of(rt):
+    """Returns what rt's tasks run in: as many lanes as RT_JOBS says or as there are processors, in which edits fill what the proofs leave."""
+    number = os.environ.get("RT_JOBS", "")
+    return Lanes(int(number) if number.isdigit() else rt.processors(), 0.85 * rt.free(), lambda key: key[1] in ("edits", "seed"))
+
+
 def try_over_a_proved_crate(rt):
     """Has rt of the kit 13f, which tries each edit over a proved crate and keeps what it passed, try them in batches.
 
     What is refused in a batch is kept too, under a name that only this script asks for, and only while scripts/edits.py stays as it is.
     """
-    alone, lanes, keeping, batches, by_name = rt.must_fail, rt.in_lanes, threading.Lock(), set(), {}
+    alone, keeping, batches, by_name, lanes = rt.must_fail, threading.Lock(), set(), {}, lanes_of(rt)
     by_batches = sum_of_batches()
 
     class Kept(rt.Kept):
@@ -165,7 +178,7 @@ def try_over_a_proved_crate(rt):
             if crate.name not in by_name:
                 sum_ = rt.kept.key(crate)
                 left = [it for it in rt.edits_of(crate)[0] if not rt.kept.tried(rt.kept.of_edit(it, sum_))]
-                by_name[crate.name] = Batches(rt, crate, left)
+                by_name[crate.name] = Batches(rt, crate, left, lanes.lent)
             return by_name[crate.name]
 
     def must_fail(crate, edit, flags, kept=None):
@@ -177,9 +190,8 @@ def try_over_a_proved_crate(rt):
         return rt.REFUSED, said
 
     def in_lanes(tasks):
-        """Runs tasks as rt does, with the edits of one crate far from one another: a lane that asks for an edit of a batch under way waits for it."""
-        spread = lambda key, lines: lines // (1 + key[2]) if key[1] == "edits" else lines
-        return lanes({key: (waits, spread(key, lines), *others) for key, (waits, lines, *others) in tasks.items()})
+        with rt.ending():
+            return lanes.run({key: (waits, seconds_for(key, lines), *others) for key, (waits, lines, *others) in tasks.items()})
 
     rt.Kept, rt.must_fail, rt.in_lanes = Kept, must_fail, in_lanes
 

@@ -1,0 +1,139 @@
+"""Checks side by side, the longest chain first (for scripts/build.py and scripts/gate.py).
+
+rt's own lanes weigh a crate by its lines, and give a check one processor while others are ready. Here a crate weighs the seconds that its first check was
+seen to take, and a check on a long chain gets more processors than one: as many as its chain's share of all that is left to do. A task that waits for what
+another does lends its processor meanwhile.
+"""
+import contextlib
+import threading
+
+# The seconds of one processor that the first check of a crate was seen to take (kit 13f), and that of its tests. Only the order rests on them.
+PROOF = {
+    "mm_arguments": 239, "mm_base": 22, "mm_blobs": 131, "mm_check": 110, "mm_cli": 240, "mm_content": 57,
+    "mm_core": 200, "mm_definitions": 201, "mm_edition": 379, "mm_faults": 41, "mm_files": 143, "mm_imports": 82,
+    "mm_io": 73, "mm_items": 293, "mm_kit": 208, "mm_laws": 29, "mm_layout": 230, "mm_limits": 174, "mm_listing": 115,
+    "mm_matrices": 127, "mm_meta": 60, "mm_migrate": 91, "mm_opening": 180, "mm_page": 196, "mm_program": 220,
+    "mm_queries": 36, "mm_reads": 173, "mm_records": 196, "mm_recovery": 283, "mm_relate": 58, "mm_relations": 161,
+    "mm_routes": 86, "mm_rules": 249, "mm_run": 94, "mm_scaling": 88, "mm_schema": 44, "mm_shelf": 82, "mm_store": 113,
+    "mm_subcommands": 119, "mm_test_packages": 122, "mm_test_recovery": 13, "mm_test_sessions": 19, "mm_test_stops": 11,
+    "mm_test_tables": 11, "mm_test_values": 8, "mm_walk": 69, "sql_forms": 19,
+}
+TESTS = {
+    "mm_faults": 65, "mm_test_recovery": 900, "mm_test_sessions": 660, "mm_test_stops": 600, "mm_test_tables": 445,
+    "mm_test_values": 192,
+}
+# The same of one must-fail edit, tried with others.
+EDIT = 12
+# How many processors one check may have at the most: it checks modules side by side, and the last ones alone.
+MOST_JOBS = 4
+
+
+def seconds_of(name, lines):
+    """Returns how long a crate's first check is likely to take on one processor, by its name and its lines."""
+    return PROOF.get(name, 30 + 0.25 * lines)
+
+
+def seconds_of_tests(name, lines):
+    """Returns the same of a crate's tests; none where it has no lines of tests."""
+    return TESTS.get(name, 0.4 * lines) if lines else 0
+
+
+def behind(tasks):
+    """Returns the seconds of the longest chain that waits for each task, with its own. A task comes after those that it waits for."""
+    found = {key: 0 for key in tasks}
+    for key in reversed([*tasks]):
+        found[key] += tasks[key][1]
+        for it in tasks[key][0]:
+            found[it] = max(found[it], found[key])
+    return found
+
+
+def jobs_for(chain, whole, lanes, idle, others):
+    """Returns how many processors a check gets whose chain takes so many of the seconds that are left, where so many stand idle and so many others are ready."""
+    return max(1, min(idle, MOST_JOBS, max(round(lanes * chain / max(whole, 1)), idle - others)))
+
+
+class Lanes:
+    """Runs tasks side by side, as many as there are processors and memory for. A task is what it waits for, its seconds, its memory in bytes, and a call that
+    gets what was given and how many processors it has. Those that fill are begun where no other is ready, with one processor."""
+
+    def __init__(self, lanes, memory, fills=lambda key: False):
+        self.lanes, self.memory, self.fills = lanes, memory, fills
+        self.changed, self.here = threading.Condition(), threading.local()
+        # what each running task has of processors and memory, and what was given
+        self.running, self.given, self.broken = {}, {}, []
+
+    def idle(self):
+        return self.lanes - sum(jobs for jobs, _ in self.running.values())
+
+    def room(self):
+        return self.memory - sum(needs for _, needs in self.running.values())
+
+    @contextlib.contextmanager
+    def lent(self):
+        """Lends what the task of this thread has, while it waits for what another does."""
+        key = getattr(self.here, "key", None)
+        if key is None:
+            yield
+            return
+        with self.changed:
+            held, self.running[key] = self.running[key], (0, 0)
+            self.changed.notify()
+        try:
+            yield
+        finally:
+            with self.changed:
+                self.running[key] = held
+
+    def one(self, key, call, jobs):
+        """Runs one task in its thread."""
+        self.here.key = key
+        try:
+            answer, broken = call(self.given, jobs), []
+        except BaseException as error:  # pylint: disable=broad-except
+            answer, broken = None, [error]
+        with self.changed:
+            self.given[key] = answer
+            self.broken += broken
+            del self.running[key]
+            self.changed.notify()
+
+    def begin(self, tasks, key, jobs):
+        _, _, needs, call = tasks[key]
+        self.running[key] = jobs, needs * (1 + 0.6 * (jobs - 1))
+        threading.Thread(target=self.one, args=(key, call, jobs)).start()
+
+    def begin_ready(self, tasks, left, chains):
+        """Begins what can begin, and returns what is left."""
+        whole = sum(tasks[it][1] for it in [*left, *self.running])
+        ready = [it for it in left if all(below in self.given for below in tasks[it][0])]
+        others, lacks = sum(tasks[it][1] > 0 and not self.fills(it) for it in ready), False
+        for key in ready:
+            _, seconds, needs, _ = tasks[key]
+            is_check = seconds > 0 and not self.fills(key)
+            others -= is_check
+            if lacks and self.fills(key):
+                # (a check waits for memory, which those that fill would take again and again)
+                break
+            if self.idle() < 1 or self.running and needs > self.room():
+                lacks = lacks or self.idle() > 0 and is_check
+                continue
+            jobs = jobs_for(chains[key], whole, self.lanes, self.idle(), others) if is_check else 1
+            self.begin(tasks, key, min(jobs, 1 + max(0, int((self.room() / needs - 1) / 0.6))) if needs else jobs)
+            left = [it for it in left if it != key]
+        return left
+
+    def run(self, tasks):
+        """Runs all tasks, and returns what each gave."""
+        chains = behind(tasks)
+        left = sorted(tasks, key=lambda it: (self.fills(it), -chains[it]))
+        with self.changed:
+            while left or self.running:
+                if not self.broken:
+                    left = self.begin_ready(tasks, left, chains)
+                elif not self.running:
+                    raise self.broken[0]
+                self.changed.wait()
+        if self.broken:
+            raise self.broken[0]
+        return self.given

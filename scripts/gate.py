@@ -20,7 +20,7 @@ import time
 
 from edits import Batches, all_in_turn
 from lanes import EDIT, Lanes, seconds_of, seconds_of_tests
-from toolchain import RT, kit, load_rt
+from toolchain import MEMORY_TAKEN, RT, kit, load_rt
 
 TRIED = ".ci/tried"
 # With --changed one crate in so many is tried whether or not it has changed, another one with each commit.
@@ -145,6 +145,25 @@ def seconds_for(key, lines):
     return {"proof": seconds_of(name, lines), "tests": seconds_of_tests(name, lines), "edits": EDIT}.get(kind, 0)
 
 
+def tells_edits(rt, key, call):
+    """Returns the call of a task, which says how many of a crate's edits were refused where it is the one behind them."""
+
+    def told(given, jobs):
+        answer = call(given, jobs)
+        tried = [given[it] for it in [*given] if it[:2] == (key[0], "edits")]
+        rt.say(f"{key[0]}: {sum(bool(it) and it[0] in (rt.REFUSED, rt.AT_LIMIT) for it in tried)} of its {len(tried)} must-fail edits were refused")
+        return answer
+
+    return told if key[1] == "sound" else call
+
+
+def task_for(rt, key, waits, lines, needs, call):
+    """Returns a task of rt's as our lanes take it. Tests are seen to take all of the memory that rt foresees, and a crate without tests takes none for them."""
+    if key[1] == "tests":
+        needs = needs / MEMORY_TAKEN if lines else 0
+    return waits, seconds_for(key, lines), needs, tells_edits(rt, key, call)
+
+
 def lanes_of(rt):
     """Returns what rt's tasks run in: as many lanes as RT_JOBS says or as there are processors, in which edits fill what the proofs leave."""
     number = os.environ.get("RT_JOBS", "")
@@ -191,7 +210,7 @@ def try_over_a_proved_crate(rt):
 
     def in_lanes(tasks):
         with rt.ending():
-            return lanes.run({key: (waits, seconds_for(key, lines), *others) for key, (waits, lines, *others) in tasks.items()})
+            return lanes.run({key: task_for(rt, key, *it) for key, it in tasks.items()})
 
     rt.Kept, rt.must_fail, rt.in_lanes = Kept, must_fail, in_lanes
 

@@ -24,8 +24,8 @@ TESTS = {
 }
 # The same of one must-fail edit, tried with others.
 EDIT = 12
-# How many processors one check may have at the most: it checks modules side by side, and the last ones alone.
-MOST_JOBS = 4
+# How many processors one check may have at the most: it checks modules side by side, and the last ones alone. Those of tests take the most memory.
+MOST_JOBS, MOST_JOBS_OF_TESTS = 4, 2
 
 
 def seconds_of(name, lines):
@@ -48,9 +48,10 @@ def behind(tasks):
     return found
 
 
-def jobs_for(chain, whole, lanes, idle, others):
+def jobs_for(kind, chain, whole, lanes, idle, others):
     """Returns how many processors a check gets whose chain takes so many of the seconds that are left, where so many stand idle and so many others are ready."""
-    return max(1, min(idle, MOST_JOBS, max(round(lanes * chain / max(whole, 1)), idle - others)))
+    most = MOST_JOBS_OF_TESTS if kind == "tests" else MOST_JOBS
+    return max(1, min(idle, most, max(round(lanes * chain / max(whole, 1)), idle - others)))
 
 
 class Lanes:
@@ -118,7 +119,7 @@ class Lanes:
             if self.idle() < 1 or self.running and needs > self.room():
                 lacks = lacks or self.idle() > 0 and is_check
                 continue
-            jobs = jobs_for(chains[key], whole, self.lanes, self.idle(), others) if is_check else 1
+            jobs = jobs_for(key[1], chains[key], whole, self.lanes, self.idle(), others) if is_check else 1
             self.begin(tasks, key, min(jobs, 1 + max(0, int((self.room() / needs - 1) / 0.6))) if needs else jobs)
             left = [it for it in left if it != key]
         return left

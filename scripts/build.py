@@ -55,18 +55,8 @@ def build(crate, jobs, progress):
     return not status
 
 
-def main(words):
-    if not kit():
-        print("build: this kit's rt is none that this was written for: the crates are built one by one", flush=True)
-        return 0
-    rt = load_rt()
-    rt.rtlib.guarded()
-    if kit() == "13f":
-        # what another clone on this machine built of the same text is taken
-        rt.share_work(True)
-    root = os.path.dirname(os.path.dirname(os.path.abspath(__file__)))
-    top = rt.rtlib.Crate(f"{root}/crates/{words[0] if words else PROGRAM}", root, {})
-    crates = top.below()
+def build_all(rt, crates):
+    """Builds these libraries, each after those that it stands on, side by side, and returns whether all are proved."""
     held = rt.rtlib.lock(crates)
     progress = Progress(len(crates))
 
@@ -83,7 +73,21 @@ def main(words):
     given = Lanes(rt.processors(), MEMORY_USED * rt.free()).run(tasks)
     for it in held:
         os.close(it)
-    return 0 if all(given.values()) else 1
+    return all(given.values())
+
+
+def main(words):
+    if not kit():
+        print("build: this kit's rt is none that this was written for: the crates are built one by one", flush=True)
+        return 0
+    rt = load_rt()
+    rt.rtlib.guarded()
+    if kit() == "13f":
+        # what another clone on this machine built of the same text is taken
+        rt.share_work(True)
+    root = os.path.dirname(os.path.dirname(os.path.abspath(__file__)))
+    top = rt.rtlib.Crate(f"{root}/crates/{words[0] if words else PROGRAM}", root, {})
+    return 0 if build_all(rt, top.below()) else 1
 
 
 if __name__ == "__main__":

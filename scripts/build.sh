@@ -8,7 +8,7 @@ set -eu -o pipefail
 top=$(cd "$(dirname "$0")/.." && pwd)
 mkdir -p "$top/out"
 python3 "$top/scripts/build.py"
-if ! (cd "$top/crates/mm_cli" && rt run -- --help) >"$top/out/build.log" 2>&1; then
+if ! (cd "$top/crates/mm_cli" && "$top/scripts/rt.py" run -- --help) >"$top/out/build.log" 2>&1; then
     tail -n 40 "$top/out/build.log" >&2
     echo "mmpkg was not built" >&2
     exit 1

@@ -170,15 +170,22 @@ def refused_alone(lines):
     return refused
 
 
-def tried_together(rt, crate, batch, flags, kept):
+def only_for(batch, functions):
+    """Returns the words by which a check proves the functions that a batch changes and what they call, and no others; none where one's name isn't known."""
+    named = [[name for name in functions if it.own.fullmatch(name)] for it in batch]
+    return [word for names in named for name in names for word in ("--only", name)] if all(named) else []
+
+
+def tried_together(rt, crate, batch, flags, kept, functions=()):
     """Returns what the check said of each edit that it refused by a goal of the edit's own function, or None where it says nothing of any."""
     texts = Texts(crate)
     if not all(texts.put(*pair) for trial in batch for pair in pairs_of(trial.edit)):
         return None
-    ran = rt.checked(crate, texts.changed, flags, kept)
+    only = only_for(batch, functions)
+    ran = rt.checked(crate, texts.changed, [*flags, *only], kept)
     lines = ran.stdout.rstrip("\n").split("\n")
     reads = not any(rt.unread(it, texts.changed) for it in lines) and not rt.rtlib.STALE.search(ran.stdout)
-    if not reads or ran.returncode != 1 or not lines[-1].startswith("logic=not-proved"):
+    if not reads or ran.returncode != 1 or not lines[-1].startswith("only=" if only else "logic=not-proved"):
         return None
     refused = refused_alone(lines)
     said = {it: next((line for name, line in refused.items() if it.own.fullmatch(name)), None) for it in batch}
@@ -239,47 +246,55 @@ class Batches:
 
 
 class InTurn:
-    """The edits of one crate, tried in one lane, each check over what those before it proved."""
+    """The edits of one crate, tried in one lane, each check over what those before it proved. The first proves the crate as it stands, and tells its functions."""
 
     def __init__(self, rt, crate, flags, kept):
         self.rt, self.crate, self.flags, self.kept = rt, crate, flags, kept
-        self.answers, self.checks = {}, 0
+        self.answers, self.checks, self.functions = {}, 0, []
+        self.is_sound()
+
+    def is_sound(self):
+        """Returns whether the crate as it stands is proved over the work that the checks kept."""
+        self.checks += 1
+        ran = self.rt.checked(self.crate, {}, self.flags, self.kept)
+        self.functions = re.findall(r"^fn (\S+): proved", ran.stdout, re.M)
+        return ran.returncode == 0
 
     def try_all(self, trials):
-        """Answers each edit, as rt.must_fail does."""
-        left = trials
+        """Answers each edit that changes bodies alone and that a check with others, or one of its own, refused by a goal of the edit's function."""
+        left = [it for it in trials if it.touches]
         while left:
-            batch = next_batch([it for it in left if it.touches])[0] or left[:1]
-            left = self.try_batch(batch) + [it for it in left if it not in batch]
+            batch, others = next_batch(left)
+            left = self.try_batch(batch) + others
 
     def try_batch(self, batch):
-        """Answers the edits of a batch, and returns those that are to be tried with others again."""
-        stack = [batch]
+        """Answers the edits of a batch, and returns those that are to be tried again: what a check refused may have stood before them."""
+        stack, again = [batch], []
         while stack:
             part = stack.pop()
             self.checks += 1
-            if len(part) == 1:
-                self.answers[part[0]] = self.rt.must_fail(self.crate, part[0].edit, self.flags, self.kept)
-                continue
-            said = tried_together(self.rt, self.crate, part, self.flags, self.kept)
+            said = tried_together(self.rt, self.crate, part, self.flags, self.kept, self.functions)
             self.answers.update({it: (True, line) for it, line in (said or {}).items()})
-            if said is None:
-                stack += [part[len(part) // 2 :], part[: len(part) // 2]]
-            elif not said:
-                stack += [[it] for it in part]
-        return [it for it in batch if it not in self.answers]
+            if said:
+                again += [it for it in part if it not in said]
+            elif len(part) > 1:
+                size = (len(part) + 1) // 2 if said is None else 1
+                stack += [part[at : at + size] for at in range(0, len(part), size)]
+        return again
 
 
 def all_in_turn(rt, crate, edits, flags, kept):
     """Returns the answers to a crate's edits in their order, as rt.must_fail_all does, and how many checks there were.
 
-    No edit fails by a batch: what was not refused is tried again alone, from nothing, and so are all where the crate without an edit is not
-    proved over the work that these checks kept.
+    A check proves the functions that its edits change, with what they call, and no others. No edit fails by a batch: what was not refused in one is tried
+    alone, as rt does it; again over nothing, where that does not refuse it; and so are all where the crate as it stands is not proved over
+    the work that these checks kept.
     """
     trials = [Trial(rt, crate, it) for it in edits]
     tried = InTurn(rt, crate, flags, kept)
     tried.try_all(trials)
-    is_sound = not rt.checked(crate, {}, flags, kept).returncode
-    again = [it for it in trials if not is_sound or not tried.answers[it][0]]
-    tried.answers.update({it: rt.must_fail(crate, it.edit, flags) for it in again})
-    return [tried.answers[it] for it in trials], tried.checks + 1 + len(again)
+    alone = {it: rt.must_fail(crate, it.edit, flags, kept) for it in trials if it not in tried.answers}
+    is_sound = tried.is_sound()
+    answers = {it: said for it, said in {**tried.answers, **alone}.items() if is_sound and said[0]}
+    again = {it: rt.must_fail(crate, it.edit, flags) for it in trials if it not in answers}
+    return [{**answers, **again}[it] for it in trials], tried.checks + len(alone) + len(again)

@@ -6,20 +6,25 @@
     scripts/gate.py --changed    the same as the first, but the edits of a crate are left out where .ci/tried has the sum of all that they rest on: the
                                  crate's own files, the code, specs and lemmas of what stands below it, crates.txt and the kit. Each such crate is
                                  named and none of its edits is counted; every seventh crate's are tried all the same
+    scripts/gate.py --edits [NAME ..]    the edits alone, of all crates or of these, over the crates as scripts/build.py builds them: what `rt must-fail` does
 
-A run that tried all edits and in which nothing failed writes .ci/tried. Only the trying of edits (scripts/edits.py) is not rt's own. With another kit
-than those that this was written for `rt ci` runs as it is.
+A run that tried all edits of a crate and in which nothing failed writes its sum into .ci/tried. Only the trying of edits (scripts/edits.py) is not rt's
+own. With another kit than those that this was written for `rt ci` and `rt must-fail` run as they are.
 """
+import contextlib
+import functools
 import hashlib
 import os
+import shutil
 import subprocess
 import sys
 import tempfile
 import threading
 import time
 
+from build import build_all
 from edits import Batches, all_in_turn
-from lanes import EDIT, Lanes, seconds_of, seconds_of_tests
+from lanes import EDIT, Lanes, seconds_of, seconds_of_edits, seconds_of_tests
 from toolchain import MEMORY_TAKEN, RT, kit, load_rt
 
 TRIED = ".ci/tried"
@@ -86,8 +91,9 @@ def read_tried():
 
 
 def write_tried(made):
-    """Writes the sums of this kit into .ci/tried, and leaves those of other kits."""
-    lines = [it for it in read_tried() if it[0] != kit()] + [(kit(), name, sum_) for name, sum_ in made.items()]
+    """Writes these crates' sums under this kit into .ci/tried, and leaves those of other crates that there are, and of other kits."""
+    stay = [it for it in read_tried() if it[1] in crates() and (it[0] != kit() or it[1] not in made)]
+    lines = stay + [(kit(), name, sum_) for name, sum_ in made.items()]
     os.makedirs(os.path.dirname(TRIED), exist_ok=True)
     with open(TRIED, "w", encoding="utf-8") as it:
         it.write("# The kits and the sums under which all must-fail edits of a crate were tried and refused (scripts/gate.py).\n")
@@ -114,35 +120,12 @@ def commits():
     return int(ran.stdout) if ran.returncode == 0 else 0
 
 
-def spare_jobs(rt):
-    """Returns how many jobs a check of edits may use: one, and one more for each processor that stands idle, as memory allows."""
-    idle = rt.processors() - os.getloadavg()[0]
-    return max(1, min(4, 1 + int(idle), int(rt.free() / 4e9)))
-
-
-def try_in_turn(rt):
-    """Has rt of the kit 13b, which tries the edits of a crate in turn, try them in batches."""
-    alone, checked_by = rt.must_fail_all, rt.checked
-
-    def checked(crate, texts, flags, kept):
-        return checked_by(crate, texts, ["--jobs", str(spare_jobs(rt))], kept)
-
-    def must_fail_all(crate, edits, flags):
-        if len(edits) < 2:
-            return alone(crate, edits, flags)
-        began = time.time()
-        with tempfile.TemporaryDirectory(prefix="rt-edits-") as kept:
-            answers, checks = all_in_turn(rt, crate, edits, flags, kept)
-        rt.say(f"{crate.name}: {len(edits)} must-fail edits in {checks} checks, {time.time() - began:.0f} s")
-        return answers
-
-    rt.must_fail_all, rt.checked = must_fail_all, checked
-
-
 def seconds_for(key, lines):
-    """Returns how long a task of rt's is likely to take on one processor, by its key and its lines."""
+    """Returns how long a task of rt's is likely to take on one processor, by its key and its lines. With 13b a task has all edits of a crate, or none and no line."""
     name, kind = key[:2]
-    return {"proof": seconds_of(name, lines), "tests": seconds_of_tests(name, lines), "edits": EDIT}.get(kind, 0)
+    if kind == "edits":
+        return EDIT if key[2:] else seconds_of_edits(name, lines and len(os.listdir(f"crates/{name}/must-fail")))
+    return {"proof": seconds_of(name, lines), "tests": seconds_of_tests(name, lines)}.get(kind, 0)
 
 
 def tells_edits(rt, key, call):
@@ -168,6 +151,47 @@ def lanes_of(rt):
     """Returns what rt's tasks run in: as many lanes as RT_JOBS says or as there are processors, in which edits fill what the proofs leave."""
     number = os.environ.get("RT_JOBS", "")
     return Lanes(int(number) if number.isdigit() else rt.processors(), 0.85 * rt.free(), lambda key: key[1] in ("edits", "seed"))
+
+
+def run_in(rt, lanes, ending=contextlib.nullcontext):
+    """Has rt run its tasks in these lanes, within what it ends them by."""
+
+    def in_lanes(tasks):
+        with ending():
+            return lanes.run({key: task_for(rt, key, *it) for key, it in tasks.items()})
+
+    rt.in_lanes = in_lanes
+
+
+def begun_with(crate, kept):
+    """Begins a folder of kept work with a copy of what the check of the crate kept in its own out/, if there is any."""
+    own = f"{crate.folder}/out/incremental"
+    if os.path.isdir(own):
+        shutil.copytree(own, kept, dirs_exist_ok=True)
+
+
+def try_in_turn(rt):
+    """Has rt of the kit 13b, which tries the edits of a crate in turn, try them in batches."""
+    alone, checked_by, lanes = rt.must_fail_all, rt.checked, lanes_of(rt)
+
+    def checked(crate, texts, flags, kept):
+        lanes.give_way()
+        jobs = min(4, 1 + lanes.spare(), max(1, int(rt.free() / 4e9)))
+        return checked_by(crate, texts, ["--jobs", str(jobs), *flags[2:]], kept)
+
+    def must_fail_all(crate, edits, flags):
+        if len(edits) < 2:
+            return alone(crate, edits, flags)
+        began = time.time()
+        with tempfile.TemporaryDirectory(prefix="rt-edits-") as kept:
+            begun_with(crate, kept)
+            answers, checks = all_in_turn(rt, crate, edits, flags, kept)
+        refused = sum(is_refused for is_refused, _ in answers)
+        rt.say(f"{crate.name}: {refused} of its {len(edits)} must-fail edits were refused, in {checks} checks and {time.time() - began:.0f} s")
+        return answers
+
+    rt.must_fail_all, rt.checked = must_fail_all, checked
+    run_in(rt, lanes)
 
 
 def try_over_a_proved_crate(rt):
@@ -208,11 +232,8 @@ def try_over_a_proved_crate(rt):
             batches.add(said)
         return rt.REFUSED, said
 
-    def in_lanes(tasks):
-        with rt.ending():
-            return lanes.run({key: task_for(rt, key, *it) for key, it in tasks.items()})
-
-    rt.Kept, rt.must_fail, rt.in_lanes = Kept, must_fail, in_lanes
+    rt.Kept, rt.must_fail = Kept, must_fail
+    run_in(rt, lanes, rt.ending)
 
 
 def gate(is_anew, is_changed):
@@ -231,7 +252,44 @@ def gate(is_anew, is_changed):
     return status
 
 
+def try_edits(names):
+    """Tries the edits of these crates, or of all, over the crates as scripts/build.py builds them, tells what became of each, and returns whether all were refused."""
+    rt = load_rt()
+    rt.rtlib.guarded()
+    known = rt.rtlib.crates_below(os.getcwd())
+    chosen = [it for it in known if rt.edits_of(it)[0] and it.name in names]
+    if not build_all(rt, [it for it in known if it.makes_rlib() and any(it in [crate, *crate.below()] for crate in chosen)]):
+        return False
+    try_in_turn(rt)
+
+    def call(given, jobs, crate):
+        return rt.must_fail_all(crate, rt.edits_of(crate)[0], ["--jobs", str(jobs)])
+
+    tasks = {(it.name, "edits"): ([], it.count(rb"\n"), rt.need(it), functools.partial(call, crate=it)) for it in chosen}
+    tried = [answer for answers in rt.in_lanes(tasks).values() for answer in answers]
+    for _, said in tried:
+        rt.say(said)
+    passed = sum(is_refused for is_refused, _ in tried)
+    failed = len(tried) - passed + sum(len(rt.edits_of(it)[1]) for it in chosen)
+    print(f"{passed} passed, {failed} failed")
+    return not failed
+
+
+def edits(names):
+    """Tries the edits of these crates, or of all, writes their sums where all were refused, and returns a status."""
+    made = {name: it for name, it in sums().items() if name in names or not names}
+    if kit() == "13b":
+        status = 0 if try_edits([*made]) else 1
+    else:
+        status = subprocess.run([RT, "must-fail", *names]).returncode
+    if status == 0 and kit() and made.items() <= sums().items():
+        write_tried(made)
+    return status
+
+
 def main(words):
+    if words[:1] == ["--edits"]:
+        return edits(words[1:])
     if words not in ([], ["--anew"], ["--changed"]):
         print(__doc__, end="", file=sys.stderr)
         return 2

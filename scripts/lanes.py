@@ -26,6 +26,8 @@ TESTS = {
 EDIT = 12
 # How many processors one check may have at the most: it checks modules side by side, and the last ones alone. Those of tests take the most memory.
 MOST_JOBS, MOST_JOBS_OF_TESTS = 4, 2
+# How much of each further processor a check was seen to use: of half of its time one alone is at work.
+FURTHER = 0.5
 
 
 def seconds_of(name, lines):
@@ -36,6 +38,11 @@ def seconds_of(name, lines):
 def seconds_of_tests(name, lines):
     """Returns the same of a crate's tests; none where it has no lines of tests."""
     return TESTS.get(name, 0.4 * lines) if lines else 0
+
+
+def seconds_of_edits(name, number):
+    """Returns the same of so many must-fail edits of a crate, which are tried in one lane: half a proof, and each edit."""
+    return PROOF.get(name, 60) / 2 + EDIT * number if number else 0
 
 
 def behind(tasks):
@@ -50,8 +57,13 @@ def behind(tasks):
 
 def jobs_for(kind, chain, whole, lanes, idle, others):
     """Returns how many processors a check gets whose chain takes so many of the seconds that are left, where so many stand idle and so many others are ready."""
-    most = MOST_JOBS_OF_TESTS if kind == "tests" else MOST_JOBS
-    return max(1, min(idle, most, max(round(lanes * chain / max(whole, 1)), idle - others)))
+    most = min(MOST_JOBS_OF_TESTS if kind == "tests" else MOST_JOBS, 1 + int((idle - 1) / FURTHER))
+    return max(1, min(most, max(round(lanes * chain / max(whole, 1)), int(idle) - others)))
+
+
+def taken_by(jobs):
+    """Returns how many processors a task takes that was given so many."""
+    return 1 + FURTHER * (jobs - 1)
 
 
 class Lanes:
@@ -61,14 +73,22 @@ class Lanes:
     def __init__(self, lanes, memory, fills=lambda key: False):
         self.lanes, self.memory, self.fills = lanes, memory, fills
         self.changed, self.here = threading.Condition(), threading.local()
-        # what each running task has of processors and memory, and what was given
+        # what each running task takes of processors and memory, and what was given
         self.running, self.given, self.broken = {}, {}, []
+        # how many checks are ready that do not fill, and how many tasks that fill have given way to them
+        self.ready, self.parked = 0, 0
 
     def idle(self):
-        return self.lanes - sum(jobs for jobs, _ in self.running.values())
+        return self.lanes - sum(taken for taken, _ in self.running.values())
 
     def room(self):
         return self.memory - sum(needs for _, needs in self.running.values())
+
+    def spare(self):
+        """Returns how many processors each running task could take besides, of those that stand idle."""
+        with self.changed:
+            at_work = sum(taken > 0 for taken, _ in self.running.values())
+            return max(0, int(self.idle())) // max(1, at_work)
 
     @contextlib.contextmanager
     def lent(self):
@@ -79,12 +99,25 @@ class Lanes:
             return
         with self.changed:
             held, self.running[key] = self.running[key], (0, 0)
-            self.changed.notify()
+            self.changed.notify_all()
         try:
             yield
         finally:
             with self.changed:
                 self.running[key] = held
+
+    def give_way(self):
+        """Lends what the task of this thread has while a check that does not fill waits for a processor."""
+        with self.changed:
+            if not self.ready:
+                return
+            key = self.here.key
+            held, self.running[key] = self.running[key], (0, 0)
+            self.parked += 1
+            self.changed.notify_all()
+            self.changed.wait_for(lambda: self.broken or not self.ready and self.idle() >= held[0])
+            self.parked -= 1
+            self.running[key] = held
 
     def one(self, key, call, jobs):
         """Runs one task in its thread."""
@@ -97,32 +130,38 @@ class Lanes:
             self.given[key] = answer
             self.broken += broken
             del self.running[key]
-            self.changed.notify()
+            self.changed.notify_all()
 
     def begin(self, tasks, key, jobs):
         _, _, needs, call = tasks[key]
-        self.running[key] = jobs, needs * (1 + 0.6 * (jobs - 1))
+        self.running[key] = taken_by(jobs), needs * (1 + 0.6 * (jobs - 1))
         threading.Thread(target=self.one, args=(key, call, jobs)).start()
 
     def begin_ready(self, tasks, left, chains):
         """Begins what can begin, and returns what is left."""
         whole = sum(tasks[it][1] for it in [*left, *self.running])
         ready = [it for it in left if all(below in self.given for below in tasks[it][0])]
-        others, lacks = sum(tasks[it][1] > 0 and not self.fills(it) for it in ready), False
+        others, lacks, self.ready = sum(tasks[it][1] > 0 and not self.fills(it) for it in ready), False, 0
         for key in ready:
             _, seconds, needs, _ = tasks[key]
             is_check = seconds > 0 and not self.fills(key)
             others -= is_check
-            if lacks and self.fills(key):
-                # (a check waits for memory, which those that fill would take again and again)
+            if self.fills(key) and (lacks or self.parked):
+                # (a check waits for memory, which those that fill would take again and again; or one that gave way goes on first)
                 break
-            if self.idle() < 1 or self.running and needs > self.room():
+            if self.idle() < 1 or self.is_at_work() and needs > self.room():
                 lacks = lacks or self.idle() > 0 and is_check
+                self.ready += is_check
                 continue
             jobs = jobs_for(key[1], chains[key], whole, self.lanes, self.idle(), others) if is_check else 1
             self.begin(tasks, key, min(jobs, 1 + max(0, int((self.room() / needs - 1) / 0.6))) if needs else jobs)
             left = [it for it in left if it != key]
+        if self.parked and not self.ready:
+            self.changed.notify_all()
         return left
+
+    def is_at_work(self):
+        return any(taken for taken, _ in self.running.values())
 
     def run(self, tasks):
         """Runs all tasks, and returns what each gave."""

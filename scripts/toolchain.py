@@ -1,10 +1,12 @@
 """The toolchain's command rt as a module, for scripts/gate.py and scripts/build.py."""
+import functools
 import hashlib
 import importlib.machinery
 import importlib.util
 import os
 import shutil
 import sys
+import threading
 
 sys.dont_write_bytecode = True
 RT = os.path.realpath(shutil.which("rt") or "rt")
@@ -28,11 +30,36 @@ def kit():
     return WRITTEN_FOR.get(made.hexdigest())
 
 
+def asked_once(ask):
+    """Returns a method of a crate that asks itself of the crates below, such that within one call each crate is asked once.
+
+    rt asks along each path through the crates: of mm_cli 12,823 times for a sum of all files, which took it minutes.
+    """
+    here = threading.local()
+
+    @functools.wraps(ask)
+    def once(crate):
+        known = getattr(here, "known", None)
+        if known is None:
+            here.known = {}
+            try:
+                return ask(crate)
+            finally:
+                here.known = None
+        if crate.folder not in known:
+            known[crate.folder] = ask(crate)
+        return known[crate.folder]
+
+    return once
+
+
 def load_rt():
-    """Returns the command rt as a module, which foresees less memory for a check; its library is the module's rtlib."""
+    """Returns the command rt as a module, which foresees less memory for a check, and asks each crate once for its sum and for what stands below it; its
+    library is the module's rtlib."""
     loader = importlib.machinery.SourceFileLoader("rt_words", RT)
     made = importlib.util.module_from_spec(importlib.util.spec_from_loader("rt_words", loader))
     loader.exec_module(made)
-    need = made.need
+    need, crate = made.need, made.rtlib.Crate
     made.need = lambda crate: MEMORY_TAKEN * need(crate)
+    crate.stamp, crate.below = asked_once(crate.stamp), asked_once(crate.below)
     return made

@@ -252,36 +252,39 @@ def gate(is_anew, is_changed):
     return status
 
 
-def try_edits(names):
-    """Tries the edits of these crates, or of all, over the crates as scripts/build.py builds them, tells what became of each, and returns whether all were refused."""
-    rt = load_rt()
+def try_edits(made):
+    """Tries the edits of these crates over the crates as scripts/build.py builds them, writes the sum of each whose edits were all refused, and returns a status."""
+    rt, writing = load_rt(), threading.Lock()
     rt.rtlib.guarded()
     known = rt.rtlib.crates_below(os.getcwd())
-    chosen = [it for it in known if rt.edits_of(it)[0] and it.name in names]
+    chosen = [it for it in known if it.name in made]
     if not build_all(rt, [it for it in known if it.makes_rlib() and any(it in [crate, *crate.below()] for crate in chosen)]):
-        return False
+        return 1
     try_in_turn(rt)
 
     def call(given, jobs, crate):
-        return rt.must_fail_all(crate, rt.edits_of(crate)[0], ["--jobs", str(jobs)])
+        good, bad = rt.edits_of(crate)
+        tried = rt.must_fail_all(crate, good, ["--jobs", str(jobs)]) + [(False, f"{it}: BAD EDIT: by its name") for it in bad]
+        with writing:
+            if all(is_refused for is_refused, _ in tried) and sums()[crate.name] == made[crate.name]:
+                write_tried({crate.name: made[crate.name]})
+        return tried
 
     tasks = {(it.name, "edits"): ([], it.count(rb"\n"), rt.need(it), functools.partial(call, crate=it)) for it in chosen}
     tried = [answer for answers in rt.in_lanes(tasks).values() for answer in answers]
     for _, said in tried:
         rt.say(said)
     passed = sum(is_refused for is_refused, _ in tried)
-    failed = len(tried) - passed + sum(len(rt.edits_of(it)[1]) for it in chosen)
-    print(f"{passed} passed, {failed} failed")
-    return not failed
+    print(f"{passed} passed, {len(tried) - passed} failed")
+    return 0 if passed == len(tried) > 0 else 1
 
 
 def edits(names):
-    """Tries the edits of these crates, or of all, writes their sums where all were refused, and returns a status."""
+    """Tries the edits of these crates, or of all, and returns a status."""
     made = {name: it for name, it in sums().items() if name in names or not names}
     if kit() == "13b":
-        status = 0 if try_edits([*made]) else 1
-    else:
-        status = subprocess.run([RT, "must-fail", *names]).returncode
+        return try_edits(made)
+    status = subprocess.run([RT, "must-fail", *names]).returncode
     if status == 0 and kit() and made.items() <= sums().items():
         write_tried(made)
     return status

@@ -28,6 +28,8 @@ EDIT = 12
 MOST_JOBS, MOST_JOBS_OF_TESTS = 4, 2
 # How much of each further processor a check was seen to use: of half of its time one alone is at work.
 FURTHER = 0.5
+# A chain's share of the processors is taken this much larger than its seconds say: of a check with more than one a part runs alone all the same.
+CHAIN_FIRST = 1.8
 
 
 def seconds_of(name, lines):
@@ -58,7 +60,7 @@ def behind(tasks):
 def jobs_for(kind, chain, whole, lanes, idle, others):
     """Returns how many processors a check gets whose chain takes so many of the seconds that are left, where so many stand idle and so many others are ready."""
     most = min(MOST_JOBS_OF_TESTS if kind == "tests" else MOST_JOBS, 1 + int((idle - 1) / FURTHER))
-    return max(1, min(most, max(round(lanes * chain / max(whole, 1)), int(idle) - others)))
+    return max(1, min(most, max(round(CHAIN_FIRST * lanes * chain / max(whole, 1)), int(idle) - others)))
 
 
 def taken_by(jobs):

@@ -55,9 +55,8 @@ def build(crate, jobs, progress):
     return not status
 
 
-def build_all(rt, crates):
-    """Builds these libraries, each after those that it stands on, side by side, and returns whether all are proved."""
-    held = rt.rtlib.lock(crates)
+def tasks_for(rt, crates):
+    """Returns the tasks that build these libraries, each after those that it stands on, for the lanes: each gives whether its crate is proved."""
     progress = Progress(len(crates))
 
     def built(crate, given, jobs):
@@ -70,10 +69,7 @@ def build_all(rt, crates):
         call = lambda given, jobs, crate=crate: built(crate, given, jobs)
         seconds = 0 if crate.is_built() else seconds_of(crate.name, crate.count(rb"\n"))
         tasks[crate.name, "proof"] = (waits, seconds, rt.need(crate), call)
-    given = Lanes(rt.processors(), MEMORY_USED * rt.free()).run(tasks)
-    for it in held:
-        os.close(it)
-    return all(given.values())
+    return tasks
 
 
 def main(words):
@@ -86,8 +82,12 @@ def main(words):
         # what another clone on this machine built of the same text is taken
         rt.share_work(True)
     root = os.path.dirname(os.path.dirname(os.path.abspath(__file__)))
-    top = rt.rtlib.Crate(f"{root}/crates/{words[0] if words else PROGRAM}", root, {})
-    return 0 if build_all(rt, top.below()) else 1
+    crates = rt.rtlib.Crate(f"{root}/crates/{words[0] if words else PROGRAM}", root, {}).below()
+    held = rt.rtlib.lock(crates)
+    given = Lanes(rt.processors(), MEMORY_USED * rt.free()).run(tasks_for(rt, crates))
+    for it in held:
+        os.close(it)
+    return 0 if all(given.values()) else 1
 
 
 if __name__ == "__main__":

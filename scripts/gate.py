@@ -22,7 +22,7 @@ import tempfile
 import threading
 import time
 
-from build import build_all
+from build import tasks_for
 from edits import Batches, all_in_turn
 from lanes import EDIT, Lanes, seconds_of, seconds_of_edits, seconds_of_tests
 from toolchain import MEMORY_TAKEN, RT, kit, load_rt
@@ -171,7 +171,7 @@ def begun_with(crate, kept):
 
 
 def try_in_turn(rt):
-    """Has rt of the kit 13b, which tries the edits of a crate in turn, try them in batches."""
+    """Has rt of the kit 13b, which tries the edits of a crate in turn, try them in batches, and returns the lanes that it runs in."""
     alone, checked_by, lanes = rt.must_fail_all, rt.checked, lanes_of(rt)
 
     def checked(crate, texts, flags, kept):
@@ -192,6 +192,7 @@ def try_in_turn(rt):
 
     rt.must_fail_all, rt.checked = must_fail_all, checked
     run_in(rt, lanes)
+    return lanes
 
 
 def try_over_a_proved_crate(rt):
@@ -258,11 +259,16 @@ def try_edits(made):
     rt.rtlib.guarded()
     known = rt.rtlib.crates_below(os.getcwd())
     chosen = [it for it in known if it.name in made]
-    if not build_all(rt, [it for it in known if it.makes_rlib() and any(it in [crate, *crate.below()] for crate in chosen)]):
-        return 1
-    try_in_turn(rt)
+    libraries = [it for it in known if it.makes_rlib() and any(it in [crate, *crate.below()] for crate in chosen)]
+    held = rt.rtlib.lock(libraries)
+    tasks, lanes = tasks_for(rt, libraries), try_in_turn(rt)
+
+    def libraries_of(crate):
+        return [(it.name, "proof") for it in [*crate.below(), crate] if it.makes_rlib()]
 
     def call(given, jobs, crate):
+        if not all(given[it] for it in libraries_of(crate)):
+            return [(False, f"{crate.name}: it is not proved, so none of its must-fail edits was tried")]
         good, bad = rt.edits_of(crate)
         tried = rt.must_fail_all(crate, good, ["--jobs", str(jobs)]) + [(False, f"{it}: BAD EDIT: by its name") for it in bad]
         with writing:
@@ -270,10 +276,15 @@ def try_edits(made):
                 write_tried({crate.name: made[crate.name]})
         return tried
 
-    tasks = {(it.name, "edits"): ([], it.count(rb"\n"), rt.need(it), functools.partial(call, crate=it)) for it in chosen}
-    tried = [answer for answers in rt.in_lanes(tasks).values() for answer in answers]
+    for it in chosen:
+        seconds = seconds_of_edits(it.name, len(rt.edits_of(it)[0]))
+        tasks[it.name, "edits"] = (libraries_of(it), seconds, rt.need(it), functools.partial(call, crate=it))
+    given = lanes.run(tasks)
+    tried = [answer for it in chosen for answer in given[it.name, "edits"]]
     for _, said in tried:
         rt.say(said)
+    for it in held:
+        os.close(it)
     passed = sum(is_refused for is_refused, _ in tried)
     print(f"{passed} passed, {len(tried) - passed} failed")
     return 0 if passed == len(tried) > 0 else 1

@@ -4,12 +4,13 @@
     scripts/build.py [CRATE]     the libraries below crates/CRATE, if not given below the program mm_cli
 
 `rt run` builds what stands below a program crate by crate, and rt's own commands wait for one another where they share a library. So
-this calls the toolchain's own code in one process: each crate as `rt lib` builds it, as many as there are processors and memory for; a crate on
-a long chain gets several processors (scripts/lanes.py). What is built already stays as it is. With another kit than those
-that this was written for it does nothing, and `rt run` builds all.
+this calls the toolchain's own code in one process: each crate as the gate builds it, as many as there are processors and memory for; a crate on
+a long chain gets several processors (scripts/lanes.py). What is built already stays as it is. Nothing is kept of the work on a crate, so that the first
+`rt check` of one proves it anew. With another kit than those that this was written for it does nothing, and `rt run` builds all.
 """
 import copy
 import os
+import shutil
 import signal
 import sys
 import tempfile
@@ -17,9 +18,10 @@ import threading
 import time
 
 from lanes import Lanes, seconds_of
-from toolchain import kit, load_rt
+from toolchain import RT, kit, load_rt
 
 PROGRAM = "mm_cli"
+RATTLE = f"{os.path.dirname(RT)}/rattle"
 
 # How much of the free memory the checks may take by what is foreseen of them.
 MEMORY_USED = 0.85
@@ -38,17 +40,41 @@ class Progress:
             print(f"{said}{crate.name}: {became} ({self.left} left, {minutes:.1f} minutes so far)", flush=True)
 
 
+def build_statements(crate, jobs):
+    """Builds one library as the gate does, with the statements that the crates above it load and without the proofs, and returns a status.
+
+    rt writes no stamp for such a library, since it fits only the libraries that it was built over. Here it gets one: scripts/toolchain.py takes it only
+    while it is newer than these.
+    """
+    folder, stamp = os.path.dirname(crate.rlib), crate.stamp()
+    shutil.rmtree(folder, ignore_errors=True)
+    os.makedirs(folder)
+    words = crate.words(["--jobs", str(jobs)], keeps=False)
+    status = crate.call(RATTLE, "build", *words, "--statements", "-o", crate.rlib)
+    if status == 0 and stamp == crate.stamp():
+        with open(f"{folder}/stamp", "w", encoding="utf-8") as it:
+            it.write(stamp)
+    return status
+
+
+def build_library(crate, jobs):
+    """Builds one library and returns a status: of the kit 13b the gate's way, of another as `rt lib` does."""
+    if kit() == "13b":
+        return build_statements(crate, jobs)
+    os.makedirs(f"{crate.folder}/out", exist_ok=True)
+    return crate.build_rlib(["--jobs", str(jobs)], anew=False)
+
+
 def build(crate, jobs, progress):
-    """Builds one library as `rt lib` does, and returns whether it is proved."""
+    """Builds one library where it is not built yet, and returns whether it is proved."""
     crate = copy.copy(crate)
     if crate.is_built():
         progress.tell(crate, "stands as it was built")
         return True
     with tempfile.TemporaryFile("w+", errors="replace") as crate.out:
-        os.makedirs(f"{crate.folder}/out", exist_ok=True)
-        status = crate.build_rlib(["--jobs", str(jobs)], anew=False)
+        status = build_library(crate, jobs)
         if status == -signal.SIGKILL:
-            status = crate.build_rlib(["--jobs", "1"], anew=False)
+            status = build_library(crate, 1)
         crate.out.seek(0)
         said = "".join(crate.out.readlines()[-40:]) if status else ""
     progress.tell(crate, "NOT PROVED" if status else "proved", said)

@@ -248,8 +248,8 @@ def gate(is_anew, is_changed):
     else:
         try_over_a_proved_crate(rt)
         status = rt.where_disk_lasts(rt.ci, is_anew)
-    if status == 0 and not same and sums() == made:
-        write_tried(made)
+    if status == 0 and sums() == made:
+        write_tried({name: it for name, it in made.items() if name not in same})
     return status
 
 

@@ -1,10 +1,12 @@
 """Checks side by side, the longest chain first (for scripts/build.py and scripts/gate.py).
 
 rt's own lanes weigh a crate by its lines, and give a check one processor while others are ready. Here a crate weighs the seconds that its first check was
-seen to take, and a check on a long chain gets more processors than one: as many as its chain's share of all that is left to do. A task that waits for what
-another does lends its processor meanwhile.
+seen to take, and a check on a long chain gets more processors than one: as many as its chain's share of all that is left to do. More is begun than there
+are processors for, and the system runs a check on a shorter chain where one on a longer leaves it a processor. A task that waits for what another does
+lends its processor meanwhile.
 """
 import contextlib
+import os
 import threading
 
 # The seconds of one processor that the first check of a crate was seen to take (kit 13f), and that of its tests. Only the order rests on them.
@@ -29,7 +31,15 @@ MOST_JOBS, MOST_JOBS_OF_TESTS = 4, 2
 # How much of each further processor a check was seen to use: of half of its time one alone is at work.
 FURTHER = 0.5
 # A chain's share of the processors is taken this much larger than its seconds say: of a check with more than one a part runs alone all the same.
-CHAIN_FIRST = 1.8
+CHAIN_FIRST = 1.3
+# How many times the processors there are the checks may take that are begun at once, since of a long one's a part stands idle.
+BEGUN_AT_ONCE = 1.5
+# How much of a processor has to stand idle for a task that fills what the checks leave.
+LEAST = 0.5
+# How nice a check is, as the system counts it, whose chain is at most half of the longest: where that one's is at work too, 15 gets a thirtieth of its time.
+NICEST = 15
+# How much more memory each further processor of a check takes: what it forks has most of it in common.
+FURTHER_MEMORY = 0.3
 
 
 def seconds_of(name, lines):
@@ -57,15 +67,21 @@ def behind(tasks):
     return found
 
 
-def jobs_for(kind, chain, whole, lanes, idle, others):
-    """Returns how many processors a check gets whose chain takes so many of the seconds that are left, where so many stand idle and so many others are ready."""
-    most = min(MOST_JOBS_OF_TESTS if kind == "tests" else MOST_JOBS, 1 + int((idle - 1) / FURTHER))
-    return max(1, min(most, max(round(CHAIN_FIRST * lanes * chain / max(whole, 1)), int(idle) - others)))
+def jobs_for(kind, chain, whole, lanes, room, idle):
+    """Returns how many processors a check gets whose chain takes so many of the seconds that are left, where there is room for so many and so many stand idle
+    that no other wants."""
+    most = min(MOST_JOBS_OF_TESTS if kind == "tests" else MOST_JOBS, 1 + int((room - 1) / FURTHER))
+    return max(1, min(most, max(round(CHAIN_FIRST * lanes * chain / max(whole, 1)), idle)))
 
 
 def taken_by(jobs):
     """Returns how many processors a task takes that was given so many."""
     return 1 + FURTHER * (jobs - 1)
+
+
+def niceness(chain, longest):
+    """Returns how nice a task is whose chain takes so many seconds, where the longest takes so many."""
+    return min(NICEST, round(2 * NICEST * (1 - chain / max(longest, 1))))
 
 
 class Lanes:
@@ -117,13 +133,14 @@ class Lanes:
             held, self.running[key] = self.running[key], (0, 0)
             self.parked += 1
             self.changed.notify_all()
-            self.changed.wait_for(lambda: self.broken or not self.ready and self.idle() >= held[0])
+            self.changed.wait_for(lambda: self.broken or not self.ready and self.idle() >= LEAST)
             self.parked -= 1
             self.running[key] = held
 
-    def one(self, key, call, jobs):
-        """Runs one task in its thread."""
+    def one(self, key, call, jobs, nice):
+        """Runs one task in its thread. What a thread starts is as nice as it is."""
         self.here.key = key
+        os.setpriority(os.PRIO_PROCESS, 0, os.getpriority(os.PRIO_PROCESS, 0) + nice)
         try:
             answer, broken = call(self.given, jobs), []
         except BaseException as error:  # pylint: disable=broad-except
@@ -134,14 +151,15 @@ class Lanes:
             del self.running[key]
             self.changed.notify_all()
 
-    def begin(self, tasks, key, jobs):
+    def begin(self, tasks, key, jobs, nice):
         _, _, needs, call = tasks[key]
-        self.running[key] = taken_by(jobs), needs * (1 + 0.6 * (jobs - 1))
-        threading.Thread(target=self.one, args=(key, call, jobs)).start()
+        self.running[key] = taken_by(jobs), needs * (1 + FURTHER_MEMORY * (jobs - 1))
+        threading.Thread(target=self.one, args=(key, call, jobs, nice)).start()
 
     def begin_ready(self, tasks, left, chains):
         """Begins what can begin, and returns what is left."""
-        whole = sum(tasks[it][1] for it in [*left, *self.running])
+        there = [*left, *self.running]
+        whole, longest = sum(tasks[it][1] for it in there if not self.fills(it)), max(chains[it] for it in there)
         ready = [it for it in left if all(below in self.given for below in tasks[it][0])]
         others, lacks, self.ready = sum(tasks[it][1] > 0 and not self.fills(it) for it in ready), False, 0
         for key in ready:
@@ -151,12 +169,14 @@ class Lanes:
             if self.fills(key) and (lacks or self.parked):
                 # (a check waits for memory, which those that fill would take again and again; or one that gave way goes on first)
                 break
-            if self.idle() < 1 or self.is_at_work() and needs > self.room():
-                lacks = lacks or self.idle() > 0 and is_check
+            room = self.idle() + (BEGUN_AT_ONCE - 1) * self.lanes * is_check
+            if seconds > 0 and room < (1 if is_check else LEAST) or self.is_at_work() and needs > self.room():
+                lacks = lacks or room > 0 and is_check
                 self.ready += is_check
                 continue
-            jobs = jobs_for(key[1], chains[key], whole, self.lanes, self.idle(), others) if is_check else 1
-            self.begin(tasks, key, min(jobs, 1 + max(0, int((self.room() / needs - 1) / 0.6))) if needs else jobs)
+            jobs = jobs_for(key[1], chains[key], whole, self.lanes, room, int(self.idle()) - others) if is_check else 1
+            jobs = min(jobs, 1 + max(0, int((self.room() / needs - 1) / FURTHER_MEMORY))) if needs else jobs
+            self.begin(tasks, key, jobs, niceness(chains[key], longest))
             left = [it for it in left if it != key]
         if self.parked and not self.ready:
             self.changed.notify_all()

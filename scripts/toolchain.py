@@ -53,13 +53,25 @@ def asked_once(ask):
     return once
 
 
+def built_after(is_built):
+    """Returns a method of a crate that tells whether it is built, and not before the libraries that it stands on: rt asks for the first alone, but a library
+    with statements and no proofs, as scripts/build.py builds it, fits only those that it was built over."""
+
+    def stamped(crate):
+        stamp = f"{os.path.dirname(crate.rlib)}/stamp"
+        return os.stat(stamp).st_mtime_ns if os.path.isfile(stamp) else float("inf")
+
+    return lambda crate: is_built(crate) and all(stamped(it) <= stamped(crate) for it in crate.deps)
+
+
 def load_rt():
-    """Returns the command rt as a module, which foresees less memory for a check, and asks each crate once for its sum and for what stands below it; its
-    library is the module's rtlib."""
+    """Returns the command rt as a module, which foresees less memory for a check, asks each crate once for its sum and for what stands below it, and takes no
+    library that is older than those that it stands on; its library is the module's rtlib."""
     loader = importlib.machinery.SourceFileLoader("rt_words", RT)
     made = importlib.util.module_from_spec(importlib.util.spec_from_loader("rt_words", loader))
     loader.exec_module(made)
     need, crate = made.need, made.rtlib.Crate
     made.need = lambda crate: MEMORY_TAKEN * need(crate)
     crate.stamp, crate.below = asked_once(crate.stamp), asked_once(crate.below)
+    crate.is_built = built_after(crate.is_built)
     return made

@@ -12,9 +12,9 @@ import threading
 # The seconds of one processor that the first check of a crate was seen to take (kit 13f), and that of its tests. Only the order rests on them.
 PROOF = {
     "mm_arguments": 239, "mm_base": 22, "mm_blobs": 131, "mm_check": 110, "mm_cli": 240, "mm_content": 57,
-    "mm_core": 200, "mm_definitions": 201, "mm_edition": 379, "mm_faults": 41, "mm_files": 143, "mm_imports": 82,
+    "mm_core": 200, "mm_definitions": 201, "mm_edition": 379, "mm_faults": 41, "mm_files": 90,
     "mm_io": 73, "mm_items": 293, "mm_kit": 208, "mm_laws": 29, "mm_layout": 230, "mm_limits": 174, "mm_listing": 115,
-    "mm_matrices": 127, "mm_meta": 60, "mm_migrate": 91, "mm_opening": 180, "mm_page": 196, "mm_program": 220,
+    "mm_matrices": 127, "mm_meta": 60, "mm_migrate": 91, "mm_opening": 180, "mm_page": 196, "mm_program": 255,
     "mm_queries": 36, "mm_reads": 173, "mm_records": 196, "mm_recovery": 283, "mm_relate": 58, "mm_relations": 161,
     "mm_routes": 86, "mm_rules": 249, "mm_run": 94, "mm_scaling": 88, "mm_schema": 44, "mm_shelf": 82, "mm_store": 113,
     "mm_subcommands": 119, "mm_test_packages": 122, "mm_test_recovery": 13, "mm_test_sessions": 19, "mm_test_stops": 11,

@@ -1,1 +1,2 @@
 pub mod ServiceFacts
+mod Imported

@@ -3,3 +3,4 @@ pub mod Files
 pub mod Told
 pub mod Served
 pub mod Worked
+pub mod Imports

@@ -8,7 +8,7 @@ ghost use Rattle.mm_definitions.specs.Streams.{written};
 ghost use Rattle.mm_store.specs.Stands.{IsSettled};
 ghost use Rattle.mm_core.specs.Applied.{StandsForCurrent};
 ghost use Rattle.mm_kit.specs.Imports.{IsImportKept, OnAnyFolder, OnKit, TellsFolder};
-ghost use Rattle.mm_imports.specs.Kits.{IsImport, kit_status, kit_text, staged_status, staged_text};
+ghost use Rattle.mm_program.specs.Imports.{IsImport, kit_status, kit_text, staged_status, staged_text};
 ghost use Rattle.mm_subcommands.specs.Told.{IsTold};
 
 use arrayvec::ArrayVec;

@@ -11,6 +11,7 @@ use mm_definitions::streams::Io;
 use sqlite::{Connection, Error, ErrorCode, FileFrom, FileStore, Files, Options, Start, Wary};
 use sqlite_disk::Disk;
 use sqlite_std_file::OpenError;
+use std::alloc::Global;
 use std::hash::{BuildHasher, RandomState};
 use std::io;
 use std::io::Write;
@@ -109,6 +110,27 @@ fn close_after<D: Disk + Drop, T: Copy>(
     }
 }
 
+/// Does work on a connection to files, and closes it where the work hands it back.
+fn work_and_close<D: Disk + Drop, K: Works, W: Write>(
+    alloc: Global,
+    conn: Connection<FileStore<D>>,
+    work: &mut K,
+    output: &mut Io<W>,
+) -> Result<K::Done, Fault>
+    requires { conn.in_transaction ≡ false }
+    ensures done { IfOk result
+        (K.comes_to work.old (written W.contents output.old) (written W.contents output.new)) }
+    ensures fault { IfErr result IsStoreFault }
+    ensures untold { OnErr result (IsUntold (K.comes_to work.old) K.is_fault
+        (written W.contents output.old) (written W.contents output.new)) }
+{
+    let (left, done) = work.work(alloc, conn, output);
+    match left {
+        Some(conn) => close_after(conn, done, K::is_fault(done)),
+        None => Ok(done),
+    }
+}
+
 /// Does work on the file at a path, which has so many bytes. 90 where memory was refused and 91 where the store failed, as the file was
 /// opened, or as it was closed behind work that no fault ended; else what the work came to. Of how a crash mixes old bytes and new ones
 /// nothing is supposed: each commit is synced twice.
@@ -126,9 +148,5 @@ pub fn on_file<K: Works, W: Write>(
         (written W.contents output.old) (written W.contents output.new)) }
 {
     let conn = open_files(rt, path, length, Wary)?;
-    let (left, done) = work.work(rt.alloc(), conn, output);
-    match left {
-        Some(conn) => close_after(conn, done, K::is_fault(done)),
-        None => Ok(done),
-    }
+    work_and_close(rt.alloc(), conn, work, output)
 }

@@ -18,7 +18,7 @@ import threading
 import time
 
 from lanes import Lanes, seconds_of
-from toolchain import RT, kit, load_rt
+from toolchain import RT, kit, load_rt, stamp_of
 
 PROGRAM = "mm_cli"
 RATTLE = f"{os.path.dirname(RT)}/rattle"
@@ -52,7 +52,7 @@ def build_statements(crate, jobs):
     words = crate.words(["--jobs", str(jobs)], keeps=False)
     status = crate.call(RATTLE, "build", *words, "--statements", "-o", crate.rlib)
     if status == 0 and stamp == crate.stamp():
-        with open(f"{folder}/stamp", "w", encoding="utf-8") as it:
+        with open(stamp_of(crate), "w", encoding="utf-8") as it:
             it.write(stamp)
     return status
 

@@ -53,12 +53,17 @@ def asked_once(ask):
     return once
 
 
+def stamp_of(crate):
+    """Returns the file that tells of what a crate's library was built."""
+    return f"{os.path.dirname(crate.rlib)}/stamp"
+
+
 def built_after(is_built):
     """Returns a method of a crate that tells whether it is built, and not before the libraries that it stands on: rt asks for the first alone, but a library
     with statements and no proofs, as scripts/build.py builds it, fits only those that it was built over."""
 
     def stamped(crate):
-        stamp = f"{os.path.dirname(crate.rlib)}/stamp"
+        stamp = stamp_of(crate)
         return os.stat(stamp).st_mtime_ns if os.path.isfile(stamp) else float("inf")
 
     return lambda crate: is_built(crate) and all(stamped(it) <= stamped(crate) for it in crate.deps)

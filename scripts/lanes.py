@@ -9,11 +9,11 @@ import contextlib
 import os
 import threading
 
-# The seconds of one processor that the first check of a crate was seen to take (kit 13f), that of the program with what its two compilers take behind it;
-# and those of the check of a crate's tests. Only the order rests on them.
+# The seconds of one processor that the first check of a crate was seen to take (kit 13f), of mm_program and mm_cli by a sum, the second with what its
+# two compilers take behind it; and those of the check of a crate's tests. Only the order rests on them.
 PROOF = {
     "mm_arguments": 239, "mm_base": 22, "mm_blobs": 131, "mm_check": 110, "mm_cli": 450, "mm_content": 57,
-    "mm_core": 200, "mm_definitions": 201, "mm_edition": 379, "mm_faults": 41, "mm_files": 90,
+    "mm_core": 200, "mm_definitions": 201, "mm_edition": 379, "mm_faults": 41, "mm_files": 143,
     "mm_io": 73, "mm_items": 293, "mm_kit": 208, "mm_laws": 29, "mm_layout": 230, "mm_limits": 174, "mm_listing": 115,
     "mm_matrices": 127, "mm_meta": 60, "mm_migrate": 91, "mm_opening": 180, "mm_page": 196, "mm_program": 255,
     "mm_queries": 36, "mm_reads": 173, "mm_records": 196, "mm_recovery": 283, "mm_relate": 58, "mm_relations": 161,

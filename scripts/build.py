@@ -4,8 +4,8 @@
     scripts/build.py [CRATE]     the libraries below crates/CRATE, if not given below the program mm_cli
 
 `rt run` builds what stands below a program crate by crate, and rt's own commands wait for one another where they share a library. So
-this calls the toolchain's own code in one process: each crate as the gate builds it, as many as there are processors and memory for; a crate on
-a long chain gets several processors (scripts/lanes.py). What is built already stays as it is. Nothing is kept of the work on a crate, so that the first
+this calls the toolchain's own code in one process: each crate as the gate builds it, as many as there are processors and memory for, those on the
+longest chain first (scripts/lanes.py). What is built already stays as it is. Nothing is kept of the work on a crate, so that the first
 `rt check` of one proves it anew. With another kit than those that this was written for it does nothing, and `rt run` builds all.
 """
 import copy

@@ -8,7 +8,9 @@ set -eu -o pipefail
 top=$(cd "$(dirname "$0")/.." && pwd)
 mkdir -p "$top/out"
 python3 "$top/scripts/build.py"
-if ! (cd "$top/crates/mm_cli" && "$top/scripts/rt.py" run -- --help) >"$top/out/build.log" 2>&1; then
+# rt gives the program's own check one processor where it foresees little memory, and checks again with one where memory was short.
+jobs=$(($(nproc) < 4 ? $(nproc) : 4))
+if ! (cd "$top/crates/mm_cli" && "$top/scripts/rt.py" run --jobs "$jobs" -- --help) >"$top/out/build.log" 2>&1; then
     tail -n 40 "$top/out/build.log" >&2
     echo "mmpkg was not built" >&2
     exit 1

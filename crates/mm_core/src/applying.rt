@@ -13,7 +13,7 @@ use mm_definitions::answers::{Answer, Fault, Outcome};
 use mm_definitions::commands::Command;
 use mm_definitions::moments::{Moment, stamp};
 use mm_definitions::names::Name;
-use mm_edition::rehearse;
+use mm_publish::rehearse;
 use mm_store::faults::fault_of;
 use sqlite::{Alter, Connection};
 use std::alloc::Global;

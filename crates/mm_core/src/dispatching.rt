@@ -10,11 +10,12 @@ ghost use Rattle.mm_definitions.specs.CommandGroups.{is_layout_change, lays_out_
 
 use mm_definitions::answers::{Fault, Outcome};
 use mm_definitions::commands::Command;
-use mm_edition::{discard, open_edition, publish, stage};
+use mm_edition::{discard, open_edition, stage};
 use mm_items::{drop_media, drop_row, drop_tile, put_media, put_row, put_tile};
 use mm_layout::{add_pyramid, add_table, drop_table};
 use mm_matrices::add_matrix;
 use mm_opening::add_srs;
+use mm_publish::publish;
 use mm_relations::{add_map, add_relation, drop_map, drop_relation};
 use sqlite::{Alter, Transaction};
 

@@ -1,16 +1,10 @@
 pub mod Selecting
 pub mod Refusing
 pub mod Rows
-pub mod Failing
 pub mod Numbering
 pub mod Unchanged
 pub mod Spelled
-pub mod Quieting
-pub mod Turning
 pub mod InOrder
-pub mod Trials
-pub mod Tries
-pub mod Rehearsed
 pub mod LastPiece
 pub mod Naming
 pub mod Freeing

@@ -135,7 +135,7 @@ fn delete_edition<S: Alter>(tx: &mut Transaction<'_, S>, edition: &str) -> Resul
 
 /// Why an edition is not one that takes and gives up pieces, if it is not: 51 where none has the name, 55 where it is
 /// published.
-pub(crate) fn closed_refusal<S: Alter>(
+pub fn closed_refusal<S: Alter>(
     tx: &mut Transaction<'_, S>,
     edition: &str,
 ) -> Result<Option<u8>, Fault>

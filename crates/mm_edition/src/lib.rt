@@ -1,11 +1,8 @@
-//! Editions: changes are staged piece by piece and published wholly or not at all.
+//! Editions while they are prepared: changes are staged piece by piece. `mm_publish` publishes them.
 //!
 //! - `editions`: how an edition stands, `open_edition` and `discard`.
 //! - `kept`: a staged piece as its row holds it.
-//! - `pieces`: one piece by its number.
-//! - `publishing`: `publish`, all pieces in turn.
-//! - `rehearsing`: `rehearse`.
-//! - `running`: one piece taken as its command.
+//! - `pieces`: one piece by its number, and the blobs of all.
 //! - `spelling`: the piece that a kept row spells.
 //! - `staging`: `stage`.
 //! - `states`: the read `edition`.
@@ -14,16 +11,11 @@
 mod editions;
 mod kept;
 mod pieces;
-mod publishing;
-mod rehearsing;
-mod running;
 mod spelling;
 mod staging;
 mod states;
 
-pub use editions::{discard, open_edition};
-pub use pieces::piece;
-pub use publishing::publish;
-pub use rehearsing::rehearse;
+pub use editions::{closed_refusal, discard, open_edition};
+pub use pieces::{blobs_of_pieces, piece};
 pub use staging::stage;
 pub use states::edition;

@@ -208,7 +208,7 @@ pub(crate) fn insert_piece<S: Alter>(
 }
 
 /// The ids of the blobs that the pieces of an edition name.
-pub(crate) fn blobs_of_pieces<S: Alter>(
+pub fn blobs_of_pieces<S: Alter>(
     tx: &mut Transaction<'_, S>,
     edition: &str,
 ) -> Result<Vec<Row>, Fault>

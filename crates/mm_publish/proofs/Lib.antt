@@ -1,0 +1,5 @@
+pub mod Quieting
+pub mod Turning
+pub mod Trials
+pub mod Tries
+pub mod Rehearsed

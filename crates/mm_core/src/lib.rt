@@ -9,6 +9,7 @@
 mod applying;
 mod checking;
 mod dispatching;
+mod editing;
 mod listing;
 mod reading;
 mod running;

@@ -1,5 +1,6 @@
 //! Editions while they are prepared: changes are staged piece by piece. `mm_publish` publishes them.
 //!
+//! - `editor`: what commands on an edition are applied to, which tells how it stands.
 //! - `editions`: how an edition stands, `open_edition` and `discard`.
 //! - `kept`: a staged piece as its row holds it.
 //! - `pieces`: one piece by its number, and the blobs of all.
@@ -9,6 +10,7 @@
 #![tactic(auto)]
 
 mod editions;
+mod editor;
 mod kept;
 mod pieces;
 mod spelling;
@@ -16,6 +18,7 @@ mod staging;
 mod states;
 
 pub use editions::{closed_refusal, discard, open_edition};
+pub use editor::Editor;
 pub use pieces::{blobs_of_pieces, piece};
 pub use staging::stage;
 pub use states::edition;

@@ -6,7 +6,6 @@ ghost use Rattle.mm_kit.specs.Folders.{Files, is_failure};
 ghost use Rattle.mm_kit.specs.Imports.{AreImported, AsksForPackage, IsImportAnswered, IsImportKept, IsKitFault, IsImportStopped, MayBeStaged, OnAnyFolder, OnKit, ImportTellsReopening, TellsFolder};
 ghost use Rattle.mm_kit.specs.Lists.{AreFew, AreSound, IsKitList, list_read};
 
-use crate::editor::Editor;
 use crate::entries::Entry;
 use crate::folders::{Folder, FolderFault, Found};
 use crate::lists::{Listed, read_list};
@@ -15,6 +14,7 @@ use mm_definitions::answers::{KitFault, Staged};
 use mm_definitions::entries::EditionState;
 use mm_definitions::moments::Moment;
 use mm_definitions::names::Name;
+use mm_edition::Editor;
 use std::alloc::Global;
 
 /// The most bytes of a kit's list.
@@ -87,8 +87,18 @@ fn import_entries<A: Editor, F: Folder>(
     }
 }
 
-/// The import of a folder's kit into an edition.
-pub(crate) fn import_folder<A: Editor, F: Folder>(
+/// Stages the pieces of a folder's kit in an edition that is open, and answers `Complete` where the edition's pieces are
+/// the kit. An import that was stopped is done again, as often as is wanted: pieces that stand already are passed over.
+///
+/// The list `kit.csv` is read first, then the edition, then for each record in order its file. `Refused` tells the record's
+/// place, or 0 of the list itself: 57 where there is no list and 11 where it is too long; the first record that is refused;
+/// 51 or 55 of the edition; 57 or 11 of a record's file, 52 where another piece stands at its number.
+///
+/// # Errors
+///
+/// 90 want of memory, 91 the store, 92 where the editor has failed (a session has to be opened again then), 96 where the folder
+/// failed; each with the number of pieces that were answered ok in this call.
+pub fn import_kit<A: Editor, F: Folder>(
     alloc: Global,
     editor: &mut A,
     name: &Name,
@@ -96,19 +106,31 @@ pub(crate) fn import_folder<A: Editor, F: Folder>(
     at: Moment,
 ) -> Result<Staged, KitFault>
     ensures clean { A.is_clean editor.new → A.is_clean editor.old }
+
+    // The answer is that of the kit on the package, and the editor is settled for one whose edition has grown along the kit.
     ensures answered { IfOk result
         (λ a. OnKit (A.is_clean editor.new) (A.settled editor.old) (F.files folder.old)
         (λ files p. IsImportAnswered files name.now p (A.settled editor.new) a)) }
+
+    // With a fault each database that may be left stands for such a package, with as many pieces as were answered ok, or one more.
     ensures stopped { IfErr result
         (λ e. OnKit (A.is_clean editor.new) (A.settled editor.old) (F.files folder.old)
         (λ files p. IsImportStopped files name.now p (A.may_leave editor.new)
         A.stands_for e.staged)) }
+
+    // An editor that has failed is left as it was, and 92 comes only there.
     ensures session { ImportTellsReopening (A.has_failed editor.old) (A.has_failed editor.new)
         (editor.new ≡ editor.old) result }
+
+    // The package is asked only where the list is a kit's.
     ensures needed { IfErr result (λ e. e.fault.0 ≡ 92 → AsksForPackage (F.files folder.old)) }
+
+    // Of every folder, one that tells nothing too: the rules hold, and nothing but the edition's pieces has changed, of which none is lost.
     ensures kept { OnAnyFolder (A.is_clean editor.new) (A.settled editor.old)
         (λ p. IsImportKept name.now p (A.settled editor.new) (A.may_leave editor.new)
         A.stands_for result) }
+
+    // 96 is the folder's, and the folder tells it.
     ensures folder { TellsFolder (F.has_failed folder.old) (F.has_failed folder.new) result }
     ensures why { IfErr result (λ e. IsKitFault e.fault.0) }
 {

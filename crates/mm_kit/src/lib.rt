@@ -1,7 +1,6 @@
 //! Kits: a list of pieces and the files that it names, and their import into an edition, which may be stopped and begun again
 //! any number of times. What is staged is a first part of the kit, and all of it where the import answers that it is complete.
 //!
-//! - `editor`: what a kit is imported on.
 //! - `entries`: a record of the list.
 //! - `file_names`: the names that files may have.
 //! - `filling`: a piece with the bytes of its file.
@@ -9,12 +8,10 @@
 //! - `importing`: the steps of an import.
 //! - `laws`: what imports come to.
 //! - `lists`: the list.
-//! - `sessions`: the import on a session.
 //! - `memory`: a folder in memory.
 //! - `staging`: one piece after another.
 #![tactic(auto)]
 
-mod editor;
 mod entries;
 mod file_names;
 mod filling;
@@ -23,13 +20,11 @@ mod importing;
 pub mod laws;
 mod lists;
 mod memory;
-mod sessions;
 mod staging;
 
-pub use editor::Editor;
 pub use entries::Entry;
 pub use file_names::FileName;
 pub use folders::{Folder, FolderFault, Found};
+pub use importing::import_kit;
 pub use lists::Listed;
 pub use memory::{MemoryFile, MemoryFolder};
-pub use sessions::import_kit;

@@ -16,7 +16,6 @@ ghost use Rattle.mm_kit.specs.Folders.{Files, fault_number};
 ghost use Rattle.mm_kit.specs.Imports.{AreStaged, IsImportKept, IsKitFault, MayBeStaged, OnAnyFolder, OnKit, ImportTellsReopening, TellsFolder};
 ghost use Rattle.mm_kit.specs.Lists.{AreFew};
 
-use crate::editor::Editor;
 use crate::entries::Entry;
 use crate::filling::fill;
 use crate::folders::{Folder, FolderFault};
@@ -25,6 +24,7 @@ use mm_definitions::bounded::Id;
 use mm_definitions::commands::{Command, Piece};
 use mm_definitions::moments::Moment;
 use mm_definitions::names::Name;
+use mm_edition::Editor;
 use mm_run::Apply;
 use std::alloc::Global;
 

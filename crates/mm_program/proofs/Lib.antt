@@ -1,2 +1,1 @@
 pub mod ServiceFacts
-mod Imported

@@ -3,4 +3,3 @@ pub mod Files
 pub mod Told
 pub mod Served
 pub mod Worked
-pub mod Imports

@@ -4,7 +4,7 @@ use Rattle.mm_definitions.specs.Bounds.{IsName}
 use Rattle.mm_definitions.specs.Keys.{Text}
 use Rattle.mm_definitions.specs.declared.answers.KitFault.{KitFault}
 use Rattle.mm_definitions.specs.declared.answers.Staged.{Staged}
-use Rattle.mm_program.specs.Imports.{kit_status, kit_text}
+use Rattle.mm_subcommands.specs.Imports.{kit_status, kit_text}
 use Rattle.mm_subcommands.specs.Looked.{check_status, check_text}
 use Rattle.mm_subcommands.specs.Migrated.{migrate_status, migrate_text}
 use Rattle.mm_subcommands.specs.Told.{IsTold, init_status, init_text, stop_status, stop_text}

@@ -9,14 +9,15 @@ ghost use Rattle.mm_program.specs.Worked.{import_ends_in_fault};
 
 use crate::clock::{Now, moment_or_now};
 use crate::files::on_old;
-use crate::imports::{Import, import_package, tell_import};
 use mm_definitions::answers::Fault;
 use mm_definitions::moments::Moment;
 use mm_definitions::names::Name;
 use mm_definitions::streams::Io;
 use mm_files::Works;
 use mm_kit::{Folder, FolderFault, Found};
-use mm_subcommands::{REFUSED, Stop, tell_bytes, tell_stop};
+use mm_subcommands::{
+    Import, REFUSED, Stop, import_package, tell_bytes, tell_import, tell_stop,
+};
 use sqlite::{Alter, Connection};
 use std::alloc::Global;
 use std::io::{Read, Write};

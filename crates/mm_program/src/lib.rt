@@ -2,7 +2,6 @@
 //!
 //! - `subcommands`: what each subcommand does.
 //! - `kits`: a folder of the system, and the subcommand `kit` on it.
-//! - `imports`: the import of a kit on a connection, over any store and any folder, and what is printed of it.
 //! - `reporting`: those that change nothing.
 //! - `migrating`: the one that brings a package of profile 1 to micrometres.
 //! - `files`: the package's file and its journal.
@@ -14,7 +13,6 @@
 mod clock;
 mod connections;
 mod files;
-mod imports;
 mod kits;
 mod migrating;
 mod reporting;
@@ -23,5 +21,4 @@ mod subcommands;
 
 pub use connections::{Serves, serve_on};
 pub use files::{on_new, on_old};
-pub use imports::{Import, import_package, tell_import};
 pub use subcommands::program;

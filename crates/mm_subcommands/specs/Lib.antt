@@ -5,3 +5,4 @@ pub mod Pages
 pub mod Declined
 pub mod Migrated
 pub mod Stops
+pub mod Imports

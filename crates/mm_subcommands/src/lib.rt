@@ -1,6 +1,7 @@
 //! The work of the program on a connection to a package, over any store, and what is printed of it.
 //!
 //! - `package`: making a package, and running a list of records on one.
+//! - `imports`: the import of a kit, and what is printed of it.
 //! - `reporting`: what changes nothing: the whole check, and the listing.
 //! - `migrating`: bringing a package of profile 1 to micrometres.
 //! - `pages`: what is printed while the page is served.
@@ -8,6 +9,7 @@
 //! - `tell`: what is printed, byte for byte, and the exit status that goes with it.
 #![tactic(auto)]
 
+mod imports;
 mod migrating;
 mod package;
 mod pages;
@@ -15,6 +17,7 @@ mod reporting;
 mod stop;
 mod tell;
 
+pub use imports::{Import, import_package, tell_import};
 pub use migrating::{migrate_package, tell_migration};
 pub use package::{adopt_package, make_package, run_package};
 pub use pages::{tell_page_fault, tell_serving};

@@ -10,7 +10,7 @@ use Rattle.mm_core.specs.Adopted.{IsAdopted}
 use Rattle.mm_core.specs.Applied.{StandsForCurrent}
 use Rattle.mm_kit.specs.Folders.{Files}
 use Rattle.mm_kit.specs.Imports.{IsImportAnswered, IsImportKept, IsImportStopped, OnAnyFolder, OnKit}
-use Rattle.mm_program.specs.Imports.{IsImport}
+use Rattle.mm_subcommands.specs.Imports.{IsImport}
 
 module _ (old mid new : State) (adopted : IsAdopted old mid) (early : HasCleanDisk new → HasCleanDisk mid) (told : Option Files) (name : Text) where
   pub imports : (import : Result Staged KitFault)

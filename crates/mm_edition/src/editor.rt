@@ -1,4 +1,4 @@
-//! What a kit is imported on.
+//! What commands on an edition are applied to.
 
 ghost use Rattle.std.specs.Prelude.{◌≡◌, ◌⊎◌, Err, IfOk, IfErr, false, true};
 ghost use Rattle.mm_definitions.specs.Bounds.{current};

@@ -4,7 +4,7 @@ use Rattle.sqlite.specs.Held.{state}
 use Rattle.mm_definitions.specs.Bounds.{current}
 use Rattle.mm_store.specs.Stands.{IsSettled}
 use Rattle.mm_core.specs.Parts.{held, must_reopen}
-use Rattle.mm_kit.proofs.sessions.SessionEditor.edition.Goals as goal
+use Rattle.mm_core.proofs.editing.SessionEditor.edition.Goals as goal
 
 pub returns-clause-settled : goal.returns-clause-settled
 returns-clause-settled g c clean p it meets = elim (cases_Bool (must_reopen c.args.self.now)) [

@@ -1,4 +1,4 @@
-use Rattle.mm_program.proofs.imports.tell_staged.Goals as goal
+use Rattle.mm_subcommands.proofs.imports.tell_staged.Goals as goal
 
 pub returns-in-Complete : goal.returns-in-Complete
 returns-in-Complete g c = rw c.in-Complete.is (rw (c.as_slice.ensures.value, c.complete_line-line.ensures) at c.tell_bytes.ensures)

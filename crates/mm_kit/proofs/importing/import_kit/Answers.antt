@@ -4,7 +4,7 @@ use Rattle.mm_kit.specs.Lists.{IsKitList}
 use Rattle.mm_kit.proofs.KitFacts.{imported, no_kit, stopped_at_once, stopped_some}
 use Rattle.mm_kit.proofs.KeptFacts.{keeps_itself}
 use Rattle.mm_kit.proofs.FolderFacts.{kit_fault, told}
-use Rattle.mm_kit.proofs.importing.import_folder.Goals as goal
+use Rattle.mm_kit.proofs.importing.import_kit.Goals as goal
 
 pub returns-in-Ok-Entries-clause-answered : goal.returns-in-Ok-Entries-clause-answered
 returns-in-Ok-Entries-clause-answered g c =

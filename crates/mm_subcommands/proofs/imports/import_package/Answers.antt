@@ -1,5 +1,5 @@
-use Rattle.mm_program.proofs.Imported.{imports, keeps}
-use Rattle.mm_program.proofs.imports.import_package.Goals as goal
+use Rattle.mm_subcommands.proofs.Imported.{imports, keeps}
+use Rattle.mm_subcommands.proofs.imports.import_package.Goals as goal
 
 pub returns-in-Ok : goal.returns-in-Ok
 returns-in-Ok g c = record {

@@ -1,7 +1,7 @@
 use Rattle.std.proofs.Common.{ℕ, ◌≤◌, ◌<◌, length, arith}
 use Rattle.std.specs.Prelude.{decimal}
 use Rattle.std.proofs.lemmas.Fmt.{length-decimal-le}
-use Rattle.mm_program.proofs.imports.put_number.Goals as goal
+use Rattle.mm_subcommands.proofs.imports.put_number.Goals as goal
 
 short : (n : ℕ) → n < 4294967296 → length (decimal n) ≤ 10
 short n fits = length-decimal-le 10 n (omega arith) (omega (arith, fits)) (omega (arith, fits))

@@ -13,12 +13,12 @@ import threading
 # two compilers take behind it; and those of the check of a crate's tests. Only the order rests on them.
 PROOF = {
     "mm_arguments": 239, "mm_base": 22, "mm_blobs": 131, "mm_check": 110, "mm_cli": 450, "mm_content": 57,
-    "mm_core": 200, "mm_definitions": 201, "mm_edition": 379, "mm_faults": 41, "mm_files": 143,
-    "mm_io": 73, "mm_items": 293, "mm_kit": 208, "mm_laws": 29, "mm_layout": 230, "mm_limits": 174, "mm_listing": 115,
-    "mm_matrices": 127, "mm_meta": 60, "mm_migrate": 91, "mm_opening": 180, "mm_page": 196, "mm_program": 255,
+    "mm_core": 200, "mm_definitions": 201, "mm_edition": 250, "mm_faults": 41, "mm_files": 143,
+    "mm_io": 73, "mm_items": 293, "mm_kit": 85, "mm_laws": 29, "mm_layout": 230, "mm_limits": 174, "mm_listing": 115,
+    "mm_matrices": 127, "mm_meta": 60, "mm_migrate": 91, "mm_opening": 180, "mm_page": 110, "mm_program": 240, "mm_publish": 110,
     "mm_queries": 36, "mm_reads": 173, "mm_records": 196, "mm_recovery": 283, "mm_relate": 58, "mm_relations": 161,
     "mm_routes": 86, "mm_rules": 249, "mm_run": 94, "mm_scaling": 88, "mm_schema": 44, "mm_shelf": 82, "mm_store": 113,
-    "mm_subcommands": 119, "mm_test_packages": 122, "mm_test_recovery": 13, "mm_test_sessions": 19, "mm_test_stops": 11,
+    "mm_subcommands": 130, "mm_test_packages": 122, "mm_test_recovery": 13, "mm_test_sessions": 19, "mm_test_stops": 11,
     "mm_test_tables": 11, "mm_test_values": 8, "mm_walk": 69, "sql_forms": 19,
 }
 TESTS = {

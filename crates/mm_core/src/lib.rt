@@ -14,6 +14,7 @@ mod listing;
 mod reading;
 mod running;
 mod session;
+mod viewing;
 
 pub use mm_check::verify;
 pub use session::Session;

@@ -1,4 +1,3 @@
 pub mod ListFacts
 pub mod ServeFacts
 pub mod PageFacts
-pub mod Leaving

@@ -1,7 +1,7 @@
 -- What is handed on from one result to the next.
 use Rattle.std.proofs.Common.{◌≡◌, Result, Ok, Err, IfOk}
 use Rattle.mm_definitions.specs.declared.answers.Fault.{Fault}
-use Rattle.mm_page.specs.Served.{ShowsValue}
+use Rattle.mm_reads.specs.Viewers.{ShowsValue}
 
 pub told : {A E F : Type 0} (P : A → Type 0) (r : Result A F) (made : Result A E) → IfOk r (λ v. made ≡ Ok v) → IfOk made P → IfOk r P
 told P (Err f) made e h = tt

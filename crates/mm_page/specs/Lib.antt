@@ -1,4 +1,3 @@
-pub mod Shown
 pub mod Lists
 pub mod Page
 pub mod Served

@@ -10,7 +10,7 @@ use Rattle.mm_routes.specs.Asked.{IsRouted, Contents, Media, Related, Tile, Want
 use Rattle.mm_routes.specs.Heads.{IsHead}
 use Rattle.mm_routes.specs.Responses.{BadRequest, Found, NotAllowed, NotFound, Reply, response_of}
 use Rattle.mm_page.specs.Lists.{mates_text, tables_text}
-use Rattle.mm_page.specs.Shown.{mates, shown_tables}
+use Rattle.mm_reads.specs.Shown.{mates, shown_tables}
 
 -- 404 where nothing stands
 abbrev pub where_found : {A : Type 0} → Option A → (A → Reply) → Reply

@@ -1,21 +1,17 @@
-//! What a session answers to what is asked for.
+//! What is answered to what is asked for.
 
 ghost use Rattle.std.specs.Prelude.{◌≡◌, pos, IfErr, IfOk, Ok};
-ghost use Rattle.sqlite.specs.Held.{state};
-ghost use Rattle.mm_core.specs.Parts.{held, must_reopen};
 ghost use Rattle.mm_routes.specs.Asked as page;
 ghost use Rattle.mm_routes.specs.Responses.{response_of};
 ghost use Rattle.mm_routes.specs.Routes.{asked};
 ghost use Rattle.mm_page.specs.Page.{reply_of};
-ghost use Rattle.mm_page.specs.Served.{ShowsPart, IsOn, IsPageFault, LeavesPackage};
+ghost use Rattle.mm_reads.specs.Viewers.{ShowsPart, IsOn, IsViewFault, LeavesPackage};
 
 use crate::lists::{mates_json, tables_json};
-use crate::reads::{read_mates, read_media, read_tables, read_tile};
-use mm_core::Session;
 use mm_definitions::answers::Fault;
 use mm_definitions::names::Name;
+use mm_reads::Viewer;
 use mm_routes::{Wanted, found, not_found};
-use sqlite::Alter;
 use std::alloc::{AllocError, Global};
 
 /// Want of memory is fault 90.
@@ -30,67 +26,67 @@ pub fn printed(made: Result<Vec<u8>, AllocError>) -> Result<Vec<u8>, Fault>
     }
 }
 
-fn tile_reply<S: Alter>(
+fn tile_reply<V: Viewer>(
     alloc: Global,
-    session: &mut Session<S>,
+    viewer: &mut V,
     table: &Name,
     zoom: u8,
     column: u32,
     row: u32,
 ) -> Result<Vec<u8>, Fault>
-    ensures same { must_reopen session.new ≡ must_reopen session.old }
+    ensures same { V.has_failed viewer.new ≡ V.has_failed viewer.old }
     ensures kept { LeavesPackage
-        (state S.Store (held session.old)) (state S.Store (held session.new)) }
+        (V.store viewer.old) (V.store viewer.new) }
     ensures reply { ShowsPart
-        (IsOn (must_reopen session.old)
-        (state S.Store (held session.old)) (state S.Store (held session.new))) (λ v. v.items)
+        (IsOn (V.has_failed viewer.old)
+        (V.store viewer.old) (V.store viewer.new)) (λ v. v.items)
         (λ p. response_of
         (reply_of p (page.Tile table.now (pos zoom) (pos column) (pos row)))) result }
-    ensures fault { IfErr result (IsPageFault (must_reopen session.old)) }
+    ensures fault { IfErr result (IsViewFault (V.has_failed viewer.old)) }
 {
-    match read_tile(session, table, zoom, column, row)? {
+    match viewer.tile(table, zoom, column, row)? {
         Some(bytes) => printed(found(alloc, "application/octet-stream", &bytes)),
         None => printed(not_found(alloc)),
     }
 }
 
-fn media_reply<S: Alter>(
+fn media_reply<V: Viewer>(
     alloc: Global,
-    session: &mut Session<S>,
+    viewer: &mut V,
     table: &Name,
     id: i64,
 ) -> Result<Vec<u8>, Fault>
-    ensures same { must_reopen session.new ≡ must_reopen session.old }
+    ensures same { V.has_failed viewer.new ≡ V.has_failed viewer.old }
     ensures kept { LeavesPackage
-        (state S.Store (held session.old)) (state S.Store (held session.new)) }
+        (V.store viewer.old) (V.store viewer.new) }
     ensures reply { ShowsPart
-        (IsOn (must_reopen session.old)
-        (state S.Store (held session.old)) (state S.Store (held session.new))) (λ v. v.items)
+        (IsOn (V.has_failed viewer.old)
+        (V.store viewer.old) (V.store viewer.new)) (λ v. v.items)
         (λ p. response_of (reply_of p (page.Media table.now id))) result }
-    ensures fault { IfErr result (IsPageFault (must_reopen session.old)) }
+    ensures fault { IfErr result (IsViewFault (V.has_failed viewer.old)) }
 {
-    match read_media(session, table, id)? {
+    match viewer.media(table, id)? {
         Some(media) => printed(found(alloc, media.content_type.as_str(), media.bytes.as_slice())),
         None => printed(not_found(alloc)),
     }
 }
 
-fn related_reply<S: Alter>(
+fn related_reply<V: Viewer>(
     alloc: Global,
-    session: &mut Session<S>,
+    viewer: &mut V,
     table: &Name,
     id: i64,
 ) -> Result<Vec<u8>, Fault>
-    ensures same { must_reopen session.new ≡ must_reopen session.old }
+    ensures same { V.has_failed viewer.new ≡ V.has_failed viewer.old }
     ensures kept { LeavesPackage
-        (state S.Store (held session.old)) (state S.Store (held session.new)) }
+        (V.store viewer.old) (V.store viewer.new) }
     ensures reply { ShowsPart
-        (IsOn (must_reopen session.old)
-        (state S.Store (held session.old)) (state S.Store (held session.new))) (λ v. v.items)
+        (IsOn (V.has_failed viewer.old)
+        (V.store viewer.old) (V.store viewer.new)) (λ v. v.items)
         (λ p. response_of (reply_of p (page.Related table.now id))) result }
-    ensures fault { IfErr result (IsPageFault (must_reopen session.old)) }
+    ensures fault { IfErr result (IsViewFault (V.has_failed viewer.old)) }
 {
-    match read_mates(session, table, id)? {
+    match viewer.related(table, id)? {
         Some(mates) => match mates_json(alloc, &mates) {
             Ok(text) => printed(found(alloc, "application/json", text.as_bytes())),
             Err(_) => Err(Fault::MEMORY),
@@ -99,17 +95,17 @@ fn related_reply<S: Alter>(
     }
 }
 
-fn contents_reply<S: Alter>(alloc: Global, session: &mut Session<S>) -> Result<Vec<u8>, Fault>
-    ensures same { must_reopen session.new ≡ must_reopen session.old }
+fn contents_reply<V: Viewer>(alloc: Global, viewer: &mut V) -> Result<Vec<u8>, Fault>
+    ensures same { V.has_failed viewer.new ≡ V.has_failed viewer.old }
     ensures kept { LeavesPackage
-        (state S.Store (held session.old)) (state S.Store (held session.new)) }
+        (V.store viewer.old) (V.store viewer.new) }
     ensures reply { ShowsPart
-        (IsOn (must_reopen session.old)
-        (state S.Store (held session.old)) (state S.Store (held session.new))) (λ v. v.items)
+        (IsOn (V.has_failed viewer.old)
+        (V.store viewer.old) (V.store viewer.new)) (λ v. v.items)
         (λ p. response_of (reply_of p page.Contents)) result }
-    ensures fault { IfErr result (IsPageFault (must_reopen session.old)) }
+    ensures fault { IfErr result (IsViewFault (V.has_failed viewer.old)) }
 {
-    let tables = read_tables(session)?;
+    let tables = viewer.contents()?;
     match tables_json(alloc, &tables) {
         Ok(text) => printed(found(alloc, "application/json", text.as_bytes())),
         Err(_) => Err(Fault::MEMORY),
@@ -117,19 +113,15 @@ fn contents_reply<S: Alter>(alloc: Global, session: &mut Session<S>) -> Result<V
 }
 
 /// The response to what is asked for.
-pub fn reply<S: Alter>(
-    alloc: Global,
-    session: &mut Session<S>,
-    wanted: Wanted,
-) -> Result<Vec<u8>, Fault>
-    ensures same { must_reopen session.new ≡ must_reopen session.old }
+pub fn reply<V: Viewer>(alloc: Global, viewer: &mut V, wanted: Wanted) -> Result<Vec<u8>, Fault>
+    ensures same { V.has_failed viewer.new ≡ V.has_failed viewer.old }
     ensures kept { LeavesPackage
-        (state S.Store (held session.old)) (state S.Store (held session.new)) }
+        (V.store viewer.old) (V.store viewer.new) }
     ensures reply { ShowsPart
-        (IsOn (must_reopen session.old)
-        (state S.Store (held session.old)) (state S.Store (held session.new))) (λ v. v.items)
+        (IsOn (V.has_failed viewer.old)
+        (V.store viewer.old) (V.store viewer.new)) (λ v. v.items)
         (λ p. response_of (reply_of p (asked wanted))) result }
-    ensures fault { IfErr result (IsPageFault (must_reopen session.old)) }
+    ensures fault { IfErr result (IsViewFault (V.has_failed viewer.old)) }
 {
     match wanted {
         Wanted::Tile {
@@ -137,9 +129,9 @@ pub fn reply<S: Alter>(
             zoom,
             column,
             row,
-        } => tile_reply(alloc, session, &table, zoom, column, row),
-        Wanted::Media { table, id } => media_reply(alloc, session, &table, id),
-        Wanted::Related { table, id } => related_reply(alloc, session, &table, id),
-        Wanted::Contents => contents_reply(alloc, session),
+        } => tile_reply(alloc, viewer, &table, zoom, column, row),
+        Wanted::Media { table, id } => media_reply(alloc, viewer, &table, id),
+        Wanted::Related { table, id } => related_reply(alloc, viewer, &table, id),
+        Wanted::Contents => contents_reply(alloc, viewer),
     }
 }

@@ -15,9 +15,7 @@ use mm_definitions::names::Name;
 use mm_definitions::streams::Io;
 use mm_files::Works;
 use mm_kit::{Folder, FolderFault, Found};
-use mm_subcommands::{
-    Import, REFUSED, Stop, import_package, tell_bytes, tell_import, tell_stop,
-};
+use mm_subcommands::{Import, REFUSED, Stop, import_package, tell_bytes, tell_import, tell_stop};
 use sqlite::{Alter, Connection};
 use std::alloc::Global;
 use std::io::{Read, Write};

@@ -9,3 +9,4 @@ pub mod Mates
 pub mod ListedMates
 pub mod OnlyAsks
 pub mod ReadingMates
+pub mod Leaving

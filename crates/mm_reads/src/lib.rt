@@ -7,6 +7,7 @@
 //! - `listing`: the list of the tables.
 //! - `relations`: the list of an item's mapping rows.
 //! - `items`: whether an item stands.
+//! - `viewer`: what the parts that are shown are asked of.
 #![tactic(auto)]
 
 mod items;
@@ -15,9 +16,11 @@ mod media_items;
 mod relations;
 mod rows;
 mod tiles;
+mod viewer;
 
 pub use listing::contents;
 pub use media_items::media;
 pub use relations::related;
 pub use rows::row;
 pub use tiles::tile;
+pub use viewer::Viewer;

@@ -2,7 +2,7 @@ use Rattle.std.proofs.Common.{◌≡◌, ◌∙◌, ap, codes, map, rules, strin
 use Rattle.mm_reads.specs.Listing as listing
 use Rattle.mm_routes.specs.Responses.{Found, response_of}
 use Rattle.mm_page.specs.Lists.{tables_text}
-use Rattle.mm_page.specs.Shown.{shown_tables}
+use Rattle.mm_reads.specs.Shown.{shown_tables}
 use Rattle.mm_page.proofs.ServeFacts.{gives, told}
 use Rattle.mm_page.proofs.replies.contents_reply.Goals as goal
 

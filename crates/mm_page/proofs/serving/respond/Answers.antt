@@ -1,19 +1,18 @@
 use Rattle.std.proofs.Common.{◌∙◌, inl, subst, sym}
 use Rattle.std.proofs.lemmas.Result.{IfErr-weaker}
-use Rattle.sqlite.specs.Held.{state}
 use Rattle.mm_definitions.specs.Package.{Package}
 use Rattle.mm_definitions.specs.Streams.{inside}
-use Rattle.mm_core.specs.Parts.{held, must_reopen}
 use Rattle.mm_routes.specs.Asked.{IsRouted}
 use Rattle.mm_page.specs.Page.{Writes, path_of}
-use Rattle.mm_page.specs.Served.{IsOn, Served}
+use Rattle.mm_page.specs.Served.{Served}
+use Rattle.mm_reads.specs.Viewers.{IsOn}
 use Rattle.mm_page.proofs.ServeFacts.{under, weaker}
 use Rattle.mm_page.proofs.serving.respond.Goals as goal
 
 pub returns-in-Some-clause-response : goal.returns-in-Some-clause-response
 returns-in-Some-clause-response g c =
-    let old = c.args.session.now in
-    let on = IsOn (must_reopen old) (state g.S.Store (held old)) (state g.S.Store (held c.head_response.new.session)) in
+    let old = c.args.viewer.now in
+    let on = IsOn (g.V.Viewer.has_failed old) (g.V.Viewer.store old) (g.V.Viewer.store c.head_response.new.viewer) in
     let all = under {X = (p : Package) × on p} (λ x v. Writes x.0 c.of.result.now c.of-in-Some.result.now v.items) c.head_response.result (λ x. c.head_response.ensures.response x.0 x.1) in
     weaker _ (λ v. Served on (g.R.Read.remaining (inside c.args.reader.now)) v.items) c.head_response.result
     (λ v w p st input e.

@@ -1,5 +1,5 @@
 use Rattle.std.proofs.Common.{◌∙◌, refl}
-use Rattle.mm_page.proofs.Leaving.{leaves_same, leaves_then}
+use Rattle.mm_reads.proofs.Leaving.{leaves_same, leaves_then}
 use Rattle.mm_program.proofs.ServiceFacts.{told_cut, told_more, told_none, told_on}
 use Rattle.mm_program.proofs.connections.serve_on.Goals as goal
 use Rattle.mm_program.proofs.connections.serve_on.Goals.{in-Err+else-not-tell_page_fault, in-Ok}

@@ -1,4 +1,4 @@
--- Services of one session, one after another.
+-- Reads of one package, one after another.
 use Rattle.std.proofs.Common.{Result, refl, inl, arith}
 use Rattle.sqlite.specs.State.{State}
 use Rattle.mm_definitions.specs.Bounds.{current}
@@ -6,7 +6,7 @@ use Rattle.mm_definitions.specs.Package.{Package}
 use Rattle.mm_definitions.specs.declared.answers.Fault.{Fault}
 use Rattle.mm_store.specs.Seen.{IsRead}
 use Rattle.mm_store.proofs.Shapes.{quiet_then}
-use Rattle.mm_page.specs.Served.{LeavesPackage}
+use Rattle.mm_reads.specs.Viewers.{LeavesPackage}
 
 -- where nothing is asked, all is as it was
 pub leaves_same : (s : State) → LeavesPackage s s

@@ -1,0 +1,40 @@
+//! A session as what the parts of a package that are shown are asked of.
+
+ghost use Rattle.sqlite.specs.Held.{state};
+ghost use Rattle.mm_core.specs.Parts.{held};
+ghost use Rattle.mm_core.specs.Parts as parts;
+
+use crate::session::Session;
+use mm_definitions::answers::Fault;
+use mm_definitions::entries::{Entry, Media, Related};
+use mm_definitions::names::Name;
+use mm_reads::Viewer;
+use sqlite::Alter;
+
+impl<S: Alter> Viewer for Session<S> {
+    ghost store = { λ s. state S.Store (held s) };
+
+    ghost has_failed = { λ s. parts.must_reopen s };
+
+    fn tile(
+        &mut self,
+        table: &Name,
+        zoom: u8,
+        column: u32,
+        row: u32,
+    ) -> Result<Option<Vec<u8>>, Fault> {
+        self.tile(table, zoom, column, row)
+    }
+
+    fn media(&mut self, table: &Name, id: i64) -> Result<Option<Media>, Fault> {
+        self.media(table, id)
+    }
+
+    fn related(&mut self, table: &Name, id: i64) -> Result<Option<Vec<Related>>, Fault> {
+        self.related(table, id)
+    }
+
+    fn contents(&mut self) -> Result<Vec<Entry>, Fault> {
+        self.contents()
+    }
+}

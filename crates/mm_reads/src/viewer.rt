@@ -1,0 +1,68 @@
+//! What the parts of a package that are shown are asked of.
+
+ghost use Rattle.std.specs.Prelude.{◌≡◌, Bool, pos, IfErr, map, option_map};
+ghost use Rattle.std.specs.FinMap.{get};
+ghost use Rattle.sqlite.specs.State.{State};
+ghost use Rattle.mm_definitions.specs.Keys.{item};
+ghost use Rattle.mm_definitions.specs.Keys as keys;
+ghost use Rattle.mm_reads.specs.Told.{shown_medium};
+ghost use Rattle.mm_reads.specs.Listing as listing;
+ghost use Rattle.mm_reads.specs.Related.{mate_told};
+ghost use Rattle.mm_reads.specs.Shown.{mates, shown_tables};
+ghost use Rattle.mm_reads.specs.Viewers.{ShowsPart, IsOn, IsViewFault, LeavesPackage};
+
+use mm_definitions::answers::Fault;
+use mm_definitions::entries::{Entry, Media, Related};
+use mm_definitions::names::Name;
+
+/// A thing that tells the parts of a package that are shown, as a session does.
+pub trait Viewer {
+    // The state of its store.
+    ghost store: { Self → State };
+
+    // It has to be opened again, and answers 92.
+    ghost has_failed: { Self → Bool };
+
+    /// The bytes of a tile, or None where none stands there.
+    fn tile(
+        &mut self,
+        table: &Name,
+        zoom: u8,
+        column: u32,
+        row: u32,
+    ) -> Result<Option<Vec<u8>>, Fault>
+        ensures same { Self.has_failed self.new ≡ Self.has_failed self.old }
+        ensures kept { LeavesPackage (Self.store self.old) (Self.store self.new) }
+        ensures value { ShowsPart
+            (IsOn (Self.has_failed self.old) (Self.store self.old) (Self.store self.new))
+            (option_map (λ v. v.items))
+            (λ p. get p.tiles (keys.tile table.now (pos zoom) (pos column) (pos row))) result }
+        ensures fault { IfErr result (IsViewFault (Self.has_failed self.old)) };
+
+    /// A medium, or None where none has the id.
+    fn media(&mut self, table: &Name, id: i64) -> Result<Option<Media>, Fault>
+        ensures same { Self.has_failed self.new ≡ Self.has_failed self.old }
+        ensures kept { LeavesPackage (Self.store self.old) (Self.store self.new) }
+        ensures value { ShowsPart
+            (IsOn (Self.has_failed self.old) (Self.store self.old) (Self.store self.new))
+            (option_map shown_medium) (λ p. get p.media (item table.now id)) result }
+        ensures fault { IfErr result (IsViewFault (Self.has_failed self.old)) };
+
+    /// What an attribute row or medium is related to, where it stands.
+    fn related(&mut self, table: &Name, id: i64) -> Result<Option<Vec<Related>>, Fault>
+        ensures same { Self.has_failed self.new ≡ Self.has_failed self.old }
+        ensures kept { LeavesPackage (Self.store self.old) (Self.store self.new) }
+        ensures value { ShowsPart
+            (IsOn (Self.has_failed self.old) (Self.store self.old) (Self.store self.new))
+            (option_map (λ v. map mate_told v.items)) (λ p. mates p table.now id) result }
+        ensures fault { IfErr result (IsViewFault (Self.has_failed self.old)) };
+
+    /// The tables by rising name.
+    fn contents(&mut self) -> Result<Vec<Entry>, Fault>
+        ensures same { Self.has_failed self.new ≡ Self.has_failed self.old }
+        ensures kept { LeavesPackage (Self.store self.old) (Self.store self.new) }
+        ensures value { ShowsPart
+            (IsOn (Self.has_failed self.old) (Self.store self.old) (Self.store self.new))
+            (λ v. map listing.table_told v.items) shown_tables result }
+        ensures fault { IfErr result (IsViewFault (Self.has_failed self.old)) };
+}

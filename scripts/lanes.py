@@ -1,7 +1,7 @@
 """Checks side by side, the longest chain first (for scripts/build.py and scripts/gate.py).
 
 rt's own lanes weigh a crate by its lines. Here a crate weighs the seconds that its first check was seen to take. A check of proofs gets one processor, and
-four where it is alone; one of tests on a long chain gets as many as its chain's share of all that is left to do. More is begun than there are processors for,
+four where at most one other is at work; one of tests on a long chain gets as many as its chain's share of all that is left to do. More is begun than there are processors for,
 and the system runs a check on a shorter chain where one on a longer leaves it a processor. A task that waits for what another does lends its processor
 meanwhile.
 """
@@ -27,7 +27,7 @@ TESTS = {
 }
 # The same of one must-fail edit, tried with others.
 EDIT = 12
-# How many processors a check of proofs gets that is alone. Each copy that works on one loads what stands below anew: mm_program took 174 seconds with
+# How many processors a check of proofs gets beside which one other is at work at the most. Each copy that works on one loads what stands below anew: mm_program took 174 seconds with
 # four, 405 of a processor in all, and 206 with one, 214 in all; with two it took longer than with one.
 JOBS_ALONE = 4
 # How many one of tests may have at the most: they take the most memory.
@@ -75,7 +75,7 @@ def jobs_for(kind, chain, whole, lanes, room, idle):
     """Returns how many processors a check gets whose chain takes so many of the seconds that are left, where there is room for so many and so many stand idle
     that no other wants."""
     if kind != "tests":
-        return JOBS_ALONE if idle >= JOBS_ALONE else 1
+        return JOBS_ALONE if idle >= JOBS_ALONE - 1 else 1
     most = min(MOST_JOBS_OF_TESTS, 1 + int((room - 1) / FURTHER))
     return max(1, min(most, max(round(CHAIN_FIRST * lanes * chain / max(whole, 1)), idle)))
 

@@ -4,9 +4,8 @@ use Rattle.std.specs.Prelude.{⊤}
 use Rattle.std.specs.List.{list_any, list_all}
 use Rattle.std.specs.FinMap.{get, entries}
 use Rattle.std.proofs.lemmas.Bool.{and_parts, and_from, both_ways, false_from_ne_true, true_from_ne_false}
-use Rattle.sqlite.specs.declared.types.Value.TheVariants.{Null, Int, Text as Words}
-use Rattle.sqlite_value.specs.declared.keys.Collation.TheVariants.{Binary}
-use Rattle.sqlite.specs.Order.{Row, column}
+use Rattle.sqlite.specs.declared.types.Value.TheVariants.{Null, Int}
+use Rattle.sqlite.specs.Order.{Row}
 use Rattle.sqlite.specs.Term.{Term, Env, lit, holds}
 use Rattle.sqlite.specs.Query.{Query, Output, end, inner, matches, IsAnswer}
 use Rattle.sqlite.specs.Program.{overlay}
@@ -14,13 +13,11 @@ use Rattle.sqlite.specs.Schema.{Schema}
 use Rattle.sqlite.specs.Tree.{Trees}
 use Rattle.sqlite.specs.Effect.{Answers}
 use Rattle.sqlite.specs.State.{State, Shown, IsUnchanged}
-use Rattle.sqlite_schema.specs.Rules.{equal}
 use Rattle.sqlite_rules.specs.Lists.{Has}
 use Rattle.sql_forms.specs.Forms.{query, alone, no_limit}
 use Rattle.sql_forms.specs.Tables.{is_table, tables_of, IsFirstShown}
 use Rattle.sql_forms.specs.Maps.{Holds}
 use Rattle.sql_forms.proofs.Joins as joins
-use Rattle.sql_forms.proofs.Keys.{equal_text, equal_int, columns_are}
 use Rattle.sql_forms.proofs.Lists.{has_flat, flat_has, none_holds, either_any}
 use Rattle.sql_forms.proofs.Queries.{no_overlay}
 use Rattle.sql_forms.proofs.Selects.{IsSelect, first_taken}
@@ -34,7 +31,6 @@ use Rattle.mm_definitions.proofs.Parts.{same_key, same_itself, no_entry}
 use Rattle.mm_definitions.proofs.KeyLaws.{texts, pairing_keys}
 use Rattle.mm_definitions.proofs.Listed.{along_entries}
 use Rattle.mm_store.specs.Rows.{past_rowid, past_id, relation_row, pairing_row}
-use Rattle.mm_store.proofs.Keys.{columns_after}
 
 -- ---- a join of two tables
 
@@ -148,20 +144,6 @@ module _ (p : Package) (table : Text) (id : ℤ) (rels maps : List Row) (hr : Ho
     pub some_paired : (first : Option Row) → JoinFinds test rels maps first → is_some first ≡ some_entry (λ k _. ended k) p.pairings
     some_paired None none = sym (unpaired none)
     some_paired (Some x) it = sym (paired it)
-
--- the test of each join
-abbrev pub joins_by : ℕ → ℕ → Text → ℤ → Row → Row → Bool
-joins_by c d table id r m = equal Binary (column m 1) (column r 7) && (equal Binary (column m d) (Int id) && (equal Binary (column r c) (Words table) && true))
-
-pub base_tells : (table : Text) (id : ℤ) (r m : Row) (name : Text) (v : Relation) (k : Pairing) → past_id r ≡ relation_row name v → past_rowid m ≡ pairing_row k tt
-    → joins_by 2 2 table id r m ≡ (same_text k.mapping name && (same_number k.base_id id && (same_text v.base table && true)))
-base_tells table id r m name v k is there =
-    rw (columns_after r (relation_row name v) 5 is, columns_after r (relation_row name v) 0 is, columns_are m (pairing_row k tt) 0 there, columns_are m (pairing_row k tt) 1 there, equal_text k.mapping name, equal_int k.base_id id, equal_text v.base table) refl
-
-pub related_tells : (table : Text) (id : ℤ) (r m : Row) (name : Text) (v : Relation) (k : Pairing) → past_id r ≡ relation_row name v → past_rowid m ≡ pairing_row k tt
-    → joins_by 4 3 table id r m ≡ (same_text k.mapping name && (same_number k.related_id id && (same_text v.related table && true)))
-related_tells table id r m name v k is there =
-    rw (columns_after r (relation_row name v) 5 is, columns_after r (relation_row name v) 2 is, columns_are m (pairing_row k tt) 0 there, columns_are m (pairing_row k tt) 2 there, equal_text k.mapping name, equal_int k.related_id id, equal_text v.related table) refl
 
 -- ---- as the one end or the other
 

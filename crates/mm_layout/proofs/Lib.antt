@@ -6,3 +6,4 @@ pub mod Looking
 pub mod Stamping
 pub mod Touched
 pub mod Freeing
+pub mod Joined

@@ -32,7 +32,7 @@ use Rattle.mm_definitions.proofs.Parts.{same_key, same_itself, after_retain}
 use Rattle.mm_definitions.proofs.KeyLaws.{texts, numbers, pairing_keys}
 use Rattle.mm_laws.proofs.KindFacts.{at_true, are_same}
 use Rattle.mm_store.specs.Rows.{past_rowid, past_id, relation_row, pairing_row}
-use Rattle.mm_items.proofs.Ends.{base_tells}
+use Rattle.mm_layout.proofs.Joined.{base_tells}
 use Rattle.mm_reads.specs.Related.{is_from, mapping_rows, mate, mate_told, ListsMates, ShowsRelated}
 use Rattle.mm_reads.proofs.Asked.{terms, asked}
 use Rattle.mm_reads.proofs.Distinct.{distinct_map}

@@ -26,7 +26,7 @@ use Rattle.mm_definitions.proofs.KeyLaws.{texts, numbers, pairing_keys}
 use Rattle.mm_laws.proofs.KindFacts.{are_same}
 use Rattle.mm_store.specs.Rows.{past_rowid, past_id, relation_row, pairing_row}
 use Rattle.mm_store.proofs.Keys.{columns_after}
-use Rattle.mm_items.proofs.Ends.{base_tells}
+use Rattle.mm_layout.proofs.Joined.{base_tells}
 use Rattle.mm_reads.specs.Related.{is_from}
 use Rattle.mm_reads.proofs.Asked.{terms, asked}
 use Rattle.mm_reads.proofs.Distinct.{distinct_flat, has_same_id, never_same, distinct_rows}

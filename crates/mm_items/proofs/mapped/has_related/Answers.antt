@@ -7,7 +7,8 @@ use Rattle.mm_definitions.specs.Package.{Relation}
 use Rattle.mm_definitions.specs.Parts.{at_value, some_entry}
 use Rattle.mm_store.proofs.Steps.{looks, seen}
 use Rattle.mm_items.proofs.Joining as statement
-use Rattle.mm_items.proofs.Ends.{joins_by, selects_pair, some_paired, related_tells}
+use Rattle.mm_layout.proofs.Joined.{joins_by, related_tells}
+use Rattle.mm_items.proofs.Ends.{selects_pair, some_paired}
 use Rattle.mm_items.proofs.mapped.has_related.Goals as goal
 
 pub returns-clause-look : goal.returns-clause-look

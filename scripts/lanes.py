@@ -1,34 +1,35 @@
 """Checks side by side, the longest chain first (for scripts/build.py and scripts/gate.py).
 
 rt's own lanes weigh a crate by its lines. Here a crate weighs the seconds that its first check was seen to take. A check of proofs gets one processor, and
-four where at most one other is at work; one of tests on a long chain gets as many as its chain's share of all that is left to do. More is begun than there are processors for,
-and the system runs a check on a shorter chain where one on a longer leaves it a processor. A task that waits for what another does lends its processor
-meanwhile.
+four where at most one other is at work; one of tests on a long chain gets as many as its chain's share of all that is left to do. One that becomes ready
+is begun at once where those on chains as long as its own leave it a processor: what is at work on shorter ones goes on beside it and gives way, as the
+system shares out. A task that waits for what another does lends its processor meanwhile.
 """
 import contextlib
 import os
 import threading
 
-# The seconds of one processor that the first check of a crate was seen to take (kit 13f), of mm_program and mm_cli by a sum, the second with what its
-# two compilers take behind it; and those of the check of a crate's tests. Only the order rests on them.
+# The seconds of one processor that the first check of a crate was seen to take in a first build (kit 13f), that of mm_program and mm_cli by a sum, the
+# second with what its two compilers take behind it; and, at the same pace, those of the crates that no program needs and of the checks of tests. Only the order
+# rests on them.
 PROOF = {
-    "mm_arguments": 239, "mm_base": 22, "mm_blobs": 131, "mm_check": 110, "mm_cli": 450, "mm_content": 57,
-    "mm_core": 200, "mm_definitions": 201, "mm_edition": 250, "mm_faults": 41, "mm_files": 143,
-    "mm_io": 73, "mm_items": 293, "mm_kit": 85, "mm_laws": 29, "mm_layout": 230, "mm_limits": 174, "mm_listing": 115,
-    "mm_matrices": 127, "mm_meta": 60, "mm_migrate": 91, "mm_opening": 180, "mm_page": 110, "mm_program": 240, "mm_publish": 110,
-    "mm_queries": 36, "mm_reads": 173, "mm_records": 196, "mm_recovery": 283, "mm_relate": 58, "mm_relations": 161,
-    "mm_routes": 86, "mm_rules": 249, "mm_run": 94, "mm_scaling": 88, "mm_schema": 44, "mm_shelf": 82, "mm_store": 113,
-    "mm_subcommands": 130, "mm_test_packages": 122, "mm_test_recovery": 13, "mm_test_sessions": 19, "mm_test_stops": 11,
-    "mm_test_tables": 11, "mm_test_values": 8, "mm_walk": 69, "sql_forms": 19,
+    "mm_arguments": 170, "mm_base": 14, "mm_blobs": 88, "mm_check": 77, "mm_cli": 280, "mm_content": 36, "mm_core": 145,
+    "mm_definitions": 150, "mm_edition": 199, "mm_faults": 26, "mm_files": 91, "mm_io": 36, "mm_items": 194,
+    "mm_kit": 93, "mm_laws": 12, "mm_layout": 140, "mm_limits": 102, "mm_listing": 84, "mm_matrices": 90, "mm_meta": 38,
+    "mm_migrate": 50, "mm_opening": 112, "mm_page": 98, "mm_program": 150, "mm_publish": 100, "mm_queries": 25,
+    "mm_reads": 118, "mm_records": 120, "mm_recovery": 180, "mm_relate": 37, "mm_relations": 114, "mm_routes": 60,
+    "mm_rules": 153, "mm_run": 58, "mm_scaling": 60, "mm_schema": 25, "mm_shelf": 60, "mm_store": 65,
+    "mm_subcommands": 100, "mm_test_packages": 77, "mm_test_recovery": 8, "mm_test_sessions": 12, "mm_test_stops": 7,
+    "mm_test_tables": 7, "mm_test_values": 5, "mm_walk": 45, "sql_forms": 15,
 }
 TESTS = {
-    "mm_faults": 65, "mm_test_recovery": 900, "mm_test_sessions": 660, "mm_test_stops": 600, "mm_test_tables": 445,
-    "mm_test_values": 192,
+    "mm_faults": 41, "mm_test_recovery": 570, "mm_test_sessions": 415, "mm_test_stops": 380, "mm_test_tables": 280,
+    "mm_test_values": 120,
 }
 # The same of one must-fail edit, tried with others.
-EDIT = 12
-# How many processors a check of proofs gets beside which one other is at work at the most. Each copy that works on one loads what stands below anew: mm_program took 174 seconds with
-# four, 405 of a processor in all, and 206 with one, 214 in all; with two it took longer than with one.
+EDIT = 8
+# How many processors a check of proofs gets beside which one other is at work at the most. With one for each check the processors get more done: mm_program
+# took 95 seconds with four, and 209 of a processor.
 JOBS_ALONE = 4
 # How many one of tests may have at the most: they take the most memory.
 MOST_JOBS_OF_TESTS = 2
@@ -36,8 +37,6 @@ MOST_JOBS_OF_TESTS = 2
 FURTHER = 0.5
 # A chain's share of the processors is taken this much larger than its seconds say: of a check with more than one a part runs alone all the same.
 CHAIN_FIRST = 1.3
-# How many times the processors there are the checks may take that are begun at once, since of a long one's a part stands idle.
-BEGUN_AT_ONCE = 1.5
 # How much of a processor has to stand idle for a task that fills what the checks leave.
 LEAST = 0.5
 # How nice a check is, as the system counts it, whose chain is at most half of the longest: where that one's is at work too, 15 gets a thirtieth of its time.
@@ -104,6 +103,10 @@ class Lanes:
 
     def idle(self):
         return self.lanes - sum(taken for taken, _ in self.running.values())
+
+    def left_by(self, chains, key):
+        """Returns how many processors those leave this check that are at work on a chain as long as its own, or longer."""
+        return self.lanes - sum(taken for it, (taken, _) in self.running.items() if chains[it] >= chains[key])
 
     def room(self):
         return self.memory - sum(needs for _, needs in self.running.values())
@@ -175,7 +178,7 @@ class Lanes:
             if self.fills(key) and (lacks or self.parked):
                 # (a check waits for memory, which those that fill would take again and again; or one that gave way goes on first)
                 break
-            room = self.idle() + (BEGUN_AT_ONCE - 1) * self.lanes * is_check
+            room = self.left_by(chains, key) if is_check else self.idle()
             if seconds > 0 and room < (1 if is_check else LEAST) or self.is_at_work() and needs > self.room():
                 lacks = lacks or room > 0 and is_check
                 self.ready += is_check

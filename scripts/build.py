@@ -40,7 +40,7 @@ class Progress:
             print(f"{said}{crate.name}: {became} ({self.left} left, {minutes:.1f} minutes so far)", flush=True)
 
 
-def build_statements(crate, jobs):
+def build_library(crate, jobs):
     """Builds one library as the gate does, with the statements that the crates above it load and without the proofs, and returns a status.
 
     rt writes no stamp for such a library, since it fits only the libraries that it was built over. Here it gets one: scripts/toolchain.py takes it only
@@ -55,14 +55,6 @@ def build_statements(crate, jobs):
         with open(stamp_of(crate), "w", encoding="utf-8") as it:
             it.write(stamp)
     return status
-
-
-def build_library(crate, jobs):
-    """Builds one library and returns a status: of the kit 13b the gate's way, of another as `rt lib` does."""
-    if kit() == "13b":
-        return build_statements(crate, jobs)
-    os.makedirs(f"{crate.folder}/out", exist_ok=True)
-    return crate.build_rlib(["--jobs", str(jobs)], anew=False)
 
 
 def build(crate, jobs, progress):
@@ -104,9 +96,6 @@ def main(words):
         return 0
     rt = load_rt()
     rt.rtlib.guarded()
-    if kit() == "13f":
-        # what another clone on this machine built of the same text is taken
-        rt.share_work(True)
     root = os.path.dirname(os.path.dirname(os.path.abspath(__file__)))
     crates = rt.rtlib.Crate(f"{root}/crates/{words[0] if words else PROGRAM}", root, {}).below()
     held = rt.rtlib.lock(crates)

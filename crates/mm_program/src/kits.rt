@@ -105,7 +105,7 @@ impl<'a> Works for Importing<'a> {
     ) -> (Option<Connection<S>>, Result<Import, Stop>) {
         match import_package(alloc, conn, self.edition, &mut self.folder, self.at) {
             Ok((conn, import)) => (Some(conn), Ok(import)),
-            Err(why) => (None, Err(why)),
+            Err((_, why)) => (None, Err(why)),
         }
     }
 

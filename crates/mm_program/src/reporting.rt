@@ -79,7 +79,7 @@ impl Works for Listing {
     ) -> (Option<Connection<S>>, Result<(), Stop>) {
         match list_package(alloc, conn, output) {
             Ok(conn) => (Some(conn), Ok(())),
-            Err(why) => (None, Err(why)),
+            Err((_, why)) => (None, Err(why)),
         }
     }
 

@@ -47,7 +47,7 @@ impl Works for Making {
     ) -> (Option<Connection<S>>, Result<(), Stop>) {
         match make_package(alloc, conn) {
             Ok(conn) => (Some(conn), Ok(())),
-            Err(why) => (None, Err(why)),
+            Err((_, why)) => (None, Err(why)),
         }
     }
 
@@ -85,7 +85,7 @@ impl<'a, R: Read> Works for Run<'a, R> {
     ) -> (Option<Connection<S>>, Result<u8, Stop>) {
         match run_package(alloc, conn, self.input, output, self.at) {
             Ok((conn, status)) => (Some(conn), Ok(status)),
-            Err(why) => (None, Err(why)),
+            Err((_, why)) => (None, Err(why)),
         }
     }
 

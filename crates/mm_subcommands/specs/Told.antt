@@ -1,5 +1,5 @@
 -- What is printed, and the exit status that goes with it.
-use Rattle.std.specs.Prelude.{◌≡◌, ℕ, List, ◌++◌, Option, Bool, false, true, Result, Ok, Err, codes, decimal}
+use Rattle.std.specs.Prelude.{◌≡◌, ℕ, List, ◌++◌, Bool, false, true, Result, Ok, Err, codes, decimal}
 use Rattle.mm_io.specs.Sending.{Sends}
 use Rattle.mm_io.specs.declared.sending.Sent.{Sent}
 use Rattle.mm_io.specs.declared.sending.Sent.TheVariants as sent

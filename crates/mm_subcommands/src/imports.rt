@@ -1,6 +1,6 @@
 //! The import of a kit on a connection, and what is printed of it.
 
-ghost use Rattle.std.specs.Prelude.{◌≡◌, ◌++◌, ◌+◌, ◌≤◌, codes, decimal, false, length, IfOk};
+ghost use Rattle.std.specs.Prelude.{◌≡◌, ◌++◌, ◌+◌, ◌≤◌, codes, decimal, false, length, IfErr, IfOk};
 ghost use Rattle.sqlite.specs.Held.{state};
 ghost use Rattle.sqlite.specs.State.{HasCleanDisk};
 ghost use Rattle.mm_definitions.specs.Bounds.{current};
@@ -8,6 +8,7 @@ ghost use Rattle.mm_definitions.specs.Streams.{written};
 ghost use Rattle.mm_store.specs.Stands.{IsSettled};
 ghost use Rattle.mm_core.specs.Applied.{StandsForCurrent};
 ghost use Rattle.mm_kit.specs.Imports.{IsImportKept, OnAnyFolder, OnKit, TellsFolder};
+ghost use Rattle.mm_subcommands.specs.Declined.{IsDeclined};
 ghost use Rattle.mm_subcommands.specs.Imports.{IsImport, kit_status, kit_text, staged_status, staged_text};
 ghost use Rattle.mm_subcommands.specs.Told.{IsTold};
 
@@ -28,14 +29,15 @@ use std::io::Write;
 /// What an import came to.
 pub type Import = Result<Staged, KitFault>;
 
-/// Imports the kit of a folder into an edition of the package of a connection, and hands the connection back.
+/// Imports the kit of a folder into an edition of the package of a connection, and hands the connection back. Where it is not
+/// adopted, with why not, and then the folder was not asked.
 pub fn import_package<S: Alter + Drop, F: Folder>(
     alloc: Global,
     conn: Connection<S>,
     name: &Name,
     folder: &mut F,
     at: Moment,
-) -> Result<(Connection<S>, Import), Stop>
+) -> Result<(Connection<S>, Import), (Connection<S>, Stop)>
     requires { conn.in_transaction ≡ false }
     ensures imported { IfOk result (λ done. OnKit (HasCleanDisk (state S.Store done.0))
         (λ p. IsSettled current (state S.Store conn) p) (F.files folder.old)
@@ -47,15 +49,14 @@ pub fn import_package<S: Alter + Drop, F: Folder>(
         (λ db. (state S.Store done.0).may_leave db) StandsForCurrent done.1)) }
     ensures folder { IfOk result
         (λ done. TellsFolder (F.has_failed folder.old) (F.has_failed folder.new) done.1) }
+    ensures idle { IfOk result (λ done. done.0.in_transaction ≡ false) }
+    ensures declined { IfErr result (λ e. IsDeclined (state S.Store conn) (state S.Store e.0) e.1) }
+    ensures handed_back { IfErr result (λ e. e.0.in_transaction ≡ false) }
+    ensures unread { IfErr result (λ e. folder.new ≡ folder.old) }
 {
-    match adopt_package(alloc, conn) {
-        Ok(session) => {
-            let mut session = session;
-            let import = import_kit(alloc, &mut session, name, folder, at);
-            Ok((session.close(), import))
-        }
-        Err((_, why)) => Err(why),
-    }
+    let mut session = adopt_package(alloc, conn)?;
+    let import = import_kit(alloc, &mut session, name, folder, at);
+    Ok((session.close(), import))
 }
 
 // Appends a number that has room.

@@ -24,8 +24,10 @@ pub fn migrate_package<S: Alter + Drop>(
     requires { conn.in_transaction ≡ false }
     ensures migrated { IfOk result
         (λ migrated. IsMigration (state S.Store conn) (state S.Store migrated) (Ok tt)) }
+    ensures idle { IfOk result (λ migrated. migrated.in_transaction ≡ false) }
     ensures declined { IfErr result
         (λ e. IsUnmigrated (state S.Store conn) (state S.Store e.0) e.1) }
+    ensures handed_back { IfErr result (λ e. e.0.in_transaction ≡ false) }
 {
     match Session::migrate(alloc, conn) {
         Ok(session) => Ok(session.close()),

@@ -10,7 +10,7 @@ ghost use Rattle.mm_run.specs.Runs.{OnRun};
 ghost use Rattle.mm_core.specs.Adopted.{IsAdopted};
 ghost use Rattle.mm_core.specs.Parts.{held};
 ghost use Rattle.mm_core.specs.Parts as sessions;
-ghost use Rattle.mm_core.specs.Sessions.{IsCreated};
+ghost use Rattle.mm_core.specs.Sessions.{IsCreated, IsNotCreated};
 ghost use Rattle.mm_subcommands.specs.Declined.{IsDeclined};
 ghost use Rattle.mm_subcommands.specs.Declined as declined;
 ghost use Rattle.mm_subcommands.specs.Ran.{IsListRun};
@@ -26,18 +26,22 @@ use sqlite::{Alter, Connection};
 use std::alloc::Global;
 use std::io::{Read, Write};
 
-/// Makes a package in a database with no table.
+/// Makes a package in a database with no table, and hands the connection back. At a fault, 90 or 91, each database that may be left
+/// has no table or stands for the new package.
 pub fn make_package<S: Alter + Drop>(
     alloc: Global,
     conn: Connection<S>,
-) -> Result<Connection<S>, Stop>
+) -> Result<Connection<S>, (Connection<S>, Stop)>
     requires { conn.in_transaction ≡ false }
     ensures made { IfOk result (λ made. IsCreated (state S.Store conn) (state S.Store made)) }
-    ensures stopped { IfErr result StopsMaking }
+    ensures idle { IfOk result (λ made. made.in_transaction ≡ false) }
+    ensures stopped { IfErr result (λ e. StopsMaking e.1) }
+    ensures handed_back { IfErr result (λ e. e.0.in_transaction ≡ false) }
+    ensures not_made { IfErr result (λ e. IsNotCreated (state S.Store conn) (state S.Store e.0)) }
 {
     match Session::create(alloc, conn) {
         Ok(session) => Ok(session.close()),
-        Err((_, fault)) => Err(Stop::Fault(fault)),
+        Err((conn, fault)) => Err((conn, Stop::Fault(fault))),
     }
 }
 
@@ -65,6 +69,7 @@ pub fn adopt_package<S: Alter + Drop>(
     ensures adopted { IfOk result
         (λ session. IsAdopted (state S.Store conn) (state S.Store (held session))) }
     ensures declined { IfErr result (λ e. IsDeclined (state S.Store conn) (state S.Store e.0) e.1) }
+    ensures handed_back { IfErr result (λ e. e.0.in_transaction ≡ false) }
 {
     match Session::adopt(alloc, conn) {
         Ok(session) => Ok(session),
@@ -97,14 +102,15 @@ fn run_session<S: Alter, R: Read, W: Write>(
 }
 
 /// Runs the records of the input on a connection to a package, and hands it back with the exit status. What is then
-/// left of the package is stated for a connection that was settled for one.
+/// left of the package is stated for a connection that was settled for one. Where it is not adopted, it is handed back with
+/// why not, and then nothing was read or printed.
 pub fn run_package<S: Alter + Drop, R: Read, W: Write>(
     alloc: Global,
     conn: Connection<S>,
     input: &mut Io<R>,
     output: &mut Io<W>,
     at: Moment,
-) -> Result<(Connection<S>, u8), Stop>
+) -> Result<(Connection<S>, u8), (Connection<S>, Stop)>
     requires { conn.in_transaction ≡ false }
     ensures status { IfOk result (λ ran. ran.1 ≤ 3) }
     ensures working { IfOk result
@@ -113,14 +119,13 @@ pub fn run_package<S: Alter + Drop, R: Read, W: Write>(
         (λ p. IsSettled current (state S.Store conn) p) (R.remaining (inside input.old))
         (λ p bytes. IsListRun p at bytes (state S.Store ran.0)
         (written W.contents output.old) (written W.contents output.new) ran.1)) }
-    ensures unused { IfErr result (λ why. output.new ≡ output.old) }
+    ensures idle { IfOk result (λ ran. ran.0.in_transaction ≡ false) }
+    ensures declined { IfErr result (λ e. IsDeclined (state S.Store conn) (state S.Store e.0) e.1) }
+    ensures handed_back { IfErr result (λ e. e.0.in_transaction ≡ false) }
+    ensures unread { IfErr result (λ e. input.new ≡ input.old) }
+    ensures unused { IfErr result (λ e. output.new ≡ output.old) }
 {
-    match adopt_package(alloc, conn) {
-        Ok(session) => {
-            let mut session = session;
-            let status = run_session(&mut session, input, output, at);
-            Ok((session.close(), status))
-        }
-        Err((_, why)) => Err(why),
-    }
+    let mut session = adopt_package(alloc, conn)?;
+    let status = run_session(&mut session, input, output, at);
+    Ok((session.close(), status))
 }

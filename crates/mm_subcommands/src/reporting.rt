@@ -6,7 +6,7 @@ ghost use Rattle.mm_definitions.specs.Streams.{has_failed, inside, written};
 ghost use Rattle.mm_core.specs.Adopted.{IsAdopted};
 ghost use Rattle.mm_subcommands.specs.Declined.{IsDeclined};
 ghost use Rattle.mm_subcommands.specs.Told.{IsTold, stop_status};
-ghost use Rattle.mm_subcommands.specs.Looked.{IsListing, check_status, check_text};
+ghost use Rattle.mm_subcommands.specs.Looked.{IsListing, IsUnlisted, check_status, check_text};
 
 use crate::package::adopt_package;
 use crate::stop::Stop;
@@ -24,33 +24,35 @@ pub fn check_package<S: Alter + Drop>(
     requires { conn.in_transaction ≡ false }
     ensures checked { IfOk result
         (λ checked. IsAdopted (state S.Store conn) (state S.Store checked)) }
+    ensures idle { IfOk result (λ checked. checked.in_transaction ≡ false) }
     ensures declined { IfErr result (λ e. IsDeclined (state S.Store conn) (state S.Store e.0) e.1) }
+    ensures handed_back { IfErr result (λ e. e.0.in_transaction ≡ false) }
 {
     let session = adopt_package(alloc, conn)?;
     Ok(session.close())
 }
 
-/// Writes the listing of the package, and hands the connection back. At a fault a beginning of the listing was written.
+/// Writes the listing of the package, and hands the connection back. Where it is not adopted, with why not, and then nothing was
+/// written; at a fault behind that a beginning of the listing was.
 pub fn list_package<S: Alter + Drop, W: Write>(
     alloc: Global,
     conn: Connection<S>,
     output: &mut Io<W>,
-) -> Result<Connection<S>, Stop>
+) -> Result<Connection<S>, (Connection<S>, Stop)>
     requires { conn.in_transaction ≡ false }
     ensures working { OnOk result (has_failed output.new ≡ has_failed output.old) }
     ensures listed { IfOk result (λ end. IsListing (state S.Store conn) (state S.Store end)
         (W.contents (inside output.old)) (W.contents (inside output.new))) }
-    ensures stopped { IfErr result (λ why. (output.new ≡ output.old) ⊎ (stop_status why ≡ 3)) }
+    ensures idle { IfOk result (λ end. end.in_transaction ≡ false) }
+    ensures unlisted { IfErr result (λ e. IsUnlisted (state S.Store conn) (state S.Store e.0)
+        (written W.contents output.old) (written W.contents output.new) e.1) }
+    ensures handed_back { IfErr result (λ e. e.0.in_transaction ≡ false) }
+    ensures stopped { IfErr result (λ e. (output.new ≡ output.old) ⊎ (stop_status e.1 ≡ 3)) }
 {
-    match adopt_package(alloc, conn) {
-        Ok(session) => {
-            let mut session = session;
-            match session.list(output) {
-                Ok(()) => Ok(session.close()),
-                Err(fault) => Err(Stop::Fault(fault)),
-            }
-        }
-        Err((_, why)) => Err(why),
+    let mut session = adopt_package(alloc, conn)?;
+    match session.list(output) {
+        Ok(()) => Ok(session.close()),
+        Err(fault) => Err((session.close(), Stop::Fault(fault))),
     }
 }
 

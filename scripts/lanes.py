@@ -28,8 +28,8 @@ TESTS = {
 }
 # The same of one must-fail edit, tried with others.
 EDIT = 8
-# How many processors a check of proofs gets beside which one other is at work at the most. With one for each check the processors get more done: mm_program
-# took 95 seconds with four, and 209 of a processor.
+# How many processors a check of proofs gets beside which one other is at work at the most. Over kept work mm_program took 95 seconds with four, and 209 of a
+# processor.
 JOBS_ALONE = 4
 # How many one of tests may have at the most: they take the most memory.
 MOST_JOBS_OF_TESTS = 2

@@ -3,6 +3,7 @@
 ghost use Rattle.std.specs.Prelude.{◌≡◌, ◌+◌, ◌&&◌, not, false};
 ghost use Rattle.sqlite_disk.specs.Disk.{CountsFault};
 ghost use Rattle.sqlite_disk.specs.Refusal.{finds_no_room};
+ghost use Rattle.mm_faults.specs.Lapses.{HasNotLapsed, inside};
 
 use sqlite_disk::{Crash, Disk, Tally};
 use std::cell::Cell;
@@ -63,8 +64,11 @@ pub struct Lapse<'a, D: Disk> {
 }
 
 impl<'a, D: Disk> Lapse<'a, D> {
-    /// A disk round this one, which counts the calls of the plan on.
-    pub fn new(inner: D, plan: &'a Plan) -> Lapse<'a, D> {
+    /// A disk round this one, which counts the calls of the plan on. No call has lapsed.
+    pub fn new(inner: D, plan: &'a Plan) -> Lapse<'a, D>
+        ensures round { inside result ≡ inner }
+        ensures whole { HasNotLapsed result }
+    {
         Lapse {
             inner,
             plan,
@@ -74,12 +78,16 @@ impl<'a, D: Disk> Lapse<'a, D> {
     }
 
     /// The disk inside.
-    pub fn inner(&self) -> &D {
+    pub fn inner(&self) -> &D
+        ensures { result.now ≡ inside self.now }
+    {
         &self.inner
     }
 
     /// The disk inside, with what was written to it.
-    pub fn into_inner(self) -> D {
+    pub fn into_inner(self) -> D
+        ensures { result ≡ inside self.entry }
+    {
         let Lapse {
             inner,
             plan: _plan,

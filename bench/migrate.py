@@ -3,7 +3,7 @@
 
     bench/migrate.py [--program out/mmpkg] [--tiles 100000] [--bytes 200] [--folder FOLDER]
 
-A package of one pyramid is filled, and put back to profile 1 by scripts/make_profile_1.py. Printed are the processor seconds and the
+A package of one pyramid is filled, and put back to profile 1 by scripts/outside/make_profile_1.py. Printed are the processor seconds and the
 peak memory of `migrate`, of `migrate` again, which only checks, and of `check`; and how much of the file migrating changed.
 """
 
@@ -14,7 +14,7 @@ import tempfile
 import common
 from check import fill, measured, new_package
 
-sys.path.insert(0, str(pathlib.Path(__file__).resolve().parent.parent / "scripts"))
+sys.path.insert(0, str(pathlib.Path(__file__).resolve().parent.parent / "scripts" / "outside"))
 from make_profile_1 import put_back  # noqa: E402
 
 PAGE = 4096

@@ -53,13 +53,13 @@ example() {
 
 want sqlite3:sqlite3 curl:curl xxd:xxd cc:gcc python3:python3
 try 'the example' example
-try 'the documents' scripts/check_docs.py "$MMPKG"
-try 'the tables of its file' scripts/compare_schema.sh "$folder/example.gpkg"
-try 'the page' scripts/page_curl.sh
-try 'the clock' scripts/clock.sh
-try 'a terminal' scripts/terminal.py "$MMPKG"
-try 'refused growths of memory' scripts/refuse_memory.py ${WHOLE:+--whole} "$MMPKG"
-try 'random lists' scripts/random_lists.py
-try 'the border to the standard' scripts/border.sh
+try 'the documents' scripts/outside/check_docs.py "$MMPKG"
+try 'the tables of its file' scripts/outside/compare_schema.sh "$folder/example.gpkg"
+try 'the page' scripts/outside/page_curl.sh
+try 'the clock' scripts/outside/clock.sh
+try 'a terminal' scripts/outside/terminal.py "$MMPKG"
+try 'refused growths of memory' scripts/outside/refuse_memory.py ${WHOLE:+--whole} "$MMPKG"
+try 'random lists' scripts/model/random_lists.py
+try 'the border to the standard' scripts/outside/border.sh
 echo "$passed passed, $failed failed"
 [ "$failed" = 0 ] && [ "$passed" -gt 0 ]

@@ -22,7 +22,7 @@ show() {
     eval "$1"
 }
 
-PATH="$top/scripts:$PATH"
+PATH="$top/tools:$PATH"
 # A picture of nine colours, a metre a pixel, and a GeoPackage with its tiles.
 show "gdaldem color-relief -q -nearest_color_entry picture.asc colours.txt small.tif"
 show "gdal_translate -q -outsize 768 768 -r nearest -a_srs EPSG:25832 small.tif picture.tif"

@@ -3,11 +3,11 @@
 # keys, indexes and given rows of the profile, as the lists below write them, and its blobs with their form. Prints the
 # differences, if any, and fails then.
 #
-#     scripts/compare_schema.sh FILE
+#     scripts/outside/compare_schema.sh FILE
 set -eu -o pipefail
 
 if [ $# -ne 1 ] || [ ! -f "$1" ]; then
-    echo "usage: scripts/compare_schema.sh FILE" >&2
+    echo "usage: scripts/outside/compare_schema.sh FILE" >&2
     exit 2
 fi
 file=$1

@@ -1,7 +1,7 @@
 #!/usr/bin/env python3
-"""Compares what crosses the border with GDAL's view of it, and packages with what comes back. Called by scripts/border.sh.
+"""Compares what crosses the border with GDAL's view of it, and packages with what comes back. Called by scripts/outside/border.sh.
 
-    MMPKG=out/mmpkg scripts/border_check.py [--python PYTHON] [WORD ..]
+    MMPKG=out/mmpkg scripts/outside/border_check.py [--python PYTHON] [WORD ..]
 
 PYTHON is an interpreter with GDAL's modules (Debian's python3-gdal is for /usr/bin/python3); WORD picks the checks whose names have it.
 The last line is 'N passed, M failed'; the exit status is 1 where one failed.
@@ -25,10 +25,12 @@ import time
 import traceback
 
 import page_map
-from border import KIT_PIECES, UNITS_OF_VERSION, UNITS_PER_METRE, Piece, media_piece, record, tile_piece, whole_units
 
-TOP = pathlib.Path(__file__).resolve().parent.parent
-SCRIPTS = TOP / "scripts"
+TOP = pathlib.Path(__file__).resolve().parent.parent.parent
+TOOLS = TOP / "tools"
+sys.path.insert(0, str(TOOLS))
+from border import KIT_PIECES, UNITS_OF_VERSION, UNITS_PER_METRE, Piece, media_piece, record, tile_piece, whole_units  # noqa: E402
+
 PROGRAM = os.path.realpath(os.environ.get("MMPKG") or TOP / "out" / "mmpkg")
 UTM = 'PROJCS["a grid",GEOGCS["g",DATUM["d",SPHEROID["s",6378137,298]],PRIMEM["p",0],UNIT["degree",0.01745]],UNIT["metre",1]]'
 NOT_COMPARED = {("gpkg_contents", "last_change"), ("gpkgext_relations", "id"), ("mm_tiles", "blob"), ("mm_media", "blob")}
@@ -57,7 +59,7 @@ def mmpkg(*words, status=0, given=None):
 
 
 def tool(name, *words, status=0):
-    return run(SCRIPTS / name, *words, status=status)
+    return run(TOOLS / name, *words, status=status)
 
 
 def expect(found, wanted, what):
@@ -388,7 +390,7 @@ def check_units_of_the_profile(folder):
             opened.commit()
             (wide,) = opened.execute("SELECT max_x FROM gpkg_contents WHERE table_name = 'base'").fetchone()
         out = folder / f"{version}.gpkg"
-        run("env", "MMPKG=true", SCRIPTS / "export_standard.py", folder / "a.gpkg", out)
+        run("env", "MMPKG=true", TOOLS / "export_standard.py", folder / "a.gpkg", out)
         with contextlib.closing(sqlite3.connect(out)) as opened:
             for table in ("gpkg_contents", "gpkg_tile_matrix_set"):
                 expect(opened.execute(f"SELECT max_x FROM {table} WHERE table_name = 'base'").fetchone(), (wide / units,), table)

@@ -1,9 +1,9 @@
 #!/usr/bin/env python3
 """Runs random lists of records on the program, and compares all that it answers with a model in plain Python.
 
-    scripts/random_lists.py [--seed N] [--rounds N] [PROGRAM]
+    scripts/model/random_lists.py [--seed N] [--rounds N] [PROGRAM]
 
-PROGRAM is the built program: without it the one of the environment's MMPKG, or out/mmpkg. The model (scripts/package_model.py)
+PROGRAM is the built program: without it the one of the environment's MMPKG, or out/mmpkg. The model (scripts/model/package_model.py)
 is written from docs/FORMATS.md alone. A round makes a package and runs a few lists and kits on it, each in a run of its own;
 behind each, the answers, the listing, the check and the rows of all tables are compared, and at the end what the page
 answers. The first round fills an edition. At the first mismatch the lists are kept, and how to run them again is told;
@@ -29,7 +29,7 @@ from package_records import MOST_KIT_BYTES, MOST_MOMENT, MOST_PIECES, Refused, r
 from package_views import listing, query_of, respond, table_rows
 from random_records import OPENING, Author, all_edges
 
-TOP = pathlib.Path(__file__).resolve().parent.parent
+TOP = pathlib.Path(__file__).resolve().parent.parent.parent
 DEFAULT_ROUNDS = 20
 LISTS = 3
 WORDS = 40

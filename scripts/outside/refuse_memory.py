@@ -1,7 +1,7 @@
 #!/usr/bin/env python3
 """Refuses each growth of memory in turn, and looks at what the program answers and at what then stands.
 
-    scripts/refuse_memory.py [--seconds N | --whole] [PROGRAM]
+    scripts/outside/refuse_memory.py [--seconds N | --whole] [PROGRAM]
 
 PROGRAM is the built program: without it the one of the environment's MMPKG, or out/mmpkg. The program asks the C library for
 memory. A small library is loaded before it whose N-th call of malloc or realloc answers that there is none; N counts upwards until a run
@@ -29,7 +29,7 @@ import time
 
 from make_profile_1 import put_back
 
-TOP = pathlib.Path(__file__).resolve().parent.parent
+TOP = pathlib.Path(__file__).resolve().parent.parent.parent
 # How many seconds a run of the program may take.
 PATIENCE = 60
 

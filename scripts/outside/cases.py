@@ -1,7 +1,7 @@
 #!/usr/bin/env python3
 r"""Runs the program on the transcripts of a folder, and compares all that it answers byte by byte.
 
-    scripts/cases.py PROGRAM FOLDER     the last line is 'N passed, M failed'
+    scripts/outside/cases.py PROGRAM FOLDER     the last line is 'N passed, M failed'
 
 A transcript NAME.case is a list of steps, done in turn in a new folder of its own; the first that fails ends it. Lines that begin
 with # are comments. A step that runs the program is the line '$ WORDS', the words as a shell reads them, and behind it
@@ -22,7 +22,7 @@ Words that end in '< FILE' or '> FILE' take the input from that file, or have th
     ! cut FROM TO SIZE   makes a file of the first SIZE bytes of another, or of a part of it, as 1/2
     ! sql FILE STATEMENT runs a statement by Python's sqlite3; '>' are the rows that it gives, with bars between the values;
                          sha256(DATA) is the digest of bytes, as a blob has it
-    ! older FILE         puts a package back to profile 1, as scripts/make_profile_1.py does
+    ! older FILE         puts a package back to profile 1, as scripts/outside/make_profile_1.py does
     ! same FILE          the file is byte for byte as it was before the last run of the program
     ! missing FILE       there is no such file
     ! listen             the port is taken, by a listener of this script's own

@@ -3,10 +3,10 @@
 # answers `clock_gettime`. A moment at the ends of the limits becomes the last_change; one outside them is `refused 11`, and a clock that
 # can't be read is `fault 96`, both before the file is opened. Where a moment is given the clock makes no difference.
 #
-#     scripts/clock.sh [PROGRAM]
+#     scripts/outside/clock.sh [PROGRAM]
 set -eu -o pipefail
 
-program=$(realpath "${1:-${MMPKG:-$(dirname "$0")/../out/mmpkg}}")
+program=$(realpath "${1:-${MMPKG:-$(dirname "$0")/../../out/mmpkg}}")
 for needed in cc sqlite3; do
     command -v "$needed" >/dev/null || { echo "no $needed here"; exit 77; }
 done

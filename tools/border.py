@@ -1,7 +1,7 @@
 """What the tools at the border share: the profile's limits, and how command lists and kits are written.
 
 The tools are export_standard.py, import_standard.py and make_kit.py. Nothing here is proved: docs/FORMATS.md has the limits, the records
-and the kits, docs/BORDER.md says what goes across, and scripts/border.sh compares.
+and the kits, docs/BORDER.md says what goes across, and scripts/outside/border.sh compares.
 """
 
 import argparse

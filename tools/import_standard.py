@@ -1,8 +1,8 @@
 #!/usr/bin/env python3
 """Writes what a package can take of a standard GeoPackage as a command list, or as a command list and kits.
 
-    scripts/import_standard.py IN.gpkg LIST.csv
-    scripts/import_standard.py IN.gpkg LIST.csv --kit EDITION FOLDER
+    tools/import_standard.py IN.gpkg LIST.csv
+    tools/import_standard.py IN.gpkg LIST.csv --kit EDITION FOLDER
 
 LIST.csv gets the records for 'mmpkg run': systems, tile pyramids with their matrices, attribute tables (id, title, note, amount), media
 tables (id, data, content_type), relations between them, and their content. With --kit the content goes into kits of at most 4,096 pieces

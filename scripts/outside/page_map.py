@@ -3,7 +3,7 @@
 
     scripts/build.sh
     apt-get install chromium
-    scripts/page_map.py [--program out/mmpkg] [--browser chromium] [--port 18081] [--keep FOLDER]
+    scripts/outside/page_map.py [--program out/mmpkg] [--browser chromium] [--port 18081] [--keep FOLDER]
 
 Nine tiles of one colour each are put into a package, and the page is served. A file of HTML of this script's own shows them as images
 whose addresses are the page's. Headless Chromium takes a screenshot, which is read here and compared with the nine colours at the

@@ -1,7 +1,7 @@
 #!/usr/bin/env python3
 """A run whose records are typed on a terminal: each is answered at once, and one end key ends the list.
 
-    scripts/terminal.py PROGRAM
+    scripts/outside/terminal.py PROGRAM
 """
 import os
 import pty

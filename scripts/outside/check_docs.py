@@ -1,7 +1,7 @@
 #!/usr/bin/env python3
 """Compares the documents with what they speak of.
 
-    scripts/check_docs.py [PROGRAM]     the last line is 'N passed, M failed'
+    scripts/outside/check_docs.py [PROGRAM]     the last line is 'N passed, M failed'
 
 Each line '    $ COMMAND' of README.md and docs/TOUR.md is run in turn, in a new folder with the examples, and must print the lines that
 stand below it; 'cat' of a file that is not there makes it of them. Each must-fail edit is named in docs/PROOFS.md, and each name in
@@ -16,7 +16,7 @@ import subprocess
 import sys
 import tempfile
 
-TOP = os.path.dirname(os.path.dirname(os.path.abspath(__file__)))
+TOP = os.path.dirname(os.path.dirname(os.path.dirname(os.path.abspath(__file__))))
 TOURS = "README.md", "docs/TOUR.md"
 PROGRAMS = "out/mmpkg", "crates/mm_cli/out/mm_cli"
 PROMISES = "docs/PROOFS.md"
@@ -59,7 +59,7 @@ class Tour:
         self.served = []
         os.makedirs(f"{folder}/bin")
         os.symlink(program, f"{folder}/bin/mmpkg")
-        for name in "examples", "scripts":
+        for name in "examples", "scripts", "tools":
             os.symlink(f"{TOP}/{name}", f"{folder}/{name}")
         with open(f"{folder}/notes.gpkg", "w", encoding="utf-8") as it:
             it.write("some notes")
@@ -115,7 +115,7 @@ def tour_fits(path, program):
 def spoken_of():
     """Returns all words of the code, and the names of its files."""
     words = set()
-    for top in "crates", "scripts", "cases", "examples":
+    for top in "crates", "scripts", "tools", "cases", "examples":
         for below, folders, files in os.walk(top):
             folders[:] = [it for it in folders if it != "out"]
             words.update(folders)

@@ -1,7 +1,7 @@
 #!/usr/bin/env python3
 """Writes a package as a GeoPackage 1.3, which GDAL and QGIS open.
 
-    scripts/export_standard.py FILE OUT.gpkg
+    tools/export_standard.py FILE OUT.gpkg
 
 FILE is a package of mmpkg. It and its journal are copied first and left as they are; nothing may write them meanwhile. The copy has to
 pass 'mmpkg check', with the program that the environment's MMPKG names, else out/mmpkg of this repository. OUT.gpkg must not be there;

@@ -1,7 +1,7 @@
 #!/usr/bin/env python3
 """Makes a kit of a folder of tiles, as 'gdal2tiles.py --xyz' or a like tool writes it.
 
-    scripts/make_kit.py FOLDER TABLE EDITION OUT
+    tools/make_kit.py FOLDER TABLE EDITION OUT
 
 FOLDER has the tiles of one pyramid as Z/C/R.png: zoom, column and row, where row 0 is the uppermost (without --xyz the lowest, which is
 wrong here). OUT gets them as pieces for the pyramid TABLE, with kit.csv, for 'mmpkg kit FILE EDITION OUT'; behind 4,096 tiles a next kit

@@ -1,7 +1,7 @@
 #!/usr/bin/env python3
 """Puts a package of profile 2 back to profile 1, whole millimetres, so that `mmpkg migrate` can be tried and tested.
 
-    scripts/make_profile_1.py FILE
+    scripts/outside/make_profile_1.py FILE
 
 The statements are the test's own and run by Python's sqlite3: mmpkg itself makes packages of profile 2 alone. A package whose
 numbers are no whole millimetres, or that holds staged matrices, has no form in profile 1: it is left as it is, with status 1.

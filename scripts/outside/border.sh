@@ -2,13 +2,13 @@
 # What goes from the standard into a package and out again, by GDAL, which shares no code with this repository (docs/BORDER.md).
 #
 #     apt-get install gdal-bin python3-gdal
-#     scripts/border.sh [PROGRAM]
+#     scripts/outside/border.sh [PROGRAM]
 #
 # PROGRAM is the built program: without it the one that the environment's MMPKG names, or else out/mmpkg. The last line is
 # 'N passed, M failed'. Exit status: 0 all passed, 1 something failed, 2 the program isn't there, 77 GDAL isn't there.
 set -eu -o pipefail
 
-top=$(cd "$(dirname "$0")/.." && pwd)
+top=$(cd "$(dirname "$0")/../.." && pwd)
 export MMPKG
 MMPKG=$(realpath -m "${1:-${MMPKG:-$top/out/mmpkg}}")
 if [ ! -x "$MMPKG" ]; then
@@ -33,4 +33,4 @@ if [ ${#missing[@]} != 0 ]; then
     exit 77
 fi
 
-exec "$top/scripts/border_check.py" --python "$python"
+exec "$top/scripts/outside/border_check.py" --python "$python"

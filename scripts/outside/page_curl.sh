@@ -3,13 +3,13 @@
 # found, and another method; the port has to be bound on the loopback address alone. Compares status, headers and body with what stands below, prints the differences, and fails then.
 #
 #     scripts/build.sh
-#     scripts/page_curl.sh [PORT]
+#     scripts/outside/page_curl.sh [PORT]
 #
 # Where MMPKG names a built program, that one is asked.
 set -eu -o pipefail
 
 port=${1:-18080}
-cd "$(dirname "$0")/.."
+cd "$(dirname "$0")/../.."
 program=${MMPKG:-$PWD/out/mmpkg}
 folder=$(mktemp -d)
 trap 'kill "${server:-}" 2>/dev/null || true; rm -rf "$folder"' EXIT

@@ -1,19 +1,27 @@
 #!/usr/bin/env bash
-# Builds the program from this clone: proves it with all that stands below it, compiles it, and puts it at out/mmpkg.
-# From nothing it proves every crate below first, side by side, with a line for each that ends; with no change since, it takes no time.
+# Builds the program from this clone: proves it with all that stands below it, compiles it, and puts it at out/mmpkg. From nothing it proves each crate,
+# as many side by side as there are processors, with a line for each that ends; with no change since, it takes a minute.
 #
 #     scripts/build.sh
 set -eu -o pipefail
 
-top=$(cd "$(dirname "$0")/.." && pwd)
-mkdir -p "$top/out"
-python3 "$top/scripts/build.py"
-# rt gives the program's own check one processor where it foresees little memory, and checks again with one where memory was short.
+cd "$(dirname "$0")/.."
+mkdir -p out
 jobs=$(($(nproc) < 4 ? $(nproc) : 4))
-if ! (cd "$top/crates/mm_cli" && "$top/scripts/rt.py" run --jobs "$jobs" -- --help) >"$top/out/build.log" 2>&1; then
-    tail -n 40 "$top/out/build.log" >&2
-    echo "mmpkg was not built" >&2
+
+# What is proved as it ends, and how long it all took so far.
+told() {
+    awk -v began="$(date +%s)" '/^== [a-z]/ {name = $2}
+        /^logic=/ {"date +%s" | getline now; close("date +%s"); printf "%s: %s (%.1f minutes so far)\n", name, substr($1, 7), (now - began) / 60; fflush()}'
+}
+
+failed() {
+    tail -n 40 out/build.log >&2
+    echo "mmpkg was not built: out/build.log has more" >&2
     exit 1
-fi
-cp "$top/crates/mm_cli/out/mm_cli" "$top/out/mmpkg"
+}
+
+rt all check --jobs "$jobs" 2>&1 | tee out/build.log | told || failed
+(cd crates/mm_cli && rt run --jobs "$jobs" -- --help) >>out/build.log 2>&1 || failed
+cp crates/mm_cli/out/mm_cli out/mmpkg
 echo "built out/mmpkg"

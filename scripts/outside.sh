@@ -1,7 +1,7 @@
 #!/usr/bin/env bash
-# What the built program shows from outside, by programs that share no code with this repository: the example with its output, the lines
-# of the documents, the tables of the file, the page by curl, a machine's clock at its ends, a terminal, refused growths of memory, random lists against a model, and the border to
-# the standard where GDAL is installed. The last line is 'N passed, M failed'.
+# What the built program shows from outside, by programs that share no code with this repository: the example with its output, the lines of the documents,
+# the tables of the file, the page by curl, a machine's clock at its ends, a terminal, refused growths of memory, random lists against a model, and the
+# border to the standard. The last line is 'N passed, M failed'.
 #
 #     scripts/outside.sh [PROGRAM]
 #
@@ -19,13 +19,20 @@ trap 'rm -rf "$folder"' EXIT
 passed=0
 failed=0
 
-# Installs Debian's packages of the commands that are missing, where that can be done: COMMAND:PACKAGE ..
+# Installs Debian's packages of the commands and files that are missing, and names those that can't be had: COMMAND:PACKAGE ..
 want() {
-    local missing=()
+    local it updated=
     for it in "$@"; do
-        command -v "${it%%:*}" >/dev/null || missing+=("${it#*:}")
+        has "$it" && continue
+        [ -n "$updated" ] || apt-get update >"$folder/apt.log" 2>&1 || true
+        updated=yes
+        apt-get install -y --no-install-recommends "${it#*:}" >>"$folder/apt.log" 2>&1 || true
+        has "$it" || echo "outside: could not get Debian's ${it#*:}"
     done
-    [ ${#missing[@]} = 0 ] || { apt-get update && apt-get install -y "${missing[@]}"; } >"$folder/apt.log" 2>&1 || tail -n 5 "$folder/apt.log"
+}
+
+has() {
+    [ -e "${1%%:*}" ] || command -v "${1%%:*}" >/dev/null
 }
 
 # Runs a command, and counts it by its status, but for 77, which says that what it needs is missing: NAME COMMAND ..
@@ -52,6 +59,8 @@ example() {
 }
 
 want sqlite3:sqlite3 curl:curl xxd:xxd cc:gcc python3:python3
+# Peers: what needs one that can't be had is not tried.
+want gdalinfo:gdal-bin gdal2tiles.py:python3-gdal /usr/lib/python3/dist-packages/osgeo:python3-gdal
 try 'the example' example
 try 'the documents' scripts/outside/check_docs.py "$MMPKG"
 try 'the tables of its file' scripts/outside/compare_schema.sh "$folder/example.gpkg"

@@ -4,11 +4,12 @@
     scripts/outside/check_docs.py [PROGRAM]     the last line is 'N passed, M failed'
 
 Each line '    $ COMMAND' of README.md and docs/TOUR.md is run in turn, in a new folder with the examples, and must print the lines that
-stand below it; 'cat' of a file that is not there makes it of them. Each must-fail edit is named in docs/PROOFS.md, and each name in
-backticks there that looks like one of the code stands in some crate, script or transcript. PROGRAM is the built program: without it
+stand below it; 'cat' of a file that is not there makes it of them. Each edit of must-fail/ is named in docs/PROOFS.md, in bold, and each mutant;
+each name in backticks there that looks like one of the code stands in some crate, script or transcript. PROGRAM is the built program: without it
 out/mmpkg, or else the one that the gate left in crates/mm_cli/out.
 """
 import os
+import pathlib
 import re
 import shutil
 import socket
@@ -126,13 +127,18 @@ def spoken_of():
     return words
 
 
-def edits_are_named():
-    named = set(re.findall(r"\w+", text_of(PROMISES)))
-    edits = [name[:-5] for below, _, files in os.walk("crates") for name in files if name.endswith(".edit") and "/out/" not in below]
-    missing = sorted(it for it in edits if it not in named)
-    for it in missing:
-        print(f"{PROMISES} does not name the edit {it}")
-    return not missing and bool(edits)
+def wrong_bodies_are_named():
+    """Returns whether each edit is named in bold, and each mutant as it is, and whether there are any of both."""
+    text = text_of(PROMISES)
+    bold = set(re.findall(r"\*\*`(\w+)`\*\*", text))
+    plain = set(re.findall(r"(?<!\*)`(\w+)`(?!\*)", text))
+    answers = []
+    for kind, named in ("must-fail", bold), ("mutants", plain):
+        there = {path.stem for path in pathlib.Path("crates").glob(f"*/{kind}/*.edit")}
+        for it in sorted(there - named):
+            print(f"{PROMISES} does not name {it} of {kind}/" + (" in bold" if named is bold else ""))
+        answers.append(bool(there) and there <= named)
+    return all(answers)
 
 
 def names_stand():
@@ -151,7 +157,7 @@ def main():
         print("there is no built program", file=sys.stderr)
         return 1
     program = os.path.realpath(given[0])
-    answers = [*(tour_fits(path, program) for path in TOURS), edits_are_named(), names_stand()]
+    answers = [*(tour_fits(path, program) for path in TOURS), wrong_bodies_are_named(), names_stand()]
     passed = sum(answers)
     print(f"{passed} passed, {len(answers) - passed} failed")
     return 0 if all(answers) else 1

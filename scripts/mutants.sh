@@ -1,0 +1,28 @@
+#!/usr/bin/env bash
+# Tries the mutants: wrong bodies that the contracts refuse, as the edits of must-fail/ do, but too many for a gate that runs on each push. In a copy of the
+# repository they take the place of the edits. Run it for a crate whose contracts changed, and for all before a release: half a minute of a processor each.
+#
+#     scripts/mutants.sh [CRATE ..]
+#
+# Without a name, all crates. Exit status: 0 each was refused, 1 one was not, 2 there is no such crate or no mutant of it.
+set -eu -o pipefail
+cd "$(dirname "$0")/.."
+if [ $# = 0 ]; then
+    set -- $(find crates -mindepth 2 -maxdepth 2 -name mutants -printf '%h\n' | sort | xargs -n 1 basename)
+fi
+for crate in "$@"; do
+    if ! ls "crates/$crate"/mutants/*.edit >/dev/null 2>&1; then
+        echo "$crate: there is no crates/$crate/mutants with an edit" >&2
+        exit 2
+    fi
+done
+copy=$(mktemp -d)
+trap 'rm -rf "$copy"' EXIT
+tar -c crates.txt HANDLES $(find crates -mindepth 2 -maxdepth 2 ! -name out) | tar -x -C "$copy"
+for crate in "$@"; do
+    rm -rf "$copy/crates/$crate/must-fail"
+    mv "$copy/crates/$crate/mutants" "$copy/crates/$crate/must-fail"
+done
+status=0
+(cd "$copy" && rt must-fail "$@") || status=1
+exit "$status"

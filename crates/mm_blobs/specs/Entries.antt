@@ -1,11 +1,19 @@
--- A view with one entry put or removed, and the blob that it named before.
-use Rattle.std.specs.Prelude.{◌≡◌, ℕ, ℤ, List, Option, Some, None}
+-- Which blob an entry of a view names, and a view with one entry put or removed.
+use Rattle.std.specs.Prelude.{◌≡◌, ℕ, ℤ, List, Option, Some, None, option_map}
 use Rattle.std.specs.declared.cmp.Ordering.{Ordering}
 use Rattle.std.specs.FinMap.{FinMap, get, insert, remove}
 use Rattle.mm_definitions.specs.Keys.{Text, TileKey, Item}
 use Rattle.mm_store.specs.Kept.{Spare, medium_with}
 use Rattle.mm_store.specs.Rows.{MediumRow}
 use Rattle.mm_blobs.specs.Views.{View, spare_too}
+
+-- the blob that the tile names, if one stands
+abbrev pub tile_names : TileKey → View → Option ℤ
+tile_names key x = get x.kept.tiles key
+
+-- the blob that the medium names, if one stands
+abbrev pub medium_names : Item → View → Option ℤ
+medium_names key x = option_map (λ (m : MediumRow). m.blob) (get x.kept.media key)
 
 -- the blob of an entry that went, if one stood, may be spared
 abbrev pub spare_freed : Option ℤ → Spare → Spare

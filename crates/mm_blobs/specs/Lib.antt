@@ -1,3 +1,4 @@
 pub mod Moves
 pub mod Views
 pub mod Entries
+pub mod Handed

@@ -1,15 +1,12 @@
 //! Whether a table is of the kind that a command asks.
 
 ghost use Rattle.std.specs.Prelude.{◌≡◌, ◌||◌, [], ◌∷◌};
-ghost use Rattle.sqlite.specs.Held.{state};
-ghost use Rattle.mm_definitions.specs.Bounds.{Profile};
-ghost use Rattle.mm_definitions.specs.Conditions.{least, no_table, of_another_kind};
+ghost use Rattle.mm_definitions.specs.Conditions.{no_table, of_another_kind};
 ghost use Rattle.mm_definitions.specs.Effects.{plain_kind};
 ghost use Rattle.mm_definitions.specs.Keys.{same_text};
 ghost use Rattle.mm_definitions.specs.Package.{kind_text, has_kind, is_pyramid};
-ghost use Rattle.mm_definitions.specs.Rules.{Meets};
 ghost use Rattle.mm_definitions.specs.declared.commands.Kind.TheVariants as kinds;
-ghost use Rattle.mm_store.specs.Shapes.{IsLook};
+ghost use Rattle.mm_store.specs.Handed.{FindsRefusal};
 
 use mm_definitions::answers::Fault;
 use mm_definitions::commands::{Kind, PlainKind};
@@ -32,13 +29,9 @@ pub(crate) fn plain_refusal<S: Alter>(
     table: &str,
     asked: PlainKind,
 ) -> Result<Option<u8>, Fault>
-    ensures same_reference { tx.new.conn.ghost_name ≡ tx.old.conn.ghost_name }
-    ensures look { (profile : Profile)
-        → IsLook profile (state S.Store tx.old.conn.now) (state S.Store tx.new.conn.now)
-        (λ p why. Meets profile p
-        → why ≡ least
-        (no_table p table.now ∷ of_another_kind p table.now
-        (has_kind p.kinds table.now (plain_kind asked)) ∷ [])) result }
+    ensures { FindsRefusal S.Store tx.old tx.new
+        (λ p. no_table p table.now ∷ of_another_kind p table.now
+        (has_kind p.kinds table.now (plain_kind asked)) ∷ []) result }
 {
     let Some(kind) = kind_of(tx, table)? else {
         return Ok(Some(25));
@@ -67,13 +60,9 @@ pub(crate) fn pyramid_refusal<S: Alter>(
     tx: &mut Transaction<'_, S>,
     table: &str,
 ) -> Result<Option<u8>, Fault>
-    ensures same_reference { tx.new.conn.ghost_name ≡ tx.old.conn.ghost_name }
-    ensures look { (profile : Profile)
-        → IsLook profile (state S.Store tx.old.conn.now) (state S.Store tx.new.conn.now)
-        (λ p why. Meets profile p
-        → why ≡ least
-        (no_table p table.now ∷ of_another_kind p table.now (is_pyramid p.kinds table.now)
-        ∷ [])) result }
+    ensures { FindsRefusal S.Store tx.old tx.new
+        (λ p. no_table p table.now ∷ of_another_kind p table.now (is_pyramid p.kinds table.now)
+        ∷ []) result }
 {
     let Some(kind) = kind_of(tx, table)? else {
         return Ok(Some(25));

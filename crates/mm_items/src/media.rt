@@ -1,21 +1,14 @@
 //! Media.
 
-ghost use Rattle.std.specs.Prelude.{◌≡◌, ℕ, ℤ, List, Option, Some, None, ⊤, option_map};
-ghost use Rattle.std.specs.FinMap.{get, insert, remove};
-ghost use Rattle.sqlite.specs.Held.{state};
-ghost use Rattle.mm_definitions.specs.Bounds.{Profile};
-ghost use Rattle.mm_definitions.specs.Conditions.{least, own_reasons};
+ghost use Rattle.std.specs.Prelude.{None};
+ghost use Rattle.std.specs.FinMap.{insert, remove};
+ghost use Rattle.mm_definitions.specs.Conditions.{own_reasons};
 ghost use Rattle.mm_definitions.specs.Keys.{item};
-ghost use Rattle.mm_definitions.specs.Rules.{Meets};
 ghost use Rattle.mm_definitions.specs.declared.commands.Command.TheVariants as commands;
-ghost use Rattle.mm_store.specs.Blobs.{bytes_at};
-ghost use Rattle.mm_store.specs.Kept.{Spare};
-ghost use Rattle.mm_store.specs.Rows.{MediumRow};
-ghost use Rattle.mm_store.specs.Shapes.{IsLook, IsChange};
-ghost use Rattle.mm_blobs.specs.Entries.{spare_freed, medium_of, with_medium, without_medium};
-ghost use Rattle.mm_blobs.specs.Moves.{IsMove};
-ghost use Rattle.mm_blobs.specs.Views.{IsSeen, spare_too, spare_but};
-ghost use Rattle.mm_layout.specs.Stamped.{IsLentAt};
+ghost use Rattle.mm_blobs.specs.Entries.{medium_of, with_medium, without_medium, medium_names};
+ghost use Rattle.mm_store.specs.Handed.{Changes, FindsRefusal};
+ghost use Rattle.mm_layout.specs.Handed.{Lends};
+ghost use Rattle.mm_blobs.specs.Handed.{Names, Renames, Unnames, Gives};
 
 use crate::kinds::plain_refusal;
 use crate::mapped::is_mapped;
@@ -36,15 +29,8 @@ fn insert_medium<S: Alter>(
     content_type: &str,
     blob: i64,
 ) -> Result<(), Fault>
-    ensures same_reference { tx.new.conn.ghost_name ≡ tx.old.conn.ghost_name }
-    ensures named { (profile : Profile) (spare : Spare) (bytes : List ℕ)
-        → IsMove (state S.Store tx.old.conn.now) (state S.Store tx.new.conn.now)
-        (λ base x. IsSeen spare profile (state S.Store tx.old.conn.now) base x
-        × ((bytes_at x.kept.shelf blob ≡ Some bytes)
-        × (get x.kept.media (item table.now id) ≡ None)))
-        (λ base x _ y.
-        (y ≡ with_medium (item table.now id) (medium_of blob content_type.now) bytes x)
-        × IsSeen (spare_but blob spare) profile (state S.Store tx.new.conn.now) base y) result }
+    ensures { Names S.Store tx.old tx.new blob (medium_names (item table.now id)) None
+        (with_medium (item table.now id) (medium_of blob content_type.now)) result }
 {
     run(
         tx,
@@ -61,17 +47,8 @@ fn update_medium<S: Alter>(
     content_type: &str,
     blob: i64,
 ) -> Result<(), Fault>
-    ensures same_reference { tx.new.conn.ghost_name ≡ tx.old.conn.ghost_name }
-    ensures named { (profile : Profile) (spare : Spare) (bytes : List ℕ) (was : ℤ)
-        → IsMove (state S.Store tx.old.conn.now) (state S.Store tx.new.conn.now)
-        (λ base x. IsSeen spare profile (state S.Store tx.old.conn.now) base x
-        × ((bytes_at x.kept.shelf blob ≡ Some bytes)
-        × (option_map (λ (m : MediumRow). m.blob) (get x.kept.media (item table.now id))
-        ≡ Some was)))
-        (λ base x _ y.
-        (y ≡ with_medium (item table.now id) (medium_of blob content_type.now) bytes x)
-        × IsSeen (spare_too was (spare_but blob spare)) profile (state S.Store tx.new.conn.now)
-        base y) result }
+    ensures { Renames S.Store tx.old tx.new blob (medium_names (item table.now id))
+        (with_medium (item table.now id) (medium_of blob content_type.now)) result }
 {
     run(
         tx,
@@ -89,17 +66,8 @@ fn name_medium<S: Alter>(
     blob: i64,
     stands: Option<i64>,
 ) -> Result<(), Fault>
-    ensures same_reference { tx.new.conn.ghost_name ≡ tx.old.conn.ghost_name }
-    ensures named { (profile : Profile) (spare : Spare) (bytes : List ℕ)
-        → IsMove (state S.Store tx.old.conn.now) (state S.Store tx.new.conn.now)
-        (λ base x. IsSeen spare profile (state S.Store tx.old.conn.now) base x
-        × ((bytes_at x.kept.shelf blob ≡ Some bytes)
-        × (option_map (λ (m : MediumRow). m.blob) (get x.kept.media (item table.now id))
-        ≡ stands)))
-        (λ base x _ y.
-        (y ≡ with_medium (item table.now id) (medium_of blob content_type.now) bytes x)
-        × IsSeen (spare_freed stands (spare_but blob spare)) profile
-        (state S.Store tx.new.conn.now) base y) result }
+    ensures { Names S.Store tx.old tx.new blob (medium_names (item table.now id)) stands
+        (with_medium (item table.now id) (medium_of blob content_type.now)) result }
 {
     match stands {
         Some(_was) => update_medium(tx, table, id, content_type, blob),
@@ -116,17 +84,11 @@ pub(crate) fn give_medium<S: Alter>(
     content_type: &str,
     blob: i64,
 ) -> Result<(), Fault>
-    ensures same_reference { tx.new.conn.ghost_name ≡ tx.old.conn.ghost_name }
-    ensures given { (profile : Profile) (spare : Spare) (bytes : List ℕ)
-        → IsMove (state S.Store tx.old.conn.now) (state S.Store tx.new.conn.now)
-        (λ base x. IsSeen spare profile (state S.Store tx.old.conn.now) base x
-        × (bytes_at x.kept.shelf blob ≡ Some bytes))
-        (λ base x _ y.
-        (y.content ≡ record (x.content) {
-          media = insert x.content.media (item table.now id)
+    ensures { Gives S.Store tx.old tx.new blob
+        (λ bytes p. record p {
+          media = insert p.media (item table.now id)
               (record { bytes = bytes; content_type = content_type.now });
-        })
-        × IsSeen (spare_but blob spare) profile (state S.Store tx.new.conn.now) base y) result }
+        }) result }
 {
     let stands = blob_of_medium(tx, table, id)?;
     name_medium(tx, table, id, content_type, blob, stands)?;
@@ -142,9 +104,7 @@ fn write_medium<S: Alter>(
     content_type: &str,
     bytes: &[u8],
 ) -> Result<(), Fault>
-    ensures same_reference { tx.new.conn.ghost_name ≡ tx.old.conn.ghost_name }
-    ensures change { (profile : Profile)
-        → IsChange profile (state S.Store tx.old.conn.now) (state S.Store tx.new.conn.now) (λ p. ⊤)
+    ensures { Changes S.Store tx.old tx.new
         (λ p. record p {
           media = insert p.media (item table.now id)
               (record { bytes = bytes.now; content_type = content_type.now });
@@ -168,10 +128,8 @@ pub fn put_media<S: Alter>(
     bytes: &[u8],
     last_change: &str,
 ) -> Result<Outcome, Fault>
-    ensures same_reference { tx.new.conn.ghost_name ≡ tx.old.conn.ghost_name }
-    ensures lent { (profile : Profile)
-        → IsLentAt profile (commands.Media table.now id content_type.now bytes.now) last_change.now
-        (state S.Store tx.old.conn.now) (state S.Store tx.new.conn.now) result }
+    ensures { Lends S.Store tx.old tx.new (commands.Media table.now id content_type.now bytes.now)
+        last_change.now result }
 {
     let table = table.as_str();
     if let Some(number) = plain_refusal(tx, table, PlainKind::Media)? {
@@ -188,13 +146,8 @@ fn delete_medium_row<S: Alter>(
     table: &str,
     id: i64,
 ) -> Result<(), Fault>
-    ensures same_reference { tx.new.conn.ghost_name ≡ tx.old.conn.ghost_name }
-    ensures gone { (profile : Profile) (spare : Spare) (stands : Option ℤ) →
-        IsMove (state S.Store tx.old.conn.now) (state S.Store tx.new.conn.now)
-        (λ base x. IsSeen spare profile (state S.Store tx.old.conn.now) base x
-        × (option_map (λ (m : MediumRow). m.blob) (get x.kept.media (item table.now id)) ≡ stands))
-        (λ base x _ y. (y ≡ without_medium (item table.now id) x)
-        × IsSeen (spare_freed stands spare) profile (state S.Store tx.new.conn.now) base y) result }
+    ensures { Unnames S.Store tx.old tx.new (medium_names (item table.now id))
+        (without_medium (item table.now id)) result }
 {
     run(
         tx,
@@ -205,9 +158,7 @@ fn delete_medium_row<S: Alter>(
 
 /// Removes the medium of an id, and its blob if nothing else names it.
 fn delete_medium<S: Alter>(tx: &mut Transaction<'_, S>, table: &str, id: i64) -> Result<(), Fault>
-    ensures same_reference { tx.new.conn.ghost_name ≡ tx.old.conn.ghost_name }
-    ensures change { (profile : Profile)
-        → IsChange profile (state S.Store tx.old.conn.now) (state S.Store tx.new.conn.now) (λ p. ⊤)
+    ensures { Changes S.Store tx.old tx.new
         (λ p. record p { media = remove p.media (item table.now id) }) result }
 {
     let stands = blob_of_medium(tx, table, id)?;
@@ -221,11 +172,8 @@ fn medium_drop_refusal<S: Alter>(
     table: &str,
     id: i64,
 ) -> Result<Option<u8>, Fault>
-    ensures same_reference { tx.new.conn.ghost_name ≡ tx.old.conn.ghost_name }
-    ensures look { (profile : Profile)
-        → IsLook profile (state S.Store tx.old.conn.now) (state S.Store tx.new.conn.now)
-        (λ p why. Meets profile p
-        → why ≡ least (own_reasons p (commands.MediaDrop table.now id))) result }
+    ensures { FindsRefusal S.Store tx.old tx.new
+        (λ p. own_reasons p (commands.MediaDrop table.now id)) result }
 {
     if let Some(number) = plain_refusal(tx, table, PlainKind::Media)? {
         return Ok(Some(number));
@@ -249,10 +197,7 @@ pub fn drop_media<S: Alter>(
     id: i64,
     last_change: &str,
 ) -> Result<Outcome, Fault>
-    ensures same_reference { tx.new.conn.ghost_name ≡ tx.old.conn.ghost_name }
-    ensures lent { (profile : Profile)
-        → IsLentAt profile (commands.MediaDrop table.now id) last_change.now
-        (state S.Store tx.old.conn.now) (state S.Store tx.new.conn.now) result }
+    ensures { Lends S.Store tx.old tx.new (commands.MediaDrop table.now id) last_change.now result }
 {
     let table = table.as_str();
     if let Some(number) = medium_drop_refusal(tx, table, id)? {

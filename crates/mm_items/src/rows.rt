@@ -1,15 +1,12 @@
 //! Attribute rows.
 
-ghost use Rattle.std.specs.Prelude.{◌≡◌, None, true, ⊤};
+ghost use Rattle.std.specs.Prelude.{◌≡◌, None, true};
 ghost use Rattle.std.specs.FinMap.{get, contains_key, insert, remove};
-ghost use Rattle.sqlite.specs.Held.{state};
-ghost use Rattle.mm_definitions.specs.Bounds.{Profile};
-ghost use Rattle.mm_definitions.specs.Conditions.{least, own_reasons};
+ghost use Rattle.mm_definitions.specs.Conditions.{own_reasons};
 ghost use Rattle.mm_definitions.specs.Keys.{item};
-ghost use Rattle.mm_definitions.specs.Rules.{Meets};
 ghost use Rattle.mm_definitions.specs.declared.commands.Command.TheVariants as commands;
-ghost use Rattle.mm_store.specs.Shapes.{IsLook, IsChange};
-ghost use Rattle.mm_layout.specs.Stamped.{IsLentAt};
+ghost use Rattle.mm_store.specs.Handed.{Changes, ChangesWhere, FindsRefusal};
+ghost use Rattle.mm_layout.specs.Handed.{Lends};
 
 use crate::kinds::plain_refusal;
 use crate::mapped::is_mapped;
@@ -29,9 +26,7 @@ fn insert_row<S: Alter>(
     note: &str,
     amount: i64,
 ) -> Result<(), Fault>
-    ensures same_reference { tx.new.conn.ghost_name ≡ tx.old.conn.ghost_name }
-    ensures change { (profile : Profile) → IsChange profile (state S.Store tx.old.conn.now)
-        (state S.Store tx.new.conn.now) (λ p. get p.rows (item table.now id) ≡ None)
+    ensures { ChangesWhere S.Store tx.old tx.new (λ p. get p.rows (item table.now id) ≡ None)
         (λ p. record p {
           rows = insert p.rows (item table.now id)
               (record { title = title.now; note = note.now; amount = amount });
@@ -53,9 +48,8 @@ fn update_row<S: Alter>(
     note: &str,
     amount: i64,
 ) -> Result<(), Fault>
-    ensures same_reference { tx.new.conn.ghost_name ≡ tx.old.conn.ghost_name }
-    ensures change { (profile : Profile) → IsChange profile (state S.Store tx.old.conn.now)
-        (state S.Store tx.new.conn.now) (λ p. contains_key p.rows (item table.now id) ≡ true)
+    ensures { ChangesWhere S.Store tx.old tx.new
+        (λ p. contains_key p.rows (item table.now id) ≡ true)
         (λ p. record p {
           rows = insert p.rows (item table.now id)
               (record { title = title.now; note = note.now; amount = amount });
@@ -77,9 +71,7 @@ fn write_row<S: Alter>(
     note: &str,
     amount: i64,
 ) -> Result<(), Fault>
-    ensures same_reference { tx.new.conn.ghost_name ≡ tx.old.conn.ghost_name }
-    ensures change { (profile : Profile)
-        → IsChange profile (state S.Store tx.old.conn.now) (state S.Store tx.new.conn.now) (λ p. ⊤)
+    ensures { Changes S.Store tx.old tx.new
         (λ p. record p {
           rows = insert p.rows (item table.now id)
               (record { title = title.now; note = note.now; amount = amount });
@@ -104,10 +96,8 @@ pub fn put_row<S: Alter>(
     amount: i64,
     last_change: &str,
 ) -> Result<Outcome, Fault>
-    ensures same_reference { tx.new.conn.ghost_name ≡ tx.old.conn.ghost_name }
-    ensures lent { (profile : Profile)
-        → IsLentAt profile (commands.Row table.now id title.now note.now amount) last_change.now
-        (state S.Store tx.old.conn.now) (state S.Store tx.new.conn.now) result }
+    ensures { Lends S.Store tx.old tx.new (commands.Row table.now id title.now note.now amount)
+        last_change.now result }
 {
     let table = table.as_str();
     if let Some(number) = plain_refusal(tx, table, PlainKind::Attributes)? {
@@ -120,9 +110,7 @@ pub fn put_row<S: Alter>(
 
 /// Removes the row of an id.
 fn delete_row<S: Alter>(tx: &mut Transaction<'_, S>, table: &str, id: i64) -> Result<(), Fault>
-    ensures same_reference { tx.new.conn.ghost_name ≡ tx.old.conn.ghost_name }
-    ensures change { (profile : Profile)
-        → IsChange profile (state S.Store tx.old.conn.now) (state S.Store tx.new.conn.now) (λ p. ⊤)
+    ensures { Changes S.Store tx.old tx.new
         (λ p. record p { rows = remove p.rows (item table.now id) }) result }
 {
     run(
@@ -138,11 +126,8 @@ fn row_drop_refusal<S: Alter>(
     table: &str,
     id: i64,
 ) -> Result<Option<u8>, Fault>
-    ensures same_reference { tx.new.conn.ghost_name ≡ tx.old.conn.ghost_name }
-    ensures look { (profile : Profile)
-        → IsLook profile (state S.Store tx.old.conn.now) (state S.Store tx.new.conn.now)
-        (λ p why. Meets profile p
-        → why ≡ least (own_reasons p (commands.RowDrop table.now id))) result }
+    ensures { FindsRefusal S.Store tx.old tx.new
+        (λ p. own_reasons p (commands.RowDrop table.now id)) result }
 {
     if let Some(number) = plain_refusal(tx, table, PlainKind::Attributes)? {
         return Ok(Some(number));
@@ -166,10 +151,7 @@ pub fn drop_row<S: Alter>(
     id: i64,
     last_change: &str,
 ) -> Result<Outcome, Fault>
-    ensures same_reference { tx.new.conn.ghost_name ≡ tx.old.conn.ghost_name }
-    ensures lent { (profile : Profile)
-        → IsLentAt profile (commands.RowDrop table.now id) last_change.now
-        (state S.Store tx.old.conn.now) (state S.Store tx.new.conn.now) result }
+    ensures { Lends S.Store tx.old tx.new (commands.RowDrop table.now id) last_change.now result }
 {
     let table = table.as_str();
     if let Some(number) = row_drop_refusal(tx, table, id)? {

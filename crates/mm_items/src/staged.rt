@@ -1,18 +1,15 @@
 //! Tiles and media whose bytes are those of a staged piece: they name its blob, and nothing is stored, read or hashed.
 
-ghost use Rattle.std.specs.Prelude.{◌≡◌, ℕ, List, Some, pos};
+ghost use Rattle.std.specs.Prelude.{◌≡◌, Some};
 ghost use Rattle.std.specs.FinMap.{insert};
-ghost use Rattle.sqlite.specs.Held.{state};
-ghost use Rattle.mm_definitions.specs.Bounds.{Profile};
-ghost use Rattle.mm_definitions.specs.Keys.{item, tile};
+ghost use Rattle.mm_definitions.specs.Keys.{item};
 ghost use Rattle.mm_definitions.specs.declared.commands.Command.TheVariants as commands;
 ghost use Rattle.mm_store.specs.Blobs.{bytes_at};
-ghost use Rattle.mm_store.specs.Kept.{Spare};
-ghost use Rattle.mm_store.specs.Shapes.{IsChange};
-ghost use Rattle.mm_blobs.specs.Moves.{IsMove};
-ghost use Rattle.mm_blobs.specs.Views.{IsSeen};
-ghost use Rattle.mm_layout.specs.Stamped.{IsLentWhere};
+ghost use Rattle.mm_definitions.specs.Places.{tile_at};
 ghost use Rattle.mm_items.specs.Staged.{HasBytes};
+ghost use Rattle.mm_store.specs.Handed.{ChangesFor};
+ghost use Rattle.mm_layout.specs.Handed.{LendsFor};
+ghost use Rattle.mm_blobs.specs.Handed.{FindsFor};
 
 use crate::kinds::plain_refusal;
 use crate::media::give_medium;
@@ -21,6 +18,7 @@ use mm_blobs::blobs::first_number;
 use mm_definitions::answers::{Fault, Outcome};
 use mm_definitions::commands::PlainKind;
 use mm_definitions::names::Name;
+use mm_definitions::places::TilePlace;
 use mm_layout::set_last_change;
 use sqlite::{Alter, Transaction, params};
 
@@ -30,13 +28,8 @@ fn blob_of_piece<S: Alter>(
     edition: &str,
     number: u32,
 ) -> Result<i64, Fault>
-    ensures same_reference { tx.new.conn.ghost_name ≡ tx.old.conn.ghost_name }
-    ensures found { (profile : Profile) (spare : Spare) (bytes : List ℕ)
-        → IsMove (state S.Store tx.old.conn.now) (state S.Store tx.new.conn.now)
-        (λ base x. IsSeen spare profile (state S.Store tx.old.conn.now) base x
-        × HasBytes edition.now number bytes x.content)
-        (λ base x id y. (y ≡ x) × IsSeen spare profile (state S.Store tx.new.conn.now) base y
-        × (bytes_at y.kept.shelf id ≡ Some bytes)) result }
+    ensures { FindsFor S.Store tx.old tx.new (HasBytes edition.now number)
+        (λ bytes y id. bytes_at y.kept.shelf id ≡ Some bytes) result }
 {
     match first_number(
         tx,
@@ -52,23 +45,15 @@ fn blob_of_piece<S: Alter>(
 fn write_tile_of_piece<S: Alter>(
     tx: &mut Transaction<'_, S>,
     table: &str,
-    zoom: u8,
-    column: u32,
-    row: u32,
+    place: TilePlace,
     edition: &str,
     number: u32,
 ) -> Result<(), Fault>
-    ensures same_reference { tx.new.conn.ghost_name ≡ tx.old.conn.ghost_name }
-    ensures change { (profile : Profile) (bytes : List ℕ)
-        → IsChange profile (state S.Store tx.old.conn.now) (state S.Store tx.new.conn.now)
-        (HasBytes edition.now number bytes)
-        (λ p. record p {
-          tiles = insert p.tiles (tile table.now (pos zoom) (pos column) (pos row))
-              bytes;
-        }) result }
+    ensures { ChangesFor S.Store tx.old tx.new (HasBytes edition.now number)
+        (λ bytes p. record p { tiles = insert p.tiles (tile_at table.now place) bytes }) result }
 {
     let blob = blob_of_piece(tx, edition, number)?;
-    give_tile(tx, table, zoom, column, row, blob)
+    give_tile(tx, table, place, blob)
 }
 
 /// Does what `put_tile` does with the bytes of a staged piece: the tile names the blob that the piece names.
@@ -82,17 +67,15 @@ pub fn put_tile_of_piece<S: Alter>(
     number: u32,
     last_change: &str,
 ) -> Result<Outcome, Fault>
-    ensures same_reference { tx.new.conn.ghost_name ≡ tx.old.conn.ghost_name }
-    ensures lent { (profile : Profile) (bytes : List ℕ)
-        → IsLentWhere (HasBytes edition.now number bytes) profile
-        (commands.Tile table.now zoom column row bytes) last_change.now
-        (state S.Store tx.old.conn.now) (state S.Store tx.new.conn.now) result }
+    ensures { LendsFor S.Store tx.old tx.new (HasBytes edition.now number)
+        (commands.Tile table.now zoom column row) last_change.now result }
 {
     let table = table.as_str();
-    if let Some(number) = tile_refusal(tx, table, zoom, column, row)? {
+    let place = TilePlace { zoom, column, row };
+    if let Some(number) = tile_refusal(tx, table, place)? {
         return Ok(Outcome::refused(number));
     }
-    write_tile_of_piece(tx, table, zoom, column, row, edition.as_str(), number)?;
+    write_tile_of_piece(tx, table, place, edition.as_str(), number)?;
     set_last_change(tx, table, last_change)?;
     Ok(Outcome::Done)
 }
@@ -106,11 +89,8 @@ fn write_medium_of_piece<S: Alter>(
     edition: &str,
     number: u32,
 ) -> Result<(), Fault>
-    ensures same_reference { tx.new.conn.ghost_name ≡ tx.old.conn.ghost_name }
-    ensures change { (profile : Profile) (bytes : List ℕ)
-        → IsChange profile (state S.Store tx.old.conn.now) (state S.Store tx.new.conn.now)
-        (HasBytes edition.now number bytes)
-        (λ p. record p {
+    ensures { ChangesFor S.Store tx.old tx.new (HasBytes edition.now number)
+        (λ bytes p. record p {
           media = insert p.media (item table.now id)
               (record { bytes = bytes; content_type = content_type.now });
         }) result }
@@ -129,11 +109,8 @@ pub fn put_media_of_piece<S: Alter>(
     number: u32,
     last_change: &str,
 ) -> Result<Outcome, Fault>
-    ensures same_reference { tx.new.conn.ghost_name ≡ tx.old.conn.ghost_name }
-    ensures lent { (profile : Profile) (bytes : List ℕ)
-        → IsLentWhere (HasBytes edition.now number bytes) profile
-        (commands.Media table.now id content_type.now bytes) last_change.now
-        (state S.Store tx.old.conn.now) (state S.Store tx.new.conn.now) result }
+    ensures { LendsFor S.Store tx.old tx.new (HasBytes edition.now number)
+        (commands.Media table.now id content_type.now) last_change.now result }
 {
     let table = table.as_str();
     if let Some(number) = plain_refusal(tx, table, PlainKind::Media)? {

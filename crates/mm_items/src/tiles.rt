@@ -1,27 +1,23 @@
 //! Tiles.
 
-ghost use Rattle.std.specs.Prelude.{◌≡◌, ℕ, ℤ, pos, int_le, ◌||◌, List, Option, Some, None, ⊤, option_map};
+ghost use Rattle.std.specs.Prelude.{◌≡◌, pos, int_le, ◌||◌, None, option_map};
 ghost use Rattle.std.specs.FinMap.{get, contains_key, insert, remove};
-ghost use Rattle.sqlite.specs.Held.{state};
-ghost use Rattle.mm_definitions.specs.Bounds.{Profile};
-ghost use Rattle.mm_definitions.specs.Conditions.{least, own_reasons};
-ghost use Rattle.mm_definitions.specs.Keys.{level, tile};
+ghost use Rattle.mm_definitions.specs.Conditions.{own_reasons};
+ghost use Rattle.mm_definitions.specs.Keys.{level};
 ghost use Rattle.mm_definitions.specs.Package.{Grid};
-ghost use Rattle.mm_definitions.specs.Rules.{Meets};
 ghost use Rattle.mm_definitions.specs.declared.commands.Command.TheVariants as commands;
-ghost use Rattle.mm_store.specs.Blobs.{bytes_at};
-ghost use Rattle.mm_store.specs.Kept.{Spare};
-ghost use Rattle.mm_store.specs.Shapes.{IsLook, IsChange};
-ghost use Rattle.mm_blobs.specs.Entries.{spare_freed, with_tile, without_tile};
-ghost use Rattle.mm_blobs.specs.Moves.{IsMove};
-ghost use Rattle.mm_blobs.specs.Views.{IsSeen, spare_too, spare_but};
-ghost use Rattle.mm_layout.specs.Stamped.{IsLentAt};
+ghost use Rattle.mm_blobs.specs.Entries.{with_tile, without_tile, tile_names};
+ghost use Rattle.mm_definitions.specs.Places.{tile_at, tile_reasons};
+ghost use Rattle.mm_store.specs.Handed.{Tells, Changes, FindsRefusal};
+ghost use Rattle.mm_layout.specs.Handed.{Lends};
+ghost use Rattle.mm_blobs.specs.Handed.{Names, Renames, Unnames, Gives};
 
 use crate::kinds::pyramid_refusal;
 use mm_blobs::blobs::{keep, release_freed};
 use mm_blobs::entries::blob_of_tile;
 use mm_definitions::answers::{Fault, Outcome};
 use mm_definitions::names::Name;
+use mm_definitions::places::TilePlace;
 use mm_layout::set_last_change;
 use mm_store::statements::{exists, first_pair, run};
 use sqlite::{Alter, Transaction, params};
@@ -32,11 +28,9 @@ fn sides_at<S: Alter>(
     table: &str,
     zoom: u8,
 ) -> Result<Option<(i64, i64)>, Fault>
-    ensures same_reference { tx.new.conn.ghost_name ≡ tx.old.conn.ghost_name }
-    ensures look { (profile : Profile)
-        → IsLook profile (state S.Store tx.old.conn.now) (state S.Store tx.new.conn.now)
-        (λ p sides. option_map (λ (g : Grid). (g.matrix_width, g.matrix_height))
-        (get p.matrices (level table.now (pos zoom))) ≡ sides) result }
+    ensures { Tells S.Store tx.old tx.new (λ p. option_map
+        (λ (g : Grid). (g.matrix_width, g.matrix_height))
+        (get p.matrices (level table.now (pos zoom)))) result }
 {
     first_pair(
         tx,
@@ -49,20 +43,15 @@ fn sides_at<S: Alter>(
 fn has_tile<S: Alter>(
     tx: &mut Transaction<'_, S>,
     table: &str,
-    zoom: u8,
-    column: u32,
-    row: u32,
+    place: TilePlace,
 ) -> Result<bool, Fault>
-    ensures same_reference { tx.new.conn.ghost_name ≡ tx.old.conn.ghost_name }
-    ensures look { (profile : Profile)
-        → IsLook profile (state S.Store tx.old.conn.now) (state S.Store tx.new.conn.now)
-        (λ p found. found ≡ contains_key p.tiles
-        (tile table.now (pos zoom) (pos column) (pos row))) result }
+    ensures { Tells S.Store tx.old tx.new (λ p. contains_key p.tiles (tile_at table.now place))
+        result }
 {
     exists(
         tx,
         "SELECT 1 FROM mm_tiles WHERE table_name = ?1 AND zoom_level = ?2 AND tile_column = ?3 AND tile_row = ?4 LIMIT 1",
-        params![table, u32::from(zoom), column, row],
+        params![table, u32::from(place.zoom), place.column, place.row],
     )
 }
 
@@ -70,25 +59,16 @@ fn has_tile<S: Alter>(
 fn insert_tile<S: Alter>(
     tx: &mut Transaction<'_, S>,
     table: &str,
-    zoom: u8,
-    column: u32,
-    row: u32,
+    place: TilePlace,
     blob: i64,
 ) -> Result<(), Fault>
-    ensures same_reference { tx.new.conn.ghost_name ≡ tx.old.conn.ghost_name }
-    ensures named { (profile : Profile) (spare : Spare) (bytes : List ℕ)
-        → IsMove (state S.Store tx.old.conn.now) (state S.Store tx.new.conn.now)
-        (λ base x. IsSeen spare profile (state S.Store tx.old.conn.now) base x
-        × ((bytes_at x.kept.shelf blob ≡ Some bytes)
-        × (get x.kept.tiles (tile table.now (pos zoom) (pos column) (pos row)) ≡ None)))
-        (λ base x _ y.
-        (y ≡ with_tile (tile table.now (pos zoom) (pos column) (pos row)) blob bytes x)
-        × IsSeen (spare_but blob spare) profile (state S.Store tx.new.conn.now) base y) result }
+    ensures { Names S.Store tx.old tx.new blob (tile_names (tile_at table.now place)) None
+        (with_tile (tile_at table.now place) blob) result }
 {
     run(
         tx,
         "INSERT INTO mm_tiles (table_name, zoom_level, tile_column, tile_row, blob) VALUES (?1, ?2, ?3, ?4, ?5)",
-        params![table, u32::from(zoom), column, row, blob],
+        params![table, u32::from(place.zoom), place.column, place.row, blob],
     )
 }
 
@@ -96,26 +76,16 @@ fn insert_tile<S: Alter>(
 fn update_tile<S: Alter>(
     tx: &mut Transaction<'_, S>,
     table: &str,
-    zoom: u8,
-    column: u32,
-    row: u32,
+    place: TilePlace,
     blob: i64,
 ) -> Result<(), Fault>
-    ensures same_reference { tx.new.conn.ghost_name ≡ tx.old.conn.ghost_name }
-    ensures named { (profile : Profile) (spare : Spare) (bytes : List ℕ) (was : ℤ)
-        → IsMove (state S.Store tx.old.conn.now) (state S.Store tx.new.conn.now)
-        (λ base x. IsSeen spare profile (state S.Store tx.old.conn.now) base x
-        × ((bytes_at x.kept.shelf blob ≡ Some bytes)
-        × (get x.kept.tiles (tile table.now (pos zoom) (pos column) (pos row)) ≡ Some was)))
-        (λ base x _ y.
-        (y ≡ with_tile (tile table.now (pos zoom) (pos column) (pos row)) blob bytes x)
-        × IsSeen (spare_too was (spare_but blob spare)) profile (state S.Store tx.new.conn.now)
-        base y) result }
+    ensures { Renames S.Store tx.old tx.new blob (tile_names (tile_at table.now place))
+        (with_tile (tile_at table.now place) blob) result }
 {
     run(
         tx,
         "UPDATE mm_tiles SET blob = ?5 WHERE table_name = ?1 AND zoom_level = ?2 AND tile_column = ?3 AND tile_row = ?4",
-        params![table, u32::from(zoom), column, row, blob],
+        params![table, u32::from(place.zoom), place.column, place.row, blob],
     )
 }
 
@@ -123,26 +93,16 @@ fn update_tile<S: Alter>(
 fn name_tile<S: Alter>(
     tx: &mut Transaction<'_, S>,
     table: &str,
-    zoom: u8,
-    column: u32,
-    row: u32,
+    place: TilePlace,
     blob: i64,
     stands: Option<i64>,
 ) -> Result<(), Fault>
-    ensures same_reference { tx.new.conn.ghost_name ≡ tx.old.conn.ghost_name }
-    ensures named { (profile : Profile) (spare : Spare) (bytes : List ℕ)
-        → IsMove (state S.Store tx.old.conn.now) (state S.Store tx.new.conn.now)
-        (λ base x. IsSeen spare profile (state S.Store tx.old.conn.now) base x
-        × ((bytes_at x.kept.shelf blob ≡ Some bytes)
-        × (get x.kept.tiles (tile table.now (pos zoom) (pos column) (pos row)) ≡ stands)))
-        (λ base x _ y.
-        (y ≡ with_tile (tile table.now (pos zoom) (pos column) (pos row)) blob bytes x)
-        × IsSeen (spare_freed stands (spare_but blob spare)) profile
-        (state S.Store tx.new.conn.now) base y) result }
+    ensures { Names S.Store tx.old tx.new blob (tile_names (tile_at table.now place)) stands
+        (with_tile (tile_at table.now place) blob) result }
 {
     match stands {
-        Some(_was) => update_tile(tx, table, zoom, column, row, blob),
-        None => insert_tile(tx, table, zoom, column, row, blob),
+        Some(_was) => update_tile(tx, table, place, blob),
+        None => insert_tile(tx, table, place, blob),
     }
 }
 
@@ -151,25 +111,14 @@ fn name_tile<S: Alter>(
 pub(crate) fn give_tile<S: Alter>(
     tx: &mut Transaction<'_, S>,
     table: &str,
-    zoom: u8,
-    column: u32,
-    row: u32,
+    place: TilePlace,
     blob: i64,
 ) -> Result<(), Fault>
-    ensures same_reference { tx.new.conn.ghost_name ≡ tx.old.conn.ghost_name }
-    ensures given { (profile : Profile) (spare : Spare) (bytes : List ℕ)
-        → IsMove (state S.Store tx.old.conn.now) (state S.Store tx.new.conn.now)
-        (λ base x. IsSeen spare profile (state S.Store tx.old.conn.now) base x
-        × (bytes_at x.kept.shelf blob ≡ Some bytes))
-        (λ base x _ y.
-        (y.content ≡ record (x.content) {
-          tiles = insert x.content.tiles (tile table.now (pos zoom) (pos column) (pos row))
-              bytes;
-        }) × IsSeen (spare_but blob spare) profile
-        (state S.Store tx.new.conn.now) base y) result }
+    ensures { Gives S.Store tx.old tx.new blob
+        (λ bytes p. record p { tiles = insert p.tiles (tile_at table.now place) bytes }) result }
 {
-    let stands = blob_of_tile(tx, table, zoom, column, row)?;
-    name_tile(tx, table, zoom, column, row, blob, stands)?;
+    let stands = blob_of_tile(tx, table, place.zoom, place.column, place.row)?;
+    name_tile(tx, table, place, blob, stands)?;
     release_freed(tx, stands)
 }
 
@@ -178,46 +127,32 @@ pub(crate) fn give_tile<S: Alter>(
 fn write_tile<S: Alter>(
     tx: &mut Transaction<'_, S>,
     table: &str,
-    zoom: u8,
-    column: u32,
-    row: u32,
+    place: TilePlace,
     bytes: &[u8],
 ) -> Result<(), Fault>
-    ensures same_reference { tx.new.conn.ghost_name ≡ tx.old.conn.ghost_name }
-    ensures change { (profile : Profile)
-        → IsChange profile (state S.Store tx.old.conn.now) (state S.Store tx.new.conn.now) (λ p. ⊤)
-        (λ p. record p {
-          tiles = insert p.tiles (tile table.now (pos zoom) (pos column) (pos row))
-              bytes.now;
-        }) result }
+    ensures { Changes S.Store tx.old tx.new
+        (λ p. record p { tiles = insert p.tiles (tile_at table.now place) bytes.now }) result }
 {
     if bytes.is_empty() {
         return Err(Fault::STORE);
     }
     let blob = keep(tx, bytes)?;
-    give_tile(tx, table, zoom, column, row, blob)
+    give_tile(tx, table, place, blob)
 }
 
 /// Removes the row of a tile. The blob that it named may stand unnamed then.
 fn delete_tile_row<S: Alter>(
     tx: &mut Transaction<'_, S>,
     table: &str,
-    zoom: u8,
-    column: u32,
-    row: u32,
+    place: TilePlace,
 ) -> Result<(), Fault>
-    ensures same_reference { tx.new.conn.ghost_name ≡ tx.old.conn.ghost_name }
-    ensures gone { (profile : Profile) (spare : Spare) (stands : Option ℤ) →
-        IsMove (state S.Store tx.old.conn.now) (state S.Store tx.new.conn.now)
-        (λ base x. IsSeen spare profile (state S.Store tx.old.conn.now) base x
-        × (get x.kept.tiles (tile table.now (pos zoom) (pos column) (pos row)) ≡ stands))
-        (λ base x _ y. (y ≡ without_tile (tile table.now (pos zoom) (pos column) (pos row)) x)
-        × IsSeen (spare_freed stands spare) profile (state S.Store tx.new.conn.now) base y) result }
+    ensures { Unnames S.Store tx.old tx.new (tile_names (tile_at table.now place))
+        (without_tile (tile_at table.now place)) result }
 {
     run(
         tx,
         "DELETE FROM mm_tiles WHERE table_name = ?1 AND zoom_level = ?2 AND tile_column = ?3 AND tile_row = ?4",
-        params![table, u32::from(zoom), column, row],
+        params![table, u32::from(place.zoom), place.column, place.row],
     )
 }
 
@@ -225,18 +160,13 @@ fn delete_tile_row<S: Alter>(
 fn delete_tile<S: Alter>(
     tx: &mut Transaction<'_, S>,
     table: &str,
-    zoom: u8,
-    column: u32,
-    row: u32,
+    place: TilePlace,
 ) -> Result<(), Fault>
-    ensures same_reference { tx.new.conn.ghost_name ≡ tx.old.conn.ghost_name }
-    ensures change { (profile : Profile)
-        → IsChange profile (state S.Store tx.old.conn.now) (state S.Store tx.new.conn.now) (λ p. ⊤)
-        (λ p. record p
-        { tiles = remove p.tiles (tile table.now (pos zoom) (pos column) (pos row)) }) result }
+    ensures { Changes S.Store tx.old tx.new
+        (λ p. record p { tiles = remove p.tiles (tile_at table.now place) }) result }
 {
-    let stands = blob_of_tile(tx, table, zoom, column, row)?;
-    delete_tile_row(tx, table, zoom, column, row)?;
+    let stands = blob_of_tile(tx, table, place.zoom, place.column, place.row)?;
+    delete_tile_row(tx, table, place)?;
     release_freed(tx, stands)
 }
 
@@ -251,23 +181,17 @@ fn is_outside(width: i64, height: i64, column: u32, row: u32) -> bool
 pub(crate) fn tile_refusal<S: Alter>(
     tx: &mut Transaction<'_, S>,
     table: &str,
-    zoom: u8,
-    column: u32,
-    row: u32,
+    place: TilePlace,
 ) -> Result<Option<u8>, Fault>
-    ensures same_reference { tx.new.conn.ghost_name ≡ tx.old.conn.ghost_name }
-    ensures look { (profile : Profile)
-        → IsLook profile (state S.Store tx.old.conn.now) (state S.Store tx.new.conn.now)
-        (λ p why. Meets profile p → (bytes : List ℕ)
-        → why ≡ least (own_reasons p (commands.Tile table.now zoom column row bytes))) result }
+    ensures { FindsRefusal S.Store tx.old tx.new (tile_reasons table.now place) result }
 {
     if let Some(number) = pyramid_refusal(tx, table)? {
         return Ok(Some(number));
     }
-    let Some((width, height)) = sides_at(tx, table, zoom)? else {
+    let Some((width, height)) = sides_at(tx, table, place.zoom)? else {
         return Ok(Some(33));
     };
-    if is_outside(width, height, column, row) {
+    if is_outside(width, height, place.column, place.row) {
         Ok(Some(34))
     } else {
         Ok(None)
@@ -287,16 +211,15 @@ pub fn put_tile<S: Alter>(
     bytes: &[u8],
     last_change: &str,
 ) -> Result<Outcome, Fault>
-    ensures same_reference { tx.new.conn.ghost_name ≡ tx.old.conn.ghost_name }
-    ensures lent { (profile : Profile)
-        → IsLentAt profile (commands.Tile table.now zoom column row bytes.now) last_change.now
-        (state S.Store tx.old.conn.now) (state S.Store tx.new.conn.now) result }
+    ensures { Lends S.Store tx.old tx.new (commands.Tile table.now zoom column row bytes.now)
+        last_change.now result }
 {
     let table = table.as_str();
-    if let Some(number) = tile_refusal(tx, table, zoom, column, row)? {
+    let place = TilePlace { zoom, column, row };
+    if let Some(number) = tile_refusal(tx, table, place)? {
         return Ok(Outcome::refused(number));
     }
-    write_tile(tx, table, zoom, column, row, bytes)?;
+    write_tile(tx, table, place, bytes)?;
     set_last_change(tx, table, last_change)?;
     Ok(Outcome::Done)
 }
@@ -305,20 +228,16 @@ pub fn put_tile<S: Alter>(
 fn tile_drop_refusal<S: Alter>(
     tx: &mut Transaction<'_, S>,
     table: &str,
-    zoom: u8,
-    column: u32,
-    row: u32,
+    place: TilePlace,
 ) -> Result<Option<u8>, Fault>
-    ensures same_reference { tx.new.conn.ghost_name ≡ tx.old.conn.ghost_name }
-    ensures look { (profile : Profile)
-        → IsLook profile (state S.Store tx.old.conn.now) (state S.Store tx.new.conn.now)
-        (λ p why. Meets profile p
-        → why ≡ least (own_reasons p (commands.TileDrop table.now zoom column row))) result }
+    ensures { FindsRefusal S.Store tx.old tx.new
+        (λ p. own_reasons p (commands.TileDrop table.now place.zoom place.column place.row))
+        result }
 {
     if let Some(number) = pyramid_refusal(tx, table)? {
         return Ok(Some(number));
     }
-    if has_tile(tx, table, zoom, column, row)? {
+    if has_tile(tx, table, place)? {
         Ok(None)
     } else {
         Ok(Some(35))
@@ -336,16 +255,15 @@ pub fn drop_tile<S: Alter>(
     row: u32,
     last_change: &str,
 ) -> Result<Outcome, Fault>
-    ensures same_reference { tx.new.conn.ghost_name ≡ tx.old.conn.ghost_name }
-    ensures lent { (profile : Profile)
-        → IsLentAt profile (commands.TileDrop table.now zoom column row) last_change.now
-        (state S.Store tx.old.conn.now) (state S.Store tx.new.conn.now) result }
+    ensures { Lends S.Store tx.old tx.new (commands.TileDrop table.now zoom column row)
+        last_change.now result }
 {
     let table = table.as_str();
-    if let Some(number) = tile_drop_refusal(tx, table, zoom, column, row)? {
+    let place = TilePlace { zoom, column, row };
+    if let Some(number) = tile_drop_refusal(tx, table, place)? {
         return Ok(Outcome::refused(number));
     }
-    delete_tile(tx, table, zoom, column, row)?;
+    delete_tile(tx, table, place)?;
     set_last_change(tx, table, last_change)?;
     Ok(Outcome::Done)
 }

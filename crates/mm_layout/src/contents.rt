@@ -1,15 +1,13 @@
 //! The rows of `gpkg_contents`.
 
-ghost use Rattle.std.specs.Prelude.{◌≡◌, None, ⊤};
+ghost use Rattle.std.specs.Prelude.{◌≡◌, None};
 ghost use Rattle.std.specs.FinMap.{get, contains_key, insert};
-ghost use Rattle.sqlite.specs.Held.{state};
-ghost use Rattle.mm_definitions.specs.Bounds.{Profile};
 ghost use Rattle.mm_definitions.specs.Conditions.{is_identified};
 ghost use Rattle.mm_definitions.specs.Conditions as conditions;
 ghost use Rattle.mm_definitions.specs.Effects as effects;
-ghost use Rattle.mm_store.specs.Shapes.{IsLook, IsChange};
 ghost use Rattle.mm_layout.specs.Rows.{plain_contents};
-ghost use Rattle.mm_layout.specs.Touched.{IsTouched};
+ghost use Rattle.mm_store.specs.Handed.{Tells, Changes, ChangesWhere};
+ghost use Rattle.mm_layout.specs.Handed.{Touches};
 
 use crate::relations::has_relation;
 use mm_definitions::answers::{Fault, Outcome};
@@ -19,10 +17,7 @@ use sqlite::{Alter, Transaction, params};
 
 /// Whether a table has this name.
 pub(crate) fn has_table<S: Alter>(tx: &mut Transaction<'_, S>, table: &str) -> Result<bool, Fault>
-    ensures same_reference { tx.new.conn.ghost_name ≡ tx.old.conn.ghost_name }
-    ensures look { (profile : Profile)
-        → IsLook profile (state S.Store tx.old.conn.now) (state S.Store tx.new.conn.now)
-        (λ p found. found ≡ contains_key p.contents table.now) result }
+    ensures { Tells S.Store tx.old tx.new (λ p. contains_key p.contents table.now) result }
 {
     exists(
         tx,
@@ -36,10 +31,7 @@ pub(crate) fn has_identifier<S: Alter>(
     tx: &mut Transaction<'_, S>,
     identifier: &str,
 ) -> Result<bool, Fault>
-    ensures same_reference { tx.new.conn.ghost_name ≡ tx.old.conn.ghost_name }
-    ensures look { (profile : Profile)
-        → IsLook profile (state S.Store tx.old.conn.now) (state S.Store tx.new.conn.now)
-        (λ p found. found ≡ is_identified p identifier.now) result }
+    ensures { Tells S.Store tx.old tx.new (λ p. is_identified p identifier.now) result }
 {
     exists(
         tx,
@@ -50,10 +42,7 @@ pub(crate) fn has_identifier<S: Alter>(
 
 /// Whether a table or a mapping has this name.
 pub fn is_taken<S: Alter>(tx: &mut Transaction<'_, S>, name: &str) -> Result<bool, Fault>
-    ensures same_reference { tx.new.conn.ghost_name ≡ tx.old.conn.ghost_name }
-    ensures look { (profile : Profile)
-        → IsLook profile (state S.Store tx.old.conn.now) (state S.Store tx.new.conn.now)
-        (λ p found. found ≡ conditions.is_taken p name.now) result }
+    ensures { Tells S.Store tx.old tx.new (λ p. conditions.is_taken p name.now) result }
 {
     if has_table(tx, name)? {
         Ok(true)
@@ -69,10 +58,8 @@ pub fn set_last_change<S: Alter>(
     table: &str,
     last_change: &str,
 ) -> Result<(), Fault>
-    ensures same_reference { tx.new.conn.ghost_name ≡ tx.old.conn.ghost_name }
-    ensures change { (profile : Profile)
-        → IsChange profile (state S.Store tx.old.conn.now) (state S.Store tx.new.conn.now) (λ p. ⊤)
-        (λ p. effects.touch p table.now last_change.now) result }
+    ensures { Changes S.Store tx.old tx.new (λ p. effects.touch p table.now last_change.now)
+        result }
 {
     run(
         tx,
@@ -88,10 +75,7 @@ pub fn touch<S: Alter>(
     table: &Name,
     last_change: &str,
 ) -> Result<Outcome, Fault>
-    ensures same_reference { tx.new.conn.ghost_name ≡ tx.old.conn.ghost_name }
-    ensures touched { (profile : Profile)
-        → IsTouched profile table.now last_change.now
-        (state S.Store tx.old.conn.now) (state S.Store tx.new.conn.now) result }
+    ensures { Touches S.Store tx.old tx.new table.now last_change.now result }
 {
     let table = table.as_str();
     if !has_table(tx, table)? {
@@ -108,10 +92,7 @@ pub(crate) fn insert_plain_contents<S: Alter>(
     identifier: &str,
     last_change: &str,
 ) -> Result<(), Fault>
-    ensures same_reference { tx.new.conn.ghost_name ≡ tx.old.conn.ghost_name }
-    ensures change { (profile : Profile)
-        → IsChange profile (state S.Store tx.old.conn.now) (state S.Store tx.new.conn.now)
-        (λ p. get p.contents table.now ≡ None)
+    ensures { ChangesWhere S.Store tx.old tx.new (λ p. get p.contents table.now ≡ None)
         (λ p. record p {
           contents = insert p.contents table.now
               (plain_contents identifier.now last_change.now);

@@ -1,11 +1,9 @@
 //! The rows of `gpkg_extensions`.
 
-ghost use Rattle.std.specs.Prelude.{◌≡◌, None, ⊤};
+ghost use Rattle.std.specs.Prelude.{◌≡◌, None};
 ghost use Rattle.std.specs.FinMap.{get, insert, remove};
-ghost use Rattle.sqlite.specs.Held.{state};
-ghost use Rattle.mm_definitions.specs.Bounds.{Profile};
 ghost use Rattle.mm_definitions.specs.Package.{zoom_extension};
-ghost use Rattle.mm_store.specs.Shapes.{IsChange};
+ghost use Rattle.mm_store.specs.Handed.{Changes, ChangesWhere};
 
 use mm_definitions::answers::Fault;
 use mm_store::statements::run;
@@ -16,9 +14,8 @@ pub(crate) fn insert_zoom_row<S: Alter>(
     tx: &mut Transaction<'_, S>,
     table: &str,
 ) -> Result<(), Fault>
-    ensures same_reference { tx.new.conn.ghost_name ≡ tx.old.conn.ghost_name }
-    ensures change { (profile : Profile) → IsChange profile (state S.Store tx.old.conn.now)
-        (state S.Store tx.new.conn.now) (λ p. get p.extensions (zoom_extension table.now) ≡ None)
+    ensures { ChangesWhere S.Store tx.old tx.new
+        (λ p. get p.extensions (zoom_extension table.now) ≡ None)
         (λ p. record p { extensions = insert p.extensions (zoom_extension table.now) 1 }) result }
 {
     run(
@@ -33,9 +30,7 @@ pub(crate) fn delete_zoom_row<S: Alter>(
     tx: &mut Transaction<'_, S>,
     table: &str,
 ) -> Result<(), Fault>
-    ensures same_reference { tx.new.conn.ghost_name ≡ tx.old.conn.ghost_name }
-    ensures change { (profile : Profile)
-        → IsChange profile (state S.Store tx.old.conn.now) (state S.Store tx.new.conn.now) (λ p. ⊤)
+    ensures { Changes S.Store tx.old tx.new
         (λ p. record p { extensions = remove p.extensions (zoom_extension table.now) }) result }
 {
     run(

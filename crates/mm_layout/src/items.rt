@@ -1,11 +1,8 @@
 //! Whether an attribute row or a medium stands.
 
-ghost use Rattle.std.specs.Prelude.{◌≡◌};
 ghost use Rattle.std.specs.FinMap.{contains_key};
-ghost use Rattle.sqlite.specs.Held.{state};
-ghost use Rattle.mm_definitions.specs.Bounds.{Profile};
 ghost use Rattle.mm_definitions.specs.Keys.{item};
-ghost use Rattle.mm_store.specs.Shapes.{IsLook};
+ghost use Rattle.mm_store.specs.Handed.{Tells};
 
 use mm_definitions::answers::Fault;
 use mm_store::statements::exists;
@@ -13,10 +10,7 @@ use sqlite::{Alter, Transaction, params};
 
 /// Whether a table has a row of this id.
 pub fn has_row<S: Alter>(tx: &mut Transaction<'_, S>, table: &str, id: i64) -> Result<bool, Fault>
-    ensures same_reference { tx.new.conn.ghost_name ≡ tx.old.conn.ghost_name }
-    ensures look { (profile : Profile)
-        → IsLook profile (state S.Store tx.old.conn.now) (state S.Store tx.new.conn.now)
-        (λ p found. found ≡ contains_key p.rows (item table.now id)) result }
+    ensures { Tells S.Store tx.old tx.new (λ p. contains_key p.rows (item table.now id)) result }
 {
     exists(
         tx,
@@ -31,10 +25,7 @@ pub fn has_medium<S: Alter>(
     table: &str,
     id: i64,
 ) -> Result<bool, Fault>
-    ensures same_reference { tx.new.conn.ghost_name ≡ tx.old.conn.ghost_name }
-    ensures look { (profile : Profile)
-        → IsLook profile (state S.Store tx.old.conn.now) (state S.Store tx.new.conn.now)
-        (λ p found. found ≡ contains_key p.media (item table.now id)) result }
+    ensures { Tells S.Store tx.old tx.new (λ p. contains_key p.media (item table.now id)) result }
 {
     exists(
         tx,

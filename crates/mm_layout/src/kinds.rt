@@ -2,11 +2,9 @@
 
 ghost use Rattle.std.specs.Prelude.{◌≡◌, None, option_map, string_bytes};
 ghost use Rattle.std.specs.FinMap.{get, insert};
-ghost use Rattle.sqlite.specs.Held.{state};
-ghost use Rattle.mm_definitions.specs.Bounds.{Profile};
 ghost use Rattle.mm_definitions.specs.Effects.{plain_kind, step_kind};
 ghost use Rattle.mm_definitions.specs.Package.{kind_text};
-ghost use Rattle.mm_store.specs.Shapes.{IsLook, IsChange};
+ghost use Rattle.mm_store.specs.Handed.{Looks, ChangesWhere};
 
 use mm_definitions::answers::Fault;
 use mm_definitions::commands::{Kind, PlainKind, Step};
@@ -35,10 +33,8 @@ pub(crate) fn text_of_step(step: Step) -> &'static str
 
 /// What the registry writes of a table.
 fn registered<S: Alter>(tx: &mut Transaction<'_, S>, table: &str) -> Result<Option<String>, Fault>
-    ensures same_reference { tx.new.conn.ghost_name ≡ tx.old.conn.ghost_name }
-    ensures look { (profile : Profile)
-        → IsLook profile (state S.Store tx.old.conn.now) (state S.Store tx.new.conn.now)
-        (λ p text. get p.kinds table.now ≡ option_map string_bytes text) result }
+    ensures { Looks S.Store tx.old tx.new (λ p text. get p.kinds table.now ≡ option_map string_bytes
+        text) result }
 {
     first_text(
         tx,
@@ -49,10 +45,8 @@ fn registered<S: Alter>(tx: &mut Transaction<'_, S>, table: &str) -> Result<Opti
 
 /// The kind of a table, where it is registered. A text that is no kind is a fault, 91.
 pub fn kind_of<S: Alter>(tx: &mut Transaction<'_, S>, table: &str) -> Result<Option<Kind>, Fault>
-    ensures same_reference { tx.new.conn.ghost_name ≡ tx.old.conn.ghost_name }
-    ensures look { (profile : Profile)
-        → IsLook profile (state S.Store tx.old.conn.now) (state S.Store tx.new.conn.now)
-        (λ p kind. get p.kinds table.now ≡ option_map kind_text kind) result }
+    ensures { Looks S.Store tx.old tx.new (λ p kind. get p.kinds table.now ≡ option_map kind_text
+        kind) result }
 {
     match registered(tx, table)? {
         Some(text) => match Kind::named(text.as_str()) {
@@ -69,9 +63,7 @@ pub(crate) fn insert_kind<S: Alter>(
     table: &str,
     kind: &str,
 ) -> Result<(), Fault>
-    ensures same_reference { tx.new.conn.ghost_name ≡ tx.old.conn.ghost_name }
-    ensures change { (profile : Profile) → IsChange profile (state S.Store tx.old.conn.now)
-        (state S.Store tx.new.conn.now) (λ p. get p.kinds table.now ≡ None)
+    ensures { ChangesWhere S.Store tx.old tx.new (λ p. get p.kinds table.now ≡ None)
         (λ p. record p { kinds = insert p.kinds table.now kind.now }) result }
 {
     run(

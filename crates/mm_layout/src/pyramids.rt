@@ -1,17 +1,14 @@
 //! Tile pyramids.
 
-ghost use Rattle.std.specs.Prelude.{◌≡◌, ◌||◌, Some, None, int_le};
+ghost use Rattle.std.specs.Prelude.{◌≡◌, ◌||◌, None, int_le};
 ghost use Rattle.std.specs.FinMap.{get, insert};
-ghost use Rattle.sqlite.specs.Held.{state};
-ghost use Rattle.mm_definitions.specs.Bounds.{Profile};
 ghost use Rattle.mm_definitions.specs.Checks.{box_of};
 ghost use Rattle.mm_definitions.specs.Conditions.{least, own_reasons};
-ghost use Rattle.mm_definitions.specs.Effects.{with_pyramid, with_zoom_row};
-ghost use Rattle.mm_definitions.specs.Package.{zoom_extension};
+ghost use Rattle.mm_definitions.specs.Effects.{with_pyramid};
 ghost use Rattle.mm_definitions.specs.declared.commands.Command.TheVariants as commands;
-ghost use Rattle.mm_store.specs.Shapes.{IsLook, IsChange};
 ghost use Rattle.mm_layout.specs.Rows.{pyramid_contents, IsUnregistered};
-ghost use Rattle.mm_layout.specs.Stamped.{IsLentAt};
+ghost use Rattle.mm_store.specs.Handed.{Looks, ChangesWhere};
+ghost use Rattle.mm_layout.specs.Handed.{Lends};
 
 use crate::contents::{has_identifier, is_taken};
 use crate::extensions::insert_zoom_row;
@@ -34,9 +31,7 @@ fn insert_pyramid_contents<S: Alter>(
     extent: &Extent,
     last_change: &str,
 ) -> Result<(), Fault>
-    ensures same_reference { tx.new.conn.ghost_name ≡ tx.old.conn.ghost_name }
-    ensures change { (profile : Profile) → IsChange profile (state S.Store tx.old.conn.now)
-        (state S.Store tx.new.conn.now) (λ p. get p.contents table.now ≡ None)
+    ensures { ChangesWhere S.Store tx.old tx.new (λ p. get p.contents table.now ≡ None)
         (λ p. record p {
           contents = insert p.contents table.now
               (pyramid_contents identifier.now last_change.now srs (box_of extent.now));
@@ -65,10 +60,7 @@ fn insert_matrix_set<S: Alter>(
     srs: i64,
     extent: &Extent,
 ) -> Result<(), Fault>
-    ensures same_reference { tx.new.conn.ghost_name ≡ tx.old.conn.ghost_name }
-    ensures change { (profile : Profile)
-        → IsChange profile (state S.Store tx.old.conn.now) (state S.Store tx.new.conn.now)
-        (λ p. get p.sets table.now ≡ None)
+    ensures { ChangesWhere S.Store tx.old tx.new (λ p. get p.sets table.now ≡ None)
         (λ p. record p {
           sets = insert p.sets table.now
               (record { system = srs; box = box_of extent.now });
@@ -98,12 +90,9 @@ fn insert_pyramid<S: Alter>(
     step: Step,
     last_change: &str,
 ) -> Result<(), Fault>
-    ensures same_reference { tx.new.conn.ghost_name ≡ tx.old.conn.ghost_name }
-    ensures change { (profile : Profile)
-        → IsChange profile (state S.Store tx.old.conn.now) (state S.Store tx.new.conn.now)
-        (IsUnregistered table.now)
-        (λ p. with_pyramid p table.now identifier.now srs (box_of extent.now) step
-        last_change.now) result }
+    ensures { ChangesWhere S.Store tx.old tx.new (IsUnregistered table.now)
+        (λ p. with_pyramid p table.now identifier.now srs (box_of extent.now) step last_change.now)
+        result }
 {
     insert_pyramid_contents(tx, table, identifier, srs, extent, last_change)?;
     insert_kind(tx, table, text_of_step(step))?;
@@ -128,13 +117,8 @@ fn pyramid_refusal<S: Alter>(
     max_x: i64,
     max_y: i64,
 ) -> Result<Option<u8>, Fault>
-    ensures same_reference { tx.new.conn.ghost_name ≡ tx.old.conn.ghost_name }
-    ensures look { (profile : Profile)
-        → IsLook profile (state S.Store tx.old.conn.now) (state S.Store tx.new.conn.now)
-        (λ p why. (step : Step)
-        → why ≡ least
-        (own_reasons p
-        (commands.Pyramid table.now identifier.now srs min_x min_y max_x max_y
+    ensures { Looks S.Store tx.old tx.new (λ p why. (step : Step) → why ≡ least
+        (own_reasons p (commands.Pyramid table.now identifier.now srs min_x min_y max_x max_y
         step))) result }
 {
     if !has_system(tx, srs)? {
@@ -172,10 +156,8 @@ pub fn add_pyramid<S: Alter>(
     step: Step,
     last_change: &str,
 ) -> Result<Outcome, Fault>
-    ensures same_reference { tx.new.conn.ghost_name ≡ tx.old.conn.ghost_name }
-    ensures lent { (profile : Profile) → IsLentAt profile
-        (commands.Pyramid table.now identifier.now srs min_x min_y max_x max_y step) last_change.now
-        (state S.Store tx.old.conn.now) (state S.Store tx.new.conn.now) result }
+    ensures { Lends S.Store tx.old tx.new (commands.Pyramid table.now identifier.now srs min_x min_y
+        max_x max_y step) last_change.now result }
 {
     let table = table.as_str();
     if let Some(number) = pyramid_refusal(tx, table, identifier, srs, min_x, min_y, max_x, max_y)? {

@@ -1,21 +1,18 @@
 //! Tables that are no pyramids, and the removal of any table.
 
-ghost use Rattle.std.specs.Prelude.{◌≡◌, ℕ, ℤ, true, [], ◌∷◌, None, ⊤};
-ghost use Rattle.std.specs.FinMap.{get, insert};
+ghost use Rattle.std.specs.Prelude.{◌≡◌, ℤ, true};
 ghost use Rattle.sqlite.specs.Held.{state};
 ghost use Rattle.mm_definitions.specs.Bounds.{Profile};
 ghost use Rattle.mm_definitions.specs.Conditions.{least, own_reasons};
-ghost use Rattle.mm_definitions.specs.Effects.{plain_kind, is_other};
-ghost use Rattle.mm_definitions.specs.Effects as effects;
-ghost use Rattle.mm_definitions.specs.Package.{kind_text};
+ghost use Rattle.mm_definitions.specs.Effects.{is_other};
 ghost use Rattle.mm_definitions.specs.declared.commands.Command.TheVariants as commands;
 ghost use Rattle.mm_blobs.specs.Moves.{IsMove};
 ghost use Rattle.mm_blobs.specs.Views.{IsSeen, ListsEach};
 ghost use Rattle.mm_store.specs.Kept.{Spare, no_spare, tile_id, medium_id};
 ghost use Rattle.mm_store.specs.Removals.{without_table_rows, Freed, FreedByTable};
-ghost use Rattle.mm_store.specs.Shapes.{IsLook, IsChange, IsLent};
-ghost use Rattle.mm_layout.specs.Rows.{plain_contents};
-ghost use Rattle.mm_layout.specs.Stamped.{IsLentAt};
+ghost use Rattle.mm_store.specs.Handed.{Looks, Tells, Changes, Applies};
+ghost use Rattle.mm_blobs.specs.Handed.{Finds};
+ghost use Rattle.mm_layout.specs.Handed.{Lends};
 
 use crate::contents::{has_identifier, has_table, insert_plain_contents, is_taken};
 use crate::extensions::delete_zoom_row;
@@ -34,11 +31,8 @@ fn table_refusal<S: Alter>(
     table: &str,
     identifier: &str,
 ) -> Result<Option<u8>, Fault>
-    ensures same_reference { tx.new.conn.ghost_name ≡ tx.old.conn.ghost_name }
-    ensures look { (profile : Profile)
-        → IsLook profile (state S.Store tx.old.conn.now) (state S.Store tx.new.conn.now)
-        (λ p why. (kind : PlainKind)
-        → why ≡ least (own_reasons p (commands.Table table.now kind identifier.now))) result }
+    ensures { Looks S.Store tx.old tx.new (λ p why. (kind : PlainKind) → why ≡ least
+        (own_reasons p (commands.Table table.now kind identifier.now))) result }
 {
     if is_taken(tx, table)? {
         return Ok(Some(23));
@@ -59,10 +53,8 @@ pub fn add_table<S: Alter>(
     identifier: &str,
     last_change: &str,
 ) -> Result<Outcome, Fault>
-    ensures same_reference { tx.new.conn.ghost_name ≡ tx.old.conn.ghost_name }
-    ensures lent { (profile : Profile)
-        → IsLentAt profile (commands.Table table.now kind identifier.now) last_change.now
-        (state S.Store tx.old.conn.now) (state S.Store tx.new.conn.now) result }
+    ensures { Lends S.Store tx.old tx.new (commands.Table table.now kind identifier.now)
+        last_change.now result }
 {
     let table = table.as_str();
     if let Some(number) = table_refusal(tx, table, identifier)? {
@@ -75,12 +67,7 @@ pub fn add_table<S: Alter>(
 
 /// The ids of the blobs that the tiles of a table name.
 fn blobs_of_tiles<S: Alter>(tx: &mut Transaction<'_, S>, table: &str) -> Result<Vec<Row>, Fault>
-    ensures same_reference { tx.new.conn.ghost_name ≡ tx.old.conn.ghost_name }
-    ensures listed { (profile : Profile) (spare : Spare)
-        → IsMove (state S.Store tx.old.conn.now) (state S.Store tx.new.conn.now)
-        (IsSeen spare profile (state S.Store tx.old.conn.now))
-        (λ base x rows y. (y ≡ x) × IsSeen spare profile (state S.Store tx.new.conn.now) base y
-        × ListsEach rows.items
+    ensures { Finds S.Store tx.old tx.new (λ y rows. ListsEach rows.items
         (Freed tile_id y.kept.tiles (λ k. is_other table.now k.table))) result }
 {
     all(
@@ -92,12 +79,7 @@ fn blobs_of_tiles<S: Alter>(tx: &mut Transaction<'_, S>, table: &str) -> Result<
 
 /// The ids of the blobs that the media of a table name.
 fn blobs_of_media<S: Alter>(tx: &mut Transaction<'_, S>, table: &str) -> Result<Vec<Row>, Fault>
-    ensures same_reference { tx.new.conn.ghost_name ≡ tx.old.conn.ghost_name }
-    ensures listed { (profile : Profile) (spare : Spare)
-        → IsMove (state S.Store tx.old.conn.now) (state S.Store tx.new.conn.now)
-        (IsSeen spare profile (state S.Store tx.old.conn.now))
-        (λ base x rows y. (y ≡ x) × IsSeen spare profile (state S.Store tx.new.conn.now) base y
-        × ListsEach rows.items
+    ensures { Finds S.Store tx.old tx.new (λ y rows. ListsEach rows.items
         (Freed medium_id y.kept.media (λ k. is_other table.now k.table))) result }
 {
     all(
@@ -127,9 +109,7 @@ fn delete_contents<S: Alter>(tx: &mut Transaction<'_, S>, table: &str) -> Result
 
 /// Removes what `delete_contents` removes, and the blobs that nothing names any more.
 fn delete_table<S: Alter>(tx: &mut Transaction<'_, S>, table: &str) -> Result<(), Fault>
-    ensures same_reference { tx.new.conn.ghost_name ≡ tx.old.conn.ghost_name }
-    ensures change { (profile : Profile) → IsChange profile (state S.Store tx.old.conn.now)
-        (state S.Store tx.new.conn.now) (λ p. ⊤) (without_table_rows table.now) result }
+    ensures { Changes S.Store tx.old tx.new (without_table_rows table.now) result }
 {
     let tiles = blobs_of_tiles(tx, table)?;
     let media = blobs_of_media(tx, table)?;
@@ -140,10 +120,8 @@ fn delete_table<S: Alter>(tx: &mut Transaction<'_, S>, table: &str) -> Result<()
 
 /// Why a table is not removed, if it is not.
 fn drop_refusal<S: Alter>(tx: &mut Transaction<'_, S>, table: &str) -> Result<Option<u8>, Fault>
-    ensures same_reference { tx.new.conn.ghost_name ≡ tx.old.conn.ghost_name }
-    ensures look { (profile : Profile)
-        → IsLook profile (state S.Store tx.old.conn.now) (state S.Store tx.new.conn.now)
-        (λ p why. why ≡ least (own_reasons p (commands.Drop table.now))) result }
+    ensures { Tells S.Store tx.old tx.new (λ p. least (own_reasons p (commands.Drop table.now)))
+        result }
 {
     if !has_table(tx, table)? {
         return Ok(Some(25));
@@ -158,10 +136,7 @@ fn drop_refusal<S: Alter>(tx: &mut Transaction<'_, S>, table: &str) -> Result<Op
 /// The command `drop`: removes a table or pyramid with all that is kept under its name. Staged pieces stay. Refused 25
 /// where no table has the name, 48 where a relation uses the table.
 pub fn drop_table<S: Alter>(tx: &mut Transaction<'_, S>, table: &Name) -> Result<Outcome, Fault>
-    ensures same_reference { tx.new.conn.ghost_name ≡ tx.old.conn.ghost_name }
-    ensures lent { (profile : Profile) (moment : ℕ)
-        → IsLent profile (commands.Drop table.now) moment
-        (state S.Store tx.old.conn.now) (state S.Store tx.new.conn.now) result }
+    ensures { Applies S.Store tx.old tx.new (commands.Drop table.now) result }
 {
     let table = table.as_str();
     if let Some(number) = drop_refusal(tx, table)? {

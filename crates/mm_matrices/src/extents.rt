@@ -4,14 +4,13 @@ ghost use Rattle.std.specs.Prelude.{◌≡◌, option_map, IfOk};
 ghost use Rattle.std.specs.FinMap.{get};
 ghost use Rattle.sqlite.specs.Values.{bound};
 ghost use Rattle.sqlite.specs.Held.{state};
-ghost use Rattle.mm_definitions.specs.Bounds.{Profile};
 ghost use Rattle.mm_definitions.specs.Checks.{box_of};
 ghost use Rattle.mm_definitions.specs.Conditions.{is_product, grid};
 ghost use Rattle.mm_definitions.specs.Package.{MatrixSet};
 ghost use Rattle.mm_definitions.specs.Parts.{Has};
-ghost use Rattle.mm_store.specs.Shapes.{IsLook};
 ghost use Rattle.mm_store.specs.Statements.{IsAsked};
 ghost use Rattle.mm_matrices.specs.Shown.{ShowsExtent, GivesExtent};
+ghost use Rattle.mm_store.specs.Handed.{Looks};
 
 use mm_definitions::answers::Fault;
 use mm_definitions::commands::Matrix;
@@ -54,11 +53,8 @@ fn first_extent<S: Alter>(
 
 /// The extent of a pyramid, where it has a matrix set.
 fn extent_of<S: Alter>(tx: &mut Transaction<'_, S>, table: &str) -> Result<Option<Extent>, Fault>
-    ensures same_reference { tx.new.conn.ghost_name ≡ tx.old.conn.ghost_name }
-    ensures look { (profile : Profile)
-        → IsLook profile (state S.Store tx.old.conn.now) (state S.Store tx.new.conn.now)
-        (λ p extent. option_map (λ (s : MatrixSet). s.box) (get p.sets table.now)
-        ≡ option_map box_of extent) result }
+    ensures { Looks S.Store tx.old tx.new (λ p extent. option_map (λ (s : MatrixSet). s.box)
+        (get p.sets table.now) ≡ option_map box_of extent) result }
 {
     first_extent(
         tx,
@@ -73,10 +69,7 @@ pub(crate) fn fits_pyramid<S: Alter>(
     table: &str,
     matrix: &Matrix,
 ) -> Result<bool, Fault>
-    ensures same_reference { tx.new.conn.ghost_name ≡ tx.old.conn.ghost_name }
-    ensures look { (profile : Profile)
-        → IsLook profile (state S.Store tx.old.conn.now) (state S.Store tx.new.conn.now)
-        (λ p covers. (s : MatrixSet) × Has p.sets table.now s
+    ensures { Looks S.Store tx.old tx.new (λ p covers. (s : MatrixSet) × Has p.sets table.now s
         × (covers ≡ is_product s.box (grid matrix.now))) result }
 {
     match extent_of(tx, table)? {

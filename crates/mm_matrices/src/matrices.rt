@@ -2,16 +2,13 @@
 
 ghost use Rattle.std.specs.Prelude.{◌≡◌, pos, None, MatchOption};
 ghost use Rattle.std.specs.FinMap.{get, contains_key, insert};
-ghost use Rattle.sqlite.specs.Held.{state};
-ghost use Rattle.mm_definitions.specs.Bounds.{Profile};
-ghost use Rattle.mm_definitions.specs.Conditions.{least, own_reasons, grid};
+ghost use Rattle.mm_definitions.specs.Conditions.{own_reasons, grid};
 ghost use Rattle.mm_definitions.specs.Effects.{step_kind};
 ghost use Rattle.mm_definitions.specs.Keys.{level};
-ghost use Rattle.mm_definitions.specs.Rules.{Meets};
 ghost use Rattle.mm_definitions.specs.declared.commands.Command.TheVariants as commands;
-ghost use Rattle.mm_store.specs.Shapes.{IsLook, IsChange};
-ghost use Rattle.mm_layout.specs.Stamped.{IsLentAt};
 ghost use Rattle.mm_matrices.specs.Shown.{IsPlainKind};
+ghost use Rattle.mm_store.specs.Handed.{Tells, ChangesWhere, FindsRefusal};
+ghost use Rattle.mm_layout.specs.Handed.{Lends};
 
 use crate::extents::fits_pyramid;
 use crate::zooms::suits_zooms;
@@ -24,10 +21,8 @@ use sqlite::{Alter, Transaction, params};
 
 /// Whether a matrix stands at this zoom of a table.
 fn has_matrix<S: Alter>(tx: &mut Transaction<'_, S>, table: &str, zoom: u8) -> Result<bool, Fault>
-    ensures same_reference { tx.new.conn.ghost_name ≡ tx.old.conn.ghost_name }
-    ensures look { (profile : Profile)
-        → IsLook profile (state S.Store tx.old.conn.now) (state S.Store tx.new.conn.now)
-        (λ p found. found ≡ contains_key p.matrices (level table.now (pos zoom))) result }
+    ensures { Tells S.Store tx.old tx.new (λ p. contains_key p.matrices
+        (level table.now (pos zoom))) result }
 {
     exists(
         tx,
@@ -43,9 +38,7 @@ fn insert_matrix<S: Alter>(
     zoom: u8,
     matrix: &Matrix,
 ) -> Result<(), Fault>
-    ensures same_reference { tx.new.conn.ghost_name ≡ tx.old.conn.ghost_name }
-    ensures change { (profile : Profile)
-        → IsChange profile (state S.Store tx.old.conn.now) (state S.Store tx.new.conn.now)
+    ensures { ChangesWhere S.Store tx.old tx.new
         (λ p. get p.matrices (level table.now (pos zoom)) ≡ None)
         (λ p. record p {
           matrices = insert p.matrices (level table.now (pos zoom))
@@ -86,11 +79,8 @@ fn matrix_refusal<S: Alter>(
     zoom: u8,
     matrix: &Matrix,
 ) -> Result<Option<u8>, Fault>
-    ensures same_reference { tx.new.conn.ghost_name ≡ tx.old.conn.ghost_name }
-    ensures look { (profile : Profile)
-        → IsLook profile (state S.Store tx.old.conn.now) (state S.Store tx.new.conn.now)
-        (λ p why. Meets profile p
-        → why ≡ least (own_reasons p (commands.Matrix table.now zoom matrix.now))) result }
+    ensures { FindsRefusal S.Store tx.old tx.new
+        (λ p. own_reasons p (commands.Matrix table.now zoom matrix.now)) result }
 {
     let Some(kind) = kind_of(tx, table)? else {
         return Ok(Some(25));
@@ -123,10 +113,8 @@ pub fn add_matrix<S: Alter>(
     matrix: &Matrix,
     last_change: &str,
 ) -> Result<Outcome, Fault>
-    ensures same_reference { tx.new.conn.ghost_name ≡ tx.old.conn.ghost_name }
-    ensures lent { (profile : Profile)
-        → IsLentAt profile (commands.Matrix table.now zoom matrix.now) last_change.now
-        (state S.Store tx.old.conn.now) (state S.Store tx.new.conn.now) result }
+    ensures { Lends S.Store tx.old tx.new (commands.Matrix table.now zoom matrix.now)
+        last_change.now result }
 {
     let table = table.as_str();
     if let Some(number) = matrix_refusal(tx, table, zoom, matrix)? {

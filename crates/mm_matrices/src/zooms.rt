@@ -5,14 +5,13 @@ ghost use Rattle.sqlite.specs.Values.{bound};
 ghost use Rattle.sqlite.specs.Held.{state};
 ghost use Rattle.sqlite.specs.Order.{column};
 ghost use Rattle.sqlite.specs.declared.types.Value.TheVariants.{Int};
-ghost use Rattle.mm_definitions.specs.Bounds.{Profile};
 ghost use Rattle.mm_definitions.specs.Conditions.{grid};
 ghost use Rattle.mm_definitions.specs.Neighbours.{Zoomed, IsNearestBelow, IsNearestAbove, zoomed, is_halved};
 ghost use Rattle.mm_definitions.specs.Neighbours as spec;
 ghost use Rattle.mm_store.specs.Faults.{IsStoreFault};
-ghost use Rattle.mm_store.specs.Shapes.{IsLook};
 ghost use Rattle.mm_store.specs.Statements.{IsAsked};
 ghost use Rattle.mm_matrices.specs.Shown.{ShowsMatrix, ShowsZoomed, GivesZoomed};
+ghost use Rattle.mm_store.specs.Handed.{Looks};
 
 use mm_definitions::answers::Fault;
 use mm_definitions::bounded::{Count, PixelSize};
@@ -121,10 +120,8 @@ fn nearest_below<S: Alter>(
     table: &str,
     zoom: u8,
 ) -> Result<Option<(u8, Matrix)>, Fault>
-    ensures same_reference { tx.new.conn.ghost_name ≡ tx.old.conn.ghost_name }
-    ensures look { (profile : Profile)
-        → IsLook profile (state S.Store tx.old.conn.now) (state S.Store tx.new.conn.now)
-        (λ p below. IsNearestBelow p.matrices table.now (pos zoom) (zoomed below)) result }
+    ensures { Looks S.Store tx.old tx.new (λ p below. IsNearestBelow p.matrices table.now (pos zoom)
+        (zoomed below)) result }
 {
     first_zoomed(
         tx,
@@ -139,10 +136,8 @@ fn nearest_above<S: Alter>(
     table: &str,
     zoom: u8,
 ) -> Result<Option<(u8, Matrix)>, Fault>
-    ensures same_reference { tx.new.conn.ghost_name ≡ tx.old.conn.ghost_name }
-    ensures look { (profile : Profile)
-        → IsLook profile (state S.Store tx.old.conn.now) (state S.Store tx.new.conn.now)
-        (λ p above. IsNearestAbove p.matrices table.now (pos zoom) (zoomed above)) result }
+    ensures { Looks S.Store tx.old tx.new (λ p above. IsNearestAbove p.matrices table.now (pos zoom)
+        (zoomed above)) result }
 {
     first_zoomed(
         tx,
@@ -159,14 +154,11 @@ pub(crate) fn suits_zooms<S: Alter>(
     matrix: &Matrix,
     step: Step,
 ) -> Result<bool, Fault>
-    ensures same_reference { tx.new.conn.ghost_name ≡ tx.old.conn.ghost_name }
-    ensures look { (profile : Profile)
-        → IsLook profile (state S.Store tx.old.conn.now) (state S.Store tx.new.conn.now)
-        (λ p suits. (below : Option Zoomed) × (above : Option Zoomed)
-        × IsNearestBelow p.matrices table.now (pos zoom) below
+    ensures { Looks S.Store tx.old tx.new (λ p suits. (below : Option Zoomed)
+        × (above : Option Zoomed) × IsNearestBelow p.matrices table.now (pos zoom) below
         × IsNearestAbove p.matrices table.now (pos zoom) above
-        × (suits ≡ spec.neighbours below (pos zoom) (grid matrix.now) above
-        (is_halved step))) result }
+        × (suits ≡ spec.neighbours below (pos zoom) (grid matrix.now) above (is_halved step)))
+        result }
 {
     let below = nearest_below(tx, table, zoom)?;
     let above = nearest_above(tx, table, zoom)?;

@@ -4,8 +4,8 @@ ghost use Rattle.std.specs.Prelude.{◌≡◌, false};
 ghost use Rattle.sqlite.specs.Held.{state};
 ghost use Rattle.mm_definitions.specs.Bounds.{Profile};
 ghost use Rattle.mm_store.specs.Seen.{IsRead};
-ghost use Rattle.mm_store.specs.Shapes.{IsLook};
 ghost use Rattle.mm_reads.specs.Related.{is_item};
+ghost use Rattle.mm_store.specs.Handed.{Tells};
 
 use mm_definitions::answers::Fault;
 use mm_layout::{has_medium, has_row};
@@ -13,10 +13,7 @@ use sqlite::{Alter, Connection, Transaction};
 
 /// Whether a table has an attribute row or a medium of this id, inside a transaction.
 fn has_item<S: Alter>(tx: &mut Transaction<'_, S>, table: &str, id: i64) -> Result<bool, Fault>
-    ensures same_reference { tx.new.conn.ghost_name ≡ tx.old.conn.ghost_name }
-    ensures look { (profile : Profile)
-        → IsLook profile (state S.Store tx.old.conn.now) (state S.Store tx.new.conn.now)
-        (λ p found. found ≡ is_item p table.now id) result }
+    ensures { Tells S.Store tx.old tx.new (λ p. is_item p table.now id) result }
 {
     if has_row(tx, table, id)? {
         Ok(true)

@@ -7,13 +7,12 @@ ghost use Rattle.mm_definitions.specs.Bounds.{Profile};
 ghost use Rattle.mm_definitions.specs.Keys.{item};
 ghost use Rattle.mm_store.specs.Blobs.{Told, bytes_at};
 ghost use Rattle.mm_store.specs.Faults.{IsStoreFault};
-ghost use Rattle.mm_store.specs.Kept.{Spare, medium_id, medium_with};
+ghost use Rattle.mm_store.specs.Kept.{medium_id, medium_with};
 ghost use Rattle.mm_store.specs.Rows.{MediumRow};
 ghost use Rattle.mm_store.specs.Seen.{IsRead};
-ghost use Rattle.mm_store.specs.Shapes.{IsLook};
-ghost use Rattle.mm_blobs.specs.Moves.{IsMove};
-ghost use Rattle.mm_blobs.specs.Views.{IsSeen};
 ghost use Rattle.mm_reads.specs.Told.{ShowsMedium, IsMediumRow, shown_medium};
+ghost use Rattle.mm_store.specs.Handed.{Looks};
+ghost use Rattle.mm_blobs.specs.Handed.{Finds};
 
 use mm_blobs::blobs::bytes_of;
 use mm_definitions::answers::Fault;
@@ -46,14 +45,9 @@ fn row_of_medium<S: Alter>(
     table: &str,
     id: i64,
 ) -> Result<Option<Row>, Fault>
-    ensures same_reference { tx.new.conn.ghost_name ≡ tx.old.conn.ghost_name }
-    ensures shown { (profile : Profile) (spare : Spare)
-        → IsMove (state S.Store tx.old.conn.now) (state S.Store tx.new.conn.now)
-        (IsSeen spare profile (state S.Store tx.old.conn.now))
-        (λ base x row y. (y ≡ x) × IsSeen spare profile (state S.Store tx.new.conn.now) base y
-        × IsMediumRow (get y.kept.media (item table.now id)) row
-        × Told medium_id medium_with y.kept.shelf (get y.kept.media (item table.now id))
-        (get y.content.media (item table.now id))) result }
+    ensures { Finds S.Store tx.old tx.new (λ y row. IsMediumRow
+        (get y.kept.media (item table.now id)) row × Told medium_id medium_with y.kept.shelf
+        (get y.kept.media (item table.now id)) (get y.content.media (item table.now id))) result }
 {
     first(
         tx,
@@ -64,13 +58,9 @@ fn row_of_medium<S: Alter>(
 
 /// The medium of a row, with the bytes of the blob that it names.
 fn medium_in<S: Alter>(tx: &mut Transaction<'_, S>, row: &Row) -> Result<Media, Fault>
-    ensures same_reference { tx.new.conn.ghost_name ≡ tx.old.conn.ghost_name }
-    ensures told { (profile : Profile) (spare : Spare) →
-        IsMove (state S.Store tx.old.conn.now) (state S.Store tx.new.conn.now)
-        (IsSeen spare profile (state S.Store tx.old.conn.now))
-        (λ base x m y. (y ≡ x) × IsSeen spare profile (state S.Store tx.new.conn.now) base y
-        × ((r : MediumRow) → ShowsMedium row.now r → (bytes_at y.kept.shelf r.blob ≡ Some m.bytes)
-        × (r.content_type ≡ m.content_type))) result }
+    ensures { Finds S.Store tx.old tx.new (λ y m. (r : MediumRow) → ShowsMedium row.now r
+        → (bytes_at y.kept.shelf r.blob ≡ Some m.bytes) × (r.content_type ≡ m.content_type))
+        result }
 {
     let blob = number_in(row, 0)?;
     let content_type = text_in(row, 1)?;
@@ -84,10 +74,8 @@ fn medium_at<S: Alter>(
     table: &str,
     id: i64,
 ) -> Result<Option<Media>, Fault>
-    ensures same_reference { tx.new.conn.ghost_name ≡ tx.old.conn.ghost_name }
-    ensures look { (profile : Profile)
-        → IsLook profile (state S.Store tx.old.conn.now) (state S.Store tx.new.conn.now)
-        (λ p found. get p.media (item table.now id) ≡ option_map shown_medium found) result }
+    ensures { Looks S.Store tx.old tx.new (λ p found. get p.media (item table.now id) ≡ option_map
+        shown_medium found) result }
 {
     match row_of_medium(tx, table, id)? {
         Some(row) => Ok(Some(medium_in(tx, &row)?)),

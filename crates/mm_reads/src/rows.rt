@@ -8,9 +8,9 @@ ghost use Rattle.mm_definitions.specs.Bounds.{Profile};
 ghost use Rattle.mm_definitions.specs.Keys.{item};
 ghost use Rattle.mm_store.specs.Faults.{IsStoreFault};
 ghost use Rattle.mm_store.specs.Seen.{IsRead};
-ghost use Rattle.mm_store.specs.Shapes.{IsLook};
 ghost use Rattle.mm_store.specs.Statements.{IsAsked};
 ghost use Rattle.mm_reads.specs.Told.{Gives, ShowsRow, shown_row};
+ghost use Rattle.mm_store.specs.Handed.{Looks};
 
 use mm_definitions::answers::Fault;
 use mm_definitions::entries::Row;
@@ -53,10 +53,8 @@ fn first_row<S: Alter>(
 
 /// The row of an id, inside a transaction.
 fn row_at<S: Alter>(tx: &mut Transaction<'_, S>, table: &str, id: i64) -> Result<Option<Row>, Fault>
-    ensures same_reference { tx.new.conn.ghost_name ≡ tx.old.conn.ghost_name }
-    ensures look { (profile : Profile)
-        → IsLook profile (state S.Store tx.old.conn.now) (state S.Store tx.new.conn.now)
-        (λ p found. get p.rows (item table.now id) ≡ option_map shown_row found) result }
+    ensures { Looks S.Store tx.old tx.new (λ p found. get p.rows (item table.now id) ≡ option_map
+        shown_row found) result }
 {
     first_row(
         tx,

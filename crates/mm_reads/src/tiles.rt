@@ -6,8 +6,8 @@ ghost use Rattle.sqlite.specs.Held.{state};
 ghost use Rattle.mm_definitions.specs.Bounds.{Profile};
 ghost use Rattle.mm_definitions.specs.Keys.{tile};
 ghost use Rattle.mm_store.specs.Seen.{IsRead};
-ghost use Rattle.mm_store.specs.Shapes.{IsLook};
 ghost use Rattle.mm_reads.specs.Told.{TellsBytes};
+ghost use Rattle.mm_store.specs.Handed.{Looks};
 
 use mm_blobs::blobs::bytes_of;
 use mm_blobs::entries::blob_of_tile;
@@ -23,11 +23,8 @@ fn bytes_at<S: Alter>(
     column: u32,
     row: u32,
 ) -> Result<Option<Vec<u8>>, Fault>
-    ensures same_reference { tx.new.conn.ghost_name ≡ tx.old.conn.ghost_name }
-    ensures look { (profile : Profile)
-        → IsLook profile (state S.Store tx.old.conn.now) (state S.Store tx.new.conn.now)
-        (λ p found. TellsBytes (get p.tiles (tile table.now (pos zoom) (pos column) (pos row)))
-        found) result }
+    ensures { Looks S.Store tx.old tx.new (λ p found. TellsBytes
+        (get p.tiles (tile table.now (pos zoom) (pos column) (pos row))) found) result }
 {
     match blob_of_tile(tx, table, zoom, column, row)? {
         Some(blob) => Ok(Some(bytes_of(tx, blob)?)),

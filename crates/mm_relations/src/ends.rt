@@ -2,14 +2,12 @@
 
 ghost use Rattle.std.specs.Prelude.{◌≡◌, [], ◌∷◌, IfOk, option_map, string_bytes};
 ghost use Rattle.std.specs.FinMap.{get};
-ghost use Rattle.sqlite.specs.Held.{state};
 ghost use Rattle.sqlite.specs.Order.{column};
 ghost use Rattle.sqlite.specs.declared.types.Value.TheVariants.{Text as Words};
-ghost use Rattle.mm_definitions.specs.Bounds.{Profile};
 ghost use Rattle.mm_definitions.specs.Conditions.{least, lacks_row, lacks_medium};
 ghost use Rattle.mm_definitions.specs.Conditions as conditions;
-ghost use Rattle.mm_store.specs.Shapes.{IsLook};
 ghost use Rattle.mm_relations.specs.Relations as spec;
+ghost use Rattle.mm_store.specs.Handed.{Looks, Tells};
 
 use mm_definitions::answers::Fault;
 use mm_definitions::commands::Kind;
@@ -30,11 +28,8 @@ pub(crate) fn ends_of<S: Alter>(
     tx: &mut Transaction<'_, S>,
     mapping: &str,
 ) -> Result<Option<(String, String)>, Fault>
-    ensures same_reference { tx.new.conn.ghost_name ≡ tx.old.conn.ghost_name }
-    ensures look { (profile : Profile)
-        → IsLook profile (state S.Store tx.old.conn.now) (state S.Store tx.new.conn.now)
-        (λ p found. option_map spec.ends (get p.relations mapping.now)
-        ≡ option_map spec.both_bytes found) result }
+    ensures { Looks S.Store tx.old tx.new (λ p found. option_map spec.ends
+        (get p.relations mapping.now) ≡ option_map spec.both_bytes found) result }
 {
     match first(
         tx,
@@ -56,12 +51,8 @@ fn end_refusal<S: Alter>(
     table: &str,
     id: i64,
 ) -> Result<Option<u8>, Fault>
-    ensures same_reference { tx.new.conn.ghost_name ≡ tx.old.conn.ghost_name }
-    ensures look { (profile : Profile)
-        → IsLook profile (state S.Store tx.old.conn.now) (state S.Store tx.new.conn.now)
-        (λ p why. why
-        ≡ least ((40, lacks_row p table.now id) ∷ (41, lacks_medium p table.now id)
-        ∷ [])) result }
+    ensures { Tells S.Store tx.old tx.new (λ p. least
+        ((40, lacks_row p table.now id) ∷ (41, lacks_medium p table.now id) ∷ [])) result }
 {
     let Some(kind) = kind_of(tx, table)? else {
         return Ok(None);
@@ -104,10 +95,8 @@ pub(crate) fn ends_refusal<S: Alter>(
     related: &str,
     related_id: i64,
 ) -> Result<Option<u8>, Fault>
-    ensures same_reference { tx.new.conn.ghost_name ≡ tx.old.conn.ghost_name }
-    ensures look { (profile : Profile)
-        → IsLook profile (state S.Store tx.old.conn.now) (state S.Store tx.new.conn.now)
-        (λ p why. why ≡ spec.lacks p (base.now, related.now) base_id related_id) result }
+    ensures { Tells S.Store tx.old tx.new (λ p. spec.lacks p (base.now, related.now) base_id
+        related_id) result }
 {
     let one = end_refusal(tx, base, base_id)?;
     let other = end_refusal(tx, related, related_id)?;

@@ -1,11 +1,8 @@
 //! The extension rows of mappings.
 
-ghost use Rattle.std.specs.Prelude.{◌≡◌, ⊤};
 ghost use Rattle.std.specs.FinMap.{remove};
-ghost use Rattle.sqlite.specs.Held.{state};
-ghost use Rattle.mm_definitions.specs.Bounds.{Profile};
 ghost use Rattle.mm_definitions.specs.Package.{mapping_extension};
-ghost use Rattle.mm_store.specs.Shapes.{IsChange};
+ghost use Rattle.mm_store.specs.Handed.{Changes};
 
 use mm_definitions::answers::Fault;
 use mm_store::statements::run;
@@ -16,11 +13,9 @@ pub(crate) fn delete_related_row<S: Alter>(
     tx: &mut Transaction<'_, S>,
     mapping: &str,
 ) -> Result<(), Fault>
-    ensures same_reference { tx.new.conn.ghost_name ≡ tx.old.conn.ghost_name }
-    ensures change { (profile : Profile)
-        → IsChange profile (state S.Store tx.old.conn.now) (state S.Store tx.new.conn.now) (λ p. ⊤)
-        (λ p. record p
-        { extensions = remove p.extensions (mapping_extension mapping.now) }) result }
+    ensures { Changes S.Store tx.old tx.new
+        (λ p. record p { extensions = remove p.extensions (mapping_extension mapping.now) })
+        result }
 {
     run(
         tx,

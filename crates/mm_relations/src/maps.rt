@@ -1,13 +1,11 @@
 //! Mapping rows.
 
-ghost use Rattle.std.specs.Prelude.{◌≡◌, ℕ, None, ⊤};
+ghost use Rattle.std.specs.Prelude.{◌≡◌, None};
 ghost use Rattle.std.specs.FinMap.{get, contains_key, insert, remove};
-ghost use Rattle.sqlite.specs.Held.{state};
-ghost use Rattle.mm_definitions.specs.Bounds.{Profile};
 ghost use Rattle.mm_definitions.specs.Conditions.{least, own_reasons};
 ghost use Rattle.mm_definitions.specs.Keys.{pairing};
 ghost use Rattle.mm_definitions.specs.declared.commands.Command.TheVariants as commands;
-ghost use Rattle.mm_store.specs.Shapes.{IsLook, IsChange, IsLent};
+ghost use Rattle.mm_store.specs.Handed.{Tells, Changes, ChangesWhere, Applies};
 
 use crate::ends::{ends_of, ends_refusal};
 use mm_definitions::answers::{Fault, Outcome};
@@ -23,10 +21,7 @@ fn has_pairing<S: Alter>(
     base_id: i64,
     related_id: i64,
 ) -> Result<bool, Fault>
-    ensures same_reference { tx.new.conn.ghost_name ≡ tx.old.conn.ghost_name }
-    ensures look { (profile : Profile)
-        → IsLook profile (state S.Store tx.old.conn.now) (state S.Store tx.new.conn.now)
-        (λ p found. found ≡ contains_key p.pairings
+    ensures { Tells S.Store tx.old tx.new (λ p. contains_key p.pairings
         (pairing mapping.now base_id related_id)) result }
 {
     exists(
@@ -43,11 +38,8 @@ fn map_refusal<S: Alter>(
     base_id: i64,
     related_id: i64,
 ) -> Result<Option<u8>, Fault>
-    ensures same_reference { tx.new.conn.ghost_name ≡ tx.old.conn.ghost_name }
-    ensures look { (profile : Profile)
-        → IsLook profile (state S.Store tx.old.conn.now) (state S.Store tx.new.conn.now)
-        (λ p why. why
-        ≡ least (own_reasons p (commands.Map mapping.now base_id related_id))) result }
+    ensures { Tells S.Store tx.old tx.new (λ p. least
+        (own_reasons p (commands.Map mapping.now base_id related_id))) result }
 {
     let Some((base, related)) = ends_of(tx, mapping)? else {
         return Ok(Some(44));
@@ -69,12 +61,10 @@ fn insert_pairing<S: Alter>(
     base_id: i64,
     related_id: i64,
 ) -> Result<(), Fault>
-    ensures same_reference { tx.new.conn.ghost_name ≡ tx.old.conn.ghost_name }
-    ensures change { (profile : Profile)
-        → IsChange profile (state S.Store tx.old.conn.now) (state S.Store tx.new.conn.now)
+    ensures { ChangesWhere S.Store tx.old tx.new
         (λ p. get p.pairings (pairing mapping.now base_id related_id) ≡ None)
-        (λ p. record p
-        { pairings = insert p.pairings (pairing mapping.now base_id related_id) tt }) result }
+        (λ p. record p { pairings = insert p.pairings (pairing mapping.now base_id related_id) tt })
+        result }
 {
     run(
         tx,
@@ -92,10 +82,7 @@ pub fn add_map<S: Alter>(
     base_id: i64,
     related_id: i64,
 ) -> Result<Outcome, Fault>
-    ensures same_reference { tx.new.conn.ghost_name ≡ tx.old.conn.ghost_name }
-    ensures lent { (profile : Profile) (moment : ℕ)
-        → IsLent profile (commands.Map mapping.now base_id related_id) moment
-        (state S.Store tx.old.conn.now) (state S.Store tx.new.conn.now) result }
+    ensures { Applies S.Store tx.old tx.new (commands.Map mapping.now base_id related_id) result }
 {
     let mapping = mapping.as_str();
     if let Some(number) = map_refusal(tx, mapping, base_id, related_id)? {
@@ -112,11 +99,8 @@ fn map_drop_refusal<S: Alter>(
     base_id: i64,
     related_id: i64,
 ) -> Result<Option<u8>, Fault>
-    ensures same_reference { tx.new.conn.ghost_name ≡ tx.old.conn.ghost_name }
-    ensures look { (profile : Profile)
-        → IsLook profile (state S.Store tx.old.conn.now) (state S.Store tx.new.conn.now)
-        (λ p why. why
-        ≡ least (own_reasons p (commands.MapDrop mapping.now base_id related_id))) result }
+    ensures { Tells S.Store tx.old tx.new (λ p. least
+        (own_reasons p (commands.MapDrop mapping.now base_id related_id))) result }
 {
     if !has_relation(tx, mapping)? {
         return Ok(Some(44));
@@ -135,11 +119,9 @@ fn delete_pairing<S: Alter>(
     base_id: i64,
     related_id: i64,
 ) -> Result<(), Fault>
-    ensures same_reference { tx.new.conn.ghost_name ≡ tx.old.conn.ghost_name }
-    ensures change { (profile : Profile)
-        → IsChange profile (state S.Store tx.old.conn.now) (state S.Store tx.new.conn.now) (λ p. ⊤)
-        (λ p. record p
-        { pairings = remove p.pairings (pairing mapping.now base_id related_id) }) result }
+    ensures { Changes S.Store tx.old tx.new
+        (λ p. record p { pairings = remove p.pairings (pairing mapping.now base_id related_id) })
+        result }
 {
     run(
         tx,
@@ -156,10 +138,8 @@ pub fn drop_map<S: Alter>(
     base_id: i64,
     related_id: i64,
 ) -> Result<Outcome, Fault>
-    ensures same_reference { tx.new.conn.ghost_name ≡ tx.old.conn.ghost_name }
-    ensures lent { (profile : Profile) (moment : ℕ)
-        → IsLent profile (commands.MapDrop mapping.now base_id related_id) moment
-        (state S.Store tx.old.conn.now) (state S.Store tx.new.conn.now) result }
+    ensures { Applies S.Store tx.old tx.new (commands.MapDrop mapping.now base_id related_id)
+        result }
 {
     let mapping = mapping.as_str();
     if let Some(number) = map_drop_refusal(tx, mapping, base_id, related_id)? {

@@ -1,18 +1,16 @@
 //! Relations.
 
-ghost use Rattle.std.specs.Prelude.{◌≡◌, ◌&&◌, ◌||◌, ℕ, None, ⊤};
+ghost use Rattle.std.specs.Prelude.{◌≡◌, ◌&&◌, ◌||◌, None};
 ghost use Rattle.std.specs.FinMap.{get, insert};
-ghost use Rattle.sqlite.specs.Held.{state};
-ghost use Rattle.mm_definitions.specs.Bounds.{IsName, Profile};
-ghost use Rattle.mm_definitions.specs.Conditions.{least, own_reasons, related_kind, relation_text};
+ghost use Rattle.mm_definitions.specs.Bounds.{IsName};
+ghost use Rattle.mm_definitions.specs.Conditions.{own_reasons, related_kind, relation_text};
 ghost use Rattle.mm_definitions.specs.Keys.{same_text};
 ghost use Rattle.mm_definitions.specs.Package.{kind_text};
-ghost use Rattle.mm_definitions.specs.Rules.{Meets};
 ghost use Rattle.mm_definitions.specs.declared.commands.Command.TheVariants as commands;
 ghost use Rattle.mm_definitions.specs.declared.commands.Kind.TheVariants as kinds;
 ghost use Rattle.mm_store.specs.Removals.{without_relation_rows};
-ghost use Rattle.mm_store.specs.Shapes.{IsLook, IsChange, IsLent};
 ghost use Rattle.mm_relations.specs.Relations.{new_relation};
+ghost use Rattle.mm_store.specs.Handed.{Changes, ChangesWhere, FindsRefusal, Applies};
 
 use crate::extensions::delete_related_row;
 use mm_definitions::answers::{Fault, Outcome};
@@ -57,12 +55,8 @@ fn relation_refusal<S: Alter>(
     related: &str,
     name: RelationName,
 ) -> Result<Option<u8>, Fault>
-    ensures same_reference { tx.new.conn.ghost_name ≡ tx.old.conn.ghost_name }
-    ensures look { (profile : Profile)
-        → IsLook profile (state S.Store tx.old.conn.now) (state S.Store tx.new.conn.now)
-        (λ p why. Meets profile p
-        → why ≡ least
-        (own_reasons p (commands.Relation mapping.now base.now related.now name))) result }
+    ensures { FindsRefusal S.Store tx.old tx.new
+        (λ p. own_reasons p (commands.Relation mapping.now base.now related.now name)) result }
 {
     let Some(based) = kind_of(tx, base)? else {
         return Ok(Some(25));
@@ -88,10 +82,7 @@ fn insert_relation<S: Alter>(
     related: &str,
     name: &str,
 ) -> Result<(), Fault>
-    ensures same_reference { tx.new.conn.ghost_name ≡ tx.old.conn.ghost_name }
-    ensures change { (profile : Profile)
-        → IsChange profile (state S.Store tx.old.conn.now) (state S.Store tx.new.conn.now)
-        (λ p. get p.relations mapping.now ≡ None)
+    ensures { ChangesWhere S.Store tx.old tx.new (λ p. get p.relations mapping.now ≡ None)
         (λ p. record p {
           relations = insert p.relations mapping.now
               (new_relation base.now related.now name.now);
@@ -113,10 +104,8 @@ fn relate<S: Alter>(
     name: RelationName,
 ) -> Result<Outcome, Fault>
     requires { IsName mapping.now }
-    ensures same_reference { tx.new.conn.ghost_name ≡ tx.old.conn.ghost_name }
-    ensures lent { (profile : Profile) (moment : ℕ)
-        → IsLent profile (commands.Relation mapping.now base.now related.now name) moment
-        (state S.Store tx.old.conn.now) (state S.Store tx.new.conn.now) result }
+    ensures { Applies S.Store tx.old tx.new
+        (commands.Relation mapping.now base.now related.now name) result }
 {
     if let Some(number) = relation_refusal(tx, mapping, base, related, name)? {
         return Ok(Outcome::refused(number));
@@ -136,19 +125,15 @@ pub fn add_relation<S: Alter>(
     related: &Name,
     name: RelationName,
 ) -> Result<Outcome, Fault>
-    ensures same_reference { tx.new.conn.ghost_name ≡ tx.old.conn.ghost_name }
-    ensures lent { (profile : Profile) (moment : ℕ)
-        → IsLent profile (commands.Relation mapping.now base.now related.now name) moment
-        (state S.Store tx.old.conn.now) (state S.Store tx.new.conn.now) result }
+    ensures { Applies S.Store tx.old tx.new
+        (commands.Relation mapping.now base.now related.now name) result }
 {
     relate(tx, mapping.as_str(), base.as_str(), related.as_str(), name)
 }
 
 /// Removes a relation, and by their key its mapping rows.
 fn delete_relation<S: Alter>(tx: &mut Transaction<'_, S>, mapping: &str) -> Result<(), Fault>
-    ensures same_reference { tx.new.conn.ghost_name ≡ tx.old.conn.ghost_name }
-    ensures change { (profile : Profile) → IsChange profile (state S.Store tx.old.conn.now)
-        (state S.Store tx.new.conn.now) (λ p. ⊤) (without_relation_rows mapping.now) result }
+    ensures { Changes S.Store tx.old tx.new (without_relation_rows mapping.now) result }
 {
     run(
         tx,
@@ -163,10 +148,7 @@ pub fn drop_relation<S: Alter>(
     tx: &mut Transaction<'_, S>,
     mapping: &Name,
 ) -> Result<Outcome, Fault>
-    ensures same_reference { tx.new.conn.ghost_name ≡ tx.old.conn.ghost_name }
-    ensures lent { (profile : Profile) (moment : ℕ)
-        → IsLent profile (commands.RelationDrop mapping.now) moment
-        (state S.Store tx.old.conn.now) (state S.Store tx.new.conn.now) result }
+    ensures { Applies S.Store tx.old tx.new (commands.RelationDrop mapping.now) result }
 {
     let mapping = mapping.as_str();
     if !has_relation(tx, mapping)? {

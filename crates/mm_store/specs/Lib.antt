@@ -7,3 +7,4 @@ pub mod Removals
 pub mod Seen
 pub mod Blobs
 pub mod Kept
+pub mod Handed

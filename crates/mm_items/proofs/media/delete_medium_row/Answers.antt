@@ -17,17 +17,20 @@ use Rattle.mm_blobs.proofs.Moving.{moves_run, seen}
 use Rattle.mm_blobs.proofs.Naming.{keeps_no_medium, holds_media, freed_before, freed_at}
 use Rattle.mm_items.proofs.media.delete_medium_row.Goals as goal
 
-pub returns-clause-gone : goal.returns-clause-gone
-returns-clause-gone g c profile spare stands =
-    let old = state g.S.Store c.args.tx.now.conn.now in
-    let new = state g.S.Store c.run.new.tx.conn.now in
-    let a = c.args in
-    let key = item a.table.now a.id in
-    let more = spare_freed stands spare in
-    moves_run profile old new _ _ spare (λ db. with_tree db 19 (without (by_item key) (db 19))) (λ x. option_map (λ (m : MediumRow). m.blob) (get x.kept.media key) ≡ stands) (without_medium key) more c.run.result c.run.ensures.run
-    (λ count ready h. has_deleted _ _ _ _ _ statement.delete_medium old new ready (Words key.table ∷ Int key.id ∷ []) _ (search rules) (Ok count) h)
-    (λ ready x h stood.
-    let kept = kept_in spare spare profile.version (seen old) x h in
-    holds_media spare more profile.version (seen old) x h _ _ (remove x.content.media key)
-    (keeps_no_medium spare more (seen old) x.kept x.content kept _ key (removes parts.media (seen old 19) x.kept.media kept.media key) (freed_before stands spare)
-    (λ z named. freed_at stands spare z (sym stood ∙ ap (option_map (λ (m : MediumRow). m.blob)) named.1 ∙ named.2))))
+pub returns : goal.returns
+returns g c = record {
+  same = search rules;
+  gone = λ profile spare stands.
+      let old = state g.S.Store c.args.tx.now.conn.now in
+      let new = state g.S.Store c.run.new.tx.conn.now in
+      let a = c.args in
+      let key = item a.table.now a.id in
+      let more = spare_freed stands spare in
+      moves_run profile old new _ _ spare (λ db. with_tree db 19 (without (by_item key) (db 19))) (λ x. option_map (λ (m : MediumRow). m.blob) (get x.kept.media key) ≡ stands) (without_medium key) more c.run.result c.run.ensures.run
+      (λ count ready h. has_deleted _ _ _ _ _ statement.delete_medium old new ready (Words key.table ∷ Int key.id ∷ []) _ (search rules) (Ok count) h)
+      (λ ready x h stood.
+      let kept = kept_in spare spare profile.version (seen old) x h in
+      holds_media spare more profile.version (seen old) x h _ _ (remove x.content.media key)
+      (keeps_no_medium spare more (seen old) x.kept x.content kept _ key (removes parts.media (seen old 19) x.kept.media kept.media key) (freed_before stands spare)
+      (λ z named. freed_at stands spare z (sym stood ∙ ap (option_map (λ (m : MediumRow). m.blob)) named.1 ∙ named.2))));
+}

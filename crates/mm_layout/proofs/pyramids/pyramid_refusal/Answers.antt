@@ -1,70 +1,97 @@
-use Rattle.std.proofs.Common.{sym, ◌∙◌}
+use Rattle.std.proofs.Common.{sym, ◌∙◌, rules}
 use Rattle.std.proofs.Math.Facts.{to_z-of_z}
 use Rattle.std.proofs.lemmas.Result.{err_from_is_err_and}
 use Rattle.mm_store.proofs.Shapes.{look_as, look_failed, looks_then}
 use Rattle.mm_layout.proofs.Refusing.{pyramid_21, pyramid_22, pyramid_23, pyramid_24, pyramid_27, pyramid_free}
 use Rattle.mm_layout.proofs.pyramids.pyramid_refusal.Goals as goal
 
-pub returns-then-not-branch-clause-look : goal.returns-then-not-branch-clause-look
-returns-then-not-branch-clause-look g c profile =
-    look_as profile _ _ _ _ ((rw (to_z-of_z c.ranges.srs) at c.in_ok-has_system.ensures.look) profile)
-    (λ p says step. pyramid_21 p c.args.table.now c.args.identifier.now c.args.srs c.args.min_x c.args.min_y c.args.max_x c.args.max_y step (sym says ∙ c.if-not-branch.true))
+pub returns-then-not-branch : goal.returns-then-not-branch
+returns-then-not-branch g c = record {
+  same = search rules;
+  look = λ profile.
+      look_as profile _ _ _ _ ((rw (to_z-of_z c.ranges.srs) at c.in_ok-has_system.ensures.look) profile)
+      (λ p says step. pyramid_21 p c.args.table.now c.args.identifier.now c.args.srs c.args.min_x c.args.min_y c.args.max_x c.args.max_y step (sym says ∙ c.if-not-branch.true));
+}
 
-pub returns-in_err-has_system-clause-look : goal.returns-in_err-has_system-clause-look
-returns-in_err-has_system-clause-look g c profile =
-    let p = err_from_is_err_and c.from_residual.result c.from_residual.ensures.1 in
-    rw (p.1, p.2) (look_failed profile _ _ _ (c.in_err-has_system.ensures.look profile))
+pub returns-in_err-has_system : goal.returns-in_err-has_system
+returns-in_err-has_system g c = record {
+  same = search rules;
+  look = λ profile.
+      let p = err_from_is_err_and c.from_residual.result c.from_residual.ensures.1 in
+      rw (p.1, p.2) (look_failed profile _ _ _ (c.in_err-has_system.ensures.look profile));
+}
 
-pub returns-then-is_geographic-clause-look : goal.returns-then-is_geographic-clause-look
-returns-then-is_geographic-clause-look g c profile =
-    let geographic = sym (rw (to_z-of_z c.ranges.srs) at c.is_geographic.ensures) ∙ c.if-is_geographic.true in
-    look_as profile _ _ _ _ ((rw (to_z-of_z c.ranges.srs) at c.in_ok-has_system.ensures.look) profile)
-    (λ p says step. pyramid_22 p c.args.table.now c.args.identifier.now c.args.srs c.args.min_x c.args.min_y c.args.max_x c.args.max_y step (sym says ∙ c.if-not-branch.false) geographic)
+pub returns-then-is_geographic : goal.returns-then-is_geographic
+returns-then-is_geographic g c = record {
+  same = search rules;
+  look = λ profile.
+      let geographic = sym (rw (to_z-of_z c.ranges.srs) at c.is_geographic.ensures) ∙ c.if-is_geographic.true in
+      look_as profile _ _ _ _ ((rw (to_z-of_z c.ranges.srs) at c.in_ok-has_system.ensures.look) profile)
+      (λ p says step. pyramid_22 p c.args.table.now c.args.identifier.now c.args.srs c.args.min_x c.args.min_y c.args.max_x c.args.max_y step (sym says ∙ c.if-not-branch.false) geographic);
+}
 
-pub returns-then-branch-clause-look : goal.returns-then-branch-clause-look
-returns-then-branch-clause-look g c profile =
-    let a = c.args in
-    let plane = sym (rw (to_z-of_z c.ranges.srs) at c.is_geographic.ensures) ∙ c.if-is_geographic.false in
-    look_as profile _ _ _ _ (looks_then profile _ _ _ _ _ ((rw (to_z-of_z c.ranges.srs) at c.in_ok-has_system.ensures.look) profile) (c.in_ok-is_taken.ensures.look profile))
-    (λ p says step. pyramid_23 p a.table.now a.identifier.now a.srs a.min_x a.min_y a.max_x a.max_y step (sym says.0 ∙ c.if-not-branch.false) plane (sym says.1 ∙ c.if-branch.true))
+pub returns-then-branch : goal.returns-then-branch
+returns-then-branch g c = record {
+  same = search rules;
+  look = λ profile.
+      let a = c.args in
+      let plane = sym (rw (to_z-of_z c.ranges.srs) at c.is_geographic.ensures) ∙ c.if-is_geographic.false in
+      look_as profile _ _ _ _ (looks_then profile _ _ _ _ _ ((rw (to_z-of_z c.ranges.srs) at c.in_ok-has_system.ensures.look) profile) (c.in_ok-is_taken.ensures.look profile))
+      (λ p says step. pyramid_23 p a.table.now a.identifier.now a.srs a.min_x a.min_y a.max_x a.max_y step (sym says.0 ∙ c.if-not-branch.false) plane (sym says.1 ∙ c.if-branch.true));
+}
 
-pub returns-in_err-is_taken-clause-look : goal.returns-in_err-is_taken-clause-look
-returns-in_err-is_taken-clause-look g c profile =
-    let p = err_from_is_err_and c.from_residual-in_err-is_taken.result c.from_residual-in_err-is_taken.ensures.1 in
-    rw (p.1, p.2) (look_failed profile _ _ _ (looks_then profile _ _ _ _ _ (c.in_ok-has_system.ensures.look profile) (c.in_err-is_taken.ensures.look profile)))
+pub returns-in_err-is_taken : goal.returns-in_err-is_taken
+returns-in_err-is_taken g c = record {
+  same = search rules;
+  look = λ profile.
+      let p = err_from_is_err_and c.from_residual-in_err-is_taken.result c.from_residual-in_err-is_taken.ensures.1 in
+      rw (p.1, p.2) (look_failed profile _ _ _ (looks_then profile _ _ _ _ _ (c.in_ok-has_system.ensures.look profile) (c.in_err-is_taken.ensures.look profile)));
+}
 
-pub returns-then-branch-2-clause-look : goal.returns-then-branch-2-clause-look
-returns-then-branch-2-clause-look g c profile =
-    let a = c.args in
-    let plane = sym (rw (to_z-of_z c.ranges.srs) at c.is_geographic.ensures) ∙ c.if-is_geographic.false in
-    look_as profile _ _ _ _
-    (looks_then profile _ _ _ _ _ (looks_then profile _ _ _ _ _ ((rw (to_z-of_z c.ranges.srs) at c.in_ok-has_system.ensures.look) profile) (c.in_ok-is_taken.ensures.look profile)) (c.in_ok-has_identifier.ensures.look profile))
-    (λ p says step. pyramid_24 p a.table.now a.identifier.now a.srs a.min_x a.min_y a.max_x a.max_y step (sym says.0.0 ∙ c.if-not-branch.false) plane (sym says.0.1 ∙ c.if-branch.false)
-    (sym says.1 ∙ c.if-branch-2.true))
+pub returns-then-branch-2 : goal.returns-then-branch-2
+returns-then-branch-2 g c = record {
+  same = search rules;
+  look = λ profile.
+      let a = c.args in
+      let plane = sym (rw (to_z-of_z c.ranges.srs) at c.is_geographic.ensures) ∙ c.if-is_geographic.false in
+      look_as profile _ _ _ _
+      (looks_then profile _ _ _ _ _ (looks_then profile _ _ _ _ _ ((rw (to_z-of_z c.ranges.srs) at c.in_ok-has_system.ensures.look) profile) (c.in_ok-is_taken.ensures.look profile)) (c.in_ok-has_identifier.ensures.look profile))
+      (λ p says step. pyramid_24 p a.table.now a.identifier.now a.srs a.min_x a.min_y a.max_x a.max_y step (sym says.0.0 ∙ c.if-not-branch.false) plane (sym says.0.1 ∙ c.if-branch.false)
+      (sym says.1 ∙ c.if-branch-2.true));
+}
 
-pub returns-in_err-has_identifier-clause-look : goal.returns-in_err-has_identifier-clause-look
-returns-in_err-has_identifier-clause-look g c profile =
-    let p = err_from_is_err_and c.from_residual-in_err-has_identifier.result c.from_residual-in_err-has_identifier.ensures.1 in
-    rw (p.1, p.2) (look_failed profile _ _ _ (looks_then profile _ _ _ _ _ (looks_then profile _ _ _ _ _ (c.in_ok-has_system.ensures.look profile) (c.in_ok-is_taken.ensures.look profile)) (c.in_err-has_identifier.ensures.look profile)))
+pub returns-in_err-has_identifier : goal.returns-in_err-has_identifier
+returns-in_err-has_identifier g c = record {
+  same = search rules;
+  look = λ profile.
+      let p = err_from_is_err_and c.from_residual-in_err-has_identifier.result c.from_residual-in_err-has_identifier.ensures.1 in
+      rw (p.1, p.2) (look_failed profile _ _ _ (looks_then profile _ _ _ _ _ (looks_then profile _ _ _ _ _ (c.in_ok-has_system.ensures.look profile) (c.in_ok-is_taken.ensures.look profile)) (c.in_err-has_identifier.ensures.look profile)));
+}
 
-pub returns-then-is_empty-clause-look : goal.returns-then-is_empty-clause-look
-returns-then-is_empty-clause-look g c profile =
-    let a = c.args in
-    let r = c.ranges in
-    let plane = sym (rw (to_z-of_z r.srs) at c.is_geographic.ensures) ∙ c.if-is_geographic.false in
-    let empty = sym (rw (to_z-of_z r.min_x, to_z-of_z r.min_y, to_z-of_z r.max_x, to_z-of_z r.max_y) at c.is_empty.ensures) ∙ c.if-is_empty.true in
-    look_as profile _ _ _ _
-    (looks_then profile _ _ _ _ _ (looks_then profile _ _ _ _ _ ((rw (to_z-of_z r.srs) at c.in_ok-has_system.ensures.look) profile) (c.in_ok-is_taken.ensures.look profile)) (c.in_ok-has_identifier.ensures.look profile))
-    (λ p says step. pyramid_27 p a.table.now a.identifier.now a.srs a.min_x a.min_y a.max_x a.max_y step (sym says.0.0 ∙ c.if-not-branch.false) plane (sym says.0.1 ∙ c.if-branch.false)
-    (sym says.1 ∙ c.if-branch-2.false) empty)
+pub returns-then-is_empty : goal.returns-then-is_empty
+returns-then-is_empty g c = record {
+  same = search rules;
+  look = λ profile.
+      let a = c.args in
+      let r = c.ranges in
+      let plane = sym (rw (to_z-of_z r.srs) at c.is_geographic.ensures) ∙ c.if-is_geographic.false in
+      let empty = sym (rw (to_z-of_z r.min_x, to_z-of_z r.min_y, to_z-of_z r.max_x, to_z-of_z r.max_y) at c.is_empty.ensures) ∙ c.if-is_empty.true in
+      look_as profile _ _ _ _
+      (looks_then profile _ _ _ _ _ (looks_then profile _ _ _ _ _ ((rw (to_z-of_z r.srs) at c.in_ok-has_system.ensures.look) profile) (c.in_ok-is_taken.ensures.look profile)) (c.in_ok-has_identifier.ensures.look profile))
+      (λ p says step. pyramid_27 p a.table.now a.identifier.now a.srs a.min_x a.min_y a.max_x a.max_y step (sym says.0.0 ∙ c.if-not-branch.false) plane (sym says.0.1 ∙ c.if-branch.false)
+      (sym says.1 ∙ c.if-branch-2.false) empty);
+}
 
-pub returns-else-is_empty-clause-look : goal.returns-else-is_empty-clause-look
-returns-else-is_empty-clause-look g c profile =
-    let a = c.args in
-    let r = c.ranges in
-    let plane = sym (rw (to_z-of_z r.srs) at c.is_geographic.ensures) ∙ c.if-is_geographic.false in
-    let filled = sym (rw (to_z-of_z r.min_x, to_z-of_z r.min_y, to_z-of_z r.max_x, to_z-of_z r.max_y) at c.is_empty.ensures) ∙ c.if-is_empty.false in
-    look_as profile _ _ _ _
-    (looks_then profile _ _ _ _ _ (looks_then profile _ _ _ _ _ ((rw (to_z-of_z r.srs) at c.in_ok-has_system.ensures.look) profile) (c.in_ok-is_taken.ensures.look profile)) (c.in_ok-has_identifier.ensures.look profile))
-    (λ p says step. pyramid_free p a.table.now a.identifier.now a.srs a.min_x a.min_y a.max_x a.max_y step (sym says.0.0 ∙ c.if-not-branch.false) plane (sym says.0.1 ∙ c.if-branch.false)
-    (sym says.1 ∙ c.if-branch-2.false) filled)
+pub returns-else-is_empty : goal.returns-else-is_empty
+returns-else-is_empty g c = record {
+  same = search rules;
+  look = λ profile.
+      let a = c.args in
+      let r = c.ranges in
+      let plane = sym (rw (to_z-of_z r.srs) at c.is_geographic.ensures) ∙ c.if-is_geographic.false in
+      let filled = sym (rw (to_z-of_z r.min_x, to_z-of_z r.min_y, to_z-of_z r.max_x, to_z-of_z r.max_y) at c.is_empty.ensures) ∙ c.if-is_empty.false in
+      look_as profile _ _ _ _
+      (looks_then profile _ _ _ _ _ (looks_then profile _ _ _ _ _ ((rw (to_z-of_z r.srs) at c.in_ok-has_system.ensures.look) profile) (c.in_ok-is_taken.ensures.look profile)) (c.in_ok-has_identifier.ensures.look profile))
+      (λ p says step. pyramid_free p a.table.now a.identifier.now a.srs a.min_x a.min_y a.max_x a.max_y step (sym says.0.0 ∙ c.if-not-branch.false) plane (sym says.0.1 ∙ c.if-branch.false)
+      (sym says.1 ∙ c.if-branch-2.false) filled);
+}

@@ -8,10 +8,13 @@ use Rattle.mm_schema.proofs.Selecting as statement
 use Rattle.mm_store.proofs.Steps.{looks, seen}
 use Rattle.mm_layout.proofs.relations.uses_table.Goals as goal
 
-pub returns-clause-look : goal.returns-clause-look
-returns-clause-look g c profile =
-    let old = state g.S.Store c.args.tx.now.conn.now in
-    let new = state g.S.Store c.exists.new.tx.conn.now in
-    looks profile old new _ _ _ (λ p found. found ≡ is_used p c.args.table.now) c.exists.result c.exists.ensures.asked (λ x first ready shown gives.
-    let read = selects_any _ _ _ _ _ _ statement.uses_table old new ready.schema_is (Words c.args.table.now ∷ []) _ (search rules) first shown in
-    (read.0, λ p h. gives ∙ read.1 ∙ uses p c.args.table.now (seen old 10) h.relations))
+pub returns : goal.returns
+returns g c = record {
+  same = search rules;
+  look = λ profile.
+      let old = state g.S.Store c.args.tx.now.conn.now in
+      let new = state g.S.Store c.exists.new.tx.conn.now in
+      looks profile old new _ _ _ (λ p found. found ≡ is_used p c.args.table.now) c.exists.result c.exists.ensures.asked (λ x first ready shown gives.
+      let read = selects_any _ _ _ _ _ _ statement.uses_table old new ready.schema_is (Words c.args.table.now ∷ []) _ (search rules) first shown in
+      (read.0, λ p h. gives ∙ read.1 ∙ uses p c.args.table.now (seen old 10) h.relations));
+}

@@ -11,33 +11,45 @@ use Rattle.mm_reads.specs.Told.{ShowsMedium}
 use Rattle.mm_reads.proofs.Found.{same_words, same_int}
 use Rattle.mm_reads.proofs.media_items.medium_in.Goals as goal
 
-pub returns-in_err-blob-clause-told : goal.returns-in_err-blob-clause-told
-returns-in_err-blob-clause-told g c profile spare =
-    let p = err_from_is_err_and c.from_residual.result c.from_residual.ensures.1 in
-    rw (p.1, p.2) (record { survives = commits_nothing _; on = λ clean base x it. it.back; moved = λ clean base x it. tt; faults = c.in_err-blob.ensures.fault })
+pub returns-in_err-blob : goal.returns-in_err-blob
+returns-in_err-blob g c = record {
+  same = search rules;
+  found = λ profile spare.
+      let p = err_from_is_err_and c.from_residual.result c.from_residual.ensures.1 in
+      rw (p.1, p.2) (record { survives = commits_nothing _; on = λ clean base x it. it.back; moved = λ clean base x it. tt; faults = c.in_err-blob.ensures.fault });
+}
 
-pub returns-in_err-content_type-clause-told : goal.returns-in_err-content_type-clause-told
-returns-in_err-content_type-clause-told g c profile spare =
-    let p = err_from_is_err_and c.from_residual-in_err-content_type.result c.from_residual-in_err-content_type.ensures.1 in
-    rw (p.1, p.2) (record { survives = commits_nothing _; on = λ clean base x it. it.back; moved = λ clean base x it. tt; faults = c.in_err-content_type.ensures.fault })
+pub returns-in_err-content_type : goal.returns-in_err-content_type
+returns-in_err-content_type g c = record {
+  same = search rules;
+  found = λ profile spare.
+      let p = err_from_is_err_and c.from_residual-in_err-content_type.result c.from_residual-in_err-content_type.ensures.1 in
+      rw (p.1, p.2) (record { survives = commits_nothing _; on = λ clean base x it. it.back; moved = λ clean base x it. tt; faults = c.in_err-content_type.ensures.fault });
+}
 
-pub returns-clause-told : goal.returns-clause-told
-returns-clause-told g c profile spare =
-    let new = state g.S.Store c.bytes_of.new.tx.conn.now in
-    let row = c.args.row.now in
-    let blob = c.in_ok-blob.blob in
-    let back : to_z w64 (of_z w64 blob) ≡ blob = search (rules, to_z-of_z) in
-    let bytes = c.in_ok-bytes.bytes in
-    move_made (λ base x m y. (y ≡ x) × IsSeen spare profile new base y × ((r : MediumRow) → ShowsMedium row r → (bytes_at y.kept.shelf r.blob ≡ Some m.bytes) × (r.content_type ≡ m.content_type))) _ new bytes c.medium.result ((rw back at c.in_ok-bytes.ensures.told) profile spare) c.medium.ensures.fault
-    (IfOk-weaker c.medium.result _ _ (λ m made base x y last. (
-      last.0,
-      last.1,
-      λ r shown.
-          let named : r.blob ≡ blob = same_int (sym shown.blob ∙ c.in_ok-blob.ensures.shown) in
-          (ap (bytes_at y.kept.shelf) named ∙ last.2 ∙ ap Some (sym made.0), same_words (sym shown.content_type ∙ c.in_ok-content_type.ensures.shown) ∙ sym made.1),
-    )) c.medium.ensures.shown)
+pub returns : goal.returns
+returns g c = record {
+  same = search rules;
+  found = λ profile spare.
+      let new = state g.S.Store c.bytes_of.new.tx.conn.now in
+      let row = c.args.row.now in
+      let blob = c.in_ok-blob.blob in
+      let back : to_z w64 (of_z w64 blob) ≡ blob = search (rules, to_z-of_z) in
+      let bytes = c.in_ok-bytes.bytes in
+      move_made (λ base x m y. (y ≡ x) × IsSeen spare profile new base y × ((r : MediumRow) → ShowsMedium row r → (bytes_at y.kept.shelf r.blob ≡ Some m.bytes) × (r.content_type ≡ m.content_type))) _ new bytes c.medium.result ((rw back at c.in_ok-bytes.ensures.told) profile spare) c.medium.ensures.fault
+      (IfOk-weaker c.medium.result _ _ (λ m made base x y last. (
+        last.0,
+        last.1,
+        λ r shown.
+            let named : r.blob ≡ blob = same_int (sym shown.blob ∙ c.in_ok-blob.ensures.shown) in
+            (ap (bytes_at y.kept.shelf) named ∙ last.2 ∙ ap Some (sym made.0), same_words (sym shown.content_type ∙ c.in_ok-content_type.ensures.shown) ∙ sym made.1),
+      )) c.medium.ensures.shown);
+}
 
-pub returns-in_err-bytes-clause-told : goal.returns-in_err-bytes-clause-told
-returns-in_err-bytes-clause-told g c profile spare =
-    let p = err_from_is_err_and c.from_residual-in_err-bytes.result c.from_residual-in_err-bytes.ensures.1 in
-    rw (p.1, p.2) (move_failed _ _ _ (c.in_err-bytes.ensures.told profile spare) (λ base x it. it))
+pub returns-in_err-bytes : goal.returns-in_err-bytes
+returns-in_err-bytes g c = record {
+  same = search rules;
+  found = λ profile spare.
+      let p = err_from_is_err_and c.from_residual-in_err-bytes.result c.from_residual-in_err-bytes.ensures.1 in
+      rw (p.1, p.2) (move_failed _ _ _ (c.in_err-bytes.ensures.told profile spare) (λ base x it. it));
+}

@@ -1,4 +1,5 @@
+use Rattle.std.proofs.Common.{rules}
 use Rattle.mm_relations.proofs.relations.add_relation.Goals as goal
 
-pub returns-clause-lent : goal.returns-clause-lent
-returns-clause-lent g c profile moment = (rw (c.as_str.ensures.text, c.as_str-2.ensures.text, c.as_str-3.ensures.text) at c.relate.ensures.lent) profile moment
+pub returns : goal.returns
+returns g c = record { same = search rules; lent = λ profile moment. (rw (c.as_str.ensures.text, c.as_str-2.ensures.text, c.as_str-3.ensures.text) at c.relate.ensures.lent) profile moment }

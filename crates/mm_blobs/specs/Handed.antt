@@ -1,0 +1,58 @@
+-- What a call does with the transaction that it is handed, of a view: a package, and how its bytes are kept. Each leaves it the transaction on the
+-- same connection (`same`).
+use Rattle.std.specs.Prelude.{◌≡◌, ℕ, ℤ, List, Option, Some, Result}
+use Rattle.sqlite.specs.Held.{state}
+use Rattle.sqlite.specs.Store.{Ghosts}
+use Rattle.sqlite.specs.declared.transaction.Transaction.{Transaction}
+use Rattle.mm_definitions.specs.Bounds.{Profile}
+use Rattle.mm_definitions.specs.Package.{Package}
+use Rattle.mm_definitions.specs.declared.answers.Fault.{Fault}
+use Rattle.mm_store.specs.Blobs.{bytes_at}
+use Rattle.mm_store.specs.Handed.{IsSame}
+use Rattle.mm_store.specs.Kept.{Spare}
+use Rattle.mm_blobs.specs.Entries.{spare_freed}
+use Rattle.mm_blobs.specs.Moves.{IsMove}
+use Rattle.mm_blobs.specs.Views.{View, IsSeen, spare_too, spare_but}
+
+module _ {S T : Type 0} (g : Ghosts S) (old new : Transaction S) where
+  -- it only looks, and answers so of the view
+  pub record Finds (Says : View → T → Type 0) (result : Result T Fault) : Type 0 where
+    pub same : IsSame old new
+    pub found : (profile : Profile) (spare : Spare) → IsMove (state g old.conn.now) (state g new.conn.now)
+        (IsSeen spare profile (state g old.conn.now))
+        (λ base v t w. (w ≡ v) × IsSeen spare profile (state g new.conn.now) base w × Says w t) result
+
+  -- it only looks, and answers so of a view for which this holds
+  pub record FindsFor {X : Type 0} (When : X → Package → Type 0) (Says : X → View → T → Type 0) (result : Result T Fault) : Type 0 where
+    pub same : IsSame old new
+    pub found : (profile : Profile) (spare : Spare) (x : X) → IsMove (state g old.conn.now) (state g new.conn.now)
+        (λ base v. IsSeen spare profile (state g old.conn.now) base v × When x v.content)
+        (λ base v t w. (w ≡ v) × IsSeen spare profile (state g new.conn.now) base w × Says x w t) result
+
+  -- it lets an entry name a blob that stands, in place of the blob that it names, if it stands: that one may be unnamed then
+  pub record Names (blob : ℤ) (entry : View → Option ℤ) (stands : Option ℤ) (next : List ℕ → View → View) (result : Result T Fault) : Type 0 where
+    pub same : IsSame old new
+    pub named : (profile : Profile) (spare : Spare) (bytes : List ℕ) → IsMove (state g old.conn.now) (state g new.conn.now)
+        (λ base v. IsSeen spare profile (state g old.conn.now) base v × ((bytes_at v.kept.shelf blob ≡ Some bytes) × (entry v ≡ stands)))
+        (λ base v _ w. (w ≡ next bytes v) × IsSeen (spare_freed stands (spare_but blob spare)) profile (state g new.conn.now) base w) result
+
+  -- the same of an entry that stands, whatever blob it names
+  pub record Renames (blob : ℤ) (entry : View → Option ℤ) (next : List ℕ → View → View) (result : Result T Fault) : Type 0 where
+    pub same : IsSame old new
+    pub named : (profile : Profile) (spare : Spare) (bytes : List ℕ) (was : ℤ) → IsMove (state g old.conn.now) (state g new.conn.now)
+        (λ base v. IsSeen spare profile (state g old.conn.now) base v × ((bytes_at v.kept.shelf blob ≡ Some bytes) × (entry v ≡ Some was)))
+        (λ base v _ w. (w ≡ next bytes v) × IsSeen (spare_too was (spare_but blob spare)) profile (state g new.conn.now) base w) result
+
+  -- it removes an entry, if it stands: the blob that it names may be unnamed then
+  pub record Unnames (entry : View → Option ℤ) (next : View → View) (result : Result T Fault) : Type 0 where
+    pub same : IsSame old new
+    pub gone : (profile : Profile) (spare : Spare) (stands : Option ℤ) → IsMove (state g old.conn.now) (state g new.conn.now)
+        (λ base v. IsSeen spare profile (state g old.conn.now) base v × (entry v ≡ stands))
+        (λ base v _ w. (w ≡ next v) × IsSeen (spare_freed stands spare) profile (state g new.conn.now) base w) result
+
+  -- it gives an entry the bytes of a blob that stands, which the entry names then
+  pub record Gives (blob : ℤ) (next : List ℕ → Package → Package) (result : Result T Fault) : Type 0 where
+    pub same : IsSame old new
+    pub given : (profile : Profile) (spare : Spare) (bytes : List ℕ) → IsMove (state g old.conn.now) (state g new.conn.now)
+        (λ base v. IsSeen spare profile (state g old.conn.now) base v × (bytes_at v.kept.shelf blob ≡ Some bytes))
+        (λ base v _ w. (w.content ≡ next bytes v.content) × IsSeen (spare_but blob spare) profile (state g new.conn.now) base w) result

@@ -51,6 +51,10 @@ pub record IsSeen (spare : Spare) (profile : Profile) (s : State) (ground : Grou
   pub back : StandsOn s ground
   pub reads : IsTrue s.is_open → Sees spare profile.version s.now x
 
+-- the one is the other but for its shelf
+abbrev pub AllButShelf : View → View → Type 0
+AllButShelf x y = y ≡ record x { kept = record (x.kept) { shelf = y.kept.shelf } }
+
 -- ---- what is found
 
 -- no blob holds the bytes

@@ -1,19 +1,17 @@
 //! A blob is kept, and released where nothing names it.
 
-ghost use Rattle.std.specs.Prelude.{◌≡◌, ◌≢◌, IsUtf8, IsTrue, IfOk, [], ◌∷◌, Some, None};
-ghost use Rattle.std.specs.FinMap.{get, insert, remove};
+ghost use Rattle.std.specs.Prelude.{◌≡◌, ◌≢◌, IfOk, [], ◌∷◌, Some};
 ghost use Rattle.sqlite.specs.declared.types.Value.TheVariants.{Blob as Bytes};
 ghost use Rattle.sqlite.specs.Order.{column};
 ghost use Rattle.sqlite.specs.Values.{bound};
-ghost use Rattle.sqlite.specs.Held.{state};
-ghost use Rattle.mm_store.specs.Statements.{IsAsked};
-ghost use Rattle.mm_store.specs.Blobs.{blob_of, bytes_at, NamesBlob};
+ghost use Rattle.mm_store.specs.Blobs.{bytes_at, NamesBlob};
 ghost use Rattle.mm_store.specs.Blobs as spec;
-ghost use Rattle.mm_definitions.specs.Bounds.{Profile};
-ghost use Rattle.mm_store.specs.Kept.{Spare, no_spare, IsNamed, tile_id, medium_id, piece_id};
-ghost use Rattle.mm_blobs.specs.Views.{spare_too, spare_but, spare_each, IsSeen, Lacks, IsFound, TellsWhether};
+ghost use Rattle.mm_store.specs.Kept.{no_spare, IsNamed, tile_id, medium_id, piece_id};
+ghost use Rattle.mm_blobs.specs.Views.{spare_but, spare_each, IsFound, TellsWhether};
 ghost use Rattle.mm_blobs.specs.Entries.{spare_freed};
-ghost use Rattle.mm_blobs.specs.Moves.{IsMove, GivesNumber, ShowsBytes};
+ghost use Rattle.mm_blobs.specs.Moves.{GivesNumber, ShowsBytes};
+ghost use Rattle.mm_store.specs.Handed.{Asks};
+ghost use Rattle.mm_blobs.specs.Handed.{Finds, Puts, Keeps, Removes, Releases, ReleasesOpen, ListsUnnamed};
 
 use crate::digests::{digest_of, text_of};
 use mm_definitions::answers::Fault;
@@ -29,9 +27,7 @@ pub fn first_number<S: Alter>(
     sql: &str,
     params: &[ValueRef<'_>],
 ) -> Result<Option<i64>, Fault>
-    ensures same_reference { tx.new.conn.ghost_name ≡ tx.old.conn.ghost_name }
-    ensures asked { IsAsked (state S.Store tx.old.conn.now) (state S.Store tx.new.conn.now) sql.now
-        (bound params.now) (λ it first. GivesNumber it first) result }
+    ensures { Asks S.Store tx.old tx.new sql.now (bound params.now) GivesNumber result }
 {
     match first(tx, sql, params)? {
         Some(row) => Ok(Some(number_in(&row, 0)?)),
@@ -46,12 +42,7 @@ fn find_blob<S: Alter>(
     bytes: &[u8],
 ) -> Result<Option<i64>, Fault>
     requires { digest.now ≡ spec.digest_of bytes.now }
-    ensures same_reference { tx.new.conn.ghost_name ≡ tx.old.conn.ghost_name }
-    ensures found { (profile : Profile) (spare : Spare)
-        → IsMove (state S.Store tx.old.conn.now) (state S.Store tx.new.conn.now)
-        (IsSeen spare profile (state S.Store tx.old.conn.now))
-        (λ base x it y. (y ≡ x) × IsSeen spare profile (state S.Store tx.new.conn.now) base y
-        × IsFound y.kept.shelf bytes.now it) result }
+    ensures { Finds S.Store tx.old tx.new (λ y it. IsFound y.kept.shelf bytes.now it) result }
 {
     first_number(
         tx,
@@ -68,15 +59,7 @@ fn insert_blob<S: Alter>(
 ) -> Result<i64, Fault>
     requires digest { digest.now ≡ spec.digest_of bytes.now }
     requires some { bytes.now ≢ [] }
-    ensures same_reference { tx.new.conn.ghost_name ≡ tx.old.conn.ghost_name }
-    ensures put { (profile : Profile) (spare : Spare)
-        → IsMove (state S.Store tx.old.conn.now) (state S.Store tx.new.conn.now)
-        (λ base x. IsSeen spare profile (state S.Store tx.old.conn.now) base x
-        × Lacks x.kept.shelf bytes.now)
-        (λ base x id y.
-        (y ≡ record x
-        { kept = record (x.kept) { shelf = insert x.kept.shelf id (blob_of bytes.now) } })
-        × IsSeen (spare_too id spare) profile (state S.Store tx.new.conn.now) base y) result }
+    ensures { Puts S.Store tx.old tx.new bytes.now result }
 {
     run(
         tx,
@@ -89,13 +72,7 @@ fn insert_blob<S: Alter>(
 /// The id of the blob of these bytes, which is put where none stands. Until an entry names it, it may stand unnamed.
 pub fn keep<S: Alter>(tx: &mut Transaction<'_, S>, bytes: &[u8]) -> Result<i64, Fault>
     requires { bytes.now ≢ [] }
-    ensures same_reference { tx.new.conn.ghost_name ≡ tx.old.conn.ghost_name }
-    ensures kept { (profile : Profile) (spare : Spare) →
-        IsMove (state S.Store tx.old.conn.now) (state S.Store tx.new.conn.now)
-        (IsSeen spare profile (state S.Store tx.old.conn.now))
-        (λ base x id y. (y ≡ record x { kept = record (x.kept) { shelf = y.kept.shelf } })
-        × IsSeen (spare_too id spare) profile (state S.Store tx.new.conn.now) base y
-        × (bytes_at y.kept.shelf id ≡ Some bytes.now)) result }
+    ensures { Keeps S.Store tx.old tx.new bytes.now result }
 {
     let digits = digest_of(bytes);
     let digest = text_of(&digits);
@@ -107,12 +84,8 @@ pub fn keep<S: Alter>(tx: &mut Transaction<'_, S>, bytes: &[u8]) -> Result<i64, 
 
 /// The row of a blob, which shows its bytes, if one stands.
 fn row_of_blob<S: Alter>(tx: &mut Transaction<'_, S>, id: i64) -> Result<Option<Row>, Fault>
-    ensures same_reference { tx.new.conn.ghost_name ≡ tx.old.conn.ghost_name }
-    ensures shown { (profile : Profile) (spare : Spare) →
-        IsMove (state S.Store tx.old.conn.now) (state S.Store tx.new.conn.now)
-        (IsSeen spare profile (state S.Store tx.old.conn.now))
-        (λ base x row y. (y ≡ x) × IsSeen spare profile (state S.Store tx.new.conn.now) base y
-        × ShowsBytes (bytes_at y.kept.shelf id) row) result }
+    ensures { Finds S.Store tx.old tx.new (λ y row. ShowsBytes (bytes_at y.kept.shelf id) row)
+        result }
 {
     first(
         tx,
@@ -130,12 +103,8 @@ fn bytes_in(row: &Row) -> Result<Vec<u8>, Error>
 
 /// The bytes of a blob that stands. Where none does, that is a fault, 91.
 pub fn bytes_of<S: Alter>(tx: &mut Transaction<'_, S>, id: i64) -> Result<Vec<u8>, Fault>
-    ensures same_reference { tx.new.conn.ghost_name ≡ tx.old.conn.ghost_name }
-    ensures told { (profile : Profile) (spare : Spare) →
-        IsMove (state S.Store tx.old.conn.now) (state S.Store tx.new.conn.now)
-        (IsSeen spare profile (state S.Store tx.old.conn.now))
-        (λ base x bytes y. (y ≡ x) × IsSeen spare profile (state S.Store tx.new.conn.now) base y
-        × (bytes_at y.kept.shelf id ≡ Some bytes.items)) result }
+    ensures { Finds S.Store tx.old tx.new (λ y bytes. bytes_at y.kept.shelf id ≡ Some bytes.items)
+        result }
 {
     match row_of_blob(tx, id)? {
         Some(row) => match bytes_in(&row) {
@@ -148,12 +117,8 @@ pub fn bytes_of<S: Alter>(tx: &mut Transaction<'_, S>, id: i64) -> Result<Vec<u8
 
 /// Whether a tile names a blob.
 fn tile_names<S: Alter>(tx: &mut Transaction<'_, S>, id: i64) -> Result<bool, Fault>
-    ensures same_reference { tx.new.conn.ghost_name ≡ tx.old.conn.ghost_name }
-    ensures named { (profile : Profile) (spare : Spare) →
-        IsMove (state S.Store tx.old.conn.now) (state S.Store tx.new.conn.now)
-        (IsSeen spare profile (state S.Store tx.old.conn.now))
-        (λ base x it y. (y ≡ x) × IsSeen spare profile (state S.Store tx.new.conn.now) base y
-        × TellsWhether (NamesBlob tile_id y.kept.tiles id) it) result }
+    ensures { Finds S.Store tx.old tx.new (λ y it. TellsWhether (NamesBlob tile_id y.kept.tiles id)
+        it) result }
 {
     exists(
         tx,
@@ -164,12 +129,8 @@ fn tile_names<S: Alter>(tx: &mut Transaction<'_, S>, id: i64) -> Result<bool, Fa
 
 /// Whether a medium names a blob.
 fn medium_names<S: Alter>(tx: &mut Transaction<'_, S>, id: i64) -> Result<bool, Fault>
-    ensures same_reference { tx.new.conn.ghost_name ≡ tx.old.conn.ghost_name }
-    ensures named { (profile : Profile) (spare : Spare) →
-        IsMove (state S.Store tx.old.conn.now) (state S.Store tx.new.conn.now)
-        (IsSeen spare profile (state S.Store tx.old.conn.now))
-        (λ base x it y. (y ≡ x) × IsSeen spare profile (state S.Store tx.new.conn.now) base y
-        × TellsWhether (NamesBlob medium_id y.kept.media id) it) result }
+    ensures { Finds S.Store tx.old tx.new (λ y it. TellsWhether
+        (NamesBlob medium_id y.kept.media id) it) result }
 {
     exists(
         tx,
@@ -180,12 +141,8 @@ fn medium_names<S: Alter>(tx: &mut Transaction<'_, S>, id: i64) -> Result<bool, 
 
 /// Whether a staged piece names a blob.
 fn piece_names<S: Alter>(tx: &mut Transaction<'_, S>, id: i64) -> Result<bool, Fault>
-    ensures same_reference { tx.new.conn.ghost_name ≡ tx.old.conn.ghost_name }
-    ensures named { (profile : Profile) (spare : Spare) →
-        IsMove (state S.Store tx.old.conn.now) (state S.Store tx.new.conn.now)
-        (IsSeen spare profile (state S.Store tx.old.conn.now))
-        (λ base x it y. (y ≡ x) × IsSeen spare profile (state S.Store tx.new.conn.now) base y
-        × TellsWhether (NamesBlob piece_id y.kept.pieces id) it) result }
+    ensures { Finds S.Store tx.old tx.new (λ y it. TellsWhether
+        (NamesBlob piece_id y.kept.pieces id) it) result }
 {
     exists(
         tx,
@@ -196,12 +153,7 @@ fn piece_names<S: Alter>(tx: &mut Transaction<'_, S>, id: i64) -> Result<bool, F
 
 /// Whether a tile, a medium or a staged piece names a blob.
 fn is_named<S: Alter>(tx: &mut Transaction<'_, S>, id: i64) -> Result<bool, Fault>
-    ensures same_reference { tx.new.conn.ghost_name ≡ tx.old.conn.ghost_name }
-    ensures named { (profile : Profile) (spare : Spare) →
-        IsMove (state S.Store tx.old.conn.now) (state S.Store tx.new.conn.now)
-        (IsSeen spare profile (state S.Store tx.old.conn.now))
-        (λ base x it y. (y ≡ x) × IsSeen spare profile (state S.Store tx.new.conn.now) base y
-        × TellsWhether (IsNamed y.kept id) it) result }
+    ensures { Finds S.Store tx.old tx.new (λ y it. TellsWhether (IsNamed y.kept id) it) result }
 {
     if tile_names(tx, id)? {
         return Ok(true);
@@ -214,25 +166,14 @@ fn is_named<S: Alter>(tx: &mut Transaction<'_, S>, id: i64) -> Result<bool, Faul
 
 /// Removes a blob that nothing names.
 fn delete_blob<S: Alter>(tx: &mut Transaction<'_, S>, id: i64) -> Result<(), Fault>
-    ensures same_reference { tx.new.conn.ghost_name ≡ tx.old.conn.ghost_name }
-    ensures gone { (profile : Profile) (spare : Spare)
-        → IsMove (state S.Store tx.old.conn.now) (state S.Store tx.new.conn.now)
-        (λ base x. IsSeen spare profile (state S.Store tx.old.conn.now) base x
-        × ¬ IsNamed x.kept id)
-        (λ base x _ y. (y ≡ record x { kept = record (x.kept) { shelf = remove x.kept.shelf id } })
-        × IsSeen (spare_but id spare) profile (state S.Store tx.new.conn.now) base y) result }
+    ensures { Removes S.Store tx.old tx.new id result }
 {
     run(tx, "DELETE FROM mm_blobs WHERE id = ?1", params![id])
 }
 
 /// Removes the blob of an id if nothing names it any more.
 pub fn release<S: Alter>(tx: &mut Transaction<'_, S>, id: i64) -> Result<(), Fault>
-    ensures same_reference { tx.new.conn.ghost_name ≡ tx.old.conn.ghost_name }
-    ensures released { (profile : Profile) (spare : Spare) →
-        IsMove (state S.Store tx.old.conn.now) (state S.Store tx.new.conn.now)
-        (IsSeen spare profile (state S.Store tx.old.conn.now))
-        (λ base x _ y. (y ≡ record x { kept = record (x.kept) { shelf = y.kept.shelf } })
-        × IsSeen (spare_but id spare) profile (state S.Store tx.new.conn.now) base y) result }
+    ensures { Releases S.Store tx.old tx.new (λ spare. spare) (spare_but id) result }
 {
     if is_named(tx, id)? {
         Ok(())
@@ -243,13 +184,7 @@ pub fn release<S: Alter>(tx: &mut Transaction<'_, S>, id: i64) -> Result<(), Fau
 
 /// Releases the blob that an entry named which went, if one stood.
 pub fn release_freed<S: Alter>(tx: &mut Transaction<'_, S>, freed: Option<i64>) -> Result<(), Fault>
-    ensures same_reference { tx.new.conn.ghost_name ≡ tx.old.conn.ghost_name }
-    ensures released { (profile : Profile) (spare : Spare) →
-        IsMove (state S.Store tx.old.conn.now) (state S.Store tx.new.conn.now)
-        (λ base x. IsTrue (state S.Store tx.old.conn.now).is_open
-        × IsSeen (spare_freed freed spare) profile (state S.Store tx.old.conn.now) base x)
-        (λ base x _ y. (y ≡ record x { kept = record (x.kept) { shelf = y.kept.shelf } })
-        × IsSeen spare profile (state S.Store tx.new.conn.now) base y) result }
+    ensures { ReleasesOpen S.Store tx.old tx.new (spare_freed freed) result }
 {
     match freed {
         Some(id) => release(tx, id),
@@ -259,12 +194,7 @@ pub fn release_freed<S: Alter>(tx: &mut Transaction<'_, S>, freed: Option<i64>) 
 
 /// Releases the blob whose id a row begins with.
 fn release_in<S: Alter>(tx: &mut Transaction<'_, S>, row: &Row) -> Result<(), Fault>
-    ensures same_reference { tx.new.conn.ghost_name ≡ tx.old.conn.ghost_name }
-    ensures released { (profile : Profile) (spare : Spare) →
-        IsMove (state S.Store tx.old.conn.now) (state S.Store tx.new.conn.now)
-        (IsSeen (spare_each (row.now ∷ []) spare) profile (state S.Store tx.old.conn.now))
-        (λ base x _ y. (y ≡ record x { kept = record (x.kept) { shelf = y.kept.shelf } })
-        × IsSeen spare profile (state S.Store tx.new.conn.now) base y) result }
+    ensures { Releases S.Store tx.old tx.new (spare_each (row.now ∷ [])) (λ spare. spare) result }
 {
     let id = number_in(row, 0)?;
     release(tx, id)
@@ -272,13 +202,7 @@ fn release_in<S: Alter>(tx: &mut Transaction<'_, S>, row: &Row) -> Result<(), Fa
 
 /// Releases each of the blobs whose ids these rows begin with.
 pub fn release_each<S: Alter>(tx: &mut Transaction<'_, S>, rows: &[Row]) -> Result<(), Fault>
-    ensures same_reference { tx.new.conn.ghost_name ≡ tx.old.conn.ghost_name }
-    ensures released { (profile : Profile) (spare : Spare) →
-        IsMove (state S.Store tx.old.conn.now) (state S.Store tx.new.conn.now)
-        (λ base x. IsTrue (state S.Store tx.old.conn.now).is_open
-        × IsSeen (spare_each rows.now spare) profile (state S.Store tx.old.conn.now) base x)
-        (λ base x _ y. (y ≡ record x { kept = record (x.kept) { shelf = y.kept.shelf } })
-        × IsSeen spare profile (state S.Store tx.new.conn.now) base y) result }
+    ensures { ReleasesOpen S.Store tx.old tx.new (spare_each rows.now) result }
 {
     for row in rows {
         release_in(tx, row)?;
@@ -288,13 +212,7 @@ pub fn release_each<S: Alter>(tx: &mut Transaction<'_, S>, rows: &[Row]) -> Resu
 
 /// The ids of the blobs that nothing names.
 fn unnamed<S: Alter>(tx: &mut Transaction<'_, S>) -> Result<Vec<Row>, Fault>
-    ensures same_reference { tx.new.conn.ghost_name ≡ tx.old.conn.ghost_name }
-    ensures listed { (profile : Profile) (spare : Spare)
-        → IsMove (state S.Store tx.old.conn.now) (state S.Store tx.new.conn.now)
-        (IsSeen spare profile (state S.Store tx.old.conn.now))
-        (λ base x rows y. (y ≡ x)
-        × IsSeen (spare_each rows.items no_spare) profile (state S.Store tx.new.conn.now)
-        base y) result }
+    ensures { ListsUnnamed S.Store tx.old tx.new (λ rows. rows.items) result }
 {
     all(
         tx,
@@ -305,12 +223,7 @@ fn unnamed<S: Alter>(tx: &mut Transaction<'_, S>) -> Result<Vec<Row>, Fault>
 
 /// Removes every blob that nothing names.
 pub fn sweep<S: Alter>(tx: &mut Transaction<'_, S>) -> Result<(), Fault>
-    ensures same_reference { tx.new.conn.ghost_name ≡ tx.old.conn.ghost_name }
-    ensures swept { (profile : Profile) (spare : Spare) →
-        IsMove (state S.Store tx.old.conn.now) (state S.Store tx.new.conn.now)
-        (IsSeen spare profile (state S.Store tx.old.conn.now))
-        (λ base x _ y. (y ≡ record x { kept = record (x.kept) { shelf = y.kept.shelf } })
-        × IsSeen no_spare profile (state S.Store tx.new.conn.now) base y) result }
+    ensures { Releases S.Store tx.old tx.new (λ spare. spare) (λ spare. no_spare) result }
 {
     let rows = unnamed(tx)?;
     release_each(tx, rows.as_slice())

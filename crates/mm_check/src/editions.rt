@@ -1,15 +1,11 @@
 //! The rules of editions and of their pieces.
 
-ghost use Rattle.std.specs.Prelude.{◌≡◌, ◌⊎◌, ◌↔◌, [], Some, codes, pos, IsTrue};
-ghost use Rattle.sqlite.specs.Held.{state};
-ghost use Rattle.sqlite.specs.Order.{column};
-ghost use Rattle.mm_definitions.specs.Bounds.{Profile};
-ghost use Rattle.mm_definitions.specs.Rules.{Editions, Limits};
-ghost use Rattle.mm_queries.specs.Check.{IsCheck};
-ghost use Rattle.mm_queries.specs.Columns.{bytes_of};
+ghost use Rattle.std.specs.Prelude.{◌↔◌, IsTrue};
+ghost use Rattle.mm_definitions.specs.Rules.{Editions};
 ghost use Rattle.mm_rules.specs.Parts.{EditionStates, PiecesOfOpen, PiecesNumbered, PiecesSpelled};
 ghost use Rattle.mm_definitions.specs.Units.{profile_of};
-ghost use Rattle.mm_check.specs.PieceRows.{IsStateRow, IsOpenRow, IsNumberedRow, IsSpelledRow, IsOfKind, AreSides, AreUnused, IsContent, IsMatrix, HasNoTexts, HasNoBytes, IsPlaceOfTile, IsItem, IsPair, IsTile, IsTileDrop, PutsRow, IsItemDrop, IsMedia, IsMap, PutsEntry, IsDrop};
+ghost use Rattle.mm_check.specs.PieceRows.{IsStateRow, IsOpenRow, IsNumberedRow, IsSpelledRow, AreSides, AreUnused, IsContent, IsMatrix, HasNoTexts, HasNoBytes, IsPlaceOfTile, IsItem, IsPair, IsTile, IsTileDrop, PutsRow, IsItemDrop, IsMedia, IsMap, PutsEntry, IsDrop};
+ghost use Rattle.mm_queries.specs.Check.{DecidesWithin, DecidesWithinUnder};
 
 use mm_definitions::answers::Fault;
 use mm_definitions::limits::{
@@ -41,9 +37,7 @@ impl RowTest for State {
 
 /// Of rule 15, that each edition is open or published.
 pub fn edition_states<S: Alter>(conn: &mut Connection<S>) -> Result<bool, Fault>
-    ensures { (profile : Profile)
-        → IsCheck profile (state S.Store conn.old) (state S.Store conn.new) (λ p. Limits profile p)
-        (λ p. EditionStates p) result }
+    ensures { DecidesWithin S.Store conn.old conn.new (λ p. EditionStates p) result }
 {
     each_passes(
         conn,
@@ -70,9 +64,7 @@ impl RowTest for OfOpen {
 
 /// Of rule 15, that each piece is one of an open edition.
 pub fn pieces_of_open<S: Alter>(conn: &mut Connection<S>) -> Result<bool, Fault>
-    ensures { (profile : Profile)
-        → IsCheck profile (state S.Store conn.old) (state S.Store conn.new) (λ p. Limits profile p)
-        (λ p. PiecesOfOpen p) result }
+    ensures { DecidesWithin S.Store conn.old conn.new (λ p. PiecesOfOpen p) result }
 {
     each_passes(
         conn,
@@ -102,9 +94,7 @@ impl RowTest for Numbered {
 
 /// Of rule 15, where rule 16 holds, that each piece follows another or is the first, and is one of the first 4,096.
 pub fn pieces_numbered<S: Alter>(conn: &mut Connection<S>) -> Result<bool, Fault>
-    ensures { (profile : Profile)
-        → IsCheck profile (state S.Store conn.old) (state S.Store conn.new) (λ p. Limits profile p)
-        (λ p. PiecesNumbered p) result }
+    ensures { DecidesWithin S.Store conn.old conn.new (λ p. PiecesNumbered p) result }
 {
     each_passes(
         conn,
@@ -296,8 +286,8 @@ impl RowTest for Spelled {
 
 /// Of rule 15, that each row spells a piece within the limits.
 pub fn pieces_spelled<S: Alter>(conn: &mut Connection<S>, unit: Unit) -> Result<bool, Fault>
-    ensures { IsCheck (profile_of unit) (state S.Store conn.old) (state S.Store conn.new)
-        (λ p. Limits (profile_of unit) p) (λ p. PiecesSpelled (profile_of unit) p) result }
+    ensures { DecidesWithinUnder S.Store conn.old conn.new (profile_of unit)
+        (λ p. PiecesSpelled (profile_of unit) p) result }
 {
     each_passes(
         conn,
@@ -309,8 +299,7 @@ pub fn pieces_spelled<S: Alter>(conn: &mut Connection<S>, unit: Unit) -> Result<
 
 /// Of rule 15, what it asks of each piece but its edition.
 pub fn pieces_alone<S: Alter>(conn: &mut Connection<S>, unit: Unit) -> Result<bool, Fault>
-    ensures { IsCheck (profile_of unit) (state S.Store conn.old) (state S.Store conn.new)
-        (λ p. Limits (profile_of unit) p)
+    ensures { DecidesWithinUnder S.Store conn.old conn.new (profile_of unit)
         (λ p. PiecesSpelled (profile_of unit) p × PiecesNumbered p) result }
 {
     if pieces_spelled(conn, unit)? {
@@ -322,8 +311,7 @@ pub fn pieces_alone<S: Alter>(conn: &mut Connection<S>, unit: Unit) -> Result<bo
 
 /// Of rule 15, what it asks of each piece.
 pub fn pieces<S: Alter>(conn: &mut Connection<S>, unit: Unit) -> Result<bool, Fault>
-    ensures { IsCheck (profile_of unit) (state S.Store conn.old) (state S.Store conn.new)
-        (λ p. Limits (profile_of unit) p)
+    ensures { DecidesWithinUnder S.Store conn.old conn.new (profile_of unit)
         (λ p. PiecesOfOpen p × (PiecesSpelled (profile_of unit) p × PiecesNumbered p)) result }
 {
     if pieces_of_open(conn)? {
@@ -335,8 +323,7 @@ pub fn pieces<S: Alter>(conn: &mut Connection<S>, unit: Unit) -> Result<bool, Fa
 
 /// Rule 15, where rule 16 holds: editions are open or published, and the pieces of open ones are numbered from 1 and spell what they should.
 pub fn editions<S: Alter>(conn: &mut Connection<S>, unit: Unit) -> Result<bool, Fault>
-    ensures { IsCheck (profile_of unit) (state S.Store conn.old) (state S.Store conn.new)
-        (λ p. Limits (profile_of unit) p)
+    ensures { DecidesWithinUnder S.Store conn.old conn.new (profile_of unit)
         (λ p. Editions (profile_of unit) p.editions p.pieces) result }
 {
     if edition_states(conn)? {

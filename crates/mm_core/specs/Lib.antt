@@ -3,3 +3,4 @@ pub mod Adopted
 pub mod Applied
 pub mod Parts
 pub mod Reads
+pub mod Handed

@@ -1,12 +1,10 @@
 //! Which function does which command.
 
-ghost use Rattle.std.specs.Prelude.{◌≡◌, ℕ, false, true};
-ghost use Rattle.sqlite.specs.Held.{state};
-ghost use Rattle.mm_definitions.specs.Bounds.{current};
-ghost use Rattle.mm_definitions.specs.Stamp.{IsStamp};
-ghost use Rattle.mm_store.specs.Shapes.{IsLent, IsTried};
-ghost use Rattle.mm_layout.specs.Stamped.{IsLentAt};
+ghost use Rattle.std.specs.Prelude.{◌≡◌, false, true};
 ghost use Rattle.mm_definitions.specs.CommandGroups.{is_layout_change, lays_out_pyramid, is_tile_change, is_item_change, is_relation_change, prepares_edition, rehearses};
+ghost use Rattle.mm_store.specs.Handed.{Applies};
+ghost use Rattle.mm_layout.specs.Handed.{Lends};
+ghost use Rattle.mm_core.specs.Handed.{Tries};
 
 use mm_definitions::answers::{Fault, Outcome};
 use mm_definitions::commands::Command;
@@ -26,9 +24,7 @@ fn lay_out<S: Alter>(
     last_change: &str,
 ) -> Result<Outcome, Fault>
     requires { is_layout_change command.now ≡ true }
-    ensures same_reference { tx.new.conn.ghost_name ≡ tx.old.conn.ghost_name }
-    ensures lent { IsLentAt current command.now last_change.now
-        (state S.Store tx.old.conn.now) (state S.Store tx.new.conn.now) result }
+    ensures { Lends S.Store tx.old tx.new command.now last_change.now result }
 {
     match command {
         Command::Srs {
@@ -64,9 +60,7 @@ fn lay_out_pyramid<S: Alter>(
     last_change: &str,
 ) -> Result<Outcome, Fault>
     requires { lays_out_pyramid command.now ≡ true }
-    ensures same_reference { tx.new.conn.ghost_name ≡ tx.old.conn.ghost_name }
-    ensures lent { IsLentAt current command.now last_change.now
-        (state S.Store tx.old.conn.now) (state S.Store tx.new.conn.now) result }
+    ensures { Lends S.Store tx.old tx.new command.now last_change.now result }
 {
     match command {
         Command::Pyramid {
@@ -106,9 +100,7 @@ fn change_tile<S: Alter>(
     last_change: &str,
 ) -> Result<Outcome, Fault>
     requires { is_tile_change command.now ≡ true }
-    ensures same_reference { tx.new.conn.ghost_name ≡ tx.old.conn.ghost_name }
-    ensures lent { IsLentAt current command.now last_change.now
-        (state S.Store tx.old.conn.now) (state S.Store tx.new.conn.now) result }
+    ensures { Lends S.Store tx.old tx.new command.now last_change.now result }
 {
     match command {
         Command::Tile {
@@ -143,9 +135,7 @@ fn change_item<S: Alter>(
     last_change: &str,
 ) -> Result<Outcome, Fault>
     requires { is_item_change command.now ≡ true }
-    ensures same_reference { tx.new.conn.ghost_name ≡ tx.old.conn.ghost_name }
-    ensures lent { IsLentAt current command.now last_change.now
-        (state S.Store tx.old.conn.now) (state S.Store tx.new.conn.now) result }
+    ensures { Lends S.Store tx.old tx.new command.now last_change.now result }
 {
     match command {
         Command::Row {
@@ -185,10 +175,7 @@ fn change_item<S: Alter>(
 /// The commands that relate rows and media to each other.
 fn relate<S: Alter>(tx: &mut Transaction<'_, S>, command: &Command) -> Result<Outcome, Fault>
     requires { is_relation_change command.now ≡ true }
-    ensures same_reference { tx.new.conn.ghost_name ≡ tx.old.conn.ghost_name }
-    ensures lent { (moment : ℕ)
-        → IsLent current command.now moment
-        (state S.Store tx.old.conn.now) (state S.Store tx.new.conn.now) result }
+    ensures { Applies S.Store tx.old tx.new command.now result }
 {
     match command {
         Command::Relation {
@@ -218,10 +205,7 @@ fn prepare_edition<S: Alter>(
     command: &Command,
 ) -> Result<Outcome, Fault>
     requires { prepares_edition command.now ≡ true }
-    ensures same_reference { tx.new.conn.ghost_name ≡ tx.old.conn.ghost_name }
-    ensures lent { (moment : ℕ)
-        → IsLent current command.now moment
-        (state S.Store tx.old.conn.now) (state S.Store tx.new.conn.now) result }
+    ensures { Applies S.Store tx.old tx.new command.now result }
 {
     match command {
         Command::Edition { name } => open_edition(tx, name),
@@ -242,10 +226,7 @@ pub(crate) fn run_command<S: Alter>(
     last_change: &str,
 ) -> Result<Outcome, Fault>
     requires { rehearses command.now ≡ false }
-    ensures same_reference { tx.new.conn.ghost_name ≡ tx.old.conn.ghost_name }
-    ensures tried { (moment : ℕ) → IsStamp moment last_change.now
-        → IsTried current command.now moment
-        (state S.Store tx.old.conn.now) (state S.Store tx.new.conn.now) result }
+    ensures { Tries S.Store tx.old tx.new command.now last_change.now result }
 {
     match command {
         Command::Srs { .. } | Command::Table { .. } | Command::Drop { .. } => {

@@ -1,18 +1,14 @@
 //! How an edition stands, and the commands that open and discard one.
 
-ghost use Rattle.std.specs.Prelude.{◌≡◌, ℕ, ℤ, true, None, IfSome, option_map, string_bytes, ⊤};
+ghost use Rattle.std.specs.Prelude.{◌≡◌, None, IfSome, option_map, string_bytes};
 ghost use Rattle.std.specs.FinMap.{get, insert};
-ghost use Rattle.sqlite.specs.Held.{state};
-ghost use Rattle.mm_definitions.specs.Bounds.{Profile};
 ghost use Rattle.mm_definitions.specs.Conditions.{least, own_reasons};
 ghost use Rattle.mm_definitions.specs.Package.{open_state};
 ghost use Rattle.mm_definitions.specs.declared.commands.Command.TheVariants as commands;
-ghost use Rattle.mm_store.specs.Kept.{Spare, no_spare};
 ghost use Rattle.mm_store.specs.Removals.{without_edition_rows, FreedByEdition};
-ghost use Rattle.mm_store.specs.Shapes.{IsLook, IsChange, IsLent};
-ghost use Rattle.mm_blobs.specs.Moves.{IsMove};
-ghost use Rattle.mm_blobs.specs.Views.{IsSeen};
 ghost use Rattle.mm_edition.specs.Standings.{standing_text};
+ghost use Rattle.mm_store.specs.Handed.{Looks, Tells, Changes, ChangesWhere, Applies};
+ghost use Rattle.mm_blobs.specs.Handed.{Frees};
 
 use crate::pieces::blobs_of_pieces;
 use mm_blobs::blobs::release_each;
@@ -44,10 +40,8 @@ fn written_state<S: Alter>(
     tx: &mut Transaction<'_, S>,
     edition: &str,
 ) -> Result<Option<String>, Fault>
-    ensures same_reference { tx.new.conn.ghost_name ≡ tx.old.conn.ghost_name }
-    ensures look { (profile : Profile)
-        → IsLook profile (state S.Store tx.old.conn.now) (state S.Store tx.new.conn.now)
-        (λ p text. get p.editions edition.now ≡ option_map string_bytes text) result }
+    ensures { Looks S.Store tx.old tx.new (λ p text. get p.editions edition.now ≡ option_map
+        string_bytes text) result }
 {
     first_text(
         tx,
@@ -61,10 +55,8 @@ pub(crate) fn standing_of<S: Alter>(
     tx: &mut Transaction<'_, S>,
     edition: &str,
 ) -> Result<Option<Standing>, Fault>
-    ensures same_reference { tx.new.conn.ghost_name ≡ tx.old.conn.ghost_name }
-    ensures look { (profile : Profile)
-        → IsLook profile (state S.Store tx.old.conn.now) (state S.Store tx.new.conn.now)
-        (λ p standing. get p.editions edition.now ≡ option_map standing_text standing) result }
+    ensures { Looks S.Store tx.old tx.new (λ p standing. get p.editions edition.now ≡ option_map
+        standing_text standing) result }
 {
     match written_state(tx, edition)? {
         Some(text) => match standing_named(text.as_str()) {
@@ -77,9 +69,7 @@ pub(crate) fn standing_of<S: Alter>(
 
 /// Puts an open edition, where none has the name.
 fn insert_edition<S: Alter>(tx: &mut Transaction<'_, S>, edition: &str) -> Result<(), Fault>
-    ensures same_reference { tx.new.conn.ghost_name ≡ tx.old.conn.ghost_name }
-    ensures change { (profile : Profile) → IsChange profile (state S.Store tx.old.conn.now)
-        (state S.Store tx.new.conn.now) (λ p. get p.editions edition.now ≡ None)
+    ensures { ChangesWhere S.Store tx.old tx.new (λ p. get p.editions edition.now ≡ None)
         (λ p. record p { editions = insert p.editions edition.now open_state }) result }
 {
     run(
@@ -91,10 +81,7 @@ fn insert_edition<S: Alter>(tx: &mut Transaction<'_, S>, edition: &str) -> Resul
 
 /// The command `edition`: opens an edition without pieces. Refused 50 where one has the name, open or published.
 pub fn open_edition<S: Alter>(tx: &mut Transaction<'_, S>, edition: &Name) -> Result<Outcome, Fault>
-    ensures same_reference { tx.new.conn.ghost_name ≡ tx.old.conn.ghost_name }
-    ensures lent { (profile : Profile) (moment : ℕ)
-        → IsLent profile (commands.Edition edition.now) moment
-        (state S.Store tx.old.conn.now) (state S.Store tx.new.conn.now) result }
+    ensures { Applies S.Store tx.old tx.new (commands.Edition edition.now) result }
 {
     let edition = edition.as_str();
     match standing_of(tx, edition)? {
@@ -107,13 +94,7 @@ pub fn open_edition<S: Alter>(tx: &mut Transaction<'_, S>, edition: &Name) -> Re
 
 /// Removes the row of an edition, and by its key those of its pieces. Blobs stay that nothing names any more.
 fn delete_edition_rows<S: Alter>(tx: &mut Transaction<'_, S>, edition: &str) -> Result<(), Fault>
-    ensures same_reference { tx.new.conn.ghost_name ≡ tx.old.conn.ghost_name }
-    ensures gone { (profile : Profile) (more : Spare)
-        → IsMove (state S.Store tx.old.conn.now) (state S.Store tx.new.conn.now)
-        (λ base x. IsSeen no_spare profile (state S.Store tx.old.conn.now) base x
-        × ((z : ℤ) → FreedByEdition edition.now x.kept z → more z ≡ true))
-        (λ base x _ y. (y.content ≡ without_edition_rows edition.now x.content)
-        × IsSeen more profile (state S.Store tx.new.conn.now) base y) result }
+    ensures { Frees S.Store tx.old tx.new (FreedByEdition edition.now) (without_edition_rows edition.now) result }
 {
     run(
         tx,
@@ -124,9 +105,7 @@ fn delete_edition_rows<S: Alter>(tx: &mut Transaction<'_, S>, edition: &str) -> 
 
 /// Removes an edition with its pieces, and the blobs that nothing names any more.
 fn delete_edition<S: Alter>(tx: &mut Transaction<'_, S>, edition: &str) -> Result<(), Fault>
-    ensures same_reference { tx.new.conn.ghost_name ≡ tx.old.conn.ghost_name }
-    ensures change { (profile : Profile) → IsChange profile (state S.Store tx.old.conn.now)
-        (state S.Store tx.new.conn.now) (λ p. ⊤) (without_edition_rows edition.now) result }
+    ensures { Changes S.Store tx.old tx.new (without_edition_rows edition.now) result }
 {
     let blobs = blobs_of_pieces(tx, edition)?;
     delete_edition_rows(tx, edition)?;
@@ -139,10 +118,8 @@ pub fn closed_refusal<S: Alter>(
     tx: &mut Transaction<'_, S>,
     edition: &str,
 ) -> Result<Option<u8>, Fault>
-    ensures same_reference { tx.new.conn.ghost_name ≡ tx.old.conn.ghost_name }
-    ensures look { (profile : Profile)
-        → IsLook profile (state S.Store tx.old.conn.now) (state S.Store tx.new.conn.now)
-        (λ p why. why ≡ least (own_reasons p (commands.Discard edition.now))) result }
+    ensures { Tells S.Store tx.old tx.new (λ p. least
+        (own_reasons p (commands.Discard edition.now))) result }
 {
     match standing_of(tx, edition)? {
         Some(Standing::Open) => Ok(None),
@@ -154,10 +131,7 @@ pub fn closed_refusal<S: Alter>(
 /// The command `discard`: removes an open edition and its pieces. Refused 51 where no edition has the name, 55 where it is
 /// published.
 pub fn discard<S: Alter>(tx: &mut Transaction<'_, S>, edition: &Name) -> Result<Outcome, Fault>
-    ensures same_reference { tx.new.conn.ghost_name ≡ tx.old.conn.ghost_name }
-    ensures lent { (profile : Profile) (moment : ℕ)
-        → IsLent profile (commands.Discard edition.now) moment
-        (state S.Store tx.old.conn.now) (state S.Store tx.new.conn.now) result }
+    ensures { Applies S.Store tx.old tx.new (commands.Discard edition.now) result }
 {
     let edition = edition.as_str();
     if let Some(number) = closed_refusal(tx, edition)? {

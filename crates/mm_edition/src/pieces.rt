@@ -1,22 +1,20 @@
 //! One staged piece by its number.
 
-ghost use Rattle.std.specs.Prelude.{◌≡◌, ℤ, Option, None, option_map, pos, IsTrue, IfOk, IfErr};
+ghost use Rattle.std.specs.Prelude.{◌≡◌, None, option_map, pos, IfOk, IfErr};
 ghost use Rattle.std.specs.FinMap.{get, contains_key, insert};
-ghost use Rattle.sqlite.specs.Held.{state};
-ghost use Rattle.mm_definitions.specs.Bounds.{Profile};
 ghost use Rattle.mm_definitions.specs.Keys as keys;
 ghost use Rattle.mm_definitions.specs.Pieces.{piece_row};
-ghost use Rattle.mm_definitions.specs.Rules.{Meets};
 ghost use Rattle.sqlite.specs.Order.{column};
-ghost use Rattle.mm_store.specs.Blobs.{StandsAt, Told};
+ghost use Rattle.mm_store.specs.Blobs.{Told};
 ghost use Rattle.mm_store.specs.Faults.{IsStoreFault};
-ghost use Rattle.mm_store.specs.Kept.{Spare, piece_id, piece_with};
+ghost use Rattle.mm_store.specs.Kept.{piece_id, piece_with};
 ghost use Rattle.mm_store.specs.Removals.{FreedByEdition};
 ghost use Rattle.mm_store.specs.Rows.{maybe};
-ghost use Rattle.mm_store.specs.Shapes.{IsLook, IsChange};
-ghost use Rattle.mm_blobs.specs.Moves.{IsMove};
-ghost use Rattle.mm_blobs.specs.Views.{IsSeen, ListsEach};
-ghost use Rattle.mm_edition.specs.Kept.{kept_row, written_row, bytes_or_none, spare_named, IsPieceRow};
+ghost use Rattle.mm_blobs.specs.Views.{ListsEach};
+ghost use Rattle.mm_edition.specs.Kept.{kept_row, written_row, bytes_or_none, IsPieceRow};
+ghost use Rattle.mm_store.specs.Handed.{Looks, Tells, ChangesWhere, LooksByRules};
+ghost use Rattle.mm_blobs.specs.Handed.{Finds};
+ghost use Rattle.mm_edition.specs.Handed.{PutsPiece, TellsBytesOf};
 
 use crate::kept::{Kept, Written, kept_in};
 use crate::spelling::spelled;
@@ -34,10 +32,8 @@ pub(crate) fn has_piece<S: Alter>(
     edition: &str,
     number: i64,
 ) -> Result<bool, Fault>
-    ensures same_reference { tx.new.conn.ghost_name ≡ tx.old.conn.ghost_name }
-    ensures look { (profile : Profile)
-        → IsLook profile (state S.Store tx.old.conn.now) (state S.Store tx.new.conn.now)
-        (λ p found. found ≡ contains_key p.pieces (keys.piece edition.now number)) result }
+    ensures { Tells S.Store tx.old tx.new (λ p. contains_key p.pieces
+        (keys.piece edition.now number)) result }
 {
     exists(
         tx,
@@ -52,13 +48,9 @@ fn row_of_piece<S: Alter>(
     edition: &str,
     number: i64,
 ) -> Result<Option<Row>, Fault>
-    ensures same_reference { tx.new.conn.ghost_name ≡ tx.old.conn.ghost_name }
-    ensures shown { (profile : Profile) (spare : Spare) →
-        IsMove (state S.Store tx.old.conn.now) (state S.Store tx.new.conn.now)
-        (IsSeen spare profile (state S.Store tx.old.conn.now))
-        (λ base x row y. (y ≡ x) × IsSeen spare profile (state S.Store tx.new.conn.now) base y
-        × IsPieceRow (get y.kept.pieces (keys.piece edition.now number)) row
-        × Told piece_id piece_with y.kept.shelf (get y.kept.pieces (keys.piece edition.now number))
+    ensures { Finds S.Store tx.old tx.new (λ y row. IsPieceRow
+        (get y.kept.pieces (keys.piece edition.now number)) row × Told piece_id piece_with
+        y.kept.shelf (get y.kept.pieces (keys.piece edition.now number))
         (get y.content.pieces (keys.piece edition.now number))) result }
 {
     first(
@@ -82,14 +74,7 @@ fn blob_in(row: &Row) -> Result<Option<i64>, Fault>
 
 /// The bytes of the blob that the row of a piece names, if it names one.
 fn bytes_of_row<S: Alter>(tx: &mut Transaction<'_, S>, row: &Row) -> Result<Option<Vec<u8>>, Fault>
-    ensures same_reference { tx.new.conn.ghost_name ≡ tx.old.conn.ghost_name }
-    ensures told { (profile : Profile) (spare : Spare)
-        → IsMove (state S.Store tx.old.conn.now) (state S.Store tx.new.conn.now)
-        (λ base x. IsTrue (state S.Store tx.old.conn.now).is_open
-        × IsSeen spare profile (state S.Store tx.old.conn.now) base x)
-        (λ base x bytes y. (y ≡ x) × IsSeen spare profile (state S.Store tx.new.conn.now) base y
-        × ((blob : Option ℤ) → column row.now 11 ≡ maybe blob
-        → StandsAt y.kept.shelf blob (bytes_or_none bytes))) result }
+    ensures { TellsBytesOf S.Store tx.old tx.new row.now bytes_or_none result }
 {
     match blob_in(row)? {
         Some(blob) => Ok(Some(bytes_of(tx, blob)?)),
@@ -103,10 +88,8 @@ pub(crate) fn kept_piece<S: Alter>(
     edition: &str,
     number: i64,
 ) -> Result<Option<Kept>, Fault>
-    ensures same_reference { tx.new.conn.ghost_name ≡ tx.old.conn.ghost_name }
-    ensures look { (profile : Profile)
-        → IsLook profile (state S.Store tx.old.conn.now) (state S.Store tx.new.conn.now)
-        (λ p kept. get p.pieces (keys.piece edition.now number) ≡ option_map kept_row kept) result }
+    ensures { Looks S.Store tx.old tx.new (λ p kept. get p.pieces (keys.piece edition.now number)
+        ≡ option_map kept_row kept) result }
 {
     let Some(row) = row_of_piece(tx, edition, number)? else {
         return Ok(None);
@@ -124,11 +107,8 @@ pub fn piece<S: Alter>(
     edition: &Name,
     number: u32,
 ) -> Result<Option<Piece>, Fault>
-    ensures same_reference { tx.new.conn.ghost_name ≡ tx.old.conn.ghost_name }
-    ensures look { (profile : Profile)
-        → IsLook profile (state S.Store tx.old.conn.now) (state S.Store tx.new.conn.now)
-        (λ p found. Meets profile p → get p.pieces (keys.piece edition.now (pos number))
-        ≡ option_map piece_row found) result }
+    ensures { LooksByRules S.Store tx.old tx.new (λ p found.
+        get p.pieces (keys.piece edition.now (pos number)) ≡ option_map piece_row found) result }
 {
     let edition = edition.as_str();
     match kept_piece(tx, edition, i64::from(number))? {
@@ -148,19 +128,8 @@ fn insert_row<S: Alter>(
     written: Written<'_>,
     blob: Option<i64>,
 ) -> Result<(), Fault>
-    ensures same_reference { tx.new.conn.ghost_name ≡ tx.old.conn.ghost_name }
-    ensures named { (profile : Profile) (spare : Spare)
-        → IsMove (state S.Store tx.old.conn.now) (state S.Store tx.new.conn.now)
-        (λ base x. IsSeen spare profile (state S.Store tx.old.conn.now) base x
-        × (StandsAt x.kept.shelf blob written.entry.bytes.now
-        × (get x.content.pieces (keys.piece edition.now number) ≡ None)))
-        (λ base x _ y.
-        (y.content ≡ record (x.content) {
-          pieces = insert x.content.pieces (keys.piece edition.now number)
-              (written_row written.entry);
-        })
-        × IsSeen (spare_named blob spare) profile (state S.Store tx.new.conn.now)
-        base y) result }
+    ensures { PutsPiece S.Store tx.old tx.new (keys.piece edition.now number)
+        (written_row written.entry) blob result }
 {
     run(
         tx,
@@ -191,9 +160,7 @@ pub(crate) fn insert_piece<S: Alter>(
     number: i64,
     written: Written<'_>,
 ) -> Result<(), Fault>
-    ensures same_reference { tx.new.conn.ghost_name ≡ tx.old.conn.ghost_name }
-    ensures change { (profile : Profile)
-        → IsChange profile (state S.Store tx.old.conn.now) (state S.Store tx.new.conn.now)
+    ensures { ChangesWhere S.Store tx.old tx.new
         (λ p. get p.pieces (keys.piece edition.now number) ≡ None)
         (λ p. record p {
           pieces = insert p.pieces (keys.piece edition.now number)
@@ -212,12 +179,8 @@ pub fn blobs_of_pieces<S: Alter>(
     tx: &mut Transaction<'_, S>,
     edition: &str,
 ) -> Result<Vec<Row>, Fault>
-    ensures same_reference { tx.new.conn.ghost_name ≡ tx.old.conn.ghost_name }
-    ensures listed { (profile : Profile) (spare : Spare) →
-        IsMove (state S.Store tx.old.conn.now) (state S.Store tx.new.conn.now)
-        (IsSeen spare profile (state S.Store tx.old.conn.now))
-        (λ base x rows y. (y ≡ x) × IsSeen spare profile (state S.Store tx.new.conn.now) base y
-        × ListsEach rows.items (FreedByEdition edition.now y.kept)) result }
+    ensures { Finds S.Store tx.old tx.new (λ y rows. ListsEach rows.items
+        (FreedByEdition edition.now y.kept)) result }
 {
     all(
         tx,

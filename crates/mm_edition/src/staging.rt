@@ -1,15 +1,13 @@
 //! The command that stages a piece.
 
-ghost use Rattle.std.specs.Prelude.{◌≡◌, ◌<ℤ◌, ◌-ℤ◌, ℕ, pos};
-ghost use Rattle.sqlite.specs.Held.{state};
-ghost use Rattle.mm_definitions.specs.Bounds.{Profile, IsId};
+ghost use Rattle.std.specs.Prelude.{◌≡◌, ◌<ℤ◌, ◌-ℤ◌, pos};
+ghost use Rattle.mm_definitions.specs.Bounds.{IsId};
 ghost use Rattle.mm_definitions.specs.Pieces.{piece_row};
-ghost use Rattle.mm_definitions.specs.Rules.{Meets};
 ghost use Rattle.mm_definitions.specs.declared.commands.Command.TheVariants as commands;
 ghost use Rattle.mm_definitions.specs.declared.commands.Piece.{Piece as SpecPiece};
-ghost use Rattle.mm_store.specs.Shapes.{IsLook, IsLent};
 ghost use Rattle.mm_edition.specs.Kept.{kept_row, written_row};
 ghost use Rattle.mm_edition.specs.Places.{IsPlace, IsPlaceAt, IsPlaceBehind, IsRoom, TellsBehind};
+ghost use Rattle.mm_store.specs.Handed.{Looks, Applies, LooksByRules};
 
 use crate::editions::{Standing, standing_of};
 use crate::kept::{Kept, Written, as_written, is_written};
@@ -54,10 +52,8 @@ fn is_behind<S: Alter>(
     edition: &str,
     number: i64,
 ) -> Result<bool, Fault>
-    ensures same_reference { tx.new.conn.ghost_name ≡ tx.old.conn.ghost_name }
-    ensures look { (profile : Profile)
-        → IsLook profile (state S.Store tx.old.conn.now) (state S.Store tx.new.conn.now)
-        (λ p behind. TellsBehind p edition.now number behind) result }
+    ensures { Looks S.Store tx.old tx.new (λ p behind. TellsBehind p edition.now number behind)
+        result }
 {
     let found = has_piece(tx, edition, number_before(number))?;
     Ok(found || number <= 1)
@@ -69,10 +65,8 @@ fn place_behind<S: Alter>(
     edition: &str,
     number: i64,
 ) -> Result<Place, Fault>
-    ensures same_reference { tx.new.conn.ghost_name ≡ tx.old.conn.ghost_name }
-    ensures look { (profile : Profile)
-        → IsLook profile (state S.Store tx.old.conn.now) (state S.Store tx.new.conn.now)
-        (λ p place. IsPlaceBehind p edition.now number place) result }
+    ensures { Looks S.Store tx.old tx.new (λ p place. IsPlaceBehind p edition.now number place)
+        result }
 {
     if is_behind(tx, edition, number)? {
         Ok(next_place(number))
@@ -99,12 +93,8 @@ fn place_of<S: Alter>(
     number: i64,
     written: Written<'_>,
 ) -> Result<Place, Fault>
-    ensures same_reference { tx.new.conn.ghost_name ≡ tx.old.conn.ghost_name }
-    ensures look { (profile : Profile)
-        → IsLook profile (state S.Store tx.old.conn.now) (state S.Store tx.new.conn.now)
-        (λ p place. Meets profile p → IsId number → (q : SpecPiece)
-        → written_row written.entry ≡ piece_row q
-        → IsPlace p edition.now number q place) result }
+    ensures { LooksByRules S.Store tx.old tx.new (λ p place. IsId number → (q : SpecPiece)
+        → written_row written.entry ≡ piece_row q → IsPlace p edition.now number q place) result }
 {
     match standing_of(tx, edition)? {
         Some(Standing::Open) => {}
@@ -125,10 +115,7 @@ fn stage_at<S: Alter>(
     piece: &Piece,
 ) -> Result<Outcome, Fault>
     requires { IsId number }
-    ensures same_reference { tx.new.conn.ghost_name ≡ tx.old.conn.ghost_name }
-    ensures lent { (profile : Profile) (moment : ℕ)
-        → IsLent profile (commands.Stage edition.now number piece.now) moment
-        (state S.Store tx.old.conn.now) (state S.Store tx.new.conn.now) result }
+    ensures { Applies S.Store tx.old tx.new (commands.Stage edition.now number piece.now) result }
 {
     let written = as_written(piece);
     match place_of(tx, edition, number, written)? {
@@ -149,10 +136,7 @@ pub fn stage<S: Alter>(
     number: Id,
     piece: &Piece,
 ) -> Result<Outcome, Fault>
-    ensures same_reference { tx.new.conn.ghost_name ≡ tx.old.conn.ghost_name }
-    ensures lent { (profile : Profile) (moment : ℕ)
-        → IsLent profile (commands.Stage edition.now number piece.now) moment
-        (state S.Store tx.old.conn.now) (state S.Store tx.new.conn.now) result }
+    ensures { Applies S.Store tx.old tx.new (commands.Stage edition.now number piece.now) result }
 {
     stage_at(tx, edition.as_str(), number.get(), piece)
 }

@@ -2,13 +2,9 @@
 
 ghost use Rattle.std.specs.Prelude.{◌≡◌, false};
 ghost use Rattle.sqlite.specs.Values.{bound};
-ghost use Rattle.sqlite.specs.Held.{state};
-ghost use Rattle.mm_definitions.specs.Bounds.{Profile};
-ghost use Rattle.mm_definitions.specs.Rules.{Meets};
-ghost use Rattle.mm_store.specs.Seen.{IsRead};
-ghost use Rattle.mm_store.specs.Shapes.{IsLook};
-ghost use Rattle.mm_store.specs.Statements.{IsAsked};
 ghost use Rattle.mm_edition.specs.States.{GivesPieceNumber, IsLast, TellsState};
+ghost use Rattle.mm_store.specs.Handed.{Asks, Looks, LooksByRules};
+ghost use Rattle.mm_store.specs.Seen.{ReadsOn};
 
 use crate::editions::{Standing, standing_of};
 use mm_definitions::answers::Fault;
@@ -25,9 +21,7 @@ fn first_number<S: Alter>(
     sql: &str,
     params: &[ValueRef<'_>],
 ) -> Result<Option<u32>, Fault>
-    ensures same_reference { tx.new.conn.ghost_name ≡ tx.old.conn.ghost_name }
-    ensures asked { IsAsked (state S.Store tx.old.conn.now) (state S.Store tx.new.conn.now) sql.now
-        (bound params.now) (λ it first. GivesPieceNumber it first) result }
+    ensures { Asks S.Store tx.old tx.new sql.now (bound params.now) GivesPieceNumber result }
 {
     match first(tx, sql, params)? {
         Some(row) => match row.get(0) {
@@ -40,10 +34,7 @@ fn first_number<S: Alter>(
 
 /// The last piece's number, if the edition has a piece.
 fn last_number<S: Alter>(tx: &mut Transaction<'_, S>, edition: &str) -> Result<Option<u32>, Fault>
-    ensures same_reference { tx.new.conn.ghost_name ≡ tx.old.conn.ghost_name }
-    ensures look { (profile : Profile)
-        → IsLook profile (state S.Store tx.old.conn.now) (state S.Store tx.new.conn.now)
-        (λ p last. IsLast p.pieces edition.now last) result }
+    ensures { Looks S.Store tx.old tx.new (λ p last. IsLast p.pieces edition.now last) result }
 {
     first_number(
         tx,
@@ -57,10 +48,7 @@ fn state_of<S: Alter>(
     tx: &mut Transaction<'_, S>,
     edition: &str,
 ) -> Result<Option<EditionState>, Fault>
-    ensures same_reference { tx.new.conn.ghost_name ≡ tx.old.conn.ghost_name }
-    ensures look { (profile : Profile)
-        → IsLook profile (state S.Store tx.old.conn.now) (state S.Store tx.new.conn.now)
-        (λ p found. Meets profile p → TellsState p edition.now found) result }
+    ensures { LooksByRules S.Store tx.old tx.new (λ p found. TellsState p edition.now found) result }
 {
     match standing_of(tx, edition)? {
         Some(Standing::Open) => match last_number(tx, edition)? {
@@ -81,9 +69,8 @@ pub fn edition<S: Alter>(
 ) -> Result<Option<EditionState>, Fault>
     requires idle { conn.old.in_transaction ≡ false }
     ensures mode { conn.new.in_transaction ≡ false }
-    ensures read { (profile : Profile)
-        → IsRead profile (state S.Store conn.old) (state S.Store conn.new)
-        (λ p found. TellsState p edition.now found) result }
+    ensures read { ReadsOn S.Store conn.old conn.new (λ p found. TellsState p edition.now found)
+        result }
 {
     let mut tx = conn.transaction();
     let found = state_of(&mut tx, edition.as_str());

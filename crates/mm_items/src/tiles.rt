@@ -117,7 +117,7 @@ pub(crate) fn give_tile<S: Alter>(
     ensures { Gives S.Store tx.old tx.new blob
         (λ bytes p. record p { tiles = insert p.tiles (tile_at table.now place) bytes }) result }
 {
-    let stands = blob_of_tile(tx, table, place.zoom, place.column, place.row)?;
+    let stands = blob_of_tile(tx, table, place)?;
     name_tile(tx, table, place, blob, stands)?;
     release_freed(tx, stands)
 }
@@ -165,7 +165,7 @@ fn delete_tile<S: Alter>(
     ensures { Changes S.Store tx.old tx.new
         (λ p. record p { tiles = remove p.tiles (tile_at table.now place) }) result }
 {
-    let stands = blob_of_tile(tx, table, place.zoom, place.column, place.row)?;
+    let stands = blob_of_tile(tx, table, place)?;
     delete_tile_row(tx, table, place)?;
     release_freed(tx, stands)
 }

@@ -19,6 +19,16 @@ module _ {S : Type 0} (g : Ghosts S) (old new : Transaction S) where
     pub same : IsSame old new
     pub lent : (profile : Profile) → IsLentAt profile command last_change (state g old.conn.now) (state g new.conn.now) result
 
+  -- it does the command where this holds of the package, and writes this text as last_change
+  pub record LendsWhere (When : Package → Type 0) (command : Command) (last_change : Text) (result : Result Outcome Fault) : Type 0 where
+    pub same : IsSame old new
+    pub lent : (profile : Profile) → IsLentWhere When profile command last_change (state g old.conn.now) (state g new.conn.now) result
+
+  -- it does the command, which writes no last_change
+  pub record LendsUnstamped (command : Command) (result : Result Outcome Fault) : Type 0 where
+    pub same : IsSame old new
+    pub lent : (profile : Profile) (text : Text) → IsLentAt profile command text (state g old.conn.now) (state g new.conn.now) result
+
   -- it does the command for which this holds, and writes this text as last_change
   pub record LendsFor {X : Type 0} (When : X → Package → Type 0) (command : X → Command) (last_change : Text) (result : Result Outcome Fault) : Type 0 where
     pub same : IsSame old new

@@ -1,17 +1,14 @@
 //! Tables that are no pyramids, and the removal of any table.
 
-ghost use Rattle.std.specs.Prelude.{◌≡◌, ℤ, true};
-ghost use Rattle.sqlite.specs.Held.{state};
-ghost use Rattle.mm_definitions.specs.Bounds.{Profile};
+ghost use Rattle.std.specs.Prelude.{◌≡◌};
 ghost use Rattle.mm_definitions.specs.Conditions.{least, own_reasons};
 ghost use Rattle.mm_definitions.specs.Effects.{is_other};
 ghost use Rattle.mm_definitions.specs.declared.commands.Command.TheVariants as commands;
-ghost use Rattle.mm_blobs.specs.Moves.{IsMove};
-ghost use Rattle.mm_blobs.specs.Views.{IsSeen, ListsEach};
-ghost use Rattle.mm_store.specs.Kept.{Spare, no_spare, tile_id, medium_id};
+ghost use Rattle.mm_blobs.specs.Views.{ListsEach};
+ghost use Rattle.mm_store.specs.Kept.{tile_id, medium_id};
 ghost use Rattle.mm_store.specs.Removals.{without_table_rows, Freed, FreedByTable};
 ghost use Rattle.mm_store.specs.Handed.{Looks, Tells, Changes, Applies};
-ghost use Rattle.mm_blobs.specs.Handed.{Finds};
+ghost use Rattle.mm_blobs.specs.Handed.{Finds, Frees};
 ghost use Rattle.mm_layout.specs.Handed.{Lends};
 
 use crate::contents::{has_identifier, has_table, insert_plain_contents, is_taken};
@@ -92,13 +89,7 @@ fn blobs_of_media<S: Alter>(tx: &mut Transaction<'_, S>, table: &str) -> Result<
 /// Removes the contents row of a table, and by its keys the rows of the registry, the matrix sets, the matrices, the tiles,
 /// the attribute rows and the media that have its name. Blobs stay that nothing names any more.
 fn delete_contents<S: Alter>(tx: &mut Transaction<'_, S>, table: &str) -> Result<(), Fault>
-    ensures same_reference { tx.new.conn.ghost_name ≡ tx.old.conn.ghost_name }
-    ensures gone { (profile : Profile) (more : Spare)
-        → IsMove (state S.Store tx.old.conn.now) (state S.Store tx.new.conn.now)
-        (λ base x. IsSeen no_spare profile (state S.Store tx.old.conn.now) base x
-        × ((z : ℤ) → FreedByTable table.now x.kept z → more z ≡ true))
-        (λ base x _ y. (y.content ≡ without_table_rows table.now x.content)
-        × IsSeen more profile (state S.Store tx.new.conn.now) base y) result }
+    ensures { Frees S.Store tx.old tx.new (FreedByTable table.now) (without_table_rows table.now) result }
 {
     run(
         tx,

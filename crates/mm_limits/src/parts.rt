@@ -1,14 +1,12 @@
 //! Rule 16 by its parts: every name, number, text and length is within its limits.
 
-ghost use Rattle.std.specs.Prelude.{⊤, ◌≤◌, ◌<◌, ◌≡◌, ◌↔◌, ◌⊎◌, Some, IsTrue, pos};
+ghost use Rattle.std.specs.Prelude.{◌≤◌, ◌<◌, ◌↔◌, IsTrue};
 ghost use Rattle.sqlite.specs.Order.{column};
-ghost use Rattle.sqlite.specs.Held.{state};
-ghost use Rattle.mm_definitions.specs.Bounds.{Profile};
 ghost use Rattle.mm_definitions.specs.Rules.{IsGiven, Limits};
 ghost use Rattle.mm_definitions.specs.Units.{profile_of};
-ghost use Rattle.mm_queries.specs.Check.{IsCheck};
 ghost use Rattle.mm_queries.specs.Columns.{number_of};
 ghost use Rattle.mm_limits.specs.LimitRows.{numbers_by, IsSystemWithinRow, IsContentsWithinRow, IsKindWithinRow, IsSetWithinRow, IsMatrixWithinRow, IsExtensionWithinRow, IsTileWithinRow, IsAttributeWithinRow, IsMediumWithinRow, IsRelationWithinRow, IsPairingWithinRow, IsEditionWithinRow, IsPieceWithinRow, SystemsAreWithin, ContentsAreWithin, KindsAreWithin, SetsAreWithin, MatricesAreWithin, ExtensionsAreWithin, TilesAreWithin, RowsAreWithin, MediaAreWithin, RelationsAreWithin, PairingsAreWithin, EditionsAreWithin, PiecesAreWithin, part};
+ghost use Rattle.mm_queries.specs.Check.{Decides, DecidesUnder};
 
 use crate::column_tests::{
     is_blob_within, is_clean_at, is_clean_if_any, is_content_type_at, is_coordinate,
@@ -79,9 +77,7 @@ impl RowTest for System {
 
 /// Of rule 16, what it asks of reference systems.
 pub fn systems_within<S: Alter>(conn: &mut Connection<S>) -> Result<bool, Fault>
-    ensures { (profile : Profile)
-        → IsCheck profile (state S.Store conn.old) (state S.Store conn.new) (λ _. ⊤)
-        (λ p. SystemsAreWithin p) result }
+    ensures { Decides S.Store conn.old conn.new (λ p. SystemsAreWithin p) result }
 {
     each_passes(
         conn,
@@ -138,7 +134,7 @@ impl RowTest for Contents {
 
 /// Of rule 16, what it asks of contents.
 pub fn contents_within<S: Alter>(conn: &mut Connection<S>, unit: Unit) -> Result<bool, Fault>
-    ensures { IsCheck (profile_of unit) (state S.Store conn.old) (state S.Store conn.new) (λ _. ⊤)
+    ensures { DecidesUnder S.Store conn.old conn.new (profile_of unit)
         (λ p. ContentsAreWithin (profile_of unit) p) result }
 {
     each_passes(
@@ -168,9 +164,7 @@ impl RowTest for Kind {
 
 /// Of rule 16, what it asks of the registry.
 pub fn kinds_within<S: Alter>(conn: &mut Connection<S>) -> Result<bool, Fault>
-    ensures { (profile : Profile)
-        → IsCheck profile (state S.Store conn.old) (state S.Store conn.new) (λ _. ⊤)
-        (λ p. KindsAreWithin p) result }
+    ensures { Decides S.Store conn.old conn.new (λ p. KindsAreWithin p) result }
 {
     each_passes(
         conn,
@@ -215,7 +209,7 @@ impl RowTest for MatrixSet {
 
 /// Of rule 16, what it asks of matrix sets.
 pub fn sets_within<S: Alter>(conn: &mut Connection<S>, unit: Unit) -> Result<bool, Fault>
-    ensures { IsCheck (profile_of unit) (state S.Store conn.old) (state S.Store conn.new) (λ _. ⊤)
+    ensures { DecidesUnder S.Store conn.old conn.new (profile_of unit)
         (λ p. SetsAreWithin (profile_of unit) p) result }
 {
     each_passes(
@@ -267,7 +261,7 @@ impl RowTest for Matrix {
 
 /// Of rule 16, what it asks of matrices.
 pub fn matrices_within<S: Alter>(conn: &mut Connection<S>, unit: Unit) -> Result<bool, Fault>
-    ensures { IsCheck (profile_of unit) (state S.Store conn.old) (state S.Store conn.new) (λ _. ⊤)
+    ensures { DecidesUnder S.Store conn.old conn.new (profile_of unit)
         (λ p. MatricesAreWithin (profile_of unit) p) result }
 {
     each_passes(
@@ -307,9 +301,7 @@ impl RowTest for Extension {
 
 /// Of rule 16, what it asks of extension rows.
 pub fn extensions_within<S: Alter>(conn: &mut Connection<S>) -> Result<bool, Fault>
-    ensures { (profile : Profile)
-        → IsCheck profile (state S.Store conn.old) (state S.Store conn.new) (λ _. ⊤)
-        (λ p. ExtensionsAreWithin p) result }
+    ensures { Decides S.Store conn.old conn.new (λ p. ExtensionsAreWithin p) result }
 {
     each_passes(
         conn,
@@ -348,9 +340,7 @@ impl RowTest for Tile {
 
 /// Of rule 16, what it asks of tiles.
 pub fn tiles_within<S: Alter>(conn: &mut Connection<S>) -> Result<bool, Fault>
-    ensures { (profile : Profile)
-        → IsCheck profile (state S.Store conn.old) (state S.Store conn.new) (λ _. ⊤)
-        (λ p. TilesAreWithin p) result }
+    ensures { Decides S.Store conn.old conn.new (λ p. TilesAreWithin p) result }
 {
     each_passes(
         conn,
@@ -389,9 +379,7 @@ impl RowTest for Item {
 
 /// Of rule 16, what it asks of attribute rows.
 pub fn rows_within<S: Alter>(conn: &mut Connection<S>) -> Result<bool, Fault>
-    ensures { (profile : Profile)
-        → IsCheck profile (state S.Store conn.old) (state S.Store conn.new) (λ _. ⊤)
-        (λ p. RowsAreWithin p) result }
+    ensures { Decides S.Store conn.old conn.new (λ p. RowsAreWithin p) result }
 {
     each_passes(
         conn,
@@ -427,9 +415,7 @@ impl RowTest for Medium {
 
 /// Of rule 16, what it asks of media.
 pub fn media_within<S: Alter>(conn: &mut Connection<S>) -> Result<bool, Fault>
-    ensures { (profile : Profile)
-        → IsCheck profile (state S.Store conn.old) (state S.Store conn.new) (λ _. ⊤)
-        (λ p. MediaAreWithin p) result }
+    ensures { Decides S.Store conn.old conn.new (λ p. MediaAreWithin p) result }
 {
     each_passes(
         conn,
@@ -471,9 +457,7 @@ impl RowTest for Relation {
 
 /// Of rule 16, what it asks of relations.
 pub fn relations_within<S: Alter>(conn: &mut Connection<S>) -> Result<bool, Fault>
-    ensures { (profile : Profile)
-        → IsCheck profile (state S.Store conn.old) (state S.Store conn.new) (λ _. ⊤)
-        (λ p. RelationsAreWithin p) result }
+    ensures { Decides S.Store conn.old conn.new (λ p. RelationsAreWithin p) result }
 {
     each_passes(
         conn,
@@ -506,9 +490,7 @@ impl RowTest for Pairing {
 
 /// Of rule 16, what it asks of mapping rows.
 pub fn pairings_within<S: Alter>(conn: &mut Connection<S>) -> Result<bool, Fault>
-    ensures { (profile : Profile)
-        → IsCheck profile (state S.Store conn.old) (state S.Store conn.new) (λ _. ⊤)
-        (λ p. PairingsAreWithin p) result }
+    ensures { Decides S.Store conn.old conn.new (λ p. PairingsAreWithin p) result }
 {
     each_passes(
         conn,
@@ -537,9 +519,7 @@ impl RowTest for Edition {
 
 /// Of rule 16, what it asks of editions.
 pub fn editions_within<S: Alter>(conn: &mut Connection<S>) -> Result<bool, Fault>
-    ensures { (profile : Profile)
-        → IsCheck profile (state S.Store conn.old) (state S.Store conn.new) (λ _. ⊤)
-        (λ p. EditionsAreWithin p) result }
+    ensures { Decides S.Store conn.old conn.new (λ p. EditionsAreWithin p) result }
 {
     each_passes(
         conn,
@@ -568,9 +548,7 @@ impl RowTest for Piece {
 
 /// Of rule 16, what it asks of staged pieces.
 pub fn pieces_within<S: Alter>(conn: &mut Connection<S>) -> Result<bool, Fault>
-    ensures { (profile : Profile)
-        → IsCheck profile (state S.Store conn.old) (state S.Store conn.new) (λ _. ⊤)
-        (λ p. PiecesAreWithin p) result }
+    ensures { Decides S.Store conn.old conn.new (λ p. PiecesAreWithin p) result }
 {
     each_passes(
         conn,
@@ -584,8 +562,8 @@ pub fn pieces_within<S: Alter>(conn: &mut Connection<S>) -> Result<bool, Fault>
 fn one_limit<S: Alter>(conn: &mut Connection<S>, unit: Unit, k: u8) -> Result<bool, Fault>
     requires low { 1 ≤ k }
     requires high { k < 14 }
-    ensures { IsCheck (profile_of unit) (state S.Store conn.old) (state S.Store conn.new) (λ _. ⊤)
-        (part (profile_of unit) k) result }
+    ensures { DecidesUnder S.Store conn.old conn.new (profile_of unit) (part (profile_of unit) k)
+        result }
 {
     match k {
         1 => systems_within(conn),
@@ -607,7 +585,7 @@ fn one_limit<S: Alter>(conn: &mut Connection<S>, unit: Unit, k: u8) -> Result<bo
 
 /// Rule 16: every name, number, text and length is within its limits.
 pub fn limits<S: Alter>(conn: &mut Connection<S>, unit: Unit) -> Result<bool, Fault>
-    ensures { IsCheck (profile_of unit) (state S.Store conn.old) (state S.Store conn.new) (λ _. ⊤)
+    ensures { DecidesUnder S.Store conn.old conn.new (profile_of unit)
         (λ p. Limits (profile_of unit) p) result }
 {
     'parts: for k in 1..14u8 {

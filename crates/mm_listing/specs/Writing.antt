@@ -11,6 +11,8 @@ use Rattle.mm_store.specs.Seen.{IsSeenAs}
 use Rattle.mm_store.specs.Stands.{IsSettled}
 use Rattle.mm_store.specs.Statements.{CommitsNothing}
 use Rattle.mm_definitions.specs.Streams.{Written}
+use Rattle.sqlite.specs.Held.{Held, state}
+use Rattle.sqlite.specs.Store.{Ghosts}
 
 -- the writer failed
 abbrev pub unwritten : Fault
@@ -52,3 +54,7 @@ pub record IsListed (profile : Profile) (text : Package → List ℕ) (old new :
   pub settled : HasCleanDisk new → (p : Package) → IsSettled profile old p → IsSettled profile new p
   pub written : HasCleanDisk new → (p : Package) → IsSeenAs profile old p → IsWritten held.contents holds.contents (text p) result
   pub writer : ListingTellsWriter held.failed holds.failed result
+
+-- the same of a connection, whatever the profile is
+abbrev pub Lists : {S : Type 0} → Ghosts S → Held S → Held S → (Package → List ℕ) → Written → Written → Result (Unit {0}) Fault → Type 0
+Lists g old new text before after result = (profile : Profile) → IsListed profile text (state g old) (state g new) before after result

@@ -1,11 +1,9 @@
 //! The walks over the tables and the editions, in which each line is written before the next row is asked for.
 
 ghost use Rattle.std.specs.Prelude.{◌≡◌, false};
-ghost use Rattle.sqlite.specs.Held.{state};
-ghost use Rattle.mm_definitions.specs.Bounds.{Profile};
 ghost use Rattle.mm_definitions.specs.Streams.{written};
 ghost use Rattle.mm_listing.specs.Listing.{editions, listing, table_lines};
-ghost use Rattle.mm_listing.specs.Writing.{IsListed, SendsLine};
+ghost use Rattle.mm_listing.specs.Writing.{Lists, SendsLine};
 
 use crate::shown::{edition_in, table_in};
 use mm_definitions::answers::Fault;
@@ -75,8 +73,7 @@ fn show_tables<S: Alter, W: Write>(
     requires { conn.old.in_transaction ≡ false }
     ensures same_reference { lines.new.output.ghost_name ≡ lines.old.output.ghost_name }
     ensures mode { conn.new.in_transaction ≡ false }
-    ensures listed { (profile : Profile)
-        → IsListed profile table_lines (state S.Store conn.old) (state S.Store conn.new)
+    ensures listed { Lists S.Store conn.old conn.new table_lines
         (written W.contents lines.old.output.now) (written W.contents lines.new.output.now) result }
 {
     walk(
@@ -95,9 +92,8 @@ fn list_tables<S: Alter, W: Write>(
 ) -> Result<(), Fault>
     requires { conn.old.in_transaction ≡ false }
     ensures mode { conn.new.in_transaction ≡ false }
-    ensures listed { (profile : Profile)
-        → IsListed profile table_lines (state S.Store conn.old) (state S.Store conn.new)
-        (written W.contents output.old) (written W.contents output.new) result }
+    ensures listed { Lists S.Store conn.old conn.new table_lines (written W.contents output.old)
+        (written W.contents output.new) result }
 {
     let mut lines = TableLines { output };
     let shown = show_tables(conn, &mut lines);
@@ -115,8 +111,7 @@ fn show_editions<S: Alter, W: Write>(
     requires { conn.old.in_transaction ≡ false }
     ensures same_reference { lines.new.output.ghost_name ≡ lines.old.output.ghost_name }
     ensures mode { conn.new.in_transaction ≡ false }
-    ensures listed { (profile : Profile)
-        → IsListed profile editions (state S.Store conn.old) (state S.Store conn.new)
+    ensures listed { Lists S.Store conn.old conn.new editions
         (written W.contents lines.old.output.now) (written W.contents lines.new.output.now) result }
 {
     walk(
@@ -135,9 +130,8 @@ fn list_editions<S: Alter, W: Write>(
 ) -> Result<(), Fault>
     requires { conn.old.in_transaction ≡ false }
     ensures mode { conn.new.in_transaction ≡ false }
-    ensures listed { (profile : Profile)
-        → IsListed profile editions (state S.Store conn.old) (state S.Store conn.new)
-        (written W.contents output.old) (written W.contents output.new) result }
+    ensures listed { Lists S.Store conn.old conn.new editions (written W.contents output.old)
+        (written W.contents output.new) result }
 {
     let mut lines = EditionLines { output };
     let shown = show_editions(conn, &mut lines);
@@ -158,9 +152,8 @@ fn list_editions<S: Alter, W: Write>(
 pub fn list<S: Alter, W: Write>(conn: &mut Connection<S>, output: &mut Io<W>) -> Result<(), Fault>
     requires { conn.old.in_transaction ≡ false }
     ensures mode { conn.new.in_transaction ≡ false }
-    ensures listed { (profile : Profile)
-        → IsListed profile listing (state S.Store conn.old) (state S.Store conn.new)
-        (written W.contents output.old) (written W.contents output.new) result }
+    ensures listed { Lists S.Store conn.old conn.new listing (written W.contents output.old)
+        (written W.contents output.new) result }
 {
     list_tables(conn, output)?;
     list_editions(conn, output)

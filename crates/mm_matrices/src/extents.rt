@@ -3,14 +3,12 @@
 ghost use Rattle.std.specs.Prelude.{◌≡◌, option_map, IfOk};
 ghost use Rattle.std.specs.FinMap.{get};
 ghost use Rattle.sqlite.specs.Values.{bound};
-ghost use Rattle.sqlite.specs.Held.{state};
 ghost use Rattle.mm_definitions.specs.Checks.{box_of};
 ghost use Rattle.mm_definitions.specs.Conditions.{is_product, grid};
 ghost use Rattle.mm_definitions.specs.Package.{MatrixSet};
 ghost use Rattle.mm_definitions.specs.Parts.{Has};
-ghost use Rattle.mm_store.specs.Statements.{IsAsked};
 ghost use Rattle.mm_matrices.specs.Shown.{ShowsExtent, GivesExtent};
-ghost use Rattle.mm_store.specs.Handed.{Looks};
+ghost use Rattle.mm_store.specs.Handed.{Asks, Looks};
 
 use mm_definitions::answers::Fault;
 use mm_definitions::commands::Matrix;
@@ -38,9 +36,7 @@ fn first_extent<S: Alter>(
     sql: &str,
     params: &[ValueRef<'_>],
 ) -> Result<Option<Extent>, Fault>
-    ensures same_reference { tx.new.conn.ghost_name ≡ tx.old.conn.ghost_name }
-    ensures asked { IsAsked (state S.Store tx.old.conn.now) (state S.Store tx.new.conn.now) sql.now
-        (bound params.now) (λ it first. GivesExtent it first) result }
+    ensures { Asks S.Store tx.old tx.new sql.now (bound params.now) GivesExtent result }
 {
     match first(tx, sql, params)? {
         Some(row) => match extent_in(&row) {

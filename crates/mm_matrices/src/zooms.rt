@@ -2,16 +2,14 @@
 
 ghost use Rattle.std.specs.Prelude.{◌≡◌, pos, Option, IfOk, IfErr};
 ghost use Rattle.sqlite.specs.Values.{bound};
-ghost use Rattle.sqlite.specs.Held.{state};
 ghost use Rattle.sqlite.specs.Order.{column};
 ghost use Rattle.sqlite.specs.declared.types.Value.TheVariants.{Int};
 ghost use Rattle.mm_definitions.specs.Conditions.{grid};
 ghost use Rattle.mm_definitions.specs.Neighbours.{Zoomed, IsNearestBelow, IsNearestAbove, zoomed, is_halved};
 ghost use Rattle.mm_definitions.specs.Neighbours as spec;
 ghost use Rattle.mm_store.specs.Faults.{IsStoreFault};
-ghost use Rattle.mm_store.specs.Statements.{IsAsked};
 ghost use Rattle.mm_matrices.specs.Shown.{ShowsMatrix, ShowsZoomed, GivesZoomed};
-ghost use Rattle.mm_store.specs.Handed.{Looks};
+ghost use Rattle.mm_store.specs.Handed.{Asks, Looks};
 
 use mm_definitions::answers::Fault;
 use mm_definitions::bounded::{Count, PixelSize};
@@ -104,9 +102,7 @@ fn first_zoomed<S: Alter>(
     sql: &str,
     params: &[ValueRef<'_>],
 ) -> Result<Option<(u8, Matrix)>, Fault>
-    ensures same_reference { tx.new.conn.ghost_name ≡ tx.old.conn.ghost_name }
-    ensures asked { IsAsked (state S.Store tx.old.conn.now) (state S.Store tx.new.conn.now) sql.now
-        (bound params.now) (λ it first. GivesZoomed it first) result }
+    ensures { Asks S.Store tx.old tx.new sql.now (bound params.now) GivesZoomed result }
 {
     match first(tx, sql, params)? {
         Some(row) => Ok(Some(zoomed_in(&row)?)),

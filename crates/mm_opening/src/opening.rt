@@ -2,11 +2,12 @@
 
 ghost use Rattle.std.specs.Prelude.{◌≡◌, false};
 ghost use Rattle.sqlite.specs.Held.{state};
-ghost use Rattle.mm_definitions.specs.Bounds.{Profile, current};
+ghost use Rattle.mm_definitions.specs.Bounds.{current};
 ghost use Rattle.mm_definitions.specs.Opening.{opening};
 ghost use Rattle.mm_schema.specs.Tables.{schema};
 ghost use Rattle.mm_schema.specs.Made.{first_tables};
-ghost use Rattle.mm_opening.specs.Opening.{IsMaking, IsInit, given_systems};
+ghost use Rattle.mm_opening.specs.Opening.{IsInit, given_systems};
+ghost use Rattle.mm_opening.specs.Handed.{Makes};
 
 use crate::extensions::insert_related_row;
 use crate::profile::insert_profile;
@@ -18,9 +19,7 @@ use sqlite::{Alter, Connection, Transaction};
 
 /// Puts the profile's row and the three given systems into tables without a row.
 fn put_systems<S: Alter>(tx: &mut Transaction<'_, S>) -> Result<(), Fault>
-    ensures same_reference { tx.new.conn.ghost_name ≡ tx.old.conn.ghost_name }
-    ensures made { IsMaking schema (state S.Store tx.old.conn.now) (state S.Store tx.new.conn.now)
-        current given_systems result }
+    ensures { Makes S.Store tx.old tx.new schema current given_systems result }
 {
     insert_profile(tx, 2)?;
     insert_system(
@@ -54,9 +53,7 @@ fn put_systems<S: Alter>(tx: &mut Transaction<'_, S>) -> Result<(), Fault>
 
 /// Makes the tables where there is none, and puts what every package has into them.
 fn make<S: Alter>(tx: &mut Transaction<'_, S>) -> Result<(), Fault>
-    ensures same_reference { tx.new.conn.ghost_name ≡ tx.old.conn.ghost_name }
-    ensures made { IsMaking (first_tables 0)
-        (state S.Store tx.old.conn.now) (state S.Store tx.new.conn.now) current opening result }
+    ensures { Makes S.Store tx.old tx.new (first_tables 0) current opening result }
 {
     create_tables(tx)?;
     put_systems(tx)?;

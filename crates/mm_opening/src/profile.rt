@@ -1,14 +1,14 @@
 //! The row that says which profile a file has.
 
-ghost use Rattle.std.specs.Prelude.{◌≡◌, ◌≢◌, ℤ, pos, false, IfOk, IfErr, MatchOption};
+ghost use Rattle.std.specs.Prelude.{◌≡◌, ◌≢◌, ℤ, false, IfOk, IfErr, MatchOption};
 ghost use Rattle.sqlite.specs.Held.{state};
 ghost use Rattle.sqlite.specs.Order.{column};
 ghost use Rattle.sqlite.specs.declared.types.Value.TheVariants.{Int};
-ghost use Rattle.mm_definitions.specs.Bounds.{Profile};
 ghost use Rattle.mm_schema.specs.Tables.{schema};
 ghost use Rattle.mm_store.specs.Faults.{memory};
-ghost use Rattle.mm_opening.specs.Opening.{nothing, IsMaking};
+ghost use Rattle.mm_opening.specs.Opening.{nothing};
 ghost use Rattle.mm_opening.specs.Look.{Judges, TellsError, IsLooked, stops};
+ghost use Rattle.mm_opening.specs.Handed.{MakesOfVersion};
 
 use mm_definitions::answers::{Fault, Open};
 use mm_store::faults::{fault_of, wants_memory};
@@ -20,10 +20,7 @@ pub(crate) fn insert_profile<S: Alter>(
     tx: &mut Transaction<'_, S>,
     version: i64,
 ) -> Result<(), Fault>
-    ensures same_reference { tx.new.conn.ghost_name ≡ tx.old.conn.ghost_name }
-    ensures made { (profile : Profile) → profile.version ≡ version
-        → IsMaking schema (state S.Store tx.old.conn.now) (state S.Store tx.new.conn.now) profile
-        nothing result }
+    ensures { MakesOfVersion S.Store tx.old tx.new schema version nothing result }
 {
     run(
         tx,

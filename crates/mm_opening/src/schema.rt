@@ -1,10 +1,8 @@
 //! The tables of a package, as they are made.
 
-ghost use Rattle.std.specs.Prelude.{◌≡◌};
-ghost use Rattle.sqlite.specs.Held.{state};
 ghost use Rattle.mm_schema.specs.Tables.{schema};
 ghost use Rattle.mm_schema.specs.Made.{first_tables, with_pieces};
-ghost use Rattle.mm_opening.specs.Opening.{IsCreating};
+ghost use Rattle.mm_opening.specs.Handed.{Creates};
 
 use mm_definitions::answers::Fault;
 use mm_store::statements::run;
@@ -12,9 +10,7 @@ use sqlite::{Alter, Transaction};
 
 /// Makes the tables of systems, contents, matrix sets and matrices.
 fn create_pyramid_tables<S: Alter>(tx: &mut Transaction<'_, S>) -> Result<(), Fault>
-    ensures same_reference { tx.new.conn.ghost_name ≡ tx.old.conn.ghost_name }
-    ensures made { IsCreating (first_tables 0)
-        (state S.Store tx.old.conn.now) (state S.Store tx.new.conn.now) (first_tables 4) result }
+    ensures { Creates S.Store tx.old tx.new (first_tables 0) (first_tables 4) result }
 {
     run(
         tx,
@@ -40,9 +36,7 @@ fn create_pyramid_tables<S: Alter>(tx: &mut Transaction<'_, S>) -> Result<(), Fa
 
 /// Makes the tables of extensions, relations and the profile.
 fn create_further_tables<S: Alter>(tx: &mut Transaction<'_, S>) -> Result<(), Fault>
-    ensures same_reference { tx.new.conn.ghost_name ≡ tx.old.conn.ghost_name }
-    ensures made { IsCreating (first_tables 4)
-        (state S.Store tx.old.conn.now) (state S.Store tx.new.conn.now) (first_tables 7) result }
+    ensures { Creates S.Store tx.old tx.new (first_tables 4) (first_tables 7) result }
 {
     run(
         tx,
@@ -63,9 +57,7 @@ fn create_further_tables<S: Alter>(tx: &mut Transaction<'_, S>) -> Result<(), Fa
 
 /// Makes the tables of kinds, tiles, attribute rows and media.
 fn create_content_tables<S: Alter>(tx: &mut Transaction<'_, S>) -> Result<(), Fault>
-    ensures same_reference { tx.new.conn.ghost_name ≡ tx.old.conn.ghost_name }
-    ensures made { IsCreating (first_tables 7)
-        (state S.Store tx.old.conn.now) (state S.Store tx.new.conn.now) (first_tables 11) result }
+    ensures { Creates S.Store tx.old tx.new (first_tables 7) (first_tables 11) result }
 {
     run(
         tx,
@@ -91,9 +83,7 @@ fn create_content_tables<S: Alter>(tx: &mut Transaction<'_, S>) -> Result<(), Fa
 
 /// Makes the tables of mapping rows, editions and pieces.
 fn create_edition_tables<S: Alter>(tx: &mut Transaction<'_, S>) -> Result<(), Fault>
-    ensures same_reference { tx.new.conn.ghost_name ≡ tx.old.conn.ghost_name }
-    ensures made { IsCreating (first_tables 11)
-        (state S.Store tx.old.conn.now) (state S.Store tx.new.conn.now) (first_tables 14) result }
+    ensures { Creates S.Store tx.old tx.new (first_tables 11) (first_tables 14) result }
 {
     run(
         tx,
@@ -114,9 +104,7 @@ fn create_edition_tables<S: Alter>(tx: &mut Transaction<'_, S>) -> Result<(), Fa
 
 /// Makes the table of blobs, and the indexes that find a blob by its digest and what names it.
 fn create_blob_table<S: Alter>(tx: &mut Transaction<'_, S>) -> Result<(), Fault>
-    ensures same_reference { tx.new.conn.ghost_name ≡ tx.old.conn.ghost_name }
-    ensures made { IsCreating (first_tables 14)
-        (state S.Store tx.old.conn.now) (state S.Store tx.new.conn.now) with_pieces result }
+    ensures { Creates S.Store tx.old tx.new (first_tables 14) with_pieces result }
 {
     run(
         tx,
@@ -131,9 +119,7 @@ fn create_blob_table<S: Alter>(tx: &mut Transaction<'_, S>) -> Result<(), Fault>
 
 /// Makes the index that finds the mapping rows of a relation by their related id.
 fn create_mapping_index<S: Alter>(tx: &mut Transaction<'_, S>) -> Result<(), Fault>
-    ensures same_reference { tx.new.conn.ghost_name ≡ tx.old.conn.ghost_name }
-    ensures made { IsCreating with_pieces
-        (state S.Store tx.old.conn.now) (state S.Store tx.new.conn.now) schema result }
+    ensures { Creates S.Store tx.old tx.new with_pieces schema result }
 {
     run(
         tx,
@@ -144,9 +130,7 @@ fn create_mapping_index<S: Alter>(tx: &mut Transaction<'_, S>) -> Result<(), Fau
 
 /// Makes the 15 tables and the five indexes where there is none.
 pub(crate) fn create_tables<S: Alter>(tx: &mut Transaction<'_, S>) -> Result<(), Fault>
-    ensures same_reference { tx.new.conn.ghost_name ≡ tx.old.conn.ghost_name }
-    ensures made { IsCreating (first_tables 0)
-        (state S.Store tx.old.conn.now) (state S.Store tx.new.conn.now) schema result }
+    ensures { Creates S.Store tx.old tx.new (first_tables 0) schema result }
 {
     create_pyramid_tables(tx)?;
     create_further_tables(tx)?;

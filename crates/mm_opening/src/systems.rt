@@ -1,11 +1,9 @@
 //! Spatial reference systems.
 
-ghost use Rattle.std.specs.Prelude.{◌≡◌, ℕ, None};
+ghost use Rattle.std.specs.Prelude.{◌≡◌, None};
 ghost use Rattle.std.specs.FinMap.{get, insert};
-ghost use Rattle.sqlite.specs.Held.{state};
-ghost use Rattle.mm_definitions.specs.Bounds.{Profile};
 ghost use Rattle.mm_definitions.specs.declared.commands.Command.TheVariants as commands;
-ghost use Rattle.mm_store.specs.Shapes.{IsChange, IsLent};
+ghost use Rattle.mm_store.specs.Handed.{ChangesWhere, Applies};
 
 use mm_definitions::answers::{Fault, Outcome};
 use mm_store::statements::run;
@@ -22,18 +20,17 @@ pub(crate) fn insert_system<S: Alter>(
     definition: &str,
     description: &str,
 ) -> Result<(), Fault>
-    ensures same_reference { tx.new.conn.ghost_name ≡ tx.old.conn.ghost_name }
-    ensures change { (profile : Profile) → IsChange profile (state S.Store tx.old.conn.now)
-        (state S.Store tx.new.conn.now) (λ p. get p.systems id ≡ None)
+    ensures { ChangesWhere S.Store tx.old tx.new (λ p. get p.systems id ≡ None)
         (λ p. record p {
-          systems = insert p.systems id (record {
-            name = name.now;
-            organization = organization.now;
-            organization_id = organization_id;
-            definition =
-                definition.now;
-            description = description.now;
-          });
+          systems = insert p.systems id
+              (record {
+                name = name.now;
+                organization = organization.now;
+                organization_id =
+                    organization_id;
+                definition = definition.now;
+                description = description.now;
+              });
         }) result }
 {
     run(
@@ -60,11 +57,9 @@ pub fn add_srs<S: Alter>(
     definition: &str,
     description: &str,
 ) -> Result<Outcome, Fault>
-    ensures same_reference { tx.new.conn.ghost_name ≡ tx.old.conn.ghost_name }
-    ensures lent { (profile : Profile) (moment : ℕ)
-        → IsLent profile
+    ensures { Applies S.Store tx.old tx.new
         (commands.Srs id name.now organization.now organization_id definition.now description.now)
-        moment (state S.Store tx.old.conn.now) (state S.Store tx.new.conn.now) result }
+        result }
 {
     if has_system(tx, id)? {
         return Ok(Outcome::refused(20));

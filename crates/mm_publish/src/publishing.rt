@@ -1,6 +1,6 @@
 //! Publishing an edition.
 
-ghost use Rattle.std.specs.Prelude.{◌≡◌, ℕ, ℤ, true, ⊤};
+ghost use Rattle.std.specs.Prelude.{◌≡◌, ℕ, true};
 ghost use Rattle.std.specs.FinMap.{contains_key, insert, retain_keys};
 ghost use Rattle.sqlite.specs.Held.{state};
 ghost use Rattle.mm_definitions.specs.Bounds.{Profile};
@@ -9,13 +9,12 @@ ghost use Rattle.mm_definitions.specs.Effects.{is_other};
 ghost use Rattle.mm_definitions.specs.Package.{published_state};
 ghost use Rattle.mm_definitions.specs.Stamp.{IsStamp};
 ghost use Rattle.mm_definitions.specs.declared.commands.Command.TheVariants as commands;
-ghost use Rattle.mm_store.specs.Kept.{Spare, no_spare};
-ghost use Rattle.mm_store.specs.Removals.{FreedByEdition};
-ghost use Rattle.mm_store.specs.Shapes.{IsChange, IsTried};
-ghost use Rattle.mm_blobs.specs.Moves.{IsMove};
-ghost use Rattle.mm_blobs.specs.Views.{IsSeen};
+ghost use Rattle.mm_store.specs.Shapes.{IsTried};
 ghost use Rattle.mm_publish.specs.Quiet.{IsQuiet};
 ghost use Rattle.mm_publish.specs.Turns.{IsTrial};
+ghost use Rattle.mm_store.specs.Removals.{FreedByEdition};
+ghost use Rattle.mm_store.specs.Handed.{IsSame, Changes, ChangesWhere};
+ghost use Rattle.mm_blobs.specs.Handed.{Frees};
 
 use crate::running::{Turn, try_piece};
 use mm_blobs::blobs::release_each;
@@ -36,7 +35,7 @@ pub(crate) fn try_pieces<S: Alter>(
     edition: &Name,
     last_change: &str,
 ) -> Result<Option<(u32, u8)>, Fault>
-    ensures same_reference { tx.new.conn.ghost_name ≡ tx.old.conn.ghost_name }
+    ensures same_reference { IsSame tx.old tx.new }
     ensures any_text { IsQuiet
         (state S.Store tx.old.conn.now) (state S.Store tx.new.conn.now) result }
     ensures trial { (profile : Profile) (moment : ℕ) → IsStamp moment last_change.now
@@ -55,9 +54,7 @@ pub(crate) fn try_pieces<S: Alter>(
 
 /// Writes that an edition is published.
 fn mark_published<S: Alter>(tx: &mut Transaction<'_, S>, edition: &str) -> Result<(), Fault>
-    ensures same_reference { tx.new.conn.ghost_name ≡ tx.old.conn.ghost_name }
-    ensures change { (profile : Profile) → IsChange profile (state S.Store tx.old.conn.now)
-        (state S.Store tx.new.conn.now) (λ p. contains_key p.editions edition.now ≡ true)
+    ensures { ChangesWhere S.Store tx.old tx.new (λ p. contains_key p.editions edition.now ≡ true)
         (λ p. record p { editions = insert p.editions edition.now published_state }) result }
 {
     run(
@@ -69,15 +66,9 @@ fn mark_published<S: Alter>(tx: &mut Transaction<'_, S>, edition: &str) -> Resul
 
 /// Removes the rows of the pieces of an edition. Blobs stay that nothing names any more.
 fn delete_piece_rows<S: Alter>(tx: &mut Transaction<'_, S>, edition: &str) -> Result<(), Fault>
-    ensures same_reference { tx.new.conn.ghost_name ≡ tx.old.conn.ghost_name }
-    ensures gone { (profile : Profile) (more : Spare)
-        → IsMove (state S.Store tx.old.conn.now) (state S.Store tx.new.conn.now)
-        (λ base x. IsSeen no_spare profile (state S.Store tx.old.conn.now) base x
-        × ((z : ℤ) → FreedByEdition edition.now x.kept z → more z ≡ true))
-        (λ base x _ y.
-        (y.content ≡ record (x.content)
-        { pieces = retain_keys x.content.pieces (λ k. is_other edition.now k.edition) })
-        × IsSeen more profile (state S.Store tx.new.conn.now) base y) result }
+    ensures { Frees S.Store tx.old tx.new (FreedByEdition edition.now)
+        (λ p. record p { pieces = retain_keys p.pieces (λ k. is_other edition.now k.edition) })
+        result }
 {
     run(
         tx,
@@ -88,11 +79,9 @@ fn delete_piece_rows<S: Alter>(tx: &mut Transaction<'_, S>, edition: &str) -> Re
 
 /// Removes the pieces of an edition, and the blobs that nothing names any more.
 fn delete_pieces<S: Alter>(tx: &mut Transaction<'_, S>, edition: &str) -> Result<(), Fault>
-    ensures same_reference { tx.new.conn.ghost_name ≡ tx.old.conn.ghost_name }
-    ensures change { (profile : Profile)
-        → IsChange profile (state S.Store tx.old.conn.now) (state S.Store tx.new.conn.now) (λ p. ⊤)
-        (λ p. record p
-        { pieces = retain_keys p.pieces (λ k. is_other edition.now k.edition) }) result }
+    ensures { Changes S.Store tx.old tx.new
+        (λ p. record p { pieces = retain_keys p.pieces (λ k. is_other edition.now k.edition) })
+        result }
 {
     let blobs = blobs_of_pieces(tx, edition)?;
     delete_piece_rows(tx, edition)?;
@@ -101,10 +90,8 @@ fn delete_pieces<S: Alter>(tx: &mut Transaction<'_, S>, edition: &str) -> Result
 
 /// Publishes an edition whose pieces were done, and removes them.
 fn close_edition<S: Alter>(tx: &mut Transaction<'_, S>, edition: &str) -> Result<(), Fault>
-    ensures same_reference { tx.new.conn.ghost_name ≡ tx.old.conn.ghost_name }
-    ensures change { (profile : Profile)
-        → IsChange profile (state S.Store tx.old.conn.now) (state S.Store tx.new.conn.now)
-        (λ p. contains_key p.editions edition.now ≡ true) (closed edition.now) result }
+    ensures { ChangesWhere S.Store tx.old tx.new (λ p. contains_key p.editions edition.now ≡ true)
+        (closed edition.now) result }
 {
     mark_published(tx, edition)?;
     delete_pieces(tx, edition)
@@ -119,7 +106,7 @@ pub fn publish<S: Alter>(
     edition: &Name,
     last_change: &str,
 ) -> Result<Outcome, Fault>
-    ensures same_reference { tx.new.conn.ghost_name ≡ tx.old.conn.ghost_name }
+    ensures same_reference { IsSame tx.old tx.new }
     ensures any_text { IsQuiet
         (state S.Store tx.old.conn.now) (state S.Store tx.new.conn.now) result }
     ensures tried { (profile : Profile) (moment : ℕ) → IsStamp moment last_change.now →

@@ -3,13 +3,13 @@
 ghost use Rattle.std.specs.Prelude.{◌≡◌, ℕ, true};
 ghost use Rattle.sqlite.specs.Held.{state};
 ghost use Rattle.mm_definitions.specs.Bounds.{Profile};
-ghost use Rattle.mm_definitions.specs.Keys.{Text};
 ghost use Rattle.mm_definitions.specs.PieceGroups.{changes_tile, changes_item, changes_mapping, puts_matrix};
 ghost use Rattle.mm_definitions.specs.Pieces.{piece_command};
 ghost use Rattle.mm_definitions.specs.Stamp.{IsStamp};
-ghost use Rattle.mm_layout.specs.Stamped.{IsLentAt, IsLentWhere};
 ghost use Rattle.mm_publish.specs.Quiet.{IsQuiet};
 ghost use Rattle.mm_publish.specs.Turns.{HoldsPiece, IsTurn};
+ghost use Rattle.mm_store.specs.Handed.{IsSame};
+ghost use Rattle.mm_layout.specs.Handed.{Lends, LendsWhere, LendsUnstamped};
 
 use mm_definitions::answers::{Fault, Outcome};
 use mm_definitions::commands::Piece;
@@ -37,10 +37,8 @@ fn run_tile<S: Alter>(
     last_change: &str,
 ) -> Result<Outcome, Fault>
     requires { changes_tile piece.now ≡ true }
-    ensures same_reference { tx.new.conn.ghost_name ≡ tx.old.conn.ghost_name }
-    ensures lent { (profile : Profile)
-        → IsLentWhere (HoldsPiece edition.now number piece.now) profile (piece_command piece.now)
-        last_change.now (state S.Store tx.old.conn.now) (state S.Store tx.new.conn.now) result }
+    ensures { LendsWhere S.Store tx.old tx.new (HoldsPiece edition.now number piece.now)
+        (piece_command piece.now) last_change.now result }
 {
     match piece {
         Piece::Tile {
@@ -79,10 +77,8 @@ fn run_item<S: Alter>(
     last_change: &str,
 ) -> Result<Outcome, Fault>
     requires { changes_item piece.now ≡ true }
-    ensures same_reference { tx.new.conn.ghost_name ≡ tx.old.conn.ghost_name }
-    ensures lent { (profile : Profile)
-        → IsLentWhere (HoldsPiece edition.now number piece.now) profile (piece_command piece.now)
-        last_change.now (state S.Store tx.old.conn.now) (state S.Store tx.new.conn.now) result }
+    ensures { LendsWhere S.Store tx.old tx.new (HoldsPiece edition.now number piece.now)
+        (piece_command piece.now) last_change.now result }
 {
     match piece {
         Piece::Row {
@@ -123,10 +119,7 @@ fn run_item<S: Alter>(
 /// Puts or removes the mapping row of a piece.
 fn run_mapping<S: Alter>(tx: &mut Transaction<'_, S>, piece: &Piece) -> Result<Outcome, Fault>
     requires { changes_mapping piece.now ≡ true }
-    ensures same_reference { tx.new.conn.ghost_name ≡ tx.old.conn.ghost_name }
-    ensures lent { (profile : Profile) (text : Text)
-        → IsLentAt profile (piece_command piece.now) text
-        (state S.Store tx.old.conn.now) (state S.Store tx.new.conn.now) result }
+    ensures { LendsUnstamped S.Store tx.old tx.new (piece_command piece.now) result }
 {
     match piece {
         Piece::Map {
@@ -150,9 +143,7 @@ fn run_matrix<S: Alter>(
     last_change: &str,
 ) -> Result<Outcome, Fault>
     requires { puts_matrix piece.now ≡ true }
-    ensures same_reference { tx.new.conn.ghost_name ≡ tx.old.conn.ghost_name }
-    ensures lent { (profile : Profile) → IsLentAt profile (piece_command piece.now) last_change.now
-        (state S.Store tx.old.conn.now) (state S.Store tx.new.conn.now) result }
+    ensures { Lends S.Store tx.old tx.new (piece_command piece.now) last_change.now result }
 {
     match piece {
         Piece::Matrix {
@@ -172,10 +163,8 @@ fn run_piece<S: Alter>(
     piece: &Piece,
     last_change: &str,
 ) -> Result<Outcome, Fault>
-    ensures same_reference { tx.new.conn.ghost_name ≡ tx.old.conn.ghost_name }
-    ensures lent { (profile : Profile)
-        → IsLentWhere (HoldsPiece edition.now number piece.now) profile (piece_command piece.now)
-        last_change.now (state S.Store tx.old.conn.now) (state S.Store tx.new.conn.now) result }
+    ensures { LendsWhere S.Store tx.old tx.new (HoldsPiece edition.now number piece.now)
+        (piece_command piece.now) last_change.now result }
 {
     match piece {
         Piece::Tile { .. } | Piece::TileDrop { .. } => run_tile(
@@ -199,7 +188,7 @@ pub(crate) fn try_piece<S: Alter>(
     number: u32,
     last_change: &str,
 ) -> Result<Turn, Fault>
-    ensures same_reference { tx.new.conn.ghost_name ≡ tx.old.conn.ghost_name }
+    ensures same_reference { IsSame tx.old tx.new }
     ensures any_text { IsQuiet
         (state S.Store tx.old.conn.now) (state S.Store tx.new.conn.now) result }
     ensures turn { (profile : Profile) (moment : ℕ) → IsStamp moment last_change.now

@@ -1,11 +1,9 @@
 //! Whether an item stands: an attribute row or a medium.
 
 ghost use Rattle.std.specs.Prelude.{◌≡◌, false};
-ghost use Rattle.sqlite.specs.Held.{state};
-ghost use Rattle.mm_definitions.specs.Bounds.{Profile};
-ghost use Rattle.mm_store.specs.Seen.{IsRead};
 ghost use Rattle.mm_reads.specs.Related.{is_item};
 ghost use Rattle.mm_store.specs.Handed.{Tells};
+ghost use Rattle.mm_store.specs.Seen.{ReadsOn};
 
 use mm_definitions::answers::Fault;
 use mm_layout::{has_medium, has_row};
@@ -30,9 +28,8 @@ pub(crate) fn stands<S: Alter>(
 ) -> Result<bool, Fault>
     requires { conn.old.in_transaction ≡ false }
     ensures mode { conn.new.in_transaction ≡ false }
-    ensures read { (profile : Profile)
-        → IsRead profile (state S.Store conn.old) (state S.Store conn.new)
-        (λ p found. found ≡ is_item p table.now id) result }
+    ensures read { ReadsOn S.Store conn.old conn.new (λ p found. found ≡ is_item p table.now id)
+        result }
 {
     let mut tx = conn.transaction();
     let found = has_item(&mut tx, table, id);

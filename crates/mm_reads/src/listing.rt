@@ -1,14 +1,12 @@
 //! The list of the tables.
 
 ghost use Rattle.std.specs.Prelude.{◌≡◌, false, IfOk, IfErr};
-ghost use Rattle.sqlite.specs.Held.{state};
 ghost use Rattle.sqlite.specs.Order.{column};
 ghost use Rattle.sqlite.specs.declared.types.Value.TheVariants.{Text as Words};
-ghost use Rattle.mm_definitions.specs.Bounds.{Profile};
 ghost use Rattle.mm_definitions.specs.Package.{kind_text};
 ghost use Rattle.mm_store.specs.Faults.{IsStoreFault};
-ghost use Rattle.mm_store.specs.Seen.{IsRead};
 ghost use Rattle.mm_reads.specs.Listing.{ShowsPlace, ShowsPlaceOf, ShowsEntry, GathersTables, ListsTables};
+ghost use Rattle.mm_store.specs.Seen.{ReadsOn};
 
 use mm_definitions::answers::Fault;
 use mm_definitions::commands::Kind;
@@ -134,9 +132,8 @@ impl Visitor for Gathered {
 pub fn contents<S: Alter>(alloc: Global, conn: &mut Connection<S>) -> Result<Vec<Entry>, Fault>
     requires { conn.old.in_transaction ≡ false }
     ensures mode { conn.new.in_transaction ≡ false }
-    ensures read { (profile : Profile)
-        → IsRead profile (state S.Store conn.old) (state S.Store conn.new)
-        (λ p tables. ListsTables p tables.items) result }
+    ensures read { ReadsOn S.Store conn.old conn.new (λ p tables. ListsTables p tables.items)
+        result }
 {
     let mut gathered = Gathered {
         entries: Vec::new(alloc),

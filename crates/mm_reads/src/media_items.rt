@@ -2,17 +2,15 @@
 
 ghost use Rattle.std.specs.Prelude.{◌≡◌, Some, false, option_map, string_bytes, IfOk, IfErr};
 ghost use Rattle.std.specs.FinMap.{get};
-ghost use Rattle.sqlite.specs.Held.{state};
-ghost use Rattle.mm_definitions.specs.Bounds.{Profile};
 ghost use Rattle.mm_definitions.specs.Keys.{item};
 ghost use Rattle.mm_store.specs.Blobs.{Told, bytes_at};
 ghost use Rattle.mm_store.specs.Faults.{IsStoreFault};
 ghost use Rattle.mm_store.specs.Kept.{medium_id, medium_with};
 ghost use Rattle.mm_store.specs.Rows.{MediumRow};
-ghost use Rattle.mm_store.specs.Seen.{IsRead};
 ghost use Rattle.mm_reads.specs.Told.{ShowsMedium, IsMediumRow, shown_medium};
 ghost use Rattle.mm_store.specs.Handed.{Looks};
 ghost use Rattle.mm_blobs.specs.Handed.{Finds};
+ghost use Rattle.mm_store.specs.Seen.{ReadsOn};
 
 use mm_blobs::blobs::bytes_of;
 use mm_definitions::answers::Fault;
@@ -92,8 +90,7 @@ pub fn media<S: Alter>(
 ) -> Result<Option<Media>, Fault>
     requires { conn.old.in_transaction ≡ false }
     ensures mode { conn.new.in_transaction ≡ false }
-    ensures read { (profile : Profile)
-        → IsRead profile (state S.Store conn.old) (state S.Store conn.new)
+    ensures read { ReadsOn S.Store conn.old conn.new
         (λ p found. get p.media (item table.now id) ≡ option_map shown_medium found) result }
 {
     let mut tx = conn.transaction();

@@ -1,11 +1,9 @@
 //! The mapping rows of an item, from a relation's base to its related table.
 
 ghost use Rattle.std.specs.Prelude.{◌≡◌, false, IfOk, IfErr};
-ghost use Rattle.sqlite.specs.Held.{state};
-ghost use Rattle.mm_definitions.specs.Bounds.{Profile};
 ghost use Rattle.mm_store.specs.Faults.{IsStoreFault};
-ghost use Rattle.mm_store.specs.Seen.{IsRead};
 ghost use Rattle.mm_reads.specs.Related.{ShowsRelated, GathersMates, ListsMates, TellsMates};
+ghost use Rattle.mm_store.specs.Seen.{ReadsOn};
 
 use crate::items::stands;
 use mm_definitions::answers::Fault;
@@ -63,8 +61,7 @@ fn listed<S: Alter>(
 ) -> Result<Vec<Related>, Fault>
     requires { conn.old.in_transaction ≡ false }
     ensures mode { conn.new.in_transaction ≡ false }
-    ensures read { (profile : Profile)
-        → IsRead profile (state S.Store conn.old) (state S.Store conn.new)
+    ensures read { ReadsOn S.Store conn.old conn.new
         (λ p items. ListsMates p table.now id items.items) result }
 {
     let mut gathered = Gathered {
@@ -90,9 +87,8 @@ pub fn related<S: Alter>(
 ) -> Result<Option<Vec<Related>>, Fault>
     requires { conn.old.in_transaction ≡ false }
     ensures mode { conn.new.in_transaction ≡ false }
-    ensures read { (profile : Profile)
-        → IsRead profile (state S.Store conn.old) (state S.Store conn.new)
-        (λ p found. TellsMates p table.now id found) result }
+    ensures read { ReadsOn S.Store conn.old conn.new (λ p found. TellsMates p table.now id found)
+        result }
 {
     let table = table.as_str();
     if !stands(conn, table, id)? {

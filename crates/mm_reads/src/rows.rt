@@ -3,14 +3,11 @@
 ghost use Rattle.std.specs.Prelude.{◌≡◌, false, option_map, IfOk, IfErr};
 ghost use Rattle.std.specs.FinMap.{get};
 ghost use Rattle.sqlite.specs.Values.{bound};
-ghost use Rattle.sqlite.specs.Held.{state};
-ghost use Rattle.mm_definitions.specs.Bounds.{Profile};
 ghost use Rattle.mm_definitions.specs.Keys.{item};
 ghost use Rattle.mm_store.specs.Faults.{IsStoreFault};
-ghost use Rattle.mm_store.specs.Seen.{IsRead};
-ghost use Rattle.mm_store.specs.Statements.{IsAsked};
 ghost use Rattle.mm_reads.specs.Told.{Gives, ShowsRow, shown_row};
-ghost use Rattle.mm_store.specs.Handed.{Looks};
+ghost use Rattle.mm_store.specs.Handed.{Asks, Looks};
+ghost use Rattle.mm_store.specs.Seen.{ReadsOn};
 
 use mm_definitions::answers::Fault;
 use mm_definitions::entries::Row;
@@ -41,9 +38,7 @@ fn first_row<S: Alter>(
     sql: &str,
     params: &[ValueRef<'_>],
 ) -> Result<Option<Row>, Fault>
-    ensures same_reference { tx.new.conn.ghost_name ≡ tx.old.conn.ghost_name }
-    ensures asked { IsAsked (state S.Store tx.old.conn.now) (state S.Store tx.new.conn.now) sql.now
-        (bound params.now) (λ it first. Gives ShowsRow it first) result }
+    ensures { Asks S.Store tx.old tx.new sql.now (bound params.now) (Gives ShowsRow) result }
 {
     match first(tx, sql, params)? {
         Some(row) => Ok(Some(row_in(&row)?)),
@@ -68,8 +63,7 @@ fn row_at<S: Alter>(tx: &mut Transaction<'_, S>, table: &str, id: i64) -> Result
 pub fn row<S: Alter>(conn: &mut Connection<S>, table: &Name, id: i64) -> Result<Option<Row>, Fault>
     requires { conn.old.in_transaction ≡ false }
     ensures mode { conn.new.in_transaction ≡ false }
-    ensures read { (profile : Profile)
-        → IsRead profile (state S.Store conn.old) (state S.Store conn.new)
+    ensures read { ReadsOn S.Store conn.old conn.new
         (λ p found. get p.rows (item table.now id) ≡ option_map shown_row found) result }
 {
     let mut tx = conn.transaction();

@@ -2,31 +2,29 @@
 
 ghost use Rattle.std.specs.Prelude.{◌≡◌, pos, false};
 ghost use Rattle.std.specs.FinMap.{get};
-ghost use Rattle.sqlite.specs.Held.{state};
-ghost use Rattle.mm_definitions.specs.Bounds.{Profile};
 ghost use Rattle.mm_definitions.specs.Keys.{tile};
-ghost use Rattle.mm_store.specs.Seen.{IsRead};
+ghost use Rattle.mm_definitions.specs.Places.{tile_at};
 ghost use Rattle.mm_reads.specs.Told.{TellsBytes};
 ghost use Rattle.mm_store.specs.Handed.{Looks};
+ghost use Rattle.mm_store.specs.Seen.{ReadsOn};
 
 use mm_blobs::blobs::bytes_of;
 use mm_blobs::entries::blob_of_tile;
 use mm_definitions::answers::Fault;
 use mm_definitions::names::Name;
+use mm_definitions::places::TilePlace;
 use sqlite::{Alter, Connection, Transaction};
 
 /// The bytes of the tile at a place, inside a transaction.
 fn bytes_at<S: Alter>(
     tx: &mut Transaction<'_, S>,
     table: &str,
-    zoom: u8,
-    column: u32,
-    row: u32,
+    place: TilePlace,
 ) -> Result<Option<Vec<u8>>, Fault>
-    ensures { Looks S.Store tx.old tx.new (λ p found. TellsBytes
-        (get p.tiles (tile table.now (pos zoom) (pos column) (pos row))) found) result }
+    ensures { Looks S.Store tx.old tx.new
+        (λ p found. TellsBytes (get p.tiles (tile_at table.now place)) found) result }
 {
-    match blob_of_tile(tx, table, zoom, column, row)? {
+    match blob_of_tile(tx, table, place)? {
         Some(blob) => Ok(Some(bytes_of(tx, blob)?)),
         None => Ok(None),
     }
@@ -43,13 +41,13 @@ pub fn tile<S: Alter>(
 ) -> Result<Option<Vec<u8>>, Fault>
     requires { conn.old.in_transaction ≡ false }
     ensures mode { conn.new.in_transaction ≡ false }
-    ensures read { (profile : Profile)
-        → IsRead profile (state S.Store conn.old) (state S.Store conn.new)
+    ensures read { ReadsOn S.Store conn.old conn.new
         (λ p found. TellsBytes (get p.tiles (tile table.now (pos zoom) (pos column) (pos row)))
         found) result }
 {
     let mut tx = conn.transaction();
-    let found = bytes_at(&mut tx, table.as_str(), zoom, column, row);
+    let place = TilePlace { zoom, column, row };
+    let found = bytes_at(&mut tx, table.as_str(), place);
     tx.rollback();
     found
 }

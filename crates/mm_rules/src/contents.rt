@@ -1,14 +1,12 @@
 //! The rules of contents, of the registry of kinds and of matrix sets.
 
-ghost use Rattle.std.specs.Prelude.{⊤, ◌↔◌, ℤ, IsTrue};
-ghost use Rattle.sqlite.specs.Held.{state};
-ghost use Rattle.mm_definitions.specs.Bounds.{Profile};
-ghost use Rattle.mm_definitions.specs.Rules.{NamedSystems, DistinctIdentifiers, Names, Registry, Extents, Limits, IsPlane, IsOrdered};
-ghost use Rattle.mm_queries.specs.Check.{IsCheck};
+ghost use Rattle.std.specs.Prelude.{◌↔◌, IsTrue};
+ghost use Rattle.mm_definitions.specs.Rules.{NamedSystems, DistinctIdentifiers, Names, Registry, Extents, IsPlane, IsOrdered};
 ghost use Rattle.sqlite.specs.Order.{column};
 ghost use Rattle.mm_queries.specs.Columns.{number_of};
 ghost use Rattle.mm_rules.specs.Parts.{ContentsSystems, SetSystems, MappingNames, Registered, KindsHaveContents, SetsHaveContents, SetExtents, ContentsExtents};
 ghost use Rattle.mm_rules.specs.ContentsRows.{MayNameRow, IsSameRow, IsThereRow, IsAbsentRow, IsOrderedRow, IsPlacedRow, IsUnplacedRow, IsRegisteredRow};
+ghost use Rattle.mm_queries.specs.Check.{Decides, DecidesWithin};
 
 use mm_definitions::answers::Fault;
 use mm_queries::columns::{is_pyramid, number, same_number, same_text, stands, text_is};
@@ -48,9 +46,7 @@ impl RowTest for MayName {
 
 /// Of rule 2, what it asks of contents.
 pub fn contents_systems<S: Alter>(conn: &mut Connection<S>) -> Result<bool, Fault>
-    ensures { (profile : Profile)
-        → IsCheck profile (state S.Store conn.old) (state S.Store conn.new) (λ _. ⊤)
-        (λ p. ContentsSystems p) result }
+    ensures { Decides S.Store conn.old conn.new (λ p. ContentsSystems p) result }
 {
     each_passes(
         conn,
@@ -62,9 +58,7 @@ pub fn contents_systems<S: Alter>(conn: &mut Connection<S>) -> Result<bool, Faul
 
 /// Of rule 2, what it asks of matrix sets.
 pub fn set_systems<S: Alter>(conn: &mut Connection<S>) -> Result<bool, Fault>
-    ensures { (profile : Profile)
-        → IsCheck profile (state S.Store conn.old) (state S.Store conn.new) (λ _. ⊤)
-        (λ p. SetSystems p) result }
+    ensures { Decides S.Store conn.old conn.new (λ p. SetSystems p) result }
 {
     each_passes(
         conn,
@@ -76,8 +70,7 @@ pub fn set_systems<S: Alter>(conn: &mut Connection<S>) -> Result<bool, Fault>
 
 /// Rule 2: each system that is named stands, and no pyramid names a geographic one.
 pub fn named_systems<S: Alter>(conn: &mut Connection<S>) -> Result<bool, Fault>
-    ensures { (profile : Profile)
-        → IsCheck profile (state S.Store conn.old) (state S.Store conn.new) (λ _. ⊤)
+    ensures { Decides S.Store conn.old conn.new
         (λ p. NamedSystems p.systems p.contents p.kinds p.sets) result }
 {
     if contents_systems(conn)? {
@@ -106,9 +99,7 @@ impl RowTest for Same {
 
 /// Rule 3: identifiers differ.
 pub fn distinct_identifiers<S: Alter>(conn: &mut Connection<S>) -> Result<bool, Fault>
-    ensures { (profile : Profile)
-        → IsCheck profile (state S.Store conn.old) (state S.Store conn.new) (λ _. ⊤)
-        (λ p. DistinctIdentifiers p.contents) result }
+    ensures { Decides S.Store conn.old conn.new (λ p. DistinctIdentifiers p.contents) result }
 {
     each_passes(
         conn,
@@ -135,9 +126,7 @@ impl RowTest for Absent {
 
 /// Of rule 4, that no mapping has the name of a table.
 pub fn mapping_names<S: Alter>(conn: &mut Connection<S>) -> Result<bool, Fault>
-    ensures { (profile : Profile)
-        → IsCheck profile (state S.Store conn.old) (state S.Store conn.new) (λ _. ⊤)
-        (λ p. MappingNames p) result }
+    ensures { Decides S.Store conn.old conn.new (λ p. MappingNames p) result }
 {
     each_passes(
         conn,
@@ -149,9 +138,8 @@ pub fn mapping_names<S: Alter>(conn: &mut Connection<S>) -> Result<bool, Fault>
 
 /// Rule 4, where rule 16 holds: no mapping has the name of a table.
 pub fn names<S: Alter>(conn: &mut Connection<S>) -> Result<bool, Fault>
-    ensures { (profile : Profile)
-        → IsCheck profile (state S.Store conn.old) (state S.Store conn.new) (λ p. Limits profile p)
-        (λ p. Names p.contents p.relations p.editions) result }
+    ensures { DecidesWithin S.Store conn.old conn.new (λ p. Names p.contents p.relations p.editions)
+        result }
 {
     mapping_names(conn)
 }
@@ -237,9 +225,7 @@ impl RowTest for Suited {
 
 /// Of rule 5, that each table has a kind that suits it.
 pub fn registered<S: Alter>(conn: &mut Connection<S>) -> Result<bool, Fault>
-    ensures { (profile : Profile)
-        → IsCheck profile (state S.Store conn.old) (state S.Store conn.new) (λ _. ⊤)
-        (λ p. Registered p) result }
+    ensures { Decides S.Store conn.old conn.new (λ p. Registered p) result }
 {
     each_passes(
         conn,
@@ -251,9 +237,7 @@ pub fn registered<S: Alter>(conn: &mut Connection<S>) -> Result<bool, Fault>
 
 /// Of rule 5, that each kind is that of a table.
 pub fn kinds_have_contents<S: Alter>(conn: &mut Connection<S>) -> Result<bool, Fault>
-    ensures { (profile : Profile)
-        → IsCheck profile (state S.Store conn.old) (state S.Store conn.new) (λ _. ⊤)
-        (λ p. KindsHaveContents p) result }
+    ensures { Decides S.Store conn.old conn.new (λ p. KindsHaveContents p) result }
 {
     each_passes(
         conn,
@@ -265,9 +249,7 @@ pub fn kinds_have_contents<S: Alter>(conn: &mut Connection<S>) -> Result<bool, F
 
 /// Of rule 5, that each matrix set is that of a table.
 pub fn sets_have_contents<S: Alter>(conn: &mut Connection<S>) -> Result<bool, Fault>
-    ensures { (profile : Profile)
-        → IsCheck profile (state S.Store conn.old) (state S.Store conn.new) (λ _. ⊤)
-        (λ p. SetsHaveContents p) result }
+    ensures { Decides S.Store conn.old conn.new (λ p. SetsHaveContents p) result }
 {
     each_passes(
         conn,
@@ -279,9 +261,8 @@ pub fn sets_have_contents<S: Alter>(conn: &mut Connection<S>) -> Result<bool, Fa
 
 /// Of rule 5, that kinds and matrix sets are those of tables.
 pub fn have_contents<S: Alter>(conn: &mut Connection<S>) -> Result<bool, Fault>
-    ensures { (profile : Profile)
-        → IsCheck profile (state S.Store conn.old) (state S.Store conn.new) (λ _. ⊤)
-        (λ p. KindsHaveContents p × SetsHaveContents p) result }
+    ensures { Decides S.Store conn.old conn.new (λ p. KindsHaveContents p × SetsHaveContents p)
+        result }
 {
     if kinds_have_contents(conn)? {
         sets_have_contents(conn)
@@ -292,9 +273,7 @@ pub fn have_contents<S: Alter>(conn: &mut Connection<S>) -> Result<bool, Fault>
 
 /// Rule 5: the registry, the contents and the matrix sets speak of the same tables.
 pub fn registry<S: Alter>(conn: &mut Connection<S>) -> Result<bool, Fault>
-    ensures { (profile : Profile)
-        → IsCheck profile (state S.Store conn.old) (state S.Store conn.new) (λ _. ⊤)
-        (λ p. Registry p.contents p.kinds p.sets) result }
+    ensures { Decides S.Store conn.old conn.new (λ p. Registry p.contents p.kinds p.sets) result }
 {
     if registered(conn)? {
         have_contents(conn)
@@ -337,9 +316,7 @@ impl RowTest for Ordered {
 
 /// Of rule 6, what it asks of matrix sets.
 pub fn set_extents<S: Alter>(conn: &mut Connection<S>) -> Result<bool, Fault>
-    ensures { (profile : Profile)
-        → IsCheck profile (state S.Store conn.old) (state S.Store conn.new) (λ _. ⊤)
-        (λ p. SetExtents p) result }
+    ensures { Decides S.Store conn.old conn.new (λ p. SetExtents p) result }
 {
     each_passes(
         conn,
@@ -351,9 +328,7 @@ pub fn set_extents<S: Alter>(conn: &mut Connection<S>) -> Result<bool, Fault>
 
 /// Of rule 6, what it asks of contents.
 pub fn contents_extents<S: Alter>(conn: &mut Connection<S>) -> Result<bool, Fault>
-    ensures { (profile : Profile)
-        → IsCheck profile (state S.Store conn.old) (state S.Store conn.new) (λ _. ⊤)
-        (λ p. ContentsExtents p) result }
+    ensures { Decides S.Store conn.old conn.new (λ p. ContentsExtents p) result }
 {
     each_passes(
         conn,
@@ -365,9 +340,7 @@ pub fn contents_extents<S: Alter>(conn: &mut Connection<S>) -> Result<bool, Faul
 
 /// Rule 6: extents are not empty.
 pub fn extents<S: Alter>(conn: &mut Connection<S>) -> Result<bool, Fault>
-    ensures { (profile : Profile)
-        → IsCheck profile (state S.Store conn.old) (state S.Store conn.new) (λ _. ⊤)
-        (λ p. Extents p.contents p.sets) result }
+    ensures { Decides S.Store conn.old conn.new (λ p. Extents p.contents p.sets) result }
 {
     if set_extents(conn)? {
         contents_extents(conn)

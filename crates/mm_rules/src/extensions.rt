@@ -1,12 +1,10 @@
 //! The rule of extension rows.
 
-ghost use Rattle.std.specs.Prelude.{⊤, ◌↔◌, IsTrue};
-ghost use Rattle.sqlite.specs.Held.{state};
-ghost use Rattle.mm_definitions.specs.Bounds.{Profile};
+ghost use Rattle.std.specs.Prelude.{◌↔◌, IsTrue};
 ghost use Rattle.mm_definitions.specs.Rules.{ExactExtensions};
-ghost use Rattle.mm_queries.specs.Check.{IsCheck};
 ghost use Rattle.mm_rules.specs.Parts.{ExtensionsWanted, NamedOnce, UnnamedOnce, ExtensionsOnce, GeneralExtension, MappingExtensions, ZoomExtensions};
 ghost use Rattle.mm_rules.specs.ExtensionRows.{NoRow, IsWantedRow, IsStandingRow, IsMarkedRow, IsRelated, IsZoomOther};
+ghost use Rattle.mm_queries.specs.Check.{Decides};
 
 use mm_definitions::answers::Fault;
 use mm_queries::columns::{stands, text_is};
@@ -63,9 +61,7 @@ impl RowTest for Wanted {
 
 /// Of rule 14, that each extension row is wanted.
 pub fn extensions_wanted<S: Alter>(conn: &mut Connection<S>) -> Result<bool, Fault>
-    ensures { (profile : Profile)
-        → IsCheck profile (state S.Store conn.old) (state S.Store conn.new) (λ _. ⊤)
-        (λ p. ExtensionsWanted p) result }
+    ensures { Decides S.Store conn.old conn.new (λ p. ExtensionsWanted p) result }
 {
     each_passes(
         conn,
@@ -88,9 +84,7 @@ impl RowTest for Never {
 
 /// Of rule 14, that no extension row of a table stands twice.
 pub fn named_once<S: Alter>(conn: &mut Connection<S>) -> Result<bool, Fault>
-    ensures { (profile : Profile)
-        → IsCheck profile (state S.Store conn.old) (state S.Store conn.new) (λ _. ⊤)
-        (λ p. NamedOnce p) result }
+    ensures { Decides S.Store conn.old conn.new (λ p. NamedOnce p) result }
 {
     each_passes(
         conn,
@@ -102,9 +96,7 @@ pub fn named_once<S: Alter>(conn: &mut Connection<S>) -> Result<bool, Fault>
 
 /// Of rule 14, that no extension row without a table stands twice.
 pub fn unnamed_once<S: Alter>(conn: &mut Connection<S>) -> Result<bool, Fault>
-    ensures { (profile : Profile)
-        → IsCheck profile (state S.Store conn.old) (state S.Store conn.new) (λ _. ⊤)
-        (λ p. UnnamedOnce p) result }
+    ensures { Decides S.Store conn.old conn.new (λ p. UnnamedOnce p) result }
 {
     each_passes(
         conn,
@@ -117,9 +109,7 @@ pub fn unnamed_once<S: Alter>(conn: &mut Connection<S>) -> Result<bool, Fault>
 /// Of rule 14, that no extension row stands twice. The rows of tables are found by their index, which IS can't use; there are
 /// no others in a package that keeps the rule.
 pub fn extensions_once<S: Alter>(conn: &mut Connection<S>) -> Result<bool, Fault>
-    ensures { (profile : Profile)
-        → IsCheck profile (state S.Store conn.old) (state S.Store conn.new) (λ _. ⊤)
-        (λ p. ExtensionsOnce p) result }
+    ensures { Decides S.Store conn.old conn.new (λ p. ExtensionsOnce p) result }
 {
     if named_once(conn)? {
         unnamed_once(conn)
@@ -145,9 +135,7 @@ impl RowTest for Standing {
 
 /// Of rule 14, that the row of related tables stands.
 pub fn general_extension<S: Alter>(conn: &mut Connection<S>) -> Result<bool, Fault>
-    ensures { (profile : Profile)
-        → IsCheck profile (state S.Store conn.old) (state S.Store conn.new) (λ _. ⊤)
-        (λ p. GeneralExtension p) result }
+    ensures { Decides S.Store conn.old conn.new (λ p. GeneralExtension p) result }
 {
     each_passes(
         conn,
@@ -159,9 +147,7 @@ pub fn general_extension<S: Alter>(conn: &mut Connection<S>) -> Result<bool, Fau
 
 /// Of rule 14, that each mapping has its row.
 pub fn mapping_extensions<S: Alter>(conn: &mut Connection<S>) -> Result<bool, Fault>
-    ensures { (profile : Profile)
-        → IsCheck profile (state S.Store conn.old) (state S.Store conn.new) (λ _. ⊤)
-        (λ p. MappingExtensions p) result }
+    ensures { Decides S.Store conn.old conn.new (λ p. MappingExtensions p) result }
 {
     each_passes(
         conn,
@@ -190,9 +176,7 @@ impl RowTest for Marked {
 
 /// Of rule 14, that each pyramid of kind `other` has its row.
 pub fn zoom_extensions<S: Alter>(conn: &mut Connection<S>) -> Result<bool, Fault>
-    ensures { (profile : Profile)
-        → IsCheck profile (state S.Store conn.old) (state S.Store conn.new) (λ _. ⊤)
-        (λ p. ZoomExtensions p) result }
+    ensures { Decides S.Store conn.old conn.new (λ p. ZoomExtensions p) result }
 {
     each_passes(
         conn,
@@ -204,9 +188,8 @@ pub fn zoom_extensions<S: Alter>(conn: &mut Connection<S>) -> Result<bool, Fault
 
 /// Of rule 14, that each mapping and each pyramid of kind `other` has its row.
 pub fn pyramids_marked<S: Alter>(conn: &mut Connection<S>) -> Result<bool, Fault>
-    ensures { (profile : Profile)
-        → IsCheck profile (state S.Store conn.old) (state S.Store conn.new) (λ _. ⊤)
-        (λ p. MappingExtensions p × ZoomExtensions p) result }
+    ensures { Decides S.Store conn.old conn.new (λ p. MappingExtensions p × ZoomExtensions p)
+        result }
 {
     if mapping_extensions(conn)? {
         zoom_extensions(conn)
@@ -217,8 +200,7 @@ pub fn pyramids_marked<S: Alter>(conn: &mut Connection<S>) -> Result<bool, Fault
 
 /// Of rule 14, that each row that is wanted stands.
 pub fn all_stand<S: Alter>(conn: &mut Connection<S>) -> Result<bool, Fault>
-    ensures { (profile : Profile)
-        → IsCheck profile (state S.Store conn.old) (state S.Store conn.new) (λ _. ⊤)
+    ensures { Decides S.Store conn.old conn.new
         (λ p. GeneralExtension p × (MappingExtensions p × ZoomExtensions p)) result }
 {
     if general_extension(conn)? {
@@ -230,10 +212,9 @@ pub fn all_stand<S: Alter>(conn: &mut Connection<S>) -> Result<bool, Fault>
 
 /// Of rule 14, that each row that is wanted stands, and no row twice.
 pub fn all_stand_once<S: Alter>(conn: &mut Connection<S>) -> Result<bool, Fault>
-    ensures { (profile : Profile)
-        → IsCheck profile (state S.Store conn.old) (state S.Store conn.new) (λ _. ⊤)
-        (λ p. ExtensionsOnce p
-        × (GeneralExtension p × (MappingExtensions p × ZoomExtensions p))) result }
+    ensures { Decides S.Store conn.old conn.new
+        (λ p. ExtensionsOnce p × (GeneralExtension p × (MappingExtensions p × ZoomExtensions p)))
+        result }
 {
     if extensions_once(conn)? {
         all_stand(conn)
@@ -244,8 +225,7 @@ pub fn all_stand_once<S: Alter>(conn: &mut Connection<S>) -> Result<bool, Fault>
 
 /// Rule 14: the extension rows are exactly those that are wanted, each once.
 pub fn extensions<S: Alter>(conn: &mut Connection<S>) -> Result<bool, Fault>
-    ensures { (profile : Profile)
-        → IsCheck profile (state S.Store conn.old) (state S.Store conn.new) (λ _. ⊤)
+    ensures { Decides S.Store conn.old conn.new
         (λ p. ExactExtensions p.kinds p.relations p.extensions) result }
 {
     if extensions_wanted(conn)? {

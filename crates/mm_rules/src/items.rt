@@ -1,14 +1,12 @@
 //! The rules of attribute rows, media, relations and mapping rows.
 
-ghost use Rattle.std.specs.Prelude.{⊤, ◌≡◌, ◌⊎◌, ◌↔◌, codes, Some, IsTrue};
-ghost use Rattle.sqlite.specs.Held.{state};
-ghost use Rattle.mm_definitions.specs.Bounds.{Profile};
+ghost use Rattle.std.specs.Prelude.{◌≡◌, ◌⊎◌, ◌↔◌, codes, Some, IsTrue};
 ghost use Rattle.mm_definitions.specs.Rules.{Items, RelationsSuited, PairingsJoin};
-ghost use Rattle.mm_queries.specs.Check.{IsCheck};
 ghost use Rattle.sqlite.specs.Order.{column};
 ghost use Rattle.mm_queries.specs.Columns.{text_bytes};
 ghost use Rattle.mm_rules.specs.Parts.{RowsInTables, MediaInTables};
 ghost use Rattle.mm_rules.specs.ItemRows.{IsAttributesRow, IsMediaRow, IsSuitedRow, IsJoinedRow};
+ghost use Rattle.mm_queries.specs.Check.{Decides};
 
 use mm_definitions::answers::Fault;
 use mm_queries::columns::{stands, text_is};
@@ -32,9 +30,7 @@ impl RowTest for OfAttributes {
 
 /// Of rule 11, what it asks of attribute rows.
 pub fn rows_in_tables<S: Alter>(conn: &mut Connection<S>) -> Result<bool, Fault>
-    ensures { (profile : Profile)
-        → IsCheck profile (state S.Store conn.old) (state S.Store conn.new) (λ _. ⊤)
-        (λ p. RowsInTables p) result }
+    ensures { Decides S.Store conn.old conn.new (λ p. RowsInTables p) result }
 {
     each_passes(
         conn,
@@ -61,9 +57,7 @@ impl RowTest for OfMedia {
 
 /// Of rule 11, what it asks of media.
 pub fn media_in_tables<S: Alter>(conn: &mut Connection<S>) -> Result<bool, Fault>
-    ensures { (profile : Profile)
-        → IsCheck profile (state S.Store conn.old) (state S.Store conn.new) (λ _. ⊤)
-        (λ p. MediaInTables p) result }
+    ensures { Decides S.Store conn.old conn.new (λ p. MediaInTables p) result }
 {
     each_passes(
         conn,
@@ -75,9 +69,7 @@ pub fn media_in_tables<S: Alter>(conn: &mut Connection<S>) -> Result<bool, Fault
 
 /// Rule 11: rows and media belong to tables of their kind.
 pub fn items<S: Alter>(conn: &mut Connection<S>) -> Result<bool, Fault>
-    ensures { (profile : Profile)
-        → IsCheck profile (state S.Store conn.old) (state S.Store conn.new) (λ _. ⊤)
-        (λ p. Items p.kinds p.rows p.media) result }
+    ensures { Decides S.Store conn.old conn.new (λ p. Items p.kinds p.rows p.media) result }
 {
     if rows_in_tables(conn)? {
         media_in_tables(conn)
@@ -135,9 +127,7 @@ impl RowTest for Suited {
 
 /// Rule 12: relations join tables of the kinds that their names ask for.
 pub fn relations_suited<S: Alter>(conn: &mut Connection<S>) -> Result<bool, Fault>
-    ensures { (profile : Profile)
-        → IsCheck profile (state S.Store conn.old) (state S.Store conn.new) (λ _. ⊤)
-        (λ p. RelationsSuited p.kinds p.relations) result }
+    ensures { Decides S.Store conn.old conn.new (λ p. RelationsSuited p.kinds p.relations) result }
 {
     each_passes(
         conn,
@@ -174,8 +164,7 @@ impl RowTest for Joined {
 
 /// Rule 13: each mapping row names a relation, and both its ends stand.
 pub fn pairings_join<S: Alter>(conn: &mut Connection<S>) -> Result<bool, Fault>
-    ensures { (profile : Profile)
-        → IsCheck profile (state S.Store conn.old) (state S.Store conn.new) (λ _. ⊤)
+    ensures { Decides S.Store conn.old conn.new
         (λ p. PairingsJoin p.rows p.media p.relations p.pairings) result }
 {
     each_passes(

@@ -1,14 +1,12 @@
 //! The rules of tile matrices.
 
-ghost use Rattle.std.specs.Prelude.{⊤, ◌≡◌, ◌↔◌, pos, ◌+ℤ◌, ◌-ℤ◌, ◌*ℤ◌, IsTrue, MatchOption, FitsSigned};
-ghost use Rattle.sqlite.specs.Held.{state};
-ghost use Rattle.mm_definitions.specs.Bounds.{Profile};
+ghost use Rattle.std.specs.Prelude.{◌≡◌, ◌↔◌, pos, ◌-ℤ◌, ◌*ℤ◌, IsTrue, MatchOption, FitsSigned};
 ghost use Rattle.mm_definitions.specs.Rules.{MatricesFit, HigherIsFiner, NextIsHalved};
-ghost use Rattle.mm_queries.specs.Check.{IsCheck};
 ghost use Rattle.std.specs.Int.{w128};
 ghost use Rattle.mm_queries.specs.Columns.{number_of};
 ghost use Rattle.mm_rules.specs.MatrixRows.{IsFittingRow, IsFinerRow, IsHalvedRow, covered_by, next_by, halved_by};
 ghost use Rattle.sqlite.specs.Order.{column};
+ghost use Rattle.mm_queries.specs.Check.{Decides};
 
 use mm_definitions::answers::Fault;
 use mm_queries::columns::{is_pyramid, number, text_is};
@@ -117,9 +115,8 @@ impl RowTest for Fitting {
 
 /// Rule 7: each matrix belongs to a pyramid and covers its extent exactly.
 pub fn matrices_fit<S: Alter>(conn: &mut Connection<S>) -> Result<bool, Fault>
-    ensures { (profile : Profile)
-        → IsCheck profile (state S.Store conn.old) (state S.Store conn.new) (λ _. ⊤)
-        (λ p. MatricesFit p.kinds p.sets p.matrices) result }
+    ensures { Decides S.Store conn.old conn.new (λ p. MatricesFit p.kinds p.sets p.matrices)
+        result }
 {
     each_passes(
         conn,
@@ -159,9 +156,7 @@ impl RowTest for Finer {
 
 /// Rule 8: of any two zooms of a pyramid the higher has the smaller pixels.
 pub fn higher_is_finer<S: Alter>(conn: &mut Connection<S>) -> Result<bool, Fault>
-    ensures { (profile : Profile)
-        → IsCheck profile (state S.Store conn.old) (state S.Store conn.new) (λ _. ⊤)
-        (λ p. HigherIsFiner p.matrices) result }
+    ensures { Decides S.Store conn.old conn.new (λ p. HigherIsFiner p.matrices) result }
 {
     each_passes(
         conn,
@@ -239,9 +234,7 @@ impl RowTest for Halved {
 
 /// Rule 9: in a pyramid of kind `two` the next zoom halves the pixels.
 pub fn next_is_halved<S: Alter>(conn: &mut Connection<S>) -> Result<bool, Fault>
-    ensures { (profile : Profile)
-        → IsCheck profile (state S.Store conn.old) (state S.Store conn.new) (λ _. ⊤)
-        (λ p. NextIsHalved p.kinds p.matrices) result }
+    ensures { Decides S.Store conn.old conn.new (λ p. NextIsHalved p.kinds p.matrices) result }
 {
     each_passes(
         conn,

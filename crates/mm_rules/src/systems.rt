@@ -1,12 +1,10 @@
 //! The given reference systems.
 
-ghost use Rattle.std.specs.Prelude.{⊤, ◌↔◌, IsTrue};
-ghost use Rattle.sqlite.specs.Held.{state};
+ghost use Rattle.std.specs.Prelude.{◌↔◌, IsTrue};
 ghost use Rattle.sqlite.specs.Order.{column};
-ghost use Rattle.mm_definitions.specs.Bounds.{Profile};
 ghost use Rattle.mm_definitions.specs.Rules.{GivenSystems, geographic, undefined_cartesian, undefined_geographic};
-ghost use Rattle.mm_queries.specs.Check.{IsCheck};
 ghost use Rattle.mm_rules.specs.SystemRows.{IsGivenRow, shows_by};
+ghost use Rattle.mm_queries.specs.Check.{Decides};
 
 use mm_definitions::answers::Fault;
 use mm_queries::columns::{number_is, text_is};
@@ -102,9 +100,7 @@ impl RowTest for Given {
 
 /// Rule 1: the three given systems stand as they were given.
 pub fn given_systems<S: Alter>(conn: &mut Connection<S>) -> Result<bool, Fault>
-    ensures { (profile : Profile)
-        → IsCheck profile (state S.Store conn.old) (state S.Store conn.new) (λ _. ⊤)
-        (λ p. GivenSystems p.systems) result }
+    ensures { Decides S.Store conn.old conn.new (λ p. GivenSystems p.systems) result }
 {
     each_passes(
         conn,

@@ -1,11 +1,8 @@
 //! Tiles lie in their matrices.
 
-ghost use Rattle.std.specs.Prelude.{⊤};
-ghost use Rattle.sqlite.specs.Held.{state};
-ghost use Rattle.mm_definitions.specs.Bounds.{Profile};
 ghost use Rattle.mm_definitions.specs.Rules.{TilesInside};
-ghost use Rattle.mm_queries.specs.Check.{IsCheck};
 ghost use Rattle.mm_rules.specs.TileRows.{IsInsideRow};
+ghost use Rattle.mm_queries.specs.Check.{Decides};
 
 use mm_definitions::answers::Fault;
 use mm_queries::columns::number;
@@ -42,9 +39,7 @@ impl RowTest for Inside {
 
 /// Rule 10: each tile lies in the matrix at its zoom.
 pub fn tiles_inside<S: Alter>(conn: &mut Connection<S>) -> Result<bool, Fault>
-    ensures { (profile : Profile)
-        → IsCheck profile (state S.Store conn.old) (state S.Store conn.new) (λ _. ⊤)
-        (λ p. TilesInside p.matrices p.tiles) result }
+    ensures { Decides S.Store conn.old conn.new (λ p. TilesInside p.matrices p.tiles) result }
 {
     each_passes(
         conn,

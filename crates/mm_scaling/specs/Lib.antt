@@ -1,2 +1,3 @@
 pub mod Texts
 pub mod Moves
+pub mod Handed

@@ -1,14 +1,15 @@
 //! A package in thousandths of its unit.
 
-ghost use Rattle.std.specs.Prelude.{◌≡◌, ⊤, false};
+ghost use Rattle.std.specs.Prelude.{◌≡◌, false};
 ghost use Rattle.sqlite.specs.Held.{state};
-ghost use Rattle.mm_definitions.specs.Bounds.{Profile, millimetres, micrometres};
+ghost use Rattle.mm_definitions.specs.Bounds.{millimetres, micrometres};
 ghost use Rattle.mm_definitions.specs.Parts.{Each};
 ghost use Rattle.mm_definitions.specs.Rules.{ContentsWithin, SetWithin, MatrixWithin, Limits};
 ghost use Rattle.mm_definitions.specs.Parts.{change_values};
 ghost use Rattle.mm_definitions.specs.Scale.{finer_contents, finer_set, finer_grid, scale};
-ghost use Rattle.mm_store.specs.Shapes.{IsChange};
-ghost use Rattle.mm_scaling.specs.Moves.{IsScaling, IsRescaled};
+ghost use Rattle.mm_scaling.specs.Moves.{IsRescaled};
+ghost use Rattle.mm_store.specs.Handed.{ChangesWhere};
+ghost use Rattle.mm_scaling.specs.Handed.{Scales, Renumbers};
 
 use mm_definitions::answers::Fault;
 use mm_store::faults::fault_of;
@@ -17,9 +18,7 @@ use sqlite::{Alter, Connection, Transaction};
 
 /// Tells the extent of every contents row in the smaller unit.
 fn scale_contents<S: Alter>(tx: &mut Transaction<'_, S>) -> Result<(), Fault>
-    ensures same_reference { tx.new.conn.ghost_name ≡ tx.old.conn.ghost_name }
-    ensures change { (profile : Profile) → IsChange profile (state S.Store tx.old.conn.now)
-        (state S.Store tx.new.conn.now) (λ p. Each p.contents (ContentsWithin millimetres))
+    ensures { ChangesWhere S.Store tx.old tx.new (λ p. Each p.contents (ContentsWithin millimetres))
         (λ p. record p { contents = change_values finer_contents p.contents }) result }
 {
     run(
@@ -31,9 +30,7 @@ fn scale_contents<S: Alter>(tx: &mut Transaction<'_, S>) -> Result<(), Fault>
 
 /// Tells every box in the smaller unit.
 fn scale_matrix_sets<S: Alter>(tx: &mut Transaction<'_, S>) -> Result<(), Fault>
-    ensures same_reference { tx.new.conn.ghost_name ≡ tx.old.conn.ghost_name }
-    ensures change { (profile : Profile) → IsChange profile (state S.Store tx.old.conn.now)
-        (state S.Store tx.new.conn.now) (λ p. Each p.sets (SetWithin millimetres))
+    ensures { ChangesWhere S.Store tx.old tx.new (λ p. Each p.sets (SetWithin millimetres))
         (λ p. record p { sets = change_values finer_set p.sets }) result }
 {
     run(
@@ -45,9 +42,7 @@ fn scale_matrix_sets<S: Alter>(tx: &mut Transaction<'_, S>) -> Result<(), Fault>
 
 /// Tells both pixel sizes of every matrix in the smaller unit.
 fn scale_matrices<S: Alter>(tx: &mut Transaction<'_, S>) -> Result<(), Fault>
-    ensures same_reference { tx.new.conn.ghost_name ≡ tx.old.conn.ghost_name }
-    ensures change { (profile : Profile) → IsChange profile (state S.Store tx.old.conn.now)
-        (state S.Store tx.new.conn.now) (λ p. Each p.matrices (MatrixWithin millimetres))
+    ensures { ChangesWhere S.Store tx.old tx.new (λ p. Each p.matrices (MatrixWithin millimetres))
         (λ p. record p { matrices = change_values finer_grid p.matrices }) result }
 {
     run(
@@ -59,18 +54,14 @@ fn scale_matrices<S: Alter>(tx: &mut Transaction<'_, S>) -> Result<(), Fault>
 
 /// Says in the profile's row that the unit is the smaller one.
 fn set_version<S: Alter>(tx: &mut Transaction<'_, S>) -> Result<(), Fault>
-    ensures same_reference { tx.new.conn.ghost_name ≡ tx.old.conn.ghost_name }
-    ensures moved { (from : Profile) → IsScaling from micrometres (state S.Store tx.old.conn.now)
-        (state S.Store tx.new.conn.now) (λ p. ⊤) (λ p. p) result }
+    ensures { Renumbers S.Store tx.old tx.new micrometres result }
 {
     run(tx, "UPDATE mm_profile SET version = 2", &[])
 }
 
 /// Tells all numbers of a package in the smaller unit.
 fn scale_tables<S: Alter>(tx: &mut Transaction<'_, S>) -> Result<(), Fault>
-    ensures same_reference { tx.new.conn.ghost_name ≡ tx.old.conn.ghost_name }
-    ensures change { (profile : Profile) → IsChange profile (state S.Store tx.old.conn.now)
-        (state S.Store tx.new.conn.now) (λ p. Limits millimetres p) scale result }
+    ensures { ChangesWhere S.Store tx.old tx.new (λ p. Limits millimetres p) scale result }
 {
     scale_contents(tx)?;
     scale_matrix_sets(tx)?;
@@ -79,10 +70,7 @@ fn scale_tables<S: Alter>(tx: &mut Transaction<'_, S>) -> Result<(), Fault>
 
 /// Tells a package of whole millimetres in whole micrometres, and says so in its profile's row.
 fn scale_all<S: Alter>(tx: &mut Transaction<'_, S>) -> Result<(), Fault>
-    ensures same_reference { tx.new.conn.ghost_name ≡ tx.old.conn.ghost_name }
-    ensures moved { IsScaling millimetres micrometres
-        (state S.Store tx.old.conn.now) (state S.Store tx.new.conn.now) (λ p. Limits millimetres p)
-        scale result }
+    ensures { Scales S.Store tx.old tx.new millimetres micrometres (λ p. Limits millimetres p) scale result }
 {
     scale_tables(tx)?;
     set_version(tx)

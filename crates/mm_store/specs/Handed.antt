@@ -1,6 +1,7 @@
 -- What a call does with the transaction that it is handed, whatever the profile is. Each leaves it the transaction on the same connection (`same`).
-use Rattle.std.specs.Prelude.{◌≡◌, ℕ, ⊤, Option, Result}
+use Rattle.std.specs.Prelude.{◌≡◌, ℕ, ⊤, List, Option, Result}
 use Rattle.sqlite.specs.Held.{state}
+use Rattle.sqlite.specs.Order.{Row}
 use Rattle.sqlite.specs.Store.{Ghosts}
 use Rattle.sqlite.specs.declared.transaction.Transaction.{Transaction}
 use Rattle.mm_definitions.specs.Bounds.{Profile}
@@ -11,6 +12,7 @@ use Rattle.mm_definitions.specs.declared.answers.Fault.{Fault}
 use Rattle.mm_definitions.specs.declared.answers.Outcome.{Outcome}
 use Rattle.mm_definitions.specs.declared.commands.Command.{Command}
 use Rattle.mm_store.specs.Shapes.{IsLook, IsChange, IsLent}
+use Rattle.mm_store.specs.Statements.{IsAsked}
 
 -- both are the transaction on one connection
 abbrev pub IsSame : {S : Type 0} → Transaction S → Transaction S → Type 0
@@ -18,6 +20,11 @@ IsSame old new = new.conn.ghost_name ≡ old.conn.ghost_name
 
 module _ {S : Type 0} (g : Ghosts S) (old new : Transaction S) where
   module _ {T : Type 0} where
+    -- it asks the statement, and answers so of the first row
+    pub record Asks (sql : List ℕ) (params : Row) (Says : T → Option Row → Type 0) (result : Result T Fault) : Type 0 where
+      pub same : IsSame old new
+      pub asked : IsAsked (state g old.conn.now) (state g new.conn.now) sql params Says result
+
     -- it only looks, and answers so of the package
     pub record Looks (Says : Package → T → Type 0) (result : Result T Fault) : Type 0 where
       pub same : IsSame old new
@@ -26,6 +33,11 @@ module _ {S : Type 0} (g : Ghosts S) (old new : Transaction S) where
     -- it only looks, and answers this of the package
     abbrev pub Tells : (Package → T) → Result T Fault → Type 0
     Tells told = Looks (λ p answer. answer ≡ told p)
+
+    -- it only looks, and answers so of a package that meets the rules
+    pub record LooksByRules (Says : Package → T → Type 0) (result : Result T Fault) : Type 0 where
+      pub same : IsSame old new
+      pub look : (profile : Profile) → IsLook profile (state g old.conn.now) (state g new.conn.now) (λ p it. Meets profile p → Says p it) result
 
     -- it makes this change where it may
     pub record ChangesWhere (When : Package → Type 0) (next : Package → Package) (result : Result T Fault) : Type 0 where

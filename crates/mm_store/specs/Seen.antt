@@ -8,6 +8,8 @@ use Rattle.mm_definitions.specs.declared.answers.Fault.{Fault}
 use Rattle.mm_store.specs.Faults.{IsStoreFault}
 use Rattle.mm_store.specs.Stands.{ReadsAs, IsSettled}
 use Rattle.mm_store.specs.Statements.{CommitsNothing}
+use Rattle.sqlite.specs.Held.{Held, state}
+use Rattle.sqlite.specs.Store.{Ghosts}
 
 -- No transaction is open, and the connection reads as the package, after a rollback too. What a crash would leave may be another.
 pub record IsSeenAs (profile : Profile) (s : State) (p : Package) : Type 0 where
@@ -23,3 +25,7 @@ pub record IsRead (profile : Profile) {T : Type 0} (old new : State) (Says : Pac
   pub settled : HasCleanDisk new → (p : Package) → IsSettled profile old p → IsSettled profile new p
   pub says : HasCleanDisk new → (p : Package) → Meets profile p → IsSeenAs profile old p → IfOk result (λ it. Says p it)
   pub faults : IfErr result IsStoreFault
+
+-- a read on a connection with no transaction, which tells so of the package, whatever the profile is
+abbrev pub ReadsOn : {S T : Type 0} → Ghosts S → Held S → Held S → (Package → T → Type 0) → Result T Fault → Type 0
+ReadsOn g old new Says result = (profile : Profile) → IsRead profile (state g old) (state g new) Says result

@@ -1,14 +1,23 @@
-use Rattle.mm_definitions.specs.Bounds.{current}
+use Rattle.std.proofs.Common.{rules}
 use Rattle.mm_core.proofs.dispatching.prepare_edition.Goals as goal
 
-pub returns-in-Edition-clause-lent : goal.returns-in-Edition-clause-lent
-returns-in-Edition-clause-lent g c moment =
-    rw c.in-Edition.is (c.open_edition.ensures.lent current moment)
+pub returns-in-Edition : goal.returns-in-Edition
+returns-in-Edition g c = record {
+  same = search rules;
+  lent = λ profile moment.
+      rw c.in-Edition.is (c.open_edition.ensures.lent profile moment);
+}
 
-pub returns-in-Discard-clause-lent : goal.returns-in-Discard-clause-lent
-returns-in-Discard-clause-lent g c moment =
-    rw c.in-Discard.is (c.discard.ensures.lent current moment)
+pub returns-in-Discard : goal.returns-in-Discard
+returns-in-Discard g c = record {
+  same = search rules;
+  lent = λ profile moment.
+      rw c.in-Discard.is (c.discard.ensures.lent profile moment);
+}
 
-pub returns-in-Stage-clause-lent : goal.returns-in-Stage-clause-lent
-returns-in-Stage-clause-lent g c moment =
-    rw c.in-Stage.is (c.stage.ensures.lent current moment)
+pub returns-in-Stage : goal.returns-in-Stage
+returns-in-Stage g c = record {
+  same = search rules;
+  lent = λ profile moment.
+      rw c.in-Stage.is (c.stage.ensures.lent profile moment);
+}

@@ -8,27 +8,36 @@ use Rattle.mm_edition.specs.Kept.{kept_row}
 use Rattle.mm_edition.proofs.Spelled.{spelled_row}
 use Rattle.mm_edition.proofs.pieces.piece.Goals as goal
 
-pub returns-in-Some-spelled-clause-look : goal.returns-in-Some-spelled-clause-look
-returns-in-Some-spelled-clause-look g c profile =
-    let is : c.from.result ≡ pos c.args.number = search rules in
-    let fits : SFits w64 c.from.result = search rules in
-    rw (← c.as_str-edition.ensures.text)
-    (look_as profile _ _ _ _ ((rw is at (rw (to_z-of_z fits) at c.in_ok-kept.ensures.look)) profile)
-    (λ p says meets.
-    let there = says ∙ ap (option_map kept_row) c.in-Some.is in
-    there ∙ ap Some (spelled_row profile _ c.in-Some-spelled.piece (meets.q15.spelled _ _ there) c.in-Some-spelled.ensures)))
+pub returns-in-Some-spelled : goal.returns-in-Some-spelled
+returns-in-Some-spelled g c = record {
+  same = search rules;
+  look = λ profile.
+      let is : c.from.result ≡ pos c.args.number = search rules in
+      let fits : SFits w64 c.from.result = search rules in
+      rw (← c.as_str-edition.ensures.text)
+      (look_as profile _ _ _ _ ((rw is at (rw (to_z-of_z fits) at c.in_ok-kept.ensures.look)) profile)
+      (λ p says meets.
+      let there = says ∙ ap (option_map kept_row) c.in-Some.is in
+      there ∙ ap Some (spelled_row profile _ c.in-Some-spelled.piece (meets.q15.spelled _ _ there) c.in-Some-spelled.ensures)));
+}
 
-pub returns-in-None-spelled-clause-look : goal.returns-in-None-spelled-clause-look
-returns-in-None-spelled-clause-look g c profile = rw (← c.as_str-edition.ensures.text) (look_denied profile _ _ _ (c.in_ok-kept.ensures.look profile))
+pub returns-in-None-spelled : goal.returns-in-None-spelled
+returns-in-None-spelled g c = record { same = search rules; look = λ profile. rw (← c.as_str-edition.ensures.text) (look_denied profile _ _ _ (c.in_ok-kept.ensures.look profile)) }
 
-pub returns-in-None-clause-look : goal.returns-in-None-clause-look
-returns-in-None-clause-look g c profile =
-    let is : c.from.result ≡ pos c.args.number = search rules in
-    let fits : SFits w64 c.from.result = search rules in
-    rw (← c.as_str-edition.ensures.text)
-    (look_as profile _ _ _ _ ((rw is at (rw (to_z-of_z fits) at c.in_ok-kept.ensures.look)) profile) (λ p says meets. says ∙ ap (option_map kept_row) c.in-None.is))
+pub returns-in-None : goal.returns-in-None
+returns-in-None g c = record {
+  same = search rules;
+  look = λ profile.
+      let is : c.from.result ≡ pos c.args.number = search rules in
+      let fits : SFits w64 c.from.result = search rules in
+      rw (← c.as_str-edition.ensures.text)
+      (look_as profile _ _ _ _ ((rw is at (rw (to_z-of_z fits) at c.in_ok-kept.ensures.look)) profile) (λ p says meets. says ∙ ap (option_map kept_row) c.in-None.is));
+}
 
-pub returns-in_err-kept-clause-look : goal.returns-in_err-kept-clause-look
-returns-in_err-kept-clause-look g c profile =
-    let p = err_from_is_err_and c.from_residual.result c.from_residual.ensures.1 in
-    rw (p.1, p.2) (rw (← c.as_str-edition.ensures.text) (look_failed profile _ _ _ (c.in_err-kept.ensures.look profile)))
+pub returns-in_err-kept : goal.returns-in_err-kept
+returns-in_err-kept g c = record {
+  same = search rules;
+  look = λ profile.
+      let p = err_from_is_err_and c.from_residual.result c.from_residual.ensures.1 in
+      rw (p.1, p.2) (rw (← c.as_str-edition.ensures.text) (look_failed profile _ _ _ (c.in_err-kept.ensures.look profile)));
+}

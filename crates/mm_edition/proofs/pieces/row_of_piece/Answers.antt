@@ -10,21 +10,22 @@ use Rattle.mm_store.specs.Blobs.{Told}
 use Rattle.mm_store.specs.Kept.{piece_id, piece_with}
 use Rattle.mm_blobs.specs.Views.{IsSeen}
 use Rattle.mm_blobs.proofs.Keeping.{kept_in}
-use Rattle.mm_blobs.proofs.Moving.{looks, moves_less, seen}
+use Rattle.mm_blobs.proofs.Moving.{looks, seen}
 use Rattle.mm_edition.specs.Kept.{IsPieceRow}
 use Rattle.mm_edition.proofs.Rows.{found_row}
 use Rattle.mm_edition.proofs.pieces.row_of_piece.Goals as goal
 
-pub returns-clause-shown : goal.returns-clause-shown
-returns-clause-shown g c profile spare =
-    let old = state g.S.Store c.args.tx.now.conn.now in
-    let new = state g.S.Store c.first.new.tx.conn.now in
-    let key = piece c.args.edition.now c.args.number in
-    let params = Words key.edition ∷ Int key.number ∷ [] in
-    moves_less (λ base x row y. (y ≡ x) × IsSeen spare profile new base y × IsPieceRow (get y.kept.pieces key) row × Told piece_id piece_with y.kept.shelf (get y.kept.pieces key) (get y.content.pieces key)) old new c.first.result
-    (looks profile old new _ _ spare (λ (it : Option Row) first. it ≡ first) (λ x row. IsPieceRow (get x.kept.pieces key) row × Told piece_id piece_with x.kept.shelf (get x.kept.pieces key) (get x.content.pieces key)) c.first.result c.first.ensures.asked (λ it first ready shown gives.
-    let read = selects_one _ _ _ _ _ _ statement.piece_values old new ready.schema_is params _ (search rules) first shown in (
-      read.0,
-      λ x h. let kept = kept_in spare spare profile.version (seen old) x h in (found_row (seen old 25) x.kept.pieces kept.pieces key params it first gives read.1, kept.pieces_told key),
-    )))
-    (λ base x it. it) (λ base x y t it last. (last.0, last.1, last.2.0, last.2.1))
+pub returns : goal.returns
+returns g c = record {
+  same = search rules;
+  found = λ profile spare.
+      let old = state g.S.Store c.args.tx.now.conn.now in
+      let new = state g.S.Store c.first.new.tx.conn.now in
+      let key = piece c.args.edition.now c.args.number in
+      let params = Words key.edition ∷ Int key.number ∷ [] in
+      looks profile old new _ _ spare (λ (it : Option Row) first. it ≡ first) (λ x row. IsPieceRow (get x.kept.pieces key) row × Told piece_id piece_with x.kept.shelf (get x.kept.pieces key) (get x.content.pieces key)) c.first.result c.first.ensures.asked (λ it first ready shown gives.
+      let read = selects_one _ _ _ _ _ _ statement.piece_values old new ready.schema_is params _ (search rules) first shown in (
+        read.0,
+        λ x h. let kept = kept_in spare spare profile.version (seen old) x h in (found_row (seen old 25) x.kept.pieces kept.pieces key params it first gives read.1, kept.pieces_told key),
+      ));
+}

@@ -3,7 +3,10 @@ use Rattle.std.proofs.lemmas.Int.{to_z-of_z}
 use mir.Val.{SFits}
 use Rattle.mm_edition.proofs.staging.stage.Goals as goal
 
-pub returns-clause-lent : goal.returns-clause-lent
-returns-clause-lent g c profile moment =
-    let fits : SFits w64 c.get.result = search rules in
-    rw c.get.ensures.number at (simp to_z-of_z at (rw c.as_str.ensures.text at (c.stage_at.ensures.lent profile moment)))
+pub returns : goal.returns
+returns g c = record {
+  same = search rules;
+  lent = λ profile moment.
+      let fits : SFits w64 c.get.result = search rules in
+      rw c.get.ensures.number at (simp to_z-of_z at (rw c.as_str.ensures.text at (c.stage_at.ensures.lent profile moment)));
+}

@@ -35,7 +35,7 @@ returns g c = record {
       let next = λ (p : Package). record p { tiles = remove p.tiles key } in
       let stands = c.in_ok-stands.stands in
       let gone = then_moves (HasNamed profile s2 next stands) s0 s1 s2 stands (Ok tt) (c.in_ok-stands.ensures.found profile no_spare) (c.in_ok-delete_tile_row.ensures.gone profile no_spare stands)
-      (λ base x y it mid. (mid.1, mid.2)) (λ base x y z u it mid last. (ap (λ (v : View). v.content) last.0 ∙ ap (λ (v : View). next v.content) mid.0, last.1)) in
+      (λ base x y it mid. (mid.1, mid.2.0)) (λ base x y z u it mid last. (ap (λ (v : View). v.content) last.0 ∙ ap (λ (v : View). next v.content) mid.0, last.1)) in
       tidies profile s0 s3 c.release_freed.result next
       (then_moves_open (HasDone profile s3 next) s0 s2 s3 tt c.release_freed.result gone (c.release_freed.ensures.released profile no_spare) (λ base x y up it mid. (up, mid.1))
       (λ base x y z u it mid last. (ap (λ (v : View). v.content) last.0 ∙ mid.0, last.1)))
@@ -54,5 +54,5 @@ returns-in_err-delete_tile_row g c = record {
       let key = tile_at a.table.now a.place in
       let stands = c.in_ok-stands.stands in
       rw (p.1, p.2) (tidy_failed profile s0 s2 (λ p. ⊤) (λ (p : Package). record p { tiles = remove p.tiles key }) c.in_err-delete_tile_row.field-0.0
-      (then_failed s0 s1 s2 stands c.in_err-delete_tile_row.field-0.0 (c.in_ok-stands.ensures.found profile no_spare) (c.in_err-delete_tile_row.ensures.gone profile no_spare stands) (λ base x y up it mid. (mid.1, mid.2))));
+      (then_failed s0 s1 s2 stands c.in_err-delete_tile_row.field-0.0 (c.in_ok-stands.ensures.found profile no_spare) (c.in_err-delete_tile_row.ensures.gone profile no_spare stands) (λ base x y up it mid. (mid.1, mid.2.0))));
 }

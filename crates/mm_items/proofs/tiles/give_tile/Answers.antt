@@ -33,7 +33,7 @@ returns g c = record {
       let rest = spare_but a.blob spare in
       let found = moves_where (λ base x. IsSeen spare profile s0 base x × (bytes_at x.kept.shelf a.blob ≡ Some bytes)) s0 s1 (Ok stands) (c.in_ok-stands.ensures.found profile spare) (λ base x it. it.0) in
       let named = then_moves (λ base x _ y. (y.content ≡ next x.content) × IsSeen (spare_freed stands rest) profile s2 base y) s0 s1 s2 stands (Ok tt) found ((rw (to_z-of_z c.ranges.blob) at c.in_ok-name_tile.ensures.named) profile spare bytes)
-      (λ base x y it mid. (mid.1.1, (ap (λ (v : View). bytes_at v.kept.shelf a.blob) mid.1.0 ∙ it.1, mid.1.2)))
+      (λ base x y it mid. (mid.1.1, (ap (λ (v : View). bytes_at v.kept.shelf a.blob) mid.1.0 ∙ it.1, mid.1.2.0)))
       (λ base x y z u it mid last. (ap (λ (v : View). v.content) last.0 ∙ ap (λ (v : View). next v.content) mid.1.0, last.1)) in
       then_moves_open (λ base x _ y. (y.content ≡ next x.content) × IsSeen rest profile s3 base y) s0 s2 s3 tt c.release_freed.result named (c.release_freed.ensures.released profile rest) (λ base x y up it mid. (up, mid.1))
       (λ base x y z u it mid last. (ap (λ (v : View). v.content) last.0 ∙ mid.0, last.1));
@@ -51,6 +51,6 @@ returns-in_err-name_tile g c = record {
       let stands = c.in_ok-stands.stands in
       let found = moves_where (λ base x. IsSeen spare profile s0 base x × (bytes_at x.kept.shelf a.blob ≡ Some bytes)) s0 s1 (Ok stands) (c.in_ok-stands.ensures.found profile spare) (λ base x it. it.0) in
       rw (p.1, p.2) (move_failed s0 s2 c.in_err-name_tile.field-0.0
-      (then_failed s0 s1 s2 stands c.in_err-name_tile.field-0.0 found ((rw (to_z-of_z c.ranges.blob) at c.in_err-name_tile.ensures.named) profile spare bytes) (λ base x y up it mid. (mid.1.1, (ap (λ (v : View). bytes_at v.kept.shelf a.blob) mid.1.0 ∙ it.1, mid.1.2))))
+      (then_failed s0 s1 s2 stands c.in_err-name_tile.field-0.0 found ((rw (to_z-of_z c.ranges.blob) at c.in_err-name_tile.ensures.named) profile spare bytes) (λ base x y up it mid. (mid.1.1, (ap (λ (v : View). bytes_at v.kept.shelf a.blob) mid.1.0 ∙ it.1, mid.1.2.0))))
       (λ base x it. it));
 }

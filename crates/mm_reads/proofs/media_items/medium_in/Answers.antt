@@ -36,7 +36,7 @@ returns g c = record {
       let blob = c.in_ok-blob.blob in
       let back : to_z w64 (of_z w64 blob) ≡ blob = search (rules, to_z-of_z) in
       let bytes = c.in_ok-bytes.bytes in
-      move_made (λ base x m y. (y ≡ x) × IsSeen spare profile new base y × ((r : MediumRow) → ShowsMedium row r → (bytes_at y.kept.shelf r.blob ≡ Some m.bytes) × (r.content_type ≡ m.content_type))) _ new bytes c.medium.result ((rw back at c.in_ok-bytes.ensures.told) profile spare) c.medium.ensures.fault
+      move_made (λ base x m y. (y ≡ x) × IsSeen spare profile new base y × ((r : MediumRow) → ShowsMedium row r → (bytes_at y.kept.shelf r.blob ≡ Some m.bytes) × (r.content_type ≡ m.content_type))) _ new bytes c.medium.result ((rw back at c.in_ok-bytes.ensures.found) profile spare) c.medium.ensures.fault
       (IfOk-weaker c.medium.result _ _ (λ m made base x y last. (
         last.0,
         last.1,
@@ -51,5 +51,5 @@ returns-in_err-bytes g c = record {
   same = search rules;
   found = λ profile spare.
       let p = err_from_is_err_and c.from_residual-in_err-bytes.result c.from_residual-in_err-bytes.ensures.1 in
-      rw (p.1, p.2) (move_failed _ _ _ (c.in_err-bytes.ensures.told profile spare) (λ base x it. it));
+      rw (p.1, p.2) (move_failed _ _ _ (c.in_err-bytes.ensures.found profile spare) (λ base x it. it));
 }

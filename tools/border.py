@@ -7,8 +7,10 @@ and the kits, docs/BORDER.md says what goes across, and scripts/outside/border.s
 import argparse
 import dataclasses
 import math
+import os
 import pathlib
 import re
+import shutil
 import sys
 
 # By the version in mm_profile, how many units of a package's coordinates and pixel sizes are a metre.
@@ -76,6 +78,15 @@ def run_tool(main):
     except OSError as error:
         print(error, file=sys.stderr)
         sys.exit(2)
+
+
+def program():
+    """The built program: the one that the environment's MMPKG names, else out/mmpkg beside the tools, else mmpkg of the path."""
+    beside = pathlib.Path(__file__).resolve().parent.parent / "out" / "mmpkg"
+    named = os.environ.get("MMPKG") or (str(beside) if beside.exists() else "mmpkg")
+    if shutil.which(named) is None:
+        raise Refused(f"{named}: isn't there; scripts/build.sh makes out/mmpkg, or MMPKG names the program")
+    return named
 
 
 def quoted(name):

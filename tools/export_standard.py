@@ -4,9 +4,9 @@
     tools/export_standard.py FILE OUT.gpkg
 
 FILE is a package of mmpkg. It and its journal are copied first and left as they are; nothing may write them meanwhile. The copy has to
-pass 'mmpkg check', with the program that the environment's MMPKG names, else out/mmpkg of this repository. OUT.gpkg must not be there;
-it is written under another name and renamed when it is whole. docs/BORDER.md says what goes across; editions don't, and are named on
-standard error, as are tiles that the standard has no place for.
+pass 'mmpkg check', with the program that the environment's MMPKG names, else out/mmpkg of this repository, else mmpkg of the path.
+OUT.gpkg must not be there; it is written under another name and renamed when it is whole. docs/BORDER.md says what goes across; editions
+don't, and are named on standard error, as are tiles that the standard has no place for.
 
 Exit status: 0 OUT.gpkg was written; 2 wrong arguments, or a file that can't be read or written; else what 'mmpkg check' ended with,
 whose line is told: 3 a fault, 4 no package or one that breaks a rule.
@@ -20,7 +20,7 @@ import sqlite3
 import subprocess
 import tempfile
 
-from border import UNITS_OF_VERSION, Refused, Report, arguments, quoted, run_tool
+from border import UNITS_OF_VERSION, Refused, Report, arguments, program, quoted, run_tool
 
 # The tables of OGC 12-128r17, annex C, and of OGC 18-000, as those write them. No table has features, so gpkg_geometry_columns stays empty;
 # without it GDAL lists no attribute table.
@@ -88,10 +88,7 @@ def checked_copy(file, folder):
     for suffix in ("", "-wal"):
         if pathlib.Path(f"{file}{suffix}").exists():
             shutil.copyfile(f"{file}{suffix}", f"{copy}{suffix}")
-    program = os.environ.get("MMPKG") or str(pathlib.Path(__file__).resolve().parent.parent / "out" / "mmpkg")
-    if shutil.which(program) is None:
-        raise Refused(f"{program}: isn't there; scripts/build.sh makes it, or MMPKG names it")
-    done = subprocess.run([program, "check", copy], stdin=subprocess.DEVNULL, stdout=subprocess.PIPE, check=False)
+    done = subprocess.run([program(), "check", copy], stdin=subprocess.DEVNULL, stdout=subprocess.PIPE, check=False)
     if done.returncode != 0:
         raise Refused(f"{file}: {done.stdout.decode(errors='replace').strip()}", done.returncode if done.returncode > 0 else 3)
     return copy

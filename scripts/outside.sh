@@ -1,7 +1,7 @@
 #!/usr/bin/env bash
 # What the built program shows from outside, by programs that share no code with this repository: the example with its output, the lines of the documents,
-# the tables of the file, the page by curl, a machine's clock at its ends, a terminal, refused growths of memory, random lists against a model, and the
-# border to the standard. The last line is 'N passed, M failed'.
+# the tables of the file, the page by curl, a machine's clock at its ends, a terminal, refused growths of memory, random lists against a model, the border
+# to the standard, and the Debian package in a fresh Debian. The last line is 'N passed, M failed'.
 #
 #     scripts/outside.sh [PROGRAM]
 #
@@ -70,5 +70,6 @@ try 'a terminal' scripts/outside/terminal.py "$MMPKG"
 try 'refused growths of memory' scripts/outside/refuse_memory.py ${WHOLE:+--whole} "$MMPKG"
 try 'random lists' scripts/model/random_lists.py
 try 'the border to the standard' scripts/outside/border.sh
+try 'the Debian package' scripts/outside/deb.sh
 echo "$passed passed, $failed failed"
 [ "$failed" = 0 ] && [ "$passed" -gt 0 ]

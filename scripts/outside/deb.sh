@@ -1,0 +1,150 @@
+#!/usr/bin/env bash
+# The Debian package in a fresh Debian: built, looked at by lintian, installed, used and removed. The last line is 'N passed, M failed'.
+#
+#     scripts/outside/deb.sh [PROGRAM]
+#
+# PROGRAM is the built program: without it the one that the environment's MMPKG names, or else out/mmpkg. The fresh Debian (bookworm, minbase,
+# with python3, libjs-leaflet and curl) is made by debootstrap, which takes a minute or two, and kept packed in a folder of the system's for
+# such files, so that the next look takes seconds. Exit status: 0 all passed, 1 something failed, 77 it can't be made, and nothing was tried:
+# that wants root, Debian's dpkg-dev, lintian and debootstrap, and its servers.
+set -u -o pipefail
+
+top=$(cd "$(dirname "$0")/../.." && pwd)
+cd "$top"
+export MMPKG
+MMPKG=$(realpath -m "${1:-${MMPKG:-out/mmpkg}}")
+kept=${TMPDIR:-/tmp}/mmpkg-debian-$(id -u)
+folder=$(mktemp -d)
+trap 'rm -rf "$folder"' EXIT
+root=$folder/root
+passed=0
+failed=0
+
+not_tried() {
+    echo "$*"
+    exit 77
+}
+
+try() {
+    local name=$1
+    shift
+    if "$@" >"$folder/said" 2>&1; then
+        passed=$((passed + 1))
+        echo "ok: $name"
+    else
+        failed=$((failed + 1))
+        cat "$folder/said"
+        echo "FAILED: $name"
+    fi
+}
+
+# Makes the fresh Debian, or unpacks the one that was kept.
+make_debian() {
+    local with=python3,libjs-leaflet,curl mirror
+    install -d -m 700 "$kept" && [ -O "$kept" ] || return 1
+    if [ ! -e "$kept/bookworm.tar" ]; then
+        mirror=$(apt-get indextargets --format '$(REPO_URI)' 'Created-By: Packages' 'Codename: bookworm' | head -n 1)
+        timeout 600 debootstrap --variant=minbase --include="$with" bookworm "$folder/made" "$mirror" || return 1
+        rm -f "$folder"/made/var/cache/apt/archives/*.deb
+        tar -C "$folder/made" -cf "$kept/.part" . && mv "$kept/.part" "$kept/bookworm.tar" || return 1
+        rm -rf "$folder/made"
+    fi
+    mkdir "$root" && tar -C "$root" -xf "$kept/bookworm.tar"
+}
+
+inside() {
+    env -i PATH=/usr/sbin:/usr/bin:/sbin:/bin LC_ALL=C.UTF-8 HOME=/root chroot "$root" "$@"
+}
+
+# All that stands in the fresh Debian, but what dpkg keeps of its own work.
+list_files() {
+    find "$root" -xdev \( -path "$root/var/lib/dpkg" -o -path "$root/var/log" -o -path "$root/clone" \) -prune -o -printf '%P %m %s\n' |
+        grep -v '^\(var/lib\|var\|\) ' | sort
+}
+
+build() {
+    package=$(scripts/deb.sh | sed -n 's/^packed //p') && [ -n "$package" ] || return 1
+    cp "$package" "$folder/first.deb"
+    scripts/deb.sh && cmp "$package" "$folder/first.deb"
+}
+
+# Each library of the kit that the program stands on has its licence told; those below them where the kit is there.
+licences() {
+    local kit name named
+    kit=$(dirname "$(dirname "$(realpath "$(command -v rt || echo /)")")")
+    named=$(sed -n '/^# Tests/q; s/^[a-z_]*: //p' crates.txt | tr ' ' '\n' | sort -u)
+    for name in $named; do
+        [ -d "crates/$name" ] || echo "$name"
+        [ ! -d "$kit/rlibs/$name.rlib/below" ] || ls "$kit/rlibs/$name.rlib/below"
+    done | sort -u >"$folder/libraries"
+    while read -r name; do
+        grep -q "kit/$name/\*" packaging/copyright || { echo "packaging/copyright doesn't name $name" && return 1; }
+    done <"$folder/libraries"
+    [ -s "$folder/libraries" ]
+}
+
+install_package() {
+    list_files >"$folder/before"
+    cp "$package" "$root/mmpkg.deb" && inside dpkg -i /mmpkg.deb && rm "$root/mmpkg.deb" && cmp "$MMPKG" "$root/usr/bin/mmpkg"
+}
+
+# Each command of the package answers --help and has a page.
+commands() {
+    local name count=0
+    for name in $(inside dpkg -L mmpkg | sed -n 's|^/usr/bin/||p'); do
+        inside "$name" --help >"$folder/help" && [ -s "$folder/help" ] && gzip -t "$root/usr/share/man/man1/$name.1.gz" || return 1
+        ! man --warnings -l "$root/usr/share/man/man1/$name.1.gz" 2>&1 >/dev/null | grep . || return 1
+        count=$((count + 1))
+    done
+    echo "$count commands"
+    [ "$count" -ge 4 ]
+}
+
+# The tours of the documents, by the program of the path and with the examples of the package.
+tours() {
+    mkdir -p "$root/clone/scripts" "$root/clone/docs"
+    zcat "$root/usr/share/doc/mmpkg/README.md.gz" >"$root/clone/README.md"
+    zcat "$root/usr/share/doc/mmpkg/docs/TOUR.md.gz" >"$root/clone/docs/TOUR.md"
+    cp -r scripts/outside "$root/clone/scripts/"
+    ln -s /usr/share/doc/mmpkg/examples "$root/clone/examples"
+    ln -s /usr/share/mmpkg "$root/clone/tools"
+    inside python3 -B /clone/scripts/outside/check_docs.py --tours /usr/bin/mmpkg
+}
+
+# A package goes out to the standard and in again, by the commands alone.
+there_and_back() {
+    inside sh -euc '
+        cd "$(mktemp -d)"
+        trap "rm -r \"\$PWD\"" EXIT
+        examples=/usr/share/doc/mmpkg/examples
+        mmpkg init a.gpkg
+        cat $examples/systems.csv $examples/base_map.csv $examples/spring.csv | mmpkg run a.gpkg --at 0 || [ $? = 1 ]
+        mmpkg-export a.gpkg out.gpkg
+        mmpkg-import out.gpkg list.csv
+        mmpkg init b.gpkg
+        mmpkg run b.gpkg --at 0 <list.csv
+        mmpkg list a.gpkg | grep -v ^edition >a
+        mmpkg list b.gpkg >b
+        cmp a b && test -s a'
+}
+
+remove() {
+    inside dpkg --purge mmpkg && list_files | diff "$folder/before" -
+}
+
+[ -x "$MMPKG" ] || { echo "$MMPKG isn't there: scripts/build.sh makes out/mmpkg" && exit 1; }
+[ "$(id -u)" = 0 ] || not_tried "a fresh Debian wants root"
+for it in dpkg-shlibdeps:dpkg-dev lintian:lintian debootstrap:debootstrap man:man-db; do
+    command -v "${it%%:*}" >/dev/null || apt-get install -y --no-install-recommends "${it#*:}" >"$folder/said" 2>&1 || not_tried "${it#*:} isn't there"
+done
+make_debian >"$folder/said" 2>&1 || not_tried "no fresh Debian: $(tail -n 1 "$folder/said")"
+try 'the package is built, twice the same' build
+try 'lintian has no error and no warning' lintian --allow-root --fail-on error,warning "${package:-}"
+try 'the licence of each library is told' licences
+try 'the package is installed, with the program as it was built' install_package
+try 'each command answers --help, and has a page' commands
+try 'the tours of the documents' tours
+try 'a package goes out and in by the tools' there_and_back
+try 'purged, it leaves nothing' remove
+echo "$passed passed, $failed failed"
+[ "$failed" = 0 ]

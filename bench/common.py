@@ -1,9 +1,19 @@
-"""What the benches share: the words of their command lines, the packages that they make, and commands timed one by one."""
+"""What the benches share: the words of their command lines, the packages that they make, commands timed one by one, and the two sides.
+
+The sides are mmpkg and bench/native.c, which does the same in C over the system's SQLite, once with SHA-256 and once without. Each is a
+list of words that 'run' or 'kit' and its words follow, so that both are run alike. What is compared is processor seconds, which the
+machine's other work and its disk change least.
+"""
 
 import argparse
+import os
 import pathlib
+import shutil
 import subprocess
+import threading
 import time
+
+import native
 
 PROGRAM = pathlib.Path(__file__).resolve().parent.parent / "out" / "mmpkg"
 
@@ -69,16 +79,78 @@ def times_by_kind(program, file, records):
     return times
 
 
-def seconds_of_answers(program, file, path):
-    """The seconds from the first answer of a run on a file of records to the last, so without opening and closing. All have to be accepted."""
-    with open(path, "rb") as records, subprocess.Popen([program, "run", file, "--at", "0"], stdin=records, stdout=subprocess.PIPE) as run:
-        told = run.stdout.readline()
-        begin = last = time.perf_counter()
-        for line in run.stdout:
-            told, last = line, time.perf_counter()
+def sides(program):
+    """The words that each side's command lines begin with."""
+    return {"mmpkg": [program], "C": [native.built()], "C without SHA-256": [native.built(), "--plain"]}
+
+
+def make_packages(program, folder, records=""):
+    """Makes a package with these records for each side, equal files, and returns their paths by the sides."""
+    files = {side: os.path.join(folder, f"{number}.gpkg") for number, side in enumerate(sides(program))}
+    first = files["mmpkg"]
+    make_package(program, first, records)
+    for file in files.values():
+        if file != first:
+            shutil.copyfile(first, file)
+    return files
+
+
+def seconds_of_waiting(process):
+    """The processor seconds that a process has taken, once it waits for more of its input."""
+    state = pathlib.Path(f"/proc/{process.pid}/stat")
+    while state.read_text().rpartition(")")[2].split()[0] != "S":
+        time.sleep(0.001)
+    return int(pathlib.Path(f"/proc/{process.pid}/schedstat").read_text().split()[0]) / 1e9
+
+
+def answer_of(run):
+    """The next answer of a run, which has to accept its record."""
+    line = run.stdout.readline()
+    if not line.endswith(b" ok\n"):
+        raise SystemExit(f"{' '.join(run.args)}: {line.decode()}")
+
+
+def send(records, taker):
+    """Sends the rest of a list to a run, which goes on waiting behind it."""
+    shutil.copyfileobj(records, taker, 1 << 20)
+    taker.flush()
+
+
+def seconds_of_records(side, file, path):
+    """The processor seconds, and those of the clock, of all records of a list but the first; so opening and closing are in neither."""
+    with open(path, "rb") as records:
+        more = sum(1 for _ in records) - 1
+        records.seek(0)
+        with subprocess.Popen([*side, "run", file, "--at", "0"], stdin=subprocess.PIPE, stdout=subprocess.PIPE) as run:
+            run.stdin.write(records.readline())
+            run.stdin.flush()
+            answer_of(run)
+            before, begin = seconds_of_waiting(run), time.perf_counter()
+            sender = threading.Thread(target=send, args=(records, run.stdin))
+            sender.start()
+            for _ in range(more):
+                answer_of(run)
+                last = time.perf_counter()
+            sender.join()
+            return seconds_of_waiting(run) - before, last - begin
+
+
+def seconds_of_command(words, records=os.devnull):
+    """The processor seconds of a whole command that succeeds, and what it printed."""
+    with open(records, "rb") as given, subprocess.Popen(words, stdin=given, stdout=subprocess.PIPE) as run:
+        told = run.stdout.read().decode()
+        _, status, taken = os.wait4(run.pid, 0)
+        run.returncode = os.waitstatus_to_exitcode(status)
     if run.returncode != 0:
-        raise SystemExit(told.decode())
-    return last - begin
+        raise SystemExit(f"{' '.join(words)}: {told[:400]}")
+    return taken.ru_utime + taken.ru_stime, told
+
+
+def tell_costs(what, costs):
+    """Prints what a record costs each side in microseconds of a processor, the least of each, and mmpkg's by that of the others."""
+    least = {side: min(each) for side, each in costs.items()}
+    print(f"{what}: " + ", ".join(f"{side} {1e6 * cost:.0f} us" for side, cost in least.items()))
+    print(f"= {what}: " + " / ".join(f"{least['mmpkg'] / cost:.2f}" for side, cost in least.items() if side != "mmpkg"))
 
 
 def tell_figure(what, figure, unit=""):

@@ -1,71 +1,27 @@
 #!/usr/bin/env python3
-"""Commits a second of `mmpkg run`, against Python's sqlite3 doing the same work.
+"""What a commit of `mmpkg run` costs, against C over SQLite doing the same work.
 
     bench/run.py [--program out/mmpkg] [--records 2000] [--rounds 9] [--folder FOLDER]
 
-Each record is one commit: a look by the primary key, an insert, and a commit that is synced. Python's side has WAL and
-synchronous=FULL, the same table, and its records read beforehand, so that only the three statements are timed. The
-program reads its records from standard input and writes a line for each; the time that it takes to start, open, close
-and end is measured by runs of no record and taken out. The two sides take turns; the ratio is the median of the rounds' ratios.
+Each record is one commit: a look by the primary key, an insert, and a commit that is synced. Both sides read the records from standard
+input and write a line for each, in files that were equal; opening and closing are in no time. The sides take turns, and the least of the
+rounds counts on each. Printed too are the commits a second by the clock, and what two synced writes take against one on the same disk with
+no database at all.
 """
 
 import os
-import sqlite3
 import statistics
-import subprocess
 import tempfile
 import time
 
 import common
 
-TABLE = """CREATE TABLE gpkg_spatial_ref_sys (srs_name TEXT NOT NULL, srs_id INTEGER PRIMARY KEY, organization TEXT NOT NULL,
-    organization_coordsys_id INTEGER NOT NULL, definition TEXT NOT NULL, description TEXT NOT NULL) STRICT"""
-LOOK = "SELECT 1 FROM gpkg_spatial_ref_sys WHERE srs_id = ?"
-INSERT = "INSERT INTO gpkg_spatial_ref_sys VALUES (?, ?, ?, ?, ?, ?)"
 
-
-def systems(count):
-    """So many reference systems, each as the fields of its record behind the command word."""
-    return [(100000 + i, f"System {i}", "NONE", i + 1, "projected metres", "a system of the bench") for i in range(count)]
-
-
-def seconds_of_run(program, file, records):
-    """The seconds of one run of the program on these records, all of which it has to accept."""
-    begin = time.perf_counter()
-    ran = subprocess.run([program, "run", file, "--at", "0"], input=records, capture_output=True, check=False)
-    seconds = time.perf_counter() - begin
-    lines = ran.stdout.count(b" ok\n")
-    if ran.returncode != 0 or lines != records.count(b"\n"):
-        raise SystemExit(f"the program answered status {ran.returncode} and {lines} times ok")
-    return seconds
-
-
-def time_program(program, folder, rows):
-    """The seconds of the commits, and those of a run of no record."""
-    file = os.path.join(folder, "bench.gpkg")
-    common.make_package(program, file)
-    text = "".join("srs," + ",".join(str(field) for field in row) + "\n" for row in rows)
-    empty = statistics.median(seconds_of_run(program, file, b"") for _ in range(5))
-    return seconds_of_run(program, file, text.encode()) - empty, empty
-
-
-def time_python(folder, rows):
-    """The seconds of the commits, and those that opening and closing take."""
-    begin = time.perf_counter()
-    db = sqlite3.connect(os.path.join(folder, "bench.db"), isolation_level=None)
-    db.execute("PRAGMA journal_mode = WAL")
-    db.execute("PRAGMA synchronous = FULL")
-    db.execute(TABLE)
-    opened = time.perf_counter()
-    for number, name, organization, its_number, definition, description in rows:
-        db.execute("BEGIN")
-        if db.execute(LOOK, (number,)).fetchone() is not None:
-            raise SystemExit(f"system {number} stands already")
-        db.execute(INSERT, (name, number, organization, its_number, definition, description))
-        db.execute("COMMIT")
-    done = time.perf_counter()
-    db.close()
-    return done - opened, opened - begin + time.perf_counter() - done
+def write_records(path, count):
+    """Writes the records of so many reference systems."""
+    with open(path, "w") as out:
+        for number in range(count):
+            out.write(f"srs,{100000 + number},System {number},NONE,{number + 1},projected metres,a system of the bench\n")
 
 
 def time_syncs(folder, count, syncs):
@@ -81,23 +37,26 @@ def time_syncs(folder, count, syncs):
         return time.perf_counter() - begin
 
 
+def round_of(program, folder, records):
+    """The processor seconds and those of the clock of each side."""
+    path = os.path.join(folder, "records.csv")
+    write_records(path, records)
+    files = common.make_packages(program, folder)
+    return {side: common.seconds_of_records(words, files[side], path) for side, words in common.sides(program).items() if side in ("mmpkg", "C")}
+
+
 def main():
     asked = common.words_of(__doc__, records=(2000, "records in a round"), rounds=(9, "rounds of each side"))
-    rows = systems(asked.records)
-    ours, theirs, twice = [], [], []
+    rounds, twice = [], []
     for _ in range(asked.rounds):
         with tempfile.TemporaryDirectory(dir=asked.folder) as folder:
-            ours.append(time_program(asked.program, folder, rows))
-            theirs.append(time_python(folder, rows))
+            rounds.append(round_of(asked.program, folder, asked.records))
             twice.append(time_syncs(folder, asked.records, 2) / time_syncs(folder, asked.records, 1))
-    for name, times in (("mmpkg run", ours), ("Python's sqlite3", theirs)):
-        commits = statistics.median(seconds for seconds, _ in times)
-        opening = statistics.median(opening for _, opening in times)
-        print(f"{name}: {asked.records / commits:.0f} commits a second ({1e6 * commits / asked.records:.0f} us each); opening and closing apart: {1000 * opening:.1f} ms")
-    ratios = sorted(mine / other for (mine, _), (other, _) in zip(ours, theirs))
-    print(f"time of mmpkg by that of sqlite3 ({sqlite3.sqlite_version}): {statistics.median(ratios):.2f} (rounds from {ratios[0]:.2f} to {ratios[-1]:.2f})")
+    of = asked.records - 1
+    for side in rounds[0]:
+        print(f"{side}: {of / statistics.median(each[side][1] for each in rounds):.0f} commits a second")
     print(f"two synced writes by one, on the disk alone: {statistics.median(twice):.2f}")
-    common.tell_figure("srs", statistics.median(ratios))
+    common.tell_costs("srs", {side: [each[side][0] / of for each in rounds] for side in rounds[0]})
 
 
 if __name__ == "__main__":

@@ -1,10 +1,11 @@
 #!/usr/bin/env python3
 """Writes the tables of bench/README.md from what the benches printed: the figures on a disk in memory, those on a real disk, and what each
-command costs as a package grows.
+command costs as a package grows. A figure with two numbers is beside C with SHA-256 / without.
 
     bench/write_table.py MEMORY DISK SCALE
 """
 
+import os
 import pathlib
 import re
 import sys
@@ -27,9 +28,17 @@ def figures(path):
     return dict(line[2:].rsplit(": ", 1) for line in lines if line.startswith("= "))
 
 
+def machine():
+    """What kind of machine this is."""
+    told = pathlib.Path("/proc/cpuinfo").read_text()
+    kind = "virtual machine" if re.search(r"^flags\b.*\bhypervisor\b", told, re.MULTILINE) else "machine"
+    model = re.search(r"^model name\s*: (.*)", told, re.MULTILINE)[1]
+    return f"{kind}, {os.cpu_count()} processors, {model}"
+
+
 def table(memory, disk):
     """The lines of the table of both disks."""
-    yield "| what | disk in memory | real disk | wanted, at most |"
+    yield f"| {machine()} | disk in memory | real disk | wanted, at most |"
     yield "|---|---|---|---|"
     for what, figure in memory.items():
         yield f"| {what} | {figure} | {disk[what]} | {WANTED.get(what, '')} |"

@@ -10,7 +10,7 @@
 set -u -o pipefail
 
 top=$(cd "$(dirname "$0")/../.." && pwd)
-cd "$top"
+cd "$top" || exit 1
 export MMPKG
 MMPKG=$(realpath -m "${1:-${MMPKG:-out/mmpkg}}")
 kept=${TMPDIR:-/tmp}/mmpkg-debian-$(id -u)

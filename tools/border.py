@@ -1,16 +1,19 @@
-"""What the tools at the border share: the profile's limits, and how command lists and kits are written.
+"""What the tools at the border share: the profile's limits, how a package is read, and how command lists and kits are written.
 
-The tools are export_standard.py, import_standard.py and make_kit.py. Nothing here is proved: docs/FORMATS.md has the limits, the records
-and the kits, docs/BORDER.md says what goes across, and scripts/outside/border.sh compares.
+The tools are export_standard.py, import_standard.py, make_kit.py and make_viewer.py. Nothing here is proved: docs/FORMATS.md has the
+limits, the records and the kits, docs/BORDER.md says what goes across, and scripts/outside/border.sh compares.
 """
 
 import argparse
+import contextlib
 import dataclasses
 import math
 import os
 import pathlib
 import re
 import shutil
+import sqlite3
+import subprocess
 import sys
 
 # By the version in mm_profile, how many units of a package's coordinates and pixel sizes are a metre.
@@ -69,14 +72,21 @@ def arguments(description):
 
 
 def run_tool(main):
-    """Runs a tool and ends with its exit status; a refusal is told on standard error."""
+    """Runs a tool and ends with its exit status; a refusal is told on standard error, and that what it prints can't be written."""
     try:
-        sys.exit(main())
+        try:
+            status = main()
+        except SystemExit as ended:
+            status = ended.code
+        sys.stdout.flush()
+        sys.exit(status)
     except Refused as refused:
         print(refused, file=sys.stderr)
         sys.exit(refused.status)
     except OSError as error:
-        print(error, file=sys.stderr)
+        print("standard output: nobody reads it" if isinstance(error, BrokenPipeError) else error, file=sys.stderr)
+        # What standard output still holds would be tried once more as Python ends.
+        os.dup2(os.open(os.devnull, os.O_WRONLY), 1)
         sys.exit(2)
 
 
@@ -87,6 +97,25 @@ def program():
     if shutil.which(named) is None:
         raise Refused(f"{named}: isn't there; scripts/build.sh makes out/mmpkg, or MMPKG names the program")
     return named
+
+
+def checked_copy(file, folder):
+    """Copies a package with its journal into a folder, where the program has to find it whole."""
+    copy = folder / "copy.gpkg"
+    for suffix in ("", "-wal"):
+        if pathlib.Path(f"{file}{suffix}").exists():
+            shutil.copyfile(f"{file}{suffix}", f"{copy}{suffix}")
+    done = subprocess.run([program(), "check", copy], stdin=subprocess.DEVNULL, stdout=subprocess.PIPE, check=False)
+    if done.returncode != 0:
+        said = done.stdout.decode(errors="replace").strip()
+        remedy = f" (of profile 1; 'mmpkg migrate {file}' brings it to this one)" if said.endswith(" 93") and is_profile_1(copy) else ""
+        raise Refused(f"{file}: {said}{remedy}", done.returncode if done.returncode > 0 else 3)
+    return copy
+
+
+def is_profile_1(copy):
+    with contextlib.closing(sqlite3.connect(copy)) as opened:
+        return opened.execute("SELECT id, version FROM mm_profile").fetchall() == [(1, 1)]
 
 
 def quoted(name):

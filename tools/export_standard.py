@@ -15,12 +15,10 @@ whose line is told: 3 a fault, 4 no package or one that breaks a rule.
 import os
 import pathlib
 import re
-import shutil
 import sqlite3
-import subprocess
 import tempfile
 
-from border import UNITS_OF_VERSION, Refused, Report, arguments, program, quoted, run_tool
+from border import UNITS_OF_VERSION, Refused, Report, arguments, checked_copy, quoted, run_tool
 
 # The tables of OGC 12-128r17, annex C, and of OGC 18-000, as those write them. No table has features, so gpkg_geometry_columns stays empty;
 # without it GDAL lists no attribute table.
@@ -80,18 +78,6 @@ WGS_84 = ('GEOGCS["WGS 84",DATUM["WGS_1984",SPHEROID["WGS 84",6378137,298.257223
 
 IS_WEBP = "(substr(tile_data, 1, 4) = x'52494646' AND substr(tile_data, 9, 4) = x'57454250')"
 IS_IMAGE = f"(substr(tile_data, 1, 4) = x'89504e47' OR substr(tile_data, 1, 3) = x'ffd8ff' OR {IS_WEBP})"
-
-
-def checked_copy(file, folder):
-    """Copies a package with its journal into a folder, where the program has to find it whole."""
-    copy = folder / "copy.gpkg"
-    for suffix in ("", "-wal"):
-        if pathlib.Path(f"{file}{suffix}").exists():
-            shutil.copyfile(f"{file}{suffix}", f"{copy}{suffix}")
-    done = subprocess.run([program(), "check", copy], stdin=subprocess.DEVNULL, stdout=subprocess.PIPE, check=False)
-    if done.returncode != 0:
-        raise Refused(f"{file}: {done.stdout.decode(errors='replace').strip()}", done.returncode if done.returncode > 0 else 3)
-    return copy
 
 
 def wkt_of(system, definition):

@@ -1,0 +1,164 @@
+"""Drives headless Chromium by its DevTools protocol, over a pipe (--remote-debugging-pipe), by Python's standard library alone.
+
+A Browser opens Pages. A Page keeps what it asked for over the network, and what its console and its log said.
+"""
+
+import base64
+import contextlib
+import json
+import os
+import select
+import subprocess
+import time
+
+ANSWER_SECONDS = 60
+OPTIONS = ["--headless=new", "--no-sandbox", "--disable-gpu", "--hide-scrollbars", "--force-device-scale-factor=1", "--no-first-run",
+           "--disable-background-networking", "--disable-component-update", "--disable-sync", "--mute-audio", "--remote-debugging-pipe"]
+KEYS = {"Tab": 9, "Enter": 13, "ArrowLeft": 37, "ArrowUp": 38, "ArrowRight": 39, "ArrowDown": 40, "+": 187, "-": 189}
+TEXTS = {"Enter": "\r", "+": "+", "-": "-"}
+CODES = {"+": "Equal", "-": "Minus"}
+
+
+class Browser:
+    """A Chromium of its own with a new profile; ends with the block that it is made in."""
+
+    def __init__(self, command, profile):
+        to_browser, self.to_browser = os.pipe()
+        self.from_browser, from_browser = os.pipe()
+        # The browser reads messages from its file 3 and writes them to 4.
+        words = ["bash", "-c", f'exec "$@" 3<&{to_browser} 4>&{from_browser}', "bash", command, *OPTIONS, f"--user-data-dir={profile}"]
+        self.process = subprocess.Popen(words, pass_fds=(to_browser, from_browser), stdin=subprocess.DEVNULL, stdout=subprocess.DEVNULL,
+                                        stderr=subprocess.DEVNULL)
+        os.close(to_browser)
+        os.close(from_browser)
+        self.read = b""
+        self.last = 0
+        self.pages = {}
+
+    def __enter__(self):
+        return self
+
+    def __exit__(self, *_):
+        with contextlib.suppress(OSError, AssertionError):
+            self.ask("Browser.close")
+        try:
+            self.process.wait(20)
+        except subprocess.TimeoutExpired:
+            self.process.kill()
+            self.process.wait()
+        os.close(self.to_browser)
+        os.close(self.from_browser)
+
+    def message(self, deadline):
+        """The next message, None where none comes before the deadline."""
+        while b"\0" not in self.read:
+            ready, _, _ = select.select([self.from_browser], [], [], max(0, deadline - time.monotonic()))
+            if not ready:
+                return None
+            more = os.read(self.from_browser, 1 << 16)
+            assert more, "the browser has ended"
+            self.read += more
+        text, self.read = self.read.split(b"\0", 1)
+        return json.loads(text)
+
+    def ask(self, method, session=None, **parameters):
+        """Sends a command and waits for its answer; what happens meanwhile is told to the pages."""
+        self.last += 1
+        asked = {"id": self.last, "method": method, "params": parameters, **({"sessionId": session} if session else {})}
+        os.write(self.to_browser, json.dumps(asked).encode() + b"\0")
+        deadline = time.monotonic() + ANSWER_SECONDS
+        while True:
+            answer = self.message(deadline)
+            assert answer is not None, f"{method}: no answer in {ANSWER_SECONDS} s"
+            if answer.get("id") == asked["id"]:
+                assert "error" not in answer, f"{method}: {answer.get('error')}"
+                return answer["result"]
+            self.tell(answer)
+
+    def tell(self, event):
+        if event.get("sessionId") in self.pages:
+            self.pages[event["sessionId"]].happened(event["method"], event["params"])
+
+    def open(self, address, width=1280, height=800, scale=1, touch=False):
+        """Opens an address in a page of its own."""
+        target = self.ask("Target.createTarget", url="about:blank")["targetId"]
+        session = self.ask("Target.attachToTarget", targetId=target, flatten=True)["sessionId"]
+        page = self.pages[session] = Page(self, session, target)
+        for domain in ("Page", "Runtime", "Network", "Log"):
+            page.ask(f"{domain}.enable")
+        page.ask("Emulation.setDeviceMetricsOverride", width=width, height=height, deviceScaleFactor=scale, mobile=touch)
+        if touch:
+            page.ask("Emulation.setTouchEmulationEnabled", enabled=True, maxTouchPoints=5)
+        page.ask("Page.navigate", url=address)
+        return page
+
+
+class Page:
+    """A page with what it asked for and said."""
+
+    def __init__(self, browser, session, target):
+        self.browser = browser
+        self.session = session
+        self.target = target
+        self.asked = []
+        self.said = []
+
+    def ask(self, method, **parameters):
+        return self.browser.ask(method, self.session, **parameters)
+
+    def happened(self, method, what):
+        if method == "Network.requestWillBeSent":
+            self.asked.append(what["request"]["url"])
+        elif method == "Runtime.consoleAPICalled":
+            self.said.append((what["type"], " ".join(str(it.get("value", it.get("description"))) for it in what["args"]), ""))
+        elif method == "Runtime.exceptionThrown":
+            details = what["exceptionDetails"]
+            self.said.append(("exception", details.get("exception", {}).get("description", details["text"]), details.get("url", "")))
+        elif method == "Log.entryAdded":
+            entry = what["entry"]
+            self.said.append((entry["source"], entry["text"], entry.get("url", "")))
+
+    def close(self):
+        self.browser.ask("Target.closeTarget", targetId=self.target)
+        del self.browser.pages[self.session]
+
+    def value(self, expression):
+        """The value of an expression in the page; a promise is waited for."""
+        answer = self.ask("Runtime.evaluate", expression=expression, returnByValue=True, awaitPromise=True)
+        assert "exceptionDetails" not in answer, f"{expression}: {answer.get('exceptionDetails')}"
+        return answer["result"].get("value")
+
+    def wait(self, expression, seconds=20):
+        """Waits until an expression is true."""
+        deadline = time.monotonic() + seconds
+        while not self.value(expression):
+            assert time.monotonic() < deadline, f"not within {seconds} s: {expression}"
+            time.sleep(0.05)
+
+    def screenshot(self):
+        return base64.b64decode(self.ask("Page.captureScreenshot", format="png")["data"])
+
+    def move(self, x, y):
+        self.ask("Input.dispatchMouseEvent", type="mouseMoved", x=x, y=y)
+
+    def click(self, x, y):
+        self.move(x, y)
+        for kind in ("mousePressed", "mouseReleased"):
+            self.ask("Input.dispatchMouseEvent", type=kind, x=x, y=y, button="left", clickCount=1)
+
+    def press(self, *keys):
+        for key in keys:
+            named = {"key": key, "code": CODES.get(key, key), "windowsVirtualKeyCode": KEYS[key]}
+            self.ask("Input.dispatchKeyEvent", type="keyDown", **named, **({"text": TEXTS[key]} if key in TEXTS else {}))
+            self.ask("Input.dispatchKeyEvent", type="keyUp", **named)
+
+    def type(self, text):
+        self.ask("Input.insertText", text=text)
+
+    def touch(self, *places):
+        """Puts fingers down, moves them from place to place, each place a list of points, and takes them up."""
+        for number, points in enumerate(places):
+            kind = "touchMove" if number else "touchStart"
+            self.ask("Input.dispatchTouchEvent", type=kind, touchPoints=[{"x": x, "y": y, "id": finger} for finger, (x, y) in enumerate(points)])
+            time.sleep(0.03)
+        self.ask("Input.dispatchTouchEvent", type="touchEnd", touchPoints=[])

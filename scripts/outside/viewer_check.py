@@ -1,0 +1,720 @@
+#!/usr/bin/env python3
+"""Looks at the viewer that travels in a package as a surveyor does, in headless Chromium. Called by scripts/outside/viewer.sh.
+
+    MMPKG=out/mmpkg scripts/outside/viewer_check.py [--browser chromium] [--keep FOLDER] [WORD ..]
+
+A package of four pyramids and photos gets its viewer by the tool's own commands, and 'mmpkg serve' serves it. Each place of the map has to
+show the colour that this script gave the tile there; the place is what the page tells of the pointer, and what the tile is follows from
+the package's layout alone. --keep keeps the screenshots in a folder; WORD picks the checks whose names have it. The last line is
+'N passed, M failed'; the exit status is 1 where one failed.
+"""
+
+import argparse
+import base64
+import contextlib
+import dataclasses
+import json
+import os
+import pathlib
+import re
+import shutil
+import socket
+import sqlite3
+import struct
+import subprocess
+import sys
+import tempfile
+import time
+import traceback
+import zlib
+
+import devtools
+import make_profile_1
+import page_map
+
+TOP = pathlib.Path(__file__).resolve().parent.parent.parent
+TOOL = TOP / "tools" / "make_viewer.py"
+sys.path.insert(0, str(TOP / "tools"))
+from border import UNITS_PER_METRE, Piece, media_piece, record, tile_piece  # noqa: E402
+
+PROGRAM = os.path.realpath(os.environ.get("MMPKG") or TOP / "out" / "mmpkg")
+BLANK = (228, 232, 234)
+PLAIN = (40, 90, 160)
+SEEN_SECONDS = 600
+
+
+@dataclasses.dataclass
+class Zoom:
+    """A matrix: its zoom, the number of its tiles, the pixels of a tile, and the size of a pixel in micrometres."""
+
+    zoom: int
+    columns: int
+    rows: int
+    wide: int
+    high: int
+    pixel_x: int
+    pixel_y: int
+
+
+@dataclasses.dataclass
+class Pyramid:
+    """A pyramid with the upper left corner of its extent in metres; its missing tiles are (zoom, column, row)."""
+
+    table: str
+    identifier: str
+    system: int
+    left: float
+    top: float
+    step: str
+    zooms: list
+    missing: frozenset = frozenset()
+
+    def extent(self):
+        it = self.zooms[0]
+        left, top = round(self.left * UNITS_PER_METRE), round(self.top * UNITS_PER_METRE)
+        return left, top - it.rows * it.high * it.pixel_y, left + it.columns * it.wide * it.pixel_x, top
+
+    def records(self):
+        lines = [record(["pyramid", self.table, self.identifier, self.system, *self.extent(), self.step])]
+        for it in self.zooms:
+            lines.append(record(["matrix", self.table, *dataclasses.astuple(it)]))
+            places = [(it.zoom, column, row) for column in range(it.columns) for row in range(it.rows)]
+            lines += [tile_piece(self.table, *place, self.tile(it, *place[1:])).command() for place in places if place not in self.missing]
+        return "".join(lines)
+
+    def tile(self, zoom, column, row):
+        """A picture of four colours, one a quarter."""
+        across, down = zoom.wide // 2, zoom.high // 2
+        upper, lower = (b"\0" + b"".join(bytes(self.colour(zoom.zoom, 2 * column + right, 2 * row + below)) * across for right in (0, 1))
+                        for below in (0, 1))
+        return png(zoom.wide, zoom.high, upper * down + lower * down)
+
+    def colour(self, zoom, quarter_column, quarter_row):
+        if self.table == "plain":
+            return PLAIN
+        mixed = zlib.crc32(f"{self.table} {zoom} {quarter_column} {quarter_row}".encode())
+        return tuple(32 + (mixed >> shift & 0xFF) * 3 // 4 for shift in (0, 8, 16))
+
+    def colour_at(self, zoom, easting, northing):
+        """The colour at a place in metres, and how far the nearest edge of a quarter is in metres, across and down."""
+        across, down = zoom.wide * zoom.pixel_x / UNITS_PER_METRE / 2, zoom.high * zoom.pixel_y / UNITS_PER_METRE / 2
+        column, row = (easting - self.left) / across, (self.top - northing) / down
+        edges = abs(column - round(column)) * across, abs(row - round(row)) * down
+        if not (0 <= column < 2 * zoom.columns and 0 <= row < 2 * zoom.rows) or (zoom.zoom, int(column) // 2, int(row) // 2) in self.missing:
+            return BLANK, edges
+        return self.colour(zoom.zoom, int(column), int(row)), edges
+
+
+PYRAMIDS = [
+    Pyramid("base", 'Base <b>map</b> & "relief"', 25832, 500_000, 5_601_024, "two",
+            [Zoom(0, 2, 2, 64, 64, 8_000_000, 8_000_000), Zoom(1, 4, 4, 64, 64, 4_000_000, 4_000_000),
+             Zoom(2, 8, 8, 64, 64, 2_000_000, 2_000_000), Zoom(4, 16, 16, 128, 128, 500_000, 500_000)],
+            frozenset({(1, 1, 2), (2, 3, 3), (2, 4, 4), (4, 8, 7)})),
+    Pyramid("plain", "Plain", 25834, 0, 0, "other",
+            [Zoom(0, 4, 4, 64, 64, 1_400_000, 600_000), Zoom(1, 8, 8, 64, 64, 700_000, 300_000)]),
+    Pyramid("relief", "Relief", 25832, 500_100.5, 5_600_950.25, "other",
+            [Zoom(3, 2, 3, 90, 60, 5_000_000, 5_000_000), Zoom(5, 6, 5, 100, 120, 1_500_000, 1_500_000),
+             Zoom(6, 10, 8, 100, 125, 900_000, 900_000)], frozenset({(5, 2, 2)})),
+    Pyramid("strip", "Strip", 25833, -200, 10.5, "two",
+            [Zoom(0, 4, 4, 64, 64, 1_400_000, 600_000), Zoom(1, 8, 8, 64, 64, 700_000, 300_000)], frozenset({(1, 0, 7)})),
+]
+
+
+def png(wide, high, rows):
+    return (b"\x89PNG\r\n\x1a\n" + page_map.chunk(b"IHDR", struct.pack(">IIBBBBB", wide, high, 8, 2, 0, 0, 0))
+            + page_map.chunk(b"IDAT", zlib.compress(rows)) + page_map.chunk(b"IEND", b""))
+
+
+def picture(wide, high, colour):
+    return png(wide, high, (b"\0" + bytes(colour) * wide) * high)
+
+
+def content():
+    """The layout and the content of the package, but for the viewer."""
+    systems = [["srs", 25832 + it, f"UTM {32 + it}N", "EPSG", 25832 + it, "metres", ""] for it in range(3)]
+    tables = [["table", "spots", "attributes", "Spots"], ["table", "owners", "attributes", "Owners"], ["table", "photos", "media", "Photos"],
+              ["table", "papers", "media", "Papers"], ["relation", "spots_photos", "spots", "photos", "media"],
+              ["relation", "spots_papers", "spots", "papers", "media"], ["relation", "spots_owners", "spots", "owners", "simple_attributes"]]
+    pieces = [Piece(["row", "spots", 7, "Well", "by the road", 3]), Piece(["row", "owners", 2**53, "Ada", "", 0]),
+              Piece(["row", "spots", 8, "Gate", "", 1]), media_piece("photos", 1, "image/png", picture(160, 120, (200, 60, 40))),
+              media_piece("photos", 2, "image/png", picture(120, 160, (40, 160, 80))), media_piece("photos", 9, "image/jpeg", b"\xff\xd8\xff"),
+              media_piece("papers", 4, "application/pdf", b"%PDF-1.4 no more"),
+              *(Piece(["map", f"spots_{table}", 7, it]) for table, it in
+                (("photos", 1), ("photos", 2), ("photos", 9), ("papers", 4), ("owners", 2**53)))]
+    return "".join([*map(record, systems), *(it.records() for it in PYRAMIDS), *map(record, tables), *(it.command() for it in pieces)])
+
+
+def run(*command, status=0, given=None):
+    """Runs a command, which has to end with the status, and answers what it printed and what it told on standard error."""
+    done = subprocess.run([str(word) for word in command], input=given, stdout=subprocess.PIPE, stderr=subprocess.PIPE, check=False,
+                          env={**os.environ, "MMPKG": PROGRAM})
+    out, err = done.stdout.decode(), done.stderr.decode()
+    assert done.returncode == status, f"{command[:6]} ended with {done.returncode}: {out[-500:]}{err[-500:]}"
+    return out, err
+
+
+def mmpkg(*words, status=0, given=None):
+    return run(PROGRAM, *words, status=status, given=given)[0]
+
+
+def expect(found, wanted, what):
+    assert found == wanted, f"{what}: {found!r}, wanted {wanted!r}"
+
+
+def new_package(file, records=""):
+    mmpkg("init", file)
+    mmpkg("run", file, "--at", 0, given=records.encode())
+
+
+def take_in(file, out, *words):
+    """Makes a viewer and takes it in by the commands that the tool prints."""
+    commands, told = run(TOOL, file, out, *words)
+    for line in commands.splitlines():
+        run("bash", "-c", f"set -o pipefail; mmpkg() {{ {PROGRAM} \"$@\"; }}; " + line.replace("FILE", f"'{file}'"))
+    return commands, told
+
+
+@contextlib.contextmanager
+def served(file, port=0):
+    """Serves a package, answers the page's address, and expects in the end that the program told no fault."""
+    if not port:
+        with socket.socket() as it:
+            it.bind(("127.0.0.1", 0))
+            port = it.getsockname()[1]
+    # The service ends by itself, should this script be killed.
+    command = ["timeout", str(SEEN_SECONDS), PROGRAM, "serve", file, "--port", str(port), "--count", "100000"]
+    serving = subprocess.Popen(command, stdout=subprocess.PIPE)
+    try:
+        expect(serving.stdout.readline(), f"serving 127.0.0.1:{port}\n".encode(), "what serve prints")
+        yield f"http://127.0.0.1:{port}"
+    finally:
+        serving.terminate()
+        rest = serving.communicate()[0]
+    expect(rest, b"", "what serve prints behind that")
+
+
+class Scene:
+    """The package with its viewer, a folder for what a check makes, and the browser that looks."""
+
+    def __init__(self, folder, browser, keep):
+        self.folder = folder
+        self.browser = browser
+        self.keep = keep
+        self.file = folder / "a.gpkg"
+        self.address = ""
+        self.pages = []
+
+    def open(self, address=None, **how):
+        """Opens the viewer, and waits until it shows its map."""
+        page = self.browser.open(address or f"{self.address}/media/viewer/1", **how)
+        self.pages.append(page)
+        page.wait("document.readyState === 'complete' && byId('tables').children.length > 0")
+        settle(page)
+        return page
+
+    def screenshot(self, page, name):
+        data = page.screenshot()
+        if self.keep:
+            (self.keep / f"{name}.png").write_bytes(data)
+        return page_map.read_png(data)
+
+
+def settle(page):
+    """Waits until no tile is on its way and nothing moves."""
+    page.wait("!document.querySelector('img.leaflet-tile:not(.leaflet-tile-loaded), .leaflet-zoom-anim, .leaflet-pan-anim')")
+    page.value("new Promise(done => requestAnimationFrame(() => requestAnimationFrame(() => done(1))))")
+
+
+def choose(page, table):
+    page.value(f"byId('pyramids').value = '{table}'; byId('pyramids').dispatchEvent(new Event('change'))")
+    settle(page)
+
+
+def zoom_to(page, zoom, easting=None, northing=None):
+    """Shows the zoom at a place in Leaflet's list, without the animation of a button."""
+    place = "map.getCenter()" if easting is None else f"[{northing}, {easting}]"
+    page.value(f"map.setView({place}, {zoom}, {{ animate: false }}); 0")
+    settle(page)
+
+
+def position(page):
+    """What the page tells: easting, northing, of what, and the zoom."""
+    told = page.value("byId('position').innerText")
+    found = re.fullmatch(r"E (-?[0-9.]+) m, N (-?[0-9.]+) m \((pointer|centre)\)\nzoom ([0-9]+), ([0-9.]+)(?: by ([0-9.]+))? m a pixel", told)
+    assert found, f"the page tells {told!r}"
+    return float(found[1]), float(found[2]), found[3], int(found[4])
+
+
+def box_of(page, element="map"):
+    return page.value(f"(({{x, y, width, height}}) => [x, y, width, height])(byId('{element}').getBoundingClientRect())")
+
+
+def places(page):
+    """Places on the map's part of the screen, away from its buttons and its scale bar."""
+    left, top, wide, high = box_of(page)
+    return [(round(left + wide * x / 14) + 0.5, round(top + high * y / 10) + 0.5) for x in range(2, 14) for y in range(1, 9)]
+
+
+def near(found, wanted, by):
+    return max(abs(a - b) for a, b in zip(found, wanted)) <= by
+
+
+def expect_colours(scene, page, pyramid, name):
+    """What the screen shows at places is what the tiles there have; answers how many places were within the map."""
+    rows = scene.screenshot(page, name)
+    side = page.value("metresAt(shown, map.getZoom())")
+    compared = within = 0
+    for x, y in places(page):
+        page.move(x, y)
+        easting, northing, whose, zoom = position(page)
+        expect(whose, "pointer", "whose position is told")
+        colour, edges = pyramid.colour_at(next(it for it in pyramid.zooms if it.zoom == zoom), easting, northing)
+        if min(edges) < 3 * side:
+            continue
+        shown = rows[int(y)][int(x)]
+        assert near(shown, colour, 2), f"{name}: {shown} for {colour} at {x}, {y}, which is {easting}, {northing}"
+        compared += 1
+        within += colour != BLANK
+    assert compared >= 8, f"{name}: only {compared} places were compared"
+    return within
+
+
+def expect_quiet(scene, pages):
+    """The pages asked for nothing but their own address, no tile outside its matrix, and their consoles tell of missing tiles alone."""
+    asked = [url for page in pages for url in page.asked if not url.startswith(("blob:", "data:"))]
+    strange = [url for url in asked if not url.startswith(scene.address + "/")]
+    expect(strange, [], "requests elsewhere")
+    zooms = {(it.table, zoom.zoom): (zoom, it.missing) for it in PYRAMIDS for zoom in it.zooms}
+    missing = set()
+    for url in asked:
+        if "/tiles/" in url:
+            table, *place = url.split("/")[-4:]
+            place = tuple(map(int, place))
+            zoom, gone = zooms[table, place[0]]
+            assert place[1] < zoom.columns and place[2] < zoom.rows, f"a tile outside its matrix was asked for: {url}"
+            missing |= {url} if place in gone else set()
+    said = [it for page in pages for it in page.said]
+    strange = [it for it in said if not (it[0] == "network" and "404" in it[1] and it[2] in missing)]
+    expect(strange, [], "what the console tells")
+    return len(asked), len(said)
+
+
+def check_colours_at_every_zoom(scene):
+    """Each zoom of each pyramid, and the two before and behind them that are drawn from its tiles, in their colours at their places."""
+    page = scene.open()
+    count = 0
+    for pyramid in PYRAMIDS:
+        choose(page, pyramid.table)
+        left, bottom, right, top = (it / UNITS_PER_METRE for it in pyramid.extent())
+        for zoom in range(page.value("map.getMinZoom()"), len(pyramid.zooms) + 2):
+            zoom_to(page, zoom, left + (right - left) * 0.52, bottom + (top - bottom) * 0.49)
+            count += expect_colours(scene, page, pyramid, f"{pyramid.table}-{zoom}")
+    print(f"    {count} places in their colours, and {expect_quiet(scene, [page])[0]} requests")
+    assert count > 300, "few places"
+
+
+def check_whole_map(scene):
+    """The whole extent is shown at the start, and by the button, with its middle in the middle, as large as a zoom allows."""
+    page = scene.open()
+    for pyramid in PYRAMIDS:
+        choose(page, pyramid.table)
+        left, bottom, right, top = (it / UNITS_PER_METRE for it in pyramid.extent())
+        zoom_to(page, len(pyramid.zooms) - 1, left, top)
+        page.click(*middle(page, "fit"))
+        settle(page)
+        easting, northing, whose, zoom = position(page)
+        expect(whose, "centre", "whose position is told")
+        assert near((easting, northing), ((left + right) / 2, (bottom + top) / 2), 0.51), f"the middle is {easting}, {northing}"
+        _, _, wide, high = box_of(page)
+        fits = [it.zoom for it in pyramid.zooms
+                if max((right - left) / wide, (top - bottom) / high) <= min(it.pixel_x, it.pixel_y) / UNITS_PER_METRE]
+        expect(zoom, fits[-1], f"the zoom of {pyramid.table}")
+    expect_quiet(scene, [page])
+
+
+def middle(page, element):
+    left, top, wide, high = box_of(page, element)
+    return left + wide / 2, top + high / 2
+
+
+def check_place_stays(scene):
+    """Another pyramid of the same system is shown at the same place and at about the same scale, one of another system as a whole."""
+    page = scene.open()
+    zoom_to(page, 2, 500_300, 5_600_500)
+    choose(page, "relief")
+    easting, northing, _, zoom = position(page)
+    assert near((easting, northing), (500_300, 5_600_500), 0.6), f"the place is {easting}, {northing}"
+    expect(zoom, 5, "the zoom")
+    choose(page, "strip")
+    expect(near(position(page)[:2], (-20.8, -66.3), 0.1), True, "the middle of the strip is shown")
+
+
+def check_no_hair_lines(scene):
+    """Where all tiles have one colour nothing shows between them, on screens of all sorts."""
+    for scale in (1, 1.1, 1.25, 1.5, 2, 2.625):
+        page = scene.open(scale=scale)
+        choose(page, "plain")
+        for zoom in range(0, 4):
+            zoom_to(page, zoom, 179.2, -76.8)
+            page.value("byId('map').classList.remove('centre')")
+            x, y = middle(page, "map")
+            data = page.ask("Page.captureScreenshot", format="png", clip={"x": x - 140, "y": y - 80, "width": 280, "height": 160, "scale": 1})["data"]
+            off = max(abs(a - b) for row in page_map.read_png(base64.b64decode(data)) for pixel in row for a, b in zip(pixel, PLAIN))
+            assert off <= (0 if scale == int(scale) else 6), f"a pixel is off by {off} at zoom {zoom} on a screen of {scale}"
+
+
+def check_scale_bar(scene):
+    """The bar is as long as the map at its place, by the page's own positions, which the colours hold to account."""
+    page = scene.open()
+    for zoom in range(0, 6):
+        zoom_to(page, zoom, 500_512, 5_600_512)
+        words = page.value("document.querySelector('.leaflet-control-scale-line').textContent")
+        number, unit = re.fullmatch(r"([0-9.]+) (m|km)", words).groups()
+        long = page.value("document.querySelector('.leaflet-control-scale-line').offsetWidth")
+        left, top, _, _ = box_of(page)
+        page.move(left + 300, top + 300)
+        from_easting = position(page)[0]
+        page.move(left + 300 + long, top + 300)
+        metres = position(page)[0] - from_easting
+        assert abs(metres / (float(number) * (1000 if unit == "km" else 1)) - 1) < 0.02, f"the bar of {words} is {metres} m long"
+
+
+def check_keys(scene):
+    """All works by keys alone: another pyramid, the map's place and zoom, and related media."""
+    page = scene.open()
+    expect(focus_by_tab(page, "pyramids"), True, "the choice of maps is reached")
+    page.press("ArrowDown")
+    settle(page)
+    expect(page.value("shown.table"), "plain", "the map behind the first")
+    page.press("ArrowUp")
+    settle(page)
+    expect(focus_by_tab(page, "map"), True, "the map is reached")
+    before = position(page)
+    for key, axis, sign in (("ArrowRight", 0, 1), ("ArrowUp", 1, 1), ("ArrowLeft", 0, -1), ("ArrowDown", 1, -1)):
+        easting = position(page)
+        page.press(key)
+        time.sleep(0.5)
+        settle(page)
+        moved = position(page)[axis] - easting[axis]
+        assert moved * sign > 0, f"{key} moves the place by {moved}"
+        expect(position(page)[2], "centre", "whose position is told")
+    page.press("+")
+    time.sleep(0.5)
+    settle(page)
+    expect(position(page)[3], 4, "the zoom behind plus")
+    for _ in range(2):
+        page.press("-")
+        time.sleep(0.5)
+        settle(page)
+    assert position(page)[3] < before[3], "minus shows a lower zoom"
+    expect(focus_by_tab(page, "table"), True, "the choice of tables is reached")
+    page.type("Spots")
+    page.value("byId('table').value = 'spots'")
+    expect(focus_by_tab(page, "number"), True, "the number is reached")
+    page.type("7")
+    page.press("Enter")
+    page.wait("byId('related').children.length === 5")
+    scene.screenshot(page, "keys")
+    expect_quiet(scene, [page])
+
+
+def focus_by_tab(page, element):
+    """Presses the tabulator until an element has the focus."""
+    for _ in range(30):
+        if page.value(f"document.activeElement === byId('{element}')"):
+            return True
+        page.press("Tab")
+    return False
+
+
+def check_fingers(scene):
+    """A finger moves the map and tells its place, two zoom it, on a tablet's screen."""
+    page = scene.open(width=800, height=1100, touch=True)
+    x, y = middle(page, "map")
+    before = position(page)
+    page.touch([(x, y)], *([(x - 12 * step, y)] for step in range(1, 11)))
+    time.sleep(0.6)
+    settle(page)
+    expect(position(page)[2], "pointer", "whose position is told")
+    centre = page.value("map.getCenter().lng")
+    assert centre > before[0] + 50 * page.value("metresAt(shown, map.getZoom())"), f"the map moved from {before[0]} to {centre}"
+    zoom = page.value("map.getZoom()")
+    page.touch([(x - 20, y), (x + 20, y)], *([(x - 20 - 6 * step, y), (x + 20 + 6 * step, y)] for step in range(1, 13)))
+    time.sleep(0.8)
+    settle(page)
+    assert page.value("map.getZoom()") > zoom, "two fingers that part zoom in"
+    expect(page.value("Number.isInteger(map.getZoom())"), True, "a whole zoom")
+    page.touch([(x + 40, y + 30)])
+    settle(page)
+    within = expect_colours_touched(scene, page)
+    assert within, "the place of a finger is in its colour"
+    page.touch([middle(page, "toggle")])
+    page.wait("byId('panel').hidden")
+    settle(page)
+    scene.screenshot(page, "fingers")
+    expect_quiet(scene, [page])
+
+
+def expect_colours_touched(scene, page):
+    """Whether the colour under a finger that touched the map is that of the place which the page tells."""
+    x, y = middle(page, "map")
+    pyramid = PYRAMIDS[0]
+    rows = scene.screenshot(page, "touched")
+    for step in range(1, 12):
+        at = round(x + 17 * step) + 0.5, round(y + 13 * step) + 0.5
+        page.touch([at])
+        easting, northing, whose, zoom = position(page)
+        colour, edges = pyramid.colour_at(next(it for it in pyramid.zooms if it.zoom == zoom), easting, northing)
+        if min(edges) > 3 * page.value("metresAt(shown, map.getZoom())"):
+            return whose == "pointer" and near(rows[int(at[1])][int(at[0])], colour, 2)
+    return False
+
+
+def check_related_media(scene):
+    """Pictures are shown as pictures, the rest as links, rows as buttons that go on; what isn't there is said."""
+    page = scene.open()
+    ask_related(page, "spots", 7, 5)
+    items = page.value("[...byId('related').children].map(it => [it.innerText.trim(), it.querySelector('img')?.naturalWidth ?? 0, "
+                       "it.querySelector('a')?.getAttribute('href') ?? ''])")
+    expect(items, [["owners 9007199254740992", 0, ""], ["papers 4 (application/pdf)", 0, "/media/papers/4"],
+                   ["photos 1 (image/png)", 160, "/media/photos/1"], ["photos 2 (image/png)", 120, "/media/photos/2"],
+                   ["photos 9 (image/jpeg)", 0, "/media/photos/9"]], "related items")
+    expect(page.value("byId('answer').innerText"), "spots 7 is related to 5 items.", "the answer")
+    page.value("byId('related').querySelectorAll('li')[2].scrollIntoView()")
+    rows = scene.screenshot(page, "related")
+    left, top, wide, high = page.value("(({x, y, width, height}) => [x, y, width, height])(byId('related').querySelector('img').getBoundingClientRect())")
+    assert near(rows[int(top + high / 2)][int(left + wide / 2)], (200, 60, 40), 2), "the photo isn't in its colour"
+    page.value("byId('related').querySelector('button').click()")
+    page.wait("byId('answer').innerText === 'owners 9007199254740992 is related to no items.'")
+    ask_related(page, "photos", 2, 1)
+    expect(page.value("byId('related').querySelector('img').naturalWidth"), 120, "the photo itself")
+    expect_quiet(scene, [page])
+    ask_related(page, "spots", 9, 0)
+    expect(page.value("byId('answer').innerText"), "spots has no 9.", "the answer")
+
+
+def ask_related(page, table, number, count):
+    page.value(f"byId('table').value = '{table}'; byId('number').value = ''; byId('number').focus()")
+    page.type(str(number))
+    page.press("Enter")
+    page.wait(f"byId('answer').innerText.startsWith('{table} ') && byId('related').children.length === {count}")
+
+
+def check_tables(scene):
+    """All tables are listed with identifier and last change, as text whatever they are called."""
+    page = scene.open()
+    listed = page.value("[...byId('tables').children].map(it => it.innerText)")
+    told = [line for line in mmpkg("list", scene.file).splitlines() if not line.startswith("edition ")]
+    expect(len(listed), len(told), "tables")
+    for shown, line in zip(listed, told):
+        table, kind, _, changed, identifier = line.split(None, 4)
+        expect(shown.splitlines()[:3], [identifier, f"{table}, {kind}", f"last change {changed}"], "a table")
+    expect(page.value("document.querySelectorAll('b').length"), 0, "elements out of an identifier")
+    expect(page.value("document.title"), PYRAMIDS[0].identifier, "the title")
+    expect(page.value("byId('messages').innerText"), "", "messages")
+
+
+def check_nothing_elsewhere(scene):
+    """The page's policy keeps it from other addresses, and from running what isn't its own."""
+    page = scene.open()
+    with socket.create_server(("127.0.0.1", 0)) as other:
+        other.settimeout(2)
+        there = f"http://127.0.0.1:{other.getsockname()[1]}"
+        expect(page.value(f"fetch('{there}/a').then(() => 'had', () => 'kept')"), "kept", "a fetch of another address")
+        expect(page.value(f"new Promise(done => {{ const it = new Image(); it.onload = it.onerror = event => done(event.type); it.src = '{there}/b'; }})"),
+               "error", "an image of another address")
+        page.value("document.body.append(Object.assign(document.createElement('script'), { textContent: 'window.ran = true' }))")
+        expect(page.value("window.ran ?? false"), False, "a script that isn't the page's own")
+        with contextlib.suppress(TimeoutError):
+            other.accept()
+            raise AssertionError("another address was asked")
+    blocked = [it for it in page.said if "Content Security Policy" in it[1]]
+    assert len(blocked) >= 3, f"the console tells {page.said}"
+
+
+def check_no_answer(scene):
+    """Where the program has ended the page says so in words, in place of holes alone; where it never answered too."""
+    with served(scene.file) as address:
+        page = scene.open(f"{address}/media/viewer/1")
+        zoom_to(page, 0)
+        expect(page.value("byId('messages').innerText"), "", "messages")
+    page.value("map.setZoom(3, { animate: false }); 0")
+    page.wait("byId('messages').innerText.startsWith(\"The package doesn't answer\")")
+    page.value("byId('table').value = 'spots'; showRelated('spots', 7); 0")
+    page.wait("byId('answer').innerText.startsWith(\"The package doesn't answer\")")
+    scene.screenshot(page, "no-answer")
+
+
+def check_what_came_later(scene):
+    """A pyramid that came behind the viewer is named, and shown when the viewer is made anew and taken in by the same commands."""
+    file = scene.folder / "later.gpkg"
+    for suffix in ("", "-wal"):
+        if pathlib.Path(f"{scene.file}{suffix}").exists():
+            shutil.copy(f"{scene.file}{suffix}", f"{file}{suffix}")
+    later = dataclasses.replace(PYRAMIDS[2], table="later", identifier="Later map", missing=frozenset())
+    mmpkg("run", file, given=later.records().encode())
+    with served(file) as address:
+        page = scene.open(f"{address}/media/viewer/1")
+        expect(page.value("byId('messages').innerText"), "This viewer was made before the zooms of Later map: make the viewer anew to see them.", "messages")
+        expect(page.value("[...byId('pyramids').options].map(it => it.value)"), [it.table for it in PYRAMIDS], "maps to choose")
+        scene.screenshot(page, "later")
+    commands, _ = take_in(file, scene.folder / "anew")
+    expect((scene.folder / "anew" / "layout.csv").read_text(), "edition,viewer_2\n", "the layout of the second viewer")
+    assert "publish,viewer_2" in commands, commands
+    with served(file) as address:
+        page = scene.open(f"{address}/media/viewer/1")
+        expect(page.value("byId('messages').innerText"), "", "messages")
+        choose(page, "later")
+        expect(page.value("shown.matrices.length"), 3, "zooms of the later map")
+
+
+def check_small_screens(scene):
+    """On a phone nothing is cut off at the side, and the map has its place."""
+    for wide, high in ((390, 800), (844, 390), (320, 640)):
+        page = scene.open(width=wide, height=high, touch=True)
+        expect(page.value("document.documentElement.scrollWidth <= innerWidth"), True, f"the page fits {wide} pixels")
+        assert box_of(page)[3] >= 195, f"the map is {box_of(page)} at {wide}"
+        scene.screenshot(page, f"screen-{wide}")
+
+
+def package_files(folder):
+    return {file.name: file.read_bytes() for file in sorted(folder.rglob("*")) if file.is_file()}
+
+
+def check_tool_makes_a_kit(scene):
+    """OUT has the layout and four items, whose bytes are the page, Leaflet with its licence, and the matrices."""
+    out = scene.folder / "out"
+    expect(sorted(it.name for it in out.iterdir()), ["kit.csv", "layout.csv", "viewer-1", "viewer-2", "viewer-3", "viewer-4"], "files")
+    expect((out / "layout.csv").read_text(), "table,viewer,media,Map viewer\nedition,viewer\n", "layout.csv")
+    for number in (2, 3):
+        text = (out / f"viewer-{number}").read_text()
+        assert text.startswith("/* Leaflet") and "Redistributions in binary form" in text and "sourceMappingURL" not in text, f"item {number}"
+    known = json.loads((out / "viewer-4").read_text())
+    expect({table: [tuple(it.values()) for it in entry["matrices"]] for table, entry in known.items()},
+           {it.table: [dataclasses.astuple(zoom) for zoom in it.zooms] for it in PYRAMIDS}, "item 4")
+    expect(len((TOP / "tools" / "viewer.html").read_text().splitlines()) <= 300, True, "the page has at most 300 lines")
+    expect({it.name for it in scene.folder.iterdir() if it.name.startswith(".viewer")}, set(), "what is left behind")
+
+
+def check_tool_with_a_standing_table(scene):
+    """A media table of the name is taken, where its items 1 to 4 are a viewer's or aren't there; the next edition's name is found."""
+    file = scene.folder / "named.gpkg"
+    new_package(file, "table,maps,media,Map viewer\nmedia,maps,9,image/png,89504e47\nedition,maps\npublish,maps\nedition,maps_2\n")
+    commands, told = take_in(file, scene.folder / "maps out", "--table", "maps")
+    expect(told, f"note: edition maps_2: is open; 'discard,maps_2' takes it back where it was for an earlier viewer\n"
+                 f"note: {file}: has no matrix yet: make the viewer anew when it has\n", "what is told")
+    expect((scene.folder / "maps out" / "layout.csv").read_text(), "edition,maps_3\n", "layout.csv")
+    assert "kit FILE maps_3" in commands and mmpkg("list", file).splitlines()[0].split()[:3] == ["maps", "media", "5"], commands
+    take_in(file, scene.folder / "other", "--edition", "spring")
+    expect((scene.folder / "other" / "layout.csv").read_text(), 'table,viewer,media,Map viewer 2\nedition,spring\n', "layout.csv")
+    with served(file) as address:
+        page = scene.open(f"{address}/media/viewer/1")
+        expect(page.value("byId('messages').innerText"), "The package has no map yet.", "messages")
+
+
+def check_tool_refuses(scene):
+    """Bad input is told in a line with its status, and nothing is made or changed."""
+    folder = scene.folder / "refused"
+    folder.mkdir()
+    good = folder / "good.gpkg"
+    new_package(good, "table,spots,attributes,Spots\ntable,photos,media,Photos\nmedia,photos,1,image/png,89504e47\nrelation,views,spots,photos,media\n"
+                      "edition,old\npublish,old\n")
+    shutil.copy(good, folder / "broken.gpkg")
+    with contextlib.closing(sqlite3.connect(folder / "broken.gpkg")) as opened:
+        opened.execute("UPDATE gpkg_contents SET description = 'x'")
+        opened.commit()
+    new_package(folder / "one.gpkg")
+    expect(make_profile_1.put_back(folder / "one.gpkg"), True, "a package of profile 1")
+    (folder / "notes.gpkg").write_bytes(b"ten bytes\n")
+    (folder / "stands").mkdir()
+    before = package_files(folder)
+    one = folder / "one.gpkg"
+    for words, line, status in (
+            ([folder / "none.gpkg", "out"], f"{folder}/none.gpkg: not a package 94", 4),
+            ([folder / "notes.gpkg", "out"], f"{folder}/notes.gpkg: fault 91", 3),
+            ([folder / "broken.gpkg", "out"], f"{folder}/broken.gpkg: rule Q16", 4),
+            ([one, "out"], f"{one}: not a package 93 (of profile 1; 'mmpkg migrate {one}' brings it to this one)", 4),
+            ([folder, "out"], f"[Errno 21] Is a directory: '{folder}'", 2),
+            ([good, "stands"], f"{folder}/stands: is there, and is not overwritten", 2),
+            ([good, "no/out"], f"{folder}/no: is no folder", 2),
+            ([good, "notes.gpkg/out"], f"{folder}/notes.gpkg: is no folder", 2),
+            ([good, "out", "--table", "spots"], "spots: is a table of kind attributes; --table names another table", 2),
+            ([good, "out", "--table", "photos"], "photos: its item 1 is image/png and no viewer's; --table names another table", 2),
+            ([good, "out", "--table", "views"], "views: is the name of a mapping; --table names another table", 2),
+            ([good, "out", "--table", "mm_map"], "'mm_map' is no name of a package", 2),
+            ([good, "out", "--edition", "old"], "old: this edition is published in the package; --edition names another", 2)):
+        out, told = run(TOOL, words[0], folder / words[1], *words[2:], status=status)
+        expect((out, told), ("", line + "\n"), f"what is told of {words}")
+    run(TOOL, good, "/proc/out", status=2)
+    expect(package_files(folder), before, "the files")
+    expect([it.name for it in folder.iterdir() if it.name not in before and it.name != "stands"], [], "what was made")
+
+
+def check_tool_without_leaflet(scene):
+    """Where Leaflet, its licence or the program is missing, that is named with what brings it; a reader who is gone gets no traceback."""
+    for name in ("LEAFLET", "LICENCE"):
+        code = f"import sys, pathlib, make_viewer; make_viewer.{name} = pathlib.Path('/nowhere'); make_viewer.run_tool(make_viewer.main)"
+        _, told = run("env", f"PYTHONPATH={TOP / 'tools'}", "python3", "-B", "-c", code, scene.file, scene.folder / "unmade", status=2)
+        assert re.fullmatch(r"/nowhere.*: isn't there; 'apt-get install libjs-leaflet' brings it\n", told), told
+    _, told = run("env", "MMPKG=/nowhere", TOOL, scene.file, scene.folder / "unmade", status=2)
+    expect(told, "/nowhere: isn't there; scripts/build.sh makes it, or MMPKG names it\n", "what is told")
+    expect((scene.folder / "unmade").exists(), False, "something was made")
+    read, write = os.pipe()
+    os.close(read)
+    for words in ([TOOL, scene.file, scene.folder / "unread"], [TOOL, "--help"]):
+        done = subprocess.run(words, stdout=write, stderr=subprocess.PIPE, check=False,
+                              env={**os.environ, "MMPKG": PROGRAM, "PYTHONUNBUFFERED": ""})
+        expect((done.returncode, done.stderr), (2, b"standard output: nobody reads it\n"), f"what {words} tells")
+    os.close(write)
+    expect(package_files(scene.folder / "unread").keys(), package_files(scene.folder / "out").keys(), "a folder whose commands nobody read")
+
+
+def run_checks(scene, words):
+    """Runs the checks whose names have a word, and answers how many passed and failed."""
+    passed = failed = 0
+    for name, check in ((name[6:].replace("_", " "), it) for name, it in globals().items() if name.startswith("check_")):
+        if words and not any(word in name for word in words):
+            continue
+        began = time.monotonic()
+        try:
+            check(scene)
+            passed += 1
+            print(f"viewer: {name}: ok ({time.monotonic() - began:.1f} s)", flush=True)
+        except (AssertionError, OSError, ValueError, KeyError, sqlite3.Error, subprocess.SubprocessError):
+            failed += 1
+            traceback.print_exc(file=sys.stdout)
+            print(f"viewer: {name}: FAILED", flush=True)
+        for page in scene.pages:
+            page.close()
+        scene.pages = []
+    return passed, failed
+
+
+def main():
+    parser = argparse.ArgumentParser(description=__doc__, formatter_class=argparse.RawDescriptionHelpFormatter)
+    parser.add_argument("--browser", default="chromium")
+    parser.add_argument("--keep", type=pathlib.Path)
+    parser.add_argument("words", nargs="*", metavar="WORD")
+    given = parser.parse_args()
+    if given.keep:
+        given.keep.mkdir(parents=True, exist_ok=True)
+    with tempfile.TemporaryDirectory() as name:
+        folder = pathlib.Path(name)
+        with devtools.Browser(given.browser, folder / "profile") as browser:
+            scene = Scene(folder, browser, given.keep)
+            new_package(scene.file, content())
+            take_in(scene.file, folder / "out")
+            faults = 0
+            try:
+                with served(scene.file) as scene.address:
+                    passed, failed = run_checks(scene, given.words)
+            except AssertionError:
+                traceback.print_exc(file=sys.stdout)
+                faults = 1
+    failed += faults
+    print(f"{passed} passed, {failed} failed")
+    sys.exit(1 if failed or not passed else 0)
+
+
+if __name__ == "__main__":
+    main()

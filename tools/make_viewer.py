@@ -1,0 +1,172 @@
+#!/usr/bin/env python3
+"""Makes a viewer that travels in a package: a page with its map, which 'mmpkg serve' serves beside the tiles.
+
+    tools/make_viewer.py FILE OUT [--table TABLE] [--edition EDITION]
+
+FILE is a package of mmpkg. OUT, which must not be there, gets layout.csv, which makes the media table TABLE ('viewer') and an open edition,
+and a kit of four media items: 1 the page (tools/viewer.html), 2 and 3 the script and the style of Leaflet with their licence, 4 the
+matrices of all pyramids of FILE. The commands that take them in are printed, with FILE for the package; then 'mmpkg serve FILE' serves the
+page at /media/TABLE/1. Leaflet is that of Debian's package libjs-leaflet.
+
+Where matrices come later, make the viewer anew, in another OUT: where FILE has the table, layout.csv only makes the edition, and publishing
+puts the four items in place of the old ones. An edition is published once, so it has the table's name, or behind that TABLE_2, TABLE_3 and
+so on, the first that FILE doesn't have; --edition names another. A table TABLE that is no media table, or has other media as 1 to 4, is
+refused.
+
+FILE and its journal are copied first and left as they are; nothing may write them meanwhile. The copy has to pass 'mmpkg check', with the
+program that the environment's MMPKG names, else out/mmpkg of this repository.
+
+Exit status: 0 OUT was made; 2 wrong arguments, a name that is taken, Leaflet isn't there, or a file that can't be read or written; else
+what 'mmpkg check' ended with, whose line is told: 3 a fault, 4 no package or one that breaks a rule.
+"""
+
+import base64
+import contextlib
+import hashlib
+import itertools
+import json
+import os
+import pathlib
+import re
+import shlex
+import sqlite3
+import tempfile
+
+from border import MEDIA_LIMIT, KitWriter, Refused, Report, arguments, checked_copy, is_name, media_piece, record, run_tool
+
+PAGE = pathlib.Path(__file__).resolve().parent / "viewer.html"
+LEAFLET = pathlib.Path("/usr/share/javascript/leaflet")
+LICENCE = pathlib.Path("/usr/share/doc/libjs-leaflet/copyright")
+CONTENT_TYPES = {1: "text/html", 2: "text/javascript", 3: "text/css", 4: "application/json"}
+
+
+def first_free(name, taken, between):
+    """A name, or with the first number from 2 on behind it that makes it none of those that are taken."""
+    names = itertools.chain([name], (f"{name}{between}{number}" for number in itertools.count(2)))
+    return next(it for it in names if it not in taken)
+
+
+class Package:
+    """What a viewer asks of the copy of a package."""
+
+    def __init__(self, opened):
+        self.opened = opened
+
+    def column(self, query, *values):
+        return [value for (value,) in self.opened.execute(query, values)]
+
+    def has_viewer_table(self, table):
+        """Whether the table stands already; refused where another kind has its name, or it has other media than a viewer's."""
+        if self.column("SELECT 1 FROM gpkgext_relations WHERE mapping_table_name = ?", table):
+            raise Refused(f"{table}: is the name of a mapping; --table names another table")
+        kinds = self.column("SELECT kind FROM mm_tables WHERE table_name = ?", table)
+        if kinds not in ([], ["media"]):
+            raise Refused(f"{table}: is a table of kind {kinds[0]}; --table names another table")
+        for number, content_type in self.opened.execute("SELECT id, content_type FROM mm_media WHERE table_name = ? ORDER BY id", (table,)):
+            if CONTENT_TYPES.get(number, content_type) != content_type:
+                raise Refused(f"{table}: its item {number} is {content_type} and no viewer's; --table names another table")
+        return bool(kinds)
+
+    def free_edition(self, table, wanted, report):
+        """The edition that brings the viewer: the one that is wanted, else the first of the table's name that is free."""
+        states = dict(self.opened.execute("SELECT name, state FROM mm_editions"))
+        edition = wanted or first_free(table, states, "_")
+        if wanted in states:
+            raise Refused(f"{wanted}: this edition is {states[wanted]} in the package; --edition names another")
+        if not is_name(edition):
+            raise Refused(f"{edition!r} is no name of an edition; --edition names another")
+        for name, state in states.items():
+            if state == "open" and re.fullmatch(f"{table}(_[0-9]+)?", name):
+                report.note(f"edition {name}", f"is open; 'discard,{name}' takes it back where it was for an earlier viewer")
+        return edition
+
+    def layout(self, table, edition):
+        """The records that the kit wants to stand."""
+        identifiers = self.column("SELECT identifier FROM gpkg_contents")
+        tables = [] if self.has_viewer_table(table) else [["table", table, "media", first_free("Map viewer", identifiers, " ")]]
+        return "".join(map(record, [*tables, ["edition", edition]]))
+
+    def matrices(self):
+        """The matrices of each pyramid with its last change, in the package's columns and unit, as JSON."""
+        columns = "zoom_level, matrix_width, matrix_height, tile_width, tile_height, pixel_x_size, pixel_y_size"
+        found = {}
+        tiled = "SELECT table_name, last_change FROM gpkg_contents WHERE data_type = 'tiles' ORDER BY table_name"
+        for table, last_change in self.opened.execute(tiled):
+            rows = self.opened.execute(f"SELECT {columns} FROM gpkg_tile_matrix WHERE table_name = ? ORDER BY zoom_level", (table,))
+            found[table] = {"last_change": last_change, "matrices": [dict(zip(columns.split(", "), row)) for row in rows]}
+        return json.dumps(found, separators=(",", ":")).encode()
+
+
+def leaflet_item(name):
+    """A file of Leaflet, its licence as a comment in front; what it says of a map of its source, which doesn't travel, is left out."""
+    for file in (LEAFLET / name, LICENCE):
+        if not file.exists():
+            raise Refused(f"{file}: isn't there; 'apt-get install libjs-leaflet' brings it")
+    licence = LICENCE.read_text(encoding="utf-8").replace("*/", "* /")
+    text = re.sub(r"(?m)^(//#|/\*#) sourceMappingURL=.*$", "", (LEAFLET / name).read_text(encoding="utf-8"))
+    return f"/* Leaflet, from Debian's package libjs-leaflet, whose file 'copyright' follows.\n\n{licence}*/\n{text}".encode()
+
+
+def page_item():
+    """The page, with the hashes of its own style and script in its policy, which lets nothing else run that stands in it."""
+    page = PAGE.read_text(encoding="utf-8")
+    for element, place in (("style", "HASH-OF-STYLE"), ("script", "HASH-OF-SCRIPT")):
+        (text,) = re.findall(f"<{element}>(.*?)</{element}>", page, re.DOTALL)
+        page = page.replace(place, "sha256-" + base64.b64encode(hashlib.sha256(text.encode()).digest()).decode(), 1)
+    return page.encode()
+
+
+def write_kit(folder, table, edition, items):
+    kit = KitWriter(edition, folder)
+    for number, content_type in CONTENT_TYPES.items():
+        if len(items[number]) > MEDIA_LIMIT:
+            raise Refused(f"item {number} has {len(items[number])} bytes, and a media item at most {MEDIA_LIMIT}")
+        kit.add(media_piece(table, number, content_type, items[number]))
+    kit.end()
+
+
+def read_package(copy, given, report):
+    """The layout's text, the edition, and the matrices as an item."""
+    with contextlib.closing(sqlite3.connect(copy)) as opened:
+        package = Package(opened)
+        edition = package.free_edition(given.table, given.edition, report)
+        if not package.column("SELECT 1 FROM gpkg_tile_matrix LIMIT 1"):
+            report.note(given.FILE, "has no matrix yet: make the viewer anew when it has")
+        return package.layout(given.table, edition), edition, package.matrices()
+
+
+def main():
+    parser = arguments(__doc__)
+    parser.add_argument("FILE", type=pathlib.Path)
+    parser.add_argument("OUT", type=pathlib.Path)
+    parser.add_argument("--table", default="viewer")
+    parser.add_argument("--edition")
+    given = parser.parse_args()
+    for name in (given.table, given.edition or given.table):
+        if not is_name(name):
+            raise Refused(f"{name!r} is no name of a package")
+    if os.path.lexists(given.OUT):
+        raise Refused(f"{given.OUT}: is there, and is not overwritten")
+    if not given.OUT.parent.is_dir():
+        raise Refused(f"{given.OUT.parent}: is no folder")
+    items = {1: page_item(), 2: leaflet_item("leaflet.min.js"), 3: leaflet_item("leaflet.css")}
+    with tempfile.TemporaryDirectory() as name, tempfile.TemporaryDirectory(prefix=".viewer-", dir=given.OUT.parent) as beside:
+        copy = checked_copy(given.FILE, pathlib.Path(name))
+        try:
+            layout, edition, items[4] = read_package(copy, given, Report())
+        except sqlite3.Error as error:
+            raise Refused(f"{given.FILE}: {error}") from error
+        made = pathlib.Path(beside) / given.OUT.name
+        write_kit(made, given.table, edition, items)
+        (made / "layout.csv").write_text(layout, encoding="utf-8", newline="")
+        if os.path.lexists(given.OUT):
+            raise Refused(f"{given.OUT}: is there, and is not overwritten")
+        os.rename(made, given.OUT)
+    print(f"mmpkg run FILE < {shlex.quote(str(given.OUT / 'layout.csv'))}")
+    print(f"mmpkg kit FILE {edition} {shlex.quote(str(given.OUT))}")
+    print(f"echo publish,{edition} | mmpkg run FILE")
+    return 0
+
+
+if __name__ == "__main__":
+    run_tool(main)

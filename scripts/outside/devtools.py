@@ -80,10 +80,11 @@ class Browser:
             self.pages[event["sessionId"]].happened(event["method"], event["params"])
 
     def open(self, address, width=1280, height=800, scale=1, touch=False):
-        """Opens an address in a page of its own."""
-        target = self.ask("Target.createTarget", url="about:blank")["targetId"]
+        """Opens an address in a page of its own, which knows nothing of earlier ones: a browser that does opens connections ahead."""
+        context = self.ask("Target.createBrowserContext", disposeOnDetach=True)["browserContextId"]
+        target = self.ask("Target.createTarget", url="about:blank", browserContextId=context)["targetId"]
         session = self.ask("Target.attachToTarget", targetId=target, flatten=True)["sessionId"]
-        page = self.pages[session] = Page(self, session, target)
+        page = self.pages[session] = Page(self, session, context)
         for domain in ("Page", "Runtime", "Network", "Log"):
             page.ask(f"{domain}.enable")
         page.ask("Emulation.setDeviceMetricsOverride", width=width, height=height, deviceScaleFactor=scale, mobile=touch)
@@ -96,10 +97,10 @@ class Browser:
 class Page:
     """A page with what it asked for and said."""
 
-    def __init__(self, browser, session, target):
+    def __init__(self, browser, session, context):
         self.browser = browser
         self.session = session
-        self.target = target
+        self.context = context
         self.asked = []
         self.said = []
 
@@ -119,7 +120,7 @@ class Page:
             self.said.append((entry["source"], entry["text"], entry.get("url", "")))
 
     def close(self):
-        self.browser.ask("Target.closeTarget", targetId=self.target)
+        self.browser.ask("Target.disposeBrowserContext", browserContextId=self.context)
         del self.browser.pages[self.session]
 
     def value(self, expression):

@@ -99,8 +99,11 @@ class Pyramid:
         """The colour at a place in metres, and how far the nearest edge of a quarter is in metres, across and down."""
         across, down = zoom.wide * zoom.pixel_x / UNITS_PER_METRE / 2, zoom.high * zoom.pixel_y / UNITS_PER_METRE / 2
         column, row = (easting - self.left) / across, (self.top - northing) / down
+        outside = max(-column, column - 2 * zoom.columns) * across, max(-row, row - 2 * zoom.rows) * down
+        if max(outside) >= 0:
+            return BLANK, tuple(abs(it) for it in outside)
         edges = abs(column - round(column)) * across, abs(row - round(row)) * down
-        if not (0 <= column < 2 * zoom.columns and 0 <= row < 2 * zoom.rows) or (zoom.zoom, int(column) // 2, int(row) // 2) in self.missing:
+        if (zoom.zoom, int(column) // 2, int(row) // 2) in self.missing:
             return BLANK, edges
         return self.colour(zoom.zoom, int(column), int(row)), edges
 
@@ -252,7 +255,7 @@ def box_of(page, element="map"):
 def places(page):
     """Places on the map's part of the screen, away from its buttons and its scale bar."""
     left, top, wide, high = box_of(page)
-    return [(round(left + wide * x / 14) + 0.5, round(top + high * y / 10) + 0.5) for x in range(2, 14) for y in range(1, 9)]
+    return [(round(left + wide * x / 9) + 0.5, round(top + high * y / 8) + 0.5) for x in range(2, 9) for y in range(1, 7)]
 
 
 def near(found, wanted, by):
@@ -268,8 +271,10 @@ def expect_colours(scene, page, pyramid, name):
         page.move(x, y)
         easting, northing, whose, zoom = position(page)
         expect(whose, "pointer", "whose position is told")
-        colour, edges = pyramid.colour_at(next(it for it in pyramid.zooms if it.zoom == zoom), easting, northing)
-        if min(edges) < 3 * side:
+        matrix = next(it for it in pyramid.zooms if it.zoom == zoom)
+        colour, edges = pyramid.colour_at(matrix, easting, northing)
+        # Where colours meet a browser mixes them: within a few pixels of the screen, and within one of the tile that is enlarged.
+        if any(edge < max(3 * side, 1.5 * pixel / UNITS_PER_METRE) for edge, pixel in zip(edges, (matrix.pixel_x, matrix.pixel_y))):
             continue
         shown = rows[int(y)][int(x)]
         assert near(shown, colour, 2), f"{name}: {shown} for {colour} at {x}, {y}, which is {easting}, {northing}"
@@ -301,7 +306,7 @@ def expect_quiet(scene, pages):
 
 def check_colours_at_every_zoom(scene):
     """Each zoom of each pyramid, and the two before and behind them that are drawn from its tiles, in their colours at their places."""
-    page = scene.open()
+    page = scene.open(width=1000, height=600)
     count = 0
     for pyramid in PYRAMIDS:
         choose(page, pyramid.table)
@@ -311,6 +316,20 @@ def check_colours_at_every_zoom(scene):
             count += expect_colours(scene, page, pyramid, f"{pyramid.table}-{zoom}")
     print(f"    {count} places in their colours, and {expect_quiet(scene, [page])[0]} requests")
     assert count > 300, "few places"
+
+
+def check_missing_tiles(scene):
+    """Where a tile is missing nothing is drawn, up to its edges."""
+    page = scene.open()
+    zoom_to(page, 1)
+    page.move(*places(page)[0])
+    left, top, wide, high = page.value("(({x, y, width, height}) => [x, y, width, height])"
+                                       "(document.querySelector('img.leaflet-tile:not([src])').getBoundingClientRect())")
+    expect((wide, high), (64, 64), "the tile's sides")
+    rows = scene.screenshot(page, "missing")
+    shown = {rows[int(top) + y][int(left) + x] for x in (0, 1, 10, 62, 63) for y in (0, 1, 10, 62, 63)}
+    expect(shown, {BLANK}, "colours of the missing tile")
+    expect_quiet(scene, [page])
 
 
 def check_whole_map(scene):
@@ -343,7 +362,7 @@ def check_place_stays(scene):
     zoom_to(page, 2, 500_300, 5_600_500)
     choose(page, "relief")
     easting, northing, _, zoom = position(page)
-    assert near((easting, northing), (500_300, 5_600_500), 0.6), f"the place is {easting}, {northing}"
+    assert near((easting, northing), (500_300, 5_600_500), 1.6), f"the place is {easting}, {northing}"
     expect(zoom, 5, "the zoom")
     choose(page, "strip")
     expect(near(position(page)[:2], (-20.8, -66.3), 0.1), True, "the middle of the strip is shown")
@@ -358,7 +377,7 @@ def check_no_hair_lines(scene):
             zoom_to(page, zoom, 179.2, -76.8)
             page.value("byId('map').classList.remove('centre')")
             x, y = middle(page, "map")
-            data = page.ask("Page.captureScreenshot", format="png", clip={"x": x - 140, "y": y - 80, "width": 280, "height": 160, "scale": 1})["data"]
+            data = page.ask("Page.captureScreenshot", format="png", clip={"x": x - 80, "y": y - 40, "width": 160, "height": 80, "scale": 1})["data"]
             off = max(abs(a - b) for row in page_map.read_png(base64.b64decode(data)) for pixel in row for a, b in zip(pixel, PLAIN))
             assert off <= (0 if scale == int(scale) else 6), f"a pixel is off by {off} at zoom {zoom} on a screen of {scale}"
 
@@ -574,6 +593,7 @@ def check_small_screens(scene):
         page = scene.open(width=wide, height=high, touch=True)
         expect(page.value("document.documentElement.scrollWidth <= innerWidth"), True, f"the page fits {wide} pixels")
         assert box_of(page)[3] >= 195, f"the map is {box_of(page)} at {wide}"
+        expect(page.value("[map.getSize().x, map.getSize().y]"), page.value("[byId('map').clientWidth, byId('map').clientHeight]"), "the map's size")
         scene.screenshot(page, f"screen-{wide}")
 
 

@@ -1,0 +1,27 @@
+#!/usr/bin/env bash
+# The viewer that travels in a package (docs/BORDER.md), as a browser shows it that shares no code with this repository.
+#
+#     apt-get install chromium libjs-leaflet
+#     scripts/outside/viewer.sh [PROGRAM]
+#
+# PROGRAM is the built program: without it the one that the environment's MMPKG names, or else out/mmpkg. The last line is
+# 'N passed, M failed'. Exit status: 0 all passed, 1 something failed, 2 the program isn't there, 77 Chromium or Leaflet isn't there.
+set -eu -o pipefail
+
+top=$(cd "$(dirname "$0")/../.." && pwd)
+export MMPKG
+MMPKG=$(realpath -m "${1:-${MMPKG:-$top/out/mmpkg}}")
+if [ ! -x "$MMPKG" ]; then
+    echo "$MMPKG isn't there: scripts/build.sh makes out/mmpkg" >&2
+    exit 2
+fi
+
+missing=()
+command -v chromium >/dev/null || missing+=(chromium)
+[ -e /usr/share/javascript/leaflet/leaflet.min.js ] || missing+=(libjs-leaflet)
+if [ ${#missing[@]} != 0 ]; then
+    echo "the viewer wasn't looked at (${missing[*]}): apt-get install chromium libjs-leaflet"
+    exit 77
+fi
+
+exec "$top/scripts/outside/viewer_check.py"

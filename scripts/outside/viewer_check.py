@@ -447,7 +447,7 @@ def focus_by_tab(page, element):
 
 
 def check_fingers(scene):
-    """A finger moves the map and tells its place, two zoom it, on a tablet's screen."""
+    """A finger moves the map and tells its place, two zoom it, and the buttons do, on a tablet's screen."""
     page = scene.open(width=800, height=1100, touch=True)
     x, y = middle(page, "map")
     before = position(page)
@@ -463,8 +463,10 @@ def check_fingers(scene):
     settle(page)
     assert page.value("map.getZoom()") > zoom, "two fingers that part zoom in"
     expect(page.value("Number.isInteger(map.getZoom())"), True, "a whole zoom")
-    page.touch([(x + 40, y + 30)])
+    page.touch([page.value("(({x, y}) => [x + 20, y + 20])(document.querySelector('.leaflet-control-zoom-out').getBoundingClientRect())")])
+    time.sleep(0.5)
     settle(page)
+    expect(position(page)[2], "centre", "whose position is told behind a button")
     within = expect_colours_touched(scene, page)
     assert within, "the place of a finger is in its colour"
     page.touch([middle(page, "toggle")])

@@ -147,6 +147,21 @@ class Page:
         for kind in ("mousePressed", "mouseReleased"):
             self.ask("Input.dispatchMouseEvent", type=kind, x=x, y=y, button="left", clickCount=1)
 
+    def drag(self, start, end):
+        """Drags from a point to another in steps, and lets go where it stood still."""
+        self.move(*start)
+        self.ask("Input.dispatchMouseEvent", type="mousePressed", x=start[0], y=start[1], button="left", buttons=1, clickCount=1)
+        for part in range(1, 9):
+            x, y = (begin + (stop - begin) * part / 8 for begin, stop in zip(start, end))
+            self.ask("Input.dispatchMouseEvent", type="mouseMoved", x=x, y=y, button="left", buttons=1)
+        time.sleep(0.3)
+        self.ask("Input.dispatchMouseEvent", type="mouseReleased", x=end[0], y=end[1], button="left", clickCount=1)
+
+    def wheel(self, x, y, down):
+        """Turns the wheel, and waits for what it begins."""
+        self.ask("Input.dispatchMouseEvent", type="mouseWheel", x=x, y=y, deltaX=0, deltaY=down)
+        time.sleep(0.6)
+
     def press(self, *keys):
         for key in keys:
             named = {"key": key, "code": CODES.get(key, key), "windowsVirtualKeyCode": KEYS[key]}

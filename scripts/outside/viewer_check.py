@@ -235,6 +235,26 @@ def check_scale_bar(scene):
         assert abs(metres / (float(number) * (1000 if unit == "km" else 1)) - 1) < 0.02, f"the bar of {words} is {metres} m long"
 
 
+def check_mouse(scene):
+    """A mouse moves the map by dragging, and a notch of its wheel goes on by one zoom about the pointer."""
+    page = scene.open()
+    zoom_to(page, 1)
+    x, y = middle(page, "map")
+    page.move(x + 100, y + 50)
+    before = position(page)
+    page.drag((x + 100, y + 50), (x + 20, y + 90))
+    settle(page)
+    page.move(x + 20, y + 90)
+    # Leaflet lets the first of the eight steps of 10 pixels go by, to tell a drag from a click.
+    assert near(position(page)[:2], before[:2], 44.1), f"the pointer drags {before} to {position(page)}"
+    before = position(page)
+    page.wheel(x + 20, y + 90, -120)
+    settle(page)
+    expect(page.value("map.getZoom()"), 2, "the zoom behind a notch")
+    assert near(position(page)[:2], before[:2], 4.1), f"the wheel goes from {before} to {position(page)}"
+    expect_quiet(scene, [page])
+
+
 def check_keys(scene):
     """All works by keys alone: another pyramid, the map's place and zoom, and related media."""
     page = scene.open()

@@ -80,11 +80,11 @@ class Package:
                 report.note(f"edition {name}", f"is open; 'discard,{name}' takes it back where it was for an earlier viewer")
         return edition
 
-    def layout(self, table, edition):
-        """The records that the kit wants to stand."""
-        identifiers = self.column("SELECT identifier FROM gpkg_contents")
-        tables = [] if self.has_viewer_table(table) else [["table", table, "media", first_free("Map viewer", identifiers, " ")]]
-        return "".join(map(record, [*tables, ["edition", edition]]))
+    def table_records(self, table):
+        """The record that makes the table, none where it stands."""
+        if self.has_viewer_table(table):
+            return []
+        return [["table", table, "media", first_free("Map viewer", self.column("SELECT identifier FROM gpkg_contents"), " ")]]
 
     def matrices(self):
         """The matrices of each pyramid with its last change, in the package's columns and unit, as JSON."""
@@ -129,10 +129,11 @@ def read_package(copy, given, report):
     """The layout's text, the edition, and the matrices as an item."""
     with contextlib.closing(sqlite3.connect(copy)) as opened:
         package = Package(opened)
+        tables = package.table_records(given.table)
         edition = package.free_edition(given.table, given.edition, report)
         if not package.column("SELECT 1 FROM gpkg_tile_matrix LIMIT 1"):
             report.note(given.FILE, "has no matrix yet: make the viewer anew when it has")
-        return package.layout(given.table, edition), edition, package.matrices()
+        return "".join(map(record, [*tables, ["edition", edition]])), edition, package.matrices()
 
 
 def main():

@@ -1,10 +1,12 @@
 """What the tools at the border share: the profile's limits, how a package is read, and how command lists and kits are written.
 
-The tools are export_standard.py, import_standard.py, make_kit.py and make_viewer.py. Nothing here is proved: docs/FORMATS.md has the
-limits, the records and the kits, docs/BORDER.md says what goes across, and scripts/outside/border.sh compares.
+The tools are export_standard.py, import_standard.py, make_kit.py, make_viewer.py and kit_between.py. Nothing here is proved:
+docs/FORMATS.md has the limits, the records and the kits, docs/BORDER.md says what goes across, and the checks of
+scripts/outside compare.
 """
 
 import argparse
+import collections.abc
 import contextlib
 import dataclasses
 import math
@@ -76,18 +78,18 @@ def run_tool(main):
     try:
         try:
             status = main()
-        except SystemExit as ended:
+        except SystemExit as ended:  # help, or wrong words
             status = ended.code
         sys.stdout.flush()
-        sys.exit(status)
     except Refused as refused:
         print(refused, file=sys.stderr)
-        sys.exit(refused.status)
+        status = refused.status
     except OSError as error:
         print("standard output: nobody reads it" if isinstance(error, BrokenPipeError) else error, file=sys.stderr)
         # What standard output still holds would be tried once more as Python ends.
         os.dup2(os.open(os.devnull, os.O_WRONLY), 1)
-        sys.exit(2)
+        status = 2
+    sys.exit(status)
 
 
 def program():
@@ -183,10 +185,13 @@ def field(value):
 
 @dataclasses.dataclass
 class Piece:
-    """A record of content. The last field of a tile or a media item, its bytes, is kept apart, with the name that a kit's file gets."""
+    """A record of content. The last field of a tile or a media item, its bytes, is kept apart, with the name that a kit's file gets.
+
+    In place of bytes that are read only when they are written there may be what reads them.
+    """
 
     fields: list
-    data: bytes | None = None
+    data: bytes | collections.abc.Callable | None = None
     file: str = ""
 
     def command(self):
@@ -202,7 +207,10 @@ def media_piece(table, number, content_type, data):
 
 
 class KitWriter:
-    """Writes pieces as kits: the first in FOLDER for EDITION, and where one is full the next in FOLDER_2 for EDITION_2, and so on."""
+    """Writes pieces as kits: the first in FOLDER for EDITION, and where one is full the next in FOLDER_2 for EDITION_2, and so on.
+
+    Pieces that name one file have equal bytes; it is written once a kit.
+    """
 
     def __init__(self, edition, folder):
         self.edition = edition
@@ -217,9 +225,13 @@ class KitWriter:
             self.begin()
             line = self.line(piece)
         if piece.data is not None:
-            (self.kits[-1][1] / piece.file).write_bytes(piece.data)
+            self.write_file(self.kits[-1][1] / piece.file, piece.data)
         self.lines.append(line)
         self.size += len(line.encode())
+
+    def write_file(self, file, data):
+        if not file.exists():
+            file.write_bytes(data() if callable(data) else data)
 
     def line(self, piece):
         """The record of a piece behind those that stand in the kit."""
@@ -238,14 +250,14 @@ class KitWriter:
 
     def end(self):
         """Writes the list of the kit that stands: the last of its files, so that a kit which was cut short has none."""
-        if self.kits:
+        if self.lines:
             (self.kits[-1][1] / "kit.csv").write_text("".join(self.lines), encoding="utf-8", newline="")
         self.lines = []
         self.size = 0
 
-    def tell(self):
-        """Ends the last kit, and prints the commands that take the kits in."""
+    def tell(self, parent=None):
+        """Ends the last kit, and prints the commands that take the kits in, of folders in the parent where they were moved there."""
         self.end()
         for edition, folder in self.kits:
-            print(f"mmpkg kit FILE {edition} {folder}")
+            print(f"mmpkg kit FILE {edition} {parent / folder.name if parent else folder}")
             print(f"echo publish,{edition} | mmpkg run FILE")

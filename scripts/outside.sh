@@ -1,9 +1,9 @@
 #!/usr/bin/env bash
 # What the built program shows from outside, by programs that share no code with this repository: the example with its
 # output, the lines of the documents, the tables of the file, the page by curl, a machine's clock at its ends, a
-# terminal, refused growths of memory, random lists against a model, what turns
-# one package into another; and where the peers are there, the border to the
-# standard, the viewer in a browser, and the Debian package in a fresh Debian. The last line is 'N passed, M failed'.
+# terminal, refused growths of memory, random lists against a model, what turns one package into another; and where the
+# peers are there, the border to the standard, the viewer in a browser, and the Debian package in a fresh Debian. The
+# last line is 'N passed, M failed'.
 #
 #     scripts/outside.sh [PROGRAM]
 #
@@ -63,6 +63,7 @@ example() {
 want sqlite3:sqlite3 curl:curl xxd:xxd cc:gcc python3:python3
 # Peers: what needs one that can't be had is not tried.
 want gdalinfo:gdal-bin gdal2tiles.py:python3-gdal /usr/lib/python3/dist-packages/osgeo:python3-gdal
+want chromium:chromium /usr/share/javascript/leaflet/leaflet.min.js:libjs-leaflet lintian:lintian debootstrap:debootstrap
 try 'the example' example
 try 'the documents' scripts/outside/check_docs.py "$MMPKG"
 try 'the tables of its file' scripts/outside/compare_schema.sh "$folder/example.gpkg"

@@ -383,7 +383,7 @@ def check_tables(scene):
     """All tables are listed with identifier and last change, as text whatever they are called."""
     page = scene.open()
     listed = page.value("[...byId('tables').children].map(it => it.innerText)")
-    told = [line for line in mmpkg("list", scene.file).splitlines() if not line.startswith("edition ")]
+    told = [line for line in mmpkg("list", copy_of(scene, "listed.gpkg")).splitlines() if not line.startswith("edition ")]
     expect(len(listed), len(told), "tables")
     for shown, line in zip(listed, told):
         table, kind, _, changed, identifier = line.split(None, 4)
@@ -411,9 +411,18 @@ def check_nothing_elsewhere(scene):
     assert len(blocked) >= 3, f"the console tells {page.said}"
 
 
+def copy_of(scene, name):
+    """A copy of the package with its journal: the one that is served is no other program's meanwhile."""
+    file = scene.folder / name
+    for suffix in ("", "-wal"):
+        if pathlib.Path(f"{scene.file}{suffix}").exists():
+            shutil.copy(f"{scene.file}{suffix}", f"{file}{suffix}")
+    return file
+
+
 def check_no_answer(scene):
     """Where the program has ended the page says so in words, in place of holes alone; where it never answered too."""
-    with served(scene.file) as address:
+    with served(copy_of(scene, "ended.gpkg")) as address:
         page = scene.open(f"{address}/media/viewer/1")
         zoom_to(page, 0)
         expect(page.value("byId('messages').innerText"), "", "messages")
@@ -426,10 +435,7 @@ def check_no_answer(scene):
 
 def check_what_came_later(scene):
     """A pyramid that came behind the viewer is named, and shown when the viewer is made anew and taken in by the same commands."""
-    file = scene.folder / "later.gpkg"
-    for suffix in ("", "-wal"):
-        if pathlib.Path(f"{scene.file}{suffix}").exists():
-            shutil.copy(f"{scene.file}{suffix}", f"{file}{suffix}")
+    file = copy_of(scene, "later.gpkg")
     later = dataclasses.replace(PYRAMIDS[2], table="later", identifier="Later map", missing=frozenset())
     mmpkg("run", file, given=later.records().encode())
     with served(file) as address:
@@ -546,7 +552,7 @@ def check_tool_without_leaflet(scene):
         _, told = run("env", f"PYTHONPATH={TOP / 'tools'}", "python3", "-B", "-c", code, scene.file, scene.folder / "unmade", status=2)
         assert re.fullmatch(r"/nowhere.*: isn't there; 'apt-get install libjs-leaflet' brings it\n", told), told
     _, told = run("env", "MMPKG=/nowhere", TOOL, scene.file, scene.folder / "unmade", status=2)
-    expect(told, "/nowhere: isn't there; scripts/build.sh makes it, or MMPKG names it\n", "what is told")
+    expect(told, "/nowhere: isn't there; scripts/build.sh makes out/mmpkg, or MMPKG names the program\n", "what is told")
     expect((scene.folder / "unmade").exists(), False, "something was made")
     read, write = os.pipe()
     os.close(read)

@@ -11,9 +11,11 @@ with # are comments. A step that runs the program is the line '$ WORDS', the wor
     >*                   it may print more
     = STATUS             its exit status, where that is not 0
     <- TEXT, >- TEXT     the same without the end of the line
+    <!                   the input fails behind what is given, and has no end: it is a terminal that goes away
     <1..9 TEXT           a line for each number from 1 to 9, which is \# in it (>1..9 TEXT too, and >-1..9 TEXT without their ends)
     @ open, @ shut       a connection to the port while the program runs: '<' is sent and '>' must come back before it is closed;
                          'shut' ends what is sent. All connections are made and sent to before the first is read.
+    @ drop, @ hold       one that is cut off as soon as '>' has come, with the rest unread; one of which nothing is read
 
 Words that end in '< FILE' or '> FILE' take the input from that file, or have the output go there. The other steps are
 
@@ -25,6 +27,9 @@ Words that end in '< FILE' or '> FILE' take the input from that file, or have th
     ! older FILE         puts a package back to profile 1, as scripts/outside/make_profile_1.py does
     ! same FILE          the file is byte for byte as it was before the last run of the program
     ! missing FILE       there is no such file
+    ! folder NAME        makes a folder
+    ! remove NAME        removes a file or an empty folder
+    ! limit WHAT SIZE    from here on the program may have so many bytes of 'memory', or make no file longer ('files'); without SIZE any
     ! listen             the port is taken, by a listener of this script's own
 
 In all lines \xHH is a byte, \x00..\xff all bytes from one to another, \5{TEXT} is TEXT five times, and {port} the port, a free one.
@@ -34,14 +39,19 @@ import contextlib
 import fractions
 import hashlib
 import os
+import pty
 import re
+import resource
 import shlex
+import signal
 import socket
 import sqlite3
+import struct
 import subprocess
 import sys
 import tempfile
 import time
+import tty
 
 from make_profile_1 import put_back
 
@@ -49,6 +59,12 @@ from make_profile_1 import put_back
 PATIENCE = 120
 # How many lines are shown of a text that is not the wanted one.
 SHOWN = 40
+# What of a response that is not read the system holds for a connection at most, so that the program waits for its reader.
+HELD_BYTES = 4096
+# What a program's share is limited of.
+LIMITS = {"memory": resource.RLIMIT_AS, "files": resource.RLIMIT_FSIZE}
+# The connections that a transcript can have.
+CONNECTIONS = "@ open", "@ shut", "@ drop", "@ hold"
 # With which signs the lines behind a step begin.
 TAKEN = {"$": "<>=", "@": "<>", "write": "<", "sql": ">"}
 
@@ -84,6 +100,7 @@ class Step:
         self.place, self.line = place, line
         self.verb, _, self.rest = line.removeprefix("! ").partition(" ")
         self.given, self.wanted, self.may_go_on, self.status = b"", b"", False, 0
+        self.input_fails = False
         self.connections = []
 
     def take(self, line):
@@ -93,6 +110,8 @@ class Step:
             raise Failed(f"no such line behind {self.line}: {line}")
         if line == ">*":
             self.may_go_on = True
+        elif line == "<!" and self.verb == "$":
+            self.input_fails = True
         elif re.fullmatch(r"= \d+", line):
             self.status = int(line[2:])
         elif found and found[1] == "<":
@@ -137,7 +156,7 @@ def steps_of(path, port):
         elif line[0] in "$!":
             taking = Step(place, line)
             steps.append(taking)
-        elif line in ("@ open", "@ shut") and taking and steps[-1].verb == "$":
+        elif line in CONNECTIONS and taking and steps[-1].verb == "$":
             taking = Step(place, line)
             steps[-1].connections.append(taking)
         elif taking:
@@ -153,9 +172,14 @@ def connected(step, port, program):
     """Returns a connection to the port on which the program is to listen, with all sent that the step has; none where the program ended."""
     end = time.monotonic() + PATIENCE
     while program.poll() is None and time.monotonic() < end:
+        connection = socket.socket()
+        connection.settimeout(PATIENCE)
+        if step.rest in ("drop", "hold"):
+            connection.setsockopt(socket.SOL_SOCKET, socket.SO_RCVBUF, HELD_BYTES)
         try:
-            connection = socket.create_connection(("127.0.0.1", port), PATIENCE)
+            connection.connect(("127.0.0.1", port))
         except ConnectionRefusedError:
+            connection.close()
             time.sleep(0.01)
             continue
         connection.sendall(step.given)
@@ -165,14 +189,28 @@ def connected(step, port, program):
     return None
 
 
+def read_from(step, connection):
+    """Returns what comes over the connection up to its end, or up to where it is cut off."""
+    told = b""
+    if step.rest == "drop":
+        while len(told) < len(step.wanted) and (part := connection.recv(len(step.wanted) - len(told))):
+            told += part
+        # With no time to linger the system resets the connection.
+        connection.setsockopt(socket.SOL_SOCKET, socket.SO_LINGER, struct.pack("ii", 1, 0))
+        return told
+    while part := connection.recv(65536):
+        told += part
+    return told
+
+
 def fault_of(step, connection):
-    """Reads the connection to its end, and returns what is wrong with what came, if anything."""
+    """Reads the connection as the transcript has it, and returns what is wrong with what came, if anything."""
     if connection is None:
         return f"{step.place}: {step.line}: not connected"
-    told = b""
+    if step.rest == "hold":
+        return None
     with connection:
-        while part := connection.recv(65536):
-            told += part
+        told = read_from(step, connection)
     try:
         step.compare(told)
     except Failed as why:
@@ -185,7 +223,7 @@ class Room:
 
     def __init__(self, program, folder, port):
         self.program, self.folder, self.port = program, folder, port
-        self.before = {}
+        self.before, self.limits = {}, {}
         self.held = contextlib.ExitStack()
 
     def at(self, name):
@@ -197,7 +235,8 @@ class Room:
 
     def do(self, step):
         """Does a step, and fails where something else comes of it than must."""
-        verbs = {"$": self.run, "write": self.write, "cut": self.cut, "sql": self.sql, "older": self.older, "same": self.same, "missing": self.missing, "listen": self.listen}
+        verbs = {"$": self.run, "write": self.write, "cut": self.cut, "sql": self.sql, "older": self.older, "listen": self.listen}
+        verbs |= {"same": self.same, "missing": self.missing, "folder": self.make_folder, "remove": self.remove, "limit": self.limit}
         if step.verb not in verbs:
             raise Failed("no such step")
         verbs[step.verb](step)
@@ -212,9 +251,11 @@ class Room:
                 ends[words[-2]] = os.open(self.at(words[-1]), flags, 0o666)
                 held.callback(os.close, ends[words[-2]])
                 del words[-2:]
-            program = subprocess.Popen(
-                ["mmpkg", *map(bytes_of, words)], executable=self.program, cwd=self.folder, env={}, stdin=ends["<"], stdout=ends[">"], stderr=subprocess.PIPE
-            )
+            if step.input_fails:
+                ends["<"] = left_terminal(step.given)
+                held.callback(os.close, ends["<"])
+            how = {"executable": self.program, "cwd": self.folder, "env": {}, "preexec_fn": self.put_limits}
+            program = subprocess.Popen(["mmpkg", *map(bytes_of, words)], stdin=ends["<"], stdout=ends[">"], stderr=subprocess.PIPE, **how)
             held.enter_context(program)
             held.callback(program.kill)
             self.compare(step, program)
@@ -224,6 +265,9 @@ class Room:
         asked = [(it, connected(it, self.port, program)) for it in step.connections]
         faults = [fault_of(it, connection) for it, connection in asked]
         told, errors = program.communicate(step.given if program.stdin else None, timeout=PATIENCE)
+        for _, connection in asked:
+            if connection:
+                connection.close()
         step.compare((told or b"") + errors, program.returncode)
         if any(faults):
             raise Failed("\n  ".join(filter(None, faults)))
@@ -261,6 +305,40 @@ class Room:
 
     def listen(self, _step):
         self.held.enter_context(socket.create_server(("127.0.0.1", self.port)))
+
+    def make_folder(self, step):
+        os.mkdir(self.at(step.rest))
+
+    def remove(self, step):
+        path = self.at(step.rest)
+        (os.rmdir if os.path.isdir(path) else os.remove)(path)
+
+    def limit(self, step):
+        what, _, size = step.rest.partition(" ")
+        if what not in LIMITS:
+            raise Failed("no such limit")
+        self.limits.pop(LIMITS[what], None)
+        if size:
+            self.limits[LIMITS[what]] = int(size)
+
+    def put_limits(self):
+        """Limits the program that begins, which is told by an error where a file would be longer, and not ended by the signal."""
+        for what, size in self.limits.items():
+            resource.setrlimit(what, (size, resource.getrlimit(what)[1]))
+        if resource.RLIMIT_FSIZE in self.limits:
+            signal.signal(signal.SIGXFSZ, signal.SIG_IGN)
+
+
+def left_terminal(given):
+    """Returns an input that gives these bytes, and then fails: the one end of a terminal whose other end is closed."""
+    terminal, its_end = pty.openpty()
+    try:
+        tty.setraw(its_end)
+        if os.write(its_end, given) != len(given):
+            raise Failed("the input is longer than a terminal holds")
+    finally:
+        os.close(its_end)
+    return terminal
 
 
 def free_port():

@@ -1,7 +1,8 @@
 #!/usr/bin/env bash
 # The moment of a run that names none, by a machine whose clock shows what this script says: a library in front of the C library's
 # answers `clock_gettime`. A moment at the ends of the limits becomes the last_change; one outside them is `refused 11`, and a clock that
-# can't be read is `fault 96`, both before the file is opened. Where a moment is given the clock makes no difference.
+# can't be read is `fault 96`, both before the file is asked for, and behind the name of a kit's edition. Where a moment is given the clock
+# makes no difference.
 #
 #     scripts/outside/clock.sh [PROGRAM]
 set -eu -o pipefail
@@ -57,6 +58,22 @@ run() {
     fi
 }
 
+# Runs the program by a clock on a file that is not there, which nothing makes: WANTED STATUS SETTING.. -- WORDS
+run_without() {
+    local wanted=$1 status=$2 settings=() said got=0
+    shift 2
+    while [ "$1" != -- ]; do
+        settings+=("$1")
+        shift
+    done
+    shift
+    said=$(env "${settings[@]}" LD_PRELOAD="$folder/clock.so" "$program" "$@" </dev/null) || got=$?
+    if [ "$said" != "$wanted" ] || [ "$got" != "$status" ] || [ -e none.gpkg ]; then
+        echo "${settings[*]} $*: '$said', status $got; wanted '$wanted', status $status, and no file"
+        exit 1
+    fi
+}
+
 run '1 ok' 0 1970-01-01T00:00:00.000Z CLOCK_SECONDS=0 CLOCK_NANOSECONDS=0
 run '1 ok' 0 2001-09-09T01:46:40.999Z CLOCK_SECONDS=1000000000 CLOCK_NANOSECONDS=999999999
 run '1 ok' 0 9999-12-31T23:59:59.999Z CLOCK_SECONDS=253402300799 CLOCK_NANOSECONDS=999999999
@@ -65,4 +82,12 @@ run 'refused 11' 1 same CLOCK_SECONDS=-1 CLOCK_NANOSECONDS=999999999
 run 'fault 96' 3 same CLOCK_NANOSECONDS=0
 run '1 ok' 0 1970-01-02T00:00:00.000Z CLOCK_SECONDS=0 CLOCK_NANOSECONDS=0 --at 86400000
 run '1 ok' 0 1970-01-02T00:00:00.000Z CLOCK_NANOSECONDS=0 --at 86400000
-echo "three moments, two outside the limits, a clock that can't be read, and a moment that is given"
+run_without 'refused 11' 1 CLOCK_SECONDS=253402300800 CLOCK_NANOSECONDS=0 -- run none.gpkg
+run_without 'fault 96' 3 CLOCK_NANOSECONDS=0 -- run none.gpkg
+run_without 'not a package 94' 4 CLOCK_NANOSECONDS=0 -- run none.gpkg --at 0
+run_without 'refused 11' 1 CLOCK_SECONDS=-1 CLOCK_NANOSECONDS=0 -- kit none.gpkg spring none
+run_without 'fault 96' 3 CLOCK_NANOSECONDS=0 -- kit none.gpkg spring none
+run_without 'kit refused 0 12' 1 CLOCK_SECONDS=253402300800 CLOCK_NANOSECONDS=0 -- kit none.gpkg Spring none
+run_without 'kit refused 0 12' 1 CLOCK_NANOSECONDS=0 -- kit none.gpkg Spring none
+run_without 'not a package 94' 4 CLOCK_NANOSECONDS=0 -- check none.gpkg
+echo "three moments, two outside the limits, a clock that can't be read, a moment that is given, and what is asked before the clock and behind it"

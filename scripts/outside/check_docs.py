@@ -5,8 +5,10 @@
 
 Each line '    $ COMMAND' of README.md and docs/TOUR.md is run in turn, in a new folder with the examples, and must print the lines that
 stand below it; 'cat' of a file that is not there makes it of them. Each edit of must-fail/ is named in docs/PROOFS.md, in bold, and each mutant;
-each name in backticks there that looks like one of the code stands in some crate, script or transcript. With --tours the commands alone are run. PROGRAM is the built program:
-without it out/mmpkg, or else the one that the gate left in crates/mm_cli/out.
+each name in backticks there that looks like one of the code stands in some crate, script or transcript. Each line of cases/README.md names
+what shows its behaviour: a transcript, a test, an edit, a mutant or a script that there is, or behind 'proved:' a name of docs/PROOFS.md.
+With --tours the commands alone are run. PROGRAM is the built program: without it out/mmpkg, or else the one that the gate left in
+crates/mm_cli/out.
 """
 import os
 import pathlib
@@ -21,6 +23,7 @@ TOP = os.path.dirname(os.path.dirname(os.path.dirname(os.path.abspath(__file__))
 TOURS = "README.md", "docs/TOUR.md"
 PROGRAMS = "out/mmpkg", "crates/mm_cli/out/mm_cli"
 PROMISES = "docs/PROOFS.md"
+SHOWN = "cases/README.md"
 PORT = "8090"
 SPOKEN_OF = (".rt", ".antt", ".edit", ".py", ".sh", ".case", ".steps")
 
@@ -141,13 +144,40 @@ def wrong_bodies_are_named():
     return all(answers)
 
 
-def names_stand():
+def names_stand(path):
     words = spoken_of()
-    named = {it for them in re.findall(r"`([^`\n]+)`", text_of(PROMISES)) for it in re.findall(r"[A-Za-z]\w*_\w+|Is[A-Z]\w+", them)}
+    named = {it for them in re.findall(r"`([^`\n]+)`", text_of(path)) for it in re.findall(r"[A-Za-z]\w*_\w+|Is[A-Z]\w+", them)}
     missing = sorted(named - words)
     for it in missing:
-        print(f"{PROMISES} names {it}, which stands nowhere")
+        print(f"{path} names {it}, which stands nowhere")
     return not missing and bool(named)
+
+
+def what_shows():
+    """Returns the names of all transcripts, tests, edits, mutants and scripts."""
+    here = pathlib.Path()
+    files = [*here.glob("cases/*.case"), *here.glob("crates/*/must-fail/*.edit"), *here.glob("crates/*/mutants/*.edit")]
+    tests = [it for path in here.glob("crates/mm_test_*/src/*.rt") for it in re.findall(r"#\[test\]\s+fn (\w+)", path.read_text(encoding="utf-8"))]
+    return {it.stem for it in files} | {it.name for it in here.glob("scripts/*/*.*")} | set(tests)
+
+
+def wrong_of(behaviour, cell, there, promised):
+    """Yields what is wrong with a line of the table of behaviours."""
+    shown, proved = (re.findall(r"`([^`]+)`", it) for it in (cell.partition("proved:")[0], cell.partition("proved:")[2]))
+    if not shown and not proved:
+        yield f"nothing shows: {behaviour}"
+    for it in [*(set(shown) - there), *(set(proved) - promised)]:
+        yield f"there is no {it} to show: {behaviour}"
+
+
+def behaviours_are_shown():
+    """Returns whether each line of the table names what shows its behaviour, by names that there are."""
+    there, promised = what_shows(), set(re.findall(r"\w+", text_of(PROMISES)))
+    lines = re.findall(r"^\| (?!behaviour \|)(.*) \|(.*)\|$", text_of(SHOWN), re.MULTILINE)
+    wrong = [it for behaviour, cell in lines for it in wrong_of(behaviour, cell, there, promised)]
+    for it in wrong:
+        print(f"{SHOWN}: {it}")
+    return not wrong and bool(lines)
 
 
 def main():
@@ -160,7 +190,7 @@ def main():
     program = os.path.realpath(given[0])
     answers = [tour_fits(path, program) for path in TOURS]
     if "--tours" not in sys.argv:
-        answers += [wrong_bodies_are_named(), names_stand()]
+        answers += [wrong_bodies_are_named(), *map(names_stand, (PROMISES, SHOWN)), behaviours_are_shown()]
     passed = sum(answers)
     print(f"{passed} passed, {len(answers) - passed} failed")
     return 0 if all(answers) else 1

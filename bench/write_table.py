@@ -11,15 +11,6 @@ import re
 import sys
 
 README = pathlib.Path(__file__).resolve().parent / "README.md"
-# What is wanted of a figure, in memory and on a real disk.
-WANTED = {
-    "srs": "0.9 / 1.4",
-    "tile of 10,000 bytes": "1.5 / 1.4",
-    "piece of a kit, 20,000 bytes": "1.2",
-    "piece of a kit that stands already, 20,000 bytes": "0.75",
-    "publishing a piece": "1.2",
-    "opening and closing a package of ten tables": "4 ms",
-}
 
 
 def figures(path):
@@ -38,10 +29,10 @@ def machine():
 
 def table(memory, disk):
     """The lines of the table of both disks."""
-    yield f"| {machine()} | disk in memory | real disk | wanted, at most |"
-    yield "|---|---|---|---|"
+    yield f"| {machine()} | disk in memory | real disk |"
+    yield "|---|---|---|"
     for what, figure in memory.items():
-        yield f"| {what} | {figure} | {disk[what]} | {WANTED.get(what, '')} |"
+        yield f"| {what} | {figure} | {disk[what]} |"
 
 
 def put(text, name, lines):

@@ -13,7 +13,6 @@ pieces and the ids of relations are no part of it, and a definition of a system 
 import argparse
 import contextlib
 import hashlib
-import os
 import pathlib
 import random
 import re
@@ -21,17 +20,14 @@ import sqlite3
 import subprocess
 import sys
 import tempfile
-import time
-import traceback
 
 import page_map
+from checks import PROGRAM, TOP, end, expect, mmpkg, run, run_checks
 
-TOP = pathlib.Path(__file__).resolve().parent.parent.parent
 TOOLS = TOP / "tools"
 sys.path.insert(0, str(TOOLS))
 from border import KIT_PIECES, UNITS_OF_VERSION, UNITS_PER_METRE, Piece, media_piece, record, tile_piece, whole_units  # noqa: E402
 
-PROGRAM = os.path.realpath(os.environ.get("MMPKG") or TOP / "out" / "mmpkg")
 UTM = 'PROJCS["a grid",GEOGCS["g",DATUM["d",SPHEROID["s",6378137,298]],PRIMEM["p",0],UNIT["degree",0.01745]],UNIT["metre",1]]'
 NOT_COMPARED = {("gpkg_contents", "last_change"), ("gpkgext_relations", "id"), ("mm_tiles", "blob"), ("mm_media", "blob")}
 RELATIONSHIPS = """
@@ -45,25 +41,8 @@ for name in opened.GetRelationshipNames() or []:
 python_with_gdal = "/usr/bin/python3"
 
 
-def run(*command, status=0, given=None):
-    """Runs a command, which has to end with the status, and answers what it printed and what it told on standard error."""
-    done = subprocess.run([str(word) for word in command], input=given, stdout=subprocess.PIPE, stderr=subprocess.PIPE, check=False,
-                          env={**os.environ, "MMPKG": PROGRAM})
-    out, err = done.stdout.decode(), done.stderr.decode()
-    assert done.returncode == status, f"{command[:6]} ended with {done.returncode}: {out[-500:]}{err[-500:]}"
-    return out, err
-
-
-def mmpkg(*words, status=0, given=None):
-    return run(PROGRAM, *words, status=status, given=given)[0]
-
-
 def tool(name, *words, status=0):
     return run(TOOLS / name, *words, status=status)
-
-
-def expect(found, wanted, what):
-    assert found == wanted, f"{what}: {found!r}, wanted {wanted!r}"
 
 
 def new_package(file, records, status=0):
@@ -456,23 +435,12 @@ def main():
     parser.add_argument("words", nargs="*", metavar="WORD")
     given = parser.parse_args()
     python_with_gdal = given.python
-    passed = failed = 0
-    checks = {name[6:].replace("_", " "): check for name, check in globals().items() if name.startswith("check_")}
-    for name, check in checks.items():
-        if given.words and not any(word in name for word in given.words):
-            continue
-        began = time.monotonic()
-        try:
-            with tempfile.TemporaryDirectory() as folder:
-                check(pathlib.Path(folder))
-            passed += 1
-            print(f"border: {name}: ok ({time.monotonic() - began:.1f} s)", flush=True)
-        except (AssertionError, OSError, sqlite3.Error, subprocess.SubprocessError):
-            failed += 1
-            traceback.print_exc(file=sys.stdout)
-            print(f"border: {name}: FAILED", flush=True)
-    print(f"{passed} passed, {failed} failed")
-    sys.exit(1 if failed or not passed else 0)
+
+    def call(check):
+        with tempfile.TemporaryDirectory() as folder:
+            check(pathlib.Path(folder))
+
+    end(*run_checks("border", globals(), given.words, call))
 
 
 if __name__ == "__main__":

@@ -18,13 +18,11 @@ import pathlib
 import random
 import shutil
 import sqlite3
-import subprocess
 import sys
 import tempfile
-import time
-import traceback
 
-TOP = pathlib.Path(__file__).resolve().parent.parent.parent
+from checks import PROGRAM, TOP, end, expect, run, run_checks
+
 sys.path.insert(0, str(TOP / "scripts" / "model"))
 from make_profile_1 import put_back  # noqa: E402
 from package_merge import by_the_rule, entries, package_of  # noqa: E402
@@ -34,7 +32,6 @@ from package_views import query_of, table_rows  # noqa: E402
 from random_records import OPENING, Author  # noqa: E402
 
 TOOL = TOP / "tools" / "kit_between.py"
-PROGRAM = os.path.realpath(os.environ.get("MMPKG") or TOP / "out" / "mmpkg")
 DEFAULT_SEED = 1
 DEFAULT_ROUNDS = 40
 MOST_PIECES = 4096
@@ -48,19 +45,6 @@ NAMES = "a", "b", "c", "d", "e", "f", "g", "h"
 IDENTIFIERS = "One", "Two, \"2\"", "Drei", "Vier ü", "Five", "Six", "Seven"
 BYTES = b"\x89PNG\r\n", b"\xff\xd8\xff\xe0", b"RIFF....WEBP", b"\0", b"x" * 5000
 SPANS = 256, 1024
-
-
-def run(*command, given=b"", status=0, out=subprocess.PIPE):
-    """Runs a command, which has to end with the status, and returns what it printed and what it told on standard error."""
-    done = subprocess.run([str(word) for word in command], input=given, stdout=out, stderr=subprocess.PIPE, check=False,
-                          env={**os.environ, "MMPKG": PROGRAM})
-    printed, told = (done.stdout or b"").decode(), done.stderr.decode()
-    assert done.returncode == status, f"{command} ended with {done.returncode}, wanted {status}:\n{printed[-800:]}{told[-800:]}"
-    return printed, told
-
-
-def expect(found, wanted, what):
-    assert found == wanted, f"{what}:\n  found:  {found!r:.1500}\n  wanted: {wanted!r:.1500}"
 
 
 # Random packages.
@@ -605,22 +589,13 @@ def main():
     parser.add_argument("--rounds", type=int, default=DEFAULT_ROUNDS)
     parser.add_argument("words", nargs="*", metavar="WORD")
     given = parser.parse_args()
-    passed = failed = 0
     print(f"seed {given.seed}")
-    for name, check in {name[6:].replace("_", " "): check for name, check in globals().items() if name.startswith("check_")}.items():
-        if given.words and not any(word in name for word in given.words):
-            continue
-        began = time.monotonic()
-        try:
-            with tempfile.TemporaryDirectory() as folder:
-                passed += check(pathlib.Path(folder), given) or 1
-            print(f"kit_between: {name}: ok ({time.monotonic() - began:.1f} s)", flush=True)
-        except (AssertionError, OSError, sqlite3.Error, subprocess.SubprocessError):
-            failed += 1
-            traceback.print_exc(file=sys.stdout)
-            print(f"kit_between: {name}: FAILED", flush=True)
-    print(f"{passed} passed, {failed} failed")
-    sys.exit(1 if failed or not passed else 0)
+
+    def call(check):
+        with tempfile.TemporaryDirectory() as folder:
+            return check(pathlib.Path(folder), given)
+
+    end(*run_checks("kit_between", globals(), given.words, call))
 
 
 if __name__ == "__main__":

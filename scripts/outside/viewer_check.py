@@ -29,8 +29,8 @@ import traceback
 import devtools
 import make_profile_1
 import page_map
-from viewer_package import (BLANK, PLAIN, PROGRAM, PYRAMIDS, TOOL, TOP, UNITS_PER_METRE, content, expect, mmpkg, new_package, run, served,
-                            take_in)
+from checks import PROGRAM, TOP, end, expect, mmpkg, run, run_checks
+from viewer_package import BLANK, PLAIN, PYRAMIDS, TOOL, UNITS_PER_METRE, content, new_package, served, take_in
 
 
 class Scene:
@@ -43,6 +43,15 @@ class Scene:
         self.file = folder / "a.gpkg"
         self.address = ""
         self.pages = []
+
+    def call(self, check):
+        """Does a check, and closes the pages that it opened."""
+        try:
+            check(self)
+        finally:
+            for page in self.pages:
+                page.close()
+            self.pages = []
 
     def open(self, address=None, **how):
         """Opens the viewer, and waits until it shows its map."""
@@ -564,27 +573,6 @@ def check_tool_without_leaflet(scene):
     expect(package_files(scene.folder / "unread").keys(), package_files(scene.folder / "out").keys(), "a folder whose commands nobody read")
 
 
-def run_checks(scene, words):
-    """Runs the checks whose names have a word, and answers how many passed and failed."""
-    passed = failed = 0
-    for name, check in ((name[6:].replace("_", " "), it) for name, it in globals().items() if name.startswith("check_")):
-        if words and not any(word in name for word in words):
-            continue
-        began = time.monotonic()
-        try:
-            check(scene)
-            passed += 1
-            print(f"viewer: {name}: ok ({time.monotonic() - began:.1f} s)", flush=True)
-        except (AssertionError, OSError, ValueError, KeyError, sqlite3.Error, subprocess.SubprocessError):
-            failed += 1
-            traceback.print_exc(file=sys.stdout)
-            print(f"viewer: {name}: FAILED", flush=True)
-        for page in scene.pages:
-            page.close()
-        scene.pages = []
-    return passed, failed
-
-
 def main():
     parser = argparse.ArgumentParser(description=__doc__, formatter_class=argparse.RawDescriptionHelpFormatter)
     parser.add_argument("--browser", default="chromium")
@@ -602,13 +590,11 @@ def main():
             faults = 0
             try:
                 with served(scene.file) as scene.address:
-                    passed, failed = run_checks(scene, given.words)
+                    passed, failed = run_checks("viewer", globals(), given.words, scene.call)
             except AssertionError:
                 traceback.print_exc(file=sys.stdout)
                 faults = 1
-    failed += faults
-    print(f"{passed} passed, {failed} failed")
-    sys.exit(1 if failed or not passed else 0)
+    end(passed, failed + faults)
 
 
 if __name__ == "__main__":

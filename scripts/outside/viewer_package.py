@@ -2,8 +2,6 @@
 
 import contextlib
 import dataclasses
-import os
-import pathlib
 import socket
 import struct
 import subprocess
@@ -11,13 +9,12 @@ import sys
 import zlib
 
 import page_map
+from checks import PROGRAM, TOP, expect, mmpkg, run
 
-TOP = pathlib.Path(__file__).resolve().parent.parent.parent
 TOOL = TOP / "tools" / "make_viewer.py"
 sys.path.insert(0, str(TOP / "tools"))
 from border import UNITS_PER_METRE, Piece, media_piece, record, tile_piece  # noqa: E402
 
-PROGRAM = os.path.realpath(os.environ.get("MMPKG") or TOP / "out" / "mmpkg")
 BLANK = (228, 232, 234)
 PLAIN = (40, 90, 160)
 SEEN_SECONDS = 600
@@ -125,23 +122,6 @@ def content():
               *(Piece(["map", f"spots_{table}", 7, it]) for table, it in
                 (("photos", 1), ("photos", 2), ("photos", 9), ("papers", 4), ("owners", 2**53)))]
     return "".join([*map(record, systems), *(it.records() for it in PYRAMIDS), *map(record, tables), *(it.command() for it in pieces)])
-
-
-def run(*command, status=0, given=None):
-    """Runs a command, which has to end with the status, and answers what it printed and what it told on standard error."""
-    done = subprocess.run([str(word) for word in command], input=given, stdout=subprocess.PIPE, stderr=subprocess.PIPE, check=False,
-                          env={**os.environ, "MMPKG": PROGRAM})
-    out, err = done.stdout.decode(), done.stderr.decode()
-    assert done.returncode == status, f"{command[:6]} ended with {done.returncode}: {out[-500:]}{err[-500:]}"
-    return out, err
-
-
-def mmpkg(*words, status=0, given=None):
-    return run(PROGRAM, *words, status=status, given=given)[0]
-
-
-def expect(found, wanted, what):
-    assert found == wanted, f"{what}: {found!r}, wanted {wanted!r}"
 
 
 def new_package(file, records=""):

@@ -1,0 +1,56 @@
+"""What the checks of this folder share: commands with what they have to answer, and checks that are run by their names."""
+
+import os
+import pathlib
+import sqlite3
+import subprocess
+import sys
+import time
+import traceback
+
+TOP = pathlib.Path(__file__).resolve().parent.parent.parent
+PROGRAM = os.path.realpath(os.environ.get("MMPKG") or TOP / "out" / "mmpkg")
+
+
+def run(*command, status=0, given=b"", out=subprocess.PIPE):
+    """Runs a command, which has to end with the status, and answers what it printed and what it told on standard error."""
+    done = subprocess.run([str(word) for word in command], input=given, stdout=out, stderr=subprocess.PIPE, check=False,
+                          env={**os.environ, "MMPKG": PROGRAM})
+    printed, told = (done.stdout or b"").decode(), done.stderr.decode()
+    assert done.returncode == status, f"{command[:6]} ended with {done.returncode}, wanted {status}:\n{printed[-800:]}{told[-800:]}"
+    return printed, told
+
+
+def mmpkg(*words, status=0, given=b""):
+    """What the program prints."""
+    return run(PROGRAM, *words, status=status, given=given)[0]
+
+
+def expect(found, wanted, what):
+    assert found == wanted, f"{what}:\n  found:  {found!r:.1500}\n  wanted: {wanted!r:.1500}"
+
+
+def run_checks(of, functions, words, call):
+    """Runs the functions check_NAME whose names have one of the words (each, where there are none), and tells of each.
+
+    `call` calls a function, and answers for how many checks it counts (None: one). Returns how many passed and failed.
+    """
+    passed = failed = 0
+    for name, check in [(name[6:].replace("_", " "), it) for name, it in functions.items() if name.startswith("check_")]:
+        if words and not any(word in name for word in words):
+            continue
+        began = time.monotonic()
+        try:
+            passed += call(check) or 1
+            print(f"{of}: {name}: ok ({time.monotonic() - began:.1f} s)", flush=True)
+        except (AssertionError, OSError, ValueError, KeyError, sqlite3.Error, subprocess.SubprocessError):
+            failed += 1
+            traceback.print_exc(file=sys.stdout)
+            print(f"{of}: {name}: FAILED", flush=True)
+    return passed, failed
+
+
+def end(passed, failed):
+    """Prints the sum as the last line, and ends by it."""
+    print(f"{passed} passed, {failed} failed")
+    sys.exit(1 if failed or not passed else 0)

@@ -75,9 +75,9 @@ put_documents() {
     install -d "$documents/docs"
     install -m 644 README.md packaging/copyright "$documents/"
     install -m 644 docs/*.md "$documents/docs/"
-    # But for the example that runs the tools of a clone.
+    # But for the examples that run the tools of a clone.
     cp -r examples "$documents/examples"
-    rm "$documents/examples/border/run.sh"
+    rm -r "$documents/examples/border/run.sh" "$documents/examples/field_day"
     find "$documents/examples" -type f ! -perm /111 -exec chmod 644 {} +
     packaging/documents.py changelog "$maintainer" >"$documents/changelog"
     gzip -9n "$documents/changelog" "$documents"/docs/*.md "$documents/README.md"

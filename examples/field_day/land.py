@@ -1,0 +1,182 @@
+#!/usr/bin/env python3
+"""Invents a piece of land, what the office knows of it, and what a crew finds there. Rows and heights are the same on each machine.
+
+    land.py terrain > TERRAIN.asc      heights in metres, 128 by 128 places of 16 m
+    land.py office TERRAIN.asc         spots.csv: tables, boundary stones and a photo; stones.geojson and stones_wide.geojson to draw
+    land.py crew NAME TERRAIN.asc      of the crew north or south: NAME.csv, a list of rows and photos; NAME_more.csv, rows and mapping rows
+                                       for its kit; NAME.geojson and NAME_wide.geojson, its way and what it found, to draw
+"""
+
+import itertools
+import json
+import math
+import pathlib
+import random
+import struct
+import sys
+import zlib
+
+sys.path.insert(0, str(pathlib.Path(__file__).resolve().parents[2] / "tools"))
+from border import Piece, media_piece  # noqa: E402
+
+SIDE, METRES, LAKE = 128, 16, 230.0
+LEFT, BOTTOM = 500_000, 5_600_000
+STONES = [(300, 1890), (560, 1720), (880, 1790), (1210, 1640), (1500, 1500), (1790, 1290),
+          (1480, 1010), (1210, 830), (900, 700), (610, 560), (390, 370), (240, 130)]
+BAY = (900, 250)
+PATHS = {"north": [STONES[0], STONES[1], (690, 1480), STONES[2], STONES[3], (1290, 1330), STONES[4], STONES[5]],
+         "south": [STONES[11], STONES[10], (500, 450), STONES[9], STONES[8], (1180, 560), STONES[7], (1560, 760), (1780, 420)]}
+# By crew, the first number of its spots and photos, and the stones that it finds.
+CREWS = {"north": (100, range(1, 7)), "south": (200, range(8, 13))}
+FINDS = ["Spring", "Gate", "Bench", "Old oak", "Footbridge", "Marker post"]
+
+
+def terrain():
+    """Heights by row from the north, by halving squares and moving their middles."""
+    dice = random.Random(31)
+    high = [[0.0] * (SIDE + 1) for _ in range(SIDE + 1)]
+    high[0][0], high[0][SIDE], high[SIDE][0], high[SIDE][SIDE] = 0.9, 0.6, 0.35, 0.75
+    step, rough = SIDE, 0.36
+    while step > 1:
+        half = step // 2
+        for y, x in itertools.product(range(half, SIDE, step), repeat=2):
+            corners = high[y - half][x - half] + high[y - half][x + half] + high[y + half][x - half] + high[y + half][x + half]
+            high[y][x] = corners / 4 + (dice.random() - 0.5) * rough
+        for y in range(0, SIDE + 1, half):
+            for x in range(half if y % step == 0 else 0, SIDE + 1, step):
+                near = [high[b][a] for b, a in ((y - half, x), (y + half, x), (y, x - half), (y, x + half)) if 0 <= a <= SIDE and 0 <= b <= SIDE]
+                high[y][x] = sum(near) / len(near) + (dice.random() - 0.5) * rough
+        step, rough = half, rough * 0.45
+    least, most = min(map(min, high)), max(map(max, high))
+    return [[max(LAKE, 172 + 470 * (value - least) / (most - least)) for value in row[:SIDE]] for row in high[:SIDE]]
+
+
+def write_terrain():
+    print(f"ncols {SIDE}\nnrows {SIDE}\nxllcorner {LEFT}\nyllcorner {BOTTOM}\ncellsize {METRES}")
+    for row in terrain():
+        print(*(f"{value:.1f}" for value in row))
+
+
+def read_terrain(file):
+    lines = pathlib.Path(file).read_text(encoding="ascii").splitlines()
+    return [[float(word) for word in line.split()] for line in lines[5:]]
+
+
+def height(land, x, y):
+    """The height at a place, between those of four cells; the land goes on behind its edges as it is there."""
+    column, row = (min(max(it / METRES - 0.5, 0), SIDE - 1.001) for it in (x, SIDE * METRES - y))
+    left, above = int(column), int(row)
+    right, below = column - left, row - above
+    upper, lower = land[above], land[above + 1]
+    return ((upper[left] * (1 - right) + upper[left + 1] * right) * (1 - below)
+            + (lower[left] * (1 - right) + lower[left + 1] * right) * below)
+
+
+def view(land, place, wide=240, high=160):
+    """A photo as PNG: the land from above a place towards the bay, drawn column by column from near to far."""
+    eye, ahead = height(land, *place) + 35, math.atan2(BAY[0] - place[0], BAY[1] - place[1])
+    rows = [[(150 + y // 3, 190 + y // 4, 225)] * wide for y in range(high)]
+    for column in range(wide):
+        angle = ahead + column / wide - 0.5
+        top, far = high, 8.0
+        while far < 2400 and top > 0:
+            x, y = place[0] + far * math.sin(angle), place[1] + far * math.cos(angle)
+            ground = height(land, x, y)
+            line = max(0, int(high * 0.42 + (eye - ground) * 240 / far))
+            if line < top:
+                colour = shade(land, x, y, ground, far)
+                for row in range(line, top):
+                    rows[row][column] = colour
+                top = line
+            far *= 1.02
+    return png(wide, high, rows)
+
+
+def shade(land, x, y, ground, far):
+    """The colour of a place, by its height and its slope, paler from afar."""
+    colour = (112, 150, 180) if ground <= LAKE else (96, 130, 66) if ground < 400 else (150, 140, 96) if ground < 520 else (210, 206, 200)
+    light = 1 + max(-0.4, min(0.4, (height(land, x + 12, y - 12) - ground) / -30))
+    haze = min(0.75, far / 3000)
+    return tuple(min(255, int(part * light * (1 - haze) + air * haze)) for part, air in zip(colour, (176, 202, 226)))
+
+
+def png(wide, high, rows):
+    def chunk(kind, data):
+        return struct.pack(">I", len(data)) + kind + data + struct.pack(">I", zlib.crc32(kind + data))
+    packed = zlib.compress(b"".join(b"\0" + bytes(itertools.chain(*row)) for row in rows), 9)
+    return b"\x89PNG\r\n\x1a\n" + chunk(b"IHDR", struct.pack(">IIBBBBB", wide, high, 8, 2, 0, 0, 0)) + chunk(b"IDAT", packed) + chunk(b"IEND", b"")
+
+
+def walk(corners, step=5):
+    """Places on a smooth way through corners."""
+    ends = [corners[0], *corners, corners[-1]]
+    for a, b, c, d in zip(ends, ends[1:], ends[2:], ends[3:]):
+        count = max(1, round(math.dist(b, c) / step))
+        for part in (it / count for it in range(count)):
+            yield tuple(q + part / 2 * (r - p + part * (2 * p - 5 * q + 4 * r - s + part * (3 * (q - r) + s - p)))
+                        for p, q, r, s in zip(a, b, c, d))
+
+
+def draw(file, discs):
+    """Writes discs of a place and a radius as polygons, in the map's system."""
+    shapes = [[[[LEFT + x + radius * math.cos(it * math.pi / 8), BOTTOM + y + radius * math.sin(it * math.pi / 8)] for it in range(17)]]
+              for (x, y), radius in discs]
+    features = [{"type": "Feature", "properties": {}, "geometry": {"type": "MultiPolygon", "coordinates": shapes}}]
+    system = {"type": "name", "properties": {"name": "urn:ogc:def:crs:EPSG::25832"}}
+    pathlib.Path(file).write_text(json.dumps({"type": "FeatureCollection", "crs": system, "features": features}), encoding="ascii")
+
+
+def where(place):
+    return f"E {LEFT + round(place[0])}, N {BOTTOM + round(place[1])}"
+
+
+def decimetres(land, place):
+    return round(10 * height(land, *place))
+
+
+def write(file, pieces):
+    pathlib.Path(file).write_text("".join(piece.command() for piece in pieces), encoding="utf-8")
+
+
+def office(land):
+    """Stones as they stand in the books, none measured yet."""
+    pieces = [Piece(["table", "spots", "attributes", "Spots"]), Piece(["table", "photos", "media", "Photos"]),
+              Piece(["relation", "spots_photos", "spots", "photos", "media"])]
+    pieces += [Piece(["row", "spots", it, f"Boundary stone {it}", f"by the books {where(place)}", 0]) for it, place in enumerate(STONES, 1)]
+    pieces += [media_piece("photos", 1, "image/png", view(land, STONES[6])), Piece(["map", "spots_photos", 7, 1])]
+    write("spots.csv", pieces)
+    draw("stones_wide.geojson", [(place, 17) for place in STONES])
+    draw("stones.geojson", [(place, 12) for place in STONES])
+
+
+def crew(name, land):
+    """What a crew finds on its way: boundary stones, which it takes photos from, and new spots. Both crews see stone 7 from afar."""
+    first, stones = CREWS[name]
+    way = list(walk(PATHS[name]))
+    finds = [way[len(way) * it // 50 + 3] for it in range(50)]
+    found = [Piece(["row", "spots", it, f"Boundary stone {it}", f"found by the {name} crew", decimetres(land, STONES[it - 1])]) for it in stones]
+    seen = Piece(["row", "spots", 7, "Boundary stone 7", f"leaning, seen from the {name}", 2300 + first // 20])
+    spots = [Piece(["row", "spots", first + it, FINDS[it % 6], where(place), decimetres(land, place)]) for it, place in enumerate(finds)]
+    photos = [media_piece("photos", first + it, "image/png", view(land, STONES[it - 1])) for it in stones]
+    write(f"{name}.csv", [*found, seen, *spots[:20], *photos])
+    write(f"{name}_more.csv", [*spots[20:], *(Piece(["map", "spots_photos", it, first + it]) for it in stones)])
+    discs = [(place, 5) for place in way] + [(place, 10) for place in finds[2::5]] + [(STONES[it - 1], 14) for it in stones]
+    draw(f"{name}_wide.geojson", [(place, radius + 4) for place, radius in discs])
+    draw(f"{name}.geojson", discs)
+
+
+def main():
+    match sys.argv[1:]:
+        case ["terrain"]:
+            write_terrain()
+        case ["office", file]:
+            office(read_terrain(file))
+        case ["crew", ("north" | "south") as name, file]:
+            crew(name, read_terrain(file))
+        case _:
+            print(__doc__)
+            sys.exit(2)
+
+
+if __name__ == "__main__":
+    main()

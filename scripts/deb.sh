@@ -74,7 +74,7 @@ put_pages() {
 put_documents() {
     install -d "$documents/docs"
     install -m 644 README.md packaging/copyright "$documents/"
-    install -m 644 docs/*.md "$documents/docs/"
+    install -m 644 docs/*.md docs/*.png "$documents/docs/"
     # But for the examples that run the tools of a clone.
     cp -r examples "$documents/examples"
     rm -r "$documents/examples/border/run.sh" "$documents/examples/field_day"

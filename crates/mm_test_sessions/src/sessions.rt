@@ -3,6 +3,7 @@
 use crate::fakes::{Short, short_writer};
 use mm_core::Session;
 use mm_definitions::answers::{Fault, Open};
+use mm_definitions::names::Name;
 use mm_definitions::streams::Io;
 use mm_opening::create_in_memory;
 use mm_test_packages::{
@@ -57,6 +58,34 @@ fn new_answers(alloc: Global, records: &[u8]) -> Option<String> {
 fn answers_each_record(rt: HostRuntime) -> Result<(), Fail> {
     let told = new_answers(rt.alloc(), RECORDS).expect(&rt, "answers");
     assert_eq!(rt; told.as_str(), ANSWERS);
+    Ok(())
+}
+
+/// What a session tells of the row of a number: its title, its note and its amount.
+fn row_told(alloc: Global, session: &mut Session<MemStore>, id: i64) -> Option<String> {
+    let spots = Name::read("spots")?;
+    match session.row(&spots, id).ok()? {
+        Some(row) => {
+            let (title, note) = (row.title.as_str(), row.note.as_str());
+            format!(in alloc; "'{title}' '{note}' {}\n", row.amount).ok()
+        }
+        None => "no row\n".to_string(alloc).ok(),
+    }
+}
+
+/// What a session tells of a row that stands, and of one that doesn't.
+fn rows_told(alloc: Global) -> Option<String> {
+    let mut session = session_after(alloc, &[PYRAMID, FINER, RELATED])?;
+    let mut told = row_told(alloc, &mut session, 7)?;
+    told.push_str(row_told(alloc, &mut session, 8)?.as_str())
+        .ok()?;
+    Some(told)
+}
+
+#[test]
+fn tells_the_row_of_a_number(rt: HostRuntime) -> Result<(), Fail> {
+    let told = rows_told(rt.alloc()).expect(&rt, "rows");
+    assert_eq!(rt; told.as_str(), "'Well' '' 3\nno row\n");
     Ok(())
 }
 

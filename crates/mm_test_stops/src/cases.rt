@@ -2,6 +2,7 @@
 
 use mm_test_packages::{FINER, PYRAMID, RELATED};
 use std::alloc::Global;
+use std::fmt::Write;
 
 /// What stands before the work begins.
 #[derive(Clone, Copy)]
@@ -16,6 +17,8 @@ pub(crate) enum Start {
     Logged,
     /// The same, where the edition has five pieces.
     Staged,
+    /// The same, where it has 150.
+    Crowded,
     /// A pyramid of one matrix, and an edition that brings the next one with a tile of it.
     Finer,
     /// A package of profile 1.
@@ -41,7 +44,29 @@ stage,z,1,matrix,base,1,2,2,256,256,2000000,2000000
 stage,z,2,tile,base,1,1,1,aa
 ";
 
+/// The records that make a package whose edition has 150 rows as its pieces.
+fn crowded(alloc: Global) -> Option<String> {
+    let mut text = format!(in alloc; "{PYRAMID}{FINER}{RELATED}{MORE}").ok()?;
+    for number in 1..151u32 {
+        writeln!(
+            text,
+            "stage,k,{number},row,spots,{},Gate,,0",
+            number.saturating_add(100)
+        )
+        .ok()?;
+    }
+    Some(text)
+}
+
 impl Start {
+    /// How many calls lie between two that fail: a long work is stopped at some of its calls alone.
+    pub(crate) fn stride(self) -> u64 {
+        match self {
+            Start::Crowded => 37,
+            _ => 1,
+        }
+    }
+
     /// The records that make the package from a new one.
     pub(crate) fn records(self, alloc: Global) -> Option<String> {
         let text = match self {
@@ -50,6 +75,7 @@ impl Start {
                 format!(in alloc; "{PYRAMID}{FINER}{RELATED}{MORE}")
             }
             Start::Staged => format!(in alloc; "{PYRAMID}{FINER}{RELATED}{MORE}{STAGES}"),
+            Start::Crowded => return crowded(alloc),
             Start::Finer => format!(in alloc; "{PYRAMID}{BRINGS_FINER}"),
             Start::Older => format!(in alloc; "{PYRAMID}{FINER}"),
         };
@@ -150,6 +176,13 @@ pub(crate) const WHOLES: [Case; 6] = [
         work: Work::Migrate,
     },
 ];
+
+/// Publishing so many pieces that commits of a hundred each would show.
+pub(crate) const CROWDED: [Case; 1] = [Case {
+    name: "publish 150 pieces",
+    start: Start::Crowded,
+    work: Work::Run("publish,k\n"),
+}];
 
 /// Commands of systems and tables, each accepted once on the package where the edition has five pieces.
 pub(crate) const TABLES: [&str; 5] = [

@@ -103,10 +103,11 @@ fn blank(alloc: Global) -> Image {
     }
 }
 
-/// How the files are opened: with few pages kept in memory, since each run opens them twice, and to make the room for many takes most of it.
+/// How the files are opened: with fewer pages kept in memory than a package has, so that a read of the package is a call of a disk, and a session that
+/// has to be opened again shows where it reads.
 fn options() -> Options {
     let mut options = Options::new(7);
-    options.cache_pages = 64;
+    options.cache_pages = 8;
     options
 }
 

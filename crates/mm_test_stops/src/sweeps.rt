@@ -1,6 +1,6 @@
 //! A case, where each call of its files in turn is the one that fails.
 
-use crate::cases::{CONTENT, Case, EDITIONS, RELATIONS, TABLES, WHOLES, case_of};
+use crate::cases::{CONTENT, CROWDED, Case, EDITIONS, RELATIONS, TABLES, WHOLES, case_of};
 use crate::disks::{
     Image, Plans, Which, closed, crashed, files_of, image_at, left_by, open, open_or_left,
 };
@@ -152,11 +152,13 @@ fn ran(
     }
 }
 
-/// How many calls of a file fail in turn until a run meets no failure; or else the first whose run is wrong.
+/// How many calls of a file fail in turn, a stride apart, until a run meets no failure; or else the first whose run is wrong.
 fn swept(alloc: Global, expected: &Expected, failure: Failure, which: Which) -> Result<u64, u64> {
-    for first in 0..10000u64 {
+    let stride = expected.case.start.stride();
+    for turn in 0..10000u64 {
+        let first = turn.saturating_mul(stride);
         match ran(alloc, expected, failure, which, first) {
-            Some(Came::Whole) => return Ok(first),
+            Some(Came::Whole) => return Ok(turn),
             Some(Came::FirstPart) => {}
             Some(Came::Wrong) | None => return Err(first),
         }
@@ -212,6 +214,12 @@ fn are_right(rt: &HostRuntime, cases: &[Case]) -> io::Result<bool> {
 #[test]
 fn finds_a_first_part_after_each_stop(rt: HostRuntime) -> Result<(), Fail> {
     assert!(rt; are_right(&rt, &WHOLES)?);
+    Ok(())
+}
+
+#[test]
+fn finds_the_package_before_or_after_publishing_150_pieces(rt: HostRuntime) -> Result<(), Fail> {
+    assert!(rt; are_right(&rt, &CROWDED)?);
     Ok(())
 }
 

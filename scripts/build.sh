@@ -1,6 +1,6 @@
 #!/usr/bin/env bash
 # Builds the program from this clone: proves it with all that stands below it, compiles it, and puts it at out/mmpkg. From nothing it proves each crate,
-# as many side by side as there are processors, with a line for each that ends; with no change since, it takes a minute.
+# as many side by side as there are processors, with a line for each that ends; what has not changed since is not proved again.
 #
 #     scripts/build.sh
 set -eu -o pipefail

@@ -2,7 +2,7 @@
 use Rattle.std.proofs.Common.{◌≡◌, Bool, true, false, cond, ◌&&◌, List, [], ◌∷◌, map, Option, Some, None, option_map, refl, sym, ap, ap₂, subst, ◌∙◌, T}
 use Rattle.std.specs.declared.cmp.Ordering.{Ordering}
 use Rattle.std.specs.Ordering.{eq_by_cmp, is_lt}
-use Rattle.std.specs.FinMap.{FinMap, get, entries, entries_sorted, from_sorted, get-entries, get-from_sorted, find, is_sorted}
+use Rattle.std.specs.FinMap.{FinMap, get, entries, entries_sorted, get-entries, get-from_sorted, find, is_sorted}
 use Rattle.mm_definitions.specs.Parts.{Each}
 use Rattle.mm_definitions.specs.Parts.{change_values}
 

@@ -16,6 +16,7 @@ use Rattle.mm_definitions.specs.declared.commands.Command.{Command}
 use Rattle.mm_definitions.specs.declared.commands.Command.TheVariants as commands
 use Rattle.mm_definitions.specs.declared.commands.Piece.TheVariants as pieces
 use Rattle.mm_definitions.specs.declared.commands.Piece.TheVariants.{Tile, TileDrop, Row, RowDrop, Media, MediaDrop, Map, MapDrop}
+use Rattle.mm_definitions.specs.declared.refusals.TheConstants.{SYSTEM_EXISTS, NO_SYSTEM, GEOGRAPHIC_SYSTEM, TABLE_NAME_TAKEN, IDENTIFIER_TAKEN, NO_TABLE, ANOTHER_KIND, EMPTY_EXTENT, MATRIX_EXISTS, NOT_THE_PRODUCT, PIXEL_SIZES_OUT_OF_ORDER, NO_MATRIX, OUTSIDE_MATRIX, NO_TILE, NO_ROW, NO_MEDIA_ITEM, STILL_MAPPED, MAPPING_NAME_TAKEN, NO_RELATION, MAPPING_ROW_EXISTS, NO_MAPPING_ROW, UNSUITED_KINDS, USED_BY_A_RELATION, EDITION_EXISTS, NO_EDITION, NOT_THE_NEXT_PIECE, TOO_MANY_PIECES, PUBLISHED_ALREADY}
 
 -- numbered reasons, each with whether it holds
 abbrev pub Reasons : Type 0
@@ -32,13 +33,13 @@ abbrev pub least : Reasons → Option ℕ
 least [] = None
 least (r ∷ rs) = smaller (cond r.1 (Some r.0) None) (least rs)
 
--- 25: no contents row has the table
+-- no contents row has the table
 abbrev pub no_table : Package → Text → ℕ × Bool
-no_table p table = (25, not (contains_key p.contents table))
+no_table p table = (NO_TABLE, not (contains_key p.contents table))
 
 -- the table stands, and is of none of these kinds
 abbrev pub of_another_kind : Package → Text → Bool → ℕ × Bool
-of_another_kind p table suits = (26, contains_key p.contents table && not suits)
+of_another_kind p table suits = (ANOTHER_KIND, contains_key p.contents table && not suits)
 
 -- the mapping row's relation has this item as an end
 abbrev pub joins_item : Package → Text → ℤ → Pairing → Bool
@@ -96,36 +97,36 @@ clashes p table zoom g = some_entry (λ k h. same_text k.table table && not (sui
 abbrev pub piece_reasons : Package → Piece → Reasons
 piece_reasons p (Tile table zoom column row bytes) =
     no_table p table ∷ of_another_kind p table (is_pyramid p.kinds table)
-    ∷ (33, is_pyramid p.kinds table && not (contains_key p.matrices (level table (pos zoom))))
-    ∷ (34, at_value (outside (pos column) (pos row)) (get p.matrices (level table (pos zoom)))) ∷ []
+    ∷ (NO_MATRIX, is_pyramid p.kinds table && not (contains_key p.matrices (level table (pos zoom))))
+    ∷ (OUTSIDE_MATRIX, at_value (outside (pos column) (pos row)) (get p.matrices (level table (pos zoom)))) ∷ []
 piece_reasons p (TileDrop table zoom column row) =
     no_table p table ∷ of_another_kind p table (is_pyramid p.kinds table)
-    ∷ (35, is_pyramid p.kinds table && not (contains_key p.tiles (tile table (pos zoom) (pos column) (pos row)))) ∷ []
+    ∷ (NO_TILE, is_pyramid p.kinds table && not (contains_key p.tiles (tile table (pos zoom) (pos column) (pos row)))) ∷ []
 piece_reasons p (Row table id title note amount) =
     no_table p table ∷ of_another_kind p table (has_kind p.kinds table kinds.Attributes) ∷ []
 piece_reasons p (RowDrop table id) =
     no_table p table ∷ of_another_kind p table (has_kind p.kinds table kinds.Attributes)
-    ∷ (40, has_kind p.kinds table kinds.Attributes && not (contains_key p.rows (item table id)))
-    ∷ (42, is_mapped p table id) ∷ []
+    ∷ (NO_ROW, has_kind p.kinds table kinds.Attributes && not (contains_key p.rows (item table id)))
+    ∷ (STILL_MAPPED, is_mapped p table id) ∷ []
 piece_reasons p (Media table id content_type bytes) =
     no_table p table ∷ of_another_kind p table (has_kind p.kinds table kinds.Media) ∷ []
 piece_reasons p (MediaDrop table id) =
     no_table p table ∷ of_another_kind p table (has_kind p.kinds table kinds.Media)
-    ∷ (41, has_kind p.kinds table kinds.Media && not (contains_key p.media (item table id)))
-    ∷ (42, is_mapped p table id) ∷ []
+    ∷ (NO_MEDIA_ITEM, has_kind p.kinds table kinds.Media && not (contains_key p.media (item table id)))
+    ∷ (STILL_MAPPED, is_mapped p table id) ∷ []
 piece_reasons p (Map mapping base_id related_id) =
-    (40, at_value (λ r. lacks_row p r.base base_id || lacks_row p r.related related_id) (get p.relations mapping))
-    ∷ (41, at_value (λ r. lacks_medium p r.base base_id || lacks_medium p r.related related_id) (get p.relations mapping))
-    ∷ (44, not (contains_key p.relations mapping))
-    ∷ (45, contains_key p.pairings (pairing mapping base_id related_id)) ∷ []
+    (NO_ROW, at_value (λ r. lacks_row p r.base base_id || lacks_row p r.related related_id) (get p.relations mapping))
+    ∷ (NO_MEDIA_ITEM, at_value (λ r. lacks_medium p r.base base_id || lacks_medium p r.related related_id) (get p.relations mapping))
+    ∷ (NO_RELATION, not (contains_key p.relations mapping))
+    ∷ (MAPPING_ROW_EXISTS, contains_key p.pairings (pairing mapping base_id related_id)) ∷ []
 piece_reasons p (MapDrop mapping base_id related_id) =
-    (44, not (contains_key p.relations mapping))
-    ∷ (46, contains_key p.relations mapping && not (contains_key p.pairings (pairing mapping base_id related_id))) ∷ []
+    (NO_RELATION, not (contains_key p.relations mapping))
+    ∷ (NO_MAPPING_ROW, contains_key p.relations mapping && not (contains_key p.pairings (pairing mapping base_id related_id))) ∷ []
 piece_reasons p (pieces.Matrix table zoom matrix) =
     no_table p table ∷ of_another_kind p table (is_pyramid p.kinds table)
-    ∷ (30, is_pyramid p.kinds table && contains_key p.matrices (level table (pos zoom)))
-    ∷ (31, is_pyramid p.kinds table && at_value (λ s. not (is_product s.box (grid matrix))) (get p.sets table))
-    ∷ (32, is_pyramid p.kinds table && clashes p table (pos zoom) (grid matrix)) ∷ []
+    ∷ (MATRIX_EXISTS, is_pyramid p.kinds table && contains_key p.matrices (level table (pos zoom)))
+    ∷ (NOT_THE_PRODUCT, is_pyramid p.kinds table && at_value (λ s. not (is_product s.box (grid matrix))) (get p.sets table))
+    ∷ (PIXEL_SIZES_OUT_OF_ORDER, is_pyramid p.kinds table && clashes p table (pos zoom) (grid matrix)) ∷ []
 
 -- ---- relations
 -- the text by which a relation of this name is kept
@@ -174,37 +175,37 @@ has_equal_piece p edition number q = at_value (same_piece (piece_row q)) (get p.
 -- every reason but that a piece is refused
 abbrev pub own_reasons : Package → Command → Reasons
 own_reasons p (commands.Srs id name organization organization_id definition description) =
-    (20, contains_key p.systems id) ∷ []
+    (SYSTEM_EXISTS, contains_key p.systems id) ∷ []
 own_reasons p (commands.Pyramid table identifier srs min_x min_y max_x max_y step) =
-    (21, not (contains_key p.systems srs))
-    ∷ (22, same_number srs (pos 0) || same_number srs (pos 4326))
-    ∷ (23, is_taken p table)
-    ∷ (24, is_identified p identifier)
-    ∷ (27, int_le max_x min_x || int_le max_y min_y) ∷ []
+    (NO_SYSTEM, not (contains_key p.systems srs))
+    ∷ (GEOGRAPHIC_SYSTEM, same_number srs (pos 0) || same_number srs (pos 4326))
+    ∷ (TABLE_NAME_TAKEN, is_taken p table)
+    ∷ (IDENTIFIER_TAKEN, is_identified p identifier)
+    ∷ (EMPTY_EXTENT, int_le max_x min_x || int_le max_y min_y) ∷ []
 own_reasons p (commands.Matrix table zoom matrix) = piece_reasons p (pieces.Matrix table zoom matrix)
 own_reasons p (commands.Table table kind identifier) =
-    (23, is_taken p table) ∷ (24, is_identified p identifier) ∷ []
+    (TABLE_NAME_TAKEN, is_taken p table) ∷ (IDENTIFIER_TAKEN, is_identified p identifier) ∷ []
 own_reasons p (commands.Drop table) =
-    no_table p table ∷ (48, is_used p table) ∷ []
+    no_table p table ∷ (USED_BY_A_RELATION, is_used p table) ∷ []
 own_reasons p (commands.Relation mapping base related name) =
-    (25, not (contains_key p.contents base) || not (contains_key p.contents related))
-    ∷ (43, is_taken p mapping)
-    ∷ (47, contains_key p.contents base && contains_key p.contents related && not (is_plain p base && has_kind p.kinds related (related_kind name))) ∷ []
+    (NO_TABLE, not (contains_key p.contents base) || not (contains_key p.contents related))
+    ∷ (MAPPING_NAME_TAKEN, is_taken p mapping)
+    ∷ (UNSUITED_KINDS, contains_key p.contents base && contains_key p.contents related && not (is_plain p base && has_kind p.kinds related (related_kind name))) ∷ []
 own_reasons p (commands.RelationDrop mapping) =
-    (44, not (contains_key p.relations mapping)) ∷ []
+    (NO_RELATION, not (contains_key p.relations mapping)) ∷ []
 own_reasons p (commands.Edition name) =
-    (50, contains_key p.editions name) ∷ []
+    (EDITION_EXISTS, contains_key p.editions name) ∷ []
 own_reasons p (commands.Discard name) =
-    (51, not (contains_key p.editions name)) ∷ (55, contains_key p.editions name && not (is_open p name)) ∷ []
+    (NO_EDITION, not (contains_key p.editions name)) ∷ (PUBLISHED_ALREADY, contains_key p.editions name && not (is_open p name)) ∷ []
 own_reasons p (commands.Stage edition number q) =
-    (51, not (contains_key p.editions edition))
-    ∷ (52, is_open p edition && (int_lt (pos (piece_count p edition + 1)) number || (int_le number (pos (piece_count p edition)) && not (has_equal_piece p edition number q))))
-    ∷ (54, is_open p edition && same_number number (pos (piece_count p edition + 1)) && (piece_count p edition == MostPieces))
-    ∷ (55, contains_key p.editions edition && not (is_open p edition)) ∷ []
+    (NO_EDITION, not (contains_key p.editions edition))
+    ∷ (NOT_THE_NEXT_PIECE, is_open p edition && (int_lt (pos (piece_count p edition + 1)) number || (int_le number (pos (piece_count p edition)) && not (has_equal_piece p edition number q))))
+    ∷ (TOO_MANY_PIECES, is_open p edition && same_number number (pos (piece_count p edition + 1)) && (piece_count p edition == MostPieces))
+    ∷ (PUBLISHED_ALREADY, contains_key p.editions edition && not (is_open p edition)) ∷ []
 own_reasons p (commands.Publish edition) =
-    (51, not (contains_key p.editions edition)) ∷ (55, contains_key p.editions edition && not (is_open p edition)) ∷ []
+    (NO_EDITION, not (contains_key p.editions edition)) ∷ (PUBLISHED_ALREADY, contains_key p.editions edition && not (is_open p edition)) ∷ []
 own_reasons p (commands.Rehearse edition) =
-    (51, not (contains_key p.editions edition)) ∷ (55, contains_key p.editions edition && not (is_open p edition)) ∷ []
+    (NO_EDITION, not (contains_key p.editions edition)) ∷ (PUBLISHED_ALREADY, contains_key p.editions edition && not (is_open p edition)) ∷ []
 own_reasons p (commands.Tile table zoom column row bytes) = piece_reasons p (Tile table zoom column row bytes)
 own_reasons p (commands.TileDrop table zoom column row) = piece_reasons p (TileDrop table zoom column row)
 own_reasons p (commands.Row table id title note amount) = piece_reasons p (Row table id title note amount)

@@ -4,6 +4,7 @@ use Rattle.mm_definitions.specs.Keys.{Text}
 use Rattle.mm_definitions.specs.Bounds.{IsFrom, IsName, IsText, IsIdentifier, IsContentType}
 use Rattle.mm_definitions.specs.Numbers as numbers
 use Rattle.mm_definitions.specs.Reading.{refuses_unless, refuses_bytes, reads_bytes, reads_text}
+use Rattle.mm_definitions.specs.declared.refusals.TheConstants.{NO_SUCH_RECORD, OUT_OF_LIMITS, NOT_A_NAME}
 
 -- what a field holds: one of some words; a number from the first to the second; 1 to so many bytes in
 -- hexadecimal digits; a text of so many bytes; an identifier; a content type; a name
@@ -40,13 +41,13 @@ HoldsValue _ t v = ⊥
 -- the number holds against the field's text: 10 where it is no number, bytes or word of the choice; 11 where its
 -- value or length is outside the limits; 12 where it is no name
 abbrev pub IsAgainst : Field → Text → ℕ → Type 0
-IsAgainst (OneOf words) t n = (n ≡ 10) × ¬ (IsOneOf words t)
-IsAgainst (NumberFrom low high) t n = ((n ≡ 10) × ((z : ℤ) → ¬ (numbers.SpellsNumber t z))) ⊎ ((n ≡ 11) × (z : ℤ) × numbers.SpellsNumber t z × ((z <ℤ low) ⊎ (high <ℤ z)))
+IsAgainst (OneOf words) t n = (n ≡ NO_SUCH_RECORD) × ¬ (IsOneOf words t)
+IsAgainst (NumberFrom low high) t n = ((n ≡ NO_SUCH_RECORD) × ((z : ℤ) → ¬ (numbers.SpellsNumber t z))) ⊎ ((n ≡ OUT_OF_LIMITS) × (z : ℤ) × numbers.SpellsNumber t z × ((z <ℤ low) ⊎ (high <ℤ z)))
 IsAgainst (BytesTo most) t n = refuses_bytes most t n
-IsAgainst (TextOf least most) t n = refuses_unless (IsText least most) 11 t n
-IsAgainst AnIdentifier t n = refuses_unless IsIdentifier 11 t n
-IsAgainst AContentType t n = refuses_unless IsContentType 11 t n
-IsAgainst AName t n = refuses_unless IsName 12 t n
+IsAgainst (TextOf least most) t n = refuses_unless (IsText least most) OUT_OF_LIMITS t n
+IsAgainst AnIdentifier t n = refuses_unless IsIdentifier OUT_OF_LIMITS t n
+IsAgainst AContentType t n = refuses_unless IsContentType OUT_OF_LIMITS t n
+IsAgainst AName t n = refuses_unless IsName NOT_A_NAME t n
 
 -- ---- the fields of a record
 -- as many texts as fields, each of which holds its value
@@ -59,4 +60,4 @@ AllHold _ _ _ = ⊥
 abbrev pub IsAgainstSome : List Field → List Text → ℕ → Type 0
 IsAgainstSome [] [] n = ⊥
 IsAgainstSome (f ∷ fs) (t ∷ ts) n = IsAgainst f t n ⊎ IsAgainstSome fs ts n
-IsAgainstSome _ _ n = n ≡ 10
+IsAgainstSome _ _ n = n ≡ NO_SUCH_RECORD

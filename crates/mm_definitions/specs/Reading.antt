@@ -6,6 +6,7 @@ use Rattle.mm_definitions.specs.declared.answers.ReadFault.{ReadFault}
 use Rattle.mm_definitions.specs.declared.answers.ReadFault.TheVariants as faults
 use Rattle.mm_definitions.specs.declared.answers.Outcome.{Outcome}
 use Rattle.mm_definitions.specs.declared.answers.Outcome.TheVariants as outcomes
+use Rattle.mm_definitions.specs.declared.refusals.TheConstants.{NO_SUCH_RECORD, OUT_OF_LIMITS}
 
 -- the value, the number that holds against the text, or want of memory
 abbrev pub ReadsTo : {A : Type 0} → (A → Type 0) → (ℕ → Type 0) → Result A ReadFault → Type 0
@@ -28,7 +29,7 @@ reads_bytes most text bytes = (decode_of text ≡ Ok bytes) × IsLong 1 most byt
 -- 10 against a text that isn't bytes in hexadecimal digits, 11 against no bytes and against more than the most
 abbrev pub refuses_bytes : ℕ → List ℕ → ℕ → Type 0
 refuses_bytes most text number =
-    ((number ≡ 10) × IsErr (decode_of text)) ⊎ ((number ≡ 11) × (bytes : List ℕ) × (decode_of text ≡ Ok bytes) × ¬ (IsLong 1 most bytes))
+    ((number ≡ NO_SUCH_RECORD) × IsErr (decode_of text)) ⊎ ((number ≡ OUT_OF_LIMITS) × (bytes : List ℕ) × (decode_of text ≡ Ok bytes) × ¬ (IsLong 1 most bytes))
 
 -- a number against a record, and no piece
 abbrev pub refused : ℕ → ReadFault

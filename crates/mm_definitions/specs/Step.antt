@@ -9,6 +9,7 @@ use Rattle.mm_definitions.specs.Stamp.{stamp}
 use Rattle.mm_definitions.specs.declared.answers.Refusal.{Refusal}
 use Rattle.mm_definitions.specs.declared.commands.Command.{Command}
 use Rattle.mm_definitions.specs.declared.commands.Command.TheVariants as commands
+use Rattle.mm_definitions.specs.declared.refusals.TheConstants.{PIECE_REFUSED}
 
 -- what publishing would give
 abbrev pub publishing : Package → Command → Text → Result Package PieceRefusal
@@ -24,7 +25,7 @@ is_publishing p _ = false
 
 -- every reason, where the pieces are tried at this stamp
 abbrev pub reasons_at : Package → Command → Text → Reasons
-reasons_at p c stamp = own_reasons p c ++ (53, is_publishing p c && is_err (publishing p c stamp)) ∷ []
+reasons_at p c stamp = own_reasons p c ++ (PIECE_REFUSED, is_publishing p c && is_err (publishing p c stamp)) ∷ []
 
 -- the piece that is refused, with its refusal, if one is
 abbrev pub refused_piece : Result Package PieceRefusal → Option PieceRefusal
@@ -34,7 +35,7 @@ refused_piece (Err r) = Some r
 -- the least reason; 53 carries the piece and its refusal
 abbrev pub refusal_of : Option ℕ → Option PieceRefusal → Option Refusal
 refusal_of None piece = None
-refusal_of (Some number) piece = Some (record { number = number; piece = if number == 53 then piece else None })
+refusal_of (Some number) piece = Some (record { number = number; piece = if number == PIECE_REFUSED then piece else None })
 
 -- what a command is refused with where the pieces are tried at this stamp, or None where it is ok
 abbrev pub refusal_at : Package → Command → Text → Option Refusal

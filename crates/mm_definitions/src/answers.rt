@@ -3,19 +3,61 @@
 ghost use Rattle.std.specs.Prelude.{◌≡◌};
 ghost use Rattle.mm_definitions.specs.Reading.{refused, outcome_refused};
 
+use crate::refusals::{PIECE_REFUSED, Reason};
+
 /// Why a command is refused. With 53 it tells the piece's number and the piece's own refusal.
 #[derive(Clone, Copy, Debug, PartialEq, Eq)]
 pub struct Refusal {
-    pub number: u8,
-    pub piece: Option<(u32, u8)>,
+    number: u8,
+    piece: Option<(u32, u8)>,
+}
+
+impl Refusal {
+    ghost use Rattle.std.specs.Prelude.{◌≡◌, None, Some};
+
+    /// For this reason.
+    pub const fn of(reason: Reason) -> Refusal
+        ensures { result ≡ record { number = reason; piece = None } }
+    {
+        Refusal {
+            number: reason.get(),
+            piece: None,
+        }
+    }
+
+    /// 53: the piece of this number is refused, and `number` is the number of its own refusal.
+    pub const fn of_piece(piece: u32, number: u8) -> Refusal
+        ensures { result ≡ record { number = PIECE_REFUSED; piece = Some (piece, number) } }
+    {
+        Refusal {
+            number: PIECE_REFUSED,
+            piece: Some((piece, number)),
+        }
+    }
+
+    /// The number that is told.
+    pub const fn number(self) -> u8
+        ensures { result ≡ self.number }
+    {
+        self.number
+    }
+
+    /// With 53 the number of the piece that is refused, and the number of its own refusal.
+    pub const fn piece(self) -> Option<(u32, u8)>
+        ensures { result ≡ self.piece }
+    {
+        self.piece
+    }
 }
 
 /// What stopped a call: 90 want of memory, 91 the store, 92 a session that has to be opened again, 96 the input,
-/// 97 the output.
+/// 97 the output. There is no other.
 #[derive(Clone, Copy, Debug, PartialEq, Eq)]
-pub struct Fault(pub u8);
+pub struct Fault(u8);
 
 impl Fault {
+    ghost use Rattle.std.specs.Prelude.{◌≡◌};
+
     /// Want of memory.
     pub const MEMORY: Fault = Fault(90);
     /// The store failed, or told what no package holds.
@@ -26,6 +68,13 @@ impl Fault {
     pub const INPUT: Fault = Fault(96);
     /// The output could not be written.
     pub const OUTPUT: Fault = Fault(97);
+
+    /// Its number.
+    pub const fn number(self) -> u8
+        ensures { result ≡ self.0 }
+    {
+        self.0
+    }
 }
 
 /// Why a file is not opened as a package.
@@ -53,14 +102,11 @@ pub enum ReadFault {
 }
 
 impl ReadFault {
-    /// The record is refused with this number.
-    pub const fn refused(number: u8) -> ReadFault
-        ensures { result ≡ refused number }
+    /// The record is refused for this reason.
+    pub const fn refused(reason: Reason) -> ReadFault
+        ensures { result ≡ refused reason }
     {
-        ReadFault::Refused(Refusal {
-            number,
-            piece: None,
-        })
+        ReadFault::Refused(Refusal::of(reason))
     }
 }
 
@@ -80,14 +126,11 @@ pub enum Outcome {
 }
 
 impl Outcome {
-    /// The command is refused with this number, and tells of no piece.
-    pub const fn refused(number: u8) -> Outcome
-        ensures { result ≡ outcome_refused number }
+    /// The command is refused for this reason, and tells of no piece.
+    pub const fn refused(reason: Reason) -> Outcome
+        ensures { result ≡ outcome_refused reason }
     {
-        Outcome::Refused(Refusal {
-            number,
-            piece: None,
-        })
+        Outcome::Refused(Refusal::of(reason))
     }
 }
 

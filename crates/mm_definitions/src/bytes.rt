@@ -7,6 +7,7 @@ ghost use Rattle.mm_definitions.specs.Reading.{ReadsTo, refuses_bytes, reads_byt
 use crate::answers::ReadFault;
 use crate::hexadecimal::decoded;
 use crate::limits::{MOST_MEDIA_BYTES, MOST_TILE_BYTES};
+use crate::refusals::Reason;
 use std::alloc::Global;
 use std::marker::Model;
 
@@ -55,12 +56,12 @@ impl<const MOST: usize> Bytes<MOST> {
     {
         let bytes = match decoded(alloc, text) {
             Ok(Some(bytes)) => bytes,
-            Ok(None) => return Err(ReadFault::refused(10)),
+            Ok(None) => return Err(ReadFault::refused(Reason::NO_SUCH_RECORD)),
             Err(_) => return Err(ReadFault::Memory),
         };
         match Bytes::new(bytes) {
             Some(bytes) => Ok(bytes),
-            None => Err(ReadFault::refused(11)),
+            None => Err(ReadFault::refused(Reason::OUT_OF_LIMITS)),
         }
     }
 

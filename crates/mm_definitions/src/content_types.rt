@@ -7,6 +7,7 @@ ghost use Rattle.mm_definitions.specs.Bounds as bounds;
 ghost use Rattle.mm_definitions.specs.Reading.{ReadsTo, reads_text, refuses_unless};
 
 use crate::answers::ReadFault;
+use crate::refusals::{OUT_OF_LIMITS, Reason};
 use std::alloc::Global;
 use std::marker::Model;
 
@@ -88,10 +89,10 @@ impl ContentType {
     /// A copy of the text: 11 where it is no content type.
     pub fn read(alloc: Global, text: &str) -> Result<ContentType, ReadFault>
         ensures { ReadsTo (reads_text IsContentType text.now)
-            (refuses_unless IsContentType 11 text.now) result }
+            (refuses_unless IsContentType OUT_OF_LIMITS text.now) result }
     {
         if !is_content_type(text) {
-            return Err(ReadFault::refused(11));
+            return Err(ReadFault::refused(Reason::OUT_OF_LIMITS));
         }
         match String::from_str(alloc, text) {
             Ok(text) => Ok(ContentType { text }),

@@ -7,6 +7,7 @@ ghost use Rattle.mm_definitions.specs.Bounds as bounds;
 ghost use Rattle.mm_definitions.specs.Reading.{ReadsTo, reads_text, refuses_unless};
 
 use crate::answers::ReadFault;
+use crate::refusals::{OUT_OF_LIMITS, Reason};
 use std::alloc::Global;
 use std::marker::Model;
 
@@ -67,10 +68,10 @@ impl Identifier {
     /// A copy of the text: 11 where it is outside the limits.
     pub fn read(alloc: Global, text: &str) -> Result<Identifier, ReadFault>
         ensures { ReadsTo (reads_text IsIdentifier text.now)
-            (refuses_unless IsIdentifier 11 text.now) result }
+            (refuses_unless IsIdentifier OUT_OF_LIMITS text.now) result }
     {
         if !is_identifier(text) {
-            return Err(ReadFault::refused(11));
+            return Err(ReadFault::refused(Reason::OUT_OF_LIMITS));
         }
         match String::from_str(alloc, text) {
             Ok(text) => Ok(Identifier { text }),

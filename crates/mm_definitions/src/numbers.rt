@@ -4,6 +4,8 @@ ghost use Rattle.std.specs.Prelude.{◌≡◌, ◌<◌, ◌≤◌, ◌^◌, ◌�
 ghost use Rattle.std.specs.Int.{w64};
 ghost use Rattle.mm_definitions.specs.Numbers.{AreDigits, LeadDigits, SpellsNumber, signed, value_from};
 
+use crate::refusals::{NO_SUCH_RECORD, OUT_OF_LIMITS, Reason};
+
 // Whether these are digits, the first of which isn't 0.
 fn has_lead(text: &[u8]) -> bool
     ensures { IsTrue result ↔ LeadDigits text.now }
@@ -67,25 +69,25 @@ fn parts(text: &[u8]) -> Option<(bool, &[u8])>
 }
 
 /// The number that a text spells: 10 where there is none, and 11 where it isn't from `least` to `most`.
-pub fn read_number(text: &str, least: i64, most: i64) -> Result<i64, u8>
+pub fn read_number(text: &str, least: i64, most: i64) -> Result<i64, Reason>
     ensures ok { IfOk result (λ z. SpellsNumber text.now z × (least ≤ℤ z) × (z ≤ℤ most)) }
-    ensures err { IfErr result (λ e. ((e ≡ 10) × ((z : ℤ) → ¬ (SpellsNumber text.now z)))
-        ⊎ ((e ≡ 11) × (z : ℤ) × SpellsNumber text.now z × ((z <ℤ least) ⊎ (most <ℤ z)))) }
+    ensures err { IfErr result (λ e. ((e ≡ NO_SUCH_RECORD) × ((z : ℤ) → ¬ (SpellsNumber text.now z)))
+        ⊎ ((e ≡ OUT_OF_LIMITS) × (z : ℤ) × SpellsNumber text.now z × ((z <ℤ least) ⊎ (most <ℤ z)))) }
 {
     let Some((negative, digits)) = parts(text.as_bytes()) else {
-        return Err(10);
+        return Err(Reason::NO_SUCH_RECORD);
     };
     let Some(n) = magnitude(digits) else {
-        return Err(11);
+        return Err(Reason::OUT_OF_LIMITS);
     };
     let Some(z) = with_sign(negative, n) else {
-        return Err(11);
+        return Err(Reason::OUT_OF_LIMITS);
     };
     if z < least {
-        return Err(11);
+        return Err(Reason::OUT_OF_LIMITS);
     }
     if most < z {
-        return Err(11);
+        return Err(Reason::OUT_OF_LIMITS);
     }
     Ok(z)
 }

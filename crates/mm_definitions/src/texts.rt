@@ -6,6 +6,7 @@ ghost use Rattle.mm_definitions.specs.Bounds as bounds;
 ghost use Rattle.mm_definitions.specs.Reading.{ReadsTo, reads_text, refuses_unless};
 
 use crate::answers::ReadFault;
+use crate::refusals::{OUT_OF_LIMITS, Reason};
 use std::alloc::Global;
 use std::marker::Model;
 
@@ -69,10 +70,10 @@ impl<const LEAST: usize, const MOST: usize> Text<LEAST, MOST> {
     /// A copy of the text: 11 where it is outside the limits.
     pub fn read(alloc: Global, text: &str) -> Result<Self, ReadFault>
         ensures { ReadsTo (reads_text (IsText LEAST MOST) text.now)
-            (refuses_unless (IsText LEAST MOST) 11 text.now) result }
+            (refuses_unless (IsText LEAST MOST) OUT_OF_LIMITS text.now) result }
     {
         if !is_text(text, LEAST, MOST) {
-            return Err(ReadFault::refused(11));
+            return Err(ReadFault::refused(Reason::OUT_OF_LIMITS));
         }
         match String::from_str(alloc, text) {
             Ok(text) => Ok(Text { text }),

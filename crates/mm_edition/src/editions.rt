@@ -14,6 +14,7 @@ use crate::pieces::blobs_of_pieces;
 use mm_blobs::blobs::release_each;
 use mm_definitions::answers::{Fault, Outcome};
 use mm_definitions::names::Name;
+use mm_definitions::refusals::Reason;
 use mm_store::statements::{first_text, run};
 use sqlite::{Alter, Transaction, params};
 
@@ -86,7 +87,7 @@ pub fn open_edition<S: Alter>(tx: &mut Transaction<'_, S>, edition: &Name) -> Re
     let edition = edition.as_str();
     match standing_of(tx, edition)? {
         None => {}
-        Some(_) => return Ok(Outcome::refused(50)),
+        Some(_) => return Ok(Outcome::refused(Reason::EDITION_EXISTS)),
     }
     insert_edition(tx, edition)?;
     Ok(Outcome::Done)
@@ -117,14 +118,14 @@ fn delete_edition<S: Alter>(tx: &mut Transaction<'_, S>, edition: &str) -> Resul
 pub fn closed_refusal<S: Alter>(
     tx: &mut Transaction<'_, S>,
     edition: &str,
-) -> Result<Option<u8>, Fault>
+) -> Result<Option<Reason>, Fault>
     ensures { Tells S.Store tx.old tx.new (λ p. least
         (own_reasons p (commands.Discard edition.now))) result }
 {
     match standing_of(tx, edition)? {
         Some(Standing::Open) => Ok(None),
-        Some(Standing::Published) => Ok(Some(55)),
-        None => Ok(Some(51)),
+        Some(Standing::Published) => Ok(Some(Reason::PUBLISHED_ALREADY)),
+        None => Ok(Some(Reason::NO_EDITION)),
     }
 }
 

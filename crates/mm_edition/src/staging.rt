@@ -17,6 +17,7 @@ use mm_definitions::bounded::Id;
 use mm_definitions::commands::Piece;
 use mm_definitions::limits::MOST_PIECES;
 use mm_definitions::names::Name;
+use mm_definitions::refusals::Reason;
 use sqlite::{Alter, Transaction};
 
 /// What staging a piece under a number comes to.
@@ -25,7 +26,7 @@ pub(crate) enum Place {
     Equal,
     /// It is the next number.
     Next,
-    Refused(u8),
+    Refused(Reason),
 }
 
 /// What the next number comes to: it is free, or it is one too many.
@@ -33,7 +34,7 @@ fn next_place(number: i64) -> Place
     ensures { IsRoom number result }
 {
     if number > MOST_PIECES as i64 {
-        Place::Refused(54)
+        Place::Refused(Reason::TOO_MANY_PIECES)
     } else {
         Place::Next
     }
@@ -71,7 +72,7 @@ fn place_behind<S: Alter>(
     if is_behind(tx, edition, number)? {
         Ok(next_place(number))
     } else {
-        Ok(Place::Refused(52))
+        Ok(Place::Refused(Reason::NOT_THE_NEXT_PIECE))
     }
 }
 
@@ -82,7 +83,7 @@ fn place_at(kept: &Kept, written: Written<'_>) -> Place
     if is_written(kept, written) {
         Place::Equal
     } else {
-        Place::Refused(52)
+        Place::Refused(Reason::NOT_THE_NEXT_PIECE)
     }
 }
 
@@ -98,8 +99,8 @@ fn place_of<S: Alter>(
 {
     match standing_of(tx, edition)? {
         Some(Standing::Open) => {}
-        Some(Standing::Published) => return Ok(Place::Refused(55)),
-        None => return Ok(Place::Refused(51)),
+        Some(Standing::Published) => return Ok(Place::Refused(Reason::PUBLISHED_ALREADY)),
+        None => return Ok(Place::Refused(Reason::NO_EDITION)),
     }
     match kept_piece(tx, edition, number)? {
         Some(kept) => Ok(place_at(&kept, written)),

@@ -47,8 +47,8 @@ fn put_refusal(out: &mut ArrayVec<u8, 96>, why: Refusal)
     ensures size { length out.new.items ≤ length out.old.items + 71 }
 {
     put(out, b" refused ");
-    put_number(out, why.number as u64);
-    put_piece(out, why.piece);
+    put_number(out, why.number() as u64);
+    put_piece(out, why.piece());
 }
 
 fn put_fault(out: &mut ArrayVec<u8, 96>, fault: Fault)
@@ -57,7 +57,7 @@ fn put_fault(out: &mut ArrayVec<u8, 96>, fault: Fault)
     ensures size { length out.new.items ≤ length out.old.items + 71 }
 {
     put(out, b" fault ");
-    put_number(out, fault.0 as u64);
+    put_number(out, fault.number() as u64);
 }
 
 fn put_answer(out: &mut ArrayVec<u8, 96>, answer: Answer)

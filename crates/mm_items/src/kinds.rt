@@ -10,6 +10,7 @@ ghost use Rattle.mm_store.specs.Handed.{FindsRefusal};
 
 use mm_definitions::answers::Fault;
 use mm_definitions::commands::{Kind, PlainKind};
+use mm_definitions::refusals::Reason;
 use mm_layout::kind_of;
 use sqlite::{Alter, Transaction};
 
@@ -28,18 +29,18 @@ pub(crate) fn plain_refusal<S: Alter>(
     tx: &mut Transaction<'_, S>,
     table: &str,
     asked: PlainKind,
-) -> Result<Option<u8>, Fault>
+) -> Result<Option<Reason>, Fault>
     ensures { FindsRefusal S.Store tx.old tx.new
         (λ p. no_table p table.now ∷ of_another_kind p table.now
         (has_kind p.kinds table.now (plain_kind asked)) ∷ []) result }
 {
     let Some(kind) = kind_of(tx, table)? else {
-        return Ok(Some(25));
+        return Ok(Some(Reason::NO_TABLE));
     };
     if suits(asked, kind) {
         Ok(None)
     } else {
-        Ok(Some(26))
+        Ok(Some(Reason::ANOTHER_KIND))
     }
 }
 
@@ -59,17 +60,17 @@ fn is_tiled(kind: Kind) -> bool
 pub(crate) fn pyramid_refusal<S: Alter>(
     tx: &mut Transaction<'_, S>,
     table: &str,
-) -> Result<Option<u8>, Fault>
+) -> Result<Option<Reason>, Fault>
     ensures { FindsRefusal S.Store tx.old tx.new
         (λ p. no_table p table.now ∷ of_another_kind p table.now (is_pyramid p.kinds table.now)
         ∷ []) result }
 {
     let Some(kind) = kind_of(tx, table)? else {
-        return Ok(Some(25));
+        return Ok(Some(Reason::NO_TABLE));
     };
     if is_tiled(kind) {
         Ok(None)
     } else {
-        Ok(Some(26))
+        Ok(Some(Reason::ANOTHER_KIND))
     }
 }

@@ -17,6 +17,7 @@ use mm_blobs::entries::blob_of_medium;
 use mm_definitions::answers::{Fault, Outcome};
 use mm_definitions::commands::PlainKind;
 use mm_definitions::names::Name;
+use mm_definitions::refusals::Reason;
 use mm_layout::{has_medium, set_last_change};
 use mm_store::statements::run;
 use sqlite::{Alter, Transaction, params};
@@ -171,7 +172,7 @@ fn medium_drop_refusal<S: Alter>(
     tx: &mut Transaction<'_, S>,
     table: &str,
     id: i64,
-) -> Result<Option<u8>, Fault>
+) -> Result<Option<Reason>, Fault>
     ensures { FindsRefusal S.Store tx.old tx.new
         (λ p. own_reasons p (commands.MediaDrop table.now id)) result }
 {
@@ -179,10 +180,10 @@ fn medium_drop_refusal<S: Alter>(
         return Ok(Some(number));
     }
     if !has_medium(tx, table, id)? {
-        return Ok(Some(41));
+        return Ok(Some(Reason::NO_MEDIA_ITEM));
     }
     if is_mapped(tx, table, id)? {
-        Ok(Some(42))
+        Ok(Some(Reason::STILL_MAPPED))
     } else {
         Ok(None)
     }

@@ -13,6 +13,7 @@ use crate::mapped::is_mapped;
 use mm_definitions::answers::{Fault, Outcome};
 use mm_definitions::commands::PlainKind;
 use mm_definitions::names::Name;
+use mm_definitions::refusals::Reason;
 use mm_layout::{has_row, set_last_change};
 use mm_store::statements::run;
 use sqlite::{Alter, Transaction, params};
@@ -125,7 +126,7 @@ fn row_drop_refusal<S: Alter>(
     tx: &mut Transaction<'_, S>,
     table: &str,
     id: i64,
-) -> Result<Option<u8>, Fault>
+) -> Result<Option<Reason>, Fault>
     ensures { FindsRefusal S.Store tx.old tx.new
         (λ p. own_reasons p (commands.RowDrop table.now id)) result }
 {
@@ -133,10 +134,10 @@ fn row_drop_refusal<S: Alter>(
         return Ok(Some(number));
     }
     if !has_row(tx, table, id)? {
-        return Ok(Some(40));
+        return Ok(Some(Reason::NO_ROW));
     }
     if is_mapped(tx, table, id)? {
-        Ok(Some(42))
+        Ok(Some(Reason::STILL_MAPPED))
     } else {
         Ok(None)
     }

@@ -18,6 +18,7 @@ use mm_blobs::entries::blob_of_tile;
 use mm_definitions::answers::{Fault, Outcome};
 use mm_definitions::names::Name;
 use mm_definitions::places::TilePlace;
+use mm_definitions::refusals::Reason;
 use mm_layout::set_last_change;
 use mm_store::statements::{exists, first_pair, run};
 use sqlite::{Alter, Transaction, params};
@@ -182,17 +183,17 @@ pub(crate) fn tile_refusal<S: Alter>(
     tx: &mut Transaction<'_, S>,
     table: &str,
     place: TilePlace,
-) -> Result<Option<u8>, Fault>
+) -> Result<Option<Reason>, Fault>
     ensures { FindsRefusal S.Store tx.old tx.new (tile_reasons table.now place) result }
 {
     if let Some(number) = pyramid_refusal(tx, table)? {
         return Ok(Some(number));
     }
     let Some((width, height)) = sides_at(tx, table, place.zoom)? else {
-        return Ok(Some(33));
+        return Ok(Some(Reason::NO_MATRIX));
     };
     if is_outside(width, height, place.column, place.row) {
-        Ok(Some(34))
+        Ok(Some(Reason::OUTSIDE_MATRIX))
     } else {
         Ok(None)
     }
@@ -229,7 +230,7 @@ fn tile_drop_refusal<S: Alter>(
     tx: &mut Transaction<'_, S>,
     table: &str,
     place: TilePlace,
-) -> Result<Option<u8>, Fault>
+) -> Result<Option<Reason>, Fault>
     ensures { FindsRefusal S.Store tx.old tx.new
         (λ p. own_reasons p (commands.TileDrop table.now place.zoom place.column place.row))
         result }
@@ -240,7 +241,7 @@ fn tile_drop_refusal<S: Alter>(
     if has_tile(tx, table, place)? {
         Ok(None)
     } else {
-        Ok(Some(35))
+        Ok(Some(Reason::NO_TILE))
     }
 }
 

@@ -16,6 +16,7 @@ use mm_definitions::content_types::ContentType;
 use mm_definitions::limits::{LAST_ID, MOST_PIECES};
 use mm_definitions::names::Name;
 use mm_definitions::numbers::read_number;
+use mm_definitions::refusals::Reason;
 use mm_records::read_piece;
 use std::alloc::{AllocError, Global};
 
@@ -96,7 +97,7 @@ fn place_entry(piece: Piece, file: Option<FileName>) -> Entry
 }
 
 /// The name of a file that a field gives, if there is such a field: 57 where it is out of form.
-fn read_file(field: Option<&str>) -> Result<Option<FileName>, u8>
+fn read_file(field: Option<&str>) -> Result<Option<FileName>, Reason>
     ensures { file_read (text_of field.entry) result }
 {
     let Some(text) = field else {
@@ -104,33 +105,33 @@ fn read_file(field: Option<&str>) -> Result<Option<FileName>, u8>
     };
     match FileName::read(text) {
         Some(name) => Ok(Some(name)),
-        None => Err(57),
+        None => Err(Reason::NO_FILE),
     }
 }
 
 /// The file's name, where nothing is against a record of a piece at this place: 54 where there are too many records, 56
 /// where its number isn't its place, 57 where the file's name is out of form.
-fn place_record(place: u32, number: i64, field: Option<&str>) -> Result<Option<FileName>, u8>
+fn place_record(place: u32, number: i64, field: Option<&str>) -> Result<Option<FileName>, Reason>
     ensures { IsLeftToAsk place number (text_of field.entry) result }
 {
     if place > MOST_PIECES {
-        return Err(54);
+        return Err(Reason::TOO_MANY_PIECES);
     }
     if number != i64::from(place) {
-        return Err(56);
+        return Err(Reason::NOT_THE_PLACE);
     }
     read_file(field)
 }
 
 /// The least number that is against a record whose number is refused.
-fn least_fault(number: u8, piece: Result<Piece, ReadFault>) -> ReadFault
+fn least_fault(number: Reason, piece: Result<Piece, ReadFault>) -> ReadFault
     ensures { result ≡ entries.least_fault number piece }
 {
     match piece {
         Ok(_piece) => ReadFault::refused(number),
         Err(ReadFault::Memory) => ReadFault::Memory,
         Err(ReadFault::Refused(why)) => {
-            if why.number < number {
+            if why.number() < number.get() {
                 ReadFault::Refused(why)
             } else {
                 ReadFault::refused(number)
@@ -171,7 +172,7 @@ pub(crate) fn read_entry(alloc: Global, place: u32, fields: &[&str]) -> Result<E
         (IsLeast (HoldsAgainstEntry place (map (λ f. f.now) fields.now))) result }
 {
     let [number, rest @ ..] = fields else {
-        return Err(ReadFault::refused(10));
+        return Err(ReadFault::refused(Reason::NO_SUCH_RECORD));
     };
     let mut record = Vec::new(alloc);
     if record.extend_from_slice(rest).is_err() {

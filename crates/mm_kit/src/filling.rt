@@ -11,6 +11,7 @@ use crate::file_names::FileName;
 use crate::folders::{Folder, FolderFault, Found};
 use mm_definitions::bytes::Bytes;
 use mm_definitions::commands::Piece;
+use mm_definitions::refusals;
 use std::alloc::Global;
 
 /// The bytes of a file, from 1 to `MOST`: 57 where there is no such file, 11 where it has none or too many.
@@ -29,10 +30,10 @@ fn read_bytes<const MOST: usize, F: Folder>(
     match folder.read(alloc, name.as_str(), MOST as u64)? {
         Found::Bytes(bytes) => match Bytes::new(bytes) {
             Some(bytes) => Ok(Ok(bytes)),
-            None => Ok(Err(11)),
+            None => Ok(Err(refusals::OUT_OF_LIMITS)),
         },
-        Found::TooLong => Ok(Err(11)),
-        Found::Missing => Ok(Err(57)),
+        Found::TooLong => Ok(Err(refusals::OUT_OF_LIMITS)),
+        Found::Missing => Ok(Err(refusals::NO_FILE)),
     }
 }
 

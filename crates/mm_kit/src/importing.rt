@@ -14,6 +14,7 @@ use mm_definitions::answers::{KitFault, Staged};
 use mm_definitions::entries::EditionState;
 use mm_definitions::moments::Moment;
 use mm_definitions::names::Name;
+use mm_definitions::refusals;
 use mm_edition::Editor;
 use std::alloc::Global;
 
@@ -33,8 +34,8 @@ fn find_list<F: Folder>(alloc: Global, folder: &mut F) -> Result<Listed, FolderF
             Ok(listed) => Ok(listed),
             Err(_) => Err(FolderFault::Memory),
         },
-        Found::TooLong => Ok(Listed::Refused(0, 11)),
-        Found::Missing => Ok(Listed::Refused(0, 57)),
+        Found::TooLong => Ok(Listed::Refused(0, refusals::OUT_OF_LIMITS)),
+        Found::Missing => Ok(Listed::Refused(0, refusals::NO_FILE)),
     }
 }
 
@@ -70,18 +71,18 @@ fn import_entries<A: Editor, F: Folder>(
             if records < pieces {
                 return Ok(Staged::Refused {
                     piece: records + 1,
-                    number: 52,
+                    number: refusals::NOT_THE_NEXT_PIECE,
                 });
             }
             stage_all(alloc, editor, name, folder, entries, at)
         }
         Ok(Some(EditionState::Published)) => Ok(Staged::Refused {
             piece: 0,
-            number: 55,
+            number: refusals::PUBLISHED_ALREADY,
         }),
         Ok(None) => Ok(Staged::Refused {
             piece: 0,
-            number: 51,
+            number: refusals::NO_EDITION,
         }),
         Err(fault) => Err(KitFault { fault, staged: 0 }),
     }

@@ -12,6 +12,7 @@ use crate::entries::{Entry, read_entry};
 use csv::{ByteRecord, Reader, StringRecord};
 use mm_definitions::answers::ReadFault;
 use mm_definitions::limits::MOST_PIECES;
+use mm_definitions::refusals::Reason;
 use mm_io::{open_rows, text_fields};
 use std::alloc::{AllocError, Global};
 use std::io::Read;
@@ -45,7 +46,7 @@ fn read_row(alloc: Global, place: u32, row: ByteRecord) -> Result<Entry, ReadFau
     ensures { IsEntryRead place (fields_of row) result }
 {
     let Ok(text) = StringRecord::from_byte_record(row) else {
-        return Err(ReadFault::refused(10));
+        return Err(ReadFault::refused(Reason::NO_SUCH_RECORD));
     };
     let Ok(fields) = text_fields(alloc, &text) else {
         return Err(ReadFault::Memory);
@@ -70,7 +71,7 @@ fn read_rows<T: Read>(alloc: Global, rows: &mut Reader<T>) -> Result<Listed, All
                         return Err(AllocError);
                     }
                 }
-                Err(ReadFault::Refused(why)) => return Ok(Listed::Refused(place, why.number)),
+                Err(ReadFault::Refused(why)) => return Ok(Listed::Refused(place, why.number())),
                 Err(ReadFault::Memory) => return Err(AllocError),
             },
             None => return Ok(Listed::Entries(entries)),

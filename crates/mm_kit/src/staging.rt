@@ -146,7 +146,7 @@ pub(crate) fn stage_all<A: Editor, F: Folder>(
             Answer::Refused(why) => {
                 return Ok(Staged::Refused {
                     piece: staged + 1,
-                    number: why.number,
+                    number: why.number(),
                 });
             }
             Answer::Fault(fault) => return Err(KitFault { fault, staged }),

@@ -12,6 +12,7 @@ ghost use Rattle.mm_layout.specs.Handed.{Touches};
 use crate::relations::has_relation;
 use mm_definitions::answers::{Fault, Outcome};
 use mm_definitions::names::Name;
+use mm_definitions::refusals::Reason;
 use mm_store::statements::{exists, run};
 use sqlite::{Alter, Transaction, params};
 
@@ -79,7 +80,7 @@ pub fn touch<S: Alter>(
 {
     let table = table.as_str();
     if !has_table(tx, table)? {
-        return Ok(Outcome::refused(25));
+        return Ok(Outcome::refused(Reason::NO_TABLE));
     }
     set_last_change(tx, table, last_change)?;
     Ok(Outcome::Done)

@@ -18,6 +18,7 @@ use mm_definitions::answers::{Fault, Outcome};
 use mm_definitions::commands::Step;
 use mm_definitions::extents::Extent;
 use mm_definitions::names::Name;
+use mm_definitions::refusals::Reason;
 use mm_store::statements::run;
 use mm_store::systems::has_system;
 use sqlite::{Alter, Transaction, params};
@@ -116,25 +117,25 @@ fn pyramid_refusal<S: Alter>(
     min_y: i64,
     max_x: i64,
     max_y: i64,
-) -> Result<Option<u8>, Fault>
+) -> Result<Option<Reason>, Fault>
     ensures { Looks S.Store tx.old tx.new (λ p why. (step : Step) → why ≡ least
         (own_reasons p (commands.Pyramid table.now identifier.now srs min_x min_y max_x max_y
         step))) result }
 {
     if !has_system(tx, srs)? {
-        return Ok(Some(21));
+        return Ok(Some(Reason::NO_SYSTEM));
     }
     if is_geographic(srs) {
-        return Ok(Some(22));
+        return Ok(Some(Reason::GEOGRAPHIC_SYSTEM));
     }
     if is_taken(tx, table)? {
-        return Ok(Some(23));
+        return Ok(Some(Reason::TABLE_NAME_TAKEN));
     }
     if has_identifier(tx, identifier)? {
-        return Ok(Some(24));
+        return Ok(Some(Reason::IDENTIFIER_TAKEN));
     }
     if is_empty(min_x, min_y, max_x, max_y) {
-        Ok(Some(27))
+        Ok(Some(Reason::EMPTY_EXTENT))
     } else {
         Ok(None)
     }

@@ -19,6 +19,7 @@ use mm_blobs::blobs::release_each;
 use mm_definitions::answers::{Fault, Outcome};
 use mm_definitions::commands::PlainKind;
 use mm_definitions::names::Name;
+use mm_definitions::refusals::Reason;
 use mm_store::statements::{all, run};
 use sqlite::{Alter, Row, Transaction, params};
 
@@ -27,15 +28,15 @@ fn table_refusal<S: Alter>(
     tx: &mut Transaction<'_, S>,
     table: &str,
     identifier: &str,
-) -> Result<Option<u8>, Fault>
+) -> Result<Option<Reason>, Fault>
     ensures { Looks S.Store tx.old tx.new (λ p why. (kind : PlainKind) → why ≡ least
         (own_reasons p (commands.Table table.now kind identifier.now))) result }
 {
     if is_taken(tx, table)? {
-        return Ok(Some(23));
+        return Ok(Some(Reason::TABLE_NAME_TAKEN));
     }
     if has_identifier(tx, identifier)? {
-        Ok(Some(24))
+        Ok(Some(Reason::IDENTIFIER_TAKEN))
     } else {
         Ok(None)
     }
@@ -110,15 +111,15 @@ fn delete_table<S: Alter>(tx: &mut Transaction<'_, S>, table: &str) -> Result<()
 }
 
 /// Why a table is not removed, if it is not.
-fn drop_refusal<S: Alter>(tx: &mut Transaction<'_, S>, table: &str) -> Result<Option<u8>, Fault>
+fn drop_refusal<S: Alter>(tx: &mut Transaction<'_, S>, table: &str) -> Result<Option<Reason>, Fault>
     ensures { Tells S.Store tx.old tx.new (λ p. least (own_reasons p (commands.Drop table.now)))
         result }
 {
     if !has_table(tx, table)? {
-        return Ok(Some(25));
+        return Ok(Some(Reason::NO_TABLE));
     }
     if uses_table(tx, table)? {
-        Ok(Some(48))
+        Ok(Some(Reason::USED_BY_A_RELATION))
     } else {
         Ok(None)
     }

@@ -15,6 +15,7 @@ use crate::zooms::suits_zooms;
 use mm_definitions::answers::{Fault, Outcome};
 use mm_definitions::commands::{Kind, Matrix, Step};
 use mm_definitions::names::Name;
+use mm_definitions::refusals::Reason;
 use mm_layout::{kind_of, set_last_change};
 use mm_store::statements::{exists, run};
 use sqlite::{Alter, Transaction, params};
@@ -78,27 +79,27 @@ fn matrix_refusal<S: Alter>(
     table: &str,
     zoom: u8,
     matrix: &Matrix,
-) -> Result<Option<u8>, Fault>
+) -> Result<Option<Reason>, Fault>
     ensures { FindsRefusal S.Store tx.old tx.new
         (λ p. own_reasons p (commands.Matrix table.now zoom matrix.now)) result }
 {
     let Some(kind) = kind_of(tx, table)? else {
-        return Ok(Some(25));
+        return Ok(Some(Reason::NO_TABLE));
     };
     let step = match step_of(kind) {
         Some(step) => step,
-        None => return Ok(Some(26)),
+        None => return Ok(Some(Reason::ANOTHER_KIND)),
     };
     if has_matrix(tx, table, zoom)? {
-        return Ok(Some(30));
+        return Ok(Some(Reason::MATRIX_EXISTS));
     }
     if !fits_pyramid(tx, table, matrix)? {
-        return Ok(Some(31));
+        return Ok(Some(Reason::NOT_THE_PRODUCT));
     }
     if suits_zooms(tx, table, zoom, matrix, step)? {
         Ok(None)
     } else {
-        Ok(Some(32))
+        Ok(Some(Reason::PIXEL_SIZES_OUT_OF_ORDER))
     }
 }
 

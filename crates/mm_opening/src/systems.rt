@@ -6,6 +6,7 @@ ghost use Rattle.mm_definitions.specs.declared.commands.Command.TheVariants as c
 ghost use Rattle.mm_store.specs.Handed.{ChangesWhere, Applies};
 
 use mm_definitions::answers::{Fault, Outcome};
+use mm_definitions::refusals::Reason;
 use mm_store::statements::run;
 use mm_store::systems::has_system;
 use sqlite::{Alter, Transaction, params};
@@ -62,7 +63,7 @@ pub fn add_srs<S: Alter>(
         result }
 {
     if has_system(tx, id)? {
-        return Ok(Outcome::refused(20));
+        return Ok(Outcome::refused(Reason::SYSTEM_EXISTS));
     }
     insert_system(
         tx,

@@ -119,12 +119,7 @@ pub fn publish<S: Alter>(
     }
     match try_pieces(tx, edition, last_change)? {
         None => {}
-        Some(piece) => {
-            return Ok(Outcome::Refused(Refusal {
-                number: 53,
-                piece: Some(piece),
-            }));
-        }
+        Some((piece, why)) => return Ok(Outcome::Refused(Refusal::of_piece(piece, why))),
     }
     close_edition(tx, name)?;
     Ok(Outcome::Done)

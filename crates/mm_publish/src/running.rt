@@ -200,6 +200,6 @@ pub(crate) fn try_piece<S: Alter>(
     };
     match run_piece(tx, edition, number, &found, last_change)? {
         Outcome::Done => Ok(Turn::Done),
-        Outcome::Refused(why) => Ok(Turn::Refused(why.number)),
+        Outcome::Refused(why) => Ok(Turn::Refused(why.number())),
     }
 }

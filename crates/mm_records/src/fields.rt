@@ -15,6 +15,7 @@ use mm_definitions::commands::{PlainKind, RelationName, Step};
 use mm_definitions::limits::{LAST_ID, LAST_ZOOM};
 use mm_definitions::names::Name;
 use mm_definitions::numbers::read_number;
+use mm_definitions::refusals::Reason;
 
 /// Both values, or the least number that is against one of them. Want of memory goes before all.
 pub(crate) fn both<A: Drop, B: Drop>(
@@ -27,7 +28,7 @@ pub(crate) fn both<A: Drop, B: Drop>(
         (Ok(a), Ok(b)) => Ok((a, b)),
         (Err(ReadFault::Memory), _) | (_, Err(ReadFault::Memory)) => Err(ReadFault::Memory),
         (Err(ReadFault::Refused(one)), Err(ReadFault::Refused(other))) => {
-            if one.number <= other.number {
+            if one.number() <= other.number() {
                 Err(ReadFault::Refused(one))
             } else {
                 Err(ReadFault::Refused(other))
@@ -44,7 +45,7 @@ pub(crate) fn name_field(text: &str) -> Result<Name, ReadFault>
 {
     match Name::read(text) {
         Some(name) => Ok(name),
-        None => Err(ReadFault::refused(12)),
+        None => Err(ReadFault::refused(Reason::NOT_A_NAME)),
     }
 }
 
@@ -55,7 +56,7 @@ fn number_field(text: &str, least: i64, most: i64) -> Result<i64, ReadFault>
 {
     match read_number(text, least, most) {
         Ok(number) => Ok(number),
-        Err(number) => Err(ReadFault::refused(number)),
+        Err(reason) => Err(ReadFault::refused(reason)),
     }
 }
 
@@ -132,7 +133,7 @@ pub(crate) fn step_field(text: &str) -> Result<Step, ReadFault>
     match text {
         "two" => Ok(Step::Two),
         "other" => Ok(Step::Other),
-        _ => Err(ReadFault::refused(10)),
+        _ => Err(ReadFault::refused(Reason::NO_SUCH_RECORD)),
     }
 }
 
@@ -144,7 +145,7 @@ pub(crate) fn kind_field(text: &str) -> Result<PlainKind, ReadFault>
     match text {
         "attributes" => Ok(PlainKind::Attributes),
         "media" => Ok(PlainKind::Media),
-        _ => Err(ReadFault::refused(10)),
+        _ => Err(ReadFault::refused(Reason::NO_SUCH_RECORD)),
     }
 }
 
@@ -156,6 +157,6 @@ pub(crate) fn relation_field(text: &str) -> Result<RelationName, ReadFault>
     match text {
         "media" => Ok(RelationName::Media),
         "simple_attributes" => Ok(RelationName::SimpleAttributes),
-        _ => Err(ReadFault::refused(10)),
+        _ => Err(ReadFault::refused(Reason::NO_SUCH_RECORD)),
     }
 }

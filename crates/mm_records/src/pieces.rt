@@ -13,6 +13,7 @@ use mm_definitions::answers::ReadFault;
 use mm_definitions::bytes::{MediaBytes, TileBytes};
 use mm_definitions::commands::{Matrix, Piece};
 use mm_definitions::content_types::ContentType;
+use mm_definitions::refusals::Reason;
 use mm_definitions::texts::Remark;
 use std::alloc::Global;
 
@@ -23,7 +24,7 @@ fn read_tile(alloc: Global, fields: &[&str]) -> Result<Piece, ReadFault>
         (IsLeast (IsAgainstSome forms.tile_form (map (λ f. f.now) fields.now))) result }
 {
     let [table, zoom, column, row, bytes] = fields else {
-        return Err(ReadFault::refused(10));
+        return Err(ReadFault::refused(Reason::NO_SUCH_RECORD));
     };
     let (table, (zoom, (column, (row, bytes)))) = both(
         name_field(table),
@@ -51,7 +52,7 @@ fn read_tile_drop(fields: &[&str]) -> Result<Piece, ReadFault>
         (IsLeast (IsAgainstSome forms.tile_drop_form (map (λ f. f.now) fields.now))) result }
 {
     let [table, zoom, column, row] = fields else {
-        return Err(ReadFault::refused(10));
+        return Err(ReadFault::refused(Reason::NO_SUCH_RECORD));
     };
     let (table, (zoom, (column, row))) = both(
         name_field(table),
@@ -75,7 +76,7 @@ fn read_row(alloc: Global, fields: &[&str]) -> Result<Piece, ReadFault>
         (IsLeast (IsAgainstSome forms.row_form (map (λ f. f.now) fields.now))) result }
 {
     let [table, id, title, note, amount] = fields else {
-        return Err(ReadFault::refused(10));
+        return Err(ReadFault::refused(Reason::NO_SUCH_RECORD));
     };
     let (table, (id, (title, (note, amount)))) = both(
         name_field(table),
@@ -103,7 +104,7 @@ fn read_row_drop(fields: &[&str]) -> Result<Piece, ReadFault>
         (IsLeast (IsAgainstSome forms.item_form (map (λ f. f.now) fields.now))) result }
 {
     let [table, id] = fields else {
-        return Err(ReadFault::refused(10));
+        return Err(ReadFault::refused(Reason::NO_SUCH_RECORD));
     };
     let (table, id) = both(name_field(table), positive_field(id))?;
     Ok(Piece::RowDrop { table, id })
@@ -116,7 +117,7 @@ fn read_media(alloc: Global, fields: &[&str]) -> Result<Piece, ReadFault>
         (IsLeast (IsAgainstSome forms.media_form (map (λ f. f.now) fields.now))) result }
 {
     let [table, id, content_type, bytes] = fields else {
-        return Err(ReadFault::refused(10));
+        return Err(ReadFault::refused(Reason::NO_SUCH_RECORD));
     };
     let (table, (id, (content_type, bytes))) = both(
         name_field(table),
@@ -143,7 +144,7 @@ fn read_media_drop(fields: &[&str]) -> Result<Piece, ReadFault>
         (IsLeast (IsAgainstSome forms.item_form (map (λ f. f.now) fields.now))) result }
 {
     let [table, id] = fields else {
-        return Err(ReadFault::refused(10));
+        return Err(ReadFault::refused(Reason::NO_SUCH_RECORD));
     };
     let (table, id) = both(name_field(table), positive_field(id))?;
     Ok(Piece::MediaDrop { table, id })
@@ -156,7 +157,7 @@ fn read_map(fields: &[&str]) -> Result<Piece, ReadFault>
         (IsLeast (IsAgainstSome forms.map_form (map (λ f. f.now) fields.now))) result }
 {
     let [mapping, base_id, related_id] = fields else {
-        return Err(ReadFault::refused(10));
+        return Err(ReadFault::refused(Reason::NO_SUCH_RECORD));
     };
     let (mapping, (base_id, related_id)) = both(
         name_field(mapping),
@@ -176,7 +177,7 @@ fn read_map_drop(fields: &[&str]) -> Result<Piece, ReadFault>
         (IsLeast (IsAgainstSome forms.map_form (map (λ f. f.now) fields.now))) result }
 {
     let [mapping, base_id, related_id] = fields else {
-        return Err(ReadFault::refused(10));
+        return Err(ReadFault::refused(Reason::NO_SUCH_RECORD));
     };
     let (mapping, (base_id, related_id)) = both(
         name_field(mapping),
@@ -196,7 +197,7 @@ fn read_matrix(fields: &[&str]) -> Result<Piece, ReadFault>
         (IsLeast (IsAgainstSome (forms.matrix_form current) (map (λ f. f.now) fields.now))) result }
 {
     let [table, zoom, mw, mh, tw, th, px, py] = fields else {
-        return Err(ReadFault::refused(10));
+        return Err(ReadFault::refused(Reason::NO_SUCH_RECORD));
     };
     let (table, (zoom, (mw, (mh, (tw, (th, (px, py))))))) = both(
         name_field(table),
@@ -237,7 +238,7 @@ fn piece_of(alloc: Global, fields: &[&str]) -> Result<Piece, ReadFault>
         (IsLeast (HoldsAgainstPiece current (map (λ f. f.now) fields.now))) result }
 {
     let [word, rest @ ..] = fields else {
-        return Err(ReadFault::refused(10));
+        return Err(ReadFault::refused(Reason::NO_SUCH_RECORD));
     };
     match *word {
         "tile" => read_tile(alloc, rest),
@@ -249,7 +250,7 @@ fn piece_of(alloc: Global, fields: &[&str]) -> Result<Piece, ReadFault>
         "map" => read_map(rest),
         "map-drop" => read_map_drop(rest),
         "matrix" => read_matrix(rest),
-        _ => Err(ReadFault::refused(10)),
+        _ => Err(ReadFault::refused(Reason::NO_SUCH_RECORD)),
     }
 }
 

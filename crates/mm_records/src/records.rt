@@ -19,6 +19,7 @@ use crate::pieces::read_piece;
 use mm_definitions::answers::ReadFault;
 use mm_definitions::commands::{Command, Piece};
 use mm_definitions::identifiers::Identifier;
+use mm_definitions::refusals::Reason;
 use mm_definitions::texts::{Definition, Remark, SystemName};
 use std::alloc::Global;
 
@@ -37,7 +38,7 @@ fn read_srs(alloc: Global, fields: &[&str]) -> Result<Command, ReadFault>
         description,
     ] = fields
     else {
-        return Err(ReadFault::refused(10));
+        return Err(ReadFault::refused(Reason::NO_SUCH_RECORD));
     };
     let (id, (name, (organization, (organization_id, (definition, description))))) = both(
         positive_field(id),
@@ -73,7 +74,7 @@ fn read_pyramid(alloc: Global, fields: &[&str]) -> Result<Command, ReadFault>
         (map (λ f. f.now) fields.now))) result }
 {
     let [table, identifier, srs, min_x, min_y, max_x, max_y, step] = fields else {
-        return Err(ReadFault::refused(10));
+        return Err(ReadFault::refused(Reason::NO_SUCH_RECORD));
     };
     let (table, (identifier, (srs, (min_x, (min_y, (max_x, (max_y, step))))))) = both(
         name_field(table),
@@ -113,7 +114,7 @@ fn read_table(alloc: Global, fields: &[&str]) -> Result<Command, ReadFault>
         (IsLeast (IsAgainstSome forms.table_form (map (λ f. f.now) fields.now))) result }
 {
     let [table, kind, identifier] = fields else {
-        return Err(ReadFault::refused(10));
+        return Err(ReadFault::refused(Reason::NO_SUCH_RECORD));
     };
     let (table, (kind, identifier)) = both(
         name_field(table),
@@ -133,7 +134,7 @@ fn read_drop(fields: &[&str]) -> Result<Command, ReadFault>
         (IsLeast (IsAgainstSome forms.name_form (map (λ f. f.now) fields.now))) result }
 {
     let [table] = fields else {
-        return Err(ReadFault::refused(10));
+        return Err(ReadFault::refused(Reason::NO_SUCH_RECORD));
     };
     let table = name_field(table)?;
     Ok(Command::Drop { table })
@@ -146,7 +147,7 @@ fn read_relation(fields: &[&str]) -> Result<Command, ReadFault>
         (IsLeast (IsAgainstSome forms.relation_form (map (λ f. f.now) fields.now))) result }
 {
     let [mapping, base, related, name] = fields else {
-        return Err(ReadFault::refused(10));
+        return Err(ReadFault::refused(Reason::NO_SUCH_RECORD));
     };
     let (mapping, (base, (related, name))) = both(
         name_field(mapping),
@@ -170,7 +171,7 @@ fn read_relation_drop(fields: &[&str]) -> Result<Command, ReadFault>
         (IsLeast (IsAgainstSome forms.name_form (map (λ f. f.now) fields.now))) result }
 {
     let [mapping] = fields else {
-        return Err(ReadFault::refused(10));
+        return Err(ReadFault::refused(Reason::NO_SUCH_RECORD));
     };
     let mapping = name_field(mapping)?;
     Ok(Command::RelationDrop { mapping })
@@ -183,7 +184,7 @@ fn read_edition(fields: &[&str]) -> Result<Command, ReadFault>
         (IsLeast (IsAgainstSome forms.name_form (map (λ f. f.now) fields.now))) result }
 {
     let [name] = fields else {
-        return Err(ReadFault::refused(10));
+        return Err(ReadFault::refused(Reason::NO_SUCH_RECORD));
     };
     let name = name_field(name)?;
     Ok(Command::Edition { name })
@@ -196,7 +197,7 @@ fn read_discard(fields: &[&str]) -> Result<Command, ReadFault>
         (IsLeast (IsAgainstSome forms.name_form (map (λ f. f.now) fields.now))) result }
 {
     let [name] = fields else {
-        return Err(ReadFault::refused(10));
+        return Err(ReadFault::refused(Reason::NO_SUCH_RECORD));
     };
     let name = name_field(name)?;
     Ok(Command::Discard { name })
@@ -209,7 +210,7 @@ fn read_publish(fields: &[&str]) -> Result<Command, ReadFault>
         (IsLeast (IsAgainstSome forms.name_form (map (λ f. f.now) fields.now))) result }
 {
     let [edition] = fields else {
-        return Err(ReadFault::refused(10));
+        return Err(ReadFault::refused(Reason::NO_SUCH_RECORD));
     };
     let edition = name_field(edition)?;
     Ok(Command::Publish { edition })
@@ -222,7 +223,7 @@ fn read_rehearse(fields: &[&str]) -> Result<Command, ReadFault>
         (IsLeast (IsAgainstSome forms.name_form (map (λ f. f.now) fields.now))) result }
 {
     let [edition] = fields else {
-        return Err(ReadFault::refused(10));
+        return Err(ReadFault::refused(Reason::NO_SUCH_RECORD));
     };
     let edition = name_field(edition)?;
     Ok(Command::Rehearse { edition })
@@ -237,7 +238,7 @@ fn read_stage(alloc: Global, fields: &[&str]) -> Result<Command, ReadFault>
         (map (λ f. f.now) fields.now))) result }
 {
     let [edition, number, piece @ ..] = fields else {
-        return Err(ReadFault::refused(10));
+        return Err(ReadFault::refused(Reason::NO_SUCH_RECORD));
     };
     let (edition, (number, piece)) = both(
         name_field(edition),
@@ -396,7 +397,7 @@ fn command_in(alloc: Global, fields: &[&str]) -> Result<Command, ReadFault>
         (IsLeast (HoldsAgainst current (map (λ f. f.now) fields.now))) result }
 {
     let [word, rest @ ..] = fields else {
-        return Err(ReadFault::refused(10));
+        return Err(ReadFault::refused(Reason::NO_SUCH_RECORD));
     };
     match *word {
         "stage" => read_stage(alloc, rest),

@@ -11,6 +11,7 @@ ghost use Rattle.mm_store.specs.Handed.{Looks, Tells};
 
 use mm_definitions::answers::Fault;
 use mm_definitions::commands::Kind;
+use mm_definitions::refusals::Reason;
 use mm_layout::{has_medium, has_row, kind_of};
 use mm_store::faults::fault_of;
 use mm_store::statements::first;
@@ -50,7 +51,7 @@ fn end_refusal<S: Alter>(
     tx: &mut Transaction<'_, S>,
     table: &str,
     id: i64,
-) -> Result<Option<u8>, Fault>
+) -> Result<Option<Reason>, Fault>
     ensures { Tells S.Store tx.old tx.new (λ p. least
         ((40, lacks_row p table.now id) ∷ (41, lacks_medium p table.now id) ∷ [])) result }
 {
@@ -62,14 +63,14 @@ fn end_refusal<S: Alter>(
             if has_row(tx, table, id)? {
                 Ok(None)
             } else {
-                Ok(Some(40))
+                Ok(Some(Reason::NO_ROW))
             }
         }
         Kind::Media => {
             if has_medium(tx, table, id)? {
                 Ok(None)
             } else {
-                Ok(Some(41))
+                Ok(Some(Reason::NO_MEDIA_ITEM))
             }
         }
         Kind::Two | Kind::Other => Ok(None),
@@ -94,7 +95,7 @@ pub(crate) fn ends_refusal<S: Alter>(
     base_id: i64,
     related: &str,
     related_id: i64,
-) -> Result<Option<u8>, Fault>
+) -> Result<Option<Reason>, Fault>
     ensures { Tells S.Store tx.old tx.new (λ p. spec.lacks p (base.now, related.now) base_id
         related_id) result }
 {

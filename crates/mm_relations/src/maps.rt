@@ -10,6 +10,7 @@ ghost use Rattle.mm_store.specs.Handed.{Tells, Changes, ChangesWhere, Applies};
 use crate::ends::{ends_of, ends_refusal};
 use mm_definitions::answers::{Fault, Outcome};
 use mm_definitions::names::Name;
+use mm_definitions::refusals::Reason;
 use mm_layout::has_relation;
 use mm_store::statements::{exists, run};
 use sqlite::{Alter, Transaction, params};
@@ -37,18 +38,18 @@ fn map_refusal<S: Alter>(
     mapping: &str,
     base_id: i64,
     related_id: i64,
-) -> Result<Option<u8>, Fault>
+) -> Result<Option<Reason>, Fault>
     ensures { Tells S.Store tx.old tx.new (λ p. least
         (own_reasons p (commands.Map mapping.now base_id related_id))) result }
 {
     let Some((base, related)) = ends_of(tx, mapping)? else {
-        return Ok(Some(44));
+        return Ok(Some(Reason::NO_RELATION));
     };
     if let Some(number) = ends_refusal(tx, base.as_str(), base_id, related.as_str(), related_id)? {
         return Ok(Some(number));
     }
     if has_pairing(tx, mapping, base_id, related_id)? {
-        Ok(Some(45))
+        Ok(Some(Reason::MAPPING_ROW_EXISTS))
     } else {
         Ok(None)
     }
@@ -98,17 +99,17 @@ fn map_drop_refusal<S: Alter>(
     mapping: &str,
     base_id: i64,
     related_id: i64,
-) -> Result<Option<u8>, Fault>
+) -> Result<Option<Reason>, Fault>
     ensures { Tells S.Store tx.old tx.new (λ p. least
         (own_reasons p (commands.MapDrop mapping.now base_id related_id))) result }
 {
     if !has_relation(tx, mapping)? {
-        return Ok(Some(44));
+        return Ok(Some(Reason::NO_RELATION));
     }
     if has_pairing(tx, mapping, base_id, related_id)? {
         Ok(None)
     } else {
-        Ok(Some(46))
+        Ok(Some(Reason::NO_MAPPING_ROW))
     }
 }
 

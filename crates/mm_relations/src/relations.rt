@@ -16,6 +16,7 @@ use crate::extensions::delete_related_row;
 use mm_definitions::answers::{Fault, Outcome};
 use mm_definitions::commands::{Kind, RelationName};
 use mm_definitions::names::Name;
+use mm_definitions::refusals::Reason;
 use mm_layout::{has_relation, is_taken, kind_of};
 use mm_opening::insert_related_row;
 use mm_store::statements::run;
@@ -54,23 +55,23 @@ fn relation_refusal<S: Alter>(
     base: &str,
     related: &str,
     name: RelationName,
-) -> Result<Option<u8>, Fault>
+) -> Result<Option<Reason>, Fault>
     ensures { FindsRefusal S.Store tx.old tx.new
         (λ p. own_reasons p (commands.Relation mapping.now base.now related.now name)) result }
 {
     let Some(based) = kind_of(tx, base)? else {
-        return Ok(Some(25));
+        return Ok(Some(Reason::NO_TABLE));
     };
     let Some(other) = kind_of(tx, related)? else {
-        return Ok(Some(25));
+        return Ok(Some(Reason::NO_TABLE));
     };
     if is_taken(tx, mapping)? {
-        return Ok(Some(43));
+        return Ok(Some(Reason::MAPPING_NAME_TAKEN));
     }
     if suits(based, other, name) {
         Ok(None)
     } else {
-        Ok(Some(47))
+        Ok(Some(Reason::UNSUITED_KINDS))
     }
 }
 
@@ -152,7 +153,7 @@ pub fn drop_relation<S: Alter>(
 {
     let mapping = mapping.as_str();
     if !has_relation(tx, mapping)? {
-        return Ok(Outcome::refused(44));
+        return Ok(Outcome::refused(Reason::NO_RELATION));
     }
     delete_relation(tx, mapping)?;
     delete_related_row(tx, mapping)?;

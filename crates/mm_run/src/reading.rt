@@ -7,6 +7,7 @@ ghost use Rattle.mm_run.specs.Readings.{IsCommandRead};
 use csv::{ByteRecord, StringRecord};
 use mm_definitions::answers::ReadFault;
 use mm_definitions::commands::Command;
+use mm_definitions::refusals::Reason;
 use mm_io::text_fields;
 use mm_records::read_command;
 use std::alloc::Global;
@@ -16,7 +17,7 @@ pub(crate) fn read_row(alloc: Global, row: ByteRecord) -> Result<Command, ReadFa
     ensures { IsCommandRead (fields_of row) result }
 {
     let Ok(text) = StringRecord::from_byte_record(row) else {
-        return Err(ReadFault::refused(10));
+        return Err(ReadFault::refused(Reason::NO_SUCH_RECORD));
     };
     let Ok(fields) = text_fields(alloc, &text) else {
         return Err(ReadFault::Memory);

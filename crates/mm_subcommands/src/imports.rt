@@ -119,7 +119,7 @@ pub fn tell_import<W: Write>(output: &mut Io<W>, import: Import) -> u8
     match import {
         Ok(staged) => tell_staged(output, staged),
         Err(stopped) => {
-            let line = numbered_line(b"kit fault ", stopped.fault.0);
+            let line = numbered_line(b"kit fault ", stopped.fault.number());
             tell_bytes(output, line.as_slice(), FAULT)
         }
     }

@@ -50,6 +50,6 @@ pub fn tell_page_fault<W: Write>(output: &mut Io<W>, fault: PageFault) -> bool
     ensures { IsPrinted (written W.contents output.old) (written W.contents output.new)
         (page_fault_text fault.0) result }
 {
-    let line = numbered_line(b"page fault ", fault.0.0);
+    let line = numbered_line(b"page fault ", fault.0.number());
     is_printed(output, line.as_slice())
 }

@@ -88,8 +88,8 @@ pub fn tell_stop<W: Write>(output: &mut Io<W>, why: Stop) -> u8
             let line = numbered_line(b"rule Q", rule);
             tell_bytes(output, line.as_slice(), NO_PACKAGE)
         }
-        Stop::Fault(Fault(number)) => {
-            let line = numbered_line(b"fault ", number);
+        Stop::Fault(fault) => {
+            let line = numbered_line(b"fault ", fault.number());
             tell_bytes(output, line.as_slice(), FAULT)
         }
     }

@@ -49,7 +49,7 @@ fn import_text(alloc: Global, import: Result<Staged, KitFault>) -> Option<String
         Ok(Staged::Complete(count)) => format!(in alloc; "complete {count}").ok(),
         Ok(Staged::Refused { piece, number }) => format!(in alloc; "refused {piece} {number}").ok(),
         Err(stopped) => {
-            format!(in alloc; "fault {} after {}", stopped.fault.0, stopped.staged).ok()
+            format!(in alloc; "fault {} after {}", stopped.fault.number(), stopped.staged).ok()
         }
     }
 }

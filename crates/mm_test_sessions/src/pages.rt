@@ -60,7 +60,7 @@ fn serve<R: Read, W: io::Write>(
 ) -> u8 {
     match serve_one(alloc, session, reader, writer) {
         Ok(()) => 0,
-        Err(why) => why.0.0,
+        Err(why) => why.0.number(),
     }
 }
 

@@ -7,6 +7,7 @@ use crate::fakes::{Short, short_writer, torn_reader, unflushed_writer};
 use mm_definitions::answers::{Answer, Fault, Refusal, Tally};
 use mm_definitions::commands::Command;
 use mm_definitions::moments::Moment;
+use mm_definitions::refusals::Reason;
 use mm_definitions::streams::Io;
 use mm_run::{Apply, run_list};
 use std::alloc::Global;
@@ -33,13 +34,10 @@ fn new_systems(alloc: Global, left: u32) -> Systems {
     }
 }
 
-fn refused(number: u8) -> Answer
+fn refused(reason: Reason) -> Answer
     ensures { OnFault result (λ fault. ⊥) }
 {
-    Answer::Refused(Refusal {
-        number,
-        piece: None,
-    })
+    Answer::Refused(Refusal::of(reason))
 }
 
 impl Systems {
@@ -56,14 +54,14 @@ impl Systems {
         match command {
             Command::Srs { id, .. } => {
                 if self.systems.contains(&id.get()) {
-                    return refused(20);
+                    return refused(Reason::SYSTEM_EXISTS);
                 }
                 if self.systems.push(id.get()).is_err() {
                     return Answer::Fault(Fault::STORE);
                 }
                 Answer::Ok
             }
-            _ => refused(25),
+            _ => refused(Reason::NO_TABLE),
         }
     }
 }
@@ -107,7 +105,7 @@ fn run<R: Read, W: io::Write>(
 ) -> Option<(u8, Tally)> {
     match run_list(alloc, systems, reader, writer, Moment::new(951868799999)?) {
         Ok(tally) => Some((0, tally)),
-        Err(stopped) => Some((stopped.fault.0, stopped.tally)),
+        Err(stopped) => Some((stopped.fault.number(), stopped.tally)),
     }
 }
 

@@ -49,7 +49,7 @@ fn tallied<S: Alter + Drop, R: Read, W: io::Write>(
     let mut session = create(alloc, conn)?;
     let (fault, tally) = match mm_test_packages::run(&mut session, reader, writer, 0)? {
         Ok(tally) => (0, tally),
-        Err(stopped) => (stopped.fault.0, stopped.tally),
+        Err(stopped) => (stopped.fault.number(), stopped.tally),
     };
     Some((session.close(), fault, tally))
 }

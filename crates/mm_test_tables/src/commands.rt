@@ -20,11 +20,11 @@ pub(crate) const LATER: &str = "2000-02-29T23:59:59.999Z";
 fn number_of(outcome: Result<Outcome, Fault>) -> Option<u8> {
     match outcome {
         Ok(Outcome::Done) => Some(0),
-        Ok(Outcome::Refused(refusal)) => match refusal.piece {
-            None => Some(refusal.number),
+        Ok(Outcome::Refused(refusal)) => match refusal.piece() {
+            None => Some(refusal.number()),
             Some(_) => None,
         },
-        Err(fault) => Some(fault.0),
+        Err(fault) => Some(fault.number()),
     }
 }
 

@@ -19,7 +19,7 @@ use std::fmt::Write;
 fn add_nothing(text: &mut String, fault: Option<Fault>) -> Option<()> {
     match fault {
         None => text.push_str("none|\n").ok(),
-        Some(Fault(number)) => writeln!(text, "fault {number}|").ok(),
+        Some(fault) => writeln!(text, "fault {}|", fault.number()).ok(),
     }
 }
 

@@ -11,7 +11,7 @@ use std::fmt::Write;
 fn number_of<T: Drop>(read: Result<T, ReadFault>) -> u8 {
     match read {
         Ok(_) => 0,
-        Err(ReadFault::Refused(refusal)) => refusal.number,
+        Err(ReadFault::Refused(refusal)) => refusal.number(),
         Err(ReadFault::Memory) => 90,
     }
 }

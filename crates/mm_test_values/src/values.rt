@@ -7,6 +7,7 @@ use mm_definitions::extents::{Extent, fits};
 use mm_definitions::matrices::neighbours;
 use mm_definitions::moments::{Moment, is_stamp, stamp};
 use mm_definitions::numbers::read_number;
+use mm_definitions::refusals::Reason;
 use std::alloc::Global;
 use std::fmt::Write;
 
@@ -70,7 +71,7 @@ fn are_neighbours(fields: &[&str]) -> Option<bool> {
 }
 
 /// `TEXT LEAST MOST`
-fn number_read(fields: &[&str]) -> Option<Result<i64, u8>> {
+fn number_read(fields: &[&str]) -> Option<Result<i64, Reason>> {
     let text = fields.get(0)?;
     Some(read_number(text, number(fields, 1)?, number(fields, 2)?))
 }
@@ -90,7 +91,7 @@ fn tell_stamp(alloc: Global, text: &mut String, question: &str) -> Option<()> {
 fn tell_number(text: &mut String, fields: &[&str]) -> Option<()> {
     match number_read(fields)? {
         Ok(number) => write!(text, "{number}").ok(),
-        Err(refusal) => write!(text, "refused {refusal}").ok(),
+        Err(reason) => write!(text, "refused {}", reason.get()).ok(),
     }
 }
 

@@ -1,4 +1,4 @@
-use Rattle.std.proofs.Common.{rules, arith, ◌≡◌, pos, ◌*◌, ◌*ℤ◌, ◌-ℤ◌, to_z, of_z, w64, sym, ap, ◌∙◌}
+use Rattle.std.proofs.Common.{arith, ◌≡◌, pos, ◌*◌, ◌*ℤ◌, ◌-ℤ◌, to_z, of_z, sym, ap, ◌∙◌}
 use Rattle.std.specs.Int.{w128}
 use Rattle.std.proofs.lemmas.Int.{ints}
 use Rattle.mm_definitions.proofs.extents.fits.Goals as goal

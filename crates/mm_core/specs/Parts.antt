@@ -1,8 +1,9 @@
 -- What a clause reads of a session.
-use Rattle.std.specs.Prelude.{Bool}
+use Rattle.std.specs.Prelude.{Bool, true, false, Result, Ok, Err, ⊤}
 use Rattle.sqlite.specs.Tree.{Trees}
 use Rattle.sqlite.specs.Held.{Held, state}
 use Rattle.sqlite.specs.Store.{Ghosts}
+use Rattle.mm_definitions.specs.declared.answers.Fault.{Fault}
 use Rattle.mm_run.specs.Shown.{Shown}
 use Rattle.mm_core.specs.Applied.{shown_on}
 use Rattle.mm_core.specs.declared.session.Session.{Session}
@@ -14,6 +15,11 @@ held session = session.conn
 -- an earlier command was answered a fault
 abbrev pub must_reopen : {S : Type 0} {g : Ghosts S} → Session S g → Bool
 must_reopen session = session.failed
+
+-- what stands against a read: 92 where the session has to be opened again
+abbrev pub readiness : Bool → Result ⊤ Fault
+readiness true = Err (record { 0 = 92 })
+readiness false = Ok tt
 
 -- what it shows
 abbrev pub shown : {S : Type 0} (g : Ghosts S) → Session S g → Shown Trees

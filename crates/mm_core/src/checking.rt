@@ -20,9 +20,7 @@ impl<S: Alter> Session<S> {
         ensures { Reads S.Store self.old self.new result
             (λ old new. IsVerified current old new result) }
     {
-        if self.failed {
-            return Err(Fault::REOPEN);
-        }
+        self.ready()?;
         verify(&mut self.conn, CURRENT)
     }
 }

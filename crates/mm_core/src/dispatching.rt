@@ -8,6 +8,8 @@ ghost use Rattle.mm_core.specs.Handed.{Tries};
 
 use mm_definitions::answers::{Fault, Outcome};
 use mm_definitions::commands::Command;
+use mm_definitions::extents::Extent;
+use mm_definitions::places::TilePlace;
 use mm_edition::{discard, open_edition, stage};
 use mm_items::{drop_media, drop_row, drop_tile, put_media, put_row, put_tile};
 use mm_layout::{add_pyramid, add_table, drop_table};
@@ -77,10 +79,12 @@ fn lay_out_pyramid<S: Alter>(
             table,
             identifier.as_str(),
             srs.get(),
-            min_x.get(),
-            min_y.get(),
-            max_x.get(),
-            max_y.get(),
+            &Extent {
+                min_x: min_x.get(),
+                min_y: min_y.get(),
+                max_x: max_x.get(),
+                max_y: max_y.get(),
+            },
             *step,
             last_change,
         ),
@@ -112,9 +116,11 @@ fn change_tile<S: Alter>(
         } => put_tile(
             tx,
             table,
-            zoom.get(),
-            column.get(),
-            row.get(),
+            TilePlace {
+                zoom: zoom.get(),
+                column: column.get(),
+                row: row.get(),
+            },
             bytes.as_slice(),
             last_change,
         ),
@@ -123,7 +129,16 @@ fn change_tile<S: Alter>(
             zoom,
             column,
             row,
-        } => drop_tile(tx, table, zoom.get(), column.get(), row.get(), last_change),
+        } => drop_tile(
+            tx,
+            table,
+            TilePlace {
+                zoom: zoom.get(),
+                column: column.get(),
+                row: row.get(),
+            },
+            last_change,
+        ),
         _ => unreachable!(),
     }
 }

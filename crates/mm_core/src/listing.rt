@@ -28,9 +28,7 @@ impl<S: Alter> Session<S> {
             (written W.contents writer.new) result) }
         ensures unwritten { must_reopen self.old ≡ true → writer.new ≡ writer.old }
     {
-        if self.failed {
-            return Err(Fault::REOPEN);
-        }
+        self.ready()?;
         list(&mut self.conn, writer)
     }
 }

@@ -4,16 +4,17 @@ use crate::session::Session;
 use mm_definitions::answers::Fault;
 use mm_definitions::entries::{EditionState, Entry, Media, Related, Row};
 use mm_definitions::names::Name;
+use mm_definitions::places::TilePlace;
 use mm_edition::edition;
 use mm_reads::{contents, media, related, row, tile};
 use sqlite::Alter;
 
 impl<S: Alter> Session<S> {
-    ghost use Rattle.std.specs.Prelude.{◌≡◌, pos, option_map};
+    ghost use Rattle.std.specs.Prelude.{◌≡◌, option_map};
     ghost use Rattle.std.specs.FinMap.{get};
     ghost use Rattle.mm_definitions.specs.Bounds.{current};
-    ghost use Rattle.mm_definitions.specs.Keys as keys;
     ghost use Rattle.mm_definitions.specs.Keys.{item};
+    ghost use Rattle.mm_definitions.specs.Places.{tile_at};
     ghost use Rattle.mm_store.specs.Seen.{IsRead};
     ghost use Rattle.mm_reads.specs.Told.{TellsBytes, shown_medium, shown_row};
     ghost use Rattle.mm_reads.specs.Listing.{ListsTables};
@@ -21,28 +22,17 @@ impl<S: Alter> Session<S> {
     ghost use Rattle.mm_edition.specs.States.{TellsState};
     ghost use Rattle.mm_core.specs.Reads.{Reads};
 
-    /// The bytes of the tile of a pyramid at a zoom, column and row, or None where none stands there. (Tile Pyramid User
+    /// The bytes of the tile of a pyramid at a place, or None where none stands there. (Tile Pyramid User
     /// Data Tables.)
     ///
     /// 92 where the session has to be opened again, and then nothing is asked of the store. After another fault the session goes
     /// on, and the package and what may be left are as they were.
-    pub fn tile(
-        &mut self,
-        table: &Name,
-        zoom: u8,
-        column: u32,
-        row: u32,
-    ) -> Result<Option<Vec<u8>>, Fault>
-        ensures { Reads S.Store self.old self.new result
-            (λ old new. IsRead current old new
-            (λ p found. TellsBytes
-            (get p.tiles (keys.tile table.now (pos zoom) (pos column) (pos row)))
-            found) result) }
+    pub fn tile(&mut self, table: &Name, place: TilePlace) -> Result<Option<Vec<u8>>, Fault>
+        ensures { Reads S.Store self.old self.new result (λ old new. IsRead current old new
+            (λ p found. TellsBytes (get p.tiles (tile_at table.now place)) found) result) }
     {
-        if self.failed {
-            return Err(Fault::REOPEN);
-        }
-        tile(&mut self.conn, table, zoom, column, row)
+        self.ready()?;
+        tile(&mut self.conn, table, place)
     }
 
     /// The medium of a media table that has an id, or None where none has it. (Media.)
@@ -53,9 +43,7 @@ impl<S: Alter> Session<S> {
         ensures { Reads S.Store self.old self.new result (λ old new. IsRead current old new
             (λ p found. get p.media (item table.now id) ≡ option_map shown_medium found) result) }
     {
-        if self.failed {
-            return Err(Fault::REOPEN);
-        }
+        self.ready()?;
         media(&mut self.conn, table, id)
     }
 
@@ -67,9 +55,7 @@ impl<S: Alter> Session<S> {
         ensures { Reads S.Store self.old self.new result (λ old new. IsRead current old new
             (λ p found. get p.rows (item table.now id) ≡ option_map shown_row found) result) }
     {
-        if self.failed {
-            return Err(Fault::REOPEN);
-        }
+        self.ready()?;
         row(&mut self.conn, table, id)
     }
 
@@ -82,9 +68,7 @@ impl<S: Alter> Session<S> {
         ensures { Reads S.Store self.old self.new result (λ old new. IsRead current old new
             (λ p tables. ListsTables p tables.items) result) }
     {
-        if self.failed {
-            return Err(Fault::REOPEN);
-        }
+        self.ready()?;
         contents(self.alloc, &mut self.conn)
     }
 
@@ -97,9 +81,7 @@ impl<S: Alter> Session<S> {
         ensures { Reads S.Store self.old self.new result (λ old new. IsRead current old new
             (λ p found. TellsMates p table.now id found) result) }
     {
-        if self.failed {
-            return Err(Fault::REOPEN);
-        }
+        self.ready()?;
         related(self.alloc, &mut self.conn, table, id)
     }
 
@@ -111,9 +93,7 @@ impl<S: Alter> Session<S> {
         ensures { Reads S.Store self.old self.new result (λ old new. IsRead current old new
             (λ p found. TellsState p name.now found) result) }
     {
-        if self.failed {
-            return Err(Fault::REOPEN);
-        }
+        self.ready()?;
         edition(&mut self.conn, name)
     }
 }

@@ -33,7 +33,7 @@ impl<S: Alter> Session<S> {
     ghost use Rattle.mm_core.specs.Adopted.{IsAdopted, IsNotAdopted};
     ghost use Rattle.mm_core.specs.Sessions.{IsCreated, IsNotCreated};
     ghost use Rattle.mm_migrate.specs.Migrations.{IsMigration};
-    ghost use Rattle.mm_core.specs.Parts.{held, must_reopen};
+    ghost use Rattle.mm_core.specs.Parts.{held, must_reopen, readiness};
 
     /// Makes a new package on a connection whose database has no table, in one commit that is the last call of the store. On a
     /// fault the connection is handed back, and each database that may be left has no table or stands for the new package.
@@ -123,6 +123,16 @@ impl<S: Alter> Session<S> {
         })
     }
 
+    /// 92 where the session has to be opened again.
+    pub(crate) fn ready(&self) -> Result<(), Fault>
+        ensures { result ≡ readiness (must_reopen self.now) }
+    {
+        if self.failed {
+            return Err(Fault::REOPEN);
+        }
+        Ok(())
+    }
+
     /// Hands the connection back, and makes no call of the store.
     pub fn close(self) -> Connection<S>
         ensures { result ≡ held self }
@@ -167,8 +177,8 @@ impl<S: Alter> Session<S> {
         // The proof reads from these that the moment and the command are within their limits.
         let _milliseconds = at.milliseconds();
         command.is_within();
-        if self.failed {
-            return Answer::Fault(Fault::REOPEN);
+        if let Err(fault) = self.ready() {
+            return Answer::Fault(fault);
         }
         let answer = apply_once(self.alloc, &mut self.conn, command, at);
         self.failed = matches!(answer, Answer::Fault(_));

@@ -8,6 +8,7 @@ use crate::session::Session;
 use mm_definitions::answers::Fault;
 use mm_definitions::entries::{Entry, Media, Related};
 use mm_definitions::names::Name;
+use mm_definitions::places::TilePlace;
 use mm_reads::Viewer;
 use sqlite::Alter;
 
@@ -23,7 +24,7 @@ impl<S: Alter> Viewer for Session<S> {
         column: u32,
         row: u32,
     ) -> Result<Option<Vec<u8>>, Fault> {
-        self.tile(table, zoom, column, row)
+        self.tile(table, TilePlace { zoom, column, row })
     }
 
     fn media(&mut self, table: &Name, id: i64) -> Result<Option<Media>, Fault> {

@@ -10,7 +10,7 @@ use crate::bounded::{MatrixSide, PixelSize, TileSide};
 use crate::commands::Matrix;
 use crate::limits::FARTHEST;
 
-/// A bounding box that is not empty.
+/// A bounding box, in whole micrometres. One that a package holds is not empty.
 #[derive(Clone, Copy, Debug, PartialEq, Eq)]
 pub struct Extent {
     pub min_x: i64,

@@ -60,18 +60,15 @@ fn write_tile_of_piece<S: Alter>(
 pub fn put_tile_of_piece<S: Alter>(
     tx: &mut Transaction<'_, S>,
     table: &Name,
-    zoom: u8,
-    column: u32,
-    row: u32,
+    place: TilePlace,
     edition: &Name,
     number: u32,
     last_change: &str,
 ) -> Result<Outcome, Fault>
     ensures { LendsFor S.Store tx.old tx.new (HasBytes edition.now number)
-        (commands.Tile table.now zoom column row) last_change.now result }
+        (commands.Tile table.now place.zoom place.column place.row) last_change.now result }
 {
     let table = table.as_str();
-    let place = TilePlace { zoom, column, row };
     if let Some(number) = tile_refusal(tx, table, place)? {
         return Ok(Outcome::refused(number));
     }

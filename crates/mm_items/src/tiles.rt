@@ -206,17 +206,14 @@ pub(crate) fn tile_refusal<S: Alter>(
 pub fn put_tile<S: Alter>(
     tx: &mut Transaction<'_, S>,
     table: &Name,
-    zoom: u8,
-    column: u32,
-    row: u32,
+    place: TilePlace,
     bytes: &[u8],
     last_change: &str,
 ) -> Result<Outcome, Fault>
-    ensures { Lends S.Store tx.old tx.new (commands.Tile table.now zoom column row bytes.now)
-        last_change.now result }
+    ensures { Lends S.Store tx.old tx.new (commands.Tile table.now place.zoom place.column
+        place.row bytes.now) last_change.now result }
 {
     let table = table.as_str();
-    let place = TilePlace { zoom, column, row };
     if let Some(number) = tile_refusal(tx, table, place)? {
         return Ok(Outcome::refused(number));
     }
@@ -251,16 +248,13 @@ fn tile_drop_refusal<S: Alter>(
 pub fn drop_tile<S: Alter>(
     tx: &mut Transaction<'_, S>,
     table: &Name,
-    zoom: u8,
-    column: u32,
-    row: u32,
+    place: TilePlace,
     last_change: &str,
 ) -> Result<Outcome, Fault>
-    ensures { Lends S.Store tx.old tx.new (commands.TileDrop table.now zoom column row)
-        last_change.now result }
+    ensures { Lends S.Store tx.old tx.new (commands.TileDrop table.now place.zoom
+        place.column place.row) last_change.now result }
 {
     let table = table.as_str();
-    let place = TilePlace { zoom, column, row };
     if let Some(number) = tile_drop_refusal(tx, table, place)? {
         return Ok(Outcome::refused(number));
     }

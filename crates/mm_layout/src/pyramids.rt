@@ -101,10 +101,11 @@ fn insert_pyramid<S: Alter>(
 }
 
 /// Whether the bounds hold no point between them.
-fn is_empty(min_x: i64, min_y: i64, max_x: i64, max_y: i64) -> bool
-    ensures { result ≡ (int_le max_x min_x || int_le max_y min_y) }
+fn is_empty(extent: &Extent) -> bool
+    ensures { result ≡ (int_le extent.now.max_x extent.now.min_x
+        || int_le extent.now.max_y extent.now.min_y) }
 {
-    max_x <= min_x || max_y <= min_y
+    extent.max_x <= extent.min_x || extent.max_y <= extent.min_y
 }
 
 /// Why a pyramid is not added, if it is not.
@@ -113,14 +114,11 @@ fn pyramid_refusal<S: Alter>(
     table: &str,
     identifier: &str,
     srs: i64,
-    min_x: i64,
-    min_y: i64,
-    max_x: i64,
-    max_y: i64,
+    extent: &Extent,
 ) -> Result<Option<Reason>, Fault>
     ensures { Looks S.Store tx.old tx.new (λ p why. (step : Step) → why ≡ least
-        (own_reasons p (commands.Pyramid table.now identifier.now srs min_x min_y max_x max_y
-        step))) result }
+        (own_reasons p (commands.Pyramid table.now identifier.now srs extent.now.min_x
+        extent.now.min_y extent.now.max_x extent.now.max_y step))) result }
 {
     if !has_system(tx, srs)? {
         return Ok(Some(Reason::NO_SYSTEM));
@@ -134,7 +132,7 @@ fn pyramid_refusal<S: Alter>(
     if has_identifier(tx, identifier)? {
         return Ok(Some(Reason::IDENTIFIER_TAKEN));
     }
-    if is_empty(min_x, min_y, max_x, max_y) {
+    if is_empty(extent) {
         Ok(Some(Reason::EMPTY_EXTENT))
     } else {
         Ok(None)
@@ -150,27 +148,19 @@ pub fn add_pyramid<S: Alter>(
     table: &Name,
     identifier: &str,
     srs: i64,
-    min_x: i64,
-    min_y: i64,
-    max_x: i64,
-    max_y: i64,
+    extent: &Extent,
     step: Step,
     last_change: &str,
 ) -> Result<Outcome, Fault>
-    ensures { Lends S.Store tx.old tx.new (commands.Pyramid table.now identifier.now srs min_x min_y
-        max_x max_y step) last_change.now result }
+    ensures { Lends S.Store tx.old tx.new (commands.Pyramid table.now identifier.now srs
+        extent.now.min_x extent.now.min_y extent.now.max_x extent.now.max_y step)
+        last_change.now result }
 {
     let table = table.as_str();
-    if let Some(number) = pyramid_refusal(tx, table, identifier, srs, min_x, min_y, max_x, max_y)? {
+    if let Some(number) = pyramid_refusal(tx, table, identifier, srs, extent)? {
         return Ok(Outcome::refused(number));
     }
-    let extent = Extent {
-        min_x,
-        min_y,
-        max_x,
-        max_y,
-    };
-    insert_pyramid(tx, table, identifier, srs, &extent, step, last_change)?;
+    insert_pyramid(tx, table, identifier, srs, extent, step, last_change)?;
     match step {
         Step::Two => Ok(Outcome::Done),
         Step::Other => {

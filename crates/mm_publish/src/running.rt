@@ -14,6 +14,7 @@ ghost use Rattle.mm_layout.specs.Handed.{Lends, LendsWhere, LendsUnstamped};
 use mm_definitions::answers::{Fault, Outcome};
 use mm_definitions::commands::Piece;
 use mm_definitions::names::Name;
+use mm_definitions::places::TilePlace;
 use mm_edition::piece;
 use mm_items::{drop_media, drop_row, drop_tile, put_media_of_piece, put_row, put_tile_of_piece};
 use mm_matrices::add_matrix;
@@ -50,9 +51,11 @@ fn run_tile<S: Alter>(
         } => put_tile_of_piece(
             tx,
             table,
-            zoom.get(),
-            column.get(),
-            row.get(),
+            TilePlace {
+                zoom: zoom.get(),
+                column: column.get(),
+                row: row.get(),
+            },
             edition,
             number,
             last_change,
@@ -62,7 +65,16 @@ fn run_tile<S: Alter>(
             zoom,
             column,
             row,
-        } => drop_tile(tx, table, zoom.get(), column.get(), row.get(), last_change),
+        } => drop_tile(
+            tx,
+            table,
+            TilePlace {
+                zoom: zoom.get(),
+                column: column.get(),
+                row: row.get(),
+            },
+            last_change,
+        ),
         _ => unreachable!(),
     }
 }

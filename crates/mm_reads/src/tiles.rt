@@ -1,8 +1,7 @@
 //! The bytes of a tile.
 
-ghost use Rattle.std.specs.Prelude.{◌≡◌, pos, false};
+ghost use Rattle.std.specs.Prelude.{◌≡◌, false};
 ghost use Rattle.std.specs.FinMap.{get};
-ghost use Rattle.mm_definitions.specs.Keys.{tile};
 ghost use Rattle.mm_definitions.specs.Places.{tile_at};
 ghost use Rattle.mm_reads.specs.Told.{TellsBytes};
 ghost use Rattle.mm_store.specs.Handed.{Looks};
@@ -30,23 +29,19 @@ fn bytes_at<S: Alter>(
     }
 }
 
-/// The bytes of the tile of a pyramid at a zoom, column and row, or None where none stands there. (Tile Pyramid User Data
+/// The bytes of the tile of a pyramid at a place, or None where none stands there. (Tile Pyramid User Data
 /// Tables.) A fault is 90 where memory was refused, and else 91; the connection is then as settled as before.
 pub fn tile<S: Alter>(
     conn: &mut Connection<S>,
     table: &Name,
-    zoom: u8,
-    column: u32,
-    row: u32,
+    place: TilePlace,
 ) -> Result<Option<Vec<u8>>, Fault>
     requires { conn.old.in_transaction ≡ false }
     ensures mode { conn.new.in_transaction ≡ false }
     ensures read { ReadsOn S.Store conn.old conn.new
-        (λ p found. TellsBytes (get p.tiles (tile table.now (pos zoom) (pos column) (pos row)))
-        found) result }
+        (λ p found. TellsBytes (get p.tiles (tile_at table.now place)) found) result }
 {
     let mut tx = conn.transaction();
-    let place = TilePlace { zoom, column, row };
     let found = bytes_at(&mut tx, table.as_str(), place);
     tx.rollback();
     found

@@ -3,6 +3,7 @@
 use mm_core::Session;
 use mm_definitions::moments::Moment;
 use mm_definitions::names::Name;
+use mm_definitions::places::TilePlace;
 use mm_definitions::streams::Io;
 use mm_recovery::{
     close_and_adopt, create_again, create_and_recover, create_on, create_or_adopt,
@@ -14,6 +15,13 @@ use sqlite_disk::{Crash, Fuse, Memory};
 use std::alloc::Global;
 use std::fmt::Write;
 use std::test::Fail;
+
+/// Column 1, row 1 at zoom 1.
+const A_TILE: TilePlace = TilePlace {
+    zoom: 1,
+    column: 1,
+    row: 1,
+};
 
 /// Two files in memory; the log takes so many calls and then none.
 pub(crate) fn files_of(alloc: Global, calls: u64) -> Files<Fuse<Memory>> {
@@ -55,7 +63,7 @@ fn found_in<S: Alter + Drop>(alloc: Global, session: Session<S>) -> Option<(usiz
     let tables = session.contents().ok()?.len();
     let first = session.row(&spots, 1).ok()?.is_some();
     let second = session.row(&spots, 2).ok()?.is_some();
-    let tile = session.tile(&base, 1, 1, 1).ok()?.is_some();
+    let tile = session.tile(&base, A_TILE).ok()?.is_some();
     let matrix = has_finer(alloc, &mut session)?;
     let rows = usize::from(first) + usize::from(second);
     Some((tables, rows + usize::from(tile) + usize::from(matrix)))

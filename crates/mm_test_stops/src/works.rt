@@ -7,11 +7,19 @@ use mm_definitions::answers::{Answer, Fault, Open, Staged};
 use mm_definitions::commands::Command;
 use mm_definitions::moments::Moment;
 use mm_definitions::names::Name;
+use mm_definitions::places::TilePlace;
 use mm_definitions::streams::Io;
 use mm_kit::{MemoryFile, MemoryFolder, import_kit};
 use mm_test_packages::run;
 use sqlite::{Alter, Connection};
 use std::alloc::Global;
+
+/// Column 1, row 1 at zoom 1.
+const A_TILE: TilePlace = TilePlace {
+    zoom: 1,
+    column: 1,
+    row: 1,
+};
 
 /// What the work told: how many of its steps, and whether it met no fault.
 #[derive(Clone, Copy, PartialEq, Eq)]
@@ -36,7 +44,7 @@ fn answers_92<S: Alter>(alloc: Global, session: &mut Session<S>) -> Option<bool>
     let ended = Fault::REOPEN;
     let all = session.list(&mut writer) == Err(ended)
         && session.check() == Err(ended)
-        && session.tile(&table, 1, 1, 1).err() == Some(ended)
+        && session.tile(&table, A_TILE).err() == Some(ended)
         && session.media(&table, 3).err() == Some(ended)
         && session.row(&table, 7).err() == Some(ended)
         && session.contents().err() == Some(ended)

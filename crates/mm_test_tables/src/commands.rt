@@ -5,7 +5,9 @@ use mm_definitions::answers::{Fault, Outcome};
 use mm_definitions::bounded::{MatrixSide, PixelSize, TileSide};
 use mm_definitions::bytes::{MediaBytes, TileBytes};
 use mm_definitions::commands::{Matrix, PlainKind, RelationName, Step};
+use mm_definitions::extents::Extent;
 use mm_definitions::names::Name;
+use mm_definitions::places::TilePlace;
 use mm_meta::{add_matrix, add_pyramid, add_srs, add_table, drop_table, touch};
 use mm_relate::{add_map, add_relation, drop_map, drop_relation};
 use sqlite::{Alter, Connection, Transaction};
@@ -129,10 +131,12 @@ fn call_pyramid<S: Alter>(
         &table,
         identifier,
         srs,
-        min_x,
-        min_y,
-        max_x,
-        max_y,
+        &Extent {
+            min_x,
+            min_y,
+            max_x,
+            max_y,
+        },
         kind,
         last_change,
     ))
@@ -179,9 +183,11 @@ fn call_tile<S: Alter>(
     number_of(put_tile(
         tx,
         &table,
-        level,
-        column,
-        row,
+        TilePlace {
+            zoom: level,
+            column,
+            row,
+        },
         bytes.as_slice(),
         last_change,
     ))
@@ -198,7 +204,12 @@ fn call_tile_drop<S: Alter>(
     let level = zoom(level)?;
     let (column, row) = (count(column)?, count(row)?);
     let table = Name::read(table)?;
-    number_of(drop_tile(tx, &table, level, column, row, last_change))
+    let place = TilePlace {
+        zoom: level,
+        column,
+        row,
+    };
+    number_of(drop_tile(tx, &table, place, last_change))
 }
 
 fn call_row<S: Alter>(

@@ -8,6 +8,7 @@ use mm_definitions::answers::{Fault, Open};
 use mm_definitions::commands::Kind;
 use mm_definitions::entries::{Entry, Media, Related, Row};
 use mm_definitions::names::Name;
+use mm_definitions::places::TilePlace;
 use mm_definitions::units::CURRENT;
 use mm_meta::{init, look};
 use mm_relate::related;
@@ -166,7 +167,12 @@ fn ask_tile<S: Alter>(conn: &mut Connection<S>, fields: &[&str], text: &mut Stri
     if !conn.is_autocommit() {
         return None;
     }
-    add_tile(text, &tile(conn, &table, level, column, line))
+    let place = TilePlace {
+        zoom: level,
+        column,
+        row: line,
+    };
+    add_tile(text, &tile(conn, &table, place))
 }
 
 /// The answer to a question about an attribute row or a medium.

@@ -18,7 +18,7 @@ returns-in-Some g c = record {
   lent = λ profile.
       let r = c.ranges in
       rw (← c.as_str-table.ensures.text)
-      (rw c.refused.ensures (refuses_at profile _ _ _ _ _ (refused c.in-Some.number) ((rw (to_z-of_z r.srs, to_z-of_z r.min_x, to_z-of_z r.min_y, to_z-of_z r.max_x, to_z-of_z r.max_y) at c.in_ok-number.ensures.look) profile)
+      (rw c.refused.ensures (refuses_at profile _ _ _ _ _ (refused c.in-Some.number) ((rw (to_z-of_z r.srs) at c.in_ok-number.ensures.look) profile)
       (λ p meets says. refused_for _ c.in-Some.number (sym (says c.args.step) ∙ c.in-Some.is))));
 }
 
@@ -39,9 +39,9 @@ returns-in_err-insert_pyramid g c = record {
       let r = c.ranges in
       let table = c.as_str-table.result.now in
       rw (p.1, p.2) (rw (← c.as_str-table.ensures.text)
-      (change_gave_up_at profile _ _ _ _ _ _ ((rw (to_z-of_z r.srs, to_z-of_z r.min_x, to_z-of_z r.min_y, to_z-of_z r.max_x, to_z-of_z r.max_y) at c.in_ok-number.ensures.look) profile) _
+      (change_gave_up_at profile _ _ _ _ _ _ ((rw (to_z-of_z r.srs) at c.in_ok-number.ensures.look) profile) _
       (c.in_err-insert_pyramid.ensures.change profile)
-      (λ p meets says any. unregistered profile p meets table (pyramid_is_new p table a.identifier.now a.srs a.min_x a.min_y a.max_x a.max_y a.step (sym c.in_default.is ∙ says a.step)))));
+      (λ p meets says any. unregistered profile p meets table (pyramid_is_new p table a.identifier.now a.srs a.extent.now.min_x a.extent.now.min_y a.extent.now.max_x a.extent.now.max_y a.step (sym c.in_default.is ∙ says a.step)))));
 }
 
 pub returns-in-Two : goal.returns-in-Two
@@ -50,14 +50,14 @@ returns-in-Two g c = record {
   lent = λ profile.
       let a = c.args in
       let r = c.ranges in
-      let bounds : Box = record { min_x = a.min_x; min_y = a.min_y; max_x = a.max_x; max_y = a.max_y } in
+      let bounds : Box = record { min_x = a.extent.now.min_x; min_y = a.extent.now.min_y; max_x = a.extent.now.max_x; max_y = a.extent.now.max_y } in
       let table = c.as_str-table.result.now in
       rw (← c.as_str-table.ensures.text)
-      (accepts_at profile _ _ _ _ _ _ ((rw (to_z-of_z r.srs, to_z-of_z r.min_x, to_z-of_z r.min_y, to_z-of_z r.max_x, to_z-of_z r.max_y) at c.in_ok-number.ensures.look) profile) _
-      ((rw (to_z-of_z r.srs, to_z-of_z r.min_x, to_z-of_z r.min_y, to_z-of_z r.max_x, to_z-of_z r.max_y) at c.in_ok-insert_pyramid.ensures.change) profile)
+      (accepts_at profile _ _ _ _ _ _ ((rw (to_z-of_z r.srs) at c.in_ok-number.ensures.look) profile) _
+      ((rw (to_z-of_z r.srs) at c.in_ok-insert_pyramid.ensures.change) profile)
       (λ p meets says any.
       let none = sym c.in_default.is ∙ says a.step in (
-        unregistered profile p meets table (pyramid_is_new p table a.identifier.now a.srs a.min_x a.min_y a.max_x a.max_y a.step none),
+        unregistered profile p meets table (pyramid_is_new p table a.identifier.now a.srs a.extent.now.min_x a.extent.now.min_y a.extent.now.max_x a.extent.now.max_y a.step none),
         accepted_for _ (sym none),
         ap (with_zoom_row (with_pyramid p table a.identifier.now a.srs bounds a.step a.last_change.now) table) c.in-Two.is,
       )));
@@ -69,17 +69,17 @@ returns-in_ok-insert_zoom_row-in-Other g c = record {
   lent = λ profile.
       let a = c.args in
       let r = c.ranges in
-      let bounds : Box = record { min_x = a.min_x; min_y = a.min_y; max_x = a.max_x; max_y = a.max_y } in
+      let bounds : Box = record { min_x = a.extent.now.min_x; min_y = a.extent.now.min_y; max_x = a.extent.now.max_x; max_y = a.extent.now.max_y } in
       let table = c.as_str-table.result.now in
       rw (← c.as_str-table.ensures.text)
-      (accepts_at profile _ _ _ _ _ _ ((rw (to_z-of_z r.srs, to_z-of_z r.min_x, to_z-of_z r.min_y, to_z-of_z r.max_x, to_z-of_z r.max_y) at c.in_ok-number.ensures.look) profile) _
+      (accepts_at profile _ _ _ _ _ _ ((rw (to_z-of_z r.srs) at c.in_ok-number.ensures.look) profile) _
       (changes_then profile _ _ _ _ _
       (change_where profile (λ p. IsUnregistered table p × (get p.extensions (zoom_extension table) ≡ None)) _ _ _
-      ((rw (to_z-of_z r.srs, to_z-of_z r.min_x, to_z-of_z r.min_y, to_z-of_z r.max_x, to_z-of_z r.max_y) at c.in_ok-insert_pyramid.ensures.change) profile) (λ p new. new.0))
+      ((rw (to_z-of_z r.srs) at c.in_ok-insert_pyramid.ensures.change) profile) (λ p new. new.0))
       (c.in_ok-insert_zoom_row-in-Other.ensures.change profile) (λ p new. new.1))
       (λ p meets says any.
       let none = sym c.in_default.is ∙ says a.step in
-      let new = pyramid_is_new p table a.identifier.now a.srs a.min_x a.min_y a.max_x a.max_y a.step none in (
+      let new = pyramid_is_new p table a.identifier.now a.srs a.extent.now.min_x a.extent.now.min_y a.extent.now.max_x a.extent.now.max_y a.step none in (
         (unregistered profile p meets table new, no_zoom_row profile p meets table new),
         accepted_for _ (sym none),
         ap (with_zoom_row (with_pyramid p table a.identifier.now a.srs bounds a.step a.last_change.now) table) c.in-Other.is,
@@ -95,13 +95,13 @@ returns-in_err-insert_zoom_row-in-Other g c = record {
       let r = c.ranges in
       let table = c.as_str-table.result.now in
       rw (p.1, p.2) (rw (← c.as_str-table.ensures.text)
-      (change_gave_up_at profile _ _ _ _ _ _ ((rw (to_z-of_z r.srs, to_z-of_z r.min_x, to_z-of_z r.min_y, to_z-of_z r.max_x, to_z-of_z r.max_y) at c.in_ok-number.ensures.look) profile) _
+      (change_gave_up_at profile _ _ _ _ _ _ ((rw (to_z-of_z r.srs) at c.in_ok-number.ensures.look) profile) _
       (changes_then profile _ _ _ _ _
       (change_where profile (λ p. IsUnregistered table p × (get p.extensions (zoom_extension table) ≡ None)) _ _ _
-      ((rw (to_z-of_z r.srs, to_z-of_z r.min_x, to_z-of_z r.min_y, to_z-of_z r.max_x, to_z-of_z r.max_y) at c.in_ok-insert_pyramid.ensures.change) profile) (λ p new. new.0))
+      ((rw (to_z-of_z r.srs) at c.in_ok-insert_pyramid.ensures.change) profile) (λ p new. new.0))
       (c.in_err-insert_zoom_row-in-Other.ensures.change profile) (λ p new. new.1))
       (λ p meets says any.
       let none = sym c.in_default.is ∙ says a.step in
-      let new = pyramid_is_new p table a.identifier.now a.srs a.min_x a.min_y a.max_x a.max_y a.step none in
+      let new = pyramid_is_new p table a.identifier.now a.srs a.extent.now.min_x a.extent.now.min_y a.extent.now.max_x a.extent.now.max_y a.step none in
       (unregistered profile p meets table new, no_zoom_row profile p meets table new))));
 }

@@ -10,7 +10,7 @@ returns-then-not-branch g c = record {
   same = search rules;
   look = λ profile.
       look_as profile _ _ _ _ ((rw (to_z-of_z c.ranges.srs) at c.in_ok-has_system.ensures.look) profile)
-      (λ p says step. pyramid_21 p c.args.table.now c.args.identifier.now c.args.srs c.args.min_x c.args.min_y c.args.max_x c.args.max_y step (sym says ∙ c.if-not-branch.true));
+      (λ p says step. pyramid_21 p c.args.table.now c.args.identifier.now c.args.srs c.args.extent.now.min_x c.args.extent.now.min_y c.args.extent.now.max_x c.args.extent.now.max_y step (sym says ∙ c.if-not-branch.true));
 }
 
 pub returns-in_err-has_system : goal.returns-in_err-has_system
@@ -27,7 +27,7 @@ returns-then-is_geographic g c = record {
   look = λ profile.
       let geographic = sym (rw (to_z-of_z c.ranges.srs) at c.is_geographic.ensures) ∙ c.if-is_geographic.true in
       look_as profile _ _ _ _ ((rw (to_z-of_z c.ranges.srs) at c.in_ok-has_system.ensures.look) profile)
-      (λ p says step. pyramid_22 p c.args.table.now c.args.identifier.now c.args.srs c.args.min_x c.args.min_y c.args.max_x c.args.max_y step (sym says ∙ c.if-not-branch.false) geographic);
+      (λ p says step. pyramid_22 p c.args.table.now c.args.identifier.now c.args.srs c.args.extent.now.min_x c.args.extent.now.min_y c.args.extent.now.max_x c.args.extent.now.max_y step (sym says ∙ c.if-not-branch.false) geographic);
 }
 
 pub returns-then-branch : goal.returns-then-branch
@@ -37,7 +37,7 @@ returns-then-branch g c = record {
       let a = c.args in
       let plane = sym (rw (to_z-of_z c.ranges.srs) at c.is_geographic.ensures) ∙ c.if-is_geographic.false in
       look_as profile _ _ _ _ (looks_then profile _ _ _ _ _ ((rw (to_z-of_z c.ranges.srs) at c.in_ok-has_system.ensures.look) profile) (c.in_ok-is_taken.ensures.look profile))
-      (λ p says step. pyramid_23 p a.table.now a.identifier.now a.srs a.min_x a.min_y a.max_x a.max_y step (sym says.0 ∙ c.if-not-branch.false) plane (sym says.1 ∙ c.if-branch.true));
+      (λ p says step. pyramid_23 p a.table.now a.identifier.now a.srs a.extent.now.min_x a.extent.now.min_y a.extent.now.max_x a.extent.now.max_y step (sym says.0 ∙ c.if-not-branch.false) plane (sym says.1 ∙ c.if-branch.true));
 }
 
 pub returns-in_err-is_taken : goal.returns-in_err-is_taken
@@ -56,7 +56,7 @@ returns-then-branch-2 g c = record {
       let plane = sym (rw (to_z-of_z c.ranges.srs) at c.is_geographic.ensures) ∙ c.if-is_geographic.false in
       look_as profile _ _ _ _
       (looks_then profile _ _ _ _ _ (looks_then profile _ _ _ _ _ ((rw (to_z-of_z c.ranges.srs) at c.in_ok-has_system.ensures.look) profile) (c.in_ok-is_taken.ensures.look profile)) (c.in_ok-has_identifier.ensures.look profile))
-      (λ p says step. pyramid_24 p a.table.now a.identifier.now a.srs a.min_x a.min_y a.max_x a.max_y step (sym says.0.0 ∙ c.if-not-branch.false) plane (sym says.0.1 ∙ c.if-branch.false)
+      (λ p says step. pyramid_24 p a.table.now a.identifier.now a.srs a.extent.now.min_x a.extent.now.min_y a.extent.now.max_x a.extent.now.max_y step (sym says.0.0 ∙ c.if-not-branch.false) plane (sym says.0.1 ∙ c.if-branch.false)
       (sym says.1 ∙ c.if-branch-2.true));
 }
 
@@ -75,10 +75,10 @@ returns-then-is_empty g c = record {
       let a = c.args in
       let r = c.ranges in
       let plane = sym (rw (to_z-of_z r.srs) at c.is_geographic.ensures) ∙ c.if-is_geographic.false in
-      let empty = sym (rw (to_z-of_z r.min_x, to_z-of_z r.min_y, to_z-of_z r.max_x, to_z-of_z r.max_y) at c.is_empty.ensures) ∙ c.if-is_empty.true in
+      let empty = sym c.is_empty.ensures ∙ c.if-is_empty.true in
       look_as profile _ _ _ _
       (looks_then profile _ _ _ _ _ (looks_then profile _ _ _ _ _ ((rw (to_z-of_z r.srs) at c.in_ok-has_system.ensures.look) profile) (c.in_ok-is_taken.ensures.look profile)) (c.in_ok-has_identifier.ensures.look profile))
-      (λ p says step. pyramid_27 p a.table.now a.identifier.now a.srs a.min_x a.min_y a.max_x a.max_y step (sym says.0.0 ∙ c.if-not-branch.false) plane (sym says.0.1 ∙ c.if-branch.false)
+      (λ p says step. pyramid_27 p a.table.now a.identifier.now a.srs a.extent.now.min_x a.extent.now.min_y a.extent.now.max_x a.extent.now.max_y step (sym says.0.0 ∙ c.if-not-branch.false) plane (sym says.0.1 ∙ c.if-branch.false)
       (sym says.1 ∙ c.if-branch-2.false) empty);
 }
 
@@ -89,9 +89,9 @@ returns-else-is_empty g c = record {
       let a = c.args in
       let r = c.ranges in
       let plane = sym (rw (to_z-of_z r.srs) at c.is_geographic.ensures) ∙ c.if-is_geographic.false in
-      let filled = sym (rw (to_z-of_z r.min_x, to_z-of_z r.min_y, to_z-of_z r.max_x, to_z-of_z r.max_y) at c.is_empty.ensures) ∙ c.if-is_empty.false in
+      let filled = sym c.is_empty.ensures ∙ c.if-is_empty.false in
       look_as profile _ _ _ _
       (looks_then profile _ _ _ _ _ (looks_then profile _ _ _ _ _ ((rw (to_z-of_z r.srs) at c.in_ok-has_system.ensures.look) profile) (c.in_ok-is_taken.ensures.look profile)) (c.in_ok-has_identifier.ensures.look profile))
-      (λ p says step. pyramid_free p a.table.now a.identifier.now a.srs a.min_x a.min_y a.max_x a.max_y step (sym says.0.0 ∙ c.if-not-branch.false) plane (sym says.0.1 ∙ c.if-branch.false)
+      (λ p says step. pyramid_free p a.table.now a.identifier.now a.srs a.extent.now.min_x a.extent.now.min_y a.extent.now.max_x a.extent.now.max_y step (sym says.0.0 ∙ c.if-not-branch.false) plane (sym says.0.1 ∙ c.if-branch.false)
       (sym says.1 ∙ c.if-branch-2.false) filled);
 }

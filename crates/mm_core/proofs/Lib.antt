@@ -2,3 +2,4 @@ pub mod Adopting
 pub mod Creating
 pub mod Turns
 pub mod Applies
+mod Ready

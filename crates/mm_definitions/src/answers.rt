@@ -4,6 +4,7 @@ ghost use Rattle.std.specs.Prelude.{◌≡◌};
 ghost use Rattle.mm_definitions.specs.Reading.{refused, outcome_refused};
 
 use crate::refusals::{PIECE_REFUSED, Reason};
+use std::alloc::AllocError;
 
 /// Why a command is refused. With 53 it tells the piece's number and the piece's own refusal.
 #[derive(Clone, Copy, Debug, PartialEq, Eq)]
@@ -77,6 +78,16 @@ impl Fault {
     }
 }
 
+impl From<AllocError> for Fault {
+    ghost use Rattle.std.specs.Prelude.{◌≡◌};
+
+    ghost from_gives = { λ _ fault. fault ≡ record { 0 = 90 } };
+
+    fn from(_error: AllocError) -> Fault {
+        Fault::MEMORY
+    }
+}
+
 /// Why a file is not opened as a package.
 #[derive(Clone, Copy, Debug, PartialEq, Eq)]
 pub enum Open {
@@ -107,6 +118,17 @@ impl ReadFault {
         ensures { result ≡ refused reason }
     {
         ReadFault::Refused(Refusal::of(reason))
+    }
+}
+
+impl From<AllocError> for ReadFault {
+    ghost use Rattle.std.specs.Prelude.{◌≡◌};
+    ghost use Rattle.mm_definitions.specs.declared.answers.ReadFault.TheVariants as faults;
+
+    ghost from_gives = { λ _ fault. fault ≡ faults.Memory };
+
+    fn from(_error: AllocError) -> ReadFault {
+        ReadFault::Memory
     }
 }
 

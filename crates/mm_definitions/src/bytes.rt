@@ -54,10 +54,8 @@ impl<const MOST: usize> Bytes<MOST> {
     pub fn read(alloc: Global, text: &str) -> Result<Self, ReadFault>
         ensures { ReadsTo (reads_bytes MOST text.now) (refuses_bytes MOST text.now) result }
     {
-        let bytes = match decoded(alloc, text) {
-            Ok(Some(bytes)) => bytes,
-            Ok(None) => return Err(ReadFault::refused(Reason::NO_SUCH_RECORD)),
-            Err(_) => return Err(ReadFault::Memory),
+        let Some(bytes) = decoded(alloc, text)? else {
+            return Err(ReadFault::refused(Reason::NO_SUCH_RECORD));
         };
         match Bytes::new(bytes) {
             Some(bytes) => Ok(bytes),

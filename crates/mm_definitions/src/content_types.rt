@@ -94,10 +94,8 @@ impl ContentType {
         if !is_content_type(text) {
             return Err(ReadFault::refused(Reason::OUT_OF_LIMITS));
         }
-        match String::from_str(alloc, text) {
-            Ok(text) => Ok(ContentType { text }),
-            Err(_) => Err(ReadFault::Memory),
-        }
+        let text = String::from_str(alloc, text)?;
+        Ok(ContentType { text })
     }
 
     /// The content type as text.

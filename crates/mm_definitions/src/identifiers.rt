@@ -73,10 +73,8 @@ impl Identifier {
         if !is_identifier(text) {
             return Err(ReadFault::refused(Reason::OUT_OF_LIMITS));
         }
-        match String::from_str(alloc, text) {
-            Ok(text) => Ok(Identifier { text }),
-            Err(_) => Err(ReadFault::Memory),
-        }
+        let text = String::from_str(alloc, text)?;
+        Ok(Identifier { text })
     }
 
     /// The identifier as text.

@@ -75,10 +75,8 @@ impl<const LEAST: usize, const MOST: usize> Text<LEAST, MOST> {
         if !is_text(text, LEAST, MOST) {
             return Err(ReadFault::refused(Reason::OUT_OF_LIMITS));
         }
-        match String::from_str(alloc, text) {
-            Ok(text) => Ok(Text { text }),
-            Err(_) => Err(ReadFault::Memory),
-        }
+        let text = String::from_str(alloc, text)?;
+        Ok(Text { text })
     }
 
     /// The text.

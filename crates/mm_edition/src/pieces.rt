@@ -65,11 +65,7 @@ fn blob_in(row: &Row) -> Result<Option<i64>, Fault>
     ensures shown { IfOk result (λ blob. column row.now 11 ≡ maybe blob) }
     ensures fault { IfErr result IsStoreFault }
 {
-    match row.get(11) {
-        Ok(Some(blob)) => Ok(Some(blob)),
-        Ok(None) => Ok(None),
-        Err(error) => Err(fault_of(error)),
-    }
+    row.get(11).map_err(fault_of)
 }
 
 /// The bytes of the blob that the row of a piece names, if it names one.

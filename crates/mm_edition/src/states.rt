@@ -24,10 +24,7 @@ fn first_number<S: Alter>(
     ensures { Asks S.Store tx.old tx.new sql.now (bound params.now) GivesPieceNumber result }
 {
     match first(tx, sql, params)? {
-        Some(row) => match row.get(0) {
-            Ok(number) => Ok(Some(number)),
-            Err(error) => Err(fault_of(error)),
-        },
+        Some(row) => Ok(Some(row.get(0).map_err(fault_of)?)),
         None => Ok(None),
     }
 }

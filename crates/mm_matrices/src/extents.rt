@@ -39,10 +39,7 @@ fn first_extent<S: Alter>(
     ensures { Asks S.Store tx.old tx.new sql.now (bound params.now) GivesExtent result }
 {
     match first(tx, sql, params)? {
-        Some(row) => match extent_in(&row) {
-            Ok(extent) => Ok(Some(extent)),
-            Err(error) => Err(fault_of(error)),
-        },
+        Some(row) => Ok(Some(extent_in(&row).map_err(fault_of)?)),
         None => Ok(None),
     }
 }

@@ -15,6 +15,7 @@ use mm_definitions::answers::Fault;
 use mm_definitions::bounded::{Count, PixelSize};
 use mm_definitions::commands::{Matrix, Step};
 use mm_definitions::matrices::neighbours;
+use mm_store::columns::number_in;
 use mm_store::faults::fault_of;
 use mm_store::statements::first;
 use sqlite::types::ValueRef;
@@ -25,25 +26,8 @@ fn zoom_in(row: &Row) -> Result<u8, Fault>
     ensures zoom { IfOk result (λ zoom. column row.now 0 ≡ Int (pos zoom)) }
     ensures faults { IfErr result IsStoreFault }
 {
-    let zoom: u32 = match row.get(0) {
-        Ok(zoom) => zoom,
-        Err(error) => return Err(fault_of(error)),
-    };
-    match u8::try_from(zoom) {
-        Ok(zoom) => Ok(zoom),
-        Err(_) => Err(Fault::STORE),
-    }
-}
-
-/// The whole number at a place of a row.
-fn number_at(row: &Row, place: usize) -> Result<i64, Fault>
-    ensures number { IfOk result (λ number. column row.now place ≡ Int number) }
-    ensures faults { IfErr result IsStoreFault }
-{
-    match row.get(place) {
-        Ok(number) => Ok(number),
-        Err(error) => Err(fault_of(error)),
-    }
+    let zoom: u32 = row.get(0).map_err(fault_of)?;
+    u8::try_from(zoom).map_err(|_| Fault::STORE)
 }
 
 /// The number of tiles or pixels at a place of a row. One outside its limits is a fault, 91.
@@ -54,7 +38,7 @@ fn count_at<const LEAST: u32, const MOST: u32>(
     ensures count { IfOk result (λ count. column row.now place ≡ Int (pos count)) }
     ensures faults { IfErr result IsStoreFault }
 {
-    match Count::new(number_at(row, place)?) {
+    match Count::new(number_in(row, place)?) {
         Some(count) => Ok(count),
         None => Err(Fault::STORE),
     }
@@ -65,7 +49,7 @@ fn pixel_at(row: &Row, place: usize) -> Result<PixelSize, Fault>
     ensures size { IfOk result (λ size. column row.now place ≡ Int size) }
     ensures faults { IfErr result IsStoreFault }
 {
-    match PixelSize::new(number_at(row, place)?) {
+    match PixelSize::new(number_in(row, place)?) {
         Some(size) => Ok(size),
         None => Err(Fault::STORE),
     }

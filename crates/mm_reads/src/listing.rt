@@ -119,10 +119,8 @@ impl Visitor for Gathered {
 
     fn take(&mut self, row: &Row) -> Result<bool, Fault> {
         let entry = entry_in(row)?;
-        match self.entries.push(entry) {
-            Ok(()) => Ok(true),
-            Err(_) => Err(Fault::MEMORY),
-        }
+        self.entries.push(entry).map_err(|_| Fault::MEMORY)?;
+        Ok(true)
     }
 }
 

@@ -44,10 +44,8 @@ impl Visitor for Gathered {
 
     fn take(&mut self, row: &Row) -> Result<bool, Fault> {
         let item = related_in(row)?;
-        match self.items.push(item) {
-            Ok(()) => Ok(true),
-            Err(_) => Err(Fault::MEMORY),
-        }
+        self.items.push(item).map_err(|_| Fault::MEMORY)?;
+        Ok(true)
     }
 }
 

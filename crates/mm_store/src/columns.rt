@@ -16,21 +16,15 @@ pub fn text_in(row: &Row, at: usize) -> Result<String, Fault>
     ensures shown { IfOk result (λ text. column row.now at ≡ Words (string_bytes text)) }
     ensures fault { IfErr result IsStoreFault }
 {
-    match row.get(at) {
-        Ok(text) => Ok(text),
-        Err(error) => Err(fault_of(error)),
-    }
+    row.get(at).map_err(fault_of)
 }
 
 /// The number in a column.
-pub fn number_in(row: &Row, at: usize) -> Result<i64, Fault>
-    ensures shown { IfOk result (λ number. column row.now at ≡ Int number) }
+pub fn number_in(row: &Row, place: usize) -> Result<i64, Fault>
+    ensures shown { IfOk result (λ number. column row.now place ≡ Int number) }
     ensures fault { IfErr result IsStoreFault }
 {
-    match row.get(at) {
-        Ok(number) => Ok(number),
-        Err(error) => Err(fault_of(error)),
-    }
+    row.get(place).map_err(fault_of)
 }
 
 /// The name in a column.

@@ -106,10 +106,7 @@ pub fn first_text<S: Alter>(
         (bound params.now) (λ it first. GivesText it first) result }
 {
     match first(tx, sql, params)? {
-        Some(row) => match row.get(0) {
-            Ok(text) => Ok(Some(text)),
-            Err(error) => Err(fault_of(error)),
-        },
+        Some(row) => Ok(Some(row.get(0).map_err(fault_of)?)),
         None => Ok(None),
     }
 }
@@ -132,10 +129,7 @@ pub fn first_pair<S: Alter>(
         (bound params.now) (λ it first. GivesPair it first) result }
 {
     match first(tx, sql, params)? {
-        Some(row) => match pair_in(&row) {
-            Ok(pair) => Ok(Some(pair)),
-            Err(error) => Err(fault_of(error)),
-        },
+        Some(row) => Ok(Some(pair_in(&row).map_err(fault_of)?)),
         None => Ok(None),
     }
 }

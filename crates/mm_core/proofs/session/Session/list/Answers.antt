@@ -1,17 +1,17 @@
 use Rattle.std.proofs.Common.{◌≡◌, ◌∙◌, true, false, refl, sym}
+use Rattle.std.proofs.lemmas.Result.{err_from_is_err_and}
 use Rattle.mm_definitions.specs.Bounds.{current}
+use Rattle.mm_core.proofs.Ready.{not_read, ready_works}
 use Rattle.mm_core.proofs.session.Session.list.Goals as goal
 
-pub returns-then-self-clause-reads : goal.returns-then-self-clause-reads
-returns-then-self-clause-reads g c = record {
-  ended = λ _. (refl, refl);
-  same = refl;
-  read = λ works. absurd (let clash : true ≡ false = sym c.if-self.true ∙ works in cc);
-}
+pub returns-in_err-ready-clause-reads : goal.returns-in_err-ready-clause-reads
+returns-in_err-ready-clause-reads g c =
+    let p = err_from_is_err_and c.from_residual.result c.from_residual.ensures.1 in
+    rw (p.1, p.2) (not_read _ _ _ (sym c.in_err-ready.ensures))
 
 pub returns-clause-reads : goal.returns-clause-reads
 returns-clause-reads g c = record {
-  ended = λ failed. absurd (let clash : false ≡ true = sym c.if-self.false ∙ failed in cc);
+  ended = λ failed. absurd (let clash : false ≡ true = sym (ready_works _ (sym c.in_ok-ready.ensures)) ∙ failed in cc);
   same = refl;
   read = λ works. c.list.ensures.listed current;
 }

@@ -11,7 +11,7 @@ use mm_definitions::streams::Io;
 use mm_definitions::units::CURRENT;
 use mm_migrate::migrate;
 use mm_opening::{init, look};
-use mm_run::run_list;
+use mm_run::{Apply, run_list};
 use mm_shelf::blobs_stand;
 use sqlite::{Alter, Connection};
 use std::alloc::Global;
@@ -187,18 +187,7 @@ impl<S: Alter> Session<S> {
 }
 
 impl<S: Alter> Session<S> {
-    ghost use Rattle.std.specs.Prelude.{◌≡◌, ◌⊎◌, IfOk, IfErr, OnOk, true};
-    ghost use Rattle.std.specs.Io.KnownBytes.{IsAtEnd};
-    ghost use Rattle.sqlite.specs.Held.{state};
-    ghost use Rattle.sqlite.specs.State.{HasCleanDisk};
-    ghost use Rattle.mm_definitions.specs.Bounds.{current};
-    ghost use Rattle.mm_definitions.specs.Streams.{inside, written};
-    ghost use Rattle.mm_definitions.specs.Streams as streams;
-    ghost use Rattle.mm_store.specs.Stands.{IsSettled};
-    ghost use Rattle.mm_run.specs.Told.{IsNear};
-    ghost use Rattle.mm_run.specs.Ended.{OnEnded, RanEnded};
-    ghost use Rattle.mm_run.specs.Runs.{IsKept, IsRunFault, OnRun, OnSound, RanAll, RanSome, RunTellsReopening, TellsFlush, TellsWriter, WorksOn};
-    ghost use Rattle.mm_core.specs.Parts.{held, must_reopen, shown};
+    ghost use Rattle.mm_run.specs.Promised.{RunsList};
 
     /// Reads records to the end and answers each with a line, which is written and flushed before the next record is
     /// read. Each command is applied at the moment that is handed in. At each exit every database that may be left is
@@ -215,40 +204,8 @@ impl<S: Alter> Session<S> {
         writer: &mut Io<W>,
         at: Moment,
     ) -> Result<Tally, RunFault>
-        ensures clean { HasCleanDisk (state S.Store (held self.new))
-            → HasCleanDisk (state S.Store (held self.old)) }
-        ensures done { IfOk result
-            (λ t. OnRun (HasCleanDisk (state S.Store (held self.new)))
-            (λ p. IsSettled current (state S.Store (held self.old)) p)
-            (R.remaining (inside reader.old))
-            (λ p bytes. RanAll p at bytes (shown S.Store self.new)
-            (written W.contents writer.old) (written W.contents writer.new) t)) }
-        ensures end { OnOk result (IsAtEnd (R.remaining (inside reader.new))) }
-        ensures working { OnOk result
-            (streams.has_failed writer.new ≡ streams.has_failed writer.old) }
-        ensures flushed { TellsFlush (streams.is_flushed writer.old)
-            (streams.is_flushed writer.new) result }
-        ensures stopped { IfErr result
-            (λ e. OnRun (HasCleanDisk (state S.Store (held self.new)))
-            (λ p. IsSettled current (state S.Store (held self.old)) p)
-            (R.remaining (inside reader.old))
-            (λ p bytes. RanSome p at bytes
-            (WorksOn (must_reopen self.old) (shown S.Store self.new))
-            (must_reopen self.new ≡ true) (shown S.Store self.new)
-            (written W.contents writer.old) (written W.contents writer.new) e)) }
-        ensures near { IfErr result (λ e. IsNear e.tally) }
-        ensures session { RunTellsReopening (must_reopen self.old) (must_reopen self.new)
-            (self.new ≡ self.old) result }
-        ensures writer { IfErr result
-            (TellsWriter (streams.has_failed writer.old) (streams.has_failed writer.new)) }
-        ensures why { IfErr result
-            (λ e. (e.fault.0 ≡ 97) ⊎ IsRunFault e.fault.0 (streams.has_failed reader.new)) }
-        ensures kept { OnSound (HasCleanDisk (state S.Store (held self.new)))
-            (λ p. IsSettled current (state S.Store (held self.old)) p)
-            (IsKept (must_reopen self.old) (shown S.Store self.new)) }
-        ensures ended { OnEnded (must_reopen self.old) (R.remaining (inside reader.old))
-            (λ bytes. RanEnded bytes (written W.contents writer.old)
-            (written W.contents writer.new) result) }
+        ensures { RunsList ⟦<Session<S> as Apply>⟧ R.Read W.Write at self.old self.new
+            reader.old reader.new writer.old writer.new result }
     {
         let alloc = self.alloc;
         run_list(alloc, self, reader, writer, at)

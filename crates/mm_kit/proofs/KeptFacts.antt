@@ -1,5 +1,5 @@
 -- What an import keeps, whatever its folder tells.
-use Rattle.std.proofs.Common.{◌≡◌, ◌≢◌, ◌∙◌, ◌⊎◌, inl, inr, ◌≤◌, ◌<◌, ◌+◌, ℕ, pos, List, [], ◌∷◌, ◌++◌, length, Option, Some, None, true, false, refl, sym, ap, subst, arith, append_assoc, append-nil, length-append}
+use Rattle.std.proofs.Common.{◌≡◌, ◌∙◌, ◌⊎◌, inl, inr, ◌≤◌, ◌<◌, ◌+◌, ℕ, pos, List, [], ◌∷◌, ◌++◌, length, Option, Some, None, Ok, true, false, refl, sym, ap, subst, arith, append_assoc, append-nil, length-append}
 use Rattle.std.proofs.Math.Dec.{leb}
 use Rattle.std.proofs.lemmas.Bool.Decides.{leb_tells}
 use Rattle.mm_definitions.specs.Bounds.{current}
@@ -13,9 +13,13 @@ use Rattle.mm_definitions.specs.declared.commands.Command.TheVariants as command
 use Rattle.mm_definitions.specs.declared.commands.Piece.{Piece}
 use Rattle.mm_store.proofs.Refusals.{refused}
 use Rattle.mm_kit.specs.Editions.{HasPieces}
-use Rattle.mm_kit.specs.Imports.{IsFirstOf, IsPassedBy, KeepsOthers, SameBut}
+use Rattle.mm_kit.specs.Imports.{IsEntryStaged, IsFirstOf, IsPassedBy, KeepsOthers, SameBut}
+use Rattle.mm_kit.specs.Folders.{Files}
+use Rattle.mm_kit.specs.declared.entries.Entry.{Entry}
+use Rattle.mm_run.specs.Applied.{IsSound}
+use Rattle.mm_run.specs.Shown.{Shown}
 use Rattle.mm_kit.proofs.LawFacts.{numbered-in}
-use Rattle.mm_kit.proofs.StageFacts.{end_step, equal_step, grown, has_grown, has_one, other_refused, same_grown, same_or_other}
+use Rattle.mm_kit.proofs.StageFacts.{end_step, equal_step, has_grown, has_one, other_refused, same_grown, same_or_other}
 
 -- a package keeps its own pieces
 pub keeps_itself : (name : Text) (p : Package) → KeepsOthers name p p
@@ -70,3 +74,9 @@ module _ (name : Text) (p q : Package) (old : List Piece) (meets : Meets current
   kept_in_doubt stands_for db before less passed moment next (inl stands) = (q, stands, meets, kept k name p old q before passed)
   kept_in_doubt stands_for db before less passed moment next (inr (free, stands)) =
       (step q c moment, stands, next, kept (k + 1) name p old (step q c moment) before (passed_by-more less passed free moment))
+
+-- an entry was staged
+pub passed-staged : {D : Type 0} (shows : Shown D) (told : Option Files) (e : Entry) (name : Text) (p q : Package) (old : List Piece) (k : ℕ) → Meets current q → k < 4096 → IsPassedBy k name p old q → (moment : ℕ)
+    → IsEntryStaged told e name (k + 1) q moment shows (Ok None) → (r : Package) × IsSound shows.settled r × IsPassedBy (k + 1) name p old r
+passed-staged shows told e name p q old k meets less passed moment (x, it, good, goes) =
+    (step q (commands.Stage name (pos (k + 1)) x) moment, goes, passed_by-more name p q old meets x k less passed good moment)

@@ -15,7 +15,7 @@ use Rattle.mm_edition.specs.States.{TellsState}
 use Rattle.mm_run.specs.Applied.{IsSound}
 use Rattle.mm_kit.specs.Editions.{Edition, Open, Published, IsEdition, HasPieces}
 use Rattle.mm_kit.specs.Folders.{Files}
-use Rattle.mm_kit.specs.Imports.{IsImportAnswered, AreImported, AreStaged, GrowsAlong, IsCounted, OnlyGrows, MayBeStaged, IsImportStopped}
+use Rattle.mm_kit.specs.Imports.{IsImportAnswered, AreImported, AreStaged, AreStagedOn, HasCounted, ImportWorksOn, GrowsAlong, IsCounted, OnlyGrows, MayBeStaged, IsImportStopped}
 use Rattle.mm_kit.specs.Kits.{edition_answer, kit_of}
 use Rattle.mm_kit.specs.Lists.{IsKitList}
 use Rattle.mm_kit.specs.declared.entries.Entry.{Entry}
@@ -32,6 +32,9 @@ no_file n low high (inr e) = absurd (omega (arith, low, e))
 -- nothing was staged
 pub as_it_was : (name : Text) (p : Package) → IsCounted 0 name p p
 as_it_was name p old has = (old, has, inl (sym (max-eq_left (zero_le (length old)))))
+
+pub counted_as_it_was : (name : Text) (p : Package) → HasCounted 0 name p p
+counted_as_it_was name p old has = (old, has, sym (max-eq_left (zero_le (length old))))
 
 -- each edition is absent, open or published
 pub some_edition : (p : Package) (name : Text) → Meets current p → (edition : Option Edition) × IsEdition p name edition
@@ -83,6 +86,9 @@ module _ (files : Files) (name : Text) (p : Package) where
   stopped_some entries may_leave stands_for s read left db may =
       let (q, stands, meets, grows, counted) = left db may in
       (q, stands, meets, along (Ok entries) read q grows, counted)
+
+  pub works_some : (entries : List Entry) (settled : Package → Type 0) (s : ℕ) → IsKitList files (Ok entries) → AreStagedOn files name entries p settled s → ImportWorksOn files name p settled s
+  works_some entries settled s read (q, sound, grows, counted) = (q, sound, along (Ok entries) read q grows, counted)
 
   pub stopped_at_once : {D : Type 0} (may_leave : D → Type 0) (stands_for : D → Package → Type 0) → Meets current p → ((db : D) → may_leave db → stands_for db p) → IsImportStopped files name p may_leave stands_for 0
   stopped_at_once may_leave stands_for meets left db may = (p, left db may, meets, inl refl, as_it_was name p)

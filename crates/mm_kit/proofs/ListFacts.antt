@@ -5,7 +5,6 @@ use Rattle.csv.specs.Reading.{Reached, ReadRecord, default_config, records, sour
 use Rattle.csv.specs.declared.parser.State.TheVariants as states
 use Rattle.csv.specs.declared.reader.Reader.{Reader}
 use Rattle.csv.proofs.ReadFacts.{rows-end, rows-more}
-use Rattle.mm_definitions.specs.declared.commands.Piece.TheVariants as pieces
 use Rattle.mm_io.specs.Records.{Record}
 use Rattle.mm_io.proofs.RecordsFacts.{records-all, records-first}
 use Rattle.mm_kit.specs.Entries.{IsEntry, IsEntryReadAs}

@@ -1,7 +1,7 @@
 -- What one turn of an import does to the pieces that stand.
 use Rattle.std.proofs.Common.{◌≡◌, ◌≢◌, ◌<◌, ◌≤◌, ◌+◌, ◌-◌, ◌∙◌, ◌⊎◌, inl, inr, ap, subst, ℕ, zero, suc, ℤ, pos, ◌≤ℤ◌, ◌-ℤ◌, List, [], ◌∷◌, ◌++◌, length, Option, Some, None, is_some, Bool, true, false, refl, sym, arith, rules, append_assoc, append-nil, length-append}
 use Rattle.std.proofs.lemmas.Int.{ints}
-use Rattle.std.specs.Prelude.{◌==◌, max, Ok, Err, if◌then◌else◌}
+use Rattle.std.specs.Prelude.{◌==◌, max, Ok, Err, Result, if◌then◌else◌}
 use Rattle.std.proofs.lemmas.Bool.{ne_eqb}
 use Rattle.std.proofs.Math.Nat.{max-eq_left, max-eq_right}
 use Rattle.std.proofs.Math.Dec.{leb}
@@ -27,10 +27,12 @@ use Rattle.mm_laws.proofs.Published.{read_back, row_itself}
 use Rattle.mm_store.proofs.Refusals.{accepted_for, refused, refused_for}
 use Rattle.mm_edition.specs.Places.{IsNextNumber}
 use Rattle.mm_edition.proofs.Numbering.{stage_equal, stage_other, stage_next, again}
+use Rattle.mm_run.specs.Applied.{IsSound}
+use Rattle.mm_run.specs.Shown.{Shown}
 use Rattle.mm_kit.specs.Editions.{HasPieces, numbered}
 use Rattle.mm_kit.specs.Folders.{Files}
 use Rattle.mm_kit.specs.Kits.{against, beside, filled, first_number, kit_pieces}
-use Rattle.mm_kit.specs.Imports.{IsFirstOf, SameBut, OnlyGrows, HasFirst, HasWhole, IsCounted, IsPassed, IsImportedSoFar}
+use Rattle.mm_kit.specs.Imports.{HasCounted, IsEntryStaged, IsFilled, IsFirstOf, SameBut, OnlyGrows, HasFirst, HasWhole, IsCounted, IsPassed, IsImportedSoFar}
 use Rattle.mm_kit.specs.declared.entries.Entry.{Entry}
 
 -- ---- pieces by their numbers
@@ -330,6 +332,15 @@ so_far-none files name entries p old = record {
   passed = inl (refl, (old, refl));
 }
 
+-- what is filled is told by the files
+pub fills : (files : Files) (told : Option Files) (e : Entry) (full : Result Piece ℕ) → told ≡ Some files → IsFilled told e full → filled files e ≡ full
+fills files told e full tells it = sym (rw tells at it)
+
+-- 52 is of no file
+no_file : (n : ℕ) → n ≡ 52 → (n ≡ 57) ⊎ (n ≡ 11) → ⊥
+no_file n e (inl h) = absurd (omega (arith, e, h))
+no_file n e (inr h) = absurd (omega (arith, e, h))
+
 module _ (files : Files) (name : Text) (entries : List Entry) (p : Package) (old : List Piece) (before : HasPieces p name old) where
   pub so_far-more : (left : List Entry) (e : Entry) (x : Piece) (k : ℕ) (q : Package) → IsImportedSoFar files name entries (e ∷ left) p old k q → filled files e ≡ Ok x → k < 4096 → Meets current q
       → (moment : ℕ) → refusal q (commands.Stage name (pos (k + 1)) x) ≡ None → IsImportedSoFar files name entries left p old (k + 1) (step q (commands.Stage name (pos (k + 1)) x) moment)
@@ -347,6 +358,13 @@ module _ (files : Files) (name : Text) (entries : List Entry) (p : Package) (old
         passed = passed;
       }
 
+  -- the same of an entry that was staged
+  pub staged-more : {D : Type 0} (shows : Shown D) (left : List Entry) (e : Entry) (k : ℕ) (q : Package) → IsImportedSoFar files name entries (e ∷ left) p old k q → k < 4096 → Meets current q
+      → (told : Option Files) → told ≡ Some files → (moment : ℕ) → IsEntryStaged told e name (k + 1) q moment shows (Ok None)
+      → (r : Package) × IsSound shows.settled r × IsImportedSoFar files name entries left p old (k + 1) r
+  staged-more shows left e k q s less meets told tells moment (x, it, good, goes) =
+      (step q (commands.Stage name (pos (k + 1)) x) moment, goes, so_far-more left e x k q s (fills files told e (Ok x) tells it) less meets moment good)
+
   -- ---- what stands then
   pub grows : (left : List Entry) (k : ℕ) (q : Package) → IsImportedSoFar files name entries left p old k q → OnlyGrows name (kit_pieces files entries) p q
   grows left k q s = by s.passed
@@ -359,6 +377,12 @@ module _ (files : Files) (name : Text) (entries : List Entry) (p : Package) (old
   size : (k : ℕ) (done : List Piece) (q : Package) → length done ≡ k → IsPassed name p old done q → (new : List Piece) × HasPieces q name new × (length new ≡ max (length old) k)
   size k done q count (inl (same, (rest, e))) = (old, subst (λ r. HasPieces r name old) (sym same) before, sym (max-eq_left (omega (arith, count, ap length e, length-append done rest))))
   size k done q count (inr ((rest, e), has, same)) = (done, has, count ∙ sym (max-eq_right (omega (arith, count, ap length e, length-append old rest))))
+
+  pub counted_all : (left : List Entry) (k : ℕ) (q : Package) → IsImportedSoFar files name entries left p old k q → HasCounted k name p q
+  counted_all left k q s old2 has2 =
+      let it = size k s.done q s.count s.passed in
+      let is : old2 ≡ old = has_one p name old2 old has2 before in
+      (it.0, it.1, it.2 ∙ ap (λ l. max (length l) k) (sym is))
 
   pub counted : (left : List Entry) (k : ℕ) (q : Package) → IsImportedSoFar files name entries left p old k q → IsCounted k name p q
   counted left k q s old2 has2 =
@@ -416,6 +440,17 @@ module _ (files : Files) (name : Text) (entries : List Entry) (p : Package) (old
   has_whole k q s most =
       let kit : kit_pieces files entries ≡ s.done = s.kit ∙ append-nil s.done in
       (s.answer, record { whole = s.whole; pieces = subst (HasPieces q name) (sym kit) (all_staged s.done q s.passed (omega (arith, s.count, most))); count = ap length kit ∙ s.count })
+
+  -- the entry was refused, for its file or as a command
+  pub refused_at : (left : List Entry) (e : Entry) (k n : ℕ) (q : Package) → IsImportedSoFar files name entries (e ∷ left) p old k q → k < 4096 → Meets current q → (told : Option Files) → told ≡ Some files
+      → IsFilled told e (Err n) ⊎ ((x : Piece) × IsFilled told e (Ok x) × (why : Refusal) × (why.number ≡ n) × (refusal q (commands.Stage name (pos (k + 1)) x) ≡ Some why))
+      → (first_number (against files old) 1 entries ≡ Some (k + 1, n)) × HasFirst files name entries p q n
+  refused_at left e k n q s less meets told tells (inl it) =
+      let lacks : filled files e ≡ Err n = fills files told e (Err n) tells it in
+      (number_unfilled left e k n q s lacks, has_first left e k n q s lacks)
+  refused_at left e k n q s less meets told tells (inr (x, it, why, is, bad)) =
+      let (first, number) = number_refused left e x k q s (fills files told e (Ok x) tells it) less meets why bad in
+      (first ∙ ap (λ m. Some (k + 1, m)) is, λ files. absurd (no_file n (sym is ∙ number) files))
 
   -- ---- a command in doubt
   pub left_in_doubt : {D : Type 0} (stands_for : D → Package → Type 0) (db : D) (left : List Entry) (e : Entry) (x : Piece) (k : ℕ) (q : Package) → IsImportedSoFar files name entries (e ∷ left) p old k q → filled files e ≡ Ok x → k < 4096 → Meets current q

@@ -1,15 +1,20 @@
 -- What an import of a kit does.
-use Rattle.std.specs.Prelude.{◌≡◌, ◌≢◌, ◌≤◌, ◌⊎◌, ◌+◌, ◌==◌, ◌||◌, ℕ, max, length, Bool, true, false, List, [], ◌∷◌, ◌++◌, Option, Some, Result, Ok, Err, ⊤}
+use Rattle.std.specs.Prelude.{◌≡◌, ◌≢◌, ◌≤◌, ◌⊎◌, ◌+◌, ◌==◌, ◌||◌, ℕ, pos, max, length, Bool, true, false, List, [], ◌∷◌, ◌++◌, Option, Some, None, Result, Ok, Err, IfSome, ⊤}
 use Rattle.std.specs.FinMap.{get}
 use Rattle.mm_definitions.specs.Keys.{Text, PieceKey}
 use Rattle.mm_definitions.specs.Package.{Package}
 use Rattle.mm_definitions.specs.Rules.{Meets}
 use Rattle.mm_definitions.specs.Bounds.{current}
+use Rattle.mm_definitions.specs.Step.{refusal, step}
+use Rattle.mm_definitions.specs.declared.commands.Command.TheVariants as commands
 use Rattle.mm_definitions.specs.declared.commands.Piece.{Piece}
+use Rattle.mm_definitions.specs.declared.answers.Fault.{Fault}
+use Rattle.mm_definitions.specs.declared.answers.Refusal.{Refusal}
 use Rattle.mm_definitions.specs.declared.answers.Staged.{Staged}
 use Rattle.mm_definitions.specs.declared.answers.Staged.TheVariants.{Complete, Refused}
 use Rattle.mm_definitions.specs.declared.answers.KitFault.{KitFault}
-use Rattle.mm_run.specs.Applied.{IsSound}
+use Rattle.mm_run.specs.Applied.{IsSound, LeavesEither}
+use Rattle.mm_run.specs.Shown.{Shown}
 use Rattle.mm_kit.specs.Editions.{Edition, HasPieces, IsEdition}
 use Rattle.mm_kit.specs.Folders.{Files}
 use Rattle.mm_kit.specs.Kits.{IsWholeKit, against, edition_answer, filled, error_of, first_answer, first_number, kit_answer, kit_of, kit_pieces}
@@ -78,6 +83,10 @@ abbrev pub IsCounted : ℕ → Text → Package → Package → Type 0
 IsCounted s name p q = (old : List Piece) → HasPieces p name old
     → (new : List Piece) × HasPieces q name new × ((length new ≡ max (length old) s) ⊎ ((length old ≤ s) × (length new ≡ s + 1)))
 
+-- the same where none is in doubt
+abbrev pub HasCounted : ℕ → Text → Package → Package → Type 0
+HasCounted s name p q = (old : List Piece) → HasPieces p name old → (new : List Piece) × HasPieces q name new × (length new ≡ max (length old) s)
+
 -- the package is as it was, or its edition has grown along the kit of the folder
 abbrev pub GrowsAlong : Files → Text → Package → Package → Type 0
 GrowsAlong files name p q = (q ≡ p) ⊎ ((list : Result (List Entry) (ℕ × ℕ)) × IsKitList files list × IsGrown name (kit_of files list) p q)
@@ -86,6 +95,10 @@ GrowsAlong files name p q = (q ≡ p) ⊎ ((list : Result (List Entry) (ℕ × �
 abbrev pub IsImportStopped : {D : Type 0} → Files → Text → Package → (D → Type 0) → (D → Package → Type 0) → ℕ → Type 0
 IsImportStopped {D} files name p may_leave stands_for s =
     (db : D) → may_leave db → (q : Package) × stands_for db q × Meets current q × GrowsAlong files name p q × IsCounted s name p q
+
+-- the session is settled for such a package, and no piece is in doubt
+abbrev pub ImportWorksOn : Files → Text → Package → (Package → Type 0) → ℕ → Type 0
+ImportWorksOn files name p settled s = (q : Package) × IsSound settled q × GrowsAlong files name p q × HasCounted s name p q
 
 -- ---- what is promised where
 
@@ -125,6 +138,10 @@ abbrev pub IsImportKept : {D : Type 0} → Text → Package → (Package → Typ
 IsImportKept name p settled may_leave stands_for (Ok a) = (q : Package) × IsSound settled q × KeepsOthers name p q
 IsImportKept {D} name p settled may_leave stands_for (Err e) = (db : D) → may_leave db → (q : Package) × stands_for db q × Meets current q × KeepsOthers name p q
 
+-- the session is settled for such a package, which meets the rules
+abbrev pub IsStillKept : Text → Package → (Package → Type 0) → Type 0
+IsStillKept name p settled = (q : Package) × IsSound settled q × KeepsOthers name p q
+
 -- the list of the folder is a kit's, so its pieces are to be staged
 abbrev pub AsksForPackage : Option Files → Type 0
 AsksForPackage told = (files : Files) → told ≡ Some files → (entries : List Entry) × IsKitList files (Ok entries)
@@ -133,6 +150,13 @@ AsksForPackage told = (files : Files) → told ≡ Some files → (entries : Lis
 abbrev pub ImportTellsReopening : Bool → Bool → Type 0 → Result Staged KitFault → Type 0
 ImportTellsReopening before failed same (Ok a) = (failed ≡ before) × (before ≡ true → same)
 ImportTellsReopening before failed same (Err e) = (e.fault.0 ≡ 92 → before ≡ true) × (e.fault.0 ≡ 96 → failed ≡ before) × (before ≡ true → same × (e.staged ≡ 0))
+
+-- What is told on a session that has to be opened again: 92 where the list is a kit's. Before that there may be no memory for the
+-- list (90), or the folder fails (96). Only a list that is refused is answered.
+abbrev pub ImportEnded : Option Files → Result Staged KitFault → Type 0
+ImportEnded told (Ok (Complete n)) = ⊥
+ImportEnded told (Ok (Refused place number)) = IfSome told (λ files. IsKitList files (Err (place, number)))
+ImportEnded told (Err e) = (e.staged ≡ 0) × ((e.fault.0 ≡ 90) ⊎ (e.fault.0 ≡ 96) ⊎ ((e.fault.0 ≡ 92) × AsksForPackage told))
 
 -- ---- inside the import
 
@@ -143,6 +167,29 @@ IsPassed name p old done q = ((q ≡ p) × IsFirstOf done old) ⊎ (IsFirstOf ol
 -- so many pieces stand, and those that stood before come first
 abbrev pub IsPassedBy : ℕ → Text → Package → List Piece → Package → Type 0
 IsPassedBy k name p old q = (new : List Piece) × HasPieces q name new × (k ≤ length new) × IsFirstOf old new × SameBut name p q
+
+-- the piece of an entry, or the number that its file is refused with, by the files of a folder that tells them
+abbrev pub IsFilled : Option Files → Entry → Result Piece ℕ → Type 0
+IsFilled told e full = IfSome told (λ files. full ≡ filled files e)
+
+-- What became of the entry of this number. It was staged; or it was refused, for its file or as a command, and the session is
+-- settled for the package as it was. A fault came before the command, and then it is so too; or it has failed the session, and
+-- the command may be done or not.
+abbrev pub IsEntryStaged : {D : Type 0} → Option Files → Entry → Text → ℕ → Package → ℕ → Shown D → Result (Option ℕ) Fault → Type 0
+IsEntryStaged told e name n p moment shows (Ok None) =
+    (x : Piece) × IsFilled told e (Ok x) × (refusal p (commands.Stage name (pos n) x) ≡ None) × IsSound shows.settled (step p (commands.Stage name (pos n) x) moment)
+IsEntryStaged told e name n p moment shows (Ok (Some number)) =
+    IsSound shows.settled p × (IsFilled told e (Err number)
+    ⊎ ((x : Piece) × IsFilled told e (Ok x) × (why : Refusal) × (why.number ≡ number) × (refusal p (commands.Stage name (pos n) x) ≡ Some why)))
+IsEntryStaged told e name n p moment shows (Err fault) =
+    (IsSound shows.settled p × (shows.failed ≡ false))
+    ⊎ ((shows.failed ≡ true) × (x : Piece) × IsFilled told e (Ok x) × Meets current (step p (commands.Stage name (pos n) x) moment)
+    × LeavesEither shows p (commands.Stage name (pos n) x) moment)
+
+-- the staging of an entry told that the folder failed
+abbrev pub is_of_folder : {T : Type 0} → Result T Fault → Bool
+is_of_folder (Ok a) = false
+is_of_folder (Err fault) = fault.0 == 96
 
 -- After k entries, where these are left: what is still to be staged, and the answer, are those of the entries left.
 pub record IsImportedSoFar (files : Files) (name : Text) (entries left : List Entry) (p : Package) (old : List Piece) (k : ℕ) (q : Package) : Type 0 where
@@ -166,6 +213,10 @@ pub record AreStaged (files : Files) (name : Text) (entries : List Entry) (p : P
 abbrev pub MayBeStaged : {D : Type 0} → Files → Text → List Entry → Package → (D → Type 0) → (D → Package → Type 0) → ℕ → Type 0
 MayBeStaged {D} files name entries p may_leave stands_for s =
     (db : D) → may_leave db → (q : Package) × stands_for db q × Meets current q × OnlyGrows name (kit_pieces files entries) p q × IsCounted s name p q
+
+-- the same where the session works on, and no piece is in doubt
+abbrev pub AreStagedOn : Files → Text → List Entry → Package → (Package → Type 0) → ℕ → Type 0
+AreStagedOn files name entries p settled s = (q : Package) × IsSound settled q × OnlyGrows name (kit_pieces files entries) p q × HasCounted s name p q
 
 -- what the import of the entries comes to
 pub record AreImported (files : Files) (name : Text) (entries : List Entry) (p : Package) (settled : Package → Type 0) (answer : Staged) : Type 0 where

@@ -6,3 +6,4 @@ pub mod Editions
 pub mod Kits
 pub mod Imports
 pub mod MemoryFolders
+pub mod Promised

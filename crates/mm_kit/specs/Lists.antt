@@ -1,16 +1,14 @@
 -- What the list of a kit says: its entries, or the first record that is refused.
-use Rattle.std.specs.Prelude.{◌≡◌, ◌⊎◌, ◌≤◌, ◌<◌, ◌+◌, ℕ, length, List, [], ◌∷◌, ◌++◌, Option, Some, None, Result, Ok, Err, pos, codes, ⊤}
+use Rattle.std.specs.Prelude.{◌≡◌, ◌⊎◌, ◌≤◌, ◌<◌, ◌+◌, ℕ, length, List, [], ◌∷◌, ◌++◌, Option, Some, None, Result, Ok, Err, codes, ⊤}
 use Rattle.csv.specs.Reading.{Reached, default_config}
 use Rattle.csv.specs.declared.parser.State.{State}
 use Rattle.csv.specs.declared.parser.State.TheVariants as states
 use Rattle.mm_definitions.specs.declared.answers.ReadFault.{ReadFault}
 use Rattle.mm_definitions.specs.declared.answers.ReadFault.TheVariants as faults
-use Rattle.mm_definitions.specs.Bounds.{current, IsName, IsZoom, IsTilePlace, IsId, IsContentType}
 use Rattle.mm_io.specs.Records.{Record, records_of}
 use Rattle.mm_kit.specs.Entries.{IsEntryReadAs}
 use Rattle.mm_kit.specs.Folders.{Files}
 use Rattle.mm_kit.specs.declared.entries.Entry.{Entry}
-use Rattle.mm_kit.specs.declared.entries.Entry.TheVariants.{Ready, Tile, Media}
 use Rattle.mm_kit.specs.declared.lists.Listed.{Listed}
 use Rattle.mm_kit.specs.declared.lists.Listed.TheVariants.{Entries, Refused}
 

@@ -1,10 +1,9 @@
 //! The import of a kit, in the order of its steps.
 
-ghost use Rattle.std.specs.Prelude.{◌≡◌, ◌≢◌, ◌⊎◌, ◌||◌, IfOk, IfErr, Some, false, true};
-ghost use Rattle.mm_definitions.specs.Package.{Package};
+ghost use Rattle.std.specs.Prelude.{◌≡◌, ◌||◌, IfOk, Some};
 ghost use Rattle.mm_kit.specs.Folders.{Files, is_failure};
-ghost use Rattle.mm_kit.specs.Imports.{AreImported, AsksForPackage, IsImportAnswered, IsImportKept, IsKitFault, IsImportStopped, MayBeStaged, OnAnyFolder, OnKit, ImportTellsReopening, TellsFolder};
 ghost use Rattle.mm_kit.specs.Lists.{AreFew, AreSound, IsKitList, list_read};
+ghost use Rattle.mm_kit.specs.Promised.{ImportsEntries, ImportsKit};
 
 use crate::entries::Entry;
 use crate::folders::{Folder, FolderFault, Found};
@@ -49,21 +48,8 @@ fn import_entries<A: Editor, F: Folder>(
     at: Moment,
 ) -> Result<Staged, KitFault>
     requires { AreFew entries.items }
-    ensures clean { A.is_clean editor.new → A.is_clean editor.old }
-    ensures answered { IfOk result
-        (λ a. OnKit (A.is_clean editor.new) (A.settled editor.old) (F.files folder.old)
-        (λ files p. AreImported files name.now entries.items p (A.settled editor.new) a)) }
-    ensures stopped { IfErr result
-        (λ e. OnKit (A.is_clean editor.new) (A.settled editor.old) (F.files folder.old)
-        (λ files p. MayBeStaged files name.now entries.items p (A.may_leave editor.new)
-        A.stands_for e.staged)) }
-    ensures session { ImportTellsReopening (A.has_failed editor.old) (A.has_failed editor.new)
-        (editor.new ≡ editor.old) result }
-    ensures kept { OnAnyFolder (A.is_clean editor.new) (A.settled editor.old)
-        (λ p. IsImportKept name.now p (A.settled editor.new) (A.may_leave editor.new)
-        A.stands_for result) }
-    ensures folder { TellsFolder (F.has_failed folder.old) (F.has_failed folder.new) result }
-    ensures why { IfErr result (λ e. IsKitFault e.fault.0) }
+    ensures { ImportsEntries A.Apply F.Folder name.now entries.items editor.old editor.new
+        folder.old folder.new result }
 {
     let records = entries.len() as u32;
     match editor.edition(name) {
@@ -106,34 +92,8 @@ pub fn import_kit<A: Editor, F: Folder>(
     folder: &mut F,
     at: Moment,
 ) -> Result<Staged, KitFault>
-    ensures clean { A.is_clean editor.new → A.is_clean editor.old }
-
-    // The answer is that of the kit on the package, and the editor is settled for one whose edition has grown along the kit.
-    ensures answered { IfOk result
-        (λ a. OnKit (A.is_clean editor.new) (A.settled editor.old) (F.files folder.old)
-        (λ files p. IsImportAnswered files name.now p (A.settled editor.new) a)) }
-
-    // With a fault each database that may be left stands for such a package, with as many pieces as were answered ok, or one more.
-    ensures stopped { IfErr result
-        (λ e. OnKit (A.is_clean editor.new) (A.settled editor.old) (F.files folder.old)
-        (λ files p. IsImportStopped files name.now p (A.may_leave editor.new)
-        A.stands_for e.staged)) }
-
-    // An editor that has failed is left as it was, and 92 comes only there.
-    ensures session { ImportTellsReopening (A.has_failed editor.old) (A.has_failed editor.new)
-        (editor.new ≡ editor.old) result }
-
-    // The package is asked only where the list is a kit's.
-    ensures needed { IfErr result (λ e. e.fault.0 ≡ 92 → AsksForPackage (F.files folder.old)) }
-
-    // Of every folder, one that tells nothing too: the rules hold, and nothing but the edition's pieces has changed, of which none is lost.
-    ensures kept { OnAnyFolder (A.is_clean editor.new) (A.settled editor.old)
-        (λ p. IsImportKept name.now p (A.settled editor.new) (A.may_leave editor.new)
-        A.stands_for result) }
-
-    // 96 is the folder's, and the folder tells it.
-    ensures folder { TellsFolder (F.has_failed folder.old) (F.has_failed folder.new) result }
-    ensures why { IfErr result (λ e. IsKitFault e.fault.0) }
+    ensures { ImportsKit A.Apply F.Folder name.now editor.old editor.new folder.old folder.new
+        result }
 {
     match find_list(alloc, folder) {
         Ok(Listed::Entries(entries)) => import_entries(alloc, editor, name, folder, entries, at),

@@ -1,20 +1,19 @@
 //! The staging of a kit's pieces, one after another.
 
-ghost use Rattle.std.specs.Prelude.{◌≡◌, ◌≢◌, ◌<◌, ◌≤◌, ◌⊎◌, List, length, pos, IfOk, IfErr, false, true};
+ghost use Rattle.std.specs.Prelude.{◌≡◌, ◌≢◌, ◌<◌, ◌||◌, pos, IfErr, OnOk, false, true};
 ghost use Rattle.mm_definitions.specs.Bounds.{IsName, current};
 ghost use Rattle.mm_definitions.specs.Package.{Package};
 ghost use Rattle.mm_definitions.specs.Rules.{Meets};
 ghost use Rattle.mm_definitions.specs.Step.{step};
 ghost use Rattle.mm_definitions.specs.declared.answers.Answer.TheVariants as answers;
 ghost use Rattle.mm_definitions.specs.declared.commands.Command.TheVariants as commands;
-ghost use Rattle.mm_definitions.specs.declared.commands.Piece.{Piece as SpecPiece};
 ghost use Rattle.mm_run.specs.Answers.{is_fault};
 ghost use Rattle.mm_run.specs.Applied.{IsApplied, IsApplyFault, IsSound, OnFault};
 ghost use Rattle.mm_run.specs.Sessions.{shown};
-ghost use Rattle.mm_kit.specs.Editions.{HasPieces};
-ghost use Rattle.mm_kit.specs.Folders.{Files, fault_number};
-ghost use Rattle.mm_kit.specs.Imports.{AreStaged, IsImportKept, IsKitFault, MayBeStaged, OnAnyFolder, OnKit, ImportTellsReopening, TellsFolder};
+ghost use Rattle.mm_kit.specs.Folders.{fault_number};
+ghost use Rattle.mm_kit.specs.Imports.{IsEntryStaged, IsKitFault, is_of_folder};
 ghost use Rattle.mm_kit.specs.Lists.{AreFew};
+ghost use Rattle.mm_kit.specs.Promised.{StagesEntries};
 
 use crate::entries::Entry;
 use crate::filling::fill;
@@ -92,6 +91,41 @@ fn stage_piece<A: Apply>(
     editor.apply(&command, at)
 }
 
+/// Reads the file of an entry and stages its piece under this number: None where it is staged or stands already, else the
+/// number that refuses it. A fault of the folder comes before the command.
+fn stage_entry<A: Editor, F: Folder>(
+    alloc: Global,
+    editor: &mut A,
+    edition: &Name,
+    folder: &mut F,
+    number: u32,
+    entry: Entry,
+    at: Moment,
+) -> Result<Option<u8>, Fault>
+    requires number { 0 < number }
+    requires working { A.has_failed editor.old ≡ false }
+    ensures clean { A.is_clean editor.new → A.is_clean editor.old }
+    ensures staged { A.is_clean editor.new → (p : Package) → IsSound (A.settled editor.old) p
+        → IsEntryStaged (F.files folder.old) entry edition.now number p at
+        (shown A.Apply editor.new) result }
+    ensures works { OnOk result (A.has_failed editor.new ≡ false) }
+    ensures fault { IfErr result
+        (λ fault. (fault.0 ≢ 92) × (fault.0 ≡ 96 → A.has_failed editor.new ≡ false)) }
+    ensures stays { F.files folder.new ≡ F.files folder.old }
+    ensures folder { F.has_failed folder.new ≡ (F.has_failed folder.old || is_of_folder result) }
+    ensures why { IfErr result (λ fault. IsKitFault fault.0) }
+{
+    match fill(alloc, folder, entry) {
+        Ok(Ok(piece)) => match stage_piece(editor, edition, number, piece, at) {
+            Answer::Ok => Ok(None),
+            Answer::Refused(why) => Ok(Some(why.number())),
+            Answer::Fault(fault) => Err(fault),
+        },
+        Ok(Err(refusal)) => Ok(Some(refusal)),
+        Err(fault) => Err(folder_fault(fault)),
+    }
+}
+
 /// Stages the pieces of the entries in order, up to the first that is refused.
 pub(crate) fn stage_all<A: Editor, F: Folder>(
     alloc: Global,
@@ -103,53 +137,20 @@ pub(crate) fn stage_all<A: Editor, F: Folder>(
 ) -> Result<Staged, KitFault>
     requires few { AreFew entries.items }
     requires working { A.has_failed editor.old ≡ false }
-    ensures clean { A.is_clean editor.new → A.is_clean editor.old }
-    ensures answered { IfOk result
-        (λ a. OnKit (A.is_clean editor.new) (A.settled editor.old) (F.files folder.old)
-        (λ files p. (old : List SpecPiece) → HasPieces p edition.now old
-        → length old ≤ length entries.items
-        → AreStaged files edition.now entries.items p old (A.settled editor.new) a)) }
-    ensures stopped { IfErr result
-        (λ e. OnKit (A.is_clean editor.new) (A.settled editor.old) (F.files folder.old)
-        (λ files p. (old : List SpecPiece) → HasPieces p edition.now old
-        → MayBeStaged files edition.now entries.items p (A.may_leave editor.new)
-        A.stands_for e.staged)) }
-    ensures session { IfOk result (λ a. A.has_failed editor.new ≡ false) }
-    ensures fault { IfErr result
-        (λ e. (e.fault.0 ≢ 92) × (e.fault.0 ≡ 96 → A.has_failed editor.new ≡ false)) }
-    ensures kept { OnAnyFolder (A.is_clean editor.new) (A.settled editor.old)
-        (λ p. (old : List SpecPiece) → HasPieces p edition.now old
-        → IsImportKept edition.now p (A.settled editor.new) (A.may_leave editor.new)
-        A.stands_for result) }
-    ensures folder { TellsFolder (F.has_failed folder.old) (F.has_failed folder.new) result }
-    ensures why { IfErr result (λ e. IsKitFault e.fault.0) }
+    ensures { StagesEntries A.Apply F.Folder edition.now entries.items editor.old editor.new
+        folder.old folder.new result }
 {
     let mut staged = 0u32;
     for entry in entries {
-        let piece = match fill(alloc, folder, entry) {
-            Ok(Ok(piece)) => piece,
-            Ok(Err(number)) => {
+        match stage_entry(alloc, editor, edition, folder, staged + 1, entry, at) {
+            Ok(None) => staged += 1,
+            Ok(Some(number)) => {
                 return Ok(Staged::Refused {
                     piece: staged + 1,
                     number,
                 });
             }
-            Err(fault) => {
-                return Err(KitFault {
-                    fault: folder_fault(fault),
-                    staged,
-                });
-            }
-        };
-        match stage_piece(editor, edition, staged + 1, piece, at) {
-            Answer::Ok => staged += 1,
-            Answer::Refused(why) => {
-                return Ok(Staged::Refused {
-                    piece: staged + 1,
-                    number: why.number(),
-                });
-            }
-            Answer::Fault(fault) => return Err(KitFault { fault, staged }),
+            Err(fault) => return Err(KitFault { fault, staged }),
         }
     }
     Ok(Staged::Complete(staged))

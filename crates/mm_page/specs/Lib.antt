@@ -1,3 +1,4 @@
 pub mod Lists
 pub mod Page
 pub mod Served
+pub mod Promised

@@ -20,11 +20,16 @@ Served on source response = (p : Package) → on p → (input : Text) → source
 abbrev pub ServedTo : (Package → Type 0) → Option Text → Option Text → Option Text → Type 0
 ServedTo on source old new = (response : Text) × Served on source response × Appends old new response
 
+-- Why no response was made: 90 where there was no memory for it, or for reading the path before anything is asked for; or what the
+-- viewer tells.
+abbrev pub IsPageFault : Bool → Fault → Type 0
+IsPageFault failed fault = (fault.0 ≡ 90) ⊎ IsViewFault failed fault
+
 -- Why it wasn't written whole: 90, 91, 92, or 96 where the reader has failed, and then nothing was written; or 97 where the
 -- writer has, and then a front of it was.
 abbrev pub Stopped : Bool → (Package → Type 0) → Option Text → Bool → Option Text → Option Text → Bool → Fault → Type 0
 Stopped failed on source reading old new writing fault =
-    (IsViewFault failed fault × Keeps old new)
+    (IsPageFault failed fault × Keeps old new)
     ⊎ ((fault.0 ≡ 96) × (reading ≡ true) × Keeps old new)
     ⊎ ((fault.0 ≡ 97) × (writing ≡ true) × (response : Text) × Served on source response
     × (k : ℕ) × (k ≤ length response) × Appends old new (take k response))

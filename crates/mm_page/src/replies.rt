@@ -2,10 +2,8 @@
 
 ghost use Rattle.std.specs.Prelude.{◌≡◌, pos, IfErr, IfOk, Ok};
 ghost use Rattle.mm_routes.specs.Asked as page;
-ghost use Rattle.mm_routes.specs.Responses.{response_of};
 ghost use Rattle.mm_routes.specs.Routes.{asked};
-ghost use Rattle.mm_page.specs.Page.{reply_of};
-ghost use Rattle.mm_reads.specs.Viewers.{ShowsPart, IsOn, IsViewFault, LeavesPackage};
+ghost use Rattle.mm_page.specs.Promised.{Replies};
 
 use crate::lists::{mates_json, tables_json};
 use mm_definitions::answers::Fault;
@@ -34,15 +32,8 @@ fn tile_reply<V: Viewer>(
     column: u32,
     row: u32,
 ) -> Result<Vec<u8>, Fault>
-    ensures same { V.has_failed viewer.new ≡ V.has_failed viewer.old }
-    ensures kept { LeavesPackage
-        (V.store viewer.old) (V.store viewer.new) }
-    ensures reply { ShowsPart
-        (IsOn (V.has_failed viewer.old)
-        (V.store viewer.old) (V.store viewer.new)) (λ v. v.items)
-        (λ p. response_of
-        (reply_of p (page.Tile table.now (pos zoom) (pos column) (pos row)))) result }
-    ensures fault { IfErr result (IsViewFault (V.has_failed viewer.old)) }
+    ensures { Replies V.Viewer viewer.old viewer.new result
+        (page.Tile table.now (pos zoom) (pos column) (pos row)) }
 {
     match viewer.tile(table, zoom, column, row)? {
         Some(bytes) => printed(found(alloc, "application/octet-stream", &bytes)),
@@ -56,14 +47,8 @@ fn media_reply<V: Viewer>(
     table: &Name,
     id: i64,
 ) -> Result<Vec<u8>, Fault>
-    ensures same { V.has_failed viewer.new ≡ V.has_failed viewer.old }
-    ensures kept { LeavesPackage
-        (V.store viewer.old) (V.store viewer.new) }
-    ensures reply { ShowsPart
-        (IsOn (V.has_failed viewer.old)
-        (V.store viewer.old) (V.store viewer.new)) (λ v. v.items)
-        (λ p. response_of (reply_of p (page.Media table.now id))) result }
-    ensures fault { IfErr result (IsViewFault (V.has_failed viewer.old)) }
+    ensures { Replies V.Viewer viewer.old viewer.new result
+        (page.Media table.now id) }
 {
     match viewer.media(table, id)? {
         Some(media) => printed(found(alloc, media.content_type.as_str(), media.bytes.as_slice())),
@@ -77,14 +62,8 @@ fn related_reply<V: Viewer>(
     table: &Name,
     id: i64,
 ) -> Result<Vec<u8>, Fault>
-    ensures same { V.has_failed viewer.new ≡ V.has_failed viewer.old }
-    ensures kept { LeavesPackage
-        (V.store viewer.old) (V.store viewer.new) }
-    ensures reply { ShowsPart
-        (IsOn (V.has_failed viewer.old)
-        (V.store viewer.old) (V.store viewer.new)) (λ v. v.items)
-        (λ p. response_of (reply_of p (page.Related table.now id))) result }
-    ensures fault { IfErr result (IsViewFault (V.has_failed viewer.old)) }
+    ensures { Replies V.Viewer viewer.old viewer.new result
+        (page.Related table.now id) }
 {
     match viewer.related(table, id)? {
         Some(mates) => match mates_json(alloc, &mates) {
@@ -96,14 +75,7 @@ fn related_reply<V: Viewer>(
 }
 
 fn contents_reply<V: Viewer>(alloc: Global, viewer: &mut V) -> Result<Vec<u8>, Fault>
-    ensures same { V.has_failed viewer.new ≡ V.has_failed viewer.old }
-    ensures kept { LeavesPackage
-        (V.store viewer.old) (V.store viewer.new) }
-    ensures reply { ShowsPart
-        (IsOn (V.has_failed viewer.old)
-        (V.store viewer.old) (V.store viewer.new)) (λ v. v.items)
-        (λ p. response_of (reply_of p page.Contents)) result }
-    ensures fault { IfErr result (IsViewFault (V.has_failed viewer.old)) }
+    ensures { Replies V.Viewer viewer.old viewer.new result page.Contents }
 {
     let tables = viewer.contents()?;
     match tables_json(alloc, &tables) {
@@ -114,14 +86,7 @@ fn contents_reply<V: Viewer>(alloc: Global, viewer: &mut V) -> Result<Vec<u8>, F
 
 /// The response to what is asked for.
 pub fn reply<V: Viewer>(alloc: Global, viewer: &mut V, wanted: Wanted) -> Result<Vec<u8>, Fault>
-    ensures same { V.has_failed viewer.new ≡ V.has_failed viewer.old }
-    ensures kept { LeavesPackage
-        (V.store viewer.old) (V.store viewer.new) }
-    ensures reply { ShowsPart
-        (IsOn (V.has_failed viewer.old)
-        (V.store viewer.old) (V.store viewer.new)) (λ v. v.items)
-        (λ p. response_of (reply_of p (asked wanted))) result }
-    ensures fault { IfErr result (IsViewFault (V.has_failed viewer.old)) }
+    ensures { Replies V.Viewer viewer.old viewer.new result (asked wanted) }
 {
     match wanted {
         Wanted::Tile {

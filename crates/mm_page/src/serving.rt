@@ -1,16 +1,12 @@
 //! A request read and answered.
 
-ghost use Rattle.std.specs.Prelude.{◌≡◌, ◌⊎◌, IfOk, IfErr, IsUtf8, OnOk, bytes_eq, codes, true};
+ghost use Rattle.std.specs.Prelude.{◌≡◌, IsUtf8, bytes_eq, codes};
 ghost use Rattle.mm_definitions.specs.Keys.{Text};
 ghost use Rattle.mm_definitions.specs.Package.{Package};
-ghost use Rattle.mm_definitions.specs.Streams.{inside};
-ghost use Rattle.mm_definitions.specs.Streams as streams;
-ghost use Rattle.mm_page.specs.Page.{Page, Writes, WritesTo};
+ghost use Rattle.mm_page.specs.Page.{Page, WritesTo};
 ghost use Rattle.mm_page.specs.Page as page;
+ghost use Rattle.mm_page.specs.Promised.{MakesResponse, Responds, Serves};
 ghost use Rattle.mm_routes.specs.Asked.{IsRouted, Wanted};
-ghost use Rattle.mm_routes.specs.Heads.{ReadsNoMore};
-ghost use Rattle.mm_page.specs.Served.{AsksForPart, Served, ServedTo, Stopped};
-ghost use Rattle.mm_reads.specs.Viewers.{IsOn, IsViewFault, LeavesPackage};
 
 use crate::replies::{printed, reply};
 use http::Method;
@@ -42,15 +38,8 @@ fn is_get(method: &[u8]) -> bool
 
 /// The response to a path.
 fn path_response<V: Viewer>(alloc: Global, viewer: &mut V, path: &str) -> Result<Vec<u8>, Fault>
-    ensures same { V.has_failed viewer.new ≡ V.has_failed viewer.old }
-    ensures kept { LeavesPackage
-        (V.store viewer.old) (V.store viewer.new) }
-    ensures response { (p : Package)
-        → IsOn (V.has_failed viewer.old)
-        (V.store viewer.old) (V.store viewer.new) p
-        → IfOk result (λ v. WritesTo p path.now v.items) }
-    ensures needed { IfErr result (λ fault. fault.0 ≡ 92 → (w : Wanted) × IsRouted path.now w) }
-    ensures fault { IfErr result (IsViewFault (V.has_failed viewer.old)) }
+    ensures { MakesResponse V.Viewer viewer.old viewer.new result
+        (λ p bytes. WritesTo p path.now bytes) ((w : Wanted) × IsRouted path.now w) }
 {
     match read_path(alloc, path)? {
         Some(wanted) => reply(alloc, viewer, wanted),
@@ -66,16 +55,9 @@ fn head_response<V: Viewer>(
     target: &[u8],
 ) -> Result<Vec<u8>, Fault>
     requires text { IsUtf8 target.now }
-    ensures same { V.has_failed viewer.new ≡ V.has_failed viewer.old }
-    ensures kept { LeavesPackage
-        (V.store viewer.old) (V.store viewer.new) }
-    ensures response { (p : Package)
-        → IsOn (V.has_failed viewer.old)
-        (V.store viewer.old) (V.store viewer.new) p
-        → IfOk result (λ v. Writes p method.now target.now v.items) }
-    ensures needed { IfErr result (λ fault. fault.0 ≡ 92
-        → (method.now ≡ codes "GET") × (w : Wanted) × IsRouted (page.path_of target.now) w) }
-    ensures fault { IfErr result (IsViewFault (V.has_failed viewer.old)) }
+    ensures { MakesResponse V.Viewer viewer.old viewer.new result
+        (λ p bytes. page.Writes p method.now target.now bytes)
+        ((method.now ≡ codes "GET") × (w : Wanted) × IsRouted (page.path_of target.now) w) }
 {
     if !is_get(method) {
         return printed(not_allowed(alloc));
@@ -92,22 +74,7 @@ fn respond<V: Viewer, R: Read>(
     viewer: &mut V,
     reader: &mut Io<R>,
 ) -> Result<Vec<u8>, Fault>
-    ensures same { V.has_failed viewer.new ≡ V.has_failed viewer.old }
-    ensures kept { LeavesPackage
-        (V.store viewer.old) (V.store viewer.new) }
-    ensures response { IfOk result
-        (λ v. Served
-        (IsOn (V.has_failed viewer.old)
-        (V.store viewer.old) (V.store viewer.new))
-        (R.remaining (inside reader.old)) v.items) }
-    ensures frugal { OnOk result
-        (ReadsNoMore 8192 (R.remaining (inside reader.old)) (R.remaining (inside reader.new))) }
-    ensures frugal_fault { IfErr result (λ fault. (fault.0 ≡ 96)
-        ⊎ ReadsNoMore 8192 (R.remaining (inside reader.old)) (R.remaining (inside reader.new))) }
-    ensures needed { IfErr result
-        (λ fault. fault.0 ≡ 92 → AsksForPart (R.remaining (inside reader.old))) }
-    ensures fault { IfErr result (λ fault. IsViewFault (V.has_failed viewer.old) fault
-        ⊎ ((fault.0 ≡ 96) × (streams.has_failed reader.new ≡ true))) }
+    ensures { Responds V.Viewer R.Read viewer.old viewer.new reader.old reader.new result }
 {
     let mut buf = [0; 8192];
     let mut headers = [EMPTY_HEADER_SPAN; 64];
@@ -134,28 +101,8 @@ pub fn serve_one<V: Viewer, R: Read, W: Write>(
     reader: &mut Io<R>,
     writer: &mut Io<W>,
 ) -> Result<(), PageFault>
-    ensures same { V.has_failed viewer.new ≡ V.has_failed viewer.old }
-    ensures kept { LeavesPackage
-        (V.store viewer.old) (V.store viewer.new) }
-    ensures served { OnOk result
-        (ServedTo (IsOn (V.has_failed viewer.old)
-        (V.store viewer.old) (V.store viewer.new))
-        (R.remaining (inside reader.old)) (W.contents (inside writer.old))
-        (W.contents (inside writer.new))) }
-    ensures working { OnOk result (streams.has_failed writer.new ≡ streams.has_failed writer.old) }
-    ensures frugal { OnOk result
-        (ReadsNoMore 8192 (R.remaining (inside reader.old)) (R.remaining (inside reader.new))) }
-    ensures frugal_fault { IfErr result (λ e. (e.0.0 ≡ 96)
-        ⊎ ReadsNoMore 8192 (R.remaining (inside reader.old)) (R.remaining (inside reader.new))) }
-    ensures needed { IfErr result
-        (λ e. e.0.0 ≡ 92 → AsksForPart (R.remaining (inside reader.old))) }
-    ensures stopped { IfErr result
-        (λ e. Stopped (V.has_failed viewer.old)
-        (IsOn (V.has_failed viewer.old)
-        (V.store viewer.old) (V.store viewer.new))
-        (R.remaining (inside reader.old)) (streams.has_failed reader.new)
-        (W.contents (inside writer.old)) (W.contents (inside writer.new))
-        (streams.has_failed writer.new) e.0) }
+    ensures { Serves V.Viewer R.Read W.Write viewer.old viewer.new reader.old reader.new
+        writer.old writer.new result }
 {
     let response = match respond(alloc, viewer, reader) {
         Ok(response) => response,

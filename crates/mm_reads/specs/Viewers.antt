@@ -28,6 +28,7 @@ ShowsValue shown value (Err fault) = ⊤
 abbrev pub ShowsPart : {A B : Type 0} → (Package → Type 0) → (A → B) → (Package → B) → Result A Fault → Type 0
 ShowsPart on shown part result = (p : Package) → on p → ShowsValue shown (part p) result
 
--- 90 want of memory, 91 the store, and 92 of a viewer that has failed, as a session that has to be opened again has
+-- A viewer that has failed answers 92 and nothing else, as a session that has to be opened again does; another 90 for want of
+-- memory, or 91 where the store fails.
 abbrev pub IsViewFault : Bool → Fault → Type 0
-IsViewFault failed fault = (fault.0 ≡ 90) ⊎ ((failed ≡ false) × (fault.0 ≡ 91)) ⊎ ((failed ≡ true) × (fault.0 ≡ 92))
+IsViewFault failed fault = ((failed ≡ false) × ((fault.0 ≡ 90) ⊎ (fault.0 ≡ 91))) ⊎ ((failed ≡ true) × (fault.0 ≡ 92))

@@ -1,6 +1,6 @@
 //! What the parts of a package that are shown are asked of.
 
-ghost use Rattle.std.specs.Prelude.{◌≡◌, Bool, pos, IfErr, map, option_map};
+ghost use Rattle.std.specs.Prelude.{◌≡◌, Bool, pos, Err, IfErr, map, option_map, true};
 ghost use Rattle.std.specs.FinMap.{get};
 ghost use Rattle.sqlite.specs.State.{State};
 ghost use Rattle.mm_definitions.specs.Keys.{item};
@@ -37,6 +37,7 @@ pub trait Viewer {
             (IsOn (Self.has_failed self.old) (Self.store self.old) (Self.store self.new))
             (option_map (λ v. v.items))
             (λ p. get p.tiles (keys.tile table.now (pos zoom) (pos column) (pos row))) result }
+        ensures ended { Self.has_failed self.old ≡ true → result ≡ Err (record { 0 = 92 }) }
         ensures fault { IfErr result (IsViewFault (Self.has_failed self.old)) };
 
     /// A medium, or None where none has the id.
@@ -46,6 +47,7 @@ pub trait Viewer {
         ensures value { ShowsPart
             (IsOn (Self.has_failed self.old) (Self.store self.old) (Self.store self.new))
             (option_map shown_medium) (λ p. get p.media (item table.now id)) result }
+        ensures ended { Self.has_failed self.old ≡ true → result ≡ Err (record { 0 = 92 }) }
         ensures fault { IfErr result (IsViewFault (Self.has_failed self.old)) };
 
     /// What an attribute row or medium is related to, where it stands.
@@ -55,6 +57,7 @@ pub trait Viewer {
         ensures value { ShowsPart
             (IsOn (Self.has_failed self.old) (Self.store self.old) (Self.store self.new))
             (option_map (λ v. map mate_told v.items)) (λ p. mates p table.now id) result }
+        ensures ended { Self.has_failed self.old ≡ true → result ≡ Err (record { 0 = 92 }) }
         ensures fault { IfErr result (IsViewFault (Self.has_failed self.old)) };
 
     /// The tables by rising name.
@@ -64,5 +67,6 @@ pub trait Viewer {
         ensures value { ShowsPart
             (IsOn (Self.has_failed self.old) (Self.store self.old) (Self.store self.new))
             (λ v. map listing.table_told v.items) shown_tables result }
+        ensures ended { Self.has_failed self.old ≡ true → result ≡ Err (record { 0 = 92 }) }
         ensures fault { IfErr result (IsViewFault (Self.has_failed self.old)) };
 }

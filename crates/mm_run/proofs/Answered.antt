@@ -1,5 +1,5 @@
 -- One record: what its answer says.
-use Rattle.std.proofs.Common.{◌≡◌, inr, ℕ, List, Bool, Option, Some, None, Ok, Err, true, false, refl, sym, ap, subst}
+use Rattle.std.proofs.Common.{◌≡◌, inl, inr, ℕ, List, Bool, Option, Some, None, Ok, Err, true, false, refl, sym, ap, subst}
 use Rattle.csv.specs.Reading.{ReadRecord}
 use Rattle.csv.specs.declared.reader.Reader.{Reader}
 use Rattle.mm_definitions.specs.Bounds.{IsMoment, current}
@@ -10,7 +10,10 @@ use Rattle.mm_definitions.specs.declared.answers.Answer.{Answer}
 use Rattle.mm_definitions.specs.declared.answers.Answer.TheVariants as answers
 use Rattle.mm_definitions.specs.declared.commands.Command.{Command}
 use Rattle.mm_io.specs.Records.{Record}
-use Rattle.mm_run.specs.Readings.{Reading, IsReadAs}
+use Rattle.mm_definitions.specs.declared.answers.ReadFault.{ReadFault}
+use Rattle.mm_definitions.specs.declared.answers.ReadFault.TheVariants as faults
+use Rattle.mm_run.specs.Ended.{answer_unread}
+use Rattle.mm_run.specs.Readings.{IsCommandRead, Reading, IsReadAs}
 use Rattle.mm_run.specs.Answers.{answer_of, answer_to, after, plain, is_fault}
 use Rattle.mm_run.specs.Applied.{IsApplied, IsSound, IsAnswer, OnFault}
 use Rattle.mm_run.specs.Runs.{IsAnswered, Turns}
@@ -42,6 +45,11 @@ module _ {D : Type 0} (fields : Record) (p : Package) (moment : ℕ) (before : B
     where
       whole : (why : Refusal) → why.piece ≡ None → why ≡ plain why.number
       whole why none = ap (λ o. let r : Refusal = record { number = why.number; piece = o } in r) none
+
+  -- the same, as it was read
+  pub answered_unread : (fault : ReadFault) → IsCommandRead fields (Err fault) → shows.failed ≡ before → IsSound shows.settled p → IsAnswered fields p moment before (answer_unread fault) shows
+  answered_unread (faults.Refused why) read same sound = answered_refusal why read.0 read.1 sound
+  answered_unread faults.Memory read same sound = inl (same, sound)
 
   -- a record was read and answered
   pub turned : {T : Type 0} (remaining : T → Option (List ℕ)) (a b : Reader T) (x : Answer) → ReadRecord remaining a b true fields

@@ -1,7 +1,7 @@
 -- The run of a list on a session that has to be opened again.
 use Rattle.std.proofs.Common.{◌≡◌, ◌≢◌, ◌∙◌, ◌+◌, ◌<◌, inl, inr, ℕ, suc, List, [], ◌∷◌, ◌++◌, take, drop, length, Option, Some, None, Ok, Err, Bool, true, false, refl, sym, ap, subst, arith}
 use Rattle.std.specs.Prelude.{get_or, Result}
-use Rattle.csv.specs.Reading.{Reached, default_config, source_of, strip_bom}
+use Rattle.csv.specs.Reading.{Reached, ReadRecord, default_config, source_of, strip_bom}
 use Rattle.csv.specs.declared.parser.State.{State}
 use Rattle.csv.specs.declared.parser.State.TheVariants as states
 use Rattle.csv.specs.declared.reader.Reader.{Reader}
@@ -10,16 +10,19 @@ use Rattle.mm_definitions.specs.declared.answers.Fault.{Fault}
 use Rattle.mm_definitions.specs.declared.answers.Refusal.{Refusal}
 use Rattle.mm_definitions.specs.declared.answers.Answer.{Answer}
 use Rattle.mm_definitions.specs.declared.answers.Answer.TheVariants as answers
+use Rattle.mm_definitions.specs.declared.answers.ReadFault.{ReadFault}
+use Rattle.mm_definitions.specs.declared.answers.ReadFault.TheVariants as faults
 use Rattle.mm_definitions.specs.declared.answers.RunFault.{RunFault}
+use Rattle.mm_definitions.specs.declared.commands.Command.{Command}
 use Rattle.mm_definitions.specs.declared.answers.Tally.{Tally}
 use Rattle.mm_io.specs.Records.{IsReadFault, Record, records_of}
 use Rattle.mm_io.proofs.RecordsFacts.{records-all, records-first}
-use Rattle.mm_run.specs.Readings.{IsReadAs}
+use Rattle.mm_run.specs.Readings.{IsCommandRead, IsReadAs}
 use Rattle.mm_run.specs.Answers.{accepted_of, is_fault, plain, refused_of}
 use Rattle.mm_run.specs.Applied.{IsAnswer, OnFault}
-use Rattle.mm_run.specs.Told.{AreTold, AreCounted, Goes, IsStoppedText, Stops}
+use Rattle.mm_run.specs.Told.{AreTold, AreCounted, Goes, HasLine, IsStoppedText, Stops}
 use Rattle.mm_run.specs.Runs.{IsStopped}
-use Rattle.mm_run.specs.Ended.{AreAllRefused, AreRefused, AreRefusedSoFar, IsEndedAt, IsEndedRun, IsEndedTurn, IsReadNext, RanEnded, SpellsNext, refusals}
+use Rattle.mm_run.specs.Ended.{AreAllRefused, ended_answer, AreRefused, AreRefusedSoFar, IsEndedAt, IsEndedRun, IsEndedTurn, IsReadNext, RanEnded, SpellsNext, refusals}
 use Rattle.mm_run.proofs.Loops.{stopped-fault, stopped-with, told-more}
 use Rattle.mm_definitions.specs.Streams.{Written, written_as}
 
@@ -67,6 +70,10 @@ unfolding refusals refused_of
 all_refused [] = refl
 all_refused (n ∷ numbers) = omega (arith, all_refused numbers)
 
+-- each refusal that was told is counted
+all_counted : (t : Tally) (numbers : List ℕ) (old new : Option (List ℕ)) → AreTold (refusals numbers) t old new → t.accepted + t.refused ≡ length (refusals numbers)
+all_counted t numbers old new told = omega (arith, told.0.0, told.0.1, none_accepted numbers, all_refused numbers, length-refusals numbers)
+
 -- ---- the records so far
 pub ended-none : (xs : List ℕ) (s : State) (source : Option (List ℕ)) (t : Tally) (w : Option (List ℕ)) → source ≡ Some xs → AreTold [] t w w → AreRefusedSoFar xs s source s t w w
 unfolding Reached
@@ -106,16 +113,16 @@ module _ (xs : List ℕ) (s : State) (t : Tally) (e : RunFault) (n : ℕ) (old m
     rest = rest;
     reached = reached;
     read = read;
-    counted = subst (AreCounted e.tally) same stopped.0;
-    text = subst (λ l. IsStoppedText l e old new) same stopped.1;
+    counted = subst (AreCounted e.tally) same stopped.counted;
+    text = subst (λ l. IsStoppedText l e old new) same stopped.text;
     next = next;
   }
 
   -- at a fault that is not 92
   pub ended-behind : (numbers : List ℕ) (rows : List Record) (state : State) (rest : List ℕ) → Reached default_config s xs rows state rest → AreRefused rows numbers → AreTold (refusals numbers) t old mid
-      → t.written + 1 ≡ n → (f : Fault) → f.0 ≢ 92 → f.0 ≢ 97 → Stops (written_as mid was) (written_as new failed) n (answers.Fault f) t e → IsEndedAt xs s e old new
-  ended-behind numbers rows state rest reached read told at f other writer stops =
-      stopped-at (stopped-fault StopsAt (refusals numbers) n t e old mid new before was failed (omega (arith, told.1)) told working f writer stops
+      → t.written + 1 ≡ n → (f : Fault) → f.0 ≢ 92 → HasLine f.0 → Stops (written_as mid was) (written_as new failed) n (answers.Fault f) t e → IsEndedAt xs s e old new
+  ended-behind numbers rows state rest reached read told at f other line stops =
+      stopped-at (stopped-fault StopsAt (refusals numbers) n t e old mid new before was failed (omega (arith, told.1)) (all_counted t numbers old mid told) told working f line stops
       (λ w enough. (numbers, refl, rows, state, rest, reached, read, λ is. absurd (other (was-92 f t e n mid new was failed stops is)))))
 
 -- ---- one more record
@@ -179,12 +186,22 @@ module _ {T : Type 0} (remaining : T → Option (List ℕ)) (a b : Reader T) (xs
           λ told. absurd (not-92 (answers.Refused why) t e n mid new was failed tt stops told),
         )
 
-    pub ended-stopped : (x : Answer) → OnFault x (λ f. f ≢ 97) → IsEndedTurn remaining a b (Some x) → Stops (written_as mid was) (written_as new failed) n x t e → t.written + 1 ≡ n → IsEndedAt xs s e old new
-    ended-stopped x writer turn stops at =
+    pub ended-stopped : (x : Answer) → OnFault x HasLine → IsEndedTurn remaining a b (Some x) → Stops (written_as mid was) (written_as new failed) n x t e → t.written + 1 ≡ n → IsEndedAt xs s e old new
+    ended-stopped x line turn stops at =
         stopped-at xs s t e n old mid new before was failed working
-        (stopped-with (StopsAt xs s t e n old mid new before was failed working) (refusals h.numbers) n t e old mid new before was failed (omega (arith, h.told.1)) h.told working x writer stops
+        (stopped-with (StopsAt xs s t e n old mid new before was failed working) (refusals h.numbers) n t e old mid new before was failed (omega (arith, h.told.1)) (all_counted t h.numbers old mid h.told) h.told working x line stops
         (λ faulted w enough. (h.numbers, refl, h.rows, a.state, h.rest, h.reached, h.read, at_fault x faulted turn stops))
         (λ good w enough. at_refusal x good turn stops w))
+
+-- what was read of a record was answered
+pub ended_turn : {T : Type 0} (remaining : T → Option (List ℕ)) (a b : Reader T) (fields : Record) (read : Result Command ReadFault) (x : Answer) → ReadRecord remaining a b true fields → IsCommandRead fields read → x ≡ ended_answer read
+    → IsEndedTurn remaining a b (Some x)
+ended_turn remaining a b fields (Ok command) x record_read is e = rw e (λ told. (fields, record_read, command, is))
+ended_turn remaining a b fields (Err (faults.Refused why)) x record_read is e = rw e (fields, record_read, (why.number, whole why is.0, is.1))
+  where
+    whole : (why : Refusal) → why.piece ≡ None → why ≡ plain why.number
+    whole why none = ap (λ o. let r : Refusal = record { number = why.number; piece = o } in r) none
+ended_turn remaining a b fields (Err faults.Memory) x record_read is e = rw e (λ told. absurd (omega arith))
 
 -- a fault of reading is not 92
 pub read_not_92 : (f : ℕ) (b : Bool) → IsReadFault f b → f ≢ 92

@@ -1,14 +1,18 @@
 -- What a run tells of a session that has to be opened again.
-use Rattle.std.proofs.Common.{◌≡◌, ◌≢◌, ◌∙◌, inl, inr, ℕ, List, Option, Bool, true, false, Err, refl, sym, ap, arith}
+use Rattle.std.proofs.Common.{◌≡◌, ◌≢◌, ◌∙◌, ◌⊎◌, inl, inr, ℕ, List, Option, Bool, true, false, Err, refl, sym, ap, subst, arith}
 use Rattle.mm_definitions.specs.declared.answers.Fault.{Fault}
 use Rattle.mm_definitions.specs.declared.answers.Answer.{Answer}
 use Rattle.mm_definitions.specs.declared.answers.Answer.TheVariants as answers
+use Rattle.mm_definitions.specs.declared.answers.ReadFault.{ReadFault}
+use Rattle.mm_definitions.specs.declared.answers.ReadFault.TheVariants as faults
 use Rattle.mm_definitions.specs.declared.answers.RunFault.{RunFault}
+use Rattle.mm_run.specs.Ended.{answer_unread}
 use Rattle.mm_definitions.specs.declared.answers.Tally.{Tally}
+use Rattle.mm_io.specs.Records.{IsReadFault}
 use Rattle.mm_run.specs.Answers.{is_fault}
 use Rattle.mm_run.specs.Applied.{IsAnswer, IsApplyFault, OnFault, TellsReopening}
 use Rattle.mm_run.specs.Told.{Stops, with_answer, with_line}
-use Rattle.mm_run.specs.Runs.{RunTellsReopening}
+use Rattle.mm_run.specs.Runs.{IsRunFault, RunTellsReopening}
 use Rattle.mm_definitions.specs.Streams.{written_as}
 
 no_such : (f : ℕ) → IsApplyFault f → f ≡ 96 → ⊥
@@ -29,6 +33,11 @@ applied-tells true failed same (answers.Fault f) faults ended working fails =
     (λ e. refl, λ e. absurd (omega arith), λ e. absurd (omega arith), λ e. (ended refl).1)
 applied-tells false failed same (answers.Fault f) faults ended working fails =
     (λ e. absurd (working refl e), λ e. (refl, fails refl), λ e. absurd (no_such f.0 faults e), λ e. absurd (let g : false ≡ true = e in cc))
+
+-- a record that was not read as a command was answered
+pub unread-tells : (fault : ReadFault) (failed : Bool) (same : Type 0) → same → OnFault (answer_unread fault) IsApplyFault × TellsReopening failed failed same (answer_unread fault)
+unread-tells (faults.Refused why) failed same here = (tt, (refl, λ was. here))
+unread-tells faults.Memory failed same here = (inl refl, (λ q. absurd (omega arith), λ q. absurd (omega arith), λ q. refl, λ was. here))
 
 -- an answer that is no fault
 pub goes-same : (a : Answer) (before failed : Bool) (same : Type 0) → IsAnswer a → TellsReopening before failed same a → failed ≡ before
@@ -84,3 +93,21 @@ module _ {S : Type 0} (x y z : S) (first before failed : Bool) (t : Tally) (e : 
 
   pub stops-failing : (a : Answer) → TellsReopening before failed (z ≡ y) a → Stops (written_as old was) (written_as new writer) n a t e → Result
   stops-failing a h s = by_answer a h s (accepted-stopped a t e old new was writer n s)
+
+-- why a run stopped there: the answer's own fault, or the writer's
+pub stops-why : (a : Answer) (t : Tally) (e : RunFault) (old new : Option (List ℕ)) (was failed reading : Bool) (n : ℕ) → OnFault a (λ f. IsRunFault f reading) → Stops (written_as old was) (written_as new failed) n a t e
+    → (e.fault.0 ≡ 97) ⊎ IsRunFault e.fault.0 reading
+stops-why a t e old new was failed reading n why (inr (inl h)) = inl h.0
+stops-why a t e old new was failed reading n why (inr (inr h)) = inl h.0
+stops-why (answers.Fault f) t e old new was failed reading n why (inl h) = inr (subst (λ (x : Fault). IsRunFault x.0 reading) (cc (h.0)) why)
+stops-why answers.Ok t e old new was failed reading n why (inl h) = absurd (let g : answers.Ok ≡ answers.Fault e.fault = h.0 in cc)
+stops-why (answers.Refused r) t e old new was failed reading n why (inl h) = absurd (let g : answers.Refused r ≡ answers.Fault e.fault = h.0 in cc)
+
+-- a fault of reading is one that has a line, and does nothing to a session
+pub read-why : (f : ℕ) (b : Bool) → IsReadFault f b → IsRunFault f b
+read-why f b (inl e) = inl (inl e)
+read-why f b (inr e) = inr e
+
+pub read-tells : (f : ℕ) (b before : Bool) (same : Type 0) → same → IsReadFault f b → (f ≡ 92 → before ≡ true) × (f ≡ 91 → (before ≡ false) × (before ≡ true)) × (f ≡ 96 → before ≡ before) × (before ≡ true → same)
+read-tells f b before same here (inl e) = (λ q. absurd (omega arith), λ q. absurd (omega arith), λ q. refl, λ q. here)
+read-tells f b before same here (inr e) = let e0 : f ≡ 96 = e.0 in (λ q. absurd (omega arith), λ q. absurd (omega arith), λ q. refl, λ q. here)

@@ -15,7 +15,7 @@ use Rattle.mm_io.specs.Lines.{line, lines, lines_from}
 use Rattle.mm_io.specs.Records.{IsReadFault}
 use Rattle.mm_run.specs.Answers.{is_accepted, is_refused, accepted_of, refused_of, is_fault}
 use Rattle.mm_run.specs.Applied.{IsAnswer, OnFault}
-use Rattle.mm_run.specs.Told.{AreCounted, AreTold, Goes, IsCutAt, Stops, with_answer, with_line}
+use Rattle.mm_run.specs.Told.{AreCounted, AreTold, Goes, HasLine, IsCutAt, Stops, with_answer, with_line}
 use Rattle.mm_run.specs.Runs.{IsRunFault, IsStopped, TellsWriter}
 use Rattle.mm_run.proofs.Lists.{accepted_of-more, length-lines_from, lines_from-more, refused_of-more, text-more}
 use Rattle.mm_definitions.specs.Streams.{written_as}
@@ -101,9 +101,22 @@ cut-counted : (given : List Answer) (a : Answer) (n : ℕ) (t : Tally) (e : RunF
 cut-counted given a n t e old mid new d (inl h) = rw h.0 (counted-more given a t d.0)
 cut-counted given a n t e old mid new d (inr h) = rw h.0 (counted-more given a t d.0)
 
+-- a fault with a line of its own is no failure of the writer
+line_not_writer : (f : ℕ) → HasLine f → f ≢ 97
+line_not_writer f (inl (inl e)) h = absurd (omega arith)
+line_not_writer f (inl (inr (inl e))) h = absurd (omega arith)
+line_not_writer f (inl (inr (inr e))) h = absurd (omega arith)
+line_not_writer f (inr e) h = absurd (omega arith)
+
+-- an answer that is no fault is one more
+counted_by : (a : Answer) (t : Tally) → IsAnswer a → (with_answer a t).accepted + (with_answer a t).refused ≡ t.accepted + t.refused + 1
+counted_by answers.Ok t good = omega arith
+counted_by (answers.Refused why) t good = omega arith
+counted_by (answers.Fault f) t good = absurd good
+
 -- the cases of a stop, with what is known of the answers given and of how many lines are whole
 module _ (P : List Answer → ℕ → Type 0) (given : List Answer) (n : ℕ) (t : Tally) (e : RunFault) (old mid new : Option (List ℕ)) (before was failed : Bool)
-    (m : length given + 1 ≡ n) (d : AreTold given t old mid) (working : was ≡ before) where
+    (m : length given + 1 ≡ n) (all : t.accepted + t.refused ≡ length given) (d : AreTold given t old mid) (working : was ≡ before) where
   abbrev Result : Type 0
   Result = (told : List Answer) × IsStopped told e (written_as old before) (written_as new failed) × P told e.tally.written
 
@@ -111,61 +124,81 @@ module _ (P : List Answer → ℕ → Type 0) (given : List Answer) (n : ℕ) (t
   by_writer is down = (λ _. down, λ other. absurd (other is))
 
   -- at the line of an answer, because the writer failed
-  at_answer : (a : Answer) → (e.fault.0 ≡ 97) → failed ≡ true → IsCut mid new n a t e → ((w : ℕ) → length given ≤ w → P (given ++ a ∷ []) w) → Result
-  at_answer a is down cut more =
+  at_answer : (a : Answer) → IsAnswer a → (e.fault.0 ≡ 97) → failed ≡ true → IsCut mid new n a t e → ((w : ℕ) → length given ≤ w → P (given ++ a ∷ []) w) → Result
+  at_answer a good is down cut more =
       let (bytes, wrote, at) = cut-stopped given a n t e old mid new m d cut in
-      (given ++ a ∷ [], (cut-counted given a n t e old mid new d cut, inr (is, given ++ a ∷ [], inl refl, bytes, wrote, at), by_writer is down), more e.tally.written (cut-written given a n t e old mid new d cut).0)
+      let stopped : IsStopped (given ++ a ∷ []) e (written_as old before) (written_as new failed) = record {
+        counted = cut-counted given a n t e old mid new d cut;
+        all = one_counted cut;
+        text = inr (is, given ++ a ∷ [], inl refl, bytes, wrote, at);
+        writer = by_writer is down;
+      } in
+      (given ++ a ∷ [], stopped, more e.tally.written (cut-written given a n t e old mid new d cut).0)
+    where
+      one_more : (with_answer a t).accepted + (with_answer a t).refused ≡ length (given ++ a ∷ [])
+      one_more = omega (arith, counted_by a t good, all, length-append given (a ∷ []))
+
+      one_counted : IsCut mid new n a t e → e.tally.accepted + e.tally.refused ≡ length (given ++ a ∷ [])
+      one_counted (inl h) = rw h.0 one_more
+      one_counted (inr h) = rw h.0 one_more
 
   -- at the line of a fault, because the writer failed
-  fault_cut : (f : Fault) → (e.fault.0 ≡ 97) → failed ≡ true → IsCut mid new n (answers.Fault f) t e → ((w : ℕ) → length given ≤ w → P given w) → Result
-  fault_cut f is down cut here =
+  fault_cut : (f : Fault) → HasLine f.0 → (e.fault.0 ≡ 97) → failed ≡ true → IsCut mid new n (answers.Fault f) t e → ((w : ℕ) → length given ≤ w → P given w) → Result
+  fault_cut f line is down cut here =
       let (bytes, wrote, at) = cut-stopped given (answers.Fault f) n t e old mid new m d cut in
-      (given, (same cut, inr (is, given ++ answers.Fault f ∷ [], inr (f, refl), bytes, wrote, at), by_writer is down), here e.tally.written (cut-written given (answers.Fault f) n t e old mid new d cut).0)
+      let stopped : IsStopped given e (written_as old before) (written_as new failed) = record {
+        counted = same cut;
+        all = same_count cut;
+        text = inr (is, given ++ answers.Fault f ∷ [], inr (f, line, refl), bytes, wrote, at);
+        writer = by_writer is down;
+      } in
+      (given, stopped, here e.tally.written (cut-written given (answers.Fault f) n t e old mid new d cut).0)
     where
       same : IsCut mid new n (answers.Fault f) t e → AreCounted e.tally given
       same (inl h) = rw h.0 d.0
       same (inr h) = rw h.0 d.0
 
+      same_count : IsCut mid new n (answers.Fault f) t e → e.tally.accepted + e.tally.refused ≡ length given
+      same_count (inl h) = rw h.0 all
+      same_count (inr h) = rw h.0 all
+
   pub stopped-answer : (a : Answer) → IsAnswer a → Stops (written_as mid was) (written_as new failed) n a t e → ((w : ℕ) → length given ≤ w → P (given ++ a ∷ []) w) → Result
   stopped-answer a good (inl h) more = absurd (subst IsAnswer h.0 good)
-  stopped-answer a good (inr (inl h)) more = at_answer a h.0 h.1 (inl (h.2, h.3)) more
-  stopped-answer a good (inr (inr h)) more = at_answer a h.0 h.1 (inr (h.2, h.3, h.4, h.5)) more
+  stopped-answer a good (inr (inl h)) more = at_answer a good h.0 h.1 (inl (h.2, h.3)) more
+  stopped-answer a good (inr (inr h)) more = at_answer a good h.0 h.1 (inr (h.2, h.3, h.4, h.5)) more
 
-  pub stopped-fault : (f : Fault) → f.0 ≢ 97 → Stops (written_as mid was) (written_as new failed) n (answers.Fault f) t e → ((w : ℕ) → length given ≤ w → P given w) → Result
-  stopped-fault f other (inl h) here =
+  pub stopped-fault : (f : Fault) → HasLine f.0 → Stops (written_as mid was) (written_as new failed) n (answers.Fault f) t e → ((w : ℕ) → length given ≤ w → P given w) → Result
+  stopped-fault f line (inl h) here =
       let same : f ≡ e.fault = cc (h.0) in
       let at : e.tally.written ≡ length given + 1 = rw h.2 (ap (λ k. k + 1) d.1) in
-      let not_writer : e.fault.0 ≢ 97 = rw (← same) other in (
-        given,
-        (rw h.2 d.0, inl (not_writer, at, rw (← h.0, text-more given (answers.Fault f) n m) (Appends-trans _ _ _ _ _ d.2 h.3)), (λ is. absurd (not_writer is), λ _. h.1 ∙ working)),
-        here e.tally.written (omega arith),
-      )
-  stopped-fault f other (inr (inl h)) here = fault_cut f h.0 h.1 (inl (h.2, h.3)) here
-  stopped-fault f other (inr (inr h)) here = fault_cut f h.0 h.1 (inr (h.2, h.3, h.4, h.5)) here
+      let not_writer : e.fault.0 ≢ 97 = rw (← same) (line_not_writer f.0 line) in
+      let stopped : IsStopped given e (written_as old before) (written_as new failed) = record {
+        counted = rw h.2 d.0;
+        all = rw h.2 all;
+        text = inl (not_writer, at, rw (← h.0, text-more given (answers.Fault f) n m) (Appends-trans _ _ _ _ _ d.2 h.3));
+        writer = (λ is. absurd (not_writer is), λ _. h.1 ∙ working);
+      } in
+      (given, stopped, here e.tally.written (omega arith))
+  stopped-fault f line (inr (inl h)) here = fault_cut f line h.0 h.1 (inl (h.2, h.3)) here
+  stopped-fault f line (inr (inr h)) here = fault_cut f line h.0 h.1 (inr (h.2, h.3, h.4, h.5)) here
 
   -- whichever it was
-  pub stopped-with : (a : Answer) → OnFault a (λ f. f ≢ 97) → Stops (written_as mid was) (written_as new failed) n a t e → (is_fault a ≡ true → (w : ℕ) → length given ≤ w → P given w)
+  pub stopped-with : (a : Answer) → OnFault a HasLine → Stops (written_as mid was) (written_as new failed) n a t e → (is_fault a ≡ true → (w : ℕ) → length given ≤ w → P given w)
       → (IsAnswer a → (w : ℕ) → length given ≤ w → P (given ++ a ∷ []) w) → Result
-  stopped-with answers.Ok other s here more = stopped-answer answers.Ok tt s (more tt)
-  stopped-with (answers.Refused why) other s here more = stopped-answer (answers.Refused why) tt s (more tt)
-  stopped-with (answers.Fault f) other s here more = stopped-fault f other s (here refl)
+  stopped-with answers.Ok line s here more = stopped-answer answers.Ok tt s (more tt)
+  stopped-with (answers.Refused why) line s here more = stopped-answer (answers.Refused why) tt s (more tt)
+  stopped-with (answers.Fault f) line s here more = stopped-fault f line s (here refl)
 
 -- ---- faults
--- a fault with a line of its own is no failure of the writer
-pub not_writer : (f : ℕ) (b : Bool) → IsRunFault f b → f ≢ 97
-not_writer f b (inl (inl e)) h = absurd (omega arith)
-not_writer f b (inl (inr (inl e))) h = absurd (omega arith)
-not_writer f b (inl (inr (inr e))) h = absurd (omega arith)
-not_writer f b (inr e) h = let e0 : f ≡ 96 = e.0 in absurd (omega arith)
+pub run-line : (a : Answer) (b : Bool) → OnFault a (λ f. IsRunFault f b) → OnFault a HasLine
+run-line answers.Ok b h = tt
+run-line (answers.Refused why) b h = tt
+run-line (answers.Fault f) b (inl e) = inl e
+run-line (answers.Fault f) b (inr e) = inr e.0
 
-pub no-writer-fault : (a : Answer) (b : Bool) → OnFault a (λ f. IsRunFault f b) → OnFault a (λ f. f ≢ 97)
-no-writer-fault answers.Ok b h = tt
-no-writer-fault (answers.Refused why) b h = tt
-no-writer-fault (answers.Fault f) b h = not_writer f.0 b h
-
-pub read_not_writer : (f : ℕ) (b : Bool) → IsReadFault f b → f ≢ 97
-read_not_writer f b (inl e) h = absurd (omega arith)
-read_not_writer f b (inr e) h = let e0 : f ≡ 96 = e.0 in absurd (omega arith)
+pub read-line : (f : ℕ) (b : Bool) → IsReadFault f b → HasLine f
+read-line f b (inl e) = inl (inl e)
+read-line f b (inr e) = inr e.0
 
 -- each answer is counted once
 pub counted-once : (a : Answer) (t t2 : Tally) → IsAnswer a → t2 ≡ with_line (with_answer a t) → t2.accepted + t2.refused ≡ t.accepted + t.refused + 1

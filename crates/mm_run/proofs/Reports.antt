@@ -1,5 +1,8 @@
 -- What a run reports of all the records of its bytes.
-use Rattle.std.proofs.Common.{◌≡◌, ◌∙◌, ◌+◌, ℕ, Bool, true, List, length, take, Option, inl, inr, sym, ap, subst, arith}
+use Rattle.std.proofs.Common.{◌≡◌, ◌∙◌, ◌+◌, ℕ, Bool, true, List, length, take, Result, Ok, Err, OnOk, inl, inr, sym, ap, subst, arith, option_map}
+use Rattle.std.specs.Io.KnownBytes.{IsAtEnd}
+use Rattle.std.specs.declared.io.traits.Read as reads
+use Rattle.std.specs.declared.io.traits.Write as writes
 use Rattle.csv.specs.Reading.{strip_bom}
 use Rattle.csv.specs.declared.parser.State.TheVariants as states
 use Rattle.mm_definitions.specs.Package.{Package}
@@ -17,7 +20,12 @@ use Rattle.mm_run.specs.Told.{AreTold}
 use Rattle.mm_run.specs.Runs.{AreFirstParts, IsAll, IsSome, IsStopped, RanAll, RanSome, StopsBehind, WorksOn, given_of}
 use Rattle.mm_run.proofs.Left.{parts-left}
 use Rattle.mm_run.proofs.Lists.{as_many, counted-answers, length-answers}
-use Rattle.mm_definitions.specs.Streams.{Written}
+use Rattle.mm_definitions.specs.Streams.{Written, has_failed, inside}
+use Rattle.mm_definitions.specs.declared.streams.Io.{Io}
+use Rattle.mm_run.specs.Promised.{RunsList, RunsSource}
+use Rattle.mm_run.specs.Sessions.{shown}
+use Rattle.mm_run.specs.declared.apply.Apply as applies
+use Rattle.mm_run.proofs.Ended.{ran-ended}
 
 pub ran-all : {D : Type 0} (p : Package) (moment : ℕ) (bytes : List ℕ) (shows : Shown D) (old new : Written) (t : Tally) (given : List Answer) → ((q : Package) → shows.settled q → LeavesOnly shows q)
     → AreTold given t old.contents new.contents → IsAll p moment (strip_bom bytes) states.StartRecord shows.settled given → RanAll p moment bytes shows old new t
@@ -76,16 +84,57 @@ ran-some p moment bytes before shows old new e given stopped some =
     let first : some.rows ≡ take (length some.rows) (records_of bytes) = records-first some.state (strip_bom bytes) some.rest some.rows some.reached in
     let size : length some.rows ≡ length readings = as_many some.rows readings some.read in
     let rows : some.rows ≡ take (length readings) (records_of bytes) = first ∙ ap (λ n. take n (records_of bytes)) size in
-    let a : e.tally.accepted ≡ accepted_of (answers_to p moment (take (length given) readings)) = stopped.0.0 ∙ ap accepted_of some.were in
-    let b : e.tally.refused ≡ refused_of (answers_to p moment (take (length given) readings)) = stopped.0.1 ∙ ap refused_of some.were in
+    let a : e.tally.accepted ≡ accepted_of (answers_to p moment (take (length given) readings)) = stopped.counted.0 ∙ ap accepted_of some.were in
+    let b : e.tally.refused ≡ refused_of (answers_to p moment (take (length given) readings)) = stopped.counted.1 ∙ ap refused_of some.were in
     let long : length given ≡ length (take (length given) readings) = ap length some.were ∙ length-answers p moment (take (length given) readings) in
     let count : e.tally.accepted + e.tally.refused ≡ length given = omega (arith, a, b, long, counted-answers p moment (take (length given) readings)) in
     let same : given_of p moment readings e.tally ≡ given = ap (λ n. answers_to p moment (take n readings)) count ∙ sym some.were in
     record {
       readings = readings;
       read = subst (λ l. AreReadAs l readings) rows some.read;
-      text = rw same stopped.1;
-      counted = rw same stopped.0;
+      text = rw same stopped.text;
+      counted = rw same stopped.counted;
       session = subst (λ n. StopsBehind (WorksOn before shows) (shows.failed ≡ true) p moment readings n) (sym count) some.session;
       left = subst (λ n. AreFirstParts shows p (calls_of moment readings) n) (ap (λ l. accepted_of (take e.tally.written l)) (sym same)) some.left;
     }
+
+-- from the records of a reader's bytes to the list of all of them
+pub lists : {A R W : Type 0} (apply : applies.Ghosts A) (read : reads.Ghosts R) (write : writes.Ghosts W) (moment : ℕ) (old new : A) (input input_now : Io R) (output output_now : Io W) (result : Result Tally RunFault)
+    → ((q : Package) → apply.settled new q → LeavesOnly (shown apply new) q)
+    → RunsSource apply write moment old new (option_map strip_bom (read.remaining (inside input))) states.StartRecord (has_failed input_now) output output_now result
+    → OnOk result (IsAtEnd (read.remaining (inside input_now)))
+    → RunsList apply read write moment old new input input_now output output_now result
+lists apply read write moment old new input input_now output output_now (Ok t) law it at_end = record {
+  clean = it.clean;
+  done = λ clean p sound bytes here.
+      let (given, told, all) = it.done in
+      ran-all p moment bytes (shown apply new) _ _ t given law told (all clean p sound (strip_bom bytes) (ap (option_map strip_bom) here));
+  end = at_end;
+  working = it.working;
+  told = (it.done.0, it.done.1, it.small.0);
+  flushed = it.flushed;
+  stopped = tt;
+  near = tt;
+  session = it.session;
+  writer = tt;
+  why = tt;
+  kept = it.kept;
+  ended = λ was bytes here. ran-ended bytes _ _ (Ok t) (it.ended was (strip_bom bytes) (ap (option_map strip_bom) here));
+}
+lists apply read write moment old new input input_now output output_now (Err e) law it at_end = record {
+  clean = it.clean;
+  done = tt;
+  end = tt;
+  working = tt;
+  told = (it.stopped.0, it.stopped.1);
+  flushed = it.flushed;
+  stopped = λ clean p sound bytes here.
+      let (given, stopped, some) = it.stopped in
+      ran-some p moment bytes (apply.has_failed old) (shown apply new) _ _ e given stopped (some clean p sound (strip_bom bytes) (ap (option_map strip_bom) here));
+  near = it.near;
+  session = it.session;
+  writer = it.stopped.1.writer;
+  why = it.why;
+  kept = it.kept;
+  ended = λ was bytes here. ran-ended bytes _ _ (Err e) (it.ended was (strip_bom bytes) (ap (option_map strip_bom) here));
+}

@@ -8,6 +8,8 @@ use Rattle.csv.specs.declared.reader.Reader.{Reader}
 use Rattle.mm_definitions.specs.declared.commands.Command.{Command}
 use Rattle.mm_definitions.specs.declared.answers.Answer.{Answer}
 use Rattle.mm_definitions.specs.declared.answers.Answer.TheVariants as answers
+use Rattle.mm_definitions.specs.declared.answers.ReadFault.{ReadFault}
+use Rattle.mm_definitions.specs.declared.answers.ReadFault.TheVariants as faults
 use Rattle.mm_definitions.specs.declared.answers.Tally.{Tally}
 use Rattle.mm_definitions.specs.declared.answers.RunFault.{RunFault}
 use Rattle.mm_io.specs.Lines.{lines}
@@ -61,6 +63,16 @@ abbrev pub OnEnded : Bool → Option (List ℕ) → (List ℕ → Type 0) → Ty
 OnEnded before source P = before ≡ true → (bytes : List ℕ) → source ≡ Some bytes → P bytes
 
 -- ---- inside a run
+-- the answer to a record that was not read as a command: its refusal, or 90 where there was no memory to read it
+abbrev pub answer_unread : ReadFault → Answer
+answer_unread (faults.Refused why) = answers.Refused why
+answer_unread faults.Memory = answers.Fault (record { 0 = 90 })
+
+-- the answer to what was read of a record: 92 to a command
+abbrev pub ended_answer : Result Command ReadFault → Answer
+ended_answer (Ok command) = answers.Fault (record { 0 = 92 })
+ended_answer (Err fault) = answer_unread fault
+
 -- the answer to a record: its refusal where it spells no command, and 92 only where it spells one
 abbrev pub IsEnded : Record → Answer → Type 0
 IsEnded fields answers.Ok = ⊥

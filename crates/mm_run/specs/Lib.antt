@@ -6,3 +6,4 @@ pub mod Told
 pub mod Runs
 pub mod Ended
 pub mod Sessions
+pub mod Promised

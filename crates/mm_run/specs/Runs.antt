@@ -21,7 +21,7 @@ use Rattle.mm_run.specs.Readings.{Reading, IsReadAs, AreReadAs}
 use Rattle.mm_run.specs.Answers.{answer_to, after, answers_to, calls_of, accepted_of}
 use Rattle.mm_run.specs.Shown.{Shown}
 use Rattle.mm_run.specs.Applied.{IsSound, LeavesEither, IsApplyFault}
-use Rattle.mm_run.specs.Told.{AreCounted, IsStoppedText}
+use Rattle.mm_run.specs.Told.{AreCounted, AreTold, IsStoppedText}
 use Rattle.mm_definitions.specs.Streams.{Written}
 
 -- a fault that has a line of its own: of a command, or of the reader, which tells it
@@ -102,6 +102,20 @@ RunTellsReopening before failed same (Err e) =
 abbrev pub TellsWriter : Bool → Bool → RunFault → Type 0
 TellsWriter before failed e = (e.fault.0 ≡ 97 → failed ≡ true) × (e.fault.0 ≢ 97 → failed ≡ before)
 
+-- Where a fault stopped a run: each of these answers was counted and told, with the line of the fault behind them; at 97 up to the
+-- line that was cut.
+pub record IsStopped (given : List Answer) (e : RunFault) (old new : Written) : Type 0 where
+  pub counted : AreCounted e.tally given
+  pub all : e.tally.accepted + e.tally.refused ≡ length given
+  pub text : IsStoppedText given e old.contents new.contents
+  pub writer : TellsWriter old.failed new.failed e
+
+-- What a run told, whatever it was of: the lines of some answers, as many as are counted and as lines were written whole; or it
+-- was stopped by a fault.
+abbrev pub IsToldOf : Written → Written → Result Tally RunFault → Type 0
+IsToldOf old new (Ok t) = (given : List Answer) × AreTold given t old.contents new.contents × (t.accepted + t.refused ≡ t.written)
+IsToldOf old new (Err e) = (given : List Answer) × IsStopped given e old new
+
 -- All that was written was flushed, where it was before; after a fault, where that is not the writer's.
 abbrev pub TellsFlush : Bool → Bool → Result Tally RunFault → Type 0
 TellsFlush before flushed (Ok t) = before ≡ true → flushed ≡ true
@@ -127,10 +141,6 @@ Turns remaining old new p moment before (Some (answers.Refused why)) shows =
     (fields : Record) × ReadRecord remaining old new true fields × IsAnswered fields p moment before (answers.Refused why) shows
 Turns remaining old new p moment before (Some (answers.Fault fault)) shows =
     WorksOn before shows p ⊎ ((fields : Record) × ReadRecord remaining old new true fields × IsAnswered fields p moment before (answers.Fault fault) shows)
-
--- Some answers, counted and told up to the end of a run that a fault stopped.
-abbrev pub IsStopped : List Answer → RunFault → Written → Written → Type 0
-IsStopped given e old new = AreCounted e.tally given × IsStoppedText given e old.contents new.contents × TellsWriter old.failed new.failed e
 
 -- the records so far are these, read so and answered so; the package after them is settled, and the reader stands behind them
 pub record IsSoFar (p : Package) (moment : ℕ) (xs : List ℕ) (s : State) (source : Option (List ℕ)) (s2 : State) (settled : Package → Type 0) (given : List Answer) : Type 0 where

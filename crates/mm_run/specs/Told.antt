@@ -1,5 +1,5 @@
 -- What is written of the answers, and counted.
-use Rattle.std.specs.Prelude.{ℕ, ◌+◌, ◌<◌, ◌≤◌, ◌≡◌, ◌≢◌, ◌⊎◌, get_or, List, [], ◌∷◌, ◌++◌, Bool, true, Option, length, take}
+use Rattle.std.specs.Prelude.{ℕ, ◌+◌, ◌<◌, ◌≤◌, ◌≡◌, ◌≢◌, ◌⊎◌, get_or, List, [], ◌∷◌, ◌++◌, true, Option, length, take}
 use Rattle.std.specs.List.{concat}
 use Rattle.std.specs.Io.KnownBytes.{Appends}
 use Rattle.mm_definitions.specs.declared.answers.Fault.{Fault}
@@ -8,7 +8,7 @@ use Rattle.mm_definitions.specs.declared.answers.Answer.TheVariants as answers
 use Rattle.mm_definitions.specs.declared.answers.Tally.{Tally}
 use Rattle.mm_definitions.specs.declared.answers.RunFault.{RunFault}
 use Rattle.mm_io.specs.Lines.{line, lines}
-use Rattle.mm_run.specs.Applied.{IsAnswer}
+use Rattle.mm_run.specs.Applied.{IsAnswer, IsApplyFault}
 use Rattle.mm_run.specs.Answers.{accepted_of, refused_of}
 use Rattle.mm_definitions.specs.Streams.{Written}
 
@@ -46,9 +46,13 @@ abbrev pub IsCutAt : List (List ℕ) → ℕ → List ℕ → Type 0
 IsCutAt ls whole bytes = ((whole ≡ length ls) × (bytes ≡ concat ls))
     ⊎ ((whole < length ls) × (taken : ℕ) × (taken < length (get_or ls whole [])) × (bytes ≡ concat (take whole ls) ++ take taken (get_or ls whole [])))
 
--- these answers, and it may be a fault behind them
+-- a fault that has a line of its own: of a command, or 96 of the reader
+abbrev pub HasLine : ℕ → Type 0
+HasLine fault = IsApplyFault fault ⊎ (fault ≡ 96)
+
+-- these answers, and it may be such a fault behind them
 abbrev pub IsBehind : List Answer → List Answer → Type 0
-IsBehind given told = (told ≡ given) ⊎ ((fault : Fault) × (told ≡ given ++ answers.Fault fault ∷ []))
+IsBehind given told = (told ≡ given) ⊎ ((fault : Fault) × HasLine fault.0 × (told ≡ given ++ answers.Fault fault ∷ []))
 
 -- What was written where a run stopped at a fault other than 97: the lines of the answers given, and the line of the
 -- fault. At 97 it is a beginning of such a text, in which so many lines are whole as are counted.

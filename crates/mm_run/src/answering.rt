@@ -2,42 +2,54 @@
 
 ghost use Rattle.std.specs.Prelude.{◌≡◌, IfNone, IfSome, true};
 ghost use Rattle.csv.specs.Reading.{reader_source};
-ghost use Rattle.csv.specs.Records.{fields_of};
 ghost use Rattle.mm_definitions.specs.Package.{Package};
-ghost use Rattle.mm_io.specs.Records.{IsSetUp};
+ghost use Rattle.mm_io.specs.Records.{IsSetUp, Record};
 ghost use Rattle.mm_run.specs.Applied.{IsAnswer, IsApplyFault, IsSound, OnFault, TellsReopening};
-ghost use Rattle.mm_run.specs.Ended.{IsEnded, IsEndedTurn};
+ghost use Rattle.mm_run.specs.Ended.{IsEndedTurn, answer_unread, ended_answer};
+ghost use Rattle.mm_run.specs.Readings.{IsCommandRead};
 ghost use Rattle.mm_run.specs.Runs.{IsAnswered, IsKept, IsRunFault, OnSound, Turns};
 ghost use Rattle.mm_run.specs.Sessions.{shown};
 
 use crate::apply::Apply;
 use crate::reading::read_row;
-use csv::{ByteRecord, Reader};
+use csv::Reader;
 use mm_definitions::answers::{Answer, Fault, ReadFault};
+use mm_definitions::commands::Command;
 use mm_definitions::moments::Moment;
 use mm_io::{Tells, next_row};
 use std::alloc::Global;
 use std::io::Read;
 
-/// Answers a record: applies the command that it spells.
-fn answer_row<A: Apply>(alloc: Global, session: &mut A, row: ByteRecord, at: Moment) -> Answer
+/// The answer to a record that was not read as a command.
+fn unread_answer(fault: ReadFault) -> Answer
+    ensures { result ≡ answer_unread fault }
+{
+    match fault {
+        ReadFault::Refused(why) => Answer::Refused(why),
+        ReadFault::Memory => Answer::Fault(Fault::MEMORY),
+    }
+}
+
+/// Answers what was read of a record: applies the command that it spells. It wants no memory of its own, so a session that
+/// has to be opened again answers 92 to a command and nothing else; 90 there is of the reading alone.
+fn answer_row<A: Apply>(session: &mut A, read: Result<Command, ReadFault>, at: Moment) -> Answer
     ensures faults { OnFault result IsApplyFault }
     ensures session { TellsReopening (A.has_failed session.old) (A.has_failed session.new)
         (session.new ≡ session.old) result }
     ensures clean { A.is_clean session.new → A.is_clean session.old }
     ensures answered { A.is_clean session.new → (p : Package) → IsSound (A.settled session.old) p
-        → IsAnswered (fields_of row) p at (A.has_failed session.old) result
-        (shown A.Apply session.new) }
-    ensures kept { OnSound (A.is_clean session.new) (A.settled session.old)
+        → (fields : Record) → IsCommandRead fields read
+        → IsAnswered fields p at (A.has_failed session.old) result (shown A.Apply session.new) }
+    ensures kept { (fields : Record) → IsCommandRead fields read
+        → OnSound (A.is_clean session.new) (A.settled session.old)
         (IsKept (A.has_failed session.old) (shown A.Apply session.new)) }
-    ensures ended { A.has_failed session.old ≡ true → IsEnded (fields_of row) result }
+    ensures ended { A.has_failed session.old ≡ true → result ≡ ended_answer read }
 {
     // The proof reads from this that the moment is within its limits.
     let _milliseconds = at.milliseconds();
-    match read_row(alloc, row) {
+    match read {
         Ok(command) => session.apply(&command, at),
-        Err(ReadFault::Refused(why)) => Answer::Refused(why),
-        Err(ReadFault::Memory) => Answer::Fault(Fault::MEMORY),
+        Err(fault) => unread_answer(fault),
     }
 }
 
@@ -66,7 +78,7 @@ pub(crate) fn turn<A: Apply, T: Read + Tells>(
         → IsEndedTurn T.remaining rows.old rows.new result }
 {
     match next_row(alloc, rows) {
-        Ok(Some(row)) => Some(answer_row(alloc, session, row, at)),
+        Ok(Some(row)) => Some(answer_row(session, read_row(alloc, row), at)),
         Ok(None) => None,
         Err(fault) => Some(Answer::Fault(fault)),
     }

@@ -1,17 +1,12 @@
 //! The run of a list.
 
-ghost use Rattle.std.specs.Prelude.{◌≡◌, ◌+◌, ◌<◌, ◌^◌, ◌⊎◌, List, IfOk, IfErr, OnOk, true, option_map};
+ghost use Rattle.std.specs.Prelude.{◌≡◌, OnOk, option_map};
 ghost use Rattle.std.specs.Io.KnownBytes.{IsAtEnd};
 ghost use Rattle.csv.specs.Reading.{reader_source, reader_state, source_of, strip_bom};
 ghost use Rattle.csv.specs.declared.parser.State.TheVariants as states;
-ghost use Rattle.mm_definitions.specs.Streams.{inside, written};
-ghost use Rattle.mm_definitions.specs.Streams as streams;
-ghost use Rattle.mm_definitions.specs.declared.answers.Answer.{Answer};
+ghost use Rattle.mm_definitions.specs.Streams.{has_failed, inside};
 ghost use Rattle.mm_io.specs.Records.{IsSetUp};
-ghost use Rattle.mm_run.specs.Told.{AreTold, IsNear};
-ghost use Rattle.mm_run.specs.Ended.{IsEndedRun, OnEnded, RanEnded};
-ghost use Rattle.mm_run.specs.Runs.{IsAll, IsKept, IsRunFault, IsSome, IsStopped, OnRun, OnSound, RanAll, RanSome, RunTellsReopening, TellsFlush, TellsWriter, WorksOn};
-ghost use Rattle.mm_run.specs.Sessions.{shown};
+ghost use Rattle.mm_run.specs.Promised.{RunsList, RunsSource};
 
 use crate::answering::turn;
 use crate::apply::Apply;
@@ -34,33 +29,9 @@ fn run_rows<A: Apply, T: Read + Tells, W: Write>(
     at: Moment,
 ) -> Result<Tally, RunFault>
     requires { IsSetUp rows.old }
-    ensures clean { A.is_clean session.new → A.is_clean session.old }
-    ensures done { IfOk result (λ t. (given : List Answer)
-        × AreTold given t (W.contents (inside writer.old)) (W.contents (inside writer.new))
-        × OnRun (A.is_clean session.new) (A.settled session.old) (source_of T.remaining rows.old)
-        (λ p xs. IsAll p at xs (reader_state rows.old) (A.settled session.new) given)) }
-    ensures stopped { IfErr result
-        (λ e. (given : List Answer)
-        × IsStopped given e (written W.contents writer.old) (written W.contents writer.new)
-        × OnRun (A.is_clean session.new) (A.settled session.old)
-        (source_of T.remaining rows.old)
-        (λ p xs. IsSome p at xs (reader_state rows.old) (A.has_failed session.old)
-        (shown A.Apply session.new) given e.tally.written)) }
-    ensures working { OnOk result (streams.has_failed writer.new ≡ streams.has_failed writer.old) }
-    ensures flushed { TellsFlush (streams.is_flushed writer.old)
-        (streams.is_flushed writer.new) result }
-    ensures small { IfOk result
-        (λ t. (t.accepted + t.refused ≡ t.written) × (t.written + 1 < 2 ^ 64)) }
-    ensures near { IfErr result (λ e. IsNear e.tally) }
-    ensures session { RunTellsReopening (A.has_failed session.old) (A.has_failed session.new)
-        (session.new ≡ session.old) result }
-    ensures why { IfErr result
-        (λ e. (e.fault.0 ≡ 97) ⊎ IsRunFault e.fault.0 (T.has_failed (reader_source rows.new))) }
-    ensures kept { OnSound (A.is_clean session.new) (A.settled session.old)
-        (IsKept (A.has_failed session.old) (shown A.Apply session.new)) }
-    ensures ended { OnEnded (A.has_failed session.old) (source_of T.remaining rows.old)
-        (λ xs. IsEndedRun xs (reader_state rows.old) (written W.contents writer.old)
-        (written W.contents writer.new) result) }
+    ensures { RunsSource A.Apply W.Write at session.old session.new
+        (source_of T.remaining rows.old) (reader_state rows.old)
+        (T.has_failed (reader_source rows.new)) writer.old writer.new result }
 {
     let mut tally = Tally {
         accepted: 0,
@@ -84,7 +55,7 @@ fn run_rows<A: Apply, T: Read + Tells, W: Write>(
 }
 
 /// The run, with the caller's reader under the name that `K` has.
-fn run_held<'a, A: Apply, R: Read, W: Write, K: Lender>(
+fn run_source<'a, A: Apply, R: Read, W: Write, K: Lender>(
     alloc: Global,
     session: &mut A,
     held: Held<'a, R>,
@@ -93,36 +64,9 @@ fn run_held<'a, A: Apply, R: Read, W: Write, K: Lender>(
 ) -> (Held<'a, R>, Result<Tally, RunFault>)
     requires { held.reader.ghost_name ≡ K.name }
     ensures same_reference { result.0.reader.ghost_name ≡ held.entry.reader.ghost_name }
-    ensures clean { A.is_clean session.new → A.is_clean session.old }
-    ensures done { IfOk result.1 (λ t. (given : List Answer)
-        × AreTold given t (W.contents (inside writer.old)) (W.contents (inside writer.new))
-        × OnRun (A.is_clean session.new) (A.settled session.old)
-        (option_map strip_bom (R.remaining (inside held.entry.reader.now)))
-        (λ p xs. IsAll p at xs states.StartRecord (A.settled session.new) given)) }
-    ensures stopped { IfErr result.1
-        (λ e. (given : List Answer)
-        × IsStopped given e (written W.contents writer.old) (written W.contents writer.new)
-        × OnRun (A.is_clean session.new) (A.settled session.old)
-        (option_map strip_bom (R.remaining (inside held.entry.reader.now)))
-        (λ p xs. IsSome p at xs states.StartRecord (A.has_failed session.old)
-        (shown A.Apply session.new) given e.tally.written)) }
-    ensures working { OnOk result.1
-        (streams.has_failed writer.new ≡ streams.has_failed writer.old) }
-    ensures flushed { TellsFlush (streams.is_flushed writer.old)
-        (streams.is_flushed writer.new) result.1 }
-    ensures small { IfOk result.1
-        (λ t. (t.accepted + t.refused ≡ t.written) × (t.written + 1 < 2 ^ 64)) }
-    ensures near { IfErr result.1 (λ e. IsNear e.tally) }
-    ensures session { RunTellsReopening (A.has_failed session.old) (A.has_failed session.new)
-        (session.new ≡ session.old) result.1 }
-    ensures why { IfErr result.1
-        (λ e. (e.fault.0 ≡ 97) ⊎ IsRunFault e.fault.0 (streams.has_failed result.0.reader.now)) }
-    ensures kept { OnSound (A.is_clean session.new) (A.settled session.old)
-        (IsKept (A.has_failed session.old) (shown A.Apply session.new)) }
-    ensures ended { OnEnded (A.has_failed session.old)
-        (option_map strip_bom (R.remaining (inside held.entry.reader.now)))
-        (λ xs. IsEndedRun xs states.StartRecord (written W.contents writer.old)
-        (written W.contents writer.new) result.1) }
+    ensures runs { RunsSource A.Apply W.Write at session.old session.new
+        (option_map strip_bom (R.remaining (inside held.entry.reader.now))) states.StartRecord
+        (has_failed result.0.reader.now) writer.old writer.new result.1 }
 {
     let source = Source::<'a, R, K> {
         held,
@@ -142,36 +86,12 @@ fn run_to_end<A: Apply, R: Read, W: Write>(
     writer: &mut Io<W>,
     at: Moment,
 ) -> Result<Tally, RunFault>
-    ensures clean { A.is_clean session.new → A.is_clean session.old }
-    ensures done { IfOk result (λ t. (given : List Answer)
-        × AreTold given t (W.contents (inside writer.old)) (W.contents (inside writer.new))
-        × OnRun (A.is_clean session.new) (A.settled session.old)
-        (option_map strip_bom (R.remaining (inside reader.old)))
-        (λ p xs. IsAll p at xs states.StartRecord (A.settled session.new) given)) }
-    ensures stopped { IfErr result
-        (λ e. (given : List Answer)
-        × IsStopped given e (written W.contents writer.old) (written W.contents writer.new)
-        × OnRun (A.is_clean session.new) (A.settled session.old)
-        (option_map strip_bom (R.remaining (inside reader.old)))
-        (λ p xs. IsSome p at xs states.StartRecord (A.has_failed session.old)
-        (shown A.Apply session.new) given e.tally.written)) }
+    ensures runs { RunsSource A.Apply W.Write at session.old session.new
+        (option_map strip_bom (R.remaining (inside reader.old))) states.StartRecord
+        (has_failed reader.new) writer.old writer.new result }
     ensures end { OnOk result (IsAtEnd (R.remaining (inside reader.new))) }
-    ensures working { OnOk result (streams.has_failed writer.new ≡ streams.has_failed writer.old) }
-    ensures flushed { TellsFlush (streams.is_flushed writer.old)
-        (streams.is_flushed writer.new) result }
-    ensures near { IfErr result (λ e. IsNear e.tally) }
-    ensures session { RunTellsReopening (A.has_failed session.old) (A.has_failed session.new)
-        (session.new ≡ session.old) result }
-    ensures why { IfErr result
-        (λ e. (e.fault.0 ≡ 97) ⊎ IsRunFault e.fault.0 (streams.has_failed reader.new)) }
-    ensures kept { OnSound (A.is_clean session.new) (A.settled session.old)
-        (IsKept (A.has_failed session.old) (shown A.Apply session.new)) }
-    ensures ended { OnEnded (A.has_failed session.old)
-        (option_map strip_bom (R.remaining (inside reader.old)))
-        (λ xs. IsEndedRun xs states.StartRecord (written W.contents writer.old)
-        (written W.contents writer.new) result) }
 {
-    let (held, outcome) = run_held::<A, R, W, Brand>(alloc, session, Held { reader }, writer, at);
+    let (held, outcome) = run_source::<A, R, W, Brand>(alloc, session, Held { reader }, writer, at);
     let Held { reader: inner } = held;
     let tally = match outcome {
         Ok(tally) => tally,
@@ -206,51 +126,8 @@ pub fn run_list<A: Apply, R: Read, W: Write>(
     writer: &mut Io<W>,
     at: Moment,
 ) -> Result<Tally, RunFault>
-    ensures clean { A.is_clean session.new → A.is_clean session.old }
-
-    // Without a fault each record is answered, the reader is at its end, and all that was accepted stands.
-    ensures done { IfOk result
-        (λ t. OnRun (A.is_clean session.new) (A.settled session.old)
-        (R.remaining (inside reader.old))
-        (λ p bytes. RanAll p at bytes (shown A.Apply session.new)
-        (written W.contents writer.old) (written W.contents writer.new) t)) }
-    ensures end { OnOk result (IsAtEnd (R.remaining (inside reader.new))) }
-    ensures working { OnOk result (streams.has_failed writer.new ≡ streams.has_failed writer.old) }
-    ensures flushed { TellsFlush (streams.is_flushed writer.old)
-        (streams.is_flushed writer.new) result }
-
-    // With one the first records are, and what may be left is a first part of the accepted commands. Where no command failed the
-    // session works on, settled for the package after them.
-    ensures stopped { IfErr result
-        (λ e. OnRun (A.is_clean session.new) (A.settled session.old)
-        (R.remaining (inside reader.old))
-        (λ p bytes. RanSome p at bytes
-        (WorksOn (A.has_failed session.old) (shown A.Apply session.new))
-        (A.has_failed session.new ≡ true) (shown A.Apply session.new)
-        (written W.contents writer.old) (written W.contents writer.new) e)) }
-    ensures near { IfErr result (λ e. IsNear e.tally) }
-
-    // One that has to be opened again is left as it was; 92 comes only there.
-    ensures session { RunTellsReopening (A.has_failed session.old) (A.has_failed session.new)
-        (session.new ≡ session.old) result }
-
-    // 97 is the writer's, and told wherever it fails; 96 is the reader's; the others are faults of commands and of reading.
-    ensures writer { IfErr result
-        (TellsWriter (streams.has_failed writer.old) (streams.has_failed writer.new)) }
-    ensures why { IfErr result
-        (λ e. (e.fault.0 ≡ 97) ⊎ IsRunFault e.fault.0 (streams.has_failed reader.new)) }
-
-    // Whatever the reader tells: the package that a crash may leave, and the one that the session goes on with, meet the rules.
-    ensures kept { OnSound (A.is_clean session.new) (A.settled session.old)
-        (IsKept (A.has_failed session.old) (shown A.Apply session.new)) }
-
-    // One that has to be opened again answers the records that spell no command, and 92 for the first that spells one.
-    ensures ended { OnEnded (A.has_failed session.old) (R.remaining (inside reader.old))
-        (λ bytes. RanEnded bytes (written W.contents writer.old)
-        (written W.contents writer.new) result) }
+    ensures { RunsList A.Apply R.Read W.Write at session.old session.new reader.old reader.new
+        writer.old writer.new result }
 {
-    match run_to_end(alloc, session, reader, writer, at) {
-        Ok(tally) => Ok(tally),
-        Err(e) => Err(e),
-    }
+    run_to_end(alloc, session, reader, writer, at)
 }

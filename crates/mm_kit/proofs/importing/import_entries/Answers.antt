@@ -1,74 +1,134 @@
-use Rattle.std.proofs.Common.{◌≡◌, ◌≤◌, ◌<◌, length, Some, None, arith, rules}
+use Rattle.std.proofs.Common.{inl, ◌≡◌, ◌≤◌, ◌<◌, ◌∙◌, length, Some, None, arith, refl, rules, sym}
 use Rattle.std.proofs.lemmas.Result.{IfOk-weaker, IfErr-weaker}
 use Rattle.mm_definitions.specs.declared.entries.EditionState.TheVariants as states
 use Rattle.mm_edition.specs.States.{TellsState}
 use Rattle.mm_kit.proofs.EditionFacts.{open_has}
-use Rattle.mm_kit.proofs.KitFacts.{imported_longer, imported_none, imported_open, imported_published, staged_at_once}
+use Rattle.mm_kit.proofs.FolderFacts.{as_before, asked-ended, asked-tells, asked_fault, desk_fault, fails-tells, never_so, staged-tells, still_told, works}
+use Rattle.mm_kit.proofs.KitFacts.{counted_as_it_was, imported_longer, imported_none, imported_open, imported_published, staged_at_once}
 use Rattle.mm_kit.proofs.KeptFacts.{keeps_itself}
 use Rattle.mm_kit.proofs.importing.import_entries.Goals as goal
 
-pub returns-else-records-pieces-clause-answered : goal.returns-else-records-pieces-clause-answered
-returns-else-records-pieces-clause-answered g c =
-    IfOk-weaker c.stage_all.result _ _ (λ a made clean p sound these tells.
-    let before = c.stage_all.ensures.clean clean in
-    let says : TellsState p c.args.name.now (Some (states.Open c.in-Ok-Some-Open.pieces)) = rw (c.in-Ok-Some-Open.field-0-is, c.in-Ok-Some-Open.field-0-0-is) at (c.in-Ok-Some-Open.ensures.tells before p sound.0 sound.1) in
-    let (old, has, size) = open_has p _ _ sound.1 says.0 says.1 in
-    let most : length old ≤ length c.args.entries.items = omega (arith, size, c.if-records-pieces.false, c.len-records.ensures) in
-    imported_open these _ p _ _ old has most _ (made clean p (c.in-Ok-Some-Open.ensures.settled before p sound.0 sound.1, sound.1) these tells old has most))
-    c.stage_all.ensures.answered
+pub stage_all-requires-clause-working : goal.stage_all-requires-clause-working
+stage_all-requires-clause-working g c = c.in-Ok-Some-Open.ensures.same ∙ works _ _ c.in-Ok-Some-Open.ensures.ended
 
-pub returns-else-records-pieces-clause-stopped : goal.returns-else-records-pieces-clause-stopped
-returns-else-records-pieces-clause-stopped g c =
-    IfErr-weaker c.stage_all.result _ _ (λ e made clean p sound these tells.
-    let before = c.stage_all.ensures.clean clean in
-    let says : TellsState p c.args.name.now (Some (states.Open c.in-Ok-Some-Open.pieces)) = rw (c.in-Ok-Some-Open.field-0-is, c.in-Ok-Some-Open.field-0-0-is) at (c.in-Ok-Some-Open.ensures.tells before p sound.0 sound.1) in
-    let (old, has, size) = open_has p _ _ sound.1 says.0 says.1 in
-    made clean p (c.in-Ok-Some-Open.ensures.settled before p sound.0 sound.1, sound.1) these tells old has)
-    c.stage_all.ensures.stopped
+pub returns-else-records-pieces : goal.returns-else-records-pieces
+returns-else-records-pieces g c =
+    let asked = c.in-Ok-Some-Open.ensures in
+    let r = c.stage_all.result in
+    record {
+      clean = λ clean. asked.clean (c.stage_all.ensures.clean clean);
+      answered =
+          IfOk-weaker r _ _ (λ a made clean p sound these tells.
+          let before = c.stage_all.ensures.clean clean in
+          let says : TellsState p c.args.name.now (Some (states.Open c.in-Ok-Some-Open.pieces)) = rw (c.in-Ok-Some-Open.field-0-is, c.in-Ok-Some-Open.field-0-0-is) at (asked.tells before p sound.0 sound.1) in
+          let (old, has, size) = open_has p _ _ sound.1 says.0 says.1 in
+          let most : length old ≤ length c.args.entries.items = omega (arith, size, c.if-records-pieces.false, c.len-records.ensures) in
+          imported_open these _ p _ _ old has most _ (made clean p (asked.settled before p sound.0 sound.1, sound.1) these tells old has most))
+          c.stage_all.ensures.answered;
+      stopped =
+          IfErr-weaker r _ _ (λ e made clean p sound these tells.
+          let before = c.stage_all.ensures.clean clean in
+          let says : TellsState p c.args.name.now (Some (states.Open c.in-Ok-Some-Open.pieces)) = rw (c.in-Ok-Some-Open.field-0-is, c.in-Ok-Some-Open.field-0-0-is) at (asked.tells before p sound.0 sound.1) in
+          let (old, has, size) = open_has p _ _ sound.1 says.0 says.1 in
+          made clean p (asked.settled before p sound.0 sound.1, sound.1) these tells old has)
+          c.stage_all.ensures.stopped;
+      works =
+          IfErr-weaker r _ _ (λ e made clean p sound these tells same.
+          let before = c.stage_all.ensures.clean clean in
+          let says : TellsState p c.args.name.now (Some (states.Open c.in-Ok-Some-Open.pieces)) = rw (c.in-Ok-Some-Open.field-0-is, c.in-Ok-Some-Open.field-0-0-is) at (asked.tells before p sound.0 sound.1) in
+          let (old, has, size) = open_has p _ _ sound.1 says.0 says.1 in
+          made clean p (asked.settled before p sound.0 sound.1, sound.1) these tells old has (same ∙ sym asked.same))
+          c.stage_all.ensures.works;
+      session = staged-tells r _ _ _ (works _ _ asked.ended) c.stage_all.ensures.session c.stage_all.ensures.fault;
+      kept = λ clean p sound.
+          let before = c.stage_all.ensures.clean clean in
+          let says : TellsState p c.args.name.now (Some (states.Open c.in-Ok-Some-Open.pieces)) = rw (c.in-Ok-Some-Open.field-0-is, c.in-Ok-Some-Open.field-0-0-is) at (asked.tells before p sound.0 sound.1) in
+          let (old, has, size) = open_has p _ _ sound.1 says.0 says.1 in
+          c.stage_all.ensures.kept clean p (asked.settled before p sound.0 sound.1, sound.1) old has;
+      going =
+          IfErr-weaker r _ _ (λ e made clean p sound same.
+          let before = c.stage_all.ensures.clean clean in
+          let says : TellsState p c.args.name.now (Some (states.Open c.in-Ok-Some-Open.pieces)) = rw (c.in-Ok-Some-Open.field-0-is, c.in-Ok-Some-Open.field-0-0-is) at (asked.tells before p sound.0 sound.1) in
+          let (old, has, size) = open_has p _ _ sound.1 says.0 says.1 in
+          made clean p (asked.settled before p sound.0 sound.1, sound.1) old has (same ∙ sym asked.same))
+          c.stage_all.ensures.going;
+      ended = never_so _ (works _ _ asked.ended);
+      folder = c.stage_all.ensures.folder;
+      why = c.stage_all.ensures.why;
+    }
 
-pub returns-then-records-pieces-clause-answered : goal.returns-then-records-pieces-clause-answered
-returns-then-records-pieces-clause-answered g c clean p sound these tells =
-    let says : TellsState p c.args.name.now (Some (states.Open c.in-Ok-Some-Open.pieces)) = rw (c.in-Ok-Some-Open.field-0-is, c.in-Ok-Some-Open.field-0-0-is) at (c.in-Ok-Some-Open.ensures.tells clean p sound.0 sound.1) in
-    let less : length c.args.entries.items < c.in-Ok-Some-Open.pieces = omega (arith, c.if-records-pieces.true, c.len-records.ensures) in
-    let size : c.args.entries.len ≡ length c.args.entries.items = search rules in
-    rw (c.len-records.ensures, size) (imported_longer these _ p c.args.entries.items _ _ says less (c.in-Ok-Some-Open.ensures.settled clean p sound.0 sound.1, sound.1))
+pub returns-then-records-pieces : goal.returns-then-records-pieces
+returns-then-records-pieces g c =
+    let asked = c.in-Ok-Some-Open.ensures in
+    record {
+      clean = asked.clean;
+      answered = λ clean p sound these tells.
+          let says : TellsState p c.args.name.now (Some (states.Open c.in-Ok-Some-Open.pieces)) = rw (c.in-Ok-Some-Open.field-0-is, c.in-Ok-Some-Open.field-0-0-is) at (asked.tells clean p sound.0 sound.1) in
+          let less : length c.args.entries.items < c.in-Ok-Some-Open.pieces = omega (arith, c.if-records-pieces.true, c.len-records.ensures) in
+          let size : c.args.entries.len ≡ length c.args.entries.items = search rules in
+          rw (c.len-records.ensures, size) (imported_longer these _ p c.args.entries.items _ _ says less (asked.settled clean p sound.0 sound.1, sound.1));
+      stopped = tt;
+      works = tt;
+      session = asked-tells _ _ _ (works _ _ asked.ended) asked.same;
+      kept = λ clean p sound. (p, (asked.settled clean p sound.0 sound.1, sound.1), keeps_itself c.args.name.now p);
+      going = tt;
+      ended = never_so _ (works _ _ asked.ended);
+      folder = sym (as_before _);
+      why = tt;
+    }
 
-pub returns-in-Ok-Some-Published-clause-answered : goal.returns-in-Ok-Some-Published-clause-answered
-returns-in-Ok-Some-Published-clause-answered g c clean p sound these tells =
-    let says : TellsState p c.args.name.now (Some states.Published) = rw (c.in-Ok-Some-Published.field-0-is, c.in-Ok-Some-Published.field-0-0-is) at (c.in-Ok-Some-Published.ensures.tells clean p sound.0 sound.1) in
-    imported_published these _ p c.args.entries.items _ says (c.in-Ok-Some-Published.ensures.settled clean p sound.0 sound.1, sound.1)
+pub returns-in-Ok-Some-Published : goal.returns-in-Ok-Some-Published
+returns-in-Ok-Some-Published g c =
+    let asked = c.in-Ok-Some-Published.ensures in
+    record {
+      clean = asked.clean;
+      answered = λ clean p sound these tells.
+          let says : TellsState p c.args.name.now (Some states.Published) = rw (c.in-Ok-Some-Published.field-0-is, c.in-Ok-Some-Published.field-0-0-is) at (asked.tells clean p sound.0 sound.1) in
+          imported_published these _ p c.args.entries.items _ says (asked.settled clean p sound.0 sound.1, sound.1);
+      stopped = tt;
+      works = tt;
+      session = asked-tells _ _ _ (works _ _ asked.ended) asked.same;
+      kept = λ clean p sound. (p, (asked.settled clean p sound.0 sound.1, sound.1), keeps_itself c.args.name.now p);
+      going = tt;
+      ended = never_so _ (works _ _ asked.ended);
+      folder = sym (as_before _);
+      why = tt;
+    }
 
-pub returns-in-Ok-None-clause-answered : goal.returns-in-Ok-None-clause-answered
-returns-in-Ok-None-clause-answered g c clean p sound these tells =
-    let says : TellsState p c.args.name.now None = rw c.in-Ok-None.field-0-is at (c.in-Ok-None.ensures.tells clean p sound.0 sound.1) in
-    imported_none these _ p c.args.entries.items _ says (c.in-Ok-None.ensures.settled clean p sound.0 sound.1, sound.1)
+pub returns-in-Ok-None : goal.returns-in-Ok-None
+returns-in-Ok-None g c =
+    let asked = c.in-Ok-None.ensures in
+    record {
+      clean = asked.clean;
+      answered = λ clean p sound these tells.
+          let says : TellsState p c.args.name.now None = rw c.in-Ok-None.field-0-is at (asked.tells clean p sound.0 sound.1) in
+          imported_none these _ p c.args.entries.items _ says (asked.settled clean p sound.0 sound.1, sound.1);
+      stopped = tt;
+      works = tt;
+      session = asked-tells _ _ _ (works _ _ asked.ended) asked.same;
+      kept = λ clean p sound. (p, (asked.settled clean p sound.0 sound.1, sound.1), keeps_itself c.args.name.now p);
+      going = tt;
+      ended = never_so _ (works _ _ asked.ended);
+      folder = sym (as_before _);
+      why = tt;
+    }
 
-pub returns-in-Err-clause-stopped : goal.returns-in-Err-clause-stopped
-returns-in-Err-clause-stopped g c clean p sound these tells =
-    let settled = c.in-Err.ensures.settled clean p sound.0 sound.1 in
-    staged_at_once these c.args.name.now p c.args.entries.items _ g.A.Apply.stands_for sound.1 (λ db may. g.met.A.Apply.leaves_settled _ p settled db may)
-
--- ---- what is kept on any folder
-pub returns-else-records-pieces-clause-kept : goal.returns-else-records-pieces-clause-kept
-returns-else-records-pieces-clause-kept g c clean p sound =
-    let before = c.stage_all.ensures.clean clean in
-    let says : TellsState p c.args.name.now (Some (states.Open c.in-Ok-Some-Open.pieces)) = rw (c.in-Ok-Some-Open.field-0-is, c.in-Ok-Some-Open.field-0-0-is) at (c.in-Ok-Some-Open.ensures.tells before p sound.0 sound.1) in
-    let (old, has, size) = open_has p _ _ sound.1 says.0 says.1 in
-    c.stage_all.ensures.kept clean p (c.in-Ok-Some-Open.ensures.settled before p sound.0 sound.1, sound.1) old has
-
-pub returns-then-records-pieces-clause-kept : goal.returns-then-records-pieces-clause-kept
-returns-then-records-pieces-clause-kept g c clean p sound =
-    (p, (c.in-Ok-Some-Open.ensures.settled clean p sound.0 sound.1, sound.1), keeps_itself c.args.name.now p)
-
-pub returns-in-Ok-Some-Published-clause-kept : goal.returns-in-Ok-Some-Published-clause-kept
-returns-in-Ok-Some-Published-clause-kept g c clean p sound =
-    (p, (c.in-Ok-Some-Published.ensures.settled clean p sound.0 sound.1, sound.1), keeps_itself c.args.name.now p)
-
-pub returns-in-Ok-None-clause-kept : goal.returns-in-Ok-None-clause-kept
-returns-in-Ok-None-clause-kept g c clean p sound =
-    (p, (c.in-Ok-None.ensures.settled clean p sound.0 sound.1, sound.1), keeps_itself c.args.name.now p)
-
-pub returns-in-Err-clause-kept : goal.returns-in-Err-clause-kept
-returns-in-Err-clause-kept g c clean p sound db may =
-    let settled = c.in-Err.ensures.settled clean p sound.0 sound.1 in
-    (p, g.met.A.Apply.leaves_settled _ p settled db may, sound.1, keeps_itself c.args.name.now p)
+pub returns-in-Err : goal.returns-in-Err
+returns-in-Err g c =
+    let asked = c.in-Err.ensures in
+    record {
+      clean = asked.clean;
+      answered = tt;
+      stopped = λ clean p sound these tells.
+          let settled = asked.settled clean p sound.0 sound.1 in
+          staged_at_once these c.args.name.now p c.args.entries.items _ g.A.Apply.stands_for sound.1 (λ db may. g.met.A.Apply.leaves_settled _ p settled db may);
+      works = λ clean p sound these tells same. (p, (asked.settled clean p sound.0 sound.1, sound.1), inl refl, counted_as_it_was c.args.name.now p);
+      session = fails-tells c.in-Err.fault _ _ _ asked.ended asked.faults asked.same;
+      kept = λ clean p sound db may.
+          let settled = asked.settled clean p sound.0 sound.1 in
+          (p, g.met.A.Apply.leaves_settled _ p settled db may, sound.1, keeps_itself c.args.name.now p);
+      going = λ clean p sound same. (p, (asked.settled clean p sound.0 sound.1, sound.1), keeps_itself c.args.name.now p);
+      ended = asked-ended c.in-Err.fault _ _ asked.ended;
+      folder = still_told _ _ c.in-Err.fault.0 (asked_fault c.in-Err.fault _ _ asked.ended asked.faults) refl;
+      why = desk_fault c.in-Err.fault.0 (asked_fault c.in-Err.fault _ _ asked.ended asked.faults);
+    }

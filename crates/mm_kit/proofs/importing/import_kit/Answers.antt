@@ -1,47 +1,74 @@
-use Rattle.std.proofs.Common.{◌∙◌, Ok, Err}
+use Rattle.std.proofs.Common.{◌∙◌, inl, inr, subst, sym, Ok, Err, ap, refl}
+use Rattle.std.specs.Prelude.{◌||◌}
 use Rattle.std.proofs.lemmas.Result.{IfOk-weaker, IfErr-weaker}
 use Rattle.mm_kit.specs.Lists.{IsKitList}
-use Rattle.mm_kit.proofs.KitFacts.{imported, no_kit, stopped_at_once, stopped_some}
+use Rattle.mm_kit.proofs.KitFacts.{counted_as_it_was, imported, no_kit, stopped_at_once, stopped_some, works_some}
 use Rattle.mm_kit.proofs.KeptFacts.{keeps_itself}
-use Rattle.mm_kit.proofs.FolderFacts.{kit_fault, told}
+use Rattle.mm_kit.specs.Imports.{ImportEnded, is_folders}
+use Rattle.mm_kit.proofs.FolderFacts.{as_before, folder-ended, folder-tells, folder_no_92, kit_fault, told, where_told}
 use Rattle.mm_kit.proofs.importing.import_kit.Goals as goal
 
-pub returns-in-Ok-Entries-clause-answered : goal.returns-in-Ok-Entries-clause-answered
-returns-in-Ok-Entries-clause-answered g c =
-    IfOk-weaker c.import_entries.result _ _ (λ answer made clean p sound these tells.
-    let is : IsKitList these (Ok c.in-Ok-Entries.entries.items) = rw c.in-Ok-Entries.field-0-is at (c.in-Ok-Entries.ensures.lists these tells) in
-    imported these c.args.name.now p _ answer _ is (made clean p sound these (c.in-Ok-Entries.ensures.stays ∙ tells)))
-    c.import_entries.ensures.answered
+pub returns-in-Ok-Entries : goal.returns-in-Ok-Entries
+returns-in-Ok-Entries g c =
+    let found = c.in-Ok-Entries.ensures in
+    let r = c.import_entries.result in
+    record {
+      clean = c.import_entries.ensures.clean;
+      answered =
+          IfOk-weaker r _ _ (λ answer made clean p sound these tells.
+          let is : IsKitList these (Ok c.in-Ok-Entries.entries.items) = rw c.in-Ok-Entries.field-0-is at (found.lists these tells) in
+          imported these c.args.name.now p _ answer _ is (made clean p sound these (found.stays ∙ tells)))
+          c.import_entries.ensures.answered;
+      stopped =
+          IfErr-weaker r _ _ (λ e made clean p sound these tells.
+          let is : IsKitList these (Ok c.in-Ok-Entries.entries.items) = rw c.in-Ok-Entries.field-0-is at (found.lists these tells) in
+          stopped_some these c.args.name.now p _ _ g.A.Apply.stands_for e.staged is (made clean p sound these (found.stays ∙ tells)))
+          c.import_entries.ensures.stopped;
+      works =
+          IfErr-weaker r _ _ (λ e made clean p sound these tells same.
+          let is : IsKitList these (Ok c.in-Ok-Entries.entries.items) = rw c.in-Ok-Entries.field-0-is at (found.lists these tells) in
+          works_some these c.args.name.now p _ _ e.staged is (made clean p sound these (found.stays ∙ tells) same))
+          c.import_entries.ensures.works;
+      session = c.import_entries.ensures.session;
+      ended = λ was.
+          subst (ImportEnded (g.F.Folder.files c.args.folder.now)) (sym (c.import_entries.ensures.ended was))
+          (refl, inr (inr (refl, λ these tells. (c.in-Ok-Entries.entries.items, rw c.in-Ok-Entries.field-0-is at (found.lists these tells)))));
+      needed = IfErr-weaker r _ _ (λ e _ is these tells. (c.in-Ok-Entries.entries.items, rw c.in-Ok-Entries.field-0-is at (found.lists these tells))) c.import_entries.ensures.why;
+      kept = c.import_entries.ensures.kept;
+      going = c.import_entries.ensures.going;
+      folder = c.import_entries.ensures.folder ∙ ap (λ b. b || is_folders r) (found.fails ∙ as_before _);
+      why = c.import_entries.ensures.why;
+    }
 
-pub returns-in-Ok-Entries-clause-stopped : goal.returns-in-Ok-Entries-clause-stopped
-returns-in-Ok-Entries-clause-stopped g c =
-    IfErr-weaker c.import_entries.result _ _ (λ e made clean p sound these tells.
-    let is : IsKitList these (Ok c.in-Ok-Entries.entries.items) = rw c.in-Ok-Entries.field-0-is at (c.in-Ok-Entries.ensures.lists these tells) in
-    stopped_some these c.args.name.now p _ _ g.A.Apply.stands_for e.staged is (made clean p sound these (c.in-Ok-Entries.ensures.stays ∙ tells)))
-    c.import_entries.ensures.stopped
+pub returns-in-Ok-Refused : goal.returns-in-Ok-Refused
+returns-in-Ok-Refused g c = record {
+  clean = λ clean. clean;
+  answered = λ clean p sound these tells.
+      let is : IsKitList these (Err (c.in-Ok-Refused.piece, c.in-Ok-Refused.number)) = rw c.in-Ok-Refused.field-0-is at (c.in-Ok-Refused.ensures.lists these tells) in
+      no_kit these c.args.name.now p c.in-Ok-Refused.piece c.in-Ok-Refused.number _ is sound;
+  stopped = tt;
+  works = tt;
+  session = (refl, λ was. refl);
+  ended = λ was.
+      where_told _ _ (λ these tells. rw c.in-Ok-Refused.field-0-is at (c.in-Ok-Refused.ensures.lists these tells));
+  needed = tt;
+  kept = λ clean p sound. (p, sound, keeps_itself c.args.name.now p);
+  going = tt;
+  folder = c.in-Ok-Refused.ensures.fails;
+  why = tt;
+}
 
-pub returns-in-Ok-Entries-clause-needed : goal.returns-in-Ok-Entries-clause-needed
-returns-in-Ok-Entries-clause-needed g c =
-    IfErr-weaker c.import_entries.result _ _ (λ e _ is these tells. (c.in-Ok-Entries.entries.items, rw c.in-Ok-Entries.field-0-is at (c.in-Ok-Entries.ensures.lists these tells))) c.import_entries.ensures.why
-
-pub returns-in-Ok-Refused-clause-answered : goal.returns-in-Ok-Refused-clause-answered
-returns-in-Ok-Refused-clause-answered g c clean p sound these tells =
-    let is : IsKitList these (Err (c.in-Ok-Refused.piece, c.in-Ok-Refused.number)) = rw c.in-Ok-Refused.field-0-is at (c.in-Ok-Refused.ensures.lists these tells) in
-    no_kit these c.args.name.now p c.in-Ok-Refused.piece c.in-Ok-Refused.number _ is sound
-
-pub returns-in-Err-clause-stopped : goal.returns-in-Err-clause-stopped
-returns-in-Err-clause-stopped g c clean p sound these tells =
-    stopped_at_once these c.args.name.now p _ g.A.Apply.stands_for sound.1 (λ db may. g.met.A.Apply.leaves_settled _ p sound.0 db may)
-
--- ---- what is kept on any folder
-pub returns-in-Ok-Refused-clause-kept : goal.returns-in-Ok-Refused-clause-kept
-returns-in-Ok-Refused-clause-kept g c clean p sound = (p, sound, keeps_itself c.args.name.now p)
-
-pub returns-in-Err-clause-kept : goal.returns-in-Err-clause-kept
-returns-in-Err-clause-kept g c clean p sound db may = (p, g.met.A.Apply.leaves_settled _ p sound.0 db may, sound.1, keeps_itself c.args.name.now p)
-
-pub returns-in-Err-clause-folder : goal.returns-in-Err-clause-folder
-returns-in-Err-clause-folder g c = told _ _ c.in-Err.fault _ c.folder_fault.ensures c.in-Err.ensures.fails
-
-pub returns-in-Err-clause-why : goal.returns-in-Err-clause-why
-returns-in-Err-clause-why g c = kit_fault c.in-Err.fault _ c.folder_fault.ensures
+pub returns-in-Err : goal.returns-in-Err
+returns-in-Err g c = record {
+  clean = λ clean. clean;
+  answered = tt;
+  stopped = λ clean p sound these tells. stopped_at_once these c.args.name.now p _ g.A.Apply.stands_for sound.1 (λ db may. g.met.A.Apply.leaves_settled _ p sound.0 db may);
+  works = λ clean p sound these tells same. (p, sound, inl refl, counted_as_it_was c.args.name.now p);
+  session = folder-tells c.in-Err.fault c.folder_fault.result c.folder_fault.ensures _ _ refl;
+  ended = λ was. folder-ended c.in-Err.fault c.folder_fault.result _ c.folder_fault.ensures;
+  needed = λ is. absurd (folder_no_92 c.in-Err.fault _ c.folder_fault.ensures is);
+  kept = λ clean p sound db may. (p, g.met.A.Apply.leaves_settled _ p sound.0 db may, sound.1, keeps_itself c.args.name.now p);
+  going = λ clean p sound same. (p, sound, keeps_itself c.args.name.now p);
+  folder = told _ _ c.in-Err.fault _ c.folder_fault.ensures c.in-Err.ensures.fails;
+  why = kit_fault c.in-Err.fault _ c.folder_fault.ensures;
+}

@@ -1,12 +1,13 @@
-use Rattle.std.proofs.Common.{◌≡◌, ◌≤◌, ◌<◌, ◌+◌, ◌∙◌, ◌⊎◌, inl, inr, length, List, [], ◌∷◌, ◌++◌, Ok, Err, ℕ, pos, sym, ap, subst, refl, arith, rules, append_assoc, append-nil, length-append}
-use Rattle.std.specs.Prelude.{◌||◌, false}
+use Rattle.std.proofs.Common.{◌≡◌, ◌≤◌, ◌<◌, ◌+◌, ◌∙◌, inl, inr, length, List, [], ◌∷◌, ◌++◌, Ok, ℕ, sym, ap, subst, refl, arith, rules, append_assoc, append-nil, length-append}
+use Rattle.std.specs.Prelude.{◌||◌, ◌==◌, false}
 use Rattle.std.specs.Vec.Iter.{into_iter_items}
-use Rattle.mm_definitions.specs.Step.{step}
-use Rattle.mm_definitions.specs.declared.commands.Command.TheVariants as commands
-use Rattle.mm_kit.specs.Kits.{filled}
-use Rattle.mm_kit.proofs.StageFacts.{counted, grows, left_in_doubt, has_first, has_whole, number_refused, number_unfilled, so_far-more, so_far-none}
-use Rattle.mm_kit.proofs.FolderFacts.{as_before, desk_fault, kit_fault, still_told, told}
-use Rattle.mm_kit.proofs.KeptFacts.{kept, kept_in_doubt, passed_by-more, passed_by-none}
+use Rattle.mm_run.specs.Applied.{IsSound}
+use Rattle.mm_run.specs.Sessions.{shown}
+use Rattle.mm_definitions.specs.Package.{Package}
+use Rattle.mm_kit.specs.Imports.{IsImportedSoFar, IsPassedBy}
+use Rattle.mm_kit.proofs.StageFacts.{counted, counted_all, fills, grows, left_in_doubt, has_whole, refused_at, so_far-none, staged-more}
+use Rattle.mm_kit.proofs.FolderFacts.{as_before, never_so}
+use Rattle.mm_kit.proofs.KeptFacts.{kept, kept_in_doubt, passed-staged, passed_by-none}
 use Rattle.mm_kit.proofs.staging.stage_all.Goals as goal
 
 nothing_left : {X : Type 0} (l : List X) → length l ≡ 0 → l ≡ []
@@ -16,9 +17,8 @@ nothing_left (x ∷ xs) h = absurd (omega (arith, h))
 inside : {X : Type 0} (front : List X) (e : X) (back all : List X) → front ++ e ∷ back ≡ all → length all ≤ 4096 → length front < 4096
 inside front e back all same most = omega (arith, most, ap length same, length-append front (e ∷ back))
 
-no_file : (n : ℕ) → n ≡ 52 → (n ≡ 57) ⊎ (n ≡ 11) → ⊥
-no_file n e (inl h) = absurd (omega (arith, e, h))
-no_file n e (inr h) = absurd (omega (arith, e, h))
+one_more : {X : Type 0} (l : List X) (e : X) (P : ℕ → Type 0) → P (length l + 1) → P (length (l ++ e ∷ []))
+one_more l e P h = subst P (sym (length-append l (e ∷ []))) h
 
 pub loop-entry-init : goal.loop-entry-init
 loop-entry-init g c =
@@ -37,157 +37,143 @@ loop-entry-init g c =
       so_far = λ clean p sound these tells old before. (p, sound, rw gives (so_far-none these _ c.args.entries.items p old));
     }
 
-pub returns-in-Ok-Err-clause-answered : goal.returns-in-Ok-Err-clause-answered
-returns-in-Ok-Err-clause-answered g c clean p sound these tells old before most =
-    let at = c.loop-entry in
-    let steps : into_iter_items at.entry-iterator ≡ c.in-Some.entry ∷ into_iter_items c.next.new.self = c.in-Some.ensures.steps.0 in
-    let (q, stands, here) = at.invariant.so_far clean p sound these tells old before in
-    let so = rw steps at here in
-    let lacks : filled these c.in-Some.entry ≡ Err c.in-Ok-Err.number = sym (rw (at.invariant.files, tells, c.in-Ok-Err.field-0-is) at c.in-Ok-Err.ensures.fills) in
-    let first = number_unfilled these _ _ p old before _ _ _ _ q so lacks in
-    record {
-      answer_is = rw (first, at.invariant.count) refl;
-      next = q;
-      sound = stands;
-      grows = grows these _ _ p old before _ _ q so;
-      has = has_first these _ _ p old before _ _ _ _ q so lacks;
-    }
-
-pub returns-in-Err-clause-stopped : goal.returns-in-Err-clause-stopped
-returns-in-Err-clause-stopped g c clean p sound these tells old before db may =
-    let at = c.loop-entry in
-    let (q, stands, so) = at.invariant.so_far clean p sound these tells old before in
-    (q, g.met.A.Apply.leaves_settled _ q stands.0 db may, stands.1, grows these _ _ p old before _ _ q so, rw at.invariant.count (counted these _ _ p old before _ _ q so))
-
-pub returns-in-Refused-clause-answered : goal.returns-in-Refused-clause-answered
-returns-in-Refused-clause-answered g c clean p sound these tells old before most =
-    let at = c.loop-entry in
-    let steps : into_iter_items at.entry-iterator ≡ c.in-Some.entry ∷ into_iter_items c.next.new.self = c.in-Some.ensures.steps.0 in
-    let (q, stands, here) = at.invariant.so_far (c.in-Refused.ensures.clean clean) p sound these tells old before in
-    let so = rw steps at here in
-    let full : filled these c.in-Some.entry ≡ Ok c.in-Ok-Ok.piece = sym (rw (at.invariant.files, tells, c.in-Ok-Ok.field-0-is) at c.in-Ok-Ok.ensures.fills) in
-    let less : length at.yielded < 4096 = inside _ _ _ _ (rw steps at at.invariant.items) c.requires.few in
-    let (bad, stays) = (rw at.invariant.count at c.in-Refused.ensures.applied) clean q stands.0 stands.1 in
-    let (first, is) = number_refused these _ _ p old before _ _ _ _ q so full less stands.1 _ bad in
-    record {
-      answer_is = rw (first, at.invariant.count) refl;
-      next = q;
-      sound = (stays, stands.1);
-      grows = grows these _ _ p old before _ _ q so;
-      has = λ why. absurd (no_file _ is why);
-    }
-
-pub returns-in-Fault-clause-stopped : goal.returns-in-Fault-clause-stopped
-returns-in-Fault-clause-stopped g c clean p sound these tells old before db may =
-    let at = c.loop-entry in
-    let steps : into_iter_items at.entry-iterator ≡ c.in-Some.entry ∷ into_iter_items c.next.new.self = c.in-Some.ensures.steps.0 in
-    let (q, stands, here) = at.invariant.so_far (c.in-Fault.ensures.clean clean) p sound these tells old before in
-    let so = rw steps at here in
-    let full : filled these c.in-Some.entry ≡ Ok c.in-Ok-Ok.piece = sym (rw (at.invariant.files, tells, c.in-Ok-Ok.field-0-is) at c.in-Ok-Ok.ensures.fills) in
-    let less : length at.yielded < 4096 = inside _ _ _ _ (rw steps at at.invariant.items) c.requires.few in
-    let either = (rw at.invariant.count at c.in-Fault.ensures.applied) clean q stands.0 stands.1 db may in
-    rw at.invariant.count (left_in_doubt these _ _ p old before g.A.Apply.stands_for db _ _ _ _ q so full less stands.1 c.args.at ((rw at.invariant.count at c.in-Fault.ensures.keeps) q stands.1) either)
-
-pub returns-in-Ok-Err-clause-kept : goal.returns-in-Ok-Err-clause-kept
-returns-in-Ok-Err-clause-kept g c clean p sound old before =
-    let (q, stands, here) = c.loop-entry.invariant.kept clean p sound old before in
-    (q, stands, kept _ c.args.edition.now p old q before here)
-
-pub returns-in-Ok-Err-clause-folder : goal.returns-in-Ok-Err-clause-folder
-returns-in-Ok-Err-clause-folder g c = c.in-Ok-Err.ensures.fails ∙ ap (λ b. b || false) c.loop-entry.invariant.folder
-
-pub returns-in-Err-clause-kept : goal.returns-in-Err-clause-kept
-returns-in-Err-clause-kept g c clean p sound old before db may =
-    let (q, stands, here) = c.loop-entry.invariant.kept clean p sound old before in
-    (q, g.met.A.Apply.leaves_settled _ q stands.0 db may, stands.1, kept _ c.args.edition.now p old q before here)
-
-pub returns-in-Err-clause-folder : goal.returns-in-Err-clause-folder
-returns-in-Err-clause-folder g c = told _ _ c.in-Err.fault _ c.folder_fault.ensures (rw c.loop-entry.invariant.folder at c.in-Err.ensures.fails)
-
-pub returns-in-Err-clause-why : goal.returns-in-Err-clause-why
-returns-in-Err-clause-why g c = kit_fault c.in-Err.fault _ c.folder_fault.ensures
-
-pub returns-in-Refused-clause-kept : goal.returns-in-Refused-clause-kept
-returns-in-Refused-clause-kept g c clean p sound old before =
-    let (q, stands, here) = c.loop-entry.invariant.kept (c.in-Refused.ensures.clean clean) p sound old before in
-    let (bad, stays) = c.in-Refused.ensures.applied clean q stands.0 stands.1 in
-    (q, (stays, stands.1), kept _ c.args.edition.now p old q before here)
-
-pub returns-in-Refused-clause-folder : goal.returns-in-Refused-clause-folder
-returns-in-Refused-clause-folder g c = c.in-Ok-Ok.ensures.fails ∙ ap (λ b. b || false) c.loop-entry.invariant.folder
-
-pub returns-in-Fault-clause-kept : goal.returns-in-Fault-clause-kept
-returns-in-Fault-clause-kept g c clean p sound old before db may =
-    let at = c.loop-entry in
-    let steps : into_iter_items at.entry-iterator ≡ c.in-Some.entry ∷ into_iter_items c.next.new.self = c.in-Some.ensures.steps.0 in
-    let (q, stands, here) = at.invariant.kept (c.in-Fault.ensures.clean clean) p sound old before in
-    let less : length at.yielded < 4096 = inside _ _ _ _ (rw steps at at.invariant.items) c.requires.few in
-    let either = (rw at.invariant.count at c.in-Fault.ensures.applied) clean q stands.0 stands.1 db may in
-    kept_in_doubt c.args.edition.now p q old stands.1 c.in-Ok-Ok.piece (length at.yielded) g.A.Apply.stands_for db before less here c.args.at
-    ((rw at.invariant.count at c.in-Fault.ensures.keeps) q stands.1) either
-
-pub returns-in-Fault-clause-folder : goal.returns-in-Fault-clause-folder
-returns-in-Fault-clause-folder g c =
-    still_told _ _ c.in-Fault.fault.0 c.in-Fault.ensures.faults (c.in-Ok-Ok.ensures.fails ∙ ap (λ b. b || false) c.loop-entry.invariant.folder ∙ as_before _)
-
-pub returns-in-Fault-clause-why : goal.returns-in-Fault-clause-why
-returns-in-Fault-clause-why g c = desk_fault c.in-Fault.fault.0 c.in-Fault.ensures.faults
-
-pub returns-clause-kept : goal.returns-clause-kept
-returns-clause-kept g c clean p sound old before =
-    let (q, stands, here) = c.loop-entry.invariant.kept clean p sound old before in
-    (q, stands, kept _ c.args.edition.now p old q before here)
-
-pub returns-clause-folder : goal.returns-clause-folder
-returns-clause-folder g c = c.loop-entry.invariant.folder ∙ sym (as_before _)
-
 pub loop-entry-preserved : goal.loop-entry-preserved
 loop-entry-preserved g c =
     let at = c.loop-entry in
     let steps : into_iter_items at.entry-iterator ≡ c.in-Some.entry ∷ into_iter_items c.next.new.self = c.in-Some.ensures.steps.0 in
     let gone = c.in-Some.ensures.steps.1 in
+    let less : length at.yielded < 4096 = inside _ _ _ _ (rw steps at at.invariant.items) c.requires.few in
+    let staged = rw (c.in-Ok-None.field-0-is, at.invariant.count) at c.in-Ok-None.ensures.staged in
     record {
       can_next = tt;
       finite = tt;
       count = omega (arith, at.invariant.count, length-append at.yielded (c.in-Some.entry ∷ []));
       items = append_assoc at.yielded (c.in-Some.entry ∷ []) _ ∙ rw (← steps) at.invariant.items;
       len = omega (arith, at.invariant.len, ap length steps, gone);
-      clean = λ h. at.invariant.clean (c.in-Ok.ensures.clean h);
-      working = c.in-Ok.ensures.fails at.invariant.working;
-      folder = c.in-Ok-Ok.ensures.fails ∙ as_before _ ∙ at.invariant.folder;
-      files = c.fill.ensures.stays ∙ at.invariant.files;
+      clean = λ h. at.invariant.clean (c.stage_entry.ensures.clean h);
+      working = c.in-Ok-None.ensures.works;
+      folder = c.in-Ok-None.ensures.folder ∙ as_before _ ∙ at.invariant.folder;
+      files = c.stage_entry.ensures.stays ∙ at.invariant.files;
       kept = λ clean p sound old before.
-          let (q, stands, here) = at.invariant.kept (c.in-Ok.ensures.clean clean) p sound old before in
-          let less : length at.yielded < 4096 = inside _ _ _ _ (rw steps at at.invariant.items) c.requires.few in
-          let (good, goes) = (rw at.invariant.count at c.in-Ok.ensures.applied) clean q stands.0 stands.1 in (
-            step q (commands.Stage c.args.edition.now (pos (length at.yielded + 1)) c.in-Ok-Ok.piece) c.args.at,
-            (goes, (rw at.invariant.count at c.in-Ok.ensures.keeps) q stands.1),
-            rw (length-append at.yielded (c.in-Some.entry ∷ [])) (passed_by-more c.args.edition.now p q old stands.1 c.in-Ok-Ok.piece (length at.yielded) less here good c.args.at),
-          );
+          let (q, stands, here) = at.invariant.kept (c.stage_entry.ensures.clean clean) p sound old before in
+          one_more at.yielded c.in-Some.entry (λ k. (r : Package) × IsSound (g.A.Apply.settled c.stage_entry.new.editor) r × IsPassedBy k c.args.edition.now p old r)
+          (passed-staged (shown g.A.Apply c.stage_entry.new.editor) _ c.in-Some.entry c.args.edition.now p q old (length at.yielded) stands.1 less here c.args.at (staged clean q stands));
       so_far = λ clean p sound these tells old before.
-          let (q, stands, here) = at.invariant.so_far (c.in-Ok.ensures.clean clean) p sound these tells old before in
-          let so = rw steps at here in
-          let full : filled these c.in-Some.entry ≡ Ok c.in-Ok-Ok.piece = sym (rw (at.invariant.files, tells, c.in-Ok-Ok.field-0-is) at c.in-Ok-Ok.ensures.fills) in
-          let less : length at.yielded < 4096 = inside _ _ _ _ (rw steps at at.invariant.items) c.requires.few in
-          let (good, goes) = (rw at.invariant.count at c.in-Ok.ensures.applied) clean q stands.0 stands.1 in (
-            step q (commands.Stage c.args.edition.now (pos (length at.yielded + 1)) c.in-Ok-Ok.piece) c.args.at,
-            (goes, (rw at.invariant.count at c.in-Ok.ensures.keeps) q stands.1),
-            rw (length-append at.yielded (c.in-Some.entry ∷ [])) (so_far-more these _ _ p old before _ _ _ _ q so full less stands.1 c.args.at good),
-          );
+          let (q, stands, here) = at.invariant.so_far (c.stage_entry.ensures.clean clean) p sound these tells old before in
+          one_more at.yielded c.in-Some.entry
+          (λ k. (r : Package) × IsSound (g.A.Apply.settled c.stage_entry.new.editor) r
+          × IsImportedSoFar these c.args.edition.now c.args.entries.items (into_iter_items c.next.new.self) p old k r)
+          (staged-more these c.args.edition.now c.args.entries.items p old before (shown g.A.Apply c.stage_entry.new.editor) (into_iter_items c.next.new.self) c.in-Some.entry (length at.yielded) q (rw steps at here) less
+          stands.1 _ (at.invariant.files ∙ tells) c.args.at (staged clean q stands));
     }
 
-pub returns-clause-answered : goal.returns-clause-answered
-returns-clause-answered g c clean p sound these tells old before most =
+pub returns-in-Ok-Some : goal.returns-in-Ok-Some
+returns-in-Ok-Some g c =
     let at = c.loop-entry in
-    let (q, stands, here) = at.invariant.so_far clean p sound these tells old before in
+    let steps : into_iter_items at.entry-iterator ≡ c.in-Some.entry ∷ into_iter_items c.next.new.self = c.in-Some.ensures.steps.0 in
+    let less : length at.yielded < 4096 = inside _ _ _ _ (rw steps at at.invariant.items) c.requires.few in
+    let refused = rw (c.in-Ok-Some.field-0-is, at.invariant.count) at c.in-Ok-Some.ensures.staged in
+    record {
+      clean = λ h. at.invariant.clean (c.stage_entry.ensures.clean h);
+      answered = λ clean p sound these tells old before most.
+          let (q, stands, here) = at.invariant.so_far (c.stage_entry.ensures.clean clean) p sound these tells old before in
+          let so = rw steps at here in
+          let (next, why) = refused clean q stands in
+          let (answer, has) = refused_at these c.args.edition.now c.args.entries.items p old before _ c.in-Some.entry (length at.yielded) c.in-Ok-Some.number q so less stands.1 _ (at.invariant.files ∙ tells) why in
+          record {
+            answer_is = rw (answer, at.invariant.count) refl;
+            next = q;
+            sound = next;
+            grows = grows these _ _ p old before _ _ q so;
+            has = has;
+          };
+      stopped = tt;
+      works = tt;
+      session = c.in-Ok-Some.ensures.works;
+      fault = tt;
+      kept = λ clean p sound old before.
+          let (q, stands, here) = at.invariant.kept (c.stage_entry.ensures.clean clean) p sound old before in
+          let (next, why) = refused clean q stands in
+          (q, next, kept _ c.args.edition.now p old q before here);
+      going = tt;
+      folder = c.in-Ok-Some.ensures.folder ∙ ap (λ b. b || false) at.invariant.folder;
+      why = tt;
+    }
+
+pub returns-in-Err : goal.returns-in-Err
+returns-in-Err g c =
+    let at = c.loop-entry in
+    let steps : into_iter_items at.entry-iterator ≡ c.in-Some.entry ∷ into_iter_items c.next.new.self = c.in-Some.ensures.steps.0 in
+    let less : length at.yielded < 4096 = inside _ _ _ _ (rw steps at at.invariant.items) c.requires.few in
+    let stopped = rw at.invariant.count at c.in-Err.ensures.staged in
+    record {
+      clean = λ h. at.invariant.clean (c.stage_entry.ensures.clean h);
+      answered = tt;
+      stopped = λ clean p sound these tells old before db may.
+          let (q, stands, here) = at.invariant.so_far (c.stage_entry.ensures.clean clean) p sound these tells old before in
+          let so = rw steps at here in
+          rw at.invariant.count (elim (stopped clean q stands) [
+            | inl works ↦ (
+              q,
+              g.met.A.Apply.leaves_settled _ q works.0.0 db may,
+              stands.1,
+              grows these _ _ p old before _ _ q so,
+              counted these _ _ p old before _ _ q so,
+            )
+            | inr doubt ↦
+                left_in_doubt these _ _ p old before g.A.Apply.stands_for db _ _ doubt.1 _ q so (fills these _ c.in-Some.entry (Ok doubt.1) (at.invariant.files ∙ tells) doubt.2) less stands.1 c.args.at doubt.3 (doubt.4 db may)
+          ]);
+      works = λ clean p sound these tells old before same.
+          let (q, stands, here) = at.invariant.so_far (c.stage_entry.ensures.clean clean) p sound these tells old before in
+          let so = rw steps at here in
+          elim (stopped clean q stands) [
+            | inl works ↦ (q, works.0, grows these _ _ p old before _ _ q so, rw at.invariant.count (counted_all these _ _ p old before _ _ q so))
+            | inr doubt ↦ never_so _ (same ∙ c.requires.working) doubt.0
+          ];
+      session = tt;
+      fault = c.in-Err.ensures.fault;
+      kept = λ clean p sound old before db may.
+          let (q, stands, here) = at.invariant.kept (c.stage_entry.ensures.clean clean) p sound old before in
+          elim (stopped clean q stands) [
+            | inl works ↦ (q, g.met.A.Apply.leaves_settled _ q works.0.0 db may, stands.1, kept _ c.args.edition.now p old q before here)
+            | inr doubt ↦ kept_in_doubt c.args.edition.now p q old stands.1 doubt.1 (length at.yielded) g.A.Apply.stands_for db before less here c.args.at doubt.3 (doubt.4 db may)
+          ];
+      going = λ clean p sound old before same.
+          let (q, stands, here) = at.invariant.kept (c.stage_entry.ensures.clean clean) p sound old before in
+          elim (stopped clean q stands) [
+            | inl works ↦ (q, works.0, kept _ c.args.edition.now p old q before here)
+            | inr doubt ↦ never_so _ (same ∙ c.requires.working) doubt.0
+          ];
+      folder = c.in-Err.ensures.folder ∙ ap (λ b. b || (c.in-Err.fault.0 == 96)) at.invariant.folder;
+      why = c.in-Err.ensures.why;
+    }
+
+pub returns : goal.returns
+returns g c =
+    let at = c.loop-entry in
     let none = c.in-None.ensures.steps in
     let empty : into_iter_items at.entry-iterator ≡ [] = nothing_left _ (sym at.invariant.len ∙ none.0) in
     let all : length at.yielded ≡ length c.args.entries.items = ap length (sym (append-nil at.yielded) ∙ rw empty at at.invariant.items) in
-    let (first, whole) = has_whole these _ _ p old before _ q (rw empty at here) (omega (arith, most, all)) in
     record {
-      answer_is = rw (first, at.invariant.count, all) refl;
-      next = q;
-      sound = stands;
-      grows = grows these _ _ p old before _ _ q here;
-      has = rw at.invariant.count whole;
+      clean = at.invariant.clean;
+      answered = λ clean p sound these tells old before most.
+          let (q, stands, here) = at.invariant.so_far clean p sound these tells old before in
+          let (first, whole) = has_whole these _ _ p old before _ q (rw empty at here) (omega (arith, most, all)) in
+          record {
+            answer_is = rw (first, at.invariant.count, all) refl;
+            next = q;
+            sound = stands;
+            grows = grows these _ _ p old before _ _ q here;
+            has = rw at.invariant.count whole;
+          };
+      stopped = tt;
+      works = tt;
+      session = at.invariant.working;
+      fault = tt;
+      kept = λ clean p sound old before.
+          let (q, stands, here) = at.invariant.kept clean p sound old before in
+          (q, stands, kept _ c.args.edition.now p old q before here);
+      going = tt;
+      folder = at.invariant.folder ∙ sym (as_before _);
+      why = tt;
     }

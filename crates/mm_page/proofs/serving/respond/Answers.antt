@@ -1,4 +1,4 @@
-use Rattle.std.proofs.Common.{◌∙◌, inl, subst, sym}
+use Rattle.std.proofs.Common.{◌∙◌, inl, inr, subst, sym}
 use Rattle.std.proofs.lemmas.Result.{IfErr-weaker}
 use Rattle.mm_definitions.specs.Package.{Package}
 use Rattle.mm_definitions.specs.Streams.{inside}
@@ -6,27 +6,33 @@ use Rattle.mm_routes.specs.Asked.{IsRouted}
 use Rattle.mm_page.specs.Page.{Writes, path_of}
 use Rattle.mm_page.specs.Served.{Served}
 use Rattle.mm_reads.specs.Viewers.{IsOn}
-use Rattle.mm_page.proofs.ServeFacts.{under, weaker}
+use Rattle.mm_page.proofs.ServeFacts.{err_so, ok_so, under, weaker}
 use Rattle.mm_page.proofs.serving.respond.Goals as goal
 
-pub returns-in-Some-clause-response : goal.returns-in-Some-clause-response
-returns-in-Some-clause-response g c =
+pub returns-in-Some : goal.returns-in-Some
+returns-in-Some g c =
     let old = c.args.viewer.now in
     let on = IsOn (g.V.Viewer.has_failed old) (g.V.Viewer.store old) (g.V.Viewer.store c.head_response.new.viewer) in
     let all = under {X = (p : Package) × on p} (λ x v. Writes x.0 c.of.result.now c.of-in-Some.result.now v.items) c.head_response.result (λ x. c.head_response.ensures.response x.0 x.1) in
-    weaker _ (λ v. Served on (g.R.Read.remaining (inside c.args.reader.now)) v.items) c.head_response.result
-    (λ v w p st input e.
-    let (fits, within, h, is, at) = rw (e, c.in-Some.is) at c.in_ok-n.ensures.head in
-    let method = c.of.ensures ∙ at.method in
-    let target = c.of-in-Some.ensures ∙ at.path in
-    inl (h, is, subst (λ t. Writes p h.method t v.items) target (subst (λ m. Writes p m c.of-in-Some.result.now v.items) method (w (p, st)))))
-    all
-
-pub returns-in-Some-clause-needed : goal.returns-in-Some-clause-needed
-returns-in-Some-clause-needed g c =
-    IfErr-weaker c.head_response.result _ _
-    (λ fault asked is input e.
-    let (fits, within, h, head, at) = rw (e, c.in-Some.is) at c.in_ok-n.ensures.head in
-    let it = asked is in
-    (h, head, sym (c.of.ensures ∙ at.method) ∙ it.0, it.1, subst (λ t. IsRouted (path_of t) it.1) (c.of-in-Some.ensures ∙ at.path) it.2))
-    c.head_response.ensures.needed
+    record {
+      same = c.head_response.ensures.same;
+      kept = c.head_response.ensures.kept;
+      response =
+          weaker _ (λ v. Served on (g.R.Read.remaining (inside c.args.reader.now)) v.items) c.head_response.result
+          (λ v w p st input e.
+          let (fits, within, h, is, at) = rw (e, c.in-Some.is) at c.in_ok-n.ensures.head in
+          let method = c.of.ensures ∙ at.method in
+          let target = c.of-in-Some.ensures ∙ at.path in
+          inl (h, is, subst (λ t. Writes p h.method t v.items) target (subst (λ m. Writes p m c.of-in-Some.result.now v.items) method (w (p, st)))))
+          all;
+      frugal = ok_so c.head_response.result c.in_ok-n.ensures.frugal;
+      frugal_fault = err_so _ c.head_response.result (λ fault. inr c.in_ok-n.ensures.frugal);
+      needed =
+          IfErr-weaker c.head_response.result _ _
+          (λ fault asked is input e.
+          let (fits, within, h, head, at) = rw (e, c.in-Some.is) at c.in_ok-n.ensures.head in
+          let it = asked is in
+          (h, head, sym (c.of.ensures ∙ at.method) ∙ it.0, it.1, subst (λ t. IsRouted (path_of t) it.1) (c.of-in-Some.ensures ∙ at.path) it.2))
+          c.head_response.ensures.needed;
+      fault = IfErr-weaker c.head_response.result _ _ (λ fault it. inl it) c.head_response.ensures.fault;
+    }

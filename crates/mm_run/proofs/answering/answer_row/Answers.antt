@@ -1,41 +1,40 @@
-use Rattle.std.proofs.Common.{◌≡◌, ◌∙◌, ap, subst, sym}
-use Rattle.csv.specs.Records.{fields_of}
+use Rattle.std.proofs.Common.{◌≡◌, ◌∙◌, ap, refl, subst, sym}
 use Rattle.mm_run.specs.Sessions.{shown}
-use Rattle.mm_run.proofs.Answered.{answered_command, answered_refusal, fault-fails}
-use Rattle.mm_run.proofs.Failing.{applied-tells}
+use Rattle.mm_run.proofs.Answered.{answered_command, answered_unread, fault-fails}
+use Rattle.mm_run.proofs.Failing.{applied-tells, unread-tells}
 use Rattle.mm_run.proofs.Kept.{kept-answered, kept-sound}
 use Rattle.mm_run.proofs.answering.answer_row.Goals as goal
 
 pub returns-in-Ok-clause-answered : goal.returns-in-Ok-clause-answered
-returns-in-Ok-clause-answered g c clean p sound =
-    let read = c.in-Ok.ensures in
+returns-in-Ok-clause-answered g c clean p sound fields reads =
+    let read = rw c.in-Ok.is at reads in
     let before = g.A.Apply.has_failed c.args.session.now in
     let failed = g.A.Apply.has_failed c.apply.new.self in
-    answered_command (fields_of c.args.row) p c.args.at before (shown g.A.Apply c.apply.new.self) c.in-Ok.command c.apply.result read c.milliseconds-milliseconds.ensures.within sound.1
+    answered_command fields p c.args.at before (shown g.A.Apply c.apply.new.self) c.in-Ok.command c.apply.result read c.milliseconds-milliseconds.ensures.within sound.1
     (fault-fails before failed c.apply.result (λ was. ap g.A.Apply.has_failed (c.apply.ensures.ended was).1 ∙ was) c.apply.ensures.fails)
     (c.apply.ensures.applied clean p sound.0 sound.1)
 
-pub returns-in-Err-Refused-clause-answered : goal.returns-in-Err-Refused-clause-answered
-returns-in-Err-Refused-clause-answered g c clean p sound =
-    let read = rw (c.in-Err-Refused.field-0-is) at c.in-Err-Refused.ensures in
-    rw c.in-Err-Refused.why-is (answered_refusal (fields_of c.args.row) p c.args.at (g.A.Apply.has_failed c.args.session.now) (shown g.A.Apply c.args.session.now) c.in-Err-Refused.why read.0 read.1 sound)
+pub returns-in-Err-clause-answered : goal.returns-in-Err-clause-answered
+returns-in-Err-clause-answered g c clean p sound fields reads =
+    rw c.unread_answer.ensures (answered_unread fields p c.args.at _ (shown g.A.Apply c.args.session.now) c.in-Err.fault (rw c.in-Err.is at reads) refl sound)
+
+pub returns-in-Err-clause-faults : goal.returns-in-Err-clause-faults
+returns-in-Err-clause-faults g c = rw c.unread_answer.ensures (unread-tells c.in-Err.fault (g.A.Apply.has_failed c.args.session.now) (c.args.session.now ≡ c.args.session.now) refl).0
+
+pub returns-in-Err-clause-session : goal.returns-in-Err-clause-session
+returns-in-Err-clause-session g c = rw c.unread_answer.ensures (unread-tells c.in-Err.fault (g.A.Apply.has_failed c.args.session.now) (c.args.session.now ≡ c.args.session.now) refl).1
 
 pub returns-in-Ok-clause-kept : goal.returns-in-Ok-clause-kept
-returns-in-Ok-clause-kept g c clean p sound =
+returns-in-Ok-clause-kept g c fields reads clean p sound =
     let new = c.apply.new.self in
     let before = g.A.Apply.has_failed c.args.session.now in
     let failed = g.A.Apply.has_failed new in
     let tells = applied-tells before failed (new ≡ c.args.session.now) c.apply.result c.apply.ensures.faults c.apply.ensures.ended c.apply.ensures.working c.apply.ensures.fails in
     kept-answered (shown g.A.Apply new) (g.met.A.Apply.leaves_settled new)
-    (fields_of c.args.row) p c.args.at before c.apply.result (new ≡ c.args.session.now) sound.1 (λ same. subst (λ s. g.A.Apply.settled s p) (sym same) sound.0) tells
-    (returns-in-Ok-clause-answered g c clean p sound)
+    fields p c.args.at before c.apply.result (new ≡ c.args.session.now) sound.1 (λ same. subst (λ s. g.A.Apply.settled s p) (sym same) sound.0) tells
+    (returns-in-Ok-clause-answered g c clean p sound fields reads)
 
-pub returns-in-Err-Refused-clause-kept : goal.returns-in-Err-Refused-clause-kept
-returns-in-Err-Refused-clause-kept g c clean p sound =
-    let here = c.args.session.now in
-    kept-sound (shown g.A.Apply here) (g.met.A.Apply.leaves_settled here) (g.A.Apply.has_failed here) p sound
-
-pub returns-in-Err-Memory-clause-kept : goal.returns-in-Err-Memory-clause-kept
-returns-in-Err-Memory-clause-kept g c clean p sound =
+pub returns-in-Err-clause-kept : goal.returns-in-Err-clause-kept
+returns-in-Err-clause-kept g c fields reads clean p sound =
     let here = c.args.session.now in
     kept-sound (shown g.A.Apply here) (g.met.A.Apply.leaves_settled here) (g.A.Apply.has_failed here) p sound

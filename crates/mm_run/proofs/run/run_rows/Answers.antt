@@ -1,12 +1,14 @@
-use Rattle.std.proofs.Common.{◌≡◌, ◌+◌, ◌-◌, ◌^◌, ◌∙◌, [], ◌∷◌, ◌++◌, refl, arith, length}
+use Rattle.std.proofs.Common.{◌≡◌, ◌+◌, ◌-◌, ◌^◌, ◌∙◌, [], ◌∷◌, ◌++◌, inl, refl, ap, arith, length}
 use Rattle.csv.specs.Reading.{source_of}
+use Rattle.mm_definitions.specs.declared.answers.Answer.TheVariants as answers
+use Rattle.mm_definitions.specs.declared.answers.Fault.{Fault}
 use Rattle.mm_run.specs.Sessions.{shown}
 use Rattle.mm_run.specs.Runs.{IsSome, OnRun}
-use Rattle.mm_run.proofs.Loops.{counted-once, no-writer-fault, stopped-fault, stopped-with, told-more, told-none, written-once}
+use Rattle.mm_run.proofs.Loops.{counted-once, run-line, stopped-fault, stopped-with, told-more, told-none, written-once}
 use Rattle.mm_run.proofs.Kept.{kept-more, kept-sound}
 use Rattle.mm_run.proofs.Ended.{ended-all, ended-behind, ended-more, ended-none, ended-stopped}
 use Rattle.mm_run.proofs.Left.{all-answered, so_far-more, so_far-none, some-faulted, some-last, some-so_far}
-use Rattle.mm_run.proofs.Failing.{goes-ended, goes-same, stops-failing}
+use Rattle.mm_run.proofs.Failing.{goes-ended, goes-same, stops-failing, stops-why}
 use Rattle.mm_run.proofs.run.run_rows.Goals as goal
 
 pub loop-n-init : goal.loop-n-init
@@ -25,17 +27,35 @@ loop-n-init g c = record {
   refused = λ was xs here. ended-none xs _ _ _ _ here (told-none _ _ refl refl refl);
 }
 
-pub returns-in-None-clause-done : goal.returns-in-None-clause-done
-returns-in-None-clause-done g c =
+pub returns-in-None : goal.returns-in-None
+returns-in-None g c =
     let inv = c.loop-n.invariant in
-    let (given, told, so_far) = inv.given in (
-      given,
-      told,
-      λ clean p sound xs here.
-          all-answered g.T.Read.remaining c.loop-n.rows c.turn.new.rows p c.args.at xs c.args.rows.now.state (g.A.Apply.settled c.loop-n.session) (shown g.A.Apply c.turn.new.session)
-          (g.A.Apply.has_failed c.args.session.now) (g.A.Apply.has_failed c.loop-n.session) given inv.set_up.config (so_far (c.turn.ensures.clean clean) p sound xs here)
-          (λ q sound. rw c.in-None.is at (c.turn.ensures.turns clean q sound)),
-    )
+    let (given, told, so_far) = inv.given in
+    let still = rw c.in-None.is at c.turn.ensures.still in
+    record {
+      clean = λ clean. inv.clean (c.turn.ensures.clean clean);
+      done = (
+        given,
+        told,
+        λ clean p sound xs here.
+            all-answered g.T.Read.remaining c.loop-n.rows c.turn.new.rows p c.args.at xs c.args.rows.now.state (g.A.Apply.settled c.loop-n.session) (shown g.A.Apply c.turn.new.session)
+            (g.A.Apply.has_failed c.args.session.now) (g.A.Apply.has_failed c.loop-n.session) given inv.set_up.config (so_far (c.turn.ensures.clean clean) p sound xs here)
+            (λ q sound. rw c.in-None.is at (c.turn.ensures.turns clean q sound)),
+      );
+      working = inv.working;
+      flushed = inv.flushed;
+      stopped = tt;
+      small = (omega arith, omega arith);
+      near = tt;
+      session = (ap g.A.Apply.has_failed still ∙ inv.same, λ was. let before = inv.ended was in (still ∙ before.0, before.1));
+      why = tt;
+      kept =
+          kept-more (g.A.Apply.is_clean c.loop-n.session) (g.A.Apply.is_clean c.turn.new.session)
+          (shown g.A.Apply c.args.session.now) (shown g.A.Apply c.loop-n.session) (shown g.A.Apply c.turn.new.session) c.turn.ensures.clean inv.same inv.kept c.turn.ensures.kept;
+      ended = λ was xs here.
+          ended-all g.T.Read.remaining c.loop-n.rows c.turn.new.rows xs c.args.rows.now.state c.loop-n.tally _ _ inv.set_up.config (inv.refused was xs here)
+          (rw c.in-None.is at (c.turn.ensures.ended (inv.same ∙ was)));
+    }
 
 pub loop-n-preserved : goal.loop-n-preserved
 loop-n-preserved g c =
@@ -73,78 +93,83 @@ loop-n-preserved g c =
           c.in-Some.answer c.in-Ok.next c.loop-n.n _ _ _ (rw c.in-Some.is at (c.turn.ensures.ended (inv.same ∙ was))) goes inv.numbered;
     }
 
-pub returns-in-Err-clause-session : goal.returns-in-Err-clause-session
-returns-in-Err-clause-session g c =
-    let inv = c.loop-n.invariant in
-    stops-failing c.args.session.now c.loop-n.session c.turn.new.session (g.A.Apply.has_failed c.args.session.now) (g.A.Apply.has_failed c.loop-n.session) (g.A.Apply.has_failed c.turn.new.session)
-    c.loop-n.tally c.in-Err.e _ _ _ _ _ inv.same inv.ended c.in-Some.answer c.in-Some.ensures.going c.in-Err.ensures.stops
-
-pub returns-in-Err-clause-stopped : goal.returns-in-Err-clause-stopped
-returns-in-Err-clause-stopped g c =
+pub returns-in-Err : goal.returns-in-Err
+returns-in-Err g c =
     let inv = c.loop-n.invariant in
     let (given, told, so_far) = inv.given in
     let at : length given + 1 ≡ c.loop-n.n = omega (arith, told.1) in
     let first = g.A.Apply.has_failed c.args.session.now in
     let before = g.A.Apply.has_failed c.loop-n.session in
-    stopped-with
-    (λ told w. OnRun (g.A.Apply.is_clean c.turn.new.session) (g.A.Apply.settled c.args.session.now) (source_of g.T.Read.remaining c.args.rows.now)
-    (λ p xs. IsSome p c.args.at xs c.args.rows.now.state first (shown g.A.Apply c.turn.new.session) told w))
-    given c.loop-n.n c.loop-n.tally c.in-Err.e _ _ _ _ _ _ at told inv.working c.in-Some.answer (no-writer-fault c.in-Some.answer _ c.in-Some.ensures.faults) c.in-Err.ensures.stops
-    (λ faulted w enough clean p sound xs here.
-    some-faulted g.T.Read.remaining c.loop-n.rows c.turn.new.rows p c.args.at xs c.args.rows.now.state (g.A.Apply.settled c.loop-n.session) (shown g.A.Apply c.turn.new.session)
-    first before given inv.set_up.config (so_far (c.turn.ensures.clean clean) p sound xs here)
-    (g.met.A.Apply.leaves_settled c.turn.new.session) inv.same c.in-Some.answer faulted (λ q sound. rw c.in-Some.is at (c.turn.ensures.turns clean q sound)) w enough)
-    (λ good w enough clean p sound xs here.
-    some-last p c.args.at (shown g.A.Apply c.turn.new.session) xs c.args.rows.now.state first given c.in-Some.answer
-    (g.met.A.Apply.leaves_settled c.turn.new.session) (goes-same c.in-Some.answer _ _ _ good c.in-Some.ensures.going ∙ inv.same) _ _
-    (so_far-more g.T.Read.remaining c.loop-n.rows c.turn.new.rows p c.args.at xs c.args.rows.now.state (g.A.Apply.settled c.loop-n.session) (shown g.A.Apply c.turn.new.session)
-    first before given inv.set_up.config (so_far (c.turn.ensures.clean clean) p sound xs here) c.in-Some.answer
-    (λ q sound. rw c.in-Some.is at (c.turn.ensures.turns clean q sound)) good) w enough)
+    record {
+      clean = λ clean. inv.clean (c.turn.ensures.clean clean);
+      done = tt;
+      working = tt;
+      flushed = c.in-Err.ensures.told;
+      stopped =
+          stopped-with
+          (λ told w. OnRun (g.A.Apply.is_clean c.turn.new.session) (g.A.Apply.settled c.args.session.now) (source_of g.T.Read.remaining c.args.rows.now)
+          (λ p xs. IsSome p c.args.at xs c.args.rows.now.state first (shown g.A.Apply c.turn.new.session) told w))
+          given c.loop-n.n c.loop-n.tally c.in-Err.e _ _ _ _ _ _ at (omega arith) told inv.working c.in-Some.answer (run-line c.in-Some.answer _ c.in-Some.ensures.faults) c.in-Err.ensures.stops
+          (λ faulted w enough clean p sound xs here.
+          some-faulted g.T.Read.remaining c.loop-n.rows c.turn.new.rows p c.args.at xs c.args.rows.now.state (g.A.Apply.settled c.loop-n.session) (shown g.A.Apply c.turn.new.session)
+          first before given inv.set_up.config (so_far (c.turn.ensures.clean clean) p sound xs here)
+          (g.met.A.Apply.leaves_settled c.turn.new.session) inv.same c.in-Some.answer faulted (λ q sound. rw c.in-Some.is at (c.turn.ensures.turns clean q sound)) w enough)
+          (λ good w enough clean p sound xs here.
+          some-last p c.args.at (shown g.A.Apply c.turn.new.session) xs c.args.rows.now.state first given c.in-Some.answer
+          (g.met.A.Apply.leaves_settled c.turn.new.session) (goes-same c.in-Some.answer _ _ _ good c.in-Some.ensures.going ∙ inv.same) _ _
+          (so_far-more g.T.Read.remaining c.loop-n.rows c.turn.new.rows p c.args.at xs c.args.rows.now.state (g.A.Apply.settled c.loop-n.session) (shown g.A.Apply c.turn.new.session)
+          first before given inv.set_up.config (so_far (c.turn.ensures.clean clean) p sound xs here) c.in-Some.answer
+          (λ q sound. rw c.in-Some.is at (c.turn.ensures.turns clean q sound)) good) w enough);
+      small = tt;
+      near = c.in-Err.ensures.near;
+      session =
+          stops-failing c.args.session.now c.loop-n.session c.turn.new.session first before (g.A.Apply.has_failed c.turn.new.session)
+          c.loop-n.tally c.in-Err.e _ _ _ _ _ inv.same inv.ended c.in-Some.answer c.in-Some.ensures.going c.in-Err.ensures.stops;
+      why = stops-why c.in-Some.answer c.loop-n.tally c.in-Err.e _ _ _ _ _ _ c.in-Some.ensures.faults c.in-Err.ensures.stops;
+      kept =
+          kept-more (g.A.Apply.is_clean c.loop-n.session) (g.A.Apply.is_clean c.turn.new.session)
+          (shown g.A.Apply c.args.session.now) (shown g.A.Apply c.loop-n.session) (shown g.A.Apply c.turn.new.session) c.turn.ensures.clean inv.same inv.kept c.turn.ensures.kept;
+      ended = λ was xs here.
+          ended-stopped g.T.Read.remaining c.loop-n.rows c.turn.new.rows xs c.args.rows.now.state c.loop-n.tally _ _ inv.set_up.config (inv.refused was xs here)
+          c.in-Err.e c.loop-n.n _ _ _ _ inv.working c.in-Some.answer (run-line c.in-Some.answer _ c.in-Some.ensures.faults)
+          (rw c.in-Some.is at (c.turn.ensures.ended (inv.same ∙ was))) c.in-Err.ensures.stops inv.numbered;
+    }
 
-pub returns-in-Err-tell-clause-stopped : goal.returns-in-Err-tell-clause-stopped
-returns-in-Err-tell-clause-stopped g c =
+-- a fault is no answer to go on behind
+pub returns-in-Ok-tell : goal.returns-in-Ok-tell
+returns-in-Ok-tell g c = absurd c.in-Ok-tell.ensures.goes.0
+
+pub returns-in-Err-tell : goal.returns-in-Err-tell
+returns-in-Err-tell g c =
     let inv = c.loop-n.invariant in
     let (given, told, so_far) = inv.given in
     let end : c.loop-n.n ≡ 2 ^ 64 - 1 = omega (arith, c.loop-n-test.false) in
     let at : length given + 1 ≡ 2 ^ 64 - 1 = omega (arith, told.1) in
     let first = g.A.Apply.has_failed c.args.session.now in
-    stopped-fault
-    (λ told w. OnRun (g.A.Apply.is_clean c.loop-n.session) (g.A.Apply.settled c.args.session.now) (source_of g.T.Read.remaining c.args.rows.now)
-    (λ p xs. IsSome p c.args.at xs c.args.rows.now.state first (shown g.A.Apply c.loop-n.session) told w))
-    given (2 ^ 64 - 1) c.loop-n.tally c.in-Err-tell.e _ _ _ _ _ _ at told inv.working (record { 0 = 90 }) (λ e. absurd (omega arith)) c.in-Err-tell.ensures.stops
-    (λ w enough clean p sound xs here.
-    some-so_far p c.args.at (shown g.A.Apply c.loop-n.session) xs c.args.rows.now.state first given
-    (g.met.A.Apply.leaves_settled c.loop-n.session) inv.same _ _ (so_far clean p sound xs here) w enough)
-
-pub returns-in-None-clause-kept : goal.returns-in-None-clause-kept
-returns-in-None-clause-kept g c =
-    let inv = c.loop-n.invariant in
-    kept-more (g.A.Apply.is_clean c.loop-n.session) (g.A.Apply.is_clean c.turn.new.session)
-    (shown g.A.Apply c.args.session.now) (shown g.A.Apply c.loop-n.session) (shown g.A.Apply c.turn.new.session) c.turn.ensures.clean inv.same inv.kept c.turn.ensures.kept
-
-pub returns-in-Err-clause-kept : goal.returns-in-Err-clause-kept
-returns-in-Err-clause-kept g c =
-    let inv = c.loop-n.invariant in
-    kept-more (g.A.Apply.is_clean c.loop-n.session) (g.A.Apply.is_clean c.turn.new.session)
-    (shown g.A.Apply c.args.session.now) (shown g.A.Apply c.loop-n.session) (shown g.A.Apply c.turn.new.session) c.turn.ensures.clean inv.same inv.kept c.turn.ensures.kept
-
-pub returns-in-None-clause-ended : goal.returns-in-None-clause-ended
-returns-in-None-clause-ended g c was xs here =
-    let inv = c.loop-n.invariant in
-    ended-all g.T.Read.remaining c.loop-n.rows c.turn.new.rows xs c.args.rows.now.state c.loop-n.tally _ _ inv.set_up.config (inv.refused was xs here)
-    (rw c.in-None.is at (c.turn.ensures.ended (inv.same ∙ was)))
-
-pub returns-in-Err-clause-ended : goal.returns-in-Err-clause-ended
-returns-in-Err-clause-ended g c was xs here =
-    let inv = c.loop-n.invariant in
-    ended-stopped g.T.Read.remaining c.loop-n.rows c.turn.new.rows xs c.args.rows.now.state c.loop-n.tally _ _ inv.set_up.config (inv.refused was xs here)
-    c.in-Err.e c.loop-n.n _ _ _ _ inv.working c.in-Some.answer (no-writer-fault c.in-Some.answer _ c.in-Some.ensures.faults)
-    (rw c.in-Some.is at (c.turn.ensures.ended (inv.same ∙ was))) c.in-Err.ensures.stops inv.numbered
-
-pub returns-in-Err-tell-clause-ended : goal.returns-in-Err-tell-clause-ended
-returns-in-Err-tell-clause-ended g c was xs here =
-    let inv = c.loop-n.invariant in
-    let h = inv.refused was xs here in
-    let end : c.loop-n.n ≡ 2 ^ 64 - 1 = omega (arith, c.loop-n-test.false) in
-    ended-behind xs c.args.rows.now.state c.loop-n.tally c.in-Err-tell.e (2 ^ 64 - 1) _ _ _ _ _ _ inv.working h.numbers h.rows c.loop-n.rows.state h.rest h.reached h.read h.told
-    (inv.numbered ∙ end) (record { 0 = 90 }) (λ e. absurd (omega arith)) (λ e. absurd (omega arith)) c.in-Err-tell.ensures.stops
+    let before = g.A.Apply.has_failed c.loop-n.session in
+    let memory : Fault = record { 0 = 90 } in
+    record {
+      clean = inv.clean;
+      done = tt;
+      working = tt;
+      flushed = c.in-Err-tell.ensures.told;
+      stopped =
+          stopped-fault
+          (λ told w. OnRun (g.A.Apply.is_clean c.loop-n.session) (g.A.Apply.settled c.args.session.now) (source_of g.T.Read.remaining c.args.rows.now)
+          (λ p xs. IsSome p c.args.at xs c.args.rows.now.state first (shown g.A.Apply c.loop-n.session) told w))
+          given (2 ^ 64 - 1) c.loop-n.tally c.in-Err-tell.e _ _ _ _ _ _ at (omega arith) told inv.working memory (inl (inl refl)) c.in-Err-tell.ensures.stops
+          (λ w enough clean p sound xs here.
+          some-so_far p c.args.at (shown g.A.Apply c.loop-n.session) xs c.args.rows.now.state first given
+          (g.met.A.Apply.leaves_settled c.loop-n.session) inv.same _ _ (so_far clean p sound xs here) w enough);
+      small = tt;
+      near = c.in-Err-tell.ensures.near;
+      session =
+          stops-failing c.args.session.now c.loop-n.session c.loop-n.session first before before c.loop-n.tally c.in-Err-tell.e _ _ _ _ _ inv.same inv.ended (answers.Fault memory)
+          (λ e. absurd (omega arith), λ e. absurd (omega arith), λ e. refl, λ e. refl) c.in-Err-tell.ensures.stops;
+      why = stops-why (answers.Fault memory) c.loop-n.tally c.in-Err-tell.e _ _ _ _ _ _ (inl (inl refl)) c.in-Err-tell.ensures.stops;
+      kept = inv.kept;
+      ended = λ was xs here.
+          let h = inv.refused was xs here in
+          ended-behind xs c.args.rows.now.state c.loop-n.tally c.in-Err-tell.e (2 ^ 64 - 1) _ _ _ _ _ _ inv.working h.numbers h.rows c.loop-n.rows.state h.rest h.reached h.read h.told
+          (inv.numbered ∙ end) memory (λ e. absurd (omega arith)) (inl (inl refl)) c.in-Err-tell.ensures.stops;
+    }

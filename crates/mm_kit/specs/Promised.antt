@@ -1,0 +1,85 @@
+-- What the import of a kit promises, by what commands are applied to, and by a folder.
+use Rattle.std.specs.Prelude.{◌≡◌, ◌≢◌, ◌≤◌, false, true, length, List, Result, Err, IfOk, IfErr}
+use Rattle.mm_definitions.specs.Keys.{Text}
+use Rattle.mm_definitions.specs.declared.answers.KitFault.{KitFault}
+use Rattle.mm_definitions.specs.declared.answers.Staged.{Staged}
+use Rattle.mm_definitions.specs.declared.commands.Piece.{Piece}
+use Rattle.mm_run.specs.declared.apply.Apply as applies
+use Rattle.mm_kit.specs.Editions.{HasPieces}
+use Rattle.mm_kit.specs.Imports.{AreImported, AreStaged, AreStagedOn, AsksForPackage, ImportEnded, ImportTellsReopening, ImportWorksOn, IsImportAnswered, IsImportKept, IsImportStopped, IsKitFault, IsStillKept, MayBeStaged, OnAnyFolder, OnKit, TellsFolder}
+use Rattle.mm_kit.specs.declared.entries.Entry.{Entry}
+use Rattle.mm_kit.specs.declared.folders.Folder as folders
+
+-- It imports the kit of a folder into an edition.
+pub record ImportsKit {A F : Type 0} (apply : applies.Ghosts A) (shelf : folders.Ghosts F) (name : Text)
+    (old new : A) (kit kit_now : F) (result : Result Staged KitFault) : Type 0 where
+  -- A store that is clean after the import was clean before it.
+  pub clean : apply.is_clean new → apply.is_clean old
+  -- The answer is that of the kit on the package, and the editor is settled for one whose edition has grown along the kit.
+  pub answered : IfOk result (λ a. OnKit (apply.is_clean new) (apply.settled old) (shelf.files kit)
+      (λ files p. IsImportAnswered files name p (apply.settled new) a))
+  -- With a fault each database that may be left stands for such a package, with as many pieces as were answered ok, or one more.
+  pub stopped : IfErr result (λ e. OnKit (apply.is_clean new) (apply.settled old) (shelf.files kit)
+      (λ files p. IsImportStopped files name p (apply.may_leave new) apply.stands_for e.staged))
+  -- Where the editor has not failed in the import it works on: it is settled for such a package, with as many pieces as were answered
+  -- ok.
+  pub works : IfErr result (λ e. OnKit (apply.is_clean new) (apply.settled old) (shelf.files kit)
+      (λ files p. apply.has_failed new ≡ apply.has_failed old → ImportWorksOn files name p (apply.settled new) e.staged))
+  -- An editor that has failed is left as it was, and 92 comes only there.
+  pub session : ImportTellsReopening (apply.has_failed old) (apply.has_failed new) (new ≡ old) result
+  -- It is told 92 at the first need of the package, which is the edition's state, behind the list; there is no want of memory there.
+  pub ended : apply.has_failed old ≡ true → ImportEnded (shelf.files kit) result
+  -- The package is asked only where the list is a kit's.
+  pub needed : IfErr result (λ e. e.fault.0 ≡ 92 → AsksForPackage (shelf.files kit))
+  -- Of every folder, one that tells nothing too: the rules hold, and nothing but the edition's pieces has changed, of which none is
+  -- lost.
+  pub kept : OnAnyFolder (apply.is_clean new) (apply.settled old)
+      (λ p. IsImportKept name p (apply.settled new) (apply.may_leave new) apply.stands_for result)
+  pub going : IfErr result (λ e. OnAnyFolder (apply.is_clean new) (apply.settled old)
+      (λ p. apply.has_failed new ≡ apply.has_failed old → IsStillKept name p (apply.settled new)))
+  -- 96 is the folder's, and the folder tells it; the others are faults of commands and of memory.
+  pub folder : TellsFolder (shelf.has_failed kit) (shelf.has_failed kit_now) result
+  pub why : IfErr result (λ e. IsKitFault e.fault.0)
+
+-- ---- inside the import
+
+-- The same of the entries of the kit's list.
+pub record ImportsEntries {A F : Type 0} (apply : applies.Ghosts A) (shelf : folders.Ghosts F) (name : Text) (entries : List Entry)
+    (old new : A) (kit kit_now : F) (result : Result Staged KitFault) : Type 0 where
+  pub clean : apply.is_clean new → apply.is_clean old
+  pub answered : IfOk result (λ a. OnKit (apply.is_clean new) (apply.settled old) (shelf.files kit)
+      (λ files p. AreImported files name entries p (apply.settled new) a))
+  pub stopped : IfErr result (λ e. OnKit (apply.is_clean new) (apply.settled old) (shelf.files kit)
+      (λ files p. MayBeStaged files name entries p (apply.may_leave new) apply.stands_for e.staged))
+  pub works : IfErr result (λ e. OnKit (apply.is_clean new) (apply.settled old) (shelf.files kit)
+      (λ files p. apply.has_failed new ≡ apply.has_failed old → AreStagedOn files name entries p (apply.settled new) e.staged))
+  pub session : ImportTellsReopening (apply.has_failed old) (apply.has_failed new) (new ≡ old) result
+  pub kept : OnAnyFolder (apply.is_clean new) (apply.settled old)
+      (λ p. IsImportKept name p (apply.settled new) (apply.may_leave new) apply.stands_for result)
+  pub going : IfErr result (λ e. OnAnyFolder (apply.is_clean new) (apply.settled old)
+      (λ p. apply.has_failed new ≡ apply.has_failed old → IsStillKept name p (apply.settled new)))
+  -- The edition's state is asked before anything else, so an editor that has failed is answered 92 and nothing else.
+  pub ended : apply.has_failed old ≡ true → result ≡ Err (record { fault = record { 0 = 92 }; staged = 0 })
+  pub folder : TellsFolder (shelf.has_failed kit) (shelf.has_failed kit_now) result
+  pub why : IfErr result (λ e. IsKitFault e.fault.0)
+
+-- The same where the edition is open, and the editor has not failed: the entries are staged in order.
+pub record StagesEntries {A F : Type 0} (apply : applies.Ghosts A) (shelf : folders.Ghosts F) (name : Text) (entries : List Entry)
+    (old new : A) (kit kit_now : F) (result : Result Staged KitFault) : Type 0 where
+  pub clean : apply.is_clean new → apply.is_clean old
+  pub answered : IfOk result (λ a. OnKit (apply.is_clean new) (apply.settled old) (shelf.files kit)
+      (λ files p. (pieces : List Piece) → HasPieces p name pieces → length pieces ≤ length entries → AreStaged files name entries p pieces (apply.settled new) a))
+  pub stopped : IfErr result (λ e. OnKit (apply.is_clean new) (apply.settled old) (shelf.files kit)
+      (λ files p. (pieces : List Piece) → HasPieces p name pieces → MayBeStaged files name entries p (apply.may_leave new) apply.stands_for e.staged))
+  pub works : IfErr result (λ e. OnKit (apply.is_clean new) (apply.settled old) (shelf.files kit)
+      (λ files p. (pieces : List Piece) → HasPieces p name pieces → apply.has_failed new ≡ apply.has_failed old
+      → AreStagedOn files name entries p (apply.settled new) e.staged))
+  -- An answer leaves the editor working, and so does a fault of the folder. 92 is not answered.
+  pub session : IfOk result (λ a. apply.has_failed new ≡ false)
+  pub fault : IfErr result (λ e. (e.fault.0 ≢ 92) × (e.fault.0 ≡ 96 → apply.has_failed new ≡ false))
+  pub kept : OnAnyFolder (apply.is_clean new) (apply.settled old)
+      (λ p. (pieces : List Piece) → HasPieces p name pieces → IsImportKept name p (apply.settled new) (apply.may_leave new) apply.stands_for result)
+  pub going : IfErr result (λ e. OnAnyFolder (apply.is_clean new) (apply.settled old)
+      (λ p. (pieces : List Piece) → HasPieces p name pieces → apply.has_failed new ≡ apply.has_failed old → IsStillKept name p (apply.settled new)))
+  pub folder : TellsFolder (shelf.has_failed kit) (shelf.has_failed kit_now) result
+  pub why : IfErr result (λ e. IsKitFault e.fault.0)

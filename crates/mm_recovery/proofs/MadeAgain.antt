@@ -1,5 +1,5 @@
 -- A package that is made, or found, where a making was stopped.
-use Rattle.std.proofs.Common.{◌≡◌, ◌⊎◌, ℕ, ap, false, inl, inr, Result, Ok, Err, refl, subst, arith}
+use Rattle.std.proofs.Common.{◌≡◌, ◌⊎◌, ℕ, ap, false, inl, inr, refl, subst, arith}
 use Rattle.std.proofs.Math.Logic.{∥∥₁_elim, ∥∥₁_map}
 use Rattle.sqlite_disk.specs.declared.Disk.{Ghosts}
 use Rattle.sqlite_disk.specs.declared.Files.{Files}
@@ -17,8 +17,9 @@ use Rattle.mm_store.specs.Statements.{CommitsNothing}
 use Rattle.mm_opening.specs.Opening.{IsBlank}
 use Rattle.mm_core.specs.Adopted.{IsAdopted, IsNotAdopted, TellsProfile}
 use Rattle.mm_core.specs.Sessions.{MayMake, IsCreated, IsNotCreated}
-use Rattle.mm_recovery.specs.Made.{AreNew, FindsNoTable, IsMadeOn, LeavesNoMore, OnlyStoreFault, IsMadeOrFound, IsNeither, IsMadeAgain}
-use Rattle.mm_recovery.specs.Recovered.{IsFault, IsMakingRecovered}
+use Rattle.mm_recovery.specs.Found.{FindsLeft}
+use Rattle.mm_recovery.specs.Made.{AreNew, FindsNoTable, IsMadeOn, LeavesNoMore, OnlyStoreFault, IsMadeOrFound, IsNeither, IsMadeAgain, IsStoppedAgain}
+use Rattle.mm_recovery.specs.Recovered.{IsFault}
 use Rattle.mm_recovery.proofs.Recovering.{is_fault, none_is_declined}
 
 -- ---- new files
@@ -107,32 +108,49 @@ module _ (old mid new : State) (why : Open) (is : why ≡ opens.NoProfile) (decl
 
 -- ---- a making that was stopped, and what is then made or found
 
-module _ (old mid : State) where
-  stopped_or_made : (making : Result (Unit {0}) Fault) → IsMakingRecovered old mid making → HasCleanDisk mid → IsBlank old → ∥ (IsBlank mid ⊎ IsSettled current mid opening) ∥₁
-  stopped_or_made (Ok u) it clean blank = ∥∥₁_map (it clean blank) (λ made. inr made)
-  stopped_or_made (Err fault) it clean blank = it clean blank
+module _ (old mid : State) (finds : FindsLeft old mid) where
+  stopped_or_made : HasCleanDisk mid → LeavesNoMore old → ∥ (IsBlank mid ⊎ IsSettled current mid opening) ∥₁
+  stopped_or_made clean left = ∥∥₁_map (finds.found clean) (λ may. elim (left mid.committed.trees may) [
+    | inl none ↦ inl ((finds.is clean).blank none)
+    | inr made ↦ inr ((finds.is clean).settled current opening made)
+  ])
 
-  module _ (new : State) (making : Result (Unit {0}) Fault) (recovered : IsMakingRecovered old mid making) where
+  module _ (new : State) where
     pub made_again : IsMadeOrFound mid new → IsMadeAgain old new
-    made_again it = record {
-      is_open = it.is_open;
-      settled = λ clean blank. ∥∥₁_map (stopped_or_made making recovered (omega (arith, clean, it.survives.clean)) blank) (λ was. elim was [
-        | inl none ↦ it.made clean none
-        | inr made ↦ (it.found clean opening made).0
-      ]);
-    }
+    made_again it =
+        let early : HasCleanDisk new → HasCleanDisk mid = λ clean. omega (arith, clean, it.survives.clean) in
+        record {
+          clean = λ clean. finds.clean (early clean);
+          is_open = it.is_open;
+          settled = λ clean left. ∥∥₁_map (stopped_or_made (early clean) left) (λ was. elim was [
+            | inl none ↦ it.made clean none
+            | inr made ↦ (it.found clean opening made).0
+          ]);
+        }
 
-    none_declined : (why : Open) → IsNeither mid new why → is_fault why ≡ false → (IsFault why → ⊥) → HasCleanDisk new → IsBlank old → ⊥
-    none_declined why it other bare clean blank =
-        ∥∥₁_elim (stopped_or_made making recovered (omega (arith, clean, it.survives.clean)) blank) (λ a b. absurd a) (λ was. elim was [
+    none_declined : (why : Open) → IsNeither mid new why → is_fault why ≡ false → (IsFault why → ⊥) → HasCleanDisk new → LeavesNoMore old → ⊥
+    none_declined why it other bare clean left =
+        ∥∥₁_elim (stopped_or_made (omega (arith, clean, it.survives.clean)) left) (λ a b. absurd a) (λ was. elim was [
           | inl none ↦ bare (it.none clean none)
           | inr made ↦ none_is_declined opening why (opened current) (it.settled clean opening made).1 other
         ])
 
-    pub not_made_again : (why : Open) → IsNeither mid new why → HasCleanDisk new → IsBlank old → IsFault why
-    not_made_again (opens.Fault fault) it clean blank = it.faults clean
-    not_made_again (opens.Rule rule) it clean blank = none_declined (opens.Rule rule) it refl (λ e. e) clean blank
-    not_made_again (opens.Version version) it clean blank = none_declined (opens.Version version) it refl (λ e. e) clean blank
-    not_made_again opens.NoProfile it clean blank = none_declined opens.NoProfile it refl (λ e. e) clean blank
-    not_made_again opens.BadProfile it clean blank = none_declined opens.BadProfile it refl (λ e. e) clean blank
-    not_made_again opens.BadBlobs it clean blank = none_declined opens.BadBlobs it refl (λ e. e) clean blank
+    only_faults : (why : Open) → IsNeither mid new why → HasCleanDisk new → LeavesNoMore old → IsFault why
+    only_faults (opens.Fault fault) it clean left = it.faults clean
+    only_faults (opens.Rule rule) it clean left = none_declined (opens.Rule rule) it refl (λ e. e) clean left
+    only_faults (opens.Version version) it clean left = none_declined (opens.Version version) it refl (λ e. e) clean left
+    only_faults opens.NoProfile it clean left = none_declined opens.NoProfile it refl (λ e. e) clean left
+    only_faults opens.BadProfile it clean left = none_declined opens.BadProfile it refl (λ e. e) clean left
+    only_faults opens.BadBlobs it clean left = none_declined opens.BadBlobs it refl (λ e. e) clean left
+
+    pub stopped_again : (why : Open) → IsNeither mid new why → IsStoppedAgain old new why
+    stopped_again why it =
+        let early : HasCleanDisk new → HasCleanDisk mid = λ clean. omega (arith, clean, it.survives.clean) in
+        record {
+          clean = λ clean. finds.clean (early clean);
+          faults = only_faults why it;
+          left = λ clean left. ∥∥₁_map (stopped_or_made (early clean) left) (λ was. elim was [
+            | inl none ↦ it.left clean none
+            | inr made ↦ (λ db may. inr ((it.settled clean opening made).0.left db may))
+          ]);
+        }

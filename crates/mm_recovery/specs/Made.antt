@@ -1,5 +1,5 @@
 -- What becomes of files on which a package is made.
-use Rattle.std.specs.Prelude.{◌≡◌, ◌⊎◌, ⊤, false, Option, Some, None, IsTrue}
+use Rattle.std.specs.Prelude.{◌≡◌, ◌⊎◌, ⊤, false, IsTrue}
 use Rattle.sqlite.specs.Tree.{Trees}
 use Rattle.sqlite.specs.Held.{Held}
 use Rattle.sqlite.specs.Files.{file_state, image_of, IsNothing, AreFound}
@@ -17,7 +17,11 @@ use Rattle.mm_store.specs.Stands.{StandsFor, IsSettled}
 use Rattle.mm_opening.specs.Opening.{IsBlank, HasNoTable}
 use Rattle.mm_core.specs.Adopted.{Declines}
 use Rattle.mm_core.specs.Sessions.{MayMake}
+use Rattle.mm_recovery.specs.Found.{AreLeftBy}
+use Rattle.mm_recovery.specs.Stops.{IsNotOpened, LeadsBack}
 use Rattle.mm_recovery.specs.Recovered.{IsSoundOn, IsFault}
+use Rattle.mm_recovery.specs.declared.stops.NotBegun.{NotBegun}
+use Rattle.mm_recovery.specs.declared.stops.NotBegun.TheVariants as begun
 
 -- ---- new files
 
@@ -40,11 +44,12 @@ module _ {D : Type 0} (g : Ghosts D) where
 abbrev pub LeavesNoMore : State → Type 0
 LeavesNoMore s = (db : Trees) → s.may_leave db → HasNoTable db ⊎ StandsFor current.version db opening
 
-module _ {D : Type 0} (g : Ghosts D) where
-  -- The files could not be opened; or they were, and then no more is left than a new package.
-  abbrev pub IsLeftOn : Files D → Option (Held (FileStore D g)) → Type 0
-  IsLeftOn files None = ⊤
-  IsLeftOn files (Some conn) = (conn.in_transaction ≡ false) × (HasCleanDisk (file_state conn) → AreNew g files → LeavesNoMore (file_state conn))
+module _ {D : Type 0} {g : Ghosts D} where
+  -- The files could not be opened, and no more is left of them than before; or they were, and then no more than a new package.
+  abbrev pub IsLeftOn : Files D → NotBegun D g → Type 0
+  IsLeftOn files (begun.Unopened stop) = IsNotOpened files stop
+  IsLeftOn files (begun.Declined conn why) =
+      (conn.in_transaction ≡ false) × IsFault why × (HasCleanDisk (file_state conn) → AreNew g files → LeavesNoMore (file_state conn))
 
 -- ---- a connection that a making may have left
 
@@ -68,15 +73,27 @@ pub record IsNeither (old new : State) (why : Open) : Type 0 where
   pub left : HasCleanDisk new → IsBlank old → LeavesNoMore new
   pub settled : HasCleanDisk new → (p : Package) → IsSettled current old p → IsSettled current new p × Declines p why
 
--- ---- the making of a package, a crash, and the making again
+-- ---- the making of a package that was stopped, and is begun again
 
--- The store is open, and settled for the new package where there was no table.
+-- The store is open, and settled for the new package where no more had been left than that.
 pub record IsMadeAgain (old new : State) : Type 0 where
+  pub clean : HasCleanDisk new → HasCleanDisk old
   pub is_open : HasCleanDisk new → IsTrue new.is_open
-  pub settled : HasCleanDisk new → IsBlank old → ∥ IsSettled current new opening ∥₁
+  pub settled : HasCleanDisk new → LeavesNoMore old → ∥ IsSettled current new opening ∥₁
+
+-- Where no more had been left than the new package it is a fault, and no more is left still.
+pub record IsStoppedAgain (old new : State) (why : Open) : Type 0 where
+  pub clean : HasCleanDisk new → HasCleanDisk old
+  pub faults : HasCleanDisk new → LeavesNoMore old → IsFault why
+  pub left : HasCleanDisk new → LeavesNoMore old → ∥ LeavesNoMore new ∥₁
 
 module _ {D : Type 0} {g : Ghosts D} where
-  -- It is a fault where there was no table.
-  abbrev pub IsNotMadeAgain : State → Option (Held (FileStore D g)) → Open → Type 0
-  IsNotMadeAgain old None why = IsFault why
-  IsNotMadeAgain old (Some conn) why = HasCleanDisk (file_state conn) → IsBlank old → IsFault why
+  -- of whichever connection the files hold what might be left
+  abbrev pub MakesAgain : Files D → Held (FileStore D g) → Type 0
+  MakesAgain files new = (old : Held (FileStore D g)) → AreLeftBy old files → IsMadeAgain (file_state old) (file_state new)
+
+  -- The files could not be opened, and no more is left of them than before; or they were.
+  abbrev pub IsNotMadeAgain : Files D → NotBegun D g → Type 0
+  IsNotMadeAgain files (begun.Unopened stop) = IsNotOpened files stop × LeadsBack files stop
+  IsNotMadeAgain files (begun.Declined conn why) =
+      (conn.in_transaction ≡ false) × ((old : Held (FileStore D g)) → AreLeftBy old files → IsStoppedAgain (file_state old) (file_state conn) why)

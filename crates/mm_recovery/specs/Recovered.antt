@@ -1,37 +1,28 @@
--- What becomes of a session whose files crash.
-use Rattle.std.specs.Prelude.{ℕ, false, ⊤, ◌⊎◌, List, Option, Some, None, Result, Ok, Err, IsTrue}
+-- What becomes of a package whose files were lost or closed.
+use Rattle.std.specs.Prelude.{◌≡◌, ⊤, false, IsTrue}
+use Rattle.sqlite_disk.specs.declared.Disk.{Ghosts}
+use Rattle.sqlite_disk.specs.declared.Files.{Files}
+use Rattle.sqlite_store.specs.declared.store.FileStore.{FileStore}
 use Rattle.sqlite.specs.Tree.{Trees}
 use Rattle.sqlite.specs.Held.{Held}
 use Rattle.sqlite.specs.Files.{file_state}
 use Rattle.sqlite.specs.State.{State, HasCleanDisk}
-use Rattle.sqlite_store.specs.declared.store.FileStore.{FileStore}
-use Rattle.sqlite_disk.specs.declared.Disk.{Ghosts}
-use Rattle.mm_definitions.specs.Bounds.{current}
-use Rattle.mm_definitions.specs.Opening.{opening}
+use Rattle.mm_definitions.specs.Bounds.{Profile, current}
 use Rattle.mm_definitions.specs.Package.{Package}
 use Rattle.mm_definitions.specs.Rules.{Meets}
-use Rattle.mm_definitions.specs.declared.answers.Fault.{Fault}
 use Rattle.mm_definitions.specs.declared.answers.Open.{Open}
 use Rattle.mm_definitions.specs.declared.answers.Open.TheVariants as opens
-use Rattle.mm_definitions.specs.declared.answers.Tally.{Tally}
-use Rattle.mm_definitions.specs.declared.answers.RunFault.{RunFault}
 use Rattle.mm_store.specs.Faults.{IsStoreFault}
-use Rattle.mm_store.specs.Stands.{IsSettled}
-use Rattle.mm_opening.specs.Opening.{IsBlank}
-use Rattle.mm_definitions.specs.Streams.{Written}
-use Rattle.mm_run.specs.Shown.{Shown}
-use Rattle.mm_run.specs.Runs.{OnRun, RanAll, RanSome}
+use Rattle.mm_store.specs.Stands.{StandsFor, IsSettled}
 use Rattle.mm_core.specs.Applied.{StandsForCurrent}
+use Rattle.mm_recovery.specs.Found.{AreLeftBy, AreClosed}
+use Rattle.mm_recovery.specs.Stops.{IsNotOpened, LeadsBack, LeadsTo, TellsNoLie, fault_in, rest_of}
+use Rattle.mm_recovery.specs.declared.stops.NotBegun.{NotBegun}
+use Rattle.mm_recovery.specs.declared.stops.NotBegun.TheVariants as begun
 
 -- settled for the package, which meets the rules
 abbrev pub IsSoundOn : State → Package → Type 0
 IsSoundOn s p = IsSettled current s p × Meets current p
-
--- One of the databases that might be left was found, and the session is open, and settled for what it stands for.
-pub record IsRecovered (old new : State) : Type 0 where
-  pub clean : HasCleanDisk new → HasCleanDisk old
-  pub is_open : HasCleanDisk new → IsTrue new.is_open
-  pub found : HasCleanDisk new → ∥ ((db : Trees) × old.may_leave db × ((p : Package) → StandsForCurrent db p → IsSoundOn new p)) ∥₁
 
 -- each database that may be left stands for a package that meets the rules
 abbrev pub LeavesPackages : State → Type 0
@@ -42,54 +33,68 @@ abbrev pub IsFault : Open → Type 0
 IsFault (opens.Fault fault) = IsStoreFault fault
 IsFault _ = ⊥
 
+-- What comes back of a connection that found this database, and is declined: no other may be left, and it is settled for each package,
+-- in whatever profile, that the database stands for.
+pub record IsKeptOn (s : State) (db : Trees) : Type 0 where
+  pub only : (other : Trees) → s.may_leave other → other ≡ db
+  pub settled : (profile : Profile) (p : Package) → StandsFor profile.version db p → IsSettled profile s p
+
+-- ---- files that were lost
+
+-- One of the databases that might be left was found, and the session is open, and settled for what it stands for.
+pub record IsRecovered (old new : State) : Type 0 where
+  pub clean : HasCleanDisk new → HasCleanDisk old
+  pub is_open : HasCleanDisk new → IsTrue new.is_open
+  pub found : HasCleanDisk new → ∥ ((db : Trees) × old.may_leave db × ((p : Package) → StandsForCurrent db p → IsSoundOn new p)) ∥₁
+
+-- One of them was found, and the connection is handed back as it was opened. Where packages were left it is a fault.
+pub record IsDeclined (old new : State) (why : Open) : Type 0 where
+  pub mode : new.in_transaction ≡ false
+  pub clean : HasCleanDisk new → HasCleanDisk old
+  pub found : HasCleanDisk new → ∥ ((db : Trees) × old.may_leave db × IsKeptOn new db) ∥₁
+  pub faults : HasCleanDisk new → LeavesPackages old → IsFault why
+
 module _ {D : Type 0} {g : Ghosts D} where
-  -- The files could not be opened; or they were, and then it is a fault where packages were left.
-  abbrev pub IsNotRecovered : State → Option (Held (FileStore D g)) → Open → Type 0
-  IsNotRecovered old None why = IsFault why
-  IsNotRecovered old (Some conn) why = (HasCleanDisk (file_state conn) → HasCleanDisk old) × (HasCleanDisk (file_state conn) → LeavesPackages old → IsFault why)
+  -- of whichever connection the files hold what might be left
+  abbrev pub AdoptsLeft : Files D → Held (FileStore D g) → Type 0
+  AdoptsLeft files new = (old : Held (FileStore D g)) → AreLeftBy old files → IsRecovered (file_state old) (file_state new)
 
-  -- the same after the run of a list on a session that was settled for a package
-  abbrev pub IsRunNotRecovered : State → Option (List ℕ) → Option (Held (FileStore D g)) → Open → Type 0
-  IsRunNotRecovered old source None why = IsFault why
-  IsRunNotRecovered old source (Some conn) why = OnRun (HasCleanDisk (file_state conn)) (λ p. IsSettled current old p) source (λ p bytes. IsFault why)
+  -- They could not be opened, and no more is left of them than before; or they were, and the package is declined.
+  abbrev pub DeclinesLeft : Files D → NotBegun D g → Type 0
+  DeclinesLeft files (begun.Unopened stop) =
+      IsNotOpened files stop × LeadsBack files stop
+  DeclinesLeft files (begun.Declined conn why) =
+      (conn.in_transaction ≡ false) × ((old : Held (FileStore D g)) → AreLeftBy old files → IsDeclined (file_state old) (file_state conn) why)
 
--- ---- the making of a package, and then a crash
+-- ---- files that were closed
 
--- where the connection had no table: after `Ok` it is settled for the new package; after a fault it is, or has no table still
-abbrev pub IsMakingRecovered : State → State → Result (Unit {0}) Fault → Type 0
-IsMakingRecovered old new (Ok made) = HasCleanDisk new → IsBlank old → ∥ IsSettled current new opening ∥₁
-IsMakingRecovered old new (Err fault) = HasCleanDisk new → IsBlank old → ∥ (IsBlank new ⊎ IsSettled current new opening) ∥₁
-
--- ---- a session that is closed
-
--- The database of the last commit was found, and the session is open, and settled for what it stands for.
+-- The database of the last commit was found, of a store that was open; the session is open, and settled for what that stands for, and so
+-- for the package that the closed one was settled for.
 pub record IsReopened (old new : State) : Type 0 where
   pub clean : HasCleanDisk new → HasCleanDisk old
   pub is_open : HasCleanDisk new → IsTrue new.is_open
   pub settled : HasCleanDisk new → (p : Package) → StandsForCurrent old.committed.trees p → IsSoundOn new p
+  pub kept : HasCleanDisk new → (p : Package) → IsSettled current old p → IsSoundOn new p
+
+-- It was found, and the connection is handed back as it was opened. Where it stands for a package that meets the rules it is a fault.
+pub record IsRedeclined (old new : State) (why : Open) : Type 0 where
+  pub mode : new.in_transaction ≡ false
+  pub clean : HasCleanDisk new → HasCleanDisk old
+  pub was_open : HasCleanDisk new → IsTrue old.is_open
+  pub found : HasCleanDisk new → IsKeptOn new old.committed.trees
+  pub faults : HasCleanDisk new → (p : Package) → StandsForCurrent old.committed.trees p → Meets current p → IsFault why
 
 module _ {D : Type 0} {g : Ghosts D} where
-  -- The files could not be opened; or they were, and then it is a fault where a package that meets the rules was committed last.
-  abbrev pub IsNotReopened : State → Option (Held (FileStore D g)) → Open → Type 0
-  IsNotReopened old None why = IsFault why
-  IsNotReopened old (Some conn) why = (HasCleanDisk (file_state conn) → HasCleanDisk old)
-      × (HasCleanDisk (file_state conn) → (p : Package) → StandsForCurrent old.committed.trees p → Meets current p → IsFault why)
+  -- of whichever connection they were closed
+  abbrev pub AdoptsClosed : Files D → Held (FileStore D g) → Type 0
+  AdoptsClosed files new = (old : Held (FileStore D g)) → AreClosed old files → IsReopened (file_state old) (file_state new)
 
--- ---- the run of a list, and then a crash
+  abbrev pub DeclinesClosed : Files D → NotBegun D g → Type 0
+  DeclinesClosed files (begun.Unopened stop) = ⊤
+  DeclinesClosed files (begun.Declined conn why) = (old : Held (FileStore D g)) → AreClosed old files → IsRedeclined (file_state old) (file_state conn) why
 
--- what an adopted session shows, in place of each database that a crash might leave
-abbrev pub shown_again : State → Shown (Unit {0})
-shown_again again = record { failed = false; settled = λ p. IsSettled current again p; may_leave = λ _. ⊤; stands_for = λ _ p. IsSettled current again p }
-
--- What the run of a list tells (`RanAll`, `RanSome`: the records that were read, the text that was written, the tally), with the
--- session that is then adopted in place of each database that a crash might leave: it is settled for the package of a first
--- part of the accepted commands, with every one in it whose line was written whole. Unless a command failed, that is the package
--- after the answers that were given.
-abbrev pub RanAndFound : State → Package → ℕ → List ℕ → Written → Written → Result Tally RunFault → Type 0
-RanAndFound again p moment bytes old new (Ok tally) = RanAll p moment bytes (shown_again again) old new tally
-RanAndFound again p moment bytes old new (Err stopped) = RanSome p moment bytes (IsSettled current again) ⊤ (shown_again again) old new stopped
-
--- After the run of a list on a session that was settled for a package that meets the rules, by the writer before and after.
-abbrev pub IsRunRecovered : State → State → Option (List ℕ) → Written → Written → ℕ → Result Tally RunFault → Type 0
-IsRunRecovered old again source writer writer_now moment ran =
-    OnRun (HasCleanDisk again) (λ p. IsSettled current old p) source (λ p bytes. ∥ RanAndFound again p moment bytes writer writer_now ran ∥₁)
+  -- The files could not be closed or opened: a fault, and on a disk that tells no lie no more is left of them than before. Or they
+  -- were, and the package is declined.
+  abbrev pub IsNotReopened : Held (FileStore D g) → NotBegun D g → Type 0
+  IsNotReopened old (begun.Unopened stop) = IsStoreFault (fault_in stop) × (TellsNoLie g → LeadsTo (file_state old).may_leave (rest_of stop))
+  IsNotReopened old (begun.Declined conn why) = IsRedeclined (file_state old) (file_state conn) why

@@ -2,17 +2,16 @@
 
 ghost use Rattle.std.specs.Prelude.{◌≡◌, ◌↔◌, false, IfOk, IfErr, IsTrue};
 ghost use Rattle.sqlite.specs.Held.{state};
-ghost use Rattle.sqlite.specs.Files.{file_state};
 ghost use Rattle.mm_definitions.specs.declared.answers.Open.TheVariants as opens;
 ghost use Rattle.mm_core.specs.Parts.{held, must_reopen};
-ghost use Rattle.mm_recovery.specs.Made.{IsMadeOrFound, IsNeither, IsMadeAgain, IsNotMadeAgain};
+ghost use Rattle.mm_recovery.specs.Made.{IsMadeOrFound, IsNeither, MakesAgain, IsNotMadeAgain};
 
-use crate::making::create_and_recover;
-use crate::sessions::NotRecovered;
+use crate::files::open_files;
+use crate::stops::NotBegun;
 use mm_core::Session;
 use mm_definitions::answers::Open;
-use sqlite::{Alter, Connection, FileStore, Options};
-use sqlite_disk::Crash;
+use sqlite::{Alter, Connection, FileStore, Files, Options};
+use sqlite_disk::Disk;
 use std::alloc::Global;
 
 /// Whether a connection is declined for want of a profile.
@@ -26,8 +25,8 @@ fn has_no_profile(why: &Open) -> bool
 ///
 /// # Errors
 ///
-/// Where there was no table only a fault: 90 for want of memory, and 91 for each other failure of the store; each database
-/// that may be left has no table or stands for the new package. A package that is declined is left as it was.
+/// Where there was no table only a fault: 90 for want of memory, and 91 for each other failure of the store; each
+/// database that may be left has no table or stands for the new package. A package that is declined is left as it was.
 pub fn create_or_adopt<S: Alter + Drop>(
     alloc: Global,
     conn: Connection<S>,
@@ -52,29 +51,29 @@ pub fn create_or_adopt<S: Alter + Drop>(
     }
 }
 
-/// Makes a package on a connection without tables, lets its files crash, wherever the making ended, opens what is left, and
-/// makes the package on it where it has no table still. The session is settled for the new package.
+/// Makes a package on files that a making has left, whatever a crash left of them: where they have no table it is
+/// made, and where it stands it is adopted. The session is settled for the new package.
 ///
 /// # Errors
 ///
-/// Only a fault: 90 for want of memory, and 91 for each other failure of the store.
-pub fn create_again<D: Crash + Drop>(
+/// Where a making has left them only a fault: 90 for want of memory, and 91 for each other failure of the store. No
+/// more may be left of them than before, so that it can be begun again.
+pub fn create_again<D: Disk + Drop>(
     alloc: Global,
-    conn: Connection<FileStore<D>>,
+    files: Files<D>,
     options: Options,
-) -> Result<Session<FileStore<D>>, NotRecovered<D>>
-    requires { conn.in_transaction ≡ false }
+) -> Result<Session<FileStore<D>>, NotBegun<D>>
+    requires log { IsTrue (D.Disk.is_usable files.log) }
+    requires db { IsTrue (D.Disk.is_usable files.db) }
     ensures working { IfOk result (λ session. must_reopen session ≡ false) }
-    ensures made { IfOk result
-        (λ session. IsMadeAgain (file_state conn) (file_state (held session))) }
-    ensures not_made { IfErr result (λ e. IsNotMadeAgain (file_state conn) e.0 e.1) }
+    ensures made { IfOk result (λ session. MakesAgain files (held session)) }
+    ensures not_made { IfErr result (λ e. IsNotMadeAgain files e) }
 {
-    let (_, left) = create_and_recover(alloc, conn, options);
-    match left {
-        Ok(again) => match create_or_adopt(alloc, again) {
+    match open_files(alloc, files, options) {
+        Ok(conn) => match create_or_adopt(alloc, conn) {
             Ok(session) => Ok(session),
-            Err((again, why)) => Err((Some(again), why)),
+            Err((conn, why)) => Err(NotBegun::Declined(conn, why)),
         },
-        Err(fault) => Err((None, Open::Fault(fault))),
+        Err(stop) => Err(NotBegun::Unopened(stop)),
     }
 }

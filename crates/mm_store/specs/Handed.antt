@@ -1,8 +1,10 @@
 -- What a call does with the transaction that it is handed, whatever the profile is. Each leaves it the transaction on the same connection (`same`).
-use Rattle.std.specs.Prelude.{◌≡◌, ℕ, ⊤, List, Option, Result}
+use Rattle.std.specs.Prelude.{◌≡◌, ◌⊎◌, ℕ, ⊤, List, Option, Result, IfErr}
 use Rattle.sqlite.specs.Held.{state}
 use Rattle.sqlite.specs.Order.{Row}
+use Rattle.sqlite.specs.State.{HasCleanDisk, FailsToQuery, IsTooLate}
 use Rattle.sqlite.specs.Store.{Ghosts}
+use Rattle.sqlite.specs.declared.error.Error.{Error}
 use Rattle.sqlite.specs.declared.transaction.Transaction.{Transaction}
 use Rattle.mm_definitions.specs.Bounds.{Profile}
 use Rattle.mm_definitions.specs.Conditions.{Reasons, least}
@@ -12,13 +14,34 @@ use Rattle.mm_definitions.specs.declared.answers.Fault.{Fault}
 use Rattle.mm_definitions.specs.declared.answers.Outcome.{Outcome}
 use Rattle.mm_definitions.specs.declared.commands.Command.{Command}
 use Rattle.mm_store.specs.Shapes.{IsLook, IsChange, IsLent}
-use Rattle.mm_store.specs.Statements.{IsAsked}
+use Rattle.mm_store.specs.Faults.{told_as}
+use Rattle.mm_store.specs.Statements.{AreGiven, IsAsked, IsRun}
 
 -- both are the transaction on one connection
 abbrev pub IsSame : {S : Type 0} → Transaction S → Transaction S → Type 0
 IsSame old new = new.conn.ghost_name ≡ old.conn.ghost_name
 
 module _ {S : Type 0} (g : Ghosts S) (old new : Transaction S) where
+  -- ---- a statement
+  module _ {T : Type 0} (sql : List ℕ) (params : Row) where
+    -- it runs the statement
+    pub record Runs (result : Result T Fault) : Type 0 where
+      pub same : IsSame old new
+      pub run : IsRun (state g old.conn.now) (state g new.conn.now) sql params result
+
+    -- it asks the statement, and answers all rows so
+    pub record AsksAll (rows_of : T → List Row) (result : Result T Fault) : Type 0 where
+      pub same : IsSame old new
+      pub listed : AreGiven (state g old.conn.now) (state g new.conn.now) sql params rows_of result
+
+    -- It asks the statement, and answers so of the first row. A fault is the error with which the statement failed.
+    pub record AsksFirst (Says : T → Option Row → Type 0) (result : Result T Fault) : Type 0 where
+      pub same : IsSame old new
+      pub asked : IsAsked (state g old.conn.now) (state g new.conn.now) sql params Says result
+      pub failed : HasCleanDisk (state g new.conn.now)
+          → IfErr result (λ fault. (e : Error) × (fault ≡ told_as e)
+          × (FailsToQuery sql params (state g old.conn.now) (state g new.conn.now) e ⊎ IsTooLate sql params (state g old.conn.now) (state g new.conn.now) e))
+
   module _ {T : Type 0} where
     -- it asks the statement, and answers so of the first row
     pub record Asks (sql : List ℕ) (params : Row) (Says : T → Option Row → Type 0) (result : Result T Fault) : Type 0 where

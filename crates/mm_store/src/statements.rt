@@ -1,13 +1,11 @@
 //! One statement inside a transaction, with its error told as a fault.
 
-ghost use Rattle.std.specs.Prelude.{◌≡◌, ◌⊎◌, is_some, slice_get, IfOk, IfErr};
+ghost use Rattle.std.specs.Prelude.{◌≡◌, is_some, slice_get, IfOk};
 ghost use Rattle.sqlite.specs.Values.{bound};
-ghost use Rattle.sqlite.specs.Held.{state};
 ghost use Rattle.sqlite.specs.Order.{column};
-ghost use Rattle.sqlite.specs.State.{HasCleanDisk, FailsToQuery, IsTooLate};
 ghost use Rattle.sqlite.specs.declared.types.Value.TheVariants.{Int};
-ghost use Rattle.mm_store.specs.Faults.{told_as};
-ghost use Rattle.mm_store.specs.Statements.{IsRun, IsAsked, AreGiven, GivesText, GivesPair};
+ghost use Rattle.mm_store.specs.Handed.{Asks, AsksAll, AsksFirst, Runs};
+ghost use Rattle.mm_store.specs.Statements.{GivesText, GivesPair};
 
 use crate::faults::fault_of;
 use mm_definitions::answers::Fault;
@@ -20,9 +18,7 @@ pub fn run<S: Alter>(
     sql: &str,
     params: &[ValueRef<'_>],
 ) -> Result<(), Fault>
-    ensures same_reference { tx.new.conn.ghost_name ≡ tx.old.conn.ghost_name }
-    ensures run { IsRun (state S.Store tx.old.conn.now) (state S.Store tx.new.conn.now) sql.now
-        (bound params.now) result }
+    ensures { Runs S.Store tx.old tx.new sql.now (bound params.now) result }
 {
     match tx.execute(sql, params) {
         Ok(_) => Ok(()),
@@ -42,15 +38,8 @@ pub fn first<S: Alter>(
     sql: &str,
     params: &[ValueRef<'_>],
 ) -> Result<Option<Row>, Fault>
-    ensures same_reference { tx.new.conn.ghost_name ≡ tx.old.conn.ghost_name }
-    ensures asked { IsAsked (state S.Store tx.old.conn.now) (state S.Store tx.new.conn.now) sql.now
-        (bound params.now) (λ it first. it ≡ first) result }
-    ensures failed { HasCleanDisk (state S.Store tx.new.conn.now)
-        → IfErr result (λ fault. (e : Error) × (fault ≡ told_as e)
-        × (FailsToQuery sql.now (bound params.now)
-        (state S.Store tx.old.conn.now) (state S.Store tx.new.conn.now) e
-        ⊎ IsTooLate sql.now (bound params.now)
-        (state S.Store tx.old.conn.now) (state S.Store tx.new.conn.now) e)) }
+    ensures { AsksFirst S.Store tx.old tx.new sql.now (bound params.now) (λ it first. it ≡ first)
+        result }
 {
     match tx.query_all(sql, params) {
         Ok(rows) => Ok(first_of(rows)),
@@ -64,9 +53,7 @@ pub fn all<S: Alter>(
     sql: &str,
     params: &[ValueRef<'_>],
 ) -> Result<Vec<Row>, Fault>
-    ensures same_reference { tx.new.conn.ghost_name ≡ tx.old.conn.ghost_name }
-    ensures listed { AreGiven (state S.Store tx.old.conn.now) (state S.Store tx.new.conn.now)
-        sql.now (bound params.now) (λ rows. rows.items) result }
+    ensures { AsksAll S.Store tx.old tx.new sql.now (bound params.now) (λ rows. rows.items) result }
 {
     let shown = tx.query_all(sql, params);
     match shown {
@@ -81,15 +68,8 @@ pub fn exists<S: Alter>(
     sql: &str,
     params: &[ValueRef<'_>],
 ) -> Result<bool, Fault>
-    ensures same_reference { tx.new.conn.ghost_name ≡ tx.old.conn.ghost_name }
-    ensures asked { IsAsked (state S.Store tx.old.conn.now) (state S.Store tx.new.conn.now) sql.now
-        (bound params.now) (λ it first. it ≡ is_some first) result }
-    ensures failed { HasCleanDisk (state S.Store tx.new.conn.now)
-        → IfErr result (λ fault. (e : Error) × (fault ≡ told_as e)
-        × (FailsToQuery sql.now (bound params.now)
-        (state S.Store tx.old.conn.now) (state S.Store tx.new.conn.now) e
-        ⊎ IsTooLate sql.now (bound params.now)
-        (state S.Store tx.old.conn.now) (state S.Store tx.new.conn.now) e)) }
+    ensures { AsksFirst S.Store tx.old tx.new sql.now (bound params.now)
+        (λ it first. it ≡ is_some first) result }
 {
     let row = first(tx, sql, params)?;
     Ok(row.is_some())
@@ -101,9 +81,7 @@ pub fn first_text<S: Alter>(
     sql: &str,
     params: &[ValueRef<'_>],
 ) -> Result<Option<String>, Fault>
-    ensures same_reference { tx.new.conn.ghost_name ≡ tx.old.conn.ghost_name }
-    ensures asked { IsAsked (state S.Store tx.old.conn.now) (state S.Store tx.new.conn.now) sql.now
-        (bound params.now) (λ it first. GivesText it first) result }
+    ensures { Asks S.Store tx.old tx.new sql.now (bound params.now) GivesText result }
 {
     match first(tx, sql, params)? {
         Some(row) => Ok(Some(row.get(0).map_err(fault_of)?)),
@@ -124,9 +102,7 @@ pub fn first_pair<S: Alter>(
     sql: &str,
     params: &[ValueRef<'_>],
 ) -> Result<Option<(i64, i64)>, Fault>
-    ensures same_reference { tx.new.conn.ghost_name ≡ tx.old.conn.ghost_name }
-    ensures asked { IsAsked (state S.Store tx.old.conn.now) (state S.Store tx.new.conn.now) sql.now
-        (bound params.now) (λ it first. GivesPair it first) result }
+    ensures { Asks S.Store tx.old tx.new sql.now (bound params.now) GivesPair result }
 {
     match first(tx, sql, params)? {
         Some(row) => Ok(Some(pair_in(&row).map_err(fault_of)?)),

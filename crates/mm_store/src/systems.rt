@@ -1,10 +1,7 @@
 //! Spatial reference systems.
 
-ghost use Rattle.std.specs.Prelude.{◌≡◌};
 ghost use Rattle.std.specs.FinMap.{contains_key};
-ghost use Rattle.sqlite.specs.Held.{state};
-ghost use Rattle.mm_definitions.specs.Bounds.{Profile};
-ghost use Rattle.mm_store.specs.Shapes.{IsLook};
+ghost use Rattle.mm_store.specs.Handed.{Tells};
 
 use crate::statements::exists;
 use mm_definitions::answers::Fault;
@@ -12,10 +9,7 @@ use sqlite::{Alter, Transaction, params};
 
 /// Whether a system has this number.
 pub fn has_system<S: Alter>(tx: &mut Transaction<'_, S>, id: i64) -> Result<bool, Fault>
-    ensures same_reference { tx.new.conn.ghost_name ≡ tx.old.conn.ghost_name }
-    ensures look { (profile : Profile)
-        → IsLook profile (state S.Store tx.old.conn.now) (state S.Store tx.new.conn.now)
-        (λ p found. found ≡ contains_key p.systems id) result }
+    ensures { Tells S.Store tx.old tx.new (λ p. contains_key p.systems id) result }
 {
     exists(
         tx,

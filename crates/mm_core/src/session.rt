@@ -197,7 +197,7 @@ impl<S: Alter> Session<S> {
     /// A fault ends the run, with the line of the next record's number where it can be written: 90 want of memory, 91
     /// the store, 92 where the session has to be opened again, 96 where the reader fails, and 97, without a line, where
     /// the writer does. A session that has to be opened again still answers the records that spell no command, and tells
-    /// 92 for the first that spells one.
+    /// 92 for the first that spells one; memory grows before that for reading records alone.
     pub fn run_list<R: Read, W: Write>(
         &mut self,
         reader: &mut Io<R>,

@@ -35,10 +35,12 @@ pub record ImportsKit {A F : Type 0} (apply : applies.Ghosts A) (shelf : folders
   -- lost.
   pub kept : OnAnyFolder (apply.is_clean new) (apply.settled old)
       (λ p. IsImportKept name p (apply.settled new) (apply.may_leave new) apply.stands_for result)
-  pub going : IfErr result (λ e. OnAnyFolder (apply.is_clean new) (apply.settled old)
+  -- Where the editor works on after a fault, it is settled for such a package.
+  pub still_kept : IfErr result (λ e. OnAnyFolder (apply.is_clean new) (apply.settled old)
       (λ p. apply.has_failed new ≡ apply.has_failed old → IsStillKept name p (apply.settled new)))
-  -- 96 is the folder's, and the folder tells it; the others are faults of commands and of memory.
+  -- 96 is the folder's, and the folder tells it.
   pub folder : TellsFolder (shelf.has_failed kit) (shelf.has_failed kit_now) result
+  -- The other faults are 90, 91 and 92.
   pub why : IfErr result (λ e. IsKitFault e.fault.0)
 
 -- ---- inside the import
@@ -56,7 +58,7 @@ pub record ImportsEntries {A F : Type 0} (apply : applies.Ghosts A) (shelf : fol
   pub session : ImportTellsReopening (apply.has_failed old) (apply.has_failed new) (new ≡ old) result
   pub kept : OnAnyFolder (apply.is_clean new) (apply.settled old)
       (λ p. IsImportKept name p (apply.settled new) (apply.may_leave new) apply.stands_for result)
-  pub going : IfErr result (λ e. OnAnyFolder (apply.is_clean new) (apply.settled old)
+  pub still_kept : IfErr result (λ e. OnAnyFolder (apply.is_clean new) (apply.settled old)
       (λ p. apply.has_failed new ≡ apply.has_failed old → IsStillKept name p (apply.settled new)))
   -- The edition's state is asked before anything else, so an editor that has failed is answered 92 and nothing else.
   pub ended : apply.has_failed old ≡ true → result ≡ Err (record { fault = record { 0 = 92 }; staged = 0 })
@@ -79,7 +81,7 @@ pub record StagesEntries {A F : Type 0} (apply : applies.Ghosts A) (shelf : fold
   pub fault : IfErr result (λ e. (e.fault.0 ≢ 92) × (e.fault.0 ≡ 96 → apply.has_failed new ≡ false))
   pub kept : OnAnyFolder (apply.is_clean new) (apply.settled old)
       (λ p. (pieces : List Piece) → HasPieces p name pieces → IsImportKept name p (apply.settled new) (apply.may_leave new) apply.stands_for result)
-  pub going : IfErr result (λ e. OnAnyFolder (apply.is_clean new) (apply.settled old)
+  pub still_kept : IfErr result (λ e. OnAnyFolder (apply.is_clean new) (apply.settled old)
       (λ p. (pieces : List Piece) → HasPieces p name pieces → apply.has_failed new ≡ apply.has_failed old → IsStillKept name p (apply.settled new)))
   pub folder : TellsFolder (shelf.has_failed kit) (shelf.has_failed kit_now) result
   pub why : IfErr result (λ e. IsKitFault e.fault.0)

@@ -21,15 +21,18 @@ use Rattle.mm_page.specs.Served.{AsksForPart, IsPageFault, Served, ServedTo, Sto
 -- It reads the head of one request, and writes one response.
 pub record Serves {V R W : Type 0} (view : viewers.Ghosts V) (read : reads.Ghosts R) (write : writes.Ghosts W)
     (old new : V) (input input_now : Io R) (output output_now : Io W) (result : Result (Unit {0}) PageFault) : Type 0 where
-  -- The viewer has failed where it had, reads as the package that it read as, and a crash leaves no more than before.
+  -- The viewer has failed where it had, and nowhere else.
   pub same : view.has_failed new ≡ view.has_failed old
+  -- It reads as the package that it read as, and a crash leaves no more than before.
   pub kept : LeavesPackage (view.store old) (view.store new)
   -- What was written is the page of the package and of all that the input had still to give, however it is cut.
   pub served : OnOk result (ServedTo (IsOn (view.has_failed old) (view.store old) (view.store new))
       (read.remaining (inside input)) (write.contents (inside output)) (write.contents (inside output_now)))
+  -- The output has not failed then.
   pub working : OnOk result (has_failed output_now ≡ has_failed output)
-  -- No more is read than the head needs, unless the input fails.
+  -- No more is read than the head needs.
   pub frugal : OnOk result (ReadsNoMore 8192 (read.remaining (inside input)) (read.remaining (inside input_now)))
+  -- With a fault too, unless it is the input's.
   pub frugal_fault : IfErr result (λ e. (e.0.0 ≡ 96) ⊎ ReadsNoMore 8192 (read.remaining (inside input)) (read.remaining (inside input_now)))
   -- 92 is told only where a part of the package is asked for.
   pub needed : IfErr result (λ e. e.0.0 ≡ 92 → AsksForPart (read.remaining (inside input)))

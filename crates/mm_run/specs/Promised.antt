@@ -23,8 +23,9 @@ pub record RunsList {A R W : Type 0} (apply : applies.Ghosts A) (read : reads.Gh
   -- Without a fault each record is answered, and all that was accepted stands.
   pub done : IfOk result (λ t. OnRun (apply.is_clean new) (apply.settled old) (read.remaining (inside input))
       (λ p bytes. RanAll p moment bytes (shown apply new) (written write.contents output) (written write.contents output_now) t))
-  -- Then the input is at its end, and the output has not failed in the run.
+  -- Then the input is at its end.
   pub end : OnOk result (IsAtEnd (read.remaining (inside input_now)))
+  -- And the output has not failed in the run.
   pub working : OnOk result (has_failed output_now ≡ has_failed output)
   -- Whatever the input and the session are: the lines of some answers were written, all that are counted, and behind them that of the
   -- fault; where the output fails, a beginning of such a text.
@@ -40,8 +41,9 @@ pub record RunsList {A R W : Type 0} (apply : applies.Ghosts A) (read : reads.Gh
   pub near : IfErr result (λ e. IsNear e.tally)
   -- A session that has to be opened again is left as it was; 92 comes only there.
   pub session : RunTellsReopening (apply.has_failed old) (apply.has_failed new) (new ≡ old) result
-  -- 97 is the output's, and told wherever it fails; 96 is the input's; the others are faults of commands and of reading.
+  -- 97 is the output's, and told wherever it fails.
   pub writer : IfErr result (TellsWriter (has_failed output) (has_failed output_now))
+  -- 96 is the input's, which tells it; the others are faults of commands and of reading.
   pub why : IfErr result (λ e. (e.fault.0 ≡ 97) ⊎ IsRunFault e.fault.0 (has_failed input_now))
   -- Whatever the input tells: the package that a crash may leave, and the one that the session goes on with, meet the rules.
   pub kept : OnSound (apply.is_clean new) (apply.settled old) (IsKept (apply.has_failed old) (shown apply new))

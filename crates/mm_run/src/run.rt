@@ -47,7 +47,7 @@ fn run_rows<A: Apply, T: Read + Tells, W: Write>(
             None => return Ok(tally),
         }
     }
-    // No list is as long as this.
+    // No list is as long as this. A fault is told with no `Ok`: the proof answers for each of the two.
     match tell(u64::MAX, Answer::Fault(Fault::MEMORY), writer, tally) {
         Ok(tally) => Ok(tally),
         Err(e) => Err(e),
@@ -103,6 +103,7 @@ fn run_to_end<A: Apply, R: Read, W: Write>(
     };
     match drain(inner) {
         Ok(()) => Ok(tally),
+        // Here too the proof answers for each of the two.
         Err(fault) => match tell(tally.written + 1, Answer::Fault(fault), writer, tally) {
             Ok(tally) => Ok(tally),
             Err(e) => Err(e),
@@ -119,6 +120,9 @@ fn run_to_end<A: Apply, R: Read, W: Write>(
 /// A fault ends the run, with the line of the next record's number where it can be written: 90 want of memory (for a
 /// record, or for the store), 91 the store, 92 where the session has to be opened again, 96 where the reader fails, and
 /// 97, without a line, where the writer does. A command whose line wasn't written whole may be done or not.
+///
+/// 92 comes at the first record that spells a command. Memory grows before that for reading records alone, and 90 there
+/// is of a record.
 pub fn run_list<A: Apply, R: Read, W: Write>(
     alloc: Global,
     session: &mut A,

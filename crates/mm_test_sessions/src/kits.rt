@@ -19,7 +19,7 @@ fn session_of(alloc: Global) -> Option<Session<MemStore>> {
 }
 
 /// Puts a file on a folder.
-fn put(alloc: Global, files: &mut MemoryFolder, name: &str, bytes: &[u8]) -> Option<()> {
+pub(crate) fn put(alloc: Global, files: &mut MemoryFolder, name: &str, bytes: &[u8]) -> Option<()> {
     let mut file = MemoryFile {
         name: String::new(alloc),
         bytes: Vec::new(alloc),
@@ -44,7 +44,8 @@ fn folder_of(alloc: Global, list: &[u8], second: Option<&[u8]>) -> Option<Memory
     Some(files)
 }
 
-fn import_text(alloc: Global, import: Result<Staged, KitFault>) -> Option<String> {
+/// What an import came to, as a text.
+pub(crate) fn import_text(alloc: Global, import: Result<Staged, KitFault>) -> Option<String> {
     match import {
         Ok(Staged::Complete(count)) => format!(in alloc; "complete {count}").ok(),
         Ok(Staged::Refused { piece, number }) => format!(in alloc; "refused {piece} {number}").ok(),

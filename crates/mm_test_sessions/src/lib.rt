@@ -6,6 +6,7 @@
 //! - `sessions`: what is answered, adopted, checked and listed.
 //! - `kits`: imports of folders in memory.
 //! - `pages`: requests and their responses.
+//! - `reopening`: sessions that have to be opened again.
 //! - `streams`: what stands where a reader or a writer failed.
 #![tactic(auto)]
 
@@ -15,6 +16,8 @@ mod fakes;
 mod kits;
 #[cfg(test)]
 mod pages;
+#[cfg(test)]
+mod reopening;
 #[cfg(test)]
 mod runs;
 #[cfg(test)]

@@ -65,7 +65,7 @@ fn serve<R: Read, W: io::Write>(
 }
 
 /// The name of a response.
-fn name_of(response: &[u8]) -> &'static str {
+pub(crate) fn name_of(response: &[u8]) -> &'static str {
     for (name, bytes) in RESPONSES {
         if response == bytes {
             return name;

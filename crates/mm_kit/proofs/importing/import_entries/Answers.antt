@@ -45,13 +45,13 @@ returns-else-records-pieces g c =
           let says : TellsState p c.args.name.now (Some (states.Open c.in-Ok-Some-Open.pieces)) = rw (c.in-Ok-Some-Open.field-0-is, c.in-Ok-Some-Open.field-0-0-is) at (asked.tells before p sound.0 sound.1) in
           let (old, has, size) = open_has p _ _ sound.1 says.0 says.1 in
           c.stage_all.ensures.kept clean p (asked.settled before p sound.0 sound.1, sound.1) old has;
-      going =
+      still_kept =
           IfErr-weaker r _ _ (λ e made clean p sound same.
           let before = c.stage_all.ensures.clean clean in
           let says : TellsState p c.args.name.now (Some (states.Open c.in-Ok-Some-Open.pieces)) = rw (c.in-Ok-Some-Open.field-0-is, c.in-Ok-Some-Open.field-0-0-is) at (asked.tells before p sound.0 sound.1) in
           let (old, has, size) = open_has p _ _ sound.1 says.0 says.1 in
           made clean p (asked.settled before p sound.0 sound.1, sound.1) old has (same ∙ sym asked.same))
-          c.stage_all.ensures.going;
+          c.stage_all.ensures.still_kept;
       ended = never_so _ (works _ _ asked.ended);
       folder = c.stage_all.ensures.folder;
       why = c.stage_all.ensures.why;
@@ -71,7 +71,7 @@ returns-then-records-pieces g c =
       works = tt;
       session = asked-tells _ _ _ (works _ _ asked.ended) asked.same;
       kept = λ clean p sound. (p, (asked.settled clean p sound.0 sound.1, sound.1), keeps_itself c.args.name.now p);
-      going = tt;
+      still_kept = tt;
       ended = never_so _ (works _ _ asked.ended);
       folder = sym (as_before _);
       why = tt;
@@ -89,7 +89,7 @@ returns-in-Ok-Some-Published g c =
       works = tt;
       session = asked-tells _ _ _ (works _ _ asked.ended) asked.same;
       kept = λ clean p sound. (p, (asked.settled clean p sound.0 sound.1, sound.1), keeps_itself c.args.name.now p);
-      going = tt;
+      still_kept = tt;
       ended = never_so _ (works _ _ asked.ended);
       folder = sym (as_before _);
       why = tt;
@@ -107,7 +107,7 @@ returns-in-Ok-None g c =
       works = tt;
       session = asked-tells _ _ _ (works _ _ asked.ended) asked.same;
       kept = λ clean p sound. (p, (asked.settled clean p sound.0 sound.1, sound.1), keeps_itself c.args.name.now p);
-      going = tt;
+      still_kept = tt;
       ended = never_so _ (works _ _ asked.ended);
       folder = sym (as_before _);
       why = tt;
@@ -127,7 +127,7 @@ returns-in-Err g c =
       kept = λ clean p sound db may.
           let settled = asked.settled clean p sound.0 sound.1 in
           (p, g.met.A.Apply.leaves_settled _ p settled db may, sound.1, keeps_itself c.args.name.now p);
-      going = λ clean p sound same. (p, (asked.settled clean p sound.0 sound.1, sound.1), keeps_itself c.args.name.now p);
+      still_kept = λ clean p sound same. (p, (asked.settled clean p sound.0 sound.1, sound.1), keeps_itself c.args.name.now p);
       ended = asked-ended c.in-Err.fault _ _ asked.ended;
       folder = still_told _ _ c.in-Err.fault.0 (asked_fault c.in-Err.fault _ _ asked.ended asked.faults) refl;
       why = desk_fault c.in-Err.fault.0 (asked_fault c.in-Err.fault _ _ asked.ended asked.faults);

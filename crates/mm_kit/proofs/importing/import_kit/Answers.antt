@@ -35,7 +35,7 @@ returns-in-Ok-Entries g c =
           (refl, inr (inr (refl, λ these tells. (c.in-Ok-Entries.entries.items, rw c.in-Ok-Entries.field-0-is at (found.lists these tells)))));
       needed = IfErr-weaker r _ _ (λ e _ is these tells. (c.in-Ok-Entries.entries.items, rw c.in-Ok-Entries.field-0-is at (found.lists these tells))) c.import_entries.ensures.why;
       kept = c.import_entries.ensures.kept;
-      going = c.import_entries.ensures.going;
+      still_kept = c.import_entries.ensures.still_kept;
       folder = c.import_entries.ensures.folder ∙ ap (λ b. b || is_folders r) (found.fails ∙ as_before _);
       why = c.import_entries.ensures.why;
     }
@@ -53,7 +53,7 @@ returns-in-Ok-Refused g c = record {
       where_told _ _ (λ these tells. rw c.in-Ok-Refused.field-0-is at (c.in-Ok-Refused.ensures.lists these tells));
   needed = tt;
   kept = λ clean p sound. (p, sound, keeps_itself c.args.name.now p);
-  going = tt;
+  still_kept = tt;
   folder = c.in-Ok-Refused.ensures.fails;
   why = tt;
 }
@@ -68,7 +68,7 @@ returns-in-Err g c = record {
   ended = λ was. folder-ended c.in-Err.fault c.folder_fault.result _ c.folder_fault.ensures;
   needed = λ is. absurd (folder_no_92 c.in-Err.fault _ c.folder_fault.ensures is);
   kept = λ clean p sound db may. (p, g.met.A.Apply.leaves_settled _ p sound.0 db may, sound.1, keeps_itself c.args.name.now p);
-  going = λ clean p sound same. (p, sound, keeps_itself c.args.name.now p);
+  still_kept = λ clean p sound same. (p, sound, keeps_itself c.args.name.now p);
   folder = told _ _ c.in-Err.fault _ c.folder_fault.ensures c.in-Err.ensures.fails;
   why = kit_fault c.in-Err.fault _ c.folder_fault.ensures;
 }

@@ -95,7 +95,7 @@ returns-in-Ok-Some g c =
           let (q, stands, here) = at.invariant.kept (c.stage_entry.ensures.clean clean) p sound old before in
           let (next, why) = refused clean q stands in
           (q, next, kept _ c.args.edition.now p old q before here);
-      going = tt;
+      still_kept = tt;
       folder = c.in-Ok-Some.ensures.folder ∙ ap (λ b. b || false) at.invariant.folder;
       why = tt;
     }
@@ -138,7 +138,7 @@ returns-in-Err g c =
             | inl works ↦ (q, g.met.A.Apply.leaves_settled _ q works.0.0 db may, stands.1, kept _ c.args.edition.now p old q before here)
             | inr doubt ↦ kept_in_doubt c.args.edition.now p q old stands.1 doubt.1 (length at.yielded) g.A.Apply.stands_for db before less here c.args.at doubt.3 (doubt.4 db may)
           ];
-      going = λ clean p sound old before same.
+      still_kept = λ clean p sound old before same.
           let (q, stands, here) = at.invariant.kept (c.stage_entry.ensures.clean clean) p sound old before in
           elim (stopped clean q stands) [
             | inl works ↦ (q, works.0, kept _ c.args.edition.now p old q before here)
@@ -173,7 +173,7 @@ returns g c =
       kept = λ clean p sound old before.
           let (q, stands, here) = at.invariant.kept clean p sound old before in
           (q, stands, kept _ c.args.edition.now p old q before here);
-      going = tt;
+      still_kept = tt;
       folder = at.invariant.folder ∙ sym (as_before _);
       why = tt;
     }

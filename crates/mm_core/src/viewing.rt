@@ -17,14 +17,8 @@ impl<S: Alter> Viewer for Session<S> {
 
     ghost has_failed = { λ s. parts.must_reopen s };
 
-    fn tile(
-        &mut self,
-        table: &Name,
-        zoom: u8,
-        column: u32,
-        row: u32,
-    ) -> Result<Option<Vec<u8>>, Fault> {
-        self.tile(table, TilePlace { zoom, column, row })
+    fn tile(&mut self, table: &Name, place: TilePlace) -> Result<Option<Vec<u8>>, Fault> {
+        self.tile(table, place)
     }
 
     fn media(&mut self, table: &Name, id: i64) -> Result<Option<Media>, Fault> {

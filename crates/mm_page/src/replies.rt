@@ -8,6 +8,7 @@ ghost use Rattle.mm_page.specs.Promised.{Replies};
 use crate::lists::{mates_json, tables_json};
 use mm_definitions::answers::Fault;
 use mm_definitions::names::Name;
+use mm_definitions::places::TilePlace;
 use mm_reads::Viewer;
 use mm_routes::{Wanted, found, not_found};
 use std::alloc::{AllocError, Global};
@@ -28,14 +29,12 @@ fn tile_reply<V: Viewer>(
     alloc: Global,
     viewer: &mut V,
     table: &Name,
-    zoom: u8,
-    column: u32,
-    row: u32,
+    place: TilePlace,
 ) -> Result<Vec<u8>, Fault>
     ensures { Replies V.Viewer viewer.old viewer.new result
-        (page.Tile table.now (pos zoom) (pos column) (pos row)) }
+        (page.Tile table.now (pos place.zoom) (pos place.column) (pos place.row)) }
 {
-    match viewer.tile(table, zoom, column, row)? {
+    match viewer.tile(table, place)? {
         Some(bytes) => printed(found(alloc, "application/octet-stream", &bytes)),
         None => printed(not_found(alloc)),
     }
@@ -94,7 +93,7 @@ pub fn reply<V: Viewer>(alloc: Global, viewer: &mut V, wanted: Wanted) -> Result
             zoom,
             column,
             row,
-        } => tile_reply(alloc, viewer, &table, zoom, column, row),
+        } => tile_reply(alloc, viewer, &table, TilePlace { zoom, column, row }),
         Wanted::Media { table, id } => media_reply(alloc, viewer, &table, id),
         Wanted::Related { table, id } => related_reply(alloc, viewer, &table, id),
         Wanted::Contents => contents_reply(alloc, viewer),

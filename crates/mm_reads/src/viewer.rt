@@ -1,10 +1,10 @@
 //! What the parts of a package that are shown are asked of.
 
-ghost use Rattle.std.specs.Prelude.{◌≡◌, Bool, pos, Err, IfErr, map, option_map, true};
+ghost use Rattle.std.specs.Prelude.{◌≡◌, Bool, Err, IfErr, map, option_map, true};
 ghost use Rattle.std.specs.FinMap.{get};
 ghost use Rattle.sqlite.specs.State.{State};
 ghost use Rattle.mm_definitions.specs.Keys.{item};
-ghost use Rattle.mm_definitions.specs.Keys as keys;
+ghost use Rattle.mm_definitions.specs.Places.{tile_at};
 ghost use Rattle.mm_reads.specs.Told.{shown_medium};
 ghost use Rattle.mm_reads.specs.Listing as listing;
 ghost use Rattle.mm_reads.specs.Related.{mate_told};
@@ -14,6 +14,7 @@ ghost use Rattle.mm_reads.specs.Viewers.{ShowsPart, IsOn, IsViewFault, LeavesPac
 use mm_definitions::answers::Fault;
 use mm_definitions::entries::{Entry, Media, Related};
 use mm_definitions::names::Name;
+use mm_definitions::places::TilePlace;
 
 /// A thing that tells the parts of a package that are shown, as a session does.
 pub trait Viewer {
@@ -24,19 +25,12 @@ pub trait Viewer {
     ghost has_failed: { Self → Bool };
 
     /// The bytes of a tile, or None where none stands there.
-    fn tile(
-        &mut self,
-        table: &Name,
-        zoom: u8,
-        column: u32,
-        row: u32,
-    ) -> Result<Option<Vec<u8>>, Fault>
+    fn tile(&mut self, table: &Name, place: TilePlace) -> Result<Option<Vec<u8>>, Fault>
         ensures same { Self.has_failed self.new ≡ Self.has_failed self.old }
         ensures kept { LeavesPackage (Self.store self.old) (Self.store self.new) }
         ensures value { ShowsPart
             (IsOn (Self.has_failed self.old) (Self.store self.old) (Self.store self.new))
-            (option_map (λ v. v.items))
-            (λ p. get p.tiles (keys.tile table.now (pos zoom) (pos column) (pos row))) result }
+            (option_map (λ v. v.items)) (λ p. get p.tiles (tile_at table.now place)) result }
         ensures ended { Self.has_failed self.old ≡ true → result ≡ Err (record { 0 = 92 }) }
         ensures fault { IfErr result (IsViewFault (Self.has_failed self.old)) };
 

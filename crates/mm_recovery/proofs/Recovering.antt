@@ -41,10 +41,12 @@ none_is_declined p opens.BadProfile m it other = it
 none_is_declined p opens.BadBlobs m it other = it
 
 -- a connection that is declined is as it was opened
-kept_on : (mid new : State) (why : Open) → IsFound mid → IsNotAdopted mid new why → HasCleanDisk new → IsKeptOn new mid.committed.trees
+kept_on : (mid new : State) (why : Open) → IsFound mid → IsNotAdopted mid new why → HasCleanDisk new → IsKeptOn new mid.committed.trees why
 kept_on mid new why found declined clean = record {
   only = λ other may. elim (declined.survives.crash clean other may) [ inl before ↦ found.only other before | inr none ↦ absurd none ];
   settled = λ profile p stands. declined.settled clean profile p (found.settled profile p stands);
+  declines = λ p stands. declined.declines clean p (found.settled current p stands);
+  none = λ empty. declined.none clean (found.blank empty);
 }
 
 -- ---- files that were lost
@@ -127,6 +129,6 @@ module _ (old mid new : State) (finds : FindsCommitted old mid) where
         mode = idle;
         clean = λ clean. finds.clean (early clean);
         was_open = λ clean. finds.was_open (early clean);
-        found = λ clean. subst (λ db. IsKeptOn new db) (finds.found (early clean)) (kept_on mid new why (finds.is (early clean)) declined clean);
+        found = λ clean. subst (λ db. IsKeptOn new db why) (finds.found (early clean)) (kept_on mid new why (finds.is (early clean)) declined clean);
         faults = refused_for why declined;
       }

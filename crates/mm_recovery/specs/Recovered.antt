@@ -14,6 +14,8 @@ use Rattle.mm_definitions.specs.declared.answers.Open.{Open}
 use Rattle.mm_definitions.specs.declared.answers.Open.TheVariants as opens
 use Rattle.mm_store.specs.Faults.{IsStoreFault}
 use Rattle.mm_store.specs.Stands.{StandsFor, IsSettled}
+use Rattle.mm_opening.specs.Opening.{HasNoTable}
+use Rattle.mm_core.specs.Adopted.{Declines, DeclinesNone}
 use Rattle.mm_core.specs.Applied.{StandsForCurrent}
 use Rattle.mm_recovery.specs.Found.{AreLeftBy, AreClosed}
 use Rattle.mm_recovery.specs.Stops.{IsNotOpened, LeadsBack, LeadsTo, TellsNoLie, fault_in, rest_of}
@@ -34,10 +36,13 @@ IsFault (opens.Fault fault) = IsStoreFault fault
 IsFault _ = ⊥
 
 -- What comes back of a connection that found this database, and is declined: no other may be left, and it is settled for each package,
--- in whatever profile, that the database stands for.
-pub record IsKeptOn (s : State) (db : Trees) : Type 0 where
+-- in whatever profile, that the database stands for. It is told why as `adopt` tells it: a package of this profile breaks the rule
+-- that is told, or it is a fault; and without a table there is no profile, or it is a fault.
+pub record IsKeptOn (s : State) (db : Trees) (why : Open) : Type 0 where
   pub only : (other : Trees) → s.may_leave other → other ≡ db
   pub settled : (profile : Profile) (p : Package) → StandsFor profile.version db p → IsSettled profile s p
+  pub declines : (p : Package) → StandsForCurrent db p → Declines p why
+  pub none : HasNoTable db → DeclinesNone s why
 
 -- ---- files that were lost
 
@@ -51,7 +56,7 @@ pub record IsRecovered (old new : State) : Type 0 where
 pub record IsDeclined (old new : State) (why : Open) : Type 0 where
   pub mode : new.in_transaction ≡ false
   pub clean : HasCleanDisk new → HasCleanDisk old
-  pub found : HasCleanDisk new → ∥ ((db : Trees) × old.may_leave db × IsKeptOn new db) ∥₁
+  pub found : HasCleanDisk new → ∥ ((db : Trees) × old.may_leave db × IsKeptOn new db why) ∥₁
   pub faults : HasCleanDisk new → LeavesPackages old → IsFault why
 
 module _ {D : Type 0} {g : Ghosts D} where
@@ -81,7 +86,7 @@ pub record IsRedeclined (old new : State) (why : Open) : Type 0 where
   pub mode : new.in_transaction ≡ false
   pub clean : HasCleanDisk new → HasCleanDisk old
   pub was_open : HasCleanDisk new → IsTrue old.is_open
-  pub found : HasCleanDisk new → IsKeptOn new old.committed.trees
+  pub found : HasCleanDisk new → IsKeptOn new old.committed.trees why
   pub faults : HasCleanDisk new → (p : Package) → StandsForCurrent old.committed.trees p → Meets current p → IsFault why
 
 module _ {D : Type 0} {g : Ghosts D} where

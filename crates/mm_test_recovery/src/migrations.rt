@@ -1,10 +1,9 @@
 //! A package of profile 1 on disks in memory that stop while it is migrated.
 
-use crate::recovery::files_of;
+use crate::recovery::{after_crash, files_of};
 use mm_core::Session;
-use mm_recovery::open_after_crash;
 use mm_test_packages::{FINER, PYRAMID, answers, create, open};
-use sqlite::{Alter, Connection, FileStore, Options};
+use sqlite::{Alter, Connection, FileStore};
 use sqlite_disk::{Crash, Fuse, Memory};
 use std::alloc::Global;
 use std::fmt::Write;
@@ -76,7 +75,7 @@ fn found_after<D: Crash + Drop>(
     conn: Connection<FileStore<D>>,
 ) -> Option<(bool, String, String)> {
     let (ended, conn) = migrated(alloc, conn)?;
-    let mut conn = open_after_crash(alloc, conn, Options::new(7)).ok()?;
+    let mut conn = after_crash(alloc, conn)?;
     let found = numbers_in(alloc, &mut conn)?;
     let (true, mut conn) = migrated(alloc, conn)? else {
         return None;

@@ -6,8 +6,8 @@ use mm_definitions::names::Name;
 use mm_definitions::places::TilePlace;
 use mm_definitions::streams::Io;
 use mm_recovery::{
-    close_and_adopt, create_again, create_and_recover, create_on, create_or_adopt,
-    open_after_crash, run_and_recover,
+    NotBegun, adopt_left, close_and_adopt, crash_files, create_again, create_on, let_go, live,
+    open_files, run_and_recover,
 };
 use mm_test_packages::{FINER, answers, create, open, run, text_of};
 use sqlite::{Alter, Connection, FileStore, Files, Options};
@@ -28,6 +28,17 @@ pub(crate) fn files_of(alloc: Global, calls: u64) -> Files<Fuse<Memory>> {
     Files {
         log: Fuse::new(Memory::new(alloc), calls),
         db: Fuse::new(Memory::new(alloc), u64::MAX),
+    }
+}
+
+/// A connection to what a crash leaves of a connection's files.
+pub(crate) fn after_crash<D: Crash + Drop>(
+    alloc: Global,
+    conn: Connection<FileStore<D>>,
+) -> Option<Connection<FileStore<D>>> {
+    match open_files(alloc, crash_files(let_go(conn)), Options::new(7)) {
+        Ok(conn) => Some(conn),
+        Err(_) => None,
     }
 }
 
@@ -201,16 +212,23 @@ fn standing<S: Alter + Drop>(alloc: Global, conn: Connection<S>) -> &'static str
     }
 }
 
-/// Whether the making of a package ended on a log that takes so many calls, and what is found after a crash; None where no file is opened.
-fn made_within(alloc: Global, calls: u64) -> Option<(bool, &'static str)> {
-    let conn = open(alloc, files_of(alloc, calls))?;
+/// Whether the making of a package ended, and the connection.
+fn making<S: Alter + Drop>(alloc: Global, conn: Connection<S>) -> Option<(bool, Connection<S>)> {
     if !conn.is_autocommit() {
         return None;
     }
-    let (made, left) = create_and_recover(alloc, conn, Options::new(7));
-    match left {
-        Ok(conn) => Some((made.is_ok(), standing(alloc, conn))),
-        Err(_) => Some((made.is_ok(), "no file")),
+    match Session::create(alloc, conn) {
+        Ok(session) => Some((true, session.close())),
+        Err((conn, _)) => Some((false, conn)),
+    }
+}
+
+/// The same on a log that takes so many calls, and what is found after a crash; None where no file is opened.
+fn made_within(alloc: Global, calls: u64) -> Option<(bool, &'static str)> {
+    let (made, conn) = making(alloc, open(alloc, files_of(alloc, calls))?)?;
+    match after_crash(alloc, conn) {
+        Some(conn) => Some((made, standing(alloc, conn))),
+        None => Some((made, "no file")),
     }
 }
 
@@ -241,26 +259,20 @@ fn makes_a_package_or_nothing(rt: HostRuntime) -> Result<(), Fail> {
     Ok(())
 }
 
-/// What a second making gives, after a crash of the files of the first.
-fn made_after<D: Crash + Drop>(alloc: Global, conn: Connection<FileStore<D>>) -> &'static str {
-    match open_after_crash(alloc, conn, Options::new(7)) {
-        Ok(left) => match create_or_adopt(alloc, left) {
-            Ok(_) => "made again",
-            Err(_) => "neither",
-        },
-        Err(_) => "no file",
-    }
+/// Whether a second making gives a package, after a crash of the files of the first.
+fn is_made_after<D: Crash + Drop>(alloc: Global, files: Files<D>) -> bool {
+    create_again(alloc, crash_files(files), Options::new(7)).is_ok()
 }
 
-/// What a making on new files gives.
-fn made_on<D: Crash + Drop>(alloc: Global, files: Files<D>) -> &'static str {
+/// What a making on new files gives, and a second one where it was stopped.
+fn made_on<D: Crash + Drop>(alloc: Global, files: Files<D>) -> (&'static str, bool) {
     if !files.may_be_used() {
-        return "no files";
+        return ("no files", false);
     }
     match create_on(alloc, files, Options::new(7)) {
-        Ok(_) => "made",
-        Err((Some(conn), _)) => made_after(alloc, conn),
-        Err((None, _)) => "no files",
+        Ok(_) => ("made", true),
+        Err(NotBegun::Declined(conn, _)) => ("not made", is_made_after(alloc, let_go(conn))),
+        Err(NotBegun::Unopened(stop)) => ("not opened", is_made_after(alloc, stop.into_files())),
     }
 }
 
@@ -268,8 +280,8 @@ fn made_on<D: Crash + Drop>(alloc: Global, files: Files<D>) -> &'static str {
 fn second_makings(alloc: Global) -> Option<String> {
     let mut text = String::new(alloc);
     for calls in 0..2000u64 {
-        let told = made_on(alloc, files_of(alloc, calls));
-        let line = format!(in alloc; "{told}\n").ok()?;
+        let (told, made) = made_on(alloc, files_of(alloc, calls));
+        let line = format!(in alloc; "{told}, then made: {made}\n").ok()?;
         if !text.ends_with(line.as_str()) {
             text.push_str(line.as_str()).ok()?;
         }
@@ -283,17 +295,17 @@ fn second_makings(alloc: Global) -> Option<String> {
 #[test]
 fn makes_again_what_was_stopped(rt: HostRuntime) -> Result<(), Fail> {
     let told = second_makings(rt.alloc()).expect(&rt, "a package that is made");
-    assert_eq!(rt; told.as_str(), "no files\nmade again\nmade\n");
+    assert_eq!(rt;
+        told.as_str(),
+        "not opened, then made: true\nnot made, then made: true\nmade, then made: true\n"
+    );
     Ok(())
 }
 
-/// Whether a package is made on files, lost and made again.
+/// Whether a package that is made on files, and lost, is found where it is made again.
 fn made_twice<D: Crash + Drop>(alloc: Global, files: Files<D>) -> Option<bool> {
-    let conn = open(alloc, files)?;
-    if !conn.is_autocommit() {
-        return None;
-    }
-    Some(create_again(alloc, conn, Options::new(7)).is_ok())
+    let session = create(alloc, open(alloc, files)?)?;
+    Some(is_made_after(alloc, let_go(session.close())))
 }
 
 #[test]
@@ -317,5 +329,94 @@ fn found_closed(alloc: Global) -> Option<(usize, usize)> {
 fn adopts_what_was_closed(rt: HostRuntime) -> Result<(), Fail> {
     let found = found_closed(rt.alloc()).expect(&rt, "a package");
     assert_eq!(rt; found, stands_after(10));
+    Ok(())
+}
+
+/// The files of a package with one table, which have crashed; the log takes so many calls.
+fn lost(alloc: Global, calls: u64) -> Option<Files<Fuse<Fuse<Memory>>>> {
+    let mut session = create(alloc, open(alloc, files_of(alloc, u64::MAX))?)?;
+    answers(alloc, &mut session, b"table,spots,attributes,Spots\n")?;
+    let Files { log, db } = crash_files(let_go(session.close()));
+    Some(Files {
+        log: Fuse::new(log, calls),
+        db: Fuse::new(db, u64::MAX),
+    })
+}
+
+/// How many tables there are in a package.
+fn tables_in<S: Alter + Drop>(session: Session<S>) -> Option<usize> {
+    let mut session = session;
+    Some(session.contents().ok()?.len())
+}
+
+/// What a recovery from files comes to, and how many tables are found in the end: where it is stopped, the files that it leaves
+/// crash, and the package is adopted from them.
+fn gone_on<D: Crash + Drop>(alloc: Global, files: Files<D>) -> Option<(&'static str, usize)> {
+    if !files.may_be_used() {
+        return None;
+    }
+    let (told, files) = match adopt_left(alloc, files, Options::new(7)) {
+        Ok(again) => return Some(("adopted", tables_in(again)?)),
+        Err(NotBegun::Declined(conn, _)) => ("declined", let_go(conn)),
+        Err(NotBegun::Unopened(stop)) => ("not opened", stop.into_files()),
+    };
+    match adopt_left(alloc, crash_files(files), Options::new(7)) {
+        Ok(again) => Some((told, tables_in(again)?)),
+        Err(_) => None,
+    }
+}
+
+/// What recoveries come to on logs that take more and more calls, each new one on a line, up to the first that meets no stop.
+fn recoveries(alloc: Global) -> Option<String> {
+    let mut text = String::new(alloc);
+    for calls in 0..2000u64 {
+        let (told, found) = gone_on(alloc, lost(alloc, calls)?)?;
+        let line = format!(in alloc; "{told}, tables: {found}\n").ok()?;
+        if !text.ends_with(line.as_str()) {
+            text.push_str(line.as_str()).ok()?;
+        }
+        if told == "adopted" {
+            return Some(text);
+        }
+    }
+    None
+}
+
+#[test]
+fn goes_on_where_a_recovery_stopped(rt: HostRuntime) -> Result<(), Fail> {
+    let told = recoveries(rt.alloc()).expect(&rt, "a recovery that ends");
+    assert_eq!(rt;
+        told.as_str(),
+        "not opened, tables: 1\nadopted, tables: 1\n"
+    );
+    Ok(())
+}
+
+/// What two lists of this record answer, with a close between them, on a package that is made on new files.
+fn told_in_two(alloc: Global, record: &[u8]) -> Option<String> {
+    let files = files_of(alloc, u64::MAX);
+    if !files.may_be_used() {
+        return None;
+    }
+    let mut first = Io::new(record);
+    let mut second = Io::new(record);
+    let mut writer = Io::new(Vec::new(alloc));
+    let at = Moment::new(0)?;
+    live(
+        alloc,
+        files,
+        &mut first,
+        &mut second,
+        &mut writer,
+        at,
+        Options::new(7),
+    )?;
+    text_of(alloc, writer.into_inner().as_slice())
+}
+
+#[test]
+fn lives_through_a_close(rt: HostRuntime) -> Result<(), Fail> {
+    let told = told_in_two(rt.alloc(), b"srs,5001,A,NONE,1,undefined,\n").expect(&rt, "two lists");
+    assert_eq!(rt; told.as_str(), "1 ok\n1 refused 20\n");
     Ok(())
 }

@@ -6,6 +6,7 @@ use mm_core::Session;
 use mm_definitions::answers::Fault;
 use mm_definitions::moments::Moment;
 use mm_definitions::names::Name;
+use mm_definitions::places::TilePlace;
 use mm_definitions::streams::Io;
 use mm_kit::{MemoryFolder, import_kit};
 use mm_page::serve_one;
@@ -62,11 +63,18 @@ fn page_text<S: Alter>(alloc: Global, session: &mut Session<S>, request: &str) -
     format!(in alloc; "{fault} {}", name_of(written.as_slice())).ok()
 }
 
+/// Column 1, row 1 at zoom 1.
+const A_TILE: TilePlace = TilePlace {
+    zoom: 1,
+    column: 1,
+    row: 1,
+};
+
 /// The fault of a read.
 fn read_fault<S: Alter>(alloc: Global, session: &mut Session<S>, read: &str) -> Option<Fault> {
     let table = Name::read("base")?;
     match read {
-        "tile" => session.tile(&table, 1, 1, 1).err(),
+        "tile" => session.tile(&table, A_TILE).err(),
         "media" => session.media(&table, 3).err(),
         "row" => session.row(&table, 7).err(),
         "contents" => session.contents().err(),
@@ -87,7 +95,7 @@ fn told_line<S: Alter>(alloc: Global, session: &mut Session<S>, line: &str) -> O
         "page" => page_text(alloc, session, rest),
         "read" => {
             let fault = read_fault(alloc, session, rest)?;
-            format!(in alloc; "fault {}", fault.0).ok()
+            format!(in alloc; "fault {}", fault.number()).ok()
         }
         _ => None,
     }

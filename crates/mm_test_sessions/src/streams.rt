@@ -5,7 +5,7 @@ use crate::fakes::{Short, short_writer, torn_reader};
 use mm_definitions::answers::Tally;
 use mm_definitions::moments::Moment;
 use mm_definitions::streams::Io;
-use mm_recovery::open_after_close;
+use mm_recovery::{close_files, open_files};
 use mm_subcommands::{
     DONE, FAULT, Stop, make_package, run_package, tell_init, tell_stop, tell_text,
 };
@@ -65,7 +65,10 @@ fn reopened<D: Disk + Drop>(
     alloc: Global,
     conn: Connection<FileStore<D>>,
 ) -> Option<Connection<FileStore<D>>> {
-    open_after_close(alloc, conn, Options::new(7)).ok()
+    match close_files(conn) {
+        Ok(files) => open_files(alloc, files, Options::new(7)).ok(),
+        Err(_) => None,
+    }
 }
 
 /// What a run of the first record answers.

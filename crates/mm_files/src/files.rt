@@ -1,14 +1,22 @@
 //! The file and its journal, opened and closed.
 
-ghost use Rattle.std.specs.Prelude.{◌≡◌, false, IsTrue, IfOk, IfErr, OnErr};
-ghost use Rattle.sqlite_std_file.specs.File.{file_is_usable};
+ghost use Rattle.std.specs.Prelude.{◌≡◌, true, false, codes, nat_eq, None, IsTrue, IsErr, IfOk, IfErr, OnErr};
+ghost use Rattle.std.specs.List.{starts_with};
+ghost use Rattle.sqlite_std_file.specs.File.{IsFresh, file_is_usable};
 ghost use Rattle.mm_definitions.specs.Streams.{written};
-ghost use Rattle.mm_files.specs.Files.{IsStoreFault, IsUntold};
+ghost use Rattle.sqlite.specs.Files.{file_state, image_of};
+ghost use Rattle.sqlite.specs.State.{HasCleanDisk};
+ghost use Rattle.sqlite.specs.Start.{FindsIn};
+ghost use Rattle.sqlite.specs.WalFiles.{image_at};
+ghost use Rattle.sqlite.specs.WalReads.{AreClean, OnlyReads};
+ghost use Rattle.mm_files.specs.Files.{IsBare, IsStoreFault, IsUntold, IsUntoldFor, IsWhyNot, TellsBare};
+ghost use Rattle.mm_files.specs.Worked.{IsJustOpened, IsUnworked, KeepsLeft, TellsBytes, WorkedFrom, WorkedOn};
 
+use crate::left::{Left, NotDone, Opened};
 use crate::works::Works;
 use mm_definitions::answers::Fault;
 use mm_definitions::streams::Io;
-use sqlite::{Connection, Error, ErrorCode, FileFrom, FileStore, Files, Options, Start, Wary};
+use sqlite::{Connection, Error, ErrorCode, FileFrom, FileStore, Files, Leftover, Options, Start};
 use sqlite_disk::Disk;
 use sqlite_std_file::OpenError;
 use std::alloc::Global;
@@ -25,14 +33,14 @@ const FEWEST_PAGES: u64 = 512;
 /// How many pages are kept at the most, which is as many as the store would.
 const MOST_PAGES: u64 = 2000;
 
-/// How many pages of a file of this length are kept in memory.
-fn pages_for(length: u64) -> usize {
-    (length / PAGE).clamp(FEWEST_PAGES, MOST_PAGES) as usize
+/// How many pages of a file of this length are kept in memory, or of one that is to be new.
+fn pages_for(length: Option<u64>) -> usize {
+    (length.unwrap_or(0) / PAGE).clamp(FEWEST_PAGES, MOST_PAGES) as usize
 }
 
-/// How a file of this length is opened: as the store opens files, but for the pages that it keeps.
-fn options_for(rt: &HostRuntime, length: u64) -> Result<Options, Fault>
-    ensures { IfErr result IsStoreFault }
+/// How a file of this length is opened: as the store opens files, but for the pages that it keeps. 91 where the system gives no seed.
+fn options_for(rt: &HostRuntime, length: Option<u64>) -> Result<Options, Fault>
+    ensures { IfErr result (λ fault. fault.0 ≡ 91) }
 {
     let seed = match RandomState::new(rt) {
         Ok(state) => state.hash_one(&0u8),
@@ -44,16 +52,25 @@ fn options_for(rt: &HostRuntime, length: u64) -> Result<Options, Fault>
 }
 
 /// The file at a path with its journal. What SQLite means by another thing than a file is refused.
-fn files_at<S: Start>(rt: &HostRuntime, path: &str, start: S) -> Result<Files<FileFrom<S>>, Fault>
-    ensures log { IfOk result (λ files. IsTrue (file_is_usable S.Start files.log)) }
-    ensures db { IfOk result (λ files. IsTrue (file_is_usable S.Start files.db)) }
+fn files_at<'a, S: Start>(
+    rt: &HostRuntime,
+    path: &'a str,
+    start: S,
+) -> Result<Opened<'a, FileFrom<S>>, Fault>
+    ensures log { IfOk result (λ opened. IsTrue (file_is_usable S.Start opened.files.log)) }
+    ensures db { IfOk result (λ opened. IsTrue (file_is_usable S.Start opened.files.db)) }
+    ensures fresh { IfOk result
+        (λ opened. IsFresh true opened.files.log × IsFresh false opened.files.db) }
+    ensures path { IfOk result (λ opened. opened.path.now ≡ path.now) }
+    ensures memory { path.now ≡ codes ":memory:" → IsErr result }
+    ensures uri { IsTrue (starts_with nat_eq path.now (codes "file:")) → IsErr result }
     ensures fault { IfErr result IsStoreFault }
 {
-    if path == ":memory:" || path.starts_with("file:") {
+    if path == ":memory:" || path.as_bytes().starts_with(b"file:") {
         return Err(Fault::STORE);
     }
     match sqlite_std_file::open(rt, path, start) {
-        Ok(files) => Ok(files),
+        Ok(files) => Ok(Opened { path, files }),
         Err(OpenError::OutOfMemory) => Err(Fault::MEMORY),
         Err(OpenError::Io(error)) if error.kind() == io::ErrorKind::OutOfMemory => Err(
             Fault::MEMORY,
@@ -62,91 +79,194 @@ fn files_at<S: Start>(rt: &HostRuntime, path: &str, start: S) -> Result<Files<Fi
     }
 }
 
-fn open_files<S: Start>(
-    rt: &HostRuntime,
-    path: &str,
-    length: u64,
-    start: S,
-) -> Result<Connection<FileStore<FileFrom<S>>>, Fault>
-    ensures mode { IfOk result (λ c. c.in_transaction ≡ false) }
+/// Whether neither file holds a byte.
+fn are_bare<D: Disk>(files: &mut Files<D>) -> Result<bool, Fault>
+    requires log { IsTrue (D.Disk.is_usable files.old.log) }
+    requires db { IsTrue (D.Disk.is_usable files.old.db) }
+    ensures log { OnlyReads D.Disk files.old.log files.new.log }
+    ensures db { OnlyReads D.Disk files.old.db files.new.db }
+    ensures bare { IfOk result (λ bare. AreClean D.Disk files.new.log files.new.db
+        → TellsBare (image_of D.Disk files.old) bare) }
     ensures fault { IfErr result IsStoreFault }
 {
-    let files = files_at(rt, path, start)?;
-    let options = options_for(rt, length)?;
+    let Ok(log) = files.log.len() else {
+        return Err(Fault::STORE);
+    };
+    let Ok(db) = files.db.len() else {
+        return Err(Fault::STORE);
+    };
+    Ok(log == 0 && db == 0)
+}
+
+/// The files as they are, where they may be worked on: of those that are to be new, which are given no length, neither holds a byte.
+fn files_to_use<D: Disk + Drop>(
+    mut files: Files<D>,
+    length: Option<u64>,
+) -> Result<Files<D>, (Files<D>, NotDone)>
+    requires log { IsTrue (D.Disk.is_usable files.log) }
+    requires db { IsTrue (D.Disk.is_usable files.db) }
+    ensures log { IfOk result (λ now. OnlyReads D.Disk files.log now.log) }
+    ensures db { IfOk result (λ now. OnlyReads D.Disk files.db now.db) }
+    ensures bare { IfOk result (λ now. length ≡ None → AreClean D.Disk now.log now.db
+        → IsBare (image_of D.Disk files)) }
+    ensures log_left { IfErr result (λ e. OnlyReads D.Disk files.log e.0.log) }
+    ensures db_left { IfErr result (λ e. OnlyReads D.Disk files.db e.0.db) }
+    ensures bytes { IfErr result (λ e. e.1 ≡ NotDone.NotEmpty → AreClean D.Disk e.0.log e.0.db
+        → IsBare (image_of D.Disk files) → ⊥) }
+    ensures why { IfErr result (λ e. IsWhyNot length e.1) }
+{
+    if length.is_some() {
+        return Ok(files);
+    }
+    match are_bare(&mut files) {
+        Ok(true) => Ok(files),
+        Ok(false) => Err((files, NotDone::NotEmpty)),
+        Err(fault) => Err((files, NotDone::Fault(fault))),
+    }
+}
+
+/// A connection to the file at a path, and the path that was opened.
+fn open_files<'a, S: Start>(
+    rt: &HostRuntime,
+    path: &'a str,
+    length: Option<u64>,
+    start: S,
+) -> Result<(&'a str, Connection<FileStore<FileFrom<S>>>), (Left<'a, FileFrom<S>>, NotDone)>
+    ensures mode { IfOk result (λ r. r.1.in_transaction ≡ false) }
+    ensures found { IfOk result
+        (λ r. HasCleanDisk (file_state r.1) → FindsIn (image_at S.Start) (file_state r.1)) }
+    ensures just { IfOk result
+        (λ r. HasCleanDisk (file_state r.1) → IsJustOpened (file_state r.1)) }
+    ensures bare { IfOk result (λ r. length ≡ None → HasCleanDisk (file_state r.1)
+        → IsBare (image_at S.Start)) }
+    ensures path { IfOk result (λ r. r.0.now ≡ path.now) }
+    ensures memory { path.now ≡ codes ":memory:" → IsErr result }
+    ensures uri { IsTrue (starts_with nat_eq path.now (codes "file:")) → IsErr result }
+    ensures left { IfErr result
+        (λ e. IsUnworked ⟦<FileFrom<S> as Disk>⟧ (image_at S.Start) path.now e.0) }
+    ensures bytes { IfErr result
+        (λ e. TellsBytes ⟦<FileFrom<S> as Disk>⟧ (image_at S.Start) e.1 e.0) }
+    ensures why { IfErr result (λ e. IsWhyNot length e.1) }
+{
+    let options = match options_for(rt, length) {
+        Ok(options) => options,
+        Err(fault) => return Err((Left::Unopened, NotDone::Fault(fault))),
+    };
+    let Opened { path, files } = match files_at(rt, path, start) {
+        Ok(opened) => opened,
+        Err(fault) => return Err((Left::Unopened, NotDone::Fault(fault))),
+    };
+    let files = match files_to_use(files, length) {
+        Ok(files) => files,
+        Err((files, why)) => return Err((Left::Refused(Leftover::Files(files)), why)),
+    };
     match Connection::open_files(rt.alloc(), files, options) {
         Ok(mut conn) => {
             conn.set_clock(rt);
-            Ok(conn)
+            Ok((path, conn))
         }
-        Err((Error::SqliteFailure(ErrorCode::OutOfMemory), _)) => Err(Fault::MEMORY),
-        Err(_) => Err(Fault::STORE),
+        Err((error, rest)) => Err((Left::Refused(rest), NotDone::Fault(fault_of(error)))),
     }
 }
 
-/// Closes the files, which copies the journal back.
-fn close_files<D: Disk + Drop>(conn: Connection<FileStore<D>>) -> Result<(), Fault>
-    ensures { IfErr result IsStoreFault }
+/// 90 where memory was refused, and 91 for every other error of the store.
+fn fault_of(error: Error) -> Fault
+    ensures { IsStoreFault result }
 {
-    match conn.close() {
-        Ok(()) => Ok(()),
-        Err(Error::SqliteFailure(ErrorCode::OutOfMemory)) => Err(Fault::MEMORY),
-        Err(_) => Err(Fault::STORE),
+    match error {
+        Error::SqliteFailure(ErrorCode::OutOfMemory) => Fault::MEMORY,
+        _ => Fault::STORE,
     }
 }
 
-/// Closes the files after some work, and answers what it came to. Where no fault ended the work, a fault of the close is answered.
-fn close_after<D: Disk + Drop, T: Copy>(
+/// Gives the files back as they are, which copies no journal.
+fn let_go<D: Disk + Drop>(conn: Connection<FileStore<D>>) -> Files<D>
+    ensures { KeepsLeft D.Disk (file_state conn) false result }
+{
+    conn.into_store().close()
+}
+
+/// Closes the files, which copies the journal back, and gives them back.
+fn close_files<D: Disk + Drop>(
     conn: Connection<FileStore<D>>,
-    done: T,
-    is_fault: bool,
-) -> Result<T, Fault>
-    ensures done { IfOk result (λ answer. answer ≡ done) }
-    ensures untold { OnErr result (is_fault ≡ false) }
-    ensures fault { IfErr result IsStoreFault }
+) -> Result<Files<D>, (Files<D>, Fault)>
+    ensures kept { IfOk result (KeepsLeft D.Disk (file_state conn) true) }
+    ensures fault { IfErr result (λ e. IsStoreFault e.1) }
 {
-    match close_files(conn) {
-        Err(why) if !is_fault => Err(why),
-        _ => Ok(done),
+    match conn.close_files() {
+        Ok(files) => Ok(files),
+        Err((error, store)) => Err((store.close(), fault_of(error))),
     }
 }
 
-/// Does work on a connection to files, and closes it where the work hands it back.
+/// Does work on a connection to files, and gives the files back: closed where the work came to its end, and else as they are.
 fn work_and_close<D: Disk + Drop, K: Works, W: Write>(
     alloc: Global,
     conn: Connection<FileStore<D>>,
     work: &mut K,
     output: &mut Io<W>,
-) -> Result<K::Done, Fault>
-    requires { conn.in_transaction ≡ false }
-    ensures done { IfOk result
-        (K.comes_to work.old (written W.contents output.old) (written W.contents output.new)) }
-    ensures fault { IfErr result IsStoreFault }
-    ensures untold { OnErr result (IsUntold (K.comes_to work.old) K.is_fault
+) -> Result<(Files<D>, K::Done), (Files<D>, Fault)>
+    requires mode { conn.in_transaction ≡ false }
+    requires fresh { HasCleanDisk (file_state conn) → IsJustOpened (file_state conn) }
+    ensures done { IfOk result (λ r. K.comes_to work.old
+        (written W.contents output.old) (written W.contents output.new) r.1) }
+    ensures worked { IfOk result (λ r. WorkedOn D.Disk (K.tells work.old) (K.leaves work.old)
+        (K.closes r.1) (written W.contents output.old) (written W.contents output.new)
+        r.0 r.1 (file_state conn)) }
+    ensures fault { IfErr result (λ e. IsStoreFault e.1) }
+    ensures untold { OnErr result (IsUntold (K.comes_to work.old) K.closes
         (written W.contents output.old) (written W.contents output.new)) }
 {
-    let (left, done) = work.work(alloc, conn, output);
-    match left {
-        Some(conn) => close_after(conn, done, K::is_fault(done)),
-        None => Ok(done),
+    let (conn, done) = work.work(alloc, conn, output);
+    if !K::closes(done) {
+        return Ok((let_go(conn), done));
+    }
+    match close_files(conn) {
+        Ok(files) => Ok((files, done)),
+        Err(failed) => Err(failed),
     }
 }
 
-/// Does work on the file at a path, which has so many bytes. 90 where memory was refused and 91 where the store failed, as the file was
-/// opened, or as it was closed behind work that no fault ended; else what the work came to. Of how a crash mixes old bytes and new ones
-/// nothing is supposed: each commit is synced twice.
-pub fn on_file<K: Works, W: Write>(
+/// Does work on the file at a path, which has so many bytes, or neither it nor its journal one where none are given; `start` stands for
+/// what they held. 90 where memory was refused and 91 where the store failed, as the file was opened, or as it was closed behind work that
+/// came to its end; else what the work came to.
+pub fn on_file<'a, S: Start, K: Works, W: Write>(
     rt: &HostRuntime,
-    path: &str,
-    length: u64,
+    path: &'a str,
+    length: Option<u64>,
+    start: S,
     work: &mut K,
     output: &mut Io<W>,
-) -> Result<K::Done, Fault>
-    ensures done { IfOk result
-        (K.comes_to work.old (written W.contents output.old) (written W.contents output.new)) }
-    ensures fault { IfErr result IsStoreFault }
-    ensures untold { OnErr result (IsUntold (K.comes_to work.old) K.is_fault
-        (written W.contents output.old) (written W.contents output.new)) }
+) -> Result<(Opened<'a, FileFrom<S>>, K::Done), (Left<'a, FileFrom<S>>, NotDone)>
+    ensures done { IfOk result (λ r. K.comes_to work.old
+        (written W.contents output.old) (written W.contents output.new) r.1) }
+    ensures path { IfOk result (λ r. r.0.path.now ≡ path.now) }
+    ensures memory { path.now ≡ codes ":memory:" → IsErr result }
+    ensures uri { IsTrue (starts_with nat_eq path.now (codes "file:")) → IsErr result }
+    ensures bare { IfOk result (λ r. length ≡ None
+        → AreClean ⟦<FileFrom<S> as Disk>⟧ r.0.files.log r.0.files.db
+        → IsBare (image_at S.Start)) }
+    ensures worked { IfOk result (λ r. WorkedFrom ⟦<FileFrom<S> as Disk>⟧
+        (K.tells work.old) (K.leaves work.old) (K.closes r.1)
+        (written W.contents output.old) (written W.contents output.new)
+        r.0.files r.1 (image_at S.Start)) }
+    ensures left { IfErr result
+        (λ e. IsUnworked ⟦<FileFrom<S> as Disk>⟧ (image_at S.Start) path.now e.0) }
+    ensures bytes { IfErr result
+        (λ e. TellsBytes ⟦<FileFrom<S> as Disk>⟧ (image_at S.Start) e.1 e.0) }
+    ensures why { IfErr result (λ e. IsWhyNot length e.1) }
+    ensures untold { IfErr result (λ e. IsUntoldFor (K.comes_to work.old) K.closes
+        (written W.contents output.old) (written W.contents output.new) e.1) }
 {
-    let conn = open_files(rt, path, length, Wary)?;
-    work_and_close(rt.alloc(), conn, work, output)
+    let (path, conn) = match open_files(rt, path, length, start) {
+        Ok(opened) => opened,
+        Err(failed) => return Err(failed),
+    };
+    match work_and_close(rt.alloc(), conn, work, output) {
+        Ok((files, done)) => Ok((Opened { path, files }, done)),
+        Err((files, fault)) => Err((
+            Left::Unclosed(Opened { path, files }),
+            NotDone::Fault(fault),
+        )),
+    }
 }

@@ -3,10 +3,16 @@
 //!
 //! - `works`: what work on a connection is.
 //! - `files`: the file and its journal, opened and closed.
+//! - `left`: what is left of them.
+//! - `next`: from one run to the next.
 #![tactic(auto)]
 
 mod files;
+mod left;
+mod next;
 mod works;
 
 pub use files::on_file;
+pub use left::{Left, NotDone, Opened};
+pub use next::next_run;
 pub use works::Works;

@@ -1,1 +1,5 @@
+pub mod Opened
+pub mod Left
+pub mod Told
+pub mod Life
 pub mod ServiceFacts

@@ -1,5 +1,7 @@
 -- What a subcommand prints, and the exit status that goes with it.
-use Rattle.std.specs.Prelude.{◌≡◌, ◌⊎◌, ⊤, ℕ, List, Option, None, Some, Result, Ok, Err, IfErr, codes}
+use Rattle.std.specs.Prelude.{◌≡◌, ◌⊎◌, ⊤, ℕ, List, Option, None, Some, Result, Ok, Err, IfErr, IfSome, codes}
+use Rattle.sqlite_disk.specs.declared.Disk.{Ghosts}
+use Rattle.sqlite.specs.Recovery.{Image}
 use Rattle.mm_definitions.specs.Bounds.{IsName}
 use Rattle.mm_definitions.specs.Keys.{Text}
 use Rattle.mm_definitions.specs.declared.answers.KitFault.{KitFault}
@@ -16,8 +18,12 @@ use Rattle.mm_arguments.specs.CommandLine.{command_line}
 use Rattle.mm_arguments.specs.Requests.{Asks, status_of}
 use Rattle.mm_arguments.specs.declared.requests.Request.{Request}
 use Rattle.mm_arguments.specs.declared.requests.Request.TheVariants as asked
-use Rattle.mm_program.specs.Files.{StopsNew}
+use Rattle.mm_files.specs.declared.left.Left.{Left}
+use Rattle.mm_files.specs.declared.left.Left.TheVariants as lefts
+use Rattle.mm_program.specs.Files.{OnFile, StopsNew, WasBare}
+use Rattle.mm_program.specs.Left.{LeavesImport, LeavesMade, LeavesMigrated, LeavesRun, LeavesSame, TellsChecked, TellsImport, TellsListing, TellsRun, TellsServed}
 use Rattle.mm_program.specs.Served.{TellsServe}
+use Rattle.mm_program.specs.Worked.{closes_done, closes_import, closes_run}
 use Rattle.mm_definitions.specs.Streams.{Written}
 
 -- the check or the migration of a file never tells that it is not empty
@@ -27,23 +33,17 @@ StopsCheck (stops.NotPackage number) = (number ≡ 93) ⊎ (number ≡ 94) ⊎ (
 StopsCheck (stops.Rule rule) = ⊤
 StopsCheck (stops.Fault fault) = ⊤
 
--- by what was written before and then is, and the exit status
-module _ (old new : Written) (result : ℕ) where
-  -- `init` tells one of its outcomes and nothing else
-  abbrev pub TellsInit : Type 0
-  TellsInit = (outcome : Result (Unit {0}) Stop) × IfErr outcome StopsNew × IsTold old new (init_text outcome) (init_status outcome) result
+-- ---- what a subcommand prints, and what it leaves of the files that were opened: by what they held and by the path that the words name
 
-  -- so does `check`
-  abbrev pub TellsCheck : Type 0
-  TellsCheck = (outcome : Result (Unit {0}) Stop) × IfErr outcome StopsCheck × IsTold old new (check_text outcome) (check_status outcome) result
+-- its status is answered, and nothing more is printed; or why it was not done is told
+abbrev pub IsOutcome : {T : Type 0} → (T → ℕ) → Written → Written → Result T Stop → ℕ → Type 0
+IsOutcome status old new (Ok it) result = (old ≡ new) × (result ≡ status it)
+IsOutcome status old new (Err why) result = IsTold old new (stop_text why) (stop_status why) result
 
-  -- so does `migrate`
-  abbrev pub TellsMigrate : Type 0
-  TellsMigrate = (outcome : Result (Unit {0}) Stop) × IfErr outcome StopsCheck × IsTold old new (migrate_text outcome) (migrate_status outcome) result
-
-  -- Status 4 goes with why the file is no package, and with nothing else.
-  abbrev pub TellsDecline : Type 0
-  TellsDecline = result ≡ 4 → (why : Stop) × IsTold old new (stop_text why) 4 result
+-- The work printed so much, or nothing where it was not done for a reason that is no fault; then comes its outcome.
+abbrev pub IsEnded : {T : Type 0} → (T → ℕ) → Written → Written → Written → Result T Stop → ℕ → Type 0
+IsEnded status old between new outcome result =
+    IfErr outcome (λ why. (between ≡ old) ⊎ (stop_status why ≡ 3)) × IsOutcome status between new outcome result
 
 -- what an import came to, or why none was begun
 abbrev pub import_text : Result (Result Staged KitFault) Stop → List ℕ
@@ -55,30 +55,76 @@ abbrev pub import_status : Result (Result Staged KitFault) Stop → ℕ
 import_status (Ok import) = kit_status import
 import_status (Err why) = stop_status why
 
--- `kit` refuses an edition that is no name, and a moment of the clock outside the limits; else it tells what the import came to.
-abbrev pub TellsKit : Text → Option ℕ → Written → Written → ℕ → Type 0
-TellsKit edition at old new result =
-    (¬ (IsName edition) × IsTold old new (codes "kit refused 0 12\n") 1 result)
-    ⊎ (IsName edition × (at ≡ None) × IsTold old new (codes "refused 11\n") 1 result)
-    ⊎ (IsName edition × (outcome : Result (Result Staged KitFault) Stop) × IsTold old new (import_text outcome) (import_status outcome) result)
+-- Status 4 goes with why the file is no package, and with nothing else.
+abbrev pub TellsDecline : Written → Written → ℕ → Type 0
+TellsDecline old new result = result ≡ 4 → (why : Stop) × IsTold old new (stop_text why) 4 result
 
--- what is told of what was asked for
-abbrev pub TellsRequest : Request → Written → Written → ℕ → Type 0
-TellsRequest (asked.Init file) old new result = TellsInit old new result
-TellsRequest (asked.Run file at) old new result = TellsDecline old new result
-TellsRequest (asked.Kit file edition folder at) old new result = TellsKit edition.now at old new result
-TellsRequest (asked.Check file) old new result = TellsCheck old new result
-TellsRequest (asked.List file) old new result = TellsDecline old new result
-TellsRequest (asked.Migrate file) old new result = TellsMigrate old new result
-TellsRequest (asked.Serve file port count) old new result = TellsServe port count old new result
+module _ {D : Type 0} (g : Ghosts D) (image : Image) (path : Text) (old new : Written) (result : ℕ) (left : Left D g) where
+  -- `init` tells one of its outcomes and nothing else; files that it works on hold no byte, and then the new package where it tells so
+  abbrev pub TellsInit : Type 0
+  TellsInit = (outcome : Result (Unit {0}) Stop) × IfErr outcome StopsNew × IsTold old new (init_text outcome) (init_status outcome) result
+      × OnFile g image path (λ found done. ⊤) LeavesMade closes_done outcome left × WasBare g image left
+
+  -- so does `check`, of the package that was found, which is as it was
+  abbrev pub TellsCheck : Type 0
+  TellsCheck = (outcome : Result (Unit {0}) Stop) × IfErr outcome StopsCheck × IsTold old new (check_text outcome) (check_status outcome) result
+      × OnFile g image path TellsChecked (λ found after done. LeavesSame found after) closes_done outcome left
+
+  -- so does `migrate`, which tells the package in micrometres
+  abbrev pub TellsMigrate : Type 0
+  TellsMigrate = (outcome : Result (Unit {0}) Stop) × IfErr outcome StopsCheck × IsTold old new (migrate_text outcome) (migrate_status outcome) result
+      × OnFile g image path (λ found done. ⊤) LeavesMigrated closes_done outcome left
+
+  -- `list` prints the listing of the package that was found, which is as it was
+  abbrev pub TellsList : Type 0
+  TellsList = (between : Written) × (outcome : Result (Unit {0}) Stop) × IsEnded (λ done. 0) old between new outcome result
+      × OnFile g image path (λ found done. TellsListing found old between done) (λ found after done. LeavesSame found after) closes_done outcome left
+
+  -- `run` runs the records of the input, which has these bytes, at the moment that is given, or at that of the clock, or refuses the clock's
+  abbrev pub TellsRan : Option (List ℕ) → Option ℕ → Type 0
+  TellsRan source at =
+      ((at ≡ None) × IsTold old new (codes "refused 11\n") 1 result × (left ≡ lefts.Unopened))
+      ⊎ ((moment : ℕ) × IfSome at (λ given. moment ≡ given) × (between : Written) × (outcome : Result ℕ Stop) × IsEnded (λ status. status) old between new outcome result
+      × OnFile g image path TellsRun (λ found after done. LeavesRun source moment found after old between done) closes_run outcome left)
+
+  -- `kit` refuses an edition that is no name, and a moment of the clock outside the limits; else it tells what the import came to.
+  abbrev pub TellsKit : Text → Option ℕ → Type 0
+  TellsKit edition at =
+      (¬ (IsName edition) × IsTold old new (codes "kit refused 0 12\n") 1 result × (left ≡ lefts.Unopened))
+      ⊎ (IsName edition × (at ≡ None) × IsTold old new (codes "refused 11\n") 1 result × (left ≡ lefts.Unopened))
+      ⊎ (IsName edition × (outcome : Result (Result Staged KitFault) Stop) × IsTold old new (import_text outcome) (import_status outcome) result
+      × OnFile g image path TellsImport (LeavesImport None edition) closes_import outcome left)
+
+  -- `serve` serves the package that was found, which is as it was
+  abbrev pub TellsService : Type 0
+  TellsService = (between : Written) × (outcome : Result ℕ Stop) × IsEnded (λ status. status) old between new outcome result
+      × OnFile g image path TellsServed (λ found after done. LeavesSame found after) closes_run outcome left
+
+-- ---- the program
+
+-- what is told of what was asked for, and left of the file that the words name
+abbrev pub TellsRequest : {D : Type 0} (g : Ghosts D) → Image → Option (List ℕ) → Request → Written → Written → ℕ → Left D g → Type 0
+TellsRequest g image source (asked.Init file) old new result left = TellsInit g image file.now old new result left
+TellsRequest g image source (asked.Run file at) old new result left =
+    TellsDecline old new result × TellsRan g image file.now old new result left source at
+TellsRequest g image source (asked.Kit file edition folder at) old new result left = TellsKit g image file.now old new result left edition.now at
+TellsRequest g image source (asked.Check file) old new result left = TellsCheck g image file.now old new result left
+TellsRequest g image source (asked.List file) old new result left = TellsDecline old new result × TellsList g image file.now old new result left
+TellsRequest g image source (asked.Migrate file) old new result left = TellsMigrate g image file.now old new result left
+TellsRequest g image source (asked.Serve file port count) old new result left =
+    TellsServe port count old new result × TellsService g image file.now old new result left
 
 -- Want of memory is a fault. Help and usage are printed as `clap` has them, with their status, or with 3 where the writer failed.
 abbrev pub TellsStatus : Option ℕ → Written → Written → ℕ → Type 0
 TellsStatus None old new result = IsTold old new (stop_text (stops.Fault (record { 0 = 90 }))) 3 result
 TellsStatus (Some status) old new result = (result ≡ status) ⊎ (result ≡ 3)
 
--- What the words ask for is told; or what is wrong with them, or that memory is wanted to read them.
-abbrev pub TellsWords : List Text → Written → Written → ℕ → Type 0
-TellsWords words old new result =
-    ((request : Request) × Asks words request × TellsRequest request old new result)
-    ⊎ ((error : Error) × HasKind (fault_of command_line words) error × TellsStatus (status_of (kind_of error)) old new result)
+-- What the words ask for is told and left; or what is wrong with them, or that memory is wanted to read them, and no file was opened.
+abbrev pub TellsWords : {D : Type 0} (g : Ghosts D) → Image → Option (List ℕ) → List Text → Written → Written → ℕ → Left D g → Type 0
+TellsWords g image source words old new result left =
+    ((request : Request) × Asks words request × TellsRequest g image source request old new result left)
+    ⊎ ((error : Error) × HasKind (fault_of command_line words) error × TellsStatus (status_of (kind_of error)) old new result × (left ≡ lefts.Unopened))
+
+-- so of some files that are left
+abbrev pub TellsSome : {D : Type 0} (g : Ghosts D) → Image → Option (List ℕ) → List Text → Written → Written → ℕ → Type 0
+TellsSome {D} g image source words old new result = (left : Left D g) × TellsWords g image source words old new result left

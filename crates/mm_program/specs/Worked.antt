@@ -1,5 +1,5 @@
--- What work on a file comes to, by what was printed before and then is.
-use Rattle.std.specs.Prelude.{◌≡◌, ◌≤◌, ◌⊎◌, ◌==◌, ℕ, Bool, true, false, Result, Ok, Err, IfOk, IfErr, OnOk}
+-- What work on a file comes to, by what was printed before and then is, and behind what the files are closed.
+use Rattle.std.specs.Prelude.{◌≡◌, ◌≤◌, ◌⊎◌, ◌==◌, ℕ, Bool, true, false, not, Result, Ok, Err, IfOk, IfErr, OnOk}
 use Rattle.mm_definitions.specs.Streams.{Written}
 use Rattle.mm_definitions.specs.declared.answers.KitFault.{KitFault}
 use Rattle.mm_definitions.specs.declared.answers.Staged.{Staged}
@@ -7,16 +7,25 @@ use Rattle.mm_subcommands.specs.Told.{stop_status}
 use Rattle.mm_subcommands.specs.declared.stop.Stop.{Stop}
 use Rattle.mm_program.specs.Served.{IsServing}
 
--- the status of a fault, or why nothing was done
-abbrev pub ends_in_fault : Result ℕ Stop → Bool
-ends_in_fault (Ok status) = status == 3
-ends_in_fault (Err why) = true
+-- ---- behind what the files are closed
 
--- so of an import
-abbrev pub import_ends_in_fault : Result (Result Staged KitFault) Stop → Bool
-import_ends_in_fault (Ok (Ok staged)) = false
-import_ends_in_fault (Ok (Err stopped)) = true
-import_ends_in_fault (Err why) = true
+-- work that was done
+abbrev pub closes_done : Result (Unit {0}) Stop → Bool
+closes_done (Ok done) = true
+closes_done (Err why) = false
+
+-- so of what has a status, where it is not that of a fault
+abbrev pub closes_run : Result ℕ Stop → Bool
+closes_run (Ok status) = not (status == 3)
+closes_run (Err why) = false
+
+-- so of an import, where no fault ended it
+abbrev pub closes_import : Result (Result Staged KitFault) Stop → Bool
+closes_import (Ok (Ok staged)) = true
+closes_import (Ok (Err stopped)) = false
+closes_import (Err why) = false
+
+-- ---- what it comes to
 
 -- The listing was printed; or why it was not is a fault, or nothing was printed.
 abbrev pub IsListed : Written → Written → Result (Unit {0}) Stop → Type 0

@@ -1,16 +1,24 @@
 //! The package's file.
 
-ghost use Rattle.std.specs.Prelude.{◌≡◌, ◌++◌, codes, string_bytes, IfOk, IfErr, OnErr};
+ghost use Rattle.std.specs.Prelude.{◌≡◌, ◌++◌, codes, string_bytes, None, IfOk, IfErr};
+ghost use Rattle.sqlite.specs.WalFiles.{image_at};
+ghost use Rattle.sqlite.specs.WalReads.{AreClean};
 ghost use Rattle.mm_definitions.specs.Streams.{written};
-ghost use Rattle.mm_files.specs.Files.{IsUntold};
-ghost use Rattle.mm_program.specs.Files.{IsUndone, StopsAny, StopsNew, StopsOld};
+ghost use Rattle.mm_files.specs.Files.{IsBare};
+ghost use Rattle.mm_files.specs.Worked.{IsUnworked, WorkedFrom};
+ghost use Rattle.mm_program.specs.Files.{IsUndone, StopsAny, StopsNew, StopsOld, StopsOn, stop_for};
 
 use mm_definitions::answers::Fault;
 use mm_definitions::streams::Io;
-use mm_files::{Works, on_file};
+use mm_files::{Left, NotDone, Opened, Works, on_file};
 use mm_subcommands::Stop;
+use sqlite::{FileFrom, Start};
+use sqlite_disk::Disk;
 use std::io::Write;
 use std::{fs, io};
+
+/// What work on a file came to, with the files that it was done on; or why it was not, with what is left of them.
+pub type Worked<'a, S, T> = Result<(Opened<'a, FileFrom<S>>, T), (Left<'a, FileFrom<S>>, Stop)>;
 
 /// No database is as short as this; a shorter file is refused without being opened, so that it stays as it is.
 const SHORTEST: u64 = 512;
@@ -38,65 +46,114 @@ fn journal_of(rt: &HostRuntime, path: &str) -> Result<String, Stop>
     }
 }
 
-/// Does work on a file of so many bytes.
-fn on_length<K: Works, W: Write>(
+/// Whether neither the file nor its journal holds a byte.
+fn is_new(rt: &HostRuntime, path: &str) -> Result<bool, Stop>
+    ensures { IfErr result StopsAny }
+{
+    if length_of(rt, path)?.unwrap_or(0) > 0 {
+        return Ok(false);
+    }
+    let journal = journal_of(rt, path)?;
+    Ok(length_of(rt, journal.as_str())?.unwrap_or(0) == 0)
+}
+
+/// Why work on a file was not done, as it is told.
+fn stop_of(why: NotDone) -> Stop
+    ensures { result ≡ stop_for why }
+{
+    match why {
+        NotDone::NotEmpty => Stop::NotEmpty,
+        NotDone::Fault(fault) => Stop::Fault(fault),
+    }
+}
+
+/// Does work on a file of so many bytes, or on a new one.
+fn on_length<'a, S: Start, K: Works, W: Write>(
     rt: &HostRuntime,
-    path: &str,
-    length: u64,
+    path: &'a str,
+    length: Option<u64>,
+    start: S,
     work: &mut K,
     output: &mut Io<W>,
-) -> Result<K::Done, Stop>
-    ensures done { IfOk result
-        (K.comes_to work.old (written W.contents output.old) (written W.contents output.new)) }
-    ensures stopped { IfErr result StopsAny }
-    ensures untold { OnErr result (IsUntold (K.comes_to work.old) K.is_fault
-        (written W.contents output.old) (written W.contents output.new)) }
+) -> Worked<'a, S, K::Done>
+    ensures done { IfOk result (λ r. K.comes_to work.old
+        (written W.contents output.old) (written W.contents output.new) r.1) }
+    ensures path { IfOk result (λ r. r.0.path.now ≡ path.now) }
+    ensures bare { IfOk result (λ r. length ≡ None
+        → AreClean ⟦<FileFrom<S> as Disk>⟧ r.0.files.log r.0.files.db
+        → IsBare (image_at S.Start)) }
+    ensures worked { IfOk result (λ r. WorkedFrom ⟦<FileFrom<S> as Disk>⟧
+        (K.tells work.old) (K.leaves work.old) (K.closes r.1)
+        (written W.contents output.old) (written W.contents output.new)
+        r.0.files r.1 (image_at S.Start)) }
+    ensures left { IfErr result
+        (λ e. IsUnworked ⟦<FileFrom<S> as Disk>⟧ (image_at S.Start) path.now e.0) }
+    ensures stopped { IfErr result (λ e. StopsOn length e.1) }
+    ensures undone { IfErr result (λ e. IsUndone (K.comes_to work.old) K.closes
+        (written W.contents output.old) (written W.contents output.new) e.1) }
 {
-    match on_file(rt, path, length, work, output) {
+    match on_file(rt, path, length, start, work, output) {
         Ok(done) => Ok(done),
-        Err(fault) => Err(Stop::Fault(fault)),
+        Err((left, why)) => Err((left, stop_of(why))),
     }
 }
 
 /// Does work on a file that is to be made: neither it nor its journal holds a byte.
-pub fn on_new<K: Works, W: Write>(
+pub fn on_new<'a, S: Start, K: Works, W: Write>(
     rt: &HostRuntime,
-    path: &str,
+    path: &'a str,
+    start: S,
     work: &mut K,
     output: &mut Io<W>,
-) -> Result<K::Done, Stop>
-    ensures done { IfOk result
-        (K.comes_to work.old (written W.contents output.old) (written W.contents output.new)) }
-    ensures stopped { IfErr result StopsNew }
-    ensures undone { IfErr result (IsUndone (K.comes_to work.old) K.is_fault
-        (written W.contents output.old) (written W.contents output.new)) }
+) -> Worked<'a, S, K::Done>
+    ensures done { IfOk result (λ r. K.comes_to work.old
+        (written W.contents output.old) (written W.contents output.new) r.1) }
+    ensures path { IfOk result (λ r. r.0.path.now ≡ path.now) }
+    ensures bare { IfOk result
+        (λ r. AreClean ⟦<FileFrom<S> as Disk>⟧ r.0.files.log r.0.files.db
+        → IsBare (image_at S.Start)) }
+    ensures worked { IfOk result (λ r. WorkedFrom ⟦<FileFrom<S> as Disk>⟧
+        (K.tells work.old) (K.leaves work.old) (K.closes r.1)
+        (written W.contents output.old) (written W.contents output.new)
+        r.0.files r.1 (image_at S.Start)) }
+    ensures left { IfErr result
+        (λ e. IsUnworked ⟦<FileFrom<S> as Disk>⟧ (image_at S.Start) path.now e.0) }
+    ensures stopped { IfErr result (λ e. StopsNew e.1) }
+    ensures undone { IfErr result (λ e. IsUndone (K.comes_to work.old) K.closes
+        (written W.contents output.old) (written W.contents output.new) e.1) }
 {
-    if length_of(rt, path)?.unwrap_or(0) > 0 {
-        return Err(Stop::NotEmpty);
+    match is_new(rt, path) {
+        Ok(true) => on_length(rt, path, None, start, work, output),
+        Ok(false) => Err((Left::Unopened, Stop::NotEmpty)),
+        Err(why) => Err((Left::Unopened, why)),
     }
-    let journal = journal_of(rt, path)?;
-    if length_of(rt, journal.as_str())?.unwrap_or(0) > 0 {
-        return Err(Stop::NotEmpty);
-    }
-    on_length(rt, path, 0, work, output)
 }
 
 /// Does work on a file that is there.
-pub fn on_old<K: Works, W: Write>(
+pub fn on_old<'a, S: Start, K: Works, W: Write>(
     rt: &HostRuntime,
-    path: &str,
+    path: &'a str,
+    start: S,
     work: &mut K,
     output: &mut Io<W>,
-) -> Result<K::Done, Stop>
-    ensures done { IfOk result
-        (K.comes_to work.old (written W.contents output.old) (written W.contents output.new)) }
-    ensures stopped { IfErr result StopsOld }
-    ensures undone { IfErr result (IsUndone (K.comes_to work.old) K.is_fault
-        (written W.contents output.old) (written W.contents output.new)) }
+) -> Worked<'a, S, K::Done>
+    ensures done { IfOk result (λ r. K.comes_to work.old
+        (written W.contents output.old) (written W.contents output.new) r.1) }
+    ensures path { IfOk result (λ r. r.0.path.now ≡ path.now) }
+    ensures worked { IfOk result (λ r. WorkedFrom ⟦<FileFrom<S> as Disk>⟧
+        (K.tells work.old) (K.leaves work.old) (K.closes r.1)
+        (written W.contents output.old) (written W.contents output.new)
+        r.0.files r.1 (image_at S.Start)) }
+    ensures left { IfErr result
+        (λ e. IsUnworked ⟦<FileFrom<S> as Disk>⟧ (image_at S.Start) path.now e.0) }
+    ensures stopped { IfErr result (λ e. StopsOld e.1) }
+    ensures undone { IfErr result (λ e. IsUndone (K.comes_to work.old) K.closes
+        (written W.contents output.old) (written W.contents output.new) e.1) }
 {
-    match length_of(rt, path)? {
-        None | Some(0) => Err(Stop::NotPackage(94)),
-        Some(length) if length < SHORTEST => Err(Stop::Fault(Fault::STORE)),
-        Some(length) => on_length(rt, path, length, work, output),
+    match length_of(rt, path) {
+        Ok(None | Some(0)) => Err((Left::Unopened, Stop::NotPackage(94))),
+        Ok(Some(length)) if length < SHORTEST => Err((Left::Unopened, Stop::Fault(Fault::STORE))),
+        Ok(Some(length)) => on_length(rt, path, Some(length), start, work, output),
+        Err(why) => Err((Left::Unopened, why)),
     }
 }

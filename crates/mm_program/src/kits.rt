@@ -1,11 +1,13 @@
 //! The subcommand `kit`, on a folder of the system.
 
-ghost use Rattle.std.specs.Prelude.{◌≡◌, ◌≤◌, ⊤, IfOk};
+ghost use Rattle.std.specs.Prelude.{◌≡◌, ◌≤◌, ⊤, IfOk, None};
+ghost use Rattle.sqlite.specs.WalFiles.{image_at};
 ghost use Rattle.mm_definitions.specs.Streams.{has_failed, written};
 ghost use Rattle.mm_subcommands.specs.Told.{TellsFailure};
-ghost use Rattle.mm_program.specs.Files.{IsFew};
+ghost use Rattle.mm_program.specs.Files.{IsFew, OnFile};
+ghost use Rattle.mm_program.specs.Left.{LeavesImport, TellsImport};
 ghost use Rattle.mm_program.specs.Told.{TellsKit};
-ghost use Rattle.mm_program.specs.Worked.{import_ends_in_fault};
+ghost use Rattle.mm_program.specs.Worked.{closes_import};
 
 use crate::clock::{Now, moment_or_now};
 use crate::files::on_old;
@@ -13,10 +15,11 @@ use mm_definitions::answers::Fault;
 use mm_definitions::moments::Moment;
 use mm_definitions::names::Name;
 use mm_definitions::streams::Io;
-use mm_files::Works;
+use mm_files::{Left, Works};
 use mm_kit::{Folder, FolderFault, Found};
 use mm_subcommands::{Import, REFUSED, Stop, import_package, tell_bytes, tell_import, tell_stop};
-use sqlite::{Alter, Connection};
+use sqlite::{Alter, Connection, FileFrom, Start};
+use sqlite_disk::Disk;
 use std::alloc::Global;
 use std::io::{Read, Write};
 use std::{fs, io};
@@ -59,8 +62,6 @@ fn read_file(rt: &HostRuntime, path: &str, name: &str, most: u64) -> Result<Foun
 }
 
 impl<'a> Folder for SystemFolder<'a> {
-    ghost use Rattle.std.specs.Prelude.{None};
-
     // No clause tells what the files of a system hold.
     ghost files = { λ s. None };
 
@@ -84,49 +85,58 @@ impl<'a> Folder for SystemFolder<'a> {
 
 /// The import of a folder's kit into an edition.
 #[derive(Drop)]
-struct Importing<'a> {
-    folder: SystemFolder<'a>,
+struct Importing<'a, F: Folder> {
+    folder: F,
     edition: &'a Name,
     at: Moment,
 }
 
-impl<'a> Works for Importing<'a> {
+impl<'a, F: Folder> Works for Importing<'a, F> {
     type Done = Result<Import, Stop>;
 
     ghost comes_to = { λ work old new done. ⊤ };
 
-    ghost is_fault = { import_ends_in_fault };
+    ghost tells = { λ work found old new done. TellsImport found done };
+
+    ghost leaves = { λ work found after old new done.
+        LeavesImport (F.files work.folder) work.edition.now found after done };
+
+    ghost closes = { closes_import };
 
     fn work<S: Alter + Drop, W: Write>(
         &mut self,
         alloc: Global,
         conn: Connection<S>,
         _output: &mut Io<W>,
-    ) -> (Option<Connection<S>>, Result<Import, Stop>) {
+    ) -> (Connection<S>, Result<Import, Stop>) {
         match import_package(alloc, conn, self.edition, &mut self.folder, self.at) {
-            Ok((conn, import)) => (Some(conn), Ok(import)),
-            Err((_, why)) => (None, Err(why)),
+            Ok((conn, import)) => (conn, Ok(import)),
+            Err((conn, why)) => (conn, Err(why)),
         }
     }
 
-    fn is_fault(done: Result<Import, Stop>) -> bool
-        ensures { result ≡ import_ends_in_fault done }
+    fn closes(done: Result<Import, Stop>) -> bool
+        ensures { result ≡ closes_import done }
     {
         match done {
-            Ok(import) => import.is_err(),
-            Err(_) => true,
+            Ok(import) => import.is_ok(),
+            Err(_) => false,
         }
     }
 }
 
 /// Imports the kit of a folder into an edition of the package of a file.
-fn import_file(
+fn import_file<'a, S: Start>(
     rt: &HostRuntime,
-    path: &str,
+    path: &'a str,
+    start: S,
     edition: &Name,
     folder: &str,
     at: Moment,
-) -> Result<Import, Stop> {
+) -> (Result<Import, Stop>, Left<'a, FileFrom<S>>)
+    ensures { OnFile ⟦<FileFrom<S> as Disk>⟧ (image_at S.Start) path.now TellsImport
+        (LeavesImport None edition.now) closes_import result.0 result.1 }
+{
     let folder = SystemFolder {
         rt,
         path: folder,
@@ -137,33 +147,45 @@ fn import_file(
         edition,
         at,
     };
-    on_old(rt, path, &mut importing, &mut Io::new(io::sink()))?
+    match on_old(rt, path, start, &mut importing, &mut Io::new(io::sink())) {
+        Ok((opened, done)) => (done, Left::Worked(opened)),
+        Err((left, why)) => (Err(why), left),
+    }
 }
 
 /// The subcommand `kit`. An edition that is no name is refused before the clock is asked or the file opened.
-pub(crate) fn kit_told<W: Write>(
+pub(crate) fn kit_told<'a, S: Start, W: Write>(
     rt: &HostRuntime,
-    path: &str,
+    path: &'a str,
+    start: S,
     edition: &str,
     folder: &str,
     at: Option<Moment>,
     output: &mut Io<W>,
-) -> u8
-    ensures told { TellsKit edition.now at (written W.contents output.old)
-        (written W.contents output.new) result }
-    ensures status { result ≤ 4 }
-    ensures unprinted { TellsFailure (has_failed output.old) (has_failed output.new) result }
+) -> (u8, Left<'a, FileFrom<S>>)
+    ensures told { TellsKit ⟦<FileFrom<S> as Disk>⟧ (image_at S.Start) path.now
+        (written W.contents output.old) (written W.contents output.new) result.0 result.1
+        edition.now at }
+    ensures status { result.0 ≤ 4 }
+    ensures unprinted { TellsFailure (has_failed output.old) (has_failed output.new) result.0 }
 {
     let Some(name) = Name::read(edition) else {
-        return tell_bytes(output, b"kit refused 0 12\n", REFUSED);
+        return (
+            tell_bytes(output, b"kit refused 0 12\n", REFUSED),
+            Left::Unopened,
+        );
     };
     let moment = match moment_or_now(rt, at) {
         Now::At(moment) => moment,
-        Now::Outside => return tell_bytes(output, b"refused 11\n", REFUSED),
-        Now::Unread => return tell_stop(output, Stop::Fault(Fault::INPUT)),
+        Now::Outside => {
+            return (tell_bytes(output, b"refused 11\n", REFUSED), Left::Unopened);
+        }
+        Now::Unread => {
+            return (tell_stop(output, Stop::Fault(Fault::INPUT)), Left::Unopened);
+        }
     };
-    match import_file(rt, path, &name, folder, moment) {
-        Ok(import) => tell_import(output, import),
-        Err(why) => tell_stop(output, why),
+    match import_file(rt, path, start, &name, folder, moment) {
+        (Ok(import), left) => (tell_import(output, import), left),
+        (Err(why), left) => (tell_stop(output, why), left),
     }
 }

@@ -8,17 +8,19 @@
 //! - `connections`: the page served to one connection after another.
 //! - `serving`: the page served over sockets.
 //! - `clock`: the moment of a run that names none.
+//! - `laws`: from one run of the program to the next.
 #![tactic(auto)]
 
 mod clock;
 mod connections;
 mod files;
 mod kits;
+pub mod laws;
 mod migrating;
 mod reporting;
 mod serving;
 mod subcommands;
 
 pub use connections::{Serves, serve_on};
-pub use files::{on_new, on_old};
-pub use subcommands::program;
+pub use files::{Worked, on_new, on_old};
+pub use subcommands::{program, program_on};

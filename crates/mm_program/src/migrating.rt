@@ -1,15 +1,20 @@
 //! The subcommand `migrate`.
 
-ghost use Rattle.std.specs.Prelude.{◌≤◌, false, IfErr};
+ghost use Rattle.std.specs.Prelude.{◌≤◌, IfErr, ⊤};
+ghost use Rattle.sqlite.specs.WalFiles.{image_at};
 ghost use Rattle.mm_definitions.specs.Streams.{has_failed, written};
 ghost use Rattle.mm_subcommands.specs.Told.{TellsFailure};
+ghost use Rattle.mm_program.specs.Files.{OnFile};
+ghost use Rattle.mm_program.specs.Left.{LeavesMigrated};
 ghost use Rattle.mm_program.specs.Told.{StopsCheck, TellsMigrate};
+ghost use Rattle.mm_program.specs.Worked.{closes_done};
 
 use crate::files::on_old;
 use mm_definitions::streams::Io;
-use mm_files::Works;
+use mm_files::{Left, Works};
 use mm_subcommands::{Stop, migrate_package, tell_migration};
-use sqlite::{Alter, Connection};
+use sqlite::{Alter, Connection, FileFrom, Start};
+use sqlite_disk::Disk;
 use std::alloc::Global;
 use std::io;
 use std::io::Write;
@@ -23,38 +28,57 @@ impl Works for Migration {
 
     ghost comes_to = { λ work old new done. IfErr done StopsCheck };
 
-    ghost is_fault = { λ done. false };
+    ghost tells = { λ work found old new done. ⊤ };
+
+    ghost leaves = { λ work found after old new done. LeavesMigrated found after done };
+
+    ghost closes = { closes_done };
 
     fn work<S: Alter + Drop, W: Write>(
         &mut self,
         alloc: Global,
         conn: Connection<S>,
         _output: &mut Io<W>,
-    ) -> (Option<Connection<S>>, Result<(), Stop>) {
+    ) -> (Connection<S>, Result<(), Stop>) {
         match migrate_package(alloc, conn) {
-            Ok(conn) => (Some(conn), Ok(())),
-            Err((_, why)) => (None, Err(why)),
+            Ok(conn) => (conn, Ok(())),
+            Err((conn, why)) => (conn, Err(why)),
         }
     }
 
-    fn is_fault(_done: Result<(), Stop>) -> bool {
-        false
+    fn closes(done: Result<(), Stop>) -> bool {
+        done.is_ok()
     }
 }
 
 /// Migrates the package of a file.
-fn migrate_file(rt: &HostRuntime, path: &str) -> Result<(), Stop>
-    ensures { IfErr result StopsCheck }
+fn migrate_file<'a, S: Start>(
+    rt: &HostRuntime,
+    path: &'a str,
+    start: S,
+) -> (Result<(), Stop>, Left<'a, FileFrom<S>>)
+    ensures stopped { IfErr result.0 StopsCheck }
+    ensures left { OnFile ⟦<FileFrom<S> as Disk>⟧ (image_at S.Start) path.now (λ found done. ⊤)
+        LeavesMigrated closes_done result.0 result.1 }
 {
-    on_old(rt, path, &mut Migration, &mut Io::new(io::sink()))?
+    match on_old(rt, path, start, &mut Migration, &mut Io::new(io::sink())) {
+        Ok((opened, done)) => (done, Left::Worked(opened)),
+        Err((left, why)) => (Err(why), left),
+    }
 }
 
 /// The subcommand `migrate`.
-pub(crate) fn migrate_told<W: Write>(rt: &HostRuntime, path: &str, output: &mut Io<W>) -> u8
-    ensures told { TellsMigrate (written W.contents output.old)
-        (written W.contents output.new) result }
-    ensures status { result ≤ 4 }
-    ensures unprinted { TellsFailure (has_failed output.old) (has_failed output.new) result }
+pub(crate) fn migrate_told<'a, S: Start, W: Write>(
+    rt: &HostRuntime,
+    path: &'a str,
+    start: S,
+    output: &mut Io<W>,
+) -> (u8, Left<'a, FileFrom<S>>)
+    ensures told { TellsMigrate ⟦<FileFrom<S> as Disk>⟧ (image_at S.Start) path.now
+        (written W.contents output.old) (written W.contents output.new) result.0 result.1 }
+    ensures status { result.0 ≤ 4 }
+    ensures unprinted { TellsFailure (has_failed output.old) (has_failed output.new) result.0 }
 {
-    tell_migration(output, migrate_file(rt, path))
+    let (outcome, left) = migrate_file(rt, path, start);
+    (tell_migration(output, outcome), left)
 }

@@ -1,16 +1,20 @@
 //! The subcommands that change nothing.
 
 ghost use Rattle.std.specs.Prelude.{◌≡◌, ◌≤◌, false, IfErr};
+ghost use Rattle.sqlite.specs.WalFiles.{image_at};
 ghost use Rattle.mm_definitions.specs.Streams.{has_failed, written};
 ghost use Rattle.mm_subcommands.specs.Told.{TellsFailure};
-ghost use Rattle.mm_program.specs.Told.{StopsCheck, TellsCheck, TellsDecline};
-ghost use Rattle.mm_program.specs.Worked.{IsListed};
+ghost use Rattle.mm_program.specs.Files.{OnFile};
+ghost use Rattle.mm_program.specs.Left.{LeavesSame, TellsChecked, TellsListing};
+ghost use Rattle.mm_program.specs.Told.{StopsCheck, TellsCheck, TellsDecline, TellsList};
+ghost use Rattle.mm_program.specs.Worked.{IsListed, closes_done};
 
 use crate::files::on_old;
 use mm_definitions::streams::Io;
-use mm_files::Works;
+use mm_files::{Left, Works};
 use mm_subcommands::{DONE, Stop, check_package, list_package, tell_check, tell_stop};
-use sqlite::{Alter, Connection};
+use sqlite::{Alter, Connection, FileFrom, Start};
+use sqlite_disk::Disk;
 use std::alloc::Global;
 use std::io;
 use std::io::Write;
@@ -24,40 +28,59 @@ impl Works for Check {
 
     ghost comes_to = { λ work old new done. IfErr done StopsCheck };
 
-    ghost is_fault = { λ done. false };
+    ghost tells = { λ work found old new done. TellsChecked found done };
+
+    ghost leaves = { λ work found after old new done. LeavesSame found after };
+
+    ghost closes = { closes_done };
 
     fn work<S: Alter + Drop, W: Write>(
         &mut self,
         alloc: Global,
         conn: Connection<S>,
         _output: &mut Io<W>,
-    ) -> (Option<Connection<S>>, Result<(), Stop>) {
+    ) -> (Connection<S>, Result<(), Stop>) {
         match check_package(alloc, conn) {
-            Ok(conn) => (Some(conn), Ok(())),
-            Err((_, why)) => (None, Err(why)),
+            Ok(conn) => (conn, Ok(())),
+            Err((conn, why)) => (conn, Err(why)),
         }
     }
 
-    fn is_fault(_done: Result<(), Stop>) -> bool {
-        false
+    fn closes(done: Result<(), Stop>) -> bool {
+        done.is_ok()
     }
 }
 
 /// Checks the package of a file.
-fn check_file(rt: &HostRuntime, path: &str) -> Result<(), Stop>
-    ensures { IfErr result StopsCheck }
+fn check_file<'a, S: Start>(
+    rt: &HostRuntime,
+    path: &'a str,
+    start: S,
+) -> (Result<(), Stop>, Left<'a, FileFrom<S>>)
+    ensures stopped { IfErr result.0 StopsCheck }
+    ensures left { OnFile ⟦<FileFrom<S> as Disk>⟧ (image_at S.Start) path.now TellsChecked
+        (λ found after done. LeavesSame found after) closes_done result.0 result.1 }
 {
-    on_old(rt, path, &mut Check, &mut Io::new(io::sink()))?
+    match on_old(rt, path, start, &mut Check, &mut Io::new(io::sink())) {
+        Ok((opened, done)) => (done, Left::Worked(opened)),
+        Err((left, why)) => (Err(why), left),
+    }
 }
 
 /// The subcommand `check`.
-pub(crate) fn check_told<W: Write>(rt: &HostRuntime, path: &str, output: &mut Io<W>) -> u8
-    ensures told { TellsCheck (written W.contents output.old)
-        (written W.contents output.new) result }
-    ensures status { result ≤ 4 }
-    ensures unprinted { TellsFailure (has_failed output.old) (has_failed output.new) result }
+pub(crate) fn check_told<'a, S: Start, W: Write>(
+    rt: &HostRuntime,
+    path: &'a str,
+    start: S,
+    output: &mut Io<W>,
+) -> (u8, Left<'a, FileFrom<S>>)
+    ensures told { TellsCheck ⟦<FileFrom<S> as Disk>⟧ (image_at S.Start) path.now
+        (written W.contents output.old) (written W.contents output.new) result.0 result.1 }
+    ensures status { result.0 ≤ 4 }
+    ensures unprinted { TellsFailure (has_failed output.old) (has_failed output.new) result.0 }
 {
-    tell_check(output, check_file(rt, path))
+    let (outcome, left) = check_file(rt, path, start);
+    (tell_check(output, outcome), left)
 }
 
 /// The listing of a package.
@@ -69,41 +92,65 @@ impl Works for Listing {
 
     ghost comes_to = { λ work. IsListed };
 
-    ghost is_fault = { λ done. false };
+    ghost tells = { λ work. TellsListing };
+
+    ghost leaves = { λ work found after old new done. LeavesSame found after };
+
+    ghost closes = { closes_done };
 
     fn work<S: Alter + Drop, W: Write>(
         &mut self,
         alloc: Global,
         conn: Connection<S>,
         output: &mut Io<W>,
-    ) -> (Option<Connection<S>>, Result<(), Stop>) {
+    ) -> (Connection<S>, Result<(), Stop>) {
         match list_package(alloc, conn, output) {
-            Ok(conn) => (Some(conn), Ok(())),
-            Err((_, why)) => (None, Err(why)),
+            Ok(conn) => (conn, Ok(())),
+            Err((conn, why)) => (conn, Err(why)),
         }
     }
 
-    fn is_fault(_done: Result<(), Stop>) -> bool {
-        false
+    fn closes(done: Result<(), Stop>) -> bool {
+        done.is_ok()
     }
 }
 
 /// Writes the listing of the package of a file.
-fn list_file<W: Write>(rt: &HostRuntime, path: &str, output: &mut Io<W>) -> Result<(), Stop>
-    ensures { IsListed (written W.contents output.old) (written W.contents output.new) result }
+fn list_file<'a, S: Start, W: Write>(
+    rt: &HostRuntime,
+    path: &'a str,
+    start: S,
+    output: &mut Io<W>,
+) -> (Result<(), Stop>, Left<'a, FileFrom<S>>)
+    ensures listed { IsListed (written W.contents output.old)
+        (written W.contents output.new) result.0 }
+    ensures left { OnFile ⟦<FileFrom<S> as Disk>⟧ (image_at S.Start) path.now
+        (λ found done. TellsListing found (written W.contents output.old)
+        (written W.contents output.new) done)
+        (λ found after done. LeavesSame found after) closes_done result.0 result.1 }
 {
-    on_old(rt, path, &mut Listing, output)?
+    match on_old(rt, path, start, &mut Listing, output) {
+        Ok((opened, done)) => (done, Left::Worked(opened)),
+        Err((left, why)) => (Err(why), left),
+    }
 }
 
 /// The subcommand `list`.
-pub(crate) fn list_told<W: Write>(rt: &HostRuntime, path: &str, output: &mut Io<W>) -> u8
+pub(crate) fn list_told<'a, S: Start, W: Write>(
+    rt: &HostRuntime,
+    path: &'a str,
+    start: S,
+    output: &mut Io<W>,
+) -> (u8, Left<'a, FileFrom<S>>)
     ensures declined { TellsDecline (written W.contents output.old)
-        (written W.contents output.new) result }
-    ensures status { result ≤ 4 }
-    ensures unprinted { TellsFailure (has_failed output.old) (has_failed output.new) result }
+        (written W.contents output.new) result.0 }
+    ensures listed { TellsList ⟦<FileFrom<S> as Disk>⟧ (image_at S.Start) path.now
+        (written W.contents output.old) (written W.contents output.new) result.0 result.1 }
+    ensures status { result.0 ≤ 4 }
+    ensures unprinted { TellsFailure (has_failed output.old) (has_failed output.new) result.0 }
 {
-    match list_file(rt, path, output) {
-        Ok(()) => DONE,
-        Err(why) => tell_stop(output, why),
+    match list_file(rt, path, start, output) {
+        (Ok(()), left) => (DONE, left),
+        (Err(why), left) => (tell_stop(output, why), left),
     }
 }

@@ -3,19 +3,27 @@
 ghost use Rattle.std.specs.Prelude.{◌≡◌, ◌≤◌, ◌⊎◌, IfErr, IfOk, None};
 ghost use Rattle.mm_definitions.specs.Streams.{written};
 ghost use Rattle.mm_definitions.specs.Streams as streams;
-ghost use Rattle.mm_subcommands.specs.Told.{TellsFailure};
+ghost use Rattle.mm_subcommands.specs.Told.{TellsFailure, stop_status};
+ghost use Rattle.sqlite.specs.Held.{state};
+ghost use Rattle.sqlite.specs.WalFiles.{image_at};
+ghost use Rattle.mm_core.specs.Parts.{held};
+ghost use Rattle.mm_reads.specs.Viewers.{LeavesPackage};
+ghost use Rattle.mm_program.specs.Files.{OnFile};
+ghost use Rattle.mm_program.specs.Left.{LeavesSame, TellsServed};
 ghost use Rattle.mm_program.specs.Served.{PrintsNothing, IsServing, TellsServe, WasServed};
-ghost use Rattle.mm_program.specs.Worked.{IsPageServed, ends_in_fault};
+ghost use Rattle.mm_program.specs.Told.{TellsService};
+ghost use Rattle.mm_program.specs.Worked.{IsPageServed, closes_run};
 
 use crate::connections::{Serves, serve_on};
 use crate::files::on_old;
 use mm_core::Session;
 use mm_definitions::answers::{Fault, PageFault};
 use mm_definitions::streams::Io;
-use mm_files::Works;
+use mm_files::{Left, Works};
 use mm_page::serve_one;
 use mm_subcommands::{FAULT, Stop, adopt_package, tell_serving, tell_stop};
-use sqlite::{Alter, Connection};
+use sqlite::{Alter, Connection, FileFrom, Start};
+use sqlite_disk::Disk;
 use std::alloc::Global;
 use std::io;
 use std::io::{Read, Write};
@@ -90,6 +98,9 @@ fn serve_port<S: Alter, W: Write>(
     ensures served { IfOk result
         (IsServing port count (written W.contents output.old) (written W.contents output.new)) }
     ensures unused { IfErr result (λ why. output.new ≡ output.old) }
+    ensures unbound { IfErr result (λ why. why ≡ Stop.Fault (record { 0 = 96 })) }
+    ensures kept { LeavesPackage
+        (state S.Store (held session.old)) (state S.Store (held session.new)) }
 {
     let Ok(mut listener) = TcpListener::bind(rt, (Ipv4Addr::LOCALHOST, port)) else {
         return Err(Stop::Fault(Fault::INPUT));
@@ -113,7 +124,11 @@ impl<'a> Works for Page<'a> {
 
     ghost comes_to = { λ work. IsPageServed work.port work.count };
 
-    ghost is_fault = { ends_in_fault };
+    ghost tells = { λ work found old new done. TellsServed found done };
+
+    ghost leaves = { λ work found after old new done. LeavesSame found after };
+
+    ghost closes = { closes_run };
 
     // The port is bound once the package is adopted.
     fn work<S: Alter + Drop, W: Write>(
@@ -121,64 +136,75 @@ impl<'a> Works for Page<'a> {
         alloc: Global,
         conn: Connection<S>,
         output: &mut Io<W>,
-    ) -> (Option<Connection<S>>, Result<u8, Stop>) {
+    ) -> (Connection<S>, Result<u8, Stop>) {
         let mut session = match adopt_package(alloc, conn) {
             Ok(session) => session,
-            Err((_, why)) => return (None, Err(why)),
+            Err((conn, why)) => return (conn, Err(why)),
         };
         let served = serve_port(self.rt, &mut session, self.port, self.count, output);
-        (Some(session.close()), served)
+        (session.close(), served)
     }
 
-    fn is_fault(done: Result<u8, Stop>) -> bool
-        ensures { result ≡ ends_in_fault done }
+    fn closes(done: Result<u8, Stop>) -> bool
+        ensures { result ≡ closes_run done }
     {
         match done {
-            Ok(status) => status == FAULT,
-            Err(_) => true,
+            Ok(status) => status != FAULT,
+            Err(_) => false,
         }
     }
 }
 
 /// Serves the package of a file.
-fn serve_file<W: Write>(
+fn serve_file<'a, S: Start, W: Write>(
     rt: &HostRuntime,
-    path: &str,
+    path: &'a str,
+    start: S,
     port: u16,
     count: u32,
     output: &mut Io<W>,
-) -> Result<u8, Stop>
-    ensures status { IfOk result (λ status. status ≤ 3) }
-    ensures working { IfOk result
+) -> (Result<u8, Stop>, Left<'a, FileFrom<S>>)
+    ensures status { IfOk result.0 (λ status. status ≤ 3) }
+    ensures working { IfOk result.0
         (λ status. (status ≡ 3) ⊎ (streams.has_failed output.new ≡ streams.has_failed output.old)) }
-    ensures served { IfOk result
+    ensures served { IfOk result.0
         (IsServing port count (written W.contents output.old) (written W.contents output.new)) }
-    ensures unused { IfErr result
+    ensures unused { IfErr result.0
         (λ why. streams.has_failed output.new ≡ streams.has_failed output.old) }
-    ensures stopped { IfErr result
+    ensures stopped { IfErr result.0
         (λ why. PrintsNothing (written W.contents output.old) (written W.contents output.new)
         ⊎ WasServed port count (written W.contents output.old)
         (written W.contents output.new)) }
+    ensures told { IfErr result.0 (λ why.
+        (written W.contents output.new ≡ written W.contents output.old) ⊎ (stop_status why ≡ 3)) }
+    ensures left { OnFile ⟦<FileFrom<S> as Disk>⟧ (image_at S.Start) path.now TellsServed
+        (λ found after done. LeavesSame found after) closes_run result.0 result.1 }
 {
-    on_old(rt, path, &mut Page { rt, port, count }, output)?
+    match on_old(rt, path, start, &mut Page { rt, port, count }, output) {
+        Ok((opened, done)) => (done, Left::Worked(opened)),
+        Err((left, why)) => (Err(why), left),
+    }
 }
 
 /// The subcommand `serve`.
-pub(crate) fn serve_told<W: Write>(
+pub(crate) fn serve_told<'a, S: Start, W: Write>(
     rt: &HostRuntime,
-    path: &str,
+    path: &'a str,
+    start: S,
     port: u16,
     count: u32,
     output: &mut Io<W>,
-) -> u8
+) -> (u8, Left<'a, FileFrom<S>>)
     ensures told { TellsServe port count (written W.contents output.old)
-        (written W.contents output.new) result }
-    ensures status { result ≤ 4 }
+        (written W.contents output.new) result.0 }
+    ensures served { TellsService ⟦<FileFrom<S> as Disk>⟧ (image_at S.Start) path.now
+        (written W.contents output.old) (written W.contents output.new) result.0 result.1 }
+    ensures status { result.0 ≤ 4 }
     ensures unprinted { TellsFailure (streams.has_failed output.old)
-        (streams.has_failed output.new) result }
+        (streams.has_failed output.new) result.0 }
 {
-    match serve_file(rt, path, port, count, output) {
-        Ok(status) => status,
-        Err(why) => tell_stop(output, why),
+    match serve_file(rt, path, start, port, count, output) {
+        (Ok(status), left) => (status, left),
+        (Err(why), left) => (tell_stop(output, why), left),
     }
 }

@@ -1,13 +1,15 @@
 //! The program as a function of its words, its input and its output.
 
-ghost use Rattle.std.specs.Prelude.{◌≡◌, ◌≤◌, false, IfErr, map};
-ghost use Rattle.mm_definitions.specs.Streams.{has_failed, written};
+ghost use Rattle.std.specs.Prelude.{◌≡◌, ◌≤◌, false, IfErr, map, ⊤};
+ghost use Rattle.sqlite.specs.WalFiles.{image_at};
+ghost use Rattle.mm_definitions.specs.Streams.{has_failed, inside, written};
 ghost use Rattle.clap.specs.Words.{kind_of};
 ghost use Rattle.mm_arguments.specs.Requests as arguments;
 ghost use Rattle.mm_subcommands.specs.Told.{TellsFailure};
-ghost use Rattle.mm_program.specs.Files.{StopsNew};
-ghost use Rattle.mm_program.specs.Told.{TellsDecline, TellsInit, TellsStatus, TellsWords};
-ghost use Rattle.mm_program.specs.Worked.{IsRun, ends_in_fault};
+ghost use Rattle.mm_program.specs.Files.{OnFile, StopsNew, WasBare};
+ghost use Rattle.mm_program.specs.Left.{LeavesMade, LeavesRun, TellsRun};
+ghost use Rattle.mm_program.specs.Told.{TellsDecline, TellsInit, TellsRan, TellsSome, TellsStatus, TellsWords};
+ghost use Rattle.mm_program.specs.Worked.{IsRun, closes_done, closes_run};
 
 use crate::clock::{Now, moment_or_now};
 use crate::files::{on_new, on_old};
@@ -19,11 +21,12 @@ use mm_arguments::{Request, read_arguments, status_of};
 use mm_definitions::answers::Fault;
 use mm_definitions::moments::Moment;
 use mm_definitions::streams::Io;
-use mm_files::Works;
+use mm_files::{Left, Works};
 use mm_subcommands::{
     FAULT, REFUSED, Stop, make_package, run_package, tell_bytes, tell_init, tell_stop, tell_text,
 };
-use sqlite::{Alter, Connection};
+use sqlite::{Alter, Connection, FileFrom, Start, Wary};
+use sqlite_disk::Disk;
 use std::alloc::Global;
 use std::io;
 use std::io::{Read, Write};
@@ -37,30 +40,44 @@ impl Works for Making {
 
     ghost comes_to = { λ work old new done. IfErr done StopsNew };
 
-    ghost is_fault = { λ done. false };
+    ghost tells = { λ work found old new done. ⊤ };
+
+    ghost leaves = { λ work found after old new done. LeavesMade found after done };
+
+    ghost closes = { closes_done };
 
     fn work<S: Alter + Drop, W: Write>(
         &mut self,
         alloc: Global,
         conn: Connection<S>,
         _output: &mut Io<W>,
-    ) -> (Option<Connection<S>>, Result<(), Stop>) {
+    ) -> (Connection<S>, Result<(), Stop>) {
         match make_package(alloc, conn) {
-            Ok(conn) => (Some(conn), Ok(())),
-            Err((_, why)) => (None, Err(why)),
+            Ok(conn) => (conn, Ok(())),
+            Err((conn, why)) => (conn, Err(why)),
         }
     }
 
-    fn is_fault(_done: Result<(), Stop>) -> bool {
-        false
+    fn closes(done: Result<(), Stop>) -> bool {
+        done.is_ok()
     }
 }
 
 /// Makes a package in a new file.
-fn init_file(rt: &HostRuntime, path: &str) -> Result<(), Stop>
-    ensures { IfErr result StopsNew }
+fn init_file<'a, S: Start>(
+    rt: &HostRuntime,
+    path: &'a str,
+    start: S,
+) -> (Result<(), Stop>, Left<'a, FileFrom<S>>)
+    ensures stopped { IfErr result.0 StopsNew }
+    ensures left { OnFile ⟦<FileFrom<S> as Disk>⟧ (image_at S.Start) path.now (λ found done. ⊤)
+        LeavesMade closes_done result.0 result.1 }
+    ensures bare { WasBare ⟦<FileFrom<S> as Disk>⟧ (image_at S.Start) result.1 }
 {
-    on_new(rt, path, &mut Making, &mut Io::new(io::sink()))?
+    match on_new(rt, path, start, &mut Making, &mut Io::new(io::sink())) {
+        Ok((opened, done)) => (done, Left::Worked(opened)),
+        Err((left, why)) => (Err(why), left),
+    }
 }
 
 /// The run of the records of an input.
@@ -75,72 +92,100 @@ impl<'a, R: Read> Works for Run<'a, R> {
 
     ghost comes_to = { λ work. IsRun };
 
-    ghost is_fault = { ends_in_fault };
+    ghost tells = { λ work found old new done. TellsRun found done };
+
+    ghost leaves = { λ work. LeavesRun (R.remaining (inside work.input.now)) work.at };
+
+    ghost closes = { closes_run };
 
     fn work<S: Alter + Drop, W: Write>(
         &mut self,
         alloc: Global,
         conn: Connection<S>,
         output: &mut Io<W>,
-    ) -> (Option<Connection<S>>, Result<u8, Stop>) {
+    ) -> (Connection<S>, Result<u8, Stop>) {
         match run_package(alloc, conn, self.input, output, self.at) {
-            Ok((conn, status)) => (Some(conn), Ok(status)),
-            Err((_, why)) => (None, Err(why)),
+            Ok((conn, status)) => (conn, Ok(status)),
+            Err((conn, why)) => (conn, Err(why)),
         }
     }
 
-    fn is_fault(done: Result<u8, Stop>) -> bool {
+    fn closes(done: Result<u8, Stop>) -> bool
+        ensures { result ≡ closes_run done }
+    {
         match done {
-            Ok(status) => status == FAULT,
-            Err(_) => true,
+            Ok(status) => status != FAULT,
+            Err(_) => false,
         }
     }
 }
 
 /// Runs the records of the input on the package of a file.
-fn run_file<R: Read, W: Write>(
+fn run_file<'a, S: Start, R: Read, W: Write>(
     rt: &HostRuntime,
-    path: &str,
+    path: &'a str,
+    start: S,
     input: &mut Io<R>,
     output: &mut Io<W>,
     at: Moment,
-) -> Result<u8, Stop>
-    ensures { IsRun (written W.contents output.old) (written W.contents output.new) result }
+) -> (Result<u8, Stop>, Left<'a, FileFrom<S>>)
+    ensures run { IsRun (written W.contents output.old) (written W.contents output.new) result.0 }
+    ensures left { OnFile ⟦<FileFrom<S> as Disk>⟧ (image_at S.Start) path.now TellsRun
+        (λ found after done. LeavesRun (R.remaining (inside input.old)) at found after
+        (written W.contents output.old) (written W.contents output.new) done)
+        closes_run result.0 result.1 }
 {
-    on_old(rt, path, &mut Run { input, at }, output)?
+    match on_old(rt, path, start, &mut Run { input, at }, output) {
+        Ok((opened, done)) => (done, Left::Worked(opened)),
+        Err((left, why)) => (Err(why), left),
+    }
 }
 
 /// The subcommand `init`.
-fn init_told<W: Write>(rt: &HostRuntime, path: &str, output: &mut Io<W>) -> u8
-    ensures told { TellsInit (written W.contents output.old)
-        (written W.contents output.new) result }
-    ensures status { result ≤ 4 }
-    ensures unprinted { TellsFailure (has_failed output.old) (has_failed output.new) result }
+fn init_told<'a, S: Start, W: Write>(
+    rt: &HostRuntime,
+    path: &'a str,
+    start: S,
+    output: &mut Io<W>,
+) -> (u8, Left<'a, FileFrom<S>>)
+    ensures told { TellsInit ⟦<FileFrom<S> as Disk>⟧ (image_at S.Start) path.now
+        (written W.contents output.old) (written W.contents output.new) result.0 result.1 }
+    ensures status { result.0 ≤ 4 }
+    ensures unprinted { TellsFailure (has_failed output.old) (has_failed output.new) result.0 }
 {
-    tell_init(output, init_file(rt, path))
+    let (outcome, left) = init_file(rt, path, start);
+    (tell_init(output, outcome), left)
 }
 
 /// The subcommand `run`.
-fn run_told<R: Read, W: Write>(
+fn run_told<'a, S: Start, R: Read, W: Write>(
     rt: &HostRuntime,
-    path: &str,
+    path: &'a str,
+    start: S,
     at: Option<Moment>,
     input: &mut Io<R>,
     output: &mut Io<W>,
-) -> u8
+) -> (u8, Left<'a, FileFrom<S>>)
     ensures declined { TellsDecline (written W.contents output.old)
-        (written W.contents output.new) result }
-    ensures status { result ≤ 4 }
-    ensures unprinted { TellsFailure (has_failed output.old) (has_failed output.new) result }
+        (written W.contents output.new) result.0 }
+    ensures ran { TellsRan ⟦<FileFrom<S> as Disk>⟧ (image_at S.Start) path.now
+        (written W.contents output.old) (written W.contents output.new) result.0 result.1
+        (R.remaining (inside input.old)) at }
+    ensures status { result.0 ≤ 4 }
+    ensures unprinted { TellsFailure (has_failed output.old) (has_failed output.new) result.0 }
 {
     let moment = match moment_or_now(rt, at) {
         Now::At(moment) => moment,
-        Now::Outside => return tell_bytes(output, b"refused 11\n", REFUSED),
-        Now::Unread => return tell_stop(output, Stop::Fault(Fault::INPUT)),
+        Now::Outside => {
+            return (tell_bytes(output, b"refused 11\n", REFUSED), Left::Unopened);
+        }
+        Now::Unread => {
+            return (tell_stop(output, Stop::Fault(Fault::INPUT)), Left::Unopened);
+        }
     };
-    match run_file(rt, path, input, output, moment) {
-        Ok(status) => status,
-        Err(why) => tell_stop(output, why),
+    match run_file(rt, path, start, input, output, moment) {
+        (Ok(status), left) => (status, left),
+        (Err(why), left) => (tell_stop(output, why), left),
     }
 }
 
@@ -157,26 +202,32 @@ fn tell_words<W: Write>(output: &mut Io<W>, error: clap::Error) -> u8
     }
 }
 
-/// The whole program, of which the first word is its name. It answers the exit status: 0 where all was accepted, 1 where
-/// something was refused, 2 for wrong words, 3 for a fault, 4 where the file is no package. A print that fails ends with 3.
-pub fn program<R: Read, W: Write>(
+/// The whole program, of which the first word is its name, where `start` stands for what the files held that the words name. It answers
+/// the exit status, with what is left of the files: 0 where all was accepted, 1 where something was refused, 2 for wrong words, 3 for a
+/// fault, 4 where the file is no package. A print that fails ends with 3.
+pub fn program_on<'a, S: Start, R: Read, W: Write>(
     rt: &HostRuntime,
-    words: &[&str],
+    words: &'a [&'a str],
+    start: S,
     input: &mut Io<R>,
     output: &mut Io<W>,
-) -> u8
-    ensures told { TellsWords (map (λ word. word.now) words.entry.now)
-        (written W.contents output.old) (written W.contents output.new) result }
-    ensures status { result ≤ 4 }
-    ensures unprinted { TellsFailure (has_failed output.old) (has_failed output.new) result }
+) -> (u8, Left<'a, FileFrom<S>>)
+    requires { S.Start.is_mixing ≡ false }
+    ensures told { TellsWords ⟦<FileFrom<S> as Disk>⟧ (image_at S.Start)
+        (R.remaining (inside input.old)) (map (λ word. word.now) words.entry.now)
+        (written W.contents output.old) (written W.contents output.new) result.0 result.1 }
+    ensures status { result.0 ≤ 4 }
+    ensures unprinted { TellsFailure (has_failed output.old) (has_failed output.new) result.0 }
 {
     match read_arguments(rt.alloc(), words) {
-        Ok(Request::Init { file }) => init_told(rt, file, output),
-        Ok(Request::Run { file, at }) => run_told(rt, file, at, input, output),
-        Ok(Request::Check { file }) => check_told(rt, file, output),
-        Ok(Request::List { file }) => list_told(rt, file, output),
-        Ok(Request::Migrate { file }) => migrate_told(rt, file, output),
-        Ok(Request::Serve { file, port, count }) => serve_told(rt, file, port, count, output),
+        Ok(Request::Init { file }) => init_told(rt, file, start, output),
+        Ok(Request::Run { file, at }) => run_told(rt, file, start, at, input, output),
+        Ok(Request::Check { file }) => check_told(rt, file, start, output),
+        Ok(Request::List { file }) => list_told(rt, file, start, output),
+        Ok(Request::Migrate { file }) => migrate_told(rt, file, start, output),
+        Ok(Request::Serve { file, port, count }) => {
+            serve_told(rt, file, start, port, count, output)
+        }
         Ok(
             Request::Kit {
                 file,
@@ -184,7 +235,43 @@ pub fn program<R: Read, W: Write>(
                 folder,
                 at,
             },
-        ) => kit_told(rt, file, edition, folder, at, output),
-        Err(error) => tell_words(output, error),
+        ) => kit_told(rt, file, start, edition, folder, at, output),
+        Err(error) => (tell_words(output, error), Left::Unopened),
     }
+}
+
+/// The same, which lets the files go.
+fn status_on<S: Start, R: Read, W: Write>(
+    rt: &HostRuntime,
+    words: &[&str],
+    start: S,
+    input: &mut Io<R>,
+    output: &mut Io<W>,
+) -> u8
+    requires { S.Start.is_mixing ≡ false }
+    ensures told { TellsSome ⟦<FileFrom<S> as Disk>⟧ (image_at S.Start)
+        (R.remaining (inside input.old)) (map (λ word. word.now) words.entry.now)
+        (written W.contents output.old) (written W.contents output.new) result }
+    ensures status { result ≤ 4 }
+    ensures unprinted { TellsFailure (has_failed output.old) (has_failed output.new) result }
+{
+    let (status, left) = program_on(rt, words, start, input, output);
+    left.let_go();
+    status
+}
+
+/// The same, of files that the system opens. Of how a crash mixes old bytes and new ones nothing is supposed: each commit is synced twice.
+pub fn program<R: Read, W: Write>(
+    rt: &HostRuntime,
+    words: &[&str],
+    input: &mut Io<R>,
+    output: &mut Io<W>,
+) -> u8
+    ensures told { TellsSome ⟦<FileFrom<Wary> as Disk>⟧ (image_at ⟦<Wary as Start>⟧)
+        (R.remaining (inside input.old)) (map (λ word. word.now) words.entry.now)
+        (written W.contents output.old) (written W.contents output.new) result }
+    ensures status { result ≤ 4 }
+    ensures unprinted { TellsFailure (has_failed output.old) (has_failed output.new) result }
+{
+    status_on(rt, words, Wary, input, output)
 }

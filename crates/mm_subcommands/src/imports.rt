@@ -39,6 +39,8 @@ pub fn import_package<S: Alter + Drop, F: Folder>(
     at: Moment,
 ) -> Result<(Connection<S>, Import), (Connection<S>, Stop)>
     requires { conn.in_transaction ≡ false }
+    ensures clean { IfOk result
+        (λ done. HasCleanDisk (state S.Store done.0) → HasCleanDisk (state S.Store conn)) }
     ensures imported { IfOk result (λ done. OnKit (HasCleanDisk (state S.Store done.0))
         (λ p. IsSettled current (state S.Store conn) p) (F.files folder.old)
         (λ files p. IsImport files name.now p (state S.Store done.0) done.1)) }

@@ -115,6 +115,8 @@ pub fn run_package<S: Alter + Drop, R: Read, W: Write>(
     ensures status { IfOk result (λ ran. ran.1 ≤ 3) }
     ensures working { IfOk result
         (λ ran. (ran.1 ≡ 3) ⊎ (has_failed output.new ≡ has_failed output.old)) }
+    ensures clean { IfOk result
+        (λ ran. HasCleanDisk (state S.Store ran.0) → HasCleanDisk (state S.Store conn)) }
     ensures ran { IfOk result (λ ran. OnRun (HasCleanDisk (state S.Store ran.0))
         (λ p. IsSettled current (state S.Store conn) p) (R.remaining (inside input.old))
         (λ p bytes. IsListRun p at bytes (state S.Store ran.0)

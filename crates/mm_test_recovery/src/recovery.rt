@@ -332,15 +332,11 @@ fn adopts_what_was_closed(rt: HostRuntime) -> Result<(), Fail> {
     Ok(())
 }
 
-/// The files of a package with one table, which have crashed; the log takes so many calls.
-fn lost(alloc: Global, calls: u64) -> Option<Files<Fuse<Fuse<Memory>>>> {
-    let mut session = create(alloc, open(alloc, files_of(alloc, u64::MAX))?)?;
+/// The files of a package with one table, which was let go on a log that takes so many calls in all; None where it takes no package.
+fn lost(alloc: Global, calls: u64) -> Option<Files<Fuse<Memory>>> {
+    let mut session = create(alloc, open(alloc, files_of(alloc, calls))?)?;
     answers(alloc, &mut session, b"table,spots,attributes,Spots\n")?;
-    let Files { log, db } = crash_files(let_go(session.close()));
-    Some(Files {
-        log: Fuse::new(log, calls),
-        db: Fuse::new(db, u64::MAX),
-    })
+    Some(let_go(session.close()))
 }
 
 /// How many tables there are in a package.
@@ -349,19 +345,19 @@ fn tables_in<S: Alter + Drop>(session: Session<S>) -> Option<usize> {
     Some(session.contents().ok()?.len())
 }
 
-/// What a recovery from files comes to, and how many tables are found in the end: where it is stopped, the files that it leaves
-/// crash, and the package is adopted from them.
-fn gone_on<D: Crash + Drop>(alloc: Global, files: Files<D>) -> Option<(&'static str, usize)> {
+/// Whether a recovery from files is stopped, and how many tables are found in the end: where it is, the files that it leaves crash,
+/// and the package is adopted from them.
+fn gone_on<D: Crash + Drop>(alloc: Global, files: Files<D>) -> Option<(bool, usize)> {
     if !files.may_be_used() {
         return None;
     }
-    let (told, files) = match adopt_left(alloc, files, Options::new(7)) {
-        Ok(again) => return Some(("adopted", tables_in(again)?)),
-        Err(NotBegun::Declined(conn, _)) => ("declined", let_go(conn)),
-        Err(NotBegun::Unopened(stop)) => ("not opened", stop.into_files()),
+    let left = match adopt_left(alloc, files, Options::new(7)) {
+        Ok(again) => return Some((false, tables_in(again)?)),
+        Err(NotBegun::Declined(conn, _)) => let_go(conn),
+        Err(NotBegun::Unopened(stop)) => stop.into_files(),
     };
-    match adopt_left(alloc, crash_files(files), Options::new(7)) {
-        Ok(again) => Some((told, tables_in(again)?)),
+    match adopt_left(alloc, crash_files(left), Options::new(7)) {
+        Ok(again) => Some((true, tables_in(again)?)),
         Err(_) => None,
     }
 }
@@ -370,13 +366,15 @@ fn gone_on<D: Crash + Drop>(alloc: Global, files: Files<D>) -> Option<(&'static 
 fn recoveries(alloc: Global) -> Option<String> {
     let mut text = String::new(alloc);
     for calls in 0..2000u64 {
-        let (told, found) = gone_on(alloc, lost(alloc, calls)?)?;
-        let line = format!(in alloc; "{told}, tables: {found}\n").ok()?;
-        if !text.ends_with(line.as_str()) {
-            text.push_str(line.as_str()).ok()?;
-        }
-        if told == "adopted" {
-            return Some(text);
+        if let Some(files) = lost(alloc, calls) {
+            let (stopped, found) = gone_on(alloc, files)?;
+            let line = format!(in alloc; "stopped: {stopped}, tables: {found}\n").ok()?;
+            if !text.ends_with(line.as_str()) {
+                text.push_str(line.as_str()).ok()?;
+            }
+            if !stopped {
+                return Some(text);
+            }
         }
     }
     None
@@ -387,7 +385,7 @@ fn goes_on_where_a_recovery_stopped(rt: HostRuntime) -> Result<(), Fail> {
     let told = recoveries(rt.alloc()).expect(&rt, "a recovery that ends");
     assert_eq!(rt;
         told.as_str(),
-        "not opened, tables: 1\nadopted, tables: 1\n"
+        "stopped: true, tables: 1\nstopped: false, tables: 1\n"
     );
     Ok(())
 }

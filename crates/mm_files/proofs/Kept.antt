@@ -1,0 +1,83 @@
+-- What is left of a connection's files.
+use Rattle.std.proofs.Common.{arith, ◌≡◌, ℕ, ◌≤◌, Bool, true, false, IsTrue, subst}
+use Rattle.std.proofs.Math.Logic.{∥∥₁_map}
+use Rattle.sqlite_disk.specs.declared.Disk.{Ghosts}
+use Rattle.sqlite_disk.specs.declared.Files.{Files}
+use Rattle.sqlite_wal.specs.Reads.{AreClean}
+use Rattle.sqlite_wal.specs.Recovery.{Image}
+use Rattle.sqlite_wal.specs.Files.{outcomes}
+use Rattle.sqlite_wal.proofs.LogLemmas.{SeenMayStay}
+use Rattle.sqlite_pool.specs.Pool as pool
+use Rattle.sqlite_store.specs.declared.store.FileStore.{FileStore}
+use Rattle.sqlite_store.specs.FileStore as file
+use Rattle.sqlite_store.specs.Laws.{stays_at}
+use Rattle.sqlite.specs.Held.{Held, AreDatabases}
+use Rattle.sqlite.specs.Tree.{Trees}
+use Rattle.sqlite.specs.Files.{file_state, HoldsDatabase}
+use Rattle.sqlite.specs.Closing.{IsCopied}
+use Rattle.sqlite_trees.specs.View.{IsClean, IsQuiet}
+use Rattle.sqlite_trees.proofs.Doubt.{no_doubt}
+use Rattle.sqlite.specs.State.{State, HasCleanDisk}
+use Rattle.sqlite.proofs.Theorems.{opens_again}
+use Rattle.mm_definitions.specs.Streams.{Written}
+use Rattle.mm_files.specs.Worked.{HoldsAfter, KeepsLeft, WorkedOn}
+
+-- what is no more than nothing is nothing
+nothing_less : (a b : ℕ) → a ≤ b → b ≡ 0 → a ≡ 0
+nothing_less a b less none = omega (arith, less, none)
+
+never : IsTrue false → ⊥
+never lie = cc
+
+-- of files that are not closed nothing is said of the one alone
+holds_both : (image : Image) (db : Trees) → HoldsDatabase image db → HoldsAfter false image db
+holds_both image db holds = record { both = holds; alone = λ closed. absurd (never closed) }
+
+module _ {D : Type 0} {g : Ghosts D} where
+  -- a store has no doubt of its disk where its two files have none
+  clean_by : (it : FileStore D g) → AreClean g (file.files it).0 (file.files it).1 → IsTrue (file.view it).is_clean
+  unfolding pool.state pool.files
+  clean_by it clean = clean
+
+  -- what a crash of its two files may leave is what it may leave
+  left_by : (it : FileStore D g) (image : Image) → AreClean g (file.files it).0 (file.files it).1 → outcomes g (file.files it).0 (file.files it).1 image → (file.state it).may_leave image
+  unfolding pool.state pool.files
+  left_by it image clean may = (clean, may)
+
+  pub kept_as_it_is : (conn : Held (FileStore D g)) (last : FileStore D g) (files : Files D) → (files.log, files.db) ≡ file.files last
+      → (IsClean (file.view last) → IsTrue (file.view last).is_numbered) → (IsClean (file.view last) → AreDatabases (file.recovers last))
+      → IsQuiet file.view file.faults file.recovers file.is_shielded conn.store last
+      → KeepsLeft g (file_state conn) false files
+  kept_as_it_is conn last files are numbered sound quiet =
+      let was = λ (clean : AreClean g files.log files.db). subst (λ (f : D × D). AreClean g f.0 f.1) are clean in
+      let calm = λ (clean : AreClean g files.log files.db). no_doubt _ (clean_by last (was clean)) in
+      record {
+        was_clean = λ clean. nothing_less _ _ quiet.clean (calm clean);
+        left = λ clean left may. ∥∥₁_map
+            (opens_again last (numbered (calm clean)) (sound (calm clean)) left (left_by last left (was clean) (subst (λ (f : D × D). outcomes g f.0 f.1 left) are may)))
+            (λ found. let r : (after : Trees) × (file_state conn).may_leave after × HoldsAfter false left after = (found.0, quiet.outcomes _ found.1, holds_both left found.0 found.2) in r);
+      }
+
+  pub kept_by_copy : (conn : Held (FileStore D g)) (files : Files D) → SeenMayStay g → (AreClean g files.log files.db → IsCopied conn files)
+      → KeepsLeft g (file_state conn) true files
+  kept_by_copy conn files stays copied = record {
+    was_clean = λ clean. (copied clean).was_clean;
+    left = λ clean left may. ∥∥₁_map ((copied clean).left left may).both
+        (λ holds. let r : (after : Trees) × (file_state conn).may_leave after × HoldsAfter true left after = (
+          (file_state conn).committed.trees,
+          stays_at conn.store stays (copied clean).was_open,
+          record { both = holds; alone = λ closed. ((copied clean).left left may).alone },
+        ) in r);
+  }
+
+module _ {D Done : Type 0} {g : Ghosts D} {tells : Trees → Written → Written → Done → Type 0} {leaves : Trees → Trees → Written → Written → Done → Type 0} {old new : Written} (before after : State) where
+  pub worked_on : (closes closed : Bool) (files : Files D) (done : Done) → closed ≡ closes → KeepsLeft g after closed files → (HasCleanDisk after → HasCleanDisk before)
+      → (HasCleanDisk after → tells before.committed.trees old new done)
+      → (HasCleanDisk after → (db : Trees) → after.may_leave db → leaves before.committed.trees db old new done)
+      → WorkedOn g tells leaves closes old new files done before
+  worked_on closes closed files done is keeps cleaned told worked = let kept = subst (λ c. KeepsLeft g after c files) is keeps in record {
+    was_clean = λ clean. cleaned (kept.was_clean clean);
+    told = λ clean. told (kept.was_clean clean);
+    left = λ clean left may. ∥∥₁_map (kept.left clean left may)
+        (λ found. let r : (db : Trees) × leaves before.committed.trees db old new done × HoldsAfter closes left db = (found.0, worked (kept.was_clean clean) found.0 found.1, found.2) in r);
+  }

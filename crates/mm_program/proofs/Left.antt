@@ -1,0 +1,200 @@
+-- What work leaves of a database, and tells of it, by what becomes of the connection that was just opened.
+use Rattle.std.proofs.Common.{◌≡◌, ◌⊎◌, ℕ, ◌+◌, List, Option, Result, Ok, Err, IfErr, inl, inr, subst, sym}
+use Rattle.sqlite.specs.Tree.{Trees}
+use Rattle.sqlite.specs.State.{State, HasCleanDisk}
+use Rattle.mm_definitions.specs.Bounds.{current, micrometres, millimetres}
+use Rattle.mm_definitions.specs.Keys.{Text}
+use Rattle.mm_definitions.specs.Package.{Package}
+use Rattle.mm_definitions.specs.Rules.{Meets}
+use Rattle.mm_definitions.specs.Streams.{Written}
+use Rattle.mm_definitions.specs.declared.answers.KitFault.{KitFault}
+use Rattle.mm_definitions.specs.declared.answers.Open.{Open}
+use Rattle.mm_definitions.specs.declared.answers.Open.TheVariants as opens
+use Rattle.mm_definitions.specs.declared.answers.Staged.{Staged}
+use Rattle.mm_store.specs.Stands.{IsSettled}
+use Rattle.mm_store.specs.Statements.{CommitsNothing}
+use Rattle.mm_store.proofs.Shapes.{quiet_then}
+use Rattle.mm_core.specs.Adopted.{IsAdopted}
+use Rattle.mm_core.specs.Applied.{StandsForCurrent}
+use Rattle.mm_core.specs.Sessions.{IsCreated, IsNotCreated}
+use Rattle.mm_kit.specs.Folders.{Files}
+use Rattle.mm_kit.specs.Imports.{IsImportKept, OnAnyFolder, OnKit}
+use Rattle.mm_migrate.specs.Migrations.{Adopts, IsMigration, Migrates}
+use Rattle.mm_opening.specs.Opening.{HasNoTable, IsBlank}
+use Rattle.mm_reads.specs.Viewers.{LeavesPackage}
+use Rattle.mm_run.specs.Readings.{Reading}
+use Rattle.mm_run.specs.Runs.{StopsBehind}
+use Rattle.mm_subcommands.specs.Declined.{IsDeclined}
+use Rattle.mm_subcommands.specs.Imports.{IsImport}
+use Rattle.mm_subcommands.specs.Looked.{IsListing, IsUnlisted}
+use Rattle.mm_subcommands.specs.Migrated.{IsUnmigrated}
+use Rattle.mm_subcommands.specs.Ran.{IsListRun}
+use Rattle.mm_subcommands.specs.declared.stop.Stop.{Stop}
+use Rattle.mm_subcommands.specs.declared.stop.Stop.TheVariants as stops
+use Rattle.mm_files.specs.Worked.{IsJustOpened}
+use Rattle.mm_program.specs.Left.{IsImportOf, LeavesImport, LeavesMade, LeavesMigrated, LeavesSame, RanTo, StaysFor, StaysIn, TellsDeclined, TellsListing, TellsServed}
+use Rattle.mm_program.proofs.Opened.{nothing_less, opened_blank, opened_settles}
+
+-- ---- a run
+
+stops-behind : (p : Package) (moment : ℕ) (readings : List Reading) (n : ℕ) (works works' : Package → Type 0) (failed failed' : Type 0)
+    → ((q : Package) → works q → works' q) → (failed → failed') → StopsBehind works failed p moment readings n → StopsBehind works' failed' p moment readings n
+stops-behind p moment readings n works works' failed failed' w f (inl it) = inl (it.0, w _ it.1)
+stops-behind p moment readings n works works' failed failed' w f (inr it) = inr (f it.0, it.1, it.2, it.3, it.4)
+
+pub ran_to : (p : Package) (moment : ℕ) (bytes : List ℕ) (end : State) (old new : Written) (status : ℕ) (after : Trees)
+    → end.may_leave after → IsListRun p moment bytes end old new status → RanTo p moment bytes after old new status
+ran_to p moment bytes end old new status after may (inl (t, it, is)) = inl (
+  t,
+  record {
+    readings = it.readings;
+    read = it.read;
+    text = it.text;
+    counted = it.counted;
+    all = it.all;
+    written = it.written;
+    stands = (it.stands.0.left after may, it.stands.1);
+    left = λ db same. it.left db (subst end.may_leave (sym same) may);
+  },
+  is,
+)
+ran_to p moment bytes end old new status after may (inr (e, it, is)) = inr (
+  e,
+  record {
+    readings = it.readings;
+    read = it.read;
+    text = it.text;
+    counted = it.counted;
+    session = stops-behind p moment it.readings (e.tally.accepted + e.tally.refused) _ _ _ _ (λ (q : Package) (works : IsSettled current end q). works.left after may) (λ _. tt) it.session;
+    left = λ db same. it.left db (subst end.may_leave (sym same) may);
+  },
+  is,
+)
+
+-- ---- a migration
+
+stays_for : (p : Package) (new : State) (after : Trees) → new.may_leave after → (cause : Open) → Adopts p new (Err cause) → StaysFor p after cause
+stays_for p new after may (opens.Rule rule) it = (it.0.left after may, it.1)
+stays_for p new after may (opens.Fault fault) it = it after may
+stays_for p new after may (opens.Version version) it = it
+stays_for p new after may opens.NoProfile it = it
+stays_for p new after may opens.BadProfile it = it
+stays_for p new after may opens.BadBlobs it = it
+
+stays_in : (p : Package) (new : State) (after : Trees) → new.may_leave after → (cause : Open) → Migrates p new (Err cause) → StaysIn p after cause
+stays_in p new after may (opens.Rule rule) it = (it.0.left after may, it.1)
+stays_in p new after may (opens.Fault fault) it = it after may
+stays_in p new after may (opens.Version version) it = it
+stays_in p new after may opens.NoProfile it = it
+stays_in p new after may opens.BadProfile it = it
+stays_in p new after may opens.BadBlobs it = it
+
+-- ---- each, of a connection that was just opened where it was clean, and is clean
+
+module _ (old new : State) (fresh : HasCleanDisk old → IsJustOpened old) (clean : HasCleanDisk new) where
+  settles : (HasCleanDisk new → HasCleanDisk old) → (p : Package) → StandsForCurrent old.committed.trees p → IsSettled current old p
+  settles was p stands = opened_settles old (fresh (was clean)) current p stands
+
+  was_clean : CommitsNothing old new → HasCleanDisk old
+  was_clean quiet = nothing_less _ _ quiet.clean clean
+
+  same_by : (after : Trees) → HasCleanDisk old → (old.may_leave after ⊎ ⊥) → after ≡ old.committed.trees
+  same_by after was (inl may) = (fresh was).2 after may
+  same_by after was (inr none) = absurd none
+
+  -- where nothing was committed all is as it was
+  pub leaves_same : CommitsNothing old new → (after : Trees) → new.may_leave after → LeavesSame old.committed.trees after
+  leaves_same quiet after may = same_by after (was_clean quiet) (quiet.crash clean after may)
+
+  -- why a package is not adopted
+  pub tells_declined : (why : Stop) → IsDeclined old new why → TellsDeclined old.committed.trees why
+  tells_declined why declined p stands =
+      (declined.0, declined.1.declines clean p (settles (λ c. nothing_less _ _ declined.1.survives.clean c) p stands), declined.2)
+
+  -- ---- a listing
+  pub tells_listing : (held holds : Written) (done : Unit {0}) → IsListing old new held.contents holds.contents → TellsListing old.committed.trees held holds (Ok done)
+  tells_listing held holds done it p stands =
+      let settled = settles (λ c. nothing_less _ _ it.survives.clean c) p stands in (it.meets clean p settled, it.printed clean p settled)
+
+  pub tells_unlisted : (held holds : Written) (why : Stop) → IsUnlisted old new held holds why → TellsListing old.committed.trees held holds (Err why)
+  tells_unlisted held holds why (inl (declined, same)) p stands = inl (tells_declined why declined p stands, same)
+  tells_unlisted held holds why (inr (fault, cut, is)) p stands =
+      let settled = settles (λ c. nothing_less _ _ cut.survives.clean c) p stands in inr (cut.meets clean p settled, cut.begun clean p settled, (fault, is))
+
+  pub leaves_unlisted : (held holds : Written) (why : Stop) → IsUnlisted old new held holds why → (after : Trees) → new.may_leave after → LeavesSame old.committed.trees after
+  leaves_unlisted held holds why (inl (declined, same)) after may = leaves_same declined.1.survives after may
+  leaves_unlisted held holds why (inr (fault, cut, is)) after may = leaves_same cut.survives after may
+
+  -- ---- a making
+  blank : HasCleanDisk old → HasNoTable old.committed.trees → IsBlank old
+  blank was none = opened_blank old (fresh was) none
+
+  pub leaves_made : (done : Unit {0}) → IsCreated old new → (after : Trees) → new.may_leave after → LeavesMade old.committed.trees after (Ok done)
+  leaves_made done it after may none = (it.settled clean (blank (nothing_less _ _ it.survives.clean clean) none)).left after may
+
+  pub leaves_unmade : (why : Stop) → IsNotCreated old new → (after : Trees) → new.may_leave after → LeavesMade old.committed.trees after (Err why)
+  leaves_unmade why it after may none = it.left clean (blank (nothing_less _ _ it.survives.clean clean) none) after may
+
+  -- ---- a migration
+  pub leaves_migrated : (done : Unit {0}) → IsMigration old new (Ok tt) → (after : Trees) → new.may_leave after → LeavesMigrated old.committed.trees after (Ok done)
+  leaves_migrated done it after may =
+      let opened = fresh (nothing_less _ _ it.survives.clean clean) in (
+        λ p stands. let adopted = it.adopts clean p (opened_settles old opened micrometres p stands) in (adopted.0.left after may, adopted.1),
+        λ p stands. let scaled = it.migrates clean p (opened_settles old opened millimetres p stands) in (scaled.0.left after may, scaled.1),
+      )
+
+  pub leaves_unmigrated : (why : Stop) → IsUnmigrated old new why → (after : Trees) → new.may_leave after → LeavesMigrated old.committed.trees after (Err why)
+  leaves_unmigrated why (cause, it, is) after may =
+      let opened = fresh (nothing_less _ _ it.survives.clean clean) in (
+        λ p stands. (cause, stays_for p new after may cause (it.adopts clean p (opened_settles old opened micrometres p stands)), is),
+        λ p stands. (cause, stays_in p new after may cause (it.migrates clean p (opened_settles old opened millimetres p stands)), is),
+      )
+
+  -- ---- an import
+  module _ (name : Text) (p : Package) (after : Trees) (may : new.may_leave after) where
+    kept_left : (import : Result Staged KitFault) → IsImportKept name p (λ q. IsSettled current new q) (λ db. new.may_leave db) StandsForCurrent import
+        → IsImportKept name p (λ q. StandsForCurrent after q) (λ db. db ≡ after) StandsForCurrent import
+    kept_left (Ok answer) (q, sound, keeps) = (q, (sound.0.left after may, sound.1), keeps)
+    kept_left (Err stopped) it = λ db same. it db (subst new.may_leave (sym same) may)
+
+    imported_left : (files : Files) (import : Result Staged KitFault) → IsImport files name p new import → IsImportOf files name p after import
+    imported_left files (Ok answer) it = record {
+      list = it.list;
+      read = it.read;
+      edition = it.edition;
+      stands = it.stands;
+      answer_is = it.answer_is;
+      next = it.next;
+      sound = (it.sound.0.left after may, it.sound.1);
+      grows = it.grows;
+      has = it.has;
+    }
+    imported_left files (Err stopped) it = λ db same. it db (subst new.may_leave (sym same) may)
+
+  pub leaves_import : (told : Option Files) (name : Text) (import : Result Staged KitFault) → (HasCleanDisk new → HasCleanDisk old)
+      → OnKit (HasCleanDisk new) (λ p. IsSettled current old p) told (λ files p. IsImport files name p new import)
+      → OnAnyFolder (HasCleanDisk new) (λ p. IsSettled current old p)
+      (λ p. IsImportKept name p (λ q. IsSettled current new q) (λ db. new.may_leave db) StandsForCurrent import)
+      → (after : Trees) → new.may_leave after → LeavesImport told name old.committed.trees after (Ok import)
+  leaves_import told name import was imported kept after may p stands meets = record {
+    kept = kept_left name p after may import (kept clean p (settles was p stands, meets));
+    imported = λ files is. imported_left name p after may files import (imported clean p (settles was p stands, meets) files is);
+  }
+
+-- ---- a service
+
+tells_served : (found : Trees) (served : Result ℕ Stop) → ((p : Package) → StandsForCurrent found p → Meets current p)
+    → IfErr served (λ why. why ≡ stops.Fault (record { 0 = 96 })) → TellsServed found served
+tells_served found (Ok status) meets unbound = meets
+tells_served found (Err why) meets unbound = λ p stands. inr (meets p stands, unbound)
+
+module _ (old mid new : State) (fresh : HasCleanDisk old → IsJustOpened old) (clean : HasCleanDisk new) (adopted : IsAdopted old mid) (kept : LeavesPackage mid new) where
+  early : HasCleanDisk mid
+  early = nothing_less _ _ kept.survives.clean clean
+
+  pub tells_service : (served : Result ℕ Stop) → IfErr served (λ why. why ≡ stops.Fault (record { 0 = 96 })) → TellsServed old.committed.trees served
+  tells_service served unbound = tells_served _ served
+      (λ p stands. adopted.meets early p (opened_settles old (fresh (nothing_less _ _ adopted.survives.clean early)) current p stands)) unbound
+
+  pub leaves_service : (after : Trees) → new.may_leave after → LeavesSame old.committed.trees after
+  leaves_service = leaves_same old new fresh clean (quiet_then old mid new adopted.survives kept.survives)

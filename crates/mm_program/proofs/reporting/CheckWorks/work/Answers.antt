@@ -1,0 +1,18 @@
+use Rattle.mm_program.proofs.Left.{leaves_same, tells_declined}
+use Rattle.mm_program.proofs.Opened.{nothing_less, opened_settles}
+use Rattle.mm_definitions.specs.Bounds.{current}
+use Rattle.mm_program.proofs.reporting.CheckWorks.work.Goals as goal
+
+pub returns-in-Ok-clause-found : goal.returns-in-Ok-clause-found
+returns-in-Ok-clause-found g c clean p stands =
+    let checked = c.in-Ok.ensures.checked in
+    checked.meets clean p (opened_settles _ (c.requires.fresh (nothing_less _ _ checked.survives.clean clean)) current p stands)
+
+pub returns-in-Err-clause-found : goal.returns-in-Err-clause-found
+returns-in-Err-clause-found g c clean = tells_declined _ _ c.requires.fresh clean _ c.in-Err.ensures.declined
+
+pub returns-in-Ok-clause-worked : goal.returns-in-Ok-clause-worked
+returns-in-Ok-clause-worked g c clean = leaves_same _ _ c.requires.fresh clean c.in-Ok.ensures.checked.survives
+
+pub returns-in-Err-clause-worked : goal.returns-in-Err-clause-worked
+returns-in-Err-clause-worked g c clean = leaves_same _ _ c.requires.fresh clean c.in-Err.ensures.declined.1.survives

@@ -1,0 +1,27 @@
+use Rattle.std.proofs.Common.{refl, subst, sym}
+use Rattle.mm_definitions.specs.Streams.{written}
+use Rattle.mm_program.specs.Told.{IsOutcome}
+use Rattle.mm_program.proofs.Told.{list_untold}
+use Rattle.mm_program.proofs.reporting.list_told.Goals as goal
+
+pub returns-in-Ok-default-clause-listed : goal.returns-in-Ok-default-clause-listed
+returns-in-Ok-default-clause-listed g c =
+    let new = written g.W.Write.contents c.list_file.new.output in (
+      new,
+      c.list_file.result.0,
+      (list_untold _ _ _ c.list_file.ensures.listed, subst (λ o. IsOutcome (λ (done : Unit {0}). 0) new new o 0) (sym c.in-Ok-default.is-0) (refl, refl)),
+      c.list_file.ensures.left,
+    )
+
+pub returns-in-Err-default-clause-listed : goal.returns-in-Err-default-clause-listed
+returns-in-Err-default-clause-listed g c =
+    let between = written g.W.Write.contents c.list_file.new.output in
+    let new = written g.W.Write.contents c.tell_stop.new.output in (
+      between,
+      c.list_file.result.0,
+      (
+        list_untold _ _ _ c.list_file.ensures.listed,
+        subst (λ o. IsOutcome (λ (done : Unit {0}). 0) between new o c.tell_stop.result) (sym c.in-Err-default.is-0) c.tell_stop.ensures,
+      ),
+      c.list_file.ensures.left,
+    )

@@ -1,0 +1,78 @@
+-- The life of a file: one run of the program behind another, and a crash, or none, between them.
+use Rattle.std.specs.Prelude.{◌≡◌, ℕ, List, [], ◌∷◌, Option, Some, None, Result, Ok, Err}
+use Rattle.std.proofs.Common.{inl, inr}
+use Rattle.sqlite.specs.Tree.{Trees}
+use Rattle.sqlite.specs.Recovery.{Image}
+use Rattle.sqlite.specs.Files.{HoldsDatabase}
+use Rattle.mm_definitions.specs.Bounds.{current}
+use Rattle.mm_definitions.specs.Package.{Package}
+use Rattle.mm_definitions.specs.Rules.{Meets}
+use Rattle.mm_definitions.specs.Runs.{IsFirstPart}
+use Rattle.mm_definitions.specs.Streams.{Written}
+use Rattle.mm_core.specs.Applied.{StandsForCurrent}
+use Rattle.mm_run.specs.Answers.{calls_of}
+use Rattle.mm_run.specs.Runs.{acknowledged_of}
+use Rattle.mm_subcommands.specs.declared.stop.Stop.{Stop}
+use Rattle.mm_program.specs.Left.{LeavesRun, LeavesSame, RanTo}
+
+-- of each database that files held, what was left of them holds such a one
+abbrev pub Leads : (Trees → Trees → Type 0) → Image → Image → Type 0
+Leads leaves image left = (db : Trees) → HoldsDatabase image db → ∥ ((after : Trees) × leaves db after × HoldsDatabase left after) ∥₁
+
+-- a run of a list: the bytes of its input, its moment, what was printed before and behind it, and what it came to
+pub record Ran : Type 0 where
+  pub bytes : List ℕ
+  pub moment : ℕ
+  pub old : Written
+  pub new : Written
+  pub done : Result ℕ Stop
+
+-- One use of the program, and what was then left of the files: a run, or none where the subcommand changes nothing.
+pub record Use : Type 0 where
+  pub ran : Option Ran
+  pub left : Image
+
+-- what a use leaves of a database
+abbrev pub LeavesBy : Option Ran → Trees → Trees → Type 0
+LeavesBy None found after = LeavesSame found after
+LeavesBy (Some r) found after = LeavesRun (Some r.bytes) r.moment found after r.old r.new r.done
+
+-- Files that held this were used; the system opened the next use on what was left of them then, and so to the last.
+unfoldable pub IsLife : Image → List Use → Image → Type 0
+IsLife image [] left = left ≡ image
+IsLife image (used ∷ uses) left = Leads (LeavesBy used.ran) image used.left × IsLife used.left uses left
+
+-- the package after a first part of the accepted commands of those that were read, with every one that was acknowledged
+abbrev pub IsPartOf : (p : Package) (moment : ℕ) (bytes : List ℕ) (after : Trees) (old new : Written) (status : ℕ) (q : Package) → RanTo p moment bytes after old new status → Type 0
+IsPartOf p moment bytes after old new status q (inl (t, all, is)) = IsFirstPart p (calls_of moment all.readings) t.accepted q
+IsPartOf p moment bytes after old new status q (inr (e, some, is)) = IsFirstPart p (calls_of moment some.readings) (acknowledged_of p moment some.readings e.tally) q
+
+-- the run read, printed and counted so, and the package after it is that of such a part
+pub record IsPart (r : Ran) (status : ℕ) (p q : Package) : Type 0 where
+  pub after : Trees
+  pub ran : RanTo p r.moment r.bytes after r.old r.new status
+  pub part : IsPartOf p r.moment r.bytes after r.old r.new status q ran
+
+-- what a run makes of a package, by what it came to
+abbrev pub MakesBy : Ran → Result ℕ Stop → Package → Package → Type 0
+MakesBy r (Ok status) p q = IsPart r status p q
+MakesBy r (Err why) p q = q ≡ p
+
+-- what a use makes of it
+abbrev pub Makes : Option Ran → Package → Package → Type 0
+Makes None p q = q ≡ p
+Makes (Some r) p q = MakesBy r r.done p q
+
+-- Each use makes a package of the one that the use before made, and each of them meets the rules.
+unfoldable pub AreMade : Package → List Use → Package → Type 0
+AreMade p [] q = q ≡ p
+AreMade p (used ∷ uses) q = (between : Package) × Makes used.ran p between × Meets current between × AreMade between uses q
+
+-- what is left holds a package that these uses have made of another one, and it meets the rules
+pub record LivesOn (left : Image) (p : Package) (uses : List Use) : Type 0 where
+  pub database : Trees
+  pub kept : Package
+  pub holds : HoldsDatabase left database
+  pub stands : StandsForCurrent database kept
+  pub meets : Meets current kept
+  pub made : AreMade p uses kept

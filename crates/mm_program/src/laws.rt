@@ -1,0 +1,100 @@
+//! From one run of the program to the next, as laws: what is left of a file by one is what the next is opened on.
+
+ghost use Rattle.std.specs.Prelude.{◌≡◌, List, [], ℕ, Result, Option, IfErr, Ok, ⊤};
+ghost use Rattle.sqlite.specs.Tree.{Trees};
+ghost use Rattle.sqlite.specs.Recovery.{Image};
+ghost use Rattle.sqlite.specs.Files.{HoldsDatabase};
+ghost use Rattle.sqlite.specs.WalFiles.{outcomes};
+ghost use Rattle.sqlite.specs.WalReads.{AreClean};
+ghost use Rattle.mm_definitions.specs.Bounds.{current};
+ghost use Rattle.mm_definitions.specs.Keys.{Text};
+ghost use Rattle.mm_definitions.specs.Opening.{opening};
+ghost use Rattle.mm_definitions.specs.Package.{Package};
+ghost use Rattle.mm_definitions.specs.Rules.{Meets};
+ghost use Rattle.mm_definitions.specs.Streams.{Written};
+ghost use Rattle.mm_core.specs.Applied.{StandsForCurrent};
+ghost use Rattle.mm_files.specs.declared.left.Left.TheVariants as left;
+ghost use Rattle.mm_subcommands.specs.Told.{stop_status};
+ghost use Rattle.mm_subcommands.specs.declared.stop.Stop.{Stop as Why};
+ghost use Rattle.mm_program.specs.Files.{OnFile, WasBare};
+ghost use Rattle.mm_program.specs.Left.{LeavesMade, LeavesRun, LeavesSame, TellsChecked, TellsListing, TellsRun, TellsServed};
+ghost use Rattle.mm_program.specs.Life.{IsLife, Leads, LivesOn, Use};
+ghost use Rattle.mm_program.specs.Worked.{closes_done, closes_run};
+
+use mm_files::Opened;
+use sqlite_disk::Disk;
+
+/// What a run leaves of the files leads from what they held to each thing that a crash, or none, may leave of them.
+pub fn a_run_leads_on<'a, D: Disk>(_opened: &Opened<'a, D>)
+    ensures { (image next : Image) (path : Text) (source : Option (List ℕ)) (moment : ℕ)
+        (old new : Written) (done : Result ℕ Why)
+        → OnFile D.Disk image path TellsRun
+        (λ found after it. LeavesRun source moment found after old new it) closes_run done
+        (left.Worked _opened.now)
+        → AreClean D.Disk _opened.now.files.log _opened.now.files.db
+        → outcomes D.Disk _opened.now.files.log _opened.now.files.db next
+        → Leads (λ found after. LeavesRun source moment found after old new done) image next }
+{}
+
+/// So of `check`, `list` and `serve`, which leave what was held.
+pub fn a_look_leads_on<'a, D: Disk>(_opened: &Opened<'a, D>)
+    ensures check { (image next : Image) (path : Text) (done : Result (Unit {0}) Why)
+        → OnFile D.Disk image path TellsChecked (λ found after it. LeavesSame found after)
+        closes_done done (left.Worked _opened.now)
+        → AreClean D.Disk _opened.now.files.log _opened.now.files.db
+        → outcomes D.Disk _opened.now.files.log _opened.now.files.db next
+        → Leads LeavesSame image next }
+    ensures list { (image next : Image) (path : Text) (old new : Written)
+        (done : Result (Unit {0}) Why)
+        → OnFile D.Disk image path (λ found it. TellsListing found old new it)
+        (λ found after it. LeavesSame found after) closes_done done (left.Worked _opened.now)
+        → AreClean D.Disk _opened.now.files.log _opened.now.files.db
+        → outcomes D.Disk _opened.now.files.log _opened.now.files.db next
+        → Leads LeavesSame image next }
+    ensures serve { (image next : Image) (path : Text) (done : Result ℕ Why)
+        → OnFile D.Disk image path TellsServed (λ found after it. LeavesSame found after)
+        closes_run done (left.Worked _opened.now)
+        → AreClean D.Disk _opened.now.files.log _opened.now.files.db
+        → outcomes D.Disk _opened.now.files.log _opened.now.files.db next
+        → Leads LeavesSame image next }
+{}
+
+/// Where a package was made in files that held no byte, each thing that a crash, or none, may leave of them holds the new package.
+pub fn a_making_leads_on<'a, D: Disk>(_opened: &Opened<'a, D>)
+    ensures { (image next : Image) (path : Text)
+        → WasBare D.Disk image (left.Worked _opened.now)
+        → OnFile D.Disk image path (λ found done. ⊤) LeavesMade closes_done (Ok tt)
+        (left.Worked _opened.now)
+        → AreClean D.Disk _opened.now.files.log _opened.now.files.db
+        → outcomes D.Disk _opened.now.files.log _opened.now.files.db next
+        → ∥ LivesOn next opening [] ∥₁ }
+{}
+
+/// The headline over the life of a file: where it held a package that meets the rules, then behind any number of runs and crashes it holds
+/// the one that is made of it by a first part of the accepted commands of each list, in turn, with every command that was acknowledged.
+pub fn a_life_keeps_what_was_acknowledged()
+    ensures { (image next : Image) (uses : List Use) → IsLife image uses next
+        → (db : Trees) (p : Package) → HoldsDatabase image db → StandsForCurrent db p
+        → Meets current p → ∥ LivesOn next p uses ∥₁ }
+{}
+
+/// So behind `init`.
+pub fn a_life_begins_with_the_new_package<'a, D: Disk>(_opened: &Opened<'a, D>)
+    ensures { (image first next : Image) (path : Text) (uses : List Use)
+        → WasBare D.Disk image (left.Worked _opened.now)
+        → OnFile D.Disk image path (λ found done. ⊤) LeavesMade closes_done (Ok tt)
+        (left.Worked _opened.now)
+        → AreClean D.Disk _opened.now.files.log _opened.now.files.db
+        → outcomes D.Disk _opened.now.files.log _opened.now.files.db first
+        → IsLife first uses next → ∥ LivesOn next opening uses ∥₁ }
+{}
+
+/// A file that has lived on is told `package ok` by the check, or a fault, and never that it is no package or breaks a rule.
+pub fn what_lives_on_is_told_ok<'a, D: Disk>(_opened: &Opened<'a, D>)
+    ensures { (image : Image) (path : Text) (p : Package) (uses : List Use)
+        (done : Result (Unit {0}) Why) → ∥ LivesOn image p uses ∥₁
+        → OnFile D.Disk image path TellsChecked (λ found after it. LeavesSame found after)
+        closes_done done (left.Worked _opened.now)
+        → AreClean D.Disk _opened.now.files.log _opened.now.files.db
+        → IfErr done (λ why. stop_status why ≡ 3) }
+{}

@@ -84,8 +84,9 @@ fn import_entries<A: Editor, F: Folder>(
 /// # Errors
 ///
 /// 90 want of memory, 91 the store, 92 where the editor has failed (a session has to be opened again then), 96 where the folder
-/// failed; each with the number of pieces that were answered ok in this call. 92 comes where the edition is looked up: memory grows
-/// before that for the list and its records alone. Unless a command failed the editor works on, and the import can be begun again.
+/// failed; each with the number of pieces that were answered ok in this call. 92 comes where the edition is looked up:
+/// memory grows before that for the list and its records alone. Unless a command failed the editor works on, and the
+/// import can be begun again.
 pub fn import_kit<A: Editor, F: Folder>(
     alloc: Global,
     editor: &mut A,

@@ -91,8 +91,8 @@ fn stage_piece<A: Apply>(
     editor.apply(&command, at)
 }
 
-/// Reads the file of an entry and stages its piece under this number: None where it is staged or stands already, else the
-/// number that refuses it. A fault of the folder comes before the command.
+/// Reads the file of an entry and stages its piece under this number: None where it is staged or stands already, else
+/// the number that refuses it. A fault of the folder comes before the command.
 fn stage_entry<A: Editor, F: Folder>(
     alloc: Global,
     editor: &mut A,

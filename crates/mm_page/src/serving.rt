@@ -94,8 +94,8 @@ fn respond<V: Viewer, R: Read>(
 ///
 /// A fault ends it. With 90 want of memory, 91 the store, 92 where the package is needed and the viewer has failed (a session
 /// has to be opened again then), and 96 where the reader fails, nothing was written; with 97, where the writer fails, a front of
-/// the response was. The viewer stays as it is. Before the package is needed memory grows for the routes of a path alone, and
-/// where it isn't for the response: only there a viewer that has failed is told 90.
+/// the response was. The viewer stays as it is. Before the package is needed memory grows for the routes of a path
+/// alone, and where it isn't for the response: only there a viewer that has failed is told 90.
 pub fn serve_one<V: Viewer, R: Read, W: Write>(
     alloc: Global,
     viewer: &mut V,

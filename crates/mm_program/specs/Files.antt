@@ -1,12 +1,11 @@
 -- Why a file is not opened, and what is left of one.
-use Rattle.std.specs.Prelude.{◌≡◌, ◌≤◌, ◌⊎◌, ⊤, ℕ, Bool, true, Option, None, Result, IsErr, length}
+use Rattle.std.specs.Prelude.{◌≡◌, ◌≤◌, ◌⊎◌, ⊤, ℕ, Bool, true, Result, IsErr, length}
 use Rattle.sqlite_disk.specs.declared.Disk.{Ghosts}
 use Rattle.sqlite.specs.Tree.{Trees}
 use Rattle.sqlite.specs.Recovery.{Image}
 use Rattle.sqlite.specs.WalReads.{AreClean}
 use Rattle.mm_definitions.specs.Keys.{Text}
 use Rattle.mm_definitions.specs.Streams.{Written}
-use Rattle.mm_definitions.specs.declared.answers.Fault.{Fault}
 use Rattle.mm_files.specs.Files.{IsBare}
 use Rattle.mm_files.specs.Worked.{IsFoundIn, IsUnworked, LeavesTo}
 use Rattle.mm_files.specs.declared.left.NotDone.{NotDone}
@@ -17,35 +16,12 @@ use Rattle.mm_kit.specs.declared.folders.Found.{Found}
 use Rattle.mm_kit.specs.declared.folders.Found.TheVariants as found
 use Rattle.mm_subcommands.specs.declared.stop.Stop.{Stop}
 use Rattle.mm_subcommands.specs.declared.stop.Stop.TheVariants as stops
+pub use Rattle.mm_program.specs.Stops.{StopsAny, StopsNew, StopsOld, StopsOn}
 
 -- why work on a file was not done, as it is told
 abbrev pub stop_for : NotDone → Stop
 stop_for why.NotEmpty = stops.NotEmpty
 stop_for (why.Fault fault) = stops.Fault fault
-
--- 90 want of memory, 91 the store, 96 the system
-abbrev pub IsFileFault : Fault → Type 0
-IsFileFault fault = (fault.0 ≡ 90) ⊎ (fault.0 ≡ 91) ⊎ (fault.0 ≡ 96)
-
--- of any file
-abbrev pub StopsAny : Stop → Type 0
-StopsAny (stops.Fault fault) = IsFileFault fault
-StopsAny other = ⊥
-
--- of one of so many bytes, or of a new one
-abbrev pub StopsOn : Option ℕ → Stop → Type 0
-StopsOn bytes stops.NotEmpty = bytes ≡ None
-StopsOn bytes other = StopsAny other
-
--- of one that is to be made
-abbrev pub StopsNew : Stop → Type 0
-StopsNew stops.NotEmpty = ⊤
-StopsNew other = StopsAny other
-
--- of one that is there
-abbrev pub StopsOld : Stop → Type 0
-StopsOld (stops.NotPackage number) = number ≡ 94
-StopsOld other = StopsAny other
 
 -- Nothing was printed; or the work was done to its end, and the files could not be closed behind it.
 abbrev pub IsUndone : {Done : Type 0} → (Written → Written → Done → Type 0) → (Done → Bool) → Written → Written → Stop → Type 0

@@ -1,7 +1,9 @@
 pub mod Clock
+pub mod Stops
 pub mod Files
 pub mod Left
 pub mod Life
+pub mod Printed
 pub mod Told
 pub mod Served
 pub mod Worked

@@ -1,17 +1,15 @@
 -- What a subcommand prints, and the exit status that goes with it.
-use Rattle.std.specs.Prelude.{◌≡◌, ◌⊎◌, ⊤, ℕ, List, Option, None, Some, Result, Ok, Err, IfErr, IfSome, codes}
+use Rattle.std.specs.Prelude.{◌≡◌, ◌⊎◌, ⊤, ℕ, List, Option, None, Result, Ok, Err, IfErr, IfSome, codes}
 use Rattle.sqlite_disk.specs.declared.Disk.{Ghosts}
 use Rattle.sqlite.specs.Recovery.{Image}
 use Rattle.mm_definitions.specs.Bounds.{IsName}
 use Rattle.mm_definitions.specs.Keys.{Text}
 use Rattle.mm_definitions.specs.declared.answers.KitFault.{KitFault}
 use Rattle.mm_definitions.specs.declared.answers.Staged.{Staged}
-use Rattle.mm_subcommands.specs.Imports.{kit_status, kit_text}
 use Rattle.mm_subcommands.specs.Looked.{check_status, check_text}
 use Rattle.mm_subcommands.specs.Migrated.{migrate_status, migrate_text}
 use Rattle.mm_subcommands.specs.Told.{IsTold, init_status, init_text, stop_status, stop_text}
 use Rattle.mm_subcommands.specs.declared.stop.Stop.{Stop}
-use Rattle.mm_subcommands.specs.declared.stop.Stop.TheVariants as stops
 use Rattle.clap.specs.Words.{HasKind, fault_of, kind_of}
 use Rattle.clap.specs.declared.error.Error.{Error}
 use Rattle.mm_arguments.specs.CommandLine.{command_line}
@@ -23,15 +21,10 @@ use Rattle.mm_files.specs.declared.left.Left.TheVariants as lefts
 use Rattle.mm_program.specs.Files.{OnFile, StopsNew, WasBare}
 use Rattle.mm_program.specs.Left.{LeavesImport, LeavesMade, LeavesMigrated, LeavesRun, LeavesSame, TellsChecked, TellsImport, TellsListing, TellsRun, TellsServed}
 use Rattle.mm_program.specs.Served.{TellsServe}
+pub use Rattle.mm_program.specs.Stops.{StopsCheck}
+pub use Rattle.mm_program.specs.Printed.{TellsDecline, TellsStatus, import_status, import_text}
 use Rattle.mm_program.specs.Worked.{closes_done, closes_import, closes_run}
 use Rattle.mm_definitions.specs.Streams.{Written}
-
--- the check or the migration of a file never tells that it is not empty
-abbrev pub StopsCheck : Stop → Type 0
-StopsCheck stops.NotEmpty = ⊥
-StopsCheck (stops.NotPackage number) = (number ≡ 93) ⊎ (number ≡ 94) ⊎ (number ≡ 95) ⊎ (number ≡ 98)
-StopsCheck (stops.Rule rule) = ⊤
-StopsCheck (stops.Fault fault) = ⊤
 
 -- ---- what a subcommand prints, and what it leaves of the files that were opened: by what they held and by the path that the words name
 
@@ -44,20 +37,6 @@ IsOutcome status old new (Err why) result = IsTold old new (stop_text why) (stop
 abbrev pub IsEnded : {T : Type 0} → (T → ℕ) → Written → Written → Written → Result T Stop → ℕ → Type 0
 IsEnded status old between new outcome result =
     IfErr outcome (λ why. (between ≡ old) ⊎ (stop_status why ≡ 3)) × IsOutcome status between new outcome result
-
--- what an import came to, or why none was begun
-abbrev pub import_text : Result (Result Staged KitFault) Stop → List ℕ
-import_text (Ok import) = kit_text import
-import_text (Err why) = stop_text why
-
--- the exit status that goes with it
-abbrev pub import_status : Result (Result Staged KitFault) Stop → ℕ
-import_status (Ok import) = kit_status import
-import_status (Err why) = stop_status why
-
--- Status 4 goes with why the file is no package, and with nothing else.
-abbrev pub TellsDecline : Written → Written → ℕ → Type 0
-TellsDecline old new result = result ≡ 4 → (why : Stop) × IsTold old new (stop_text why) 4 result
 
 module _ {D : Type 0} (g : Ghosts D) (image : Image) (path : Text) (old new : Written) (result : ℕ) (left : Left D g) where
   -- `init` tells one of its outcomes and nothing else; files that it works on hold no byte, and then the new package where it tells so
@@ -114,17 +93,8 @@ TellsRequest g image source (asked.Migrate file) old new result left = TellsMigr
 TellsRequest g image source (asked.Serve file port count) old new result left =
     TellsServe port count old new result × TellsService g image file.now old new result left
 
--- Want of memory is a fault. Help and usage are printed as `clap` has them, with their status, or with 3 where the writer failed.
-abbrev pub TellsStatus : Option ℕ → Written → Written → ℕ → Type 0
-TellsStatus None old new result = IsTold old new (stop_text (stops.Fault (record { 0 = 90 }))) 3 result
-TellsStatus (Some status) old new result = (result ≡ status) ⊎ (result ≡ 3)
-
 -- What the words ask for is told and left; or what is wrong with them, or that memory is wanted to read them, and no file was opened.
 abbrev pub TellsWords : {D : Type 0} (g : Ghosts D) → Image → Option (List ℕ) → List Text → Written → Written → ℕ → Left D g → Type 0
 TellsWords g image source words old new result left =
     ((request : Request) × Asks words request × TellsRequest g image source request old new result left)
     ⊎ ((error : Error) × HasKind (fault_of command_line words) error × TellsStatus (status_of (kind_of error)) old new result × (left ≡ lefts.Unopened))
-
--- so of some files that are left
-abbrev pub TellsSome : {D : Type 0} (g : Ghosts D) → Image → Option (List ℕ) → List Text → Written → Written → ℕ → Type 0
-TellsSome {D} g image source words old new result = (left : Left D g) × TellsWords g image source words old new result left

@@ -8,7 +8,8 @@ ghost use Rattle.mm_arguments.specs.Requests as arguments;
 ghost use Rattle.mm_subcommands.specs.Told.{TellsFailure};
 ghost use Rattle.mm_program.specs.Files.{OnFile, StopsNew, WasBare};
 ghost use Rattle.mm_program.specs.Left.{LeavesMade, LeavesRun, TellsRun};
-ghost use Rattle.mm_program.specs.Told.{TellsDecline, TellsInit, TellsRan, TellsSome, TellsStatus, TellsWords};
+ghost use Rattle.mm_program.specs.Printed.{PrintsWords};
+ghost use Rattle.mm_program.specs.Told.{TellsDecline, TellsInit, TellsRan, TellsStatus, TellsWords};
 ghost use Rattle.mm_program.specs.Worked.{IsRun, closes_done, closes_run};
 
 use crate::clock::{Now, moment_or_now};
@@ -249,8 +250,7 @@ fn status_on<S: Start, R: Read, W: Write>(
     output: &mut Io<W>,
 ) -> u8
     requires { S.Start.is_mixing ≡ false }
-    ensures told { TellsSome ⟦<FileFrom<S> as Disk>⟧ (image_at S.Start)
-        (R.remaining (inside input.old)) (map (λ word. word.now) words.entry.now)
+    ensures told { PrintsWords (map (λ word. word.now) words.entry.now)
         (written W.contents output.old) (written W.contents output.new) result }
     ensures status { result ≤ 4 }
     ensures unprinted { TellsFailure (has_failed output.old) (has_failed output.new) result }
@@ -260,15 +260,15 @@ fn status_on<S: Start, R: Read, W: Write>(
     status
 }
 
-/// The same, of files that the system opens. Of how a crash mixes old bytes and new ones nothing is supposed: each commit is synced twice.
+/// The whole program, on files that the system opens; what is left of them `program_on` says, which it calls. Of how a crash mixes old bytes
+/// and new ones nothing is supposed: each commit is synced twice.
 pub fn program<R: Read, W: Write>(
     rt: &HostRuntime,
     words: &[&str],
     input: &mut Io<R>,
     output: &mut Io<W>,
 ) -> u8
-    ensures told { TellsSome ⟦<FileFrom<Wary> as Disk>⟧ (image_at ⟦<Wary as Start>⟧)
-        (R.remaining (inside input.old)) (map (λ word. word.now) words.entry.now)
+    ensures told { PrintsWords (map (λ word. word.now) words.entry.now)
         (written W.contents output.old) (written W.contents output.new) result }
     ensures status { result ≤ 4 }
     ensures unprinted { TellsFailure (has_failed output.old) (has_failed output.new) result }

@@ -77,14 +77,16 @@ fn end_refusal<S: Alter>(
     }
 }
 
-fn smaller(one: Option<u8>, other: Option<u8>) -> Option<u8>
+fn smaller(one: Option<Reason>, other: Option<Reason>) -> Option<Reason>
     ensures { result ≡ conditions.smaller one other }
 {
-    match (one, other) {
-        (Some(a), Some(b)) => Some(if a <= b { a } else { b }),
-        (Some(a), None) => Some(a),
-        (None, b) => b,
-    }
+    let Some(a) = one else {
+        return other;
+    };
+    let Some(b) = other else {
+        return one;
+    };
+    Some(if a.get() <= b.get() { a } else { b })
 }
 
 /// What the two ends of a relation lack: 40 where one is a table of attribute rows without such a row, else 41 where one

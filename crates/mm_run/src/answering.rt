@@ -30,8 +30,8 @@ fn unread_answer(fault: ReadFault) -> Answer
     }
 }
 
-/// Answers what was read of a record: applies the command that it spells. It wants no memory of its own, so a session that
-/// has to be opened again answers 92 to a command and nothing else; 90 there is of the reading alone.
+/// Answers what was read of a record: applies the command that it spells. It wants no memory of its own, so a session
+/// that has to be opened again answers 92 to a command and nothing else; 90 there is of the reading alone.
 fn answer_row<A: Apply>(session: &mut A, read: Result<Command, ReadFault>, at: Moment) -> Answer
     ensures faults { OnFault result IsApplyFault }
     ensures session { TellsReopening (A.has_failed session.old) (A.has_failed session.new)

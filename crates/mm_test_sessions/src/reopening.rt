@@ -57,7 +57,7 @@ fn page_text<S: Alter>(alloc: Global, session: &mut Session<S>, request: &str) -
     let mut writer = Io::new(Vec::new(alloc));
     let fault = match serve_one(alloc, session, &mut reader, &mut writer) {
         Ok(()) => 0,
-        Err(why) => why.0.0,
+        Err(why) => why.0.number(),
     };
     let written = writer.into_inner();
     format!(in alloc; "{fault} {}", name_of(written.as_slice())).ok()
@@ -142,8 +142,8 @@ fn told(alloc: Global, lines: &str) -> Option<String> {
     None
 }
 
-// Records that spell no command are refused as ever, and so is a list that is no kit; a request that asks for no part of the package
-// has its response.
+// Records that spell no command are refused as ever, and so is a list that is no kit; a request that asks for no part of
+// the package has its response.
 const LINES: &str = "run srs,5002,A,NONE,1,undefined, > 1 fault 92;
 run srs,5,A,NONE,1,undefined;srs,9007199254740993,A,NONE,1,undefined,;edition,k;drop > 1 refused 10;2 refused 11;3 fault 92;
 run srs,5,A,NONE,1,undefined > 1 refused 10;

@@ -21,7 +21,7 @@ returns-in-Err-Refused-clause-lists g c bytes tells starts =
     let at = c.loop-place in
     let bad : IsEntryReadAs at.place (fields_of c.in-Some.row) (Err c.in-Err-Refused.why.number) = (rw (c.in-Err-Refused.field-0-is) at c.in-Err-Refused.ensures).1 in
     let read = rw c.in-Some.is at c.in_ok-row.ensures.reads in
-    rw c.in-Err-Refused.why-is (one-refused g.T.Read.remaining at.rows c.next_record.new.rows bytes _ _ at.entries.items at.place at.invariant.set_up.config (at.invariant.so_far bytes tells starts) read bad)
+    rw (c.number.ensures, c.in-Err-Refused.why-is) (one-refused g.T.Read.remaining at.rows c.next_record.new.rows bytes _ _ at.entries.items at.place at.invariant.set_up.config (at.invariant.so_far bytes tells starts) read bad)
 
 pub returns-in-None-clause-lists : goal.returns-in-None-clause-lists
 returns-in-None-clause-lists g c bytes tells starts =

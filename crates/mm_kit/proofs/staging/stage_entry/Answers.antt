@@ -1,4 +1,4 @@
-use Rattle.std.proofs.Common.{inl, inr, refl}
+use Rattle.std.proofs.Common.{inl, inr, sym}
 use Rattle.mm_kit.proofs.FolderFacts.{as_before, desk_fault, folder_other, kit_fault, staging_other, still_told, told}
 use Rattle.mm_kit.proofs.staging.stage_entry.Goals as goal
 
@@ -12,7 +12,7 @@ pub returns-in-Refused-clause-staged : goal.returns-in-Refused-clause-staged
 returns-in-Refused-clause-staged g c clean p sound =
     let full = rw c.in-Ok-Ok.field-0-is at c.in-Ok-Ok.ensures.fills in
     let (bad, stays) = c.in-Refused.ensures.applied clean p sound.0 sound.1 in
-    ((stays, sound.1), inr (c.in-Ok-Ok.piece, full, c.in-Refused.why, refl, bad))
+    ((stays, sound.1), inr (c.in-Ok-Ok.piece, full, c.in-Refused.why, sym c.number.ensures, bad))
 
 pub returns-in-Fault-clause-staged : goal.returns-in-Fault-clause-staged
 returns-in-Fault-clause-staged g c clean p sound =

@@ -260,8 +260,8 @@ fn status_on<S: Start, R: Read, W: Write>(
     status
 }
 
-/// The whole program, on files that the system opens; what is left of them `program_on` says, which it calls. Of how a crash mixes old bytes
-/// and new ones nothing is supposed: each commit is synced twice.
+/// The whole program, on files that the system opens; what is left of them `program_on` says, which it calls. Of how a crash mixes old
+/// bytes and new ones nothing is supposed: each commit is synced twice.
 pub fn program<R: Read, W: Write>(
     rt: &HostRuntime,
     words: &[&str],

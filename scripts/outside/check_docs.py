@@ -3,7 +3,7 @@
 
     scripts/outside/check_docs.py [--tours] [PROGRAM]     the last line is 'N passed, M failed'
 
-Each line '    $ COMMAND' of README.md and docs/TOUR.md is run in turn, in a new folder with the examples, and must print the lines that
+Each line '    $ COMMAND' of README.md and docs/USING.md is run in turn, in a new folder with the examples, and must print the lines that
 stand below it; 'cat' of a file that is not there makes it of them. Each edit of must-fail/ is named in docs/PROOFS.md, in bold, and each mutant;
 each name in backticks there that looks like one of the code stands in some crate, script or transcript. Each line of cases/README.md names
 what shows its behaviour: a transcript, a test, an edit, a mutant or a script that there is, or behind 'proved:' a name of docs/PROOFS.md.
@@ -20,7 +20,7 @@ import sys
 import tempfile
 
 TOP = os.path.dirname(os.path.dirname(os.path.dirname(os.path.abspath(__file__))))
-TOURS = "README.md", "docs/TOUR.md"
+TOURS = "README.md", "docs/USING.md"
 PROGRAMS = "out/mmpkg", "crates/mm_cli/out/mm_cli"
 PROMISES = "docs/PROOFS.md"
 SHOWN = "cases/README.md"

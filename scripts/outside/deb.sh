@@ -104,7 +104,7 @@ commands() {
 tours() {
     mkdir -p "$root/clone/scripts" "$root/clone/docs"
     zcat "$root/usr/share/doc/mmpkg/README.md.gz" >"$root/clone/README.md"
-    zcat "$root/usr/share/doc/mmpkg/docs/TOUR.md.gz" >"$root/clone/docs/TOUR.md"
+    zcat "$root/usr/share/doc/mmpkg/docs/USING.md.gz" >"$root/clone/docs/USING.md"
     cp -r scripts/outside "$root/clone/scripts/"
     ln -s /usr/share/doc/mmpkg/examples "$root/clone/examples"
     ln -s /usr/share/mmpkg "$root/clone/tools"

@@ -45,15 +45,24 @@ pub enum Request<'a> {
     },
 }
 
+/// A value that `clap` let pass is outside its range.
+#[derive(Drop)]
+struct Unfit;
+
 // `clap` has tested the range, for the message that it prints. The clause rests on the test of `Moment::new`.
-fn moment_of(matches: &ArgMatches) -> Option<Option<Moment>>
-    ensures { IfSome result (IsGivenMoment (rows_of (found_of matches.now))) }
+fn moment_of(matches: &ArgMatches) -> Result<Option<Moment>, Unfit>
+    ensures { IfOk result (IsGivenMoment (rows_of (found_of matches.now))) }
 {
     if !matches.contains_id("at") {
-        return Some(None);
+        return Ok(None);
     }
-    let moment = Moment::new(matches.get_one::<i64>("at")?)?;
-    Some(Some(moment))
+    let Some(milliseconds) = matches.get_one::<i64>("at") else {
+        return Err(Unfit);
+    };
+    match Moment::new(milliseconds) {
+        Some(moment) => Ok(Some(moment)),
+        None => Err(Unfit),
+    }
 }
 
 /// The word of an argument.
@@ -72,7 +81,7 @@ fn kit_of<'a>(file: &'a str, matches: &ArgMatches<'a>) -> Option<Request<'a>>
         file,
         edition: word_of(matches, "EDITION")?,
         folder: word_of(matches, "FOLDER")?,
-        at: moment_of(matches)?,
+        at: moment_of(matches).ok()?,
     })
 }
 
@@ -99,7 +108,7 @@ fn request_of<'a>(name: &str, matches: &ArgMatches<'a>) -> Option<Request<'a>>
         "init" => Some(Request::Init { file }),
         "run" => Some(Request::Run {
             file,
-            at: moment_of(matches)?,
+            at: moment_of(matches).ok()?,
         }),
         "kit" => kit_of(file, matches),
         "check" => Some(Request::Check { file }),

@@ -1,3 +1,4 @@
+pub mod Filling
 pub mod Folders
 pub mod FileNames
 pub mod Entries

@@ -1,8 +1,9 @@
 //! A piece with the bytes of its file.
 
 ghost use Rattle.mm_definitions.specs.Bounds.{current};
-ghost use Rattle.std.specs.Prelude.{◌≡◌, ◌≤◌, ◌||◌, List, Option, IfOk, IfSome, ℕ};
-ghost use Rattle.mm_kit.specs.Folders.{Files, is_failure};
+ghost use Rattle.std.specs.Prelude.{◌≡◌, ◌≤◌, ◌||◌, List, Option, IfSome, ℕ};
+ghost use Rattle.mm_kit.specs.Folders.{Files};
+ghost use Rattle.mm_kit.specs.Filling.{full_of, is_folders};
 ghost use Rattle.mm_kit.specs.Kits.{filled, made, with_file};
 ghost use Rattle.mm_definitions.specs.declared.commands.Piece.{Piece as SpecPiece};
 
@@ -14,26 +15,46 @@ use mm_definitions::commands::Piece;
 use mm_definitions::refusals;
 use std::alloc::Global;
 
+/// Why a piece has no bytes.
+#[derive(Clone, Copy, Debug, PartialEq, Eq)]
+pub(crate) enum Unfilled {
+    /// The number that refuses the file: 57 where there is none, 11 where its length is outside the limits.
+    Refused(u8),
+    /// The folder's own fault.
+    Folder(FolderFault),
+}
+
+impl From<FolderFault> for Unfilled {
+    ghost use Rattle.std.specs.Prelude.{◌≡◌};
+    ghost use Rattle.mm_kit.specs.declared.filling.Unfilled.TheVariants as reasons;
+
+    ghost from_gives = { λ fault reason. reason ≡ reasons.Folder fault };
+
+    fn from(fault: FolderFault) -> Unfilled {
+        Unfilled::Folder(fault)
+    }
+}
+
 /// The bytes of a file, from 1 to `MOST`: 57 where there is no such file, 11 where it has none or too many.
 fn read_bytes<const MOST: usize, F: Folder>(
     alloc: Global,
     folder: &mut F,
     name: &FileName,
-) -> Result<Result<Bytes<MOST>, u8>, FolderFault>
-    ensures reads { IfOk result
+) -> Result<Bytes<MOST>, Unfilled>
+    ensures reads { IfSome (full_of result)
         (λ r. IfSome (F.files folder.old)
         (λ these. (make : List ℕ → SpecPiece)
         → made make r ≡ with_file MOST make (these name.now))) }
     ensures stays { F.files folder.new ≡ F.files folder.old }
-    ensures fails { F.has_failed folder.new ≡ (F.has_failed folder.old || is_failure result) }
+    ensures fails { F.has_failed folder.new ≡ (F.has_failed folder.old || is_folders result) }
 {
     match folder.read(alloc, name.as_str(), MOST as u64)? {
         Found::Bytes(bytes) => match Bytes::new(bytes) {
-            Some(bytes) => Ok(Ok(bytes)),
-            None => Ok(Err(refusals::OUT_OF_LIMITS)),
+            Some(bytes) => Ok(bytes),
+            None => Err(Unfilled::Refused(refusals::OUT_OF_LIMITS)),
         },
-        Found::TooLong => Ok(Err(refusals::OUT_OF_LIMITS)),
-        Found::Missing => Ok(Err(refusals::NO_FILE)),
+        Found::TooLong => Err(Unfilled::Refused(refusals::OUT_OF_LIMITS)),
+        Found::Missing => Err(Unfilled::Refused(refusals::NO_FILE)),
     }
 }
 
@@ -43,43 +64,43 @@ pub(crate) fn fill<F: Folder>(
     alloc: Global,
     folder: &mut F,
     entry: Entry,
-) -> Result<Result<Piece, u8>, FolderFault>
-    ensures fills { IfOk result
+) -> Result<Piece, Unfilled>
+    ensures fills { IfSome (full_of result)
         (λ r. IfSome (F.files folder.old) (λ these. r ≡ filled these entry)) }
     ensures stays { F.files folder.new ≡ F.files folder.old }
-    ensures fails { F.has_failed folder.new ≡ (F.has_failed folder.old || is_failure result) }
+    ensures fails { F.has_failed folder.new ≡ (F.has_failed folder.old || is_folders result) }
 {
     match entry {
-        Entry::Ready(piece) => Ok(Ok(piece)),
+        Entry::Ready(piece) => Ok(piece),
         Entry::Tile {
             table,
             zoom,
             column,
             row,
             file,
-        } => match read_bytes(alloc, folder, &file)? {
-            Ok(bytes) => Ok(Ok(Piece::Tile {
+        } => {
+            let bytes = read_bytes(alloc, folder, &file)?;
+            Ok(Piece::Tile {
                 table,
                 zoom,
                 column,
                 row,
                 bytes,
-            })),
-            Err(number) => Ok(Err(number)),
-        },
+            })
+        }
         Entry::Media {
             table,
             id,
             content_type,
             file,
-        } => match read_bytes(alloc, folder, &file)? {
-            Ok(bytes) => Ok(Ok(Piece::Media {
+        } => {
+            let bytes = read_bytes(alloc, folder, &file)?;
+            Ok(Piece::Media {
                 table,
                 id,
                 content_type,
                 bytes,
-            })),
-            Err(number) => Ok(Err(number)),
-        },
+            })
+        }
     }
 }

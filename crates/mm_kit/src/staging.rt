@@ -16,7 +16,7 @@ ghost use Rattle.mm_kit.specs.Lists.{AreFew};
 ghost use Rattle.mm_kit.specs.Promised.{StagesEntries};
 
 use crate::entries::Entry;
-use crate::filling::fill;
+use crate::filling::{Unfilled, fill};
 use crate::folders::{Folder, FolderFault};
 use mm_definitions::answers::{Answer, Fault, KitFault, Staged};
 use mm_definitions::bounded::Id;
@@ -116,13 +116,13 @@ fn stage_entry<A: Editor, F: Folder>(
     ensures why { IfErr result (λ fault. IsKitFault fault.0) }
 {
     match fill(alloc, folder, entry) {
-        Ok(Ok(piece)) => match stage_piece(editor, edition, number, piece, at) {
+        Ok(piece) => match stage_piece(editor, edition, number, piece, at) {
             Answer::Ok => Ok(None),
             Answer::Refused(why) => Ok(Some(why.number())),
             Answer::Fault(fault) => Err(fault),
         },
-        Ok(Err(refusal)) => Ok(Some(refusal)),
-        Err(fault) => Err(folder_fault(fault)),
+        Err(Unfilled::Refused(number)) => Ok(Some(number)),
+        Err(Unfilled::Folder(fault)) => Err(folder_fault(fault)),
     }
 }
 

@@ -270,7 +270,7 @@ fn made_on<D: Crash + Drop>(alloc: Global, files: Files<D>) -> (&'static str, bo
         return ("no files", false);
     }
     match create_on(alloc, files, Options::new(7)) {
-        Ok(_) => ("made", true),
+        Ok(_) => ("at once", true),
         Err(NotBegun::Declined(conn, _)) => ("not made", is_made_after(alloc, let_go(conn))),
         Err(NotBegun::Unopened(stop)) => ("not opened", is_made_after(alloc, stop.into_files())),
     }
@@ -285,7 +285,7 @@ fn second_makings(alloc: Global) -> Option<String> {
         if !text.ends_with(line.as_str()) {
             text.push_str(line.as_str()).ok()?;
         }
-        if told == "made" {
+        if told == "at once" {
             return Some(text);
         }
     }
@@ -297,7 +297,7 @@ fn makes_again_what_was_stopped(rt: HostRuntime) -> Result<(), Fail> {
     let told = second_makings(rt.alloc()).expect(&rt, "a package that is made");
     assert_eq!(rt;
         told.as_str(),
-        "not opened, then made: true\nnot made, then made: true\nmade, then made: true\n"
+        "not opened, then made: true\nnot made, then made: true\nat once, then made: true\n"
     );
     Ok(())
 }

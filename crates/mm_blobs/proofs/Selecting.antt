@@ -5,7 +5,7 @@ use Rattle.sqlite.specs.Listing.{understood}
 use Rattle.sqlite_tied.specs.Compute.{everything}
 use Rattle.sql_forms.specs.Forms.{first_of, equals}
 use Rattle.sql_forms.proofs.Selects.{IsSelect}
-use Rattle.mm_schema.specs.Tables.{schema}
+use Rattle.mm_store.specs.Tables.{schema}
 
 abbrev pub blob_of_medium_text : List ℕ
 blob_of_medium_text = codes "SELECT blob FROM mm_media WHERE table_name = ?1 AND id = ?2 LIMIT 1"

@@ -27,9 +27,9 @@ use Rattle.sql_forms.proofs.Lists.{flat_has}
 use Rattle.sql_forms.proofs.Queries.{no_overlay}
 use Rattle.sql_forms.proofs.States.{shows_as}
 use Rattle.sql_forms.proofs.Tables.{rows_at}
-use Rattle.mm_schema.specs.Tables.{schema}
-use Rattle.mm_schema.specs.Statements.{unnamed_blobs}
-use Rattle.mm_schema.proofs.Selecting as statement
+use Rattle.mm_store.specs.Tables.{schema}
+use Rattle.mm_store.specs.Compiled.{unnamed_blobs}
+use Rattle.mm_store.proofs.Selecting as statement
 use Rattle.mm_definitions.specs.Package.{Package}
 use Rattle.mm_definitions.proofs.Parts.{true_or_false}
 use Rattle.mm_store.specs.Blobs.{Blob, blob_row}

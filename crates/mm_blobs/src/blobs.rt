@@ -211,7 +211,7 @@ pub fn release_each<S: Alter>(tx: &mut Transaction<'_, S>, rows: &[Row]) -> Resu
 }
 
 /// The ids of the blobs that nothing names.
-fn unnamed<S: Alter>(tx: &mut Transaction<'_, S>) -> Result<Vec<Row>, Fault>
+fn unnamed_blobs<S: Alter>(tx: &mut Transaction<'_, S>) -> Result<Vec<Row>, Fault>
     ensures { ListsUnnamed S.Store tx.old tx.new (λ rows. rows.items) result }
 {
     all(
@@ -225,6 +225,6 @@ fn unnamed<S: Alter>(tx: &mut Transaction<'_, S>) -> Result<Vec<Row>, Fault>
 pub fn sweep<S: Alter>(tx: &mut Transaction<'_, S>) -> Result<(), Fault>
     ensures { Releases S.Store tx.old tx.new (λ spare. spare) (λ spare. no_spare) result }
 {
-    let rows = unnamed(tx)?;
+    let rows = unnamed_blobs(tx)?;
     release_each(tx, rows.as_slice())
 }

@@ -1,4 +1,5 @@
-pub mod EditionQueries
-pub mod Numbering
-pub mod EditionRules
 pub mod Verdicts
+pub mod Queries
+pub mod Rules
+pub mod Checks
+pub mod Reading

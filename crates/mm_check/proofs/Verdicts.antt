@@ -7,11 +7,11 @@ use Rattle.mm_definitions.specs.Package.{Package}
 use Rattle.mm_definitions.specs.Rules.{Meets, Limits}
 use Rattle.mm_definitions.specs.declared.answers.Fault.{Fault}
 use Rattle.mm_store.specs.Seen.{IsSeenAs}
-use Rattle.mm_queries.specs.Check.{IsCheck}
-use Rattle.mm_queries.proofs.Compose.{as_told, same_rule}
-use Rattle.mm_queries.specs.InTurn.{HasPassed}
+use Rattle.mm_walk.specs.Check.{IsCheck}
+use Rattle.mm_walk.proofs.Compose.{as_told, same_rule}
+use Rattle.mm_walk.specs.InTurn.{HasPassed}
 use Rattle.mm_check.specs.Verdict.{rule, Before, IsVerdict, IsVerified}
-use Rattle.mm_queries.proofs.InTurn.{none_below, one_more, first_passes, next_passes, still_shown, asked_alone, all_passed}
+use Rattle.mm_walk.proofs.InTurn.{none_below, one_more, first_passes, next_passes, still_shown, asked_alone, all_passed}
 
 one_more_rule : (profile : Profile) (p : Package) (k : ℕ) → Before profile k p → rule profile k p → Before profile (k + 1) p
 one_more_rule profile p k before here = (before.0, one_more (rule profile) p k before.1 here)

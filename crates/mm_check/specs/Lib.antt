@@ -1,2 +1,2 @@
-pub mod PieceRows
 pub mod Verdict
+pub mod Form

@@ -9,7 +9,7 @@ use Rattle.mm_store.specs.Faults.{IsStoreFault}
 use Rattle.mm_store.specs.Seen.{IsSeenAs}
 use Rattle.mm_store.specs.Stands.{IsSettled}
 use Rattle.mm_store.specs.Statements.{CommitsNothing}
-use Rattle.mm_queries.specs.InTurn.{chosen, HoldsBelow}
+use Rattle.mm_walk.specs.InTurn.{chosen, HoldsBelow}
 
 -- rule k, from 1 to 15; each other number is 16
 unfoldable pub rule : Profile → ℕ → Package → Type 0

@@ -1,10 +1,13 @@
-//! The whole check of a package: the sixteen rules decided on a database, and the least that fails.
+//! The whole check of a package: the sixteen rules decided on a database, and the least that fails; and the form of the
+//! blobs, which no rule asks for.
 //!
 //! - `verdict`: `verify`, all rules in turn.
-//! - `editions`: rule 15.
+//! - `form`: `blobs_stand`: each digest is right, no blob is empty, no two hold the same bytes, and each is named by a
+//!   tile, a medium or a staged piece. Each part is one query.
 #![tactic(auto)]
 
-pub mod editions;
+pub mod form;
 pub mod verdict;
 
+pub use form::blobs_stand;
 pub use verdict::verify;

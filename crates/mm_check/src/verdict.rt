@@ -2,14 +2,13 @@
 
 ghost use Rattle.std.specs.Prelude.{◌≤◌, ◌<◌};
 ghost use Rattle.sqlite.specs.Held.{state};
-ghost use Rattle.mm_queries.specs.Check.{IsCheck};
+ghost use Rattle.mm_walk.specs.Check.{IsCheck};
 ghost use Rattle.mm_definitions.specs.Units.{profile_of};
 ghost use Rattle.mm_check.specs.Verdict.{rule, Before, IsVerified};
 
-use crate::editions;
 use mm_definitions::answers::Fault;
 use mm_definitions::units::Unit;
-use mm_limits::limits;
+use mm_limits::{editions, limits};
 use mm_rules::{contents, extensions, items, matrices, systems, tiles};
 use sqlite::{Alter, Connection};
 

@@ -5,7 +5,7 @@ use mm_definitions::answers::Fault;
 use mm_definitions::ends::UntilEnd;
 use mm_definitions::streams::Io;
 use mm_program::program;
-use mm_subcommands::{Stop, USAGE, tell_bytes, tell_stop};
+use mm_work::{Stop, USAGE, tell_bytes, tell_stop};
 use std::io::BufReader;
 use std::process::ExitCode;
 use std::{env, io};

@@ -10,14 +10,14 @@ use Rattle.mm_store.specs.Stands.{StandsFor, ReadsAs, IsSettled}
 use Rattle.mm_store.proofs.Asking.{told_fault}
 use Rattle.mm_store.proofs.Seen.{seen_of, settled_still}
 use Rattle.mm_store.proofs.Shapes.{quiet_then}
-use Rattle.mm_opening.specs.Opening.{IsBlank}
+use Rattle.mm_meta.specs.Opening.{IsBlank}
 use Rattle.mm_store.specs.Statements.{CommitsNothing}
-use Rattle.mm_opening.specs.Look.{AnswersLook, FindsNone, IsLooked, Agrees, ShowsProfile}
-use Rattle.mm_opening.proofs.Looking.{shows_profile, still_blank}
+use Rattle.mm_meta.specs.Look.{AnswersLook, FindsNone, IsLooked, Agrees, ShowsProfile}
+use Rattle.mm_meta.proofs.Looking.{shows_profile, still_blank}
 use Rattle.mm_walk.proofs.Resting.{seen_still}
 use Rattle.mm_check.specs.Verdict.{IsVerified}
-use Rattle.mm_shelf.specs.Form.{AreInForm, IsFormCheck, BlobsStand, TellsForm}
-use Rattle.mm_shelf.proofs.Reading.{asked_stands, asked_fails, stand_as_before, fail_as_before, formed_for}
+use Rattle.mm_check.specs.Form.{AreInForm, IsFormCheck, BlobsStand, TellsForm}
+use Rattle.mm_check.proofs.Reading.{asked_stands, asked_fails, stand_as_before, fail_as_before, formed_for}
 use Rattle.mm_core.specs.Adopted.{IsAdopted, IsOfThisVersion, Declines, DeclinesNone, TellsProfile, IsNotAdopted}
 use Rattle.std.specs.Prelude.{ℕ}
 

@@ -3,7 +3,7 @@ use Rattle.std.proofs.Common.{Ok, Err}
 use Rattle.sqlite.specs.State.{State}
 use Rattle.mm_definitions.specs.Bounds.{current}
 use Rattle.mm_definitions.specs.declared.answers.Fault.{Fault}
-use Rattle.mm_opening.specs.Opening.{IsInit}
+use Rattle.mm_meta.specs.Opening.{IsInit}
 use Rattle.mm_core.specs.Sessions.{IsCreated, IsNotCreated}
 
 module _ (old new : State) where

@@ -24,7 +24,7 @@ use Rattle.mm_store.specs.Faults.{IsStoreFault}
 use Rattle.mm_store.specs.Statements.{CommitsNothing}
 use Rattle.mm_store.specs.Shapes.{ComesTo, IsTried}
 use Rattle.mm_store.proofs.Transactions.{OnlyCommitted, settles, rolled_quiet, rolled_back}
-use Rattle.mm_publish.specs.Rehearsals.{IsRehearsal}
+use Rattle.mm_edition.specs.Rehearsals.{IsRehearsal}
 use Rattle.mm_core.specs.Applied.{IsAppliedTo, IsSettledFor, MayCommitStep, StandsForCurrent}
 
 module _ {S : Type 0} (g : Ghosts S) (was now : Held S) (begun : now ≡ record was { in_transaction = true }) (ended last : State)

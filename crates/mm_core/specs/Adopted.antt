@@ -9,10 +9,10 @@ use Rattle.mm_definitions.specs.declared.answers.Open.TheVariants as opens
 use Rattle.mm_store.specs.Stands.{ReadsAs, IsSettled}
 use Rattle.mm_store.specs.Statements.{CommitsNothing}
 use Rattle.mm_store.specs.Faults.{IsStoreFault}
-use Rattle.mm_opening.specs.Opening.{IsBlank}
-use Rattle.mm_opening.specs.Look.{ShowsProfile, AnswersLook}
+use Rattle.mm_meta.specs.Opening.{IsBlank}
+use Rattle.mm_meta.specs.Look.{ShowsProfile, AnswersLook}
 use Rattle.mm_check.specs.Verdict.{IsFailing}
-use Rattle.mm_shelf.specs.Form.{BlobsStand, TellsForm}
+use Rattle.mm_check.specs.Form.{BlobsStand, TellsForm}
 
 -- no package of another version is read
 abbrev pub IsOfThisVersion : State → Type 0

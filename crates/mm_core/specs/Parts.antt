@@ -9,8 +9,8 @@ use Rattle.mm_core.specs.Applied.{shown_on}
 use Rattle.mm_core.specs.declared.session.Session.{Session}
 
 -- its connection
-abbrev pub held : {S : Type 0} {g : Ghosts S} → Session S g → Held S
-held session = session.conn
+abbrev pub connection : {S : Type 0} {g : Ghosts S} → Session S g → Held S
+connection session = session.conn
 
 -- an earlier command was answered a fault
 abbrev pub must_reopen : {S : Type 0} {g : Ghosts S} → Session S g → Bool
@@ -23,4 +23,4 @@ readiness false = Ok tt
 
 -- what it shows
 abbrev pub shown : {S : Type 0} (g : Ghosts S) → Session S g → Shown Trees
-shown g session = shown_on (must_reopen session) (state g (held session))
+shown g session = shown_on (must_reopen session) (state g (connection session))

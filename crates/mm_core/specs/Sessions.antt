@@ -5,7 +5,7 @@ use Rattle.sqlite.specs.State.{State, HasCleanDisk, Survives}
 use Rattle.mm_definitions.specs.Bounds.{current}
 use Rattle.mm_definitions.specs.Opening.{opening}
 use Rattle.mm_store.specs.Stands.{StandsFor, IsSettled}
-use Rattle.mm_opening.specs.Opening.{IsBlank, HasNoTable}
+use Rattle.mm_meta.specs.Opening.{IsBlank, HasNoTable}
 
 -- a making commits no more than the new package
 abbrev pub MayMake : State → Trees → Type 0

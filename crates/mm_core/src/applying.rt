@@ -13,12 +13,12 @@ use mm_definitions::answers::{Answer, Fault, Outcome};
 use mm_definitions::commands::Command;
 use mm_definitions::moments::{Moment, stamp};
 use mm_definitions::names::Name;
-use mm_publish::rehearse;
+use mm_edition::rehearse;
 use mm_store::faults::fault_of;
 use sqlite::{Alter, Connection};
 use std::alloc::Global;
 
-/// One command in one transaction, whose commit is the last call of the store. A refusal rolls it back. `at` is the stamp
+/// One command in one transaction, whose commit is the last call of the store. A refusal rolls it back. `moment` is the stamp
 /// of the moment.
 fn run_transaction<S: Alter>(
     conn: &mut Connection<S>,
@@ -51,7 +51,7 @@ fn run_transaction<S: Alter>(
     }
 }
 
-/// A rehearsal, whose transaction is rolled back. `at` is the stamp of the moment.
+/// A rehearsal, whose transaction is rolled back. `moment` is the stamp of the moment.
 fn rehearse_once<S: Alter>(
     conn: &mut Connection<S>,
     edition: &Name,

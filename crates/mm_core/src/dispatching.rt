@@ -10,12 +10,9 @@ use mm_definitions::answers::{Fault, Outcome};
 use mm_definitions::commands::Command;
 use mm_definitions::extents::Extent;
 use mm_definitions::places::TilePlace;
-use mm_edition::{discard, open_edition, stage};
 use mm_items::{drop_media, drop_row, drop_tile, put_media, put_row, put_tile};
-use mm_layout::{add_pyramid, add_table, drop_table};
-use mm_matrices::add_matrix;
-use mm_opening::add_srs;
-use mm_publish::publish;
+use mm_meta::{add_matrix, add_pyramid, add_srs, add_table, drop_table};
+use mm_edition::{discard, open_edition, publish, stage};
 use mm_relations::{add_map, add_relation, drop_map, drop_relation};
 use sqlite::{Alter, Transaction};
 
@@ -234,7 +231,7 @@ fn prepare_edition<S: Alter>(
     }
 }
 
-/// Does what a command that is no rehearsal says within the transaction. `at` is the stamp of its moment.
+/// Does what a command that is no rehearsal says within the transaction. `last_change` is the stamp of its moment.
 pub(crate) fn run_command<S: Alter>(
     tx: &mut Transaction<'_, S>,
     command: &Command,

@@ -3,7 +3,7 @@
 use crate::session::Session;
 use mm_definitions::answers::Fault;
 use mm_definitions::streams::Io;
-use mm_listing::list;
+use mm_reads::list;
 use sqlite::Alter;
 use std::io::Write;
 
@@ -11,8 +11,8 @@ impl<S: Alter> Session<S> {
     ghost use Rattle.std.specs.Prelude.{◌≡◌, true};
     ghost use Rattle.mm_definitions.specs.Bounds.{current};
     ghost use Rattle.mm_definitions.specs.Streams.{written};
-    ghost use Rattle.mm_listing.specs.Listing.{listing};
-    ghost use Rattle.mm_listing.specs.Writing.{IsListed};
+    ghost use Rattle.mm_reads.specs.Listing.{listing};
+    ghost use Rattle.mm_reads.specs.Writing.{IsListed};
     ghost use Rattle.mm_core.specs.Parts.{must_reopen};
     ghost use Rattle.mm_core.specs.Reads.{Reads};
 

@@ -17,9 +17,9 @@ impl<S: Alter> Session<S> {
     ghost use Rattle.mm_definitions.specs.Places.{tile_at};
     ghost use Rattle.mm_store.specs.Seen.{IsRead};
     ghost use Rattle.mm_reads.specs.Told.{TellsBytes, shown_medium, shown_row};
-    ghost use Rattle.mm_reads.specs.Listing.{ListsTables};
+    ghost use Rattle.mm_reads.specs.Contents.{ListsTables};
     ghost use Rattle.mm_reads.specs.Related.{TellsMates};
-    ghost use Rattle.mm_edition.specs.States.{TellsState};
+    ghost use Rattle.mm_definitions.specs.Standing.{TellsState};
     ghost use Rattle.mm_core.specs.Reads.{Reads};
 
     /// The bytes of the tile of a pyramid at a place, or None where none stands there. (Tile Pyramid User

@@ -3,7 +3,7 @@
 ghost use Rattle.mm_definitions.specs.Bounds.{current};
 ghost use Rattle.mm_store.specs.Stands.{IsSettled};
 ghost use Rattle.mm_core.specs.Applied.{StandsForCurrent};
-ghost use Rattle.mm_core.specs.Parts.{held};
+ghost use Rattle.mm_core.specs.Parts.{connection};
 ghost use Rattle.mm_core.specs.Parts as parts;
 ghost use Rattle.sqlite.specs.Held.{state};
 ghost use Rattle.sqlite.specs.State.{HasCleanDisk};
@@ -22,11 +22,11 @@ impl<S: Alter> Apply for Session<S> {
 
     ghost stands_for = { StandsForCurrent };
 
-    ghost may_leave = { λ s db. (state S.Store (held s)).may_leave db };
+    ghost may_leave = { λ s db. (state S.Store (connection s)).may_leave db };
 
-    ghost is_clean = { λ s. HasCleanDisk (state S.Store (held s)) };
+    ghost is_clean = { λ s. HasCleanDisk (state S.Store (connection s)) };
 
-    ghost settled = { λ s p. IsSettled current (state S.Store (held s)) p };
+    ghost settled = { λ s p. IsSettled current (state S.Store (connection s)) p };
 
     ghost has_failed = { λ s. parts.must_reopen s };
 

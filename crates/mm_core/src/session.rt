@@ -10,9 +10,9 @@ use mm_definitions::moments::Moment;
 use mm_definitions::streams::Io;
 use mm_definitions::units::CURRENT;
 use mm_migrate::migrate;
-use mm_opening::{init, look};
+use mm_meta::{init, look};
 use mm_run::{Apply, run_list};
-use mm_shelf::blobs_stand;
+use mm_check::blobs_stand;
 use sqlite::{Alter, Connection};
 use std::alloc::Global;
 use std::io::{Read, Write};
@@ -33,7 +33,7 @@ impl<S: Alter> Session<S> {
     ghost use Rattle.mm_core.specs.Adopted.{IsAdopted, IsNotAdopted};
     ghost use Rattle.mm_core.specs.Sessions.{IsCreated, IsNotCreated};
     ghost use Rattle.mm_migrate.specs.Migrations.{IsMigration};
-    ghost use Rattle.mm_core.specs.Parts.{held, must_reopen, readiness};
+    ghost use Rattle.mm_core.specs.Parts.{connection, must_reopen, readiness};
 
     /// Makes a new package on a connection whose database has no table, in one commit that is the last call of the store. On a
     /// fault the connection is handed back, and each database that may be left has no table or stands for the new package.
@@ -41,7 +41,7 @@ impl<S: Alter> Session<S> {
         requires { conn.in_transaction ≡ false }
         ensures working { IfOk result (λ session. must_reopen session ≡ false) }
         ensures created { IfOk result
-            (λ session. IsCreated (state S.Store conn) (state S.Store (held session))) }
+            (λ session. IsCreated (state S.Store conn) (state S.Store (connection session))) }
         ensures faults { IfErr result (λ e. (e.1.0 ≡ 90) ⊎ (e.1.0 ≡ 91)) }
         ensures handed_back { IfErr result (λ e. e.0.in_transaction ≡ false) }
         ensures not_created { IfErr result
@@ -71,7 +71,7 @@ impl<S: Alter> Session<S> {
         requires { conn.in_transaction ≡ false }
         ensures working { IfOk result (λ session. must_reopen session ≡ false) }
         ensures adopted { IfOk result
-            (λ session. IsAdopted (state S.Store conn) (state S.Store (held session))) }
+            (λ session. IsAdopted (state S.Store conn) (state S.Store (connection session))) }
         ensures handed_back { IfErr result (λ e. e.0.in_transaction ≡ false) }
         ensures not_adopted { IfErr result
             (λ e. IsNotAdopted (state S.Store conn) (state S.Store e.0) e.1) }
@@ -110,7 +110,7 @@ impl<S: Alter> Session<S> {
         requires { conn.in_transaction ≡ false }
         ensures working { IfOk result (λ session. must_reopen session ≡ false) }
         ensures migrated { IfOk result
-            (λ session. IsMigration (state S.Store conn) (state S.Store (held session)) (Ok tt)) }
+            (λ session. IsMigration (state S.Store conn) (state S.Store (connection session)) (Ok tt)) }
         ensures handed_back { IfErr result (λ e. e.0.in_transaction ≡ false) }
         ensures not_migrated { IfErr result
             (λ e. IsMigration (state S.Store conn) (state S.Store e.0) (Err e.1)) }
@@ -135,7 +135,7 @@ impl<S: Alter> Session<S> {
 
     /// Hands the connection back, and makes no call of the store.
     pub fn close(self) -> Connection<S>
-        ensures { result ≡ held self }
+        ensures { result ≡ connection self }
     {
         let Session {
             conn,
@@ -156,7 +156,7 @@ impl<S: Alter> Session<S> {
     ghost use Rattle.mm_run.specs.Answers.{is_fault};
     ghost use Rattle.mm_run.specs.Applied.{OnFault};
     ghost use Rattle.mm_core.specs.Applied.{IsAppliedTo};
-    ghost use Rattle.mm_core.specs.Parts.{held, must_reopen};
+    ghost use Rattle.mm_core.specs.Parts.{connection, must_reopen};
 
     /// Applies one command at a moment, in one transaction whose commit is the last call of the store; that of a
     /// rehearsal is rolled back. `Ok` where it is
@@ -171,7 +171,7 @@ impl<S: Alter> Session<S> {
         ensures fails { must_reopen self.old ≡ false → must_reopen self.new ≡ is_fault result }
         ensures applied { must_reopen self.old ≡ false
             → IsAppliedTo command.now at
-            (state S.Store (held self.old)) (state S.Store (held self.new)) result }
+            (state S.Store (connection self.old)) (state S.Store (connection self.new)) result }
         ensures keeps { (p : Package) → Meets current p → Meets current (step p command.now at) }
     {
         // The proof reads from these that the moment and the command are within their limits.

@@ -1,7 +1,7 @@
 //! A session as what the parts of a package that are shown are asked of.
 
 ghost use Rattle.sqlite.specs.Held.{state};
-ghost use Rattle.mm_core.specs.Parts.{held};
+ghost use Rattle.mm_core.specs.Parts.{connection};
 ghost use Rattle.mm_core.specs.Parts as parts;
 
 use crate::session::Session;
@@ -13,7 +13,7 @@ use mm_reads::Viewer;
 use sqlite::Alter;
 
 impl<S: Alter> Viewer for Session<S> {
-    ghost store = { λ s. state S.Store (held s) };
+    ghost store = { λ s. state S.Store (connection s) };
 
     ghost has_failed = { λ s. parts.must_reopen s };
 

@@ -1,5 +1,6 @@
 -- The text of a record: which fields spell which command, and which numbers hold against fields that spell none.
 use Rattle.std.specs.Prelude.{◌≡◌, ℕ, ◌-◌, ◌≤◌, ◌^◌, pos, negsuc, neg_ℤ, List, [], ◌∷◌, ◌++◌, Option, Some, None, if◌then◌else◌, bytes_eq, codes}
+use Rattle.mm_definitions.specs.declared.refusals.TheConstants.{NO_SUCH_RECORD}
 use Rattle.mm_definitions.specs.Keys.{Text}
 use Rattle.mm_definitions.specs.Bounds.{Profile}
 use Rattle.mm_definitions.specs.Fields.{Field, OneOf, NumberFrom, BytesTo, TextOf, AnIdentifier, AContentType, AName, Value, Whole, Plain, AllHold, IsAgainstSome}
@@ -253,7 +254,7 @@ IsMet (Some form) texts values = AllHold form texts values
 
 -- the number holds against a record, which is 10 alone where it has no form
 abbrev pub IsUnmet : Option Form → List Text → ℕ → Type 0
-IsUnmet None texts n = n ≡ 10
+IsUnmet None texts n = n ≡ NO_SUCH_RECORD
 IsUnmet (Some form) texts n = IsAgainstSome form texts n
 
 -- the fields of a record, its word first, spell this piece
@@ -263,7 +264,7 @@ SpellsPiece profile (word ∷ texts) q = (word ≡ piece_word q) × IsMet (piece
 
 -- the number holds against the fields of a record that is to spell a piece
 abbrev pub HoldsAgainstPiece : Profile → List Text → ℕ → Type 0
-HoldsAgainstPiece profile [] n = n ≡ 10
+HoldsAgainstPiece profile [] n = n ≡ NO_SUCH_RECORD
 HoldsAgainstPiece profile (word ∷ texts) n = IsUnmet (piece_form profile (word ∷ texts)) texts n
 
 -- the fields of a record, its word first, spell this command
@@ -273,7 +274,7 @@ Spells profile (word ∷ texts) c = (word ≡ command_word c) × IsMet (record_f
 
 -- the number holds against the fields of a record that is to spell a command
 abbrev pub HoldsAgainst : Profile → List Text → ℕ → Type 0
-HoldsAgainst profile [] n = n ≡ 10
+HoldsAgainst profile [] n = n ≡ NO_SUCH_RECORD
 HoldsAgainst profile (word ∷ texts) n = IsUnmet (record_form profile (word ∷ texts)) texts n
 
 -- the least of the numbers that hold

@@ -10,7 +10,8 @@ use crate::bounded::{MatrixSide, PixelSize, TileSide};
 use crate::commands::Matrix;
 use crate::limits::FARTHEST;
 
-/// A bounding box, in whole micrometres. One that a package holds is not empty.
+/// A bounding box, in whole micrometres. `new` makes those that a command may have; one that was read from a file holds
+/// what stands there, and rule 6 says of a package that none is empty.
 #[derive(Clone, Copy, Debug, PartialEq, Eq)]
 pub struct Extent {
     pub min_x: i64,

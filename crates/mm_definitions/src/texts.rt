@@ -1,7 +1,7 @@
 //! Texts that carry the limits of their length, in bytes.
 
 ghost use Rattle.std.specs.Prelude.{◌≡◌, ◌↔◌, string_bytes, IsSome, IfSome, IsTrue};
-ghost use Rattle.mm_definitions.specs.Bounds.{IsText};
+ghost use Rattle.mm_definitions.specs.Bounds.{IsClean, IsText};
 ghost use Rattle.mm_definitions.specs.Bounds as bounds;
 ghost use Rattle.mm_definitions.specs.Reading.{ReadsTo, reads_text, refuses_unless};
 
@@ -42,8 +42,15 @@ fn has_zero(text: &str) -> bool
     text.as_bytes().iter().any(|c| *c == 0)
 }
 
+/// Whether none of a text's bytes is 0.
+pub fn is_clean(text: &str) -> bool
+    ensures { IsTrue result ↔ IsClean text.now }
+{
+    !has_zero(text)
+}
+
 /// Whether a text has so many bytes, none of them 0.
-fn is_text(text: &str, least: usize, most: usize) -> bool
+pub fn is_text(text: &str, least: usize, most: usize) -> bool
     ensures { IsTrue result ↔ IsText least most text.now }
 {
     if text.len() < least {
@@ -52,7 +59,7 @@ fn is_text(text: &str, least: usize, most: usize) -> bool
     if text.len() > most {
         return false;
     }
-    !has_zero(text)
+    is_clean(text)
 }
 
 impl<const LEAST: usize, const MOST: usize> Text<LEAST, MOST> {

@@ -1,10 +1,5 @@
-pub mod Selecting
-pub mod Refusing
-pub mod Rows
-pub mod Numbering
-pub mod Unchanged
-pub mod Spelled
-pub mod InOrder
-pub mod LastPiece
-pub mod Naming
-pub mod Freeing
+pub mod Quieting
+pub mod Turning
+pub mod Trials
+pub mod Tries
+pub mod Rehearsed

@@ -1,5 +1,3 @@
-pub mod Standings
-pub mod Kept
-pub mod Places
-pub mod States
-pub mod Handed
+pub mod Turns
+pub mod Quiet
+pub mod Rehearsals

@@ -1,24 +1,15 @@
-//! Editions while they are prepared: changes are staged piece by piece. `mm_publish` publishes them.
+//! Editions: a list of changes, prepared piece by piece, and done in one command wholly or not at all. What prepares them
+//! is handed on from `mm_staging`.
 //!
-//! - `editor`: what commands on an edition are applied to, which tells how it stands.
-//! - `editions`: how an edition stands, `open_edition` and `discard`.
-//! - `kept`: a staged piece as its row holds it.
-//! - `pieces`: one piece by its number, and the blobs of all.
-//! - `spelling`: the piece that a kept row spells.
-//! - `staging`: `stage`.
-//! - `states`: the read `edition`.
+//! - `publishing`: `publish`, all pieces in turn.
+//! - `rehearsing`: `rehearse`, which changes nothing.
+//! - `running`: one piece taken as its command.
 #![tactic(auto)]
 
-mod editions;
-mod editor;
-mod kept;
-mod pieces;
-mod spelling;
-mod staging;
-mod states;
+mod publishing;
+mod rehearsing;
+mod running;
 
-pub use editions::{closed_refusal, discard, open_edition};
-pub use editor::Editor;
-pub use pieces::{blobs_of_pieces, piece};
-pub use staging::stage;
-pub use states::edition;
+pub use mm_staging::{discard, edition, open_edition, stage};
+pub use publishing::publish;
+pub use rehearsing::rehearse;

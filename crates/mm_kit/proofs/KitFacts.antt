@@ -11,7 +11,7 @@ use Rattle.mm_definitions.specs.declared.answers.Staged.{Staged}
 use Rattle.mm_definitions.specs.declared.answers.Staged.TheVariants.{Refused}
 use Rattle.std.proofs.lemmas.Bool.{le-ltb, lt-ltb}
 use Rattle.mm_definitions.specs.declared.entries.EditionState.TheVariants as states
-use Rattle.mm_edition.specs.States.{TellsState}
+use Rattle.mm_definitions.specs.Standing.{TellsState}
 use Rattle.mm_run.specs.Applied.{IsSound}
 use Rattle.mm_kit.specs.Editions.{Edition, Open, Published, IsEdition, HasPieces}
 use Rattle.mm_kit.specs.Folders.{Files}

@@ -25,8 +25,8 @@ use Rattle.mm_laws.proofs.Again.{same_row}
 use Rattle.mm_laws.proofs.Counted.{piece_count-is}
 use Rattle.mm_laws.proofs.Published.{read_back, row_itself}
 use Rattle.mm_store.proofs.Refusals.{accepted_for, refused, refused_for}
-use Rattle.mm_edition.specs.Places.{IsNextNumber}
-use Rattle.mm_edition.proofs.Numbering.{stage_equal, stage_other, stage_next, again}
+use Rattle.mm_staging.specs.Places.{IsNextNumber}
+use Rattle.mm_staging.proofs.Numbering.{stage_equal, stage_other, stage_next, again}
 use Rattle.mm_run.specs.Applied.{IsSound}
 use Rattle.mm_run.specs.Shown.{Shown}
 use Rattle.mm_kit.specs.Editions.{HasPieces, numbered}

@@ -1,5 +1,6 @@
 -- A record of a kit's list: its number, and the record of a piece, in which the last field of a tile or a media item is the
 -- name of the file that holds the bytes.
+use Rattle.mm_definitions.specs.declared.refusals.TheConstants.{NO_SUCH_RECORD, TOO_MANY_PIECES, NOT_THE_PLACE, NO_FILE}
 use Rattle.mm_definitions.specs.Bounds.{current}
 use Rattle.std.specs.Prelude.{◌≡◌, ◌≢◌, ◌⊎◌, ◌≤◌, ◌<◌, ◌-◌, ℕ, ℤ, pos, Bool, false, ◌||◌, length, take, get_or, if◌then◌else◌, [], ◌∷◌, ◌++◌, Option, Some, None, Result, Ok, Err, codes, bytes_eq, nat_lt, ⊤}
 use Rattle.std.specs.Borrow.{Bor}
@@ -50,14 +51,14 @@ IsEntry place (number ∷ r) e = SpellsNumber number (pos place) × (place ≤ 4
 -- The numbers against the record at this place: 10 to 12 as against every record of a piece, 54 where there are too many
 -- records, 56 where its number isn't its place, 57 where the file's name is out of form.
 abbrev pub HoldsAgainstEntry : ℕ → Record → ℕ → Type 0
-HoldsAgainstEntry place [] n = n ≡ 10
+HoldsAgainstEntry place [] n = n ≡ NO_SUCH_RECORD
 HoldsAgainstEntry place (number ∷ r) n =
-    IsAgainst id_field number n ⊎ HoldsAgainstPiece current (without_file r) n ⊎ ((n ≡ 54) × (4096 < place)) ⊎ ((n ≡ 56) × ¬ (SpellsNumber number (pos place))) ⊎ ((n ≡ 57) × ¬ (IsInForm (file_of r)))
+    IsAgainst id_field number n ⊎ HoldsAgainstPiece current (without_file r) n ⊎ ((n ≡ TOO_MANY_PIECES) × (4096 < place)) ⊎ ((n ≡ NOT_THE_PLACE) × ¬ (SpellsNumber number (pos place))) ⊎ ((n ≡ NO_FILE) × ¬ (IsInForm (file_of r)))
 
 -- The entry, or the least number that is against the record. One with a field that isn't text is refused 10.
 abbrev pub IsEntryReadAs : ℕ → Record → Result Entry ℕ → Type 0
 IsEntryReadAs place r (Ok e) = AllText r × IsEntry place r e
-IsEntryReadAs place r (Err n) = (AllText r × IsLeast (HoldsAgainstEntry place r) n) ⊎ (¬ (AllText r) × (n ≡ 10))
+IsEntryReadAs place r (Err n) = (AllText r × IsLeast (HoldsAgainstEntry place r) n) ⊎ (¬ (AllText r) × (n ≡ NO_SUCH_RECORD))
 
 -- ---- inside the reader
 -- a field that may be missing, as its text
@@ -68,13 +69,13 @@ text_of (Some field) = Some field.now
 -- the name of the file, or 57
 abbrev pub file_read : Option Text → Result (Option Text) ℕ → Type 0
 file_read field (Ok file) = (file ≡ field) × IsInForm field
-file_read field (Err n) = (n ≡ 57) × ¬ (IsInForm field)
+file_read field (Err n) = (n ≡ NO_FILE) × ¬ (IsInForm field)
 
 -- what is left to be asked of a record whose number and piece were read
 abbrev pub IsLeftToAsk : ℕ → ℤ → Option Text → Result (Option Text) ℕ → Type 0
 IsLeftToAsk place number field (Ok file) = (place ≤ 4096) × (number ≡ pos place) × (file ≡ field) × IsInForm field
 IsLeftToAsk place number field (Err n) =
-    ((n ≡ 54) × (4096 < place)) ⊎ ((n ≡ 56) × (place ≤ 4096) × (number ≢ pos place)) ⊎ ((n ≡ 57) × (place ≤ 4096) × (number ≡ pos place) × ¬ (IsInForm field))
+    ((n ≡ TOO_MANY_PIECES) × (4096 < place)) ⊎ ((n ≡ NOT_THE_PLACE) × (place ≤ 4096) × (number ≢ pos place)) ⊎ ((n ≡ NO_FILE) × (place ≤ 4096) × (number ≡ pos place) × ¬ (IsInForm field))
 
 -- the least number that is against a record whose number is refused; want of memory goes before all
 abbrev pub least_fault : ℕ → Result Piece ReadFault → ReadFault

@@ -1,6 +1,7 @@
 -- What an import of a kit does.
 use Rattle.std.specs.Prelude.{◌≡◌, ◌≢◌, ◌≤◌, ◌⊎◌, ◌+◌, ◌==◌, ◌||◌, ℕ, pos, max, length, Bool, true, false, List, [], ◌∷◌, ◌++◌, Option, Some, None, Result, Ok, Err, IfSome, ⊤}
 use Rattle.std.specs.FinMap.{get}
+use Rattle.mm_definitions.specs.declared.refusals.TheConstants.{OUT_OF_LIMITS, NO_FILE}
 use Rattle.mm_definitions.specs.Keys.{Text, PieceKey}
 use Rattle.mm_definitions.specs.Package.{Package}
 use Rattle.mm_definitions.specs.Rules.{Meets}
@@ -55,7 +56,7 @@ pub record HasWhole (files : Files) (name : Text) (entries : List Entry) (q : Pa
 -- refused for a file: where the edition's pieces were a first part of the kit, they are the kit
 abbrev pub HasFirst : Files → Text → List Entry → Package → Package → ℕ → Type 0
 HasFirst files name entries p q number =
-    (number ≡ 57) ⊎ (number ≡ 11) → (old : List Piece) → HasPieces p name old → IsFirstOf old (kit_pieces files entries) → HasPieces q name (kit_pieces files entries)
+    (number ≡ NO_FILE) ⊎ (number ≡ OUT_OF_LIMITS) → (old : List Piece) → HasPieces p name old → IsFirstOf old (kit_pieces files entries) → HasPieces q name (kit_pieces files entries)
 
 -- what q, the package after the import, has of the kit by the answer; where the list is refused it can't be complete
 abbrev pub HasAnswered : Files → Text → Result (List Entry) (ℕ × ℕ) → Package → Package → Staged → Type 0

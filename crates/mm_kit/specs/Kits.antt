@@ -1,5 +1,6 @@
 -- A kit: the pieces of a list and a folder, and the answer to its import.
 use Rattle.std.specs.Prelude.{◌≡◌, ◌+◌, ℕ, nat_le, nat_lt, ◌&&◌, length, if◌then◌else◌, List, [], ◌∷◌, Option, Some, None, Result, Ok, Err}
+use Rattle.mm_definitions.specs.declared.refusals.TheConstants.{OUT_OF_LIMITS, NO_EDITION, NOT_THE_NEXT_PIECE, PUBLISHED_ALREADY, NO_FILE}
 use Rattle.mm_definitions.specs.Pieces.{piece_row, same_piece}
 use Rattle.mm_definitions.specs.declared.commands.Piece.{Piece}
 use Rattle.mm_definitions.specs.declared.commands.Piece.TheVariants as pieces
@@ -14,8 +15,8 @@ use Rattle.mm_kit.specs.declared.entries.Entry.TheVariants.{Ready, Tile, Media}
 
 -- the piece of a file's bytes: 57 where there is no such file, 11 where it has none or too many
 abbrev pub with_file : ℕ → (List ℕ → Piece) → Option (List ℕ) → Result Piece ℕ
-with_file most make None = Err 57
-with_file most make (Some bytes) = if nat_le 1 (length bytes) && nat_le (length bytes) most then Ok (make bytes) else Err 11
+with_file most make None = Err NO_FILE
+with_file most make (Some bytes) = if nat_le 1 (length bytes) && nat_le (length bytes) most then Ok (make bytes) else Err OUT_OF_LIMITS
 
 -- the piece of an entry, with its file's bytes where it names one: at most 1,048,576 of a tile, 4,194,304 of a medium
 abbrev pub filled : Files → Entry → Result Piece ℕ
@@ -64,7 +65,7 @@ IsWholeKit files entries = first_number (λ i e. error_of (filled files e)) 1 en
 -- 52 where another piece stands at the number
 abbrev pub beside : Option Piece → Piece → Option ℕ
 beside None q = None
-beside (Some other) q = if same_piece (piece_row q) (piece_row other) then None else Some 52
+beside (Some other) q = if same_piece (piece_row q) (piece_row other) then None else Some NOT_THE_NEXT_PIECE
 
 -- what is against the entry at place i, for an edition with these pieces: the number of its file, or 52
 abbrev pub against_piece : List Piece → ℕ → Result Piece ℕ → Option ℕ
@@ -82,9 +83,9 @@ first_answer n (Some at) = Refused at.0 at.1
 
 -- the answer for the entries of a list: 51 where there is no such edition, 55 where it is published
 abbrev pub edition_answer : Files → List Entry → Option Edition → Staged
-edition_answer files entries None = Refused 0 51
-edition_answer files entries (Some Published) = Refused 0 55
-edition_answer files entries (Some (Open old)) = if nat_lt (length entries) (length old) then Refused (length entries + 1) 52
+edition_answer files entries None = Refused 0 NO_EDITION
+edition_answer files entries (Some Published) = Refused 0 PUBLISHED_ALREADY
+edition_answer files entries (Some (Open old)) = if nat_lt (length entries) (length old) then Refused (length entries + 1) NOT_THE_NEXT_PIECE
     else first_answer (length entries) (first_number (against files old) 1 entries)
 
 -- the answer for a list and an edition; a list that is refused is answered with its place and number, whatever the edition

@@ -3,6 +3,7 @@ use Rattle.std.specs.Prelude.{◌≡◌, ◌⊎◌, ◌≤◌, ◌<◌, ◌+◌,
 use Rattle.csv.specs.Reading.{Reached, default_config}
 use Rattle.csv.specs.declared.parser.State.{State}
 use Rattle.csv.specs.declared.parser.State.TheVariants as states
+use Rattle.mm_definitions.specs.declared.refusals.TheConstants.{OUT_OF_LIMITS, NO_FILE}
 use Rattle.mm_definitions.specs.declared.answers.ReadFault.{ReadFault}
 use Rattle.mm_definitions.specs.declared.answers.ReadFault.TheVariants as faults
 use Rattle.mm_io.specs.Records.{Record, records_of}
@@ -36,8 +37,8 @@ IsListRead rows (Err at) = IsFirstRefused rows at.0 at.1
 
 -- the list of a folder: 57 where it has none, 11 where it is too long
 abbrev pub IsListOf : Option (List ℕ) → Result (List Entry) (ℕ × ℕ) → Type 0
-IsListOf None list = list ≡ Err (0, 57)
-IsListOf (Some bytes) list = ((16777216 < length bytes) × (list ≡ Err (0, 11))) ⊎ ((length bytes ≤ 16777216) × IsListRead (records_of bytes) list)
+IsListOf None list = list ≡ Err (0, NO_FILE)
+IsListOf (Some bytes) list = ((16777216 < length bytes) × (list ≡ Err (0, OUT_OF_LIMITS))) ⊎ ((length bytes ≤ 16777216) × IsListRead (records_of bytes) list)
 
 -- the list of a kit is that of its file `kit.csv`
 abbrev pub IsKitList : Files → Result (List Entry) (ℕ × ℕ) → Type 0

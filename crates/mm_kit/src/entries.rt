@@ -17,7 +17,7 @@ use mm_definitions::limits::{LAST_ID, MOST_PIECES};
 use mm_definitions::names::Name;
 use mm_definitions::numbers::read_number;
 use mm_definitions::refusals::Reason;
-use mm_records::read_piece;
+use mm_base::read_piece;
 use std::alloc::{AllocError, Global};
 
 /// A record of a kit's list: a piece, or a tile or media item whose bytes a file holds.

@@ -14,7 +14,7 @@ use mm_definitions::entries::EditionState;
 use mm_definitions::moments::Moment;
 use mm_definitions::names::Name;
 use mm_definitions::refusals;
-use mm_edition::Editor;
+use mm_run::Editor;
 use std::alloc::Global;
 
 /// The most bytes of a kit's list.

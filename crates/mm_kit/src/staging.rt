@@ -23,7 +23,7 @@ use mm_definitions::bounded::Id;
 use mm_definitions::commands::{Command, Piece};
 use mm_definitions::moments::Moment;
 use mm_definitions::names::Name;
-use mm_edition::Editor;
+use mm_run::Editor;
 use mm_run::Apply;
 use std::alloc::Global;
 

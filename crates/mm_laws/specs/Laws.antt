@@ -1,6 +1,7 @@
 -- What the laws of this crate speak of.
 use Rattle.std.specs.Prelude.{◌≡◌, ◌≢◌, ℕ, List, [], ◌∷◌, Ok, Bool, ◌&&◌, ◌||◌, ◌==◌, nat_le, is_some, IsTrue, true, false, ◌++◌, ◌⊎◌, Some}
 use Rattle.std.specs.List.{list_any}
+use Rattle.mm_definitions.specs.declared.refusals.TheConstants.{NO_SUCH_RECORD, OUT_OF_LIMITS, NOT_A_NAME}
 use Rattle.mm_definitions.specs.Keys.{Text, same_text, PieceKey}
 use Rattle.mm_definitions.specs.Bounds.{Profile, IsMoment}
 use Rattle.mm_definitions.specs.Parts.{Each, Has, at_value}
@@ -94,4 +95,4 @@ IsSetOrKept is_set stamp before t row = ((is_set ≡ true) × (row.last_change �
 -- ---- records
 -- the numbers that may hold against the fields of a record
 abbrev pub IsReadingNumber : ℕ → Type 0
-IsReadingNumber n = (n ≡ 10) ⊎ (n ≡ 11) ⊎ (n ≡ 12)
+IsReadingNumber n = (n ≡ NO_SUCH_RECORD) ⊎ (n ≡ OUT_OF_LIMITS) ⊎ (n ≡ NOT_A_NAME)

@@ -16,7 +16,7 @@ use Rattle.mm_definitions.specs.Effects.{is_other}
 use Rattle.mm_definitions.specs.Keys.{Text, same_text}
 use Rattle.sqlite.specs.Tree.{Trees}
 use Rattle.sql_forms.specs.Cascade.{cut}
-use Rattle.mm_schema.specs.Places.{table_place}
+use Rattle.mm_store.specs.Places.{table_place}
 use Rattle.mm_store.specs.Kept.{Kept, Spare, no_spare, tile_id, medium_id}
 use Rattle.mm_store.specs.Removals.{without_table_rows, kept_without_table, Freed, FreedByTable}
 use Rattle.mm_store.specs.Rows.{past_rowid}

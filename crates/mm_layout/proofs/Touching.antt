@@ -17,7 +17,7 @@ use Rattle.sqlite_rules.specs.Lists.{Has}
 use Rattle.sql_forms.specs.Tables.{with_changed}
 use Rattle.sql_forms.proofs.Keys.{as_truth, columns_are}
 use Rattle.sql_forms.proofs.Updates.{updated}
-use Rattle.mm_schema.specs.Tables.{gpkg_contents}
+use Rattle.mm_store.specs.Tables.{gpkg_contents}
 use Rattle.mm_definitions.specs.Keys.{Text, text_cmp, same_text}
 use Rattle.mm_definitions.specs.Package.{Package, Contents}
 use Rattle.mm_definitions.specs.Effects.{touch, touched_row, changed_at}

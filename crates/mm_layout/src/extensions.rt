@@ -2,7 +2,7 @@
 
 ghost use Rattle.std.specs.Prelude.{◌≡◌, None};
 ghost use Rattle.std.specs.FinMap.{get, insert, remove};
-ghost use Rattle.mm_definitions.specs.Package.{zoom_extension};
+ghost use Rattle.mm_definitions.specs.Package.{mapping_extension, zoom_extension};
 ghost use Rattle.mm_store.specs.Handed.{Changes, ChangesWhere};
 
 use mm_definitions::answers::Fault;
@@ -37,5 +37,35 @@ pub(crate) fn delete_zoom_row<S: Alter>(
         tx,
         "DELETE FROM gpkg_extensions WHERE table_name = ?1 AND column_name = 'tile_data' AND extension_name = 'gpkg_zoom_other' AND definition = 'OGC 12-128r17' AND scope = 'read-write'",
         params![table],
+    )
+}
+
+/// Puts the extension row of a mapping, or that of the list of mappings. (Related Tables Extension.)
+pub fn insert_related_row<S: Alter>(tx: &mut Transaction<'_, S>, table: &str) -> Result<(), Fault>
+    ensures { ChangesWhere S.Store tx.old tx.new
+        (λ p. get p.extensions (mapping_extension table.now) ≡ None)
+        (λ p. record p { extensions = insert p.extensions (mapping_extension table.now) 1 })
+        result }
+{
+    run(
+        tx,
+        "INSERT INTO gpkg_extensions (table_name, column_name, extension_name, definition, scope) VALUES (?1, NULL, 'gpkg_related_tables', 'OGC 18-000', 'read-write')",
+        params![table],
+    )
+}
+
+/// Removes the extension row of a mapping. (Related Tables Extension.)
+pub fn delete_related_row<S: Alter>(
+    tx: &mut Transaction<'_, S>,
+    mapping: &str,
+) -> Result<(), Fault>
+    ensures { Changes S.Store tx.old tx.new
+        (λ p. record p { extensions = remove p.extensions (mapping_extension mapping.now) })
+        result }
+{
+    run(
+        tx,
+        "DELETE FROM gpkg_extensions WHERE table_name = ?1 AND column_name IS NULL AND extension_name = 'gpkg_related_tables' AND definition = 'OGC 18-000' AND scope = 'read-write'",
+        params![mapping],
     )
 }

@@ -20,6 +20,7 @@ mod systems;
 mod tables;
 
 pub use contents::{is_taken, set_last_change, touch};
+pub use extensions::{delete_related_row, insert_related_row};
 pub use items::{has_medium, has_row};
 pub use kinds::kind_of;
 pub use pyramids::add_pyramid;

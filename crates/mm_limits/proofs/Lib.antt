@@ -2,3 +2,6 @@ pub mod LimitQueries
 pub mod Texts
 pub mod LimitRules
 pub mod LimitParts
+pub mod EditionQueries
+pub mod Numbering
+pub mod EditionRules

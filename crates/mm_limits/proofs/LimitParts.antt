@@ -6,11 +6,11 @@ use Rattle.mm_definitions.specs.Bounds.{Profile}
 use Rattle.mm_definitions.specs.Package.{Package}
 use Rattle.mm_definitions.specs.Rules.{Limits}
 use Rattle.mm_definitions.specs.declared.answers.Fault.{Fault}
-use Rattle.mm_queries.specs.Check.{IsCheck}
-use Rattle.mm_queries.proofs.Compose.{same_rule, stops, gives_up}
-use Rattle.mm_queries.specs.InTurn.{HoldsBelow, HasPassed}
+use Rattle.mm_walk.specs.Check.{IsCheck}
+use Rattle.mm_walk.proofs.Compose.{same_rule, stops, gives_up}
+use Rattle.mm_walk.specs.InTurn.{HoldsBelow, HasPassed}
 use Rattle.mm_limits.specs.LimitRows.{part}
-use Rattle.mm_queries.proofs.InTurn.{either_holds, none_below, one_more, none_asked, next_passes, asked_alone, all_passed}
+use Rattle.mm_walk.proofs.InTurn.{either_holds, none_below, one_more, none_asked, next_passes, asked_alone, all_passed}
 
 -- where all are within their limits, each part is
 part_holds : (profile : Profile) (p : Package) (k : ℕ) → Limits profile p → part profile k p

@@ -7,9 +7,9 @@ use Rattle.sqlite_sql.specs.Query.{inner, left, end}
 use Rattle.sqlite.specs.Listing.{understood}
 use Rattle.sqlite_tied.specs.Compute.{everything}
 use Rattle.mm_walk.specs.RowTests.{IsQuery}
-use Rattle.mm_schema.specs.Tables.{schema}
+use Rattle.mm_store.specs.Tables.{schema}
 use Rattle.mm_limits.specs.Texts as text
-use Rattle.mm_queries.proofs.Terms.{equals}
+use Rattle.mm_walk.proofs.Terms.{equals}
 use Rattle.mm_walk.proofs.Quiet.{IsQuiet}
 
 pub systems_within : IsQuery schema text.systems_within (inner 0 end) [] (col 1 0 ∷ col 1 1 ∷ col 1 3 ∷ col 1 4 ∷ col 1 5 ∷ col 1 6 ∷ [])

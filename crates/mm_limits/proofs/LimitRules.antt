@@ -11,12 +11,12 @@ use Rattle.mm_definitions.proofs.Parts.{same_some}
 use Rattle.mm_store.specs.Rows.{maybe, maybe_words, system_row, contents_row, kind_row, set_row, grid_row, extension_row, tile_row, attribute_row, medium_row, relation_row, pairing_row, edition_row, staged_row}
 use Rattle.mm_limits.specs.LimitRows.{number_if_any, text_if_any, IsSystemWithinRow, IsContentsWithinRow, IsKindWithinRow, IsSetWithinRow, IsMatrixWithinRow, IsExtensionWithinRow, IsTileWithinRow, IsAttributeWithinRow, IsMediumWithinRow, IsRelationWithinRow, IsPairingWithinRow, IsEditionWithinRow, IsPieceWithinRow, SystemsAreWithin, ContentsAreWithin, KindsAreWithin, SetsAreWithin, MatricesAreWithin, ExtensionsAreWithin, TilesAreWithin, RowsAreWithin, MediaAreWithin, RelationsAreWithin, PairingsAreWithin, EditionsAreWithin, PiecesAreWithin}
 use Rattle.mm_store.specs.Kept.{tile_id, tile_with, medium_id, medium_with, piece_id, piece_with}
-use Rattle.mm_queries.proofs.Joined.{as_whole, after_rowid, after_id, covered, covered_whole, covered_id, each_row}
-use Rattle.mm_queries.proofs.Counted.{counts_cover}
-use Rattle.mm_queries.proofs.Named.{each_named, joined_blob, also}
-use Rattle.mm_queries.proofs.Terms.{equals}
+use Rattle.mm_walk.proofs.Joined.{as_whole, after_rowid, after_id, covered, covered_whole, covered_id, each_row}
+use Rattle.mm_walk.proofs.Counted.{counts_cover}
+use Rattle.mm_walk.proofs.Named.{each_named, joined_blob, also}
+use Rattle.mm_walk.proofs.Terms.{equals}
 use Rattle.mm_limits.proofs.Texts.{name_utf8, content_type_utf8, stamp_is_utf8}
-use Rattle.mm_queries.proofs.Checks.{Says}
+use Rattle.mm_walk.proofs.Checks.{Says}
 
 number_is : (P : ℤ → Type 0) (o : Option ℤ) → number_if_any P (maybe o) ↔ IfSome o P
 number_is P None = (λ _. tt, λ _. tt)

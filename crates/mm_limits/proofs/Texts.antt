@@ -13,7 +13,7 @@ use Rattle.mm_definitions.specs.Stamp.{IsSomeStamp}
 use Rattle.mm_definitions.proofs.CleanTexts.{name_is_clean}
 use Rattle.mm_definitions.proofs.Parts.{either_false}
 use Rattle.mm_definitions.proofs.StampText.{stamp_utf8}
-use Rattle.mm_queries.specs.Columns.{Unread}
+use Rattle.mm_walk.specs.Columns.{Unread}
 
 -- what is no UTF-8 passes no test of texts
 pub unread : (P : List ℕ → Type 0) (o : Option (List ℕ)) → Unread o → MatchOption o ⊥ (λ text. IsUtf8 text × P text) → ⊥

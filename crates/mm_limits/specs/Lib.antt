@@ -1,2 +1,5 @@
 pub mod LimitRows
 pub mod Texts
+pub mod PieceRows
+pub mod EditionParts
+pub mod EditionTexts

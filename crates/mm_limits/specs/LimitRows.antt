@@ -8,8 +8,8 @@ use Rattle.mm_definitions.specs.Parts.{Each}
 use Rattle.mm_definitions.specs.Package.{Package}
 use Rattle.mm_definitions.specs.Rules.{AreSystemNumbers, SystemWithin, ContentsWithin, KindWithin, SetWithin, MatrixWithin, ExtensionWithin, TileWithin, RowWithin, MediumWithin, RelationWithin, PairingWithin, EditionWithin, PieceWithin}
 use Rattle.mm_definitions.specs.Stamp.{IsSomeStamp}
-use Rattle.mm_queries.specs.Columns.{number_of, text_bytes, bytes_of}
-use Rattle.mm_queries.specs.InTurn.{chosen}
+use Rattle.mm_walk.specs.Columns.{number_of, text_bytes, bytes_of}
+use Rattle.mm_walk.specs.InTurn.{chosen}
 
 -- ---- a column
 -- it holds a text, which is UTF-8 and meets P

@@ -4,7 +4,6 @@ ghost use Rattle.std.specs.Prelude.{◌≡◌, ◌↔◌, IsTrue};
 ghost use Rattle.std.specs.Str.{IsUtf8};
 ghost use Rattle.sqlite.specs.Order.{column};
 ghost use Rattle.mm_definitions.specs.Bounds.{IsCoordinate, IsPixelSize, IsFrom, IsLong, IsText, IsName, IsClean, IsIdentifier, IsContentType};
-ghost use Rattle.mm_definitions.specs.Bounds as bounds;
 ghost use Rattle.mm_definitions.specs.Stamp.{IsSomeStamp};
 ghost use Rattle.mm_definitions.specs.Units.{profile_of};
 ghost use Rattle.mm_limits.specs.LimitRows.{text_by, text_if_any, number_by, number_if_any, bytes_by};
@@ -13,33 +12,10 @@ use mm_definitions::content_types::is_content_type;
 use mm_definitions::identifiers::is_identifier;
 use mm_definitions::moments::is_stamp;
 use mm_definitions::names::is_name;
+use mm_definitions::texts::{is_clean, is_text};
 use mm_definitions::units::Unit;
-use mm_queries::columns::{blob, number, text, words};
+use mm_walk::columns::{blob, number, text, words};
 use sqlite::Row;
-
-fn has_zero(text: &str) -> bool
-    ensures { result ≡ bounds.has_zero text.now }
-{
-    text.as_bytes().iter().any(|byte| *byte == 0)
-}
-
-fn is_clean(text: &str) -> bool
-    ensures { IsTrue result ↔ IsClean text.now }
-{
-    !has_zero(text)
-}
-
-fn is_text(text: &str, least: usize, most: usize) -> bool
-    ensures { IsTrue result ↔ IsText least most text.now }
-{
-    if text.len() < least {
-        return false;
-    }
-    if text.len() > most {
-        return false;
-    }
-    is_clean(text)
-}
 
 #[tactic(auto, using(crate::proofs::Texts::unread))]
 pub fn is_name_at(row: &Row, at: usize) -> bool

@@ -1,10 +1,13 @@
-//! Rule 16 decided on a database: every name, number, text and length is within its limits.
+//! Two rules decided on a database by the limits of their columns: rule 16, that every name, number, text and length is
+//! within its limits, and rule 15, of the editions and their pieces.
 //!
 //! - `column_tests`: whether a column of a shown row is within its limits.
-//! - `parts`: the rows of each table, and all of them.
+//! - `parts`: rule 16, the rows of each table, and all of them.
+//! - `editions`: rule 15.
 #![tactic(auto)]
 
 pub mod column_tests;
+pub mod editions;
 pub mod parts;
 
 pub use parts::limits;

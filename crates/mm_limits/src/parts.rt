@@ -4,9 +4,9 @@ ghost use Rattle.std.specs.Prelude.{◌≤◌, ◌<◌, ◌↔◌, IsTrue};
 ghost use Rattle.sqlite.specs.Order.{column};
 ghost use Rattle.mm_definitions.specs.Rules.{IsGiven, Limits};
 ghost use Rattle.mm_definitions.specs.Units.{profile_of};
-ghost use Rattle.mm_queries.specs.Columns.{number_of};
+ghost use Rattle.mm_walk.specs.Columns.{number_of};
 ghost use Rattle.mm_limits.specs.LimitRows.{numbers_by, IsSystemWithinRow, IsContentsWithinRow, IsKindWithinRow, IsSetWithinRow, IsMatrixWithinRow, IsExtensionWithinRow, IsTileWithinRow, IsAttributeWithinRow, IsMediumWithinRow, IsRelationWithinRow, IsPairingWithinRow, IsEditionWithinRow, IsPieceWithinRow, SystemsAreWithin, ContentsAreWithin, KindsAreWithin, SetsAreWithin, MatricesAreWithin, ExtensionsAreWithin, TilesAreWithin, RowsAreWithin, MediaAreWithin, RelationsAreWithin, PairingsAreWithin, EditionsAreWithin, PiecesAreWithin, part};
-ghost use Rattle.mm_queries.specs.Check.{Decides, DecidesUnder};
+ghost use Rattle.mm_walk.specs.Check.{Decides, DecidesUnder};
 
 use crate::column_tests::{
     is_blob_within, is_clean_at, is_clean_if_any, is_content_type_at, is_coordinate,
@@ -19,7 +19,7 @@ use mm_definitions::limits::{
     MOST_TILES,
 };
 use mm_definitions::units::Unit;
-use mm_queries::columns::{number, text_is};
+use mm_walk::columns::{number, text_is};
 use mm_walk::row_tests::{RowTest, each_passes};
 use sqlite::{Alter, Connection, Row};
 

@@ -15,12 +15,12 @@ use Rattle.mm_store.specs.Statements.{CommitsNothing}
 use Rattle.mm_store.proofs.Asking.{told_fault}
 use Rattle.mm_store.proofs.Seen.{seen_of}
 use Rattle.mm_store.proofs.Shapes.{quiet_then}
-use Rattle.mm_opening.specs.Look.{AnswersLook, IsLooked, Agrees, ShowsProfile}
-use Rattle.mm_opening.proofs.Looking.{asked_still}
+use Rattle.mm_meta.specs.Look.{AnswersLook, IsLooked, Agrees, ShowsProfile}
+use Rattle.mm_meta.proofs.Looking.{asked_still}
 use Rattle.mm_check.specs.Verdict.{IsVerified}
-use Rattle.mm_shelf.specs.Form.{AreInForm, IsFormCheck, TellsForm}
-use Rattle.mm_shelf.proofs.Reading.{asked_stands, asked_fails, told_as_before, formed_for}
-use Rattle.mm_scaling.specs.Moves.{MayScale, IsRescaled}
+use Rattle.mm_check.specs.Form.{AreInForm, IsFormCheck, TellsForm}
+use Rattle.mm_check.proofs.Reading.{asked_stands, asked_fails, told_as_before, formed_for}
+use Rattle.mm_migrate.specs.Moves.{MayScale, IsRescaled}
 use Rattle.mm_migrate.specs.Migrations.{Judged, IsChecked, Adopts, Migrates, TellsNumber, NoNumber, OnlyStoreFaults, MayCommitScaled, IsMigration, IsOlder}
 
 -- ---- the check

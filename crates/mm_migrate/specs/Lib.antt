@@ -1,1 +1,4 @@
 pub mod Migrations
+pub mod Texts
+pub mod Moves
+pub mod Handed

@@ -11,10 +11,10 @@ use Rattle.mm_definitions.specs.Scale.{scale}
 use Rattle.mm_store.specs.Stands.{StandsFor, IsSettled}
 use Rattle.mm_store.specs.Faults.{IsStoreFault}
 use Rattle.mm_store.specs.Statements.{CommitsNothing}
-use Rattle.mm_opening.specs.Look.{AnswersLook, ShowsProfile}
+use Rattle.mm_meta.specs.Look.{AnswersLook, ShowsProfile}
 use Rattle.mm_check.specs.Verdict.{IsFailing}
-use Rattle.mm_shelf.specs.Form.{TellsForm}
-use Rattle.mm_scaling.specs.Moves.{MayScale, StandsForEither}
+use Rattle.mm_check.specs.Form.{TellsForm}
+use Rattle.mm_migrate.specs.Moves.{MayScale, StandsForEither}
 
 -- what the whole check tells of a package: it meets the rules, or this one fails; a package's blobs have their form
 abbrev pub Judged : Profile → Package → Result (Unit {0}) Open → Type 0

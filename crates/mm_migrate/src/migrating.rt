@@ -10,9 +10,9 @@ ghost use Rattle.mm_migrate.specs.Migrations.{IsChecked, IsMigration, IsOlder};
 use mm_check::verify;
 use mm_definitions::answers::Open;
 use mm_definitions::units::{CURRENT, Unit};
-use mm_opening::look;
-use mm_scaling::scaling::rescale;
-use mm_shelf::blobs_stand;
+use mm_meta::look;
+use crate::scaling::rescale;
+use mm_check::blobs_stand;
 use sqlite::{Alter, Connection};
 
 /// The form of the blobs, and then the whole check in a unit, with what fails told as an opening: 98, or the rule.

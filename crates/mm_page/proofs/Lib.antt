@@ -1,3 +1,9 @@
 pub mod ListFacts
 pub mod ServeFacts
 pub mod PageFacts
+pub mod HeadFacts
+pub mod SeekFacts
+pub mod RouteFacts
+pub mod WalkFacts
+pub mod NumberFacts
+pub mod AskFacts

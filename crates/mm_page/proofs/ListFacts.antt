@@ -5,7 +5,7 @@ use Rattle.serde_json.specs.Data.{Data}
 use Rattle.serde_json.specs.View.{items_of}
 use Rattle.serde_json.specs.Written.{compact_text, has_float, items_have_float}
 use Rattle.mm_definitions.specs.Package.{Box}
-use Rattle.mm_reads.specs.Listing.{Listed}
+use Rattle.mm_reads.specs.Contents.{Listed}
 use Rattle.mm_reads.specs.Related.{Mate}
 use Rattle.mm_page.specs.Lists.{mate_data, table_data, table_data_at, whole_number}
 

@@ -4,11 +4,11 @@ use Rattle.httparse.proofs.GrammarLemmas.{request_unique}
 use Rattle.mm_definitions.specs.Package.{Package}
 use Rattle.mm_definitions.specs.Keys.{Text}
 use Rattle.mm_definitions.proofs.ReadingFacts.{spells_one}
-use Rattle.mm_routes.specs.Asked.{IsRouted, Contents, Media, Related, Tile, Wanted}
-use Rattle.mm_routes.specs.Responses.{response_of}
-use Rattle.mm_routes.specs.Routes.{IsPart}
-use Rattle.mm_routes.proofs.NumberFacts.{name_part, spelled_part}
-use Rattle.mm_routes.proofs.AskFacts.{same_front, second}
+use Rattle.mm_page.specs.Asked.{IsRouted, Contents, Media, Related, Tile, Wanted}
+use Rattle.mm_page.specs.Responses.{response_of}
+use Rattle.mm_page.specs.Routes.{IsPart}
+use Rattle.mm_page.proofs.NumberFacts.{name_part, spelled_part}
+use Rattle.mm_page.proofs.AskFacts.{same_front, second}
 use Rattle.mm_page.specs.Page.{Page, Writes, WritesTo, path_of, reply_of}
 
 other : {A : Type 0} (path a b : Text) (x y : ℕ) → path ≡ a → path ≡ b → second a ≡ x → second b ≡ y → x ≢ y → A

@@ -6,7 +6,7 @@ use Rattle.serde_json.specs.View.{items_of}
 use Rattle.serde_json.specs.Written.{compact_text}
 use Rattle.mm_definitions.specs.Keys.{Text}
 use Rattle.mm_definitions.specs.Package.{Box}
-use Rattle.mm_reads.specs.Listing.{Listed}
+use Rattle.mm_reads.specs.Contents.{Listed}
 use Rattle.mm_reads.specs.Related.{Mate}
 
 -- a whole number, as JSON

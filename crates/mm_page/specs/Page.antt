@@ -6,9 +6,9 @@ use Rattle.httparse.specs.Grammar.{RequestHead}
 use Rattle.mm_definitions.specs.Keys.{Text, item}
 use Rattle.mm_definitions.specs.Keys as keys
 use Rattle.mm_definitions.specs.Package.{Package}
-use Rattle.mm_routes.specs.Asked.{IsRouted, Contents, Media, Related, Tile, Wanted}
-use Rattle.mm_routes.specs.Heads.{IsHead}
-use Rattle.mm_routes.specs.Responses.{BadRequest, Found, NotAllowed, NotFound, Reply, response_of}
+use Rattle.mm_page.specs.Asked.{IsRouted, Contents, Media, Related, Tile, Wanted}
+use Rattle.mm_page.specs.Heads.{IsHead}
+use Rattle.mm_page.specs.Responses.{BadRequest, Found, NotAllowed, NotFound, Reply, response_of}
 use Rattle.mm_page.specs.Lists.{mates_text, tables_text}
 use Rattle.mm_reads.specs.Shown.{mates, shown_tables}
 

@@ -12,9 +12,9 @@ use Rattle.mm_definitions.specs.declared.answers.PageFault.{PageFault}
 use Rattle.mm_definitions.specs.declared.streams.Io.{Io}
 use Rattle.mm_reads.specs.Viewers.{IsOn, IsViewFault, LeavesPackage, ShowsPart}
 use Rattle.mm_reads.specs.declared.viewer.Viewer as viewers
-use Rattle.mm_routes.specs.Asked.{Wanted}
-use Rattle.mm_routes.specs.Heads.{ReadsNoMore}
-use Rattle.mm_routes.specs.Responses.{response_of}
+use Rattle.mm_page.specs.Asked.{Wanted}
+use Rattle.mm_page.specs.Heads.{ReadsNoMore}
+use Rattle.mm_page.specs.Responses.{response_of}
 use Rattle.mm_page.specs.Page.{reply_of}
 use Rattle.mm_page.specs.Served.{AsksForPart, IsPageFault, Served, ServedTo, Stopped}
 

@@ -6,8 +6,8 @@ use Rattle.mm_definitions.specs.Package.{Package}
 use Rattle.mm_definitions.specs.declared.answers.Fault.{Fault}
 use Rattle.mm_reads.specs.Viewers.{IsViewFault}
 use Rattle.httparse.specs.Grammar.{RequestHead}
-use Rattle.mm_routes.specs.Asked.{IsRouted, Wanted}
-use Rattle.mm_routes.specs.Heads.{IsHead}
+use Rattle.mm_page.specs.Asked.{IsRouted, Wanted}
+use Rattle.mm_page.specs.Heads.{IsHead}
 use Rattle.mm_page.specs.Page.{Page, path_of}
 
 -- ---- what is written

@@ -3,7 +3,7 @@
 ghost use Rattle.std.specs.Prelude.{◌≡◌, IfOk, map, string_bytes};
 ghost use Rattle.serde_json.specs.View.{view};
 ghost use Rattle.mm_definitions.specs.Package.{kind_text};
-ghost use Rattle.mm_reads.specs.Listing as listing;
+ghost use Rattle.mm_reads.specs.Contents as listing;
 ghost use Rattle.mm_reads.specs.Related.{mate_told};
 ghost use Rattle.mm_page.specs.Lists.{mate_data, mates_text, table_data, tables_text};
 

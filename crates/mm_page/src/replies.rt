@@ -1,8 +1,8 @@
 //! What is answered to what is asked for.
 
 ghost use Rattle.std.specs.Prelude.{◌≡◌, pos, IfErr, IfOk, Ok};
-ghost use Rattle.mm_routes.specs.Asked as page;
-ghost use Rattle.mm_routes.specs.Routes.{asked};
+ghost use Rattle.mm_page.specs.Asked as page;
+ghost use Rattle.mm_page.specs.Routes.{asked};
 ghost use Rattle.mm_page.specs.Promised.{Replies};
 
 use crate::lists::{mates_json, tables_json};
@@ -10,7 +10,7 @@ use mm_definitions::answers::Fault;
 use mm_definitions::names::Name;
 use mm_definitions::places::TilePlace;
 use mm_reads::Viewer;
-use mm_routes::{Wanted, found, not_found};
+use crate::{Wanted, found, not_found};
 use std::alloc::{AllocError, Global};
 
 /// Want of memory is fault 90.

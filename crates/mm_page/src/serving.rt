@@ -6,7 +6,7 @@ ghost use Rattle.mm_definitions.specs.Package.{Package};
 ghost use Rattle.mm_page.specs.Page.{Page, WritesTo};
 ghost use Rattle.mm_page.specs.Page as page;
 ghost use Rattle.mm_page.specs.Promised.{MakesResponse, Responds, Serves};
-ghost use Rattle.mm_routes.specs.Asked.{IsRouted, Wanted};
+ghost use Rattle.mm_page.specs.Asked.{IsRouted, Wanted};
 
 use crate::replies::{printed, reply};
 use http::Method;
@@ -15,7 +15,7 @@ use mm_definitions::answers::{Fault, PageFault};
 use mm_definitions::streams::Io;
 use mm_io::{Sent, send};
 use mm_reads::Viewer;
-use mm_routes::{bad_request, not_allowed, not_found, read_head, read_path};
+use crate::{bad_request, not_allowed, not_found, read_head, read_path};
 use std::alloc::Global;
 use std::io::{Read, Write};
 use std::str::from_utf8;

@@ -20,17 +20,17 @@ use Rattle.mm_core.specs.Sessions.{IsCreated, IsNotCreated}
 use Rattle.mm_kit.specs.Folders.{Files}
 use Rattle.mm_kit.specs.Imports.{IsImportKept, OnAnyFolder, OnKit}
 use Rattle.mm_migrate.specs.Migrations.{Adopts, IsMigration, Migrates}
-use Rattle.mm_opening.specs.Opening.{HasNoTable, IsBlank}
+use Rattle.mm_meta.specs.Opening.{HasNoTable, IsBlank}
 use Rattle.mm_reads.specs.Viewers.{LeavesPackage}
 use Rattle.mm_run.specs.Readings.{Reading}
 use Rattle.mm_run.specs.Runs.{StopsBehind}
-use Rattle.mm_subcommands.specs.Declined.{IsDeclined}
-use Rattle.mm_subcommands.specs.Imports.{IsImport}
-use Rattle.mm_subcommands.specs.Looked.{IsListing, IsUnlisted}
-use Rattle.mm_subcommands.specs.Migrated.{IsUnmigrated}
-use Rattle.mm_subcommands.specs.Ran.{IsListRun}
-use Rattle.mm_subcommands.specs.declared.stop.Stop.{Stop}
-use Rattle.mm_subcommands.specs.declared.stop.Stop.TheVariants as stops
+use Rattle.mm_work.specs.Declined.{IsDeclined}
+use Rattle.mm_work.specs.Imports.{IsImport}
+use Rattle.mm_work.specs.Looked.{IsListing, IsUnlisted}
+use Rattle.mm_work.specs.Migrated.{IsUnmigrated}
+use Rattle.mm_work.specs.Ran.{IsListRun}
+use Rattle.mm_work.specs.declared.stop.Stop.{Stop}
+use Rattle.mm_work.specs.declared.stop.Stop.TheVariants as stops
 use Rattle.mm_files.specs.Worked.{IsJustOpened}
 use Rattle.mm_program.specs.Left.{IsImportOf, LeavesImport, LeavesMade, LeavesMigrated, LeavesSame, RanTo, StaysFor, StaysIn, TellsDeclined, TellsListing, TellsServed}
 use Rattle.mm_program.proofs.Opened.{nothing_less, opened_blank, opened_settles}

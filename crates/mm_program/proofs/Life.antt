@@ -18,16 +18,16 @@ use Rattle.mm_definitions.specs.Streams.{Written}
 use Rattle.mm_definitions.specs.declared.answers.Open.{Open}
 use Rattle.mm_definitions.specs.declared.answers.Open.TheVariants as opens
 use Rattle.mm_laws.proofs.Opened.{opened}
-use Rattle.mm_queries.proofs.InTurn.{either_holds}
+use Rattle.mm_walk.proofs.InTurn.{either_holds}
 use Rattle.mm_check.specs.Verdict.{rule, IsFailing}
 use Rattle.mm_core.specs.Adopted.{Declines}
 use Rattle.mm_core.specs.Applied.{StandsForCurrent}
 use Rattle.mm_files.specs.declared.left.Left.TheVariants as left
 use Rattle.mm_files.specs.declared.left.Opened.{Opened}
-use Rattle.mm_subcommands.specs.Declined.{stop_of}
-use Rattle.mm_subcommands.specs.Told.{stop_status}
-use Rattle.mm_subcommands.specs.declared.stop.Stop.{Stop}
-use Rattle.mm_subcommands.specs.declared.stop.Stop.TheVariants as stops
+use Rattle.mm_work.specs.Declined.{stop_of}
+use Rattle.mm_work.specs.Told.{stop_status}
+use Rattle.mm_work.specs.declared.stop.Stop.{Stop}
+use Rattle.mm_work.specs.declared.stop.Stop.TheVariants as stops
 use Rattle.mm_program.specs.Files.{OnFile, WasBare}
 use Rattle.mm_program.specs.Left.{IsDeclinedFor, LeavesMade, LeavesRun, LeavesSame, RanTo, TellsChecked}
 use Rattle.mm_program.specs.Life.{AreMade, IsLife, IsPartOf, Leads, LeavesBy, LivesOn, Makes, MakesBy, Ran, Use}

@@ -6,12 +6,12 @@ use Rattle.sqlite_schema.specs.contracts.schema.Schema as schema
 use Rattle.sqlite_catalog.proofs.ReadLemmas.{lists_once}
 use Rattle.sqlite.specs.Effect.{Database, IsDatabase}
 use Rattle.sqlite.specs.State.{State}
-use Rattle.mm_schema.specs.Made.{no_schema}
-use Rattle.mm_schema.specs.Tables as tables
+use Rattle.mm_store.specs.Made.{no_schema}
+use Rattle.mm_store.specs.Tables as tables
 use Rattle.mm_definitions.specs.Bounds.{Profile}
 use Rattle.mm_definitions.specs.Package.{Package}
 use Rattle.mm_store.specs.Stands.{StandsFor, ReadsAs, IsSettled}
-use Rattle.mm_opening.specs.Opening.{HasNoTable, IsBlank}
+use Rattle.mm_meta.specs.Opening.{HasNoTable, IsBlank}
 use Rattle.mm_files.specs.Worked.{IsJustOpened}
 
 -- what is no more than nothing is nothing

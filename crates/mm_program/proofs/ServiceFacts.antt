@@ -8,7 +8,7 @@ use Rattle.std.proofs.lemmas.List.Elements.{All-append, All-cons}
 use Rattle.std.proofs.lemmas.List.Folds.{concat-append}
 use Rattle.mm_definitions.specs.declared.answers.Fault.{Fault}
 use Rattle.mm_definitions.specs.declared.answers.PageFault.{PageFault}
-use Rattle.mm_subcommands.specs.Pages.{IsPrinted, IsServed, IsServiceFault, Outcome, TellsMore, fault_lines, faults_of, page_fault_text, service_status}
+use Rattle.mm_work.specs.Pages.{IsPrinted, IsServed, IsServiceFault, Outcome, TellsMore, fault_lines, faults_of, page_fault_text, service_status}
 use Rattle.mm_definitions.specs.Streams.{written_as}
 
 -- ---- one more outcome

@@ -2,8 +2,8 @@
 use Rattle.std.proofs.Common.{◌≡◌, ◌∙◌, ◌⊎◌, ℕ, Option, Some, None, Result, Ok, Err, IfErr, IfSome, refl, sym, ap}
 use Rattle.std.specs.Prelude.{unwrap_or}
 use Rattle.mm_definitions.specs.Streams.{Written}
-use Rattle.mm_subcommands.specs.Told.{stop_status}
-use Rattle.mm_subcommands.specs.declared.stop.Stop.{Stop}
+use Rattle.mm_work.specs.Told.{stop_status}
+use Rattle.mm_work.specs.declared.stop.Stop.{Stop}
 use Rattle.mm_program.specs.Worked.{IsListed, IsRun}
 use Rattle.mm_program.specs.declared.clock.Now.{Now}
 use Rattle.mm_program.specs.declared.clock.Now.TheVariants as now

@@ -14,8 +14,8 @@ use Rattle.mm_files.specs.declared.left.Left.{Left}
 use Rattle.mm_files.specs.declared.left.Left.TheVariants as left
 use Rattle.mm_kit.specs.declared.folders.Found.{Found}
 use Rattle.mm_kit.specs.declared.folders.Found.TheVariants as found
-use Rattle.mm_subcommands.specs.declared.stop.Stop.{Stop}
-use Rattle.mm_subcommands.specs.declared.stop.Stop.TheVariants as stops
+use Rattle.mm_work.specs.declared.stop.Stop.{Stop}
+use Rattle.mm_work.specs.declared.stop.Stop.TheVariants as stops
 pub use Rattle.mm_program.specs.Stops.{StopsAny, StopsNew, StopsOld, StopsOn}
 
 -- why work on a file was not done, as it is told

@@ -12,7 +12,7 @@ use Rattle.mm_definitions.specs.Streams.{Written}
 use Rattle.mm_core.specs.Applied.{StandsForCurrent}
 use Rattle.mm_run.specs.Answers.{calls_of}
 use Rattle.mm_run.specs.Runs.{acknowledged_of}
-use Rattle.mm_subcommands.specs.declared.stop.Stop.{Stop}
+use Rattle.mm_work.specs.declared.stop.Stop.{Stop}
 use Rattle.mm_program.specs.Left.{LeavesRun, LeavesSame, RanTo}
 
 -- of each database that files held, what was left of them holds such a one

@@ -11,12 +11,12 @@ use Rattle.mm_definitions.specs.Keys.{Text}
 use Rattle.mm_definitions.specs.Streams.{Written}
 use Rattle.mm_definitions.specs.declared.answers.KitFault.{KitFault}
 use Rattle.mm_definitions.specs.declared.answers.Staged.{Staged}
-use Rattle.mm_subcommands.specs.Imports.{kit_status, kit_text}
-use Rattle.mm_subcommands.specs.Looked.{check_status, check_text}
-use Rattle.mm_subcommands.specs.Migrated.{migrate_status, migrate_text}
-use Rattle.mm_subcommands.specs.Told.{IsTold, init_status, init_text, stop_status, stop_text}
-use Rattle.mm_subcommands.specs.declared.stop.Stop.{Stop}
-use Rattle.mm_subcommands.specs.declared.stop.Stop.TheVariants as stops
+use Rattle.mm_work.specs.Imports.{kit_status, kit_text}
+use Rattle.mm_work.specs.Looked.{check_status, check_text}
+use Rattle.mm_work.specs.Migrated.{migrate_status, migrate_text}
+use Rattle.mm_work.specs.Told.{IsTold, init_status, init_text, stop_status, stop_text}
+use Rattle.mm_work.specs.declared.stop.Stop.{Stop}
+use Rattle.mm_work.specs.declared.stop.Stop.TheVariants as stops
 use Rattle.mm_program.specs.Served.{TellsServe}
 use Rattle.mm_program.specs.Stops.{StopsCheck, StopsNew}
 

@@ -1,8 +1,8 @@
 -- What is printed while a package is served, and the exit status that goes with it.
 use Rattle.std.specs.Prelude.{◌≡◌, ◌≢◌, ◌⊎◌, ℕ, List, true, false}
-use Rattle.mm_subcommands.specs.Pages.{IsPrinted, IsServed, Outcome, serving_text}
-use Rattle.mm_subcommands.specs.Told.{IsTold, stop_status, stop_text}
-use Rattle.mm_subcommands.specs.declared.stop.Stop.{Stop}
+use Rattle.mm_work.specs.Pages.{IsPrinted, IsServed, Outcome, serving_text}
+use Rattle.mm_work.specs.Told.{IsTold, stop_status, stop_text}
+use Rattle.mm_work.specs.declared.stop.Stop.{Stop}
 use Rattle.mm_definitions.specs.Streams.{Written}
 
 -- The line of the port could not be printed whole, and the status is 3; or it was, and so many connections were served.

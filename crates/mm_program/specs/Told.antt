@@ -6,10 +6,10 @@ use Rattle.mm_definitions.specs.Bounds.{IsName}
 use Rattle.mm_definitions.specs.Keys.{Text}
 use Rattle.mm_definitions.specs.declared.answers.KitFault.{KitFault}
 use Rattle.mm_definitions.specs.declared.answers.Staged.{Staged}
-use Rattle.mm_subcommands.specs.Looked.{check_status, check_text}
-use Rattle.mm_subcommands.specs.Migrated.{migrate_status, migrate_text}
-use Rattle.mm_subcommands.specs.Told.{IsTold, init_status, init_text, stop_status, stop_text}
-use Rattle.mm_subcommands.specs.declared.stop.Stop.{Stop}
+use Rattle.mm_work.specs.Looked.{check_status, check_text}
+use Rattle.mm_work.specs.Migrated.{migrate_status, migrate_text}
+use Rattle.mm_work.specs.Told.{IsTold, init_status, init_text, stop_status, stop_text}
+use Rattle.mm_work.specs.declared.stop.Stop.{Stop}
 use Rattle.clap.specs.Words.{HasKind, fault_of, kind_of}
 use Rattle.clap.specs.declared.error.Error.{Error}
 use Rattle.mm_arguments.specs.CommandLine.{command_line}

@@ -3,8 +3,8 @@ use Rattle.std.specs.Prelude.{◌≡◌, ◌≤◌, ◌⊎◌, ◌==◌, ℕ, Bo
 use Rattle.mm_definitions.specs.Streams.{Written}
 use Rattle.mm_definitions.specs.declared.answers.KitFault.{KitFault}
 use Rattle.mm_definitions.specs.declared.answers.Staged.{Staged}
-use Rattle.mm_subcommands.specs.Told.{stop_status}
-use Rattle.mm_subcommands.specs.declared.stop.Stop.{Stop}
+use Rattle.mm_work.specs.Told.{stop_status}
+use Rattle.mm_work.specs.declared.stop.Stop.{Stop}
 use Rattle.mm_program.specs.Served.{IsServing}
 
 -- ---- behind what the files are closed

@@ -4,14 +4,14 @@ ghost use Rattle.std.specs.Prelude.{◌≡◌, ◌∷◌, [], IfErr, List, Optio
 ghost use Rattle.sqlite.specs.Held.{state};
 ghost use Rattle.mm_definitions.specs.Streams.{written};
 ghost use Rattle.mm_definitions.specs.Streams as streams;
-ghost use Rattle.mm_core.specs.Parts.{held, must_reopen};
+ghost use Rattle.mm_core.specs.Parts.{connection, must_reopen};
 ghost use Rattle.mm_reads.specs.Viewers.{LeavesPackage};
-ghost use Rattle.mm_subcommands.specs.Pages.{IsServed, IsServiceFault, Outcome, TellsMore};
+ghost use Rattle.mm_work.specs.Pages.{IsServed, IsServiceFault, Outcome, TellsMore};
 
 use mm_core::Session;
 use mm_definitions::answers::PageFault;
 use mm_definitions::streams::Io;
-use mm_subcommands::{DONE, FAULT, tell_page_fault};
+use mm_work::{DONE, FAULT, tell_page_fault};
 use sqlite::Alter;
 use std::alloc::Global;
 use std::io::Write;
@@ -25,7 +25,7 @@ pub trait Serves<S: Alter> {
     fn serve_next(&mut self, alloc: Global, session: &mut Session<S>) -> Result<(), PageFault>
         ensures same { must_reopen session.new ≡ must_reopen session.old }
         ensures kept { LeavesPackage
-            (state S.Store (held session.old)) (state S.Store (held session.new)) }
+            (state S.Store (connection session.old)) (state S.Store (connection session.new)) }
         ensures fault { IfErr result (λ why. IsServiceFault why.0) }
         ensures told { TellsMore (outcomes self.old) (outcomes self.new) (result ∷ []) };
 }
@@ -42,7 +42,7 @@ pub fn serve_on<S: Alter, L: Serves<S>, W: Write>(
 ) -> u8
     ensures same { must_reopen session.new ≡ must_reopen session.old }
     ensures kept { LeavesPackage
-        (state S.Store (held session.old)) (state S.Store (held session.new)) }
+        (state S.Store (connection session.old)) (state S.Store (connection session.new)) }
     ensures served { (outcomes : List Outcome)
         × TellsMore (L.outcomes listener.old) (L.outcomes listener.new) outcomes
         × IsServed count outcomes (written W.contents output.old)

@@ -11,7 +11,7 @@ ghost use Rattle.mm_program.specs.Files.{IsUndone, StopsAny, StopsNew, StopsOld,
 use mm_definitions::answers::Fault;
 use mm_definitions::streams::Io;
 use mm_files::{Left, NotDone, Opened, Works, on_file};
-use mm_subcommands::Stop;
+use mm_work::Stop;
 use sqlite::{FileFrom, Start};
 use sqlite_disk::Disk;
 use std::io::Write;

@@ -3,7 +3,7 @@
 ghost use Rattle.std.specs.Prelude.{◌≡◌, ◌≤◌, ⊤, IfOk, None};
 ghost use Rattle.sqlite.specs.WalFiles.{image_at};
 ghost use Rattle.mm_definitions.specs.Streams.{has_failed, written};
-ghost use Rattle.mm_subcommands.specs.Told.{TellsFailure};
+ghost use Rattle.mm_work.specs.Told.{TellsFailure};
 ghost use Rattle.mm_program.specs.Files.{IsFew, OnFile};
 ghost use Rattle.mm_program.specs.Left.{LeavesImport, TellsImport};
 ghost use Rattle.mm_program.specs.Told.{TellsKit};
@@ -17,7 +17,7 @@ use mm_definitions::names::Name;
 use mm_definitions::streams::Io;
 use mm_files::{Left, Works};
 use mm_kit::{Folder, FolderFault, Found};
-use mm_subcommands::{Import, REFUSED, Stop, import_package, tell_bytes, tell_import, tell_stop};
+use mm_work::{Import, REFUSED, Stop, import_package, tell_bytes, tell_import, tell_stop};
 use sqlite::{Alter, Connection, FileFrom, Start};
 use sqlite_disk::Disk;
 use std::alloc::Global;
@@ -154,7 +154,7 @@ fn import_file<'a, S: Start>(
 }
 
 /// The subcommand `kit`. An edition that is no name is refused before the clock is asked or the file opened.
-pub(crate) fn kit_told<'a, S: Start, W: Write>(
+pub(crate) fn import_and_tell<'a, S: Start, W: Write>(
     rt: &HostRuntime,
     path: &'a str,
     start: S,

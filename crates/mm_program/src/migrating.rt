@@ -3,7 +3,7 @@
 ghost use Rattle.std.specs.Prelude.{◌≤◌, IfErr, ⊤};
 ghost use Rattle.sqlite.specs.WalFiles.{image_at};
 ghost use Rattle.mm_definitions.specs.Streams.{has_failed, written};
-ghost use Rattle.mm_subcommands.specs.Told.{TellsFailure};
+ghost use Rattle.mm_work.specs.Told.{TellsFailure};
 ghost use Rattle.mm_program.specs.Files.{OnFile};
 ghost use Rattle.mm_program.specs.Left.{LeavesMigrated};
 ghost use Rattle.mm_program.specs.Told.{StopsCheck, TellsMigrate};
@@ -12,7 +12,7 @@ ghost use Rattle.mm_program.specs.Worked.{closes_done};
 use crate::files::on_old;
 use mm_definitions::streams::Io;
 use mm_files::{Left, Works};
-use mm_subcommands::{Stop, migrate_package, tell_migration};
+use mm_work::{Stop, migrate_package, tell_migration};
 use sqlite::{Alter, Connection, FileFrom, Start};
 use sqlite_disk::Disk;
 use std::alloc::Global;

@@ -3,7 +3,7 @@
 ghost use Rattle.std.specs.Prelude.{◌≡◌, ◌≤◌, false, IfErr};
 ghost use Rattle.sqlite.specs.WalFiles.{image_at};
 ghost use Rattle.mm_definitions.specs.Streams.{has_failed, written};
-ghost use Rattle.mm_subcommands.specs.Told.{TellsFailure};
+ghost use Rattle.mm_work.specs.Told.{TellsFailure};
 ghost use Rattle.mm_program.specs.Files.{OnFile};
 ghost use Rattle.mm_program.specs.Left.{LeavesSame, TellsChecked, TellsListing};
 ghost use Rattle.mm_program.specs.Told.{StopsCheck, TellsCheck, TellsDecline, TellsList};
@@ -12,7 +12,7 @@ ghost use Rattle.mm_program.specs.Worked.{IsListed, closes_done};
 use crate::files::on_old;
 use mm_definitions::streams::Io;
 use mm_files::{Left, Works};
-use mm_subcommands::{DONE, Stop, check_package, list_package, tell_check, tell_stop};
+use mm_work::{DONE, Stop, check_package, list_package, tell_check, tell_stop};
 use sqlite::{Alter, Connection, FileFrom, Start};
 use sqlite_disk::Disk;
 use std::alloc::Global;

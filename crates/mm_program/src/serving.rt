@@ -3,10 +3,10 @@
 ghost use Rattle.std.specs.Prelude.{◌≡◌, ◌≤◌, ◌⊎◌, IfErr, IfOk, None};
 ghost use Rattle.mm_definitions.specs.Streams.{written};
 ghost use Rattle.mm_definitions.specs.Streams as streams;
-ghost use Rattle.mm_subcommands.specs.Told.{TellsFailure, stop_status};
+ghost use Rattle.mm_work.specs.Told.{TellsFailure, stop_status};
 ghost use Rattle.sqlite.specs.Held.{state};
 ghost use Rattle.sqlite.specs.WalFiles.{image_at};
-ghost use Rattle.mm_core.specs.Parts.{held};
+ghost use Rattle.mm_core.specs.Parts.{connection};
 ghost use Rattle.mm_reads.specs.Viewers.{LeavesPackage};
 ghost use Rattle.mm_program.specs.Files.{OnFile};
 ghost use Rattle.mm_program.specs.Left.{LeavesSame, TellsServed};
@@ -21,7 +21,7 @@ use mm_definitions::answers::{Fault, PageFault};
 use mm_definitions::streams::Io;
 use mm_files::{Left, Works};
 use mm_page::serve_one;
-use mm_subcommands::{FAULT, Stop, adopt_package, tell_serving, tell_stop};
+use mm_work::{FAULT, Stop, adopt_package, tell_serving, tell_stop};
 use sqlite::{Alter, Connection, FileFrom, Start};
 use sqlite_disk::Disk;
 use std::alloc::Global;
@@ -100,7 +100,7 @@ fn serve_port<S: Alter, W: Write>(
     ensures unused { IfErr result (λ why. output.new ≡ output.old) }
     ensures unbound { IfErr result (λ why. why ≡ Stop.Fault (record { 0 = 96 })) }
     ensures kept { LeavesPackage
-        (state S.Store (held session.old)) (state S.Store (held session.new)) }
+        (state S.Store (connection session.old)) (state S.Store (connection session.new)) }
 {
     let Ok(mut listener) = TcpListener::bind(rt, (Ipv4Addr::LOCALHOST, port)) else {
         return Err(Stop::Fault(Fault::INPUT));

@@ -5,7 +5,7 @@ ghost use Rattle.sqlite.specs.WalFiles.{image_at};
 ghost use Rattle.mm_definitions.specs.Streams.{has_failed, inside, written};
 ghost use Rattle.clap.specs.Words.{kind_of};
 ghost use Rattle.mm_arguments.specs.Requests as arguments;
-ghost use Rattle.mm_subcommands.specs.Told.{TellsFailure};
+ghost use Rattle.mm_work.specs.Told.{TellsFailure};
 ghost use Rattle.mm_program.specs.Files.{OnFile, StopsNew, WasBare};
 ghost use Rattle.mm_program.specs.Left.{LeavesMade, LeavesRun, TellsRun};
 ghost use Rattle.mm_program.specs.Printed.{PrintsWords};
@@ -14,7 +14,7 @@ ghost use Rattle.mm_program.specs.Worked.{IsRun, closes_done, closes_run};
 
 use crate::clock::{Now, moment_or_now};
 use crate::files::{on_new, on_old};
-use crate::kits::kit_told;
+use crate::kits::import_and_tell;
 use crate::migrating::migrate_told;
 use crate::reporting::{check_told, list_told};
 use crate::serving::serve_told;
@@ -23,7 +23,7 @@ use mm_definitions::answers::Fault;
 use mm_definitions::moments::Moment;
 use mm_definitions::streams::Io;
 use mm_files::{Left, Works};
-use mm_subcommands::{
+use mm_work::{
     FAULT, REFUSED, Stop, make_package, run_package, tell_bytes, tell_init, tell_stop, tell_text,
 };
 use sqlite::{Alter, Connection, FileFrom, Start, Wary};
@@ -236,7 +236,7 @@ pub fn program_on<'a, S: Start, R: Read, W: Write>(
                 folder,
                 at,
             },
-        ) => kit_told(rt, file, start, edition, folder, at, output),
+        ) => import_and_tell(rt, file, start, edition, folder, at, output),
         Err(error) => (tell_words(output, error), Left::Unopened),
     }
 }

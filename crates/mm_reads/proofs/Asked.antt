@@ -11,7 +11,7 @@ use Rattle.sqlite.specs.Listing.{understood}
 use Rattle.sqlite_tied.specs.Compute.{everything}
 use Rattle.sql_forms.specs.Forms.{query, no_limit}
 use Rattle.sql_forms.proofs.Selects.{IsSelect}
-use Rattle.mm_schema.specs.Tables.{schema}
+use Rattle.mm_store.specs.Tables.{schema}
 
 -- a column of a table against one of another, or against a parameter
 abbrev same : ℕ → ℕ → ℕ → ℕ → Term

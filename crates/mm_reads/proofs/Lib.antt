@@ -10,3 +10,9 @@ pub mod ListedMates
 pub mod OnlyAsks
 pub mod ReadingMates
 pub mod Leaving
+pub mod Counting
+pub mod Fronts
+pub mod Written
+pub mod TableLines
+pub mod EditionLines
+pub mod Walks

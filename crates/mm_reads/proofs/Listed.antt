@@ -30,7 +30,7 @@ use Rattle.sql_forms.specs.Forms.{query, no_limit}
 use Rattle.sql_forms.specs.Maps.{Holds}
 use Rattle.sql_forms.proofs.Keys.{columns_are}
 use Rattle.sql_forms.proofs.Selects.{IsSelect}
-use Rattle.mm_schema.specs.Tables.{schema}
+use Rattle.mm_store.specs.Tables.{schema}
 use Rattle.mm_definitions.specs.Keys.{Text, text_cmp, same_text}
 use Rattle.mm_definitions.specs.Package.{Package, Contents, kind_text}
 use Rattle.mm_definitions.specs.Parts.{at_value}
@@ -41,7 +41,7 @@ use Rattle.mm_definitions.specs.declared.extents.Extent.{Extent}
 use Rattle.mm_store.specs.Rows.{past_rowid, contents_row, kind_row, maybe}
 use Rattle.mm_store.proofs.Keys as parts
 use Rattle.mm_store.proofs.Keys.{by_text}
-use Rattle.mm_reads.specs.Listing.{placed, listed, place_told, table_told, ListsTables, IsShown, ShowsPlaceOf, ShowsEntry}
+use Rattle.mm_reads.specs.Contents.{placed, entry_told, place_told, table_told, ListsTables, IsShown, ShowsPlaceOf, ShowsEntry}
 use Rattle.mm_reads.proofs.Found.{same_words}
 use Rattle.mm_reads.proofs.InOrder.{Picks, picked, Enters, entered, all_entered, entries_are}
 
@@ -110,8 +110,8 @@ kind_at kinds r = first_or_none (filter (joins r) kinds)
 abbrev env_at : List Row → Row → Env
 env_at kinds r = [] ∷ r ∷ kind_at kinds r ∷ []
 
-abbrev show : List Row → Row → Row
-show kinds r = eval_all shown (env_at kinds r)
+abbrev shown_row : List Row → Row → Row
+shown_row kinds r = eval_all shown (env_at kinds r)
 
 abbrev pub ShowsAll : List Row → List Entry → Type 0
 ShowsAll [] es = es ≡ []
@@ -172,7 +172,7 @@ module _ (p : Package) (tables kinds : List Row) (ht : Holds past_rowid contents
       ap Some (same_words (sym (columns_are one.0 (kind_row k kind) 1 one.2) ∙ ap (λ ys. column (first_or_none ys) 2) (sym one.1) ∙ is))
 
   -- what is told of a row is what the package has
-  told_is : (r : Row) (k : Text) (c : Contents) → past_rowid r ≡ contents_row k c → (e : Entry) → ShowsEntry (show kinds r) e → table_told e ≡ listed p (k, c)
+  told_is : (r : Row) (k : Text) (c : Contents) → past_rowid r ≡ contents_row k c → (e : Entry) → ShowsEntry (shown_row kinds r) e → table_told e ≡ entry_told p (k, c)
   told_is r k c is e it =
       let table = same_words (sym it.table ∙ columns_are r (contents_row k c) 0 is) in
       let got = kind_is k (get p.kinds k) (filter (joins r) kinds)
@@ -180,12 +180,12 @@ module _ (p : Package) (tables kinds : List Row) (ht : Holds past_rowid contents
       let identifier = same_words (sym it.identifier ∙ columns_are r (contents_row k c) 2 is) in
       let last_change = same_words (sym it.last_change ∙ columns_are r (contents_row k c) 4 is) in
       let place =
-      place_by (show kinds r) c e.kind e.place it.place
-      (place_is (show kinds r) c (columns_are r (contents_row k c) 9 is) (columns_are r (contents_row k c) 5 is) (columns_are r (contents_row k c) 6 is) (columns_are r (contents_row k c) 7 is) (columns_are r (contents_row k c) 8 is))
+      place_by (shown_row kinds r) c e.kind e.place it.place
+      (place_is (shown_row kinds r) c (columns_are r (contents_row k c) 9 is) (columns_are r (contents_row k c) 5 is) (columns_are r (contents_row k c) 6 is) (columns_are r (contents_row k c) 7 is) (columns_are r (contents_row k c) 8 is))
       ∙ ap (λ o. if tiled o then placed c.system c.min_x c.min_y c.max_x c.max_y else None) (sym got) in
       λ i. record { table = table i; kind = sym got i; identifier = identifier i; last_change = last_change i; place = place i }
 
-  told_all : (ys : List Row) (all : AllByRecursion (Enters parts.contents tables p.contents ht ut) ys) (es : List Entry) → ShowsAll (map (show kinds) ys) es → map table_told es ≡ map (listed p) (entered parts.contents tables p.contents ht ut ys all)
+  told_all : (ys : List Row) (all : AllByRecursion (Enters parts.contents tables p.contents ht ut) ys) (es : List Entry) → ShowsAll (map (shown_row kinds) ys) es → map table_told es ≡ map (entry_told p) (entered parts.contents tables p.contents ht ut ys all)
   told_all [] all es none = ap (map table_told) none
   told_all (y ∷ ys) all [] it = absurd it
   told_all (y ∷ ys) all (e ∷ es) it =
@@ -210,4 +210,4 @@ module _ (p : Package) (tables kinds : List Row) (ht : Holds past_rowid contents
         let found = in_order joined [] shown by_name db [] rows a (env_at kinds) tables matched in
         let all = all_entered parts.contents tables p.contents ht ut (InOrder joined [] shown by_name db [] rows a (env_at kinds) tables matched) rises_as found.0 found.1 in
         told_all found.0 all es (subst (λ rs. ShowsAll rs es) found.3 it)
-        ∙ ap (map (listed p)) (sym (entries_are parts.contents tables p.contents ht ut (InOrder joined [] shown by_name db [] rows a (env_at kinds) tables matched) rises_as found.0 found.1 found.2))
+        ∙ ap (map (entry_told p)) (sym (entries_are parts.contents tables p.contents ht ut (InOrder joined [] shown by_name db [] rows a (env_at kinds) tables matched) rises_as found.0 found.1 found.2))

@@ -6,7 +6,7 @@ use Rattle.sqlite.specs.State.{State, HasCleanDisk}
 use Rattle.sql_forms.proofs.States.{shows_as, shown_open}
 use Rattle.sql_forms.proofs.Queries.{no_overlay}
 use Rattle.sql_forms.specs.Tables.{tables_of}
-use Rattle.mm_schema.specs.Tables.{schema}
+use Rattle.mm_store.specs.Tables.{schema}
 use Rattle.mm_definitions.specs.Bounds.{Profile}
 use Rattle.mm_definitions.specs.Package.{Package}
 use Rattle.mm_definitions.specs.declared.answers.Fault.{Fault}
@@ -16,7 +16,7 @@ use Rattle.mm_store.specs.Seen.{IsSeenAs, IsRead}
 use Rattle.mm_store.proofs.Seen.{settled_still}
 use Rattle.mm_walk.specs.Walk.{TakesRows, Ends, IsWalk}
 use Rattle.mm_walk.proofs.Resting.{seen_still, ends_rest}
-use Rattle.mm_reads.specs.Listing.{GathersTables, ListsTables}
+use Rattle.mm_reads.specs.Contents.{GathersTables, ListsTables}
 use Rattle.mm_reads.proofs.Asking.{list_asks}
 use Rattle.mm_reads.proofs.Listed.{list_text, list_tables, ShowsAll, lists_tables}
 

@@ -1,5 +1,9 @@
 pub mod Told
-pub mod Listing
+pub mod Contents
 pub mod Related
 pub mod Shown
 pub mod Viewers
+pub mod Lines
+pub mod Listing
+pub mod ShownLines
+pub mod Writing

@@ -1,86 +1,54 @@
--- The list of the tables of a package, and what the rows show that it is read from.
-use Rattle.std.specs.Prelude.{◌≡◌, ℤ, Bool, true, if◌then◌else◌, List, [], ◌∷◌, ◌++◌, map, Option, Some, None, Result, MatchResult}
-use Rattle.std.specs.FinMap.{get, entries}
-use Rattle.sqlite.specs.declared.types.Value.TheVariants.{Int, Text as Words}
-use Rattle.sqlite.specs.Order.{Row, column}
-use Rattle.mm_definitions.specs.Checks.{box_of}
-use Rattle.mm_definitions.specs.Keys.{Text}
-use Rattle.mm_definitions.specs.Package.{Package, Contents, Box, kind_text, is_pyramid}
-use Rattle.mm_definitions.specs.declared.answers.Fault.{Fault}
-use Rattle.mm_definitions.specs.declared.commands.Kind.{Kind}
+-- The listing of a package.
+use Rattle.std.specs.Prelude.{ℕ, ◌++◌, [], if◌then◌else◌, ◌||◌, Option, Some, None, unwrap_or, flat_map}
+use Rattle.std.specs.FinMap.{get, entries, len, retain_keys}
+use Rattle.mm_definitions.specs.Keys.{Text, same_text}
+use Rattle.mm_definitions.specs.Package.{Package, Contents, kind_text, open_state}
+use Rattle.mm_definitions.specs.Conditions.{piece_count}
 use Rattle.mm_definitions.specs.declared.commands.Kind.TheVariants.{Two, Other, Attributes, Media}
-use Rattle.mm_definitions.specs.declared.entries.Entry.{Entry}
-use Rattle.mm_definitions.specs.declared.extents.Extent.{Extent}
-use Rattle.mm_store.specs.Faults.{IsStoreFault}
+use Rattle.mm_reads.specs.Lines.{table_text, open_text, published_text}
 
--- ---- the list
+-- which of three a table has, by its kind
+abbrev pub by_kind : {A : Type 0} → Text → A → A → A → Option A
+by_kind kind tiles rows media =
+    if same_text kind (kind_text Two) || same_text kind (kind_text Other) then Some tiles else
+    (if same_text kind (kind_text Attributes) then Some rows else (if same_text kind (kind_text Media) then Some media else None))
 
--- a table, with its kind as the registry writes it, and its reference system and extent
-pub record Listed : Type 0 where
-  pub table : Text
-  pub kind : Option Text
-  pub identifier : Text
-  pub last_change : Text
-  pub place : Option (ℤ × Box)
+-- how many tiles the table has
+abbrev pub tile_count : Package → Text → ℕ
+tile_count p table = len (retain_keys p.tiles (λ k. same_text k.table table))
 
--- a system and an extent, where all of it stands
-abbrev pub placed : Option ℤ → Option ℤ → Option ℤ → Option ℤ → Option ℤ → Option (ℤ × Box)
-placed (Some system) (Some min_x) (Some min_y) (Some max_x) (Some max_y) = Some (system, record { min_x = min_x; min_y = min_y; max_x = max_x; max_y = max_y })
-placed _ _ _ _ _ = None
+-- how many attribute rows it has
+abbrev pub row_count : Package → Text → ℕ
+row_count p table = len (retain_keys p.rows (λ k. same_text k.table table))
 
--- a table as the package has it; only pyramids have a place
-abbrev pub listed : Package → Text × Contents → Listed
-listed p (table, c) = record {
-  table = table;
-  kind = get p.kinds table;
-  identifier = c.identifier;
-  last_change = c.last_change;
-  place = if is_pyramid p.kinds table then placed c.system c.min_x c.min_y c.max_x c.max_y else None;
-}
+-- how many media it has
+abbrev pub medium_count : Package → Text → ℕ
+medium_count p table = len (retain_keys p.media (λ k. same_text k.table table))
 
--- a system and an extent, if there are any, as they are told
-abbrev pub place_told : Option (ℤ × Extent) → Option (ℤ × Box)
-place_told None = None
-place_told (Some (system, extent)) = Some (system, box_of extent)
+-- as the registry has it
+abbrev pub kind_of : Package → Text → Text
+kind_of p table = unwrap_or (get p.kinds table) []
 
--- a table as it is told, with its kind as the registry writes it
-abbrev pub table_told : Entry → Listed
-table_told e = record { table = e.table; kind = Some (kind_text e.kind); identifier = e.identifier; last_change = e.last_change; place = place_told e.place }
+-- how many tiles, rows or media the table has
+abbrev pub count_of : Package → Text → ℕ
+count_of p table = unwrap_or (by_kind (kind_of p table) (tile_count p table) (row_count p table) (medium_count p table)) 0
 
--- the entries are the tables of the contents, by rising name
-abbrev pub ListsTables : Package → List Entry → Type 0
-ListsTables p es = map table_told es ≡ map (listed p) (entries p.contents)
+-- the line of a table, by its name and its contents row
+abbrev pub table_line : Package → Text × Contents → Text
+table_line p (table, c) = table_text table (kind_of p table) (count_of p table) c.last_change c.identifier
 
--- ---- the rows
+-- the line of an edition, by its name and its state
+abbrev pub edition_line : Package → Text × Text → Text
+edition_line p (name, state) = if same_text state open_state then open_text name (piece_count p name) else published_text name
 
--- the row shows the reference system and the extent in the columns from 4 on
-pub record ShowsPlace (row : Row) (place : ℤ × Extent) : Type 0 where
-  pub system : column row 4 ≡ Int place.0
-  pub min_x : column row 5 ≡ Int place.1.min_x
-  pub min_y : column row 6 ≡ Int place.1.min_y
-  pub max_x : column row 7 ≡ Int place.1.max_x
-  pub max_y : column row 8 ≡ Int place.1.max_y
+-- by rising name
+abbrev pub table_lines : Package → Text
+table_lines p = flat_map (table_line p) (entries p.contents)
 
--- a place is told, and the row shows it
-abbrev pub IsShown : Row → Option (ℤ × Extent) → Type 0
-IsShown row None = ⊥
-IsShown row (Some place) = ShowsPlace row place
+-- the lines of the editions, by rising name
+abbrev pub editions : Package → Text
+editions p = flat_map (edition_line p) (entries p.editions)
 
--- the row of a pyramid shows its place, and tables of other kinds have none
-abbrev pub ShowsPlaceOf : Row → Kind → Option (ℤ × Extent) → Type 0
-ShowsPlaceOf row Two place = IsShown row place
-ShowsPlaceOf row Other place = IsShown row place
-ShowsPlaceOf row Attributes place = place ≡ None
-ShowsPlaceOf row Media place = place ≡ None
-
--- the row shows a table of the list: name, kind, identifier, last_change and place
-pub record ShowsEntry (row : Row) (e : Entry) : Type 0 where
-  pub table : column row 0 ≡ Words e.table
-  pub kind : column row 1 ≡ Words (kind_text e.kind)
-  pub identifier : column row 2 ≡ Words e.identifier
-  pub last_change : column row 3 ≡ Words e.last_change
-  pub place : ShowsPlaceOf row e.kind e.place
-
--- one more entry is gathered, which the row shows
-abbrev pub GathersTables : List Entry → Row → List Entry → Result Bool Fault → Type 0
-GathersTables old row new result = MatchResult result (λ goes. (goes ≡ true) × (e : Entry) × ShowsEntry row e × (new ≡ old ++ e ∷ [])) IsStoreFault
+-- the lines of the tables, and behind them those of the editions
+abbrev pub listing : Package → Text
+listing p = table_lines p ++ editions p

@@ -3,7 +3,7 @@ use Rattle.std.specs.Prelude.{ℤ, List, Option, Some, None, map, if◌then◌el
 use Rattle.std.specs.FinMap.{entries}
 use Rattle.mm_definitions.specs.Keys.{Text}
 use Rattle.mm_definitions.specs.Package.{Package}
-use Rattle.mm_reads.specs.Listing.{Listed, listed}
+use Rattle.mm_reads.specs.Contents.{Listed, entry_told}
 use Rattle.mm_reads.specs.Related.{Mate, is_item, mapping_rows, mate}
 
 -- what an item is related to, by rising mapping, related table and id, where the package has the item
@@ -12,4 +12,4 @@ mates p table id = if is_item p table id then Some (map (mate p) (mapping_rows p
 
 -- the tables of the contents, by rising name
 abbrev pub shown_tables : Package → List Listed
-shown_tables p = map (listed p) (entries p.contents)
+shown_tables p = map (entry_told p) (entries p.contents)

@@ -1,146 +1,160 @@
-//! The list of the tables.
+//! The walks over the tables and the editions, in which each line is written before the next row is asked for.
 
-ghost use Rattle.std.specs.Prelude.{◌≡◌, false, IfOk, IfErr};
-ghost use Rattle.sqlite.specs.Order.{column};
-ghost use Rattle.sqlite.specs.declared.types.Value.TheVariants.{Text as Words};
-ghost use Rattle.mm_definitions.specs.Package.{kind_text};
-ghost use Rattle.mm_store.specs.Faults.{IsStoreFault};
-ghost use Rattle.mm_reads.specs.Listing.{ShowsPlace, ShowsPlaceOf, ShowsEntry, GathersTables, ListsTables};
-ghost use Rattle.mm_store.specs.Seen.{ReadsOn};
+ghost use Rattle.std.specs.Prelude.{◌≡◌, false};
+ghost use Rattle.mm_definitions.specs.Streams.{written};
+ghost use Rattle.mm_reads.specs.Listing.{editions, listing, table_lines};
+ghost use Rattle.mm_reads.specs.Writing.{Lists, SendsLine};
 
+use crate::shown::{edition_in, table_in};
 use mm_definitions::answers::Fault;
-use mm_definitions::commands::Kind;
-use mm_definitions::entries::Entry;
-use mm_definitions::extents::Extent;
-use mm_definitions::identifiers::Identifier;
-use mm_definitions::texts::Text;
-use mm_store::columns::{name_in, number_in, text_in};
+use mm_definitions::streams::Io;
+use mm_io::{Sent, send};
 use mm_walk::walk::{Visitor, walk};
 use sqlite::{Alter, Connection, Row};
-use std::alloc::Global;
+use std::io::Write;
 
-/// The kind in a column. A text that is none is a fault, 91.
-fn kind_in(row: &Row, at: usize) -> Result<Kind, Fault>
-    ensures shown { IfOk result (λ kind. column row.now at ≡ Words (kind_text kind)) }
-    ensures fault { IfErr result IsStoreFault }
+/// Writes a line, and goes on.
+fn send_line<W: Write>(output: &mut Io<W>, line: &[u8]) -> Result<bool, Fault>
+    ensures { SendsLine (written W.contents output.old) (written W.contents output.new)
+        line.now result }
 {
-    let text = text_in(row, at)?;
-    match Kind::named(text.as_str()) {
-        Some(kind) => Ok(kind),
-        None => Err(Fault::STORE),
+    match send(output, line) {
+        Sent::Flushed => Ok(true),
+        Sent::Unflushed => Err(Fault::OUTPUT),
+        Sent::Cut => Err(Fault::OUTPUT),
     }
 }
 
-/// The identifier in a column. A text that is none is a fault, 91.
-fn identifier_in(row: &Row, at: usize) -> Result<Identifier, Fault>
-    ensures shown { IfOk result (λ identifier. column row.now at ≡ Words identifier) }
-    ensures fault { IfErr result IsStoreFault }
-{
-    let text = text_in(row, at)?;
-    match Identifier::new(text) {
-        Some(identifier) => Ok(identifier),
-        None => Err(Fault::STORE),
-    }
-}
-
-/// The time in a column. A text of another length than a stamp's is a fault, 91.
-fn time_in(row: &Row, at: usize) -> Result<Text<24, 24>, Fault>
-    ensures shown { IfOk result (λ time. column row.now at ≡ Words time) }
-    ensures fault { IfErr result IsStoreFault }
-{
-    let text = text_in(row, at)?;
-    match Text::new(text) {
-        Some(time) => Ok(time),
-        None => Err(Fault::STORE),
-    }
-}
-
-/// The reference system and the extent in the columns from 4 on.
-fn place_in(row: &Row) -> Result<(i64, Extent), Fault>
-    ensures shown { IfOk result (λ place. ShowsPlace row.now place) }
-    ensures fault { IfErr result IsStoreFault }
-{
-    let system = number_in(row, 4)?;
-    let min_x = number_in(row, 5)?;
-    let min_y = number_in(row, 6)?;
-    let max_x = number_in(row, 7)?;
-    let max_y = number_in(row, 8)?;
-    Ok((
-        system,
-        Extent {
-            min_x,
-            min_y,
-            max_x,
-            max_y,
-        },
-    ))
-}
-
-/// The place of a table of this kind, which only pyramids have.
-fn place_of(row: &Row, kind: Kind) -> Result<Option<(i64, Extent)>, Fault>
-    ensures shown { IfOk result (λ place. ShowsPlaceOf row.now kind place) }
-    ensures fault { IfErr result IsStoreFault }
-{
-    match kind {
-        Kind::Two | Kind::Other => Ok(Some(place_in(row)?)),
-        Kind::Attributes | Kind::Media => Ok(None),
-    }
-}
-
-/// The table that a row of the list shows.
-fn entry_in(row: &Row) -> Result<Entry, Fault>
-    ensures shown { IfOk result (λ e. ShowsEntry row.now e) }
-    ensures fault { IfErr result IsStoreFault }
-{
-    let table = name_in(row, 0)?;
-    let kind = kind_in(row, 1)?;
-    let identifier = identifier_in(row, 2)?;
-    let last_change = time_in(row, 3)?;
-    let place = place_of(row, kind)?;
-    Ok(Entry {
-        table,
-        kind,
-        identifier,
-        last_change,
-        place,
-    })
-}
-
-/// The tables that the list has shown so far.
+/// Writes the line of each table that is shown.
 #[derive(Drop)]
-struct Gathered {
-    entries: Vec<Entry>,
+struct TableLines<'a, W> {
+    output: &'a mut Io<W>,
 }
 
-impl Visitor for Gathered {
-    ghost use Rattle.mm_reads.specs.Listing.{GathersTables};
+impl<W: Write> Visitor for TableLines<'_, W> {
+    ghost use Rattle.mm_definitions.specs.Streams.{written};
+    ghost use Rattle.mm_reads.specs.ShownLines.{ShowsTable};
+    ghost use Rattle.mm_reads.specs.Writing.{TakesLine};
 
-    ghost takes = { λ old row new result. GathersTables old.entries.items row new.entries.items result };
+    ghost takes = { λ old row new result. (new.output.ghost_name ≡ old.output.ghost_name)
+        × TakesLine ShowsTable (written W.contents old.output.now) (written W.contents new.output.now) row result };
 
     fn take(&mut self, row: &Row) -> Result<bool, Fault> {
-        let entry = entry_in(row)?;
-        self.entries.push(entry).map_err(|_| Fault::MEMORY)?;
-        Ok(true)
+        let line = table_in(row)?;
+        send_line(self.output, line.as_slice())
     }
 }
 
-/// The tables of the contents by rising name, each with its kind, identifier and last_change, and exactly the pyramids with their
-/// reference system and extent. (Contents.) A fault is 90 where memory was refused, and else 91, also where a value stands that no
-/// package has; the connection is then as settled as before.
-pub fn contents<S: Alter>(alloc: Global, conn: &mut Connection<S>) -> Result<Vec<Entry>, Fault>
+/// Writes the line of each edition that is shown.
+#[derive(Drop)]
+struct EditionLines<'a, W> {
+    output: &'a mut Io<W>,
+}
+
+impl<W: Write> Visitor for EditionLines<'_, W> {
+    ghost use Rattle.mm_definitions.specs.Streams.{written};
+    ghost use Rattle.mm_reads.specs.ShownLines.{ShowsEdition};
+    ghost use Rattle.mm_reads.specs.Writing.{TakesLine};
+
+    ghost takes = { λ old row new result. (new.output.ghost_name ≡ old.output.ghost_name)
+        × TakesLine ShowsEdition (written W.contents old.output.now) (written W.contents new.output.now) row result };
+
+    fn take(&mut self, row: &Row) -> Result<bool, Fault> {
+        let line = edition_in(row)?;
+        send_line(self.output, line.as_slice())
+    }
+}
+
+/// Shows the tables to the visitor.
+fn show_tables<S: Alter, W: Write>(
+    conn: &mut Connection<S>,
+    lines: &mut TableLines<'_, W>,
+) -> Result<(), Fault>
     requires { conn.old.in_transaction ≡ false }
+    ensures same_reference { lines.new.output.ghost_name ≡ lines.old.output.ghost_name }
     ensures mode { conn.new.in_transaction ≡ false }
-    ensures read { ReadsOn S.Store conn.old conn.new (λ p tables. ListsTables p tables.items)
-        result }
+    ensures listed { Lists S.Store conn.old conn.new table_lines
+        (written W.contents lines.old.output.now) (written W.contents lines.new.output.now) result }
 {
-    let mut gathered = Gathered {
-        entries: Vec::new(alloc),
-    };
     walk(
         conn,
-        "SELECT c.table_name, t.kind, c.identifier, c.last_change, c.srs_id, c.min_x, c.min_y, c.max_x, c.max_y FROM gpkg_contents AS c LEFT JOIN mm_tables AS t ON t.table_name = c.table_name ORDER BY c.table_name",
+        "SELECT c.table_name, k.kind, c.last_change, c.identifier, (SELECT count(*) FROM mm_tiles AS t WHERE t.table_name = c.table_name), (SELECT count(*) FROM mm_rows AS r WHERE r.table_name = c.table_name), (SELECT count(*) FROM mm_media AS m WHERE m.table_name = c.table_name) FROM gpkg_contents AS c LEFT JOIN mm_tables AS k ON k.table_name = c.table_name ORDER BY c.table_name",
         &[],
-        &mut gathered,
+        lines,
     )?;
-    Ok(gathered.entries)
+    Ok(())
+}
+
+/// The lines of the tables.
+fn list_tables<S: Alter, W: Write>(
+    conn: &mut Connection<S>,
+    output: &mut Io<W>,
+) -> Result<(), Fault>
+    requires { conn.old.in_transaction ≡ false }
+    ensures mode { conn.new.in_transaction ≡ false }
+    ensures listed { Lists S.Store conn.old conn.new table_lines (written W.contents output.old)
+        (written W.contents output.new) result }
+{
+    let mut lines = TableLines { output };
+    let shown = show_tables(conn, &mut lines);
+    let TableLines { output: inner } = lines;
+    // No effect at run time: the proof reads what `output` holds from this use.
+    let _ = &*inner;
+    shown
+}
+
+/// Shows the editions to the visitor.
+fn show_editions<S: Alter, W: Write>(
+    conn: &mut Connection<S>,
+    lines: &mut EditionLines<'_, W>,
+) -> Result<(), Fault>
+    requires { conn.old.in_transaction ≡ false }
+    ensures same_reference { lines.new.output.ghost_name ≡ lines.old.output.ghost_name }
+    ensures mode { conn.new.in_transaction ≡ false }
+    ensures listed { Lists S.Store conn.old conn.new editions
+        (written W.contents lines.old.output.now) (written W.contents lines.new.output.now) result }
+{
+    walk(
+        conn,
+        "SELECT e.name, e.state, (SELECT count(*) FROM mm_pieces AS p WHERE p.edition = e.name) FROM mm_editions AS e ORDER BY e.name",
+        &[],
+        lines,
+    )?;
+    Ok(())
+}
+
+/// The lines of the editions.
+fn list_editions<S: Alter, W: Write>(
+    conn: &mut Connection<S>,
+    output: &mut Io<W>,
+) -> Result<(), Fault>
+    requires { conn.old.in_transaction ≡ false }
+    ensures mode { conn.new.in_transaction ≡ false }
+    ensures listed { Lists S.Store conn.old conn.new editions (written W.contents output.old)
+        (written W.contents output.new) result }
+{
+    let mut lines = EditionLines { output };
+    let shown = show_editions(conn, &mut lines);
+    let EditionLines { output: inner } = lines;
+    // No effect at run time: the proof reads what `output` holds from this use.
+    let _ = &*inner;
+    shown
+}
+
+/// Writes the listing of a package: a line for each table, with its name, its kind, how many tiles, rows or media it has,
+/// its last change and its identifier; then one for each edition, with its name, and how many pieces it has or that it is
+/// published; each by rising name. It reads alone: the package and what may be left are as they were.
+///
+/// # Errors
+///
+/// What was written is a beginning of the listing. 97 where the writer failed; else 90 where memory was refused, and 91
+/// where the store failed or gave a value that no package has.
+pub fn list<S: Alter, W: Write>(conn: &mut Connection<S>, output: &mut Io<W>) -> Result<(), Fault>
+    requires { conn.old.in_transaction ≡ false }
+    ensures mode { conn.new.in_transaction ≡ false }
+    ensures listed { Lists S.Store conn.old conn.new listing (written W.contents output.old)
+        (written W.contents output.new) result }
+{
+    list_tables(conn, output)?;
+    list_editions(conn, output)
 }

@@ -6,7 +6,7 @@ ghost use Rattle.sqlite.specs.State.{State};
 ghost use Rattle.mm_definitions.specs.Keys.{item};
 ghost use Rattle.mm_definitions.specs.Places.{tile_at};
 ghost use Rattle.mm_reads.specs.Told.{shown_medium};
-ghost use Rattle.mm_reads.specs.Listing as listing;
+ghost use Rattle.mm_reads.specs.Contents as listing;
 ghost use Rattle.mm_reads.specs.Related.{mate_told};
 ghost use Rattle.mm_reads.specs.Shown.{mates, shown_tables};
 ghost use Rattle.mm_reads.specs.Viewers.{ShowsPart, IsOn, IsViewFault, LeavesPackage};

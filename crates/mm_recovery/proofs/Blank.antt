@@ -22,7 +22,7 @@ use Rattle.sqlite.specs.Files.{file_state, image_of, IsNothing, AreFound, AreFou
 use Rattle.sqlite.specs.State.{HasCleanDisk}
 use Rattle.sqlite.proofs.ListingLemmas.{empty_is_sound}
 use Rattle.sqlite_wal.proofs.LogLemmas.{SeenMayStay}
-use Rattle.mm_opening.specs.Opening.{HasNoTable}
+use Rattle.mm_meta.specs.Opening.{HasNoTable}
 use Rattle.mm_recovery.specs.Made.{AreNew, FindsNoTable}
 use Rattle.mm_recovery.proofs.Opened.{opened_blank}
 use Rattle.mm_recovery.proofs.Crashed.{only_committed}

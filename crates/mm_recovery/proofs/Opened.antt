@@ -7,12 +7,12 @@ use Rattle.sqlite_catalog.proofs.ReadLemmas.{lists_once}
 use Rattle.sqlite.specs.Tree.{Trees}
 use Rattle.sqlite.specs.Effect.{Database, IsDatabase}
 use Rattle.sqlite.specs.State.{State, IsLive, Opens}
-use Rattle.mm_schema.specs.Tables as tables
+use Rattle.mm_store.specs.Tables as tables
 use Rattle.mm_definitions.specs.Bounds.{current}
 use Rattle.mm_definitions.specs.Package.{Package}
 use Rattle.mm_store.specs.Stands.{StandsFor, ReadsAs}
-use Rattle.mm_schema.specs.Made.{no_schema}
-use Rattle.mm_opening.specs.Opening.{HasNoTable}
+use Rattle.mm_store.specs.Made.{no_schema}
+use Rattle.mm_meta.specs.Opening.{HasNoTable}
 use Rattle.mm_recovery.specs.Found.{IsSettledByFound, IsBlankByFound}
 
 -- nothing but the last commit may be left

@@ -6,7 +6,7 @@ use Rattle.sqlite_schema.specs.contracts.schema.Schema as schema
 use Rattle.sqlite_catalog.proofs.ReadLemmas.{lists_once}
 use Rattle.sqlite.specs.Effect.{Database, IsDatabase}
 use Rattle.sqlite.specs.State.{State, IsLive, Opens}
-use Rattle.mm_schema.specs.Tables as tables
+use Rattle.mm_store.specs.Tables as tables
 use Rattle.mm_definitions.specs.Bounds.{Profile}
 use Rattle.mm_definitions.specs.Package.{Package}
 use Rattle.mm_store.specs.Stands.{StandsFor, ReadsAs}

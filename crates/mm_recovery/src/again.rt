@@ -3,7 +3,7 @@
 ghost use Rattle.std.specs.Prelude.{◌≡◌, ◌↔◌, false, IfOk, IfErr, IsTrue};
 ghost use Rattle.sqlite.specs.Held.{state};
 ghost use Rattle.mm_definitions.specs.declared.answers.Open.TheVariants as opens;
-ghost use Rattle.mm_core.specs.Parts.{held, must_reopen};
+ghost use Rattle.mm_core.specs.Parts.{connection, must_reopen};
 ghost use Rattle.mm_recovery.specs.Made.{IsMadeOrFound, IsNeither, MakesAgain, IsNotMadeAgain};
 
 use crate::files::open_files;
@@ -34,7 +34,7 @@ pub fn create_or_adopt<S: Alter + Drop>(
     requires { conn.in_transaction ≡ false }
     ensures working { IfOk result (λ session. must_reopen session ≡ false) }
     ensures made_or_found { IfOk result
-        (λ session. IsMadeOrFound (state S.Store conn) (state S.Store (held session))) }
+        (λ session. IsMadeOrFound (state S.Store conn) (state S.Store (connection session))) }
     ensures handed_back { IfErr result (λ e. e.0.in_transaction ≡ false) }
     ensures neither { IfErr result (λ e. IsNeither (state S.Store conn) (state S.Store e.0) e.1) }
 {
@@ -66,7 +66,7 @@ pub fn create_again<D: Disk + Drop>(
     requires log { IsTrue (D.Disk.is_usable files.log) }
     requires db { IsTrue (D.Disk.is_usable files.db) }
     ensures working { IfOk result (λ session. must_reopen session ≡ false) }
-    ensures made { IfOk result (λ session. MakesAgain files (held session)) }
+    ensures made { IfOk result (λ session. MakesAgain files (connection session)) }
     ensures not_made { IfErr result (λ e. IsNotMadeAgain files e) }
 {
     match open_files(alloc, files, options) {

@@ -2,7 +2,7 @@
 
 ghost use Rattle.std.specs.Prelude.{◌≡◌, false, IfOk, IfErr};
 ghost use Rattle.sqlite.specs.Files.{file_state};
-ghost use Rattle.mm_core.specs.Parts.{held, must_reopen};
+ghost use Rattle.mm_core.specs.Parts.{connection, must_reopen};
 ghost use Rattle.mm_recovery.specs.Recovered.{IsReopened, IsNotReopened};
 
 use crate::files::close_files;
@@ -27,8 +27,8 @@ pub fn close_and_adopt<D: Disk + Drop>(
 ) -> Result<Session<FileStore<D>>, NotBegun<D>>
     ensures working { IfOk result (λ again. must_reopen again ≡ false) }
     ensures reopened { IfOk result
-        (λ again. IsReopened (file_state (held session)) (file_state (held again))) }
-    ensures not_reopened { IfErr result (λ e. IsNotReopened (held session) e) }
+        (λ again. IsReopened (file_state (connection session)) (file_state (connection again))) }
+    ensures not_reopened { IfErr result (λ e. IsNotReopened (connection session) e) }
 {
     match close_files(session.close()) {
         Ok(files) => adopt_left(alloc, files, options),

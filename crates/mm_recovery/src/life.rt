@@ -3,7 +3,7 @@
 ghost use Rattle.std.specs.Prelude.{◌≡◌, false, IfSome, IsTrue};
 ghost use Rattle.sqlite.specs.Files.{file_state};
 ghost use Rattle.mm_definitions.specs.Streams.{inside, written};
-ghost use Rattle.mm_core.specs.Parts.{held, must_reopen};
+ghost use Rattle.mm_core.specs.Parts.{connection, must_reopen};
 ghost use Rattle.mm_recovery.specs.Lived.{HasLived};
 
 use crate::closing::close_and_adopt;
@@ -34,7 +34,7 @@ pub fn live<D: Disk + Drop, R: Read, W: Write>(
     ensures lived { IfSome result (λ session. HasLived D.Disk files at
         (R.remaining (inside first.old)) (R.remaining (inside second.old))
         (written W.contents writer.old) (written W.contents writer.new)
-        (file_state (held session))) }
+        (file_state (connection session))) }
 {
     let Ok(made) = create_on(alloc, files, options) else {
         return None;

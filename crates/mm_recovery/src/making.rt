@@ -2,7 +2,7 @@
 
 ghost use Rattle.std.specs.Prelude.{◌≡◌, false, IfOk, IfErr, IsTrue};
 ghost use Rattle.sqlite.specs.Files.{file_state};
-ghost use Rattle.mm_core.specs.Parts.{held, must_reopen};
+ghost use Rattle.mm_core.specs.Parts.{connection, must_reopen};
 ghost use Rattle.mm_recovery.specs.Made.{IsMadeOn, IsLeftOn};
 
 use crate::files::open_files;
@@ -28,7 +28,7 @@ pub fn create_on<D: Disk + Drop>(
     requires log { IsTrue (D.Disk.is_usable files.log) }
     requires db { IsTrue (D.Disk.is_usable files.db) }
     ensures working { IfOk result (λ session. must_reopen session ≡ false) }
-    ensures made { IfOk result (λ session. IsMadeOn D.Disk files (file_state (held session))) }
+    ensures made { IfOk result (λ session. IsMadeOn D.Disk files (file_state (connection session))) }
     ensures left { IfErr result (λ e. IsLeftOn files e) }
 {
     match open_files(alloc, files, options) {

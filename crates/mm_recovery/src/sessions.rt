@@ -5,7 +5,7 @@ ghost use Rattle.sqlite.specs.Files.{file_state};
 ghost use Rattle.sqlite.specs.State.{HasCleanDisk};
 ghost use Rattle.mm_definitions.specs.Streams.{inside, is_flushed, written};
 ghost use Rattle.mm_run.specs.Runs.{TellsFlush};
-ghost use Rattle.mm_core.specs.Parts.{held, must_reopen};
+ghost use Rattle.mm_core.specs.Parts.{connection, must_reopen};
 ghost use Rattle.mm_recovery.specs.Recovered.{AdoptsLeft, AdoptsClosed, DeclinesLeft, DeclinesClosed};
 ghost use Rattle.mm_recovery.specs.Ran.{IsRunRecovered, IsRunNotRecovered};
 
@@ -36,8 +36,8 @@ pub fn adopt_left<D: Disk + Drop>(
     requires log { IsTrue (D.Disk.is_usable files.log) }
     requires db { IsTrue (D.Disk.is_usable files.db) }
     ensures working { IfOk result (λ again. must_reopen again ≡ false) }
-    ensures recovered { IfOk result (λ again. AdoptsLeft files (held again)) }
-    ensures reopened { IfOk result (λ again. AdoptsClosed files (held again)) }
+    ensures recovered { IfOk result (λ again. AdoptsLeft files (connection again)) }
+    ensures reopened { IfOk result (λ again. AdoptsClosed files (connection again)) }
     ensures declined { IfErr result (λ e. DeclinesLeft files e) }
     ensures not_reopened { IfErr result (λ e. DeclinesClosed files e) }
 {
@@ -68,14 +68,14 @@ pub fn run_and_recover<D: Crash + Drop, R: Read, W: Write>(
     ensures flushed { TellsFlush (is_flushed writer.old) (is_flushed writer.new) result.0 }
     ensures working { IfOk result.1 (λ again. must_reopen again ≡ false) }
     ensures is_open { IfOk result.1
-        (λ again. HasCleanDisk (file_state (held again))
-        → IsTrue (file_state (held again)).is_open) }
+        (λ again. HasCleanDisk (file_state (connection again))
+        → IsTrue (file_state (connection again)).is_open) }
     ensures recovered { IfOk result.1
-        (λ again. IsRunRecovered (must_reopen session) (file_state (held session))
+        (λ again. IsRunRecovered (must_reopen session) (file_state (connection session))
         (R.remaining (inside reader.old)) at (written W.contents writer.old)
-        (written W.contents writer.new) result.0 (file_state (held again))) }
+        (written W.contents writer.new) result.0 (file_state (connection again))) }
     ensures not_recovered { IfErr result.1
-        (λ e. IsRunNotRecovered (must_reopen session) (file_state (held session))
+        (λ e. IsRunNotRecovered (must_reopen session) (file_state (connection session))
         (R.remaining (inside reader.old)) at (written W.contents writer.old)
         (written W.contents writer.new) result.0 e) }
 {

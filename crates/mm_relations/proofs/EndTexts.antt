@@ -9,8 +9,8 @@ use Rattle.sqlite.specs.Term.{col}
 use Rattle.sql_forms.specs.Maps.{Holds}
 use Rattle.sql_forms.specs.Tables.{Finds}
 use Rattle.sql_forms.proofs.Selects.{selects_one, shows}
-use Rattle.mm_schema.specs.Statements as text
-use Rattle.mm_schema.proofs.Selecting as statement
+use Rattle.mm_store.specs.Compiled as text
+use Rattle.mm_store.proofs.Selecting as statement
 use Rattle.mm_definitions.specs.Bounds.{Profile}
 use Rattle.mm_definitions.specs.Keys.{Text}
 use Rattle.mm_definitions.specs.Package.{Package, Relation}
@@ -31,13 +31,13 @@ abbrev pub EndsShown : Option Relation → Option Row → Type 0
 EndsShown v None = v ≡ None
 EndsShown v (Some x) = (r : Relation) × (v ≡ Some r) × (column x 0 ≡ Words r.base) × (column x 1 ≡ Words r.related)
 
-abbrev show : Text → Row → Row
-show mapping = shows (col 1 2 ∷ col 1 4 ∷ []) (Words mapping ∷ [])
+abbrev shown_row : Text → Row → Row
+shown_row mapping = shows (col 1 2 ∷ col 1 4 ∷ []) (Words mapping ∷ [])
 
-ends_found : (p : Package) (mapping : Text) (rows : List Row) → Holds past_id relation_row rows p.relations → (first : Option Row) → Finds (by_mapping mapping) (show mapping) rows first → EndsShown (get p.relations mapping) first
-ends_found p mapping rows h None found = finds_none parts.relations rows p.relations h mapping (show mapping) found
+ends_found : (p : Package) (mapping : Text) (rows : List Row) → Holds past_id relation_row rows p.relations → (first : Option Row) → Finds (by_mapping mapping) (shown_row mapping) rows first → EndsShown (get p.relations mapping) first
+ends_found p mapping rows h None found = finds_none parts.relations rows p.relations h mapping (shown_row mapping) found
 ends_found p mapping rows h (Some x) found =
-    let at = finds_some parts.relations rows p.relations h mapping (show mapping) x found in (
+    let at = finds_some parts.relations rows p.relations h mapping (shown_row mapping) x found in (
       at.0,
       at.1,
       ap (λ (r : Row). column r 0) at.4 ∙ columns_after at.2 (relation_row mapping at.0) 0 at.3,

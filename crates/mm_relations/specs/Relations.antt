@@ -1,5 +1,6 @@
 -- What the calls on relations put and tell.
 use Rattle.std.specs.Prelude.{ℕ, ℤ, ◌||◌, [], ◌∷◌, Option, String, string_bytes, codes}
+use Rattle.mm_definitions.specs.declared.refusals.TheConstants.{NO_ROW, NO_MEDIA_ITEM}
 use Rattle.mm_definitions.specs.Keys.{Text}
 use Rattle.mm_definitions.specs.Package.{Package, Relation}
 use Rattle.mm_definitions.specs.Conditions.{least, lacks_row, lacks_medium}
@@ -19,4 +20,4 @@ both_bytes pair = (string_bytes pair.0, string_bytes pair.1)
 -- which number the ends of a mapping row lack something for
 abbrev pub lacks : Package → Text × Text → ℤ → ℤ → Option ℕ
 lacks p tables base_id related_id =
-    least ((40, lacks_row p tables.0 base_id || lacks_row p tables.1 related_id) ∷ (41, lacks_medium p tables.0 base_id || lacks_medium p tables.1 related_id) ∷ [])
+    least ((NO_ROW, lacks_row p tables.0 base_id || lacks_row p tables.1 related_id) ∷ (NO_MEDIA_ITEM, lacks_medium p tables.0 base_id || lacks_medium p tables.1 related_id) ∷ [])

@@ -4,11 +4,9 @@
 //! - `relations`: `add_relation` and `drop_relation`.
 //! - `maps`: the mapping rows, `add_map` and `drop_map`.
 //! - `ends`: the tables that a relation joins, and whether a row or medium stands in one.
-//! - `extensions`: the extension rows of mappings.
 #![tactic(auto)]
 
 mod ends;
-mod extensions;
 mod maps;
 mod relations;
 

@@ -12,13 +12,13 @@ ghost use Rattle.mm_store.specs.Removals.{without_relation_rows};
 ghost use Rattle.mm_relations.specs.Relations.{new_relation};
 ghost use Rattle.mm_store.specs.Handed.{Changes, ChangesWhere, FindsRefusal, Applies};
 
-use crate::extensions::delete_related_row;
 use mm_definitions::answers::{Fault, Outcome};
 use mm_definitions::commands::{Kind, RelationName};
 use mm_definitions::names::Name;
 use mm_definitions::refusals::Reason;
-use mm_layout::{has_relation, is_taken, kind_of};
-use mm_opening::insert_related_row;
+use mm_layout::{
+    delete_related_row, has_relation, insert_related_row, is_taken, kind_of,
+};
 use mm_store::statements::run;
 use sqlite::{Alter, Transaction, params};
 

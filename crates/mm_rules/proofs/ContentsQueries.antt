@@ -7,10 +7,10 @@ use Rattle.sqlite_sql.specs.Query.{inner, left, end}
 use Rattle.sqlite.specs.Listing.{understood}
 use Rattle.sqlite_tied.specs.Compute.{everything}
 use Rattle.mm_walk.specs.RowTests.{IsQuery}
-use Rattle.mm_schema.specs.Tables.{schema}
+use Rattle.mm_store.specs.Tables.{schema}
 use Rattle.mm_rules.specs.Texts as text
 use Rattle.mm_walk.proofs.Quiet.{IsQuiet}
-use Rattle.mm_queries.proofs.Terms.{equals}
+use Rattle.mm_walk.proofs.Terms.{equals}
 
 pub contents_systems : IsQuery schema text.contents_systems (inner 1 (left 0 (equals 2 0 1 10 ∷ []) (left 13 (equals 3 1 1 1 ∷ []) end))) [] (col 1 10 ∷ col 2 0 ∷ col 3 2 ∷ [])
     ((col 1 1, ascending Binary) ∷ []) (codes "srs_id" ∷ codes "srs_id" ∷ codes "kind" ∷ [])

@@ -19,13 +19,13 @@ use Rattle.mm_definitions.specs.declared.commands.Kind.TheVariants.{Two, Other, 
 use Rattle.mm_definitions.proofs.Parts.{same_some}
 use Rattle.mm_store.specs.Rows.{maybe, system_row, contents_row, kind_row, set_row, relation_row}
 use Rattle.mm_store.specs.Stands.{StandsFor}
-use Rattle.mm_queries.specs.Columns.{number_of, text_bytes, is_there}
+use Rattle.mm_walk.specs.Columns.{number_of, text_bytes, is_there}
 use Rattle.mm_rules.specs.ContentsRows.{MayNameRow, IsSameRow, IsThereRow, IsAbsentRow, IsOrderedRow, IsPlacedRow, IsUnplacedRow, IsRegisteredRow}
 use Rattle.mm_rules.specs.Parts.{ContentsSystems, SetSystems, MappingNames, Registered, KindsHaveContents, SetsHaveContents, SetExtents, ContentsExtents}
-use Rattle.mm_queries.proofs.Joined.{as_whole, after_rowid, after_id, covered, covered_whole, covered_id, each_row, joined}
-use Rattle.mm_queries.proofs.Keys.{name_is, number_is, on_true, same}
-use Rattle.mm_queries.proofs.Terms.{equals}
-use Rattle.mm_queries.proofs.Checks.{Says}
+use Rattle.mm_walk.proofs.Joined.{as_whole, after_rowid, after_id, covered, covered_whole, covered_id, each_row, joined}
+use Rattle.mm_walk.proofs.Keys.{name_is, number_is, on_true, same}
+use Rattle.mm_walk.proofs.Terms.{equals}
+use Rattle.mm_walk.proofs.Checks.{Says}
 
 -- ---- rule 2
 module _ (version : ℤ) (db : Trees) (p : Package) (stands : StandsFor version db p) (table : Text) where

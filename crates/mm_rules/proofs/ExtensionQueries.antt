@@ -8,10 +8,10 @@ use Rattle.sqlite_sql.specs.Query.{inner, left, end}
 use Rattle.sqlite.specs.Listing.{understood}
 use Rattle.sqlite_tied.specs.Compute.{everything}
 use Rattle.mm_walk.specs.RowTests.{IsQuery}
-use Rattle.mm_schema.specs.Tables.{schema}
+use Rattle.mm_store.specs.Tables.{schema}
 use Rattle.mm_rules.specs.Texts as text
 use Rattle.mm_walk.proofs.Quiet.{IsQuiet}
-use Rattle.mm_queries.proofs.Terms.{equals, below, same_as}
+use Rattle.mm_walk.proofs.Terms.{equals, below, same_as}
 
 pub extensions_wanted : IsQuery schema text.extensions_wanted (inner 8 (left 10 (equals 2 7 1 1 ∷ []) (left 13 (equals 3 1 1 1 ∷ []) end))) [] (col 1 1 ∷ col 1 2 ∷ col 1 3 ∷ col 1 4 ∷ col 1 5 ∷ col 2 7 ∷ col 3 2 ∷ [])
     [] (codes "table_name" ∷ codes "column_name" ∷ codes "extension_name" ∷ codes "definition" ∷ codes "scope" ∷ codes "mapping_table_name" ∷ codes "kind" ∷ [])

@@ -31,17 +31,17 @@ use Rattle.mm_definitions.proofs.Parts.{same_some, same_itself, some_of}
 use Rattle.mm_definitions.proofs.KeyLaws.{texts, extension_keys}
 use Rattle.mm_store.specs.Rows.{maybe_words, extension_row, extension_of, is_extension, relation_row, kind_row, as_count}
 use Rattle.mm_store.specs.Stands.{StandsFor, profile_row}
-use Rattle.mm_queries.specs.Columns.{text_bytes, is_there}
+use Rattle.mm_walk.specs.Columns.{text_bytes, is_there}
 use Rattle.mm_rules.specs.ExtensionRows.{NoRow, IsWantedRow, IsStandingRow, IsMarkedRow, IsRelated, IsZoomOther}
 use Rattle.mm_rules.specs.Parts.{ExtensionsWanted, NamedOnce, UnnamedOnce, ExtensionsOnce, GeneralExtension, MappingExtensions, ZoomExtensions}
-use Rattle.mm_queries.proofs.Counted.{counts_cover, counted_in, is_that}
-use Rattle.mm_queries.proofs.Joined.{after_rowid, after_id, covered, covered_id, each_row, joined, some_joined}
-use Rattle.mm_queries.proofs.Named.{equals_null, null_equals}
-use Rattle.mm_queries.proofs.Keys.{tie, texts_are, name_is, same, on_true}
+use Rattle.mm_walk.proofs.Counted.{counts_cover, counted_in, is_that}
+use Rattle.mm_walk.proofs.Joined.{after_rowid, after_id, covered, covered_id, each_row, joined, some_joined}
+use Rattle.mm_walk.proofs.Named.{equals_null, null_equals}
+use Rattle.mm_walk.proofs.Keys.{tie, texts_are, name_is, same, on_true}
 use Rattle.mm_rules.proofs.SystemRules.{one_row}
-use Rattle.mm_queries.proofs.Terms.{equals, below, same_as}
+use Rattle.mm_walk.proofs.Terms.{equals, below, same_as}
 use Rattle.mm_walk.specs.RowTests.{OnTrue}
-use Rattle.mm_queries.proofs.Checks.{Says}
+use Rattle.mm_walk.proofs.Checks.{Says}
 
 abbrev is : Value → Value → Bool
 is a b = is_true (binary (Is Binary) a b)

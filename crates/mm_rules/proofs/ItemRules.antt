@@ -19,15 +19,15 @@ use Rattle.mm_definitions.proofs.Parts.{same_some}
 use Rattle.mm_store.specs.Rows.{kind_row, attribute_row, MediumRow, medium_row, relation_row, pairing_row}
 use Rattle.mm_store.specs.Kept.{medium_id, medium_with}
 use Rattle.mm_store.specs.Stands.{StandsFor}
-use Rattle.mm_queries.specs.Columns.{text_bytes, is_there}
+use Rattle.mm_walk.specs.Columns.{text_bytes, is_there}
 use Rattle.mm_rules.specs.ItemRows.{IsAttributesRow, IsMediaRow, IsSuitedRow, IsJoinedRow}
 use Rattle.mm_rules.specs.Parts.{RowsInTables, MediaInTables}
-use Rattle.mm_queries.proofs.Joined.{after_rowid, after_id, covered, covered_id, each_row, joined, some_joined}
+use Rattle.mm_walk.proofs.Joined.{after_rowid, after_id, covered, covered_id, each_row, joined, some_joined}
 use Rattle.mm_blobs.proofs.Naming.{told_there}
-use Rattle.mm_queries.proofs.Named.{each_named}
-use Rattle.mm_queries.proofs.Keys.{name_is, item_is, same}
-use Rattle.mm_queries.proofs.Terms.{equals}
-use Rattle.mm_queries.proofs.Checks.{Says}
+use Rattle.mm_walk.proofs.Named.{each_named}
+use Rattle.mm_walk.proofs.Keys.{name_is, item_is, same}
+use Rattle.mm_walk.proofs.Terms.{equals}
+use Rattle.mm_walk.proofs.Checks.{Says}
 
 -- ---- rule 11
 pub rows_in_tables : Says [] (inner 17 (left 13 (equals 2 1 1 1 ∷ []) end)) [] (col 2 2 ∷ []) IsAttributesRow (λ _. ⊤) RowsInTables

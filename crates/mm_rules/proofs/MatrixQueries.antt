@@ -7,10 +7,10 @@ use Rattle.sqlite_sql.specs.Query.{inner, left, end}
 use Rattle.sqlite.specs.Listing.{understood}
 use Rattle.sqlite_tied.specs.Compute.{everything}
 use Rattle.mm_walk.specs.RowTests.{IsQuery}
-use Rattle.mm_schema.specs.Tables.{schema}
+use Rattle.mm_store.specs.Tables.{schema}
 use Rattle.mm_rules.specs.Texts as text
 use Rattle.mm_walk.proofs.Quiet.{IsQuiet}
-use Rattle.mm_queries.proofs.Terms.{equals, below}
+use Rattle.mm_walk.proofs.Terms.{equals, below}
 
 pub tiles_inside : IsQuery schema text.tiles_inside (inner 15 (left 6 (equals 2 1 1 1 ∷ equals 2 2 1 2 ∷ []) end)) [] (col 1 3 ∷ col 1 4 ∷ col 2 3 ∷ col 2 4 ∷ [])
     ((col 1 1, ascending Binary) ∷ (col 1 2, ascending Binary) ∷ (col 1 3, ascending Binary) ∷ (col 1 4, ascending Binary) ∷ []) (codes "tile_column" ∷ codes "tile_row" ∷ codes "matrix_width" ∷ codes "matrix_height" ∷ [])

@@ -21,12 +21,12 @@ use Rattle.mm_definitions.specs.Package.{Grid}
 use Rattle.mm_definitions.specs.Rules.{HigherIsFiner, MatricesFit, FitsIn, NextIsHalved}
 use Rattle.mm_store.specs.Rows.{grid_row, kind_row, set_row}
 use Rattle.mm_walk.specs.RowTests.{OnTrue}
-use Rattle.mm_queries.specs.Columns.{IsPyramidKind}
+use Rattle.mm_walk.specs.Columns.{IsPyramidKind}
 use Rattle.mm_rules.specs.MatrixRows.{IsFinerRow, IsFittingRow, IsHalvedRow}
-use Rattle.mm_queries.proofs.Joined.{after_rowid, covered, each_row, joined}
-use Rattle.mm_queries.proofs.Keys.{texts_are, name_is, less_is, on_true, same}
-use Rattle.mm_queries.proofs.Terms.{equals, below}
-use Rattle.mm_queries.proofs.Checks.{Says}
+use Rattle.mm_walk.proofs.Joined.{after_rowid, covered, each_row, joined}
+use Rattle.mm_walk.proofs.Keys.{texts_are, name_is, less_is, on_true, same}
+use Rattle.mm_walk.proofs.Terms.{equals, below}
+use Rattle.mm_walk.proofs.Checks.{Says}
 
 -- ---- rule 7
 pub matrices_fit : Says [] (inner 6 (left 13 (equals 2 1 1 1 ∷ []) (left 4 (equals 3 1 1 1 ∷ []) end))) [] (col 2 2 ∷ col 3 3 ∷ col 3 4 ∷ col 3 5 ∷ col 3 6 ∷ col 1 3 ∷ col 1 4 ∷ col 1 5 ∷ col 1 6 ∷ col 1 7 ∷ col 1 8 ∷ []) IsFittingRow (λ _. ⊤) (λ p. MatricesFit p.kinds p.sets p.matrices)

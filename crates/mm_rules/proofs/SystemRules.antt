@@ -16,10 +16,10 @@ use Rattle.mm_definitions.proofs.Parts.{same_some}
 use Rattle.mm_store.specs.Rows.{system_row}
 use Rattle.mm_store.specs.Stands.{StandsFor, profile_row}
 use Rattle.mm_rules.specs.SystemRows.{IsGivenRow, shows_by}
-use Rattle.mm_queries.proofs.Joined.{as_whole, covered_whole, joined}
-use Rattle.mm_queries.proofs.Keys.{number_is}
-use Rattle.mm_queries.proofs.Terms.{equals}
-use Rattle.mm_queries.proofs.Checks.{Says}
+use Rattle.mm_walk.proofs.Joined.{as_whole, covered_whole, joined}
+use Rattle.mm_walk.proofs.Keys.{number_is}
+use Rattle.mm_walk.proofs.Terms.{equals}
+use Rattle.mm_walk.proofs.Checks.{Says}
 
 number_inside : {x y : ℤ} → ◌≡◌ {A = Option ℤ} (Some x) (Some y) → x ≡ y
 number_inside e = cc

@@ -8,11 +8,11 @@ use Rattle.mm_definitions.specs.Rules.{TilesInside, IsInside}
 use Rattle.mm_store.specs.Rows.{grid_row, tile_row}
 use Rattle.mm_store.specs.Kept.{tile_id, tile_with}
 use Rattle.mm_rules.specs.TileRows.{IsInsideRow}
-use Rattle.mm_queries.proofs.Joined.{after_rowid, covered, joined}
-use Rattle.mm_queries.proofs.Named.{each_named}
-use Rattle.mm_queries.proofs.Keys.{level_is, same}
-use Rattle.mm_queries.proofs.Terms.{equals}
-use Rattle.mm_queries.proofs.Checks.{Says}
+use Rattle.mm_walk.proofs.Joined.{after_rowid, covered, joined}
+use Rattle.mm_walk.proofs.Named.{each_named}
+use Rattle.mm_walk.proofs.Keys.{level_is, same}
+use Rattle.mm_walk.proofs.Terms.{equals}
+use Rattle.mm_walk.proofs.Checks.{Says}
 
 pub tiles_inside : Says [] (inner 15 (left 6 (equals 2 1 1 1 ∷ equals 2 2 1 2 ∷ []) end)) [] (col 1 3 ∷ col 1 4 ∷ col 2 3 ∷ col 2 4 ∷ []) IsInsideRow (λ _. ⊤) (λ p. TilesInside p.matrices p.tiles)
 tiles_inside version db p stands known =

@@ -2,7 +2,7 @@
 use Rattle.std.specs.Prelude.{◌≡◌, ◌⊎◌, false, codes, Some, IfSome, IsTrue}
 use Rattle.sqlite.specs.Order.{Row, column}
 use Rattle.mm_definitions.specs.Rules.{IsPlane, IsOrdered}
-use Rattle.mm_queries.specs.Columns.{number_of, text_bytes, is_there, IsPyramidKind, same_words_by}
+use Rattle.mm_walk.specs.Columns.{number_of, text_bytes, is_there, IsPyramidKind, same_words_by}
 
 -- a system, the same if it stands, and a kind
 abbrev pub MayNameRow : Row → Type 0

@@ -1,7 +1,7 @@
 -- What the tests of rows of extensions ask.
 use Rattle.std.specs.Prelude.{◌≡◌, ◌⊎◌, false, codes, Some, IsTrue}
 use Rattle.sqlite.specs.Order.{Row, column}
-use Rattle.mm_queries.specs.Columns.{text_bytes, is_there}
+use Rattle.mm_walk.specs.Columns.{text_bytes, is_there}
 
 -- no row may be shown
 abbrev pub NoRow : Row → Type 0

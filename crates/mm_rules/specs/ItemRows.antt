@@ -1,7 +1,7 @@
 -- What the tests of rows of items, relations and mapping rows ask.
 use Rattle.std.specs.Prelude.{◌≡◌, ◌⊎◌, codes, Some, IsTrue}
 use Rattle.sqlite.specs.Order.{Row, column}
-use Rattle.mm_queries.specs.Columns.{text_bytes, is_there}
+use Rattle.mm_walk.specs.Columns.{text_bytes, is_there}
 
 -- the kind of the table of an attribute row
 abbrev pub IsAttributesRow : Row → Type 0

@@ -1,7 +1,7 @@
 -- What the tests of rows of matrices ask.
 use Rattle.std.specs.Prelude.{◌≡◌, ℤ, pos, ◌<ℤ◌, ◌+ℤ◌, ◌-ℤ◌, ◌*ℤ◌, codes, Option, Some}
 use Rattle.sqlite.specs.Order.{Row, column}
-use Rattle.mm_queries.specs.Columns.{number_of, text_bytes, IsPyramidKind}
+use Rattle.mm_walk.specs.Columns.{number_of, text_bytes, IsPyramidKind}
 
 -- an extent from low to high is covered by so many tiles of so many pixels of this size
 abbrev pub covered_by : Option ℤ → Option ℤ → Option ℤ → Option ℤ → Option ℤ → Type 0

@@ -1,11 +1,10 @@
 -- The parts of rules that are decided by a walk each.
-use Rattle.std.specs.Prelude.{◌≡◌, ◌⊎◌, pos, ◌-ℤ◌, ◌<ℤ◌, codes, Some, None, IfSome}
+use Rattle.std.specs.Prelude.{◌≡◌, ◌<ℤ◌, codes, Some, None, IfSome}
 use Rattle.std.specs.FinMap.{get}
 use Rattle.mm_definitions.specs.Parts.{Each, Has, Stands}
-use Rattle.mm_definitions.specs.Package.{Package, HasKind, open_state, published_state, general_extension, mapping_extension, zoom_extension}
-use Rattle.mm_definitions.specs.Rules.{MayName, Suits, IsOrdered, IsSpelled, IsWanted}
-use Rattle.mm_definitions.specs.Bounds.{Profile, IsFrom, MostPieces}
-use Rattle.mm_definitions.specs.Keys.{Text, piece}
+use Rattle.mm_definitions.specs.Package.{Package, HasKind, general_extension, mapping_extension, zoom_extension}
+use Rattle.mm_definitions.specs.Rules.{MayName, Suits, IsOrdered, IsWanted}
+use Rattle.mm_definitions.specs.Keys.{Text}
 use Rattle.mm_definitions.specs.declared.commands.Kind.{Kind}
 use Rattle.mm_definitions.specs.declared.commands.Kind.TheVariants.{Attributes, Media}
 
@@ -53,23 +52,6 @@ RowsInTables p = Each p.rows (λ k _. HasKind p.kinds k.table Attributes)
 -- each medium belongs to a table of kind `media`
 abbrev pub MediaInTables : Package → Type 0
 MediaInTables p = Each p.media (λ k _. HasKind p.kinds k.table Media)
-
--- ---- of rule 15
--- each edition is open or published
-abbrev pub EditionStates : Package → Type 0
-EditionStates p = Each p.editions (λ _ state. (state ≡ open_state) ⊎ (state ≡ published_state))
-
--- each piece belongs to an edition that is open
-abbrev pub PiecesOfOpen : Package → Type 0
-PiecesOfOpen p = Each p.pieces (λ k _. Has p.editions k.edition open_state)
-
--- each row spells a piece that the profile takes, within its limits
-abbrev pub PiecesSpelled : Profile → Package → Type 0
-PiecesSpelled profile p = Each p.pieces (λ _ r. IsSpelled profile r)
-
--- each is the first or follows another
-abbrev pub PiecesNumbered : Package → Type 0
-PiecesNumbered p = Each p.pieces (λ k _. IsFrom (pos 1) (pos MostPieces) k.number × ((k.number ≡ pos 1) ⊎ Stands p.pieces (piece k.edition (k.number -ℤ pos 1))))
 
 -- ---- of rule 14
 -- each extension row is one that every package, a mapping or a pyramid of kind `other` wants

@@ -4,7 +4,7 @@ use Rattle.sqlite.specs.Order.{Row, column}
 use Rattle.sqlite.specs.declared.types.Value.{Value}
 use Rattle.mm_definitions.specs.Package.{System}
 use Rattle.mm_definitions.specs.Rules.{geographic, undefined_cartesian, undefined_geographic}
-use Rattle.mm_queries.specs.Columns.{number_of, text_bytes}
+use Rattle.mm_walk.specs.Columns.{number_of, text_bytes}
 
 -- five columns show this system
 abbrev pub shows_by : System → Value → Value → Value → Value → Value → Type 0

@@ -1,4 +1,4 @@
--- The queries of the rules 1 to 15.
+-- The queries of the rules 1 to 14.
 use Rattle.std.specs.Prelude.{ℕ, List, codes}
 
 -- of each tile its column and row, with the sides of the matrix at its zoom level, if one stands
@@ -72,22 +72,6 @@ pairings_join = codes "SELECT r.mapping_table_name, a.id, b.id, c.id, d.id FROM 
 -- the columns beside the number of the systems ?1, ?2 and ?3, as they stand, in one row, since `mm_profile` has one
 abbrev pub ask_given_systems : List ℕ
 ask_given_systems = codes "SELECT a.srs_name, a.organization, a.organization_coordsys_id, a.definition, a.description, b.srs_name, b.organization, b.organization_coordsys_id, b.definition, b.description, c.srs_name, c.organization, c.organization_coordsys_id, c.definition, c.description FROM mm_profile AS v LEFT JOIN gpkg_spatial_ref_sys AS a ON a.srs_id = ?1 LEFT JOIN gpkg_spatial_ref_sys AS b ON b.srs_id = ?2 LEFT JOIN gpkg_spatial_ref_sys AS c ON c.srs_id = ?3"
-
--- the state of each edition
-abbrev pub edition_states : List ℕ
-edition_states = codes "SELECT e.state FROM mm_editions AS e ORDER BY e.name"
-
--- for each staged piece the state of its edition, if that stands
-abbrev pub pieces_of_open : List ℕ
-pieces_of_open = codes "SELECT e.state FROM mm_pieces AS p LEFT JOIN mm_editions AS e ON e.name = p.edition ORDER BY p.edition, p.piece_no"
-
--- the number of each staged piece, and the number before it where the edition has a piece of that
-abbrev pub pieces_numbered : List ℕ
-pieces_numbered = codes "SELECT p.piece_no, q.piece_no FROM mm_pieces AS p LEFT JOIN mm_pieces AS q ON q.edition = p.edition AND q.piece_no = p.piece_no - 1 ORDER BY p.edition, p.piece_no"
-
--- the columns of each staged piece beside its edition and its number, with the bytes of its blob, if it names one
-abbrev pub pieces_spelled : List ℕ
-pieces_spelled = codes "SELECT p.kind, p.name, p.k1, p.k2, p.k3, p.k4, p.k5, p.k6, p.k7, p.t1, p.t2, b.data FROM mm_pieces AS p LEFT JOIN mm_blobs AS b ON b.id = p.blob ORDER BY p.edition, p.piece_no"
 
 -- each extension row, with the mapping of its table's name, if one stands, and the kind of that table, if it has one
 abbrev pub extensions_wanted : List ℕ

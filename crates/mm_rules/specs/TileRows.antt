@@ -1,7 +1,7 @@
 -- What the tests of rows of tiles ask.
 use Rattle.std.specs.Prelude.{ℤ, pos, ◌≤ℤ◌, ◌<ℤ◌, Option, Some}
 use Rattle.sqlite.specs.Order.{Row, column}
-use Rattle.mm_queries.specs.Columns.{number_of}
+use Rattle.mm_walk.specs.Columns.{number_of}
 
 -- a column and row of tiles inside a matrix of this width and height
 abbrev pub inside_by : Option ℤ → Option ℤ → Option ℤ → Option ℤ → Type 0

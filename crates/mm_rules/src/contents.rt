@@ -3,13 +3,13 @@
 ghost use Rattle.std.specs.Prelude.{◌↔◌, IsTrue};
 ghost use Rattle.mm_definitions.specs.Rules.{NamedSystems, DistinctIdentifiers, Names, Registry, Extents, IsPlane, IsOrdered};
 ghost use Rattle.sqlite.specs.Order.{column};
-ghost use Rattle.mm_queries.specs.Columns.{number_of};
+ghost use Rattle.mm_walk.specs.Columns.{number_of};
 ghost use Rattle.mm_rules.specs.Parts.{ContentsSystems, SetSystems, MappingNames, Registered, KindsHaveContents, SetsHaveContents, SetExtents, ContentsExtents};
 ghost use Rattle.mm_rules.specs.ContentsRows.{MayNameRow, IsSameRow, IsThereRow, IsAbsentRow, IsOrderedRow, IsPlacedRow, IsUnplacedRow, IsRegisteredRow};
-ghost use Rattle.mm_queries.specs.Check.{Decides, DecidesWithin};
+ghost use Rattle.mm_walk.specs.Check.{Decides, DecidesWithin};
 
 use mm_definitions::answers::Fault;
-use mm_queries::columns::{is_pyramid, number, same_number, same_text, stands, text_is};
+use mm_walk::columns::{is_pyramid, number, same_number, same_text, stands, text_is};
 use mm_walk::row_tests::{RowTest, each_passes};
 use sqlite::{Alter, Connection, Row};
 

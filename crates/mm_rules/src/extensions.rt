@@ -4,10 +4,10 @@ ghost use Rattle.std.specs.Prelude.{◌↔◌, IsTrue};
 ghost use Rattle.mm_definitions.specs.Rules.{ExactExtensions};
 ghost use Rattle.mm_rules.specs.Parts.{ExtensionsWanted, NamedOnce, UnnamedOnce, ExtensionsOnce, GeneralExtension, MappingExtensions, ZoomExtensions};
 ghost use Rattle.mm_rules.specs.ExtensionRows.{NoRow, IsWantedRow, IsStandingRow, IsMarkedRow, IsRelated, IsZoomOther};
-ghost use Rattle.mm_queries.specs.Check.{Decides};
+ghost use Rattle.mm_walk.specs.Check.{Decides};
 
 use mm_definitions::answers::Fault;
-use mm_queries::columns::{stands, text_is};
+use mm_walk::columns::{stands, text_is};
 use mm_walk::row_tests::{RowTest, each_passes};
 use sqlite::{Alter, Connection, Row};
 

@@ -3,13 +3,13 @@
 ghost use Rattle.std.specs.Prelude.{◌≡◌, ◌⊎◌, ◌↔◌, codes, Some, IsTrue};
 ghost use Rattle.mm_definitions.specs.Rules.{Items, RelationsSuited, PairingsJoin};
 ghost use Rattle.sqlite.specs.Order.{column};
-ghost use Rattle.mm_queries.specs.Columns.{text_bytes};
+ghost use Rattle.mm_walk.specs.Columns.{text_bytes};
 ghost use Rattle.mm_rules.specs.Parts.{RowsInTables, MediaInTables};
 ghost use Rattle.mm_rules.specs.ItemRows.{IsAttributesRow, IsMediaRow, IsSuitedRow, IsJoinedRow};
-ghost use Rattle.mm_queries.specs.Check.{Decides};
+ghost use Rattle.mm_walk.specs.Check.{Decides};
 
 use mm_definitions::answers::Fault;
-use mm_queries::columns::{stands, text_is};
+use mm_walk::columns::{stands, text_is};
 use mm_walk::row_tests::{RowTest, each_passes};
 use sqlite::{Alter, Connection, Row};
 

@@ -3,13 +3,13 @@
 ghost use Rattle.std.specs.Prelude.{◌≡◌, ◌↔◌, pos, ◌-ℤ◌, ◌*ℤ◌, IsTrue, MatchOption, FitsSigned};
 ghost use Rattle.mm_definitions.specs.Rules.{MatricesFit, HigherIsFiner, NextIsHalved};
 ghost use Rattle.std.specs.Int.{w128};
-ghost use Rattle.mm_queries.specs.Columns.{number_of};
+ghost use Rattle.mm_walk.specs.Columns.{number_of};
 ghost use Rattle.mm_rules.specs.MatrixRows.{IsFittingRow, IsFinerRow, IsHalvedRow, covered_by, next_by, halved_by};
 ghost use Rattle.sqlite.specs.Order.{column};
-ghost use Rattle.mm_queries.specs.Check.{Decides};
+ghost use Rattle.mm_walk.specs.Check.{Decides};
 
 use mm_definitions::answers::Fault;
-use mm_queries::columns::{is_pyramid, number, text_is};
+use mm_walk::columns::{is_pyramid, number, text_is};
 use mm_walk::row_tests::{RowTest, each_passes};
 use sqlite::{Alter, Connection, Row};
 

@@ -4,10 +4,10 @@ ghost use Rattle.std.specs.Prelude.{◌↔◌, IsTrue};
 ghost use Rattle.sqlite.specs.Order.{column};
 ghost use Rattle.mm_definitions.specs.Rules.{GivenSystems, geographic, undefined_cartesian, undefined_geographic};
 ghost use Rattle.mm_rules.specs.SystemRows.{IsGivenRow, shows_by};
-ghost use Rattle.mm_queries.specs.Check.{Decides};
+ghost use Rattle.mm_walk.specs.Check.{Decides};
 
 use mm_definitions::answers::Fault;
-use mm_queries::columns::{number_is, text_is};
+use mm_walk::columns::{number_is, text_is};
 use mm_walk::row_tests::{RowTest, each_passes};
 use sqlite::{Alter, Connection, Row, params};
 

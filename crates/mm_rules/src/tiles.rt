@@ -2,10 +2,10 @@
 
 ghost use Rattle.mm_definitions.specs.Rules.{TilesInside};
 ghost use Rattle.mm_rules.specs.TileRows.{IsInsideRow};
-ghost use Rattle.mm_queries.specs.Check.{Decides};
+ghost use Rattle.mm_walk.specs.Check.{Decides};
 
 use mm_definitions::answers::Fault;
-use mm_queries::columns::number;
+use mm_walk::columns::number;
 use mm_walk::row_tests::{RowTest, each_passes};
 use sqlite::{Alter, Connection, Row};
 

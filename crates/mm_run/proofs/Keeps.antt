@@ -7,7 +7,7 @@ use Rattle.mm_definitions.specs.Rules.{Meets}
 use Rattle.mm_definitions.specs.Step.{step}
 use Rattle.mm_definitions.specs.Within.{IsWithin}
 use Rattle.mm_definitions.specs.declared.commands.Command.{Command}
-use Rattle.mm_records.proofs.RecordFacts.{command_within}
+use Rattle.mm_base.proofs.RecordFacts.{command_within}
 use Rattle.mm_laws.proofs.Steps.{step_keeps}
 use Rattle.mm_io.specs.Records.{Record}
 

@@ -1,6 +1,7 @@
 -- What a record is read as.
 use Rattle.std.specs.Prelude.{◌≡◌, ◌⊎◌, ℕ, List, [], ◌∷◌, None, Result, Ok, Err, ⊤}
 use Rattle.csv.specs.Records.{AllText}
+use Rattle.mm_definitions.specs.declared.refusals.TheConstants.{NO_SUCH_RECORD}
 use Rattle.mm_definitions.specs.Bounds.{current}
 use Rattle.mm_definitions.specs.Records.{Spells, HoldsAgainst, IsLeast}
 use Rattle.mm_definitions.specs.declared.commands.Command.{Command}
@@ -18,7 +19,7 @@ abbrev pub IsReadAs : Record → Reading → Type 0
 IsReadAs fields (Ok command) = AllText fields × Spells current fields command
 IsReadAs fields (Err number) =
     (AllText fields × IsLeast (HoldsAgainst current fields) number)
-    ⊎ (¬ (AllText fields) × (number ≡ 10))
+    ⊎ (¬ (AllText fields) × (number ≡ NO_SUCH_RECORD))
 
 -- each record in turn
 unfoldable pub AreReadAs : List Record → List Reading → Type 0

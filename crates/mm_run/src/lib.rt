@@ -4,9 +4,11 @@
 
 mod answering;
 mod apply;
+mod editor;
 mod reading;
 mod run;
 mod telling;
 
 pub use apply::Apply;
+pub use editor::Editor;
 pub use run::run_list;

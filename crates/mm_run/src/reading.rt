@@ -9,7 +9,7 @@ use mm_definitions::answers::ReadFault;
 use mm_definitions::commands::Command;
 use mm_definitions::refusals::Reason;
 use mm_io::text_fields;
-use mm_records::read_command;
+use mm_base::read_command;
 use std::alloc::Global;
 
 /// The command that a record spells. One with a field that isn't text is refused 10.

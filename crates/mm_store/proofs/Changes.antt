@@ -7,7 +7,7 @@ use Rattle.sqlite.specs.Term.{Term, lit, col}
 use Rattle.sql_forms.proofs.Casts.{is_of, are_of, cast_all_is}
 use Rattle.sql_forms.proofs.Keys.{columns_are}
 use Rattle.sql_forms.proofs.Updates.{updated}
-use Rattle.mm_schema.specs.Tables.{gpkg_contents, mm_tiles, mm_rows, mm_media, mm_editions}
+use Rattle.mm_store.specs.Tables.{gpkg_contents, mm_tiles, mm_rows, mm_media, mm_editions}
 use Rattle.mm_definitions.specs.Keys.{Text, TileKey, Item}
 use Rattle.mm_definitions.specs.Package.{Contents, AttributeRow}
 use Rattle.mm_definitions.specs.Effects.{changed_at}

@@ -13,3 +13,10 @@ pub mod Changes
 pub mod Lookups
 pub mod Removals
 pub mod Seen
+mod Defined
+pub mod Creating
+pub mod Selecting
+pub mod Inserting
+pub mod Updating
+pub mod Deleting
+pub mod Cascading

@@ -5,7 +5,7 @@ use Rattle.std.specs.FinMap.{FinMap}
 use Rattle.sqlite.specs.Order.{Row}
 use Rattle.sqlite.specs.Tree.{Trees, with_tree}
 use Rattle.sql_forms.specs.Maps.{Holds}
-use Rattle.mm_schema.specs.Tables.{gpkg_spatial_ref_sys, gpkg_contents, mm_tables, gpkg_tile_matrix_set, gpkg_tile_matrix, gpkg_extensions, mm_rows, gpkgext_relations, mm_map, mm_editions}
+use Rattle.mm_store.specs.Tables.{gpkg_spatial_ref_sys, gpkg_contents, mm_tables, gpkg_tile_matrix_set, gpkg_tile_matrix, gpkg_extensions, mm_rows, gpkgext_relations, mm_map, mm_editions}
 use Rattle.mm_definitions.specs.Keys.{Text, text_cmp, level_cmp, item_cmp, pairing_cmp, extension_cmp}
 use Rattle.mm_definitions.specs.Package.{Package, System, Contents, MatrixSet, Grid, AttributeRow, Relation}
 use Rattle.mm_store.specs.Rows.{whole, past_rowid, past_id, system_row, contents_row, kind_row, set_row, grid_row, attribute_row, relation_row, pairing_row, edition_row, Counts}

@@ -11,7 +11,7 @@ use Rattle.sqlite.specs.Tree.{Trees}
 use Rattle.sqlite_schema.specs.Rules.{equal}
 use Rattle.sql_forms.specs.Cascade.{has_at, cut}
 use Rattle.sql_forms.proofs.Keys.{equal_text, columns_are}
-use Rattle.mm_schema.specs.Places.{table_place, mapping_place, edition_place}
+use Rattle.mm_store.specs.Places.{table_place, mapping_place, edition_place}
 use Rattle.mm_definitions.specs.Keys.{Text, same_text}
 use Rattle.mm_definitions.specs.Effects.{is_other}
 use Rattle.mm_definitions.specs.Package.{Package, Relation}

@@ -6,7 +6,7 @@ use Rattle.sqlite.specs.declared.types.Value.TheVariants.{Int}
 use Rattle.sqlite.specs.Order.{Row}
 use Rattle.sqlite.specs.Tree.{Trees}
 use Rattle.sql_forms.specs.Tables.{tables_of}
-use Rattle.mm_schema.specs.Tables.{schema}
+use Rattle.mm_store.specs.Tables.{schema}
 use Rattle.mm_definitions.specs.Package.{Package}
 use Rattle.mm_definitions.proofs.KeyLaws.{extension_keys, tile_keys, items, piece_keys}
 use Rattle.mm_definitions.proofs.Parts.{IsKeyOrder, same_some}

@@ -6,7 +6,7 @@ use Rattle.sqlite.specs.State.{State, ExecutesInside, IsUnchanged}
 use Rattle.sqlite_catalog.specs.Listing.{IsSound}
 use Rattle.sql_forms.specs.Tables.{tables_of, AreTables, IsReady, Leaves, IsFirstShown}
 use Rattle.sql_forms.proofs.States.{shown_open}
-use Rattle.mm_schema.specs.Tables.{schema}
+use Rattle.mm_store.specs.Tables.{schema}
 use Rattle.mm_definitions.specs.Bounds.{Profile}
 use Rattle.mm_definitions.specs.Package.{Package}
 use Rattle.mm_store.specs.Stands.{Holding, ReadsAs, Ground, StandsInside}

@@ -3,7 +3,7 @@ use Rattle.std.specs.Prelude.{◌≡◌, ◌⊎◌, ℕ, ℤ, Bool, true, false,
 use Rattle.std.specs.FinMap.{FinMap, get}
 use Rattle.sqlite.specs.Tree.{Trees}
 use Rattle.sql_forms.specs.Maps.{Holds}
-use Rattle.mm_schema.specs.Tables.{mm_tiles, mm_media, mm_pieces, mm_blobs}
+use Rattle.mm_store.specs.Tables.{mm_tiles, mm_media, mm_pieces, mm_blobs}
 use Rattle.mm_definitions.specs.Keys.{tile_cmp, item_cmp, piece_cmp}
 use Rattle.mm_definitions.specs.Package.{Package, Medium, PieceRow}
 use Rattle.mm_store.specs.Rows.{whole, past_rowid, tile_row, MediumRow, medium_row, StagedRow, staged_row}

@@ -8,3 +8,8 @@ pub mod Seen
 pub mod Blobs
 pub mod Kept
 pub mod Handed
+pub mod Tables
+pub mod Creates
+pub mod Made
+pub mod Places
+pub mod Compiled

@@ -8,7 +8,7 @@ use Rattle.sqlite.specs.State.{State}
 use Rattle.sqlite_catalog.specs.Listing.{IsSound}
 use Rattle.sql_forms.specs.Tables.{tables_of, AreTables}
 use Rattle.sql_forms.specs.Maps.{Holds}
-use Rattle.mm_schema.specs.Tables.{schema, gpkg_spatial_ref_sys, gpkg_contents, gpkg_tile_matrix_set, gpkg_tile_matrix, gpkg_extensions, gpkgext_relations, mm_profile, mm_tables, mm_rows, mm_map, mm_editions}
+use Rattle.mm_store.specs.Tables.{schema, gpkg_spatial_ref_sys, gpkg_contents, gpkg_tile_matrix_set, gpkg_tile_matrix, gpkg_extensions, gpkgext_relations, mm_profile, mm_tables, mm_rows, mm_map, mm_editions}
 use Rattle.mm_definitions.specs.Package.{Package}
 use Rattle.mm_definitions.specs.Bounds.{Profile}
 use Rattle.mm_store.specs.Rows.{whole, past_rowid, past_id, system_row, contents_row, kind_row, set_row, grid_row, attribute_row, relation_row, pairing_row, edition_row, Counts}

@@ -5,7 +5,7 @@ use mm_core::Session;
 use mm_definitions::answers::{Fault, Open};
 use mm_definitions::names::Name;
 use mm_definitions::streams::Io;
-use mm_opening::create_in_memory;
+use mm_meta::create_in_memory;
 use mm_test_packages::{
     FINER, PYRAMID, RELATED, answers, new_session, session_after, session_at, text_of,
 };

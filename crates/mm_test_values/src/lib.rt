@@ -1,4 +1,4 @@
-//! Tests of `mm_definitions` and `mm_records`: of values and their limits, and of the readers of records.
+//! Tests of `mm_definitions` and `mm_base`: of values and their limits, and of the readers of records.
 //!
 //! - `values`: numbers, moments, extents and matrices.
 //! - `texts`: that each text is read.

@@ -4,3 +4,11 @@ pub mod Matches
 pub mod Testing
 pub mod Quiet
 pub mod Resting
+pub mod Terms
+pub mod Joined
+pub mod Checks
+pub mod Compose
+pub mod Keys
+pub mod Named
+pub mod Counted
+pub mod InTurn

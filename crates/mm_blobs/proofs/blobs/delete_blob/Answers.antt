@@ -6,7 +6,7 @@ use Rattle.sqlite.specs.Held.{state}
 use Rattle.sql_forms.specs.Tables.{without}
 use Rattle.sql_forms.proofs.Deletes.{has_deleted}
 use Rattle.mm_store.proofs.Keys.{by_number}
-use Rattle.mm_schema.proofs.Deleting as statement
+use Rattle.mm_store.proofs.Deleting as statement
 use Rattle.mm_store.specs.Kept.{IsNamed}
 use Rattle.mm_blobs.specs.Views.{spare_but}
 use Rattle.mm_blobs.proofs.Moving.{moves_run, seen}

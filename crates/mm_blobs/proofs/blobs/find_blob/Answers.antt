@@ -3,7 +3,7 @@ use Rattle.sqlite.specs.declared.types.Value.TheVariants.{Text as Words, Blob as
 use Rattle.sqlite.specs.Held.{state}
 use Rattle.sql_forms.proofs.Selects.{selects_one}
 use Rattle.mm_blobs.specs.Views.{IsFound}
-use Rattle.mm_schema.proofs.Selecting as statement
+use Rattle.mm_store.proofs.Selecting as statement
 use Rattle.mm_blobs.specs.Moves.{GivesNumber}
 use Rattle.mm_blobs.proofs.Moving.{looks, seen}
 use Rattle.mm_blobs.proofs.Keeping.{found_blob, kept_in}

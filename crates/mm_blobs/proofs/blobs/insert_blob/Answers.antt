@@ -8,7 +8,7 @@ use Rattle.sqlite.specs.Held.{state}
 use Rattle.sql_forms.proofs.Keys.{chosen_is_free}
 use Rattle.sql_forms.proofs.Inserts.{has_inserted}
 use Rattle.mm_store.specs.Blobs.{blob_of}
-use Rattle.mm_schema.proofs.Inserting as statement
+use Rattle.mm_store.proofs.Inserting as statement
 use Rattle.mm_blobs.specs.Views.{HoldsAs, Lacks, spare_too, IsSeen}
 use Rattle.mm_blobs.specs.Moves.{IsMove}
 use Rattle.mm_blobs.proofs.Moving.{moves, seen}

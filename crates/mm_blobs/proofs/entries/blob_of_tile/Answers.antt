@@ -6,7 +6,7 @@ use Rattle.sqlite.specs.Term.{col}
 use Rattle.sql_forms.proofs.Keys.{columns_are}
 use Rattle.sql_forms.proofs.Selects.{selects_one, shows}
 use Rattle.mm_definitions.specs.Places.{tile_at}
-use Rattle.mm_schema.proofs.Selecting as statement
+use Rattle.mm_store.proofs.Selecting as statement
 use Rattle.mm_store.specs.Blobs.{Told}
 use Rattle.mm_store.specs.Kept.{tile_id, tile_with}
 use Rattle.mm_store.specs.Rows.{tile_row}

@@ -1,7 +1,7 @@
 use Rattle.std.specs.Prelude.{⊤}
 use Rattle.sqlite.specs.Held.{state}
 use Rattle.mm_definitions.specs.Units.{profile_of}
-use Rattle.mm_queries.specs.InTurn.{HasPassed}
+use Rattle.mm_walk.specs.InTurn.{HasPassed}
 use Rattle.mm_check.specs.Verdict.{Before}
 use Rattle.mm_check.proofs.verdict.verify.Given as goal
 

@@ -6,7 +6,7 @@ use Rattle.sqlite.specs.Held.{state}
 use Rattle.sql_forms.specs.Tables.{without}
 use Rattle.sql_forms.proofs.Deletes.{has_deleted}
 use Rattle.mm_definitions.specs.Keys.{item}
-use Rattle.mm_schema.proofs.Deleting as statement
+use Rattle.mm_store.proofs.Deleting as statement
 use Rattle.mm_store.specs.Rows.{MediumRow}
 use Rattle.mm_store.proofs.Parts.{removes}
 use Rattle.mm_store.proofs.Keys as parts

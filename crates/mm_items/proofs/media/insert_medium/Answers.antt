@@ -8,7 +8,7 @@ use Rattle.sql_forms.proofs.Keys.{chosen_is_free}
 use Rattle.sql_forms.proofs.Inserts.{has_inserted}
 use Rattle.mm_definitions.specs.Keys.{item}
 use Rattle.mm_definitions.proofs.Parts.{not_none}
-use Rattle.mm_schema.proofs.Inserting as statement
+use Rattle.mm_store.proofs.Inserting as statement
 use Rattle.mm_store.specs.Blobs.{bytes_at}
 use Rattle.mm_store.specs.Kept.{medium_with}
 use Rattle.mm_store.specs.Rows.{medium_row}

@@ -8,7 +8,7 @@ use Rattle.sql_forms.proofs.Keys.{chosen_is_free}
 use Rattle.sql_forms.proofs.Inserts.{has_inserted}
 use Rattle.mm_definitions.specs.Keys.{item}
 use Rattle.mm_definitions.specs.Package.{AttributeRow}
-use Rattle.mm_schema.proofs.Inserting as statement
+use Rattle.mm_store.proofs.Inserting as statement
 use Rattle.mm_store.specs.Rows.{attribute_row}
 use Rattle.mm_store.proofs.Parts.{puts}
 use Rattle.mm_store.proofs.Keys as parts

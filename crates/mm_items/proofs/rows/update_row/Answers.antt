@@ -4,11 +4,11 @@ use Rattle.sqlite.specs.Tree.{with_tree}
 use Rattle.sqlite.specs.Held.{state}
 use Rattle.sql_forms.specs.Tables.{with_changed}
 use Rattle.sql_forms.proofs.Updates.{has_changed, updated}
-use Rattle.mm_schema.specs.Tables.{mm_rows}
+use Rattle.mm_store.specs.Tables.{mm_rows}
 use Rattle.mm_definitions.specs.Keys.{item}
 use Rattle.mm_definitions.specs.Package.{AttributeRow}
 use Rattle.mm_definitions.proofs.Parts.{some_of}
-use Rattle.mm_schema.proofs.Updating as statement
+use Rattle.mm_store.proofs.Updating as statement
 use Rattle.mm_store.specs.Rows.{attribute_row}
 use Rattle.mm_store.proofs.Changes.{row_sets, row_changed}
 use Rattle.mm_store.proofs.Parts as part

@@ -7,7 +7,7 @@ use Rattle.sqlite.specs.Held.{state}
 use Rattle.sql_forms.proofs.Keys.{chosen_is_free}
 use Rattle.sql_forms.proofs.Inserts.{has_inserted}
 use Rattle.mm_definitions.proofs.Parts.{not_none}
-use Rattle.mm_schema.proofs.Inserting as statement
+use Rattle.mm_store.proofs.Inserting as statement
 use Rattle.mm_store.specs.Blobs.{bytes_at}
 use Rattle.mm_store.specs.Rows.{tile_row}
 use Rattle.mm_store.proofs.Parts.{puts}

@@ -5,7 +5,7 @@ use Rattle.sqlite.specs.Held.{state}
 use Rattle.sql_forms.proofs.Keys.{columns_are}
 use Rattle.sql_forms.proofs.Selects.{selects_one}
 use Rattle.mm_definitions.specs.Keys.{level}
-use Rattle.mm_schema.proofs.Selecting as statement
+use Rattle.mm_store.proofs.Selecting as statement
 use Rattle.mm_store.specs.Rows.{grid_row}
 use Rattle.mm_store.proofs.Keys as parts
 use Rattle.mm_store.proofs.Lookups.{pair_found}

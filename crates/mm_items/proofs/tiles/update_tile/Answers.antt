@@ -4,9 +4,9 @@ use Rattle.sqlite.specs.Tree.{with_tree}
 use Rattle.sqlite.specs.Held.{state}
 use Rattle.sql_forms.specs.Tables.{with_changed}
 use Rattle.sql_forms.proofs.Updates.{has_changed, updated}
-use Rattle.mm_schema.specs.Tables.{mm_tiles}
+use Rattle.mm_store.specs.Tables.{mm_tiles}
 use Rattle.mm_definitions.proofs.Parts.{same_some}
-use Rattle.mm_schema.proofs.Updating as statement
+use Rattle.mm_store.proofs.Updating as statement
 use Rattle.mm_store.specs.Blobs.{bytes_at}
 use Rattle.mm_store.specs.Rows.{tile_row}
 use Rattle.mm_store.proofs.Changes.{tile_sets, tile_changed}

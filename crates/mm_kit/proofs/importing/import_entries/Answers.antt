@@ -1,7 +1,7 @@
 use Rattle.std.proofs.Common.{inl, ◌≡◌, ◌≤◌, ◌<◌, ◌∙◌, length, Some, None, arith, refl, rules, sym}
 use Rattle.std.proofs.lemmas.Result.{IfOk-weaker, IfErr-weaker}
 use Rattle.mm_definitions.specs.declared.entries.EditionState.TheVariants as states
-use Rattle.mm_edition.specs.States.{TellsState}
+use Rattle.mm_definitions.specs.Standing.{TellsState}
 use Rattle.mm_kit.proofs.EditionFacts.{open_has}
 use Rattle.mm_kit.proofs.FolderFacts.{as_before, asked-ended, asked-tells, asked_fault, desk_fault, fails-tells, never_so, staged-tells, still_told, works}
 use Rattle.mm_kit.proofs.KitFacts.{counted_as_it_was, imported_longer, imported_none, imported_open, imported_published, staged_at_once}

@@ -4,7 +4,7 @@ use Rattle.mm_store.proofs.Entries.{identified_is}
 use Rattle.sqlite.specs.declared.types.Value.TheVariants.{Text as Words}
 use Rattle.sqlite.specs.Held.{state}
 use Rattle.sql_forms.proofs.Selects.{selects_any}
-use Rattle.mm_schema.proofs.Selecting as statement
+use Rattle.mm_store.proofs.Selecting as statement
 use Rattle.mm_store.proofs.Steps.{looks, seen}
 use Rattle.mm_layout.proofs.contents.has_identifier.Goals as goal
 

@@ -5,7 +5,7 @@ use Rattle.sqlite.specs.Tree.{with_tree}
 use Rattle.sqlite.specs.Held.{state}
 use Rattle.sql_forms.proofs.Updates.{has_changed}
 use Rattle.mm_definitions.specs.Effects.{touch}
-use Rattle.mm_schema.proofs.Updating as statement
+use Rattle.mm_store.proofs.Updating as statement
 use Rattle.mm_store.proofs.Steps.{changes, seen}
 use Rattle.mm_layout.proofs.Touching.{touched_rows, touches}
 use Rattle.mm_layout.proofs.contents.set_last_change.Goals as goal

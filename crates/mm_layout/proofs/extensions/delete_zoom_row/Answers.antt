@@ -7,7 +7,7 @@ use Rattle.sqlite.specs.Held.{state}
 use Rattle.sql_forms.specs.Tables.{passes, without}
 use Rattle.sql_forms.proofs.Deletes.{has_deleted}
 use Rattle.mm_definitions.specs.Package.{zoom_extension}
-use Rattle.mm_schema.proofs.Deleting as statement
+use Rattle.mm_store.proofs.Deleting as statement
 use Rattle.mm_store.proofs.Extensions.{zoom_terms, zoom_test, uncounts}
 use Rattle.mm_store.proofs.Puts.{put_extensions}
 use Rattle.mm_store.proofs.Steps.{changes, seen}

@@ -7,7 +7,7 @@ use Rattle.sqlite.specs.Held.{state}
 use Rattle.sql_forms.proofs.Keys.{chosen_is_free}
 use Rattle.sql_forms.proofs.Inserts.{has_inserted}
 use Rattle.mm_definitions.specs.Package.{zoom_extension}
-use Rattle.mm_schema.proofs.Inserting as statement
+use Rattle.mm_store.proofs.Inserting as statement
 use Rattle.mm_store.specs.Rows.{extension_row}
 use Rattle.mm_store.proofs.Extensions.{counts_more}
 use Rattle.mm_store.proofs.Puts.{put_extensions}

@@ -4,7 +4,7 @@ use Rattle.sqlite.specs.declared.types.Value.TheVariants.{Int, Text as Words}
 use Rattle.sqlite.specs.Held.{state}
 use Rattle.sql_forms.proofs.Selects.{selects_any}
 use Rattle.mm_definitions.specs.Keys.{item}
-use Rattle.mm_schema.proofs.Selecting as statement
+use Rattle.mm_store.proofs.Selecting as statement
 use Rattle.mm_store.proofs.Parts.{found}
 use Rattle.mm_store.proofs.Keys as parts
 use Rattle.mm_store.proofs.Steps.{looks, seen}

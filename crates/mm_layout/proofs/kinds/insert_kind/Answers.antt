@@ -6,7 +6,7 @@ use Rattle.sqlite.specs.Edit.{next_rowid}
 use Rattle.sqlite.specs.Held.{state}
 use Rattle.sql_forms.proofs.Keys.{chosen_is_free}
 use Rattle.sql_forms.proofs.Inserts.{has_inserted}
-use Rattle.mm_schema.proofs.Inserting as statement
+use Rattle.mm_store.proofs.Inserting as statement
 use Rattle.mm_store.specs.Rows.{kind_row}
 use Rattle.mm_store.proofs.Parts.{puts}
 use Rattle.mm_store.proofs.Keys as parts

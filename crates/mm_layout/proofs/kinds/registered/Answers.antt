@@ -6,7 +6,7 @@ use Rattle.sqlite.specs.Term.{col}
 use Rattle.sql_forms.proofs.Keys.{columns_are}
 use Rattle.sql_forms.proofs.Selects.{selects_one, shows}
 use Rattle.mm_layout.proofs.Looking.{mapped_same}
-use Rattle.mm_schema.proofs.Selecting as statement
+use Rattle.mm_store.proofs.Selecting as statement
 use Rattle.mm_store.specs.Rows.{kind_row}
 use Rattle.mm_store.proofs.Lookups.{text_found}
 use Rattle.mm_store.proofs.Keys as parts

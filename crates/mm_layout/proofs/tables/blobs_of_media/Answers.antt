@@ -7,7 +7,7 @@ use Rattle.sql_forms.specs.Tables.{passes}
 use Rattle.sql_forms.proofs.Keys.{columns_are}
 use Rattle.sql_forms.proofs.Selects.{selects_all, shows}
 use Rattle.mm_definitions.specs.Effects.{is_other}
-use Rattle.mm_schema.proofs.Selecting as statement
+use Rattle.mm_store.proofs.Selecting as statement
 use Rattle.mm_store.specs.Kept.{medium_id}
 use Rattle.mm_store.specs.Removals.{Freed}
 use Rattle.mm_store.specs.Rows.{maybe, medium_row}

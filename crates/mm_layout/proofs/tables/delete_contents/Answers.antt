@@ -3,8 +3,8 @@ use Rattle.sqlite.specs.declared.types.Value.TheVariants.{Text as Words}
 use Rattle.sqlite.specs.Held.{state}
 use Rattle.sql_forms.specs.Cascade.{cut}
 use Rattle.sql_forms.proofs.Cascades.{cascaded}
-use Rattle.mm_schema.specs.Places.{table_place}
-use Rattle.mm_schema.proofs.Cascading as statement
+use Rattle.mm_store.specs.Places.{table_place}
+use Rattle.mm_store.proofs.Cascading as statement
 use Rattle.mm_store.specs.Kept.{no_spare}
 use Rattle.mm_store.specs.Removals.{without_table_rows, kept_without_table, FreedByTable}
 use Rattle.mm_blobs.specs.Views.{View, IsSeen}

@@ -4,7 +4,7 @@ use Rattle.sqlite.specs.Held.{state}
 use Rattle.mm_limits.specs.LimitRows.{ExtensionsAreWithin}
 use Rattle.mm_limits.specs.Texts as text
 use Rattle.mm_limits.specs.LimitRows.{IsExtensionWithinRow}
-use Rattle.mm_queries.proofs.Checks.{checks}
+use Rattle.mm_walk.proofs.Checks.{checks}
 use Rattle.mm_limits.proofs.LimitQueries as query
 use Rattle.mm_limits.proofs.LimitRules as rule
 use Rattle.mm_limits.proofs.parts.extensions_within.Goals as goal

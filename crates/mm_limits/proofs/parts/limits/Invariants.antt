@@ -1,7 +1,7 @@
 use Rattle.std.specs.Prelude.{◌<◌}
 use Rattle.sqlite.specs.Held.{state}
 use Rattle.mm_definitions.specs.Units.{profile_of}
-use Rattle.mm_queries.specs.InTurn.{HoldsBelow, HasPassed}
+use Rattle.mm_walk.specs.InTurn.{HoldsBelow, HasPassed}
 use Rattle.mm_limits.specs.LimitRows.{part}
 use Rattle.mm_limits.proofs.parts.limits.Given as goal
 

@@ -5,7 +5,7 @@ use Rattle.mm_definitions.specs.Units.{profile_of}
 use Rattle.mm_limits.specs.LimitRows.{SetsAreWithin}
 use Rattle.mm_limits.specs.Texts as text
 use Rattle.mm_limits.specs.LimitRows.{IsSetWithinRow}
-use Rattle.mm_queries.proofs.Checks.{checks}
+use Rattle.mm_walk.proofs.Checks.{checks}
 use Rattle.mm_limits.proofs.LimitQueries as query
 use Rattle.mm_limits.proofs.LimitRules as rule
 use Rattle.mm_limits.proofs.parts.sets_within.Goals as goal

@@ -5,7 +5,7 @@ use Rattle.serde_json.specs.View.{items_of, view}
 use Rattle.serde_json.specs.declared.value.Value.{the_lemmas}
 use Rattle.serde_json.specs.declared.value.Value.TheVariants as Value
 use Rattle.mm_page.specs.Lists.{table_data}
-use Rattle.mm_reads.specs.Listing.{table_told}
+use Rattle.mm_reads.specs.Contents.{table_told}
 use Rattle.mm_page.proofs.ListFacts.{all_clean, table_clean, text_told}
 use Rattle.mm_page.proofs.lists.tables_json.Goals as goal
 

@@ -1,6 +1,6 @@
 use Rattle.std.proofs.Common.{◌≡◌, ◌∙◌, ap, codes, map, rules, string_bytes}
-use Rattle.mm_reads.specs.Listing as listing
-use Rattle.mm_routes.specs.Responses.{Found, response_of}
+use Rattle.mm_reads.specs.Contents as listing
+use Rattle.mm_page.specs.Responses.{Found, response_of}
 use Rattle.mm_page.specs.Lists.{tables_text}
 use Rattle.mm_reads.specs.Shown.{shown_tables}
 use Rattle.mm_page.proofs.ServeFacts.{gives, never_so, told, wants_memory, works}

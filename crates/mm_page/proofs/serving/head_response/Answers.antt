@@ -1,7 +1,7 @@
 use Rattle.std.proofs.Common.{◌≡◌, ◌∙◌, ap, inr, codes, sym, subst}
 use Rattle.std.proofs.lemmas.Result.{IfErr-weaker}
 use Rattle.std.proofs.lemmas.Slice.Eq.{bytes_eq-Decides}
-use Rattle.mm_routes.specs.Asked.{IsRouted}
+use Rattle.mm_page.specs.Asked.{IsRouted}
 use Rattle.mm_page.specs.Page.{Writes, WritesTo, path_of}
 use Rattle.mm_page.proofs.ServeFacts.{weaker}
 use Rattle.mm_page.proofs.serving.head_response.Goals as goal

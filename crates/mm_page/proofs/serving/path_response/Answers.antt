@@ -1,7 +1,7 @@
 use Rattle.std.proofs.Common.{◌≡◌, inl, inr}
-use Rattle.mm_routes.specs.Asked.{IsRouted}
-use Rattle.mm_routes.specs.Responses.{response_of}
-use Rattle.mm_routes.specs.Routes.{asked}
+use Rattle.mm_page.specs.Asked.{IsRouted}
+use Rattle.mm_page.specs.Responses.{response_of}
+use Rattle.mm_page.specs.Routes.{asked}
 use Rattle.mm_page.specs.Page.{WritesTo, reply_of}
 use Rattle.std.proofs.lemmas.Result.{IfErr-weaker}
 use Rattle.mm_page.proofs.ServeFacts.{given, weaker}

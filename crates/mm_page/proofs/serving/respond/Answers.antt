@@ -2,7 +2,7 @@ use Rattle.std.proofs.Common.{◌∙◌, inl, inr, subst, sym}
 use Rattle.std.proofs.lemmas.Result.{IfErr-weaker}
 use Rattle.mm_definitions.specs.Package.{Package}
 use Rattle.mm_definitions.specs.Streams.{inside}
-use Rattle.mm_routes.specs.Asked.{IsRouted}
+use Rattle.mm_page.specs.Asked.{IsRouted}
 use Rattle.mm_page.specs.Page.{Writes, path_of}
 use Rattle.mm_page.specs.Served.{Served}
 use Rattle.mm_reads.specs.Viewers.{IsOn}

@@ -1,7 +1,7 @@
 use Rattle.std.proofs.Common.{ℕ, Err, inl, inr, refl, subst, sym}
 use Rattle.std.specs.Prelude.{unwrap_or}
 use Rattle.mm_definitions.specs.Streams.{written}
-use Rattle.mm_subcommands.specs.declared.stop.Stop.TheVariants as stops
+use Rattle.mm_work.specs.declared.stop.Stop.TheVariants as stops
 use Rattle.mm_program.specs.Told.{IsOutcome}
 use Rattle.mm_program.proofs.Told.{any_given, at_given, run_untold}
 use Rattle.mm_program.proofs.subcommands.run_told.Goals as goal

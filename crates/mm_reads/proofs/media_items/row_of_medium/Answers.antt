@@ -5,7 +5,7 @@ use Rattle.sqlite.specs.Order.{Row}
 use Rattle.sqlite.specs.Held.{state}
 use Rattle.sql_forms.proofs.Selects.{selects_one}
 use Rattle.mm_definitions.specs.Keys.{item}
-use Rattle.mm_schema.proofs.Selecting as statement
+use Rattle.mm_store.proofs.Selecting as statement
 use Rattle.mm_store.specs.Blobs.{Told}
 use Rattle.mm_store.specs.Kept.{medium_id, medium_with}
 use Rattle.mm_blobs.proofs.Keeping.{kept_in}

@@ -5,7 +5,7 @@ use Rattle.sqlite.specs.Held.{state}
 use Rattle.sqlite.specs.Term.{col}
 use Rattle.sql_forms.proofs.Selects.{selects_one, shows}
 use Rattle.mm_definitions.specs.Keys.{item}
-use Rattle.mm_schema.proofs.Selecting as statement
+use Rattle.mm_store.proofs.Selecting as statement
 use Rattle.mm_store.proofs.Keys as parts
 use Rattle.mm_store.proofs.Steps.{looks, seen}
 use Rattle.mm_reads.specs.Told.{ShowsRow, shown_row}

@@ -4,8 +4,8 @@ use Rattle.sqlite.specs.declared.types.Value.TheVariants.{Text as Words}
 use Rattle.sqlite.specs.Held.{state}
 use Rattle.sql_forms.specs.Cascade.{cut}
 use Rattle.sql_forms.proofs.Cascades.{cascaded}
-use Rattle.mm_schema.specs.Places.{mapping_place}
-use Rattle.mm_schema.proofs.Cascading as statement
+use Rattle.mm_store.specs.Places.{mapping_place}
+use Rattle.mm_store.proofs.Cascading as statement
 use Rattle.mm_store.specs.Removals.{without_relation_rows}
 use Rattle.mm_store.specs.Kept.{no_spare}
 use Rattle.mm_store.proofs.Removals.{drops_relation}

@@ -4,7 +4,7 @@ use Rattle.sqlite.specs.Held.{state}
 use Rattle.mm_rules.specs.Parts.{ContentsExtents}
 use Rattle.mm_rules.specs.Texts as text
 use Rattle.mm_rules.specs.ContentsRows.{IsOrderedRow}
-use Rattle.mm_queries.proofs.Checks.{checks}
+use Rattle.mm_walk.proofs.Checks.{checks}
 use Rattle.mm_rules.proofs.ContentsQueries as query
 use Rattle.mm_rules.proofs.ContentsRules as rule
 use Rattle.mm_rules.proofs.contents.contents_extents.Goals as goal

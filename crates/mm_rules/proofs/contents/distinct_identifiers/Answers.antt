@@ -4,7 +4,7 @@ use Rattle.sqlite.specs.Held.{state}
 use Rattle.mm_definitions.specs.Rules.{DistinctIdentifiers}
 use Rattle.mm_rules.specs.Texts as text
 use Rattle.mm_rules.specs.ContentsRows.{IsSameRow}
-use Rattle.mm_queries.proofs.Checks.{checks}
+use Rattle.mm_walk.proofs.Checks.{checks}
 use Rattle.mm_rules.proofs.ContentsQueries as query
 use Rattle.mm_rules.proofs.ContentsRules as rule
 use Rattle.mm_rules.proofs.contents.distinct_identifiers.Goals as goal

@@ -2,7 +2,7 @@ use Rattle.std.specs.Prelude.{⊤}
 use Rattle.sqlite.specs.Held.{state}
 use Rattle.mm_definitions.specs.Rules.{Limits, Names}
 use Rattle.mm_rules.specs.Parts.{MappingNames}
-use Rattle.mm_queries.proofs.Compose.{same_rule}
+use Rattle.mm_walk.proofs.Compose.{same_rule}
 use Rattle.mm_rules.proofs.contents.names.Goals as goal
 
 pub returns : goal.returns

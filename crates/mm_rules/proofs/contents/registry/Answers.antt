@@ -3,7 +3,7 @@ use Rattle.std.proofs.lemmas.Result.{err_from_is_err_and}
 use Rattle.sqlite.specs.Held.{state}
 use Rattle.mm_rules.specs.Parts.{Registered, KindsHaveContents, SetsHaveContents}
 use Rattle.mm_definitions.specs.Rules.{Registry}
-use Rattle.mm_queries.proofs.Compose.{goes_on, stops, gives_up}
+use Rattle.mm_walk.proofs.Compose.{goes_on, stops, gives_up}
 use Rattle.mm_rules.proofs.contents.registry.Goals as goal
 
 pub returns-then-branch : goal.returns-then-branch

@@ -4,7 +4,7 @@ use Rattle.sqlite.specs.Held.{state}
 use Rattle.mm_rules.specs.Parts.{ExtensionsWanted, ExtensionsOnce, GeneralExtension, MappingExtensions, ZoomExtensions}
 use Rattle.mm_definitions.specs.Rules.{ExactExtensions}
 use Rattle.mm_rules.proofs.ExtensionRules.{all_extensions}
-use Rattle.mm_queries.proofs.Compose.{goes_on, stops, gives_up}
+use Rattle.mm_walk.proofs.Compose.{goes_on, stops, gives_up}
 use Rattle.mm_rules.proofs.extensions.extensions.Goals as goal
 
 pub returns-then-branch : goal.returns-then-branch

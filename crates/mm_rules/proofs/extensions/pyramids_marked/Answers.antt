@@ -2,7 +2,7 @@ use Rattle.std.specs.Prelude.{⊤}
 use Rattle.std.proofs.lemmas.Result.{err_from_is_err_and}
 use Rattle.sqlite.specs.Held.{state}
 use Rattle.mm_rules.specs.Parts.{MappingExtensions, ZoomExtensions}
-use Rattle.mm_queries.proofs.Compose.{goes_on, stops, gives_up}
+use Rattle.mm_walk.proofs.Compose.{goes_on, stops, gives_up}
 use Rattle.mm_rules.proofs.extensions.pyramids_marked.Goals as goal
 
 pub returns-then-branch : goal.returns-then-branch

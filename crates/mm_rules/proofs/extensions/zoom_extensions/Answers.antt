@@ -4,7 +4,7 @@ use Rattle.sqlite.specs.Held.{state}
 use Rattle.mm_rules.specs.Parts.{ZoomExtensions}
 use Rattle.mm_rules.specs.Texts as text
 use Rattle.mm_rules.specs.ExtensionRows.{IsMarkedRow}
-use Rattle.mm_queries.proofs.Checks.{checks}
+use Rattle.mm_walk.proofs.Checks.{checks}
 use Rattle.mm_rules.proofs.ExtensionQueries as query
 use Rattle.mm_rules.proofs.ExtensionRules as rule
 use Rattle.mm_rules.proofs.extensions.zoom_extensions.Goals as goal

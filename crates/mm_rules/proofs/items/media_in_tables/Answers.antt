@@ -4,7 +4,7 @@ use Rattle.sqlite.specs.Held.{state}
 use Rattle.mm_rules.specs.Parts.{MediaInTables}
 use Rattle.mm_rules.specs.Texts as text
 use Rattle.mm_rules.specs.ItemRows.{IsMediaRow}
-use Rattle.mm_queries.proofs.Checks.{checks}
+use Rattle.mm_walk.proofs.Checks.{checks}
 use Rattle.mm_rules.proofs.ItemQueries as query
 use Rattle.mm_rules.proofs.ItemRules as rule
 use Rattle.mm_rules.proofs.items.media_in_tables.Goals as goal

@@ -4,7 +4,7 @@ use Rattle.sqlite.specs.Held.{state}
 use Rattle.mm_definitions.specs.Rules.{PairingsJoin}
 use Rattle.mm_rules.specs.Texts as text
 use Rattle.mm_rules.specs.ItemRows.{IsJoinedRow}
-use Rattle.mm_queries.proofs.Checks.{checks}
+use Rattle.mm_walk.proofs.Checks.{checks}
 use Rattle.mm_rules.proofs.ItemQueries as query
 use Rattle.mm_rules.proofs.ItemRules as rule
 use Rattle.mm_rules.proofs.items.pairings_join.Goals as goal

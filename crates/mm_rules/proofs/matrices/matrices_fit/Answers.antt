@@ -4,7 +4,7 @@ use Rattle.sqlite.specs.Held.{state}
 use Rattle.mm_definitions.specs.Rules.{MatricesFit}
 use Rattle.mm_rules.specs.Texts as text
 use Rattle.mm_rules.specs.MatrixRows.{IsFittingRow}
-use Rattle.mm_queries.proofs.Checks.{checks}
+use Rattle.mm_walk.proofs.Checks.{checks}
 use Rattle.mm_rules.proofs.MatrixQueries as query
 use Rattle.mm_rules.proofs.MatrixRules as rule
 use Rattle.mm_rules.proofs.matrices.matrices_fit.Goals as goal

@@ -6,7 +6,7 @@ use Rattle.std.proofs.Common.{pos, negsuc}
 use Rattle.sqlite.specs.declared.types.Value.TheVariants.{Int}
 use Rattle.mm_rules.specs.Texts as text
 use Rattle.mm_rules.specs.SystemRows.{IsGivenRow}
-use Rattle.mm_queries.proofs.Checks.{checks}
+use Rattle.mm_walk.proofs.Checks.{checks}
 use Rattle.mm_rules.proofs.SystemQueries as query
 use Rattle.mm_rules.proofs.SystemRules as rule
 use Rattle.mm_rules.proofs.systems.given_systems.Goals as goal

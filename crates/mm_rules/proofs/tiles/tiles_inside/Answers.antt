@@ -4,7 +4,7 @@ use Rattle.sqlite.specs.Held.{state}
 use Rattle.mm_definitions.specs.Rules.{TilesInside}
 use Rattle.mm_rules.specs.Texts as text
 use Rattle.mm_rules.specs.TileRows.{IsInsideRow}
-use Rattle.mm_queries.proofs.Checks.{checks}
+use Rattle.mm_walk.proofs.Checks.{checks}
 use Rattle.mm_rules.proofs.MatrixQueries as query
 use Rattle.mm_rules.proofs.TileRules as rule
 use Rattle.mm_rules.proofs.tiles.tiles_inside.Goals as goal

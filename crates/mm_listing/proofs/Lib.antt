@@ -1,6 +1,0 @@
-pub mod Counting
-pub mod Fronts
-pub mod Written
-pub mod TableLines
-pub mod EditionLines
-pub mod Walks

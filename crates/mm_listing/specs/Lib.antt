@@ -1,4 +1,0 @@
-pub mod Lines
-pub mod Listing
-pub mod Shown
-pub mod Writing

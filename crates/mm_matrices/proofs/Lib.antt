@@ -1,3 +1,0 @@
-pub mod Nearest
-pub mod Covering
-pub mod Refusing

@@ -1,0 +1,70 @@
+-- Whether a matrix covers the extent of its pyramid, as a test.
+use Rattle.std.proofs.Common.{◌≡◌, ◌↔◌, ℤ, Bool, true, false, ◌&&◌, List, [], ◌∷◌, subst, Option, Some, None, option_map, refl, sym, ap, ◌∙◌}
+use Rattle.std.specs.Prelude.{◌-ℤ◌, ◌*ℤ◌, IsTrue}
+use Rattle.std.specs.FinMap.{FinMap, get}
+use Rattle.std.proofs.lemmas.Bool.{false_from_ne_true}
+use Rattle.sqlite.specs.declared.types.Value.TheVariants.{Int, Text as Words}
+use Rattle.sqlite.specs.Order.{Row, column}
+use Rattle.sqlite.specs.Term.{Term, col}
+use Rattle.sql_forms.specs.Tables.{Finds}
+use Rattle.sql_forms.specs.Maps.{Holds}
+use Rattle.sql_forms.proofs.Keys.{columns_are}
+use Rattle.sql_forms.proofs.Selects.{shows}
+use Rattle.mm_definitions.specs.Keys.{Text, text_cmp, same_number}
+use Rattle.mm_definitions.specs.Checks.{box_of}
+use Rattle.mm_definitions.specs.Conditions.{is_product}
+use Rattle.mm_definitions.specs.Package.{Box, Grid, MatrixSet}
+use Rattle.mm_definitions.specs.Rules.{Fits}
+use Rattle.mm_definitions.specs.declared.extents.Extent.{Extent}
+use Rattle.mm_definitions.proofs.Parts.{same_itself, same_some}
+use Rattle.mm_definitions.proofs.KeyLaws.{numbers}
+use Rattle.mm_laws.proofs.KindFacts.{are_same, both_true}
+use Rattle.mm_store.specs.Rows.{past_rowid, set_row}
+use Rattle.mm_store.proofs.Keys as parts
+use Rattle.mm_store.proofs.Keys.{by_text}
+use Rattle.mm_store.proofs.Parts.{finds_none, finds_some}
+use Rattle.mm_meta.specs.Shown.{GivesExtent}
+
+both_hold : (a b : Bool) → a ≡ true → b ≡ true → (a && b) ≡ true
+both_hold true b e f = f
+both_hold false b e f = e
+
+same_is : (a b : ℤ) → a ≡ b → same_number a b ≡ true
+same_is a b e = ap (same_number a) (sym e) ∙ same_itself numbers a
+
+product_fits : (b : Box) (g : Grid) → is_product b g ≡ true → Fits b g
+product_fits b g is =
+    let both = both_true (same_number (b.max_x -ℤ b.min_x) ((g.matrix_width *ℤ g.tile_width) *ℤ g.pixel_x_size)) _ is in
+    record { across = are_same numbers _ _ both.0; down = are_same numbers _ _ both.1 }
+
+fits_product : (b : Box) (g : Grid) → Fits b g → is_product b g ≡ true
+fits_product b g fits =
+    both_hold _ _ (same_is (b.max_x -ℤ b.min_x) ((g.matrix_width *ℤ g.tile_width) *ℤ g.pixel_x_size) fits.across) (same_is (b.max_y -ℤ b.min_y) ((g.matrix_height *ℤ g.tile_height) *ℤ g.pixel_y_size) fits.down)
+
+-- what is told as fitting is the test
+pub fits_is : (b : Box) (g : Grid) (told : Bool) → IsTrue told ↔ Fits b g → told ≡ is_product b g
+fits_is b g true so = sym (fits_product b g (so.0 refl))
+fits_is b g false so = sym (false_from_ne_true _ (λ is. let e : false ≡ true = so.1 (product_fits b g is) in cc))
+
+-- the matrix set whose extent was read
+pub set_of : (o : Option MatrixSet) (b : Box) → option_map (λ (s : MatrixSet). s.box) o ≡ Some b → (s : MatrixSet) × (o ≡ Some s) × (s.box ≡ b)
+set_of None b is = absurd (let e : None ≡ Some b = is in cc)
+set_of (Some s) b is = (s, refl, same_some is)
+
+abbrev pub extent_columns : List Term
+extent_columns = col 1 3 ∷ col 1 4 ∷ col 1 5 ∷ col 1 6 ∷ []
+
+same_int : {a b : ℤ} → Int a ≡ Int b → a ≡ b
+same_int e = cc
+
+pub extent_found : (rows : List Row) (m : FinMap text_cmp MatrixSet) (h : Holds past_rowid set_row rows m) (table : Text) (x : Option Extent) (first : Option Row) → GivesExtent x first
+    → Finds (by_text table) (shows extent_columns (Words table ∷ [])) rows first → option_map (λ (s : MatrixSet). s.box) (get m table) ≡ option_map box_of x
+extent_found rows m h table None first gives found =
+    ap (option_map (λ (s : MatrixSet). s.box)) (finds_none parts.sets rows m h table (shows extent_columns (Words table ∷ [])) (subst (Finds (by_text table) (shows extent_columns (Words table ∷ [])) rows) gives found))
+extent_found rows m h table (Some e) first gives found =
+    let at = finds_some parts.sets rows m h table (shows extent_columns (Words table ∷ [])) gives.0 (subst (Finds (by_text table) (shows extent_columns (Words table ∷ [])) rows) gives.1 found) in
+    let a : at.0.box.min_x ≡ e.min_x = same_int (sym (columns_are at.2 (set_row table at.0) 2 at.3) ∙ sym (ap (λ (r : Row). column r 0) at.4) ∙ gives.2.min_x) in
+    let b : at.0.box.min_y ≡ e.min_y = same_int (sym (columns_are at.2 (set_row table at.0) 3 at.3) ∙ sym (ap (λ (r : Row). column r 1) at.4) ∙ gives.2.min_y) in
+    let c : at.0.box.max_x ≡ e.max_x = same_int (sym (columns_are at.2 (set_row table at.0) 4 at.3) ∙ sym (ap (λ (r : Row). column r 2) at.4) ∙ gives.2.max_x) in
+    let d : at.0.box.max_y ≡ e.max_y = same_int (sym (columns_are at.2 (set_row table at.0) 5 at.3) ∙ sym (ap (λ (r : Row). column r 3) at.4) ∙ gives.2.max_y) in
+    ap (option_map (λ (s : MatrixSet). s.box)) at.1 ∙ (λ i. Some (record { min_x = a i; min_y = b i; max_x = c i; max_y = d i }))

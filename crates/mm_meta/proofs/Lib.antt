@@ -1,0 +1,9 @@
+pub mod Creating
+pub mod Making
+pub mod Committing
+pub mod Srs
+pub mod Looking
+pub mod Refusing
+pub mod Nearest
+pub mod Covering
+pub mod RefusingMatrices

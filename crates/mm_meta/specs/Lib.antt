@@ -1,0 +1,4 @@
+pub mod Opening
+pub mod Look
+pub mod Handed
+pub mod Shown

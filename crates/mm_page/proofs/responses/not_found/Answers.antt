@@ -1,0 +1,6 @@
+use Rattle.mm_page.specs.Responses.{reason}
+use Rattle.mm_page.proofs.responses.not_found.Goals as goal
+
+pub returns : goal.returns
+unfolding reason
+returns c = c.response.ensures

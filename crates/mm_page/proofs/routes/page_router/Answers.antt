@@ -1,0 +1,11 @@
+use Rattle.matchit.proofs.OnLiterals.{matchit_on_literals}
+use Rattle.mm_page.proofs.routes.page_router.Goals as goal
+
+pub returns : goal.returns
+unfolding matchit_on_literals
+returns c =
+    let a = rw c.new-router.ensures at c.in_ok-insert.ensures in
+    let b = rw a.1 at c.in_ok-insert-2.ensures in
+    let d = rw b.1 at c.in_ok-insert-3.ensures in
+    let e = rw d.1 at c.in_ok-insert-4.ensures in
+    e.1

@@ -1,5 +1,0 @@
-use Rattle.mm_records.proofs.RecordFacts.{piece_within}
-use Rattle.mm_records.proofs.pieces.read_piece.Goals as goal
-
-pub returns-clause-within : goal.returns-clause-within
-returns-clause-within c = piece_within c.piece_of.result _ _ c.piece_of.ensures

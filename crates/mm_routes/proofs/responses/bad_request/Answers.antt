@@ -1,6 +1,0 @@
-use Rattle.mm_routes.specs.Responses.{reason}
-use Rattle.mm_routes.proofs.responses.bad_request.Goals as goal
-
-pub returns : goal.returns
-unfolding reason
-returns c = c.response.ensures

@@ -1,9 +1,0 @@
-use Rattle.std.proofs.Common.{rules, ◌≡◌, codes}
-use Rattle.mm_routes.specs.Responses.{reason}
-use Rattle.mm_routes.proofs.responses.not_allowed.Goals as goal
-
-pub returns : goal.returns
-unfolding reason
-returns c =
-    let header : c.deref.result.now ≡ codes "Allow: GET\r\n" = search rules in
-    rw header at c.response.ensures

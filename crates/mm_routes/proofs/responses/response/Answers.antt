@@ -1,4 +1,0 @@
-use Rattle.mm_routes.proofs.responses.response.Goals as goal
-
-pub returns : goal.returns
-returns c = rw (c.as_str.ensures, c.reason_of.ensures) at c.joined.ensures

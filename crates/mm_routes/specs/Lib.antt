@@ -1,4 +1,0 @@
-pub mod Heads
-pub mod Asked
-pub mod Routes
-pub mod Responses

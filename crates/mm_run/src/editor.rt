@@ -1,0 +1,29 @@
+//! What commands on an edition are applied to.
+
+ghost use Rattle.std.specs.Prelude.{◌≡◌, ◌⊎◌, Err, IfOk, IfErr, false, true};
+ghost use Rattle.mm_definitions.specs.Bounds.{current};
+ghost use Rattle.mm_definitions.specs.Package.{Package};
+ghost use Rattle.mm_definitions.specs.Rules.{Meets};
+ghost use Rattle.mm_definitions.specs.Standing.{TellsState};
+
+use crate::apply::Apply;
+use mm_definitions::answers::Fault;
+use mm_definitions::entries::EditionState;
+use mm_definitions::names::Name;
+
+/// A thing that commands are applied to, and that tells how an edition stands.
+pub trait Editor: Apply {
+    /// How an edition stands, or None where none has the name.
+    fn edition(&mut self, name: &Name) -> Result<Option<EditionState>, Fault>
+        ensures ended { Self.has_failed self.old ≡ true → (result ≡ Err (record { 0 = 92 }))
+            × (self.new ≡ self.old) }
+        ensures faults { Self.has_failed self.old ≡ false
+            → IfErr result (λ fault. (fault.0 ≡ 90) ⊎ (fault.0 ≡ 91)) }
+        ensures same { Self.has_failed self.new ≡ Self.has_failed self.old }
+        ensures clean { Self.is_clean self.new → Self.is_clean self.old }
+        ensures settled { Self.is_clean self.new → (p : Package) → Self.settled self.old p
+            → Meets current p → Self.settled self.new p }
+        ensures tells { IfOk result
+            (λ found. Self.is_clean self.new → (p : Package) → Self.settled self.old p
+            → Meets current p → TellsState p name.now found) };
+}

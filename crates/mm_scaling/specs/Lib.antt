@@ -1,3 +1,0 @@
-pub mod Texts
-pub mod Moves
-pub mod Handed

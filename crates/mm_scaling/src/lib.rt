@@ -1,4 +1,0 @@
-//! The statements that tell a package in the smaller unit, and all of them in turn.
-#![tactic(auto)]
-
-pub mod scaling;

@@ -1,5 +1,0 @@
-pub mod Tables
-pub mod Creates
-pub mod Made
-pub mod Places
-pub mod Statements

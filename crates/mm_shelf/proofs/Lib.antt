@@ -1,4 +1,0 @@
-pub mod Queries
-pub mod Rules
-pub mod Checks
-pub mod Reading

@@ -1,0 +1,10 @@
+pub mod Selecting
+pub mod Refusing
+pub mod Rows
+pub mod Numbering
+pub mod Unchanged
+pub mod Spelled
+pub mod InOrder
+pub mod LastPiece
+pub mod Naming
+pub mod Freeing

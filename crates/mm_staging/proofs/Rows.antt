@@ -1,0 +1,99 @@
+-- What the row of a staged piece shows.
+use Rattle.std.proofs.Common.{◌≡◌, ℕ, ℤ, Bool, true, false, not, ◌&&◌, [], ◌∷◌, List, Option, Some, None, refl, sym, ap, subst, ◌∙◌}
+use Rattle.sqlite.specs.declared.types.Value.TheVariants.{Int, Text as Words}
+use Rattle.sqlite.specs.Order.{Row, column}
+use Rattle.sqlite.specs.Term.{Term, col}
+use Rattle.std.specs.FinMap.{FinMap, get}
+use Rattle.sql_forms.specs.Tables.{Finds}
+use Rattle.sql_forms.specs.Maps.{Holds}
+use Rattle.sqlite_value.specs.declared.keys.Collation.TheVariants.{Binary}
+use Rattle.sqlite_schema.specs.Rules.{equal}
+use Rattle.sql_forms.proofs.Keys.{columns_are, equal_text}
+use Rattle.sql_forms.proofs.Selects.{shows}
+use Rattle.mm_definitions.specs.Keys.{Text, PieceKey, piece_cmp}
+use Rattle.mm_definitions.specs.Effects.{is_other}
+use Rattle.mm_definitions.specs.Package.{PieceRow}
+use Rattle.mm_definitions.proofs.Parts.{same_some}
+use Rattle.mm_store.specs.Blobs.{Shelf, StandsAt, Told}
+use Rattle.mm_store.specs.Kept.{piece_id, piece_with}
+use Rattle.mm_store.specs.Rows.{past_rowid, maybe, StagedRow, staged_row}
+use Rattle.mm_store.proofs.Parts.{finds_none, finds_some}
+use Rattle.mm_store.proofs.Keys as parts
+use Rattle.mm_store.proofs.Keys.{by_piece, by_text}
+use Rattle.mm_staging.specs.Kept.{Shows, IsPieceRow}
+
+abbrev pub piece_terms : List Term
+piece_terms = col 1 3 ∷ col 1 4 ∷ col 1 5 ∷ col 1 6 ∷ col 1 7 ∷ col 1 8 ∷ col 1 9 ∷ col 1 10 ∷ col 1 11 ∷ col 1 12 ∷ col 1 13 ∷ col 1 14 ∷ []
+
+-- the columns that are asked for, of a row that holds the piece
+pub shown_piece : (k : PieceKey) (v : StagedRow) (params r : Row) → past_rowid r ≡ staged_row k v → IsPieceRow (Some v) (Some (shows piece_terms params r))
+shown_piece k v params r is =
+    let at : (i : ℕ) → _ = λ i. columns_are r (staged_row k v) i is in (
+      record {
+        kind = at 2;
+        name = at 3;
+        k1 = at 4;
+        k2 = at 5;
+        k3 = at 6;
+        k4 = at 7;
+        k5 = at 8;
+        k6 = at 9;
+        k7 = at 10;
+        t1 = at 11;
+        t2 = at 12;
+      },
+      at 13,
+    )
+
+-- a row shows one piece with the same bytes
+one_piece : (shown : Row) (a b : PieceRow) → Shows shown a → Shows shown b → a.bytes ≡ b.bytes → a ≡ b
+one_piece shown a b s t bytes =
+    let kind : a.kind ≡ b.kind = let e : Words a.kind ≡ Words b.kind = sym s.kind ∙ t.kind in cc in
+    let name : a.name ≡ b.name = let e : Words a.name ≡ Words b.name = sym s.name ∙ t.name in cc in
+    let k1 : a.k1 ≡ b.k1 = let e : Int a.k1 ≡ Int b.k1 = sym s.k1 ∙ t.k1 in cc in
+    let k2 : a.k2 ≡ b.k2 = let e : Int a.k2 ≡ Int b.k2 = sym s.k2 ∙ t.k2 in cc in
+    let k3 : a.k3 ≡ b.k3 = let e : Int a.k3 ≡ Int b.k3 = sym s.k3 ∙ t.k3 in cc in
+    let k4 : a.k4 ≡ b.k4 = let e : Int a.k4 ≡ Int b.k4 = sym s.k4 ∙ t.k4 in cc in
+    let k5 : a.k5 ≡ b.k5 = let e : Int a.k5 ≡ Int b.k5 = sym s.k5 ∙ t.k5 in cc in
+    let k6 : a.k6 ≡ b.k6 = let e : Int a.k6 ≡ Int b.k6 = sym s.k6 ∙ t.k6 in cc in
+    let k7 : a.k7 ≡ b.k7 = let e : Int a.k7 ≡ Int b.k7 = sym s.k7 ∙ t.k7 in cc in
+    let t1 : a.t1 ≡ b.t1 = let e : Words a.t1 ≡ Words b.t1 = sym s.t1 ∙ t.t1 in cc in
+    let t2 : a.t2 ≡ b.t2 = let e : Words a.t2 ≡ Words b.t2 = sym s.t2 ∙ t.t2 in cc in
+    λ i. record { kind = kind i; name = name i; k1 = k1 i; k2 = k2 i; k3 = k3 i; k4 = k4 i; k5 = k5 i; k6 = k6 i; k7 = k7 i; t1 = t1 i; t2 = t2 i; bytes = bytes i }
+
+-- a row shows a piece whatever its bytes are
+with_bytes : (shown : Row) (r : StagedRow) (bytes : List ℕ) → Shows shown (piece_with r []) → Shows shown (piece_with r bytes)
+with_bytes shown r bytes s = record { kind = s.kind; name = s.name; k1 = s.k1; k2 = s.k2; k3 = s.k3; k4 = s.k4; k5 = s.k5; k6 = s.k6; k7 = s.k7; t1 = s.t1; t2 = s.t2 }
+
+one_bytes : (shelf : Shelf) (id : Option ℤ) (a b : List ℕ) → StandsAt shelf id a → StandsAt shelf id b → a ≡ b
+one_bytes shelf None a b p q = p ∙ sym q
+one_bytes shelf (Some id) a b p q = same_some (sym p ∙ q)
+
+-- the entry of the package is the piece of the row, with the bytes of the blob that the row names
+pub row_tells : (shelf : Shelf) (o : Option StagedRow) (entry : Option PieceRow) (shown : Row) (a : PieceRow) → IsPieceRow o (Some shown) → Told piece_id piece_with shelf o entry → Shows shown a
+    → ((blob : Option ℤ) → column shown 11 ≡ maybe blob → StandsAt shelf blob a.bytes) → entry ≡ Some a
+row_tells shelf None entry shown a is told s stands = absurd is
+row_tells shelf (Some r) entry shown a is told s stands = told.2 ∙ ap Some (one_piece shown (piece_with r told.0) a (with_bytes shown r told.0 is.0) s (one_bytes shelf r.blob told.0 a.bytes told.1 (stands r.blob is.1)))
+
+pub no_row_tells : (shelf : Shelf) (o : Option StagedRow) (entry : Option PieceRow) → IsPieceRow o None → Told piece_id piece_with shelf o entry → entry ≡ None
+no_row_tells shelf None entry is told = told
+no_row_tells shelf (Some r) entry is told = absurd is
+
+-- the row that was looked up by the key shows the piece of the key
+module _ (rows : List Row) (ids : FinMap piece_cmp StagedRow) (h : Holds past_rowid staged_row rows ids) (k : PieceKey) (params : Row) where
+  by_row : (first : Option Row) → Finds (by_piece k) (shows piece_terms params) rows first → IsPieceRow (get ids k) first
+  by_row None found = subst (λ o. IsPieceRow o None) (sym (finds_none parts.pieces rows ids h k (shows piece_terms params) found)) tt
+  by_row (Some row) found =
+      let at = finds_some parts.pieces rows ids h k (shows piece_terms params) row found in
+      subst (λ o. IsPieceRow o (Some row)) (sym at.1) (subst (λ r. IsPieceRow (Some at.0) (Some r)) (sym at.4) (shown_piece k at.0 params at.2 at.3))
+
+  pub found_row : (x first : Option Row) → x ≡ first → Finds (by_piece k) (shows piece_terms params) rows first → IsPieceRow (get ids k) x
+  found_row x first gives found = subst (IsPieceRow (get ids k)) (sym gives) (by_row first found)
+
+-- whether a row is of another edition
+and_true : (b : Bool) → (b && true) ≡ b
+and_true true = refl
+and_true false = refl
+
+pub of_other : (edition : Text) (r : Row) (k : PieceKey) (v : StagedRow) → past_rowid r ≡ staged_row k v → not (by_text edition r) ≡ is_other edition k.edition
+of_other edition r k v is = ap not (and_true _ ∙ ap (λ x. equal Binary x (Words edition)) (columns_are r (staged_row k v) 0 is) ∙ equal_text k.edition edition)

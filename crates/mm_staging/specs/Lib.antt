@@ -1,0 +1,5 @@
+pub mod Standings
+pub mod Kept
+pub mod Places
+pub mod States
+pub mod Handed

@@ -1,0 +1,21 @@
+//! Editions while they are prepared: changes are staged piece by piece. `mm_edition` publishes them.
+//!
+//! - `editions`: how an edition stands, `open_edition` and `discard`.
+//! - `kept`: a staged piece as its row holds it.
+//! - `pieces`: one piece by its number, and the blobs of all.
+//! - `spelling`: the piece that a kept row spells.
+//! - `staging`: `stage`.
+//! - `states`: the read `edition`.
+#![tactic(auto)]
+
+mod editions;
+mod kept;
+mod pieces;
+mod spelling;
+mod staging;
+mod states;
+
+pub use editions::{closed_refusal, discard, open_edition};
+pub use pieces::{blobs_of_pieces, piece};
+pub use staging::stage;
+pub use states::edition;

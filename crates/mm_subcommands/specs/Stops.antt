@@ -1,9 +1,0 @@
--- Which stops end which work.
-use Rattle.std.specs.Prelude.{◌≡◌, ◌⊎◌}
-use Rattle.mm_subcommands.specs.declared.stop.Stop.{Stop}
-use Rattle.mm_subcommands.specs.declared.stop.Stop.TheVariants as stops
-
--- making a package: 90 want of memory, 91 the store
-abbrev pub StopsMaking : Stop → Type 0
-StopsMaking (stops.Fault fault) = (fault.0 ≡ 90) ⊎ (fault.0 ≡ 91)
-StopsMaking why = ⊥

@@ -1,0 +1,55 @@
+//! What is printed while the page is served.
+
+ghost use Rattle.std.specs.Prelude.{◌≡◌, ◌++◌, codes, decimal};
+ghost use Rattle.mm_definitions.specs.Streams.{written};
+ghost use Rattle.mm_work.specs.Pages.{IsPrinted, page_fault_text, serving_text};
+
+use crate::tell::{numbered_line, put};
+use arrayvec::ArrayVec;
+use itoa::Buffer;
+use mm_definitions::answers::PageFault;
+use mm_definitions::streams::Io;
+use mm_io::{Sent, send};
+use std::io::Write;
+
+/// Prints bytes, and tells whether they were printed whole.
+fn is_printed<W: Write>(output: &mut Io<W>, bytes: &[u8]) -> bool
+    ensures { IsPrinted (written W.contents output.old) (written W.contents output.new)
+        bytes.now result }
+{
+    match send(output, bytes) {
+        Sent::Flushed => true,
+        Sent::Unflushed => false,
+        Sent::Cut => false,
+    }
+}
+
+/// It is built in place and takes no memory.
+fn serving_line(port: u16) -> ArrayVec<u8, 40>
+    ensures { result.items ≡ serving_text port }
+{
+    let mut line = ArrayVec::new();
+    let mut buffer = Buffer::new();
+    put(&mut line, b"serving 127.0.0.1:");
+    put(&mut line, buffer.format(port as u64).as_bytes());
+    put(&mut line, b"\n");
+    line
+}
+
+/// Prints where the page is served, and tells whether it was printed whole.
+pub fn tell_serving<W: Write>(output: &mut Io<W>, port: u16) -> bool
+    ensures { IsPrinted (written W.contents output.old) (written W.contents output.new)
+        (serving_text port) result }
+{
+    let line = serving_line(port);
+    is_printed(output, line.as_slice())
+}
+
+/// Prints the fault of a connection, and tells whether it was printed whole.
+pub fn tell_page_fault<W: Write>(output: &mut Io<W>, fault: PageFault) -> bool
+    ensures { IsPrinted (written W.contents output.old) (written W.contents output.new)
+        (page_fault_text fault.0) result }
+{
+    let line = numbered_line(b"page fault ", fault.0.number());
+    is_printed(output, line.as_slice())
+}

@@ -6,15 +6,15 @@ use Rattle.std.specs.List.{list_any}
 use Rattle.std.specs.FinMap.{FinMap, get, insert, remove}
 use Rattle.std.proofs.lemmas.Bool.{and_parts, both_ways}
 use Rattle.sqlite.specs.declared.types.Value.TheVariants.{Null, Int, Text as Words, Blob as Bytes}
-use Rattle.sqlite_value.specs.declared.keys.Collation.TheVariants.{Binary}
-use Rattle.sqlite_value.specs.Order.{value_cmp}
-use Rattle.sqlite_value.proofs.OrderLemmas.{value_cmp-Int, value_cmp-Blob}
+use Rattle.sql_forms.specs.Collation.TheVariants.{Binary}
+use Rattle.sql_forms.specs.Order.{value_cmp}
+use Rattle.sql_forms.proofs.OrderLemmas.{value_cmp-Int, value_cmp-Blob}
 use Rattle.sqlite.specs.Ops.{binary}
 use Rattle.sqlite.specs.Order.{Row, column}
 use Rattle.sqlite.specs.Tree.{Trees, with_tree, put_row, rowid}
 use Rattle.sqlite.specs.Edit.{is_taken}
-use Rattle.sqlite_schema.specs.Rules.{equal}
-use Rattle.sqlite_rules.proofs.ListLemmas.{some_from, some_has}
+use Rattle.sql_forms.specs.Rules.{equal}
+use Rattle.sql_forms.proofs.ListLemmas.{some_from, some_has}
 use Rattle.sql_forms.specs.Tables.{has_key, Finds, without}
 use Rattle.sql_forms.specs.Maps.{Holds}
 use Rattle.sql_forms.proofs.Keys.{as_truth, equal_text, equal_int}

@@ -6,8 +6,8 @@ use Rattle.std.specs.FinMap.{FinMap}
 use Rattle.std.proofs.lemmas.List.Sorted.{IsPermutation-sym}
 use Rattle.sqlite.specs.Order.{Row, column}
 use Rattle.sqlite.specs.declared.types.Value.TheVariants.{Int}
-use Rattle.sqlite_rules.proofs.ListLemmas.{has_kept, some_from}
-use Rattle.sqlite_rules.proofs.ProbeLemmas.{mapped_has}
+use Rattle.sql_forms.proofs.ListLemmas.{has_kept, some_from}
+use Rattle.sql_forms.proofs.ProbeLemmas.{mapped_has}
 use Rattle.sql_forms.specs.Maps.{Holds}
 use Rattle.sql_forms.proofs.Lists.{has_permuted}
 use Rattle.mm_store.specs.Rows.{past_rowid}

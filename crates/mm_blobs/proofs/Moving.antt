@@ -3,7 +3,7 @@ use Rattle.std.proofs.Common.{◌≡◌, ℕ, List, Option, Result, Ok, Err, IfO
 use Rattle.sqlite.specs.Order.{Row}
 use Rattle.sqlite.specs.Tree.{Trees}
 use Rattle.sqlite.specs.State.{State, HasCleanDisk, Shown, ExecutesInside, IsUnchanged}
-use Rattle.sqlite_catalog.specs.Listing.{IsSound}
+use Rattle.sql_forms.specs.Listing.{IsSound}
 use Rattle.sql_forms.specs.Tables.{tables_of, IsReady, Leaves, IsFirstShown}
 use Rattle.sql_forms.proofs.States.{shown_open}
 use Rattle.mm_definitions.specs.declared.answers.Fault.{Fault}

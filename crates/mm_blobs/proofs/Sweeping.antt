@@ -5,10 +5,10 @@ use Rattle.std.specs.List.{list_any, list_all, flat_map}
 use Rattle.std.specs.FinMap.{get}
 use Rattle.std.proofs.lemmas.Bool.{both_ways, false_from_ne_true, or_right}
 use Rattle.sqlite.specs.declared.types.Value.TheVariants.{Null, Int}
-use Rattle.sqlite_value.specs.declared.keys.Collation.TheVariants.{Binary}
-use Rattle.sqlite_sql.specs.declared.ops.BinaryOp.TheVariants.{Compare}
-use Rattle.sqlite_sql.specs.declared.ops.CompareOp.TheVariants.{Eq}
-use Rattle.sqlite_sql.specs.declared.ops.UnaryOp.TheVariants.{Not}
+use Rattle.sql_forms.specs.Collation.TheVariants.{Binary}
+use Rattle.sql_forms.specs.BinaryOp.TheVariants.{Compare}
+use Rattle.sql_forms.specs.CompareOp.TheVariants.{Eq}
+use Rattle.sql_forms.specs.UnaryOp.TheVariants.{Not}
 use Rattle.sqlite.specs.Ops.{unary}
 use Rattle.sqlite.specs.Order.{Row}
 use Rattle.sqlite.specs.Term.{Term, Env, col, op1, op2, holds}
@@ -17,8 +17,8 @@ use Rattle.sqlite.specs.Program.{overlay}
 use Rattle.sqlite.specs.Tree.{Trees}
 use Rattle.sqlite.specs.Effect.{Answers}
 use Rattle.sqlite.specs.State.{State, Shown, IsUnchanged}
-use Rattle.sqlite_rules.specs.Lists.{Has}
-use Rattle.sqlite_rules.proofs.ListLemmas.{some_from}
+use Rattle.sql_forms.specs.Lists.{Has}
+use Rattle.sql_forms.proofs.ListLemmas.{some_from}
 use Rattle.sql_forms.specs.Forms.{query, alone, no_limit}
 use Rattle.sql_forms.specs.Tables.{is_table, tables_of}
 use Rattle.sql_forms.proofs.Joins as joins

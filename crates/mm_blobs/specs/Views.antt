@@ -7,7 +7,7 @@ use Rattle.sqlite.specs.Order.{Row}
 use Rattle.sqlite.specs.Tree.{Trees}
 use Rattle.sqlite.specs.Effect.{Database}
 use Rattle.sqlite.specs.State.{State}
-use Rattle.sqlite_catalog.specs.Listing.{IsSound}
+use Rattle.sql_forms.specs.Listing.{IsSound}
 use Rattle.sql_forms.specs.Tables.{tables_of, AreTables, has_key}
 use Rattle.mm_store.specs.Tables.{schema}
 use Rattle.mm_definitions.specs.Bounds.{Profile}

@@ -1,9 +1,9 @@
 -- A check of the form by a walk, and checks one after another.
 use Rattle.std.proofs.Common.{◌≡◌, ◌↔◌, ℕ, List, [], Bool, true, false, IsTrue, Result, Ok, Err, IfOk, OnOk, refl, sym, subst, ◌∙◌, arith}
-use Rattle.sqlite_value.specs.declared.keys.Key.{Key}
+use Rattle.sql_forms.specs.Key.{Key}
 use Rattle.sqlite.specs.Order.{Row}
-use Rattle.sqlite_sql.specs.Term.{Term}
-use Rattle.sqlite_sql.specs.Query.{Join}
+use Rattle.sql_forms.specs.Term.{Term}
+use Rattle.sql_forms.specs.Query.{Join}
 use Rattle.sqlite.specs.Effect.{Database}
 use Rattle.sqlite.specs.State.{State, HasCleanDisk, IsUnchanged}
 use Rattle.mm_definitions.specs.declared.answers.Fault.{Fault}

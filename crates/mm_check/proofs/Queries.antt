@@ -1,10 +1,10 @@
 -- What the queries of the form are.
 use Rattle.std.proofs.Common.{ℕ, List, [], ◌∷◌, codes, refl}
-use Rattle.sqlite_sql.specs.declared.ops.UnaryOp.TheVariants.{Not}
+use Rattle.sql_forms.specs.UnaryOp.TheVariants.{Not}
 use Rattle.sqlite.specs.Term.{Term, col, op1}
-use Rattle.sqlite_sql.specs.Query.{Join, inner, counted, end}
+use Rattle.sql_forms.specs.Query.{Join, inner, counted, end}
 use Rattle.sqlite.specs.Listing.{understood}
-use Rattle.sqlite_tied.specs.Compute.{everything}
+use Rattle.sql_forms.specs.Compute.{everything}
 use Rattle.mm_walk.specs.RowTests.{IsQuery}
 use Rattle.mm_store.specs.Tables.{schema}
 use Rattle.mm_store.specs.Compiled.{unnamed_blobs}

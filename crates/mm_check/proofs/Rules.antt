@@ -11,20 +11,20 @@ use Rattle.std.proofs.lemmas.Cmp.{int_ranked}
 use Rattle.std.proofs.lemmas.Int.{ints}
 use Rattle.std.proofs.lemmas.List.{length-map}
 use Rattle.sqlite.specs.Ops.{binary, is_true}
-use Rattle.sqlite_sql.specs.Ops.{unary}
+use Rattle.sql_forms.specs.Ops.{unary}
 use Rattle.sqlite.specs.declared.types.Value.{Value}
 use Rattle.sqlite.specs.declared.types.Value.TheVariants.{Int, Text as Words, Blob as Bytes}
-use Rattle.sqlite_value.specs.declared.keys.Collation.TheVariants.{Binary}
-use Rattle.sqlite_sql.specs.declared.ops.BinaryOp.TheVariants.{Compare}
-use Rattle.sqlite_sql.specs.declared.ops.CompareOp.TheVariants.{Lt}
+use Rattle.sql_forms.specs.Collation.TheVariants.{Binary}
+use Rattle.sql_forms.specs.BinaryOp.TheVariants.{Compare}
+use Rattle.sql_forms.specs.CompareOp.TheVariants.{Lt}
 use Rattle.sqlite.specs.Order.{Row, column}
 use Rattle.sqlite.specs.Term.{Env, col, holds}
 use Rattle.sqlite.specs.Query.{inner, end, matches}
 use Rattle.sqlite.specs.Program.{overlay}
 use Rattle.sqlite.specs.Effect.{Database}
 use Rattle.sqlite.specs.Tree.{Trees}
-use Rattle.sqlite_tied.specs.Compute.{everything}
-use Rattle.sqlite_schema.specs.Rules.{equal}
+use Rattle.sql_forms.specs.Compute.{everything}
+use Rattle.sql_forms.specs.Rules.{equal}
 use Rattle.sql_forms.proofs.Keys.{columns_are}
 use Rattle.sql_forms.proofs.Lists.{flat_filtered}
 use Rattle.mm_definitions.proofs.KeyLaws.{texts}

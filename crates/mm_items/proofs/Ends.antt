@@ -13,7 +13,7 @@ use Rattle.sqlite.specs.Schema.{Schema}
 use Rattle.sqlite.specs.Tree.{Trees}
 use Rattle.sqlite.specs.Effect.{Answers}
 use Rattle.sqlite.specs.State.{State, Shown, IsUnchanged}
-use Rattle.sqlite_rules.specs.Lists.{Has}
+use Rattle.sql_forms.specs.Lists.{Has}
 use Rattle.sql_forms.specs.Forms.{query, alone, no_limit}
 use Rattle.sql_forms.specs.Tables.{is_table, tables_of, IsFirstShown}
 use Rattle.sql_forms.specs.Maps.{Holds}

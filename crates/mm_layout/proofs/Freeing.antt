@@ -3,9 +3,9 @@ use Rattle.std.proofs.Common.{◌≡◌, inl, inr, ℤ, List, Bool, true, false,
 use Rattle.std.specs.List.{list_any}
 use Rattle.std.proofs.lemmas.Bool.{or_left, or_right}
 use Rattle.sqlite.specs.declared.types.Value.TheVariants.{Text as Words}
-use Rattle.sqlite_value.specs.declared.keys.Collation.TheVariants.{Binary}
+use Rattle.sql_forms.specs.Collation.TheVariants.{Binary}
 use Rattle.sqlite.specs.Order.{Row}
-use Rattle.sqlite_schema.specs.Rules.{equal}
+use Rattle.sql_forms.specs.Rules.{equal}
 use Rattle.sql_forms.specs.Forms.{equals}
 use Rattle.sql_forms.specs.Tables.{passes}
 use Rattle.sql_forms.proofs.Keys.{equal_text, columns_are}

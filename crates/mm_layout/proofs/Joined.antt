@@ -1,9 +1,9 @@
 -- What the join of a relation's row and a mapping row tests, told by the relation and by the pairing that the rows hold.
 use Rattle.std.proofs.Common.{◌≡◌, ℕ, ℤ, Bool, true, ◌&&◌, refl}
 use Rattle.sqlite.specs.declared.types.Value.TheVariants.{Int, Text as Words}
-use Rattle.sqlite_value.specs.declared.keys.Collation.TheVariants.{Binary}
+use Rattle.sql_forms.specs.Collation.TheVariants.{Binary}
 use Rattle.sqlite.specs.Order.{Row, column}
-use Rattle.sqlite_schema.specs.Rules.{equal}
+use Rattle.sql_forms.specs.Rules.{equal}
 use Rattle.sql_forms.proofs.Keys.{equal_text, equal_int, columns_are}
 use Rattle.mm_definitions.specs.Keys.{Text, same_text, same_number, Pairing}
 use Rattle.mm_definitions.specs.Package.{Relation}

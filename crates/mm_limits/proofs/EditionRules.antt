@@ -8,13 +8,13 @@ use Rattle.sqlite.specs.Order.{Row, column}
 use Rattle.sqlite.specs.Ops.{binary}
 use Rattle.sqlite.specs.declared.types.Value.{Value}
 use Rattle.sqlite.specs.declared.types.Value.TheVariants.{Null, Int, Blob, Text as Words}
-use Rattle.sqlite_value.specs.declared.keys.Collation.TheVariants.{Binary}
-use Rattle.sqlite_sql.specs.declared.ops.ArithOp.TheVariants.{Sub}
-use Rattle.sqlite_sql.specs.declared.ops.BinaryOp.TheVariants.{Arith}
-use Rattle.sqlite_sql.specs.Numeral.{fits_i64}
-use Rattle.sqlite_sql.specs.Term.{col}
-use Rattle.sqlite_sql.specs.Query.{inner, left, end}
-use Rattle.sqlite_schema.specs.Rules.{equal}
+use Rattle.sql_forms.specs.Collation.TheVariants.{Binary}
+use Rattle.sql_forms.specs.ArithOp.TheVariants.{Sub}
+use Rattle.sql_forms.specs.BinaryOp.TheVariants.{Arith}
+use Rattle.sql_forms.specs.Numeral.{fits_i64}
+use Rattle.sql_forms.specs.Term.{col}
+use Rattle.sql_forms.specs.Query.{inner, left, end}
+use Rattle.sql_forms.specs.Rules.{equal}
 use Rattle.mm_definitions.specs.Bounds.{Profile, IsName, IsMatrixSide, IsTileSide, IsId, IsFrom, IsZoom, IsTilePlace, IsLong, IsTileBytes, IsMediaBytes, MostPieces}
 use Rattle.mm_definitions.specs.Keys.{Text, PieceKey, piece}
 use Rattle.mm_definitions.specs.Package.{Package, PieceRow, open_state}

@@ -1,8 +1,8 @@
 -- What the queries of rule 16 show.
 use Rattle.std.proofs.Common.{◌↔◌, ℕ, ℤ, [], ◌∷◌, Option, Some, None, refl, ap}
 use Rattle.std.specs.Prelude.{⊤, IfSome}
-use Rattle.sqlite_sql.specs.Term.{col}
-use Rattle.sqlite_sql.specs.Query.{inner, left, end}
+use Rattle.sql_forms.specs.Term.{col}
+use Rattle.sql_forms.specs.Query.{inner, left, end}
 use Rattle.sqlite.specs.declared.types.Value.TheVariants.{Int, Text as Words}
 use Rattle.mm_definitions.specs.Keys.{Text}
 use Rattle.mm_definitions.specs.Bounds.{Profile, IsCoordinate, IsSystemNumber, IsClean}

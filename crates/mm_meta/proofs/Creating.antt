@@ -2,7 +2,7 @@
 use Rattle.std.proofs.Common.{◌≡◌, ℕ, [], Result, Ok, Err, OnOk, IsTrue, ◌∙◌, arith, List}
 use Rattle.sqlite.specs.Schema.{Schema}
 use Rattle.sqlite.specs.Table.{Table}
-use Rattle.sqlite_schema.specs.declared.schema.Index.{Index}
+use Rattle.sql_forms.specs.Index.{Index}
 use Rattle.sqlite.specs.State.{State, ExecutesInside}
 use Rattle.sql_forms.proofs.Creates.{IsCreate, creates, IsIndexing, indexes}
 use Rattle.mm_definitions.specs.declared.answers.Fault.{Fault}

@@ -8,17 +8,17 @@ use Rattle.sqlite.specs.declared.types.Value.TheVariants.{Int}
 use Rattle.sqlite.specs.Order.{Row, column}
 use Rattle.sqlite.specs.Schema.{Schema}
 use Rattle.sqlite.specs.Command.{Command}
-use Rattle.sqlite_schema.specs.declared.command.Returning.{Returning}
-use Rattle.sqlite_resolve.specs.declared.compiled.Compiled.{Compiled}
-use Rattle.sqlite_resolve.specs.declared.error.CompileError.{CompileError}
-use Rattle.sqlite_resolve.specs.declared.error.CompileError.TheVariants.{NoSuchTable}
-use Rattle.sqlite_resolve.specs.Compile.{compiled}
-use Rattle.sqlite_resolve.specs.Lowering.{and_then}
-use Rattle.sqlite_resolve.specs.Scope.{Name}
+use Rattle.sql_forms.specs.Returning.{Returning}
+use Rattle.sql_forms.specs.Compiled.{Compiled}
+use Rattle.sql_forms.specs.CompileError.{CompileError}
+use Rattle.sql_forms.specs.CompileError.TheVariants.{NoSuchTable}
+use Rattle.sql_forms.specs.Compile.{compiled}
+use Rattle.sql_forms.specs.Lowering.{and_then}
+use Rattle.sql_forms.specs.Scope.{Name}
 use Rattle.sqlite.specs.Effect.{Database}
 use Rattle.sqlite.specs.Clock.{timed}
 use Rattle.sqlite.specs.Listing.{understood, listing_schema, reads_listing, if_select}
-use Rattle.sqlite_tied.specs.Compute.{everything}
+use Rattle.sql_forms.specs.Compute.{everything}
 use Rattle.sqlite.specs.State.{State, HasCleanDisk, IsUnchanged, IsRolledBack, IsNotRun, FailsToQuery, FailsToShow, Shown, ShowsRows, Survives, CommitsShowing}
 use Rattle.sqlite.proofs.StateLemmas.{survives_weaker}
 use Rattle.sql_forms.proofs.Lists.{same_value, has_permuted}

@@ -1,18 +1,18 @@
 -- On a database that stands for a package the query of the profile's table is refused by nothing but memory, the disk or a limit on steps.
 use Rattle.std.proofs.Common.{◌≡◌, inl, inr, ℕ, true, false, List, [], ◌∷◌, length, None, IsTrue, Result, Ok, Err, refl, sym, ap, subst, ◌∙◌, true≢false, arith}
 use Rattle.sqlite.specs.declared.error.Error.{Error}
-use Rattle.sqlite_trees.specs.declared.error.StoreError.{StoreError}
-use Rattle.sqlite_trees.specs.declared.error.StoreError.TheVariants.{OutOfMemory, Io, Corrupt, Full, Broken, Unstorable}
+use Rattle.sql_forms.specs.StoreError.{StoreError}
+use Rattle.sql_forms.specs.StoreError.TheVariants.{OutOfMemory, Io, Corrupt, Full, Broken, Unstorable}
 use Rattle.sqlite.specs.Term.{col}
 use Rattle.sqlite.specs.Effect.{RefusesQuery, RefusesToRead}
 use Rattle.sqlite.specs.Clock.{timed}
 use Rattle.sqlite.specs.Listing.{understood, reads_listing, IsSourceOf}
-use Rattle.sqlite_resolve.specs.declared.compiled.Compiled.{Compiled}
-use Rattle.sqlite_resolve.specs.declared.error.CompileError.{CompileError}
-use Rattle.sqlite_tied.specs.Compute.{everything}
+use Rattle.sql_forms.specs.Compiled.{Compiled}
+use Rattle.sql_forms.specs.CompileError.{CompileError}
+use Rattle.sql_forms.specs.Compute.{everything}
 use Rattle.sqlite.specs.Program.{overlay}
-use Rattle.sqlite_typing.specs.Types.{accepts_program}
-use Rattle.sqlite_sql.proofs.QueryLemmas.{no_fold_overflows}
+use Rattle.sql_forms.specs.Types.{accepts_program}
+use Rattle.sql_forms.proofs.QueryLemmas.{no_fold_overflows}
 use Rattle.sqlite.specs.State.{State, FailsToQuery, FailsToShow, IsNotRun, IsNoStatement, IsStatement, HasCause, store_error}
 use Rattle.sqlite.proofs.Callers.{IsPlain, command_of}
 use Rattle.sql_forms.specs.Forms.{all_of, alone}

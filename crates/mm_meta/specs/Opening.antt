@@ -4,7 +4,7 @@ use Rattle.std.specs.FinMap.{empty}
 use Rattle.sqlite.specs.Schema.{Schema}
 use Rattle.sqlite.specs.Tree.{Trees}
 use Rattle.sqlite.specs.State.{State, HasCleanDisk, Survives}
-use Rattle.sqlite_catalog.specs.Listing.{IsSound}
+use Rattle.sql_forms.specs.Listing.{IsSound}
 use Rattle.sql_forms.specs.Tables.{IsBare}
 use Rattle.mm_store.specs.Made.{no_schema}
 use Rattle.mm_definitions.specs.Bounds.{Profile}

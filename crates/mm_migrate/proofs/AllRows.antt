@@ -3,7 +3,7 @@ use Rattle.std.proofs.Common.{◌≡◌, List, map, option_map, sym, ap, ◌∙�
 use Rattle.std.specs.declared.cmp.Ordering.{Ordering}
 use Rattle.std.specs.FinMap.{FinMap}
 use Rattle.sqlite.specs.Order.{Row}
-use Rattle.sqlite_rules.proofs.ProbeLemmas.{has_mapped, mapped_has}
+use Rattle.sql_forms.proofs.ProbeLemmas.{has_mapped, mapped_has}
 use Rattle.sql_forms.specs.Maps.{Holds}
 use Rattle.mm_definitions.specs.Parts.{Each}
 use Rattle.mm_definitions.specs.Parts.{change_values}

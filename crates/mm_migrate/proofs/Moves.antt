@@ -4,7 +4,7 @@ use Rattle.std.proofs.Common.{ℕ, List, Result, Ok, Err, OnOk, IsTrue, sym, sub
 use Rattle.sqlite.specs.Order.{Row}
 use Rattle.sqlite.specs.Tree.{Trees}
 use Rattle.sqlite.specs.State.{State, ExecutesInside}
-use Rattle.sqlite_catalog.specs.Listing.{IsSound}
+use Rattle.sql_forms.specs.Listing.{IsSound}
 use Rattle.sql_forms.specs.Tables.{IsReady, Leaves}
 use Rattle.mm_store.specs.Tables.{schema}
 use Rattle.mm_definitions.specs.Bounds.{Profile}

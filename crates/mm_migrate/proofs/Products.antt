@@ -4,9 +4,9 @@ use Rattle.std.proofs.lemmas.Int.{ints}
 use Rattle.std.proofs.lemmas.Bool.Decides.{nat_tests}
 use Rattle.std.proofs.Math.IntN.{*ℤ_comm}
 use Rattle.sqlite.specs.declared.types.Value.TheVariants.{Int}
-use Rattle.sqlite_sql.specs.declared.ops.BinaryOp.TheVariants.{Arith}
-use Rattle.sqlite_sql.specs.declared.ops.ArithOp.TheVariants.{Mul}
-use Rattle.sqlite_sql.specs.Ops.{binary, int_or, real_arith, from_int, if_fits, fits_i64}
+use Rattle.sql_forms.specs.BinaryOp.TheVariants.{Arith}
+use Rattle.sql_forms.specs.ArithOp.TheVariants.{Mul}
+use Rattle.sql_forms.specs.Ops.{binary, int_or, real_arith, from_int, if_fits, fits_i64}
 use Rattle.mm_definitions.specs.Bounds.{IsFrom, IsCoordinate, IsPixelSize, millimetres}
 use Rattle.mm_definitions.specs.Scale.{finer}
 use Rattle.mm_store.specs.Rows.{maybe}

@@ -1,7 +1,7 @@
 -- The forms of the four statements.
 use Rattle.std.proofs.Common.{[], refl}
 use Rattle.sqlite.specs.Listing.{understood}
-use Rattle.sqlite_tied.specs.Compute.{everything}
+use Rattle.sql_forms.specs.Compute.{everything}
 use Rattle.sql_forms.proofs.Updates.{IsUpdate}
 use Rattle.mm_store.specs.Tables.{schema, gpkg_contents, gpkg_tile_matrix_set, gpkg_tile_matrix, mm_profile}
 use Rattle.mm_migrate.specs.Texts as text

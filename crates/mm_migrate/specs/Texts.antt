@@ -1,8 +1,8 @@
 -- The statements that tell a package in the smaller unit, and the form of an UPDATE of every row.
 use Rattle.std.specs.Prelude.{ℕ, ℤ, pos, List, [], ◌∷◌, codes}
 use Rattle.sqlite.specs.declared.types.Value.TheVariants.{Null, Int}
-use Rattle.sqlite_sql.specs.declared.ops.BinaryOp.TheVariants.{Arith}
-use Rattle.sqlite_sql.specs.declared.ops.ArithOp.TheVariants.{Mul}
+use Rattle.sql_forms.specs.BinaryOp.TheVariants.{Arith}
+use Rattle.sql_forms.specs.ArithOp.TheVariants.{Mul}
 use Rattle.sqlite.specs.Term.{Term, lit, col, op2}
 
 -- the four bounds of each contents row, from millimetres to micrometres; NULL stays NULL

@@ -9,9 +9,9 @@ use Rattle.std.specs.FinMap.{FinMap, get, contains_key, remove, retain_keys, emp
 use Rattle.std.proofs.lemmas.Bool.{cases_Bool}
 use Rattle.sqlite.specs.Order.{Row}
 use Rattle.sqlite.specs.Tree.{rowid, IsTable}
-use Rattle.sqlite_value.specs.Order.{value_cmp}
-use Rattle.sqlite_rules.specs.Lists.{Has}
-use Rattle.sqlite_rules.proofs.ListLemmas.{all_has}
+use Rattle.sql_forms.specs.Order.{value_cmp}
+use Rattle.sql_forms.specs.Lists.{Has}
+use Rattle.sql_forms.proofs.ListLemmas.{all_has}
 use Rattle.sql_forms.specs.Tables.{without}
 use Rattle.sql_forms.specs.Maps.{Holds}
 use Rattle.sql_forms.proofs.Lists.{not_not}

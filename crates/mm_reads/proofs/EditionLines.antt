@@ -5,17 +5,17 @@ use Rattle.std.specs.Ordering.{is_gt}
 use Rattle.std.specs.List.{flat_map}
 use Rattle.std.specs.FinMap.{retain_keys, len-entries}
 use Rattle.sqlite.specs.declared.types.Value.TheVariants.{Int, Text as Words}
-use Rattle.sqlite_value.specs.declared.keys.Collation.TheVariants.{Binary}
-use Rattle.sqlite_value.specs.Order.{value_cmp}
-use Rattle.sqlite_value.proofs.OrderLemmas.{value_cmp-Text, then-Equal}
-use Rattle.sqlite_sql.specs.Query.{counted}
+use Rattle.sql_forms.specs.Collation.TheVariants.{Binary}
+use Rattle.sql_forms.specs.Order.{value_cmp}
+use Rattle.sql_forms.proofs.OrderLemmas.{value_cmp-Text, then-Equal}
+use Rattle.sql_forms.specs.Query.{counted}
 use Rattle.sqlite.specs.Order.{Row, column}
 use Rattle.sqlite.specs.Term.{Term, Env, eval_all, col}
 use Rattle.sqlite.specs.Query.{Join, inner, end, matches, output, output_cmp, IsAnswer}
 use Rattle.sqlite.specs.Tree.{Trees, IsTable}
 use Rattle.sqlite.specs.Listing.{understood}
-use Rattle.sqlite_tied.specs.Compute.{everything}
-use Rattle.sqlite_schema.specs.Rules.{equal}
+use Rattle.sql_forms.specs.Compute.{everything}
+use Rattle.sql_forms.specs.Rules.{equal}
 use Rattle.sql_forms.specs.Forms.{query, no_limit}
 use Rattle.sql_forms.proofs.Keys.{columns_are}
 use Rattle.sql_forms.proofs.Selects.{IsSelect}

@@ -7,25 +7,25 @@ use Rattle.std.specs.List.Sorted.{IsPermutation, IsSorted}
 use Rattle.std.specs.Cmp.{on_total}
 use Rattle.std.specs.FinMap.{get}
 use Rattle.sqlite.specs.declared.types.Value.TheVariants.{Null, Int, Text as Words}
-use Rattle.sqlite_value.specs.declared.keys.Collation.TheVariants.{Binary}
-use Rattle.sqlite_value.specs.declared.keys.Key.{Key}
-use Rattle.sqlite_value.specs.Order.{value_cmp}
-use Rattle.sqlite_value.proofs.OrderLemmas.{value_cmp-Text, then-Equal}
-use Rattle.sqlite_sql.specs.declared.ops.BinaryOp.TheVariants.{Compare}
-use Rattle.sqlite_sql.specs.declared.ops.CompareOp.TheVariants.{Eq}
-use Rattle.sqlite_sql.specs.Query.{or_nulls}
-use Rattle.sqlite_sql.proofs.QueryLemmas.{output_cmp_total}
+use Rattle.sql_forms.specs.Collation.TheVariants.{Binary}
+use Rattle.sql_forms.specs.Key.{Key}
+use Rattle.sql_forms.specs.Order.{value_cmp}
+use Rattle.sql_forms.proofs.OrderLemmas.{value_cmp-Text, then-Equal}
+use Rattle.sql_forms.specs.BinaryOp.TheVariants.{Compare}
+use Rattle.sql_forms.specs.CompareOp.TheVariants.{Eq}
+use Rattle.sql_forms.specs.Query.{or_nulls}
+use Rattle.sql_forms.proofs.QueryLemmas.{output_cmp_total}
 use Rattle.sqlite.specs.Order.{Row, column}
 use Rattle.sqlite.specs.Term.{Term, Env, eval_all, col, op2}
 use Rattle.sqlite.specs.Query.{Query, Join, inner, left, end, matches, Output, output, output_cmp, IsAnswer}
 use Rattle.sqlite.specs.Tree.{Trees, IsTable}
 use Rattle.sqlite.specs.Listing.{understood}
-use Rattle.sqlite_tied.specs.Compute.{everything}
-use Rattle.sqlite_trees.specs.Tree.{IsAscending}
-use Rattle.sqlite_trees.proofs.ListLemmas.{pull_back, map-map}
-use Rattle.sqlite_exec.proofs.PartitionLemmas.{ascending_from_sorted, IsSorted-from_map}
-use Rattle.sqlite_schema.specs.Rules.{equal}
-use Rattle.sqlite_rules.specs.Lists.{Has}
+use Rattle.sql_forms.specs.Compute.{everything}
+use Rattle.sql_forms.specs.Tree.{IsAscending}
+use Rattle.sql_forms.proofs.TreeLists.{pull_back, map-map}
+use Rattle.sql_forms.proofs.PartitionLemmas.{ascending_from_sorted, IsSorted-from_map}
+use Rattle.sql_forms.specs.Rules.{equal}
+use Rattle.sql_forms.specs.Lists.{Has}
 use Rattle.sql_forms.specs.Forms.{query, no_limit}
 use Rattle.sql_forms.specs.Maps.{Holds}
 use Rattle.sql_forms.proofs.Keys.{columns_are}

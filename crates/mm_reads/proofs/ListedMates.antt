@@ -17,12 +17,12 @@ use Rattle.sqlite.specs.Order.{Row, column}
 use Rattle.sqlite.specs.Query.{Output, output_cmp, matches, inner, end, IsAnswer}
 use Rattle.sqlite.specs.Term.{Env}
 use Rattle.sqlite.specs.Tree.{Trees, IsTable}
-use Rattle.sqlite_trees.specs.Tree.{IsAscending}
-use Rattle.sqlite_exec.proofs.PartitionLemmas.{ascending_from_sorted}
-use Rattle.sqlite_sql.proofs.QueryLemmas.{output_cmp_total}
-use Rattle.sqlite_rules.specs.Lists.{Has}
-use Rattle.sqlite_rules.proofs.ListLemmas.{all_from}
-use Rattle.sqlite_rules.proofs.ProbeLemmas.{has_mapped, mapped_has}
+use Rattle.sql_forms.specs.Tree.{IsAscending}
+use Rattle.sql_forms.proofs.PartitionLemmas.{ascending_from_sorted}
+use Rattle.sql_forms.proofs.QueryLemmas.{output_cmp_total}
+use Rattle.sql_forms.specs.Lists.{Has}
+use Rattle.sql_forms.proofs.ListLemmas.{all_from}
+use Rattle.sql_forms.proofs.ProbeLemmas.{has_mapped, mapped_has}
 use Rattle.sql_forms.specs.Maps.{Holds}
 use Rattle.sql_forms.proofs.Lists.{has_flat, flat_has, has_permuted}
 use Rattle.mm_definitions.specs.Keys.{Text, same_text, same_number, Pairing, pairing_cmp}

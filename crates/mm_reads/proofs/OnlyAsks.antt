@@ -1,7 +1,7 @@
 -- The text of the list of mapping rows is a query, whatever the schema.
 use Rattle.std.proofs.Common.{refl}
 use Rattle.sqlite.specs.Schema.{Schema}
-use Rattle.sqlite_tied.specs.Compute.{everything}
+use Rattle.sql_forms.specs.Compute.{everything}
 use Rattle.mm_walk.specs.Walk.{OnlyAsks}
 use Rattle.mm_walk.proofs.Quiet as asking
 use Rattle.mm_walk.proofs.Quiet.{IsQuiet}

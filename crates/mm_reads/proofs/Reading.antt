@@ -1,7 +1,7 @@
 -- A walk over the tables of the contents is a read.
 use Rattle.std.proofs.Common.{◌≡◌, ◌⊎◌, inl, inr, Bool, true, false, List, [], ◌∷◌, ◌++◌, Result, Ok, Err, IfOk, IfErr, Vec, Global, refl, sym, ap, subst, ◌∙◌, append_assoc, append-nil}
 use Rattle.sqlite.specs.Order.{Row}
-use Rattle.sqlite_value.specs.declared.value.Value.TheVariants.{Null}
+use Rattle.sql_forms.specs.Values.TheVariants.{Null}
 use Rattle.sqlite.specs.State.{State, HasCleanDisk}
 use Rattle.sql_forms.proofs.States.{shows_as, shown_open}
 use Rattle.sql_forms.proofs.Queries.{no_overlay}

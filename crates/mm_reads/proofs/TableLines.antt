@@ -7,20 +7,20 @@ use Rattle.std.specs.FinMap.{get}
 use Rattle.std.proofs.lemmas.List.{length-map}
 use Rattle.sqlite.specs.declared.types.Value.{Value}
 use Rattle.sqlite.specs.declared.types.Value.TheVariants.{Int, Text as Words}
-use Rattle.sqlite_value.specs.declared.keys.Collation.TheVariants.{Binary}
-use Rattle.sqlite_value.specs.declared.keys.Key.{Key}
-use Rattle.sqlite_value.specs.Order.{value_cmp}
-use Rattle.sqlite_value.proofs.OrderLemmas.{value_cmp-Text, then-Equal}
-use Rattle.sqlite_sql.specs.declared.ops.BinaryOp.TheVariants.{Compare}
-use Rattle.sqlite_sql.specs.declared.ops.CompareOp.TheVariants.{Eq}
-use Rattle.sqlite_sql.specs.Query.{or_nulls, counted}
+use Rattle.sql_forms.specs.Collation.TheVariants.{Binary}
+use Rattle.sql_forms.specs.Key.{Key}
+use Rattle.sql_forms.specs.Order.{value_cmp}
+use Rattle.sql_forms.proofs.OrderLemmas.{value_cmp-Text, then-Equal}
+use Rattle.sql_forms.specs.BinaryOp.TheVariants.{Compare}
+use Rattle.sql_forms.specs.CompareOp.TheVariants.{Eq}
+use Rattle.sql_forms.specs.Query.{or_nulls, counted}
 use Rattle.sqlite.specs.Order.{Row, column}
 use Rattle.sqlite.specs.Term.{Term, Env, eval_all, col, op2}
 use Rattle.sqlite.specs.Query.{Join, inner, left, end, matches, output, output_cmp, IsAnswer}
 use Rattle.sqlite.specs.Tree.{Trees, IsTable}
 use Rattle.sqlite.specs.Listing.{understood}
-use Rattle.sqlite_tied.specs.Compute.{everything}
-use Rattle.sqlite_schema.specs.Rules.{equal}
+use Rattle.sql_forms.specs.Compute.{everything}
+use Rattle.sql_forms.specs.Rules.{equal}
 use Rattle.sql_forms.specs.Forms.{query, no_limit}
 use Rattle.sql_forms.proofs.Keys.{equal_text, columns_are}
 use Rattle.sql_forms.proofs.Lists.{and_true, flat_filtered}

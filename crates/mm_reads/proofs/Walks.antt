@@ -1,12 +1,12 @@
 -- The two walks of a listing.
 use Rattle.std.proofs.Common.{ℕ, Bool, List, [], Option, Result, refl}
-use Rattle.sqlite_value.specs.declared.value.Value.TheVariants.{Null}
+use Rattle.sql_forms.specs.Values.TheVariants.{Null}
 use Rattle.sqlite.specs.Order.{Row}
 use Rattle.sqlite.specs.Query.{IsAnswer}
 use Rattle.sqlite.specs.State.{State}
 use Rattle.sqlite.proofs.Callers.{reads_as, begins_as}
-use Rattle.sqlite_sql.specs.Program.{overlay}
-use Rattle.sqlite_tied.specs.Compute.{everything}
+use Rattle.sql_forms.specs.Program.{overlay}
+use Rattle.sql_forms.specs.Compute.{everything}
 use Rattle.sql_forms.specs.Forms.{query, no_limit}
 use Rattle.sql_forms.specs.Tables.{tables_of}
 use Rattle.sql_forms.proofs.Queries.{no_overlay}

@@ -12,16 +12,16 @@ use Rattle.sqlite.specs.Tree.{Trees, IsTable, rowid}
 use Rattle.sqlite.specs.View.{is_int}
 use Rattle.sqlite.specs.declared.types.Value.{Value}
 use Rattle.sqlite.specs.declared.types.Value.TheVariants.{Null, Int, Real, Text as Words, Blob}
-use Rattle.sqlite_value.specs.declared.keys.Collation.TheVariants.{Binary}
-use Rattle.sqlite_value.specs.Order.{value_cmp}
-use Rattle.sqlite_value.proofs.OrderLemmas.{value_cmp-Text, value_cmp_total}
-use Rattle.sqlite_sql.specs.declared.ops.BinaryOp.TheVariants.{Compare, Is}
-use Rattle.sqlite_sql.specs.declared.ops.CompareOp.TheVariants.{Lt}
-use Rattle.sqlite_sql.specs.Term.{col, lit}
-use Rattle.sqlite_sql.specs.Query.{inner, left, end, or_nulls}
-use Rattle.sqlite_schema.specs.Rules.{equal}
-use Rattle.sqlite_rules.specs.Lists as lists
-use Rattle.sqlite_rules.proofs.ListLemmas.{all_has, has_filtered, has_kept}
+use Rattle.sql_forms.specs.Collation.TheVariants.{Binary}
+use Rattle.sql_forms.specs.Order.{value_cmp}
+use Rattle.sql_forms.proofs.OrderLemmas.{value_cmp-Text, value_cmp_total}
+use Rattle.sql_forms.specs.BinaryOp.TheVariants.{Compare, Is}
+use Rattle.sql_forms.specs.CompareOp.TheVariants.{Lt}
+use Rattle.sql_forms.specs.Term.{col, lit}
+use Rattle.sql_forms.specs.Query.{inner, left, end, or_nulls}
+use Rattle.sql_forms.specs.Rules.{equal}
+use Rattle.sql_forms.specs.Lists as lists
+use Rattle.sql_forms.proofs.ListLemmas.{all_has, has_filtered, has_kept}
 use Rattle.sql_forms.proofs.Keys.{as_truth}
 use Rattle.mm_definitions.specs.Keys.{Text, Extension}
 use Rattle.mm_definitions.specs.Parts.{Each, Has, Stands}

@@ -5,11 +5,11 @@ use Rattle.std.specs.FinMap.{get}
 use Rattle.sqlite.specs.Order.{Row, column}
 use Rattle.sqlite.specs.Tree.{Trees}
 use Rattle.sqlite.specs.declared.types.Value.TheVariants.{Null, Int, Text as Words}
-use Rattle.sqlite_value.specs.declared.keys.Collation.TheVariants.{Binary}
-use Rattle.sqlite_sql.specs.Term.{col}
-use Rattle.sqlite_sql.specs.Query.{inner, left, end, or_nulls}
-use Rattle.sqlite_schema.specs.Rules.{equal}
-use Rattle.sqlite_rules.specs.Lists as lists
+use Rattle.sql_forms.specs.Collation.TheVariants.{Binary}
+use Rattle.sql_forms.specs.Term.{col}
+use Rattle.sql_forms.specs.Query.{inner, left, end, or_nulls}
+use Rattle.sql_forms.specs.Rules.{equal}
+use Rattle.sql_forms.specs.Lists as lists
 use Rattle.mm_definitions.specs.Package.{Package, System}
 use Rattle.mm_definitions.specs.Rules.{GivenSystems, geographic, undefined_cartesian, undefined_geographic}
 use Rattle.mm_definitions.proofs.Parts.{same_some}

@@ -1,8 +1,8 @@
 -- What the queries of tiles show, and rule 10.
 use Rattle.std.proofs.Common.{[], ◌∷◌, refl}
 use Rattle.std.specs.Prelude.{⊤}
-use Rattle.sqlite_sql.specs.Term.{col}
-use Rattle.sqlite_sql.specs.Query.{inner, left, end}
+use Rattle.sql_forms.specs.Term.{col}
+use Rattle.sql_forms.specs.Query.{inner, left, end}
 use Rattle.mm_definitions.specs.Keys.{level}
 use Rattle.mm_definitions.specs.Rules.{TilesInside, IsInside}
 use Rattle.mm_store.specs.Rows.{grid_row, tile_row}

@@ -5,15 +5,15 @@ use Rattle.std.specs.FinMap.{retain_keys}
 use Rattle.std.proofs.lemmas.Bool.{or_right}
 use Rattle.sqlite.specs.declared.types.Value.{Value}
 use Rattle.sqlite.specs.declared.types.Value.TheVariants.{Null, Int, Text as Words}
-use Rattle.sqlite_value.specs.declared.keys.Collation.TheVariants.{Binary}
-use Rattle.sqlite_value.specs.Order.{value_cmp}
-use Rattle.sqlite_sql.specs.declared.ops.BinaryOp.TheVariants.{Is}
-use Rattle.sqlite_sql.specs.declared.ops.UnaryOp.TheVariants.{Not}
+use Rattle.sql_forms.specs.Collation.TheVariants.{Binary}
+use Rattle.sql_forms.specs.Order.{value_cmp}
+use Rattle.sql_forms.specs.BinaryOp.TheVariants.{Is}
+use Rattle.sql_forms.specs.UnaryOp.TheVariants.{Not}
 use Rattle.sqlite.specs.Ops.{binary, unary, is_true}
 use Rattle.sqlite.specs.Order.{Row, column}
 use Rattle.sqlite.specs.Term.{op1}
 use Rattle.sqlite.specs.Tree.{Trees, with_tree}
-use Rattle.sqlite_schema.specs.Rules.{equal}
+use Rattle.sql_forms.specs.Rules.{equal}
 use Rattle.sql_forms.specs.Cascade.{cut}
 use Rattle.sql_forms.specs.Forms.{equals, is_absent}
 use Rattle.sql_forms.specs.Tables.{passes, without}

@@ -9,15 +9,15 @@ use Rattle.std.specs.FinMap.{FinMap, get, contains_key}
 use Rattle.std.proofs.lemmas.Bool.{both_ways}
 use Rattle.sqlite.specs.declared.types.Value.TheVariants.{Int, Text as Words}
 use Rattle.sqlite.specs.State.{State}
-use Rattle.sqlite_value.specs.declared.keys.Collation.TheVariants.{Binary}
-use Rattle.sqlite_value.specs.declared.keys.Key.{Key}
-use Rattle.sqlite_value.specs.Order.{value_cmp}
-use Rattle.sqlite_value.proofs.OrderLemmas.{value_cmp-Int}
+use Rattle.sql_forms.specs.Collation.TheVariants.{Binary}
+use Rattle.sql_forms.specs.Key.{Key}
+use Rattle.sql_forms.specs.Order.{value_cmp}
+use Rattle.sql_forms.proofs.OrderLemmas.{value_cmp-Int}
 use Rattle.sqlite.specs.Order.{Row, column}
 use Rattle.sqlite.specs.Term.{Term, col}
-use Rattle.sqlite_schema.specs.Rules.{equal}
-use Rattle.sqlite_rules.specs.Lists.{Has as IsAmong}
-use Rattle.sqlite_rules.proofs.ListLemmas.{some_from}
+use Rattle.sql_forms.specs.Rules.{equal}
+use Rattle.sql_forms.specs.Lists.{Has as IsAmong}
+use Rattle.sql_forms.proofs.ListLemmas.{some_from}
 use Rattle.sql_forms.specs.Forms.{equals}
 use Rattle.sql_forms.specs.Tables.{passes, FindsFirst}
 use Rattle.sql_forms.specs.Maps.{Holds}

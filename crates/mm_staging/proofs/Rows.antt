@@ -6,8 +6,8 @@ use Rattle.sqlite.specs.Term.{Term, col}
 use Rattle.std.specs.FinMap.{FinMap, get}
 use Rattle.sql_forms.specs.Tables.{Finds}
 use Rattle.sql_forms.specs.Maps.{Holds}
-use Rattle.sqlite_value.specs.declared.keys.Collation.TheVariants.{Binary}
-use Rattle.sqlite_schema.specs.Rules.{equal}
+use Rattle.sql_forms.specs.Collation.TheVariants.{Binary}
+use Rattle.sql_forms.specs.Rules.{equal}
 use Rattle.sql_forms.proofs.Keys.{columns_are, equal_text}
 use Rattle.sql_forms.proofs.Selects.{shows}
 use Rattle.mm_definitions.specs.Keys.{Text, PieceKey, piece_cmp}

@@ -2,9 +2,9 @@
 use Rattle.std.proofs.Common.{ℕ, List, [], ◌∷◌, codes, pos, refl}
 use Rattle.sqlite.specs.declared.types.Value.TheVariants.{Int}
 use Rattle.sqlite.specs.Term.{lit, col, op1}
-use Rattle.sqlite_sql.specs.declared.ops.UnaryOp.TheVariants.{Not}
+use Rattle.sql_forms.specs.UnaryOp.TheVariants.{Not}
 use Rattle.sqlite.specs.Listing.{understood}
-use Rattle.sqlite_tied.specs.Compute.{everything}
+use Rattle.sql_forms.specs.Compute.{everything}
 use Rattle.sql_forms.specs.Forms.{all_of, first_of, equals, is_absent}
 use Rattle.sql_forms.proofs.Selects.{IsSelect}
 use Rattle.mm_store.specs.Tables.{schema}

@@ -1,10 +1,10 @@
 -- The DELETE statements whose foreign keys take rows of other tables along.
 use Rattle.std.proofs.Common.{◌≡◌, true, refl}
-use Rattle.sqlite_value.specs.Keys.{joined, first_key}
-use Rattle.sqlite_schema.specs.Names.{same_name}
-use Rattle.sqlite_schema.specs.declared.schema.Keys.TheVariants.{Enforced}
+use Rattle.sql_forms.specs.Keys.{joined, first_key}
+use Rattle.sql_forms.specs.Names.{same_name}
+use Rattle.sql_forms.specs.TableKeys.TheVariants.{Enforced}
 use Rattle.sqlite.specs.Listing.{understood}
-use Rattle.sqlite_tied.specs.Compute.{everything}
+use Rattle.sql_forms.specs.Compute.{everything}
 use Rattle.sql_forms.specs.Cascade.{carries, covers}
 use Rattle.sql_forms.proofs.Cascades.{IsCascade}
 use Rattle.mm_store.specs.Tables.{schema, gpkg_contents, gpkgext_relations, mm_editions}

@@ -1,7 +1,7 @@
 -- The CREATE statements, each on the tables that are there before it.
 use Rattle.std.proofs.Common.{◌≡◌, refl}
 use Rattle.sqlite.specs.Listing.{understood}
-use Rattle.sqlite_tied.specs.Compute.{everything}
+use Rattle.sql_forms.specs.Compute.{everything}
 use Rattle.sql_forms.proofs.Creates.{IsCreate, IsIndexing}
 use Rattle.mm_store.specs.Tables as tables
 use Rattle.mm_store.specs.Made.{first_tables, unplaced, unplaced_index, with_digest, with_tiles, with_media, with_pieces, with_related}

@@ -1,6 +1,6 @@
 -- Each text defines its table.
 use Rattle.std.proofs.Common.{◌≡◌, Ok, refl}
-use Rattle.sqlite_tied.specs.Compute.{everything}
+use Rattle.sql_forms.specs.Compute.{everything}
 use Rattle.sqlite.specs.Compile.{table_defined_by}
 use Rattle.mm_store.specs.Tables as tables
 use Rattle.mm_store.specs.Creates as texts

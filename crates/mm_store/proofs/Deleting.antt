@@ -1,10 +1,10 @@
 -- The DELETE statements that take nothing along.
 use Rattle.std.proofs.Common.{◌≡◌, [], ◌∷◌, codes, true, refl}
-use Rattle.sqlite_value.specs.Keys.{joined, first_key}
-use Rattle.sqlite_schema.specs.Names.{same_name}
-use Rattle.sqlite_schema.specs.declared.schema.Keys.TheVariants.{Enforced}
+use Rattle.sql_forms.specs.Keys.{joined, first_key}
+use Rattle.sql_forms.specs.Names.{same_name}
+use Rattle.sql_forms.specs.TableKeys.TheVariants.{Enforced}
 use Rattle.sqlite.specs.Listing.{understood}
-use Rattle.sqlite_tied.specs.Compute.{everything}
+use Rattle.sql_forms.specs.Compute.{everything}
 use Rattle.sql_forms.specs.Cascade.{is_childless}
 use Rattle.sql_forms.specs.Forms.{equals, reads, is_absent}
 use Rattle.sql_forms.proofs.Deletes.{IsDelete}

@@ -6,15 +6,15 @@ use Rattle.std.specs.List.{list_any}
 use Rattle.std.specs.FinMap.{FinMap, get, entries}
 use Rattle.std.proofs.lemmas.Bool.{both_ways, false_from_ne_true, true_from_ne_false}
 use Rattle.sqlite.specs.declared.types.Value.TheVariants.{Text as Words}
-use Rattle.sqlite_value.specs.declared.keys.Collation.TheVariants.{Binary}
+use Rattle.sql_forms.specs.Collation.TheVariants.{Binary}
 use Rattle.sqlite.specs.Order.{Row, column}
 use Rattle.sqlite.specs.Ops.{binary, is_true, from_truth, truth, or3}
 use Rattle.sqlite.specs.declared.types.Value.{Value}
-use Rattle.sqlite_value.proofs.OrderLemmas.{value_cmp-Text}
-use Rattle.sqlite_sql.specs.declared.ops.BinaryOp.TheVariants.{Compare, Or}
-use Rattle.sqlite_sql.specs.declared.ops.CompareOp.TheVariants.{Eq}
-use Rattle.sqlite_schema.specs.Rules.{equal}
-use Rattle.sqlite_rules.proofs.ListLemmas.{some_has, some_from}
+use Rattle.sql_forms.proofs.OrderLemmas.{value_cmp-Text}
+use Rattle.sql_forms.specs.BinaryOp.TheVariants.{Compare, Or}
+use Rattle.sql_forms.specs.CompareOp.TheVariants.{Eq}
+use Rattle.sql_forms.specs.Rules.{equal}
+use Rattle.sql_forms.proofs.ListLemmas.{some_has, some_from}
 use Rattle.sql_forms.specs.Tables.{has_key}
 use Rattle.sql_forms.specs.Maps.{Holds}
 use Rattle.sql_forms.proofs.Keys.{equal_text, columns_are}

@@ -8,17 +8,17 @@ use Rattle.std.specs.FinMap.{FinMap, get, insert, remove}
 use Rattle.std.proofs.lemmas.Bool.{false_from_ne_true}
 use Rattle.sqlite.specs.declared.types.Value.{Value}
 use Rattle.sqlite.specs.declared.types.Value.TheVariants.{Null, Int, Text as Words}
-use Rattle.sqlite_value.specs.declared.keys.Collation.TheVariants.{Binary}
-use Rattle.sqlite_value.specs.Order.{value_cmp}
-use Rattle.sqlite_sql.specs.declared.ops.BinaryOp.TheVariants.{Is}
+use Rattle.sql_forms.specs.Collation.TheVariants.{Binary}
+use Rattle.sql_forms.specs.Order.{value_cmp}
+use Rattle.sql_forms.specs.BinaryOp.TheVariants.{Is}
 use Rattle.sqlite.specs.Ops.{binary, is_true}
 use Rattle.sqlite.specs.Order.{Row, column}
 use Rattle.sqlite.specs.Term.{Term}
 use Rattle.sqlite.specs.Tree.{rowid, put_row}
 use Rattle.sqlite.specs.Edit.{is_taken}
-use Rattle.sqlite_schema.specs.Rules.{equal}
-use Rattle.sqlite_rules.proofs.ListLemmas.{has_filtered}
-use Rattle.sqlite_rules.proofs.TableLemmas.{put_has}
+use Rattle.sql_forms.specs.Rules.{equal}
+use Rattle.sql_forms.proofs.ListLemmas.{has_filtered}
+use Rattle.sql_forms.proofs.TableLemmas.{put_has}
 use Rattle.sql_forms.specs.Forms.{equals, reads, is_absent}
 use Rattle.sql_forms.specs.Tables.{passes, without}
 use Rattle.sql_forms.proofs.Keys.{equal_text, columns_are}

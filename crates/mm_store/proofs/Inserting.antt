@@ -3,7 +3,7 @@ use Rattle.std.proofs.Common.{[], ◌∷◌, codes, refl}
 use Rattle.sqlite.specs.declared.types.Value.TheVariants.{Null, Text}
 use Rattle.sqlite.specs.Term.{lit, col}
 use Rattle.sqlite.specs.Listing.{understood}
-use Rattle.sqlite_tied.specs.Compute.{everything}
+use Rattle.sql_forms.specs.Compute.{everything}
 use Rattle.sql_forms.proofs.Inserts.{IsInsert}
 use Rattle.mm_store.specs.Tables.{schema, gpkg_spatial_ref_sys, gpkg_contents, gpkg_tile_matrix_set, gpkg_tile_matrix, gpkg_extensions, gpkgext_relations, mm_profile, mm_tables, mm_tiles, mm_rows, mm_media, mm_map, mm_editions, mm_pieces, mm_blobs}
 use Rattle.mm_store.specs.Compiled as text

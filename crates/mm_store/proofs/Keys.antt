@@ -6,14 +6,14 @@ use Rattle.std.specs.Ordering.{is_eq, eq_by_cmp, ordering_then, int_cmp}
 use Rattle.std.specs.FinMap.{FinMap, get}
 use Rattle.std.proofs.lemmas.Bool.{false_from_ne_true}
 use Rattle.sqlite.specs.declared.types.Value.TheVariants.{Int, Text as Words}
-use Rattle.sqlite_value.specs.declared.keys.Collation.TheVariants.{Binary}
-use Rattle.sqlite_value.specs.Order.{value_cmp}
-use Rattle.sqlite_value.proofs.OrderLemmas.{value_cmp-Int}
+use Rattle.sql_forms.specs.Collation.TheVariants.{Binary}
+use Rattle.sql_forms.specs.Order.{value_cmp}
+use Rattle.sql_forms.proofs.OrderLemmas.{value_cmp-Int}
 use Rattle.sqlite.specs.Order.{Row, column}
 use Rattle.sqlite.specs.Tree.{rowid}
 use Rattle.sqlite.specs.Edit.{is_taken}
-use Rattle.sqlite_schema.specs.Rules.{equal}
-use Rattle.sqlite_rules.proofs.ListLemmas.{some_has}
+use Rattle.sql_forms.specs.Rules.{equal}
+use Rattle.sql_forms.proofs.ListLemmas.{some_has}
 use Rattle.sql_forms.specs.Tables.{has_key}
 use Rattle.sql_forms.specs.Maps.{Holds}
 use Rattle.sql_forms.proofs.Keys.{equal_text, equal_int, columns_are}

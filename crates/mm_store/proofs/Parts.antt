@@ -7,7 +7,7 @@ use Rattle.std.specs.FinMap.{FinMap, get, contains_key, insert, remove, retain_k
 use Rattle.sqlite.specs.Order.{Row}
 use Rattle.sqlite.specs.Tree.{put_row}
 use Rattle.sqlite.specs.Edit.{is_taken}
-use Rattle.sqlite_rules.proofs.ListLemmas.{some_has, has_filtered, has_kept}
+use Rattle.sql_forms.proofs.ListLemmas.{some_has, has_filtered, has_kept}
 use Rattle.sql_forms.specs.Tables.{Finds, without, with_changed}
 use Rattle.sql_forms.specs.Maps.{Holds}
 use Rattle.sql_forms.proofs.Maps as maps

@@ -5,10 +5,10 @@ use Rattle.std.specs.FinMap.{FinMap, retain_keys}
 use Rattle.mm_definitions.proofs.Parts.{IsKeyOrder, kept, let_go, true_or_false}
 use Rattle.mm_definitions.proofs.KeyLaws.{tile_keys, items, piece_keys}
 use Rattle.sqlite.specs.declared.types.Value.TheVariants.{Text as Words}
-use Rattle.sqlite_value.specs.declared.keys.Collation.TheVariants.{Binary}
+use Rattle.sql_forms.specs.Collation.TheVariants.{Binary}
 use Rattle.sqlite.specs.Order.{Row}
 use Rattle.sqlite.specs.Tree.{Trees}
-use Rattle.sqlite_schema.specs.Rules.{equal}
+use Rattle.sql_forms.specs.Rules.{equal}
 use Rattle.sql_forms.specs.Cascade.{has_at, cut}
 use Rattle.sql_forms.proofs.Keys.{equal_text, columns_are}
 use Rattle.mm_store.specs.Places.{table_place, mapping_place, edition_place}

@@ -3,8 +3,8 @@ use Rattle.std.proofs.Common.{[], ◌∷◌, codes, refl}
 use Rattle.sqlite.specs.declared.types.Value.TheVariants.{Text}
 use Rattle.sqlite.specs.Term.{lit, col}
 use Rattle.sqlite.specs.Listing.{understood}
-use Rattle.sqlite_tied.specs.Compute.{everything}
-use Rattle.sqlite_sql.specs.declared.ops.CompareOp.TheVariants.{Ne}
+use Rattle.sql_forms.specs.Compute.{everything}
+use Rattle.sql_forms.specs.CompareOp.TheVariants.{Ne}
 use Rattle.sql_forms.specs.Forms.{equals, compares}
 use Rattle.sql_forms.proofs.Updates.{IsUpdate}
 use Rattle.mm_store.specs.Tables.{schema, gpkg_contents, mm_tiles, mm_rows, mm_media, mm_editions}

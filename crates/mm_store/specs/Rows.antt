@@ -5,7 +5,7 @@ use Rattle.std.specs.FinMap.{FinMap, get}
 use Rattle.sqlite.specs.declared.types.Value.{Value}
 use Rattle.sqlite.specs.declared.types.Value.TheVariants.{Null, Int, Text as Words, Blob}
 use Rattle.sqlite.specs.Order.{Row, column}
-use Rattle.sqlite_rules.specs.Lists.{Has}
+use Rattle.sql_forms.specs.Lists.{Has}
 use Rattle.mm_definitions.specs.Keys.{Text, Level, TileKey, Item, Pairing, PieceKey, Extension, extension_cmp}
 use Rattle.mm_definitions.specs.Package.{System, Contents, MatrixSet, Grid, AttributeRow, Relation}
 

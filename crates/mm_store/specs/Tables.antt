@@ -6,14 +6,14 @@ use Rattle.sqlite.specs.Kind.{Kind}
 use Rattle.sqlite.specs.Kind.TheVariants.{Integer, Text, Blob}
 use Rattle.sqlite.specs.Table.{Table}
 use Rattle.sqlite.specs.Schema.{Schema}
-use Rattle.sqlite_schema.specs.declared.schema.Column.{Column}
-use Rattle.sqlite_schema.specs.declared.schema.Index.{Index}
-use Rattle.sqlite_schema.specs.declared.schema.Reference.{Reference}
-use Rattle.sqlite_schema.specs.declared.schema.Action.{Action}
-use Rattle.sqlite_schema.specs.declared.schema.Action.TheVariants.{NoAction, Cascade, Restrict}
-use Rattle.sqlite_value.specs.declared.keys.Order.{Order}
-use Rattle.sqlite_value.specs.Keys.{plain}
-use Rattle.sqlite_catalog.specs.Listing.{automatic}
+use Rattle.sql_forms.specs.Column.{Column}
+use Rattle.sql_forms.specs.Index.{Index}
+use Rattle.sql_forms.specs.Reference.{Reference}
+use Rattle.sql_forms.specs.Action.{Action}
+use Rattle.sql_forms.specs.Action.TheVariants.{NoAction, Cascade, Restrict}
+use Rattle.sql_forms.specs.Direction.{Order}
+use Rattle.sql_forms.specs.Keys.{plain}
+use Rattle.sql_forms.specs.Listing.{automatic}
 
 -- a NOT NULL column of a STRICT table, by its name and type; its texts compare byte by byte
 abbrev required : List ℕ → Kind → Column

@@ -1,9 +1,9 @@
 -- A check by a walk.
 use Rattle.std.proofs.Common.{◌≡◌, ◌↔◌, ℕ, List, Bool, IsTrue, Result, Ok, Err, IfOk, OnOk, subst}
-use Rattle.sqlite_value.specs.declared.keys.Key.{Key}
+use Rattle.sql_forms.specs.Key.{Key}
 use Rattle.sqlite.specs.Order.{Row}
-use Rattle.sqlite_sql.specs.Term.{Term}
-use Rattle.sqlite_sql.specs.Query.{Join}
+use Rattle.sql_forms.specs.Term.{Term}
+use Rattle.sql_forms.specs.Query.{Join}
 use Rattle.sqlite.specs.Tree.{Trees}
 use Rattle.sqlite.specs.State.{State, HasCleanDisk, IsUnchanged}
 use Rattle.mm_definitions.specs.Bounds.{Profile}

@@ -3,8 +3,8 @@ use Rattle.std.proofs.Common.{◌≡◌, ℕ, suc, true, List, [], ◌∷◌, le
 use Rattle.std.specs.FinMap.{FinMap, get}
 use Rattle.sqlite.specs.Order.{Row}
 use Rattle.sqlite.specs.declared.types.Value.{Value}
-use Rattle.sqlite_rules.specs.Lists.{Has}
-use Rattle.sqlite_rules.proofs.ListLemmas.{has_filtered, has_kept}
+use Rattle.sql_forms.specs.Lists.{Has}
+use Rattle.sql_forms.proofs.ListLemmas.{has_filtered, has_kept}
 use Rattle.mm_definitions.specs.Keys.{Extension, extension_cmp}
 use Rattle.mm_definitions.proofs.Parts.{same_itself}
 use Rattle.mm_definitions.proofs.KeyLaws.{extension_keys}

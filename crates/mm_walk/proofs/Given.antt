@@ -9,9 +9,9 @@ use Rattle.sqlite.specs.State.{State, IsUnchanged, IsStatement, Shown, ShowsRows
 use Rattle.sqlite.specs.declared.error.Error.{Error}
 use Rattle.sqlite.proofs.StateLemmas.{survives_weaker}
 use Rattle.sqlite.proofs.Callers.{unchanged_then}
-use Rattle.sqlite_trees.specs.declared.store.Store.{Ghosts}
-use Rattle.sqlite_resolve.specs.declared.compiled.Compiled.{Compiled}
-use Rattle.sqlite_resolve.specs.declared.error.CompileError.{CompileError}
+use Rattle.sql_forms.specs.Store.{Ghosts}
+use Rattle.sql_forms.specs.Compiled.{Compiled}
+use Rattle.sql_forms.specs.CompileError.{CompileError}
 use Rattle.sqlite.specs.Held.{Held, state}
 use Rattle.sqlite.specs.Given.{Returns, HasGiven, HasBegun}
 use Rattle.mm_definitions.specs.declared.answers.Fault.{Fault}

@@ -5,9 +5,9 @@ use Rattle.std.specs.declared.cmp.Ordering.{Ordering}
 use Rattle.std.specs.FinMap.{FinMap, get}
 use Rattle.sqlite.specs.Order.{Row}
 use Rattle.sqlite.specs.declared.types.Value.{Value}
-use Rattle.sqlite_sql.specs.Query.{or_nulls}
-use Rattle.sqlite_rules.specs.Lists.{Has}
-use Rattle.sqlite_rules.proofs.ListLemmas.{has_filtered, has_kept}
+use Rattle.sql_forms.specs.Query.{or_nulls}
+use Rattle.sql_forms.specs.Lists.{Has}
+use Rattle.sql_forms.proofs.ListLemmas.{has_filtered, has_kept}
 use Rattle.sql_forms.specs.Maps.{Holds}
 use Rattle.mm_definitions.specs.Parts.{Each}
 use Rattle.mm_store.specs.Rows.{whole, past_rowid, past_id}

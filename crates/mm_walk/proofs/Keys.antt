@@ -9,11 +9,11 @@ use Rattle.std.specs.declared.cmp.Ordering.TheVariants.{Less, Equal, Greater}
 use Rattle.std.specs.Cmp.{tied_itself, int_cmp_is}
 use Rattle.sqlite.specs.Ops.{binary, is_true}
 use Rattle.sqlite.specs.declared.types.Value.TheVariants.{Int, Text as Words}
-use Rattle.sqlite_value.specs.declared.keys.Collation.TheVariants.{Binary}
-use Rattle.sqlite_value.proofs.OrderLemmas.{value_cmp-Int}
-use Rattle.sqlite_sql.specs.declared.ops.BinaryOp.TheVariants.{Compare}
-use Rattle.sqlite_sql.specs.declared.ops.CompareOp.TheVariants.{Lt}
-use Rattle.sqlite_schema.specs.Rules.{equal}
+use Rattle.sql_forms.specs.Collation.TheVariants.{Binary}
+use Rattle.sql_forms.proofs.OrderLemmas.{value_cmp-Int}
+use Rattle.sql_forms.specs.BinaryOp.TheVariants.{Compare}
+use Rattle.sql_forms.specs.CompareOp.TheVariants.{Lt}
+use Rattle.sql_forms.specs.Rules.{equal}
 use Rattle.sql_forms.proofs.Keys.{equal_text, equal_int, as_truth}
 use Rattle.mm_definitions.specs.Keys.{Text, level, Level, Item, item}
 use Rattle.mm_definitions.proofs.Parts.{IsKeyOrder}

@@ -2,13 +2,13 @@
 use Rattle.std.proofs.Common.{◌≡◌, inl, inr, Bool, true, false, cond, List, [], ◌∷◌, ◌++◌, map, filter, refl, sym, ap, subst, ◌∙◌}
 use Rattle.std.specs.List.{AllByRecursion, flat_map, list_all}
 use Rattle.std.proofs.lemmas.List.Sorted.{IsPermutation-sym}
-use Rattle.sqlite_value.specs.declared.keys.Key.{Key}
-use Rattle.sqlite_value.specs.Order.{Row}
-use Rattle.sqlite_trees.specs.Tree.{Trees}
-use Rattle.sqlite_trees.proofs.ListLemmas.{all-map, all_from_map, all-permutation}
-use Rattle.sqlite_sql.specs.Term.{Term, Env, eval_all, holds}
-use Rattle.sqlite_sql.specs.Query.{Query, Join, end, inner, left, counted, made, folded, first, matches, or_nulls, Output, output, IsAnswer}
-use Rattle.sqlite_rules.specs.Lists.{Has}
+use Rattle.sql_forms.specs.Key.{Key}
+use Rattle.sql_forms.specs.Order.{Row}
+use Rattle.sql_forms.specs.Tree.{Trees}
+use Rattle.sql_forms.proofs.TreeLists.{all-map, all_from_map, all-permutation}
+use Rattle.sql_forms.specs.Term.{Term, Env, eval_all, holds}
+use Rattle.sql_forms.specs.Query.{Query, Join, end, inner, left, counted, made, folded, first, matches, or_nulls, Output, output, IsAnswer}
+use Rattle.sql_forms.specs.Lists.{Has}
 use Rattle.sql_forms.specs.Forms.{query, no_limit}
 use Rattle.mm_walk.specs.RowTests.{OnTrue, EachMatch}
 

@@ -6,10 +6,10 @@ use Rattle.sqlite.specs.Order.{Row, column}
 use Rattle.sqlite.specs.Ops.{binary}
 use Rattle.sqlite.specs.declared.types.Value.{Value}
 use Rattle.sqlite.specs.declared.types.Value.TheVariants.{Null, Int, Real, Text as Words, Blob as Bytes}
-use Rattle.sqlite_value.specs.declared.keys.Collation.TheVariants.{Binary}
-use Rattle.sqlite_sql.specs.Query.{or_nulls}
-use Rattle.sqlite_schema.specs.Rules.{equal}
-use Rattle.sqlite_rules.specs.Lists as lists
+use Rattle.sql_forms.specs.Collation.TheVariants.{Binary}
+use Rattle.sql_forms.specs.Query.{or_nulls}
+use Rattle.sql_forms.specs.Rules.{equal}
+use Rattle.sql_forms.specs.Lists as lists
 use Rattle.sql_forms.specs.Maps.{Holds}
 use Rattle.mm_definitions.specs.Parts.{Each}
 use Rattle.mm_definitions.proofs.Parts.{same_some}

@@ -3,14 +3,14 @@ use Rattle.std.proofs.Common.{◌≡◌, ℕ, Bool, true, false, List, Option, N
 use Rattle.std.specs.Prelude.{⊤, if◌then◌else◌}
 use Rattle.sqlite.specs.Schema.{Schema}
 use Rattle.sqlite.specs.Command.{Command}
-use Rattle.sqlite_schema.specs.declared.command.Returning.{Returning}
-use Rattle.sqlite_syntax.specs.declared.statement.Parsed.{Parsed}
-use Rattle.sqlite_resolve.specs.declared.compiled.Compiled.{Compiled}
-use Rattle.sqlite_resolve.specs.declared.error.CompileError.{CompileError}
-use Rattle.sqlite_resolve.specs.declared.error.CompileError.TheVariants.{NoSuchTable}
-use Rattle.sqlite_resolve.specs.Compile.{compiled, first, planned, meaning, returning, with_command}
-use Rattle.sqlite_resolve.specs.Lowering.{Checked, and_then}
-use Rattle.sqlite_resolve.specs.Scope.{Name}
+use Rattle.sql_forms.specs.Returning.{Returning}
+use Rattle.sql_forms.specs.Parsed.{Parsed}
+use Rattle.sql_forms.specs.Compiled.{Compiled}
+use Rattle.sql_forms.specs.CompileError.{CompileError}
+use Rattle.sql_forms.specs.CompileError.TheVariants.{NoSuchTable}
+use Rattle.sql_forms.specs.Compile.{compiled, first, planned, meaning, returning, with_command}
+use Rattle.sql_forms.specs.Lowering.{Checked, and_then}
+use Rattle.sql_forms.specs.Scope.{Name}
 use Rattle.sqlite.specs.Listing.{understood, listing_schema, reads_listing, if_select, is_select}
 use Rattle.mm_walk.specs.Walk.{OnlyAsks}
 

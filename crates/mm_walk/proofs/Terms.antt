@@ -1,11 +1,11 @@
 -- The terms of the check's queries.
 use Rattle.std.proofs.Common.{ℕ, pos}
-use Rattle.sqlite_value.specs.declared.keys.Collation.TheVariants.{Binary}
-use Rattle.sqlite_sql.specs.declared.ops.BinaryOp.TheVariants.{Compare, Is, Arith}
-use Rattle.sqlite_sql.specs.declared.ops.ArithOp.TheVariants.{Sub}
+use Rattle.sql_forms.specs.Collation.TheVariants.{Binary}
+use Rattle.sql_forms.specs.BinaryOp.TheVariants.{Compare, Is, Arith}
+use Rattle.sql_forms.specs.ArithOp.TheVariants.{Sub}
 use Rattle.sqlite.specs.declared.types.Value.TheVariants.{Int}
-use Rattle.sqlite_sql.specs.declared.ops.CompareOp.TheVariants.{Eq, Lt}
-use Rattle.sqlite_sql.specs.Term.{Term, col, lit, op2}
+use Rattle.sql_forms.specs.CompareOp.TheVariants.{Eq, Lt}
+use Rattle.sql_forms.specs.Term.{Term, col, lit, op2}
 
 -- place c of slot s and place d of slot t
 abbrev pub equals : ℕ → ℕ → ℕ → ℕ → Term

@@ -1,14 +1,14 @@
 -- What a walk that tests each row tells.
 use Rattle.std.proofs.Common.{◌≡◌, ◌↔◌, ◌⊎◌, inl, inr, ℕ, Bool, true, false, List, [], ◌∷◌, ◌++◌, IsTrue, Result, Ok, Err, IfOk, IfErr, OnOk, refl, sym, subst, ◌∙◌}
 use Rattle.std.specs.List.{AllByRecursion}
-use Rattle.sqlite_value.specs.declared.value.Value.TheVariants.{Null}
-use Rattle.sqlite_value.specs.declared.keys.Key.{Key}
+use Rattle.sql_forms.specs.Values.TheVariants.{Null}
+use Rattle.sql_forms.specs.Key.{Key}
 use Rattle.sqlite.specs.Order.{Row}
-use Rattle.sqlite_sql.specs.Term.{Term}
-use Rattle.sqlite_sql.specs.Query.{Join}
-use Rattle.sqlite_sql.specs.Program.{overlay}
-use Rattle.sqlite_schema.specs.declared.schema.Schema.{Schema}
-use Rattle.sqlite_schema.specs.declared.command.Command.TheVariants.{Select}
+use Rattle.sql_forms.specs.Term.{Term}
+use Rattle.sql_forms.specs.Query.{Join}
+use Rattle.sql_forms.specs.Program.{overlay}
+use Rattle.sql_forms.specs.Schema.{Schema}
+use Rattle.sql_forms.specs.Command.TheVariants.{Select}
 use Rattle.sqlite.specs.Listing.{understood}
 use Rattle.sqlite.specs.State.{State, IsUnchanged, Shown, Begins}
 use Rattle.sqlite.proofs.Callers.{IsPlain, reads_as, begins_as}

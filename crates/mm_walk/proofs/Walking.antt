@@ -5,7 +5,7 @@ use Rattle.sqlite.specs.declared.error.Error.{Error}
 use Rattle.sqlite.specs.State.{HasCleanDisk, IsUnchanged, Fails, FailsToQuery, Shown, Survives, CommitsShowing}
 use Rattle.sqlite.proofs.StateLemmas.{survives_then}
 use Rattle.sqlite.proofs.Callers.{unchanged_then, given_begin}
-use Rattle.sqlite_trees.specs.declared.store.Store.{Ghosts}
+use Rattle.sql_forms.specs.Store.{Ghosts}
 use Rattle.sqlite.specs.Held.{Held, state}
 use Rattle.sqlite.specs.Given.{HasGiven, HasBegun}
 use Rattle.mm_definitions.specs.declared.answers.Fault.{Fault}

@@ -2,14 +2,14 @@
 use Rattle.std.specs.Prelude.{◌≡◌, ◌↔◌, ℕ, Bool, true, false, List, [], ◌∷◌, ◌++◌, filter, Result, IfOk, IfErr, OnOk, IsTrue, ⊤}
 use Rattle.std.specs.List.{AllByRecursion, list_all}
 use Rattle.sqlite.specs.Order.{Row}
-use Rattle.sqlite_value.specs.declared.keys.Key.{Key}
-use Rattle.sqlite_trees.specs.Tree.{Trees}
-use Rattle.sqlite_sql.specs.Term.{Term, Env, eval_all, holds}
-use Rattle.sqlite_sql.specs.Query.{Join, end, inner, left, counted, made, folded, first, matches, or_nulls}
-use Rattle.sqlite_sql.specs.Program.{overlay}
-use Rattle.sqlite_schema.specs.declared.schema.Schema.{Schema}
-use Rattle.sqlite_schema.specs.declared.command.Command.TheVariants.{Select}
-use Rattle.sqlite_rules.specs.Lists.{Has}
+use Rattle.sql_forms.specs.Key.{Key}
+use Rattle.sql_forms.specs.Tree.{Trees}
+use Rattle.sql_forms.specs.Term.{Term, Env, eval_all, holds}
+use Rattle.sql_forms.specs.Query.{Join, end, inner, left, counted, made, folded, first, matches, or_nulls}
+use Rattle.sql_forms.specs.Program.{overlay}
+use Rattle.sql_forms.specs.Schema.{Schema}
+use Rattle.sql_forms.specs.Command.TheVariants.{Select}
+use Rattle.sql_forms.specs.Lists.{Has}
 use Rattle.sqlite.specs.Listing.{understood, reads_listing}
 use Rattle.sqlite.specs.State.{State, HasCleanDisk, IsUnchanged}
 use Rattle.sqlite.proofs.Callers.{IsPlain, command_of}

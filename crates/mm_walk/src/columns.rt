@@ -1,7 +1,7 @@
 //! The values of a shown row. A value of another kind than asked for is none.
 
 ghost use Rattle.std.specs.Prelude.{◌≡◌, ◌↔◌, Some, None, IsTrue, MatchOption};
-ghost use Rattle.sqlite_value.specs.Value.{owned};
+ghost use Rattle.sql_forms.specs.Value.{owned};
 ghost use Rattle.sqlite.specs.Order.{column};
 ghost use Rattle.mm_walk.specs.Columns.{number_of, is_there, text_bytes, IsPyramidKind, same_words_by, bytes_of, Unread};
 

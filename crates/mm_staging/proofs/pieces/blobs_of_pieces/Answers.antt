@@ -2,7 +2,7 @@ use Rattle.std.proofs.Common.{◌≡◌, ◌∷◌, [], Some, ap, ◌∙◌, ref
 use Rattle.sqlite.specs.declared.types.Value.TheVariants.{Int, Text as Words}
 use Rattle.sqlite.specs.Held.{state}
 use Rattle.sqlite.specs.Term.{col, op1}
-use Rattle.sqlite_sql.specs.declared.ops.UnaryOp.TheVariants.{Not}
+use Rattle.sql_forms.specs.UnaryOp.TheVariants.{Not}
 use Rattle.sql_forms.specs.Forms.{equals, is_absent}
 use Rattle.sql_forms.specs.Tables.{passes}
 use Rattle.sql_forms.proofs.Keys.{columns_are}

@@ -1,4 +1,4 @@
--- A connection that is looked at and then checked is settled as it was before.
+-- A connection that is looked at and then checked reads as it did before, and is settled where it was.
 use Rattle.std.proofs.Common.{◌≡◌, ℕ, inl, inr, Bool, true, false, Option, Some, None, Result, Ok, Err, refl, sym, subst, ◌∙◌, arith}
 use Rattle.sqlite.specs.State.{State, HasCleanDisk, IsUnchanged}
 use Rattle.mm_definitions.specs.Bounds.{Profile, current}
@@ -6,9 +6,10 @@ use Rattle.mm_definitions.specs.Package.{Package}
 use Rattle.mm_definitions.specs.declared.answers.Fault.{Fault}
 use Rattle.mm_definitions.specs.declared.answers.Open.{Open}
 use Rattle.mm_definitions.specs.declared.answers.Open.TheVariants as opens
-use Rattle.mm_store.specs.Stands.{StandsFor, ReadsAs, IsSettled}
+use Rattle.mm_store.specs.Stands.{ReadsAs, IsSettled}
 use Rattle.mm_store.proofs.Asking.{told_fault}
-use Rattle.mm_store.proofs.Seen.{seen_of, settled_still}
+use Rattle.mm_store.specs.Seen.{IsSeenAs}
+use Rattle.mm_store.proofs.Seen.{settled_still}
 use Rattle.mm_store.proofs.Shapes.{quiet_then}
 use Rattle.mm_meta.specs.Opening.{IsBlank}
 use Rattle.mm_store.specs.Statements.{CommitsNothing}
@@ -28,11 +29,16 @@ pub record IsOpened (old new : State) : Type 0 where
   pub some : HasCleanDisk new → IsBlank old → ⊥
   pub profile : HasCleanDisk new → IsOfThisVersion old
   pub blobs : HasCleanDisk new → BlobsStand old
-  pub settled : HasCleanDisk new → (profile : Profile) (p : Package) → IsSettled profile old p → IsSettled profile new p
+  pub seen : HasCleanDisk new → (profile : Profile) (p : Package) → IsSeenAs profile old p → IsSeenAs profile new p
 
 module _ (old new : State) {result : Result (Unit {0}) Open} (looked : IsLooked old new result) (clean : HasCleanDisk new) where
-  looked_settled : (profile : Profile) (p : Package) → IsSettled profile old p → IsSettled profile new p
-  looked_settled profile p settled = settled_still profile old new p looked.survives clean (seen_still profile old new p (looked.rests clean)) settled
+  looked_seen : (profile : Profile) (p : Package) → IsSeenAs profile old p → IsSeenAs profile new p
+  looked_seen profile p = seen_still profile old new p (looked.rests clean)
+
+-- what commits nothing and reads as before is settled as before
+settled_as : (old new : State) → CommitsNothing old new → (HasCleanDisk new → (profile : Profile) (p : Package) → IsSeenAs profile old p → IsSeenAs profile new p)
+    → HasCleanDisk new → (profile : Profile) (p : Package) → IsSettled profile old p → IsSettled profile new p
+settled_as old new quiet same clean profile p it = settled_still profile old new p quiet clean (same clean profile p) it
 
 none_declined : (old new : State) (why : Open) → IsLooked old new (Err why) → HasCleanDisk new → IsBlank old → FindsNone old new (Err why) → DeclinesNone new why
 none_declined old new opens.NoProfile looked clean it same = still_blank old new looked.survives same clean it
@@ -44,20 +50,18 @@ none_declined old new (opens.Rule rule) looked clean it same = absurd same
 
 -- ---- a package that reads under a version and passes the look is of this profile
 
-same_settled : (profile : Profile) (s : State) (p : Package) → profile.version ≡ current.version → IsSettled profile s p → IsSettled current s p
-same_settled profile s p is it = record {
+same_seen : (profile : Profile) (s : State) (p : Package) → profile.version ≡ current.version → IsSeenAs profile s p → IsSeenAs current s p
+same_seen profile s p is it = record {
   mode = it.mode;
   back = λ up. subst (λ v. ReadsAs v s.committed p) is (it.back up);
   reads = λ up. subst (λ v. ReadsAs v s.now p) is (it.reads up);
-  left = λ db may. subst (λ v. StandsFor v db p) is (it.left db may);
 }
 
-settled_same : (profile : Profile) (s : State) (p : Package) → profile.version ≡ current.version → IsSettled current s p → IsSettled profile s p
-settled_same profile s p is it = record {
+seen_same : (profile : Profile) (s : State) (p : Package) → profile.version ≡ current.version → IsSeenAs current s p → IsSeenAs profile s p
+seen_same profile s p is it = record {
   mode = it.mode;
   back = λ up. subst (λ v. ReadsAs v s.committed p) (sym is) (it.back up);
   reads = λ up. subst (λ v. ReadsAs v s.now p) (sym is) (it.reads up);
-  left = λ db may. subst (λ v. StandsFor v db p) (sym is) (it.left db may);
 }
 
 -- ---- the profile's row stopped it
@@ -97,7 +101,8 @@ look_failed old new why looked = record {
   survives = looked.survives;
   profile = λ clean. profile_told old new why (looked.answers clean);
   blobs = λ clean. form_untold old new why (looked.answers clean);
-  settled = looked_settled old new looked;
+  seen = looked_seen old new looked;
+  settled = settled_as old new looked.survives (looked_seen old new looked);
   declines = λ clean p s. declined p why (looked.agrees clean current.version p s.reads);
   none = λ clean it. none_declined old new why looked clean it (looked.none clean it);
 }
@@ -113,15 +118,19 @@ module _ (old mid new : State) (looked : IsLooked old mid (Ok tt)) where
     before : HasCleanDisk new → HasCleanDisk mid
     before clean = omega (arith, clean, asked.survives.clean)
 
-    asked_settled : HasCleanDisk new → (profile : Profile) (p : Package) → IsSettled profile old p → IsSettled profile new p
-    asked_settled clean profile p s = asked.settled clean profile p (looked_settled old mid looked (before clean) profile p s)
+    asked_seen : HasCleanDisk new → (profile : Profile) (p : Package) → IsSeenAs profile old p → IsSeenAs profile new p
+    asked_seen clean profile p s = asked.seen clean profile p (looked_seen old mid looked (before clean) profile p s)
+
+    asked_quiet : CommitsNothing old new
+    asked_quiet = quiet_then old mid new looked.survives asked.survives
 
   pub form_failed : (fault : Fault) → IsFormCheck mid new AreInForm (Err fault) → IsNotAdopted old new (opens.Fault fault)
   form_failed fault asked = record {
-    survives = quiet_then old mid new looked.survives asked.survives;
+    survives = asked_quiet asked;
     profile = λ clean. asked.faults;
     blobs = λ clean. tt;
-    settled = asked_settled asked;
+    seen = asked_seen asked;
+    settled = settled_as old new (asked_quiet asked) (asked_seen asked);
     none = λ clean it. tt;
     declines = λ clean p s. tt;
   }
@@ -133,9 +142,10 @@ module _ (old mid new : State) (looked : IsLooked old mid (Ok tt)) where
         survives = quiet_then old mid new looked.survives asked.survives;
         profile = λ clean. (shows_profile old mid (looked.answers (early clean)), looked.agrees (early clean));
         blobs = λ clean. fail_as_before old mid (unchanged_by old mid (looked.answers (early clean))) (asked_fails mid new asked clean);
-        settled = asked_settled asked;
+        seen = asked_seen asked;
+        settled = settled_as old new (asked_quiet asked) (asked_seen asked);
         none = λ clean it. absurd (looked.none (early clean) it);
-        declines = λ clean p s. formed_for current.version mid p (looked_settled old mid looked (early clean) current p s).reads (asked_fails mid new asked clean) (asked.same clean).0;
+        declines = λ clean p s. formed_for current.version mid p (looked_seen old mid looked (early clean) current p s).reads (asked_fails mid new asked clean) (asked.same clean).0;
       }
 
   -- a database of this profile whose blobs have their form
@@ -148,18 +158,22 @@ module _ (old mid new : State) (looked : IsLooked old mid (Ok tt)) where
         some = λ clean it. looked.none (early clean) it;
         profile = λ clean. looked.agrees (early clean);
         blobs = λ clean. stand_as_before old mid (unchanged_by old mid (looked.answers (early clean))) (asked_stands mid new asked clean);
-        settled = asked_settled asked;
+        seen = asked_seen asked;
       }
 
 -- ---- the check was done
 
 module _ (old mid new : State) (opened : IsOpened old mid) where
-  still_settled_then : {r : Result (Option ℕ) Fault} → IsVerified current mid new r → HasCleanDisk new → (profile : Profile) (p : Package) → IsSettled profile old p → IsSettled profile new p
-  still_settled_then verified clean profile p s =
-      let early : HasCleanDisk mid = omega (arith, clean, verified.survives.clean) in
-      let is = opened.profile early profile.version p s.reads in
-      let was = opened.settled early profile p s in
-      settled_same profile new p is (verified.settled clean p (same_settled profile mid p is was))
+  module _ {r : Result (Option ℕ) Fault} (verified : IsVerified current mid new r) where
+    checked_seen : HasCleanDisk new → (profile : Profile) (p : Package) → IsSeenAs profile old p → IsSeenAs profile new p
+    checked_seen clean profile p s =
+        let early : HasCleanDisk mid = omega (arith, clean, verified.survives.clean) in
+        let is = opened.profile early profile.version p s.reads in
+        let was = opened.seen early profile p s in
+        seen_same profile new p is (verified.seen clean p (same_seen profile mid p is was))
+
+    checked_quiet : CommitsNothing old new
+    checked_quiet = quiet_then old mid new opened.survives verified.survives
 
   pub adopts : IsVerified current mid new (Ok None) → IsAdopted old new
   adopts verified =
@@ -171,8 +185,9 @@ module _ (old mid new : State) (opened : IsOpened old mid) where
         some = λ clean it. opened.some (early clean) it;
         profile = λ clean. opened.profile (early clean);
         blobs = λ clean. opened.blobs (early clean);
-        settled = λ clean p s. verified.settled clean p (opened.settled (early clean) current p s);
-        meets = λ clean p s. verified.says clean p (seen_of current mid p (opened.settled (early clean) current p s));
+        seen = λ clean. checked_seen verified clean current;
+        settled = λ clean. settled_as old new (checked_quiet verified) (checked_seen verified) clean current;
+        meets = λ clean p s. verified.says clean p (opened.seen (early clean) current p s);
       }
 
   pub rule_fails : (rule : ℕ) → IsVerified current mid new (Ok (Some rule)) → IsNotAdopted old new (opens.Rule rule)
@@ -182,9 +197,10 @@ module _ (old mid new : State) (opened : IsOpened old mid) where
         survives = quiet_then old mid new opened.survives verified.survives;
         profile = λ clean. (opened.row (early clean), opened.profile (early clean));
         blobs = λ clean. opened.blobs (early clean);
-        settled = still_settled_then verified;
+        seen = checked_seen verified;
+        settled = settled_as old new (checked_quiet verified) (checked_seen verified);
         none = λ clean it. absurd (opened.some (early clean) it);
-        declines = λ clean p s. verified.says clean p (seen_of current mid p (opened.settled (early clean) current p s));
+        declines = λ clean p s. verified.says clean p (opened.seen (early clean) current p s);
       }
 
   pub check_failed : (fault : Fault) → IsVerified current mid new (Err fault) → IsNotAdopted old new (opens.Fault fault)
@@ -192,7 +208,8 @@ module _ (old mid new : State) (opened : IsOpened old mid) where
     survives = quiet_then old mid new opened.survives verified.survives;
     profile = λ clean. verified.faults;
     blobs = λ clean. tt;
-    settled = still_settled_then verified;
+    seen = checked_seen verified;
+    settled = settled_as old new (checked_quiet verified) (checked_seen verified);
     none = λ clean it. tt;
     declines = λ clean p s. tt;
   }

@@ -6,6 +6,7 @@ use Rattle.mm_definitions.specs.Package.{Package}
 use Rattle.mm_definitions.specs.Rules.{Meets}
 use Rattle.mm_definitions.specs.declared.answers.Open.{Open}
 use Rattle.mm_definitions.specs.declared.answers.Open.TheVariants as opens
+use Rattle.mm_store.specs.Seen.{IsSeenAs}
 use Rattle.mm_store.specs.Stands.{ReadsAs, IsSettled}
 use Rattle.mm_store.specs.Statements.{CommitsNothing}
 use Rattle.mm_store.specs.Faults.{IsStoreFault}
@@ -18,8 +19,8 @@ use Rattle.mm_check.specs.Form.{BlobsStand, TellsForm}
 abbrev pub IsOfThisVersion : State → Type 0
 IsOfThisVersion s = (version : ℤ) (p : Package) → (IsTrue s.is_open → ReadsAs version s.now p) → version ≡ current.version
 
--- It wrote nothing, the store is open, and the profile's table shows this profile's row alone, so there is a table. The blobs have their form. Settled for a
--- package, it is settled for it still, and the package meets the rules.
+-- It wrote nothing, the store is open, and the profile's table shows this profile's row alone, so there is a table. The blobs
+-- have their form. It reads as the package that it read as, which meets the rules, and is settled for it where it was.
 pub record IsAdopted (old new : State) : Type 0 where
   pub survives : CommitsNothing old new
   pub is_open : HasCleanDisk new → IsTrue new.is_open
@@ -27,8 +28,9 @@ pub record IsAdopted (old new : State) : Type 0 where
   pub some : HasCleanDisk new → IsBlank old → ⊥
   pub profile : HasCleanDisk new → IsOfThisVersion old
   pub blobs : HasCleanDisk new → BlobsStand old
+  pub seen : HasCleanDisk new → (p : Package) → IsSeenAs current old p → IsSeenAs current new p
   pub settled : HasCleanDisk new → (p : Package) → IsSettled current old p → IsSettled current new p
-  pub meets : HasCleanDisk new → (p : Package) → IsSettled current old p → Meets current p
+  pub meets : HasCleanDisk new → (p : Package) → IsSeenAs current old p → Meets current p
 
 -- A package that is not adopted breaks the rule that is told, or there was a fault.
 abbrev pub Declines : Package → Open → Type 0
@@ -49,11 +51,13 @@ DeclinesNone new opens.NoProfile = IsBlank new
 DeclinesNone new (opens.Fault fault) = ⊤
 DeclinesNone new _ = ⊥
 
--- It wrote nothing, and tells why it adopts no package. Settled for a package, in whatever profile, it is settled for it still.
+-- It wrote nothing, and tells why it adopts no package. In whatever profile it reads as a package or is settled for one, it does so
+-- still.
 pub record IsNotAdopted (old new : State) (why : Open) : Type 0 where
   pub survives : CommitsNothing old new
   pub profile : HasCleanDisk new → TellsProfile old new why
   pub blobs : HasCleanDisk new → TellsForm old (Err why)
+  pub seen : HasCleanDisk new → (profile : Profile) (p : Package) → IsSeenAs profile old p → IsSeenAs profile new p
   pub settled : HasCleanDisk new → (profile : Profile) (p : Package) → IsSettled profile old p → IsSettled profile new p
-  pub declines : HasCleanDisk new → (p : Package) → IsSettled current old p → Declines p why
+  pub declines : HasCleanDisk new → (p : Package) → IsSeenAs current old p → Declines p why
   pub none : HasCleanDisk new → IsBlank old → DeclinesNone new why

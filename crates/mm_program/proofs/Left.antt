@@ -2,6 +2,7 @@
 use Rattle.std.proofs.Common.{◌≡◌, ◌⊎◌, ℕ, ◌+◌, List, Option, Result, Ok, Err, IfErr, inl, inr, subst, sym}
 use Rattle.sqlite.specs.Tree.{Trees}
 use Rattle.sqlite.specs.State.{State, HasCleanDisk}
+use Rattle.mm_store.proofs.Seen.{seen_of}
 use Rattle.mm_definitions.specs.Bounds.{current, micrometres, millimetres}
 use Rattle.mm_definitions.specs.Keys.{Text}
 use Rattle.mm_definitions.specs.Package.{Package}
@@ -109,7 +110,7 @@ module _ (old new : State) (fresh : HasCleanDisk old → IsJustOpened old) (clea
   -- why a package is not adopted
   pub tells_declined : (why : Stop) → IsDeclined old new why → TellsDeclined old.committed.trees why
   tells_declined why declined p stands =
-      (declined.0, declined.1.declines clean p (settles (λ c. nothing_less _ _ declined.1.survives.clean c) p stands), declined.2)
+      (declined.0, declined.1.declines clean p (seen_of current _ p (settles (λ c. nothing_less _ _ declined.1.survives.clean c) p stands)), declined.2)
 
   -- ---- a listing
   pub tells_listing : (held holds : Written) (done : Unit {0}) → IsListing old new held.contents holds.contents → TellsListing old.committed.trees held holds (Ok done)
@@ -194,7 +195,7 @@ module _ (old mid new : State) (fresh : HasCleanDisk old → IsJustOpened old) (
 
   pub tells_service : (served : Result ℕ Stop) → IfErr served (λ why. why ≡ stops.Fault (record { 0 = 96 })) → TellsServed old.committed.trees served
   tells_service served unbound = tells_served _ served
-      (λ p stands. adopted.meets early p (opened_settles old (fresh (nothing_less _ _ adopted.survives.clean early)) current p stands)) unbound
+      (λ p stands. adopted.meets early p (seen_of current _ p (opened_settles old (fresh (nothing_less _ _ adopted.survives.clean early)) current p stands))) unbound
 
   pub leaves_service : (after : Trees) → new.may_leave after → LeavesSame old.committed.trees after
   leaves_service = leaves_same old new fresh clean (quiet_then old mid new adopted.survives kept.survives)

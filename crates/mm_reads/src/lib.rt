@@ -5,7 +5,7 @@
 //! - `tiles`: the bytes of a tile.
 //! - `media_items`: a medium.
 //! - `rows`: an attribute row.
-//! - `contents`: the list of the tables.
+//! - `tables`: the list of the tables.
 //! - `relations`: the list of an item's mapping rows.
 //! - `items`: whether an item stands.
 //! - `viewer`: what the parts that are shown are asked of.
@@ -15,7 +15,6 @@
 //! - `shown`: the line that a row of a query shows.
 #![tactic(auto)]
 
-mod contents;
 mod items;
 mod lines;
 mod listing;
@@ -23,13 +22,14 @@ mod media_items;
 mod relations;
 mod rows;
 mod shown;
+mod tables;
 mod tiles;
 mod viewer;
 
-pub use contents::contents;
 pub use listing::list;
 pub use media_items::media;
 pub use relations::related;
 pub use rows::row;
+pub use tables::contents;
 pub use tiles::tile;
 pub use viewer::Viewer;

@@ -5,6 +5,7 @@ use Rattle.sqlite_disk.specs.declared.Disk.{Ghosts}
 use Rattle.sqlite_disk.specs.declared.Files.{Files}
 use Rattle.sqlite.specs.State.{State, HasCleanDisk, Survives}
 use Rattle.sqlite.proofs.StateLemmas.{survives_then, survives_weaker}
+use Rattle.mm_store.proofs.Seen.{seen_of}
 use Rattle.mm_definitions.specs.Bounds.{current}
 use Rattle.mm_definitions.specs.Opening.{opening}
 use Rattle.mm_definitions.specs.declared.answers.Fault.{Fault}
@@ -45,7 +46,7 @@ found_by old new it = record {
   survives = quietly old new it.survives;
   is_open = it.is_open;
   made = λ clean blank. absurd (it.some clean blank);
-  found = λ clean p s. (it.settled clean p s, it.meets clean p s);
+  found = λ clean p s. (it.settled clean p s, it.meets clean p (seen_of current _ p s));
 }
 
 -- a connection with no table is declined for want of a profile, or at a fault
@@ -71,7 +72,7 @@ declined_by old new why it other = record {
   faults = λ clean. only_fault old new why (it.profile clean);
   none = other_is_fault old new why it other;
   left = λ clean blank db may. elim (it.survives.crash clean db may) [ inl before ↦ inl (blank.left db before) | inr none ↦ absurd none ];
-  settled = λ clean p s. (it.settled clean current p s, it.declines clean p s);
+  settled = λ clean p s. (it.settled clean current p s, it.declines clean p (seen_of current _ p s));
 }
 
 module _ (old mid new : State) (declined : IsNotAdopted old mid opens.NoProfile) where
@@ -85,7 +86,7 @@ module _ (old mid new : State) (declined : IsNotAdopted old mid opens.NoProfile)
         survives = survived it.survives;
         is_open = it.is_open;
         made = λ clean blank. it.settled clean (declined.none (early clean) blank);
-        found = λ clean p s. absurd (declined.declines (early clean) p s);
+        found = λ clean p s. absurd (declined.declines (early clean) p (seen_of current _ p s));
       }
 
   pub not_made_by : (fault : Fault) → IsStoreFault fault → IsNotCreated mid new → IsNeither old new (opens.Fault fault)
@@ -96,7 +97,7 @@ module _ (old mid new : State) (declined : IsNotAdopted old mid opens.NoProfile)
         faults = λ clean. told;
         none = λ clean blank. told;
         left = λ clean blank. it.left clean (declined.none (early clean) blank);
-        settled = λ clean p s. absurd (declined.declines (early clean) p s);
+        settled = λ clean p s. absurd (declined.declines (early clean) p (seen_of current _ p s));
       }
 
 module _ (old mid new : State) (why : Open) (is : why ≡ opens.NoProfile) (declined : IsNotAdopted old mid why) where

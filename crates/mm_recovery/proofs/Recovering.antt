@@ -3,6 +3,7 @@ use Rattle.std.proofs.Common.{◌≡◌, ◌==◌, ℕ, Bool, true, false, inl, 
 use Rattle.std.proofs.lemmas.Bool.{both_ways}
 use Rattle.std.proofs.Math.Logic.{∥∥₁_elim, ∥∥₁_map}
 use Rattle.sqlite.specs.State.{State, HasCleanDisk}
+use Rattle.mm_store.proofs.Seen.{seen_of}
 use Rattle.mm_definitions.specs.Bounds.{current}
 use Rattle.mm_definitions.specs.Package.{Package}
 use Rattle.mm_definitions.specs.Rules.{Meets}
@@ -45,7 +46,7 @@ kept_on : (mid new : State) (why : Open) → IsFound mid → IsNotAdopted mid ne
 kept_on mid new why found declined clean = record {
   only = λ other may. elim (declined.survives.crash clean other may) [ inl before ↦ found.only other before | inr none ↦ absurd none ];
   settled = λ profile p stands. declined.settled clean profile p (found.settled profile p stands);
-  declines = λ p stands. declined.declines clean p (found.settled current p stands);
+  declines = λ p stands. declined.declines clean p (seen_of current _ p (found.settled current p stands));
   none = λ empty. declined.none clean (found.blank empty);
 }
 
@@ -61,7 +62,7 @@ recovers_by old mid new finds adopted =
         mid.committed.trees,
         may,
         λ (p : Package) (stands : StandsForCurrent mid.committed.trees p).
-            let was = (finds.is (early clean)).settled current p stands in (adopted.settled clean p was, adopted.meets clean p was),
+            let was = (finds.is (early clean)).settled current p stands in (adopted.settled clean p was, adopted.meets clean p (seen_of current _ p was)),
       ));
     }
 
@@ -72,7 +73,7 @@ module _ (old mid new : State) (finds : FindsLeft old mid) where
       let early : HasCleanDisk mid = omega (arith, clean, declined.survives.clean) in
       ∥∥₁_elim (finds.found early) (λ a b. absurd a) (λ may.
       let it = left mid.committed.trees may in
-      none_is_declined it.0 why it.2 (declined.declines clean it.0 ((finds.is early).settled current it.0 it.1)) other)
+      none_is_declined it.0 why it.2 (declined.declines clean it.0 (seen_of current _ it.0 ((finds.is early).settled current it.0 it.1))) other)
 
   declines : (why : Open) → IsNotAdopted mid new why → HasCleanDisk new → LeavesPackages old → IsFault why
   declines (opens.Fault fault) declined clean left = declined.profile clean
@@ -99,7 +100,7 @@ reopens_by old mid new finds adopted =
     let early : HasCleanDisk new → HasCleanDisk mid = λ clean. omega (arith, clean, adopted.survives.clean) in
     let again : HasCleanDisk new → (p : Package) → StandsForCurrent old.committed.trees p → IsSoundOn new p =
     λ clean p stands.
-    let was = (finds.is (early clean)).settled current p (subst (λ db. StandsForCurrent db p) (sym (finds.found (early clean))) stands) in (adopted.settled clean p was, adopted.meets clean p was) in
+    let was = (finds.is (early clean)).settled current p (subst (λ db. StandsForCurrent db p) (sym (finds.found (early clean))) stands) in (adopted.settled clean p was, adopted.meets clean p (seen_of current _ p was)) in
     record {
       clean = λ clean. finds.clean (early clean);
       is_open = adopted.is_open;
@@ -112,7 +113,7 @@ module _ (old mid new : State) (finds : FindsCommitted old mid) where
   refuses why declined other clean p stands meets =
       let early : HasCleanDisk mid = omega (arith, clean, declined.survives.clean) in
       let was = (finds.is early).settled current p (subst (λ db. StandsForCurrent db p) (sym (finds.found early)) stands) in
-      none_is_declined p why meets (declined.declines clean p was) other
+      none_is_declined p why meets (declined.declines clean p (seen_of current _ p was)) other
 
   refused_for : (why : Open) → IsNotAdopted mid new why → HasCleanDisk new → (p : Package) → StandsForCurrent old.committed.trees p → Meets current p → IsFault why
   refused_for (opens.Fault fault) declined clean p stands meets = declined.profile clean

@@ -26,7 +26,7 @@ module _ {S : Type 0} (g : Ghosts S) (was now : Held S) (begun : now ≡ record 
   begins : (profile : Profile) (p : Package) → IsSeenAs profile (state g was) p → StandsInside profile (state g now) (ground_of (state g was)) p
   begins profile p it = rw begun (record { mode = refl; back = λ is_open. (refl, is_open); reads = it.reads })
 
-  seen_back : (profile : Profile) (p : Package) → IsSeenAs profile (state g was) p → IsRolledBack ended last → StandsOn ended (ground_of (state g was)) → IsSeenAs profile last p
+  pub seen_back : (profile : Profile) (p : Package) → IsSeenAs profile (state g was) p → IsRolledBack ended last → StandsOn ended (ground_of (state g was)) → IsSeenAs profile last p
   seen_back profile p it back stands = record {
     mode = back.autocommit;
     back = λ up. let on = stands (back.was_open up) in subst (λ d. ReadsAs profile.version d p) (sym ((back.undone up).1 ∙ on.0)) (it.back on.1);

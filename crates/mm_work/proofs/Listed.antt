@@ -17,7 +17,7 @@ lists old mid new held holds before failed done adopted listed =
     record {
       survives = quiet_then old mid new adopted.survives listed.survives;
       settled = λ clean p s. listed.settled clean p (adopted.settled (early clean) p s);
-      meets = λ clean p s. adopted.meets (early clean) p s;
+      meets = λ clean p s. adopted.meets (early clean) p (seen_of current _ p s);
       printed = λ clean p s. listed.written clean p (seen_of current mid p (adopted.settled (early clean) p s));
     }
 
@@ -27,7 +27,7 @@ cuts old mid new held holds fault adopted listed =
     record {
       survives = quiet_then old mid new adopted.survives listed.survives;
       settled = λ clean p s. listed.settled clean p (adopted.settled (early clean) p s);
-      meets = λ clean p s. adopted.meets (early clean) p s;
+      meets = λ clean p s. adopted.meets (early clean) p (seen_of current _ p s);
       begun = λ clean p s. listed.written clean p (seen_of current mid p (adopted.settled (early clean) p s));
       writer = listed.writer;
     }

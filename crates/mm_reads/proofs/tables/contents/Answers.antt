@@ -3,10 +3,10 @@ use Rattle.std.proofs.lemmas.Result.{err_from_is_err_and}
 use Rattle.sqlite.specs.Order.{Row}
 use Rattle.sqlite.specs.Held.{state}
 use Rattle.mm_definitions.specs.declared.answers.Fault.{Fault}
-use Rattle.mm_reads.specs.declared.contents.Gathered.{Gathered}
+use Rattle.mm_reads.specs.declared.tables.Gathered.{Gathered}
 use Rattle.mm_reads.specs.Contents.{GathersTables}
 use Rattle.mm_reads.proofs.Reading.{Found, read_by_walk}
-use Rattle.mm_reads.proofs.contents.contents.Goals as goal
+use Rattle.mm_reads.proofs.tables.contents.Goals as goal
 
 abbrev takes : Gathered → Row → Gathered → Result Bool Fault → Type 0
 takes old row new result = GathersTables old.entries.items row new.entries.items result

@@ -4,3 +4,14 @@ pub mod Applied
 pub mod Parts
 pub mod Reads
 pub mod Handed
+pub use Rattle.mm_check.specs.Verdict
+pub use Rattle.mm_meta.specs.Opening
+pub use Rattle.mm_migrate.specs.Migrations
+pub use Rattle.mm_migrate.specs.Moves
+pub use Rattle.mm_reads.specs.Listing
+pub use Rattle.mm_reads.specs.Viewers
+pub use Rattle.mm_reads.specs.Writing
+pub use Rattle.mm_run.specs.Answers
+pub use Rattle.mm_run.specs.Readings
+pub use Rattle.mm_run.specs.Runs
+pub use Rattle.mm_run.specs.Shown

@@ -11,6 +11,6 @@ mod sending;
 
 pub use ends::drain;
 pub use lending::{Held, Lender, Source, Tells};
-pub use lines::answer_line;
+pub use lines::{answer_line, put, put_number};
 pub use records::{next_row, open_rows, text_fields};
 pub use sending::{Sent, send};

@@ -1,4 +1,4 @@
-//! The line that tells an answer.
+//! The line that tells an answer, and what lines are made of.
 
 ghost use Rattle.std.specs.Prelude.{◌≡◌, ◌++◌, ◌+◌, ◌≤◌, codes, decimal, length};
 ghost use Rattle.mm_io.specs.Lines.{answer_text, line, piece_text};
@@ -8,18 +8,18 @@ use arrayvec::ArrayVec;
 use itoa::Buffer;
 use mm_definitions::answers::{Answer, Fault, Refusal};
 
-// Appends text that has room.
-fn put(out: &mut ArrayVec<u8, 96>, text: &[u8])
-    requires { length out.old.items + length text.now ≤ 96 }
+/// Appends bytes that have room.
+pub fn put<const MOST: usize>(out: &mut ArrayVec<u8, MOST>, text: &[u8])
+    requires { length out.old.items + length text.now ≤ MOST }
     ensures text { out.new.items ≡ out.old.items ++ text.now }
     ensures size { length out.new.items ≡ length out.old.items + length text.now }
 {
     let _fits = out.try_extend_from_slice(text);
 }
 
-// Appends a number that has room.
-fn put_number(out: &mut ArrayVec<u8, 96>, number: u64)
-    requires { length out.old.items ≤ 76 }
+/// Appends a number in decimal, where there is room for the 20 digits of the longest.
+pub fn put_number<const MOST: usize>(out: &mut ArrayVec<u8, MOST>, number: u64)
+    requires { length out.old.items + 20 ≤ MOST }
     ensures text { out.new.items ≡ out.old.items ++ decimal number }
     ensures size { length out.new.items ≤ length out.old.items + 20 }
 {

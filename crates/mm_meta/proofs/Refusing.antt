@@ -11,7 +11,7 @@ use Rattle.sql_forms.specs.Compiled.{Compiled}
 use Rattle.sql_forms.specs.CompileError.{CompileError}
 use Rattle.sql_forms.specs.Compute.{everything}
 use Rattle.sqlite.specs.Program.{overlay}
-use Rattle.sql_forms.specs.Types.{accepts_program}
+use Rattle.sqlite_typing.specs.Types.{accepts_program}
 use Rattle.sql_forms.proofs.QueryLemmas.{no_fold_overflows}
 use Rattle.sqlite.specs.State.{State, FailsToQuery, FailsToShow, IsNotRun, IsNoStatement, IsStatement, HasCause, store_error}
 use Rattle.sqlite.proofs.Callers.{IsPlain, command_of}

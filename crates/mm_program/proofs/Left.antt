@@ -20,11 +20,11 @@ use Rattle.mm_core.specs.Applied.{StandsForCurrent}
 use Rattle.mm_core.specs.Sessions.{IsCreated, IsNotCreated}
 use Rattle.mm_kit.specs.Folders.{Files}
 use Rattle.mm_kit.specs.Imports.{IsImportKept, OnAnyFolder, OnKit}
-use Rattle.mm_migrate.specs.Migrations.{Adopts, IsMigration, Migrates}
-use Rattle.mm_meta.specs.Opening.{HasNoTable, IsBlank}
-use Rattle.mm_reads.specs.Viewers.{LeavesPackage}
-use Rattle.mm_run.specs.Readings.{Reading}
-use Rattle.mm_run.specs.Runs.{StopsBehind}
+use Rattle.mm_core.specs.Migrations.{Adopts, IsMigration, Migrates}
+use Rattle.mm_core.specs.Opening.{HasNoTable, IsBlank}
+use Rattle.mm_core.specs.Viewers.{LeavesPackage}
+use Rattle.mm_core.specs.Readings.{Reading}
+use Rattle.mm_core.specs.Runs.{StopsBehind}
 use Rattle.mm_work.specs.Declined.{IsDeclined}
 use Rattle.mm_work.specs.Imports.{IsImport}
 use Rattle.mm_work.specs.Looked.{IsListing, IsUnlisted}

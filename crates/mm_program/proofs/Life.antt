@@ -19,7 +19,7 @@ use Rattle.mm_definitions.specs.declared.answers.Open.{Open}
 use Rattle.mm_definitions.specs.declared.answers.Open.TheVariants as opens
 use Rattle.mm_laws.proofs.Opened.{opened}
 use Rattle.mm_walk.proofs.InTurn.{either_holds}
-use Rattle.mm_check.specs.Verdict.{rule, IsFailing}
+use Rattle.mm_core.specs.Verdict.{rule, IsFailing}
 use Rattle.mm_core.specs.Adopted.{Declines}
 use Rattle.mm_core.specs.Applied.{StandsForCurrent}
 use Rattle.mm_files.specs.declared.left.Left.TheVariants as left

@@ -2,8 +2,8 @@
 use Rattle.std.proofs.Common.{arith, ◌≡◌, ℕ, ◌≤◌, sym, subst}
 use Rattle.std.specs.Coded.{Coded-set}
 use Rattle.std.proofs.Math.Logic.{∥∥₁_elim}
-use Rattle.sqlite_schema.specs.contracts.schema.Schema as schema
-use Rattle.sqlite_catalog.proofs.ReadLemmas.{lists_once}
+use Rattle.sql_forms.specs.SchemaContracts as schema
+use Rattle.sql_forms.proofs.ReadLemmas.{lists_once}
 use Rattle.sqlite.specs.Effect.{Database, IsDatabase}
 use Rattle.sqlite.specs.State.{State}
 use Rattle.mm_store.specs.Made.{no_schema}
@@ -11,7 +11,7 @@ use Rattle.mm_store.specs.Tables as tables
 use Rattle.mm_definitions.specs.Bounds.{Profile}
 use Rattle.mm_definitions.specs.Package.{Package}
 use Rattle.mm_store.specs.Stands.{StandsFor, ReadsAs, IsSettled}
-use Rattle.mm_meta.specs.Opening.{HasNoTable, IsBlank}
+use Rattle.mm_core.specs.Opening.{HasNoTable, IsBlank}
 use Rattle.mm_files.specs.Worked.{IsJustOpened}
 
 -- what is no more than nothing is nothing

@@ -2,7 +2,7 @@
 use Rattle.std.specs.Prelude.{◌≡◌, ◌⊎◌, ⊤, ℕ, List, false, Option, Some, Result, Ok, Err}
 use Rattle.std.specs.Io.KnownBytes.{Appends}
 use Rattle.sqlite.specs.Tree.{Trees}
-use Rattle.mm_meta.specs.Opening.{HasNoTable}
+use Rattle.mm_core.specs.Opening.{HasNoTable}
 use Rattle.mm_definitions.specs.Bounds.{current, millimetres, micrometres}
 use Rattle.mm_definitions.specs.Keys.{Text}
 use Rattle.mm_definitions.specs.Opening.{opening}
@@ -18,16 +18,16 @@ use Rattle.mm_definitions.specs.declared.answers.RunFault.{RunFault}
 use Rattle.mm_definitions.specs.declared.answers.Staged.{Staged}
 use Rattle.mm_definitions.specs.declared.answers.Tally.{Tally}
 use Rattle.mm_store.specs.Stands.{StandsFor}
-use Rattle.mm_migrate.specs.Moves.{StandsForEither}
-use Rattle.mm_check.specs.Verdict.{IsFailing}
+use Rattle.mm_core.specs.Moves.{StandsForEither}
+use Rattle.mm_core.specs.Verdict.{IsFailing}
 use Rattle.mm_core.specs.Adopted.{Declines}
 use Rattle.mm_core.specs.Applied.{StandsForCurrent}
 use Rattle.mm_kit.specs.Folders.{Files}
 use Rattle.mm_kit.specs.Imports.{IsImportAnswered, IsImportKept, IsImportStopped}
-use Rattle.mm_reads.specs.Listing.{listing}
-use Rattle.mm_reads.specs.Writing.{IsBegun}
-use Rattle.mm_run.specs.Runs.{RanAll, RanSome}
-use Rattle.mm_run.specs.Shown.{Shown}
+use Rattle.mm_core.specs.Listing.{listing}
+use Rattle.mm_core.specs.Writing.{IsBegun}
+use Rattle.mm_core.specs.Runs.{RanAll, RanSome}
+use Rattle.mm_core.specs.Shown.{Shown}
 use Rattle.mm_work.specs.Declined.{stop_of}
 use Rattle.mm_work.specs.Ran.{IsStatusOf}
 use Rattle.mm_work.specs.declared.stop.Stop.{Stop}

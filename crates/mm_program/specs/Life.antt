@@ -10,8 +10,8 @@ use Rattle.mm_definitions.specs.Rules.{Meets}
 use Rattle.mm_definitions.specs.Runs.{IsFirstPart}
 use Rattle.mm_definitions.specs.Streams.{Written}
 use Rattle.mm_core.specs.Applied.{StandsForCurrent}
-use Rattle.mm_run.specs.Answers.{calls_of}
-use Rattle.mm_run.specs.Runs.{acknowledged_of}
+use Rattle.mm_core.specs.Answers.{calls_of}
+use Rattle.mm_core.specs.Runs.{acknowledged_of}
 use Rattle.mm_work.specs.declared.stop.Stop.{Stop}
 use Rattle.mm_program.specs.Left.{LeavesRun, LeavesSame, RanTo}
 

@@ -5,7 +5,7 @@ ghost use Rattle.sqlite.specs.Held.{state};
 ghost use Rattle.mm_definitions.specs.Streams.{written};
 ghost use Rattle.mm_definitions.specs.Streams as streams;
 ghost use Rattle.mm_core.specs.Parts.{connection, must_reopen};
-ghost use Rattle.mm_reads.specs.Viewers.{LeavesPackage};
+ghost use Rattle.mm_core.specs.Viewers.{LeavesPackage};
 ghost use Rattle.mm_work.specs.Pages.{IsServed, IsServiceFault, Outcome, TellsMore};
 
 use mm_core::Session;

@@ -7,7 +7,7 @@ ghost use Rattle.mm_work.specs.Told.{TellsFailure, stop_status};
 ghost use Rattle.sqlite.specs.Held.{state};
 ghost use Rattle.sqlite.specs.WalFiles.{image_at};
 ghost use Rattle.mm_core.specs.Parts.{connection};
-ghost use Rattle.mm_reads.specs.Viewers.{LeavesPackage};
+ghost use Rattle.mm_core.specs.Viewers.{LeavesPackage};
 ghost use Rattle.mm_program.specs.Files.{OnFile};
 ghost use Rattle.mm_program.specs.Left.{LeavesSame, TellsServed};
 ghost use Rattle.mm_program.specs.Served.{PrintsNothing, IsServing, TellsServe, WasServed};

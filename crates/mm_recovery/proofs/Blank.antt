@@ -14,15 +14,15 @@ use Rattle.sqlite_pool.specs.Header.{first_page}
 use Rattle.sqlite_pool.specs.File.{header_in, IsSoundFile}
 use Rattle.sqlite_pool.specs.Opening.{IsBlankFile}
 use Rattle.sqlite_pool.proofs.ProbeLemmas.{first_byte}
-use Rattle.sqlite_trees.specs.Tree.{Trees}
-use Rattle.sqlite_trees.specs.Objects.{catalog_tree}
+use Rattle.sql_forms.specs.Tree.{Trees}
+use Rattle.sql_forms.specs.Objects.{catalog_tree}
 use Rattle.sqlite_store.specs.declared.store.FileStore.{FileStore}
 use Rattle.sqlite.specs.Held.{Held}
 use Rattle.sqlite.specs.Files.{file_state, image_of, IsNothing, AreFound, AreFoundIn, IsOpened, Finds}
 use Rattle.sqlite.specs.State.{HasCleanDisk}
 use Rattle.sqlite.proofs.ListingLemmas.{empty_is_sound}
 use Rattle.sqlite_wal.proofs.LogLemmas.{SeenMayStay}
-use Rattle.mm_meta.specs.Opening.{HasNoTable}
+use Rattle.mm_core.specs.Opening.{HasNoTable}
 use Rattle.mm_recovery.specs.Made.{AreNew, FindsNoTable}
 use Rattle.mm_recovery.proofs.Opened.{opened_blank}
 use Rattle.mm_recovery.proofs.Crashed.{only_committed}

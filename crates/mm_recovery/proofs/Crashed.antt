@@ -11,9 +11,9 @@ use Rattle.sqlite_pool.specs.Pool as pool
 use Rattle.sqlite_store.specs.declared.store.FileStore.{FileStore}
 use Rattle.sqlite_store.specs.FileStore as file
 use Rattle.sqlite_store.specs.Laws.{settled_at, stays_at}
-use Rattle.sqlite_trees.specs.Props.{Trees-set}
-use Rattle.sqlite_trees.specs.View.{IsClean, IsQuiet}
-use Rattle.sqlite_trees.proofs.Doubt.{no_doubt}
+use Rattle.sql_forms.specs.Props.{Trees-set}
+use Rattle.sql_forms.specs.View.{IsClean, IsQuiet}
+use Rattle.sql_forms.proofs.Doubt.{no_doubt}
 use Rattle.sqlite.specs.Closing.{IsCopied}
 use Rattle.sqlite.specs.Held.{Held, AreDatabases}
 use Rattle.sqlite.specs.Files.{file_state, IsOpened, Finds, image_of}

@@ -10,8 +10,8 @@ use Rattle.mm_definitions.specs.Runs.{run}
 use Rattle.mm_definitions.specs.Streams.{Written}
 use Rattle.mm_definitions.specs.declared.answers.Tally.{Tally}
 use Rattle.mm_laws.proofs.Opened.{opened}
-use Rattle.mm_run.specs.Answers.{calls_of}
-use Rattle.mm_run.specs.Runs.{OnRun, RanAll}
+use Rattle.mm_core.specs.Answers.{calls_of}
+use Rattle.mm_core.specs.Runs.{OnRun, RanAll}
 use Rattle.mm_core.specs.Applied.{shown_on}
 use Rattle.mm_store.specs.Stands.{IsSettled}
 use Rattle.mm_recovery.specs.Lived.{HasLived}

@@ -15,7 +15,7 @@ use Rattle.mm_laws.proofs.Opened.{opened}
 use Rattle.mm_store.specs.Faults.{IsStoreFault}
 use Rattle.mm_store.specs.Stands.{IsSettled}
 use Rattle.mm_store.specs.Statements.{CommitsNothing}
-use Rattle.mm_meta.specs.Opening.{IsBlank}
+use Rattle.mm_core.specs.Opening.{IsBlank}
 use Rattle.mm_core.specs.Adopted.{IsAdopted, IsNotAdopted, TellsProfile}
 use Rattle.mm_core.specs.Sessions.{MayMake, IsCreated, IsNotCreated}
 use Rattle.mm_recovery.specs.Found.{FindsLeft}

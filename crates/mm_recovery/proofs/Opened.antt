@@ -2,8 +2,8 @@
 use Rattle.std.proofs.Common.{◌≡◌, IsTrue, sym, subst}
 use Rattle.std.specs.Coded.{Coded-set}
 use Rattle.std.proofs.Math.Logic.{∥∥₁_elim}
-use Rattle.sqlite_schema.specs.contracts.schema.Schema as schema
-use Rattle.sqlite_catalog.proofs.ReadLemmas.{lists_once}
+use Rattle.sql_forms.specs.SchemaContracts as schema
+use Rattle.sql_forms.proofs.ReadLemmas.{lists_once}
 use Rattle.sqlite.specs.Tree.{Trees}
 use Rattle.sqlite.specs.Effect.{Database, IsDatabase}
 use Rattle.sqlite.specs.State.{State, IsLive, Opens}
@@ -12,7 +12,7 @@ use Rattle.mm_definitions.specs.Bounds.{current}
 use Rattle.mm_definitions.specs.Package.{Package}
 use Rattle.mm_store.specs.Stands.{StandsFor, ReadsAs}
 use Rattle.mm_store.specs.Made.{no_schema}
-use Rattle.mm_meta.specs.Opening.{HasNoTable}
+use Rattle.mm_core.specs.Opening.{HasNoTable}
 use Rattle.mm_recovery.specs.Found.{IsSettledByFound, IsBlankByFound}
 
 -- nothing but the last commit may be left

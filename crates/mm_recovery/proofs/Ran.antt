@@ -9,7 +9,7 @@ use Rattle.sqlite.specs.Held.{Held}
 use Rattle.sqlite.specs.Tree.{Trees}
 use Rattle.sqlite.specs.Files.{file_state}
 use Rattle.sqlite.specs.State.{State, HasCleanDisk}
-use Rattle.sqlite_trees.proofs.Doubt.{no_doubt}
+use Rattle.sql_forms.proofs.Doubt.{no_doubt}
 use Rattle.mm_definitions.specs.Bounds.{current}
 use Rattle.mm_definitions.specs.Package.{Package}
 use Rattle.mm_definitions.specs.Runs.{run}
@@ -17,8 +17,8 @@ use Rattle.mm_definitions.specs.Streams.{Written}
 use Rattle.mm_definitions.specs.declared.answers.RunFault.{RunFault}
 use Rattle.mm_definitions.specs.declared.answers.Tally.{Tally}
 use Rattle.mm_run.proofs.Reports.{stops-behind}
-use Rattle.mm_run.specs.Answers.{calls_of}
-use Rattle.mm_run.specs.Runs.{OnRun, RanAll, RanSome, RunTellsReopening, WorksOn}
+use Rattle.mm_core.specs.Answers.{calls_of}
+use Rattle.mm_core.specs.Runs.{OnRun, RanAll, RanSome, RunTellsReopening, WorksOn}
 use Rattle.mm_core.specs.Applied.{StandsForCurrent, shown_on}
 use Rattle.mm_store.specs.Stands.{IsSettled}
 use Rattle.mm_recovery.specs.Found.{AreLeftBy}

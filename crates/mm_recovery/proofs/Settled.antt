@@ -2,8 +2,8 @@
 use Rattle.std.proofs.Common.{sym, subst}
 use Rattle.std.specs.Coded.{Coded-set}
 use Rattle.std.proofs.Math.Logic.{∥∥₁_elim}
-use Rattle.sqlite_schema.specs.contracts.schema.Schema as schema
-use Rattle.sqlite_catalog.proofs.ReadLemmas.{lists_once}
+use Rattle.sql_forms.specs.SchemaContracts as schema
+use Rattle.sql_forms.proofs.ReadLemmas.{lists_once}
 use Rattle.sqlite.specs.Effect.{Database, IsDatabase}
 use Rattle.sqlite.specs.State.{State, IsLive, Opens}
 use Rattle.mm_store.specs.Tables as tables

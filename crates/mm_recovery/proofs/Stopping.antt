@@ -8,11 +8,11 @@ use Rattle.sqlite_wal.proofs.LogLemmas.{SeenMayStay}
 use Rattle.sqlite_store.specs.Unopened as unopened
 use Rattle.sqlite_store.specs.declared.store.FileStore.{FileStore}
 use Rattle.sqlite_store.specs.FileStore as file
-use Rattle.sqlite_trees.specs.Tree.{Trees}
-use Rattle.sqlite_trees.specs.View.{IsClean}
-use Rattle.sqlite_trees.proofs.Doubt.{no_doubt}
-use Rattle.sqlite_trees.specs.declared.error.StoreError.{StoreError}
-use Rattle.sqlite_trees.specs.declared.error.StoreError.TheVariants as causes
+use Rattle.sql_forms.specs.Tree.{Trees}
+use Rattle.sql_forms.specs.View.{IsClean}
+use Rattle.sql_forms.proofs.Doubt.{no_doubt}
+use Rattle.sql_forms.specs.StoreError.{StoreError}
+use Rattle.sql_forms.specs.StoreError.TheVariants as causes
 use Rattle.sqlite.proofs.OpenLemmas.{pool_files}
 use Rattle.sqlite.specs.Held.{Held}
 use Rattle.sqlite.specs.Files.{file_state, image_of, FailsToClose, FailsToOpenAs, FailsToOpenFiles, IsCleanLeft, IsClosed, LeavesFiles}

@@ -13,7 +13,7 @@ use Rattle.sqlite.specs.State.{State, HasCleanDisk}
 use Rattle.mm_definitions.specs.Bounds.{Profile, current}
 use Rattle.mm_definitions.specs.Package.{Package}
 use Rattle.mm_store.specs.Stands.{StandsFor, IsSettled}
-use Rattle.mm_meta.specs.Opening.{HasNoTable, IsBlank}
+use Rattle.mm_core.specs.Opening.{HasNoTable, IsBlank}
 
 -- ---- two files
 

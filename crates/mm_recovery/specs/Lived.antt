@@ -8,10 +8,10 @@ use Rattle.sqlite.specs.State.{State, HasCleanDisk}
 use Rattle.mm_definitions.specs.Opening.{opening}
 use Rattle.mm_definitions.specs.Runs.{run}
 use Rattle.mm_definitions.specs.Streams.{Written}
-use Rattle.mm_io.specs.Lines.{lines}
-use Rattle.mm_io.specs.Records.{records_of}
-use Rattle.mm_run.specs.Answers.{answers_to, calls_of}
-use Rattle.mm_run.specs.Readings.{Reading, AreReadAs}
+use Rattle.mm_run.specs.Lines.{lines}
+use Rattle.mm_run.specs.Records.{records_of}
+use Rattle.mm_core.specs.Answers.{answers_to, calls_of}
+use Rattle.mm_core.specs.Readings.{Reading, AreReadAs}
 use Rattle.mm_recovery.specs.Made.{AreNew}
 use Rattle.mm_recovery.specs.Recovered.{IsSoundOn}
 

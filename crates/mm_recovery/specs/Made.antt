@@ -14,7 +14,7 @@ use Rattle.mm_definitions.specs.declared.answers.Open.{Open}
 use Rattle.mm_definitions.specs.declared.answers.Open.TheVariants as opens
 use Rattle.mm_store.specs.Faults.{IsStoreFault}
 use Rattle.mm_store.specs.Stands.{StandsFor, IsSettled}
-use Rattle.mm_meta.specs.Opening.{IsBlank, HasNoTable}
+use Rattle.mm_core.specs.Opening.{IsBlank, HasNoTable}
 use Rattle.mm_core.specs.Adopted.{Declines}
 use Rattle.mm_core.specs.Sessions.{MayMake}
 use Rattle.mm_recovery.specs.Found.{AreLeftBy}

@@ -13,8 +13,8 @@ use Rattle.mm_definitions.specs.declared.answers.RunFault.{RunFault}
 use Rattle.mm_definitions.specs.declared.answers.Tally.{Tally}
 use Rattle.mm_store.specs.Faults.{IsStoreFault}
 use Rattle.mm_store.specs.Stands.{IsSettled}
-use Rattle.mm_run.specs.Runs.{OnRun, RanAll, RanSome, WorksOn}
-use Rattle.mm_run.specs.Shown.{Shown}
+use Rattle.mm_core.specs.Runs.{OnRun, RanAll, RanSome, WorksOn}
+use Rattle.mm_core.specs.Shown.{Shown}
 use Rattle.mm_core.specs.Applied.{shown_on}
 use Rattle.mm_recovery.specs.Recovered.{IsFault}
 use Rattle.mm_recovery.specs.Stops.{LeadsTo, TellsNoLie, fault_in, rest_of}

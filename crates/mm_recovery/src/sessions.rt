@@ -4,7 +4,7 @@ ghost use Rattle.std.specs.Prelude.{◌≡◌, false, IfOk, IfErr, IsTrue};
 ghost use Rattle.sqlite.specs.Files.{file_state};
 ghost use Rattle.sqlite.specs.State.{HasCleanDisk};
 ghost use Rattle.mm_definitions.specs.Streams.{inside, is_flushed, written};
-ghost use Rattle.mm_run.specs.Runs.{TellsFlush};
+ghost use Rattle.mm_core.specs.Runs.{TellsFlush};
 ghost use Rattle.mm_core.specs.Parts.{connection, must_reopen};
 ghost use Rattle.mm_recovery.specs.Recovered.{AdoptsLeft, AdoptsClosed, DeclinesLeft, DeclinesClosed};
 ghost use Rattle.mm_recovery.specs.Ran.{IsRunRecovered, IsRunNotRecovered};

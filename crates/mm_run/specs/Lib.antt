@@ -7,3 +7,5 @@ pub mod Runs
 pub mod Ended
 pub mod Sessions
 pub mod Promised
+pub use Rattle.mm_io.specs.Lines
+pub use Rattle.mm_io.specs.Records

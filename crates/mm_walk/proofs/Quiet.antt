@@ -4,7 +4,7 @@ use Rattle.std.specs.Prelude.{⊤, if◌then◌else◌}
 use Rattle.sqlite.specs.Schema.{Schema}
 use Rattle.sqlite.specs.Command.{Command}
 use Rattle.sql_forms.specs.Returning.{Returning}
-use Rattle.sql_forms.specs.Parsed.{Parsed}
+use Rattle.sqlite_syntax.specs.declared.statement.Parsed.{Parsed}
 use Rattle.sql_forms.specs.Compiled.{Compiled}
 use Rattle.sql_forms.specs.CompileError.{CompileError}
 use Rattle.sql_forms.specs.CompileError.TheVariants.{NoSuchTable}

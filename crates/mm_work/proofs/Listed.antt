@@ -5,8 +5,8 @@ use Rattle.mm_definitions.specs.Bounds.{current}
 use Rattle.mm_store.proofs.Seen.{seen_of}
 use Rattle.mm_store.proofs.Shapes.{quiet_then}
 use Rattle.mm_core.specs.Adopted.{IsAdopted}
-use Rattle.mm_reads.specs.Listing.{listing}
-use Rattle.mm_reads.specs.Writing.{IsListed}
+use Rattle.mm_core.specs.Listing.{listing}
+use Rattle.mm_core.specs.Writing.{IsListed}
 use Rattle.mm_work.specs.Looked.{IsListing, IsListingCut}
 use Rattle.mm_definitions.specs.Streams.{Written, written_as}
 use Rattle.mm_definitions.specs.declared.answers.Fault.{Fault}

@@ -9,8 +9,8 @@ use Rattle.mm_definitions.specs.Streams.{Written}
 use Rattle.mm_definitions.specs.declared.answers.Fault.{Fault}
 use Rattle.mm_store.specs.Stands.{IsSettled}
 use Rattle.mm_store.specs.Statements.{CommitsNothing}
-use Rattle.mm_reads.specs.Listing.{listing}
-use Rattle.mm_reads.specs.Writing.{IsBegun, ListingTellsWriter}
+use Rattle.mm_core.specs.Listing.{listing}
+use Rattle.mm_core.specs.Writing.{IsBegun, ListingTellsWriter}
 use Rattle.mm_work.specs.Declined.{IsDeclined}
 use Rattle.mm_work.specs.Told.{stop_text, stop_status}
 use Rattle.mm_work.specs.declared.stop.Stop.{Stop}

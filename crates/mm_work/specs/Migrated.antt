@@ -2,7 +2,7 @@
 use Rattle.std.specs.Prelude.{◌≡◌, ℕ, List, Result, Ok, Err, codes}
 use Rattle.sqlite.specs.State.{State}
 use Rattle.mm_definitions.specs.declared.answers.Open.{Open}
-use Rattle.mm_migrate.specs.Migrations.{IsMigration}
+use Rattle.mm_core.specs.Migrations.{IsMigration}
 use Rattle.mm_work.specs.Declined.{stop_of}
 use Rattle.mm_work.specs.Told.{stop_text, stop_status}
 use Rattle.mm_work.specs.declared.stop.Stop.{Stop}

@@ -7,7 +7,7 @@ use Rattle.mm_definitions.specs.declared.answers.Tally.{Tally}
 use Rattle.mm_definitions.specs.declared.answers.RunFault.{RunFault}
 use Rattle.mm_definitions.specs.Streams.{Written}
 use Rattle.mm_store.specs.Stands.{IsSettled}
-use Rattle.mm_run.specs.Runs.{RanAll, RanSome}
+use Rattle.mm_core.specs.Runs.{RanAll, RanSome}
 use Rattle.mm_core.specs.Applied.{shown_on}
 
 -- 0 where no record was refused, and else 1

@@ -1,6 +1,6 @@
 //! The import of a kit on a connection, and what is printed of it.
 
-ghost use Rattle.std.specs.Prelude.{◌≡◌, ◌++◌, ◌+◌, ◌≤◌, codes, decimal, false, length, IfErr, IfOk};
+ghost use Rattle.std.specs.Prelude.{◌≡◌, ◌++◌, codes, decimal, false, IfErr, IfOk};
 ghost use Rattle.sqlite.specs.Held.{state};
 ghost use Rattle.sqlite.specs.State.{HasCleanDisk};
 ghost use Rattle.mm_definitions.specs.Bounds.{current};
@@ -14,13 +14,13 @@ ghost use Rattle.mm_work.specs.Told.{IsTold};
 
 use crate::package::adopt_package;
 use crate::stop::Stop;
-use crate::tell::{DONE, FAULT, REFUSED, numbered_line, put, tell_bytes};
+use crate::tell::{DONE, FAULT, REFUSED, numbered_line, tell_bytes};
 use arrayvec::ArrayVec;
-use itoa::Buffer;
 use mm_definitions::answers::{KitFault, Staged};
 use mm_definitions::moments::Moment;
 use mm_definitions::names::Name;
 use mm_definitions::streams::Io;
+use mm_io::{put, put_number};
 use mm_kit::{Folder, import_kit};
 use sqlite::{Alter, Connection};
 use std::alloc::Global;
@@ -61,37 +61,27 @@ pub fn import_package<S: Alter + Drop, F: Folder>(
     Ok((session.close(), import))
 }
 
-// Appends a number that has room.
-fn put_number(line: &mut ArrayVec<u8, 40>, number: u32)
-    requires { length line.old.items ≤ 30 }
-    ensures digits { line.new.items ≡ line.old.items ++ decimal number }
-    ensures size { length line.new.items ≤ length line.old.items + 10 }
-{
-    let mut buffer = Buffer::new();
-    put(line, buffer.format(number as u64).as_bytes());
-}
-
 /// It is built in place and takes no memory.
-fn complete_line(count: u32) -> ArrayVec<u8, 40>
+fn complete_line(count: u32) -> ArrayVec<u8, 64>
     ensures { result.items ≡ codes "kit complete " ++ decimal count ++ codes "\n" }
 {
     let mut line = ArrayVec::new();
     put(&mut line, b"kit complete ");
-    put_number(&mut line, count);
+    put_number(&mut line, count as u64);
     put(&mut line, b"\n");
     line
 }
 
 /// It is built in place and takes no memory.
-fn refused_line(piece: u32, number: u8) -> ArrayVec<u8, 40>
+fn refused_line(piece: u32, number: u8) -> ArrayVec<u8, 64>
     ensures { result.items ≡ codes "kit refused " ++ decimal piece ++ codes " " ++ decimal number
         ++ codes "\n" }
 {
     let mut line = ArrayVec::new();
     put(&mut line, b"kit refused ");
-    put_number(&mut line, piece);
+    put_number(&mut line, piece as u64);
     put(&mut line, b" ");
-    put_number(&mut line, number as u32);
+    put_number(&mut line, number as u64);
     put(&mut line, b"\n");
     line
 }

@@ -24,6 +24,6 @@ pub use pages::{tell_page_fault, tell_serving};
 pub use reporting::{check_package, list_package, tell_check};
 pub use stop::Stop;
 pub use tell::{
-    DONE, FAULT, NO_PACKAGE, REFUSED, USAGE, numbered_line, put, tell_bytes, tell_init, tell_stop,
+    DONE, FAULT, NO_PACKAGE, REFUSED, USAGE, numbered_line, tell_bytes, tell_init, tell_stop,
     tell_text,
 };

@@ -3,7 +3,7 @@
 ghost use Rattle.std.specs.Prelude.{◌≡◌, Ok, false, IfOk, IfErr};
 ghost use Rattle.sqlite.specs.Held.{state};
 ghost use Rattle.mm_definitions.specs.Streams.{written};
-ghost use Rattle.mm_migrate.specs.Migrations.{IsMigration};
+ghost use Rattle.mm_core.specs.Migrations.{IsMigration};
 ghost use Rattle.mm_work.specs.Migrated.{IsUnmigrated, migrate_status, migrate_text};
 ghost use Rattle.mm_work.specs.Told.{IsTold};
 

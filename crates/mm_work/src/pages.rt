@@ -4,12 +4,11 @@ ghost use Rattle.std.specs.Prelude.{◌≡◌, ◌++◌, codes, decimal};
 ghost use Rattle.mm_definitions.specs.Streams.{written};
 ghost use Rattle.mm_work.specs.Pages.{IsPrinted, page_fault_text, serving_text};
 
-use crate::tell::{numbered_line, put};
+use crate::tell::numbered_line;
 use arrayvec::ArrayVec;
-use itoa::Buffer;
 use mm_definitions::answers::PageFault;
 use mm_definitions::streams::Io;
-use mm_io::{Sent, send};
+use mm_io::{Sent, put, put_number, send};
 use std::io::Write;
 
 /// Prints bytes, and tells whether they were printed whole.
@@ -25,13 +24,12 @@ fn is_printed<W: Write>(output: &mut Io<W>, bytes: &[u8]) -> bool
 }
 
 /// It is built in place and takes no memory.
-fn serving_line(port: u16) -> ArrayVec<u8, 40>
+fn serving_line(port: u16) -> ArrayVec<u8, 64>
     ensures { result.items ≡ serving_text port }
 {
     let mut line = ArrayVec::new();
-    let mut buffer = Buffer::new();
     put(&mut line, b"serving 127.0.0.1:");
-    put(&mut line, buffer.format(port as u64).as_bytes());
+    put_number(&mut line, port as u64);
     put(&mut line, b"\n");
     line
 }

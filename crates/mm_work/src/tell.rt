@@ -6,10 +6,9 @@ ghost use Rattle.mm_work.specs.Told.{IsTold, init_status, init_text, stop_status
 
 use crate::stop::Stop;
 use arrayvec::ArrayVec;
-use itoa::Buffer;
 use mm_definitions::answers::Fault;
 use mm_definitions::streams::Io;
-use mm_io::{Sent, send};
+use mm_io::{Sent, put, put_number, send};
 use std::fmt::Display;
 use std::io::Write;
 
@@ -28,24 +27,14 @@ pub const FAULT: u8 = 3;
 /// The file is no package, or is not empty.
 pub const NO_PACKAGE: u8 = 4;
 
-/// Appends bytes that have room.
-pub fn put(line: &mut ArrayVec<u8, 40>, bytes: &[u8])
-    requires { length line.old.items + length bytes.now ≤ 40 }
-    ensures bytes { line.new.items ≡ line.old.items ++ bytes.now }
-    ensures size { length line.new.items ≡ length line.old.items + length bytes.now }
-{
-    let _fits = line.try_extend_from_slice(bytes);
-}
-
 /// Some words and a number on a line. It is built in place and takes no memory.
-pub fn numbered_line(words: &[u8], number: u8) -> ArrayVec<u8, 40>
+pub fn numbered_line(words: &[u8], number: u8) -> ArrayVec<u8, 64>
     requires { length words.now ≤ 19 }
     ensures { result.items ≡ words.now ++ decimal number ++ codes "\n" }
 {
     let mut line = ArrayVec::new();
-    let mut buffer = Buffer::new();
     put(&mut line, words);
-    put(&mut line, buffer.format(number as u64).as_bytes());
+    put_number(&mut line, number as u64);
     put(&mut line, b"\n");
     line
 }

@@ -18,10 +18,12 @@ pub mod Deletes
 pub mod Cascades
 pub mod Creates
 pub mod Sequences
+pub use Rattle.sqlite_catalog.proofs.ReadLemmas
 pub use Rattle.sqlite_exec.proofs.PartitionLemmas
 pub use Rattle.sqlite_rules.proofs.ListLemmas
 pub use Rattle.sqlite_rules.proofs.ProbeLemmas
 pub use Rattle.sqlite_rules.proofs.TableLemmas
 pub use Rattle.sqlite_sql.proofs.QueryLemmas
 pub use Rattle.sqlite_trees.proofs.ListLemmas as TreeLists
+pub use Rattle.sqlite_trees.proofs.Doubt
 pub use Rattle.sqlite_value.proofs.OrderLemmas

@@ -19,6 +19,7 @@ pub use Rattle.sqlite_schema.specs.declared.schema.Index
 pub use Rattle.sqlite_schema.specs.declared.schema.Keys as TableKeys
 pub use Rattle.sqlite_schema.specs.declared.schema.Reference
 pub use Rattle.sqlite_schema.specs.declared.schema.Schema
+pub use Rattle.sqlite_schema.specs.contracts.schema.Schema as SchemaContracts
 pub use Rattle.sqlite_sql.specs.Numeral
 pub use Rattle.sqlite_sql.specs.Ops
 pub use Rattle.sqlite_sql.specs.Program
@@ -28,12 +29,13 @@ pub use Rattle.sqlite_sql.specs.declared.ops.ArithOp
 pub use Rattle.sqlite_sql.specs.declared.ops.BinaryOp
 pub use Rattle.sqlite_sql.specs.declared.ops.CompareOp
 pub use Rattle.sqlite_sql.specs.declared.ops.UnaryOp
-pub use Rattle.sqlite_syntax.specs.declared.statement.Parsed
 pub use Rattle.sqlite_tied.specs.Compute
+pub use Rattle.sqlite_trees.specs.Objects
+pub use Rattle.sqlite_trees.specs.Props
 pub use Rattle.sqlite_trees.specs.Tree
+pub use Rattle.sqlite_trees.specs.View
 pub use Rattle.sqlite_trees.specs.declared.error.StoreError
 pub use Rattle.sqlite_trees.specs.declared.store.Store
-pub use Rattle.sqlite_typing.specs.Types
 pub use Rattle.sqlite_value.specs.Keys
 pub use Rattle.sqlite_value.specs.Order
 pub use Rattle.sqlite_value.specs.Value

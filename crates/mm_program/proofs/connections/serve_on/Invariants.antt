@@ -3,7 +3,7 @@ use Rattle.sqlite.specs.Held.{state}
 use Rattle.mm_definitions.specs.Streams.{inside}
 use Rattle.mm_definitions.specs.Streams as streams
 use Rattle.mm_core.specs.Parts.{connection, must_reopen}
-use Rattle.mm_reads.specs.Viewers.{LeavesPackage}
+use Rattle.mm_core.specs.Viewers.{LeavesPackage}
 use Rattle.mm_program.proofs.ServiceFacts.{Told}
 use Rattle.mm_program.proofs.connections.serve_on.Given as goal
 

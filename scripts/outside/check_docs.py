@@ -7,6 +7,7 @@ Each line '    $ COMMAND' of README.md and docs/USING.md is run in turn, in a ne
 stand below it; 'cat' of a file that is not there makes it of them. Each edit of must-fail/ is named in docs/PROOFS.md, in bold, and each mutant;
 each name in backticks there that looks like one of the code stands in some crate, script or transcript. Each line of cases/README.md names
 what shows its behaviour: a transcript, a test, an edit, a mutant or a script that there is, or behind 'proved:' a name of docs/PROOFS.md.
+Each example in the head of a crate stands word for word among the tests.
 With --tours the commands alone are run. PROGRAM is the built program: without it out/mmpkg, or else the one that the gate left in
 crates/mm_cli/out.
 """
@@ -24,6 +25,7 @@ TOURS = "README.md", "docs/USING.md"
 PROGRAMS = "out/mmpkg", "crates/mm_cli/out/mm_cli"
 PROMISES = "docs/PROOFS.md"
 SHOWN = "cases/README.md"
+TESTED = "crates/mm_test_sessions/src/examples.rt"
 PORT = "8090"
 SPOKEN_OF = (".rt", ".antt", ".edit", ".py", ".sh", ".case", ".steps")
 
@@ -180,6 +182,17 @@ def behaviours_are_shown():
     return not wrong and bool(lines)
 
 
+def examples_are_tested():
+    """Returns whether each example in the head of a crate stands among the tests, and whether there is any."""
+    tested, answers = text_of(TESTED), []
+    for path in sorted(pathlib.Path().glob("crates/*/src/lib.rt")):
+        for block in re.findall(r"^//! ```rust\n(.*?)^//! ```$", text_of(path), re.MULTILINE | re.DOTALL):
+            answers.append("".join(line[4:].rstrip() + "\n" if len(line) > 4 else "\n" for line in block.splitlines()) in tested)
+            if not answers[-1]:
+                print(f"{TESTED} does not have the example of {path}")
+    return all(answers) and bool(answers)
+
+
 def main():
     os.chdir(TOP)
     words = [it for it in sys.argv[1:] if it != "--tours"]
@@ -190,7 +203,7 @@ def main():
     program = os.path.realpath(given[0])
     answers = [tour_fits(path, program) for path in TOURS]
     if "--tours" not in sys.argv:
-        answers += [wrong_bodies_are_named(), *map(names_stand, (PROMISES, SHOWN)), behaviours_are_shown()]
+        answers += [wrong_bodies_are_named(), *map(names_stand, (PROMISES, SHOWN)), behaviours_are_shown(), examples_are_tested()]
     passed = sum(answers)
     print(f"{passed} passed, {len(answers) - passed} failed")
     return 0 if all(answers) else 1

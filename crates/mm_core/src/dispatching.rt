@@ -10,9 +10,9 @@ use mm_definitions::answers::{Fault, Outcome};
 use mm_definitions::commands::Command;
 use mm_definitions::extents::Extent;
 use mm_definitions::places::TilePlace;
+use mm_edition::{discard, open_edition, publish, stage};
 use mm_items::{drop_media, drop_row, drop_tile, put_media, put_row, put_tile};
 use mm_meta::{add_matrix, add_pyramid, add_srs, add_table, drop_table};
-use mm_edition::{discard, open_edition, publish, stage};
 use mm_relations::{add_map, add_relation, drop_map, drop_relation};
 use sqlite::{Alter, Transaction};
 

@@ -3,16 +3,15 @@
 ghost use Rattle.std.specs.Prelude.{◌≡◌, false};
 
 use crate::applying::apply_once;
-use mm_check::verify;
+use mm_check::{blobs_stand, verify};
 use mm_definitions::answers::{Answer, Fault, Open, RunFault, Tally};
 use mm_definitions::commands::Command;
 use mm_definitions::moments::Moment;
 use mm_definitions::streams::Io;
 use mm_definitions::units::CURRENT;
-use mm_migrate::migrate;
 use mm_meta::{init, look};
+use mm_migrate::migrate;
 use mm_run::{Apply, run_list};
-use mm_check::blobs_stand;
 use sqlite::{Alter, Connection};
 use std::alloc::Global;
 use std::io::{Read, Write};

@@ -15,10 +15,10 @@ use mm_definitions::answers::{Fault, Outcome};
 use mm_definitions::commands::Piece;
 use mm_definitions::names::Name;
 use mm_definitions::places::TilePlace;
-use mm_staging::piece;
 use mm_items::{drop_media, drop_row, drop_tile, put_media_of_piece, put_row, put_tile_of_piece};
 use mm_meta::add_matrix;
 use mm_relations::{add_map, drop_map};
+use mm_staging::piece;
 use sqlite::{Alter, Transaction};
 
 /// What became of the piece of a number.

@@ -9,6 +9,7 @@ ghost use Rattle.mm_definitions.specs.declared.answers.ReadFault.TheVariants as 
 ghost use Rattle.mm_kit.specs.Entries.{HoldsAgainstEntry, IsEntry, IsInForm, IsLeftToAsk, entry_of, file_of, file_read, without_file, text_of};
 
 use crate::file_names::FileName;
+use mm_base::read_piece;
 use mm_definitions::answers::ReadFault;
 use mm_definitions::bounded::{Id, Place, Zoom};
 use mm_definitions::commands::Piece;
@@ -17,7 +18,6 @@ use mm_definitions::limits::{LAST_ID, MOST_PIECES};
 use mm_definitions::names::Name;
 use mm_definitions::numbers::read_number;
 use mm_definitions::refusals::Reason;
-use mm_base::read_piece;
 use std::alloc::{AllocError, Global};
 
 /// A record of a kit's list: a piece, or a tile or media item whose bytes a file holds.

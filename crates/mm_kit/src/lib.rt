@@ -10,6 +10,30 @@
 //! - `lists`: the list.
 //! - `memory`: a folder in memory.
 //! - `staging`: one piece after another.
+//!
+//! # Example
+//!
+//! A kit of one attribute row is imported into the edition `may`, which is then published:
+//!
+//! ```rust
+//! fn publish_kit<A: Editor>(alloc: Global, editor: &mut A) -> Option<Answer> {
+//!     let mut list = MemoryFile {
+//!         name: String::from_str(alloc, "kit.csv").ok()?,
+//!         bytes: Vec::new(alloc),
+//!     };
+//!     list.bytes
+//!         .extend_from_slice(b"1,row,spots,1,Gate,,0\n")
+//!         .ok()?;
+//!     let mut folder = MemoryFolder {
+//!         files: Vec::new(alloc),
+//!     };
+//!     folder.files.push(list).ok()?;
+//!     let edition = Name::read("may")?;
+//!     let moment = Moment::new(0)?;
+//!     import_kit(alloc, editor, &edition, &mut folder, moment).ok()?;
+//!     Some(editor.apply(&Command::Publish { edition }, moment))
+//! }
+//! ```
 #![tactic(auto)]
 
 mod entries;

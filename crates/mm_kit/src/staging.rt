@@ -23,8 +23,7 @@ use mm_definitions::bounded::Id;
 use mm_definitions::commands::{Command, Piece};
 use mm_definitions::moments::Moment;
 use mm_definitions::names::Name;
-use mm_run::Editor;
-use mm_run::Apply;
+use mm_run::{Apply, Editor};
 use std::alloc::Global;
 
 /// The same name again.

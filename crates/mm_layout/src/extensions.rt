@@ -55,10 +55,7 @@ pub fn insert_related_row<S: Alter>(tx: &mut Transaction<'_, S>, table: &str) ->
 }
 
 /// Removes the extension row of a mapping. (Related Tables Extension.)
-pub fn delete_related_row<S: Alter>(
-    tx: &mut Transaction<'_, S>,
-    mapping: &str,
-) -> Result<(), Fault>
+pub fn delete_related_row<S: Alter>(tx: &mut Transaction<'_, S>, mapping: &str) -> Result<(), Fault>
     ensures { Changes S.Store tx.old tx.new
         (λ p. record p { extensions = remove p.extensions (mapping_extension mapping.now) })
         result }

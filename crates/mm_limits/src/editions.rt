@@ -7,15 +7,15 @@ ghost use Rattle.mm_definitions.specs.Units.{profile_of};
 ghost use Rattle.mm_limits.specs.PieceRows.{IsStateRow, IsOpenRow, IsNumberedRow, IsSpelledRow, AreSides, AreUnused, IsContent, IsMatrix, HasNoTexts, HasNoBytes, IsPlaceOfTile, IsItem, IsPair, IsTile, IsTileDrop, PutsRow, IsItemDrop, IsMedia, IsMap, PutsEntry, IsDrop};
 ghost use Rattle.mm_walk.specs.Check.{DecidesWithin, DecidesWithinUnder};
 
+use crate::column_tests::{
+    is_blob_within, is_content_type_at, is_name_at, is_pixel_size, is_text_at, is_within,
+};
 use mm_definitions::answers::Fault;
 use mm_definitions::limits::{
     LAST_ID, LAST_PLACE, LAST_ZOOM, MOST_AMOUNT, MOST_MEDIA_BYTES, MOST_PIECES, MOST_PIXELS,
     MOST_TILE_BYTES, MOST_TILES,
 };
 use mm_definitions::units::Unit;
-use crate::column_tests::{
-    is_blob_within, is_content_type_at, is_name_at, is_pixel_size, is_text_at, is_within,
-};
 use mm_walk::columns::{number_is, stands, text_is};
 use mm_walk::row_tests::{RowTest, each_passes};
 use sqlite::{Alter, Connection, Row};

@@ -7,12 +7,11 @@ ghost use Rattle.mm_definitions.specs.declared.answers.Open.TheVariants as opens
 ghost use Rattle.mm_definitions.specs.Units.{profile_of};
 ghost use Rattle.mm_migrate.specs.Migrations.{IsChecked, IsMigration, IsOlder};
 
-use mm_check::verify;
+use crate::scaling::rescale;
+use mm_check::{blobs_stand, verify};
 use mm_definitions::answers::Open;
 use mm_definitions::units::{CURRENT, Unit};
 use mm_meta::look;
-use crate::scaling::rescale;
-use mm_check::blobs_stand;
 use sqlite::{Alter, Connection};
 
 /// The form of the blobs, and then the whole check in a unit, with what fails told as an opening: 98, or the rule.

@@ -6,6 +6,19 @@
 //! - `replies`: what is answered to what is asked for.
 //! - `lists`: the lists as JSON.
 //! - `responses`: the bytes of a response.
+//!
+//! # Example
+//!
+//! What the list of the tables is as a response:
+//!
+//! ```rust
+//! fn tables_listed<V: Viewer>(alloc: Global, viewer: &mut V) -> Option<Vec<u8>> {
+//!     let mut request = Io::new("GET /contents HTTP/1.1\r\n\r\n".as_bytes());
+//!     let mut response = Io::new(Vec::new(alloc));
+//!     serve_one(alloc, viewer, &mut request, &mut response).ok()?;
+//!     Some(response.into_inner())
+//! }
+//! ```
 #![tactic(auto)]
 
 mod heads;

@@ -6,11 +6,11 @@ ghost use Rattle.mm_page.specs.Routes.{asked};
 ghost use Rattle.mm_page.specs.Promised.{Replies};
 
 use crate::lists::{mates_json, tables_json};
+use crate::{Wanted, found, not_found};
 use mm_definitions::answers::Fault;
 use mm_definitions::names::Name;
 use mm_definitions::places::TilePlace;
 use mm_reads::Viewer;
-use crate::{Wanted, found, not_found};
 use std::alloc::{AllocError, Global};
 
 /// Want of memory is fault 90.

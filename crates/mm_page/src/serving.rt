@@ -9,13 +9,13 @@ ghost use Rattle.mm_page.specs.Promised.{MakesResponse, Responds, Serves};
 ghost use Rattle.mm_page.specs.Asked.{IsRouted, Wanted};
 
 use crate::replies::{printed, reply};
+use crate::{bad_request, not_allowed, not_found, read_head, read_path};
 use http::Method;
 use httparse::spans::EMPTY_HEADER_SPAN;
 use mm_definitions::answers::{Fault, PageFault};
 use mm_definitions::streams::Io;
 use mm_io::{Sent, send};
 use mm_reads::Viewer;
-use crate::{bad_request, not_allowed, not_found, read_head, read_path};
 use std::alloc::Global;
 use std::io::{Read, Write};
 use std::str::from_utf8;

@@ -16,9 +16,7 @@ use mm_definitions::answers::{Fault, Outcome};
 use mm_definitions::commands::{Kind, RelationName};
 use mm_definitions::names::Name;
 use mm_definitions::refusals::Reason;
-use mm_layout::{
-    delete_related_row, has_relation, insert_related_row, is_taken, kind_of,
-};
+use mm_layout::{delete_related_row, has_relation, insert_related_row, is_taken, kind_of};
 use mm_store::statements::run;
 use sqlite::{Alter, Transaction, params};
 

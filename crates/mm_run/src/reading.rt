@@ -5,11 +5,11 @@ ghost use Rattle.std.specs.Prelude.{◌≡◌};
 ghost use Rattle.mm_run.specs.Readings.{IsCommandRead};
 
 use csv::{ByteRecord, StringRecord};
+use mm_base::read_command;
 use mm_definitions::answers::ReadFault;
 use mm_definitions::commands::Command;
 use mm_definitions::refusals::Reason;
 use mm_io::text_fields;
-use mm_base::read_command;
 use std::alloc::Global;
 
 /// The command that a record spells. One with a field that isn't text is refused 10.

@@ -1,6 +1,7 @@
 //! Tests of runs, sessions, kits and the page, over stores in memory. Nothing stands here but tests, so that no crate
 //! of the product is proved a second time with its own.
 //!
+//! - `examples`: the examples in the heads of `mm_core`, `mm_kit` and `mm_page`.
 //! - `fakes`: writers, readers and folders that fail.
 //! - `runs`: a run on systems of the tests' own.
 //! - `sessions`: what is answered, adopted, checked and listed.
@@ -10,6 +11,8 @@
 //! - `streams`: what stands where a reader or a writer failed.
 #![tactic(auto)]
 
+#[cfg(test)]
+mod examples;
 #[cfg(test)]
 mod fakes;
 #[cfg(test)]

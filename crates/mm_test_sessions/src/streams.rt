@@ -6,10 +6,8 @@ use mm_definitions::answers::Tally;
 use mm_definitions::moments::Moment;
 use mm_definitions::streams::Io;
 use mm_recovery::{close_files, open_files};
-use mm_work::{
-    DONE, FAULT, Stop, make_package, run_package, tell_init, tell_stop, tell_text,
-};
 use mm_test_packages::{create, open};
+use mm_work::{DONE, FAULT, Stop, make_package, run_package, tell_init, tell_stop, tell_text};
 use sqlite::{Alter, Connection, FileStore, Files, Options};
 use sqlite_disk::{Disk, Memory};
 use std::alloc::Global;

@@ -3,3 +3,4 @@ pub mod Creating
 pub mod Turns
 pub mod Applies
 mod Ready
+pub mod Opened

@@ -30,7 +30,7 @@ pub(crate) fn insert_profile<S: Alter>(
 }
 
 /// The number in a column, if it holds one.
-fn number_in(row: &Row, at: usize) -> Result<Option<i64>, Fault>
+fn number_if_any(row: &Row, at: usize) -> Result<Option<i64>, Fault>
     ensures number { IfOk result
         (λ found. MatchOption found ((number : ℤ) → column row.now at ≢ Int number)
         (λ number. column row.now at ≡ Int number)) }
@@ -55,7 +55,7 @@ fn judge(rows: &[Row]) -> Result<(), Open>
     let [row] = rows else {
         return Err(Open::BadProfile);
     };
-    match number_in(row, 0) {
+    match number_if_any(row, 0) {
         Ok(Some(id)) => {
             if id != 1 {
                 return Err(Open::BadProfile);
@@ -64,7 +64,7 @@ fn judge(rows: &[Row]) -> Result<(), Open>
         Ok(None) => return Err(Open::BadProfile),
         Err(fault) => return Err(Open::Fault(fault)),
     }
-    match number_in(row, 1) {
+    match number_if_any(row, 1) {
         Ok(Some(version)) => {
             if version == 2 {
                 Ok(())

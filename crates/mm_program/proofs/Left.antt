@@ -34,7 +34,7 @@ use Rattle.mm_work.specs.declared.stop.Stop.{Stop}
 use Rattle.mm_work.specs.declared.stop.Stop.TheVariants as stops
 use Rattle.mm_files.specs.Worked.{IsJustOpened}
 use Rattle.mm_program.specs.Left.{IsImportOf, LeavesImport, LeavesMade, LeavesMigrated, LeavesSame, RanTo, StaysFor, StaysIn, TellsDeclined, TellsListing, TellsServed}
-use Rattle.mm_program.proofs.Opened.{nothing_less, opened_blank, opened_settles}
+use Rattle.mm_core.proofs.Opened.{nothing_less, opened_blank, opened_settles}
 
 -- ---- a run
 

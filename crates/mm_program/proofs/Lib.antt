@@ -1,4 +1,3 @@
-pub mod Opened
 pub mod Left
 pub mod Told
 pub mod Life

@@ -24,8 +24,8 @@ use Rattle.sqlite.proofs.ListingLemmas.{empty_is_sound}
 use Rattle.sqlite_wal.proofs.LogLemmas.{SeenMayStay}
 use Rattle.mm_core.specs.Opening.{HasNoTable}
 use Rattle.mm_recovery.specs.Made.{AreNew, FindsNoTable}
-use Rattle.mm_recovery.proofs.Opened.{opened_blank}
-use Rattle.mm_recovery.proofs.Crashed.{only_committed}
+use Rattle.mm_core.proofs.Opened.{opened_blank}
+use Rattle.mm_recovery.proofs.Crashed.{is_fresh}
 
 -- files that hold a database are not blank: its first page begins with the S of SQLite
 module _ (size : ℕ) (image : Image) (pages : PageMap) (found : Adopts size image pages) (sound : IsSoundFile size pages) where
@@ -68,5 +68,5 @@ module _ {D : Type 0} (g : Ghosts D) where
   pub finds_no_table : (files : Files D) (new : Held (FileStore D g)) → SeenMayStay g → (HasCleanDisk (file_state new) → IsOpened new) → (HasCleanDisk (file_state new) → Finds files new) → FindsNoTable g files (file_state new)
   finds_no_table files new stays opened finds = record {
     is_open = λ clean. (opened clean).0.is_open;
-    blank = λ clean are. opened_blank (file_state new) (opened clean).0 (opened clean).1 (only_committed new stays) (new_found files _ are (finds clean).reads);
+    blank = λ clean are. opened_blank (file_state new) (is_fresh new stays (opened clean)) (new_found files _ are (finds clean).reads);
   }

@@ -20,12 +20,7 @@ use Rattle.sqlite.specs.Files.{file_state, IsOpened, Finds, image_of}
 use Rattle.sqlite.specs.State.{HasCleanDisk}
 use Rattle.sqlite.proofs.Theorems.{opens_again}
 use Rattle.mm_recovery.specs.Found.{AreClosed, AreLeftBy, FindsClosedIn, FindsLeftIn, IsFound, LeaveNoMore}
-use Rattle.mm_recovery.proofs.Opened.{OnlyCommitted, opened_blank}
-use Rattle.mm_recovery.proofs.Settled.{opened_settles_each}
-
--- what is no more than nothing is nothing
-pub nothing_less : (a b : ℕ) → a ≤ b → b ≡ 0 → a ≡ 0
-nothing_less a b less none = omega (arith, less, none)
+use Rattle.mm_core.proofs.Opened.{IsFresh, nothing_less, opened_blank, opened_settles}
 
 module _ {D : Type 0} {g : Ghosts D} where
   -- a store has no doubt of its disk where its two files have none
@@ -38,8 +33,9 @@ module _ {D : Type 0} {g : Ghosts D} where
   unfolding pool.state pool.files
   left_by it image clean may = (clean, may)
 
-  pub only_committed : (conn : Held (FileStore D g)) → SeenMayStay g → OnlyCommitted (file_state conn)
-  only_committed conn stays db is_open may = settled_at conn.store stays db is_open may
+  -- nothing but the last commit may be left by a connection that was just opened
+  pub is_fresh : (conn : Held (FileStore D g)) → SeenMayStay g → IsOpened conn → IsFresh (file_state conn)
+  is_fresh conn stays opened = (opened.0, opened.1, λ db may. settled_at conn.store stays db opened.0.is_open may)
 
   -- the two files of a store are its
   pub are_clean : (it : FileStore D g) (files : Files D) → (files.log, files.db) ≡ file.files it → AreClean g files.log files.db → AreClean g (file.files it).0 (file.files it).1
@@ -74,9 +70,9 @@ module _ {D : Type 0} {g : Ghosts D} where
   pub is_found : (stays : SeenMayStay g) (new : Held (FileStore D g)) → IsOpened new → IsFound (file_state new)
   is_found stays new opened = record {
     is_open = opened.0.is_open;
-    only = λ db may. only_committed new stays db opened.0.is_open may;
-    settled = opened_settles_each (file_state new) opened.0 opened.1 (only_committed new stays);
-    blank = opened_blank (file_state new) opened.0 opened.1 (only_committed new stays);
+    only = (is_fresh new stays opened).2;
+    settled = opened_settles (file_state new) (is_fresh new stays opened);
+    blank = opened_blank (file_state new) (is_fresh new stays opened);
   }
 
   module _ (stays : SeenMayStay g) (new : Held (FileStore D g)) (files : Files D) (opened : HasCleanDisk (file_state new) → IsOpened new) (finds : HasCleanDisk (file_state new) → Finds files new) where

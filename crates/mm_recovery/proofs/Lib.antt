@@ -1,5 +1,3 @@
-pub mod Opened
-pub mod Settled
 pub mod Crashed
 pub mod Stopping
 pub mod Recovering

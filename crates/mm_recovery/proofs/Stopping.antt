@@ -25,7 +25,8 @@ use Rattle.mm_recovery.specs.Found.{HoldOneOf}
 use Rattle.mm_recovery.specs.Stops.{HasCause, IsNotClosed, IsNotOpened, LeadsBack, LeadsTo, TellsNoLie}
 use Rattle.mm_recovery.specs.declared.stops.Stopped.{Stopped}
 use Rattle.mm_store.proofs.Asking.{told_fault}
-use Rattle.mm_recovery.proofs.Crashed.{clean_by, nothing_less}
+use Rattle.mm_core.proofs.Opened.{nothing_less}
+use Rattle.mm_recovery.proofs.Crashed.{clean_by}
 
 -- 90 is not 91
 other_fault : memory ≡ store → ⊥

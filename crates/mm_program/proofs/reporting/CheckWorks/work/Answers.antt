@@ -1,6 +1,6 @@
 use Rattle.mm_store.proofs.Seen.{seen_of}
 use Rattle.mm_program.proofs.Left.{leaves_same, tells_declined}
-use Rattle.mm_program.proofs.Opened.{nothing_less, opened_settles}
+use Rattle.mm_core.proofs.Opened.{nothing_less, opened_settles}
 use Rattle.mm_definitions.specs.Bounds.{current}
 use Rattle.mm_program.proofs.reporting.CheckWorks.work.Goals as goal
 

@@ -1,6 +1,6 @@
 use Rattle.mm_definitions.specs.Bounds.{current}
 use Rattle.mm_program.proofs.Left.{leaves_same, ran_to, tells_declined}
-use Rattle.mm_program.proofs.Opened.{opened_settles}
+use Rattle.mm_core.proofs.Opened.{opened_settles}
 use Rattle.mm_program.proofs.subcommands.RunWorks.work.Goals as goal
 
 pub returns-in-Ok-clause-worked : goal.returns-in-Ok-clause-worked

@@ -32,25 +32,29 @@ first_and_rest xs some = one_more xs 0 some ∙ ap (λ l. text_at xs 0 ∷ texts
 begins : (xs : List (Bor Text)) (word : Text) → 1 ≤ length xs → text_at xs 0 ≡ word → texts_of xs ≡ word ∷ texts_of (rest_of xs)
 begins xs word some is = first_and_rest xs some ∙ ap (λ w. w ∷ texts_of (rest_of xs)) is
 
-pub piece_arm : (r : Result Piece ReadFault) (xs : List (Bor Text)) (word : Text) (form : Form) → 1 ≤ length xs → text_at xs 0 ≡ word → form_of (piece_forms current) word ≡ Some form
+pub piece_arm : (r : Result Piece ReadFault) (xs : List (Bor Text)) (word : Text) (form : Form) → 1 ≤ length xs → text_at xs 0 ≡ word
+    → form_of (piece_forms current) word ≡ Some form
     → ReadsTo (λ q. (piece_word q ≡ word) × AllHold form (texts_of (rest_of xs)) (piece_values q)) (IsLeast (IsAgainstSome form (texts_of (rest_of xs)))) r
     → ReadsTo (SpellsPiece current (texts_of xs)) (IsLeast (HoldsAgainstPiece current (texts_of xs))) r
 piece_arm r xs word form some is known h =
     subst (λ ts. ReadsTo (SpellsPiece current ts) (IsLeast (HoldsAgainstPiece current ts)) r) (sym (begins xs word some is)) (by r h)
   where
-    by : (r : Result Piece ReadFault) → ReadsTo (λ q. (piece_word q ≡ word) × AllHold form (texts_of (rest_of xs)) (piece_values q)) (IsLeast (IsAgainstSome form (texts_of (rest_of xs)))) r
+    by : (r : Result Piece ReadFault)
+        → ReadsTo (λ q. (piece_word q ≡ word) × AllHold form (texts_of (rest_of xs)) (piece_values q)) (IsLeast (IsAgainstSome form (texts_of (rest_of xs)))) r
         → ReadsTo (SpellsPiece current (word ∷ texts_of (rest_of xs))) (IsLeast (HoldsAgainstPiece current (word ∷ texts_of (rest_of xs)))) r
     by (Ok q) h = (sym h.0, subst (λ o. IsMet o (texts_of (rest_of xs)) (piece_values q)) (sym known) h.1)
     by (Err faults.Memory) h = tt
     by (Err (faults.Refused x)) h = (h.0, subst (λ o. IsLeast (IsUnmet o (texts_of (rest_of xs))) x.number) (sym known) h.1)
 
-pub command_arm : (r : Result Command ReadFault) (xs : List (Bor Text)) (word : Text) (form : Option Form) → 1 ≤ length xs → text_at xs 0 ≡ word → record_form current (word ∷ texts_of (rest_of xs)) ≡ form
+pub command_arm : (r : Result Command ReadFault) (xs : List (Bor Text)) (word : Text) (form : Option Form) → 1 ≤ length xs → text_at xs 0 ≡ word
+    → record_form current (word ∷ texts_of (rest_of xs)) ≡ form
     → ReadsTo (λ c. (command_word c ≡ word) × IsMet form (texts_of (rest_of xs)) (command_values c)) (IsLeast (IsUnmet form (texts_of (rest_of xs)))) r
     → ReadsTo (Spells current (texts_of xs)) (IsLeast (HoldsAgainst current (texts_of xs))) r
 command_arm r xs word form some is known h =
     subst (λ ts. ReadsTo (Spells current ts) (IsLeast (HoldsAgainst current ts)) r) (sym (begins xs word some is)) (by r h)
   where
-    by : (r : Result Command ReadFault) → ReadsTo (λ c. (command_word c ≡ word) × IsMet form (texts_of (rest_of xs)) (command_values c)) (IsLeast (IsUnmet form (texts_of (rest_of xs)))) r
+    by : (r : Result Command ReadFault)
+        → ReadsTo (λ c. (command_word c ≡ word) × IsMet form (texts_of (rest_of xs)) (command_values c)) (IsLeast (IsUnmet form (texts_of (rest_of xs)))) r
         → ReadsTo (Spells current (word ∷ texts_of (rest_of xs))) (IsLeast (HoldsAgainst current (word ∷ texts_of (rest_of xs)))) r
     by (Ok c) h = (sym h.0, subst (λ o. IsMet o (texts_of (rest_of xs)) (command_values c)) (sym known) h.1)
     by (Err faults.Memory) h = tt
@@ -99,10 +103,12 @@ same_values (Map mapping base_id related_id) = refl
 same_values (MapDrop mapping base_id related_id) = refl
 same_values (pieces.Matrix table zoom matrix) = refl
 
-same_form : (word : Text) (texts : List Text) → (word ≡ codes "stage" → ⊥) → Differs (other_forms current) word → record_form current (word ∷ texts) ≡ form_of (piece_forms current) word
+same_form : (word : Text) (texts : List Text) → (word ≡ codes "stage" → ⊥) → Differs (other_forms current) word
+    → record_form current (word ∷ texts) ≡ form_of (piece_forms current) word
 same_form word texts stage others = rw (differs word (codes "stage") stage) (no_more_forms (piece_forms current) (other_forms current) word (no_form (other_forms current) word others))
 
-pub edit_arm : (r : Result Command ReadFault) (xs : List (Bor Text)) → 1 ≤ length xs → (text_at xs 0 ≡ codes "stage" → ⊥) → Differs (other_forms current) (text_at xs 0)
+pub edit_arm : (r : Result Command ReadFault) (xs : List (Bor Text)) → 1 ≤ length xs → (text_at xs 0 ≡ codes "stage" → ⊥)
+    → Differs (other_forms current) (text_at xs 0)
     → ReadsTo (λ c. (q : Piece) × (c ≡ piece_command q) × SpellsPiece current (texts_of xs) q) (IsLeast (HoldsAgainstPiece current (texts_of xs))) r
     → ReadsTo (Spells current (texts_of xs)) (IsLeast (HoldsAgainst current (texts_of xs))) r
 edit_arm r xs some stage others h =
@@ -218,7 +224,8 @@ met_by_command (a ∷ b ∷ []) (commands.Stage edition number q) h = absurd h
 met_by_command (a ∷ b ∷ word ∷ ts) (commands.Stage edition number q) h = met_by_stage a b word ts edition number q (form_of (piece_forms current) word) refl h
   where
     met_by_stage : (a b word : Text) (ts : List Text) (edition : Text) (number : ℤ) (q : Piece) (o : Option Form) → form_of (piece_forms current) word ≡ o
-        → IsMet (with_piece o word) (a ∷ b ∷ word ∷ ts) (Plain edition ∷ Whole number ∷ Plain (piece_word q) ∷ piece_values q) → IsWithin current (commands.Stage edition number q)
+        → IsMet (with_piece o word) (a ∷ b ∷ word ∷ ts) (Plain edition ∷ Whole number ∷ Plain (piece_word q) ∷ piece_values q)
+        → IsWithin current (commands.Stage edition number q)
     met_by_stage a b word ts edition number q None e h = absurd h
     met_by_stage a b word ts edition number q (Some form) e (named, (counted, (choice, met))) =
         let same : form_of (piece_forms current) (piece_word q) ≡ Some form = ap (form_of (piece_forms current)) choice.0 ∙ e in (
@@ -283,16 +290,19 @@ pub stage_met : (a b : Text) (ts : List Text) (v w x : Value) (vs : List Value) 
 stage_met a b [] v w x vs h = absurd h.1.1
 stage_met a b (word ∷ ts) v w x vs h = by (form_of (piece_forms current) word) x h
   where
-    by : (o : Option Form) (x : Value) → AllHold (AName ∷ id_field ∷ piece_fields_of o word) (a ∷ b ∷ word ∷ ts) (v ∷ w ∷ x ∷ vs) → IsMet (with_piece o word) (a ∷ b ∷ word ∷ ts) (v ∷ w ∷ x ∷ vs)
+    by : (o : Option Form) (x : Value) → AllHold (AName ∷ id_field ∷ piece_fields_of o word) (a ∷ b ∷ word ∷ ts) (v ∷ w ∷ x ∷ vs)
+        → IsMet (with_piece o word) (a ∷ b ∷ word ∷ ts) (v ∷ w ∷ x ∷ vs)
     by None (Whole z) h = absurd h.1.1.0
     by None (Plain y) h = absurd h.1.1.0.1
     by (Some form) x h = h
 
-pub stage_unmet : (a b : Text) (ts : List Text) (n : ℕ) → IsLeast (IsAgainstSome (AName ∷ id_field ∷ staged ts) (a ∷ b ∷ ts)) n → IsLeast (IsUnmet (stage_form current (a ∷ b ∷ ts)) (a ∷ b ∷ ts)) n
+pub stage_unmet : (a b : Text) (ts : List Text) (n : ℕ) → IsLeast (IsAgainstSome (AName ∷ id_field ∷ staged ts) (a ∷ b ∷ ts)) n
+    → IsLeast (IsUnmet (stage_form current (a ∷ b ∷ ts)) (a ∷ b ∷ ts)) n
 stage_unmet a b [] n l = only_ten (AName ∷ id_field ∷ staged []) (a ∷ b ∷ []) n (inr (inr refl)) l
 stage_unmet a b (word ∷ ts) n l = by (form_of (piece_forms current) word) l
   where
-    by : (o : Option Form) → IsLeast (IsAgainstSome (AName ∷ id_field ∷ piece_fields_of o word) (a ∷ b ∷ word ∷ ts)) n → IsLeast (IsUnmet (with_piece o word) (a ∷ b ∷ word ∷ ts)) n
+    by : (o : Option Form) → IsLeast (IsAgainstSome (AName ∷ id_field ∷ piece_fields_of o word) (a ∷ b ∷ word ∷ ts)) n
+        → IsLeast (IsUnmet (with_piece o word) (a ∷ b ∷ word ∷ ts)) n
     by None l = only_ten (AName ∷ id_field ∷ piece_fields_of None word) (a ∷ b ∷ word ∷ ts) n (inr (inr (inl (refl, λ a. a)))) l
     by (Some form) l = l
 

@@ -87,7 +87,8 @@ module _ (spare : Spare) (tables : Trees) (x : Kept) (p : Package) (h : Keeps sp
         ∙ ap (λ c. equal Binary (Words digest) (Words digest) && (equal Binary (Bytes c) (Bytes bytes) && true)) same
         ∙ ap (λ t. t && (equal Binary (Bytes bytes) (Bytes bytes) && true)) (itself_text digest) ∙ ap (λ t. t && true) (itself_bytes bytes)
 
-    pub found_blob : (it : Option ℤ) (first : Option Row) → GivesNumber it first → Finds (by_bytes digest bytes) (λ r. column r 0 ∷ []) (tables 27) first → IsFound x.shelf bytes it
+    pub found_blob : (it : Option ℤ) (first : Option Row) → GivesNumber it first
+        → Finds (by_bytes digest bytes) (λ r. column r 0 ∷ []) (tables 27) first → IsFound x.shelf bytes it
     found_blob None first gives found = λ id b is same.
         let none : list_any (by_bytes digest bytes) (tables 27) ≡ false = subst (Finds (by_bytes digest bytes) (λ r. column r 0 ∷ []) (tables 27)) gives found in
         let r = h.blobs.complete id b is in
@@ -131,7 +132,8 @@ module _ (spare : Spare) (tables : Trees) (x : Kept) (p : Package) (h : Keeps sp
     at_still None bytes e = e
     at_still (Some z) bytes e = bytes_still z bytes e
 
-    told_still : {I V : Type 0} (id_of : I → Option ℤ) (filled : I → List ℕ → V) (o : Option I) (entry : Option V) → Told id_of filled x.shelf o entry → Told id_of filled longer o entry
+    told_still : {I V : Type 0} (id_of : I → Option ℤ) (filled : I → List ℕ → V) (o : Option I) (entry : Option V) → Told id_of filled x.shelf o entry
+        → Told id_of filled longer o entry
     told_still id_of filled None entry e = e
     told_still id_of filled (Some i) entry e = (e.0, at_still (id_of i) e.0 e.1, e.2)
 
@@ -157,7 +159,8 @@ module _ (spare : Spare) (tables : Trees) (x : Kept) (p : Package) (h : Keeps sp
       ];
     }
 
-    pub keeps_more : rest ≡ Null ∷ Words (digest_of bytes) ∷ Bytes bytes ∷ [] → Keeps (spare_too id spare) (with_tree tables 27 (put_row (Int id ∷ rest) (tables 27))) (record x { shelf = insert x.shelf id (blob_of bytes) }) p
+    pub keeps_more : rest ≡ Null ∷ Words (digest_of bytes) ∷ Bytes bytes ∷ []
+        → Keeps (spare_too id spare) (with_tree tables 27 (put_row (Int id ∷ rest) (tables 27))) (record x { shelf = insert x.shelf id (blob_of bytes) }) p
     keeps_more row = record {
       tiles = h.tiles;
       media = h.media;
@@ -211,7 +214,8 @@ module _ (spare : Spare) (tables : Trees) (x : Kept) (p : Package) (h : Keeps sp
     at_left None bytes n e = e
     at_left (Some z) bytes n e = bytes_left z bytes (λ same. n (ap Some same)) e
 
-    told_left : {K I V : Type 0} {R : K → K → Ordering} (id_of : I → Option ℤ) (filled : I → List ℕ → V) (ids : FinMap R I) → ¬ NamesBlob id_of ids id → (k : K) (o : Option I) (entry : Option V) → get ids k ≡ o → Told id_of filled x.shelf o entry → Told id_of filled shorter o entry
+    told_left : {K I V : Type 0} {R : K → K → Ordering} (id_of : I → Option ℤ) (filled : I → List ℕ → V) (ids : FinMap R I) → ¬ NamesBlob id_of ids id
+        → (k : K) (o : Option I) (entry : Option V) → get ids k ≡ o → Told id_of filled x.shelf o entry → Told id_of filled shorter o entry
     told_left id_of filled ids none k None entry is e = e
     told_left id_of filled ids none k (Some i) entry is e = (e.0, at_left (id_of i) e.0 (λ names. none (k, i, is, names)) e.1, e.2)
 
@@ -262,7 +266,8 @@ module _ (spare more : Spare) (version : ℤ) (tables : Trees) (x : View) (h : H
   pub kept_in : Keeps spare tables x.kept x.content
   kept_in = subst (λ k. Keeps spare tables k x.content) h.1 h.0.keeps
 
-  pub holds_with : (rows : List Row) (k : Kept) → Keeps more (with_tree tables 27 rows) k x.content → HoldsAs more version (with_tree tables 27 rows) (record x { kept = k })
+  pub holds_with : (rows : List Row) (k : Kept) → Keeps more (with_tree tables 27 rows) k x.content
+      → HoldsAs more version (with_tree tables 27 rows) (record x { kept = k })
   holds_with rows k keeps = (
     record { systems = h.0.systems; contents = h.0.contents; kinds = h.0.kinds; sets = h.0.sets; matrices = h.0.matrices; extensions = h.0.extensions; rows = h.0.rows; relations = h.0.relations; pairings = h.0.pairings; editions = h.0.editions; kept = k; keeps = keeps; profile = h.0.profile },
     refl,
@@ -288,6 +293,7 @@ pub shelf_again : (x y z : View) → y ≡ reshelved x y.kept.shelf → z ≡ re
 shelf_again x y z p q = q ∙ (λ i. reshelved (p i) z.kept.shelf)
 
 -- where no tile and no medium names it, a staged piece does or nothing does
-pub none_of_three : (kept : Kept) (id : ℤ) (it : Bool) → ¬ NamesBlob tile_id kept.tiles id → ¬ NamesBlob medium_id kept.media id → TellsWhether (NamesBlob piece_id kept.pieces id) it → TellsWhether (IsNamed kept id) it
+pub none_of_three : (kept : Kept) (id : ℤ) (it : Bool) → ¬ NamesBlob tile_id kept.tiles id → ¬ NamesBlob medium_id kept.media id
+    → TellsWhether (NamesBlob piece_id kept.pieces id) it → TellsWhether (IsNamed kept id) it
 none_of_three kept id true no_tile no_medium piece = inr (inr piece)
 none_of_three kept id false no_tile no_medium no_piece = λ named. elim named [ inl tile ↦ no_tile tile | inr others ↦ elim others [ inl medium ↦ no_medium medium | inr piece ↦ no_piece piece ] ]

@@ -20,10 +20,12 @@ use Rattle.mm_blobs.specs.Moves.{IsMove}
 abbrev pub seen : State → Trees
 seen s = tables_of schema s.now.trees
 
-pub ready_inside : (profile : Profile) (spare : Spare) (s : State) (ground : Ground) (x : View) → IsSeen spare profile s ground x → IsTrue s.is_open → IsReady schema s
+pub ready_inside : (profile : Profile) (spare : Spare) (s : State) (ground : Ground) (x : View) → IsSeen spare profile s ground x → IsTrue s.is_open
+    → IsReady schema s
 ready_inside profile spare s ground x it up = let at = it.reads up in record { schema_is = at.schema_is; inside = it.mode; rows = at.rows }
 
-pub inside_same : (profile : Profile) (spare : Spare) (old new : State) (ground : Ground) (x : View) → IsUnchanged old new → IsSeen spare profile old ground x → IsSeen spare profile new ground x
+pub inside_same : (profile : Profile) (spare : Spare) (old new : State) (ground : Ground) (x : View) → IsUnchanged old new
+    → IsSeen spare profile old ground x → IsSeen spare profile new ground x
 inside_same profile spare old new ground x same it = record {
   mode = same.0.mode ∙ it.mode;
   back = λ _. let on = it.back same.0.was_open in (same.0.committed_is ∙ on.0, on.1);
@@ -31,7 +33,9 @@ inside_same profile spare old new ground x same it = record {
 }
 
 -- the same tables and tiles, of which less is known
-pub inside_looser : (profile : Profile) (spare more : Spare) (s : State) (ground : Ground) (x : View) → ((tables : Trees) → HoldsAs spare profile.version tables x → HoldsAs more profile.version tables x) → IsSeen spare profile s ground x → IsSeen more profile s ground x
+pub inside_looser : (profile : Profile) (spare more : Spare) (s : State) (ground : Ground) (x : View)
+    → ((tables : Trees) → HoldsAs spare profile.version tables x → HoldsAs more profile.version tables x) → IsSeen spare profile s ground x
+    → IsSeen more profile s ground x
 inside_looser profile spare more s ground x so it = record {
   mode = it.mode;
   back = it.back;
@@ -45,7 +49,8 @@ module _ (profile : Profile) (old new : State) (sql : List ℕ) (given : Row) (b
       (ran : HasCleanDisk new → IsTrue old.in_transaction → IfOk result (λ _. (count : ℕ) × ExecutesInside 0 sql given old new (Ok count)))
       (leaves : (count : ℕ) → IsReady schema old → ExecutesInside 0 sql given old new (Ok count) → Leaves schema old new (tables (seen old)))
       (holds : (t : T) → result ≡ Ok t → (count : ℕ) → IsReady schema old → ExecutesInside 0 sql given old new (Ok count) → (x : View) → HoldsAs before profile.version (seen old) x → When x → HoldsAs (after t) profile.version (tables (seen old)) (next x t)) where
-    made_by : (ground : Ground) (x : View) → IsSeen before profile old ground x → When x → (r : Result T Fault) → result ≡ r → IfOk r (λ _. (count : ℕ) × ExecutesInside 0 sql given old new (Ok count))
+    made_by : (ground : Ground) (x : View) → IsSeen before profile old ground x → When x → (r : Result T Fault) → result ≡ r
+        → IfOk r (λ _. (count : ℕ) × ExecutesInside 0 sql given old new (Ok count))
         → IfOk r (λ t. IsTrue new.is_open × (y : View) × ((y ≡ next x t) × IsSeen (after t) profile new ground y))
     made_by ground x it when (Err e) is ran = tt
     made_by ground x it when (Ok t) is ran =
@@ -80,14 +85,16 @@ module _ (profile : Profile) (old new : State) (sql : List ℕ) (given : Row) (b
     }
 
   -- the same of a statement that gives nothing
-  pub moves_run : (tables : Trees → Trees) (When : View → Type 0) (next : View → View) (after : Spare) (result : Result (Unit {0}) Fault) → IsRun old new sql given result
+  pub moves_run : (tables : Trees → Trees) (When : View → Type 0) (next : View → View) (after : Spare) (result : Result (Unit {0}) Fault)
+      → IsRun old new sql given result
       → ((count : ℕ) → IsReady schema old → ExecutesInside 0 sql given old new (Ok count) → Leaves schema old new (tables (seen old)))
       → (IsReady schema old → (x : View) → HoldsAs before profile.version (seen old) x → When x → HoldsAs after profile.version (tables (seen old)) (next x))
       → IsMove old new (λ ground x. IsSeen before profile old ground x × When x) (λ ground x _ y. (y ≡ next x) × IsSeen after profile new ground y) result
   moves_run tables When next after result run leaves holds =
       moves tables When (λ x _. next x) (λ _. after) result run.survives run.on run.faults (λ clean inside. as_if result (run.ran clean inside)) leaves (λ t is count ready h x keeps when. holds ready x keeps when)
     where
-      as_if : (r : Result (Unit {0}) Fault) → OnOk r ((count : ℕ) × ExecutesInside 0 sql given old new (Ok count)) → IfOk r (λ _. (count : ℕ) × ExecutesInside 0 sql given old new (Ok count))
+      as_if : (r : Result (Unit {0}) Fault) → OnOk r ((count : ℕ) × ExecutesInside 0 sql given old new (Ok count))
+          → IfOk r (λ _. (count : ℕ) × ExecutesInside 0 sql given old new (Ok count))
       as_if (Ok u) h = h
       as_if (Err e) h = tt
 
@@ -95,7 +102,8 @@ module _ (profile : Profile) (old new : State) (sql : List ℕ) (given : Row) (b
   module _ {T : Type 0} (Gives : T → Option Row → Type 0) (Says : View → T → Type 0) (result : Result T Fault) (asked : IsAsked old new sql given Gives result)
       (finds : (t : T) (first : Option Row) → IsReady schema old → IsFirstShown sql given old new first → Gives t first
       → IsUnchanged old new × ((x : View) → HoldsAs before profile.version (seen old) x → Says x t)) where
-    told : (ground : Ground) (x : View) → IsSeen before profile old ground x → (r : Result T Fault) → IfOk r (λ t. (first : Option Row) × IsFirstShown sql given old new first × Gives t first)
+    told : (ground : Ground) (x : View) → IsSeen before profile old ground x → (r : Result T Fault)
+        → IfOk r (λ t. (first : Option Row) × IsFirstShown sql given old new first × Gives t first)
         → IfOk r (λ t. IsTrue new.is_open × (y : View) × ((y ≡ x) × IsSeen before profile new ground y × Says y t))
     told ground x it (Err e) h = tt
     told ground x it (Ok t) h =
@@ -139,7 +147,8 @@ after_ok A B (Err e) h f = tt
 module _ {X : Type 0} where
   -- where the second move rests on it that the store is open
   pub then_moves_open : {T U : Type 0} {First Second : Ground → X → Type 0} {Middle : Ground → X → T → X → Type 0} {Last : Ground → X → U → X → Type 0} (Whole : Ground → X → U → X → Type 0) (a b c : State) (t : T) (r : Result U Fault)
-      → IsMove a b First Middle (Ok t) → IsMove b c Second Last r → ((ground : Ground) (x y : X) → IsTrue b.is_open → First ground x → Middle ground x t y → Second ground y)
+      → IsMove a b First Middle (Ok t) → IsMove b c Second Last r
+      → ((ground : Ground) (x y : X) → IsTrue b.is_open → First ground x → Middle ground x t y → Second ground y)
       → ((ground : Ground) (x y z : X) (u : U) → First ground x → Middle ground x t y → Last ground y u z → Whole ground x u z) → IsMove a c First Whole r
   then_moves_open Whole a b c t r one two leads joins = record {
     survives = quiet_then a b c one.survives two.survives;
@@ -177,7 +186,8 @@ module _ {X : Type 0} where
 
   -- the same move, where the answer is made of the move's
   pub moves_as : {T U : Type 0} {First Where : Ground → X → Type 0} {Last : Ground → X → T → X → Type 0} {Less : Ground → X → U → X → Type 0} (a b : State) (t : T) (u : U) → IsMove a b First Last (Ok t)
-      → ((ground : Ground) (x : X) → Where ground x → First ground x) → ((ground : Ground) (x y : X) → Where ground x → Last ground x t y → Less ground x u y) → IsMove a b Where Less (Ok u)
+      → ((ground : Ground) (x : X) → Where ground x → First ground x)
+      → ((ground : Ground) (x y : X) → Where ground x → Last ground x t y → Less ground x u y) → IsMove a b Where Less (Ok u)
   moves_as a b t u one leads tells = record {
     survives = one.survives;
     on = λ clean ground x it. one.on clean ground x (leads ground x it);
@@ -191,7 +201,8 @@ module _ {X : Type 0} where
 
   -- the first move, where the second failed
   pub then_failed : {T U : Type 0} {First Second : Ground → X → Type 0} {Middle : Ground → X → T → X → Type 0} {Last : Ground → X → U → X → Type 0} (a b c : State) (t : T) (e : Fault)
-      → IsMove a b First Middle (Ok t) → IsMove b c Second Last (Err e) → ((ground : Ground) (x y : X) → IsTrue b.is_open → First ground x → Middle ground x t y → Second ground y)
+      → IsMove a b First Middle (Ok t) → IsMove b c Second Last (Err e)
+      → ((ground : Ground) (x y : X) → IsTrue b.is_open → First ground x → Middle ground x t y → Second ground y)
       → IsMove a c First (λ (ground : Ground) (x : X) (u : U) (y : X). ⊥) (Err e)
   then_failed a b c t e one two leads = record {
     survives = quiet_then a b c one.survives two.survives;
@@ -217,7 +228,8 @@ module _ {X : Type 0} where
 -- ---- from tiles with their blobs to tiles alone
 
 pub seen_as : {X Y T : Type 0} {First : Ground → X → Type 0} {Last : Ground → X → T → X → Type 0} (Where : Ground → Y → Type 0) (Less : Ground → Y → T → Y → Type 0) (a b : State) (r : Result T Fault) → IsMove a b First Last r
-    → ((ground : Ground) (y : Y) → Where ground y → (x : X) × First ground x × ((z : X) (t : T) → Last ground x t z → (w : Y) × Less ground y t w)) → IsMove a b Where Less r
+    → ((ground : Ground) (y : Y) → Where ground y → (x : X) × First ground x × ((z : X) (t : T) → Last ground x t z → (w : Y) × Less ground y t w))
+    → IsMove a b Where Less r
 seen_as {X} {Y} {T} {First} {Last} Where Less a b r one so = record {
   survives = one.survives;
   on = λ clean ground y it. let s = so ground y it in one.on clean ground s.0 s.1;

@@ -23,7 +23,8 @@ use Rattle.mm_blobs.proofs.Keeping.{too_before, too_itself}
 
 -- ---- the entries alone
 
-told_some : {I V : Type 0} (id_of : I → Option ℤ) (filled : I → List ℕ → V) (shelf : Shelf) (o : Option I) (entry : Option V) → Told id_of filled shelf o entry → is_some o ≡ is_some entry
+told_some : {I V : Type 0} (id_of : I → Option ℤ) (filled : I → List ℕ → V) (shelf : Shelf) (o : Option I) (entry : Option V)
+    → Told id_of filled shelf o entry → is_some o ≡ is_some entry
 told_some id_of filled shelf None entry e = sym (ap is_some e)
 told_some id_of filled shelf (Some i) entry e = sym (ap is_some e.2)
 
@@ -44,7 +45,8 @@ module _ {K I V : Type 0} {R : K → K → Ordering} (id_of : I → Option ℤ) 
       go (Some i) some = let at = subst (λ o. Told id_of filled shelf o (get m k)) some (tells k) in (i, some, at.0, at.1, same_some (sym is ∙ at.2))
 
 module _ {K I V : Type 0} {R : K → K → Ordering} (o : IsKeyOrder R) (id_of : I → Option ℤ) (filled : I → List ℕ → V) (shelf : Shelf) (ids : FinMap R I) (m : FinMap R V) (k : K) where
-  pub tells_put : (i : I) (bytes : List ℕ) → Tells id_of filled shelf ids m → StandsAt shelf (id_of i) bytes → Tells id_of filled shelf (insert ids k i) (insert m k (filled i bytes))
+  pub tells_put : (i : I) (bytes : List ℕ) → Tells id_of filled shelf ids m → StandsAt shelf (id_of i) bytes
+      → Tells id_of filled shelf (insert ids k i) (insert m k (filled i bytes))
   tells_put i bytes tells stands q = elim (same_key o q k) [
     | inl same ↦ subst₂ (Told id_of filled shelf) (sym (ap (get (insert ids k i)) same.0 ∙ at_put o ids k i)) (sym (ap (get (insert m k (filled i bytes))) same.0 ∙ at_put o m k (filled i bytes))) (bytes, stands, refl)
     | inr other ↦ subst₂ (Told id_of filled shelf) (sym (beside_put o ids k i q other.0)) (sym (beside_put o m k (filled i bytes) q other.0)) (tells q)
@@ -74,7 +76,8 @@ module _ {K I : Type 0} {R : K → K → Ordering} (o : IsKeyOrder R) (id_of : I
 
 -- the id that the entry of a key names, where the row shows it in its first column
 module _ {K I : Type 0} {R : K → K → Ordering} {part : Row → Row} {row_of : K → I → Row} {test : K → Row → Bool} (it : IsPart R part row_of test) (rows : List Row) (ids : FinMap R I) (h : Holds part row_of rows ids) (k : K) where
-  pub id_found : (show : Row → Row) (of : I → ℤ) → ((r : Row) (i : I) → part r ≡ row_of k i → column (show r) 0 ≡ Int (of i)) → (answer : Option ℤ) (first : Option Row) → GivesNumber answer first
+  pub id_found : (show : Row → Row) (of : I → ℤ) → ((r : Row) (i : I) → part r ≡ row_of k i → column (show r) 0 ≡ Int (of i))
+      → (answer : Option ℤ) (first : Option Row) → GivesNumber answer first
       → Finds (test k) show rows first → option_map of (get ids k) ≡ answer
   id_found show of shows None first gives found = ap (option_map of) (finds_none it rows ids h k show (subst (Finds (test k) show rows) gives found))
   id_found show of shows (Some id) first gives found =
@@ -98,7 +101,8 @@ named_again spare id z h = drops (spare z) (same_number z id) h
     drops false true h = h
     drops false false h = h
 
-pub freed_looser : (o : Option ℤ) (spare more : Spare) → ((z : ℤ) → spare z ≡ true → more z ≡ true) → (z : ℤ) → spare_freed o spare z ≡ true → spare_freed o more z ≡ true
+pub freed_looser : (o : Option ℤ) (spare more : Spare) → ((z : ℤ) → spare z ≡ true → more z ≡ true) → (z : ℤ) → spare_freed o spare z ≡ true
+    → spare_freed o more z ≡ true
 freed_looser None spare more still z h = still z h
 freed_looser (Some id) spare more still z h = elim (or_cases _ _ h) [ inl before ↦ or_left _ _ (still z before) | inr same ↦ or_right _ _ same ]
 
@@ -147,7 +151,8 @@ module _ (spare more : Spare) (tables : Trees) (x : Kept) (p : Package) (h : Kee
     ];
   }
 
-  pub keeps_no_tile : (key : TileKey) → Holds past_rowid tile_row rows (remove x.tiles key) → ((z : ℤ) → spare z ≡ true → more z ≡ true) → ((z : ℤ) → NamedAt tile_id x.tiles key z → more z ≡ true)
+  pub keeps_no_tile : (key : TileKey) → Holds past_rowid tile_row rows (remove x.tiles key) → ((z : ℤ) → spare z ≡ true → more z ≡ true)
+      → ((z : ℤ) → NamedAt tile_id x.tiles key z → more z ≡ true)
       → Keeps more (with_tree tables 15 rows) (record x { tiles = remove x.tiles key }) (record p { tiles = remove p.tiles key })
   keeps_no_tile key holds still freed = record {
     tiles = holds;
@@ -167,7 +172,8 @@ module _ (spare more : Spare) (tables : Trees) (x : Kept) (p : Package) (h : Kee
     ];
   }
 
-  pub keeps_medium : (key : Item) (i : MediumRow) (bytes : List ℕ) → Holds past_rowid medium_row rows (insert x.media key i) → StandsAt x.shelf (medium_id i) bytes
+  pub keeps_medium : (key : Item) (i : MediumRow) (bytes : List ℕ) → Holds past_rowid medium_row rows (insert x.media key i)
+      → StandsAt x.shelf (medium_id i) bytes
       → ((z : ℤ) → spare z ≡ true → medium_id i ≢ Some z → more z ≡ true) → ((z : ℤ) → NamedAt medium_id x.media key z → medium_id i ≢ Some z → more z ≡ true)
       → Keeps more (with_tree tables 19 rows) (record x { media = insert x.media key i }) (record p { media = insert p.media key (medium_with i bytes) })
   keeps_medium key i bytes holds stands still freed = record {
@@ -194,7 +200,8 @@ module _ (spare more : Spare) (tables : Trees) (x : Kept) (p : Package) (h : Kee
     ];
   }
 
-  pub keeps_no_medium : (key : Item) → Holds past_rowid medium_row rows (remove x.media key) → ((z : ℤ) → spare z ≡ true → more z ≡ true) → ((z : ℤ) → NamedAt medium_id x.media key z → more z ≡ true)
+  pub keeps_no_medium : (key : Item) → Holds past_rowid medium_row rows (remove x.media key) → ((z : ℤ) → spare z ≡ true → more z ≡ true)
+      → ((z : ℤ) → NamedAt medium_id x.media key z → more z ≡ true)
       → Keeps more (with_tree tables 19 rows) (record x { media = remove x.media key }) (record p { media = remove p.media key })
   keeps_no_medium key holds still freed = record {
     tiles = h.tiles;
@@ -217,7 +224,8 @@ module _ (spare more : Spare) (tables : Trees) (x : Kept) (p : Package) (h : Kee
     ];
   }
 
-  pub keeps_piece : (key : PieceKey) (i : StagedRow) (bytes : List ℕ) → Holds past_rowid staged_row rows (insert x.pieces key i) → StandsAt x.shelf (piece_id i) bytes
+  pub keeps_piece : (key : PieceKey) (i : StagedRow) (bytes : List ℕ) → Holds past_rowid staged_row rows (insert x.pieces key i)
+      → StandsAt x.shelf (piece_id i) bytes
       → ((z : ℤ) → spare z ≡ true → piece_id i ≢ Some z → more z ≡ true) → ((z : ℤ) → NamedAt piece_id x.pieces key z → piece_id i ≢ Some z → more z ≡ true)
       → Keeps more (with_tree tables 25 rows) (record x { pieces = insert x.pieces key i }) (record p { pieces = insert p.pieces key (piece_with i bytes) })
   keeps_piece key i bytes holds stands still freed = record {
@@ -247,19 +255,22 @@ module _ (spare more : Spare) (tables : Trees) (x : Kept) (p : Package) (h : Kee
 -- ---- the package with it
 
 module _ (spare more : Spare) (version : ℤ) (tables : Trees) (x : View) (h : HoldsAs spare version tables x) (rows : List Row) (k : Kept) where
-  pub holds_tiles : (m : FinMap tile_cmp (List ℕ)) → Keeps more (with_tree tables 15 rows) k (record (x.content) { tiles = m }) → HoldsAs more version (with_tree tables 15 rows) (record { content = record (x.content) { tiles = m }; kept = k })
+  pub holds_tiles : (m : FinMap tile_cmp (List ℕ)) → Keeps more (with_tree tables 15 rows) k (record (x.content) { tiles = m })
+      → HoldsAs more version (with_tree tables 15 rows) (record { content = record (x.content) { tiles = m }; kept = k })
   holds_tiles m keeps = (
     record { systems = h.0.systems; contents = h.0.contents; kinds = h.0.kinds; sets = h.0.sets; matrices = h.0.matrices; extensions = h.0.extensions; rows = h.0.rows; relations = h.0.relations; pairings = h.0.pairings; editions = h.0.editions; kept = k; keeps = keeps; profile = h.0.profile },
     refl,
   )
 
-  pub holds_media : (m : FinMap item_cmp Medium) → Keeps more (with_tree tables 19 rows) k (record (x.content) { media = m }) → HoldsAs more version (with_tree tables 19 rows) (record { content = record (x.content) { media = m }; kept = k })
+  pub holds_media : (m : FinMap item_cmp Medium) → Keeps more (with_tree tables 19 rows) k (record (x.content) { media = m })
+      → HoldsAs more version (with_tree tables 19 rows) (record { content = record (x.content) { media = m }; kept = k })
   holds_media m keeps = (
     record { systems = h.0.systems; contents = h.0.contents; kinds = h.0.kinds; sets = h.0.sets; matrices = h.0.matrices; extensions = h.0.extensions; rows = h.0.rows; relations = h.0.relations; pairings = h.0.pairings; editions = h.0.editions; kept = k; keeps = keeps; profile = h.0.profile },
     refl,
   )
 
-  pub holds_pieces : (m : FinMap piece_cmp PieceRow) → Keeps more (with_tree tables 25 rows) k (record (x.content) { pieces = m }) → HoldsAs more version (with_tree tables 25 rows) (record { content = record (x.content) { pieces = m }; kept = k })
+  pub holds_pieces : (m : FinMap piece_cmp PieceRow) → Keeps more (with_tree tables 25 rows) k (record (x.content) { pieces = m })
+      → HoldsAs more version (with_tree tables 25 rows) (record { content = record (x.content) { pieces = m }; kept = k })
   holds_pieces m keeps = (
     record { systems = h.0.systems; contents = h.0.contents; kinds = h.0.kinds; sets = h.0.sets; matrices = h.0.matrices; extensions = h.0.extensions; rows = h.0.rows; relations = h.0.relations; pairings = h.0.pairings; editions = h.0.editions; kept = k; keeps = keeps; profile = h.0.profile },
     refl,

@@ -20,7 +20,8 @@ use Rattle.mm_blobs.proofs.Moving.{inside_looser, moves_less}
 use Rattle.mm_blobs.proofs.Keeping.{kept_in, holds_still}
 
 -- it is kept somehow; where the store is not open, nothing is said
-pub opens : (spare : Spare) (profile : Profile) (s : State) (ground : Ground) (p : Package) → IsInsideBut spare profile s ground p → (kept : Kept) × IsSeen spare profile s ground (record { content = p; kept = kept })
+pub opens : (spare : Spare) (profile : Profile) (s : State) (ground : Ground) (p : Package) → IsInsideBut spare profile s ground p
+    → (kept : Kept) × IsSeen spare profile s ground (record { content = p; kept = kept })
 opens spare profile s ground p it = elim (true_or_false s.is_open) [
   | inl up ↦
       let at = it.reads up in
@@ -28,7 +29,8 @@ opens spare profile s ground p it = elim (true_or_false s.is_open) [
   | inr down ↦ (record { tiles = empty; media = empty; pieces = empty; shelf = empty }, record { mode = it.mode; back = it.back; reads = λ up. absurd (both_ways _ down up) })
 ]
 
-pub closes : (spare : Spare) (profile : Profile) (s : State) (ground : Ground) (x : View) → IsSeen spare profile s ground x → IsInsideBut spare profile s ground x.content
+pub closes : (spare : Spare) (profile : Profile) (s : State) (ground : Ground) (x : View) → IsSeen spare profile s ground x
+    → IsInsideBut spare profile s ground x.content
 closes spare profile s ground x it = record {
   mode = it.mode;
   back = it.back;
@@ -37,7 +39,8 @@ closes spare profile s ground x it = record {
 
 -- ---- where more may be spared
 
-keeps_looser : (spare more : Spare) (tables : Trees) (x : Kept) (p : Package) → ((z : ℤ) → spare z ≡ true → more z ≡ true) → Keeps spare tables x p → Keeps more tables x p
+keeps_looser : (spare more : Spare) (tables : Trees) (x : Kept) (p : Package) → ((z : ℤ) → spare z ≡ true → more z ≡ true) → Keeps spare tables x p
+    → Keeps more tables x p
 keeps_looser spare more tables x p still h = record {
   tiles = h.tiles;
   media = h.media;
@@ -50,13 +53,16 @@ keeps_looser spare more tables x p still h = record {
   named = λ z b is. elim (h.named z b is) [ inl named ↦ inl named | inr spared ↦ inr (still z spared) ];
 }
 
-pub seen_looser : (spare more : Spare) (profile : Profile) (s : State) (ground : Ground) (x : View) → ((z : ℤ) → spare z ≡ true → more z ≡ true) → IsSeen spare profile s ground x → IsSeen more profile s ground x
+pub seen_looser : (spare more : Spare) (profile : Profile) (s : State) (ground : Ground) (x : View) → ((z : ℤ) → spare z ≡ true → more z ≡ true)
+    → IsSeen spare profile s ground x → IsSeen more profile s ground x
 seen_looser spare more profile s ground x still it =
     inside_looser profile spare more s ground x
     (λ tables h. holds_still spare more profile.version tables x h (keeps_looser spare more tables x.kept x.content still (kept_in spare spare profile.version tables x h))) it
 
 -- it is seen as well where other blobs may be spared, as long as each is named or may
-pub seen_named : (spare more : Spare) (profile : Profile) (s : State) (ground : Ground) (x : View) → ((z : ℤ) (b : Blob) → get x.kept.shelf z ≡ Some b → IsNamed x.kept z ⊎ (more z ≡ true)) → IsSeen spare profile s ground x → IsSeen more profile s ground x
+pub seen_named : (spare more : Spare) (profile : Profile) (s : State) (ground : Ground) (x : View)
+    → ((z : ℤ) (b : Blob) → get x.kept.shelf z ≡ Some b → IsNamed x.kept z ⊎ (more z ≡ true)) → IsSeen spare profile s ground x
+    → IsSeen more profile s ground x
 seen_named spare more profile s ground x named it =
     inside_looser profile spare more s ground x
     (λ tables h. let k = kept_in spare spare profile.version tables x h in
@@ -66,8 +72,10 @@ seen_named spare more profile s ground x named it =
 
 module _ (profile : Profile) {T : Type 0} (old new : State) (result : Result T Fault) where
   -- it changes the package so
-  pub tidy_change : {Last : Ground → View → T → View → Type 0} (When : Package → Type 0) (next : Package → Package) → IsMove old new (λ ground x. IsSeen no_spare profile old ground x × When x.content) Last result
-      → ((ground : Ground) (x y : View) (t : T) → Last ground x t y → (y.content ≡ next x.content) × IsSeen no_spare profile new ground y) → IsChange profile old new When next result
+  pub tidy_change : {Last : Ground → View → T → View → Type 0} (When : Package → Type 0) (next : Package → Package)
+      → IsMove old new (λ ground x. IsSeen no_spare profile old ground x × When x.content) Last result
+      → ((ground : Ground) (x y : View) (t : T) → Last ground x t y → (y.content ≡ next x.content) × IsSeen no_spare profile new ground y)
+      → IsChange profile old new When next result
   tidy_change {Last} When next one tells = record {
     survives = one.survives;
     on = λ clean ground p it when. let o = opens no_spare profile old ground p it in one.on clean ground (record { content = p; kept = o.0 }) (o.1, when);
@@ -75,7 +83,9 @@ module _ (profile : Profile) {T : Type 0} (old new : State) (result : Result T F
     faults = one.faults;
   }
     where
-      go : (ground : Ground) (p : Package) (kept : Kept) (r : Result T Fault) → IfOk r (λ t. IsTrue new.is_open × (y : View) × Last ground (record { content = p; kept = kept }) t y) → OnOk r (IsTrue new.is_open × IsInsideBut no_spare profile new ground (next p))
+      go : (ground : Ground) (p : Package) (kept : Kept) (r : Result T Fault)
+          → IfOk r (λ t. IsTrue new.is_open × (y : View) × Last ground (record { content = p; kept = kept }) t y)
+          → OnOk r (IsTrue new.is_open × IsInsideBut no_spare profile new ground (next p))
       go ground p kept (Err e) h = tt
       go ground p kept (Ok t) h =
           let last = tells ground (record { content = p; kept = kept }) h.1 t h.2 in
@@ -83,7 +93,8 @@ module _ (profile : Profile) {T : Type 0} (old new : State) (result : Result T F
 
   -- it does so wherever it is called
   pub tidies : {Last : Ground → View → T → View → Type 0} (next : Package → Package) → IsMove old new (IsSeen no_spare profile old) Last result
-      → ((ground : Ground) (x y : View) (t : T) → Last ground x t y → (y.content ≡ next x.content) × IsSeen no_spare profile new ground y) → IsChange profile old new (λ p. ⊤) next result
+      → ((ground : Ground) (x y : View) (t : T) → Last ground x t y → (y.content ≡ next x.content) × IsSeen no_spare profile new ground y)
+      → IsChange profile old new (λ p. ⊤) next result
   tidies {Last} next one tells = tidy_change (λ p. ⊤) next (moves_less Last old new result one (λ ground x it. it.0) (λ ground x y t it last. last)) tells
 
   -- it tells so of the package
@@ -96,7 +107,8 @@ module _ (profile : Profile) {T : Type 0} (old new : State) (result : Result T F
     faults = one.faults;
   }
     where
-      go : (ground : Ground) (p : Package) (kept : Kept) (r : Result T Fault) → IfOk r (λ t. IsTrue new.is_open × (y : View) × Last ground (record { content = p; kept = kept }) t y)
+      go : (ground : Ground) (p : Package) (kept : Kept) (r : Result T Fault)
+          → IfOk r (λ t. IsTrue new.is_open × (y : View) × Last ground (record { content = p; kept = kept }) t y)
           → IfOk r (λ t. IsTrue new.is_open × IsInsideBut no_spare profile new ground p × Says p t)
       go ground p kept (Err e) h = tt
       go ground p kept (Ok t) h =
@@ -121,6 +133,8 @@ tidy_untold profile old new Says e one = record {
 }
 
 -- what is told of the package after a move that leaves it as it was
-pub tells_of : {T : Type 0} (profile : Profile) (old new : State) (result : Result T Fault) (Says : Package → T → Type 0) → IsMove old new (IsSeen no_spare profile old) (λ base x t y. (y ≡ x) × IsSeen no_spare profile new base y × Says y.content t) result → IsLook profile old new Says result
+pub tells_of : {T : Type 0} (profile : Profile) (old new : State) (result : Result T Fault) (Says : Package → T → Type 0)
+    → IsMove old new (IsSeen no_spare profile old) (λ base x t y. (y ≡ x) × IsSeen no_spare profile new base y × Says y.content t) result
+    → IsLook profile old new Says result
 tells_of profile old new result Says one =
     tidy_look profile old new result Says one (λ base x y t last. (ap (λ (v : View). v.content) last.0, last.1, subst (λ (v : View). Says v.content t) last.0 last.2))

@@ -75,7 +75,8 @@ there_if : (b : Bool) (e : Env) → b ≡ true → Has (if b then e ∷ [] else 
 there_if true e h = inl refl
 there_if false e h = absurd (let f : false ≡ true = h in cc)
 
-none_matches : (db : Trees) (tree : ℕ) (terms : List Term) (env : Env) (test : Row → Bool) → ((t : Row) → list_all (holds (env ++ t ∷ [])) terms ≡ test t) → list_any test (db tree) ≡ false → matches db terms (inner tree end) env ≡ []
+none_matches : (db : Trees) (tree : ℕ) (terms : List Term) (env : Env) (test : Row → Bool)
+    → ((t : Row) → list_all (holds (env ++ t ∷ [])) terms ≡ test t) → list_any test (db tree) ≡ false → matches db terms (inner tree end) env ≡ []
 none_matches db tree terms env test is none =
     none_flat (λ t. matches db terms end (env ++ t ∷ [])) (db tree)
     (λ t there. left_out (list_all (holds (env ++ t ∷ [])) terms) (env ++ t ∷ []) (is t ∙ false_from_ne_true (test t) (λ hit. both_ways _ none (some_from test (db tree) t there hit))))
@@ -124,7 +125,8 @@ module _ (old new : State) (has : old.now.schema ≡ schema) (given : Row) (same
   at n listed = no_overlay old.now.trees n ∙ sym (rows_at schema n old.now.trees listed)
 
   -- each blob is named, or listed
-  pub each_named : (spare : Spare) (x : Kept) (p : Package) → Keeps spare seen_in x p → (id : ℤ) (b : Blob) → get x.shelf id ≡ Some b → IsNamed x id ⊎ (spare_each rows no_spare id ≡ true)
+  pub each_named : (spare : Spare) (x : Kept) (p : Package) → Keeps spare seen_in x p → (id : ℤ) (b : Blob) → get x.shelf id ≡ Some b
+      → IsNamed x id ⊎ (spare_each rows no_spare id ≡ true)
   each_named spare x p h id b is = elim (true_or_false (list_any (at_id 5 id) (seen_in 15))) [
     | inl some ↦ inl (inl (told_names tile_id tile_row (seen_in 15) x.tiles h.tiles id (at_id 5 id) (λ r k i same. hits_id 5 id r (tile_id i) (columns_are r (tile_row k i) 4 same)) (λ r k i same. only_id 5 id r (tile_id i) (columns_are r (tile_row k i) 4 same)) true some))
     | inr no_tile ↦ elim (true_or_false (list_any (at_id 3 id) (seen_in 19))) [

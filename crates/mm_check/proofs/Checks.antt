@@ -22,7 +22,8 @@ SaysForm params from terms project good Form = (db : Database) (kept : Kept) →
 
 module _ (sql : List ℕ) (good : Row → Type 0) (from : Join) (terms project : List Term) (order : List (Term × Key)) (names : List (List ℕ)) (it : IsQuery schema sql from terms project order names) (quiet : IsQuiet sql)
     (Form : Kept → Type 0) (says : SaysForm [] from terms project good Form) (old new : State) where
-  told : (result : Result Bool Fault) → TellsAll sql [] good old new result → HasCleanDisk new → (kept : Kept) → (IsTrue old.is_open → KeepsAs old.now kept) → IfOk result (λ b. IsTrue b ↔ Form kept)
+  told : (result : Result Bool Fault) → TellsAll sql [] good old new result → HasCleanDisk new → (kept : Kept)
+      → (IsTrue old.is_open → KeepsAs old.now kept) → IfOk result (λ b. IsTrue b ↔ Form kept)
   told (Err fault) h clean kept keeps = tt
   told (Ok b) h clean kept keeps =
       let same = h.same clean (only_asks sql quiet old.now.schema) in
@@ -54,7 +55,8 @@ module _ (sql : List ℕ) (good : Row → Type 0) (from : Join) (terms project :
 
 -- ---- one after another
 
-pub as_told : (old new : State) (Form : Kept → Type 0) (r : Result Bool Fault) (b told : Bool) → r ≡ Ok b → b ≡ told → IsFormCheck old new Form r → IsFormCheck old new Form (Ok told)
+pub as_told : (old new : State) (Form : Kept → Type 0) (r : Result Bool Fault) (b told : Bool) → r ≡ Ok b → b ≡ told → IsFormCheck old new Form r
+    → IsFormCheck old new Form (Ok told)
 as_told old new Form r b told is same h = subst (λ x. IsFormCheck old new Form (Ok x)) same (subst (IsFormCheck old new Form) is h)
 
 module _ (old mid new : State) (A B C : Kept → Type 0) (alike : (kept : Kept) → (A kept × B kept) ↔ C kept) where
@@ -101,5 +103,6 @@ module _ (old new : State) (A B C : Kept → Type 0) (alike : (kept : Kept) → 
         faults = h.faults;
       }
 
-pub gives_up : (old new : State) (A C : Kept → Type 0) (r : Result Bool Fault) (fault : Fault) → r ≡ Err fault → IsFormCheck old new A r → IsFormCheck old new C (Err fault)
+pub gives_up : (old new : State) (A C : Kept → Type 0) (r : Result Bool Fault) (fault : Fault) → r ≡ Err fault → IsFormCheck old new A r
+    → IsFormCheck old new C (Err fault)
 gives_up old new A C r fault is one = let h = subst (IsFormCheck old new A) is one in record { mode = h.mode; survives = h.survives; same = λ clean. tt; seen = h.seen; settled = h.settled; says = λ clean kept keeps. tt; faults = h.faults }

@@ -49,7 +49,8 @@ digested db kept h = each_row as_whole blob_row (db.trees 27) kept.shelf (covere
 bytes_are : (a b : List ℕ) → (equal Binary (Bytes a) (Bytes b) ≡ true) ↔ (a ≡ b)
 bytes_are a b = let t = tie texts a b in (λ e. t.0 (sym (equal_bytes a b) ∙ e), λ e. equal_bytes a b ∙ t.1 e)
 
-equal_is : (i j : ℤ) (b c : Blob) → ((equal Binary (Words c.digest) (Words b.digest) && (is_true (binary (Compare Lt Binary) (Int i) (Int j)) && (equal Binary (Bytes c.bytes) (Bytes b.bytes) && true))) ≡ true)
+equal_is : (i j : ℤ) (b c : Blob)
+    → ((equal Binary (Words c.digest) (Words b.digest) && (is_true (binary (Compare Lt Binary) (Int i) (Int j)) && (equal Binary (Bytes c.bytes) (Bytes b.bytes) && true))) ≡ true)
     ↔ ((c.digest ≡ b.digest) × (i <ℤ j) × (c.bytes ≡ b.bytes))
 equal_is i j b c =
     let d = texts_are c.digest b.digest in
@@ -88,14 +89,16 @@ counted_is p (x ∷ xs) = elim (cases_Bool (p x)) as (λ _. Int (pos (min 1 (len
   | inr off ↦ rw off (counted_is p xs)
 ]
 
-shown_where : (row : Row) (x y z : Bool) → list_all (holds ([] ∷ row ∷ (exists_value x ∷ []) ∷ (exists_value y ∷ []) ∷ (exists_value z ∷ []) ∷ [])) no_names ≡ not (x || (y || z))
+shown_where : (row : Row) (x y z : Bool)
+    → list_all (holds ([] ∷ row ∷ (exists_value x ∷ []) ∷ (exists_value y ∷ []) ∷ (exists_value z ∷ []) ∷ [])) no_names ≡ not (x || (y || z))
 unfolding everything unary
 shown_where row true y z = refl
 shown_where row false true z = refl
 shown_where row false false true = refl
 shown_where row false false false = refl
 
-decide : (x y z : Bool) (A B C : Type 0) (e : Env) → TellsWhether A x → TellsWhether B y → TellsWhether C z → AllByRecursion (λ (_ : Env). ⊥) (if not (x || (y || z)) then e ∷ [] else []) ↔ (A ⊎ (B ⊎ C))
+decide : (x y z : Bool) (A B C : Type 0) (e : Env) → TellsWhether A x → TellsWhether B y → TellsWhether C z
+    → AllByRecursion (λ (_ : Env). ⊥) (if not (x || (y || z)) then e ∷ [] else []) ↔ (A ⊎ (B ⊎ C))
 decide true y z A B C e a b c = (λ _. inl a, λ _. tt)
 decide false true z A B C e a b c = (λ _. inr (inl b), λ _. tt)
 decide false false true A B C e a b c = (λ _. inr (inr c), λ _. tt)
@@ -163,7 +166,8 @@ in_form kept = (
   ),
 )
   where
-    single : AreDigested kept → AreApart kept → (i j : ℤ) (b c : Blob) → get kept.shelf i ≡ Some b → get kept.shelf j ≡ Some c → b.bytes ≡ c.bytes → (o : Ordering) → o ≡ int_cmp i j → i ≡ j
+    single : AreDigested kept → AreApart kept → (i j : ℤ) (b c : Blob) → get kept.shelf i ≡ Some b → get kept.shelf j ≡ Some c → b.bytes ≡ c.bytes
+        → (o : Ordering) → o ≡ int_cmp i j → i ≡ j
     single right apart i j b c at_i at_j alike Equal is = int_ranked i j Equal is
     single right apart i j b c at_i at_j alike Less is = absurd (apart i b at_i j c at_j ((right j c at_j).1 ∙ ap digest_of (sym alike) ∙ sym (right i b at_i).1, int_ranked i j Less is, sym alike))
     single right apart i j b c at_i at_j alike Greater is = absurd (apart j c at_j i b at_i ((right i b at_i).1 ∙ ap digest_of alike ∙ sym (right j c at_j).1, int_ranked i j Greater is, alike))

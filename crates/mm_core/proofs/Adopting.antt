@@ -36,11 +36,13 @@ module _ (old new : State) {result : Result (Unit {0}) Open} (looked : IsLooked 
   looked_seen profile p = seen_still profile old new p (looked.rests clean)
 
 -- what commits nothing and reads as before is settled as before
-settled_as : (old new : State) → CommitsNothing old new → (HasCleanDisk new → (profile : Profile) (p : Package) → IsSeenAs profile old p → IsSeenAs profile new p)
+settled_as : (old new : State) → CommitsNothing old new
+    → (HasCleanDisk new → (profile : Profile) (p : Package) → IsSeenAs profile old p → IsSeenAs profile new p)
     → HasCleanDisk new → (profile : Profile) (p : Package) → IsSettled profile old p → IsSettled profile new p
 settled_as old new quiet same clean profile p it = settled_still profile old new p quiet clean (same clean profile p) it
 
-none_declined : (old new : State) (why : Open) → IsLooked old new (Err why) → HasCleanDisk new → IsBlank old → FindsNone old new (Err why) → DeclinesNone new why
+none_declined : (old new : State) (why : Open) → IsLooked old new (Err why) → HasCleanDisk new → IsBlank old → FindsNone old new (Err why)
+    → DeclinesNone new why
 none_declined old new opens.NoProfile looked clean it same = still_blank old new looked.survives same clean it
 none_declined old new (opens.Fault fault) looked clean it same = tt
 none_declined old new (opens.Version version) looked clean it same = absurd same

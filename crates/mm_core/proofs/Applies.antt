@@ -20,7 +20,8 @@ flagged new c moment p failed failed2 (answer.Refused why) it = it
 flagged new c moment p failed failed2 (answer.Fault fault) it = it
 
 module _ (old new : State) (c : Command) (moment : ℕ) (a : Answer) where
-  pub applied_so : (reopen failed : Bool) → (failed ≡ true → (a ≡ answer.Fault (record { 0 = 92 })) × (new ≡ old)) → (failed ≡ false → IsAppliedTo c moment old new a)
+  pub applied_so : (reopen failed : Bool) → (failed ≡ true → (a ≡ answer.Fault (record { 0 = 92 })) × (new ≡ old))
+      → (failed ≡ false → IsAppliedTo c moment old new a)
       → HasCleanDisk new → (p : Package) → IsSettled current old p → Meets current p
       → run.IsApplied p c moment a (shown_on reopen new)
   applied_so reopen true ended applied clean p settled meets =

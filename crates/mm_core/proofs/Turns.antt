@@ -42,7 +42,8 @@ module _ {S : Type 0} (g : Ghosts S) (was now : Held S) (begun : now ≡ record 
   put p it = record { meets = it.meets; inside = rw begun (record { mode = refl; back = λ is_open. (refl, is_open); reads = it.seen.reads }) }
 
   module _ (is : result ≡ Ok Done) where
-    done : HasCleanDisk ended → (p : Package) → IsSeenFor old p → (refusal p c ≡ None) × IsTrue ended.is_open × StandsInside current ended (ground_of old) (step p c moment)
+    done : HasCleanDisk ended → (p : Package) → IsSeenFor old p
+        → (refusal p c ≡ None) × IsTrue ended.is_open × StandsInside current ended (ground_of old) (step p c moment)
     done clean p it = (rw is at tried.tries) clean (ground_of old) p (put p it)
 
     commits : Survives ended last (λ db. db ≡ ended.now.trees) → Survives old last (IsStepOf old c moment)
@@ -77,7 +78,8 @@ module _ {S : Type 0} (g : Ghosts S) (was now : Held S) (begun : now ≡ record 
     left_before : HasCleanDisk last → (p : Package) → IsSettledFor old p → (db : Trees) → last.may_leave db → StandsForCurrent db p
     left_before clean p it db may = elim (quiet.crash clean db may) [ inl before ↦ it.settled.left db before | inr none ↦ absurd none ]
 
-    pub refused : (why : Refusal) → result ≡ Ok (Refused why) → (HasCleanDisk last → IsRolledBack ended last) → IsAppliedTo c moment old last (answer.Refused why)
+    pub refused : (why : Refusal) → result ≡ Ok (Refused why) → (HasCleanDisk last → IsRolledBack ended last)
+        → IsAppliedTo c moment old last (answer.Refused why)
     refused why is undone = record {
       survives = quiet;
       stays_open = λ clean. tt;
@@ -137,7 +139,8 @@ module _ (old new : State) (edition : Text) (moment : ℕ) (result : Result Outc
     );
   }
 
-  pub rehearsed_refused : (why : Refusal) → result ≡ Ok (Refused why) → IsRehearsal current edition old new result → IsAppliedTo (commands.Rehearse edition) moment old new (answer.Refused why)
+  pub rehearsed_refused : (why : Refusal) → result ≡ Ok (Refused why) → IsRehearsal current edition old new result
+      → IsAppliedTo (commands.Rehearse edition) moment old new (answer.Refused why)
   rehearsed_refused why is it = record {
     survives = it.survives;
     stays_open = λ clean. tt;
@@ -145,7 +148,8 @@ module _ (old new : State) (edition : Text) (moment : ℕ) (result : Result Outc
     answers = λ clean p ready. ((rw is at it.answers) clean p ready.meets (seen_of current old p ready.settled), it.settled clean p ready.meets ready.settled);
   }
 
-  pub rehearsed_in_vain : (fault : Fault) → IsRehearsal current edition old new result → IsAppliedTo (commands.Rehearse edition) moment old new (answer.Fault fault)
+  pub rehearsed_in_vain : (fault : Fault) → IsRehearsal current edition old new result
+      → IsAppliedTo (commands.Rehearse edition) moment old new (answer.Fault fault)
   rehearsed_in_vain fault it = record {
     survives = quietly it;
     stays_open = λ clean. tt;

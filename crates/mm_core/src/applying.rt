@@ -18,8 +18,8 @@ use mm_store::faults::fault_of;
 use sqlite::{Alter, Connection};
 use std::alloc::Global;
 
-/// One command in one transaction, whose commit is the last call of the store. A refusal rolls it back. `moment` is the stamp
-/// of the moment.
+/// One command in one transaction, whose commit is the last call of the store. A refusal rolls it back. `last_change`
+/// is the stamp of the moment.
 fn run_transaction<S: Alter>(
     conn: &mut Connection<S>,
     command: &Command,
@@ -51,7 +51,7 @@ fn run_transaction<S: Alter>(
     }
 }
 
-/// A rehearsal, whose transaction is rolled back. `moment` is the stamp of the moment.
+/// A rehearsal, whose transaction is rolled back. `last_change` is the stamp of the moment.
 fn rehearse_once<S: Alter>(
     conn: &mut Connection<S>,
     edition: &Name,

@@ -59,8 +59,8 @@ impl<S: Alter> Session<S> {
         row(&mut self.conn, table, id)
     }
 
-    /// The tables of the contents by rising name, each with its kind, identifier and last_change, and exactly the pyramids with
-    /// their reference system and extent. (Contents.)
+    /// The tables of the contents by rising name, each with its kind, identifier and last_change, and exactly the
+    /// pyramids with their reference system and extent. (Contents.)
     ///
     /// 92 where the session has to be opened again, and then nothing is asked of the store. After another fault the session goes
     /// on, and the package and what may be left are as they were.

@@ -26,7 +26,8 @@ ascii_is_clean text low none = record {
 }
 
 -- a test that is true of fewer bytes
-none_of_fewer : (test fewer : ℕ → Bool) → ((c : ℕ) → test c ≡ false → fewer c ≡ false) → (text : Text) → list_any test text ≡ false → list_any fewer text ≡ false
+none_of_fewer : (test fewer : ℕ → Bool) → ((c : ℕ) → test c ≡ false → fewer c ≡ false) → (text : Text) → list_any test text ≡ false
+    → list_any fewer text ≡ false
 none_of_fewer test fewer so [] e = refl
 none_of_fewer test fewer so (c ∷ cs) e =
     let p = either_false (test c) (list_any test cs) e in

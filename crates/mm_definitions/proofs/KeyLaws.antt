@@ -31,7 +31,8 @@ maybe_texts = record { total = options_total texts.total; exact = exact } where
 
 -- a key of two parts, from which it can be made again
 module _ {K A B : Type 0} {R : A → A → Ordering} {S : B → B → Ordering} where
-  pub by_parts : (f : K → A) (g : K → B) (back : A → B → K) → ((k : K) → back (f k) (g k) ≡ k) → IsKeyOrder R → IsKeyOrder S → IsKeyOrder (λ (x y : K). ordering_then (R (f x) (f y)) (S (g x) (g y)))
+  pub by_parts : (f : K → A) (g : K → B) (back : A → B → K) → ((k : K) → back (f k) (g k) ≡ k) → IsKeyOrder R → IsKeyOrder S
+      → IsKeyOrder (λ (x y : K). ordering_then (R (f x) (f y)) (S (g x) (g y)))
   by_parts f g back same r s = record {
     total = then_total (on_total f r.total) (on_total g s.total);
     exact = λ x y e.

@@ -26,7 +26,8 @@ module _ {K X : Type 0} {R : K → K → Ordering} (o : IsKeyOrder R) where
       let p = and_parts (is_lt (R q e.0)) (below_all R q es) h in
       ap (λ b. cond b (Some e.1) (find R q es)) (not_tied (R q e.0) p.0) ∙ nowhere q es p.1
 
-  all_found : (P : K → X → Type 0) (es : List (K × X)) → T (is_sorted R es) → ((q : K) (x : X) → find R q es ≡ Some x → P q x) → AllByRecursion (λ e. P e.0 e.1) es
+  all_found : (P : K → X → Type 0) (es : List (K × X)) → T (is_sorted R es) → ((q : K) (x : X) → find R q es ≡ Some x → P q x)
+      → AllByRecursion (λ e. P e.0 e.1) es
   all_found P [] s h = tt
   all_found P (e ∷ es) s h =
       let p = and_parts (below_all R e.0 es) (is_sorted R es) s in (

@@ -10,7 +10,8 @@ unfolding value_from
 value-le n [] = omega arith
 value-le n (d ∷ rest) = omega (arith, value-le (10 * n + (d - 48)) rest)
 
-pub value-step : (n i : ℕ) (digits : List ℕ) → i < length digits → value_from n (drop i digits) ≡ value_from (10 * n + (get_or digits i 0 - 48)) (drop (i + 1) digits)
+pub value-step : (n i : ℕ) (digits : List ℕ) → i < length digits
+    → value_from n (drop i digits) ≡ value_from (10 * n + (get_or digits i 0 - 48)) (drop (i + 1) digits)
 unfolding value_from
 value-step n i digits lt = rw (drop_more digits i 0 lt) refl
 

@@ -105,28 +105,32 @@ read_last value f t (Err (faults.Refused r)) h = (h.0, record { is_held = inl h.
     least m (inl b) = let e : r.number ≡ m = one_against f t r.number m h.1 b in omega (arith, e)
     least m (inr b) = absurd b
 
-pub first_holds : (f : Field) (fs : List Field) (t : Text) (ts : List Text) (v : Value) (n : ℕ) → HoldsValue f t v → IsLeast (IsAgainstSome fs ts) n → IsLeast (IsAgainstSome (f ∷ fs) (t ∷ ts)) n
+pub first_holds : (f : Field) (fs : List Field) (t : Text) (ts : List Text) (v : Value) (n : ℕ) → HoldsValue f t v → IsLeast (IsAgainstSome fs ts) n
+    → IsLeast (IsAgainstSome (f ∷ fs) (t ∷ ts)) n
 first_holds f fs t ts v n h l = record { is_held = inr l.is_held; is_least = least }
   where
     least : (m : ℕ) → IsAgainst f t m ⊎ IsAgainstSome fs ts m → n ≤ m
     least m (inl b) = absurd (not_against f t v m h b)
     least m (inr b) = l.is_least m b
 
-pub rest_holds : (f : Field) (fs : List Field) (t : Text) (ts : List Text) (vs : List Value) (n : ℕ) → IsAgainst f t n → AllHold fs ts vs → IsLeast (IsAgainstSome (f ∷ fs) (t ∷ ts)) n
+pub rest_holds : (f : Field) (fs : List Field) (t : Text) (ts : List Text) (vs : List Value) (n : ℕ) → IsAgainst f t n → AllHold fs ts vs
+    → IsLeast (IsAgainstSome (f ∷ fs) (t ∷ ts)) n
 rest_holds f fs t ts vs n a h = record { is_held = inl a; is_least = least }
   where
     least : (m : ℕ) → IsAgainst f t m ⊎ IsAgainstSome fs ts m → n ≤ m
     least m (inl b) = let e : n ≡ m = one_against f t n m a b in omega (arith, e)
     least m (inr b) = absurd (none_against fs ts vs m h b)
 
-pub first_lower : (f : Field) (fs : List Field) (t : Text) (ts : List Text) (n k : ℕ) → IsAgainst f t n → IsLeast (IsAgainstSome fs ts) k → n ≤ k → IsLeast (IsAgainstSome (f ∷ fs) (t ∷ ts)) n
+pub first_lower : (f : Field) (fs : List Field) (t : Text) (ts : List Text) (n k : ℕ) → IsAgainst f t n → IsLeast (IsAgainstSome fs ts) k → n ≤ k
+    → IsLeast (IsAgainstSome (f ∷ fs) (t ∷ ts)) n
 first_lower f fs t ts n k a l low = record { is_held = inl a; is_least = least }
   where
     least : (m : ℕ) → IsAgainst f t m ⊎ IsAgainstSome fs ts m → n ≤ m
     least m (inl b) = let e : n ≡ m = one_against f t n m a b in omega (arith, e)
     least m (inr b) = omega (arith, low, l.is_least m b)
 
-pub rest_lower : (f : Field) (fs : List Field) (t : Text) (ts : List Text) (n k : ℕ) → IsAgainst f t n → IsLeast (IsAgainstSome fs ts) k → k ≤ n → IsLeast (IsAgainstSome (f ∷ fs) (t ∷ ts)) k
+pub rest_lower : (f : Field) (fs : List Field) (t : Text) (ts : List Text) (n k : ℕ) → IsAgainst f t n → IsLeast (IsAgainstSome fs ts) k → k ≤ n
+    → IsLeast (IsAgainstSome (f ∷ fs) (t ∷ ts)) k
 rest_lower f fs t ts n k a l low = record { is_held = inr l.is_held; is_least = least }
   where
     least : (m : ℕ) → IsAgainst f t m ⊎ IsAgainstSome fs ts m → k ≤ m
@@ -137,12 +141,14 @@ module _ {A B : Type 0} (value : A → Value) (values : B → List Value) (f : F
   abbrev pub Reads : Result (A × B) ReadFault → Type 0
   Reads = ReadsTo (λ p. AllHold (f ∷ fs) (t ∷ ts) (value p.0 ∷ values p.1)) (IsLeast (IsAgainstSome (f ∷ fs) (t ∷ ts)))
 
-  lower : (one other : Refusal) (least : Bool) → nat_le one.number other.number ≡ least → (one.piece ≡ None) × IsAgainst f t one.number → (other.piece ≡ None) × IsLeast (IsAgainstSome fs ts) other.number
+  lower : (one other : Refusal) (least : Bool) → nat_le one.number other.number ≡ least → (one.piece ≡ None) × IsAgainst f t one.number
+      → (other.piece ≡ None) × IsLeast (IsAgainstSome fs ts) other.number
       → Reads (Err (faults.Refused (if least then one else other)))
   lower one other true e a l = (a.0, first_lower f fs t ts one.number other.number a.1 l.1 (grind (arith, nat_tests, e)))
   lower one other false e a l = (l.0, rest_lower f fs t ts one.number other.number a.1 l.1 (grind (arith, nat_tests, e)))
 
-  pub read_both : (a : Result A ReadFault) (b : Result B ReadFault) → ReadsTo (λ x. HoldsValue f t (value x)) (IsAgainst f t) a → ReadsTo (λ y. AllHold fs ts (values y)) (IsLeast (IsAgainstSome fs ts)) b → Reads (both_of a b)
+  pub read_both : (a : Result A ReadFault) (b : Result B ReadFault) → ReadsTo (λ x. HoldsValue f t (value x)) (IsAgainst f t) a
+      → ReadsTo (λ y. AllHold fs ts (values y)) (IsLeast (IsAgainstSome fs ts)) b → Reads (both_of a b)
   read_both (Ok x) (Ok y) h k = (h, k)
   read_both (Ok x) (Err faults.Memory) h k = tt
   read_both (Ok x) (Err (faults.Refused r)) h k = (k.0, first_holds f fs t ts (value x) r.number h k.1)
@@ -228,7 +234,8 @@ texts_are xs n a b = listed_from xs 0 n (omega arith)
 -- ---- what a reader of a record answers
 -- the fields are as many as the form asks, and one of them is refused
 pub refuses : {A : Type 0} {fs : List Field} {r : Result A ReadFault} {fault : ReadFault} (xs : List (Bor Text)) (n : ℕ)
-    → n ≤ length xs → length xs < n + 1 → r ≡ Err fault → AreFields fs (listed xs 0 n) r → ReadsTo {A = ⊤} (λ _. ⊤) (IsLeast (IsAgainstSome fs (texts_of xs))) (Err fault)
+    → n ≤ length xs → length xs < n + 1 → r ≡ Err fault → AreFields fs (listed xs 0 n) r
+    → ReadsTo {A = ⊤} (λ _. ⊤) (IsLeast (IsAgainstSome fs (texts_of xs))) (Err fault)
 refuses {fs = fs} {fault = fault} xs n low high e h =
     subst (λ ts. ReadsTo {A = ⊤} (λ _. ⊤) (IsLeast (IsAgainstSome fs ts)) (Err fault)) (sym (texts_are xs n low high))
     (subst (ReadsTo (λ x. AllHold fs (listed xs 0 n) (h.values x)) (IsLeast (IsAgainstSome fs (listed xs 0 n)))) e h.reads)

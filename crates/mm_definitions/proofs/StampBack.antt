@@ -33,7 +33,8 @@ from_1970 d h =
 two_back : (n : ℕ) → n < 100 → (48 + n / 10 % 10 + 2) % 10 * 10 + (48 + n % 10 + 2) % 10 ≡ n
 two_back n h = omega (arith, h)
 
-four_back : (n : ℕ) → n < 10000 → (48 + n / 1000 % 10 + 2) % 10 * 1000 + (48 + n / 100 % 10 + 2) % 10 * 100 + (48 + n / 10 % 10 + 2) % 10 * 10 + (48 + n % 10 + 2) % 10 ≡ n
+four_back : (n : ℕ) → n < 10000
+    → (48 + n / 1000 % 10 + 2) % 10 * 1000 + (48 + n / 100 % 10 + 2) % 10 * 100 + (48 + n / 10 % 10 + 2) % 10 * 10 + (48 + n % 10 + 2) % 10 ≡ n
 four_back n h = omega (arith, h)
 
 three_back : (n : ℕ) → n < 1000 → (48 + n / 100 % 10 + 2) % 10 * 100 + ((48 + n / 10 % 10 + 2) % 10 * 10 + (48 + n % 10 + 2) % 10) ≡ n
@@ -42,7 +43,8 @@ three_back n h = omega (arith, h)
 time_parts : (t : ℕ) → t < 86400000 → t / 3600000 * 3600000 + t / 60000 % 60 * 60000 + t / 1000 % 60 * 1000 + t % 1000 ≡ t
 time_parts t h = omega (arith, h)
 
-summed : (a b c d e h m s ms t : ℕ) → a ≡ h → b ≡ m → c ≡ s → d + e ≡ ms → h * 3600000 + m * 60000 + s * 1000 + ms ≡ t → a * 3600000 + b * 60000 + c * 1000 + d + e ≡ t
+summed : (a b c d e h m s ms t : ℕ) → a ≡ h → b ≡ m → c ≡ s → d + e ≡ ms → h * 3600000 + m * 60000 + s * 1000 + ms ≡ t
+    → a * 3600000 + b * 60000 + c * 1000 + d + e ≡ t
 summed a b c d e h m s ms t p q r u v = omega (arith, p, q, r, u, v)
 
 hours_low : (t : ℕ) → t < 86400000 → t / 3600000 < 100
@@ -80,7 +82,8 @@ below_day : (n k : ℕ) → n ≤ k → k ≤ 31 → n < 100
 below_day n k h l = omega (arith, h, l)
 
 -- what the text of a stamp shows
-pub shown_parts : (text : List ℕ) (m : ℕ) (st : IsStamp m text) → IsYmd (pos (year_in text)) (pos (pair_at text 5)) (pos (pair_at text 8)) st.date × (time_in text ≡ m % 86400000) × (pos 1970 ≤ℤ st.date.year)
+pub shown_parts : (text : List ℕ) (m : ℕ) (st : IsStamp m text)
+    → IsYmd (pos (year_in text)) (pos (pair_at text 5)) (pos (pair_at text 8)) st.date × (time_in text ≡ m % 86400000) × (pos 1970 ≤ℤ st.date.year)
 shown_parts text m st =
     let d = st.date in
     let low = from_1970 d (subst (λ z. pos 0 ≤ℤ z) (sym st.day) (search rules)) in
@@ -100,7 +103,8 @@ same_day y m d a b p q = (p.0 ∙ sym q.0, whole (p.1 ∙ sym q.1), whole (p.2 �
 pub day_of : (a b : Date) → (a.year ≡ b.year) × (a.month ≡ b.month) × (a.day ≡ b.day) → epoch_day a ≡ epoch_day b
 day_of a b e = ap (λ y. days_from_civil y a.month a.day) e.0 ∙ ap (λ m. days_from_civil b.year m a.day) e.1 ∙ ap (days_from_civil b.year b.month) e.2
 
-pub text_of : (a b : Date) (t : ℕ) → (a.year ≡ b.year) × (a.month ≡ b.month) × (a.day ≡ b.day) → stamp_text (unsigned_abs a.year) a.month a.day t ≡ stamp_text (unsigned_abs b.year) b.month b.day t
+pub text_of : (a b : Date) (t : ℕ) → (a.year ≡ b.year) × (a.month ≡ b.month) × (a.day ≡ b.day)
+    → stamp_text (unsigned_abs a.year) a.month a.day t ≡ stamp_text (unsigned_abs b.year) b.month b.day t
 text_of a b t e = ap (λ y. stamp_text (unsigned_abs y) a.month a.day t) e.0 ∙ ap (λ m. stamp_text (unsigned_abs b.year) m a.day t) e.1 ∙ ap (λ d. stamp_text (unsigned_abs b.year) b.month d t) e.2
 
 -- a date that the text shows is that of the stamp
@@ -115,7 +119,8 @@ module _ (text : List ℕ) (d : Date) (ymd : IsYmd (pos (year_in text)) (pos (pa
       let it = shown_parts text m st in
       st.spelled ∙ ap (stamp_text (unsigned_abs st.date.year) st.date.month st.date.day) (sym it.1) ∙ text_of st.date d (time_in text) (same_day _ _ _ st.date d it.0 ymd)
 
-  pub is_some : (day : ℕ) → epoch_day d ≡ pos day → day ≤ 2932896 → time_in text < 86400000 → text ≡ stamp_text (unsigned_abs d.year) d.month d.day (time_in text) → IsSomeStamp text
+  pub is_some : (day : ℕ) → epoch_day d ≡ pos day → day ≤ 2932896 → time_in text < 86400000
+      → text ≡ stamp_text (unsigned_abs d.year) d.month d.day (time_in text) → IsSomeStamp text
   is_some day is high low e = (
     day * 86400000 + time_in text,
     moment_low day (time_in text) high low,

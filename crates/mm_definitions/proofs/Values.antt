@@ -40,5 +40,6 @@ module _ {K X Y : Type 0} {R : K → K → Ordering} (change : X → Y) where
   pub from : (m : FinMap R X) (q : K) (y : Y) → get (change_values change m) q ≡ Some y → (x : X) × (get m q ≡ Some x) × (y ≡ change x)
   from m q y e = came change (get m q) y (sym (get_changed R change m q) ∙ e)
 
-  pub each_changed : (m : FinMap R X) (P : K → X → Type 0) (Q : K → Y → Type 0) → ((q : K) (x : X) → P q x → Q q (change x)) → Each m P → Each (change_values change m) Q
+  pub each_changed : (m : FinMap R X) (P : K → X → Type 0) (Q : K → Y → Type 0) → ((q : K) (x : X) → P q x → Q q (change x)) → Each m P
+      → Each (change_values change m) Q
   each_changed m P Q so h q y e = let it = from m q y e in subst (Q q) (sym it.2) (so q it.0 (h q it.0 it.1))

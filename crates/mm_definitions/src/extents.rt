@@ -10,8 +10,8 @@ use crate::bounded::{MatrixSide, PixelSize, TileSide};
 use crate::commands::Matrix;
 use crate::limits::FARTHEST;
 
-/// A bounding box, in whole micrometres. `new` makes those that a command may have; one that was read from a file holds
-/// what stands there, and rule 6 says of a package that none is empty.
+/// A bounding box, in whole micrometres, which may be empty: that of a command is until it is refused 27, and one that
+/// was read from a file is as it stands there. `new` makes none but those that a pyramid of a package has.
 #[derive(Clone, Copy, Debug, PartialEq, Eq)]
 pub struct Extent {
     pub min_x: i64,

@@ -13,13 +13,16 @@ use Rattle.mm_store.proofs.Shapes.{quiet_then}
 use Rattle.mm_layout.specs.Stamped.{IsLentWhere}
 use Rattle.mm_edition.specs.Quiet.{IsQuiet}
 
-pub lent_quiet : (When : Package → Type 0) (profile : Profile) (c : Command) (at : Text) (old new : State) (result : Result Outcome Fault) → IsLentWhere When profile c at old new result → IsQuiet old new result
+pub lent_quiet : (When : Package → Type 0) (profile : Profile) (c : Command) (at : Text) (old new : State) (result : Result Outcome Fault)
+    → IsLentWhere When profile c at old new result → IsQuiet old new result
 lent_quiet When profile c at old new result lent = record { survives = lent.survives; faults = lent.faults }
 
-pub look_quiet : (profile : Profile) {T : Type 0} {Says : Package → T → Type 0} (old new : State) (result : Result T Fault) → IsLook profile old new Says result → IsQuiet old new result
+pub look_quiet : (profile : Profile) {T : Type 0} {Says : Package → T → Type 0} (old new : State) (result : Result T Fault)
+    → IsLook profile old new Says result → IsQuiet old new result
 look_quiet profile old new result look = record { survives = look.survives; faults = look.faults }
 
-pub change_quiet : (profile : Profile) {T : Type 0} {When : Package → Type 0} {next : Package → Package} (old new : State) (result : Result T Fault) → IsChange profile old new When next result → IsQuiet old new result
+pub change_quiet : (profile : Profile) {T : Type 0} {When : Package → Type 0} {next : Package → Package} (old new : State) (result : Result T Fault)
+    → IsChange profile old new When next result → IsQuiet old new result
 change_quiet profile old new result change = record { survives = change.survives; faults = change.faults }
 
 -- an answer that is no fault

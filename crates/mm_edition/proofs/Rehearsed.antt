@@ -26,7 +26,8 @@ module _ {S : Type 0} (g : Ghosts S) (was now : Held S) (begun : now ≡ record 
   put : (p : Package) → Meets profile p → IsSeenAs profile (state g was) p → ComesTo profile (state g now) (ground_of (state g was)) p
   put p meets seen = record { meets = meets; inside = rw begun (record { mode = refl; back = λ is_open. (refl, is_open); reads = seen.reads }) }
 
-  tells : (p next : Package) (r : Result Outcome Fault) → Tries profile ended (ground_of (state g was)) p (refusal p (commands.Publish edition)) next r → TellsRefusal p edition r
+  tells : (p next : Package) (r : Result Outcome Fault)
+      → Tries profile ended (ground_of (state g was)) p (refusal p (commands.Publish edition)) next r → TellsRefusal p edition r
   tells p next (Ok Done) h = h.0
   tells p next (Ok (Refused why)) h = h
   tells p next (Err fault) h = tt

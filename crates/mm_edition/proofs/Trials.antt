@@ -26,7 +26,8 @@ use Rattle.mm_staging.proofs.InOrder.{AreFrom, pieces_in_order}
 
 -- ---- a piece leaves the editions and what is staged
 
-touched_apart : (p : Package) (table at : Text) (v : Option Contents) → ((touched_row p table at v).editions ≡ p.editions) × ((touched_row p table at v).pieces ≡ p.pieces)
+touched_apart : (p : Package) (table at : Text) (v : Option Contents)
+    → ((touched_row p table at v).editions ≡ p.editions) × ((touched_row p table at v).pieces ≡ p.pieces)
 touched_apart p table at None = (refl, refl)
 touched_apart p table at (Some c) = (refl, refl)
 
@@ -53,7 +54,8 @@ module _ (q : Package) (e : PieceKey × PieceRow) (es : List (PieceKey × PieceR
   spelled_is : row_piece e.1 ≡ Some x
   spelled_is = ap row_piece row_is ∙ read_back x
 
-  trial_is : (v : Option ℕ) → least (piece_reasons q x) ≡ v → trial (e ∷ es) q at ≡ after_trial (decided q (unsigned_abs e.0.number) x at v) (λ next. trial es next at)
+  trial_is : (v : Option ℕ) → least (piece_reasons q x) ≡ v
+      → trial (e ∷ es) q at ≡ after_trial (decided q (unsigned_abs e.0.number) x at v) (λ next. trial es next at)
   trial_is v is = ap (λ o. after_trial (piece_trial q (unsigned_abs e.0.number) at o) (λ next. trial es next at)) spelled_is ∙ ap (λ o. after_trial (decided q (unsigned_abs e.0.number) x at o) (λ next. trial es next at)) is
 
 module _ (profile : Profile) (edition : Text) (moment : ℕ) where
@@ -82,7 +84,8 @@ module _ (profile : Profile) (edition : Text) (moment : ℕ) where
     pub one_more_done : (on : IsOn number mid ground p) → TakesTurn profile edition number moment new ground on.edited Done → IsOn (suc number) new ground p
     one_more_done on (x, there, none, ready) = by on.rest on.are on.goes_on
       where
-        by : (rest : List (PieceKey × PieceRow)) → AreFrom p.pieces edition number rest → trial rest on.edited (stamp moment) ≡ edition_trial p edition (stamp moment) → IsOn (suc number) new ground p
+        by : (rest : List (PieceKey × PieceRow)) → AreFrom p.pieces edition number rest
+            → trial rest on.edited (stamp moment) ≡ edition_trial p edition (stamp moment) → IsOn (suc number) new ground p
         by [] are goes_on = absurd (not_none (ap (λ m. get m (piece edition (pos number))) (sym on.pieces) ∙ there) are)
         by (e ∷ es) are goes_on =
             let row_is : e.1 ≡ piece_row x = same_some (sym are.1 ∙ (ap (get p.pieces) are.0 ∙ (ap (λ m. get m (piece edition (pos number))) (sym on.pieces) ∙ there))) in
@@ -96,14 +99,16 @@ module _ (profile : Profile) (edition : Text) (moment : ℕ) where
               goes_on = sym (trial_is on.edited e es x row_is (stamp moment) None none) ∙ goes_on;
             }
 
-    pub all_done : (on : IsOn number mid ground p) → TakesTurn profile edition number moment new ground on.edited End → TellsTrial profile edition moment new ground p None
+    pub all_done : (on : IsOn number mid ground p) → TakesTurn profile edition number moment new ground on.edited End
+        → TellsTrial profile edition moment new ground p None
     all_done on (none, up, ready) = (on.edited, sym on.goes_on ∙ by on.rest on.are, on.editions, up, ready)
       where
         by : (rest : List (PieceKey × PieceRow)) → AreFrom p.pieces edition number rest → trial rest on.edited (stamp moment) ≡ Ok on.edited
         by [] are = refl
         by (e ∷ es) are = absurd (not_none are.1 (ap (get p.pieces) are.0 ∙ (ap (λ m. get m (piece edition (pos number))) (sym on.pieces) ∙ none)))
 
-    pub first_refused : (on : IsOn number mid ground p) (why : ℕ) → TakesTurn profile edition number moment new ground on.edited (Refused why) → TellsTrial profile edition moment new ground p (Some (number, why))
+    pub first_refused : (on : IsOn number mid ground p) (why : ℕ) → TakesTurn profile edition number moment new ground on.edited (Refused why)
+        → TellsTrial profile edition moment new ground p (Some (number, why))
     first_refused on why (x, there, reason) = sym on.goes_on ∙ by on.rest on.are
       where
         by : (rest : List (PieceKey × PieceRow)) → AreFrom p.pieces edition number rest → trial rest on.edited (stamp moment) ≡ Err (number, why)
@@ -133,7 +138,8 @@ module _ (profile : Profile) (edition : Text) (moment : ℕ) where
       }
 
       module _ (it : Turn) (turn : IsTurn profile edition number moment mid new (Ok it)) where
-        stands_on : HasCleanDisk new → (ground : Ground) (p : Package) → StandsReady profile old ground p → get p.editions edition ≡ Some open_state → StandsOn new ground
+        stands_on : HasCleanDisk new → (ground : Ground) (p : Package) → StandsReady profile old ground p → get p.editions edition ≡ Some open_state
+            → StandsOn new ground
         stands_on clean ground p ready open_is = let on = so_far (omega (arith, turn.survives.clean)) ground p ready open_is in turn.on clean ground on.edited on.ready
 
         pub trial_ended : it ≡ End → IsTrial profile edition moment old new (Ok None)
@@ -156,7 +162,8 @@ module _ (profile : Profile) (edition : Text) (moment : ℕ) where
           faults = tt;
         }
 
-        pub goes_on_after : it ≡ Done → HasCleanDisk new → (ground : Ground) (p : Package) → StandsReady profile old ground p → get p.editions edition ≡ Some open_state → IsOn (number + 1) new ground p
+        pub goes_on_after : it ≡ Done → HasCleanDisk new → (ground : Ground) (p : Package) → StandsReady profile old ground p
+            → get p.editions edition ≡ Some open_state → IsOn (number + 1) new ground p
         goes_on_after is clean ground p ready open_is =
             let on = so_far (omega (arith, turn.survives.clean)) ground p ready open_is in
             subst (λ n. IsOn n new ground p) (one_after number) (one_more_done number mid new ground p on (subst (TakesTurn profile edition number moment new ground on.edited) is (turn.takes clean ground on.edited on.ready)))

@@ -34,7 +34,8 @@ no_error : (t : Result Package PieceRefusal) → refused_piece t ≡ None → of
 no_error (Ok q) e = refl
 no_error (Err r) e = absurd (let f : ◌≡◌ {A = Option PieceRefusal} (Some r) None = e in cc)
 
-an_error : (t : Result Package PieceRefusal) (r : PieceRefusal) → refused_piece t ≡ Some r → of_publish (Some open_state) t ≡ Some (record { number = 53; piece = Some r })
+an_error : (t : Result Package PieceRefusal) (r : PieceRefusal) → refused_piece t ≡ Some r
+    → of_publish (Some open_state) t ≡ Some (record { number = 53; piece = Some r })
 an_error (Ok q) r e = absurd (let f : ◌≡◌ {A = Option PieceRefusal} None (Some r) = e in cc)
 an_error (Err s) r e = ap (λ x. Some (record { number = 53; piece = Some x })) (same_some e)
 
@@ -55,7 +56,8 @@ module _ (profile : Profile) (edition : Text) where
         ]
 
     -- one that is not is refused for that alone
-    refused_closed : (n : ℕ) → Some n ≡ least (own_reasons p (commands.Discard edition)) → refusal p (commands.Publish edition) ≡ Some (record { number = n; piece = None })
+    refused_closed : (n : ℕ) → Some n ≡ least (own_reasons p (commands.Discard edition))
+        → refusal p (commands.Publish edition) ≡ Some (record { number = n; piece = None })
     refused_closed n why = by (get p.editions edition) refl
       where
         by : (v : Option Text) → get p.editions edition ≡ v → refusal p (commands.Publish edition) ≡ Some (record { number = n; piece = None })
@@ -69,7 +71,8 @@ module _ (profile : Profile) (edition : Text) where
       accepted : (q : Package) → edition_trial p edition (stamp moment) ≡ Ok q → refusal p (commands.Publish edition) ≡ None
       accepted q is = refusal_is (Some open_state) open_is ∙ no_error (edition_trial p edition []) (any_stamp p edition [] (stamp moment) ∙ ap refused_piece is)
 
-      refused_at : (r : PieceRefusal) → edition_trial p edition (stamp moment) ≡ Err r → refusal p (commands.Publish edition) ≡ Some (record { number = 53; piece = Some r })
+      refused_at : (r : PieceRefusal) → edition_trial p edition (stamp moment) ≡ Err r
+          → refusal p (commands.Publish edition) ≡ Some (record { number = 53; piece = Some r })
       refused_at r is = refusal_is (Some open_state) open_is ∙ an_error (edition_trial p edition []) r (any_stamp p edition [] (stamp moment) ∙ ap refused_piece is)
 
       step_is : (q : Package) → edition_trial p edition (stamp moment) ≡ Ok q → step p (commands.Publish edition) moment ≡ closed edition q
@@ -79,7 +82,8 @@ module _ (profile : Profile) (edition : Text) where
   Why p why = why ≡ least (own_reasons p (commands.Discard edition))
 
   module _ (moment : ℕ) (old mid : State) where
-    pub closed_tried : (why : Option ℕ) (n : ℕ) → why ≡ Some n → IsLook profile old mid Why (Ok why) → IsTried profile (commands.Publish edition) moment old mid (Ok (outcome.Refused (record { number = n; piece = None })))
+    pub closed_tried : (why : Option ℕ) (n : ℕ) → why ≡ Some n → IsLook profile old mid Why (Ok why)
+        → IsTried profile (commands.Publish edition) moment old mid (Ok (outcome.Refused (record { number = n; piece = None })))
     closed_tried why n is look = record {
       survives = look.survives;
       on = λ clean ground p it. look.on clean ground p it.inside;
@@ -87,18 +91,21 @@ module _ (profile : Profile) (edition : Text) where
       faults = tt;
     }
 
-    pub look_tried_in_vain : (fault : Fault) → IsLook profile {T = Option ℕ} old mid Why (Err fault) → IsTried profile (commands.Publish edition) moment old mid (Err fault)
+    pub look_tried_in_vain : (fault : Fault) → IsLook profile {T = Option ℕ} old mid Why (Err fault)
+        → IsTried profile (commands.Publish edition) moment old mid (Err fault)
     look_tried_in_vain fault look = record { survives = look.survives; on = λ clean ground p it. look.on clean ground p it.inside; tries = λ clean ground p it. tt; faults = look.faults }
 
     module _ (why : Option ℕ) (none : why ≡ None) (look : IsLook profile old mid Why (Ok why)) (new : State) where
       -- the trial begins on the same package, whose edition is open
-      ready : HasCleanDisk mid → (ground : Ground) (p : Package) → ComesTo profile old ground p → StandsReady profile mid ground p × (get p.editions edition ≡ Some open_state)
+      ready : HasCleanDisk mid → (ground : Ground) (p : Package) → ComesTo profile old ground p
+          → StandsReady profile mid ground p × (get p.editions edition ≡ Some open_state)
       ready clean ground p it =
           let found = look.looked clean ground p it.inside in
           (record { meets = it.meets; inside = found.1 }, stands_open p it.meets (sym none ∙ found.2))
 
       module _ (piece : Option PieceRefusal) where
-        pub publish_53 : (r : PieceRefusal) → piece ≡ Some r → IsTrial profile edition moment mid new (Ok piece) → IsTried profile (commands.Publish edition) moment old new (Ok (outcome.Refused (record { number = 53; piece = Some r })))
+        pub publish_53 : (r : PieceRefusal) → piece ≡ Some r → IsTrial profile edition moment mid new (Ok piece)
+            → IsTried profile (commands.Publish edition) moment old new (Ok (outcome.Refused (record { number = 53; piece = Some r })))
         publish_53 r is trial = record {
           survives = quiet_then old mid new look.survives trial.survives;
           on = λ clean ground p it. let at = ready (omega (arith, trial.survives.clean)) ground p it in trial.on clean ground p at.0 at.1;
@@ -108,7 +115,8 @@ module _ (profile : Profile) (edition : Text) where
           faults = tt;
         }
 
-      pub publish_gave_up : (fault : Fault) → IsTrial profile edition moment mid new (Err fault) → IsTried profile (commands.Publish edition) moment old new (Err fault)
+      pub publish_gave_up : (fault : Fault) → IsTrial profile edition moment mid new (Err fault)
+          → IsTried profile (commands.Publish edition) moment old new (Err fault)
       publish_gave_up fault trial = record {
         survives = quiet_then old mid new look.survives trial.survives;
         on = λ clean ground p it. let at = ready (omega (arith, trial.survives.clean)) ground p it in trial.on clean ground p at.0 at.1;
@@ -125,7 +133,8 @@ module _ (profile : Profile) (edition : Text) where
             let told = (rw went at trial.tells) clean ground p at.0 at.1 in
             (told.0, told.1, told.4.inside, ap is_some (ap (λ m. get m edition) told.2 ∙ at.1), at.1)
 
-        pub publish_done : (u : Unit {0}) → IsChange profile new end (λ p. contains_key p.editions edition ≡ true) (closed edition) (Ok u) → IsTried profile (commands.Publish edition) moment old end (Ok outcome.Done)
+        pub publish_done : (u : Unit {0}) → IsChange profile new end (λ p. contains_key p.editions edition ≡ true) (closed edition) (Ok u)
+            → IsTried profile (commands.Publish edition) moment old end (Ok outcome.Done)
         publish_done u change = record {
           survives = quiet_then old new end (quiet_then old mid new look.survives trial.survives) change.survives;
           on = λ clean ground p it. let at = edited (omega (arith, change.survives.clean)) ground p it in change.on clean ground at.0 at.2 at.3;
@@ -136,7 +145,9 @@ module _ (profile : Profile) (edition : Text) where
           faults = tt;
         }
 
-        pub publish_half_closed : (fault : Fault) → IsChange profile {T = Unit {0}} new end (λ p. contains_key p.editions edition ≡ true) (closed edition) (Err fault) → IsTried profile (commands.Publish edition) moment old end (Err fault)
+        pub publish_half_closed : (fault : Fault)
+            → IsChange profile {T = Unit {0}} new end (λ p. contains_key p.editions edition ≡ true) (closed edition) (Err fault)
+            → IsTried profile (commands.Publish edition) moment old end (Err fault)
         publish_half_closed fault change = record {
           survives = quiet_then old new end (quiet_then old mid new look.survives trial.survives) change.survives;
           on = λ clean ground p it. let at = edited (omega (arith, change.survives.clean)) ground p it in change.on clean ground at.0 at.2 at.3;

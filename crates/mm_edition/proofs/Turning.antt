@@ -70,7 +70,8 @@ stands_within : (profile : Profile) (q : Piece) → IsSpelled profile (piece_row
 stands_within profile q is = subst (IsPieceWithin profile) (same_some (sym (by_kind is.0) ∙ ap piece_by_kind (sym is.1) ∙ by_kind q)) is.2
 
 -- a call that is known to do so where more holds
-pub where_more : (When More : Package → Type 0) (profile : Profile) (c : Command) (at : Text) (old new : State) (result : Result Outcome Fault) → ((p : Package) → More p → When p) → IsLentWhere When profile c at old new result
+pub where_more : (When More : Package → Type 0) (profile : Profile) (c : Command) (at : Text) (old new : State) (result : Result Outcome Fault)
+    → ((p : Package) → More p → When p) → IsLentWhere When profile c at old new result
     → IsLentWhere More profile c at old new result
 where_more When More profile c at old new result so lent = record {
   survives = lent.survives;
@@ -80,21 +81,25 @@ where_more When More profile c at old new result so lent = record {
 }
 
 -- a call that does the same whether this holds or not
-pub anywhere : (More : Package → Type 0) (profile : Profile) (c : Command) (at : Text) (old new : State) (result : Result Outcome Fault) → IsLentAt profile c at old new result → IsLentWhere More profile c at old new result
+pub anywhere : (More : Package → Type 0) (profile : Profile) (c : Command) (at : Text) (old new : State) (result : Result Outcome Fault)
+    → IsLentAt profile c at old new result → IsLentWhere More profile c at old new result
 anywhere More profile c at old new result lent = where_more (λ p. ⊤) More profile c at old new result (λ p more. tt) lent
 
 -- the bytes of a piece that is a tile or a medium
-pub tile_bytes : (edition : Text) (number : ℕ) (table : Text) (zoom column row : ℕ) (bytes : List ℕ) (p : Package) → HoldsPiece edition number (pieces.Tile table zoom column row bytes) p → HasBytes edition number bytes p
+pub tile_bytes : (edition : Text) (number : ℕ) (table : Text) (zoom column row : ℕ) (bytes : List ℕ) (p : Package)
+    → HoldsPiece edition number (pieces.Tile table zoom column row bytes) p → HasBytes edition number bytes p
 tile_bytes edition number table zoom column row bytes p holds = (piece_row (pieces.Tile table zoom column row bytes), holds, refl)
 
-pub medium_bytes : (edition : Text) (number : ℕ) (table : Text) (id : ℤ) (content_type : Text) (bytes : List ℕ) (p : Package) → HoldsPiece edition number (pieces.Media table id content_type bytes) p → HasBytes edition number bytes p
+pub medium_bytes : (edition : Text) (number : ℕ) (table : Text) (id : ℤ) (content_type : Text) (bytes : List ℕ) (p : Package)
+    → HoldsPiece edition number (pieces.Media table id content_type bytes) p → HasBytes edition number bytes p
 medium_bytes edition number table id content_type bytes p holds = (piece_row (pieces.Media table id content_type bytes), holds, refl)
 
 module _ (profile : Profile) (edition : Text) (number moment : ℕ) where
   abbrev Found : Package → Option Piece → Type 0
   Found p found = Meets profile p → get p.pieces (piece edition (pos number)) ≡ option_map piece_row found
 
-  pub turn_ends : (old new : State) (found : Option Piece) → found ≡ None → IsLook profile old new Found (Ok found) → IsTurn profile edition number moment old new (Ok End)
+  pub turn_ends : (old new : State) (found : Option Piece) → found ≡ None → IsLook profile old new Found (Ok found)
+      → IsTurn profile edition number moment old new (Ok End)
   turn_ends old new found none look = record {
     survives = look.survives;
     on = λ clean ground p it. look.on clean ground p it.inside;
@@ -104,12 +109,14 @@ module _ (profile : Profile) (edition : Text) (number moment : ℕ) where
     faults = tt;
   }
 
-  pub turn_looked_in_vain : (old new : State) (fault : Fault) → IsLook profile {T = Option Piece} old new Found (Err fault) → IsTurn profile edition number moment old new (Err fault)
+  pub turn_looked_in_vain : (old new : State) (fault : Fault) → IsLook profile {T = Option Piece} old new Found (Err fault)
+      → IsTurn profile edition number moment old new (Err fault)
   turn_looked_in_vain old new fault look = record { survives = look.survives; on = λ clean ground p it. look.on clean ground p it.inside; takes = λ clean ground p it. tt; faults = look.faults }
 
   module _ (old mid new : State) (found : Option Piece) (q : Piece) (is : found ≡ Some q) (look : IsLook profile old mid Found (Ok found)) where
     -- the piece's command comes to the transaction behind the look
-    put : (at : State) (ground : Ground) (p : Package) → StandsReady profile old ground p → StandsInside profile mid ground p → Found p found → ComesTo profile mid ground p
+    put : (at : State) (ground : Ground) (p : Package) → StandsReady profile old ground p → StandsInside profile mid ground p → Found p found
+        → ComesTo profile mid ground p
     put at ground p it inside says =
         let there = says it.meets ∙ ap (option_map piece_row) is in
         record { meets = it.meets; inside = inside }

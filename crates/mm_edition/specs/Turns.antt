@@ -52,6 +52,8 @@ module _ (profile : Profile) (edition : Text) (moment : ℕ) where
   -- It commits nothing, a rollback goes back to where it did, and what it answers says what became of the pieces of an open edition.
   pub record IsTrial (old new : State) (result : Result (Option (ℕ × ℕ)) Fault) : Type 0 where
     pub survives : CommitsNothing old new
-    pub on : HasCleanDisk new → (ground : Ground) (p : Package) → StandsReady profile old ground p → get p.editions edition ≡ Some open_state → StandsOn new ground
-    pub tells : HasCleanDisk new → (ground : Ground) (p : Package) → StandsReady profile old ground p → get p.editions edition ≡ Some open_state → IfOk result (TellsTrial new ground p)
+    pub on : HasCleanDisk new → (ground : Ground) (p : Package) → StandsReady profile old ground p → get p.editions edition ≡ Some open_state
+        → StandsOn new ground
+    pub tells : HasCleanDisk new → (ground : Ground) (p : Package) → StandsReady profile old ground p → get p.editions edition ≡ Some open_state
+        → IfOk result (TellsTrial new ground p)
     pub faults : IfErr result IsStoreFault

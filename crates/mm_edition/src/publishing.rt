@@ -28,8 +28,8 @@ use sqlite::{Alter, Transaction, params};
 /// No open edition has a piece of this number, so publishing comes to its end there at the latest.
 const PAST_THE_LAST: u32 = MOST_PIECES + 1;
 
-/// Does what the pieces of an edition say, in rising number, to the first that is refused, which is told with its number
-/// and its refusal. One piece is held at a time. `last_change` is the stamp of the moment.
+/// Does what the pieces of an edition say, in rising number, to the first that is refused, which is told with its
+/// number and its refusal. One piece is held at a time. `last_change` is the stamp of the moment.
 pub(crate) fn try_pieces<S: Alter>(
     tx: &mut Transaction<'_, S>,
     edition: &Name,
@@ -97,10 +97,11 @@ fn close_edition<S: Alter>(tx: &mut Transaction<'_, S>, edition: &str) -> Result
     delete_pieces(tx, edition)
 }
 
-/// The command `publish`: does all pieces of an open edition in rising number, each by its conditions on what the earlier
-/// ones gave, and publishes the edition, which then holds no pieces. `last_change` is the stamp of the moment, which becomes the
-/// last_change of each table that a piece changes. Refused 51 where no edition has the name, 55 where it is published, and
-/// 53 with the number and the refusal of the first piece that is refused; the caller rolls the transaction back then.
+/// The command `publish`: does all pieces of an open edition in rising number, each by its conditions on what the
+/// earlier ones gave, and publishes the edition, which then holds no pieces. `last_change` is the stamp of the moment,
+/// which becomes the last_change of each table that a piece changes. Refused 51 where no edition has the name, 55 where
+/// it is published, and 53 with the number and the refusal of the first piece that is refused; the caller rolls the
+/// transaction back then.
 pub fn publish<S: Alter>(
     tx: &mut Transaction<'_, S>,
     edition: &Name,

@@ -12,8 +12,8 @@ use mm_definitions::answers::{Fault, Outcome};
 use mm_definitions::names::Name;
 use sqlite::{Alter, Connection};
 
-/// The command `rehearse`: answers what `publish` would, and changes nothing, since the transaction that it publishes in is
-/// rolled back. `last_change` is the stamp of any moment.
+/// The command `rehearse`: answers what `publish` would, and changes nothing, since the transaction that it publishes
+/// in is rolled back. `last_change` is the stamp of any moment.
 pub fn rehearse<S: Alter>(
     conn: &mut Connection<S>,
     edition: &Name,

@@ -29,7 +29,8 @@ pub(crate) enum Turn {
     Refused(u8),
 }
 
-/// Puts or removes the tile of the piece of a number. One that is put names the piece's blob. `last_change` is the stamp of the moment.
+/// Puts or removes the tile of the piece of a number. One that is put names the piece's blob. `last_change` is the
+/// stamp of the moment.
 fn run_tile<S: Alter>(
     tx: &mut Transaction<'_, S>,
     edition: &Name,
@@ -79,8 +80,8 @@ fn run_tile<S: Alter>(
     }
 }
 
-/// Puts or removes the attribute row or medium of the piece of a number. A medium that is put names the piece's blob. `last_change` is
-/// the stamp of the moment.
+/// Puts or removes the attribute row or medium of the piece of a number. A medium that is put names the piece's blob.
+/// `last_change` is the stamp of the moment.
 fn run_item<S: Alter>(
     tx: &mut Transaction<'_, S>,
     edition: &Name,

@@ -40,7 +40,8 @@ module _ {D : Type 0} {g : Ghosts D} where
   clean_by it clean = clean
 
   -- what a crash of its two files may leave is what it may leave
-  left_by : (it : FileStore D g) (image : Image) → AreClean g (file.files it).0 (file.files it).1 → outcomes g (file.files it).0 (file.files it).1 image → (file.state it).may_leave image
+  left_by : (it : FileStore D g) (image : Image) → AreClean g (file.files it).0 (file.files it).1
+      → outcomes g (file.files it).0 (file.files it).1 image → (file.state it).may_leave image
   unfolding pool.state pool.files
   left_by it image clean may = (clean, may)
 
@@ -71,7 +72,8 @@ module _ {D : Type 0} {g : Ghosts D} where
   }
 
 module _ {D Done : Type 0} {g : Ghosts D} {tells : Trees → Written → Written → Done → Type 0} {leaves : Trees → Trees → Written → Written → Done → Type 0} {old new : Written} (before after : State) where
-  pub worked_on : (closes closed : Bool) (files : Files D) (done : Done) → closed ≡ closes → KeepsLeft g after closed files → (HasCleanDisk after → HasCleanDisk before)
+  pub worked_on : (closes closed : Bool) (files : Files D) (done : Done) → closed ≡ closes → KeepsLeft g after closed files
+      → (HasCleanDisk after → HasCleanDisk before)
       → (HasCleanDisk after → tells before.committed.trees old new done)
       → (HasCleanDisk after → (db : Trees) → after.may_leave db → leaves before.committed.trees db old new done)
       → WorkedOn g tells leaves closes old new files done before

@@ -24,7 +24,8 @@ abbrev pub of_kind : Bool → Bool → Reasons → Option ℕ
 of_kind stands suited rest = least ((25, not stands) ∷ (26, stands && not suited) ∷ rest)
 
 -- a table that is refused for its kind is refused so whatever else is asked
-pub kind_first : (stands suited : Bool) (rest : Reasons) (n : ℕ) → list_all (λ r. nat_le 25 r.0) rest ≡ true → list_all (λ r. nat_le 26 r.0) rest ≡ true → Some n ≡ of_kind stands suited [] → Some n ≡ of_kind stands suited rest
+pub kind_first : (stands suited : Bool) (rest : Reasons) (n : ℕ) → list_all (λ r. nat_le 25 r.0) rest ≡ true
+    → list_all (λ r. nat_le 26 r.0) rest ≡ true → Some n ≡ of_kind stands suited [] → Some n ≡ of_kind stands suited rest
 kind_first false suited rest n h k e = e ∙ sym (first_of 25 ((26, false) ∷ rest) h)
 kind_first true false rest n h k e = e ∙ sym (first_of 26 rest k)
 kind_first true true rest n h k e = absurd (let f : ◌≡◌ {A = Option ℕ} (Some n) None = e in cc)
@@ -52,16 +53,20 @@ module _ (p : Package) (table : Text) where
       abbrev pub pyramid_by : Option Text → Bool
       pyramid_by v = at_value (same_text (kind_text kinds.Two)) v || at_value (same_text (kind_text kinds.Other)) v
 
-      pub plain_26 : (asked : PlainKind) → same_text (kind_text (plain_kind asked)) (kind_text kind) ≡ false → Some 26 ≡ of_kind (contains_key p.contents table) (has_kind p.kinds table (plain_kind asked)) []
+      pub plain_26 : (asked : PlainKind) → same_text (kind_text (plain_kind asked)) (kind_text kind) ≡ false
+          → Some 26 ≡ of_kind (contains_key p.contents table) (has_kind p.kinds table (plain_kind asked)) []
       plain_26 asked off = sym (kind_told (has_kind p.kinds table (plain_kind asked)) ∙ ap (λ b. of_kind true b []) (ap (at_value (same_text (kind_text (plain_kind asked)))) has ∙ off))
 
-      pub plain_free : (asked : PlainKind) → same_text (kind_text (plain_kind asked)) (kind_text kind) ≡ true → None ≡ of_kind (contains_key p.contents table) (has_kind p.kinds table (plain_kind asked)) []
+      pub plain_free : (asked : PlainKind) → same_text (kind_text (plain_kind asked)) (kind_text kind) ≡ true
+          → None ≡ of_kind (contains_key p.contents table) (has_kind p.kinds table (plain_kind asked)) []
       plain_free asked on = sym (kind_told (has_kind p.kinds table (plain_kind asked)) ∙ ap (λ b. of_kind true b []) (ap (at_value (same_text (kind_text (plain_kind asked)))) has ∙ on))
 
-      pub pyramid_26 : (same_text (kind_text kinds.Two) (kind_text kind) || same_text (kind_text kinds.Other) (kind_text kind)) ≡ false → Some 26 ≡ of_kind (contains_key p.contents table) (is_pyramid p.kinds table) []
+      pub pyramid_26 : (same_text (kind_text kinds.Two) (kind_text kind) || same_text (kind_text kinds.Other) (kind_text kind)) ≡ false
+          → Some 26 ≡ of_kind (contains_key p.contents table) (is_pyramid p.kinds table) []
       pyramid_26 off = sym (kind_told (is_pyramid p.kinds table) ∙ ap (λ b. of_kind true b []) (ap pyramid_by has ∙ off))
 
-      pub pyramid_free : (same_text (kind_text kinds.Two) (kind_text kind) || same_text (kind_text kinds.Other) (kind_text kind)) ≡ true → None ≡ of_kind (contains_key p.contents table) (is_pyramid p.kinds table) []
+      pub pyramid_free : (same_text (kind_text kinds.Two) (kind_text kind) || same_text (kind_text kinds.Other) (kind_text kind)) ≡ true
+          → None ≡ of_kind (contains_key p.contents table) (is_pyramid p.kinds table) []
       pyramid_free on = sym (kind_told (is_pyramid p.kinds table) ∙ ap (λ b. of_kind true b []) (ap pyramid_by has ∙ on))
 
 -- ---- tiles
@@ -101,7 +106,8 @@ module _ (p : Package) (table : Text) (zoom column row : ℕ) where
           unmapped (Some g) e = absurd (let f : ◌≡◌ {A = Option (ℤ × ℤ)} (Some (sides g)) None = e in cc)
 
       module _ (width height : ℤ) (has : option_map sides (get p.matrices (level table (pos zoom))) ≡ Some (width, height)) where
-        grid_there : (o : Option Grid) → option_map sides o ≡ Some (width, height) → (g : Grid) × (o ≡ Some g) × (g.matrix_width ≡ width) × (g.matrix_height ≡ height)
+        grid_there : (o : Option Grid) → option_map sides o ≡ Some (width, height)
+            → (g : Grid) × (o ≡ Some g) × (g.matrix_width ≡ width) × (g.matrix_height ≡ height)
         grid_there None e = absurd cc
         grid_there (Some g) e = let same : sides g ≡ (width, height) = cc in (g, refl, ap (λ (q : ℤ × ℤ). q.0) same, ap (λ (q : ℤ × ℤ). q.1) same)
 

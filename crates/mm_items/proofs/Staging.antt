@@ -39,7 +39,8 @@ abbrev pub TellsBlob : Text → ℕ → Shelf → Package → Option ℤ → Typ
 TellsBlob edition number shelf p None = ⊤
 TellsBlob edition number shelf p (Some id) = (bytes : List ℕ) → HasBytes edition number bytes p → bytes_at shelf id ≡ Some bytes
 
-stands_at : (shelf : Shelf) (r : StagedRow) (v : PieceRow) (id : ℤ) (bytes : List ℕ) → Told piece_id piece_with shelf (Some r) (Some v) → r.blob ≡ Some id → v.bytes ≡ bytes → bytes_at shelf id ≡ Some bytes
+stands_at : (shelf : Shelf) (r : StagedRow) (v : PieceRow) (id : ℤ) (bytes : List ℕ) → Told piece_id piece_with shelf (Some r) (Some v)
+    → r.blob ≡ Some id → v.bytes ≡ bytes → bytes_at shelf id ≡ Some bytes
 stands_at shelf r v id bytes told is same =
     let told_bytes : v.bytes ≡ told.0 = ap (λ (w : PieceRow). w.bytes) (same_some told.2) in
     subst (λ o. StandsAt shelf o told.0) is told.1 ∙ ap Some (sym told_bytes ∙ same)
@@ -49,7 +50,8 @@ module _ (rows : List Row) (ids : FinMap piece_cmp StagedRow) (h : Holds past_ro
   abbrev key : PieceKey
   key = piece edition (pos number)
 
-  pub blob_told : (answer : Option ℤ) (first : Option Row) → GivesNumber answer first → Finds (by_piece key) (shows (col 1 14 ∷ []) params) rows first → TellsBlob edition number shelf p answer
+  pub blob_told : (answer : Option ℤ) (first : Option Row) → GivesNumber answer first → Finds (by_piece key) (shows (col 1 14 ∷ []) params) rows first
+      → TellsBlob edition number shelf p answer
   blob_told None first gives found = tt
   blob_told (Some id) first gives found = λ bytes has.
       let at = finds_some parts.pieces rows ids h key (shows (col 1 14 ∷ []) params) gives.0 (subst (Finds (by_piece key) (shows (col 1 14 ∷ []) params) rows) gives.1 found) in
@@ -68,7 +70,8 @@ failed_where profile old new When next e one = record {
 
 -- a query whose answer is no blob, or a fault
 pub asked_in_vain : (profile : Profile) (spare : Spare) {T U : Type 0} {Gives : T → Option Row → Type 0} {After : Ground → View → U → View → Type 0} (When : Package → Type 0) (old new : State) (sql : List ℕ) (given : Row) (result : Result T Fault)
-    → IsAsked old new sql given Gives result → (e : Fault) → IsStoreFault e → IsMove old new (λ base x. IsSeen spare profile old base x × When x.content) After (Err e)
+    → IsAsked old new sql given Gives result → (e : Fault) → IsStoreFault e
+    → IsMove old new (λ base x. IsSeen spare profile old base x × When x.content) After (Err e)
 asked_in_vain profile spare When old new sql given result asked e fault = record {
   survives = asked.survives;
   on = λ clean base x it. asked.on clean it.0.mode base it.0.back;

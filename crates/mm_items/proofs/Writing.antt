@@ -26,7 +26,8 @@ abbrev pub HasDone : Profile → State → (Package → Package) → {T : Type 0
 HasDone profile now next base x t y = (y.content ≡ next x.content) × IsSeen no_spare profile now base y
 
 -- once the entry names the blob that was kept, only the one that it named before may be spared
-pub named_seen : (profile : Profile) (now : State) (base : Ground) (x : View) (stands : Option ℤ) (id : ℤ) → IsSeen (spare_freed stands (spare_but id (spare_too id no_spare))) profile now base x → IsSeen (spare_freed stands no_spare) profile now base x
+pub named_seen : (profile : Profile) (now : State) (base : Ground) (x : View) (stands : Option ℤ) (id : ℤ)
+    → IsSeen (spare_freed stands (spare_but id (spare_too id no_spare))) profile now base x → IsSeen (spare_freed stands no_spare) profile now base x
 named_seen profile now base x stands id =
     seen_looser (spare_freed stands (spare_but id (spare_too id no_spare))) (spare_freed stands no_spare) profile now base x (freed_looser stands (spare_but id (spare_too id no_spare)) no_spare (named_again no_spare id))
 

@@ -118,9 +118,9 @@ fn write_medium<S: Alter>(
     give_medium(tx, table, id, content_type, blob)
 }
 
-/// The command `media`: puts a medium of a media table, in place of the one that has its id if there is one. `last_change` is the
-/// stamp of the moment, which becomes the last_change of the table. Refused 25 where no table has the name, 26 where it is
-/// no media table. (Media.)
+/// The command `media`: puts a medium of a media table, in place of the one that has its id if there is one.
+/// `last_change` is the stamp of the moment, which becomes the last_change of the table. Refused 25 where no table has
+/// the name, 26 where it is no media table. (Media.)
 pub fn put_media<S: Alter>(
     tx: &mut Transaction<'_, S>,
     table: &Name,
@@ -189,9 +189,9 @@ fn medium_drop_refusal<S: Alter>(
     }
 }
 
-/// The command `media-drop`: removes a medium of a media table. `last_change` is the stamp of the moment, which becomes the
-/// last_change of the table. Refused 25 where no table has the name, 26 where it is no media table, 41 where it has no
-/// medium of the id, 42 where a mapping row has the medium as an end. (Media; User Defined Mapping Tables.)
+/// The command `media-drop`: removes a medium of a media table. `last_change` is the stamp of the moment, which becomes
+/// the last_change of the table. Refused 25 where no table has the name, 26 where it is no media table, 41 where it has
+/// no medium of the id, 42 where a mapping row has the medium as an end. (Media; User Defined Mapping Tables.)
 pub fn drop_media<S: Alter>(
     tx: &mut Transaction<'_, S>,
     table: &Name,

@@ -85,9 +85,9 @@ fn write_row<S: Alter>(
     }
 }
 
-/// The command `row`: puts a row of an attribute table, in place of the one that has its id if there is one. `last_change` is the
-/// stamp of the moment, which becomes the last_change of the table. Refused 25 where no table has the name, 26 where it is
-/// no attribute table. (Attributes.)
+/// The command `row`: puts a row of an attribute table, in place of the one that has its id if there is one.
+/// `last_change` is the stamp of the moment, which becomes the last_change of the table. Refused 25 where no table has
+/// the name, 26 where it is no attribute table. (Attributes.)
 pub fn put_row<S: Alter>(
     tx: &mut Transaction<'_, S>,
     table: &Name,
@@ -143,9 +143,9 @@ fn row_drop_refusal<S: Alter>(
     }
 }
 
-/// The command `row-drop`: removes a row of an attribute table. `last_change` is the stamp of the moment, which becomes the
-/// last_change of the table. Refused 25 where no table has the name, 26 where it is no attribute table, 40 where it has no
-/// row of the id, 42 where a mapping row has the row as an end. (Attributes; User Defined Mapping Tables.)
+/// The command `row-drop`: removes a row of an attribute table. `last_change` is the stamp of the moment, which becomes
+/// the last_change of the table. Refused 25 where no table has the name, 26 where it is no attribute table, 40 where it
+/// has no row of the id, 42 where a mapping row has the row as an end. (Attributes; User Defined Mapping Tables.)
 pub fn drop_row<S: Alter>(
     tx: &mut Transaction<'_, S>,
     table: &Name,

@@ -199,10 +199,10 @@ pub(crate) fn tile_refusal<S: Alter>(
     }
 }
 
-/// The command `tile`: puts the bytes of a tile of a pyramid, in place of those that stand at its zoom, column and row if
-/// there are any. `last_change` is the stamp of the moment, which becomes the last_change of the pyramid. Refused 25 where no table
-/// has the name, 26 where it is no pyramid, 33 where the zoom has no matrix, 34 where the column or the row is outside the
-/// matrix. (Tile Matrix; Tile Pyramid User Data Tables.)
+/// The command `tile`: puts the bytes of a tile of a pyramid, in place of those that stand at its zoom, column and row
+/// if there are any. `last_change` is the stamp of the moment, which becomes the last_change of the pyramid. Refused 25
+/// where no table has the name, 26 where it is no pyramid, 33 where the zoom has no matrix, 34 where the column or the
+/// row is outside the matrix. (Tile Matrix; Tile Pyramid User Data Tables.)
 pub fn put_tile<S: Alter>(
     tx: &mut Transaction<'_, S>,
     table: &Name,
@@ -242,9 +242,9 @@ fn tile_drop_refusal<S: Alter>(
     }
 }
 
-/// The command `tile-drop`: removes a tile of a pyramid. `last_change` is the stamp of the moment, which becomes the last_change of
-/// the pyramid. Refused 25 where no table has the name, 26 where it is no pyramid, 35 where no tile stands at the zoom, the
-/// column and the row. (Tile Pyramid User Data Tables.)
+/// The command `tile-drop`: removes a tile of a pyramid. `last_change` is the stamp of the moment, which becomes the
+/// last_change of the pyramid. Refused 25 where no table has the name, 26 where it is no pyramid, 35 where no tile
+/// stands at the zoom, the column and the row. (Tile Pyramid User Data Tables.)
 pub fn drop_tile<S: Alter>(
     tx: &mut Transaction<'_, S>,
     table: &Name,

@@ -19,7 +19,8 @@ module _ (p : Package) (name : Text) (meets : Meets current p) (n : ℕ) (number
   in_range m h = (omega (arith, ints), omega (arith, ints, h))
 
   -- the first pieces, as many as are asked for
-  first_pieces : (m : ℕ) → m ≤ n → (list : List Piece) × (length list ≡ m) × ((i : ℕ) (q : Piece) → numbered list i ≡ Some q → get p.pieces (piece name (pos i)) ≡ Some (piece_row q))
+  first_pieces : (m : ℕ) → m ≤ n
+      → (list : List Piece) × (length list ≡ m) × ((i : ℕ) (q : Piece) → numbered list i ≡ Some q → get p.pieces (piece name (pos i)) ≡ Some (piece_row q))
   unfolding numbered
   first_pieces zero h = ([], refl, λ i q e. absurd (let f : ◌≡◌ {A = Option Piece} None (Some q) = e in cc))
   first_pieces (suc m) h =
@@ -35,7 +36,8 @@ module _ (p : Package) (name : Text) (meets : Meets current p) (n : ℕ) (number
       )
 
 -- an open edition has its pieces, as many as the read tells
-pub open_has : (p : Package) (name : Text) (count : ℕ) → Meets current p → get p.editions name ≡ Some open_state → piece_count p name ≡ count → (list : List Piece) × HasPieces p name list × (length list ≡ count)
+pub open_has : (p : Package) (name : Text) (count : ℕ) → Meets current p → get p.editions name ≡ Some open_state → piece_count p name ≡ count
+    → (list : List Piece) × HasPieces p name list × (length list ≡ count)
 open_has p name count meets open_is is =
     let it = meets.q15.numbered name open_is in
     let (list, size, each) = first_pieces p name meets it.0 it.2 it.0 (omega arith) in

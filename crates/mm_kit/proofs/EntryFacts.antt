@@ -43,7 +43,8 @@ module _ (place : ℕ) (word : Text) (r : Record) where
   Held = HoldsAgainstEntry place (word ∷ r)
 
   -- a number that is low enough and below those against the number and the piece is below all
-  below_all : (n : ℕ) → n ≤ 54 → ((m : ℕ) → IsAgainst id_field word m → n ≤ m) → ((m : ℕ) → HoldsAgainstPiece current (without_file r) m → n ≤ m) → (m : ℕ) → Held m → n ≤ m
+  below_all : (n : ℕ) → n ≤ 54 → ((m : ℕ) → IsAgainst id_field word m → n ≤ m) → ((m : ℕ) → HoldsAgainstPiece current (without_file r) m → n ≤ m)
+      → (m : ℕ) → Held m → n ≤ m
   below_all n low one two m (inl h) = one m h
   below_all n low one two m (inr (inl h)) = two m h
   below_all n low one two m (inr (inr (inl h))) = omega (arith, low, h.0)
@@ -111,13 +112,15 @@ module _ (place : ℕ) (word : Text) (r : Record) where
   }
 
   -- whose number is refused
-  pub number_refused : (n : ℕ) (piece : Result Piece ReadFault) → IsAgainst id_field word n → ReadsTo (SpellsPiece current (without_file r)) (IsLeast (HoldsAgainstPiece current (without_file r))) piece
+  pub number_refused : (n : ℕ) (piece : Result Piece ReadFault) → IsAgainst id_field word n
+      → ReadsTo (SpellsPiece current (without_file r)) (IsLeast (HoldsAgainstPiece current (without_file r))) piece
       → ReadsTo {A = Entry} (IsEntry place (word ∷ r)) (IsLeast Held) (Err (least_fault n piece))
   number_refused n (Ok q) h reads = (refl, number_alone n q h reads)
   number_refused n (Err faults.Memory) h reads = tt
   number_refused n (Err (faults.Refused why)) h reads = by (nat_lt why.number n) refl
     where
-      by : (b : Bool) → nat_lt why.number n ≡ b → ReadsTo {A = Entry} (IsEntry place (word ∷ r)) (IsLeast Held) (Err (if b then faults.Refused why else refused n))
+      by : (b : Bool) → nat_lt why.number n ≡ b
+          → ReadsTo {A = Entry} (IsEntry place (word ∷ r)) (IsLeast Held) (Err (if b then faults.Refused why else refused n))
       by true e = (reads.0, piece_first n why.number h reads.1 (lower (ltb-true why.number n e)))
         where
           lower : {a b : ℕ} → a < b → a ≤ b
@@ -126,7 +129,9 @@ module _ (place : ℕ) (word : Text) (r : Record) where
 
   -- whose number is read
   module _ (z : ℤ) (spells : SpellsNumber word z) (low : pos 1 ≤ℤ z) (high : z ≤ℤ pos 9007199254740992) where
-    pub piece_refused : (fault : ReadFault) → ReadsTo (SpellsPiece current (without_file r)) (IsLeast (HoldsAgainstPiece current (without_file r))) (Err fault) → ReadsTo {A = Entry} (IsEntry place (word ∷ r)) (IsLeast Held) (Err fault)
+    pub piece_refused : (fault : ReadFault)
+        → ReadsTo (SpellsPiece current (without_file r)) (IsLeast (HoldsAgainstPiece current (without_file r))) (Err fault)
+        → ReadsTo {A = Entry} (IsEntry place (word ∷ r)) (IsLeast Held) (Err fault)
     piece_refused faults.Memory reads = tt
     piece_refused (faults.Refused why) reads = (reads.0, piece_alone z spells low high why.number reads.1)
 
@@ -135,6 +140,7 @@ empty_ten place = record { is_held = refl; is_least = λ m e. omega (arith, e) }
 
 -- the fields behind the first are the record of the piece
 pub entry_whole : (place : ℕ) (xs items : List (Bor Text)) (r : Result Entry ReadFault) → 1 ≤ length xs → items ≡ rest_of xs
-    → ReadsTo (IsEntry place (text_at xs 0 ∷ texts_of items)) (IsLeast (HoldsAgainstEntry place (text_at xs 0 ∷ texts_of items))) r → ReadsTo (IsEntry place (texts_of xs)) (IsLeast (HoldsAgainstEntry place (texts_of xs))) r
+    → ReadsTo (IsEntry place (text_at xs 0 ∷ texts_of items)) (IsLeast (HoldsAgainstEntry place (text_at xs 0 ∷ texts_of items))) r
+    → ReadsTo (IsEntry place (texts_of xs)) (IsLeast (HoldsAgainstEntry place (texts_of xs))) r
 entry_whole place xs items r some is h =
     subst (λ ts. ReadsTo (IsEntry place ts) (IsLeast (HoldsAgainstEntry place ts)) r) (ap (λ l. text_at xs 0 ∷ texts_of l) is ∙ sym (first_and_rest xs some)) h

@@ -59,14 +59,16 @@ folder_no_92 Failed n is e = absurd (omega (arith, is))
 -- ---- what is told of an editor that has failed
 
 -- one that answers how an edition stands has not
-pub works : {T : Type 0} {W : Type 0} (failed : Bool) (found : T) → (failed ≡ true → ◌≡◌ {A = Result T Fault} (Ok found) (Err (record { 0 = 92 })) × W) → failed ≡ false
+pub works : {T : Type 0} {W : Type 0} (failed : Bool) (found : T)
+    → (failed ≡ true → ◌≡◌ {A = Result T Fault} (Ok found) (Err (record { 0 = 92 })) × W) → failed ≡ false
 works true found ended = absurd (let e = (ended refl).0 in cc)
 works false found ended = refl
 
 pub asked-tells : (before failed : Bool) (same : Type 0) → before ≡ false → failed ≡ before → (failed ≡ before) × (before ≡ true → same)
 asked-tells before failed same is stays = (stays, λ was. absurd (let e : false ≡ true = sym is ∙ was in cc))
 
-pub staged-tells : (r : Result Staged KitFault) (before failed : Bool) (same : Type 0) → before ≡ false → IfOk r (λ a. failed ≡ false) → IfErr r (λ e. (e.fault.0 ≢ 92) × (e.fault.0 ≡ 96 → failed ≡ false))
+pub staged-tells : (r : Result Staged KitFault) (before failed : Bool) (same : Type 0) → before ≡ false → IfOk r (λ a. failed ≡ false)
+    → IfErr r (λ e. (e.fault.0 ≢ 92) × (e.fault.0 ≡ 96 → failed ≡ false))
     → ImportTellsReopening before failed same r
 staged-tells (Ok a) before failed same is working fault = asked-tells before failed same is (working ∙ sym is)
 staged-tells (Err e) before failed same is working fault =
@@ -74,7 +76,8 @@ staged-tells (Err e) before failed same is working fault =
 
 -- a fault of telling how an edition stands: 92 where the editor has failed, and else 90 or 91
 module _ {T : Type 0} (fault : Fault) (same : Type 0) where
-  pub asked_fault : (before : Bool) → (before ≡ true → ◌≡◌ {A = Result T Fault} (Err fault) (Err (record { 0 = 92 })) × same) → (before ≡ false → (fault.0 ≡ 90) ⊎ (fault.0 ≡ 91)) → IsApplyFault fault.0
+  pub asked_fault : (before : Bool) → (before ≡ true → ◌≡◌ {A = Result T Fault} (Err fault) (Err (record { 0 = 92 })) × same)
+      → (before ≡ false → (fault.0 ≡ 90) ⊎ (fault.0 ≡ 91)) → IsApplyFault fault.0
   asked_fault true ended faults = let number : fault ≡ record { 0 = 92 } = cc ((ended refl).0) in inr (inr (ap (λ (x : Fault). x.0) number))
   asked_fault false ended faults = elim (faults refl) [ inl e ↦ inl e | inr e ↦ inr (inl e) ]
 
@@ -82,14 +85,16 @@ module _ {T : Type 0} (fault : Fault) (same : Type 0) where
       → ◌≡◌ {A = Result Staged KitFault} (Err (record { fault = fault; staged = 0 })) (Err (record { fault = record { 0 = 92 }; staged = 0 }))
   asked-ended before ended was = let number : fault ≡ record { 0 = 92 } = cc ((ended was).0) in ap (λ (f : Fault). Err (record { fault = f; staged = 0 })) number
 
-  pub fails-tells : (before failed : Bool) → (before ≡ true → ◌≡◌ {A = Result T Fault} (Err fault) (Err (record { 0 = 92 })) × same) → (before ≡ false → (fault.0 ≡ 90) ⊎ (fault.0 ≡ 91))
+  pub fails-tells : (before failed : Bool) → (before ≡ true → ◌≡◌ {A = Result T Fault} (Err fault) (Err (record { 0 = 92 })) × same)
+      → (before ≡ false → (fault.0 ≡ 90) ⊎ (fault.0 ≡ 91))
       → failed ≡ before → ImportTellsReopening before failed same (Err (record { fault = fault; staged = 0 }))
   fails-tells true failed ended faults stays = (λ q. refl, λ q. stays, λ was. ((ended refl).1, refl))
   fails-tells false failed ended faults stays =
       (λ q. absurd (elim (faults refl) [ inl e ↦ omega arith | inr e ↦ omega arith ]), λ q. stays, λ was. absurd (let e : false ≡ true = was in cc))
 
 -- a fault of the folder before anything is asked
-pub folder-tells : (fault : FolderFault) (f : Fault) → f.0 ≡ fault_number fault → (failed : Bool) (same : Type 0) → same → ImportTellsReopening failed failed same (Err (record { fault = f; staged = 0 }))
+pub folder-tells : (fault : FolderFault) (f : Fault) → f.0 ≡ fault_number fault → (failed : Bool) (same : Type 0) → same
+    → ImportTellsReopening failed failed same (Err (record { fault = f; staged = 0 }))
 folder-tells fault f is failed same here = (λ q. absurd (folder_no_92 fault f.0 is q), λ q. refl, λ was. (here, refl))
 
 -- ---- an import on an editor that has failed
@@ -102,6 +107,7 @@ pub where_told : (told : Option Files) (P : Files → Type 0) → ((files : File
 where_told None P h = tt
 where_told (Some files) P h = h files refl
 
-pub folder-ended : (fault : FolderFault) (f : Fault) (told : Option Files) → f.0 ≡ fault_number fault → ImportEnded told (Err (record { fault = f; staged = 0 }))
+pub folder-ended : (fault : FolderFault) (f : Fault) (told : Option Files) → f.0 ≡ fault_number fault
+    → ImportEnded told (Err (record { fault = f; staged = 0 }))
 folder-ended Memory f told is = (refl, inl is)
 folder-ended Failed f told is = (refl, inr (inl is))

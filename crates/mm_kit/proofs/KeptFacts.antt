@@ -64,19 +64,22 @@ module _ (name : Text) (p q : Package) (old : List Piece) (meets : Meets current
   pub passed_by-more : k < 4096 → IsPassedBy k name p old q → refusal q c ≡ None → (moment : ℕ) → IsPassedBy (k + 1) name p old (step q c moment)
   passed_by-more less (new, has, long, front, same) free moment = by (leb_tells (k + 1) (length new))
     where
-      by : ((leb (k + 1) (length new) ≡ true) × (k + 1 ≤ length new)) ⊎ ((leb (k + 1) (length new) ≡ false) × (length new < k + 1)) → IsPassedBy (k + 1) name p old (step q c moment)
+      by : ((leb (k + 1) (length new) ≡ true) × (k + 1 ≤ length new)) ⊎ ((leb (k + 1) (length new) ≡ false) × (length new < k + 1))
+          → IsPassedBy (k + 1) name p old (step q c moment)
       by (inl s) = there new has s.1 front same free moment
       by (inr s) = at_end new has (omega (arith, s.1, long)) less front same moment
 
   -- one that is in doubt
-  pub kept_in_doubt : {D : Type 0} (stands_for : D → Package → Type 0) (db : D) → HasPieces p name old → k < 4096 → IsPassedBy k name p old q → (moment : ℕ) → Meets current (step q c moment)
+  pub kept_in_doubt : {D : Type 0} (stands_for : D → Package → Type 0) (db : D) → HasPieces p name old → k < 4096 → IsPassedBy k name p old q
+      → (moment : ℕ) → Meets current (step q c moment)
       → stands_for db q ⊎ ((refusal q c ≡ None) × stands_for db (step q c moment)) → (r : Package) × stands_for db r × Meets current r × KeepsOthers name p r
   kept_in_doubt stands_for db before less passed moment next (inl stands) = (q, stands, meets, kept k name p old q before passed)
   kept_in_doubt stands_for db before less passed moment next (inr (free, stands)) =
       (step q c moment, stands, next, kept (k + 1) name p old (step q c moment) before (passed_by-more less passed free moment))
 
 -- an entry was staged
-pub passed-staged : {D : Type 0} (shows : Shown D) (told : Option Files) (e : Entry) (name : Text) (p q : Package) (old : List Piece) (k : ℕ) → Meets current q → k < 4096 → IsPassedBy k name p old q → (moment : ℕ)
+pub passed-staged : {D : Type 0} (shows : Shown D) (told : Option Files) (e : Entry) (name : Text) (p q : Package) (old : List Piece) (k : ℕ)
+    → Meets current q → k < 4096 → IsPassedBy k name p old q → (moment : ℕ)
     → IsEntryStaged told e name (k + 1) q moment shows (Ok None) → (r : Package) × IsSound shows.settled r × IsPassedBy (k + 1) name p old r
 passed-staged shows told e name p q old k meets less passed moment (x, it, good, goes) =
     (step q (commands.Stage name (pos (k + 1)) x) moment, goes, passed_by-more name p q old meets x k less passed good moment)

@@ -48,7 +48,8 @@ some_edition p name meets = by (get p.editions name) refl
     ]
 
 module _ (files : Files) (name : Text) (p : Package) where
-  pub imported : (entries : List Entry) (a : Staged) (settled : Package → Type 0) → IsKitList files (Ok entries) → AreImported files name entries p settled a → IsImportAnswered files name p settled a
+  pub imported : (entries : List Entry) (a : Staged) (settled : Package → Type 0) → IsKitList files (Ok entries)
+      → AreImported files name entries p settled a → IsImportAnswered files name p settled a
   imported entries a settled read it = record {
     list = Ok entries;
     read = read;
@@ -62,7 +63,8 @@ module _ (files : Files) (name : Text) (p : Package) where
   }
 
   -- a list that is refused
-  pub no_kit : (place number : ℕ) (settled : Package → Type 0) → IsKitList files (Err (place, number)) → IsSound settled p → IsImportAnswered files name p settled (Refused place number)
+  pub no_kit : (place number : ℕ) (settled : Package → Type 0) → IsKitList files (Err (place, number)) → IsSound settled p
+      → IsImportAnswered files name p settled (Refused place number)
   no_kit place number settled read sound =
       let it = some_edition p name sound.1 in
       record {
@@ -81,24 +83,29 @@ module _ (files : Files) (name : Text) (p : Package) where
   along list read q (inl same) = inl same
   along list read q (inr grown) = inr (list, read, grown)
 
-  pub stopped_some : {D : Type 0} (entries : List Entry) (may_leave : D → Type 0) (stands_for : D → Package → Type 0) (s : ℕ) → IsKitList files (Ok entries) → MayBeStaged files name entries p may_leave stands_for s
+  pub stopped_some : {D : Type 0} (entries : List Entry) (may_leave : D → Type 0) (stands_for : D → Package → Type 0) (s : ℕ)
+      → IsKitList files (Ok entries) → MayBeStaged files name entries p may_leave stands_for s
       → IsImportStopped files name p may_leave stands_for s
   stopped_some entries may_leave stands_for s read left db may =
       let (q, stands, meets, grows, counted) = left db may in
       (q, stands, meets, along (Ok entries) read q grows, counted)
 
-  pub works_some : (entries : List Entry) (settled : Package → Type 0) (s : ℕ) → IsKitList files (Ok entries) → AreStagedOn files name entries p settled s → ImportWorksOn files name p settled s
+  pub works_some : (entries : List Entry) (settled : Package → Type 0) (s : ℕ) → IsKitList files (Ok entries)
+      → AreStagedOn files name entries p settled s → ImportWorksOn files name p settled s
   works_some entries settled s read (q, sound, grows, counted) = (q, sound, along (Ok entries) read q grows, counted)
 
-  pub stopped_at_once : {D : Type 0} (may_leave : D → Type 0) (stands_for : D → Package → Type 0) → Meets current p → ((db : D) → may_leave db → stands_for db p) → IsImportStopped files name p may_leave stands_for 0
+  pub stopped_at_once : {D : Type 0} (may_leave : D → Type 0) (stands_for : D → Package → Type 0) → Meets current p
+      → ((db : D) → may_leave db → stands_for db p) → IsImportStopped files name p may_leave stands_for 0
   stopped_at_once may_leave stands_for meets left db may = (p, left db may, meets, inl refl, as_it_was name p)
 
-  pub staged_at_once : {D : Type 0} (entries : List Entry) (may_leave : D → Type 0) (stands_for : D → Package → Type 0) → Meets current p → ((db : D) → may_leave db → stands_for db p) → MayBeStaged files name entries p may_leave stands_for 0
+  pub staged_at_once : {D : Type 0} (entries : List Entry) (may_leave : D → Type 0) (stands_for : D → Package → Type 0) → Meets current p
+      → ((db : D) → may_leave db → stands_for db p) → MayBeStaged files name entries p may_leave stands_for 0
   staged_at_once entries may_leave stands_for meets left db may = (p, left db may, meets, inl refl, as_it_was name p)
 
   -- ---- the import of the entries, by how the edition stands
   module _ (entries : List Entry) (settled : Package → Type 0) where
-    at_once : (place number : ℕ) (edition : Option Edition) → IsEdition p name edition → IsSound settled p → Refused place number ≡ edition_answer files entries edition → ((number ≡ 57) ⊎ (number ≡ 11) → ⊥)
+    at_once : (place number : ℕ) (edition : Option Edition) → IsEdition p name edition → IsSound settled p
+        → Refused place number ≡ edition_answer files entries edition → ((number ≡ 57) ⊎ (number ≡ 11) → ⊥)
         → AreImported files name entries p settled (Refused place number)
     at_once place number edition stands sound is other = record { edition = edition; stands = stands; answer_is = is; next = p; sound = sound; grows = inl refl; has = λ why. absurd (other why) }
 
@@ -108,12 +115,14 @@ module _ (files : Files) (name : Text) (p : Package) where
     pub imported_published : get p.editions name ≡ Some published_state → IsSound settled p → AreImported files name entries p settled (Refused 0 55)
     imported_published is sound = at_once 0 55 (Some Published) is sound refl (no_file 55 (omega arith) (omega arith))
 
-    pub imported_longer : (count : ℕ) → TellsState p name (Some (states.Open count)) → length entries < count → IsSound settled p → AreImported files name entries p settled (Refused (length entries + 1) 52)
+    pub imported_longer : (count : ℕ) → TellsState p name (Some (states.Open count)) → length entries < count → IsSound settled p
+        → AreImported files name entries p settled (Refused (length entries + 1) 52)
     imported_longer count tells less sound =
         let (old, has, size) = open_has p name count sound.1 tells.0 tells.1 in
         at_once (length entries + 1) 52 (Some (Open old)) has sound (rw (lt-ltb (length entries) (length old) (omega (arith, less, size))) refl) (no_file 52 (omega arith) (omega arith))
 
-    pub imported_open : (old : List Piece) → HasPieces p name old → length old ≤ length entries → (a : Staged) → AreStaged files name entries p old settled a → AreImported files name entries p settled a
+    pub imported_open : (old : List Piece) → HasPieces p name old → length old ≤ length entries → (a : Staged)
+        → AreStaged files name entries p old settled a → AreImported files name entries p settled a
     imported_open old has most a it = record {
       edition = Some (Open old);
       stands = has;

@@ -18,7 +18,8 @@ use Rattle.mm_kit.specs.Imports.{AreRepeats, IsFirstOf, OnlyGrows, SameBut}
 use Rattle.mm_kit.proofs.StageFacts.{has_one}
 
 module _ (name : Text) (kit : List Piece) (p q : Package) where
-  pub first : (old : List Piece) → OnlyGrows name kit p q → HasPieces p name old → IsFirstOf old kit → (new : List Piece) × HasPieces q name new × IsFirstOf old new × IsFirstOf new kit
+  pub first : (old : List Piece) → OnlyGrows name kit p q → HasPieces p name old → IsFirstOf old kit
+      → (new : List Piece) × HasPieces q name new × IsFirstOf old new × IsFirstOf new kit
   first old (inl same) has front = (old, subst (λ r. HasPieces r name old) (sym same) has, ([], sym (append-nil old)), front)
   first old (inr it) has front = (it.new, it.after, subst (λ l. IsFirstOf l it.new) (has_one p name it.old old it.before has) it.more, it.of_kit)
 
@@ -68,7 +69,8 @@ module _ (name : Text) (list : List Piece) (q r : Package) (one : HasPieces q na
   of_name : (n : ℤ) → get q.pieces (piece name n) ≡ get r.pieces (piece name n)
   of_name n = by (get q.pieces (piece name n)) (get r.pieces (piece name n)) refl refl
     where
-      by : (v w : Option PieceRow) → get q.pieces (piece name n) ≡ v → get r.pieces (piece name n) ≡ w → get q.pieces (piece name n) ≡ get r.pieces (piece name n)
+      by : (v w : Option PieceRow) → get q.pieces (piece name n) ≡ v → get r.pieces (piece name n) ≡ w
+          → get q.pieces (piece name n) ≡ get r.pieces (piece name n)
       by (Some a) w e f = let range = (one.numbers n).0 (ap is_some e) in in_range n range.0 range.1
       by None (Some b) e f = let range = (two.numbers n).0 (ap is_some f) in in_range n range.0 range.1
       by None None e f = e ∙ sym f
@@ -83,7 +85,8 @@ module _ (name : Text) (list : List Piece) (q r : Package) (one : HasPieces q na
         | inr other ↦ s.others k other.0 ∙ sym (t.others k other.0)
       ]
 
-pub by_any_stops : (name : Text) (kit : List Piece) (p q r : Package) (stops others : List Package) → AreRepeats name kit p stops q → AreRepeats name kit p others r
+pub by_any_stops : (name : Text) (kit : List Piece) (p q r : Package) (stops others : List Package) → AreRepeats name kit p stops q
+    → AreRepeats name kit p others r
     → HasPieces q name kit → HasPieces r name kit → q ≡ r
 by_any_stops name kit p q r stops others h k one two = same_kit name kit q r one two p (repeated name kit p q stops h) (repeated name kit p r others k)
 
@@ -102,7 +105,8 @@ no_kit name p q (inr it) =
 
 module _ (m : PiecesPart) (name : Text) where
   rows_are : (list : List Piece) (i : ℕ) (es : List (PieceKey × PieceRow)) → AreFrom m name i es
-      → ((k : ℕ) (q : Piece) → numbered list (k + 1) ≡ Some q → get m (piece name (pos (i + k))) ≡ Some (piece_row q)) → get m (piece name (pos (i + length list))) ≡ None
+      → ((k : ℕ) (q : Piece) → numbered list (k + 1) ≡ Some q → get m (piece name (pos (i + k))) ≡ Some (piece_row q))
+      → get m (piece name (pos (i + length list))) ≡ None
       → es ≡ rows_from name i list
   unfolding numbered rows_from
   rows_are [] i [] from each end = refl
@@ -139,5 +143,6 @@ pieces_are q name list has =
     none None e = refl
     none (Some r) e = absurd (past_last (length list) ((has.numbers (pos (1 + length list))).0 (ap is_some e)).1)
 
-pub published : (q : Package) (name : Text) (list : List Piece) (stamp : Text) → HasPieces q name list → edition_trial q name stamp ≡ trial (rows_from name 1 list) q stamp
+pub published : (q : Package) (name : Text) (list : List Piece) (stamp : Text) → HasPieces q name list
+    → edition_trial q name stamp ≡ trial (rows_from name 1 list) q stamp
 published q name list stamp has = ap (λ es. trial es q stamp) (pieces_are q name list has)

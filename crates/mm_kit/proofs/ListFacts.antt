@@ -22,7 +22,8 @@ read_few place r e h = entry_few place r e h.1
 
 -- ---- one more record
 
-entries-more : (place : ℕ) (rows : List Record) (entries : List Entry) (r : Record) (e : Entry) → AreEntries place rows entries → IsEntryReadAs (place + length rows) r (Ok e) → AreEntries place (rows ++ r ∷ []) (entries ++ e ∷ [])
+entries-more : (place : ℕ) (rows : List Record) (entries : List Entry) (r : Record) (e : Entry) → AreEntries place rows entries
+    → IsEntryReadAs (place + length rows) r (Ok e) → AreEntries place (rows ++ r ∷ []) (entries ++ e ∷ [])
 unfolding AreEntries
 entries-more place [] [] r e h read = let same : place + length {A = Record} [] ≡ place = omega arith in (subst (λ k. IsEntryReadAs k r (Ok e)) same read, tt)
 entries-more place [] (x ∷ xs) r e h read = absurd h
@@ -51,7 +52,8 @@ so_far-more rem a b bytes r e entries place config s read good =
     }
 
 pub all-read : {T : Type 0} (rem : T → Option (List ℕ)) (a b : Reader T) (bytes : List ℕ) (r : Record) (entries : List Entry) (place : ℕ)
-    → a.config ≡ default_config → AreSoFar bytes (source_of rem a) a.state entries place → ReadRecord rem a b false r → AreEntries 1 (records default_config bytes) entries
+    → a.config ≡ default_config → AreSoFar bytes (source_of rem a) a.state entries place → ReadRecord rem a b false r
+    → AreEntries 1 (records default_config bytes) entries
 all-read rem a b bytes r entries place config s read =
     let all = records-all bytes s.rows (a.state, s.rest, s.reached, rows-end rem a b r default_config s.rest config s.here read) in
     subst (λ rows. AreEntries 1 rows entries) all s.read

@@ -109,7 +109,8 @@ none_refused place at h = by h.before h.are
     by [] e = absurd (cc e)
     by (x ∷ xs) e = absurd (cc e)
 
-one_of_each : (place : ℕ) (r : Record) (rows : List Record) → 1 ≤ place → ((a b : Result (List Entry) (ℕ × ℕ)) → ListedFrom (place + 1) rows a → ListedFrom (place + 1) rows b → a ≡ b)
+one_of_each : (place : ℕ) (r : Record) (rows : List Record) → 1 ≤ place
+    → ((a b : Result (List Entry) (ℕ × ℕ)) → ListedFrom (place + 1) rows a → ListedFrom (place + 1) rows b → a ≡ b)
     → (a b : Result (List Entry) (ℕ × ℕ)) → First place r rows a → First place r rows b → a ≡ b
 one_of_each place r rows low more (Ok []) b h k = absurd h
 one_of_each place r rows low more (Ok (e ∷ es)) (Ok []) h k = absurd k

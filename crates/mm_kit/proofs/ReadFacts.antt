@@ -11,7 +11,8 @@ use Rattle.mm_kit.specs.Entries.{HoldsAgainstEntry, IsEntry}
 use Rattle.mm_kit.specs.Lists.{IsEntryRead}
 use Rattle.mm_kit.specs.declared.entries.Entry.{Entry}
 
-pub text_read : (place : ℕ) (r : Record) (result : Result Entry ReadFault) → AllText r → ReadsTo (IsEntry place r) (IsLeast (HoldsAgainstEntry place r)) result → IsEntryRead place r result
+pub text_read : (place : ℕ) (r : Record) (result : Result Entry ReadFault) → AllText r
+    → ReadsTo (IsEntry place r) (IsLeast (HoldsAgainstEntry place r)) result → IsEntryRead place r result
 text_read place r (Ok e) text h = (text, h)
 text_read place r (Err faults.Memory) text h = tt
 text_read place r (Err (faults.Refused why)) text h = (h.0, inl (text, h.1))

@@ -70,8 +70,10 @@ eqb_is i k e = by (leb_tells i k) (leb_tells k i)
         differ d = let f : true ≡ false = sym e ∙ ne_eqb i k d in cc
 
 -- with one piece more, a number has the piece that it had, or the new one
-more_at : (q r x : Piece) (xs : List Piece) (i : ℕ) (b : Bool) → (i == 1) ≡ b → (numbered (xs ++ q ∷ []) (i - 1) ≡ Some r → (numbered xs (i - 1) ≡ Some r) ⊎ ((i - 1 ≡ length xs + 1) × (q ≡ r)))
-    → (if b then Some x else numbered (xs ++ q ∷ []) (i - 1)) ≡ Some r → ((if b then Some x else numbered xs (i - 1)) ≡ Some r) ⊎ ((i ≡ length (x ∷ xs) + 1) × (q ≡ r))
+more_at : (q r x : Piece) (xs : List Piece) (i : ℕ) (b : Bool) → (i == 1) ≡ b
+    → (numbered (xs ++ q ∷ []) (i - 1) ≡ Some r → (numbered xs (i - 1) ≡ Some r) ⊎ ((i - 1 ≡ length xs + 1) × (q ≡ r)))
+    → (if b then Some x else numbered (xs ++ q ∷ []) (i - 1)) ≡ Some r
+    → ((if b then Some x else numbered xs (i - 1)) ≡ Some r) ⊎ ((i ≡ length (x ∷ xs) + 1) × (q ≡ r))
 more_at q r x xs i true e more h = inl h
 more_at q r x xs i false e more h = elim (more h) as (λ _. (numbered xs (i - 1) ≡ Some r) ⊎ ((i ≡ length (x ∷ xs) + 1) × (q ≡ r))) [
   | inl s ↦ inl s
@@ -82,7 +84,8 @@ one_at : (q r : Piece) (i : ℕ) (b : Bool) → (i == 1) ≡ b → (if b then So
 one_at q r i true e h = (eqb_is i 1 e, same_some h)
 one_at q r i false e h = absurd (let f : ◌≡◌ {A = Option Piece} None (Some r) = h in cc)
 
-pub numbered-more : (list : List Piece) (q r : Piece) (i : ℕ) → numbered (list ++ q ∷ []) i ≡ Some r → (numbered list i ≡ Some r) ⊎ ((i ≡ length list + 1) × (q ≡ r))
+pub numbered-more : (list : List Piece) (q r : Piece) (i : ℕ) → numbered (list ++ q ∷ []) i ≡ Some r
+    → (numbered list i ≡ Some r) ⊎ ((i ≡ length list + 1) × (q ≡ r))
 unfolding numbered
 numbered-more [] q r i h = let it = one_at q r i (i == 1) refl h in inr (it.0, it.1)
 numbered-more (x ∷ xs) q r i h = more_at q r x xs i (i == 1) refl (numbered-more xs q r (i - 1)) h
@@ -172,7 +175,8 @@ module _ (p : Package) (name : Text) (list : List Piece) (meets : Meets current 
   end_free : length list < 4096 → refusal p (commands.Stage name (pos (length list + 1)) x) ≡ None
   end_free less = accepted_for _ (stage_next p name (pos (length list + 1)) x (length list) (few p name list meets h) h.numbers (low_id (length list + 1) (omega arith) (omega (arith, less))) h.is_open gone behind (at_most (length list) less))
 
-  pub end_step : length list < 4096 → (moment : ℕ) → step p (commands.Stage name (pos (length list + 1)) x) moment ≡ record p { pieces = insert p.pieces (piece name (pos (length list + 1))) (piece_row x) }
+  pub end_step : length list < 4096 → (moment : ℕ)
+      → step p (commands.Stage name (pos (length list + 1)) x) moment ≡ record p { pieces = insert p.pieces (piece name (pos (length list + 1))) (piece_row x) }
   end_step less moment = ap (λ v. unless_refused v (done p (commands.Stage name (pos (length list + 1)) x) (stamp moment)) p) (end_free less)
 
   abbrev pub grown : Package
@@ -256,7 +260,8 @@ none_beside y x e = ap (λ b. if b then None else Some 52) (ap (λ q. same_piece
 pub same_or_other : (x y : Piece) → ((x ≡ y) × (beside (Some y) x ≡ None)) ⊎ ((piece_row x ≢ piece_row y) × (beside (Some y) x ≡ Some 52))
 same_or_other x y = by (same_piece (piece_row x) (piece_row y)) refl
   where
-    by : (b : Bool) → same_piece (piece_row x) (piece_row y) ≡ b → ((x ≡ y) × (beside (Some y) x ≡ None)) ⊎ ((piece_row x ≢ piece_row y) × (beside (Some y) x ≡ Some 52))
+    by : (b : Bool) → same_piece (piece_row x) (piece_row y) ≡ b
+        → ((x ≡ y) × (beside (Some y) x ≡ None)) ⊎ ((piece_row x ≢ piece_row y) × (beside (Some y) x ≡ Some 52))
     by true e = inl (same_piece_of x y (same_row (piece_row x) (piece_row y) e), ap (λ b. if b then None else Some 52) e)
     by false e = inr (λ s. let f : true ≡ false = sym (row_itself (piece_row x)) ∙ ap (same_piece (piece_row x)) s ∙ e in cc, ap (λ b. if b then None else Some 52) e)
 
@@ -342,8 +347,10 @@ no_file n e (inl h) = absurd (omega (arith, e, h))
 no_file n e (inr h) = absurd (omega (arith, e, h))
 
 module _ (files : Files) (name : Text) (entries : List Entry) (p : Package) (old : List Piece) (before : HasPieces p name old) where
-  pub so_far-more : (left : List Entry) (e : Entry) (x : Piece) (k : ℕ) (q : Package) → IsImportedSoFar files name entries (e ∷ left) p old k q → filled files e ≡ Ok x → k < 4096 → Meets current q
-      → (moment : ℕ) → refusal q (commands.Stage name (pos (k + 1)) x) ≡ None → IsImportedSoFar files name entries left p old (k + 1) (step q (commands.Stage name (pos (k + 1)) x) moment)
+  pub so_far-more : (left : List Entry) (e : Entry) (x : Piece) (k : ℕ) (q : Package) → IsImportedSoFar files name entries (e ∷ left) p old k q
+      → filled files e ≡ Ok x → k < 4096 → Meets current q
+      → (moment : ℕ) → refusal q (commands.Stage name (pos (k + 1)) x) ≡ None
+      → IsImportedSoFar files name entries left p old (k + 1) (step q (commands.Stage name (pos (k + 1)) x) moment)
   unfolding first_number kit_pieces
   so_far-more left e x k q s full less meets moment ok =
       let free : refusal q (commands.Stage name (pos (length s.done + 1)) x) ≡ None = rw (s.count) ok in
@@ -359,7 +366,8 @@ module _ (files : Files) (name : Text) (entries : List Entry) (p : Package) (old
       }
 
   -- the same of an entry that was staged
-  pub staged-more : {D : Type 0} (shows : Shown D) (left : List Entry) (e : Entry) (k : ℕ) (q : Package) → IsImportedSoFar files name entries (e ∷ left) p old k q → k < 4096 → Meets current q
+  pub staged-more : {D : Type 0} (shows : Shown D) (left : List Entry) (e : Entry) (k : ℕ) (q : Package)
+      → IsImportedSoFar files name entries (e ∷ left) p old k q → k < 4096 → Meets current q
       → (told : Option Files) → told ≡ Some files → (moment : ℕ) → IsEntryStaged told e name (k + 1) q moment shows (Ok None)
       → (r : Package) × IsSound shows.settled r × IsImportedSoFar files name entries left p old (k + 1) r
   staged-more shows left e k q s less meets told tells moment (x, it, good, goes) =
@@ -374,7 +382,8 @@ module _ (files : Files) (name : Text) (entries : List Entry) (p : Package) (old
       by (inr it) = inr (record { old = old; new = s.done; before = before; after = it.1; more = it.0; of_kit = (kit_pieces files left, s.kit); same = it.2 })
 
   -- as many pieces as before, or as were staged
-  size : (k : ℕ) (done : List Piece) (q : Package) → length done ≡ k → IsPassed name p old done q → (new : List Piece) × HasPieces q name new × (length new ≡ max (length old) k)
+  size : (k : ℕ) (done : List Piece) (q : Package) → length done ≡ k → IsPassed name p old done q
+      → (new : List Piece) × HasPieces q name new × (length new ≡ max (length old) k)
   size k done q count (inl (same, (rest, e))) = (old, subst (λ r. HasPieces r name old) (sym same) before, sym (max-eq_left (omega (arith, count, ap length e, length-append done rest))))
   size k done q count (inr ((rest, e), has, same)) = (done, has, count ∙ sym (max-eq_right (omega (arith, count, ap length e, length-append old rest))))
 
@@ -397,14 +406,17 @@ module _ (files : Files) (name : Text) (entries : List Entry) (p : Package) (old
       let is : old2 ≡ old = has_one p name old2 old has2 before in
       (it.0, it.1, subst (λ l. (length it.0 ≡ max (length l) k) ⊎ ((length l ≤ k) × (length it.0 ≡ k + 1))) (sym is) (by it.0 it.2 (leb_tells (k + 1) (length old))))
     where
-      by : (new : List Piece) → length new ≡ max (length old) (k + 1) → ((leb (k + 1) (length old) ≡ true) × (k + 1 ≤ length old)) ⊎ ((leb (k + 1) (length old) ≡ false) × (length old < k + 1))
+      by : (new : List Piece) → length new ≡ max (length old) (k + 1)
+          → ((leb (k + 1) (length old) ≡ true) × (k + 1 ≤ length old)) ⊎ ((leb (k + 1) (length old) ≡ false) × (length old < k + 1))
           → (length new ≡ max (length old) k) ⊎ ((length old ≤ k) × (length new ≡ k + 1))
       by new all (inr it) = inr (omega (arith, it.1), all ∙ max-eq_right (omega (arith, it.1)))
       by new all (inl it) = inl (all ∙ max-eq_left it.1 ∙ sym (max-eq_left (omega (arith, it.1))))
 
   -- ---- the answers
-  pub number_refused : (left : List Entry) (e : Entry) (x : Piece) (k : ℕ) (q : Package) → IsImportedSoFar files name entries (e ∷ left) p old k q → filled files e ≡ Ok x → k < 4096 → Meets current q
-      → (why : Refusal) → refusal q (commands.Stage name (pos (k + 1)) x) ≡ Some why → (first_number (against files old) 1 entries ≡ Some (k + 1, why.number)) × (why.number ≡ 52)
+  pub number_refused : (left : List Entry) (e : Entry) (x : Piece) (k : ℕ) (q : Package) → IsImportedSoFar files name entries (e ∷ left) p old k q
+      → filled files e ≡ Ok x → k < 4096 → Meets current q
+      → (why : Refusal) → refusal q (commands.Stage name (pos (k + 1)) x) ≡ Some why
+      → (first_number (against files old) 1 entries ≡ Some (k + 1, why.number)) × (why.number ≡ 52)
   unfolding first_number
   number_refused left e x k q s full less meets why bad =
       let no : refusal q (commands.Stage name (pos (length s.done + 1)) x) ≡ Some why = rw (s.count) bad in
@@ -412,7 +424,8 @@ module _ (files : Files) (name : Text) (entries : List Entry) (p : Package) (old
       let (number, is) = rw (s.count) at turn in
       (s.answer ∙ rw (full, number) refl, is)
 
-  pub number_unfilled : (left : List Entry) (e : Entry) (k n : ℕ) (q : Package) → IsImportedSoFar files name entries (e ∷ left) p old k q → filled files e ≡ Err n → first_number (against files old) 1 entries ≡ Some (k + 1, n)
+  pub number_unfilled : (left : List Entry) (e : Entry) (k n : ℕ) (q : Package) → IsImportedSoFar files name entries (e ∷ left) p old k q
+      → filled files e ≡ Err n → first_number (against files old) 1 entries ≡ Some (k + 1, n)
   unfolding first_number
   number_unfilled left e k n q s lacks = s.answer ∙ rw lacks refl
 
@@ -427,7 +440,8 @@ module _ (files : Files) (name : Text) (entries : List Entry) (p : Package) (old
       subst (λ r. HasPieces r name done) (sym same) (subst (HasPieces p name) (e ∙ ap (λ l. done ++ l) no_more ∙ append-nil done) before)
   all_staged done q (inr it) h = it.1
 
-  pub has_first : (left : List Entry) (e : Entry) (k n : ℕ) (q : Package) → IsImportedSoFar files name entries (e ∷ left) p old k q → filled files e ≡ Err n → HasFirst files name entries p q n
+  pub has_first : (left : List Entry) (e : Entry) (k n : ℕ) (q : Package) → IsImportedSoFar files name entries (e ∷ left) p old k q
+      → filled files e ≡ Err n → HasFirst files name entries p q n
   unfolding kit_pieces
   has_first left e k n q s lacks why old2 has2 (rest, front) =
       let is : old2 ≡ old = has_one p name old2 old has2 before in
@@ -435,14 +449,16 @@ module _ (files : Files) (name : Text) (entries : List Entry) (p : Package) (old
       let long : s.done ≡ old ++ rest = sym kit ∙ front ∙ ap (λ l. l ++ rest) is in
       subst (HasPieces q name) (sym kit) (all_staged s.done q s.passed (omega (arith, ap length long, length-append old rest)))
 
-  pub has_whole : (k : ℕ) (q : Package) → IsImportedSoFar files name entries [] p old k q → length old ≤ k → (first_number (against files old) 1 entries ≡ None) × HasWhole files name entries q k
+  pub has_whole : (k : ℕ) (q : Package) → IsImportedSoFar files name entries [] p old k q → length old ≤ k
+      → (first_number (against files old) 1 entries ≡ None) × HasWhole files name entries q k
   unfolding first_number kit_pieces
   has_whole k q s most =
       let kit : kit_pieces files entries ≡ s.done = s.kit ∙ append-nil s.done in
       (s.answer, record { whole = s.whole; pieces = subst (HasPieces q name) (sym kit) (all_staged s.done q s.passed (omega (arith, s.count, most))); count = ap length kit ∙ s.count })
 
   -- the entry was refused, for its file or as a command
-  pub refused_at : (left : List Entry) (e : Entry) (k n : ℕ) (q : Package) → IsImportedSoFar files name entries (e ∷ left) p old k q → k < 4096 → Meets current q → (told : Option Files) → told ≡ Some files
+  pub refused_at : (left : List Entry) (e : Entry) (k n : ℕ) (q : Package) → IsImportedSoFar files name entries (e ∷ left) p old k q → k < 4096
+      → Meets current q → (told : Option Files) → told ≡ Some files
       → IsFilled told e (Err n) ⊎ ((x : Piece) × IsFilled told e (Ok x) × (why : Refusal) × (why.number ≡ n) × (refusal q (commands.Stage name (pos (k + 1)) x) ≡ Some why))
       → (first_number (against files old) 1 entries ≡ Some (k + 1, n)) × HasFirst files name entries p q n
   refused_at left e k n q s less meets told tells (inl it) =
@@ -453,7 +469,8 @@ module _ (files : Files) (name : Text) (entries : List Entry) (p : Package) (old
       (first ∙ ap (λ m. Some (k + 1, m)) is, λ files. absurd (no_file n (sym is ∙ number) files))
 
   -- ---- a command in doubt
-  pub left_in_doubt : {D : Type 0} (stands_for : D → Package → Type 0) (db : D) (left : List Entry) (e : Entry) (x : Piece) (k : ℕ) (q : Package) → IsImportedSoFar files name entries (e ∷ left) p old k q → filled files e ≡ Ok x → k < 4096 → Meets current q
+  pub left_in_doubt : {D : Type 0} (stands_for : D → Package → Type 0) (db : D) (left : List Entry) (e : Entry) (x : Piece) (k : ℕ) (q : Package)
+      → IsImportedSoFar files name entries (e ∷ left) p old k q → filled files e ≡ Ok x → k < 4096 → Meets current q
       → (moment : ℕ) → Meets current (step q (commands.Stage name (pos (k + 1)) x) moment)
       → stands_for db q ⊎ ((refusal q (commands.Stage name (pos (k + 1)) x) ≡ None) × stands_for db (step q (commands.Stage name (pos (k + 1)) x) moment))
       → (r : Package) × stands_for db r × Meets current r × OnlyGrows name (kit_pieces files entries) p r × IsCounted k name p r

@@ -53,7 +53,8 @@ touched_alike q c table s r same = record {
   keys = λ t. same_keys c table s t ∙ same t ∙ sym (same_keys q.contents table r t) ∙ ap (λ (x : Package). contains_key x.contents t) (sym (touch_is q table r));
 }
 
-effect_alike : (x : Piece) (q : Package) (c : ContentsPart) (s r : Text) → SameKeys c q.contents → IsAlike (piece_effect (with_contents q c) x s) (piece_effect q x r)
+effect_alike : (x : Piece) (q : Package) (c : ContentsPart) (s r : Text) → SameKeys c q.contents
+    → IsAlike (piece_effect (with_contents q c) x s) (piece_effect q x r)
 effect_alike (pieces.Tile table zoom column row bytes) q c s r same = touched_alike _ c table s r same
 effect_alike (pieces.TileDrop table zoom column row) q c s r same = touched_alike _ c table s r same
 effect_alike (pieces.Row table id title note amount) q c s r same = touched_alike _ c table s r same
@@ -83,14 +84,16 @@ by_answer p q number x s r on to rest (Some reason) = refl
 
 by_piece : (q : Package) (c : ContentsPart) (number : ℕ) (s r : Text) (on to : Package → Result Package PieceRefusal) → SameKeys c q.contents
     → ((y : Package) (d : ContentsPart) → SameKeys d y.contents → refused_piece (on (with_contents y d)) ≡ refused_piece (to y))
-    → (v : Option Piece) → refused_piece (after_trial (piece_trial (with_contents q c) number s v) on) ≡ refused_piece (after_trial (piece_trial q number r v) to)
+    → (v : Option Piece)
+    → refused_piece (after_trial (piece_trial (with_contents q c) number s v) on) ≡ refused_piece (after_trial (piece_trial q number r v) to)
 by_piece q c number s r on to same rest None = rest q c same
 by_piece q c number s r on to same rest (Some x) =
     let a = effect_alike x q c s r same in
     ap (λ v. refused_piece (after_trial (decided (with_contents q c) number x s v) on)) (ap least (reasons_alike x q c same))
     ∙ by_answer (with_contents q c) q number x s r on to (ap (λ y. refused_piece (on y)) a.is ∙ rest (piece_effect q x r) a.contents a.keys) (least (piece_reasons q x))
 
-trial_alike : (es : List (PieceKey × PieceRow)) (q : Package) (c : ContentsPart) (s r : Text) → SameKeys c q.contents → refused_piece (trial es (with_contents q c) s) ≡ refused_piece (trial es q r)
+trial_alike : (es : List (PieceKey × PieceRow)) (q : Package) (c : ContentsPart) (s r : Text) → SameKeys c q.contents
+    → refused_piece (trial es (with_contents q c) s) ≡ refused_piece (trial es q r)
 trial_alike [] q c s r same = refl
 trial_alike (e ∷ es) q c s r same = by_piece q c (unsigned_abs e.0.number) s r (λ y. trial es y s) (λ y. trial es y r) same (λ y d alike. trial_alike es y d s r alike) (row_piece e.1)
 

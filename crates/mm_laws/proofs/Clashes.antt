@@ -31,7 +31,8 @@ false_of : (a b : Bool) → (a ≡ true → b ≡ true) → (a && not b) ≡ fal
 false_of true b h = ap not (h refl)
 false_of false b h = refl
 
-pub clashes_unless_suits : (p : Package) (table : Text) (zoom : ℤ) (g : Grid) → SuitsAll p.matrices table zoom g (has_kind p.kinds table Two) → clashes p table zoom g ≡ false
+pub clashes_unless_suits : (p : Package) (table : Text) (zoom : ℤ) (g : Grid) → SuitsAll p.matrices table zoom g (has_kind p.kinds table Two)
+    → clashes p table zoom g ≡ false
 clashes_unless_suits p table zoom g all =
     no_such levels (λ k h. same_text k.table table && not (suits (has_kind p.kinds table Two) zoom g k.zoom h)) p.matrices
     (λ k h e. false_of (same_text k.table table) (suits (has_kind p.kinds table Two) zoom g k.zoom h) (λ same. all k.zoom h (ap (λ t. get p.matrices (level t k.zoom)) (sym (are_same texts k.table table same)) ∙ e)))

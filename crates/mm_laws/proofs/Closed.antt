@@ -42,14 +42,16 @@ closed_is edition p = record {
 }
 
 -- where publishing is accepted, the trial goes through at any stamp
-pub publish_went : (p : Package) (edition : Text) (moment : ℕ) → refusal p (commands.Publish edition) ≡ None → (q : Package) × (edition_trial p edition (stamp moment) ≡ Ok q)
+pub publish_went : (p : Package) (edition : Text) (moment : ℕ) → refusal p (commands.Publish edition) ≡ None
+    → (q : Package) × (edition_trial p edition (stamp moment) ≡ Ok q)
 publish_went p edition moment none =
     let r = none_holds (reasons p (commands.Publish edition)) (no_refusal (least (reasons p (commands.Publish edition))) (refused_piece (edition_trial p edition [])) none) in
     let opened : is_open p edition ≡ true = stands_where (contains_key p.editions edition) (is_open p edition) r.1.0 (not_false (contains_key p.editions edition) r.0) in
     let first : refused_piece (edition_trial p edition []) ≡ None = unrefused (edition_trial p edition []) (and_false (is_open p edition) (is_err (edition_trial p edition [])) r.1.1.0 opened) in
     went_through (edition_trial p edition (stamp moment)) (any_stamp p edition (stamp moment) [] ∙ first)
 
-pub publish_closes : (p : Package) (edition : Text) (moment : ℕ) → refusal p (commands.Publish edition) ≡ None → IsPublished p edition moment (step p (commands.Publish edition) moment)
+pub publish_closes : (p : Package) (edition : Text) (moment : ℕ) → refusal p (commands.Publish edition) ≡ None
+    → IsPublished p edition moment (step p (commands.Publish edition) moment)
 publish_closes p edition moment none =
     let found = publish_went p edition moment none in
     let next_is : step p (commands.Publish edition) moment ≡ closed edition found.0 =
@@ -65,7 +67,8 @@ same_err : {a b : PieceRefusal} → ◌≡◌ {A = Result Package PieceRefusal} 
 same_err e = cc
 
 -- the pieces before the first refused one give the package on which it is refused
-trial_on : (before after : List (PieceKey × PieceRow)) (p q : Package) (stamp : Text) → trial before p stamp ≡ Ok q → trial (before ++ after) p stamp ≡ trial after q stamp
+trial_on : (before after : List (PieceKey × PieceRow)) (p q : Package) (stamp : Text) → trial before p stamp ≡ Ok q
+    → trial (before ++ after) p stamp ≡ trial after q stamp
 trial_on [] after p q stamp e = ap (λ x. trial after x stamp) (same_ok e)
 trial_on (x ∷ xs) after p q stamp e = by_trial (piece_trial p (unsigned_abs x.0.number) stamp (row_piece x.1)) (λ y f. trial_on xs after y q stamp f) e where
   by_trial : (v : Result Package PieceRefusal) → ((y : Package) → trial xs y stamp ≡ Ok q → trial (xs ++ after) y stamp ≡ trial after q stamp)
@@ -124,7 +127,8 @@ refused_alike p c one other = alike (own_reasons p c) (is_publishing p c) (publi
   trials p _ one other = refl
 
 -- a new edition is open, and holds no pieces
-pub edition_new : (profile : Profile) (p : Package) (name : Text) (moment : ℕ) → Meets profile p → refusal p (commands.Edition name) ≡ None → IsNewEdition name (step p (commands.Edition name) moment)
+pub edition_new : (profile : Profile) (p : Package) (name : Text) (moment : ℕ) → Meets profile p → refusal p (commands.Edition name) ≡ None
+    → IsNewEdition name (step p (commands.Edition name) moment)
 edition_new profile p name moment h none =
     let r = none_holds (reasons p (commands.Edition name)) (no_refusal (least (reasons p (commands.Edition name))) None none) in
     subst (IsNewEdition name) (sym (ap (λ v. unless_refused v (done p (commands.Edition name) (stamp moment)) p) none)) (record {

@@ -199,7 +199,8 @@ and_of : (a b : Bool) → a ≡ true → b ≡ true → (a && b) ≡ true
 and_of true b e f = f
 and_of false b e f = e
 
-unmapped : (p : Package) (table : Text) (id : ℤ) → is_mapped p table id ≡ false → (k : Pairing) (u : ⊤) → Has p.pairings k u → (r : Relation) → Has p.relations k.mapping r
+unmapped : (p : Package) (table : Text) (id : ℤ) → is_mapped p table id ≡ false → (k : Pairing) (u : ⊤) → Has p.pairings k u → (r : Relation)
+    → Has p.relations k.mapping r
     → (item r.base k.base_id ≢ item table id) × (item r.related k.related_id ≢ item table id)
 unmapped p table id none k u e r f =
     let test : Relation → Bool = λ s. (same_text s.base table && same_number k.base_id id) || (same_text s.related table && same_number k.related_id id) in
@@ -295,7 +296,8 @@ media_drop table id profile p moment stamp h within low is none =
 
 -- ---- mapping rows
 -- an end of a suited relation that lacks no row and no medium is an item
-an_end : (p : Package) (table : Text) (id : ℤ) → HasKind p.kinds table kinds.Attributes ⊎ HasKind p.kinds table kinds.Media → lacks_row p table id ≡ false → lacks_medium p table id ≡ false → HasItem p.rows p.media table id
+an_end : (p : Package) (table : Text) (id : ℤ) → HasKind p.kinds table kinds.Attributes ⊎ HasKind p.kinds table kinds.Media
+    → lacks_row p table id ≡ false → lacks_medium p table id ≡ false → HasItem p.rows p.media table id
 an_end p table id (inl a) no_row no_medium = inl (stands_where (has_kind p.kinds table kinds.Attributes) (contains_key p.rows (item table id)) no_row (has_kind_holds p.kinds table kinds.Attributes a))
 an_end p table id (inr b) no_row no_medium = inr (stands_where (has_kind p.kinds table kinds.Media) (contains_key p.media (item table id)) no_medium (has_kind_holds p.kinds table kinds.Media b))
 

@@ -54,7 +54,8 @@ utf8_or_not t = by (is_utf8 t) refl
 text_or_not : (least most : ℕ) (t : Text) → IsText least most t ⊎ ¬ (IsText least most t)
 text_or_not least most t = by (long_or_not least most t) (utf8_or_not t) (true_or_not _)
   where
-    by : IsLong least most t ⊎ ¬ (IsLong least most t) → IsUtf8 t ⊎ ¬ (IsUtf8 t) → IsTrue (not (has_zero t)) ⊎ ¬ (IsTrue (not (has_zero t))) → IsText least most t ⊎ ¬ (IsText least most t)
+    by : IsLong least most t ⊎ ¬ (IsLong least most t) → IsUtf8 t ⊎ ¬ (IsUtf8 t) → IsTrue (not (has_zero t)) ⊎ ¬ (IsTrue (not (has_zero t)))
+        → IsText least most t ⊎ ¬ (IsText least most t)
     by (inl a) (inl b) (inl c) = inl (record { long = a; clean = record { utf8 = b; no_zero = c } })
     by (inl a) (inl b) (inr c) = inr (λ h. c h.clean.no_zero)
     by (inl a) (inr b) c = inr (λ h. b h.clean.utf8)
@@ -63,7 +64,8 @@ text_or_not least most t = by (long_or_not least most t) (utf8_or_not t) (true_o
 identifier_or_not : (t : Text) → IsIdentifier t ⊎ ¬ (IsIdentifier t)
 identifier_or_not t = by (utf8_or_not t) (long_or_not 1 1000 t) (true_or_not _)
   where
-    by : IsUtf8 t ⊎ ¬ (IsUtf8 t) → IsLong 1 1000 t ⊎ ¬ (IsLong 1 1000 t) → IsTrue (not (list_any is_control t)) ⊎ ¬ (IsTrue (not (list_any is_control t))) → IsIdentifier t ⊎ ¬ (IsIdentifier t)
+    by : IsUtf8 t ⊎ ¬ (IsUtf8 t) → IsLong 1 1000 t ⊎ ¬ (IsLong 1 1000 t)
+        → IsTrue (not (list_any is_control t)) ⊎ ¬ (IsTrue (not (list_any is_control t))) → IsIdentifier t ⊎ ¬ (IsIdentifier t)
     by (inl a) (inl b) (inl c) = inl (record { utf8 = a; long = b; printable = c })
     by (inl a) (inl b) (inr c) = inr (λ h. c h.printable)
     by (inl a) (inr b) c = inr (λ h. b h.long)
@@ -72,7 +74,8 @@ identifier_or_not t = by (utf8_or_not t) (long_or_not 1 1000 t) (true_or_not _)
 word_or_not : (t : Text) → IsWord t ⊎ ¬ (IsWord t)
 word_or_not t = by (long_or_not 1 64 t) (true_or_not _)
   where
-    by : IsLong 1 64 t ⊎ ¬ (IsLong 1 64 t) → IsTrue (not (list_any (λ c. not (is_word_byte c)) t)) ⊎ ¬ (IsTrue (not (list_any (λ c. not (is_word_byte c)) t))) → IsWord t ⊎ ¬ (IsWord t)
+    by : IsLong 1 64 t ⊎ ¬ (IsLong 1 64 t)
+        → IsTrue (not (list_any (λ c. not (is_word_byte c)) t)) ⊎ ¬ (IsTrue (not (list_any (λ c. not (is_word_byte c)) t))) → IsWord t ⊎ ¬ (IsWord t)
     by (inl a) (inl b) = inl (record { long = a; all = b })
     by (inl a) (inr b) = inr (λ h. b h.all)
     by (inr a) b = inr (λ h. a h.long)
@@ -80,7 +83,8 @@ word_or_not t = by (long_or_not 1 64 t) (true_or_not _)
 content_type_or_not : (t : Text) → IsContentType t ⊎ ¬ (IsContentType t)
 content_type_or_not t = by (word_or_not (before_first is_slash t)) (word_or_not (after_first is_slash t))
   where
-    by : IsWord (before_first is_slash t) ⊎ ¬ (IsWord (before_first is_slash t)) → IsWord (after_first is_slash t) ⊎ ¬ (IsWord (after_first is_slash t)) → IsContentType t ⊎ ¬ (IsContentType t)
+    by : IsWord (before_first is_slash t) ⊎ ¬ (IsWord (before_first is_slash t))
+        → IsWord (after_first is_slash t) ⊎ ¬ (IsWord (after_first is_slash t)) → IsContentType t ⊎ ¬ (IsContentType t)
     by (inl a) (inl b) = inl (record { kind = a; form = b })
     by (inl a) (inr b) = inr (λ h. b h.form)
     by (inr a) b = inr (λ h. a h.kind)
@@ -94,7 +98,8 @@ is_lettered t = not (list_any (λ c. not (is_letter_or_digit c)) t)
 name_or_not : (t : Text) → IsName t ⊎ ¬ (IsName t)
 name_or_not t = by (long_or_not 1 60 t) (true_or_not _) (true_or_not _) (true_or_not _)
   where
-    by : IsLong 1 60 t ⊎ ¬ (IsLong 1 60 t) → IsTrue (begins_with_letter t) ⊎ ¬ (IsTrue (begins_with_letter t)) → IsTrue (is_lettered t) ⊎ ¬ (IsTrue (is_lettered t)) → IsTrue (is_own t) ⊎ ¬ (IsTrue (is_own t)) → IsName t ⊎ ¬ (IsName t)
+    by : IsLong 1 60 t ⊎ ¬ (IsLong 1 60 t) → IsTrue (begins_with_letter t) ⊎ ¬ (IsTrue (begins_with_letter t))
+        → IsTrue (is_lettered t) ⊎ ¬ (IsTrue (is_lettered t)) → IsTrue (is_own t) ⊎ ¬ (IsTrue (is_own t)) → IsName t ⊎ ¬ (IsName t)
     by (inl a) (inl b) (inl c) (inl d) = inl (record { long = a; first = b; all = c; own = d })
     by (inl a) (inl b) (inl c) (inr d) = inr (λ h. d h.own)
     by (inl a) (inl b) (inr c) d = inr (λ h. c h.all)
@@ -199,7 +204,8 @@ bytes_decided most t = by (decode_of t) refl
     by (Ok bytes) e = long bytes e (long_or_not 1 most bytes)
     by (Err fault) e = inr (10, inl (refl, subst IsErr (sym e) (search rules)))
 
-text_decided : (f : Field) (P : Text → Type 0) (wanted : ℕ) (t : Text) → (P t → HoldsValue f t (Plain t)) → (¬ (P t) → IsAgainst f t wanted) → P t ⊎ ¬ (P t) → Decided f t
+text_decided : (f : Field) (P : Text → Type 0) (wanted : ℕ) (t : Text) → (P t → HoldsValue f t (Plain t)) → (¬ (P t) → IsAgainst f t wanted)
+    → P t ⊎ ¬ (P t) → Decided f t
 text_decided f P wanted t within without (inl h) = inl (Plain t, within h)
 text_decided f P wanted t within without (inr h) = inr (wanted, without h)
 

@@ -53,7 +53,8 @@ module _ (p : Package) (table : Text) (unused : is_used p table ≡ false) where
   stands_still : (t : Text) → t ≢ table → Stands p.contents t → Stands (remove p.contents table) t
   stands_still t n e = ap is_some (beside_remove texts p.contents table t n) ∙ e
 
-  item_still : (t : Text) (id : ℤ) → t ≢ table → HasItem p.rows p.media t id → HasItem (retain_keys p.rows (λ k. is_other table k.table)) (retain_keys p.media (λ k. is_other table k.table)) t id
+  item_still : (t : Text) (id : ℤ) → t ≢ table → HasItem p.rows p.media t id
+      → HasItem (retain_keys p.rows (λ k. is_other table k.table)) (retain_keys p.media (λ k. is_other table k.table)) t id
   item_still t id n e = elim e as (λ _. HasItem (retain_keys p.rows (λ k. is_other table k.table)) (retain_keys p.media (λ k. is_other table k.table)) t id) [
     | inl a ↦ inl (ap is_some (kept items p.rows (λ k. is_other table k.table) (item t id) (other_holds table t n)) ∙ a)
     | inr b ↦ inr (ap is_some (kept items p.media (λ k. is_other table k.table) (item t id) (other_holds table t n)) ∙ b)

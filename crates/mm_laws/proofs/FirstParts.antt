@@ -22,7 +22,8 @@ accepted_append (c ∷ cs) after p =
     ap (if_ok (refusal p c.command) c) (accepted_append cs after (step p c.command c.moment))
     ∙ if_ok_append (refusal p c.command) c (accepted (step p c.command c.moment) cs) (accepted (run (step p c.command c.moment) cs) after)
 
-pub first_part_after : (p q : Package) (before after : List Call) (a : ℕ) → IsFirstPart (run p before) after a q → IsFirstPart p (before ++ after) (length (accepted p before) + a) q
+pub first_part_after : (p q : Package) (before after : List Call) (a : ℕ) → IsFirstPart (run p before) after a q
+    → IsFirstPart p (before ++ after) (length (accepted p before) + a) q
 first_part_after p q before after a part =
     let done = accepted p before in
     let rest = accepted (run p before) after in

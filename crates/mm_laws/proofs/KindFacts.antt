@@ -56,7 +56,8 @@ one_kind kinds table a b h k = same_some (sym h ∙ k)
 pub differ : (a b : Text) → same_text a b ≡ false → a ≢ b
 differ a b f e = let t : same_text a b ≡ true = sym (ap (same_text a) e) ∙ same_itself texts a in let g : true ≡ false = sym t ∙ f in cc
 
-pub pyramid_is_placed : (kind : Kind) (kinds : Kinds) (table : Text) (c : Contents) (s : Option MatrixSet) → IsPyramid kinds table → HasKind kinds table kind → Suits kind c s → IsPlaced c s
+pub pyramid_is_placed : (kind : Kind) (kinds : Kinds) (table : Text) (c : Contents) (s : Option MatrixSet) → IsPyramid kinds table
+    → HasKind kinds table kind → Suits kind c s → IsPlaced c s
 pyramid_is_placed Two kinds table c s p k h = h
 pyramid_is_placed Other kinds table c s p k h = h
 pyramid_is_placed Attributes kinds table c s (inl p) k h = absurd (differ (kind_text Two) (kind_text Attributes) refl (one_kind kinds table Two Attributes p k))

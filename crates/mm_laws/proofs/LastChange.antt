@@ -30,16 +30,19 @@ put_sets contents table new stamp t row is e = elim (same_key texts t table) as 
   | inr n ↦ inr (n.1, sym (beside_put texts contents table new t n.0) ∙ e)
 ]
 
-touch_sets : (p : Package) (table stamp t : Text) (row : Contents) → Has (touch p table stamp).contents t row → IsSetOrKept (same_text t table) stamp p.contents t row
+touch_sets : (p : Package) (table stamp t : Text) (row : Contents) → Has (touch p table stamp).contents t row
+    → IsSetOrKept (same_text t table) stamp p.contents t row
 touch_sets p table stamp t row e = by_row (get p.contents table) refl e where
-  by_row : (v : Option Contents) → get p.contents table ≡ v → Has (touched_row p table stamp v).contents t row → IsSetOrKept (same_text t table) stamp p.contents t row
+  by_row : (v : Option Contents) → get p.contents table ≡ v → Has (touched_row p table stamp v).contents t row
+      → IsSetOrKept (same_text t table) stamp p.contents t row
   by_row None was f = elim (same_key texts t table) as (λ _. IsSetOrKept (same_text t table) stamp p.contents t row) [
     | inl s ↦ absurd (not_none f (ap (get p.contents) s.0 ∙ was))
     | inr n ↦ inr (n.1, f)
   ]
   by_row (Some c) was f = put_sets p.contents table (changed_at stamp c) stamp t row refl f
 
-piece_sets : (q : Piece) (p : Package) (stamp t : Text) (row : Contents) → Has (piece_effect p q stamp).contents t row → IsSetOrKept (changes (piece_command q) t) stamp p.contents t row
+piece_sets : (q : Piece) (p : Package) (stamp t : Text) (row : Contents) → Has (piece_effect p q stamp).contents t row
+    → IsSetOrKept (changes (piece_command q) t) stamp p.contents t row
 piece_sets (pieces.Tile table zoom column row bytes) p stamp t r e = touch_sets _ table stamp t r e
 piece_sets (pieces.TileDrop table zoom column row) p stamp t r e = touch_sets _ table stamp t r e
 piece_sets (pieces.Row table id title note amount) p stamp t r e = touch_sets _ table stamp t r e
@@ -72,22 +75,26 @@ module _ (stamp t : Text) (row : Contents) where
 
   by_piece : (p next : Package) (number : ℕ) (later : Bool) (rest : Package → Result Package PieceRefusal)
       → ((middle : Package) → rest middle ≡ Ok next → IsSetOrKept later stamp middle.contents t row)
-      → (v : Option Piece) → after_trial (piece_trial p number stamp v) rest ≡ Ok next → IsSetOrKept (at_value (λ q. changes (piece_command q) t) v || later) stamp p.contents t row
+      → (v : Option Piece) → after_trial (piece_trial p number stamp v) rest ≡ Ok next
+      → IsSetOrKept (at_value (λ q. changes (piece_command q) t) v || later) stamp p.contents t row
   by_piece p next number later rest on None e = on p e
   by_piece p next number later rest on (Some q) e = by_reason p next number q later rest on (least (piece_reasons p q)) e
 
-  trial_sets : (es : List (PieceKey × PieceRow)) (p next : Package) → trial es p stamp ≡ Ok next → Has next.contents t row → IsSetOrKept (some_piece_changes es t) stamp p.contents t row
+  trial_sets : (es : List (PieceKey × PieceRow)) (p next : Package) → trial es p stamp ≡ Ok next → Has next.contents t row
+      → IsSetOrKept (some_piece_changes es t) stamp p.contents t row
   trial_sets [] p next e has = inr (refl, subst (λ (q : Package). Has q.contents t row) (sym (same_ok e)) has)
   trial_sets (x ∷ xs) p next e has =
       by_piece p next (unsigned_abs x.0.number) (some_piece_changes xs t) (λ q. trial xs q stamp) (λ middle f. trial_sets xs middle next f has) (row_piece x.1) e
 
-closed_sets : (p : Package) (edition stamp t : Text) (row : Contents) (v : Result Package PieceRefusal) → edition_trial p edition stamp ≡ v → Has (closed_by edition v p).contents t row
+closed_sets : (p : Package) (edition stamp t : Text) (row : Contents) (v : Result Package PieceRefusal) → edition_trial p edition stamp ≡ v
+    → Has (closed_by edition v p).contents t row
     → (next : Package) → v ≡ Ok next → IsSetOrKept (some_piece_changes (pieces_of p edition) t) stamp p.contents t row
 closed_sets p edition stamp t row (Ok q) e has next f = trial_sets stamp t row (pieces_of p edition) p q e has
 closed_sets p edition stamp t row (Err r) e has next f = absurd (let g : ◌≡◌ {A = Result Package PieceRefusal} (Err r) (Ok next) = f in cc)
 
 pyramid_sets : (step : Step) (p : Package) (table identifier : Text) (srs : ℤ) (box : Box) (stamp t : Text) (row : Contents)
-    → Has (with_zoom_row (with_pyramid p table identifier srs box step stamp) table step).contents t row → IsSetOrKept (same_text t table) stamp p.contents t row
+    → Has (with_zoom_row (with_pyramid p table identifier srs box step stamp) table step).contents t row
+    → IsSetOrKept (same_text t table) stamp p.contents t row
 pyramid_sets steps.Two p table identifier srs box stamp t row e = put_sets p.contents table _ stamp t row refl e
 pyramid_sets steps.Other p table identifier srs box stamp t row e = put_sets p.contents table _ stamp t row refl e
 

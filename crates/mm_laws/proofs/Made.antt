@@ -161,11 +161,13 @@ abbrev AllMade : (P : Text → List Value → Type 0) → List (Text × Form) �
 AllMade P [] = ⊤
 AllMade P (entry ∷ entries) = ((ts : List Text) (vs : List Value) → AllHold entry.1 ts vs → P entry.0 vs) × AllMade P entries
 
-made_by_word : (P : Text → List Value → Type 0) (entries : List (Text × Form)) → AllMade P entries → (word : Text) (ts : List Text) (vs : List Value) → IsMet (form_of entries word) ts vs → P word vs
+made_by_word : (P : Text → List Value → Type 0) (entries : List (Text × Form)) → AllMade P entries → (word : Text) (ts : List Text) (vs : List Value)
+    → IsMet (form_of entries word) ts vs → P word vs
 made_by_word P [] h word ts vs met = absurd met
 made_by_word P (entry ∷ entries) h word ts vs met = by (bytes_eq word entry.0) refl (made_by_word P entries h.1 word ts vs) met
   where
-    by : (v : Bool) → bytes_eq word entry.0 ≡ v → (IsMet (form_of entries word) ts vs → P word vs) → IsMet (if v then Some entry.1 else form_of entries word) ts vs → P word vs
+    by : (v : Bool) → bytes_eq word entry.0 ≡ v → (IsMet (form_of entries word) ts vs → P word vs)
+        → IsMet (if v then Some entry.1 else form_of entries word) ts vs → P word vs
     by true e others met = subst (λ w. P w vs) (sym ((bytes_eq-Decides word entry.0).0 e)) (h.0 ts vs met)
     by false e others met = others met
 
@@ -264,7 +266,8 @@ commands_made profile = (
   ),
 )
 
-staged_made : (a b word : Text) (ts : List Text) (v w x : Value) (vs : List Value) → HoldsValue AName a v → HoldsValue id_field b w → HoldsValue (OneOf (word ∷ [])) word x → IsPieceMade word vs
+staged_made : (a b word : Text) (ts : List Text) (v w x : Value) (vs : List Value) → HoldsValue AName a v → HoldsValue id_field b w
+    → HoldsValue (OneOf (word ∷ [])) word x → IsPieceMade word vs
     → IsCommandMade (codes "stage") (v ∷ w ∷ x ∷ vs)
 staged_made a b word ts v w x vs h k l (q, is, are) =
     let e : v ≡ Plain (plain_of v) = name_shape a v h in
@@ -282,7 +285,8 @@ stage_made profile (a ∷ []) vs h = absurd h
 stage_made profile (a ∷ b ∷ []) vs h = absurd h
 stage_made profile (a ∷ b ∷ word ∷ ts) vs h = by (form_of (piece_forms profile) word) refl vs h
   where
-    by : (o : Option Form) → form_of (piece_forms profile) word ≡ o → (vs : List Value) → IsMet (with_piece o word) (a ∷ b ∷ word ∷ ts) vs → IsCommandMade (codes "stage") vs
+    by : (o : Option Form) → form_of (piece_forms profile) word ≡ o → (vs : List Value) → IsMet (with_piece o word) (a ∷ b ∷ word ∷ ts) vs
+        → IsCommandMade (codes "stage") vs
     by None e vs h = absurd h
     by (Some form) e [] h = absurd h
     by (Some form) e (v ∷ []) h = absurd h.1
@@ -292,7 +296,8 @@ stage_made profile (a ∷ b ∷ word ∷ ts) vs h = by (form_of (piece_forms pro
 command_made : (profile : Profile) (word : Text) (ts : List Text) (vs : List Value) → IsMet (record_form profile (word ∷ ts)) ts vs → IsCommandMade word vs
 command_made profile word ts vs met = by (bytes_eq word (codes "stage")) refl met
   where
-    by : (v : Bool) → bytes_eq word (codes "stage") ≡ v → IsMet (if v then stage_form profile ts else form_of (piece_forms profile ++ other_forms profile) word) ts vs → IsCommandMade word vs
+    by : (v : Bool) → bytes_eq word (codes "stage") ≡ v
+        → IsMet (if v then stage_form profile ts else form_of (piece_forms profile ++ other_forms profile) word) ts vs → IsCommandMade word vs
     by true e met = subst (λ w. IsCommandMade w vs) (sym ((bytes_eq-Decides word (codes "stage")).0 e)) (stage_made profile ts vs met)
     by false e met = made_by_word IsCommandMade (piece_forms profile ++ other_forms profile) (commands_made profile) word ts vs met
 
@@ -313,7 +318,8 @@ command_or_number profile (word ∷ ts) = by (met_or_unmet (record_form profile 
     by (inl h) = inl (spelled h.0 h.1 (command_made profile word ts h.0 h.1))
     by (inr l) = inr l
 
-pub piece_or_number : (profile : Profile) (texts : List Text) → ((q : Piece) × SpellsPiece profile texts q) ⊎ ((n : ℕ) × IsLeast (HoldsAgainstPiece profile texts) n)
+pub piece_or_number : (profile : Profile) (texts : List Text)
+    → ((q : Piece) × SpellsPiece profile texts q) ⊎ ((n : ℕ) × IsLeast (HoldsAgainstPiece profile texts) n)
 piece_or_number profile [] = inr (10, record { is_held = refl; is_least = λ m e. omega (arith, e) })
 piece_or_number profile (word ∷ ts) = by (met_or_unmet (form_of (piece_forms profile) word) ts)
   where

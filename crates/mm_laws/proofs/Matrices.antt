@@ -29,7 +29,8 @@ fits_in : (s : Option MatrixSet) (g : Grid) → (r : MatrixSet) → s ≡ Some r
 fits_in s g r e h = subst (λ v. FitsIn v g) (sym e) (product_tells r.box g (not_false _ (ap (at_value (λ s. not (is_product s.box g))) (sym e) ∙ h)))
 
 -- a tile that lies in a matrix still does, where matrices are added
-pub still_inside : (old new : FinMap level_cmp Grid) → ((k : Level) (g : Grid) → Has old k g → Has new k g) → (k : Level) (column row : _) → IsInside (get old k) column row → IsInside (get new k) column row
+pub still_inside : (old new : FinMap level_cmp Grid) → ((k : Level) (g : Grid) → Has old k g → Has new k g) → (k : Level) (column row : _)
+    → IsInside (get old k) column row → IsInside (get new k) column row
 still_inside old new more k column row h = found (get old k) refl h where
   found : (v : Option Grid) → get old k ≡ v → IsInside v column row → IsInside (get new k) column row
   found None e i = absurd i

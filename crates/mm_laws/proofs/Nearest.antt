@@ -31,7 +31,8 @@ unless true b f = f refl
 unless false b f = refl
 
 -- the test holds of what the rules say
-pub above_holds : (halved : Bool) (low high : ℤ) (g h : Grid) → IsFiner g h → (halved ≡ true → high ≡ low +ℤ pos 1 → IsHalved g h) → suits_above halved low g high h ≡ true
+pub above_holds : (halved : Bool) (low high : ℤ) (g h : Grid) → IsFiner g h → (halved ≡ true → high ≡ low +ℤ pos 1 → IsHalved g h)
+    → suits_above halved low g high h ≡ true
 above_holds halved low high g h finer half =
     and_true (is_finer g h) _ (and_true _ _ (is_below _ _ finer.across) (is_below _ _ finer.down))
     (either_way halved (same_number high (low +ℤ pos 1)) (is_double g h) (λ two next.

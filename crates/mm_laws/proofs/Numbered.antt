@@ -15,7 +15,8 @@ abbrev AllNumbers : (ℕ → Bool) → Reasons → Bool
 AllNumbers test [] = true
 AllNumbers test (r ∷ rs) = test r.0 && AllNumbers test rs
 
-passes : (test : ℕ → Bool) (m : ℕ) (b : Bool) (v : Option ℕ) (n : ℕ) → test m ≡ true → ((k : ℕ) → v ≡ Some k → test k ≡ true) → smaller (cond b (Some m) None) v ≡ Some n → test n ≡ true
+passes : (test : ℕ → Bool) (m : ℕ) (b : Bool) (v : Option ℕ) (n : ℕ) → test m ≡ true → ((k : ℕ) → v ≡ Some k → test k ≡ true)
+    → smaller (cond b (Some m) None) v ≡ Some n → test n ≡ true
 passes test m true None n this rest e = subst (λ k. test k ≡ true) (same_some e) this
 passes test m true (Some k) n this rest e = subst (λ j. test j ≡ true) (same_some e) (elim (min_is m k) as (λ _. test (min m k) ≡ true) [
   | inl a ↦ ap test a ∙ this

@@ -48,7 +48,8 @@ halved_above low high g h e next =
 abbrev pub SuitsAll : FinMap level_cmp Grid → Text → ℤ → Grid → Bool → Type 0
 SuitsAll matrices table zoom g halved = (other : ℤ) (h : Grid) → Has matrices (level table other) h → suits halved zoom g other h ≡ true
 
-pub suits_unless_clashes : (p : Package) (table : Text) (zoom : ℤ) (g : Grid) → clashes p table zoom g ≡ false → SuitsAll p.matrices table zoom g (has_kind p.kinds table Two)
+pub suits_unless_clashes : (p : Package) (table : Text) (zoom : ℤ) (g : Grid) → clashes p table zoom g ≡ false
+    → SuitsAll p.matrices table zoom g (has_kind p.kinds table Two)
 suits_unless_clashes p table zoom g none other h e =
     let test : Level → Grid → Bool = λ k d. same_text k.table table && not (suits (has_kind p.kinds table Two) zoom g k.zoom d) in
     not_true _ (and_false _ _ (no_entry levels test p.matrices none (level table other) h e) (same_itself texts table))

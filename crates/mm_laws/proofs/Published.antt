@@ -76,11 +76,13 @@ module _ (profile : Profile) (moment : ℕ) (stamp : Text) (low : IsMoment momen
 
   by_piece : (p next : Package) (number : ℕ) (rest : Package → Result Package PieceRefusal) → Meets profile p
       → ((p : Package) → Meets profile p → rest p ≡ Ok next → Meets profile next)
-      → (v : Option Piece) → ((q : Piece) → v ≡ Some q → IsPieceWithin profile q) → after_trial (piece_trial p number stamp v) rest ≡ Ok next → Meets profile next
+      → (v : Option Piece) → ((q : Piece) → v ≡ Some q → IsPieceWithin profile q) → after_trial (piece_trial p number stamp v) rest ≡ Ok next
+      → Meets profile next
   by_piece p next number rest h on None within f = on p h f
   by_piece p next number rest h on (Some q) within f = by_reason p next number q rest h (within q refl) on (least (piece_reasons p q)) refl f
 
-  trial_keeps : (es : List (PieceKey × PieceRow)) → AllByRecursion (λ e. IsSpelled profile e.1) es → (next p : Package) → Meets profile p → trial es p stamp ≡ Ok next → Meets profile next
+  trial_keeps : (es : List (PieceKey × PieceRow)) → AllByRecursion (λ e. IsSpelled profile e.1) es → (next p : Package) → Meets profile p
+      → trial es p stamp ≡ Ok next → Meets profile next
   trial_keeps [] spelled next p h e = subst (Meets profile) (same_ok e) h
   trial_keeps (e ∷ es) spelled next p h f =
       by_piece p next (unsigned_abs e.0.number) (λ q. trial es q stamp) h (λ q. trial_keeps es spelled.1 next q) (row_piece e.1) (row_within profile e.1 spelled.0) f
@@ -130,7 +132,8 @@ module _ (profile : Profile) (moment : ℕ) (stamp : Text) (low : IsMoment momen
         );
       }
 
-  closed_by_keeps : (edition : Text) → IsName edition → (p : Package) → Meets profile p → (v : Result Package PieceRefusal) → edition_trial p edition stamp ≡ v → Meets profile (closed_by edition v p)
+  closed_by_keeps : (edition : Text) → IsName edition → (p : Package) → Meets profile p → (v : Result Package PieceRefusal)
+      → edition_trial p edition stamp ≡ v → Meets profile (closed_by edition v p)
   closed_by_keeps edition named p h (Ok next) e =
       closed_keeps edition named next (trial_keeps (pieces_of p edition)
       (along_entries piece_keys (λ _ r. IsSpelled profile r) (retain_keys p.pieces (λ k. same_text k.edition edition)) (each_retain piece_keys p.pieces (λ k. same_text k.edition edition) (λ _ r. IsSpelled profile r) h.q15.spelled))

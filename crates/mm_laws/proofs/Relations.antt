@@ -48,7 +48,8 @@ relation_is_clean names.Media = ascii_is_clean (relation_text names.Media) refl 
 relation_is_clean names.SimpleAttributes = ascii_is_clean (relation_text names.SimpleAttributes) refl refl
 
 -- ---- a relation
-suited_new : (kinds_of : Kinds) (base related : Text) (name : RelationName) → has_kind kinds_of base kinds.Attributes || has_kind kinds_of base kinds.Media ≡ true → has_kind kinds_of related (related_kind name) ≡ true
+suited_new : (kinds_of : Kinds) (base related : Text) (name : RelationName)
+    → has_kind kinds_of base kinds.Attributes || has_kind kinds_of base kinds.Media ≡ true → has_kind kinds_of related (related_kind name) ≡ true
     → IsSuited kinds_of (record { base = base; related = related; base_column = codes "id"; related_column = codes "id"; name = relation_text name })
 suited_new kinds_of base related name e f = record {
   base = elim (either_true (has_kind kinds_of base kinds.Attributes) (has_kind kinds_of base kinds.Media) e) as (λ _. HasKind kinds_of base kinds.Attributes ⊎ HasKind kinds_of base kinds.Media) [
@@ -129,16 +130,19 @@ relation_put mapping base related name profile p moment stamp h within low is no
     both true b e f = f
     both false b e f = e
 
-    joins_still : (p : Package) (next : RelationsPart) → ((m : Text) (s : Relation) → Has p.relations m s → Has next m s) → (v : Option Relation) (k : Pairing) → get p.relations k.mapping ≡ v → Joins p.rows p.media v k → Joins p.rows p.media (get next k.mapping) k
+    joins_still : (p : Package) (next : RelationsPart) → ((m : Text) (s : Relation) → Has p.relations m s → Has next m s)
+        → (v : Option Relation) (k : Pairing) → get p.relations k.mapping ≡ v → Joins p.rows p.media v k → Joins p.rows p.media (get next k.mapping) k
     joins_still p next still None k e j = absurd j
     joins_still p next still (Some s) k e j = subst (λ v. Joins p.rows p.media v k) (sym (still k.mapping s e)) j
 
-    wanted_stays : (p : Package) (next : RelationsPart) → ((m : Text) → Stands p.relations m → Stands next m) → (e : Extension) → IsWanted p.kinds p.relations e → IsWanted p.kinds next e
+    wanted_stays : (p : Package) (next : RelationsPart) → ((m : Text) → Stands p.relations m → Stands next m) → (e : Extension)
+        → IsWanted p.kinds p.relations e → IsWanted p.kinds next e
     wanted_stays p next more e (inl a) = inl a
     wanted_stays p next more e (inr (inl m)) = inr (inl (m.0, more m.0 m.1, m.2))
     wanted_stays p next more e (inr (inr t)) = inr (inr t)
 
-    wanted_was : (p : Package) (mapping : Text) (relation : Relation) (e : Extension) → IsWanted p.kinds (insert p.relations mapping relation) e → (e ≡ mapping_extension mapping) ⊎ IsWanted p.kinds p.relations e
+    wanted_was : (p : Package) (mapping : Text) (relation : Relation) (e : Extension) → IsWanted p.kinds (insert p.relations mapping relation) e
+        → (e ≡ mapping_extension mapping) ⊎ IsWanted p.kinds p.relations e
     wanted_was p mapping relation e (inl a) = inr (inl a)
     wanted_was p mapping relation e (inr (inl m)) =
         let s = some_of (get (insert p.relations mapping relation) m.0) m.1 in
@@ -194,12 +198,14 @@ relation_drop mapping profile p moment stamp h within low is none =
       );
     }
   where
-    wanted_still : (p : Package) (mapping : Text) (e : Extension) → e ≢ mapping_extension mapping → IsWanted p.kinds p.relations e → IsWanted p.kinds (remove p.relations mapping) e
+    wanted_still : (p : Package) (mapping : Text) (e : Extension) → e ≢ mapping_extension mapping → IsWanted p.kinds p.relations e
+        → IsWanted p.kinds (remove p.relations mapping) e
     wanted_still p mapping e n (inl a) = inl a
     wanted_still p mapping e n (inr (inl m)) = inr (inl (m.0, ap is_some (beside_remove texts p.relations mapping m.0 (λ s. n (m.2 ∙ ap mapping_extension s))) ∙ m.1, m.2))
     wanted_still p mapping e n (inr (inr t)) = inr (inr t)
 
-    wanted_was : (p : Package) (mapping : Text) → IsName mapping → (e : Extension) → IsWanted p.kinds (remove p.relations mapping) e → (e ≢ mapping_extension mapping) × IsWanted p.kinds p.relations e
+    wanted_was : (p : Package) (mapping : Text) → IsName mapping → (e : Extension) → IsWanted p.kinds (remove p.relations mapping) e
+        → (e ≢ mapping_extension mapping) × IsWanted p.kinds p.relations e
     wanted_was p mapping named e (inl a) = (λ s. not_general mapping named (sym a ∙ s), inl a)
     wanted_was p mapping named e (inr (inl m)) =
         let s = some_of (get (remove p.relations mapping) m.0) m.1 in
@@ -256,14 +262,16 @@ edition_put name profile p moment stamp h within low is none =
     missing : (p : Package) (name : Text) → get p.editions name ≡ None → contains_key p.editions name ≡ false
     missing p name e = ap is_some e
 
-    no_pieces : (p : Package) (name : Text) → get p.editions name ≡ None → Each p.pieces (λ k _. Has p.editions k.edition open_state) → (number : ℤ) → Stands p.pieces (piece name number) → ⊥
+    no_pieces : (p : Package) (name : Text) → get p.editions name ≡ None → Each p.pieces (λ k _. Has p.editions k.edition open_state) → (number : ℤ)
+        → Stands p.pieces (piece name number) → ⊥
     no_pieces p name free opened number there = let r = some_of (get p.pieces (piece name number)) there in not_none (opened (piece name number) r.0 r.1) free
 
     nothing_between : (n : ℤ) → pos 1 ≤ℤ n → n ≤ℤ pos 0 → ⊥
     nothing_between n a b = omega (arith, ints)
 
 -- another edition's pieces are numbered as before
-pub numbered_still : (p : Package) (name edition : Text) (n : ℕ) → edition ≢ name → IsNumbered p.pieces edition n → IsNumbered (retain_keys p.pieces (λ k. is_other name k.edition)) edition n
+pub numbered_still : (p : Package) (name edition : Text) (n : ℕ) → edition ≢ name → IsNumbered p.pieces edition n
+    → IsNumbered (retain_keys p.pieces (λ k. is_other name k.edition)) edition n
 numbered_still p name edition n other h number =
     let same = kept piece_keys p.pieces (λ k. is_other name k.edition) (piece edition number) (other_holds name edition other) in
     (λ there. (h number).0 (sym (ap is_some same) ∙ there), λ range. ap is_some same ∙ (h number).1 range)

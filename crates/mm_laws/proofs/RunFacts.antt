@@ -15,7 +15,8 @@ use Rattle.mm_laws.proofs.Steps.{run_keeps}
 pub refused_same : (p : Package) (c : Command) (moment : ℕ) (r : Refusal) → refusal p c ≡ Some r → step p c moment ≡ p
 refused_same p c moment r e = ap (λ v. unless_refused v (done p c (stamp moment)) p) e
 
-if_ok_within : (profile : Profile) (v : Option Refusal) (c : Call) (cs : List Call) → IsWithin profile c.command × IsMoment c.moment → AllWithin profile cs → AllWithin profile (if_ok v c cs)
+if_ok_within : (profile : Profile) (v : Option Refusal) (c : Call) (cs : List Call) → IsWithin profile c.command × IsMoment c.moment
+    → AllWithin profile cs → AllWithin profile (if_ok v c cs)
 if_ok_within profile None c cs h more = (h, more)
 if_ok_within profile (Some r) c cs h more = more
 
@@ -30,7 +31,8 @@ take_within profile (suc n) [] h = tt
 take_within profile (suc n) (c ∷ cs) h = (h.0, take_within profile n cs h.1)
 
 -- every first part of a run meets the rules
-pub first_part_meets : (profile : Profile) (calls : List Call) (p q : Package) (a : ℕ) → Meets profile p → AllWithin profile calls → IsFirstPart p calls a q → Meets profile q
+pub first_part_meets : (profile : Profile) (calls : List Call) (p q : Package) (a : ℕ) → Meets profile p → AllWithin profile calls
+    → IsFirstPart p calls a q → Meets profile q
 first_part_meets profile calls p q a h within part =
     subst (Meets profile) (sym part.is) (run_keeps profile (take part.count (accepted p calls)) p h (take_within profile part.count (accepted p calls) (accepted_within profile calls p within)))
 
@@ -38,7 +40,8 @@ first_part_meets profile calls p q a h within part =
 pub run_accepted : (calls : List Call) (p : Package) → run p (accepted p calls) ≡ run p calls
 run_accepted [] p = refl
 run_accepted (c ∷ cs) p = by_answer p c cs (run_accepted cs (step p c.command c.moment)) (refusal p c.command) refl where
-  by_answer : (p : Package) (c : Call) (cs : List Call) → run (step p c.command c.moment) (accepted (step p c.command c.moment) cs) ≡ run (step p c.command c.moment) cs
+  by_answer : (p : Package) (c : Call) (cs : List Call)
+      → run (step p c.command c.moment) (accepted (step p c.command c.moment) cs) ≡ run (step p c.command c.moment) cs
       → (v : Option Refusal) → refusal p c.command ≡ v → run p (if_ok v c (accepted (step p c.command c.moment) cs)) ≡ run (step p c.command c.moment) cs
   by_answer p c cs rest None e = rest
   by_answer p c cs rest (Some r) e = ap (λ q. run q (accepted (step p c.command c.moment) cs)) (sym (refused_same p c.command c.moment r e)) ∙ rest

@@ -29,7 +29,8 @@ within_old : (n u : ℕ) (z number : ℤ) → number ≡ pos u → number ≤ℤ
 within_old n u z number e h a b = omega (arith, ints)
 
 -- the pieces are numbered still where the next is put, or one of them again
-numbered_more : (pieces : PiecesPart) (edition : Text) (number : ℤ) (u n : ℕ) (row : PieceRow) → number ≡ pos u → pos 1 ≤ℤ number → number ≤ℤ pos (n + 1) → IsNumbered pieces edition n
+numbered_more : (pieces : PiecesPart) (edition : Text) (number : ℤ) (u n : ℕ) (row : PieceRow) → number ≡ pos u → pos 1 ≤ℤ number
+    → number ≤ℤ pos (n + 1) → IsNumbered pieces edition n
     → IsNumbered (insert pieces (piece edition number) row) edition (max n u)
 numbered_more pieces edition number u n row whole low high h z =
     let key = piece edition number in (
@@ -45,7 +46,8 @@ numbered_more pieces edition number u n row whole low high h z =
       ],
     )
 
-numbered_beside : (pieces : PiecesPart) (edition other : Text) (number : ℤ) (n : ℕ) (row : PieceRow) → other ≢ edition → IsNumbered pieces other n → IsNumbered (insert pieces (piece edition number) row) other n
+numbered_beside : (pieces : PiecesPart) (edition other : Text) (number : ℤ) (n : ℕ) (row : PieceRow) → other ≢ edition → IsNumbered pieces other n
+    → IsNumbered (insert pieces (piece edition number) row) other n
 numbered_beside pieces edition other number n row apart h z =
     let same = beside_put piece_keys pieces (piece edition number) row (piece other z) (λ e. apart (ap (λ (k : PieceKey). k.edition) e)) in
     (λ s. (h z).0 (sym (ap is_some same) ∙ s), λ range. ap is_some same ∙ (h z).1 range)
@@ -54,7 +56,8 @@ at_most_next : (count : ℕ) (number : ℤ) → int_lt (pos (count + 1)) number 
 at_most_next count number e = grind (arith, ints)
 
 -- the next is there only where there is room for one more
-still_room : (n u : ℕ) (number : ℤ) → n ≤ 4096 → number ≡ pos u → number ≤ℤ pos (n + 1) → (same_number number (pos (n + 1)) && (n == 4096)) ≡ false → max n u ≤ 4096
+still_room : (n u : ℕ) (number : ℤ) → n ≤ 4096 → number ≡ pos u → number ≤ℤ pos (n + 1) → (same_number number (pos (n + 1)) && (n == 4096)) ≡ false
+    → max n u ≤ 4096
 still_room n u number a e b none = elim (same_key numbers number (pos (n + 1))) as (λ _. max n u ≤ 4096) [
   | inl s ↦ one_more n u number a e (and_false (same_number number (pos (n + 1))) (n == 4096) none s.1) s.0
   | inr d ↦ no_more n u number a e b d.0

@@ -32,7 +32,8 @@ least_none [] h = refl
 least_none (r ∷ rs) h = ap (λ b. smaller (cond b (Some r.0) None) (least rs)) h.0 ∙ least_none rs h.1
 
 -- what an accepted command gives
-pub done_keeps : (c : Command) (profile : Profile) (p : Package) (moment : ℕ) (stamp : Text) → Meets profile p → IsWithin profile c → IsMoment moment → IsStamp moment stamp
+pub done_keeps : (c : Command) (profile : Profile) (p : Package) (moment : ℕ) (stamp : Text) → Meets profile p → IsWithin profile c → IsMoment moment
+    → IsStamp moment stamp
     → least (own_reasons p c) ≡ None → Meets profile (done p c stamp)
 done_keeps (commands.Srs id name organization organization_id definition description) = srs id name organization organization_id definition description
 done_keeps (commands.Pyramid table identifier system min_x min_y max_x max_y step) = pyramid_put table identifier system min_x min_y max_x max_y step
@@ -55,9 +56,11 @@ done_keeps (commands.MediaDrop table id) = contents.media_drop table id
 done_keeps (commands.Map mapping base_id related_id) = contents.map_put mapping base_id related_id
 done_keeps (commands.MapDrop mapping base_id related_id) = contents.map_drop mapping base_id related_id
 
-pub step_keeps : (profile : Profile) (p : Package) (c : Command) (moment : ℕ) → Meets profile p → IsWithin profile c → IsMoment moment → Meets profile (step p c moment)
+pub step_keeps : (profile : Profile) (p : Package) (c : Command) (moment : ℕ) → Meets profile p → IsWithin profile c → IsMoment moment
+    → Meets profile (step p c moment)
 step_keeps profile p c moment h within low = decided (least (reasons p c)) refl where
-  decided : (v : Option ℕ) → least (reasons p c) ≡ v → Meets profile (unless_refused (refusal_of v (refused_piece (publishing p c []))) (done p c (stamp moment)) p)
+  decided : (v : Option ℕ) → least (reasons p c) ≡ v
+      → Meets profile (unless_refused (refusal_of v (refused_piece (publishing p c []))) (done p c (stamp moment)) p)
   decided None e =
       done_keeps c profile p moment (stamp moment) h within low (stamp_is moment low)
       (least_none (own_reasons p c) (none_of_the_first (own_reasons p c) ((53, is_publishing p c && is_err (publishing p c [])) ∷ []) (none_holds (reasons p c) e)))

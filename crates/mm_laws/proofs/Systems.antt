@@ -15,7 +15,8 @@ pub if_some_more : {A : Type 0} (v : Option A) (P Q : A → Type 0) → ((x : A)
 if_some_more None P Q more h = tt
 if_some_more (Some x) P Q more h = more x h
 
-pub srs : (id : ℤ) (name organization : Text) (organization_id : ℤ) (definition description : Text) → Keeps (Srs id name organization organization_id definition description)
+pub srs : (id : ℤ) (name organization : Text) (organization_id : ℤ) (definition description : Text)
+    → Keeps (Srs id name organization organization_id definition description)
 srs id name organization organization_id definition description profile p moment stamp h within low is none =
     let new = (none_holds (own_reasons p (Srs id name organization organization_id definition description)) none).0 in
     let system : System = record { name = name; organization = organization; organization_id = organization_id; definition = definition; description = description } in

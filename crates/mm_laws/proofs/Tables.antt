@@ -127,7 +127,8 @@ module _ (profile : Profile) (p : Package) (h : Meets profile p) (table : Text) 
   wanted_stays e (inr (inl m)) = inr (inl m)
   wanted_stays e (inr (inr t)) = inr (inr (t.0, kind_stays t.0 kinds.Other t.1, t.2))
 
-  wanted_was : (e : Extension) → IsWanted next_kinds p.relations e → ((kind_text kind ≡ kind_text kinds.Other) × (e ≡ zoom_extension table)) ⊎ IsWanted p.kinds p.relations e
+  wanted_was : (e : Extension) → IsWanted next_kinds p.relations e
+      → ((kind_text kind ≡ kind_text kinds.Other) × (e ≡ zoom_extension table)) ⊎ IsWanted p.kinds p.relations e
   wanted_was e (inl a) = inr (inl a)
   wanted_was e (inr (inl m)) = inr (inr (inl m))
   wanted_was e (inr (inr t)) = elim (kind_was t.0 kinds.Other t.1) as (λ _. ((kind_text kind ≡ kind_text kinds.Other) × (e ≡ zoom_extension table)) ⊎ IsWanted p.kinds p.relations e) [
@@ -261,7 +262,8 @@ table_put table kind identifier profile p moment stamp h within low is none =
     not_other plain.Attributes = differ (kind_text kinds.Attributes) (kind_text kinds.Other) refl
     not_other plain.Media = differ (kind_text kinds.Media) (kind_text kinds.Other) refl
 
-pub pyramid_put : (table identifier : Text) (srs min_x min_y max_x max_y : ℤ) (step : Step) → Keeps (commands.Pyramid table identifier srs min_x min_y max_x max_y step)
+pub pyramid_put : (table identifier : Text) (srs min_x min_y max_x max_y : ℤ) (step : Step)
+    → Keeps (commands.Pyramid table identifier srs min_x min_y max_x max_y step)
 pyramid_put table identifier srs min_x min_y max_x max_y step profile p moment stamp h within low is none =
     let r = none_holds (own_reasons p (commands.Pyramid table identifier srs min_x min_y max_x max_y step)) none in
     let plane = either_false (same_number srs (pos 0)) (same_number srs (pos 4326)) r.1.0 in
@@ -275,7 +277,8 @@ pyramid_put table identifier srs min_x min_y max_x max_y step profile p moment s
     let may : MayName p.systems (insert p.kinds table (kind_text (step_kind step))) table srs = (not_false (contains_key p.systems srs) r.0, λ _. (not_number srs (pos 0) plane.0, not_number srs (pos 4326) plane.1)) in
     let suits : (kind : Step) → Suits (step_kind kind) row (get sets table) = placed row set (get sets table) (at_put texts p.sets table set) (record { data_type = refl; system = refl; min_x = refl; min_y = refl; max_x = refl; max_y = refl }) in
     let suited : (extensions : FinMap extension_cmp ℕ) → ExactExtensions (insert p.kinds table (kind_text (step_kind step))) p.relations extensions
-    → Each extensions ExtensionWithin → Suited profile p h table row (step_kind step) taken.0 taken.1 named sets extensions = λ extensions exact limits. record {
+    → Each extensions ExtensionWithin
+    → Suited profile p h table row (step_kind step) taken.0 taken.1 named sets extensions = λ extensions exact limits. record {
       name = within.0;
       suits = suits step;
       system = may;

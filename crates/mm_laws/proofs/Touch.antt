@@ -29,14 +29,16 @@ still_suits Media c stamp s h = h
 
 module _ (contents : ContentsPart) (table : Text) (row : Contents) (was : get contents table ≡ Some row) (stamp : Text) where
   -- an entry after the change is one from before, changed or as it was
-  from_before : (q : Text) (c : Contents) → get (touched contents table row stamp) q ≡ Some c → (b : Contents) × (get contents q ≡ Some b) × (c.identifier ≡ b.identifier)
+  from_before : (q : Text) (c : Contents) → get (touched contents table row stamp) q ≡ Some c
+      → (b : Contents) × (get contents q ≡ Some b) × (c.identifier ≡ b.identifier)
   from_before q c e = elim (after_put texts contents table (changed_at stamp row) q c e) as (λ _. (b : Contents) × (get contents q ≡ Some b) × (c.identifier ≡ b.identifier)) [
     | inl s ↦ (row, ap (get contents) s.0 ∙ was, ap (λ (d : Contents). d.identifier) (sym s.1))
     | inr n ↦ (c, n.1, refl)
   ]
 
   -- what holds of each row and doesn't look at last_change still holds
-  each_touched : (P : Text → Contents → Type 0) → ((q : Text) (b : Contents) → P q b → P q (changed_at stamp b)) → Each contents P → Each (touched contents table row stamp) P
+  each_touched : (P : Text → Contents → Type 0) → ((q : Text) (b : Contents) → P q b → P q (changed_at stamp b)) → Each contents P
+      → Each (touched contents table row stamp) P
   each_touched P same h = each_put texts contents table (changed_at stamp row) P h (same table row (h table row was))
 
   still_absent : (q : Text) → get contents q ≡ None → get (touched contents table row stamp) q ≡ None
@@ -109,5 +111,6 @@ touched_row_keeps profile p table stamp moment low is (Some row) was h =
     }
 
 -- a change of one table's last_change keeps all the rules
-pub touch_keeps : (profile : Profile) (p : Package) (table stamp : Text) (moment : ℕ) → IsMoment moment → IsStamp moment stamp → Meets profile p → Meets profile (touch p table stamp)
+pub touch_keeps : (profile : Profile) (p : Package) (table stamp : Text) (moment : ℕ) → IsMoment moment → IsStamp moment stamp → Meets profile p
+    → Meets profile (touch p table stamp)
 touch_keeps profile p table stamp moment low is h = touched_row_keeps profile p table stamp moment low is (get p.contents table) refl h

@@ -14,12 +14,14 @@ use Rattle.mm_store.proofs.Keys.{columns_after}
 abbrev pub joins_by : ℕ → ℕ → Text → ℤ → Row → Row → Bool
 joins_by c d table id r m = equal Binary (column m 1) (column r 7) && (equal Binary (column m d) (Int id) && (equal Binary (column r c) (Words table) && true))
 
-pub base_tells : (table : Text) (id : ℤ) (r m : Row) (name : Text) (v : Relation) (k : Pairing) → past_id r ≡ relation_row name v → past_rowid m ≡ pairing_row k tt
+pub base_tells : (table : Text) (id : ℤ) (r m : Row) (name : Text) (v : Relation) (k : Pairing) → past_id r ≡ relation_row name v
+    → past_rowid m ≡ pairing_row k tt
     → joins_by 2 2 table id r m ≡ (same_text k.mapping name && (same_number k.base_id id && (same_text v.base table && true)))
 base_tells table id r m name v k is there =
     rw (columns_after r (relation_row name v) 5 is, columns_after r (relation_row name v) 0 is, columns_are m (pairing_row k tt) 0 there, columns_are m (pairing_row k tt) 1 there, equal_text k.mapping name, equal_int k.base_id id, equal_text v.base table) refl
 
-pub related_tells : (table : Text) (id : ℤ) (r m : Row) (name : Text) (v : Relation) (k : Pairing) → past_id r ≡ relation_row name v → past_rowid m ≡ pairing_row k tt
+pub related_tells : (table : Text) (id : ℤ) (r m : Row) (name : Text) (v : Relation) (k : Pairing) → past_id r ≡ relation_row name v
+    → past_rowid m ≡ pairing_row k tt
     → joins_by 4 3 table id r m ≡ (same_text k.mapping name && (same_number k.related_id id && (same_text v.related table && true)))
 related_tells table id r m name v k is there =
     rw (columns_after r (relation_row name v) 5 is, columns_after r (relation_row name v) 2 is, columns_are m (pairing_row k tt) 0 there, columns_are m (pairing_row k tt) 2 there, equal_text k.mapping name, equal_int k.related_id id, equal_text v.related table) refl

@@ -19,7 +19,8 @@ use Rattle.mm_store.proofs.Shapes.{quiet_then}
 use Rattle.mm_layout.specs.Stamped.{step_at, IsLentAt, IsLentWhere}
 
 -- at the stamp of a moment it is the lent call of that moment
-pub at_moment : (profile : Profile) (c : Command) (at : Text) (old new : State) (result : Result Outcome Fault) → IsLentAt profile c at old new result → (moment : ℕ) → IsStamp moment at → IsLent profile c moment old new result
+pub at_moment : (profile : Profile) (c : Command) (at : Text) (old new : State) (result : Result Outcome Fault) → IsLentAt profile c at old new result
+    → (moment : ℕ) → IsStamp moment at → IsLent profile c moment old new result
 at_moment profile c at old new result lent moment stamped = record {
   survives = lent.survives;
   on = λ clean ground p it. lent.on clean ground p it tt;
@@ -29,7 +30,8 @@ at_moment profile c at old new result lent moment stamped = record {
 
 module _ {Held : Package → Type 0} (profile : Profile) (c : Command) (at : Text) where
   -- a command that writes no last_change does at any text what it does at a moment
-  pub at_any_text : (old new : State) (result : Result Outcome Fault) (moment : ℕ) → ((p : Package) → step p c moment ≡ step_at p c at) → IsLent profile c moment old new result → IsLentWhere Held profile c at old new result
+  pub at_any_text : (old new : State) (result : Result Outcome Fault) (moment : ℕ) → ((p : Package) → step p c moment ≡ step_at p c at)
+      → IsLent profile c moment old new result → IsLentWhere Held profile c at old new result
   at_any_text old new result moment same lent = record {
     survives = lent.survives;
     on = λ clean ground p it held. lent.on clean ground p it;
@@ -47,13 +49,15 @@ module _ {Held : Package → Type 0} (profile : Profile) (c : Command) (at : Tex
     faults = tt;
   }
 
-  pub look_gave_up_at : {T : Type 0} {Says : Package → T → Type 0} (old new : State) (e : Fault) → IsLook profile {T = T} old new Says (Err e) → IsLentWhere Held profile c at old new (Err e)
+  pub look_gave_up_at : {T : Type 0} {Says : Package → T → Type 0} (old new : State) (e : Fault) → IsLook profile {T = T} old new Says (Err e)
+      → IsLentWhere Held profile c at old new (Err e)
   look_gave_up_at old new e look = record { survives = look.survives; on = λ clean ground p it held. look.on clean ground p it.inside; answers = λ clean ground p it held. tt; faults = look.faults }
 
   -- the look finds no refusal, and the change is made
   module _ {T U : Type 0} {Says : Package → T → Type 0} {When : Package → Type 0} {change : Package → Package} (old mid new : State) (x : T) (look : IsLook profile old mid Says (Ok x)) where
     pub accepts_at : (u : U) → IsChange profile mid new When change (Ok u)
-        → ((p : Package) → Meets profile p → Says p x → Held p → When p × (refusal p c ≡ None) × (done p c at ≡ change p)) → IsLentWhere Held profile c at old new (Ok Done)
+        → ((p : Package) → Meets profile p → Says p x → Held p → When p × (refusal p c ≡ None) × (done p c at ≡ change p))
+        → IsLentWhere Held profile c at old new (Ok Done)
     accepts_at u made finds = record {
       survives = quiet_then old mid new look.survives made.survives;
       on = λ clean ground p it held. let found = look.looked (omega (arith, made.survives.clean)) ground p it.inside in made.on clean ground p found.1 (finds p it.meets found.2 held).0;
@@ -65,7 +69,8 @@ module _ {Held : Package → Type 0} (profile : Profile) (c : Command) (at : Tex
       faults = tt;
     }
 
-    pub change_gave_up_at : (e : Fault) → IsChange profile {T = U} mid new When change (Err e) → ((p : Package) → Meets profile p → Says p x → Held p → When p) → IsLentWhere Held profile c at old new (Err e)
+    pub change_gave_up_at : (e : Fault) → IsChange profile {T = U} mid new When change (Err e)
+        → ((p : Package) → Meets profile p → Says p x → Held p → When p) → IsLentWhere Held profile c at old new (Err e)
     change_gave_up_at e made finds = record {
       survives = quiet_then old mid new look.survives made.survives;
       on = λ clean ground p it held. let found = look.looked (omega (arith, made.survives.clean)) ground p it.inside in made.on clean ground p found.1 (finds p it.meets found.2 held);

@@ -28,7 +28,8 @@ module _ (profile : Profile) (table at : Text) (old mid : State) where
   look_failed e look = record { survives = look.survives; on = look.on; answers = λ clean ground p inside. tt; faults = look.faults }
 
   module _ (found : Bool) (look : Looked (Ok found)) (new : State) where
-    pub touched : {T : Type 0} (x : T) → found ≡ true → IsChange profile mid new (λ p. ⊤) (λ p. touch p table at) (Ok x) → IsTouched profile table at old new (Ok Done)
+    pub touched : {T : Type 0} (x : T) → found ≡ true → IsChange profile mid new (λ p. ⊤) (λ p. touch p table at) (Ok x)
+        → IsTouched profile table at old new (Ok Done)
     touched x is made = record {
       survives = quiet_then old mid new look.survives made.survives;
       on = λ clean ground p inside. made.on clean ground p (look.looked (omega (arith, made.survives.clean)) ground p inside).1 tt;
@@ -39,7 +40,8 @@ module _ (profile : Profile) (table at : Text) (old mid : State) where
       faults = tt;
     }
 
-    pub change_failed : {T : Type 0} (e : Fault) → IsChange profile {T = T} mid new (λ p. ⊤) (λ p. touch p table at) (Err e) → IsTouched profile table at old new (Err e)
+    pub change_failed : {T : Type 0} (e : Fault) → IsChange profile {T = T} mid new (λ p. ⊤) (λ p. touch p table at) (Err e)
+        → IsTouched profile table at old new (Err e)
     change_failed e made = record {
       survives = quiet_then old mid new look.survives made.survives;
       on = λ clean ground p inside. made.on clean ground p (look.looked (omega (arith, made.survives.clean)) ground p inside).1 tt;

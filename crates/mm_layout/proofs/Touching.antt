@@ -87,7 +87,8 @@ differs_from at (Some c) = not (same_text c.last_change at)
 
 module _ (version : ℤ) (db : Trees) (p : Package) (h : Holding version db p) (table at : Text) where
   -- what a row of the table shows is what its contents tell
-  shows : (r : Row) (c : Option Contents) → get p.contents table ≡ c → (v : Contents) → get p.contents table ≡ Some v → (s : Row) → past_rowid s ≡ contents_row table v → r ≡ s
+  shows : (r : Row) (c : Option Contents) → get p.contents table ≡ c → (v : Contents) → get p.contents table ≡ Some v → (s : Row)
+      → past_rowid s ≡ contents_row table v → r ≡ s
       → is_true (binary (Compare Ne Binary) (column r 5) (Words at)) ≡ differs_from at c
   shows r None is v found s row same = absurd (let e : None ≡ Some v = sym is ∙ found in cc)
   shows r (Some c) is v found s row same =
@@ -104,11 +105,13 @@ module _ (version : ℤ) (db : Trees) (p : Package) (h : Holding version db p) (
       let f = finds_some parts.contents (db 1) p.contents h.contents table (λ (x : Row). x) r (r, there, passes, refl) in
       shows r c is f.0 f.1 f.2 f.3 f.4)
 
-  rows_are : (c : Option Contents) → get p.contents table ≡ c → touched_rows table at db ≡ with_changed (by_text table) (λ r. if differs_from at c then stamped table at r else r) (db 1)
+  rows_are : (c : Option Contents) → get p.contents table ≡ c
+      → touched_rows table at db ≡ with_changed (by_text table) (λ r. if differs_from at c then stamped table at r else r) (db 1)
   rows_are c is = narrowed (is_to_touch table at) (by_text table) (stamped table at) (differs_from at c) (db 1) (tells c is)
 
   -- a row that shows the text already is what it would be changed to
-  changed_to : (c : Contents) (r : Row) → past_rowid r ≡ contents_row table c → past_rowid (if differs_from at (Some c) then stamped table at r else r) ≡ contents_row table (changed_at at c)
+  changed_to : (c : Contents) (r : Row) → past_rowid r ≡ contents_row table c
+      → past_rowid (if differs_from at (Some c) then stamped table at r else r) ≡ contents_row table (changed_at at c)
   changed_to c r is = elim (same_key texts c.last_change at) as (λ _. past_rowid (if differs_from at (Some c) then stamped table at r else r) ≡ contents_row table (changed_at at c)) [
     | inl e ↦ ap (λ b. past_rowid (if not b then stamped table at r else r)) e.1 ∙ is ∙ ap (λ (t : Text). contents_row table (changed_at t c)) e.0
     | inr e ↦ ap (λ b. past_rowid (if not b then stamped table at r else r)) e.1 ∙ contents_changed table at c r is

@@ -21,7 +21,8 @@ step_at p c at = unless_refused (refusal p c) (done p c at) p
 pub record IsLentWhere (When : Package → Type 0) (profile : Profile) (c : Command) (at : Text) (old new : State) (result : Result Outcome Fault) : Type 0 where
   pub survives : CommitsNothing old new
   pub on : HasCleanDisk new → (ground : Ground) (p : Package) → ComesTo profile old ground p → When p → StandsOn new ground
-  pub answers : HasCleanDisk new → (ground : Ground) (p : Package) → ComesTo profile old ground p → When p → Answers profile new ground p (refusal p c) (step_at p c at) result
+  pub answers : HasCleanDisk new → (ground : Ground) (p : Package) → ComesTo profile old ground p → When p
+      → Answers profile new ground p (refusal p c) (step_at p c at) result
   pub faults : IfErr result IsStoreFault
 
 -- the same on every package

@@ -52,8 +52,8 @@ pub fn is_taken<S: Alter>(tx: &mut Transaction<'_, S>, name: &str) -> Result<boo
     }
 }
 
-/// Sets last_change of a table to this text, the stamp of a moment, and changes nothing else. Where no table has the name,
-/// nothing is changed at all. It is for commands that have looked at the table. (Contents: last_change.)
+/// Sets last_change of a table to this text, the stamp of a moment, and changes nothing else. Where no table has the
+/// name, nothing is changed at all. It is for commands that have looked at the table. (Contents: last_change.)
 pub fn set_last_change<S: Alter>(
     tx: &mut Transaction<'_, S>,
     table: &str,
@@ -69,8 +69,8 @@ pub fn set_last_change<S: Alter>(
     )
 }
 
-/// Sets last_change of a table to this text, the stamp of a moment, and changes nothing else. Refused 25 where no table has
-/// the name. (Contents: last_change.)
+/// Sets last_change of a table to this text, the stamp of a moment, and changes nothing else. Refused 25 where no table
+/// has the name. (Contents: last_change.)
 pub fn touch<S: Alter>(
     tx: &mut Transaction<'_, S>,
     table: &Name,

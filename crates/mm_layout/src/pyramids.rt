@@ -139,10 +139,10 @@ fn pyramid_refusal<S: Alter>(
     }
 }
 
-/// The command `pyramid`: adds a tile pyramid with its extent, in whole micrometres of its reference system. `last_change` is the
-/// stamp of the moment, which becomes its last_change. Refused 21 where no system has the number `srs`, 22 where that system
-/// is geographic, 23 where a table or mapping has the name, 24 where a table has the identifier, 27 where the extent is
-/// empty. (Tile Matrix Set; Zoom Other Intervals.)
+/// The command `pyramid`: adds a tile pyramid with its extent, in whole micrometres of its reference system.
+/// `last_change` is the stamp of the moment, which becomes its last_change. Refused 21 where no system has the number
+/// `srs`, 22 where that system is geographic, 23 where a table or mapping has the name, 24 where a table has the
+/// identifier, 27 where the extent is empty. (Tile Matrix Set; Zoom Other Intervals.)
 pub fn add_pyramid<S: Alter>(
     tx: &mut Transaction<'_, S>,
     table: &Name,

@@ -42,8 +42,8 @@ fn table_refusal<S: Alter>(
     }
 }
 
-/// The command `table`: adds a table of attribute rows or of media. `last_change` is the stamp of the moment, which becomes its
-/// last_change. Refused 23 where a table or mapping has the name, 24 where a table has the identifier.
+/// The command `table`: adds a table of attribute rows or of media. `last_change` is the stamp of the moment, which
+/// becomes its last_change. Refused 23 where a table or mapping has the name, 24 where a table has the identifier.
 pub fn add_table<S: Alter>(
     tx: &mut Transaction<'_, S>,
     table: &Name,

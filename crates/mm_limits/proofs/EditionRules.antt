@@ -51,7 +51,8 @@ edition_states profile version db p stands known =
       λ h. elim h [ inl is ↦ inl (ap Some is) | inr is ↦ inr (ap Some is) ],
     ))
 
-pub pieces_of_open : (profile : Profile) → Says [] (inner 25 (left 23 (equals 2 1 1 1 ∷ []) end)) [] (col 2 2 ∷ []) IsOpenRow (λ p. Limits profile p) PiecesOfOpen
+pub pieces_of_open : (profile : Profile)
+    → Says [] (inner 25 (left 23 (equals 2 1 1 1 ∷ []) end)) [] (col 2 2 ∷ []) IsOpenRow (λ p. Limits profile p) PiecesOfOpen
 pieces_of_open profile version db p stands known =
     let h = stands.holds in
     each_named piece_id piece_with h.kept.shelf h.kept.pieces p.pieces h.keeps.pieces_told after_rowid staged_row (db 25) (covered (λ k i. (_, _, refl)) h.keeps.pieces) _ _
@@ -72,7 +73,8 @@ one_less (pos (suc n)) id =
     rw fits
 one_less (negsuc n) id = absurd (let low = id.0 in omega (arith, ints, low))
 
-before_is : (l k : PieceKey) → IsId k.number → ((equal Binary (Words l.edition) (Words k.edition) && (equal Binary (Int l.number) (binary (Arith Sub) (Int k.number) (Int (pos 1))) && true)) ≡ true) ↔ (l ≡ piece k.edition (k.number -ℤ pos 1))
+before_is : (l k : PieceKey) → IsId k.number
+    → ((equal Binary (Words l.edition) (Words k.edition) && (equal Binary (Int l.number) (binary (Arith Sub) (Int k.number) (Int (pos 1))) && true)) ≡ true) ↔ (l ≡ piece k.edition (k.number -ℤ pos 1))
 before_is l k id =
     let t = texts_are l.edition k.edition in
     let n = ints_are l.number (k.number -ℤ pos 1) in
@@ -83,7 +85,8 @@ before_is l k id =
       λ e. and_from _ _ (t.1 (ap (λ (x : PieceKey). x.edition) e)) (and_from _ _ (n.1 (ap (λ (x : PieceKey). x.number) e)) refl),
     )
 
-first_is : (z : ℤ) (A : Type 0) → (IsFrom (pos 1) (pos MostPieces) z × ((◌≡◌ {A = Option ℤ} (Some z) (Some (pos 1))) ⊎ A)) ↔ (IsFrom (pos 1) (pos MostPieces) z × ((z ≡ pos 1) ⊎ A))
+first_is : (z : ℤ) (A : Type 0)
+    → (IsFrom (pos 1) (pos MostPieces) z × ((◌≡◌ {A = Option ℤ} (Some z) (Some (pos 1))) ⊎ A)) ↔ (IsFrom (pos 1) (pos MostPieces) z × ((z ≡ pos 1) ⊎ A))
 first_is z A = (
   λ h. (h.0, elim h.1 [ inl is ↦ inl (number_inside is) | inr a ↦ inr a ]),
   λ h. (h.0, elim h.1 [ inl is ↦ inl (ap Some is) | inr a ↦ inr a ]),
@@ -92,7 +95,8 @@ first_is z A = (
 there_too : {A B : Type 0} {b c : Bool} → b ≡ c → (A × (B ⊎ IsTrue b)) ↔ (A × (B ⊎ IsTrue c))
 there_too {A} {B} {b} is = subst (λ t. (A × (B ⊎ IsTrue b)) ↔ (A × (B ⊎ IsTrue t))) is same
 
-pub pieces_numbered : (profile : Profile) → Says [] (inner 25 (left 25 (equals 2 1 1 1 ∷ follows 2 2 1 2 ∷ []) end)) [] (col 1 2 ∷ col 2 2 ∷ []) IsNumberedRow (λ p. Limits profile p) PiecesNumbered
+pub pieces_numbered : (profile : Profile)
+    → Says [] (inner 25 (left 25 (equals 2 1 1 1 ∷ follows 2 2 1 2 ∷ []) end)) [] (col 1 2 ∷ col 2 2 ∷ []) IsNumberedRow (λ p. Limits profile p) PiecesNumbered
 pieces_numbered profile version db p stands known =
     let h = stands.holds in
     let here = covered (λ k i. (_, _, refl)) h.keeps.pieces in
@@ -139,7 +143,8 @@ natural : (z : ℤ) → pos 0 ≤ℤ z → z ≡ pos (unsigned_abs z)
 natural z low = omega (arith, ints, low)
 
 -- a row with these columns
-same_row : (v : PieceRow) (kind : Text) (k1 k2 k3 : ℤ) (t1 t2 : Text) (bytes : List ℕ) → v.kind ≡ kind → v.k1 ≡ k1 → v.k2 ≡ k2 → v.k3 ≡ k3 → v.k4 ≡ pos 0 → v.k5 ≡ pos 0 → v.k6 ≡ pos 0 → v.k7 ≡ pos 0 → v.t1 ≡ t1 → v.t2 ≡ t2 → v.bytes ≡ bytes
+same_row : (v : PieceRow) (kind : Text) (k1 k2 k3 : ℤ) (t1 t2 : Text) (bytes : List ℕ) → v.kind ≡ kind → v.k1 ≡ k1 → v.k2 ≡ k2 → v.k3 ≡ k3
+    → v.k4 ≡ pos 0 → v.k5 ≡ pos 0 → v.k6 ≡ pos 0 → v.k7 ≡ pos 0 → v.t1 ≡ t1 → v.t2 ≡ t2 → v.bytes ≡ bytes
     → v ≡ record { kind = kind; name = v.name; k1 = k1; k2 = k2; k3 = k3; k4 = pos 0; k5 = pos 0; k6 = pos 0; k7 = pos 0; t1 = t1; t2 = t2; bytes = bytes }
 same_row v kind k1 k2 k3 t1 t2 bytes a b c d e f g h s t u = λ i. record { kind = a i; name = v.name; k1 = b i; k2 = c i; k3 = d i; k4 = e i; k5 = f i; k6 = g i; k7 = h i; t1 = s i; t2 = t i; bytes = u i }
 
@@ -181,7 +186,8 @@ to_content profile v d data_is named h = go h.1
     go (inr (inr (inr (inr (is, (base, related, a), (b, c), none))))) =
         (MapDrop v.name v.k1 v.k2, same_row v _ _ _ _ _ _ _ (same_some is) refl refl (number_inside a) z4 z5 z6 z7 (same_some b) (same_some c) (no_bytes none), (named, base, related), tt)
 
-matrix_row : (v : PieceRow) (k1 k2 k3 k4 k5 : ℤ) → v.kind ≡ codes "matrix" → v.k1 ≡ k1 → v.k2 ≡ k2 → v.k3 ≡ k3 → v.k4 ≡ k4 → v.k5 ≡ k5 → v.t1 ≡ [] → v.t2 ≡ [] → v.bytes ≡ []
+matrix_row : (v : PieceRow) (k1 k2 k3 k4 k5 : ℤ) → v.kind ≡ codes "matrix" → v.k1 ≡ k1 → v.k2 ≡ k2 → v.k3 ≡ k3 → v.k4 ≡ k4 → v.k5 ≡ k5 → v.t1 ≡ []
+    → v.t2 ≡ [] → v.bytes ≡ []
     → v ≡ record { kind = codes "matrix"; name = v.name; k1 = k1; k2 = k2; k3 = k3; k4 = k4; k5 = k5; k6 = v.k6; k7 = v.k7; t1 = []; t2 = []; bytes = [] }
 matrix_row v k1 k2 k3 k4 k5 a b c d e f s t u = λ i. record { kind = a i; name = v.name; k1 = b i; k2 = c i; k3 = d i; k4 = e i; k5 = f i; k6 = v.k6; k7 = v.k7; t1 = s i; t2 = t i; bytes = u i }
 
@@ -200,7 +206,8 @@ to_matrix profile v d data_is named (takes, is, zoom, (mw, mh, tw, th), px, py, 
 to_spelled : (profile : Profile) (v : PieceRow) (d : Value) → IsDataOf v.bytes d → IsSpelledRow profile (shown v d) → IsSpelled profile v
 to_spelled profile v d data_is h = elim h.form [ inl content ↦ to_content profile v d data_is h.name.1 content | inr matrix ↦ to_matrix profile v d data_is h.name.1 matrix ]
 
-of_piece : (profile : Profile) (q : Piece) (d : Value) → IsDataOf (piece_row q).bytes d → IsPieceWithin profile q → Takes profile q → IsSpelledRow profile (shown (piece_row q) d)
+of_piece : (profile : Profile) (q : Piece) (d : Value) → IsDataOf (piece_row q).bytes d → IsPieceWithin profile q → Takes profile q
+    → IsSpelledRow profile (shown (piece_row q) d)
 of_piece profile (Tile table zoom column row bytes) d data_is w takes = record { name = (name_utf8 table w.0, w.0); form = inl ((refl, refl, refl, refl), inl (inl (refl, (w.1, w.2, w.3), (refl, refl), bytes_to bytes d data_is IsTileBytes (not_long 1048576) w.4))) }
 of_piece profile (TileDrop table zoom column row) d data_is w takes = record { name = (name_utf8 table w.0, w.0); form = inl ((refl, refl, refl, refl), inr (inl (refl, (w.1, w.2, w.3), (refl, refl), none_to [] d data_is refl))) }
 of_piece profile (RowPiece table id title note amount) d data_is w takes = record { name = (name_utf8 table w.0, w.0); form = inl ((refl, refl, refl, refl), inl (inr (inl (refl, w.1, w.4, refl, (w.2.clean.utf8, w.2), (w.3.clean.utf8, w.3), none_to [] d data_is refl)))) }
@@ -211,7 +218,8 @@ of_piece profile (Map mapping base_id related_id) d data_is w takes = record { n
 of_piece profile (MapDrop mapping base_id related_id) d data_is w takes = record { name = (name_utf8 mapping w.0, w.0); form = inl ((refl, refl, refl, refl), inr (inr (inr (inr (refl, (w.1, w.2, refl), (refl, refl), none_to [] d data_is refl))))) }
 of_piece profile (Matrix table zoom m) d data_is w takes = record { name = (name_utf8 table w.0, w.0); form = inr (takes, refl, w.1, (w.2.mw, w.2.mh, w.2.tw, w.2.th), w.2.px, w.2.py, (refl, refl), none_to [] d data_is refl) }
 
-pub pieces_spelled : (profile : Profile) → Says [] (inner 25 (left 27 (equals 2 0 1 14 ∷ []) end)) [] (col 1 3 ∷ col 1 4 ∷ col 1 5 ∷ col 1 6 ∷ col 1 7 ∷ col 1 8 ∷ col 1 9 ∷ col 1 10 ∷ col 1 11 ∷ col 1 12 ∷ col 1 13 ∷ col 2 3 ∷ []) (IsSpelledRow profile) (λ p. Limits profile p) (PiecesSpelled profile)
+pub pieces_spelled : (profile : Profile)
+    → Says [] (inner 25 (left 27 (equals 2 0 1 14 ∷ []) end)) [] (col 1 3 ∷ col 1 4 ∷ col 1 5 ∷ col 1 6 ∷ col 1 7 ∷ col 1 8 ∷ col 1 9 ∷ col 1 10 ∷ col 1 11 ∷ col 1 12 ∷ col 1 13 ∷ col 2 3 ∷ []) (IsSpelledRow profile) (λ p. Limits profile p) (PiecesSpelled profile)
 pieces_spelled profile version db p stands known =
     let h = stands.holds in
     each_named piece_id piece_with h.kept.shelf h.kept.pieces p.pieces h.keeps.pieces_told after_rowid staged_row (db 25) (covered (λ k i. (_, _, refl)) h.keeps.pieces) _ (λ _ r. IsSpelled profile r)
@@ -225,7 +233,8 @@ pieces_spelled profile version db p stands known =
     ))
 
 -- ---- all of rule 15
-pub all_editions : (profile : Profile) (p : Package) → (EditionStates p × (PiecesOfOpen p × (PiecesSpelled profile p × PiecesNumbered p))) ↔ Editions profile p.editions p.pieces
+pub all_editions : (profile : Profile) (p : Package)
+    → (EditionStates p × (PiecesOfOpen p × (PiecesSpelled profile p × PiecesNumbered p))) ↔ Editions profile p.editions p.pieces
 all_editions profile p = (
   λ h. record {
     states = h.0;

@@ -33,7 +33,8 @@ systems_within version db p stands known =
       λ w. record { numbers = w.numbers; name = (w.name.clean.utf8, w.name); organization = (w.organization.clean.utf8, w.organization); definition = (w.definition.clean.utf8, w.definition); description = (w.description.clean.utf8, w.description) },
     ))
 
-pub contents_within : (profile : Profile) → Says [] (inner 1 end) [] (col 1 1 ∷ col 1 2 ∷ col 1 3 ∷ col 1 4 ∷ col 1 5 ∷ col 1 6 ∷ col 1 7 ∷ col 1 8 ∷ col 1 9 ∷ col 1 10 ∷ []) (IsContentsWithinRow profile) (λ _. ⊤) (ContentsAreWithin profile)
+pub contents_within : (profile : Profile)
+    → Says [] (inner 1 end) [] (col 1 1 ∷ col 1 2 ∷ col 1 3 ∷ col 1 4 ∷ col 1 5 ∷ col 1 6 ∷ col 1 7 ∷ col 1 8 ∷ col 1 9 ∷ col 1 10 ∷ []) (IsContentsWithinRow profile) (λ _. ⊤) (ContentsAreWithin profile)
 contents_within profile version db p stands known =
     each_row after_rowid contents_row (db 1) p.contents (covered (λ k v. (_, _, refl)) stands.holds.contents) _ _ (λ k v x. (
       λ h. record { table = h.table.1; data_type = h.data_type.1; identifier = h.identifier.1; description = same_some h.description; last_change = h.last_change.1; min_x = (number_is (IsCoordinate profile) v.min_x).0 h.min_x; min_y = (number_is (IsCoordinate profile) v.min_y).0 h.min_y; max_x = (number_is (IsCoordinate profile) v.max_x).0 h.max_x; max_y = (number_is (IsCoordinate profile) v.max_y).0 h.max_y; system = (number_is IsSystemNumber v.system).0 h.system },
@@ -47,14 +48,16 @@ kinds_within version db p stands known =
       λ w. record { table = (name_utf8 _ w.0, w.0); kind = (w.1.utf8, w.1) },
     ))
 
-pub sets_within : (profile : Profile) → Says [] (inner 4 end) [] (col 1 1 ∷ col 1 2 ∷ col 1 3 ∷ col 1 4 ∷ col 1 5 ∷ col 1 6 ∷ []) (IsSetWithinRow profile) (λ _. ⊤) (SetsAreWithin profile)
+pub sets_within : (profile : Profile)
+    → Says [] (inner 4 end) [] (col 1 1 ∷ col 1 2 ∷ col 1 3 ∷ col 1 4 ∷ col 1 5 ∷ col 1 6 ∷ []) (IsSetWithinRow profile) (λ _. ⊤) (SetsAreWithin profile)
 sets_within profile version db p stands known =
     each_row after_rowid set_row (db 4) p.sets (covered (λ k v. (_, _, refl)) stands.holds.sets) _ _ (λ k v x. (
       λ h. record { table = h.table.1; system = h.system; box = record { min_x = h.min_x; min_y = h.min_y; max_x = h.max_x; max_y = h.max_y } },
       λ w. record { table = (name_utf8 _ w.table, w.table); system = w.system; min_x = w.box.min_x; min_y = w.box.min_y; max_x = w.box.max_x; max_y = w.box.max_y },
     ))
 
-pub matrices_within : (profile : Profile) → Says [] (inner 6 end) [] (col 1 1 ∷ col 1 2 ∷ col 1 3 ∷ col 1 4 ∷ col 1 5 ∷ col 1 6 ∷ col 1 7 ∷ col 1 8 ∷ []) (IsMatrixWithinRow profile) (λ _. ⊤) (MatricesAreWithin profile)
+pub matrices_within : (profile : Profile)
+    → Says [] (inner 6 end) [] (col 1 1 ∷ col 1 2 ∷ col 1 3 ∷ col 1 4 ∷ col 1 5 ∷ col 1 6 ∷ col 1 7 ∷ col 1 8 ∷ []) (IsMatrixWithinRow profile) (λ _. ⊤) (MatricesAreWithin profile)
 matrices_within profile version db p stands known =
     each_row after_rowid grid_row (db 6) p.matrices (covered (λ k v. (_, _, refl)) stands.holds.matrices) _ _ (λ k v x. (
       λ h. record { table = h.table.1; zoom = h.zoom; matrix_width = h.matrix_width; matrix_height = h.matrix_height; tile_width = h.tile_width; tile_height = h.tile_height; pixel_x_size = h.pixel_x_size; pixel_y_size = h.pixel_y_size },

@@ -36,7 +36,8 @@ all_low : (text : Text) → list_any high text ≡ false → AllByRecursion (λ 
 all_low [] e = tt
 all_low (c ∷ cs) e = let p = either_false (high c) (list_any high cs) e in (is_low c p.0, all_low cs p.1)
 
-none_of_fewer : (test fewer : ℕ → Bool) → ((c : ℕ) → test c ≡ false → fewer c ≡ false) → (text : Text) → list_any test text ≡ false → list_any fewer text ≡ false
+none_of_fewer : (test fewer : ℕ → Bool) → ((c : ℕ) → test c ≡ false → fewer c ≡ false) → (text : Text) → list_any test text ≡ false
+    → list_any fewer text ≡ false
 none_of_fewer test fewer so [] e = refl
 none_of_fewer test fewer so (c ∷ cs) e =
     let p = either_false (test c) (list_any test cs) e in
@@ -59,7 +60,8 @@ low_round [] a b = refl
 low_round (c ∷ cs) a b = go (is_slash c) refl a b (low_round cs)
   where
     go : (s : Bool) → is_slash c ≡ s → list_any high (before_first is_slash (c ∷ cs)) ≡ false → list_any high (after_first is_slash (c ∷ cs)) ≡ false
-        → (list_any high (before_first is_slash cs) ≡ false → list_any high (after_first is_slash cs) ≡ false → list_any high cs ≡ false) → list_any high (c ∷ cs) ≡ false
+        → (list_any high (before_first is_slash cs) ≡ false → list_any high (after_first is_slash cs) ≡ false → list_any high cs ≡ false)
+        → list_any high (c ∷ cs) ≡ false
     go true is a b more = ap (λ x. x || list_any high cs) (slash_low c is) ∙ rw is at b
     go false is a b more =
         let n = position_or_len is_slash cs in

@@ -23,7 +23,9 @@ module _ (profile : Profile) {S : Type 0} (g : Ghosts S) (was now : Held S) (beg
   begins_blank it = rw begun (record { mode = refl; back = λ is_open. (refl, is_open); bare = λ up. record { schema_is = it.schema_is up; empty = tt } })
 
   -- each database that may be left was there before, or stands for the opening package
-  whole : (result : Result (Unit {0}) Fault) → Survives old last (λ db. IsBlank old → StandsFor profile.version db opening) → (HasCleanDisk last → OnOk result (IsTrue last.is_open)) → (HasCleanDisk last → IsBlank old → OnOk result (IsSettled profile last opening)) → IfErr result IsStoreFault
+  whole : (result : Result (Unit {0}) Fault) → Survives old last (λ db. IsBlank old → StandsFor profile.version db opening)
+      → (HasCleanDisk last → OnOk result (IsTrue last.is_open)) → (HasCleanDisk last → IsBlank old → OnOk result (IsSettled profile last opening))
+      → IfErr result IsStoreFault
       → IsInit profile old last result
   whole result survives is_open made faults = record {
     survives = survives;
@@ -34,7 +36,8 @@ module _ (profile : Profile) {S : Type 0} (g : Ghosts S) (was now : Held S) (beg
   }
 
   -- the transaction was rolled back
-  pub init_undone : {T : Type 0} (fault : Fault) → IsMaking {T = T} (first_tables 0) (state g now) ended profile opening (Err fault) → CommitsNothing ended last → IsInit profile old last (Err fault)
+  pub init_undone : {T : Type 0} (fault : Fault) → IsMaking {T = T} (first_tables 0) (state g now) ended profile opening (Err fault)
+      → CommitsNothing ended last → IsInit profile old last (Err fault)
   init_undone fault making h =
       whole (Err fault) (survives_begin g was last _ (rw begun at (survives_then (state g now) ended last _ _ (λ db. IsBlank old → StandsFor profile.version db opening) (λ _ db none. absurd none) (λ _ db none. absurd none) making.survives h)))
       (λ clean. tt) (λ clean it. tt) making.faults

@@ -11,10 +11,12 @@ use Rattle.mm_store.specs.Statements.{IsRun}
 use Rattle.mm_store.proofs.Shapes.{quiet_then}
 use Rattle.mm_meta.specs.Opening.{IsBareAt, IsCreating}
 
-pub creates_one : (old new : State) (sql : List ℕ) (table : Table) (from to : Schema) → IsCreate from sql table to → (result : Result (Unit {0}) Fault) → IsRun old new sql [] result → IsCreating from old new to result
+pub creates_one : (old new : State) (sql : List ℕ) (table : Table) (from to : Schema) → IsCreate from sql table to
+    → (result : Result (Unit {0}) Fault) → IsRun old new sql [] result → IsCreating from old new to result
 creates_one old new sql table from to it result run = record { survives = run.survives; made = λ clean ground bare. go ground bare result (run.ran clean bare.mode); faults = run.faults }
   where
-    go : (ground : Ground) → IsBareAt from old ground → (r : Result (Unit {0}) Fault) → OnOk r ((count : ℕ) × ExecutesInside 0 sql [] old new (Ok count)) → OnOk r (IsTrue new.is_open × IsBareAt to new ground)
+    go : (ground : Ground) → IsBareAt from old ground → (r : Result (Unit {0}) Fault)
+        → OnOk r ((count : ℕ) × ExecutesInside 0 sql [] old new (Ok count)) → OnOk r (IsTrue new.is_open × IsBareAt to new ground)
     go ground bare (Err e) ran = tt
     go ground bare (Ok u) ran =
         let up = ran.1.1.was_open in (
@@ -26,11 +28,13 @@ creates_one old new sql table from to it result run = record { survives = run.su
           },
         )
 
-pub indexes_one : (old new : State) (sql : List ℕ) (at : ℕ) (table : Table) (index : Index) (from to : Schema) → IsIndexing from sql at table index to → to.tables ≡ from.tables → (result : Result (Unit {0}) Fault) → IsRun old new sql [] result
+pub indexes_one : (old new : State) (sql : List ℕ) (at : ℕ) (table : Table) (index : Index) (from to : Schema) → IsIndexing from sql at table index to
+    → to.tables ≡ from.tables → (result : Result (Unit {0}) Fault) → IsRun old new sql [] result
     → IsCreating from old new to result
 indexes_one old new sql at table index from to it same result run = record { survives = run.survives; made = λ clean ground bare. go ground bare result (run.ran clean bare.mode); faults = run.faults }
   where
-    go : (ground : Ground) → IsBareAt from old ground → (r : Result (Unit {0}) Fault) → OnOk r ((count : ℕ) × ExecutesInside 0 sql [] old new (Ok count)) → OnOk r (IsTrue new.is_open × IsBareAt to new ground)
+    go : (ground : Ground) → IsBareAt from old ground → (r : Result (Unit {0}) Fault)
+        → OnOk r ((count : ℕ) × ExecutesInside 0 sql [] old new (Ok count)) → OnOk r (IsTrue new.is_open × IsBareAt to new ground)
     go ground bare (Err e) ran = tt
     go ground bare (Ok u) ran =
         let up = ran.1.1.was_open in (
@@ -42,12 +46,14 @@ indexes_one old new sql at table index from to it same result run = record { sur
           },
         )
 
-pub creating_then : {T U : Type 0} (a b c : State) (from mid to : Schema) (t : T) (result : Result U Fault) → IsCreating from a b mid (Ok t) → IsCreating mid b c to result → IsCreating from a c to result
+pub creating_then : {T U : Type 0} (a b c : State) (from mid to : Schema) (t : T) (result : Result U Fault) → IsCreating from a b mid (Ok t)
+    → IsCreating mid b c to result → IsCreating from a c to result
 creating_then a b c from mid to t result one two = record {
   survives = quiet_then a b c one.survives two.survives;
   made = λ clean ground bare. two.made clean ground (one.made (omega (arith, two.survives.clean)) ground bare).1;
   faults = two.faults;
 }
 
-pub creating_failed : {T U : Type 0} (a b : State) (from mid to : Schema) (e : Fault) → IsCreating {T = T} from a b mid (Err e) → IsCreating {T = U} from a b to (Err e)
+pub creating_failed : {T U : Type 0} (a b : State) (from mid to : Schema) (e : Fault) → IsCreating {T = T} from a b mid (Err e)
+    → IsCreating {T = U} from a b to (Err e)
 creating_failed a b from mid to e one = record { survives = one.survives; made = λ clean ground bare. tt; faults = one.faults }

@@ -38,7 +38,8 @@ use Rattle.mm_meta.specs.Look.{stops, IsProfile, ShowsProfile, Judges, TellsErro
 
 -- ---- The text is a query, whatever the schema.
 
-none_planned : (r : Result Command CompileError) (formats : List Name) (make : List Name × (Command × Option Returning) → Compiled) → ((plan : List Name × (Command × Option Returning)) → (make plan).returning ≡ plan.1.1) → (c : Compiled)
+none_planned : (r : Result Command CompileError) (formats : List Name) (make : List Name × (Command × Option Returning) → Compiled)
+    → ((plan : List Name × (Command × Option Returning)) → (make plan).returning ≡ plan.1.1) → (c : Compiled)
     → and_then (and_then (and_then r (λ k. Ok (k, None))) (λ found. Ok (formats, found))) (λ plan. Ok (make plan)) ≡ Ok c → c.returning ≡ None
 none_planned (Ok k) formats make keeps c h = sym (ap (λ (x : Compiled). x.returning) (same_value h)) ∙ keeps (formats, (k, None))
 none_planned (Err e) formats make keeps c h = absurd cc

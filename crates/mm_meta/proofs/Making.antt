@@ -35,7 +35,8 @@ no_entry : {K X : Type 0} (R : K → K → Ordering) (k : K) (x : X) → get (em
 no_entry R k x is = let e : None ≡ Some x = sym (get-empty R k) ∙ is in cc
 
 -- no entry tells none
-none_told : {K I V : Type 0} (R : K → K → Ordering) (id_of : I → Option ℤ) (filled : I → List ℕ → V) (shelf : Shelf) → Tells {R = R} id_of filled shelf empty empty
+none_told : {K I V : Type 0} (R : K → K → Ordering) (id_of : I → Option ℤ) (filled : I → List ℕ → V) (shelf : Shelf)
+    → Tells {R = R} id_of filled shelf empty empty
 none_told R id_of filled shelf k = subst₂ (Told id_of filled shelf) (sym (get-empty R k)) (sym (get-empty R k)) refl
 
 nothing_kept : Kept
@@ -76,7 +77,8 @@ module _ (profile : Profile) (old new : State) (sql : List ℕ) (given : Row) wh
       → ((db : Trees) → ((t : ℕ) → db t ≡ []) → Holding profile.version (tables db) p) → IsMaking schema old new profile p result
   makes tables p result run leaves holds = record { survives = run.survives; made = λ clean ground it. go ground it result (run.ran clean it.mode); faults = run.faults }
     where
-      go : (ground : Ground) → IsBareAt schema old ground → (r : Result (Unit {0}) Fault) → OnOk r ((count : ℕ) × ExecutesInside 0 sql given old new (Ok count)) → OnOk r (IsTrue new.is_open × StandsInside profile new ground p)
+      go : (ground : Ground) → IsBareAt schema old ground → (r : Result (Unit {0}) Fault)
+          → OnOk r ((count : ℕ) × ExecutesInside 0 sql given old new (Ok count)) → OnOk r (IsTrue new.is_open × StandsInside profile new ground p)
       go ground it (Err e) ran = tt
       go ground it (Ok u) ran =
           let up = ran.1.1.was_open in
@@ -98,14 +100,16 @@ module _ (profile : Profile) (old new : State) (sql : List ℕ) (given : Row) wh
           )
 
 module _ (profile : Profile) (from : Schema) where
-  pub creating_makes : {T U : Type 0} (a b c : State) (mid : Schema) (p : Package) (t : T) (result : Result U Fault) → IsCreating from a b mid (Ok t) → IsMaking mid b c profile p result → IsMaking from a c profile p result
+  pub creating_makes : {T U : Type 0} (a b c : State) (mid : Schema) (p : Package) (t : T) (result : Result U Fault) → IsCreating from a b mid (Ok t)
+      → IsMaking mid b c profile p result → IsMaking from a c profile p result
   creating_makes a b c mid p t result one two = record {
     survives = quiet_then a b c one.survives two.survives;
     made = λ clean ground bare. two.made clean ground (one.made (omega (arith, two.survives.clean)) ground bare).1;
     faults = two.faults;
   }
 
-  pub creating_gave_up : {T U : Type 0} (a b : State) (mid : Schema) (p : Package) (e : Fault) → IsCreating {T = T} from a b mid (Err e) → IsMaking {T = U} from a b profile p (Err e)
+  pub creating_gave_up : {T U : Type 0} (a b : State) (mid : Schema) (p : Package) (e : Fault) → IsCreating {T = T} from a b mid (Err e)
+      → IsMaking {T = U} from a b profile p (Err e)
   creating_gave_up a b mid p e one = record { survives = one.survives; made = λ clean ground bare. tt; faults = one.faults }
 
   pub making_then : {T U : Type 0} {When : Package → Type 0} {next : Package → Package} (old mid new : State) (p : Package) (t : T) (result : Result U Fault) → IsMaking from old mid profile p (Ok t)
@@ -116,7 +120,8 @@ module _ (profile : Profile) (from : Schema) where
     faults = two.faults;
   }
 
-  pub making_failed : {T U : Type 0} (old new : State) (p q : Package) (e : Fault) → IsMaking {T = T} from old new profile p (Err e) → IsMaking {T = U} from old new profile q (Err e)
+  pub making_failed : {T U : Type 0} (old new : State) (p q : Package) (e : Fault) → IsMaking {T = T} from old new profile p (Err e)
+      → IsMaking {T = U} from old new profile q (Err e)
   making_failed old new p q e one = record { survives = one.survives; made = λ clean ground it. tt; faults = one.faults }
 
 -- ---- the numbers of the given systems are free in turn

@@ -112,7 +112,8 @@ module _ (rows : List Row) (m : FinMap level_cmp Grid) (h : Holds past_rowid gri
     (orders : (r s : Row) (k l : Level) (g i : Grid) → past_rowid r ≡ grid_row k g → past_rowid s ≡ grid_row l i → is_lt (cmp r s) ≡ before k.zoom l.zoom)
     (shown : (r : Row) (k : Level) (g : Grid) → past_rowid r ≡ grid_row k g → show r ≡ zoomed_row k g) where
   -- the row of a matrix of the table whose zoom passes
-  passing : (other : ℤ) (g : Grid) → Has m (level table other) g → near other ≡ true → (r : Row) × IsAmong rows r × (test r ≡ true) × (past_rowid r ≡ grid_row (level table other) g)
+  passing : (other : ℤ) (g : Grid) → Has m (level table other) g → near other ≡ true
+      → (r : Row) × IsAmong rows r × (test r ≡ true) × (past_rowid r ≡ grid_row (level table other) g)
   passing other g has is =
       let r = h.complete (level table other) g has in
       (r.0, r.1, tells r.0 (level table other) g r.2 ∙ ap (λ b. b && near other) (same_itself texts table) ∙ is, r.2)
@@ -179,7 +180,8 @@ unfolding binary
 more_int a b = as_truth _ ∙ ap is_gt (value_cmp-Int a b)
 
 module _ (rows : List Row) (m : FinMap level_cmp Grid) (h : Holds past_rowid grid_row rows m) (table : Text) (zoom : ℤ) where
-  tells : (op : CompareOp) (near : ℤ → Bool) → ((z : ℤ) → compared op (Int z) (Int zoom) ≡ near z) → (r : Row) (k : Level) (g : Grid) → past_rowid r ≡ grid_row k g
+  tells : (op : CompareOp) (near : ℤ → Bool) → ((z : ℤ) → compared op (Int z) (Int zoom) ≡ near z) → (r : Row) (k : Level) (g : Grid)
+      → past_rowid r ≡ grid_row k g
       → passes (equals 1 0 ∷ compares op 2 1 ∷ []) (at_zoom table zoom) r ≡ (same_text k.table table && near k.zoom)
   tells op near is_near r k g is =
       ap (λ x. equal Binary x (Words table) && (compared op (column r 2) (Int zoom) && true)) (columns_are r (grid_row k g) 0 is)
@@ -192,7 +194,8 @@ module _ (rows : List Row) (m : FinMap level_cmp Grid) (h : Holds past_rowid gri
       columns_are r (grid_row k g) 1 is i ∷ columns_are r (grid_row k g) 2 is i ∷ columns_are r (grid_row k g) 3 is i ∷ columns_are r (grid_row k g) 4 is i
       ∷ columns_are r (grid_row k g) 5 is i ∷ columns_are r (grid_row k g) 6 is i ∷ columns_are r (grid_row k g) 7 is i ∷ []
 
-  order_of : (r s : Row) (k l : Level) (g i : Grid) → past_rowid r ≡ grid_row k g → past_rowid s ≡ grid_row l i → value_cmp (column r 2) (column s 2) ≡ int_cmp k.zoom l.zoom
+  order_of : (r s : Row) (k l : Level) (g i : Grid) → past_rowid r ≡ grid_row k g → past_rowid s ≡ grid_row l i
+      → value_cmp (column r 2) (column s 2) ≡ int_cmp k.zoom l.zoom
   order_of r s k l g i p q = ap (λ x. value_cmp x (column s 2)) (columns_are r (grid_row k g) 1 p) ∙ ap (value_cmp (Int k.zoom)) (columns_are s (grid_row l i) 1 q) ∙ value_cmp-Int k.zoom l.zoom
 
   abbrev is_lower : ℤ → Bool

@@ -103,10 +103,11 @@ fn matrix_refusal<S: Alter>(
     }
 }
 
-/// The command `matrix`: adds the tile matrix of one zoom to a pyramid. `last_change` is the stamp of the moment, which becomes the
-/// last_change of the pyramid. Refused 25 where no table has the name, 26 where it is no pyramid, 30 where a matrix stands at
-/// the zoom, 31 where the matrix does not cover the extent exactly, 32 where its pixel sizes are out of order with those of
-/// another zoom or, in a pyramid of kind `two`, not in ratio 2 to those of the next. (Tile Matrix; Zoom Levels.)
+/// The command `matrix`: adds the tile matrix of one zoom to a pyramid. `last_change` is the stamp of the moment, which
+/// becomes the last_change of the pyramid. Refused 25 where no table has the name, 26 where it is no pyramid, 30 where
+/// a matrix stands at the zoom, 31 where the matrix does not cover the extent exactly, 32 where its pixel sizes are out
+/// of order with those of another zoom or, in a pyramid of kind `two`, not in ratio 2 to those of the next. (Tile
+/// Matrix; Zoom Levels.)
 pub fn add_matrix<S: Alter>(
     tx: &mut Transaction<'_, S>,
     table: &Name,

@@ -24,7 +24,8 @@ module _ {S : Type 0} (g : Ghosts S) (was now : Held S) (begun : now ≡ record 
   inside p it = rw begun (record { mode = refl; back = λ is_open. (refl, is_open); reads = it.0.reads })
 
   whole : (result : Result (Unit {0}) Fault) → Survives old last (λ db. (p : Package) → MayScale old p → StandsFor micrometres.version db (scale p))
-      → (HasCleanDisk last → OnOk result (IsTrue last.is_open)) → (HasCleanDisk last → (p : Package) → MayScale old p → OnOk result (IsSettled micrometres last (scale p)))
+      → (HasCleanDisk last → OnOk result (IsTrue last.is_open))
+      → (HasCleanDisk last → (p : Package) → MayScale old p → OnOk result (IsSettled micrometres last (scale p)))
       → IfErr result IsStoreFault → IsRescaled old last result
   whole result survives is_open done faults = record {
     survives = survives;
@@ -35,7 +36,9 @@ module _ {S : Type 0} (g : Ghosts S) (was now : Held S) (begun : now ≡ record 
   }
 
   -- the transaction was rolled back
-  pub undone : {T : Type 0} (fault : Fault) → IsScaling millimetres micrometres (state g now) ended (λ p. Limits millimetres p) scale {T = T} (Err fault) → CommitsNothing ended last → IsRescaled old last (Err fault)
+  pub undone : {T : Type 0} (fault : Fault)
+      → IsScaling millimetres micrometres (state g now) ended (λ p. Limits millimetres p) scale {T = T} (Err fault) → CommitsNothing ended last
+      → IsRescaled old last (Err fault)
   undone fault moved h =
       whole (Err fault) (survives_begin g was last _ (rw begun at (survives_then (state g now) ended last _ _ (λ db. (p : Package) → MayScale old p → StandsFor micrometres.version db (scale p)) (λ _ db none. absurd none) (λ _ db none. absurd none) moved.survives h)))
       (λ clean. tt) (λ clean p it. tt) moved.faults

@@ -90,10 +90,12 @@ module _ (profile : Profile) (old mid new : State) (formed : IsFormCheck old mid
 abbrev Scaled : State → Trees → Type 0
 Scaled old db = (p : Package) → MayScale old p → StandsFor micrometres.version db (scale p)
 
-left_before : (profile : Profile) (old new : State) (p : Package) → CommitsNothing old new → HasCleanDisk new → IsSettled profile old p → (db : Trees) → new.may_leave db → StandsFor profile.version db p
+left_before : (profile : Profile) (old new : State) (p : Package) → CommitsNothing old new → HasCleanDisk new → IsSettled profile old p → (db : Trees)
+    → new.may_leave db → StandsFor profile.version db p
 left_before profile old new p quiet clean it db may = elim (quiet.crash clean db may) [ inl before ↦ it.left db before | inr none ↦ absurd none ]
 
-unchanged_settled : (profile : Profile) (old new : State) (p : Package) → CommitsNothing old new → HasCleanDisk new → IsUnchanged old new → IsSettled profile old p → IsSettled profile new p
+unchanged_settled : (profile : Profile) (old new : State) (p : Package) → CommitsNothing old new → HasCleanDisk new → IsUnchanged old new
+    → IsSettled profile old p → IsSettled profile new p
 unchanged_settled profile old new p quiet clean same it = let shows = same.0 in record {
   mode = shows.mode ∙ it.mode;
   back = λ up. subst (λ db. ReadsAs profile.version db p) (sym shows.committed_is) (it.back shows.was_open);
@@ -107,7 +109,8 @@ module _ (old mid : State) where
   quietly : CommitsNothing old mid → Survives old mid (Scaled old)
   quietly h = survives_weaker old mid (λ _. ⊥) (Scaled old) (λ _ db none. absurd none) h
 
-  stopped_by : (why : Open) (p : Package) → CommitsNothing old mid → HasCleanDisk mid → IsSettled millimetres old p → IsSettled millimetres mid p → Judged millimetres p (Err why) → Migrates p mid (Err why)
+  stopped_by : (why : Open) (p : Package) → CommitsNothing old mid → HasCleanDisk mid → IsSettled millimetres old p → IsSettled millimetres mid p
+      → Judged millimetres p (Err why) → Migrates p mid (Err why)
   stopped_by (opens.Rule rule) p quiet clean was it judged = (it, judged)
   stopped_by (opens.Fault fault) p quiet clean was it judged = λ db may. inl (left_before millimetres old mid p quiet clean was db may)
   stopped_by (opens.Version version) p quiet clean was it judged = absurd judged
@@ -169,7 +172,8 @@ other_versions : millimetres.version ≡ micrometres.version → ⊥
 other_versions e = absurd (cc)
 
 module _ (old mid : State) where
-  in_micrometres : (result : Result (Unit {0}) Open) (new : State) (p : Package) → CommitsNothing old new → HasCleanDisk new → IsSettled micrometres old p → IsSettled micrometres new p → Judged micrometres p result → Adopts p new result
+  in_micrometres : (result : Result (Unit {0}) Open) (new : State) (p : Package) → CommitsNothing old new → HasCleanDisk new
+      → IsSettled micrometres old p → IsSettled micrometres new p → Judged micrometres p result → Adopts p new result
   in_micrometres (Ok u) new p quiet clean was it judged = (it, judged)
   in_micrometres (Err (opens.Rule rule)) new p quiet clean was it judged = (it, judged)
   in_micrometres (Err (opens.Fault fault)) new p quiet clean was it judged = left_before micrometres old new p quiet clean was
@@ -213,7 +217,8 @@ module _ (old mid : State) where
         faults = λ clean. checked.faults;
       }
 
-  looked_older : IsLooked old mid (Err (opens.Version millimetres.version)) → HasCleanDisk mid → (p : Package) → IsSettled millimetres old p → IsSettled millimetres mid p
+  looked_older : IsLooked old mid (Err (opens.Version millimetres.version)) → HasCleanDisk mid → (p : Package) → IsSettled millimetres old p
+      → IsSettled millimetres mid p
   looked_older looked clean p it = go (looked.answers clean)
     where
       go : AnswersLook old mid (Err (opens.Version millimetres.version)) → IsSettled millimetres mid p
@@ -228,7 +233,8 @@ module _ (old mid : State) where
   unchanged_older (inl a) = a.2
   unchanged_older (inr a) = absurd a.2
 
-  pub older : (new : State) (why : Open) (result : Result (Unit {0}) Open) → IsLooked old mid (Err why) → why ≡ opens.Version millimetres.version → IsOlder mid new result → IsMigration old new result
+  pub older : (new : State) (why : Open) (result : Result (Unit {0}) Open) → IsLooked old mid (Err why) → why ≡ opens.Version millimetres.version
+      → IsOlder mid new result → IsMigration old new result
   older new why result looked is it =
       let at : IsLooked old mid (Err (opens.Version millimetres.version)) = subst (λ w. IsLooked old mid (Err w)) is looked in
       let early : HasCleanDisk new → HasCleanDisk mid = λ clean. omega (arith, clean, it.survives.clean) in
@@ -257,7 +263,8 @@ module _ (old mid : State) where
   told (opens.Rule rule) other it = tt
   told (opens.Fault fault) other it = tt
 
-  not_adopted : (why : Open) (p : Package) → CommitsNothing old mid → HasCleanDisk mid → IsSettled micrometres old p → Agrees micrometres.version (Err why) → Adopts p mid (Err why)
+  not_adopted : (why : Open) (p : Package) → CommitsNothing old mid → HasCleanDisk mid → IsSettled micrometres old p
+      → Agrees micrometres.version (Err why) → Adopts p mid (Err why)
   not_adopted (opens.Version version) p quiet clean s it = absurd (it.1 refl)
   not_adopted opens.NoProfile p quiet clean s it = absurd it
   not_adopted opens.BadProfile p quiet clean s it = absurd it
@@ -265,7 +272,8 @@ module _ (old mid : State) where
   not_adopted (opens.Rule rule) p quiet clean s it = absurd it
   not_adopted (opens.Fault fault) p quiet clean s it = left_before micrometres old mid p quiet clean s
 
-  not_migrated : (why : Open) (p : Package) → why ≢ opens.Version millimetres.version → CommitsNothing old mid → HasCleanDisk mid → IsSettled millimetres old p → Agrees millimetres.version (Err why) → Migrates p mid (Err why)
+  not_migrated : (why : Open) (p : Package) → why ≢ opens.Version millimetres.version → CommitsNothing old mid → HasCleanDisk mid
+      → IsSettled millimetres old p → Agrees millimetres.version (Err why) → Migrates p mid (Err why)
   not_migrated (opens.Version version) p other quiet clean s it = absurd (other (ap opens.Version it.0))
   not_migrated opens.NoProfile p other quiet clean s it = absurd it
   not_migrated opens.BadProfile p other quiet clean s it = absurd it

@@ -20,7 +20,8 @@ use Rattle.mm_migrate.specs.Moves.{IsScaling}
 module _ (from to : Profile) (old new : State) (sql : List ℕ) (given : Row) (tables : Trees → Trees) (When : Package → Type 0) (next : Package → Package) (result : Result (Unit {0}) Fault) (run : IsRun old new sql given result)
     (leaves : (count : ℕ) → IsReady schema old → ExecutesInside 0 sql given old new (Ok count) → Leaves schema old new (tables (seen old)))
     (holds : (p : Package) → Holding from.version (seen old) p → When p → Holding to.version (tables (seen old)) (next p)) where
-  made_by : (ground : Ground) (p : Package) → StandsInside from old ground p → When p → (r : Result (Unit {0}) Fault) → OnOk r ((count : ℕ) × ExecutesInside 0 sql given old new (Ok count))
+  made_by : (ground : Ground) (p : Package) → StandsInside from old ground p → When p → (r : Result (Unit {0}) Fault)
+      → OnOk r ((count : ℕ) × ExecutesInside 0 sql given old new (Ok count))
       → OnOk r (IsTrue new.is_open × StandsInside to new ground (next p))
   made_by ground p it when (Err e) ran = tt
   made_by ground p it when (Ok u) ran =
@@ -52,7 +53,8 @@ module _ (from to : Profile) (old new : State) (sql : List ℕ) (given : Row) (t
   }
 
 module _ (from to : Profile) where
-  pub change_then_move : {T U : Type 0} {When : Package → Type 0} {first second : Package → Package} (a b c : State) (x : T) (r : Result U Fault) → IsChange from a b When first (Ok x)
+  pub change_then_move : {T U : Type 0} {When : Package → Type 0} {first second : Package → Package} (a b c : State) (x : T) (r : Result U Fault)
+      → IsChange from a b When first (Ok x)
       → IsScaling from to b c (λ p. ⊤) second r → IsScaling from to a c When (λ p. second (first p)) r
   change_then_move a b c x r one two = record {
     survives = quiet_then a b c one.survives two.survives;
@@ -61,5 +63,6 @@ module _ (from to : Profile) where
     faults = two.faults;
   }
 
-  pub change_gave_up : {T U : Type 0} {When : Package → Type 0} {first next : Package → Package} (a b : State) (e : Fault) → IsChange from {T = T} a b When first (Err e) → IsScaling from to a b When next {T = U} (Err e)
+  pub change_gave_up : {T U : Type 0} {When : Package → Type 0} {first next : Package → Package} (a b : State) (e : Fault)
+      → IsChange from {T = T} a b When first (Err e) → IsScaling from to a b When next {T = U} (Err e)
   change_gave_up a b e one = record { survives = one.survives; on = one.on; made = λ clean ground p it when. tt; faults = one.faults }

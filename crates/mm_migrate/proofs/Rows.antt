@@ -15,7 +15,8 @@ use Rattle.mm_store.proofs.Changes.{contents_typed}
 use Rattle.mm_migrate.specs.Texts.{contents_sets, set_sets, matrix_sets}
 use Rattle.mm_migrate.proofs.Products as products
 
-pub contents_becomes : (r : Row) (table : Text) (c : Contents) → ContentsWithin millimetres table c → past_rowid r ≡ contents_row table c → past_rowid (updated gpkg_contents contents_sets [] r) ≡ contents_row table (finer_contents c)
+pub contents_becomes : (r : Row) (table : Text) (c : Contents) → ContentsWithin millimetres table c → past_rowid r ≡ contents_row table c
+    → past_rowid (updated gpkg_contents contents_sets [] r) ≡ contents_row table (finer_contents c)
 contents_becomes r table c h is =
     rw (
       columns_are r (contents_row table c) 0 is,
@@ -35,7 +36,8 @@ contents_becomes r table c h is =
     )
     (cast_all_is gpkg_contents.columns (contents_row table (finer_contents c)) (contents_typed table (finer_contents c)))
 
-pub set_becomes : (r : Row) (table : Text) (s : MatrixSet) → SetWithin millimetres table s → past_rowid r ≡ set_row table s → past_rowid (updated gpkg_tile_matrix_set set_sets [] r) ≡ set_row table (finer_set s)
+pub set_becomes : (r : Row) (table : Text) (s : MatrixSet) → SetWithin millimetres table s → past_rowid r ≡ set_row table s
+    → past_rowid (updated gpkg_tile_matrix_set set_sets [] r) ≡ set_row table (finer_set s)
 set_becomes r table s h is =
     rw (
       columns_are r (set_row table s) 0 is,
@@ -51,7 +53,8 @@ set_becomes r table s h is =
     )
     (cast_all_is gpkg_tile_matrix_set.columns (set_row table (finer_set s)) refl)
 
-pub matrix_becomes : (r : Row) (k : Level) (g : Grid) → MatrixWithin millimetres k g → past_rowid r ≡ grid_row k g → past_rowid (updated gpkg_tile_matrix matrix_sets [] r) ≡ grid_row k (finer_grid g)
+pub matrix_becomes : (r : Row) (k : Level) (g : Grid) → MatrixWithin millimetres k g → past_rowid r ≡ grid_row k g
+    → past_rowid (updated gpkg_tile_matrix matrix_sets [] r) ≡ grid_row k (finer_grid g)
 matrix_becomes r k g h is =
     rw (
       columns_are r (grid_row k g) 0 is,

@@ -15,7 +15,8 @@ use Rattle.mm_store.specs.Statements.{CommitsNothing}
 pub record IsScaling (from to : Profile) (old new : State) (When : Package → Type 0) (next : Package → Package) {T : Type 0} (result : Result T Fault) : Type 0 where
   pub survives : CommitsNothing old new
   pub on : HasCleanDisk new → (ground : Ground) (p : Package) → StandsInside from old ground p → When p → StandsOn new ground
-  pub made : HasCleanDisk new → (ground : Ground) (p : Package) → StandsInside from old ground p → When p → OnOk result (IsTrue new.is_open × StandsInside to new ground (next p))
+  pub made : HasCleanDisk new → (ground : Ground) (p : Package) → StandsInside from old ground p → When p
+      → OnOk result (IsTrue new.is_open × StandsInside to new ground (next p))
   pub faults : IfErr result IsStoreFault
 
 -- the package in millimetres, whose numbers are within the limits

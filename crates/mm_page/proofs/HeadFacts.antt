@@ -23,7 +23,8 @@ within_buffer a n k xs ys low fits = omega (arith, length-append (take a xs) (ys
 
 -- a whole head was read
 pub complete : (limit room : ℕ) (front more input : List ℕ) (headers : List HeaderSpan) (spans : RequestSpans) (h : RequestHead)
-    → input ≡ front ++ more → length front ≤ limit → length headers ≤ room → IsRequestWithin front headers spans → IsRequestAt front headers spans h → IsHead limit room input h
+    → input ≡ front ++ more → length front ≤ limit → length headers ≤ room → IsRequestWithin front headers spans → IsRequestAt front headers spans h
+    → IsHead limit room input h
 complete limit room front more input headers spans h is low few within at =
     let size : length h.fields ≡ length (take spans.headers headers) = sym (simp length-map at (ap length at.fields)) in
     record {
@@ -34,7 +35,8 @@ complete limit room front more input headers spans h is low few within at =
     }
 
 -- the buffer is full, and has no head
-pub full : (limit room : ℕ) (front more input : List ℕ) → input ≡ front ++ more → limit ≡ length front → HasNoRequest front → (h : RequestHead) → ¬ (IsHead limit room input h)
+pub full : (limit room : ℕ) (front more input : List ℕ) → input ≡ front ++ more → limit ≡ length front → HasNoRequest front → (h : RequestHead)
+    → ¬ (IsHead limit room input h)
 full limit room front more input is at none h head =
     let p = print_request h in
     let m = length front - length p in

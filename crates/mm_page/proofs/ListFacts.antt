@@ -15,7 +15,8 @@ whole_clean (pos n) = refl
 whole_clean (negsuc n) = refl
 
 -- the entries have no float
-pub all_clean : {A : Type 0} (datum : A → Data) → ((a : A) → has_float (datum a) ≡ false) → (entries : List A) → items_have_float (items_of (map datum entries)) ≡ false
+pub all_clean : {A : Type 0} (datum : A → Data) → ((a : A) → has_float (datum a) ≡ false) → (entries : List A)
+    → items_have_float (items_of (map datum entries)) ≡ false
 all_clean datum clean [] = refl
 all_clean datum clean (a ∷ entries) = rw (clean a) (all_clean datum clean entries)
 

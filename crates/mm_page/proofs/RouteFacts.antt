@@ -90,7 +90,8 @@ last_back (b ∷ p) key k low h = elim (cases_Bool (has_slash (b ∷ p))) [
   | inr none ↦ ((none, omega arith), (let e : Some key ≡ Some k = sym (last-goes (b ∷ p) key low none (omega arith)) ∙ h in cc))
 ]
 
-word_back : (w t path : Text) (key k : ℕ) → IsText w → IsText path → Goes ((w ++ t, key) ∷ []) path k → (rest : Text) × (path ≡ w ++ rest) × IsText rest × Goes ((t, key) ∷ []) rest k
+word_back : (w t path : Text) (key k : ℕ) → IsText w → IsText path → Goes ((w ++ t, key) ∷ []) path k
+    → (rest : Text) × (path ≡ w ++ rest) × IsText rest × Goes ((t, key) ∷ []) rest k
 word_back w t path key k lw low h = by (starts_with nat_eq path w) refl
   where
     by : (u : Bool) → starts_with nat_eq path w ≡ u → (rest : Text) × (path ≡ w ++ rest) × IsText rest × Goes ((t, key) ∷ []) rest k
@@ -115,7 +116,8 @@ Formed k path =
     ⊎ ((k ≡ 2) × (t i : Text) × (path ≡ related_path t i) × IsPart t × IsPart i)
     ⊎ ((k ≡ 3) × (path ≡ codes "/contents"))
 
-tile_back : (path : Text) (k : ℕ) → IsText path → Goes ((codes "iles/" ++ 256 ∷ 47 ∷ 256 ∷ 47 ∷ 256 ∷ 47 ∷ 256 ∷ [], 0) ∷ []) path k → Formed k (47 ∷ 116 ∷ path)
+tile_back : (path : Text) (k : ℕ) → IsText path → Goes ((codes "iles/" ++ 256 ∷ 47 ∷ 256 ∷ 47 ∷ 256 ∷ 47 ∷ 256 ∷ [], 0) ∷ []) path k
+    → Formed k (47 ∷ 116 ∷ path)
 tile_back path k low h =
     let (p0, e0, l0, h0) = word_back (codes "iles/") (256 ∷ 47 ∷ 256 ∷ 47 ∷ 256 ∷ 47 ∷ 256 ∷ []) path 0 k (low_text (codes "iles/") refl) low h in
     let (t, p1, e1, pt, l1, h1) = mid_back p0 _ 0 k l0 h0 in

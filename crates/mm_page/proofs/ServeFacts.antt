@@ -42,7 +42,8 @@ works true shown ended = absurd (let e = ended refl in cc)
 works false shown ended = refl
 
 -- its fault is handed on
-pub handed : {T U : Type 0} (failed : Bool) (fault : Fault) → (failed ≡ true → ◌≡◌ {A = Result T Fault} (Err fault) (Err (record { 0 = 92 }))) → failed ≡ true → ◌≡◌ {A = Result U Fault} (Err fault) (Err (record { 0 = 92 }))
+pub handed : {T U : Type 0} (failed : Bool) (fault : Fault) → (failed ≡ true → ◌≡◌ {A = Result T Fault} (Err fault) (Err (record { 0 = 92 })))
+    → failed ≡ true → ◌≡◌ {A = Result U Fault} (Err fault) (Err (record { 0 = 92 }))
 handed failed fault ended was = let same : fault ≡ record { 0 = 92 } = cc (ended was) in ap Err same
 
 -- memory is wanted behind it
@@ -50,5 +51,6 @@ pub wants_memory : {T : Type 0} (failed : Bool) (r : Result T Fault) → failed 
 wants_memory failed (Ok v) works is = tt
 wants_memory failed (Err f) works is = inl (works, inl is)
 
-pub never_so : {T U : Type 0} (failed : Bool) (shown : T) (r : Result U Fault) → (failed ≡ true → ◌≡◌ {A = Result T Fault} (Ok shown) (Err (record { 0 = 92 }))) → failed ≡ true → r ≡ Err (record { 0 = 92 })
+pub never_so : {T U : Type 0} (failed : Bool) (shown : T) (r : Result U Fault)
+    → (failed ≡ true → ◌≡◌ {A = Result T Fault} (Ok shown) (Err (record { 0 = 92 }))) → failed ≡ true → r ≡ Err (record { 0 = 92 })
 never_so failed shown r ended was = absurd (let e = ended was in cc)

@@ -91,7 +91,8 @@ walk-last pattern text path name token at lit v pat low size is at_low =
 
 -- the parameters of each route
 
-pub tile_walk : (t z c r : Text) → IsPart t → IsPart z → IsPart c → IsPart r → walk tile_route.pattern tile_route.text (tile_path t z c r) tile_route.names 0 0 ≡ tile_pairs t z c r
+pub tile_walk : (t z c r : Text) → IsPart t → IsPart z → IsPart c → IsPart r
+    → walk tile_route.pattern tile_route.text (tile_path t z c r) tile_route.names 0 0 ≡ tile_pairs t z c r
 tile_walk t z c r pt pz pc pr =
     let path = tile_path t z c r in
     let (e1, w1, d1, l1) = walk-mid tile_route.pattern tile_route.text path (8, 13) ((16, 17) ∷ (20, 21) ∷ (24, 25) ∷ []) 0 8 0 (codes "/tiles/") (256 ∷ 47 ∷ 256 ∷ 47 ∷ 256 ∷ []) t (z ++ 47 ∷ (c ++ 47 ∷ r))

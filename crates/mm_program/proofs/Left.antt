@@ -113,7 +113,8 @@ module _ (old new : State) (fresh : HasCleanDisk old → IsJustOpened old) (clea
       (declined.0, declined.1.declines clean p (seen_of current _ p (settles (λ c. nothing_less _ _ declined.1.survives.clean c) p stands)), declined.2)
 
   -- ---- a listing
-  pub tells_listing : (held holds : Written) (done : Unit {0}) → IsListing old new held.contents holds.contents → TellsListing old.committed.trees held holds (Ok done)
+  pub tells_listing : (held holds : Written) (done : Unit {0}) → IsListing old new held.contents holds.contents
+      → TellsListing old.committed.trees held holds (Ok done)
   tells_listing held holds done it p stands =
       let settled = settles (λ c. nothing_less _ _ it.survives.clean c) p stands in (it.meets clean p settled, it.printed clean p settled)
 
@@ -122,7 +123,8 @@ module _ (old new : State) (fresh : HasCleanDisk old → IsJustOpened old) (clea
   tells_unlisted held holds why (inr (fault, cut, is)) p stands =
       let settled = settles (λ c. nothing_less _ _ cut.survives.clean c) p stands in inr (cut.meets clean p settled, cut.begun clean p settled, (fault, is))
 
-  pub leaves_unlisted : (held holds : Written) (why : Stop) → IsUnlisted old new held holds why → (after : Trees) → new.may_leave after → LeavesSame old.committed.trees after
+  pub leaves_unlisted : (held holds : Written) (why : Stop) → IsUnlisted old new held holds why → (after : Trees) → new.may_leave after
+      → LeavesSame old.committed.trees after
   leaves_unlisted held holds why (inl (declined, same)) after may = leaves_same declined.1.survives after may
   leaves_unlisted held holds why (inr (fault, cut, is)) after may = leaves_same cut.survives after may
 
@@ -137,7 +139,8 @@ module _ (old new : State) (fresh : HasCleanDisk old → IsJustOpened old) (clea
   leaves_unmade why it after may none = it.left clean (blank (nothing_less _ _ it.survives.clean clean) none) after may
 
   -- ---- a migration
-  pub leaves_migrated : (done : Unit {0}) → IsMigration old new (Ok tt) → (after : Trees) → new.may_leave after → LeavesMigrated old.committed.trees after (Ok done)
+  pub leaves_migrated : (done : Unit {0}) → IsMigration old new (Ok tt) → (after : Trees) → new.may_leave after
+      → LeavesMigrated old.committed.trees after (Ok done)
   leaves_migrated done it after may =
       let opened = fresh (nothing_less _ _ it.survives.clean clean) in (
         λ p stands. let adopted = it.adopts clean p (opened_settles old opened micrometres p stands) in (adopted.0.left after may, adopted.1),

@@ -63,7 +63,8 @@ makes : (ran : Option Ran) (db after : Trees) (p : Package) → StandsForCurrent
 makes None db after p stands meets same = (p, subst (λ t. StandsForCurrent t p) (sym same) stands, meets, refl)
 makes (Some r) db after p stands meets leaves = makes_by r r.done db after p stands meets leaves
 
-lives_further : (next : Image) (used : Use) (uses : List Use) (p q : Package) → Makes used.ran p q → Meets current q → LivesOn next q uses → LivesOn next p (used ∷ uses)
+lives_further : (next : Image) (used : Use) (uses : List Use) (p q : Package) → Makes used.ran p q → Meets current q → LivesOn next q uses
+    → LivesOn next p (used ∷ uses)
 unfolding AreMade
 lives_further next used uses p q made meets it = record {
   database = it.database;
@@ -74,7 +75,8 @@ lives_further next used uses p q made meets it = record {
   made = (q, made, meets, it.made);
 }
 
-pub lives_on : (uses : List Use) (image next : Image) → IsLife image uses next → (db : Trees) (p : Package) → HoldsDatabase image db → StandsForCurrent db p → Meets current p
+pub lives_on : (uses : List Use) (image next : Image) → IsLife image uses next → (db : Trees) (p : Package) → HoldsDatabase image db
+    → StandsForCurrent db p → Meets current p
     → ∥ LivesOn next p uses ∥₁
 unfolding IsLife AreMade
 lives_on [] image next same db p holds stands meets =
@@ -87,13 +89,15 @@ lives_on (used ∷ uses) image next (leads, life) db p holds stands meets = ∥�
 
 module _ {D : Type 0} (g : Ghosts D) (image : Image) (path : Text) (opened_at : Opened D) (none : WasBare g image (left.Worked opened_at))
     (on : OnFile g image path (λ found done. ⊤) LeavesMade closes_done (Ok tt) (left.Worked opened_at)) (clean : AreClean g opened_at.files.log opened_at.files.db) where
-  begins : (next : Image) → outcomes g opened_at.files.log opened_at.files.db next → ∥ ((after : Trees) × StandsForCurrent after opening × HoldsDatabase next after) ∥₁
+  begins : (next : Image) → outcomes g opened_at.files.log opened_at.files.db next
+      → ∥ ((after : Trees) × StandsForCurrent after opening × HoldsDatabase next after) ∥₁
   begins next may =
       let (found, is, told, left) = on.1 clean in
       ∥∥₁_map (left next may) (λ it.
       let r : (after : Trees) × StandsForCurrent after opening × HoldsDatabase next after = (it.0, it.1 ∣ empty_is_sound found (is.nothing (inl (inl (none clean).1))) ∣₁, it.2.both) in r)
 
-  pub begins_life : (first : Image) → outcomes g opened_at.files.log opened_at.files.db first → (uses : List Use) (next : Image) → IsLife first uses next → ∥ LivesOn next opening uses ∥₁
+  pub begins_life : (first : Image) → outcomes g opened_at.files.log opened_at.files.db first → (uses : List Use) (next : Image)
+      → IsLife first uses next → ∥ LivesOn next opening uses ∥₁
   begins_life first may uses next life = ∥∥₁_elim (begins first may) squash₁ (λ it. lives_on uses first next life it.0 opening it.2 it.1 (opened current))
 
 -- ---- how it is checked

@@ -41,7 +41,8 @@ tells-both : (log : Option (List Outcome)) (outcomes : List Outcome) (o : Outcom
 tells-both None outcomes o = refl
 tells-both (Some l) outcomes o = ap Some (append_assoc l outcomes (o ∷ []))
 
-tells-more : (log mid now : Option (List Outcome)) (outcomes : List Outcome) (o : Outcome) → TellsMore log mid outcomes → TellsMore mid now (o ∷ []) → TellsMore log now (outcomes ++ o ∷ [])
+tells-more : (log mid now : Option (List Outcome)) (outcomes : List Outcome) (o : Outcome) → TellsMore log mid outcomes → TellsMore mid now (o ∷ [])
+    → TellsMore log now (outcomes ++ o ∷ [])
 tells-more log mid now outcomes o one two = two ∙ ap (option_map (λ before. before ++ o ∷ [])) one ∙ tells-both log outcomes o
 
 pub tells-none : (log : Option (List Outcome)) → TellsMore log log []
@@ -51,7 +52,8 @@ tells-none (Some l) = ap Some (sym (append-nil l))
 all_none : All IsServiceFault []
 all_none k d lt = absurd (omega arith)
 
-all_more : (outcomes : List Outcome) (why : PageFault) → All IsServiceFault (faults_of outcomes) → IsServiceFault why.0 → All IsServiceFault (faults_of (outcomes ++ Err why ∷ []))
+all_more : (outcomes : List Outcome) (why : PageFault) → All IsServiceFault (faults_of outcomes) → IsServiceFault why.0
+    → All IsServiceFault (faults_of (outcomes ++ Err why ∷ []))
 all_more outcomes why all is = subst (All IsServiceFault) (sym (faults-err outcomes why)) (All-append IsServiceFault (faults_of outcomes) (why.0 ∷ []) all (All-cons IsServiceFault why.0 [] is all_none))
 
 size_more : (count : ℕ) (outcomes : List Outcome) (o : Outcome) → length outcomes ≡ count → length (outcomes ++ o ∷ []) ≡ count + 1
@@ -91,7 +93,8 @@ told_on count log mid now old new before failed status done it more =
 
 -- one more, with a fault that was printed whole
 pub told_more : (count : ℕ) (log mid now : Option (List Outcome)) (old held new : Option (List ℕ)) (before between failed : Bool) (status : ℕ) (why : PageFault)
-    → Told count log mid old held before between status → TellsMore mid now (Err why ∷ []) → IsServiceFault why.0 → IsPrinted (written_as held between) (written_as new failed) (page_fault_text why.0) true
+    → Told count log mid old held before between status → TellsMore mid now (Err why ∷ []) → IsServiceFault why.0
+    → IsPrinted (written_as held between) (written_as new failed) (page_fault_text why.0) true
     → Told (count + 1) log now old new before failed 3
 told_more count log mid now old held new before between failed status why it more is printed = record {
   outcomes = it.outcomes ++ Err why ∷ [];
@@ -109,7 +112,8 @@ Serves most log now old new before failed status = (outcomes : List Outcome) × 
 
 -- one more, with a fault that couldn't be printed whole
 pub told_cut : (count most : ℕ) (log mid now : Option (List Outcome)) (old held new : Option (List ℕ)) (before between failed : Bool) (status : ℕ) (why : PageFault) → count < most
-    → Told count log mid old held before between status → TellsMore mid now (Err why ∷ []) → IsServiceFault why.0 → IsPrinted (written_as held between) (written_as new failed) (page_fault_text why.0) false
+    → Told count log mid old held before between status → TellsMore mid now (Err why ∷ []) → IsServiceFault why.0
+    → IsPrinted (written_as held between) (written_as new failed) (page_fault_text why.0) false
     → Serves most log now old new before failed 3
 told_cut count most log mid now old held new before between failed status why few it more is (broken, taken, front, text) = (
   it.outcomes ++ Err why ∷ [],
@@ -121,6 +125,7 @@ told_cut count most log mid now old held new before between failed status why fe
 )
 
 -- all of them
-pub served : (count : ℕ) (log now : Option (List Outcome)) (old new : Option (List ℕ)) (before failed : Bool) (status : ℕ) → Told count log now old new before failed status
+pub served : (count : ℕ) (log now : Option (List Outcome)) (old new : Option (List ℕ)) (before failed : Bool) (status : ℕ)
+    → Told count log now old new before failed status
     → Serves count log now old new before failed status
 served count log now old new before failed status it = (it.outcomes, it.told, (it.all, inl (it.size, it.text, it.working, it.status_is)))

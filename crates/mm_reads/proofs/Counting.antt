@@ -109,7 +109,8 @@ module _ {K V : Type 0} {R : K → K → Ordering} {part : Row → Row} {row_of 
       let fewer : len m - 1 ≡ length xs = ap (λ b. cond b (len m - 1) (len m)) (sym there) ∙ sym (len-remove it.order.total m at.0) ∙ sym (counted xs up.1 (remove m at.0) rest) in
       one_more (len m) (length xs) fewer (some_there m at.0 there)
 
-  pub count_is : (rows : List Row) (m : FinMap R V) → Holds part row_of rows m → IsTable rows → (keep : K → Bool) (tells : Row → Bool) → ((r : Row) (l : K) (v : V) → part r ≡ row_of l v → tells r ≡ keep l)
+  pub count_is : (rows : List Row) (m : FinMap R V) → Holds part row_of rows m → IsTable rows → (keep : K → Bool) (tells : Row → Bool)
+      → ((r : Row) (l : K) (v : V) → part r ≡ row_of l v → tells r ≡ keep l)
       → length (filter tells rows) ≡ len (retain_keys m keep)
   count_is rows m h up keep tells so =
       let same : without (λ r. not (tells r)) rows ≡ filter tells rows = ap (λ f. filter f rows) (λ i r. not_not (tells r) i) in

@@ -17,14 +17,16 @@ all_joined : {X : Type 0} (P : X → Type 0) (xs ys : List X) → AllByRecursion
 all_joined P [] ys h k = k
 all_joined P (x ∷ xs) ys h k = (h.0, all_joined P xs ys h.1 k)
 
-distinct_joined : {X : Type 0} (e : X → X → Bool) (xs ys : List X) → IsDistinct e xs → IsDistinct e ys → ((x y : X) → Has xs x → Has ys y → e x y ≡ false) → IsDistinct e (xs ++ ys)
+distinct_joined : {X : Type 0} (e : X → X → Bool) (xs ys : List X) → IsDistinct e xs → IsDistinct e ys
+    → ((x y : X) → Has xs x → Has ys y → e x y ≡ false) → IsDistinct e (xs ++ ys)
 unfolding IsDistinct
 distinct_joined e [] ys one two apart = two
 distinct_joined e (x ∷ xs) ys one two apart =
     (all_joined (λ y. e x y ≡ false) xs ys one.0 (all_from (λ y. e x y ≡ false) ys (λ y there. apart x y (inl refl) there)), distinct_joined e xs ys one.1 two (λ a b p q. apart a b (inr p) q))
 
 -- what elements that differ give differs, where it does of each alone
-pub distinct_flat : {X Y : Type 0} (d : X → X → Bool) (e : Y → Y → Bool) (f : X → List Y) (xs : List X) → IsDistinct d xs → ((x : X) → Has xs x → IsDistinct e (f x))
+pub distinct_flat : {X Y : Type 0} (d : X → X → Bool) (e : Y → Y → Bool) (f : X → List Y) (xs : List X) → IsDistinct d xs
+    → ((x : X) → Has xs x → IsDistinct e (f x))
     → ((x y : X) → Has xs x → Has xs y → d x y ≡ false → (a b : Y) → Has (f x) a → Has (f y) b → e a b ≡ false) → IsDistinct e (flat_map f xs)
 unfolding IsDistinct
 distinct_flat d e f [] apart each across = tt

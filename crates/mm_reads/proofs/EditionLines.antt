@@ -72,7 +72,8 @@ module _ (version : ℤ) (p : Package) (trees : Trees) (h : Holding version tree
       ∙ count_is parts.pieces (trees 25) h.kept.pieces h.keeps.pieces (up 25) (λ q. same_text q.edition k) (by_text k) (λ s l v it. first_is k s l.edition _ it)
       ∙ same_count parts.pieces.order h.kept.pieces p.pieces (told_there piece_id piece_with h.kept.shelf h.kept.pieces p.pieces h.keeps.pieces_told) (λ q. same_text q.edition k) ∙ len-entries (retain_keys p.pieces (λ q. same_text q.edition k))
 
-  line_told : (r : Row) (k state : Text) → past_rowid r ≡ edition_row k state → (line : List ℕ) → ShowsEdition (shown_row db r) line → line ≡ edition_line p (k, state)
+  line_told : (r : Row) (k state : Text) → past_rowid r ≡ edition_row k state → (line : List ℕ) → ShowsEdition (shown_row db r) line
+      → line ≡ edition_line p (k, state)
   line_told r k state is line (inl it) =
       let name : it.name ≡ k = same_words (sym it.name_is ∙ columns_are r (edition_row k state) 0 is) in
       let opened : open_state ≡ state = same_words (sym it.state_is ∙ columns_are r (edition_row k state) 1 is) in
@@ -92,7 +93,8 @@ module _ (version : ℤ) (p : Package) (trees : Trees) (h : Holding version tree
       ap is_gt (sym (value_cmp-Text k l) ∙ sym (then-Equal (value_cmp (Words k) (Words l)))) ∙ rw (columns_are r (edition_row k c) 0 is, columns_are s (edition_row l d) 0 also) at low
 
   -- the lines of the first rows of an answer are the first lines of the editions
-  pub editions_front : (rows tail : List Row) → IsAnswer (query joined [] shown by_name no_limit) db [] (rows ++ tail) → (text : List ℕ) → ShowsEach ShowsEdition rows text → Fronts (editions p) text tail
+  pub editions_front : (rows tail : List Row) → IsAnswer (query joined [] shown by_name no_limit) db [] (rows ++ tail) → (text : List ℕ)
+      → ShowsEach ShowsEdition rows text → Fronts (editions p) text tail
   editions_front rows tail a text each =
       let found = in_order joined [] shown by_name db [] (rows ++ tail) a (env_at db) edition_rows matched in
       let order : Row → Row → Type 0 = InOrder joined [] shown by_name db [] (rows ++ tail) a (env_at db) edition_rows matched in

@@ -39,7 +39,8 @@ module _ {K V T : Type 0} {R : K → K → Ordering} {part : Row → Row} {shown
 
 -- ---- the three parts
 
-pub tells_bytes : {A : Type 0} (entry : Option (List ℕ)) (found : Option (Vec ℕ A)) → entry ≡ option_map (λ (v : Vec ℕ A). v.items) found → TellsBytes entry found
+pub tells_bytes : {A : Type 0} (entry : Option (List ℕ)) (found : Option (Vec ℕ A)) → entry ≡ option_map (λ (v : Vec ℕ A). v.items) found
+    → TellsBytes entry found
 tells_bytes entry None h = h
 tells_bytes entry (Some x) h = h
 
@@ -58,7 +59,8 @@ module _ (rows : List Row) (ids : FinMap item_cmp MediumRow) (h : Holds past_row
   medium_found x first gives found = subst (IsMediumRow (get ids k)) (sym gives) (by_row first found)
 
 -- the medium of a row, with the bytes of the blob that it names
-pub medium_told : (shelf : Shelf) (o : Option MediumRow) (entry : Option Medium) (row : Row) (m : Media) → IsMediumRow o (Some row) → Told medium_id medium_with shelf o entry
+pub medium_told : (shelf : Shelf) (o : Option MediumRow) (entry : Option Medium) (row : Row) (m : Media) → IsMediumRow o (Some row)
+    → Told medium_id medium_with shelf o entry
     → ((r : MediumRow) → ShowsMedium row r → (bytes_at shelf r.blob ≡ Some m.bytes) × (r.content_type ≡ m.content_type)) → entry ≡ Some (shown_medium m)
 medium_told shelf None entry row m is told tells = absurd is
 medium_told shelf (Some r) entry row m is told tells =
@@ -71,10 +73,12 @@ no_medium shelf None entry is told = told
 no_medium shelf (Some r) entry is told = absurd is
 
 -- the bytes of a tile are those of the blob that it names
-pub tile_told : (shelf : Shelf) (id : ℤ) (entry : Option (List ℕ)) (bytes : List ℕ) → Told tile_id tile_with shelf (Some id) entry → bytes_at shelf id ≡ Some bytes → entry ≡ Some bytes
+pub tile_told : (shelf : Shelf) (id : ℤ) (entry : Option (List ℕ)) (bytes : List ℕ) → Told tile_id tile_with shelf (Some id) entry
+    → bytes_at shelf id ≡ Some bytes → entry ≡ Some bytes
 tile_told shelf id entry bytes told is = told.2 ∙ ap Some (same_some (sym told.1 ∙ is))
 
-pub row_told : (k : Item) (params r : Row) (v : AttributeRow) (x : RowTold) → past_rowid r ≡ attribute_row k v → ShowsRow (shows (col 1 3 ∷ col 1 4 ∷ col 1 5 ∷ []) params r) x → v ≡ shown_row x
+pub row_told : (k : Item) (params r : Row) (v : AttributeRow) (x : RowTold) → past_rowid r ≡ attribute_row k v
+    → ShowsRow (shows (col 1 3 ∷ col 1 4 ∷ col 1 5 ∷ []) params r) x → v ≡ shown_row x
 row_told k params r v x is shown =
     let a = same_words (sym (columns_are r (attribute_row k v) 2 is) ∙ shown.title) in
     let b = same_words (sym (columns_are r (attribute_row k v) 3 is) ∙ shown.note) in

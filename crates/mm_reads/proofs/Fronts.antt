@@ -27,7 +27,8 @@ module _ {K V : Type 0} {R : K → K → Ordering} {part : Row → Row} {row_of 
   ends [] all none = refl
   ends (y ∷ ys) all none = absurd cc
 
-  pub fronts : (ys : List Row) (all : AllByRecursion (Enters it table m h up) ys) (rows tail : List Row) → map show ys ≡ rows ++ tail → (text : List ℕ) → ShowsEach Shows rows text → Fronts (lines ys all) text tail
+  pub fronts : (ys : List Row) (all : AllByRecursion (Enters it table m h up) ys) (rows tail : List Row) → map show ys ≡ rows ++ tail
+      → (text : List ℕ) → ShowsEach Shows rows text → Fronts (lines ys all) text tail
   fronts ys all [] tail same text none = (lines ys all, ap (λ t. t ++ lines ys all) (sym none), λ no. ends ys all (same ∙ no))
   fronts [] all (r ∷ rows) tail same text each = absurd cc
   fronts (y ∷ ys) all (r ∷ rows) tail same text (line, rest, shown, more, is) =

@@ -52,7 +52,8 @@ none_kept : (test : Row → Bool) (rows : List Row) → ((r : Row) → Has rows 
 none_kept test [] none = refl
 none_kept test (x ∷ rows) none = let off = none x (inl refl) in let more = none_kept test rows (λ r there. none r (inr there)) in rw (off, more)
 
-one_kept : (test : Row → Bool) (rows : List Row) → IsTable rows → ((r s : Row) → Has rows r → Has rows s → test r ≡ true → test s ≡ true → r ≡ s) → (r : Row) → Has rows r → test r ≡ true → filter test rows ≡ r ∷ []
+one_kept : (test : Row → Bool) (rows : List Row) → IsTable rows → ((r s : Row) → Has rows r → Has rows s → test r ≡ true → test s ≡ true → r ≡ s)
+    → (r : Row) → Has rows r → test r ≡ true → filter test rows ≡ r ∷ []
 one_kept test [] up alone r there hit = absurd there
 one_kept test (x ∷ rows) up alone r there hit = elim (cases_Bool (test x)) [
   | inl hits ↦
@@ -119,18 +120,21 @@ module _ {K V : Type 0} {R : K → K → Ordering} {part : Row → Row} {row_of 
         go Equal is off_gt = absurd (never_same r s off (h.apart r s p q a.0 a.1 b.1 a.3 (subst (λ l. part s ≡ row_of l b.1) (sym (it.order.exact a.0 b.0 is)) b.3)))
         go Greater is off_gt = absurd (let e : true ≡ false = off_gt in cc)
 
-    below : (x : Row) (a : Enters x) → Has rows x → (xs : List Row) (all : AllByRecursion Enters xs) → ((r : Row) → Has xs r → Has rows r) → AllByRecursion (order x) xs → AllByRecursion (λ y. has_same_id x y ≡ false) xs → T (below_all R a.0 (entered xs all))
+    below : (x : Row) (a : Enters x) → Has rows x → (xs : List Row) (all : AllByRecursion Enters xs) → ((r : Row) → Has xs r → Has rows r)
+        → AllByRecursion (order x) xs → AllByRecursion (λ y. has_same_id x y ≡ false) xs → T (below_all R a.0 (entered xs all))
     below x a there [] all within low off = tt
     below x a there (y ∷ xs) all within low off =
         both _ _ (less x y there (within y (inl refl)) off.0 a all.0 low.0) (below x a there xs all.1 (λ r later. within r (inr later)) low.1 off.1)
 
-    rises : (xs : List Row) (all : AllByRecursion Enters xs) → ((r : Row) → Has xs r → Has rows r) → IsAscending order xs → IsDistinct has_same_id xs → T (is_sorted R (entered xs all))
+    rises : (xs : List Row) (all : AllByRecursion Enters xs) → ((r : Row) → Has xs r → Has rows r) → IsAscending order xs → IsDistinct has_same_id xs
+        → T (is_sorted R (entered xs all))
     unfolding IsDistinct
     rises [] all within low off = tt
     rises (x ∷ xs) all within low off =
         both _ _ (below x all.0 (within x (inl refl)) xs all.1 (λ r later. within r (inr later)) low.0 off.0) (rises xs all.1 (λ r later. within r (inr later)) low.1 off.1)
 
-    find_entered : (q : K) (xs : List Row) (all : AllByRecursion Enters xs) → ((v : V) → get m q ≡ Some v → (r : Row) × Has xs r × (part r ≡ row_of q v)) → find R q (entered xs all) ≡ get m q
+    find_entered : (q : K) (xs : List Row) (all : AllByRecursion Enters xs)
+        → ((v : V) → get m q ≡ Some v → (r : Row) × Has xs r × (part r ≡ row_of q v)) → find R q (entered xs all) ≡ get m q
     find_entered q [] all so = go (get m q) refl
       where
         go : (o : Option V) → get m q ≡ o → None ≡ o

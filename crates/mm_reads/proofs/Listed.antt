@@ -126,7 +126,8 @@ never_null : (t : Text) → Null ≡ Words t → ⊥
 never_null t e = absurd cc
 
 -- the place of a pyramid is that of its contents row
-place_is : (row : Row) (c : Contents) → column row 4 ≡ maybe c.system → column row 5 ≡ maybe c.min_x → column row 6 ≡ maybe c.min_y → column row 7 ≡ maybe c.max_x → column row 8 ≡ maybe c.max_y
+place_is : (row : Row) (c : Contents) → column row 4 ≡ maybe c.system → column row 5 ≡ maybe c.min_x → column row 6 ≡ maybe c.min_y
+    → column row 7 ≡ maybe c.max_x → column row 8 ≡ maybe c.max_y
     → (place : Option (ℤ × Extent)) → IsShown row place → place_told place ≡ placed c.system c.min_x c.min_y c.max_x c.max_y
 place_is row c system min_x min_y max_x max_y None is = absurd is
 place_is row c system min_x min_y max_x max_y (Some place) is =
@@ -166,13 +167,15 @@ module _ (p : Package) (tables kinds : List Row) (ht : Holds past_rowid contents
       single at.0 (get p.kinds at.0) (filter (joins r) kinds) (subst (Picks parts.kinds kinds p.kinds hk uk at.0 (get p.kinds at.0)) (sym same) (picked parts.kinds kinds p.kinds hk uk at.0 (get p.kinds at.0) refl))
 
   -- the kind that a row shows is the registry's
-  pub kind_is : (k : Text) (o : Option Text) (xs : List Row) → Picks parts.kinds kinds p.kinds hk uk k o xs → (t : Text) → column (first_or_none xs) 2 ≡ Words t → o ≡ Some t
+  pub kind_is : (k : Text) (o : Option Text) (xs : List Row) → Picks parts.kinds kinds p.kinds hk uk k o xs → (t : Text)
+      → column (first_or_none xs) 2 ≡ Words t → o ≡ Some t
   kind_is k None xs none t is = absurd (never_null t (ap (λ ys. column (first_or_none ys) 2) (sym none) ∙ is))
   kind_is k (Some kind) xs one t is =
       ap Some (same_words (sym (columns_are one.0 (kind_row k kind) 1 one.2) ∙ ap (λ ys. column (first_or_none ys) 2) (sym one.1) ∙ is))
 
   -- what is told of a row is what the package has
-  told_is : (r : Row) (k : Text) (c : Contents) → past_rowid r ≡ contents_row k c → (e : Entry) → ShowsEntry (shown_row kinds r) e → table_told e ≡ entry_told p (k, c)
+  told_is : (r : Row) (k : Text) (c : Contents) → past_rowid r ≡ contents_row k c → (e : Entry) → ShowsEntry (shown_row kinds r) e
+      → table_told e ≡ entry_told p (k, c)
   told_is r k c is e it =
       let table = same_words (sym it.table ∙ columns_are r (contents_row k c) 0 is) in
       let got = kind_is k (get p.kinds k) (filter (joins r) kinds)
@@ -185,7 +188,8 @@ module _ (p : Package) (tables kinds : List Row) (ht : Holds past_rowid contents
       ∙ ap (λ o. if tiled o then placed c.system c.min_x c.min_y c.max_x c.max_y else None) (sym got) in
       λ i. record { table = table i; kind = sym got i; identifier = identifier i; last_change = last_change i; place = place i }
 
-  told_all : (ys : List Row) (all : AllByRecursion (Enters parts.contents tables p.contents ht ut) ys) (es : List Entry) → ShowsAll (map (shown_row kinds) ys) es → map table_told es ≡ map (entry_told p) (entered parts.contents tables p.contents ht ut ys all)
+  told_all : (ys : List Row) (all : AllByRecursion (Enters parts.contents tables p.contents ht ut) ys) (es : List Entry)
+      → ShowsAll (map (shown_row kinds) ys) es → map table_told es ≡ map (entry_told p) (entered parts.contents tables p.contents ht ut ys all)
   told_all [] all es none = ap (map table_told) none
   told_all (y ∷ ys) all [] it = absurd it
   told_all (y ∷ ys) all (e ∷ es) it =
@@ -205,7 +209,8 @@ module _ (p : Package) (tables kinds : List Row) (ht : Holds past_rowid contents
     rises_as r s k l c d is also low =
         ap is_gt (sym (value_cmp-Text k l) ∙ sym (then-Equal (value_cmp (Words k) (Words l)))) ∙ rw (columns_are r (contents_row k c) 0 is, columns_are s (contents_row l d) 0 also) at low
 
-    pub lists_tables : (rows : List Row) → IsAnswer (query joined [] shown by_name no_limit) db [] rows → (es : List Entry) → ShowsAll rows es → ListsTables p es
+    pub lists_tables : (rows : List Row) → IsAnswer (query joined [] shown by_name no_limit) db [] rows → (es : List Entry) → ShowsAll rows es
+        → ListsTables p es
     lists_tables rows a es it =
         let found = in_order joined [] shown by_name db [] rows a (env_at kinds) tables matched in
         let all = all_entered parts.contents tables p.contents ht ut (InOrder joined [] shown by_name db [] rows a (env_at kinds) tables matched) rises_as found.0 found.1 in

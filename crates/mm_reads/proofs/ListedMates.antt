@@ -83,7 +83,8 @@ module _ (p : Package) (table : Text) (id : ℤ) where
       go Equal x y = absurd (let e : true ≡ false = y in cc)
       go Greater x y = absurd (let e : true ≡ false = x in cc)
 
-  below : (o : Output) (a : Is o) (xs : List Output) (all : AllByRecursion Is xs) → AllByRecursion (AtMost o) xs → AllByRecursion (λ u. ties o u ≡ false) xs → T (below_all pairing_cmp a.key (entered xs all))
+  below : (o : Output) (a : Is o) (xs : List Output) (all : AllByRecursion Is xs) → AllByRecursion (AtMost o) xs
+      → AllByRecursion (λ u. ties o u ≡ false) xs → T (below_all pairing_cmp a.key (entered xs all))
   below o a [] all low off = tt
   below o a (x ∷ xs) all low off = both _ _ (less o x a all.0 low.0 off.0) (below o a xs all.1 low.1 off.1)
 
@@ -100,7 +101,8 @@ module _ (p : Package) (table : Text) (id : ℤ) where
   abbrev at : Pairing → Option ⊤
   at q = get (retain_keys p.pairings (is_from p table id)) q
 
-  find_entered : (q : Pairing) (xs : List Output) (all : AllByRecursion Is xs) → ((v : ⊤) → at q ≡ Some v → Shown xs q) → find pairing_cmp q (entered xs all) ≡ at q
+  find_entered : (q : Pairing) (xs : List Output) (all : AllByRecursion Is xs) → ((v : ⊤) → at q ≡ Some v → Shown xs q)
+      → find pairing_cmp q (entered xs all) ≡ at q
   find_entered q [] all so = go (at q) refl
     where
       go : (o : Option ⊤) → at q ≡ o → None ≡ o
@@ -127,7 +129,8 @@ module _ (p : Package) (table : Text) (id : ℤ) where
       let mated = ap Some other ∙ sym (ap (option_map (λ (r : Relation). r.related)) a.related) in
       λ i. record { mapping = mapping i; name = named i; table = mated i; id = number i }
 
-  told_all : (xs : List Output) (all : AllByRecursion Is xs) (items : List Related) → ShowsAll (map (λ (o : Output). o.1) xs) items → map mate_told items ≡ map (mate p) (entered xs all)
+  told_all : (xs : List Output) (all : AllByRecursion Is xs) (items : List Related) → ShowsAll (map (λ (o : Output). o.1) xs) items
+      → map mate_told items ≡ map (mate p) (entered xs all)
   told_all [] all items none = ap (map mate_told) none
   told_all (x ∷ xs) all [] it = absurd it
   told_all (x ∷ xs) all (t ∷ items) it =

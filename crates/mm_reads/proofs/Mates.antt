@@ -119,7 +119,8 @@ module _ (p : Package) (table : Text) (id : ℤ) where
         }
 
     -- two matches that tie are of the same rows
-    alone : (r s m n : Row) → Has rels r → Has rels s → Has maps m → Has maps n → IsMatch p table id r m → IsMatch p table id s n → ties (out (env r m)) (out (env s n)) ≡ true → (r ≡ s) × (m ≡ n)
+    alone : (r s m n : Row) → Has rels r → Has rels s → Has maps m → Has maps n → IsMatch p table id r m → IsMatch p table id s n
+        → ties (out (env r m)) (out (env s n)) ≡ true → (r ≡ s) × (m ≡ n)
     unfolding mate_of
     alone r s m n in_r in_s in_m in_n a b tie =
         let same = one_key _ _ (mate_of r m a) (mate_of s n b) tie in (

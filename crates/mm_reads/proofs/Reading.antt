@@ -32,7 +32,8 @@ module _ {V : Type 0} (takes : V → Row → V → Result Bool Fault → Type 0)
 
   module _ (old new : State) (v w : V) (empty : items v ≡ []) where
     module _ (profile : Profile) where
-      tables_told : (p : Package) → IsSeenAs profile old p → (result : Result Bool Fault) → Ends takes list_text [] old new v w result → IfOk result (λ _. ListsTables p (items w))
+      tables_told : (p : Package) → IsSeenAs profile old p → (result : Result Bool Fault) → Ends takes list_text [] old new v w result
+          → IfOk result (λ _. ListsTables p (items w))
       tables_told p it (Err fault) h = tt
       tables_told p it (Ok false) h = absurd (let e : false ≡ true = (gathers h.before w h.last (Ok false) h.ends).0 in cc)
       tables_told p it (Ok true) h =
@@ -50,7 +51,8 @@ module _ {V : Type 0} (takes : V → Row → V → Result Bool Fault → Type 0)
       Found (Err fault) (Ok entries) = ⊥
       Found (Err fault) (Err other) = fault ≡ other
 
-      pub read_by_walk : (result : Result Bool Fault) (last : Result (Vec Entry Global) Fault) → IsWalk takes list_text [] old new v w result → Found result last → IsRead profile old new (λ p (tables : Vec Entry Global). ListsTables p tables.items) last
+      pub read_by_walk : (result : Result Bool Fault) (last : Result (Vec Entry Global) Fault) → IsWalk takes list_text [] old new v w result
+          → Found result last → IsRead profile old new (λ p (tables : Vec Entry Global). ListsTables p tables.items) last
       read_by_walk result last it found = record {
         survives = it.survives (list_asks old.now.schema);
         seen = seen;
@@ -62,12 +64,14 @@ module _ {V : Type 0} (takes : V → Row → V → Result Bool Fault → Type 0)
           seen : HasCleanDisk new → (p : Package) → IsSeenAs profile old p → IsSeenAs profile new p
           seen clean p = seen_still profile old new p (ends_rest takes list_text [] old new v w result (it.walked clean (list_asks old.now.schema)))
 
-          says : (p : Package) (result : Result Bool Fault) (last : Result (Vec Entry Global) Fault) → Found result last → IfOk result (λ _. ListsTables p (items w)) → IfOk last (λ tables. ListsTables p tables.items)
+          says : (p : Package) (result : Result Bool Fault) (last : Result (Vec Entry Global) Fault) → Found result last
+              → IfOk result (λ _. ListsTables p (items w)) → IfOk last (λ tables. ListsTables p tables.items)
           says p (Ok goes) (Ok entries) same h = subst (ListsTables p) (sym same) h
           says p (Err fault) (Ok entries) none h = absurd none
           says p result (Err fault) found h = tt
 
-          faults : (result : Result Bool Fault) (last : Result (Vec Entry Global) Fault) → Found result last → IfErr result (λ fault. IsStoreFault fault ⊎ ((before : V) × (row : Row) × takes before row w (Err fault))) → IfErr last IsStoreFault
+          faults : (result : Result Bool Fault) (last : Result (Vec Entry Global) Fault) → Found result last
+              → IfErr result (λ fault. IsStoreFault fault ⊎ ((before : V) × (row : Row) × takes before row w (Err fault))) → IfErr last IsStoreFault
           faults result (Ok entries) found h = tt
           faults (Ok goes) (Err fault) none h = absurd none
           faults (Err fault) (Err other) same (inl stored) = subst IsStoreFault same stored

@@ -44,7 +44,8 @@ module _ {V : Type 0} (takes : V → Row → V → Result Bool Fault → Type 0)
 
   module _ (table : Text) (id : ℤ) (given : Row) (same : given ≡ Words table ∷ Int id ∷ []) (old new : State) (v w : V) (empty : items v ≡ []) where
     module _ (profile : Profile) where
-      items_told : (p : Package) → IsSeenAs profile old p → (result : Result Bool Fault) → Ends takes listed_text given old new v w result → IfOk result (λ _. ListsMates p table id (items w))
+      items_told : (p : Package) → IsSeenAs profile old p → (result : Result Bool Fault) → Ends takes listed_text given old new v w result
+          → IfOk result (λ _. ListsMates p table id (items w))
       items_told p it (Err fault) h = tt
       items_told p it (Ok false) h = absurd (let e : false ≡ true = (gathers h.before w h.last (Ok false) h.ends).0 in cc)
       items_told p it (Ok true) h =
@@ -56,7 +57,8 @@ module _ {V : Type 0} (takes : V → Row → V → Result Bool Fault → Type 0)
           subst (ListsMates p table id) (sym (all.1 ∙ ap (λ found. found ++ all.0) empty))
           (lists_mates p table id (tables_of schema old.now.trees 10) (tables_of schema old.now.trees 21) holds.relations holds.pairings (at.stands.rows 10).rise (at.stands.rows 21).rise _ (no_overlay old.now.trees 10) (no_overlay old.now.trees 21) h.rows (read.0.answer Null) all.0 all.2)
 
-      pub read_by_walk : (result : Result Bool Fault) (last : Result (Vec Related Global) Fault) → IsWalk takes listed_text given old new v w result → Found (items w) result last → IsRead profile old new (λ p (found : Vec Related Global). ListsMates p table id found.items) last
+      pub read_by_walk : (result : Result Bool Fault) (last : Result (Vec Related Global) Fault) → IsWalk takes listed_text given old new v w result
+          → Found (items w) result last → IsRead profile old new (λ p (found : Vec Related Global). ListsMates p table id found.items) last
       read_by_walk result last it found = record {
         survives = it.survives (only_asks old.now.schema);
         seen = seen;
@@ -68,12 +70,14 @@ module _ {V : Type 0} (takes : V → Row → V → Result Bool Fault → Type 0)
           seen : HasCleanDisk new → (p : Package) → IsSeenAs profile old p → IsSeenAs profile new p
           seen clean p = seen_still profile old new p (ends_rest takes listed_text given old new v w result (it.walked clean (only_asks old.now.schema)))
 
-          says : (p : Package) (result : Result Bool Fault) (last : Result (Vec Related Global) Fault) → Found (items w) result last → IfOk result (λ _. ListsMates p table id (items w)) → IfOk last (λ found. ListsMates p table id found.items)
+          says : (p : Package) (result : Result Bool Fault) (last : Result (Vec Related Global) Fault) → Found (items w) result last
+              → IfOk result (λ _. ListsMates p table id (items w)) → IfOk last (λ found. ListsMates p table id found.items)
           says p (Ok goes) (Ok found) same h = subst (ListsMates p table id) (sym same) h
           says p (Err fault) (Ok found) none h = absurd none
           says p result (Err fault) found h = tt
 
-          faults : (result : Result Bool Fault) (last : Result (Vec Related Global) Fault) → Found (items w) result last → IfErr result (λ fault. IsStoreFault fault ⊎ ((before : V) × (row : Row) × takes before row w (Err fault))) → IfErr last IsStoreFault
+          faults : (result : Result Bool Fault) (last : Result (Vec Related Global) Fault) → Found (items w) result last
+              → IfErr result (λ fault. IsStoreFault fault ⊎ ((before : V) × (row : Row) × takes before row w (Err fault))) → IfErr last IsStoreFault
           faults result (Ok found) same h = tt
           faults (Ok goes) (Err fault) none h = absurd none
           faults (Err fault) (Err other) same (inl stored) = subst IsStoreFault same stored
@@ -82,14 +86,17 @@ module _ {V : Type 0} (takes : V → Row → V → Result Bool Fault → Type 0)
 -- ---- reads whose answers are made of others'
 
 module _ (profile : Profile) {T U : Type 0} where
-  pub read_as : {Says : Package → T → Type 0} {Less : Package → U → Type 0} (old new : State) (x : T) (y : U) → IsRead profile old new Says (Ok x) → ((p : Package) → Says p x → Less p y) → IsRead profile old new Less (Ok y)
+  pub read_as : {Says : Package → T → Type 0} {Less : Package → U → Type 0} (old new : State) (x : T) (y : U) → IsRead profile old new Says (Ok x)
+      → ((p : Package) → Says p x → Less p y) → IsRead profile old new Less (Ok y)
   read_as old new x y read so = record { survives = read.survives; seen = read.seen; settled = read.settled; says = λ clean p meets it. so p (read.says clean p meets it); faults = tt }
 
-  pub read_failed : {Says : Package → T → Type 0} {Less : Package → U → Type 0} (old new : State) (e : Fault) → IsRead profile old new Says (Err e) → IsRead profile old new Less (Err e)
+  pub read_failed : {Says : Package → T → Type 0} {Less : Package → U → Type 0} (old new : State) (e : Fault) → IsRead profile old new Says (Err e)
+      → IsRead profile old new Less (Err e)
   read_failed old new e read = record { survives = read.survives; seen = read.seen; settled = read.settled; says = λ clean p meets it. tt; faults = read.faults }
 
   -- one read, then another
-  pub reads_then : {Says : Package → T → Type 0} {More : Package → U → Type 0} (a b c : State) (x : T) (r : Result U Fault) → IsRead profile a b Says (Ok x) → IsRead profile b c More r → IsRead profile a c (λ p y. Says p x × More p y) r
+  pub reads_then : {Says : Package → T → Type 0} {More : Package → U → Type 0} (a b c : State) (x : T) (r : Result U Fault)
+      → IsRead profile a b Says (Ok x) → IsRead profile b c More r → IsRead profile a c (λ p y. Says p x × More p y) r
   reads_then {Says} {More} a b c x r one two = record {
     survives = quiet_then a b c one.survives two.survives;
     seen = λ clean p it. two.seen clean p (one.seen (omega (arith, two.survives.clean)) p it);

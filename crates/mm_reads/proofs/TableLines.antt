@@ -86,8 +86,10 @@ pub first_is : (k : Text) (r : Row) (l : Text) (rest : Row) → past_rowid r ≡
 first_is k r l rest is = ap (λ x. equal Binary x (Words k) && true) (columns_are r (Words l ∷ rest) 0 is) ∙ ap (λ b. b && true) (equal_text l k) ∙ and_true _
 
 -- the kind tells which of the counts in columns 4, 5 and 6
-chosen : (row : Row) (x y z : Bool) (a b d at n : ℕ) → (if x then Some 4 else (if y then Some 5 else (if z then Some 6 else None))) ≡ Some at → column row 4 ≡ Int (pos (min MostCounted a)) → column row 5 ≡ Int (pos (min MostCounted b))
-    → column row 6 ≡ Int (pos (min MostCounted d)) → IsCount (column row at) n → (if x then Some a else (if y then Some b else (if z then Some d else None))) ≡ Some n
+chosen : (row : Row) (x y z : Bool) (a b d at n : ℕ) → (if x then Some 4 else (if y then Some 5 else (if z then Some 6 else None))) ≡ Some at
+    → column row 4 ≡ Int (pos (min MostCounted a)) → column row 5 ≡ Int (pos (min MostCounted b))
+    → column row 6 ≡ Int (pos (min MostCounted d)) → IsCount (column row at) n
+    → (if x then Some a else (if y then Some b else (if z then Some d else None))) ≡ Some n
 chosen row true y z a b d at n is four five six counts = let s : 4 ≡ at = cc in ap Some (uncapped a n (column row at) (ap (column row) (sym s) ∙ four) counts)
 chosen row false true z a b d at n is four five six counts = let s : 5 ≡ at = cc in ap Some (uncapped b n (column row at) (ap (column row) (sym s) ∙ five) counts)
 chosen row false false true a b d at n is four five six counts = let s : 6 ≡ at = cc in ap Some (uncapped d n (column row at) (ap (column row) (sym s) ∙ six) counts)
@@ -123,30 +125,35 @@ module _ (version : ℤ) (p : Package) (trees : Trees) (h : Holding version tree
   same_filter : (rows : List Row) (r : Row) (k : Text) (c : Contents) → past_rowid r ≡ contents_row k c → filter (joins r) rows ≡ filter (by_text k) rows
   same_filter rows r k c is = ap (λ v. filter (λ s. equal Binary (column s 1) v && true) rows) (columns_are r (contents_row k c) 0 is)
 
-  tiles_are : (r : Row) (k : Text) (c : Contents) → past_rowid r ≡ contents_row k c → length (matches db (of_name 3) (inner 15 end) (with_kind kinds r)) ≡ tile_count p k
+  tiles_are : (r : Row) (k : Text) (c : Contents) → past_rowid r ≡ contents_row k c
+      → length (matches db (of_name 3) (inner 15 end) (with_kind kinds r)) ≡ tile_count p k
   tiles_are r k c is =
       passed (joins r) (λ s. with_kind kinds r ++ s ∷ []) (db 15) ∙ ap (λ rows. length (filter (joins r) rows)) at_15 ∙ ap length (same_filter (trees 15) r k c is)
       ∙ count_is parts.tiles (trees 15) h.kept.tiles h.keeps.tiles (up 15) (λ q. same_text q.table k) (by_text k) (λ s l v it. first_is k s l.table _ it)
       ∙ same_count parts.tiles.order h.kept.tiles p.tiles (told_there tile_id tile_with h.kept.shelf h.kept.tiles p.tiles h.keeps.tiles_told) (λ q. same_text q.table k)
 
-  rows_are : (r : Row) (k : Text) (c : Contents) → past_rowid r ≡ contents_row k c → length (matches db (of_name 4) (inner 17 end) (with_tiles db kinds r)) ≡ row_count p k
+  rows_are : (r : Row) (k : Text) (c : Contents) → past_rowid r ≡ contents_row k c
+      → length (matches db (of_name 4) (inner 17 end) (with_tiles db kinds r)) ≡ row_count p k
   rows_are r k c is =
       passed (joins r) (λ s. with_tiles db kinds r ++ s ∷ []) (db 17) ∙ ap (λ rows. length (filter (joins r) rows)) at_17 ∙ ap length (same_filter (trees 17) r k c is)
       ∙ count_is parts.rows (trees 17) p.rows h.rows (up 17) (λ q. same_text q.table k) (by_text k) (λ s l v it. first_is k s l.table _ it)
 
-  media_are : (r : Row) (k : Text) (c : Contents) → past_rowid r ≡ contents_row k c → length (matches db (of_name 5) (inner 19 end) (with_rows db kinds r)) ≡ medium_count p k
+  media_are : (r : Row) (k : Text) (c : Contents) → past_rowid r ≡ contents_row k c
+      → length (matches db (of_name 5) (inner 19 end) (with_rows db kinds r)) ≡ medium_count p k
   media_are r k c is =
       passed (joins r) (λ s. with_rows db kinds r ++ s ∷ []) (db 19) ∙ ap (λ rows. length (filter (joins r) rows)) at_19 ∙ ap length (same_filter (trees 19) r k c is)
       ∙ count_is parts.media (trees 19) h.kept.media h.keeps.media (up 19) (λ q. same_text q.table k) (by_text k) (λ s l v it. first_is k s l.table _ it)
       ∙ same_count parts.media.order h.kept.media p.media (told_there medium_id medium_with h.kept.shelf h.kept.media p.media h.keeps.media_told) (λ q. same_text q.table k)
 
   -- the kind that a row shows is the registry's
-  kind_told : (r : Row) (k : Text) (c : Contents) → past_rowid r ≡ contents_row k c → (kind : Text) → column (kind_at kinds r) 2 ≡ Words kind → get p.kinds k ≡ Some kind
+  kind_told : (r : Row) (k : Text) (c : Contents) → past_rowid r ≡ contents_row k c → (kind : Text) → column (kind_at kinds r) 2 ≡ Words kind
+      → get p.kinds k ≡ Some kind
   kind_told r k c is kind shows =
       reads.kind_is p contents_rows kinds h.contents h.kinds (up 1) (up 13) k (get p.kinds k) (filter (joins r) kinds)
       (subst (Picks parts.kinds kinds p.kinds h.kinds (up 13) k (get p.kinds k)) (sym (same_filter kinds r k c is)) (picked parts.kinds kinds p.kinds h.kinds (up 13) k (get p.kinds k) refl)) kind shows
 
-  line_told : (r : Row) (k : Text) (c : Contents) → past_rowid r ≡ contents_row k c → (line : List ℕ) → ShowsTable (shown_row db kinds r) line → line ≡ table_line p (k, c)
+  line_told : (r : Row) (k : Text) (c : Contents) → past_rowid r ≡ contents_row k c → (line : List ℕ) → ShowsTable (shown_row db kinds r) line
+      → line ≡ table_line p (k, c)
   line_told r k c is line it =
       let name : it.name ≡ k = same_words (sym it.name_is ∙ columns_are r (contents_row k c) 0 is) in
       let time : it.time ≡ c.last_change = same_words (sym it.time_is ∙ columns_are r (contents_row k c) 4 is) in
@@ -175,7 +182,8 @@ module _ (version : ℤ) (p : Package) (trees : Trees) (h : Holding version tree
       ap is_gt (sym (value_cmp-Text k l) ∙ sym (then-Equal (value_cmp (Words k) (Words l)))) ∙ rw (columns_are r (contents_row k c) 0 is, columns_are s (contents_row l d) 0 also) at low
 
   -- the lines of the first rows of an answer are the first lines of the tables
-  pub tables_front : (rows tail : List Row) → IsAnswer (query joined [] shown by_name no_limit) db [] (rows ++ tail) → (text : List ℕ) → ShowsEach ShowsTable rows text → Fronts (table_lines p) text tail
+  pub tables_front : (rows tail : List Row) → IsAnswer (query joined [] shown by_name no_limit) db [] (rows ++ tail) → (text : List ℕ)
+      → ShowsEach ShowsTable rows text → Fronts (table_lines p) text tail
   tables_front rows tail a text each =
       let found = in_order joined [] shown by_name db [] (rows ++ tail) a (env_at db kinds) contents_rows matched in
       let order : Row → Row → Type 0 = InOrder joined [] shown by_name db [] (rows ++ tail) a (env_at db kinds) contents_rows matched in

@@ -17,7 +17,8 @@ use Rattle.mm_reads.proofs.Fronts.{ShowsEach, Fronts}
 use Rattle.mm_definitions.specs.Streams.{Written, written_as}
 
 -- the line that the row shows is taken as it is sent
-pub line_taken : (Shows : Row → List ℕ → Type 0) (old new : Written) (row : Row) (line : List ℕ) (result : Result Bool Fault) → Shows row line → SendsLine old new line result → TakesLine Shows old new row result
+pub line_taken : (Shows : Row → List ℕ → Type 0) (old new : Written) (row : Row) (line : List ℕ) (result : Result Bool Fault) → Shows row line
+    → SendsLine old new line result → TakesLine Shows old new row result
 line_taken Shows old new row line (Ok goes) shows sent = (line, shows, sent)
 line_taken Shows old new row line (Err fault) shows sent = inr (line, shows, sent)
 
@@ -37,12 +38,14 @@ done_of (Ok goes) = Ok tt
 done_of (Err fault) = Err fault
 
 module _ (Shows : Row → List ℕ → Type 0) where
-  each_more : (rows : List Row) (last : Row) (text line : List ℕ) → ShowsEach Shows rows text → Shows last line → ShowsEach Shows (rows ++ last ∷ []) (text ++ line)
+  each_more : (rows : List Row) (last : Row) (text line : List ℕ) → ShowsEach Shows rows text → Shows last line
+      → ShowsEach Shows (rows ++ last ∷ []) (text ++ line)
   each_more [] last text line none shown = (line, [], shown, refl, ap (λ t. t ++ line) none ∙ sym (append-nil line))
   each_more (r ∷ rows) last text line (one, rest, first, more, is) shown = (one, rest ++ line, first, each_more rows last rest line more shown, ap (λ t. t ++ line) is ∙ append_assoc one rest line)
 
   module _ {V : Type 0} (takes : V → Row → V → Result Bool Fault → Type 0) (held : V → Option (List ℕ)) (failed : V → Bool) (writes : (v u : V) (row : Row) (result : Result Bool Fault) → takes v row u result → TakesLine Shows (written_as (held v) (failed v)) (written_as (held u) (failed u)) row result) where
-    taken : (v w : V) (rows : List Row) → TakesRows takes v rows w → (text : List ℕ) × ShowsEach Shows rows text × Appends (held v) (held w) text × (failed w ≡ failed v)
+    taken : (v w : V) (rows : List Row) → TakesRows takes v rows w
+        → (text : List ℕ) × ShowsEach Shows rows text × Appends (held v) (held w) text × (failed w ≡ failed v)
     taken v w [] same = ([], refl, appends_none (held v) (held w) (ap held (sym same)), ap failed (sym same))
     taken v w (r ∷ rows) (u, step, more) =
         let one = writes v u r (Ok true) step in
@@ -55,19 +58,23 @@ module _ (Shows : Row → List ℕ → Type 0) where
     after_step v u row (Ok goes) step = (writes v u row (Ok goes) step).2.2
     after_step v u row (Err fault) step = told (writes v u row (Err fault) step)
       where
-        told : TakesLine Shows (written_as (held v) (failed v)) (written_as (held u) (failed u)) row (Err fault) → ListingTellsWriter (failed v) (failed u) (Err fault)
+        told : TakesLine Shows (written_as (held v) (failed v)) (written_as (held u) (failed u)) row (Err fault)
+            → ListingTellsWriter (failed v) (failed u) (Err fault)
         told (inl it) = inl (it.0, it.2)
         told (inr it) = inr (it.2.0, it.2.1)
 
-    pub tells_writer : (v w : V) (result : Result Bool Fault) → IfErr result (λ fault. IsStoreFault fault ⊎ ((before : V) × (row : Row) × takes before row w (Err fault)))
-        → (rows : List Row) × (TakesRows takes v rows w ⊎ ((before : V) × (row : Row) × TakesRows takes v rows before × takes before row w result)) → ListingTellsWriter (failed v) (failed w) (done_of result)
+    pub tells_writer : (v w : V) (result : Result Bool Fault)
+        → IfErr result (λ fault. IsStoreFault fault ⊎ ((before : V) × (row : Row) × takes before row w (Err fault)))
+        → (rows : List Row) × (TakesRows takes v rows w ⊎ ((before : V) × (row : Row) × TakesRows takes v rows before × takes before row w result))
+        → ListingTellsWriter (failed v) (failed w) (done_of result)
     tells_writer v w result faults (rows, inr it) =
         subst (λ f. ListingTellsWriter f (failed w) (done_of result)) (taken v it.0 rows it.2).3 (after_step it.0 w it.1 result it.3)
     tells_writer v w (Ok goes) faults (rows, inl it) = (taken v w rows it).3
     tells_writer v w (Err fault) (inl stored) (rows, inl it) = inl (stored, (taken v w rows it).3)
     tells_writer v w (Err fault) (inr last) (rows, inl it) = stopped (writes last.0 w last.1 (Err fault) last.2)
       where
-        stopped : TakesLine Shows (written_as (held last.0) (failed last.0)) (written_as (held w) (failed w)) last.1 (Err fault) → ListingTellsWriter (failed v) (failed w) (Err fault)
+        stopped : TakesLine Shows (written_as (held last.0) (failed last.0)) (written_as (held w) (failed w)) last.1 (Err fault)
+            → ListingTellsWriter (failed v) (failed w) (Err fault)
         stopped (inl t) = inl (t.0, (taken v w rows it).3)
         stopped (inr t) = inr (t.2.0, t.2.1)
 
@@ -84,7 +91,8 @@ module _ (Shows : Row → List ℕ → Type 0) where
         written (Ok false) h = absurd (let e : false ≡ true = (writes h.before w h.last (Ok false) h.ends).2.0 in cc)
         written (Err fault) (inl h) = ended (writes h.before w h.last (Err fault) h.ends)
           where
-            ended : TakesLine Shows (written_as (held h.before) (failed h.before)) (written_as (held w) (failed w)) h.last (Err fault) → IsBegun (held v) (held w) whole
+            ended : TakesLine Shows (written_as (held h.before) (failed h.before)) (written_as (held w) (failed w)) h.last (Err fault)
+                → IsBegun (held v) (held w) whole
             ended (inl it) =
                 let t = taken v h.before h.rows h.taken in
                 let b = begins h.same.0.was_open (h.rows ++ h.last ∷ []) h.begins in
@@ -101,14 +109,17 @@ module _ (Shows : Row → List ℕ → Type 0) where
                 )
         written (Err fault) (inr h) = cut (taken v w h.rows h.taken) h.begins
           where
-            cut : (text : List ℕ) × ShowsEach Shows h.rows text × Appends (held v) (held w) text × (failed w ≡ failed v) → (h.rows ≡ []) ⊎ (IsTrue old.is_open × Begins sql [] old h.rows) → IsBegun (held v) (held w) whole
+            cut : (text : List ℕ) × ShowsEach Shows h.rows text × Appends (held v) (held w) text × (failed w ≡ failed v)
+                → (h.rows ≡ []) ⊎ (IsTrue old.is_open × Begins sql [] old h.rows) → IsBegun (held v) (held w) whole
             cut (text, each, app, stays) (inl none) = let no : text ≡ [] = subst (λ rs. ShowsEach Shows rs text) none each in ([], whole, refl, subst (Appends (held v) (held w)) no app)
             cut (text, each, app, stays) (inr (was_open, begun)) = let b = begins was_open h.rows begun in let f = front was_open h.rows b.0 b.1 text each in (text, f.0, f.1, app)
 
       -- ---- the whole walk
 
-      pub listed : (profile : Profile) (text : Package → List ℕ) → OnlyAsks old.now.schema sql → ((p : Package) → IsSeenAs profile old p → (result : Result Bool Fault) → Ends takes sql [] old new v w result → IsWritten (held v) (held w) (text p) (done_of result)) → (result : Result Bool Fault)
-          → IsWalk takes sql [] old new v w result → IsListed profile text old new (written_as (held v) (failed v)) (written_as (held w) (failed w)) (done_of result)
+      pub listed : (profile : Profile) (text : Package → List ℕ) → OnlyAsks old.now.schema sql
+          → ((p : Package) → IsSeenAs profile old p → (result : Result Bool Fault) → Ends takes sql [] old new v w result → IsWritten (held v) (held w) (text p) (done_of result)) → (result : Result Bool Fault)
+          → IsWalk takes sql [] old new v w result
+          → IsListed profile text old new (written_as (held v) (failed v)) (written_as (held w) (failed w)) (done_of result)
       listed profile text asks says result it = record {
         survives = it.survives asks;
         seen = λ clean p. seen_still profile old new p (ends_rest takes sql [] old new v w result (it.walked clean asks));
@@ -132,11 +143,14 @@ module _ (profile : Profile) (first second : Package → List ℕ) (old mid new 
   tells_then : middle ≡ before → (result : Result (Unit {0}) Fault) → ListingTellsWriter middle failed result → ListingTellsWriter before failed result
   tells_then same result h = subst (λ b. ListingTellsWriter b failed result) same h
 
-  written_then : (one two : List ℕ) (result : Result (Unit {0}) Fault) → Appends held between one → IsWritten between holds two result → IsWritten held holds (one ++ two) result
+  written_then : (one two : List ℕ) (result : Result (Unit {0}) Fault) → Appends held between one → IsWritten between holds two result
+      → IsWritten held holds (one ++ two) result
   written_then one two (Ok done) h k = appends_then held between holds one two h k
   written_then one two (Err fault) h (begun, rest, is, app) = (one ++ begun, rest, ap (λ t. one ++ t) is ∙ sym (append_assoc one begun rest), appends_then held between holds one begun h app)
 
-  pub listed_then : (done : Unit {0}) (result : Result (Unit {0}) Fault) → IsListed profile first old mid (written_as held before) (written_as between middle) (Ok done) → IsListed profile second mid new (written_as between middle) (written_as holds failed) result
+  pub listed_then : (done : Unit {0}) (result : Result (Unit {0}) Fault)
+      → IsListed profile first old mid (written_as held before) (written_as between middle) (Ok done)
+      → IsListed profile second mid new (written_as between middle) (written_as holds failed) result
       → IsListed profile (λ p. first p ++ second p) old new (written_as held before) (written_as holds failed) result
   listed_then done result one two =
       let early : HasCleanDisk new → HasCleanDisk mid = λ clean. omega (arith, clean, two.survives.clean) in

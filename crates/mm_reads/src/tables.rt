@@ -124,9 +124,9 @@ impl Visitor for Gathered {
     }
 }
 
-/// The tables of the contents by rising name, each with its kind, identifier and last_change, and exactly the pyramids with their
-/// reference system and extent. (Contents.) A fault is 90 where memory was refused, and else 91, also where a value stands that no
-/// package has; the connection is then as settled as before.
+/// The tables of the contents by rising name, each with its kind, identifier and last_change, and exactly the pyramids
+/// with their reference system and extent. (Contents.) A fault is 90 where memory was refused, and else 91, also where
+/// a value stands that no package has; the connection is then as settled as before.
 pub fn contents<S: Alter>(alloc: Global, conn: &mut Connection<S>) -> Result<Vec<Entry>, Fault>
     requires { conn.old.in_transaction ≡ false }
     ensures mode { conn.new.in_transaction ≡ false }

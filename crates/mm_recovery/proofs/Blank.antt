@@ -65,7 +65,8 @@ module _ {D : Type 0} (g : Ghosts D) where
   new_found files db (inl nothing) found = ∣ empty_is_sound db (nothing_found (image_of g files) db nothing found) ∣₁
   new_found files db (inr none) found = none db found
 
-  pub finds_no_table : (files : Files D) (new : Held (FileStore D g)) → SeenMayStay g → (HasCleanDisk (file_state new) → IsOpened new) → (HasCleanDisk (file_state new) → Finds files new) → FindsNoTable g files (file_state new)
+  pub finds_no_table : (files : Files D) (new : Held (FileStore D g)) → SeenMayStay g → (HasCleanDisk (file_state new) → IsOpened new)
+      → (HasCleanDisk (file_state new) → Finds files new) → FindsNoTable g files (file_state new)
   finds_no_table files new stays opened finds = record {
     is_open = λ clean. (opened clean).0.is_open;
     blank = λ clean are. opened_blank (file_state new) (is_fresh new stays (opened clean)) (new_found files _ are (finds clean).reads);

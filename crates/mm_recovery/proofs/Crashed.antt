@@ -29,7 +29,8 @@ module _ {D : Type 0} {g : Ghosts D} where
   clean_by it clean = clean
 
   -- what a crash of its two files may leave is what it may leave
-  pub left_by : (it : FileStore D g) (image : Image) → AreClean g (file.files it).0 (file.files it).1 → outcomes g (file.files it).0 (file.files it).1 image → (file.state it).may_leave image
+  pub left_by : (it : FileStore D g) (image : Image) → AreClean g (file.files it).0 (file.files it).1
+      → outcomes g (file.files it).0 (file.files it).1 image → (file.state it).may_leave image
   unfolding pool.state pool.files
   left_by it image clean may = (clean, may)
 
@@ -38,7 +39,8 @@ module _ {D : Type 0} {g : Ghosts D} where
   is_fresh conn stays opened = (opened.0, opened.1, λ db may. settled_at conn.store stays db opened.0.is_open may)
 
   -- the two files of a store are its
-  pub are_clean : (it : FileStore D g) (files : Files D) → (files.log, files.db) ≡ file.files it → AreClean g files.log files.db → AreClean g (file.files it).0 (file.files it).1
+  pub are_clean : (it : FileStore D g) (files : Files D) → (files.log, files.db) ≡ file.files it → AreClean g files.log files.db
+      → AreClean g (file.files it).0 (file.files it).1
   are_clean it files are clean = subst (λ (f : D × D). AreClean g f.0 f.1) are clean
 
   -- ---- files that are let go or closed
@@ -55,7 +57,8 @@ module _ {D : Type 0} {g : Ghosts D} where
             (λ found. (found.0, quiet.outcomes _ found.1, found.2));
       }
 
-  pub are_closed : (stays : SeenMayStay g) (old : Held (FileStore D g)) (files : Files D) → (AreClean g files.log files.db → IsCopied old files) → AreClosed old files
+  pub are_closed : (stays : SeenMayStay g) (old : Held (FileStore D g)) (files : Files D) → (AreClean g files.log files.db → IsCopied old files)
+      → AreClosed old files
   are_closed stays old files copied = record {
     was_open = λ clean. (copied clean).was_open;
     hold = λ clean image may. ∥∥₁_map ((copied clean).left image may).both (λ held. ((file_state old).committed.trees, refl, held));
@@ -92,5 +95,6 @@ module _ {D : Type 0} {g : Ghosts D} where
     }
 
   -- files that may leave no more still hold what those held
-  pub still_left : (old : Held (FileStore D g)) (files later : Files D) → LeaveNoMore g files later → (AreClean g later.log later.db → AreClean g files.log files.db) → AreLeftBy old files → AreLeftBy old later
+  pub still_left : (old : Held (FileStore D g)) (files later : Files D) → LeaveNoMore g files later
+      → (AreClean g later.log later.db → AreClean g files.log files.db) → AreLeftBy old files → AreLeftBy old later
   still_left old files later no_more calm left = record { clean = λ clean. left.clean (calm clean); hold = λ clean image may. left.hold (calm clean) image (no_more image may) }

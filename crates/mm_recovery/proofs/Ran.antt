@@ -75,7 +75,8 @@ module _ (before failed : Bool) (same : Type 0) (old mid : State) (source : Opti
       × IfOk ran (λ t. OnRun (HasCleanDisk mid) (λ p. IsSettled current old p) source (λ p bytes. RanAll p moment bytes (shown_on failed mid) writer writer_now t))
       × IfErr ran (λ e. OnRun (HasCleanDisk mid) (λ p. IsSettled current old p) source (λ p bytes. RanSome p moment bytes (WorksOn before (shown_on failed mid)) (failed ≡ true) (shown_on failed mid) writer writer_now e))
 
-  then_by : (ran : Result Tally RunFault) → RunTells ran → OnRun (HasCleanDisk mid) (λ p. IsSettled current old p) source (λ p bytes. RanThen before p moment bytes writer writer_now (shown_on failed mid) ran)
+  then_by : (ran : Result Tally RunFault) → RunTells ran
+      → OnRun (HasCleanDisk mid) (λ p. IsSettled current old p) source (λ p bytes. RanThen before p moment bytes writer writer_now (shown_on failed mid) ran)
   then_by (Ok t) told = told.1
   then_by (Err e) told = told.2
 
@@ -83,14 +84,16 @@ module _ (before failed : Bool) (same : Type 0) (old mid : State) (source : Opti
   left_by (Ok t) told clean p sound bytes is = λ db may. let left = (told.1 clean p sound bytes is).left db may in (left.0, left.1, left.3)
   left_by (Err e) told clean p sound bytes is = λ db may. let left = (told.2 clean p sound bytes is).left db may in (left.0, left.1, left.3)
 
-  pub run_recovers : (again : State) (ran : Result Tally RunFault) → RunTells ran → IsRecovered mid again → IsRunRecovered before old source moment writer writer_now ran again
+  pub run_recovers : (again : State) (ran : Result Tally RunFault) → RunTells ran → IsRecovered mid again
+      → IsRunRecovered before old source moment writer writer_now ran again
   run_recovers again ran told recovered clean p sound bytes is =
       ∥∥₁_map (recovered.found clean) (λ found.
       found_after before failed same mid again p moment bytes writer writer_now found.0 found.1 (λ q stands. (found.2 q stands).0) ran told.0 (then_by ran told (recovered.clean clean) p sound bytes is))
 
 module _ {D : Type 0} {g : Ghosts D} (before failed : Bool) (same : Type 0) (old ended : Held (FileStore D g)) (source : Option (List ℕ)) (moment : ℕ) (writer writer_now : Written)
     (ran : Result Tally RunFault) (told : RunTells before failed same (file_state old) (file_state ended) source moment writer writer_now ran) (files : Files D) (left : AreLeftBy ended files) where
-  pub run_adopts : (again : Held (FileStore D g)) → AdoptsLeft files again → IsRunRecovered before (file_state old) source moment writer writer_now ran (file_state again)
+  pub run_adopts : (again : Held (FileStore D g)) → AdoptsLeft files again
+      → IsRunRecovered before (file_state old) source moment writer writer_now ran (file_state again)
   run_adopts again adopts = run_recovers before failed same (file_state old) (file_state ended) source moment writer writer_now (file_state again) ran told (adopts ended left)
 
   pub run_declines : (e : NotBegun D g) → DeclinesLeft files e → IsRunNotRecovered before (file_state old) source moment writer writer_now ran e

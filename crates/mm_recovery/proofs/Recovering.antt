@@ -109,13 +109,15 @@ reopens_by old mid new finds adopted =
     }
 
 module _ (old mid new : State) (finds : FindsCommitted old mid) where
-  refuses : (why : Open) → IsNotAdopted mid new why → is_fault why ≡ false → HasCleanDisk new → (p : Package) → StandsForCurrent old.committed.trees p → Meets current p → ⊥
+  refuses : (why : Open) → IsNotAdopted mid new why → is_fault why ≡ false → HasCleanDisk new → (p : Package) → StandsForCurrent old.committed.trees p
+      → Meets current p → ⊥
   refuses why declined other clean p stands meets =
       let early : HasCleanDisk mid = omega (arith, clean, declined.survives.clean) in
       let was = (finds.is early).settled current p (subst (λ db. StandsForCurrent db p) (sym (finds.found early)) stands) in
       none_is_declined p why meets (declined.declines clean p (seen_of current _ p was)) other
 
-  refused_for : (why : Open) → IsNotAdopted mid new why → HasCleanDisk new → (p : Package) → StandsForCurrent old.committed.trees p → Meets current p → IsFault why
+  refused_for : (why : Open) → IsNotAdopted mid new why → HasCleanDisk new → (p : Package) → StandsForCurrent old.committed.trees p → Meets current p
+      → IsFault why
   refused_for (opens.Fault fault) declined clean p stands meets = declined.profile clean
   refused_for (opens.Rule k) declined clean p stands meets = refuses (opens.Rule k) declined refl clean p stands meets
   refused_for (opens.Version version) declined clean p stands meets = refuses (opens.Version version) declined refl clean p stands meets

@@ -33,7 +33,8 @@ other_fault : memory ≡ store → ⊥
 other_fault same = omega (arith, ap (λ (f : Fault). f.0) same)
 
 module _ {D : Type 0} {g : Ghosts D} where
-  pub leads_to : (stays : SeenMayStay g) (P : Trees → Type 0) (files : Files D) (rest : Leftover D g) → HoldOneOf g P files → LeavesFiles files rest → LeadsTo P rest
+  pub leads_to : (stays : SeenMayStay g) (P : Trees → Type 0) (files : Files D) (rest : Leftover D g) → HoldOneOf g P files → LeavesFiles files rest
+      → LeadsTo P rest
   leads_to stays P files (left.Files now) hold leaves = λ image may. hold image (leaves image may)
   leads_to stays P files (left.Unopened now) hold leaves = ∣ (files, hold, leaves) ∣₁
   leads_to stays P files (left.Store now) hold leaves =
@@ -46,7 +47,8 @@ module _ {D : Type 0} {g : Ghosts D} where
   leads_wider P Q (left.Store now) so it = λ db may. ∥∥₁_map (it db may) (so db)
 
   -- the kit's error, told as 91, is not want of memory
-  pub caused : (files : Files D) (rest : Leftover D g) (kind : StoreError) (error : Error) → told_as error ≡ store → FailsToOpenAs kind files rest error → HasCause files rest
+  pub caused : (files : Files D) (rest : Leftover D g) (kind : StoreError) (error : Error) → told_as error ≡ store
+      → FailsToOpenAs kind files rest error → HasCause files rest
   caused files rest kind error is (inl want) = absurd (other_fault (ap told_as (sym want) ∙ is))
   caused files rest kind error is (inr (inl refused)) = inl refused.1
   caused files rest kind error is (inr (inr (inl fault))) = inr (inl fault.1)
@@ -67,7 +69,8 @@ module _ {D : Type 0} {g : Ghosts D} where
   close_caused old last error is (causes.Broken, same, excused, tells) = excused
   close_caused old last error is (causes.Unstorable, same, excused, tells) = absurd excused
 
-  pub not_closed : (old : Held (FileStore D g)) (last : FileStore D g) (error : Error) (stop : Stopped D g) → stop.fault ≡ told_as error → stop.rest ≡ left.Store last
+  pub not_closed : (old : Held (FileStore D g)) (last : FileStore D g) (error : Error) (stop : Stopped D g) → stop.fault ≡ told_as error
+      → stop.rest ≡ left.Store last
       → IsClosed old last → (IsClean (file.view last) → FailsToClose old last error) → IsNotClosed old stop
   not_closed old last error stop told is closed fails = subst (λ (s : Stopped D g). IsNotClosed old s) (sym (alike stop is)) (record {
     fault = told_fault error stop.fault told;
@@ -79,7 +82,8 @@ module _ {D : Type 0} {g : Ghosts D} where
       alike : (s : Stopped D g) → s.rest ≡ left.Store last → s ≡ record { fault = s.fault; rest = left.Store last }
       alike s same = ap (λ (r : Leftover D g). record { fault = s.fault; rest = r }) same
 
-  pub not_opened : (stays : SeenMayStay g) (files : Files D) (rest : Leftover D g) (error : Error) (stop : Stopped D g) → stop.fault ≡ told_as error → stop.rest ≡ rest
+  pub not_opened : (stays : SeenMayStay g) (files : Files D) (rest : Leftover D g) (error : Error) (stop : Stopped D g) → stop.fault ≡ told_as error
+      → stop.rest ≡ rest
       → (IsCleanLeft rest → FailsToOpenFiles files rest error) → (IsCleanLeft rest → LeavesFiles files rest) → IsNotOpened files stop
   not_opened stays files rest error stop told is cause unharmed =
       let clean_so = λ (clean : IsCleanLeft stop.rest). subst (λ (r : Leftover D g). IsCleanLeft r) is clean in

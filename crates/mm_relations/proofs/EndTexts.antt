@@ -34,7 +34,8 @@ EndsShown v (Some x) = (r : Relation) × (v ≡ Some r) × (column x 0 ≡ Words
 abbrev shown_row : Text → Row → Row
 shown_row mapping = shows (col 1 2 ∷ col 1 4 ∷ []) (Words mapping ∷ [])
 
-ends_found : (p : Package) (mapping : Text) (rows : List Row) → Holds past_id relation_row rows p.relations → (first : Option Row) → Finds (by_mapping mapping) (shown_row mapping) rows first → EndsShown (get p.relations mapping) first
+ends_found : (p : Package) (mapping : Text) (rows : List Row) → Holds past_id relation_row rows p.relations → (first : Option Row)
+    → Finds (by_mapping mapping) (shown_row mapping) rows first → EndsShown (get p.relations mapping) first
 ends_found p mapping rows h None found = finds_none parts.relations rows p.relations h mapping (shown_row mapping) found
 ends_found p mapping rows h (Some x) found =
     let at = finds_some parts.relations rows p.relations h mapping (shown_row mapping) x found in (
@@ -44,14 +45,16 @@ ends_found p mapping rows h (Some x) found =
       ap (λ (r : Row). column r 1) at.4 ∙ columns_after at.2 (relation_row mapping at.0) 2 at.3,
     )
 
-pub ends_look : (profile : Profile) (old new : State) (mapping : Text) (given : Row) → given ≡ Words mapping ∷ [] → (result : Result (Option Row) Fault) → IsAsked old new text.ends_of_relation given (λ (it : Option Row) first. it ≡ first) result
+pub ends_look : (profile : Profile) (old new : State) (mapping : Text) (given : Row) → given ≡ Words mapping ∷ []
+    → (result : Result (Option Row) Fault) → IsAsked old new text.ends_of_relation given (λ (it : Option Row) first. it ≡ first) result
     → IsLook profile old new (λ p found. EndsShown (get p.relations mapping) found) result
 ends_look profile old new mapping given same result asked = looks profile old new text.ends_of_relation given _ (λ p found. EndsShown (get p.relations mapping) found) result asked (λ x first ready shown gives.
     let read = selects_one _ _ _ _ _ _ statement.ends_of_relation old new ready.schema_is (Words mapping ∷ []) given same first shown in
     (read.0, λ p h. subst (EndsShown (get p.relations mapping)) (sym gives) (ends_found p mapping (seen old 10) h.relations first read.1)))
 
 -- the two texts that were read are the relation's ends
-pub ends_told : (v : Option Relation) (x : Row) → EndsShown v (Some x) → (one two : Text) → column x 0 ≡ Words one → column x 1 ≡ Words two → option_map ends v ≡ Some (one, two)
+pub ends_told : (v : Option Relation) (x : Row) → EndsShown v (Some x) → (one two : Text) → column x 0 ≡ Words one → column x 1 ≡ Words two
+    → option_map ends v ≡ Some (one, two)
 ends_told v x shown one two a b =
     let base : Words shown.0.base ≡ Words one = sym shown.2 ∙ a in
     let related : Words shown.0.related ≡ Words two = sym shown.3 ∙ b in
@@ -60,5 +63,6 @@ ends_told v x shown one two a b =
     ap (option_map ends) shown.1 ∙ (λ i. Some (f i, g i))
 
 -- an error after a look is told as it is
-pub look_told : (profile : Profile) {T U : Type 0} {Says : Package → T → Type 0} {Less : Package → U → Type 0} (old new : State) (x : T) (e : Error) → IsLook profile old new Says (Ok x) → IsLook profile old new Less (Err (told_as e))
+pub look_told : (profile : Profile) {T U : Type 0} {Says : Package → T → Type 0} {Less : Package → U → Type 0} (old new : State) (x : T) (e : Error)
+    → IsLook profile old new Says (Ok x) → IsLook profile old new Less (Err (told_as e))
 look_told profile old new x e look = record { survives = look.survives; on = look.on; looked = λ clean ground p it. tt; faults = told_fault e (told_as e) refl }

@@ -106,7 +106,8 @@ module _ (p : Package) (table : Text) (id : ℤ) where
   pub unregistered_end : get p.kinds table ≡ None → None ≡ of_either
   unregistered_end none = sym (ap (λ k. of_end k row_there medium_there) none)
 
-  pub row_end : get p.kinds table ≡ Some (kind_text kinds.Attributes) → (b : Bool) → row_there ≡ b → of_end (Some (kind_text kinds.Attributes)) b false ≡ of_either
+  pub row_end : get p.kinds table ≡ Some (kind_text kinds.Attributes) → (b : Bool) → row_there ≡ b
+      → of_end (Some (kind_text kinds.Attributes)) b false ≡ of_either
   row_end has b is = sym (ap (λ k. of_end k row_there medium_there) has ∙ ap (λ r. of_end (Some (kind_text kinds.Attributes)) r medium_there) is)
 
   pub medium_end : get p.kinds table ≡ Some (kind_text kinds.Media) → (b : Bool) → medium_there ≡ b → of_end (Some (kind_text kinds.Media)) false b ≡ of_either

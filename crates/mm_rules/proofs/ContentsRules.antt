@@ -33,7 +33,8 @@ module _ (version : ℤ) (db : Trees) (p : Package) (stands : StandsFor version 
   Names system = (r : Row) → lists.Has (or_nulls (filter (λ r. equal Binary (column r 0) system && true) (db 0))) r → (q : Row) → lists.Has (or_nulls (filter (λ q. equal Binary (column q 1) (Words table) && true) (db 13))) q
       → MayNameRow (system ∷ column r 0 ∷ column q 2 ∷ [])
 
-  with_kind : (z : ℤ) (v : Value) → ((q : Row) → lists.Has (or_nulls (filter (λ q. equal Binary (column q 1) (Words table) && true) (db 13))) q → MayNameRow (Int z ∷ v ∷ column q 2 ∷ []))
+  with_kind : (z : ℤ) (v : Value)
+      → ((q : Row) → lists.Has (or_nulls (filter (λ q. equal Binary (column q 1) (Words table) && true) (db 13))) q → MayNameRow (Int z ∷ v ∷ column q 2 ∷ []))
       ↔ (IsTrue (is_there v) × (IsPyramid p.kinds table → IsPlane z))
   with_kind z v = joined after_rowid kind_row (db 13) p.kinds (covered (λ m w. (_, _, refl)) stands.holds.kinds) _ table (λ m w y. name_is m table) _
       (λ o. IsTrue (is_there v) × ((o ≡ Some (codes "two")) ⊎ (o ≡ Some (codes "other")) → IsPlane z)) same (λ w y. same)
@@ -139,7 +140,8 @@ unplaced_is v c (Some s) = (
   λ (t, a, b, d, e, f, s). absurd (let f = s in cc),
 )
 
-suits_is : (v : Value) (c : Contents) (o : Option MatrixSet) → IsRegisteredRow (with_set v c o) ↔ ((kind : Kind) × (text_bytes v ≡ Some (kind_text kind)) × Suits kind c o)
+suits_is : (v : Value) (c : Contents) (o : Option MatrixSet)
+    → IsRegisteredRow (with_set v c o) ↔ ((kind : Kind) × (text_bytes v ≡ Some (kind_text kind)) × Suits kind c o)
 suits_is v c o = (to o, from o)
   where
     to : (o : Option MatrixSet) → IsRegisteredRow (with_set v c o) → (kind : Kind) × (text_bytes v ≡ Some (kind_text kind)) × Suits kind c o
@@ -168,7 +170,8 @@ registered version db p stands known =
     (λ k c x. joined after_rowid kind_row (db 13) p.kinds (covered (λ m v. (_, _, refl)) stands.holds.kinds) _ k (λ m v y. name_is m k) _ (λ o. (kind : Kind) × (o ≡ Some (kind_text kind)) × Suits kind c (get p.sets k))
     (with_its_set k c Null) (λ v y. with_its_set k c (Words v)))
   where
-    with_its_set : (k : Text) (c : Contents) (v : Value) → ((r : Row) → lists.Has (or_nulls (filter (λ r. equal Binary (column r 1) (Words k) && true) (db 4))) r → IsRegisteredRow (row_of v c (column r 3) (column r 4) (column r 5) (column r 6) (column r 2)))
+    with_its_set : (k : Text) (c : Contents) (v : Value)
+        → ((r : Row) → lists.Has (or_nulls (filter (λ r. equal Binary (column r 1) (Words k) && true) (db 4))) r → IsRegisteredRow (row_of v c (column r 3) (column r 4) (column r 5) (column r 6) (column r 2)))
         ↔ ((kind : Kind) × (text_bytes v ≡ Some (kind_text kind)) × Suits kind c (get p.sets k))
     with_its_set k c v = joined after_rowid set_row (db 4) p.sets (covered (λ m s. (_, _, refl)) stands.holds.sets) _ k (λ m s y. name_is m k) _ (λ o. (kind : Kind) × (text_bytes v ≡ Some (kind_text kind)) × Suits kind c o) (suits_is v c None) (λ s y. suits_is v c (Some s))
 

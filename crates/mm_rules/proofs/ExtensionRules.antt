@@ -64,7 +64,8 @@ abbrev same_columns : Bool → Extension → Value → Value → Value → Value
 same_columns table l b c d e = table && (is (maybe_words l.column) b && (is (Words l.name) c && (is (Words l.definition) d && (is (Words l.scope) e && true))))
 
 -- whatever it is by which the tables are compared
-extension_by : (l k : Extension) (table : Bool) → (table ≡ true) ↔ (l.table ≡ k.table) → (same_columns table l (maybe_words k.column) (Words k.name) (Words k.definition) (Words k.scope) ≡ true) ↔ (l ≡ k)
+extension_by : (l k : Extension) (table : Bool) → (table ≡ true) ↔ (l.table ≡ k.table)
+    → (same_columns table l (maybe_words k.column) (Words k.name) (Words k.definition) (Words k.scope) ≡ true) ↔ (l ≡ k)
 extension_by l k table t =
     let c = maybe_are l.column k.column in
     let n = maybe_are (Some l.name) (Some k.name) in
@@ -84,7 +85,8 @@ extension_by l k table t =
     together : (l k : Extension) → l.table ≡ k.table → l.column ≡ k.column → l.name ≡ k.name → l.definition ≡ k.definition → l.scope ≡ k.scope → l ≡ k
     together l k a b c d e = λ i. record { table = a i; column = b i; name = c i; definition = d i; scope = e i }
 
-extension_is : (l k : Extension) → (same_columns (is (maybe_words l.table) (maybe_words k.table)) l (maybe_words k.column) (Words k.name) (Words k.definition) (Words k.scope) ≡ true) ↔ (l ≡ k)
+extension_is : (l k : Extension)
+    → (same_columns (is (maybe_words l.table) (maybe_words k.table)) l (maybe_words k.column) (Words k.name) (Words k.definition) (Words k.scope) ≡ true) ↔ (l ≡ k)
 extension_is l k = extension_by l k (is (maybe_words l.table) (maybe_words k.table)) (maybe_are l.table k.table)
 
 abbrev IsNamed : Extension → Type 0
@@ -94,16 +96,19 @@ abbrev equal_columns : Extension → Value → Value → Value → Value → Val
 equal_columns l table = same_columns (equal Binary (maybe_words l.table) table) l
 
 -- an extension row of a table, which `=` finds
-named_is : (l k : Extension) → IsNamed k → (equal_columns l (maybe_words k.table) (maybe_words k.column) (Words k.name) (Words k.definition) (Words k.scope) ≡ true) ↔ (l ≡ k)
+named_is : (l k : Extension) → IsNamed k
+    → (equal_columns l (maybe_words k.table) (maybe_words k.column) (Words k.name) (Words k.definition) (Words k.scope) ≡ true) ↔ (l ≡ k)
 named_is l k n = let t = maybe_equal l.table k.table in extension_by l k (equal Binary (maybe_words l.table) (maybe_words k.table)) (λ e. (t.0 e).2, λ same. t.1 (n.0, n.1, same))
 
-both_named : (l k : Extension) → (equal_columns l (maybe_words k.table) (maybe_words k.column) (Words k.name) (Words k.definition) (Words k.scope) ≡ true) ↔ (IsNamed k × (l ≡ k))
+both_named : (l k : Extension)
+    → (equal_columns l (maybe_words k.table) (maybe_words k.column) (Words k.name) (Words k.definition) (Words k.scope) ≡ true) ↔ (IsNamed k × (l ≡ k))
 both_named l k = (
   λ e. let t = (maybe_equal l.table k.table).0 (and_parts (equal Binary (maybe_words l.table) (maybe_words k.table)) _ e).0 in let n : IsNamed k = (t.0, t.1) in (n, (named_is l k n).0 e),
   λ h. (named_is l k h.0).1 h.1,
 )
 
-both_unnamed : (l k : Extension) → ((is (maybe_words k.table) Null && same_columns (is (maybe_words l.table) Null) l (maybe_words k.column) (Words k.name) (Words k.definition) (Words k.scope)) ≡ true) ↔ ((k.table ≡ None) × (l ≡ k))
+both_unnamed : (l k : Extension)
+    → ((is (maybe_words k.table) Null && same_columns (is (maybe_words l.table) Null) l (maybe_words k.column) (Words k.name) (Words k.definition) (Words k.scope)) ≡ true) ↔ ((k.table ≡ None) × (l ≡ k))
 both_unnamed l k =
     let t = maybe_are k.table None in
     let by : k.table ≡ None → (same_columns (is (maybe_words l.table) Null) l (maybe_words k.column) (Words k.name) (Words k.definition) (Words k.scope) ≡ true) ↔ (l ≡ k) =
@@ -240,11 +245,13 @@ kinds db v = or_nulls (filter (λ q. equal Binary (column q 1) v && true) (db 13
 abbrev Shown : Trees → Extension → Value → Type 0
 Shown db e v = (r : Row) → lists.Has (mappings db v) r → (q : Row) → lists.Has (kinds db v) q → IsWantedRow (row_of e (column r 7) (column q 2))
 
-with_table : (version : ℤ) (db : Trees) (p : Package) → StandsFor version db p → (e : Extension) (t : Text) → e.table ≡ Some t → Shown db e (Words t) ↔ Wants e t (Stands p.relations t) (get p.kinds t)
+with_table : (version : ℤ) (db : Trees) (p : Package) → StandsFor version db p → (e : Extension) (t : Text) → e.table ≡ Some t
+    → Shown db e (Words t) ↔ Wants e t (Stands p.relations t) (get p.kinds t)
 with_table version db p stands e t at =
     joined after_id relation_row (db 10) p.relations (covered_id (λ m r. (_, _, refl)) stands.holds.relations) _ t (λ m r y. name_is m t) _ (λ o. Wants e t (IsTrue (is_some o)) (get p.kinds t)) (with_kind Null) (λ r y. with_kind (Words t))
   where
-    with_kind : (v : Value) → ((q : Row) → lists.Has (kinds db (Words t)) q → IsWantedRow (row_of e v (column q 2))) ↔ Wants e t (IsTrue (is_there v)) (get p.kinds t)
+    with_kind : (v : Value)
+        → ((q : Row) → lists.Has (kinds db (Words t)) q → IsWantedRow (row_of e v (column q 2))) ↔ Wants e t (IsTrue (is_there v)) (get p.kinds t)
     with_kind v = joined after_rowid kind_row (db 13) p.kinds (covered (λ m w. (_, _, refl)) stands.holds.kinds) _ t (λ m w y. name_is m t) _ (λ o. Wants e t (IsTrue (is_there v)) o) (wants_is e t v Null at) (λ w y. wants_is e t v (Words w) at)
 
 pub extensions_wanted : Says [] (inner 8 (left 10 (equals 2 7 1 1 ∷ []) (left 13 (equals 3 1 1 1 ∷ []) end))) [] (col 1 1 ∷ col 1 2 ∷ col 1 3 ∷ col 1 4 ∷ col 1 5 ∷ col 2 7 ∷ col 3 2 ∷ []) IsWantedRow (λ _. ⊤) ExtensionsWanted
@@ -307,7 +314,9 @@ module _ (test : Row → Bool) where
   two_kept (x ∷ rows) a b (inr h) (inl f) p q apart = kept_more x rows (subst (λ r. test r ≡ true) f q) (one_kept rows a h p)
   two_kept (x ∷ rows) a b (inr h) (inr k) p q apart = kept_still x rows (test x) refl (two_kept rows a b h k p q apart)
 
-  only_once : (rows : List Row) → IsTable rows → ((a b : Row) → lists.Has rows a → lists.Has rows b → test a ≡ true → test b ≡ true → value_cmp (rowid a) (rowid b) ≡ Less → ⊥) → length (filter test rows) ≤ 1
+  only_once : (rows : List Row) → IsTable rows
+      → ((a b : Row) → lists.Has rows a → lists.Has rows b → test a ≡ true → test b ≡ true → value_cmp (rowid a) (rowid b) ≡ Less → ⊥)
+      → length (filter test rows) ≤ 1
   only_once [] rise none = omega arith
   only_once (x ∷ rows) rise none = by_test (test x) refl (only_once rows rise.1 (λ a b h k. none a b (inr h) (inr k)))
     where
@@ -338,7 +347,8 @@ unnamed_pair a b = in_order a b (is (column a 1) Null && (is (column b 1) Null &
 abbrev Finds : (Row → Row → Bool) → (Extension → Type 0) → Type 0
 Finds pair Q = (a b : Row) (k l : Extension) → drop 1 a ≡ extension_row k → drop 1 b ≡ extension_row l → IsTrue (is_int (rowid a)) → IsTrue (is_int (rowid b)) → (pair a b ≡ true) ↔ ((value_cmp (rowid a) (rowid b) ≡ Less) × (Q k × (l ≡ k)))
 
-after_lower : (x y : Value) (columns : Bool) {C : Type 0} → IsTrue (is_int x) → IsTrue (is_int y) → (columns ≡ true) ↔ C → ((is_true (binary (Compare Lt Binary) x y) && columns) ≡ true) ↔ ((value_cmp x y ≡ Less) × C)
+after_lower : (x y : Value) (columns : Bool) {C : Type 0} → IsTrue (is_int x) → IsTrue (is_int y) → (columns ≡ true) ↔ C
+    → ((is_true (binary (Compare Lt Binary) x y) && columns) ≡ true) ↔ ((value_cmp x y ≡ Less) × C)
 after_lower x y columns m n same =
     let w = lower_is x y m n in
     (λ e. let parts = and_parts (is_true (binary (Compare Lt Binary) x y)) _ e in (w.0 parts.0, same.0 parts.1), λ both. and_from _ _ (w.1 both.0) (same.1 both.1))
@@ -415,7 +425,8 @@ all_once p = (λ h e n is. go h e n is e.table refl, λ once. (λ e n is _. once
 one_of : (p : Package) → ExtensionsOnce p → (e : Extension) → Stands p.extensions e → Has p.extensions e 1
 one_of p once e there = let v = some_of (get p.extensions e) there in v.1 ∙ ap Some (once e v.0 v.1)
 
-pub all_extensions : (p : Package) → (ExtensionsWanted p × (ExtensionsOnce p × (GeneralExtension p × (MappingExtensions p × ZoomExtensions p)))) ↔ ExactExtensions p.kinds p.relations p.extensions
+pub all_extensions : (p : Package)
+    → (ExtensionsWanted p × (ExtensionsOnce p × (GeneralExtension p × (MappingExtensions p × ZoomExtensions p)))) ↔ ExactExtensions p.kinds p.relations p.extensions
 all_extensions p = (
   λ h. record {
     only = λ e n is. (h.0 e n is, h.1.0 e n is);

@@ -49,15 +49,18 @@ record IsSuitedBy (base related : Option Text) (r : Relation) : Type 0 where
   pub base_column : r.base_column ≡ codes "id"
   pub related_column : r.related_column ≡ codes "id"
 
-related_to : {A B C D : Type 0} {x y z : Text} → (A → C) → (B → D) → ((◌≡◌ {A = Option Text} (Some x) (Some y) × A) ⊎ (◌≡◌ {A = Option Text} (Some x) (Some z) × B)) → ((x ≡ y) × C) ⊎ ((x ≡ z) × D)
+related_to : {A B C D : Type 0} {x y z : Text} → (A → C) → (B → D)
+    → ((◌≡◌ {A = Option Text} (Some x) (Some y) × A) ⊎ (◌≡◌ {A = Option Text} (Some x) (Some z) × B)) → ((x ≡ y) × C) ⊎ ((x ≡ z) × D)
 related_to f g (inl h) = inl (same_some h.0, f h.1)
 related_to f g (inr h) = inr (same_some h.0, g h.1)
 
-related_from : {A B : Type 0} {x y z : Text} → (((x ≡ y) × A) ⊎ ((x ≡ z) × B)) → (◌≡◌ {A = Option Text} (Some x) (Some y) × A) ⊎ (◌≡◌ {A = Option Text} (Some x) (Some z) × B)
+related_from : {A B : Type 0} {x y z : Text} → (((x ≡ y) × A) ⊎ ((x ≡ z) × B))
+    → (◌≡◌ {A = Option Text} (Some x) (Some y) × A) ⊎ (◌≡◌ {A = Option Text} (Some x) (Some z) × B)
 related_from (inl h) = inl (ap Some h.0, h.1)
 related_from (inr h) = inr (ap Some h.0, h.1)
 
-suited_is : (r : Relation) (v w : Value) → IsSuitedRow (v ∷ w ∷ Words r.base_column ∷ Words r.related_column ∷ Words r.name ∷ []) ↔ IsSuitedBy (text_bytes v) (text_bytes w) r
+suited_is : (r : Relation) (v w : Value)
+    → IsSuitedRow (v ∷ w ∷ Words r.base_column ∷ Words r.related_column ∷ Words r.name ∷ []) ↔ IsSuitedBy (text_bytes v) (text_bytes w) r
 suited_is r v w = (
   λ h. record { base_is = h.base; related_is = related_to (λ a. a) (λ a. a) h.related; base_column = same_some h.base_column; related_column = same_some h.related_column },
   λ h. record { base = h.base_is; related = related_from h.related_is; base_column = ap Some h.base_column; related_column = ap Some h.related_column },
@@ -81,7 +84,8 @@ relations_suited version db p stands known =
     with_related : (r : Relation) (v : Value) → Related db r v ↔ IsSuitedBy (text_bytes v) (get p.kinds r.related) r
     with_related r v = kinds_at (λ q. IsSuitedRow (v ∷ column q 2 ∷ Words r.base_column ∷ Words r.related_column ∷ Words r.name ∷ [])) (λ o. IsSuitedBy (text_bytes v) o r) r.related (suited_is r v Null) (λ w y. suited_is r v (Words w))
 
-    with_base : (r : Relation) → ((q : Row) → lists.Has (or_nulls (filter (λ q. equal Binary (column q 1) (Words r.base) && true) (db 13))) q → Related db r (column q 2)) ↔ IsSuitedBy (get p.kinds r.base) (get p.kinds r.related) r
+    with_base : (r : Relation)
+        → ((q : Row) → lists.Has (or_nulls (filter (λ q. equal Binary (column q 1) (Words r.base) && true) (db 13))) q → Related db r (column q 2)) ↔ IsSuitedBy (get p.kinds r.base) (get p.kinds r.related) r
     with_base r = kinds_at (λ q. Related db r (column q 2)) (λ o. IsSuitedBy o (get p.kinds r.related) r) r.base (with_related r Null) (λ v y. with_related r (Words v))
 
 -- ---- rule 13
@@ -96,30 +100,35 @@ module _ (version : ℤ) (db : Trees) (p : Package) (stands : StandsFor version 
   abbrev There : Value → Type 0
   There v = IsTrue (is_there v)
 
-  at_row : (Q : Row → Type 0) (P : Option AttributeRow → Type 0) (t : Text) (id : ℤ) → Q [] ↔ P None → ((v : AttributeRow) (x : Value) → Q (x ∷ attribute_row (item t id) v) ↔ P (Some v))
+  at_row : (Q : Row → Type 0) (P : Option AttributeRow → Type 0) (t : Text) (id : ℤ) → Q [] ↔ P None
+      → ((v : AttributeRow) (x : Value) → Q (x ∷ attribute_row (item t id) v) ↔ P (Some v))
       → ((r : Row) → lists.Has (or_nulls (joining db 17 (Words t) id)) r → Q r) ↔ P (get p.rows (item t id))
   at_row Q P t id none some = joined after_rowid attribute_row (db 17) p.rows (covered (λ k v. (_, _, refl)) stands.holds.rows) _ (item t id) (λ l v y. item_is l t id) Q P none some
 
-  at_medium : (Q : Row → Type 0) (P : Bool → Type 0) (t : Text) (id : ℤ) → Q [] ↔ P false → ((v : MediumRow) (x : Value) → Q (x ∷ medium_row (item t id) v) ↔ P true)
+  at_medium : (Q : Row → Type 0) (P : Bool → Type 0) (t : Text) (id : ℤ) → Q [] ↔ P false
+      → ((v : MediumRow) (x : Value) → Q (x ∷ medium_row (item t id) v) ↔ P true)
       → ((r : Row) → lists.Has (or_nulls (joining db 19 (Words t) id)) r → Q r) ↔ P (contains_key p.media (item t id))
   at_medium Q P t id none some =
       let h = stands.holds in
       subst (λ b. ((r : Row) → lists.Has (or_nulls (joining db 19 (Words t) id)) r → Q r) ↔ P b) (told_there medium_id medium_with h.kept.shelf h.kept.media p.media h.keeps.media_told (item t id))
       (joined after_rowid medium_row (db 19) h.kept.media (covered (λ k v. (_, _, refl)) h.keeps.media) _ (item t id) (λ l v y. item_is l t id) Q (λ o. P (is_some o)) none some)
 
-  last : (a b c : Value) → ((r : Row) → lists.Has (or_nulls (joining db 19 (Words related) related_id)) r → IsJoinedRow (w ∷ a ∷ b ∷ c ∷ column r 2 ∷ [])) ↔ Is (There a) (There b) (There c) (Stands p.media (item related related_id))
+  last : (a b c : Value)
+      → ((r : Row) → lists.Has (or_nulls (joining db 19 (Words related) related_id)) r → IsJoinedRow (w ∷ a ∷ b ∷ c ∷ column r 2 ∷ [])) ↔ Is (There a) (There b) (There c) (Stands p.media (item related related_id))
   last a b c = at_medium _ (λ t. Is (There a) (There b) (There c) (IsTrue t)) related related_id same (λ v x. same)
 
   abbrev Third : Value → Value → Value → Type 0
   Third a b c = (r : Row) → lists.Has (or_nulls (joining db 19 (Words related) related_id)) r → IsJoinedRow (w ∷ a ∷ b ∷ c ∷ column r 2 ∷ [])
 
-  third : (a b : Value) → ((r : Row) → lists.Has (or_nulls (joining db 17 (Words related) related_id)) r → Third a b (column r 2)) ↔ Is (There a) (There b) (Stands p.rows (item related related_id)) (Stands p.media (item related related_id))
+  third : (a b : Value)
+      → ((r : Row) → lists.Has (or_nulls (joining db 17 (Words related) related_id)) r → Third a b (column r 2)) ↔ Is (There a) (There b) (Stands p.rows (item related related_id)) (Stands p.media (item related related_id))
   third a b = at_row _ (λ o. Is (There a) (There b) (IsTrue (is_some o)) (Stands p.media (item related related_id))) related related_id (last a b Null) (λ v x. last a b (Int related_id))
 
   abbrev Second : Value → Value → Type 0
   Second a b = (r : Row) → lists.Has (or_nulls (joining db 17 (Words related) related_id)) r → Third a b (column r 2)
 
-  second : (a : Value) → ((r : Row) → lists.Has (or_nulls (joining db 19 (Words base) base_id)) r → Second a (column r 2)) ↔ Is (There a) (Stands p.media (item base base_id)) (Stands p.rows (item related related_id)) (Stands p.media (item related related_id))
+  second : (a : Value)
+      → ((r : Row) → lists.Has (or_nulls (joining db 19 (Words base) base_id)) r → Second a (column r 2)) ↔ Is (There a) (Stands p.media (item base base_id)) (Stands p.rows (item related related_id)) (Stands p.media (item related related_id))
   second a = at_medium _ (λ t. Is (There a) (IsTrue t) (Stands p.rows (item related related_id)) (Stands p.media (item related related_id))) base base_id (third a Null) (λ v x. third a (Int base_id))
 
   abbrev First : Value → Type 0

@@ -22,7 +22,8 @@ use Rattle.mm_laws.proofs.RunFacts.{refused_same}
 use Rattle.mm_run.proofs.Keeps.{spelled_within, step_meets}
 
 -- a command that is answered with a fault has failed the session, or had before
-pub fault-fails : (before failed : Bool) (a : Answer) → (before ≡ true → failed ≡ true) → (before ≡ false → failed ≡ is_fault a) → OnFault a (λ _. failed ≡ true)
+pub fault-fails : (before failed : Bool) (a : Answer) → (before ≡ true → failed ≡ true) → (before ≡ false → failed ≡ is_fault a)
+    → OnFault a (λ _. failed ≡ true)
 fault-fails before failed answers.Ok ended fails = tt
 fault-fails before failed (answers.Refused why) ended fails = tt
 fault-fails true failed (answers.Fault f) ended fails = ended refl
@@ -47,7 +48,8 @@ module _ {D : Type 0} (fields : Record) (p : Package) (moment : ℕ) (before : B
       whole why none = ap (λ o. let r : Refusal = record { number = why.number; piece = o } in r) none
 
   -- the same, as it was read
-  pub answered_unread : (fault : ReadFault) → IsCommandRead fields (Err fault) → shows.failed ≡ before → IsSound shows.settled p → IsAnswered fields p moment before (answer_unread fault) shows
+  pub answered_unread : (fault : ReadFault) → IsCommandRead fields (Err fault) → shows.failed ≡ before → IsSound shows.settled p
+      → IsAnswered fields p moment before (answer_unread fault) shows
   answered_unread (faults.Refused why) read same sound = answered_refusal why read.0 read.1 sound
   answered_unread faults.Memory read same sound = inl (same, sound)
 

@@ -71,11 +71,13 @@ all_refused [] = refl
 all_refused (n ∷ numbers) = omega (arith, all_refused numbers)
 
 -- each refusal that was told is counted
-all_counted : (t : Tally) (numbers : List ℕ) (old new : Option (List ℕ)) → AreTold (refusals numbers) t old new → t.accepted + t.refused ≡ length (refusals numbers)
+all_counted : (t : Tally) (numbers : List ℕ) (old new : Option (List ℕ)) → AreTold (refusals numbers) t old new
+    → t.accepted + t.refused ≡ length (refusals numbers)
 all_counted t numbers old new told = omega (arith, told.0.0, told.0.1, none_accepted numbers, all_refused numbers, length-refusals numbers)
 
 -- ---- the records so far
-pub ended-none : (xs : List ℕ) (s : State) (source : Option (List ℕ)) (t : Tally) (w : Option (List ℕ)) → source ≡ Some xs → AreTold [] t w w → AreRefusedSoFar xs s source s t w w
+pub ended-none : (xs : List ℕ) (s : State) (source : Option (List ℕ)) (t : Tally) (w : Option (List ℕ)) → source ≡ Some xs → AreTold [] t w w
+    → AreRefusedSoFar xs s source s t w w
 unfolding Reached
 ended-none xs s source t w here told = record {
   numbers = [];
@@ -89,12 +91,14 @@ ended-none xs s source t w here told = record {
 
 -- ---- where a run stopped
 -- 92 was told because it was the answer
-was-92 : (f : Fault) (t : Tally) (e : RunFault) (n : ℕ) (mid new : Option (List ℕ)) (was failed : Bool) → Stops (written_as mid was) (written_as new failed) n (answers.Fault f) t e → e.fault.0 ≡ 92 → f.0 ≡ 92
+was-92 : (f : Fault) (t : Tally) (e : RunFault) (n : ℕ) (mid new : Option (List ℕ)) (was failed : Bool)
+    → Stops (written_as mid was) (written_as new failed) n (answers.Fault f) t e → e.fault.0 ≡ 92 → f.0 ≡ 92
 was-92 f t e n mid new was failed (inl h) is = let same : f ≡ e.fault = cc (h.0) in ap (λ (x : Fault). x.0) same ∙ is
 was-92 f t e n mid new was failed (inr (inl h)) is = absurd (let other = h.0 in omega arith)
 was-92 f t e n mid new was failed (inr (inr h)) is = absurd (let other = h.0 in omega arith)
 
-not-92 : (x : Answer) (t : Tally) (e : RunFault) (n : ℕ) (mid new : Option (List ℕ)) (was failed : Bool) → IsAnswer x → Stops (written_as mid was) (written_as new failed) n x t e → e.fault.0 ≡ 92 → ⊥
+not-92 : (x : Answer) (t : Tally) (e : RunFault) (n : ℕ) (mid new : Option (List ℕ)) (was failed : Bool) → IsAnswer x
+    → Stops (written_as mid was) (written_as new failed) n x t e → e.fault.0 ≡ 92 → ⊥
 not-92 x t e n mid new was failed good (inl h) is = subst IsAnswer h.0 good
 not-92 x t e n mid new was failed good (inr (inl h)) is = absurd (let other = h.0 in omega arith)
 not-92 x t e n mid new was failed good (inr (inr h)) is = absurd (let other = h.0 in omega arith)
@@ -105,7 +109,8 @@ module _ (xs : List ℕ) (s : State) (t : Tally) (e : RunFault) (n : ℕ) (old m
   StopsAt given w = (numbers : List ℕ) × (given ≡ refusals numbers) × (rows : List Record) × (state : State) × (rest : List ℕ) × Reached default_config s xs rows state rest × AreRefused rows numbers
       × (e.fault.0 ≡ 92 → IsReadNext xs s rows)
 
-  stopped-at : (given : List Answer) × IsStopped given e (written_as old before) (written_as new failed) × StopsAt given e.tally.written → IsEndedAt xs s e old new
+  stopped-at : (given : List Answer) × IsStopped given e (written_as old before) (written_as new failed) × StopsAt given e.tally.written
+      → IsEndedAt xs s e old new
   stopped-at (given, stopped, (numbers, same, rows, state, rest, reached, read, next)) = record {
     numbers = numbers;
     rows = rows;
@@ -119,8 +124,10 @@ module _ (xs : List ℕ) (s : State) (t : Tally) (e : RunFault) (n : ℕ) (old m
   }
 
   -- at a fault that is not 92
-  pub ended-behind : (numbers : List ℕ) (rows : List Record) (state : State) (rest : List ℕ) → Reached default_config s xs rows state rest → AreRefused rows numbers → AreTold (refusals numbers) t old mid
-      → t.written + 1 ≡ n → (f : Fault) → f.0 ≢ 92 → HasLine f.0 → Stops (written_as mid was) (written_as new failed) n (answers.Fault f) t e → IsEndedAt xs s e old new
+  pub ended-behind : (numbers : List ℕ) (rows : List Record) (state : State) (rest : List ℕ) → Reached default_config s xs rows state rest
+      → AreRefused rows numbers → AreTold (refusals numbers) t old mid
+      → t.written + 1 ≡ n → (f : Fault) → f.0 ≢ 92 → HasLine f.0 → Stops (written_as mid was) (written_as new failed) n (answers.Fault f) t e
+      → IsEndedAt xs s e old new
   ended-behind numbers rows state rest reached read told at f other line stops =
       stopped-at (stopped-fault StopsAt (refusals numbers) n t e old mid new before was failed (omega (arith, told.1)) (all_counted t numbers old mid told) told working f line stops
       (λ w enough. (numbers, refl, rows, state, rest, reached, read, λ is. absurd (other (was-92 f t e n mid new was failed stops is)))))
@@ -132,7 +139,8 @@ module _ {T : Type 0} (remaining : T → Option (List ℕ)) (a b : Reader T) (xs
   one-more why number same = ap (λ y. refusals h.numbers ++ answers.Refused y ∷ []) same ∙ sym (refusals-more h.numbers number)
 
   -- it was answered
-  pub ended-more : (x : Answer) (t2 : Tally) (n : ℕ) (new : Option (List ℕ)) (was failed : Bool) → IsEndedTurn remaining a b (Some x) → Goes (written_as mid was) (written_as new failed) n x t t2 → t.written + 1 ≡ n
+  pub ended-more : (x : Answer) (t2 : Tally) (n : ℕ) (new : Option (List ℕ)) (was failed : Bool) → IsEndedTurn remaining a b (Some x)
+      → Goes (written_as mid was) (written_as new failed) n x t t2 → t.written + 1 ≡ n
       → AreRefusedSoFar xs s (source_of remaining b) b.state t2 old new
   ended-more answers.Ok t2 n new was failed turn goes at = absurd turn
   ended-more (answers.Fault f) t2 n new was failed turn goes at = absurd (goes.0)
@@ -161,7 +169,8 @@ module _ {T : Type 0} (remaining : T → Option (List ℕ)) (a b : Reader T) (xs
 
   module _ (e : RunFault) (n : ℕ) (new : Option (List ℕ)) (before was failed : Bool) (working : was ≡ before) where
     -- with its fault
-    at_fault : (x : Answer) → is_fault x ≡ true → IsEndedTurn remaining a b (Some x) → Stops (written_as mid was) (written_as new failed) n x t e → e.fault.0 ≡ 92 → IsReadNext xs s h.rows
+    at_fault : (x : Answer) → is_fault x ≡ true → IsEndedTurn remaining a b (Some x) → Stops (written_as mid was) (written_as new failed) n x t e
+        → e.fault.0 ≡ 92 → IsReadNext xs s h.rows
     at_fault answers.Ok faulted turn stops is = absurd (let g : false ≡ true = faulted in cc)
     at_fault (answers.Refused why) faulted turn stops is = absurd (let g : false ≡ true = faulted in cc)
     at_fault (answers.Fault f) faulted turn stops is =
@@ -186,7 +195,8 @@ module _ {T : Type 0} (remaining : T → Option (List ℕ)) (a b : Reader T) (xs
           λ told. absurd (not-92 (answers.Refused why) t e n mid new was failed tt stops told),
         )
 
-    pub ended-stopped : (x : Answer) → OnFault x HasLine → IsEndedTurn remaining a b (Some x) → Stops (written_as mid was) (written_as new failed) n x t e → t.written + 1 ≡ n → IsEndedAt xs s e old new
+    pub ended-stopped : (x : Answer) → OnFault x HasLine → IsEndedTurn remaining a b (Some x)
+        → Stops (written_as mid was) (written_as new failed) n x t e → t.written + 1 ≡ n → IsEndedAt xs s e old new
     ended-stopped x line turn stops at =
         stopped-at xs s t e n old mid new before was failed working
         (stopped-with (StopsAt xs s t e n old mid new before was failed working) (refusals h.numbers) n t e old mid new before was failed (omega (arith, h.told.1)) (all_counted t h.numbers old mid h.told) h.told working x line stops
@@ -194,7 +204,8 @@ module _ {T : Type 0} (remaining : T → Option (List ℕ)) (a b : Reader T) (xs
         (λ good w enough. at_refusal x good turn stops w))
 
 -- what was read of a record was answered
-pub ended_turn : {T : Type 0} (remaining : T → Option (List ℕ)) (a b : Reader T) (fields : Record) (read : Result Command ReadFault) (x : Answer) → ReadRecord remaining a b true fields → IsCommandRead fields read → x ≡ ended_answer read
+pub ended_turn : {T : Type 0} (remaining : T → Option (List ℕ)) (a b : Reader T) (fields : Record) (read : Result Command ReadFault) (x : Answer)
+    → ReadRecord remaining a b true fields → IsCommandRead fields read → x ≡ ended_answer read
     → IsEndedTurn remaining a b (Some x)
 ended_turn remaining a b fields (Ok command) x record_read is e = rw e (λ told. (fields, record_read, command, is))
 ended_turn remaining a b fields (Err (faults.Refused why)) x record_read is e = rw e (fields, record_read, (why.number, whole why is.0, is.1))
@@ -210,7 +221,8 @@ read_not_92 f b (inr e) h = let e0 : f ≡ 96 = e.0 in absurd (omega arith)
 
 -- ---- the report
 -- the record behind the first ones
-next_of : (rows : List Record) (fields : Record) (all : List Record) → rows ++ fields ∷ [] ≡ take (length (rows ++ fields ∷ [])) all → (length rows < length all) × (get_or all (length rows) [] ≡ fields)
+next_of : (rows : List Record) (fields : Record) (all : List Record) → rows ++ fields ∷ [] ≡ take (length (rows ++ fields ∷ [])) all
+    → (length rows < length all) × (get_or all (length rows) [] ≡ fields)
 next_of [] fields [] h = absurd (let e : fields ∷ [] ≡ [] = h in cc)
 next_of [] fields (y ∷ all) h = (omega arith, let e : fields ∷ [] ≡ y ∷ [] = h in cc)
 next_of (row ∷ rows) fields [] h = absurd (let e : row ∷ (rows ++ fields ∷ []) ≡ [] = h in cc)
@@ -219,7 +231,8 @@ next_of (row ∷ rows) fields (y ∷ all) h =
     let more = next_of rows fields all e in
     (omega (arith, more.0), more.1)
 
-spells : (bytes : List ℕ) (rows : List Record) (numbers : List ℕ) → AreRefused rows numbers → IsReadNext (strip_bom bytes) states.StartRecord rows → SpellsNext bytes (length numbers)
+spells : (bytes : List ℕ) (rows : List Record) (numbers : List ℕ) → AreRefused rows numbers → IsReadNext (strip_bom bytes) states.StartRecord rows
+    → SpellsNext bytes (length numbers)
 spells bytes rows numbers read (fields, command, s2, rest, reached, is) =
     let next = next_of rows fields (records_of bytes) (records-first s2 (strip_bom bytes) rest (rows ++ fields ∷ []) reached) in
     let size : length rows ≡ length numbers = as_many rows numbers read in (
@@ -228,7 +241,8 @@ spells bytes rows numbers read (fields, command, s2, rest, reached, is) =
       subst (λ n. IsReadAs (get_or (records_of bytes) n []) (Ok command)) size (subst (λ l. IsReadAs l (Ok command)) (sym next.1) is),
     )
 
-pub ran-ended : (bytes : List ℕ) (old new : Written) (r : Result Tally RunFault) → IsEndedRun (strip_bom bytes) states.StartRecord old new r → RanEnded bytes old new r
+pub ran-ended : (bytes : List ℕ) (old new : Written) (r : Result Tally RunFault) → IsEndedRun (strip_bom bytes) states.StartRecord old new r
+    → RanEnded bytes old new r
 ran-ended bytes old new (Ok t) h = record {
   numbers = h.numbers;
   read = subst (λ l. AreRefused l h.numbers) (records-all (strip_bom bytes) h.rows h.are) h.read;

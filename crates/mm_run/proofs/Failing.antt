@@ -21,7 +21,8 @@ no_such f (inr (inl e)) h = absurd (omega arith)
 no_such f (inr (inr e)) h = absurd (omega arith)
 
 -- a command was applied
-pub applied-tells : (before failed : Bool) (same : Type 0) (a : Answer) → OnFault a IsApplyFault → (before ≡ true → (a ≡ answers.Fault (record { 0 = 92 })) × same)
+pub applied-tells : (before failed : Bool) (same : Type 0) (a : Answer) → OnFault a IsApplyFault
+    → (before ≡ true → (a ≡ answers.Fault (record { 0 = 92 })) × same)
     → (before ≡ false → OnFault a (λ f. f ≢ 92)) → (before ≡ false → failed ≡ is_fault a) → TellsReopening before failed same a
 applied-tells true failed same answers.Ok faults ended working fails = absurd (let e : answers.Ok ≡ answers.Fault (record { 0 = 92 }) = (ended refl).0 in cc)
 applied-tells false failed same answers.Ok faults ended working fails = (refl, fails refl)
@@ -35,7 +36,8 @@ applied-tells false failed same (answers.Fault f) faults ended working fails =
     (λ e. absurd (working refl e), λ e. (refl, fails refl), λ e. absurd (no_such f.0 faults e), λ e. absurd (let g : false ≡ true = e in cc))
 
 -- a record that was not read as a command was answered
-pub unread-tells : (fault : ReadFault) (failed : Bool) (same : Type 0) → same → OnFault (answer_unread fault) IsApplyFault × TellsReopening failed failed same (answer_unread fault)
+pub unread-tells : (fault : ReadFault) (failed : Bool) (same : Type 0) → same
+    → OnFault (answer_unread fault) IsApplyFault × TellsReopening failed failed same (answer_unread fault)
 unread-tells (faults.Refused why) failed same here = (tt, (refl, λ was. here))
 unread-tells faults.Memory failed same here = (inl refl, (λ q. absurd (omega arith), λ q. absurd (omega arith), λ q. refl, λ was. here))
 
@@ -45,14 +47,16 @@ goes-same answers.Ok before failed same good h = h.1 ∙ sym h.0
 goes-same (answers.Refused why) before failed same good h = h.0
 goes-same (answers.Fault f) before failed same good h = absurd good
 
-pub goes-ended : (a : Answer) (before failed : Bool) (same : Type 0) (t t2 : Tally) → IsAnswer a → TellsReopening before failed same a → before ≡ true → t2 ≡ with_line (with_answer a t)
+pub goes-ended : (a : Answer) (before failed : Bool) (same : Type 0) (t t2 : Tally) → IsAnswer a → TellsReopening before failed same a → before ≡ true
+    → t2 ≡ with_line (with_answer a t)
     → same × (t2.accepted ≡ t.accepted)
 goes-ended answers.Ok before failed same t t2 good h was e = absurd (let f : false ≡ true = sym h.0 ∙ was in cc)
 goes-ended (answers.Refused why) before failed same t t2 good h was e = (h.1 was, ap (λ (x : Tally). x.accepted) e)
 goes-ended (answers.Fault f) before failed same t t2 good h was e = absurd good
 
 -- a run stopped at the line of an answer
-accepted-stopped : (a : Answer) (t : Tally) (e : RunFault) (old new : Option (List ℕ)) (was failed : Bool) (n : ℕ) → Stops (written_as old was) (written_as new failed) n a t e → e.tally.accepted ≡ (with_answer a t).accepted
+accepted-stopped : (a : Answer) (t : Tally) (e : RunFault) (old new : Option (List ℕ)) (was failed : Bool) (n : ℕ)
+    → Stops (written_as old was) (written_as new failed) n a t e → e.tally.accepted ≡ (with_answer a t).accepted
 accepted-stopped a t e old new was failed n (inl h) = ap (λ (x : Tally). x.accepted) h.2
 accepted-stopped a t e old new was failed n (inr (inl h)) = ap (λ (x : Tally). x.accepted) h.2
 accepted-stopped a t e old new was failed n (inr (inr h)) = ap (λ (x : Tally). x.accepted) h.2
@@ -80,7 +84,8 @@ module _ {S : Type 0} (x y z : S) (first before failed : Bool) (t : Tally) (e : 
   accepted_none : before ≡ false → first ≡ true → (z ≡ x) × (e.tally.accepted ≡ 0)
   accepted_none is was = absurd (let g : false ≡ true = sym is ∙ (so_far ∙ was) in cc)
 
-  by_answer : (a : Answer) → TellsReopening before failed (z ≡ y) a → Stops (written_as old was) (written_as new writer) n a t e → e.tally.accepted ≡ (with_answer a t).accepted → Result
+  by_answer : (a : Answer) → TellsReopening before failed (z ≡ y) a → Stops (written_as old was) (written_as new writer) n a t e
+      → e.tally.accepted ≡ (with_answer a t).accepted → Result
   by_answer answers.Ok h (inl s) count = absurd (let g : answers.Ok ≡ answers.Fault e.fault = s.0 in cc)
   by_answer answers.Ok h (inr (inl s)) count = at_writer s.0 (accepted_none h.0)
   by_answer answers.Ok h (inr (inr s)) count = at_writer s.0 (accepted_none h.0)
@@ -95,7 +100,8 @@ module _ {S : Type 0} (x y z : S) (first before failed : Bool) (t : Tally) (e : 
   stops-failing a h s = by_answer a h s (accepted-stopped a t e old new was writer n s)
 
 -- why a run stopped there: the answer's own fault, or the writer's
-pub stops-why : (a : Answer) (t : Tally) (e : RunFault) (old new : Option (List ℕ)) (was failed reading : Bool) (n : ℕ) → OnFault a (λ f. IsRunFault f reading) → Stops (written_as old was) (written_as new failed) n a t e
+pub stops-why : (a : Answer) (t : Tally) (e : RunFault) (old new : Option (List ℕ)) (was failed reading : Bool) (n : ℕ)
+    → OnFault a (λ f. IsRunFault f reading) → Stops (written_as old was) (written_as new failed) n a t e
     → (e.fault.0 ≡ 97) ⊎ IsRunFault e.fault.0 reading
 stops-why a t e old new was failed reading n why (inr (inl h)) = inl h.0
 stops-why a t e old new was failed reading n why (inr (inr h)) = inl h.0
@@ -108,6 +114,7 @@ pub read-why : (f : ℕ) (b : Bool) → IsReadFault f b → IsRunFault f b
 read-why f b (inl e) = inl (inl e)
 read-why f b (inr e) = inr e
 
-pub read-tells : (f : ℕ) (b before : Bool) (same : Type 0) → same → IsReadFault f b → (f ≡ 92 → before ≡ true) × (f ≡ 91 → (before ≡ false) × (before ≡ true)) × (f ≡ 96 → before ≡ before) × (before ≡ true → same)
+pub read-tells : (f : ℕ) (b before : Bool) (same : Type 0) → same → IsReadFault f b
+    → (f ≡ 92 → before ≡ true) × (f ≡ 91 → (before ≡ false) × (before ≡ true)) × (f ≡ 96 → before ≡ before) × (before ≡ true → same)
 read-tells f b before same here (inl e) = (λ q. absurd (omega arith), λ q. absurd (omega arith), λ q. refl, λ q. here)
 read-tells f b before same here (inr e) = let e0 : f ≡ 96 = e.0 in (λ q. absurd (omega arith), λ q. absurd (omega arith), λ q. refl, λ q. here)

@@ -18,7 +18,8 @@ module _ {D : Type 0} (shows : Shown D) (law : (q : Package) → shows.settled q
   kept-sound before p sound = (λ db may. (p, law p sound.0 db may, sound.1), λ _. (p, sound))
 
   -- a record was read and answered
-  pub kept-answered : (fields : Record) (p : Package) (moment : ℕ) (before : Bool) (x : Answer) (same : Type 0) → Meets current p → (same → shows.settled p) → TellsReopening before shows.failed same x
+  pub kept-answered : (fields : Record) (p : Package) (moment : ℕ) (before : Bool) (x : Answer) (same : Type 0) → Meets current p
+      → (same → shows.settled p) → TellsReopening before shows.failed same x
       → IsAnswered fields p moment before x shows → IsKept before shows
   kept-answered fields p moment before answers.Ok same meets back tells h = kept-sound before (after p moment h.0) h.3
   kept-answered fields p moment before (answers.Refused why) same meets back tells h = kept-sound before (after p moment h.0) h.3
@@ -29,7 +30,8 @@ module _ {D : Type 0} (shows : Shown D) (law : (q : Package) → shows.settled q
   )
 
 -- one turn more
-pub kept-more : {D : Type 0} (clean clean2 : Type 0) (start now next : Shown D) → (clean2 → clean) → now.failed ≡ start.failed → OnSound clean start.settled (IsKept start.failed now)
+pub kept-more : {D : Type 0} (clean clean2 : Type 0) (start now next : Shown D) → (clean2 → clean) → now.failed ≡ start.failed
+    → OnSound clean start.settled (IsKept start.failed now)
     → OnSound clean2 now.settled (IsKept now.failed next) → OnSound clean2 start.settled (IsKept start.failed next)
 kept-more clean clean2 start now next early so_far kept turn is p sound =
     let (q, stands) = (kept (early is) p sound).1 so_far in

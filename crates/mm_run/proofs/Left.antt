@@ -39,7 +39,8 @@ accepted-front (x ∷ given) zero = omega arith
 accepted-front (x ∷ given) (suc w) = omega (arith, accepted-front given w)
 
 -- nothing so far
-pub so_far-none : (p : Package) (moment : ℕ) (xs : List ℕ) (s : State) (source : Option (List ℕ)) (settled : Package → Type 0) → source ≡ Some xs → IsSound settled p
+pub so_far-none : (p : Package) (moment : ℕ) (xs : List ℕ) (s : State) (source : Option (List ℕ)) (settled : Package → Type 0) → source ≡ Some xs
+    → IsSound settled p
     → IsSoFar p moment xs s source s settled []
 unfolding Reached answers_to calls_of
 so_far-none p moment xs s source settled here sound = record { rows = []; rest = xs; here = here; reached = (refl, refl); readings = []; read = none_read; were = refl; stands = sound }
@@ -59,7 +60,8 @@ whole_of p moment given readings were = front_of p moment given readings [] were
 
 module _ {D : Type 0} (p : Package) (moment : ℕ) (shows : Shown D) where
   -- where all that may be left stands for the package after the records
-  pub parts-left : (readings : List Reading) (acknowledged : ℕ) → LeavesOnly shows (run p (calls_of moment readings)) → Meets current (run p (calls_of moment readings))
+  pub parts-left : (readings : List Reading) (acknowledged : ℕ) → LeavesOnly shows (run p (calls_of moment readings))
+      → Meets current (run p (calls_of moment readings))
       → acknowledged ≤ accepted_of (answers_to p moment readings) → accepted_of (answers_to p moment readings) ≤ acknowledged + 1
       → AreFirstParts shows p (calls_of moment readings) acknowledged
   parts-left readings acknowledged leaves meets least most db may = (
@@ -71,7 +73,8 @@ module _ {D : Type 0} (p : Package) (moment : ℕ) (shows : Shown D) where
 
   module _ (xs : List ℕ) (s : State) (before : Bool) (given : List Answer) where
     -- all the records were answered, or all that were read
-    some-of : (rows : List Record) (state : State) (rest : List ℕ) (readings : List Reading) (w : ℕ) → Reached default_config s xs rows state rest → AreReadAs rows readings
+    some-of : (rows : List Record) (state : State) (rest : List ℕ) (readings : List Reading) (w : ℕ) → Reached default_config s xs rows state rest
+        → AreReadAs rows readings
         → given ≡ answers_to p moment readings → LeavesOnly shows (run p (calls_of moment readings)) → WorksOn before shows (run p (calls_of moment readings))
         → accepted_of (take w given) ≤ accepted_of given → accepted_of given ≤ accepted_of (take w given) + 1
         → IsSome p moment xs s before shows given w
@@ -106,7 +109,8 @@ module _ {D : Type 0} (p : Package) (moment : ℕ) (shows : Shown D) where
           some-of h.rows h.are.0 h.are.1 h.readings w h.are.2 h.read h.were (law (run p (calls_of moment h.readings)) h.stands.0) (same, h.stands) (omega (arith, front)) (omega (arith, front))
 
 -- the line of the last answer may be missing
-pub some-last : {D : Type 0} (p : Package) (moment : ℕ) (shows : Shown D) (xs : List ℕ) (s : State) (before : Bool) (given : List Answer) (a : Answer) → ((q : Package) → shows.settled q → LeavesOnly shows q) → shows.failed ≡ before → (source : Option (List ℕ)) (s2 : State)
+pub some-last : {D : Type 0} (p : Package) (moment : ℕ) (shows : Shown D) (xs : List ℕ) (s : State) (before : Bool) (given : List Answer) (a : Answer)
+    → ((q : Package) → shows.settled q → LeavesOnly shows q) → shows.failed ≡ before → (source : Option (List ℕ)) (s2 : State)
     → IsSoFar p moment xs s source s2 shows.settled (given ++ a ∷ []) → (w : ℕ) → length given ≤ w → IsSome p moment xs s before shows (given ++ a ∷ []) w
 some-last p moment shows xs s before given a law same source s2 h w enough =
     some-of p moment shows xs s before (given ++ a ∷ []) h.rows s2 h.rest h.readings w h.reached h.read h.were
@@ -157,7 +161,8 @@ module _ {D T : Type 0} (remaining : T → Option (List ℕ)) (a b : Reader T) (
         some-of p moment shows xs s first given h.rows a.state h.rest h.readings w h.reached h.read h.were (law here works.1.0) (works.0 ∙ so_far, works.1) (omega (arith, front)) (omega (arith, front))
 
     -- it may have been done
-    some-doubt : (w : ℕ) → length given ≤ w → (fields : Record) → ReadRecord remaining a b true fields → shows.failed ≡ true → (command : Command) → IsReadAs fields (Ok command)
+    some-doubt : (w : ℕ) → length given ≤ w → (fields : Record) → ReadRecord remaining a b true fields → shows.failed ≡ true → (command : Command)
+        → IsReadAs fields (Ok command)
         → Meets current (step here command moment) → LeavesEither shows here command moment → IsSome p moment xs s first shows given w
     some-doubt w enough fields read down command is meets either =
         let front = whole_front p moment shows xs s first given w enough in
@@ -180,7 +185,8 @@ module _ {D T : Type 0} (remaining : T → Option (List ℕ)) (a b : Reader T) (
         }
       where
         done : (db : D) → refusal here command ≡ None → shows.stands_for db (step here command moment) → accepted_of (take w given) ≡ accepted_of given
-            → accepted_of given ≡ accepted_of (answers_to p moment h.readings) → run p (calls_of moment (h.readings ++ Ok command ∷ [])) ≡ step here command moment
+            → accepted_of given ≡ accepted_of (answers_to p moment h.readings)
+            → run p (calls_of moment (h.readings ++ Ok command ∷ [])) ≡ step here command moment
             → (q : Package) × shows.stands_for db q × IsFirstPart p (calls_of moment (h.readings ++ Ok command ∷ [])) (accepted_of (take w given)) q × Meets current q
         done db none stands front count after_it =
             let more : answers_to p moment (h.readings ++ Ok command ∷ []) ≡ answers_to p moment h.readings ++ answers.Ok ∷ [] =

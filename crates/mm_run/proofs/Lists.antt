@@ -52,12 +52,14 @@ unfolding calls_of
 run-one p moment (Ok command) = refl
 run-one p moment (Err number) = refl
 
-run-first : (p : Package) (moment : ℕ) (reading : Reading) (readings : List Reading) → run p (calls_of moment (reading ∷ readings)) ≡ run (after p moment reading) (calls_of moment readings)
+run-first : (p : Package) (moment : ℕ) (reading : Reading) (readings : List Reading)
+    → run p (calls_of moment (reading ∷ readings)) ≡ run (after p moment reading) (calls_of moment readings)
 unfolding calls_of
 run-first p moment (Ok command) readings = refl
 run-first p moment (Err number) readings = refl
 
-pub run-more : (p : Package) (moment : ℕ) (readings : List Reading) (reading : Reading) → run p (calls_of moment (readings ++ reading ∷ [])) ≡ after (run p (calls_of moment readings)) moment reading
+pub run-more : (p : Package) (moment : ℕ) (readings : List Reading) (reading : Reading)
+    → run p (calls_of moment (readings ++ reading ∷ [])) ≡ after (run p (calls_of moment readings)) moment reading
 run-more p moment readings reading =
     ap (run p) (calls-append moment readings (reading ∷ [])) ∙ (run-append p (calls_of moment readings) (calls_of moment (reading ∷ [])) ∙ run-one (run p (calls_of moment readings)) moment reading)
 
@@ -83,7 +85,8 @@ one_each p (Ok command) = by (refusal p command)
     by (Some why) = refl
 one_each p (Err number) = refl
 
-pub counted-answers : (p : Package) (moment : ℕ) (readings : List Reading) → accepted_of (answers_to p moment readings) + refused_of (answers_to p moment readings) ≡ length readings
+pub counted-answers : (p : Package) (moment : ℕ) (readings : List Reading)
+    → accepted_of (answers_to p moment readings) + refused_of (answers_to p moment readings) ≡ length readings
 unfolding answers_to accepted_of refused_of
 counted-answers p moment [] = refl
 counted-answers p moment (x ∷ readings) = omega (arith, counted-answers (after p moment x) moment readings, one_each p x)
@@ -136,12 +139,14 @@ accepted-append p (x ∷ xs) ys =
 pub accepted-one : (p : Package) (c : Call) → refusal p c.command ≡ None → accepted p (c ∷ []) ≡ c ∷ []
 accepted-one p c e = ap (λ r. if_ok r c []) e
 
-pub length-accepted : (p : Package) (moment : ℕ) (readings : List Reading) → length (accepted p (calls_of moment readings)) ≡ accepted_of (answers_to p moment readings)
+pub length-accepted : (p : Package) (moment : ℕ) (readings : List Reading)
+    → length (accepted p (calls_of moment readings)) ≡ accepted_of (answers_to p moment readings)
 unfolding answers_to accepted_of calls_of
 length-accepted p moment [] = refl
 length-accepted p moment (Ok command ∷ readings) = by (refusal p command) (length-accepted (step p command moment) moment readings)
   where
-    by : (r : Option Refusal) → length (accepted (step p command moment) (calls_of moment readings)) ≡ accepted_of (answers_to (step p command moment) moment readings)
+    by : (r : Option Refusal)
+        → length (accepted (step p command moment) (calls_of moment readings)) ≡ accepted_of (answers_to (step p command moment) moment readings)
         → length (if_ok r (record { command = command; moment = moment }) (accepted (step p command moment) (calls_of moment readings)))
         ≡ (if is_accepted (answer_of r) then 1 else 0) + accepted_of (answers_to (step p command moment) moment readings)
     by None h = omega (arith, h)

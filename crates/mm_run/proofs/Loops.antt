@@ -89,14 +89,16 @@ cut-stopped given a n t e old mid new m d (inr h) =
     (concat (lines given) ++ take h.1 (line n a), Appends-trans _ _ _ _ _ d.2 h.3, cut-inside given a n h.1 e.tally.written m same h.2)
 
 -- how many lines were whole
-cut-written : (given : List Answer) (a : Answer) (n : ℕ) (t : Tally) (e : RunFault) (old mid new : Option (List ℕ)) → AreTold given t old mid → IsCut mid new n a t e
+cut-written : (given : List Answer) (a : Answer) (n : ℕ) (t : Tally) (e : RunFault) (old mid new : Option (List ℕ)) → AreTold given t old mid
+    → IsCut mid new n a t e
     → (length given ≤ e.tally.written) × (e.tally.written ≤ length given + 1)
 cut-written given a n t e old mid new d (inl h) =
     let at : e.tally.written ≡ t.written + 1 = rw (h.0, written-with a t) refl in (omega (arith, d.1), omega (arith, d.1))
 cut-written given a n t e old mid new d (inr h) =
     let at : e.tally.written ≡ t.written = rw (h.0, written-with a t) refl in (omega (arith, d.1), omega (arith, d.1))
 
-cut-counted : (given : List Answer) (a : Answer) (n : ℕ) (t : Tally) (e : RunFault) (old mid new : Option (List ℕ)) → AreTold given t old mid → IsCut mid new n a t e
+cut-counted : (given : List Answer) (a : Answer) (n : ℕ) (t : Tally) (e : RunFault) (old mid new : Option (List ℕ)) → AreTold given t old mid
+    → IsCut mid new n a t e
     → AreCounted e.tally (given ++ a ∷ [])
 cut-counted given a n t e old mid new d (inl h) = rw h.0 (counted-more given a t d.0)
 cut-counted given a n t e old mid new d (inr h) = rw h.0 (counted-more given a t d.0)
@@ -124,7 +126,8 @@ module _ (P : List Answer → ℕ → Type 0) (given : List Answer) (n : ℕ) (t
   by_writer is down = (λ _. down, λ other. absurd (other is))
 
   -- at the line of an answer, because the writer failed
-  at_answer : (a : Answer) → IsAnswer a → (e.fault.0 ≡ 97) → failed ≡ true → IsCut mid new n a t e → ((w : ℕ) → length given ≤ w → P (given ++ a ∷ []) w) → Result
+  at_answer : (a : Answer) → IsAnswer a → (e.fault.0 ≡ 97) → failed ≡ true → IsCut mid new n a t e
+      → ((w : ℕ) → length given ≤ w → P (given ++ a ∷ []) w) → Result
   at_answer a good is down cut more =
       let (bytes, wrote, at) = cut-stopped given a n t e old mid new m d cut in
       let stopped : IsStopped (given ++ a ∷ []) e (written_as old before) (written_as new failed) = record {
@@ -143,7 +146,8 @@ module _ (P : List Answer → ℕ → Type 0) (given : List Answer) (n : ℕ) (t
       one_counted (inr h) = rw h.0 one_more
 
   -- at the line of a fault, because the writer failed
-  fault_cut : (f : Fault) → HasLine f.0 → (e.fault.0 ≡ 97) → failed ≡ true → IsCut mid new n (answers.Fault f) t e → ((w : ℕ) → length given ≤ w → P given w) → Result
+  fault_cut : (f : Fault) → HasLine f.0 → (e.fault.0 ≡ 97) → failed ≡ true → IsCut mid new n (answers.Fault f) t e
+      → ((w : ℕ) → length given ≤ w → P given w) → Result
   fault_cut f line is down cut here =
       let (bytes, wrote, at) = cut-stopped given (answers.Fault f) n t e old mid new m d cut in
       let stopped : IsStopped given e (written_as old before) (written_as new failed) = record {
@@ -162,12 +166,14 @@ module _ (P : List Answer → ℕ → Type 0) (given : List Answer) (n : ℕ) (t
       same_count (inl h) = rw h.0 all
       same_count (inr h) = rw h.0 all
 
-  pub stopped-answer : (a : Answer) → IsAnswer a → Stops (written_as mid was) (written_as new failed) n a t e → ((w : ℕ) → length given ≤ w → P (given ++ a ∷ []) w) → Result
+  pub stopped-answer : (a : Answer) → IsAnswer a → Stops (written_as mid was) (written_as new failed) n a t e
+      → ((w : ℕ) → length given ≤ w → P (given ++ a ∷ []) w) → Result
   stopped-answer a good (inl h) more = absurd (subst IsAnswer h.0 good)
   stopped-answer a good (inr (inl h)) more = at_answer a good h.0 h.1 (inl (h.2, h.3)) more
   stopped-answer a good (inr (inr h)) more = at_answer a good h.0 h.1 (inr (h.2, h.3, h.4, h.5)) more
 
-  pub stopped-fault : (f : Fault) → HasLine f.0 → Stops (written_as mid was) (written_as new failed) n (answers.Fault f) t e → ((w : ℕ) → length given ≤ w → P given w) → Result
+  pub stopped-fault : (f : Fault) → HasLine f.0 → Stops (written_as mid was) (written_as new failed) n (answers.Fault f) t e
+      → ((w : ℕ) → length given ≤ w → P given w) → Result
   stopped-fault f line (inl h) here =
       let same : f ≡ e.fault = cc (h.0) in
       let at : e.tally.written ≡ length given + 1 = rw h.2 (ap (λ k. k + 1) d.1) in
@@ -183,7 +189,8 @@ module _ (P : List Answer → ℕ → Type 0) (given : List Answer) (n : ℕ) (t
   stopped-fault f line (inr (inr h)) here = fault_cut f line h.0 h.1 (inr (h.2, h.3, h.4, h.5)) here
 
   -- whichever it was
-  pub stopped-with : (a : Answer) → OnFault a HasLine → Stops (written_as mid was) (written_as new failed) n a t e → (is_fault a ≡ true → (w : ℕ) → length given ≤ w → P given w)
+  pub stopped-with : (a : Answer) → OnFault a HasLine → Stops (written_as mid was) (written_as new failed) n a t e
+      → (is_fault a ≡ true → (w : ℕ) → length given ≤ w → P given w)
       → (IsAnswer a → (w : ℕ) → length given ≤ w → P (given ++ a ∷ []) w) → Result
   stopped-with answers.Ok line s here more = stopped-answer answers.Ok tt s (more tt)
   stopped-with (answers.Refused why) line s here more = stopped-answer (answers.Refused why) tt s (more tt)

@@ -27,8 +27,10 @@ use Rattle.mm_run.specs.Sessions.{shown}
 use Rattle.mm_run.specs.declared.apply.Apply as applies
 use Rattle.mm_run.proofs.Ended.{ran-ended}
 
-pub ran-all : {D : Type 0} (p : Package) (moment : ℕ) (bytes : List ℕ) (shows : Shown D) (old new : Written) (t : Tally) (given : List Answer) → ((q : Package) → shows.settled q → LeavesOnly shows q)
-    → AreTold given t old.contents new.contents → IsAll p moment (strip_bom bytes) states.StartRecord shows.settled given → RanAll p moment bytes shows old new t
+pub ran-all : {D : Type 0} (p : Package) (moment : ℕ) (bytes : List ℕ) (shows : Shown D) (old new : Written) (t : Tally) (given : List Answer)
+    → ((q : Package) → shows.settled q → LeavesOnly shows q)
+    → AreTold given t old.contents new.contents → IsAll p moment (strip_bom bytes) states.StartRecord shows.settled given
+    → RanAll p moment bytes shows old new t
 ran-all p moment bytes shows old new t given law told all =
     let same : all.rows ≡ records_of bytes = records-all (strip_bom bytes) all.rows all.are in
     let readings = all.readings in
@@ -47,7 +49,8 @@ ran-all p moment bytes shows old new t given law told all =
     }
 
 -- the same, whether the session has to be opened again or not
-pub ran-all-flagged : {D : Type 0} (p : Package) (moment : ℕ) (bytes : List ℕ) (shows : Shown D) (failed : Bool) (old new : Written) (t : Tally) → RanAll p moment bytes shows old new t
+pub ran-all-flagged : {D : Type 0} (p : Package) (moment : ℕ) (bytes : List ℕ) (shows : Shown D) (failed : Bool) (old new : Written) (t : Tally)
+    → RanAll p moment bytes shows old new t
     → RanAll p moment bytes (record shows { failed = failed }) old new t
 ran-all-flagged p moment bytes shows failed old new t it = record {
   readings = it.readings;
@@ -62,7 +65,8 @@ ran-all-flagged p moment bytes shows failed old new t it = record {
 
 -- where a run stopped, told of less
 pub stops-behind : (p : Package) (moment : ℕ) (readings : List Reading) (answered : ℕ) (works works2 : Package → Type 0) (failed failed2 : Type 0)
-    → ((q : Package) → works q → works2 q) → (failed → failed2) → StopsBehind works failed p moment readings answered → StopsBehind works2 failed2 p moment readings answered
+    → ((q : Package) → works q → works2 q) → (failed → failed2) → StopsBehind works failed p moment readings answered
+    → StopsBehind works2 failed2 p moment readings answered
 stops-behind p moment readings answered works works2 failed failed2 on down (inl it) = inl (it.0, on (run p (calls_of moment readings)) it.1)
 stops-behind p moment readings answered works works2 failed failed2 on down (inr it) = inr (down it.0, it.1, it.2, it.3, it.4)
 
@@ -78,7 +82,8 @@ ran-some-less p moment bytes works works2 failed failed2 shows flag old new e on
 }
 
 pub ran-some : {D : Type 0} (p : Package) (moment : ℕ) (bytes : List ℕ) (before : Bool) (shows : Shown D) (old new : Written) (e : RunFault) (given : List Answer) → IsStopped given e old new
-    → IsSome p moment (strip_bom bytes) states.StartRecord before shows given e.tally.written → RanSome p moment bytes (WorksOn before shows) (shows.failed ≡ true) shows old new e
+    → IsSome p moment (strip_bom bytes) states.StartRecord before shows given e.tally.written
+    → RanSome p moment bytes (WorksOn before shows) (shows.failed ≡ true) shows old new e
 ran-some p moment bytes before shows old new e given stopped some =
     let readings = some.readings in
     let first : some.rows ≡ take (length some.rows) (records_of bytes) = records-first some.state (strip_bom bytes) some.rest some.rows some.reached in

@@ -37,7 +37,8 @@ past_first e es q d = elim (same_key piece_keys q e.0) as (λ _. find piece_cmp 
   | inr n ↦ ap (λ b. cond b (Some e.1) (find piece_cmp q es)) n.1
 ]
 
-found_below : (k q : PieceKey) (es : List (PieceKey × PieceRow)) → T (below_all piece_cmp k es) → is_some (find piece_cmp q es) ≡ true → T (is_lt (piece_cmp k q))
+found_below : (k q : PieceKey) (es : List (PieceKey × PieceRow)) → T (below_all piece_cmp k es) → is_some (find piece_cmp q es) ≡ true
+    → T (is_lt (piece_cmp k q))
 found_below k q [] below there = absurd (let f : false ≡ true = there in cc)
 found_below k q (e ∷ es) below there =
     let parts = and_parts (is_lt (piece_cmp k e.0)) (below_all piece_cmp k es) below in

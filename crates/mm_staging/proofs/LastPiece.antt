@@ -68,11 +68,13 @@ module _ (rows : List Row) (ids : FinMap piece_cmp StagedRow) (m : PiecesPart) (
   tells r k v is =
       ap (λ x. equal Binary x (Words edition) && true) (columns_are r (staged_row k v) 0 is) ∙ ap (λ b. b && true) (equal_text k.edition edition) ∙ and_true (same_text k.edition edition)
 
-  numbers : (r s : Row) (k l : PieceKey) (v w : StagedRow) → past_rowid r ≡ staged_row k v → past_rowid s ≡ staged_row l w → value_cmp (column r 2) (column s 2) ≡ int_cmp k.number l.number
+  numbers : (r s : Row) (k l : PieceKey) (v w : StagedRow) → past_rowid r ≡ staged_row k v → past_rowid s ≡ staged_row l w
+      → value_cmp (column r 2) (column s 2) ≡ int_cmp k.number l.number
   numbers r s k l v w p q = ap (λ x. value_cmp x (column s 2)) (columns_are r (staged_row k v) 1 p) ∙ ap (value_cmp (Int k.number)) (columns_are s (staged_row l w) 1 q) ∙ value_cmp-Int k.number l.number
 
   -- the row of a piece of the edition
-  row_at : (number : ℤ) → Stands m (piece edition number) → (v : StagedRow) × (r : Row) × IsAmong rows r × (passes last_terms (of_edition edition) r ≡ true) × (past_rowid r ≡ staged_row (piece edition number) v)
+  row_at : (number : ℤ) → Stands m (piece edition number)
+      → (v : StagedRow) × (r : Row) × IsAmong rows r × (passes last_terms (of_edition edition) r ≡ true) × (past_rowid r ≡ staged_row (piece edition number) v)
   row_at number stands =
       let v = some_of (get ids (piece edition number)) (there (piece edition number) ∙ stands) in
       let r = h.complete (piece edition number) v.0 v.1 in
@@ -133,7 +135,8 @@ under : {T : Type 0} (A : Type 0) (B : T → Type 0) (r : Result T Fault) → If
 under A B (Ok x) h a = h a
 under A B (Err e) h a = tt
 
-pub read_of_rules : {T : Type 0} (profile : Profile) (old new : State) (Says : Package → T → Type 0) (r : Result T Fault) → IsRead profile old new (λ p x. Meets profile p → Says p x) r → IsRead profile old new Says r
+pub read_of_rules : {T : Type 0} (profile : Profile) (old new : State) (Says : Package → T → Type 0) (r : Result T Fault)
+    → IsRead profile old new (λ p x. Meets profile p → Says p x) r → IsRead profile old new Says r
 read_of_rules profile old new Says r it = record {
   survives = it.survives;
   seen = it.seen;

@@ -178,7 +178,8 @@ module _ (p : Package) (edition : Text) (number : ℤ) (q : Piece) where
 
 -- of a package that meets the rules
 module _ (profile : Profile) (p : Package) (edition : Text) (number : ℤ) (q : Piece) (meets : Meets profile p) (low : IsId number) (open_is : get p.editions edition ≡ Some open_state) where
-  pub placed : (written row : PieceRow) → written ≡ piece_row q → get p.pieces (piece edition number) ≡ Some row → (place : Place) → IsPlaceAt written row place → IsPlace p edition number q place
+  pub placed : (written row : PieceRow) → written ≡ piece_row q → get p.pieces (piece edition number) ≡ Some row → (place : Place)
+      → IsPlaceAt written row place → IsPlace p edition number q place
   placed written row is there Equal at = let it = meets.q15.numbered edition open_is in stage_equal p edition number q it.0 it.1 it.2 low open_is row there (sym is ∙ at)
   placed written row is there Next at = absurd at
   placed written row is there (Refused w) at =
@@ -187,7 +188,8 @@ module _ (profile : Profile) (p : Package) (edition : Text) (number : ℤ) (q : 
   pub unplaced : get p.pieces (piece edition number) ≡ None → (place : Place) → IsPlaceBehind p edition number place → IsPlace p edition number q place
   unplaced gone place at = let it = meets.q15.numbered edition open_is in stage_behind p edition number q it.0 it.1 it.2 low open_is gone place at
 
-pub place_next : (p : Package) (edition : Text) (number : ℤ) (place : Place) → IsNextNumber p edition number → IsRoom number place → IsPlaceBehind p edition number place
+pub place_next : (p : Package) (edition : Text) (number : ℤ) (place : Place) → IsNextNumber p edition number → IsRoom number place
+    → IsPlaceBehind p edition number place
 place_next p edition number Equal is room = absurd room
 place_next p edition number Next is room = (is, room)
 place_next p edition number (Refused w) is room = inl (room.0, is, room.1)
@@ -224,7 +226,8 @@ module _ (p : Package) (edition : Text) (number before : ℤ) (is : pos 1 <ℤ n
   }
 
 -- a piece that stands is staged again
-pub again : (p : Package) (edition : Text) (number : ℤ) (q : Piece) (moment : ℕ) → refusal p (commands.Stage edition number q) ≡ None → get p.pieces (piece edition number) ≡ Some (piece_row q)
+pub again : (p : Package) (edition : Text) (number : ℤ) (q : Piece) (moment : ℕ) → refusal p (commands.Stage edition number q) ≡ None
+    → get p.pieces (piece edition number) ≡ Some (piece_row q)
     → step p (commands.Stage edition number q) moment ≡ p
 again p edition number q moment free there =
     ap (λ v. unless_refused v (done p (commands.Stage edition number q) (stamp moment)) p) free ∙ ap (λ (m : PiecesPart). record p { pieces = m }) (put_again piece_keys p.pieces (piece edition number) (piece_row q) there)

@@ -70,7 +70,8 @@ one_bytes shelf None a b p q = p ∙ sym q
 one_bytes shelf (Some id) a b p q = same_some (sym p ∙ q)
 
 -- the entry of the package is the piece of the row, with the bytes of the blob that the row names
-pub row_tells : (shelf : Shelf) (o : Option StagedRow) (entry : Option PieceRow) (shown : Row) (a : PieceRow) → IsPieceRow o (Some shown) → Told piece_id piece_with shelf o entry → Shows shown a
+pub row_tells : (shelf : Shelf) (o : Option StagedRow) (entry : Option PieceRow) (shown : Row) (a : PieceRow) → IsPieceRow o (Some shown)
+    → Told piece_id piece_with shelf o entry → Shows shown a
     → ((blob : Option ℤ) → column shown 11 ≡ maybe blob → StandsAt shelf blob a.bytes) → entry ≡ Some a
 row_tells shelf None entry shown a is told s stands = absurd is
 row_tells shelf (Some r) entry shown a is told s stands = told.2 ∙ ap Some (one_piece shown (piece_with r told.0) a (with_bytes shown r told.0 is.0) s (one_bytes shelf r.blob told.0 a.bytes told.1 (stands r.blob is.1)))

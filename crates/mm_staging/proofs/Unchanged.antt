@@ -10,7 +10,8 @@ use Rattle.mm_definitions.specs.declared.commands.Command.{Command}
 use Rattle.mm_store.specs.Stands.{StandsInside}
 use Rattle.mm_store.specs.Shapes.{IsLook, IsLent}
 
-pub accepts_unchanged : (profile : Profile) (c : Command) (moment : ℕ) {T : Type 0} {Says : Package → T → Type 0} (old new : State) (x : T) → IsLook profile old new Says (Ok x)
+pub accepts_unchanged : (profile : Profile) (c : Command) (moment : ℕ) {T : Type 0} {Says : Package → T → Type 0} (old new : State) (x : T)
+    → IsLook profile old new Says (Ok x)
     → ((p : Package) → Meets profile p → Says p x → (refusal p c ≡ None) × (step p c moment ≡ p)) → IsLent profile c moment old new (Ok Done)
 accepts_unchanged profile c moment old new x look finds = record {
   survives = look.survives;

@@ -19,5 +19,6 @@ module _ (old new : State) (sql : List ℕ) (params : Row) where
       → IsAsked old new sql params (λ (it : Bool) first. it ≡ is_some first) (Ok found)
   some_asked first found is asked = record { survives = asked.survives; on = asked.on; gives = λ clean. let g = asked.gives clean in (g.0, g.1, is ∙ ap is_some g.2); faults = tt }
 
-  pub fault_asked : (fault : Fault) → IsAsked old new sql params (λ (it : Option Row) first. it ≡ first) (Err fault) → {U : Type 0} (Gives : U → Option Row → Type 0) → IsAsked old new sql params Gives (Err fault)
+  pub fault_asked : (fault : Fault) → IsAsked old new sql params (λ (it : Option Row) first. it ≡ first) (Err fault)
+      → {U : Type 0} (Gives : U → Option Row → Type 0) → IsAsked old new sql params Gives (Err fault)
   fault_asked fault asked Gives = record { survives = asked.survives; on = asked.on; gives = λ clean. tt; faults = asked.faults }

@@ -31,13 +31,15 @@ row_changed k v w r is = rw (columns_are r (attribute_row k v) 0 is, columns_are
 abbrev pub medium_sets : List Term
 medium_sets = col 1 1 ∷ col 1 2 ∷ col 0 2 ∷ col 0 3 ∷ []
 
-pub medium_changed : (k : Item) (v w : MediumRow) (r : Row) → past_rowid r ≡ medium_row k v → past_rowid (updated mm_media medium_sets (Words k.table ∷ Int k.id ∷ Int w.blob ∷ Words w.content_type ∷ []) r) ≡ medium_row k w
+pub medium_changed : (k : Item) (v w : MediumRow) (r : Row) → past_rowid r ≡ medium_row k v
+    → past_rowid (updated mm_media medium_sets (Words k.table ∷ Int k.id ∷ Int w.blob ∷ Words w.content_type ∷ []) r) ≡ medium_row k w
 medium_changed k v w r is = rw (columns_are r (medium_row k v) 0 is, columns_are r (medium_row k v) 1 is) (cast_all_is mm_media.columns (medium_row k w) refl)
 
 abbrev pub closed_sets : List Term
 closed_sets = col 1 1 ∷ lit (Words (codes "published")) ∷ []
 
-pub edition_closed : (name state : Text) (r : Row) → past_rowid r ≡ edition_row name state → past_rowid (updated mm_editions closed_sets (Words name ∷ []) r) ≡ edition_row name (codes "published")
+pub edition_closed : (name state : Text) (r : Row) → past_rowid r ≡ edition_row name state
+    → past_rowid (updated mm_editions closed_sets (Words name ∷ []) r) ≡ edition_row name (codes "published")
 edition_closed name state r is = rw (columns_are r (edition_row name state) 0 is) (cast_all_is mm_editions.columns (edition_row name (codes "published")) refl)
 
 -- ---- last_change
@@ -52,7 +54,8 @@ contents_sets = col 1 1 ∷ col 1 2 ∷ col 1 3 ∷ col 1 4 ∷ col 0 1 ∷ col 
 pub contents_typed : (table : Text) (c : Contents) → are_of gpkg_contents.columns (contents_row table c) ≡ true
 contents_typed table c = rw (is_maybe c.min_x, is_maybe c.min_y, is_maybe c.max_x, is_maybe c.max_y, is_maybe c.system) refl
 
-pub contents_changed : (table at : Text) (c : Contents) (r : Row) → past_rowid r ≡ contents_row table c → past_rowid (updated gpkg_contents contents_sets (Words table ∷ Words at ∷ []) r) ≡ contents_row table (changed_at at c)
+pub contents_changed : (table at : Text) (c : Contents) (r : Row) → past_rowid r ≡ contents_row table c
+    → past_rowid (updated gpkg_contents contents_sets (Words table ∷ Words at ∷ []) r) ≡ contents_row table (changed_at at c)
 contents_changed table at c r is =
     rw (
       columns_are r (contents_row table c) 0 is,

@@ -35,7 +35,8 @@ module _ {K V : Type 0} {R : K → K → Ordering} (o : IsKeyOrder R) (part : Ro
   no_entries uses none = none_holds (λ e. uses e.0 e.1) (entries m) (along_entries o (λ k v. uses k v ≡ false) m none)
 
   -- whether a row passes is whether some entry does
-  pub some_told : (test : Row → Bool) (uses : K → V → Bool) → ((r : Row) (l : K) (v : V) → part r ≡ row_of l v → test r ≡ uses l v) → list_any test rows ≡ some_entry uses m
+  pub some_told : (test : Row → Bool) (uses : K → V → Bool) → ((r : Row) (l : K) (v : V) → part r ≡ row_of l v → test r ≡ uses l v)
+      → list_any test rows ≡ some_entry uses m
   some_told test uses tells = go (list_any test rows) refl
     where
       go : (b : Bool) → list_any test rows ≡ b → b ≡ some_entry uses m
@@ -48,7 +49,8 @@ module _ {K V : Type 0} {R : K → K → Ordering} (o : IsKeyOrder R) (part : Ro
           sym (tells r.0 k v r.2) ∙ false_from_ne_true _ (λ hit. both_ways _ is (some_from test rows r.0 r.1 hit))))
 
 -- a contents row has the identifier
-pub identified_is : (p : Package) (rows : List Row) → Holds past_rowid contents_row rows p.contents → (identifier : Text) → list_any (has_key (3 ∷ []) (Words identifier ∷ [])) rows ≡ is_identified p identifier
+pub identified_is : (p : Package) (rows : List Row) → Holds past_rowid contents_row rows p.contents → (identifier : Text)
+    → list_any (has_key (3 ∷ []) (Words identifier ∷ [])) rows ≡ is_identified p identifier
 identified_is p rows h identifier = some_told texts past_rowid contents_row rows p.contents h (has_key (3 ∷ []) (Words identifier ∷ [])) (λ _ c. same_text c.identifier identifier) (λ r l v is.
     ap (λ x. equal Binary x (Words identifier) && true) (columns_are r (contents_row l v) 2 is) ∙ ap (λ b. b && true) (equal_text v.identifier identifier) ∙ and_true _)
 
@@ -67,7 +69,8 @@ unfolding binary
 either_text a b c = either_holds _ _ ∙ ap₂ (λ x y. is_eq x || is_eq y) (value_cmp-Text a c) (value_cmp-Text b c)
 
 -- a relation has the table as an end
-pub uses : (p : Package) (table : Text) (rows : List Row) → Holds past_id relation_row rows p.relations → list_any (λ r. either_is (column r 2) (column r 4) (Words table) && true) rows ≡ is_used p table
+pub uses : (p : Package) (table : Text) (rows : List Row) → Holds past_id relation_row rows p.relations
+    → list_any (λ r. either_is (column r 2) (column r 4) (Words table) && true) rows ≡ is_used p table
 uses p table rows h = some_told texts past_id relation_row rows p.relations h (λ r. either_is (column r 2) (column r 4) (Words table) && true) (λ _ r. same_text r.base table || same_text r.related table) (λ r l v is.
     ap (λ x. either_is x (column r 4) (Words table) && true) (columns_after r (relation_row l v) 0 is)
     ∙ ap (λ x. either_is (Words v.base) x (Words table) && true) (columns_after r (relation_row l v) 2 is)

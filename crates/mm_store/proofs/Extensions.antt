@@ -33,7 +33,8 @@ use Rattle.mm_store.proofs.Keys.{is_eq_then}
 
 -- ---- one more extension row
 
-longer : {X : Type 0} (a b : Bool) (e n : X) (xs ys : List X) → length xs ≡ length (cond b (n ∷ ys) ys) → length (cond a (e ∷ xs) xs) ≡ length (cond b (n ∷ cond a (e ∷ ys) ys) (cond a (e ∷ ys) ys))
+longer : {X : Type 0} (a b : Bool) (e n : X) (xs ys : List X) → length xs ≡ length (cond b (n ∷ ys) ys)
+    → length (cond a (e ∷ xs) xs) ≡ length (cond b (n ∷ cond a (e ∷ ys) ys) (cond a (e ∷ ys) ys))
 longer true true e n xs ys h = ap suc h
 longer true false e n xs ys h = ap suc h
 longer false true e n xs ys h = h
@@ -88,7 +89,8 @@ module _ (rows : List Row) (m : FinMap extension_cmp ℕ) (h : Counts rows m) (z
           ∙ sym (ap as_count (count_put (is_extension e) new rows fresh ∙ ap (λ b. length (cond b (new ∷ filter (is_extension e) rows) (filter (is_extension e) rows))) miss))
 
 -- a DELETE of all rows of one extension
-pub uncounts : (rows : List Row) (m : FinMap extension_cmp ℕ) → Counts rows m → (z : Extension) (test : Row → Bool) → ((r : Row) → past_rowid r ≡ extension_row (extension_of r) → test r ≡ is_extension z r)
+pub uncounts : (rows : List Row) (m : FinMap extension_cmp ℕ) → Counts rows m → (z : Extension) (test : Row → Bool)
+    → ((r : Row) → past_rowid r ≡ extension_row (extension_of r) → test r ≡ is_extension z r)
     → Counts (without test rows) (remove m z)
 uncounts rows m h z test decides = record {
   sound = λ r there. h.sound r (has_filtered (λ x. not (test x)) rows r there).0;
@@ -117,11 +119,13 @@ abbrev pub zoom_terms : List Term
 zoom_terms = equals 1 0 ∷ reads 2 (codes "tile_data") ∷ reads 3 (codes "gpkg_zoom_other") ∷ reads 4 (codes "OGC 12-128r17") ∷ reads 5 (codes "read-write") ∷ []
 
 -- a WHERE of all five columns
-five : (a b c d e : Ordering) → (is_eq a && (is_eq b && (is_eq c && (is_eq d && (is_eq e && true))))) ≡ is_eq (ordering_then a (ordering_then b (ordering_then c (ordering_then d e))))
+five : (a b c d e : Ordering)
+    → (is_eq a && (is_eq b && (is_eq c && (is_eq d && (is_eq e && true))))) ≡ is_eq (ordering_then a (ordering_then b (ordering_then c (ordering_then d e))))
 five a b c d e =
     rw (is_eq_then a (ordering_then b (ordering_then c (ordering_then d e))), is_eq_then b (ordering_then c (ordering_then d e)), is_eq_then c (ordering_then d e), is_eq_then d e, and_true (is_eq e)) refl
 
-pub zoom_test : (table : Text) (r : Row) → past_rowid r ≡ extension_row (extension_of r) → passes zoom_terms (Words table ∷ []) r ≡ is_extension (zoom_extension table) r
+pub zoom_test : (table : Text) (r : Row) → past_rowid r ≡ extension_row (extension_of r)
+    → passes zoom_terms (Words table ∷ []) r ≡ is_extension (zoom_extension table) r
 zoom_test table r is =
     let e = extension_of r in
     ap (λ x. equal Binary x (Words table) && (equal Binary (column r 2) (Words (codes "tile_data")) && (equal Binary (column r 3) (Words (codes "gpkg_zoom_other")) && (equal Binary (column r 4) (Words (codes "OGC 12-128r17")) && (equal Binary (column r 5) (Words (codes "read-write")) && true)))))
@@ -150,7 +154,8 @@ abbrev related_where : Text → Value → Value → Value → Value → Value �
 related_where mapping a b c d e =
     equal Binary a (Words mapping) && (is_true (binary (Is Binary) b Null) && (equal Binary c (Words (codes "gpkg_related_tables")) && (equal Binary d (Words (codes "OGC 18-000")) && (equal Binary e (Words (codes "read-write")) && true))))
 
-pub related_test : (mapping : Text) (r : Row) → past_rowid r ≡ extension_row (extension_of r) → passes related_terms (Words mapping ∷ []) r ≡ is_extension (mapping_extension mapping) r
+pub related_test : (mapping : Text) (r : Row) → past_rowid r ≡ extension_row (extension_of r)
+    → passes related_terms (Words mapping ∷ []) r ≡ is_extension (mapping_extension mapping) r
 related_test mapping r is =
     let e = extension_of r in
     ap (λ x. related_where mapping x (column r 2) (column r 3) (column r 4) (column r 5)) (columns_are r (extension_row e) 0 is)

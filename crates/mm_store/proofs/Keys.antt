@@ -74,7 +74,8 @@ first_text : (k : Text) (r : Row) (l : Text) (rest : Row) → past_rowid r ≡ W
 first_text k r l rest is = ap (λ x. equal Binary x (Words k) && true) (columns_are r (Words l ∷ rest) 0 is) ∙ ap (λ b. b && true) (equal_text l k) ∙ and_true _
 
 -- two columns, a text and a number
-text_number : (k : Text) (z : ℤ) (r : Row) (l : Text) (y : ℤ) (rest : Row) → past_rowid r ≡ Words l ∷ Int y ∷ rest → has_key (1 ∷ 2 ∷ []) (Words k ∷ Int z ∷ []) r ≡ is_eq (ordering_then (text_cmp l k) (int_cmp y z))
+text_number : (k : Text) (z : ℤ) (r : Row) (l : Text) (y : ℤ) (rest : Row) → past_rowid r ≡ Words l ∷ Int y ∷ rest
+    → has_key (1 ∷ 2 ∷ []) (Words k ∷ Int z ∷ []) r ≡ is_eq (ordering_then (text_cmp l k) (int_cmp y z))
 text_number k z r l y rest is =
     rw (columns_are r (Words l ∷ Int y ∷ rest) 0 is, columns_are r (Words l ∷ Int y ∷ rest) 1 is, equal_text l k, equal_int y z, is_eq_then (text_cmp l k) (int_cmp y z), and_true (is_eq (int_cmp y z))) refl
 
@@ -216,7 +217,8 @@ blobs = record {
 
 -- ---- a system's number is its row's rowid
 
-pub system_fresh : (rows : List Row) (m : FinMap int_cmp System) → Holds whole system_row rows m → (id : ℤ) (rest : Row) → get m id ≡ None → is_taken rows (Int id ∷ rest) ≡ false
+pub system_fresh : (rows : List Row) (m : FinMap int_cmp System) → Holds whole system_row rows m → (id : ℤ) (rest : Row) → get m id ≡ None
+    → is_taken rows (Int id ∷ rest) ≡ false
 system_fresh rows m h id rest free = false_from_ne_true _ (λ any.
     let r = some_has (λ x. is_eq (value_cmp (rowid x) (Int id))) rows any in
     let it = h.sound r.0 r.1 in

@@ -11,7 +11,8 @@ use Rattle.mm_store.proofs.Parts.{IsPart, finds_none, finds_some}
 
 module _ {K V : Type 0} {R : K → K → Ordering} {part : Row → Row} {row_of : K → V → Row} {test : K → Row → Bool} (it : IsPart R part row_of test) (rows : List Row) (m : FinMap R V) (h : Holds part row_of rows m) (k : K) where
   -- a text of the entry, where the row shows it in its first column
-  pub text_found : {A : Type 0} (show : Row → Row) (of : V → List ℕ) → ((r : Row) (v : V) → part r ≡ row_of k v → column (show r) 0 ≡ Words (of v)) → (x : Option (String A)) (first : Option Row) → GivesText x first
+  pub text_found : {A : Type 0} (show : Row → Row) (of : V → List ℕ) → ((r : Row) (v : V) → part r ≡ row_of k v → column (show r) 0 ≡ Words (of v))
+      → (x : Option (String A)) (first : Option Row) → GivesText x first
       → Finds (test k) show rows first → option_map of (get m k) ≡ option_map string_bytes x
   text_found show of shows None first gives found = ap (option_map of) (finds_none it rows m h k show (subst (Finds (test k) show rows) gives found))
   text_found show of shows (Some text) first gives found =
@@ -21,7 +22,9 @@ module _ {K V : Type 0} {R : K → K → Ordering} {part : Row → Row} {row_of 
       ap (option_map of) at.1 ∙ ap Some same
 
   -- two numbers of the entry, where the row shows them in its first two columns
-  pub pair_found : (show : Row → Row) (of : V → ℤ × ℤ) → ((r : Row) (v : V) → part r ≡ row_of k v → (column (show r) 0 ≡ Int (of v).0) × (column (show r) 1 ≡ Int (of v).1)) → (x : Option (ℤ × ℤ)) (first : Option Row) → GivesPair x first
+  pub pair_found : (show : Row → Row) (of : V → ℤ × ℤ)
+      → ((r : Row) (v : V) → part r ≡ row_of k v → (column (show r) 0 ≡ Int (of v).0) × (column (show r) 1 ≡ Int (of v).1))
+      → (x : Option (ℤ × ℤ)) (first : Option Row) → GivesPair x first
       → Finds (test k) show rows first → option_map of (get m k) ≡ x
   pair_found show of shows None first gives found = ap (option_map of) (finds_none it rows m h k show (subst (Finds (test k) show rows) gives found))
   pair_found show of shows (Some pair) first gives found =

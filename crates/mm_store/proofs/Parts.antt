@@ -58,7 +58,8 @@ module _ {K V : Type 0} {R : K → K → Ordering} {part : Row → Row} {row_of 
       pub finds_none : (show : Row → Row) → Finds (test k) show rows None → get m k ≡ None
       finds_none show none = maps.none_at it.order.total it.order.exact part row_of it.key_is rows m h k (test k) (it.decides k) none
 
-      pub finds_some : (show : Row → Row) (x : Row) → Finds (test k) show rows (Some x) → (v : V) × (get m k ≡ Some v) × (r : Row) × (part r ≡ row_of k v) × (x ≡ show r)
+      pub finds_some : (show : Row → Row) (x : Row) → Finds (test k) show rows (Some x)
+          → (v : V) × (get m k ≡ Some v) × (r : Row) × (part r ≡ row_of k v) × (x ≡ show r)
       finds_some show x some =
           let at = maps.passes_at it.order.total it.order.exact part row_of it.key_is rows m h k (test k) (it.decides k) some.0 some.1 some.2 in
           (at.0, at.1, some.0, at.2, some.3)
@@ -72,14 +73,17 @@ module _ {K V : Type 0} {R : K → K → Ordering} {part : Row → Row} {row_of 
       removes = maps.removes it.order.total it.order.exact part row_of it.key_is rows m h k (test k) (it.decides k)
 
       -- the same by another test that finds the row
-      pub removes_where : (out : Row → Bool) → ((r : Row) (l : K) (v : V) → part r ≡ row_of l v → out r ≡ eq_by_cmp R l k) → Holds part row_of (without out rows) (remove m k)
+      pub removes_where : (out : Row → Bool) → ((r : Row) (l : K) (v : V) → part r ≡ row_of l v → out r ≡ eq_by_cmp R l k)
+          → Holds part row_of (without out rows) (remove m k)
       removes_where out tells = maps.removes it.order.total it.order.exact part row_of it.key_is rows m h k out tells
 
-      pub changes : (change : Row → Row) (v w : V) → get m k ≡ Some v → ((r : Row) → part r ≡ row_of k v → part (change r) ≡ row_of k w) → Holds part row_of (with_changed (test k) change rows) (insert m k w)
+      pub changes : (change : Row → Row) (v w : V) → get m k ≡ Some v → ((r : Row) → part r ≡ row_of k v → part (change r) ≡ row_of k w)
+          → Holds part row_of (with_changed (test k) change rows) (insert m k w)
       changes change v w stands changes_to = maps.changes it.order.total it.order.exact part row_of it.key_is rows m h k (test k) (it.decides k) change v w stands changes_to
 
     -- the rows whose keys don't pass are gone
-    pub retains : (out : Row → Bool) (keep : K → Bool) → ((r : Row) (l : K) (v : V) → part r ≡ row_of l v → not (out r) ≡ keep l) → Holds part row_of (without out rows) (retain_keys m keep)
+    pub retains : (out : Row → Bool) (keep : K → Bool) → ((r : Row) (l : K) (v : V) → part r ≡ row_of l v → not (out r) ≡ keep l)
+        → Holds part row_of (without out rows) (retain_keys m keep)
     retains out keep tells = record {
       sound = λ r there.
           let was = has_filtered (λ x. not (out x)) rows r there in

@@ -55,7 +55,8 @@ module _ (name : Text) where
   mapped r l v is = ap (λ x. equal Binary x (Words name)) (columns_after r (relation_row l v) 5 is) ∙ equal_text l name
 
   module _ (spare more : Spare) (version : ℤ) (db : Trees) (p : Package) (h : HoldingBut spare version db p) (still : (z : ℤ) → spare z ≡ true → more z ≡ true) where
-    pub drops_table : ((z : ℤ) → FreedByTable name h.kept z → more z ≡ true) → HoldingBut more version (cut table_place (Words name) db) (without_table_rows name p)
+    pub drops_table : ((z : ℤ) → FreedByTable name h.kept z → more z ≡ true)
+        → HoldingBut more version (cut table_place (Words name) db) (without_table_rows name p)
     drops_table freed = record {
       systems = h.systems;
       contents = removes_where parts.contents (db 1) p.contents h.contents name names (λ r l v is. named r l _ is);
@@ -112,7 +113,8 @@ module _ (name : Text) where
       profile = h.profile;
     }
 
-    pub drops_edition : ((z : ℤ) → FreedByEdition name h.kept z → more z ≡ true) → HoldingBut more version (cut edition_place (Words name) db) (without_edition_rows name p)
+    pub drops_edition : ((z : ℤ) → FreedByEdition name h.kept z → more z ≡ true)
+        → HoldingBut more version (cut edition_place (Words name) db) (without_edition_rows name p)
     drops_edition freed = record {
       systems = h.systems;
       contents = h.contents;

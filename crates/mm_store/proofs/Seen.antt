@@ -16,7 +16,8 @@ pub seen_of : (profile : Profile) (s : State) (p : Package) → IsSettled profil
 seen_of profile s p it = record { mode = it.mode; back = it.back; reads = it.reads }
 
 -- what commits nothing and leaves what is seen leaves what was settled
-pub settled_still : (profile : Profile) (old new : State) (p : Package) → CommitsNothing old new → HasCleanDisk new → (IsSeenAs profile old p → IsSeenAs profile new p) → IsSettled profile old p → IsSettled profile new p
+pub settled_still : (profile : Profile) (old new : State) (p : Package) → CommitsNothing old new → HasCleanDisk new
+    → (IsSeenAs profile old p → IsSeenAs profile new p) → IsSettled profile old p → IsSettled profile new p
 settled_still profile old new p quiet clean same it =
     let at = same (seen_of profile old p it) in
     record { mode = at.mode; back = at.back; reads = at.reads; left = λ db may. elim (quiet.crash clean db may) [ inl before ↦ it.left db before | inr none ↦ absurd none ] }
@@ -26,7 +27,8 @@ module _ {S : Type 0} (g : Ghosts S) (was now : Held S) (begun : now ≡ record 
   begins : (profile : Profile) (p : Package) → IsSeenAs profile (state g was) p → StandsInside profile (state g now) (ground_of (state g was)) p
   begins profile p it = rw begun (record { mode = refl; back = λ is_open. (refl, is_open); reads = it.reads })
 
-  pub seen_back : (profile : Profile) (p : Package) → IsSeenAs profile (state g was) p → IsRolledBack ended last → StandsOn ended (ground_of (state g was)) → IsSeenAs profile last p
+  pub seen_back : (profile : Profile) (p : Package) → IsSeenAs profile (state g was) p → IsRolledBack ended last
+      → StandsOn ended (ground_of (state g was)) → IsSeenAs profile last p
   seen_back profile p it back stands = record {
     mode = back.autocommit;
     back = λ up. let on = stands (back.was_open up) in subst (λ d. ReadsAs profile.version d p) (sym ((back.undone up).1 ∙ on.0)) (it.back on.1);
@@ -38,7 +40,9 @@ module _ {S : Type 0} (g : Ghosts S) (was now : Held S) (begun : now ≡ record 
   told A C B (Err fault) h = tt
 
   -- a look in a transaction of its own is a read
-  pub reads : CommitsNothing (state g now) ended → CommitsNothing ended last → (profile : Profile) {T : Type 0} (Says : Package → T → Type 0) (result : Result T Fault) → IsLook profile (state g now) ended Says result → (HasCleanDisk last → IsRolledBack ended last)
+  pub reads : CommitsNothing (state g now) ended → CommitsNothing ended last
+      → (profile : Profile) {T : Type 0} (Says : Package → T → Type 0) (result : Result T Fault) → IsLook profile (state g now) ended Says result
+      → (HasCleanDisk last → IsRolledBack ended last)
       → IsRead profile (state g was) last Says result
   reads one two profile Says result look undone = record {
     survives = rolled_quiet g was now begun ended last one two;

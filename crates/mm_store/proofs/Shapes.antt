@@ -27,7 +27,8 @@ module _ (profile : Profile) where
   -- ---- looks
 
   -- a look whose answer tells less
-  pub look_weaker : {T : Type 0} {Says Less : Package → T → Type 0} (old new : State) (r : Result T Fault) → IsLook profile old new Says r → ((p : Package) (x : T) → Says p x → Less p x) → IsLook profile old new Less r
+  pub look_weaker : {T : Type 0} {Says Less : Package → T → Type 0} (old new : State) (r : Result T Fault) → IsLook profile old new Says r
+      → ((p : Package) (x : T) → Says p x → Less p x) → IsLook profile old new Less r
   look_weaker old new r look so = record {
     survives = look.survives;
     on = look.on;
@@ -36,7 +37,8 @@ module _ (profile : Profile) where
   }
 
   -- the same, where the call's answer is made of the look's
-  pub look_as : {T U : Type 0} {Says : Package → T → Type 0} {Less : Package → U → Type 0} (old new : State) (x : T) (y : U) → IsLook profile old new Says (Ok x) → ((p : Package) → Says p x → Less p y) → IsLook profile old new Less (Ok y)
+  pub look_as : {T U : Type 0} {Says : Package → T → Type 0} {Less : Package → U → Type 0} (old new : State) (x : T) (y : U)
+      → IsLook profile old new Says (Ok x) → ((p : Package) → Says p x → Less p y) → IsLook profile old new Less (Ok y)
   look_as old new x y look so = record {
     survives = look.survives;
     on = look.on;
@@ -44,11 +46,13 @@ module _ (profile : Profile) where
     faults = tt;
   }
 
-  pub look_failed : {T U : Type 0} {Says : Package → T → Type 0} {Less : Package → U → Type 0} (old new : State) (e : Fault) → IsLook profile old new Says (Err e) → IsLook profile old new Less (Err e)
+  pub look_failed : {T U : Type 0} {Says : Package → T → Type 0} {Less : Package → U → Type 0} (old new : State) (e : Fault)
+      → IsLook profile old new Says (Err e) → IsLook profile old new Less (Err e)
   look_failed old new e look = record { survives = look.survives; on = look.on; looked = λ clean ground p it. tt; faults = look.faults }
 
   -- one look, then another
-  pub looks_then : {T U : Type 0} {Says : Package → T → Type 0} {More : Package → U → Type 0} (a b c : State) (x : T) (r : Result U Fault) → IsLook profile a b Says (Ok x) → IsLook profile b c More r
+  pub looks_then : {T U : Type 0} {Says : Package → T → Type 0} {More : Package → U → Type 0} (a b c : State) (x : T) (r : Result U Fault)
+      → IsLook profile a b Says (Ok x) → IsLook profile b c More r
       → IsLook profile a c (λ p y. Says p x × More p y) r
   looks_then a b c x r one two = record {
     survives = quiet_then a b c one.survives two.survives;
@@ -79,7 +83,8 @@ module _ (profile : Profile) where
   look_change_failed a b e one = record { survives = one.survives; on = λ clean ground p it where_it. one.on clean ground p it; made = λ clean ground p it where_it. tt; faults = one.faults }
 
   -- one change, then another
-  pub changes_then : {T U : Type 0} {When More : Package → Type 0} {first second : Package → Package} (a b c : State) (x : T) (r : Result U Fault) → IsChange profile a b When first (Ok x) → IsChange profile b c More second r
+  pub changes_then : {T U : Type 0} {When More : Package → Type 0} {first second : Package → Package} (a b c : State) (x : T) (r : Result U Fault)
+      → IsChange profile a b When first (Ok x) → IsChange profile b c More second r
       → ((p : Package) → When p → More (first p)) → IsChange profile a c When (λ p. second (first p)) r
   changes_then a b c x r one two so = record {
     survives = quiet_then a b c one.survives two.survives;
@@ -88,11 +93,13 @@ module _ (profile : Profile) where
     faults = two.faults;
   }
 
-  pub change_failed : {T U : Type 0} {When : Package → Type 0} {first last : Package → Package} (a b : State) (e : Fault) → IsChange profile {T = T} a b When first (Err e) → IsChange profile {T = U} a b When last (Err e)
+  pub change_failed : {T U : Type 0} {When : Package → Type 0} {first last : Package → Package} (a b : State) (e : Fault)
+      → IsChange profile {T = T} a b When first (Err e) → IsChange profile {T = U} a b When last (Err e)
   change_failed a b e one = record { survives = one.survives; on = one.on; made = λ clean ground p it when. tt; faults = one.faults }
 
   -- the same change, where less is known to be asked
-  pub change_where : {T : Type 0} {When : Package → Type 0} {next : Package → Package} (Where : Package → Type 0) (a b : State) (r : Result T Fault) → IsChange profile a b When next r → ((p : Package) → Where p → When p)
+  pub change_where : {T : Type 0} {When : Package → Type 0} {next : Package → Package} (Where : Package → Type 0) (a b : State) (r : Result T Fault)
+      → IsChange profile a b When next r → ((p : Package) → Where p → When p)
       → IsChange profile a b Where next r
   change_where Where a b r one so = record {
     survives = one.survives;
@@ -118,13 +125,15 @@ module _ (profile : Profile) where
       faults = tt;
     }
 
-    pub look_gave_up : {T : Type 0} {Says : Package → T → Type 0} (old new : State) (e : Fault) → IsLook profile {T = T} old new Says (Err e) → IsLent profile c moment old new (Err e)
+    pub look_gave_up : {T : Type 0} {Says : Package → T → Type 0} (old new : State) (e : Fault) → IsLook profile {T = T} old new Says (Err e)
+        → IsLent profile c moment old new (Err e)
     look_gave_up old new e look = record { survives = look.survives; on = λ clean ground p it. look.on clean ground p it.inside; answers = λ clean ground p it. tt; faults = look.faults }
 
     -- the look finds no refusal, and the change is made
     module _ {T U : Type 0} {Says : Package → T → Type 0} {When : Package → Type 0} {change : Package → Package} (old mid new : State) (x : T) (look : IsLook profile old mid Says (Ok x)) where
       pub accepts : (u : U) → IsChange profile mid new When change (Ok u)
-          → ((p : Package) → Meets profile p → Says p x → When p × (refusal p c ≡ None) × (done p c (stamp moment) ≡ change p)) → IsLent profile c moment old new (Ok Done)
+          → ((p : Package) → Meets profile p → Says p x → When p × (refusal p c ≡ None) × (done p c (stamp moment) ≡ change p))
+          → IsLent profile c moment old new (Ok Done)
       accepts u made finds = record {
         survives = quiet_then old mid new look.survives made.survives;
         on = λ clean ground p it. let found = look.looked (omega (arith, made.survives.clean)) ground p it.inside in made.on clean ground p found.1 (finds p it.meets found.2).0;
@@ -136,7 +145,8 @@ module _ (profile : Profile) where
         faults = tt;
       }
 
-      pub change_gave_up : (e : Fault) → IsChange profile {T = U} mid new When change (Err e) → ((p : Package) → Meets profile p → Says p x → When p) → IsLent profile c moment old new (Err e)
+      pub change_gave_up : (e : Fault) → IsChange profile {T = U} mid new When change (Err e) → ((p : Package) → Meets profile p → Says p x → When p)
+          → IsLent profile c moment old new (Err e)
       change_gave_up e made finds = record {
         survives = quiet_then old mid new look.survives made.survives;
         on = λ clean ground p it. let found = look.looked (omega (arith, made.survives.clean)) ground p it.inside in made.on clean ground p found.1 (finds p it.meets found.2);
@@ -144,7 +154,8 @@ module _ (profile : Profile) where
         faults = made.faults;
       }
 
-    weaker : (new : State) (ground : Ground) (p next : Package) (refusal : Option Refusal) (result : Result Outcome Fault) → Answers profile new ground p refusal next result → Tries profile new ground p refusal next result
+    weaker : (new : State) (ground : Ground) (p next : Package) (refusal : Option Refusal) (result : Result Outcome Fault)
+        → Answers profile new ground p refusal next result → Tries profile new ground p refusal next result
     weaker new ground p next refusal (Ok Done) h = h
     weaker new ground p next refusal (Ok (Refused why)) h = h.0
     weaker new ground p next refusal (Err fault) h = tt

@@ -21,13 +21,15 @@ one_bytes : (shelf : Shelf) (id : Option ℤ) (a b : List ℕ) → StandsAt shel
 one_bytes shelf None a b p q = p ∙ sym q
 one_bytes shelf (Some id) a b p q = same_some (sym p ∙ q)
 
-one_told : {I V : Type 0} (id_of : I → Option ℤ) (filled : I → List ℕ → V) (shelf : Shelf) (i : Option I) (v w : Option V) → Told id_of filled shelf i v → Told id_of filled shelf i w → v ≡ w
+one_told : {I V : Type 0} (id_of : I → Option ℤ) (filled : I → List ℕ → V) (shelf : Shelf) (i : Option I) (v w : Option V)
+    → Told id_of filled shelf i v → Told id_of filled shelf i w → v ≡ w
 one_told id_of filled shelf None v w p q = p ∙ sym q
 one_told id_of filled shelf (Some i) v w p q = p.2 ∙ ap (λ bytes. Some (filled i bytes)) (one_bytes shelf (id_of i) p.0 q.0 p.1 q.1) ∙ sym q.2
 
 module _ {K I V : Type 0} {R : K → K → Ordering} (o : IsKeyOrder R) (id_of : I → Option ℤ) (filled : I → List ℕ → V) where
   -- entries that name blobs tell at most one map
-  pub one_telling : (shelf other : Shelf) (ids same : FinMap R I) (m n : FinMap R V) → shelf ≡ other → ids ≡ same → Tells id_of filled shelf ids m → Tells id_of filled other same n → m ≡ n
+  pub one_telling : (shelf other : Shelf) (ids same : FinMap R I) (m n : FinMap R V) → shelf ≡ other → ids ≡ same → Tells id_of filled shelf ids m
+      → Tells id_of filled other same n → m ≡ n
   one_telling shelf other ids same m n p q h j =
       let k : Tells id_of filled shelf ids n = subst (λ s. Tells id_of filled s ids n) (sym p) (subst (λ is. Tells id_of filled other is n) (sym q) j) in
       same_map o.total o.exact m n (λ key. one_told id_of filled shelf (get ids key) (get m key) (get n key) (h key) (k key))

@@ -20,7 +20,8 @@ seen s = tables_of schema s.now.trees
 pub ready_inside : (profile : Profile) (s : State) (ground : Ground) (p : Package) → StandsInside profile s ground p → IsTrue s.is_open → IsReady schema s
 ready_inside profile s ground p it up = let at = it.reads up in record { schema_is = at.schema_is; inside = it.mode; rows = at.stands.rows }
 
-pub inside_same : (profile : Profile) (old new : State) (ground : Ground) (p : Package) → IsUnchanged old new → StandsInside profile old ground p → StandsInside profile new ground p
+pub inside_same : (profile : Profile) (old new : State) (ground : Ground) (p : Package) → IsUnchanged old new → StandsInside profile old ground p
+    → StandsInside profile new ground p
 inside_same profile old new ground p same it = record {
   mode = same.0.mode ∙ it.mode;
   back = λ _. let on = it.back same.0.was_open in (same.0.committed_is ∙ on.0, on.1);
@@ -32,7 +33,8 @@ module _ (profile : Profile) (old new : State) (sql : List ℕ) (given : Row) wh
   module _ (tables : Trees → Trees) (When : Package → Type 0) (next : Package → Package) (result : Result (Unit {0}) Fault) (run : IsRun old new sql given result)
       (leaves : (count : ℕ) → IsReady schema old → ExecutesInside 0 sql given old new (Ok count) → Leaves schema old new (tables (seen old)))
       (holds : (p : Package) → AreTables schema old.now.trees → Holding profile.version (seen old) p → When p → Holding profile.version (tables (seen old)) (next p)) where
-    made_by : (ground : Ground) (p : Package) → StandsInside profile old ground p → When p → (r : Result (Unit {0}) Fault) → OnOk r ((count : ℕ) × ExecutesInside 0 sql given old new (Ok count))
+    made_by : (ground : Ground) (p : Package) → StandsInside profile old ground p → When p → (r : Result (Unit {0}) Fault)
+        → OnOk r ((count : ℕ) × ExecutesInside 0 sql given old new (Ok count))
         → OnOk r (IsTrue new.is_open × StandsInside profile new ground (next p))
     made_by ground p it when (Err e) ran = tt
     made_by ground p it when (Ok u) ran =
@@ -67,7 +69,8 @@ module _ (profile : Profile) (old new : State) (sql : List ℕ) (given : Row) wh
   module _ {T : Type 0} (Gives : T → Option Row → Type 0) (Says : Package → T → Type 0) (result : Result T Fault) (asked : IsAsked old new sql given Gives result)
       (finds : (x : T) (first : Option Row) → IsReady schema old → IsFirstShown sql given old new first → Gives x first
       → IsUnchanged old new × ((p : Package) → Holding profile.version (seen old) p → Says p x)) where
-    told : (ground : Ground) (p : Package) → StandsInside profile old ground p → (r : Result T Fault) → IfOk r (λ x. (first : Option Row) × IsFirstShown sql given old new first × Gives x first)
+    told : (ground : Ground) (p : Package) → StandsInside profile old ground p → (r : Result T Fault)
+        → IfOk r (λ x. (first : Option Row) × IsFirstShown sql given old new first × Gives x first)
         → IfOk r (λ x. IsTrue new.is_open × StandsInside profile new ground p × Says p x)
     told ground p it (Err e) h = tt
     told ground p it (Ok x) h =

@@ -16,7 +16,8 @@ abbrev pub OnlyCommitted : State → Type 0
 OnlyCommitted s = (db : Trees) → IsTrue s.is_open → s.may_leave db → db ≡ s.committed.trees
 
 -- after a commit the connection reads as what was committed
-pub settles : (profile : Profile) (ended last : State) (ground : Ground) (next : Package) → OnlyCommitted last → Shows ended last ended.now ended.now false → StandsInside profile ended ground next → IsSettled profile last next
+pub settles : (profile : Profile) (ended last : State) (ground : Ground) (next : Package) → OnlyCommitted last
+    → Shows ended last ended.now ended.now false → StandsInside profile ended ground next → IsSettled profile last next
 settles profile ended last ground next law shows it = record {
   mode = shows.mode;
   back = λ _. subst (λ d. ReadsAs profile.version d next) (sym shows.committed_is) (it.reads shows.was_open);
@@ -33,7 +34,8 @@ module _ {S : Type 0} (g : Ghosts S) (was now : Held S) (begun : now ≡ record 
   pub rolled_quiet : CommitsNothing (state g was) last
   rolled_quiet = survives_begin g was last (λ _. ⊥) (rw begun at (survives_then (state g now) ended last _ _ (λ _. ⊥) (λ _ db none. none) (λ _ db none. none) one two))
 
-  pub rolled_back : (profile : Profile) (p : Package) → IsSettled profile (state g was) p → HasCleanDisk last → IsRolledBack ended last → StandsOn ended (ground_of (state g was)) → IsSettled profile last p
+  pub rolled_back : (profile : Profile) (p : Package) → IsSettled profile (state g was) p → HasCleanDisk last → IsRolledBack ended last
+      → StandsOn ended (ground_of (state g was)) → IsSettled profile last p
   rolled_back profile p it clean back stands = record {
     mode = back.autocommit;
     back = λ up. let on = stands (back.was_open up) in subst (λ d. ReadsAs profile.version d p) (sym ((back.undone up).1 ∙ on.0)) (it.back on.1);

@@ -23,14 +23,16 @@ module _ (profile : Profile) {T : Type 0} (old new : State) where
   pub record IsLook (Says : Package → T → Type 0) (result : Result T Fault) : Type 0 where
     pub survives : CommitsNothing old new
     pub on : HasCleanDisk new → (ground : Ground) (p : Package) → StandsInside profile old ground p → StandsOn new ground
-    pub looked : HasCleanDisk new → (ground : Ground) (p : Package) → StandsInside profile old ground p → IfOk result (λ it. IsTrue new.is_open × StandsInside profile new ground p × Says p it)
+    pub looked : HasCleanDisk new → (ground : Ground) (p : Package) → StandsInside profile old ground p
+        → IfOk result (λ it. IsTrue new.is_open × StandsInside profile new ground p × Says p it)
     pub faults : IfErr result IsStoreFault
 
   -- a call that makes one change where it may
   pub record IsChange (When : Package → Type 0) (next : Package → Package) (result : Result T Fault) : Type 0 where
     pub survives : CommitsNothing old new
     pub on : HasCleanDisk new → (ground : Ground) (p : Package) → StandsInside profile old ground p → When p → StandsOn new ground
-    pub made : HasCleanDisk new → (ground : Ground) (p : Package) → StandsInside profile old ground p → When p → OnOk result (IsTrue new.is_open × StandsInside profile new ground (next p))
+    pub made : HasCleanDisk new → (ground : Ground) (p : Package) → StandsInside profile old ground p → When p
+        → OnOk result (IsTrue new.is_open × StandsInside profile new ground (next p))
     pub faults : IfErr result IsStoreFault
 
 -- ---- a command
@@ -61,12 +63,14 @@ module _ (profile : Profile) (c : Command) (moment : ℕ) (old new : State) (res
   pub record IsLent : Type 0 where
     pub survives : CommitsNothing old new
     pub on : HasCleanDisk new → (ground : Ground) (p : Package) → ComesTo profile old ground p → StandsOn new ground
-    pub answers : HasCleanDisk new → (ground : Ground) (p : Package) → ComesTo profile old ground p → Answers profile new ground p (refusal p c) (step p c moment) result
+    pub answers : HasCleanDisk new → (ground : Ground) (p : Package) → ComesTo profile old ground p
+        → Answers profile new ground p (refusal p c) (step p c moment) result
     pub faults : IfErr result IsStoreFault
 
   -- The weaker shape of a command of many steps, whose transaction is rolled back after a refusal.
   pub record IsTried : Type 0 where
     pub survives : CommitsNothing old new
     pub on : HasCleanDisk new → (ground : Ground) (p : Package) → ComesTo profile old ground p → StandsOn new ground
-    pub tries : HasCleanDisk new → (ground : Ground) (p : Package) → ComesTo profile old ground p → Tries profile new ground p (refusal p c) (step p c moment) result
+    pub tries : HasCleanDisk new → (ground : Ground) (p : Package) → ComesTo profile old ground p
+        → Tries profile new ground p (refusal p c) (step p c moment) result
     pub faults : IfErr result IsStoreFault

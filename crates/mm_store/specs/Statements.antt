@@ -23,7 +23,8 @@ module _ {T : Type 0} (old new : State) (sql : List ℕ) (params : Row) where
     pub survives : CommitsNothing old new
     pub on : KeepsGround old new
     pub ran : HasCleanDisk new → IsTrue old.in_transaction → OnOk result ((count : ℕ) × ExecutesInside 0 sql params old new (Ok count))
-    pub failed : HasCleanDisk new → IsTrue old.in_transaction → IfErr result (λ fault. (e : Error) × (fault ≡ told_as e) × ExecutesInside 0 sql params old new (Err e))
+    pub failed : HasCleanDisk new → IsTrue old.in_transaction
+        → IfErr result (λ fault. (e : Error) × (fault ≡ told_as e) × ExecutesInside 0 sql params old new (Err e))
     pub faults : IfErr result IsStoreFault
 
   -- The query was asked, and gives its first row so.

@@ -25,7 +25,8 @@ Says params from terms project good Known Rule = (version : ℤ) (db : Trees) (p
 
 module _ (sql : List ℕ) (params : Row) (good : Row → Type 0) (from : Join) (terms project : List Term) (order : List (Term × Key)) (names : List (List ℕ)) (it : IsQuery schema sql from terms project order names) (quiet : IsQuiet sql)
     (Known Rule : Package → Type 0) (says : Says params from terms project good Known Rule) (profile : Profile) (old new : State) where
-  told : (result : Result Bool Fault) → TellsAll sql params good old new result → HasCleanDisk new → (p : Package) → IsSeenAs profile old p → Known p → IfOk result (λ b. IsTrue b ↔ Rule p)
+  told : (result : Result Bool Fault) → TellsAll sql params good old new result → HasCleanDisk new → (p : Package) → IsSeenAs profile old p → Known p
+      → IfOk result (λ b. IsTrue b ↔ Rule p)
   told (Err fault) h clean p s known = tt
   told (Ok b) h clean p s known =
       let same = h.same clean (only_asks sql quiet old.now.schema) in
@@ -52,5 +53,6 @@ module _ (sql : List ℕ) (params : Row) (good : Row → Type 0) (from : Join) (
       }
 
   -- the parameters as the call gives them
-  pub checks : (given : Row) → given ≡ params → (result : Result Bool Fault) → TellsAll sql given good old new result → IsCheck profile old new Known Rule result
+  pub checks : (given : Row) → given ≡ params → (result : Result Bool Fault) → TellsAll sql given good old new result
+      → IsCheck profile old new Known Rule result
   checks given same result h = checked result (subst (λ p. TellsAll sql p good old new result) same h)

@@ -9,7 +9,9 @@ use Rattle.mm_walk.specs.Check.{IsCheck}
 
 module _ (profile : Profile) where
   -- the rule in other words, where more may be known
-  pub same_rule : (old new : State) (Known More Rule Other : Package → Type 0) → ((p : Package) → More p → Known p) → ((p : Package) → More p → Rule p ↔ Other p) → (r : Result Bool Fault) → IsCheck profile old new Known Rule r → IsCheck profile old new More Other r
+  pub same_rule : (old new : State) (Known More Rule Other : Package → Type 0) → ((p : Package) → More p → Known p)
+      → ((p : Package) → More p → Rule p ↔ Other p) → (r : Result Bool Fault) → IsCheck profile old new Known Rule r
+      → IsCheck profile old new More Other r
   same_rule old new Known More Rule Other knows same (Ok b) h = record {
     mode = h.mode;
     survives = h.survives;
@@ -22,10 +24,12 @@ module _ (profile : Profile) where
   same_rule old new Known More Rule Other knows same (Err fault) h = record { mode = h.mode; survives = h.survives; is_open = λ clean. tt; seen = h.seen; settled = h.settled; says = λ clean p s more. tt; faults = h.faults }
 
   -- a check whose answer was matched
-  pub as_told : (old new : State) (Known Rule : Package → Type 0) (r : Result Bool Fault) (b told : Bool) → r ≡ Ok b → b ≡ told → IsCheck profile old new Known Rule r → IsCheck profile old new Known Rule (Ok told)
+  pub as_told : (old new : State) (Known Rule : Package → Type 0) (r : Result Bool Fault) (b told : Bool) → r ≡ Ok b → b ≡ told
+      → IsCheck profile old new Known Rule r → IsCheck profile old new Known Rule (Ok told)
   as_told old new Known Rule r b told is same h = subst (λ x. IsCheck profile old new Known Rule (Ok x)) same (subst (IsCheck profile old new Known Rule) is h)
 
-  then_check : (old mid new : State) (Known A B C : Package → Type 0) → ((p : Package) → (A p × B p) ↔ C p) → IsCheck profile old mid Known A (Ok true) → (s : Result Bool Fault) → IsCheck profile mid new Known B s → IsCheck profile old new Known C s
+  then_check : (old mid new : State) (Known A B C : Package → Type 0) → ((p : Package) → (A p × B p) ↔ C p)
+      → IsCheck profile old mid Known A (Ok true) → (s : Result Bool Fault) → IsCheck profile mid new Known B s → IsCheck profile old new Known C s
   then_check old mid new Known A B C same one (Ok b) two = record {
     mode = λ idle. two.mode (one.mode idle);
     survives = quiet_then old mid new one.survives two.survives;
@@ -50,11 +54,13 @@ module _ (profile : Profile) where
   }
 
   -- the first holds, and the second decides
-  pub goes_on : (old mid new : State) (Known A B C : Package → Type 0) → ((p : Package) → (A p × B p) ↔ C p) → (r s : Result Bool Fault) {b : Bool} → r ≡ Ok b → b ≡ true → IsCheck profile old mid Known A r → IsCheck profile mid new Known B s
+  pub goes_on : (old mid new : State) (Known A B C : Package → Type 0) → ((p : Package) → (A p × B p) ↔ C p) → (r s : Result Bool Fault) {b : Bool}
+      → r ≡ Ok b → b ≡ true → IsCheck profile old mid Known A r → IsCheck profile mid new Known B s
       → IsCheck profile old new Known C s
   goes_on old mid new Known A B C same r s {b} is yes_b one two = then_check old mid new Known A B C same (as_told old mid Known A r b true is yes_b one) s two
 
-  pub stops : (old new : State) (Known A B C : Package → Type 0) → ((p : Package) → (A p × B p) ↔ C p) → (r : Result Bool Fault) {b : Bool} → r ≡ Ok b → b ≡ false → IsCheck profile old new Known A r → IsCheck profile old new Known C (Ok false)
+  pub stops : (old new : State) (Known A B C : Package → Type 0) → ((p : Package) → (A p × B p) ↔ C p) → (r : Result Bool Fault) {b : Bool} → r ≡ Ok b
+      → b ≡ false → IsCheck profile old new Known A r → IsCheck profile old new Known C (Ok false)
   stops old new Known A B C same r {b} is no_b one =
       let h = as_told old new Known A r b false is no_b one in
       record {
@@ -67,5 +73,6 @@ module _ (profile : Profile) where
         faults = h.faults;
       }
 
-  pub gives_up : (old new : State) (Known More A C : Package → Type 0) (r : Result Bool Fault) (fault : Fault) → r ≡ Err fault → IsCheck profile old new Known A r → IsCheck profile old new More C (Err fault)
+  pub gives_up : (old new : State) (Known More A C : Package → Type 0) (r : Result Bool Fault) (fault : Fault) → r ≡ Err fault
+      → IsCheck profile old new Known A r → IsCheck profile old new More C (Err fault)
   gives_up old new Known More A C r fault is one = let h = subst (IsCheck profile old new Known A) is one in record { mode = h.mode; survives = h.survives; is_open = λ clean. tt; seen = h.seen; settled = h.settled; says = λ clean p s known. tt; faults = h.faults }

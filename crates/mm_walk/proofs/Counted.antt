@@ -27,7 +27,8 @@ headed (x ∷ r) e is = (x, ap (λ l. x ∷ l) is)
 pub is_that : (e : Extension) (r : Row) → is_extension e r ≡ true → extension_of r ≡ e
 is_that e r is = (tie extension_keys (extension_of r) e).0 is
 
-pub counted_in : (rows : List Row) (m : FinMap extension_cmp ℕ) → Counts rows m → (r : Row) → Has rows r → (n : ℕ) × (get m (extension_of r) ≡ Some (suc n)) × (length (filter (is_extension (extension_of r)) rows) ≡ suc n)
+pub counted_in : (rows : List Row) (m : FinMap extension_cmp ℕ) → Counts rows m → (r : Row) → Has rows r
+    → (n : ℕ) × (get m (extension_of r) ≡ Some (suc n)) × (length (filter (is_extension (extension_of r)) rows) ≡ suc n)
 counted_in rows m h r there =
     let e = extension_of r in
     let it = some_length (filter (is_extension e) rows) r (has_kept (is_extension e) rows r there (same_itself extension_keys e)) in

@@ -26,11 +26,13 @@ returns_none : (r : Result Compiled CompileError) → ((c : Compiled) → r ≡ 
 returns_none (Ok c) asks h = none_some c.returning (asks c refl) h
 returns_none (Err e) asks h = h
 
-pub begun_asking : {S : Type 0} (g : Ghosts S) (sql : List ℕ) (params : Row) (old new : Held S) → OnlyAsks old.schema sql → HasBegun g sql params old new → HasGiven g sql params new [] × IsUnchanged (state g old) (state g new)
+pub begun_asking : {S : Type 0} (g : Ghosts S) (sql : List ℕ) (params : Row) (old new : Held S) → OnlyAsks old.schema sql
+    → HasBegun g sql params old new → HasGiven g sql params new [] × IsUnchanged (state g old) (state g new)
 begun_asking g sql params old new asks (inl h) = h
 begun_asking g sql params old new asks (inr h) = absurd (returns_none _ asks h.0)
 
-pub commits_nothing : (sql : List ℕ) (params : Row) (old new : State) → OnlyAsks old.now.schema sql → Survives old new (CommitsShowing sql params old) → CommitsNothing old new
+pub commits_nothing : (sql : List ℕ) (params : Row) (old new : State) → OnlyAsks old.now.schema sql → Survives old new (CommitsShowing sql params old)
+    → CommitsNothing old new
 unfolding CommitsShowing
 commits_nothing sql params old new asks h = survives_weaker old new _ _ (λ clean db may. none_some may.0.returning (asks may.0 may.1.is) may.2) h
 
@@ -39,14 +41,16 @@ module _ (sql : List ℕ) (params : Row) where
   stated : (old now : State) → IsUnchanged old now → (c : Compiled) → IsStatement now sql params c → IsStatement old sql params c
   stated old now same c it = record { is = subst (λ (d : Database). understood d.schema sql ≡ Ok c) same.0.now_is it.is; whole = it.whole; given = it.given; now = it.now }
 
-  sourced : (old now : State) → IsUnchanged old now → (db : Database) → IsSourceOf (reads_listing now.now.schema sql) now.now db → IsSourceOf (reads_listing old.now.schema sql) old.now db
+  sourced : (old now : State) → IsUnchanged old now → (db : Database) → IsSourceOf (reads_listing now.now.schema sql) now.now db
+      → IsSourceOf (reads_listing old.now.schema sql) old.now db
   sourced old now same db h = subst (λ (d : Database). IsSourceOf (reads_listing d.schema sql) d db) same.0.now_is h
 
   pub begins_before : (old now : State) (rows : List Row) → IsUnchanged old now → Begins sql params now rows → Begins sql params old rows
   unfolding Begins stated
   begins_before old now rows same h = (h.0, stated old now same h.0 h.1, h.2, h.3, sourced old now same h.3 h.4, h.5)
 
-  pub shown_before : (old now new : State) (rows : List Row) → OnlyAsks old.now.schema sql → IsUnchanged old now → IsUnchanged now new → Shown sql params now new rows → Shown sql params old new rows
+  pub shown_before : (old now new : State) (rows : List Row) → OnlyAsks old.now.schema sql → IsUnchanged old now → IsUnchanged now new
+      → Shown sql params now new rows → Shown sql params old new rows
   unfolding Shown stated
   shown_before old now new rows asks same after h =
       let it = stated old now same h.0 h.1 in

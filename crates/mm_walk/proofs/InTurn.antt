@@ -40,7 +40,8 @@ module _ (profile : Profile) where
   }
 
   -- after the last
-  pub all_passed : (old new : State) (Asked : Type 0) (Shown Rule : Package → Type 0) → Asked → ((p : Package) → Shown p ↔ Rule p) → HasPassed profile old new Asked Shown → IsCheck profile old new (λ _. ⊤) Rule (Ok true)
+  pub all_passed : (old new : State) (Asked : Type 0) (Shown Rule : Package → Type 0) → Asked → ((p : Package) → Shown p ↔ Rule p)
+      → HasPassed profile old new Asked Shown → IsCheck profile old new (λ _. ⊤) Rule (Ok true)
   all_passed old new Asked Shown Rule asked same h = record {
     mode = h.mode;
     survives = h.survives;
@@ -52,7 +53,8 @@ module _ (profile : Profile) where
   }
 
   -- the first one passes
-  pub first_passes : (old new : State) (Asked : Type 0) (Shown Rule : Package → Type 0) → ((p : Package) → Rule p → Shown p) → (r : Result Bool Fault) {b : Bool} → r ≡ Ok b → b ≡ true → IsCheck profile old new (λ _. ⊤) Rule r → HasPassed profile old new Asked Shown
+  pub first_passes : (old new : State) (Asked : Type 0) (Shown Rule : Package → Type 0) → ((p : Package) → Rule p → Shown p)
+      → (r : Result Bool Fault) {b : Bool} → r ≡ Ok b → b ≡ true → IsCheck profile old new (λ _. ⊤) Rule r → HasPassed profile old new Asked Shown
   first_passes old new Asked Shown Rule shows r {b} is told h =
       let c = as_told profile old new (λ _. ⊤) Rule r b true is told h in
       record {
@@ -84,7 +86,8 @@ module _ (profile : Profile) where
     }
 
     -- the next one passes
-    pub next_passes : (More : Package → Type 0) (Now : Type 0) → ((p : Package) → Shown p → Rule p → More p) → (r : Result Bool Fault) {b : Bool} → r ≡ Ok b → b ≡ true → IsCheck profile mid new Known Rule r → HasPassed profile old new Now More
+    pub next_passes : (More : Package → Type 0) (Now : Type 0) → ((p : Package) → Shown p → Rule p → More p) → (r : Result Bool Fault) {b : Bool}
+        → r ≡ Ok b → b ≡ true → IsCheck profile mid new Known Rule r → HasPassed profile old new Now More
     next_passes More Now shows r {b} is told h =
         let c = as_told profile old new (λ _. ⊤) Rule r b true is told (asked_alone r h) in
         record {

@@ -95,14 +95,16 @@ module _ {K V : Type 0} {R : K → K → Ordering} {row_of : K → V → Row} {r
 
 module _ {X K V : Type 0} {R : K → K → Ordering} (full : X → Row → Row) (row_of : K → V → Row) (rows : List Row) (m : FinMap R V) (h : Covers full row_of rows m) where
   -- of each row, and of each entry
-  pub each_row : (Q : Row → Type 0) (P : K → V → Type 0) → ((k : K) (v : V) (x : X) → Q (full x (row_of k v)) ↔ P k v) → ((r : Row) → Has rows r → Q r) ↔ Each m P
+  pub each_row : (Q : Row → Type 0) (P : K → V → Type 0) → ((k : K) (v : V) (x : X) → Q (full x (row_of k v)) ↔ P k v)
+      → ((r : Row) → Has rows r → Q r) ↔ Each m P
   each_row Q P same = (
     (λ all k v is. let e = h.complete k v is in (same k v e.0).0 (all (full e.0 (row_of k v)) e.1)),
     (λ each r there. let e = h.sound r there in subst Q (sym e.4) ((same e.0 e.1 e.2).1 (each e.0 e.1 e.3))),
   )
 
   -- the same, where it is known that the entry stands
-  pub each_row_in : (Q : Row → Type 0) (P : K → V → Type 0) → ((k : K) (v : V) (x : X) → get m k ≡ Some v → Q (full x (row_of k v)) ↔ P k v) → ((r : Row) → Has rows r → Q r) ↔ Each m P
+  pub each_row_in : (Q : Row → Type 0) (P : K → V → Type 0) → ((k : K) (v : V) (x : X) → get m k ≡ Some v → Q (full x (row_of k v)) ↔ P k v)
+      → ((r : Row) → Has rows r → Q r) ↔ Each m P
   each_row_in Q P same = (
     (λ all k v is. let e = h.complete k v is in (same k v e.0 is).0 (all (full e.0 (row_of k v)) e.1)),
     (λ each r there. let e = h.sound r there in subst Q (sym e.4) ((same e.0 e.1 e.2 e.3).1 (each e.0 e.1 e.3))),
@@ -130,7 +132,8 @@ module _ {X K V : Type 0} {R : K → K → Ordering} (full : X → Row → Row) 
         (e.0, has_kept test rows (full e.0 (row_of k v)) e.1 ((finds k v e.0).1 refl))
 
     -- of each row that the join gives, and of what the map has at the key
-    pub joined : (Q : Row → Type 0) (P : Option V → Type 0) → (Q [] ↔ P None) → ((v : V) (x : X) → Q (full x (row_of k v)) ↔ P (Some v)) → ((r : Row) → Has (or_nulls (filter test rows)) r → Q r) ↔ P (get m k)
+    pub joined : (Q : Row → Type 0) (P : Option V → Type 0) → (Q [] ↔ P None) → ((v : V) (x : X) → Q (full x (row_of k v)) ↔ P (Some v))
+        → ((r : Row) → Has (or_nulls (filter test rows)) r → Q r) ↔ P (get m k)
     joined Q P nothing something = (λ all. to (get m k) refl all, λ p r there. from p r (from_nulls (filter test rows) r there))
       where
         to : (o : Option V) → get m k ≡ o → ((r : Row) → Has (or_nulls (filter test rows)) r → Q r) → P (get m k)

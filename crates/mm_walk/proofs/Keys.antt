@@ -50,10 +50,12 @@ both_are a b x y =
       λ e. and_from _ _ (t.1 e.0) (and_from _ _ (n.1 e.1) refl),
     )
 
-pub level_is : (l : Level) (table : Text) (zoom : ℤ) → ((equal Binary (Words l.table) (Words table) && (equal Binary (Int l.zoom) (Int zoom) && true)) ≡ true) ↔ (l ≡ level table zoom)
+pub level_is : (l : Level) (table : Text) (zoom : ℤ)
+    → ((equal Binary (Words l.table) (Words table) && (equal Binary (Int l.zoom) (Int zoom) && true)) ≡ true) ↔ (l ≡ level table zoom)
 level_is l table zoom = let b = both_are l.table table l.zoom zoom in (λ e. let p = b.0 e in ap₂ level p.0 p.1, λ e. b.1 (ap (λ (k : Level). k.table) e, ap (λ (k : Level). k.zoom) e))
 
-pub item_is : (l : Item) (table : Text) (id : ℤ) → ((equal Binary (Words l.table) (Words table) && (equal Binary (Int l.id) (Int id) && true)) ≡ true) ↔ (l ≡ item table id)
+pub item_is : (l : Item) (table : Text) (id : ℤ)
+    → ((equal Binary (Words l.table) (Words table) && (equal Binary (Int l.id) (Int id) && true)) ≡ true) ↔ (l ≡ item table id)
 item_is l table id = let b = both_are l.table table l.id id in (λ e. let p = b.0 e in ap₂ item p.0 p.1, λ e. b.1 (ap (λ (k : Item). k.table) e, ap (λ (k : Item). k.id) e))
 
 pub less_is : (a b : ℤ) → (is_true (binary (Compare Lt Binary) (Int a) (Int b)) ≡ true) ↔ (a <ℤ b)

@@ -22,11 +22,15 @@ ShowsNoWrite (Err e) = ⊤
 abbrev pub IsQuiet : List ℕ → Type 0
 IsQuiet sql = ShowsNoWrite (first sql)
 
-none_planned : (k : Checked Command) (formats : List Name) (make : List Name × (Command × Option Returning) → Compiled) → ((plan : List Name × (Command × Option Returning)) → (make plan).returning ≡ plan.1.1) → (c : Compiled) (r : Checked (Option Returning)) → r ≡ Ok None
-    → and_then (and_then (and_then r (λ shown. and_then k (λ c. Ok (c, shown)))) (λ found. Ok (formats, found))) (λ plan. Ok (make plan)) ≡ Ok c → c.returning ≡ None
+none_planned : (k : Checked Command) (formats : List Name) (make : List Name × (Command × Option Returning) → Compiled)
+    → ((plan : List Name × (Command × Option Returning)) → (make plan).returning ≡ plan.1.1) → (c : Compiled) (r : Checked (Option Returning))
+    → r ≡ Ok None
+    → and_then (and_then (and_then r (λ shown. and_then k (λ c. Ok (c, shown)))) (λ found. Ok (formats, found))) (λ plan. Ok (make plan)) ≡ Ok c
+    → c.returning ≡ None
 none_planned k formats make keeps c r is h = by_command k (subst (λ x. and_then (and_then (and_then x (λ shown. and_then k (λ c. Ok (c, shown)))) (λ found. Ok (formats, found))) (λ plan. Ok (make plan)) ≡ Ok c) is h)
   where
-    by_command : (k : Checked Command) → and_then (and_then (and_then k (λ (c : Command). Ok (c, None))) (λ (found : Command × Option Returning). Ok (formats, found))) (λ plan. Ok (make plan)) ≡ Ok c → c.returning ≡ None
+    by_command : (k : Checked Command)
+        → and_then (and_then (and_then k (λ (c : Command). Ok (c, None))) (λ (found : Command × Option Returning). Ok (formats, found))) (λ plan. Ok (make plan)) ≡ Ok c → c.returning ≡ None
     by_command (Ok command) h = let same : make (formats, (command, None)) ≡ c = cc in sym (ap (λ (x : Compiled). x.returning) same) ∙ keeps (formats, (command, None))
     by_command (Err e) h = absurd cc
 
@@ -34,7 +38,8 @@ compiled_asks : (sql : List ℕ) → IsQuiet sql → (schema : Schema) (c : Comp
 unfolding compiled planned meaning
 compiled_asks sql quiet schema c h = by_text (first sql) quiet h
   where
-    by_text : (r : Checked Parsed) → ShowsNoWrite r → and_then r (λ p. and_then (planned schema p) (λ plan. Ok (with_command p plan))) ≡ Ok c → c.returning ≡ None
+    by_text : (r : Checked Parsed) → ShowsNoWrite r → and_then r (λ p. and_then (planned schema p) (λ plan. Ok (with_command p plan))) ≡ Ok c
+        → c.returning ≡ None
     by_text (Ok p) none h = none_planned _ _ (with_command p) (λ plan. refl) c _ (none schema _) h
     by_text (Err e) none h = absurd cc
 
@@ -42,7 +47,8 @@ was_compiled : (r : Result Compiled CompileError) (c : Compiled) → if_select r
 was_compiled (Err e) c h = absurd cc
 was_compiled (Ok d) c h = by_kind (is_select d.command) h
   where
-    by_kind : (b : Bool) → ◌≡◌ {A = Result Compiled CompileError} (if b then Ok d else Err NoSuchTable) (Ok c) → ◌≡◌ {A = Result Compiled CompileError} (Ok d) (Ok c)
+    by_kind : (b : Bool) → ◌≡◌ {A = Result Compiled CompileError} (if b then Ok d else Err NoSuchTable) (Ok c)
+        → ◌≡◌ {A = Result Compiled CompileError} (Ok d) (Ok c)
     by_kind true h = h
     by_kind false h = absurd cc
 

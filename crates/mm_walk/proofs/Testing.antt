@@ -24,13 +24,15 @@ plain_asks schema sql plain c is = (subst IsPlain is plain).0
 
 module _ (sql : List ℕ) (params : Row) (good : Row → Type 0) (schema : Schema) (from : Join) (terms project : List Term) (order : List (Term × Key)) (names : List (List ℕ)) (it : IsQuery schema sql from terms project order names) (old : State) (has : old.now.schema ≡ schema) where
   -- each row of an answer has passed
-  tells_all : (new : State) (rows : List Row) → Shown sql params old new rows → AllByRecursion good rows → IsTrue true ↔ AllShown old.now.trees params from terms project good
+  tells_all : (new : State) (rows : List Row) → Shown sql params old new rows → AllByRecursion good rows
+      → IsTrue true ↔ AllShown old.now.trees params from terms project good
   tells_all new rows shown all =
       let read = reads_as sql params old new schema has (Select (alone (query from terms project order no_limit)) names) it.compiled it.plain it.unlisted rows shown in
       (λ _. each_good from terms project order (overlay old.now.trees []) params rows (read.answer Null) good all, λ _. refl)
 
   -- a row of an answer has not passed
-  tells_stop : (rows : List Row) (row : Row) → Begins sql params old (rows ++ row ∷ []) → (good row → ⊥) → IsTrue false ↔ AllShown old.now.trees params from terms project good
+  tells_stop : (rows : List Row) (row : Row) → Begins sql params old (rows ++ row ∷ []) → (good row → ⊥)
+      → IsTrue false ↔ AllShown old.now.trees params from terms project good
   tells_stop rows row begins bad =
       let start = begins_as sql params old old schema has (Select (alone (query from terms project order no_limit)) names) it.compiled it.plain it.unlisted (rows ++ row ∷ []) begins in
       let rest = start.1 in (
@@ -74,12 +76,14 @@ module _ {V : Type 0} (takes : V → Row → V → Result Bool Fault → Type 0)
     rests_of (Err fault) (inl h) = inl h.same
     rests_of (Err fault) (inr h) = h.rests
 
-    fault_of : (r : Result Bool Fault) → IfErr r (λ fault. IsStoreFault fault ⊎ ((before : V) × (row : Row) × takes before row w (Err fault))) → IfErr r IsStoreFault
+    fault_of : (r : Result Bool Fault) → IfErr r (λ fault. IsStoreFault fault ⊎ ((before : V) × (row : Row) × takes before row w (Err fault)))
+        → IfErr r IsStoreFault
     fault_of (Ok b) h = tt
     fault_of (Err fault) (inl h) = h
     fault_of (Err fault) (inr h) = absurd (never_err h.0 w h.1 fault h.2)
 
-    tells_of : (r : Result Bool Fault) → Ends takes sql params old new v w r → (schema : Schema) → old.now.schema ≡ schema → (from : Join) (terms project : List Term) (order : List (Term × Key)) (names : List (List ℕ))
+    tells_of : (r : Result Bool Fault) → Ends takes sql params old new v w r → (schema : Schema) → old.now.schema ≡ schema
+        → (from : Join) (terms project : List Term) (order : List (Term × Key)) (names : List (List ℕ))
         → IsQuery schema sql from terms project order names → IfOk r (λ all. IsTrue all ↔ AllShown old.now.trees params from terms project (good v))
     tells_of (Ok true) h schema has from terms project order names it = tells_all sql params (good v) schema from terms project order names it old has new h.rows h.shown (all_taken v w h.rows h.taken).1
     tells_of (Ok false) h schema has from terms project order names it =

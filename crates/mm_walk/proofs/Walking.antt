@@ -20,9 +20,11 @@ module _ {S V : Type 0} (g : Ghosts S) (takes : V → Row → V → Result Bool 
     pub mode : old.in_transaction ≡ false → now.in_transaction ≡ false
     pub survives : Survives (state g old) (state g now) (CommitsShowing sql params (state g old))
     pub visited : (rows : List Row) × TakesRows takes v rows w
-    pub given : HasCleanDisk (state g now) → OnlyAsks old.schema sql → (rows : List Row) × HasGiven g sql params now rows × IsUnchanged (state g old) (state g now) × TakesRows takes v rows w
+    pub given : HasCleanDisk (state g now) → OnlyAsks old.schema sql
+        → (rows : List Row) × HasGiven g sql params now rows × IsUnchanged (state g old) (state g now) × TakesRows takes v rows w
 
-  pub begun_so_far : (old now : Held S) (v : V) → (old.in_transaction ≡ false → now.in_transaction ≡ false) → Survives (state g old) (state g now) (CommitsShowing sql params (state g old))
+  pub begun_so_far : (old now : Held S) (v : V) → (old.in_transaction ≡ false → now.in_transaction ≡ false)
+      → Survives (state g old) (state g now) (CommitsShowing sql params (state g old))
       → (HasCleanDisk (state g now) → HasBegun g sql params old now) → SoFar old now v v
   begun_so_far old now v mode survives begun = record {
     mode = mode;
@@ -32,8 +34,10 @@ module _ {S V : Type 0} (g : Ghosts S) (takes : V → Row → V → Result Bool 
   }
 
   -- the query was refused
-  pub refused : (old now : Held S) (v : V) (e : Error) (fault : Fault) → fault ≡ told_as e → (old.in_transaction ≡ false → now.in_transaction ≡ false) → Survives (state g old) (state g now) (CommitsShowing sql params (state g old))
-      → (HasCleanDisk (state g now) → FailsToQuery sql params (state g old) (state g now) e) → IsWalk takes sql params (state g old) (state g now) v v (Err fault)
+  pub refused : (old now : Held S) (v : V) (e : Error) (fault : Fault) → fault ≡ told_as e → (old.in_transaction ≡ false → now.in_transaction ≡ false)
+      → Survives (state g old) (state g now) (CommitsShowing sql params (state g old))
+      → (HasCleanDisk (state g now) → FailsToQuery sql params (state g old) (state g now) e)
+      → IsWalk takes sql params (state g old) (state g now) v v (Err fault)
   refused old now v e fault is mode survives fails = record {
     mode = mode;
     survives = λ asks. commits_nothing sql params (state g old) (state g now) asks survives;
@@ -70,7 +74,9 @@ module _ {S V : Type 0} (g : Ghosts S) (takes : V → Row → V → Result Bool 
       was_clean : HasCleanDisk (state g new) → HasCleanDisk (state g now)
       was_clean clean = omega (arith, quiet.clean)
 
-      pub cut_off : (e : Error) (fault : Fault) → fault ≡ told_as e → (HasCleanDisk (state g new) → Fails (state g now) (state g new) ⊥ e ⊎ IsUnchanged (state g now) (state g new)) → IsWalk takes sql params (state g old) (state g new) v w (Err fault)
+      pub cut_off : (e : Error) (fault : Fault) → fault ≡ told_as e
+          → (HasCleanDisk (state g new) → Fails (state g now) (state g new) ⊥ e ⊎ IsUnchanged (state g now) (state g new))
+          → IsWalk takes sql params (state g old) (state g new) v w (Err fault)
       cut_off e fault is kept = record {
         mode = all_mode;
         survives = all_quiet;
@@ -79,7 +85,8 @@ module _ {S V : Type 0} (g : Ghosts S) (takes : V → Row → V → Result Bool 
         faults = inl (told_fault e fault is);
       }
         where
-          rests : IsUnchanged (state g old) (state g now) → Fails (state g now) (state g new) ⊥ e ⊎ IsUnchanged (state g now) (state g new) → Rests (state g old) (state g new)
+          rests : IsUnchanged (state g old) (state g now) → Fails (state g now) (state g new) ⊥ e ⊎ IsUnchanged (state g now) (state g new)
+              → Rests (state g old) (state g new)
           rests same (inr more) = inl (unchanged_then (state g old) (state g now) (state g new) same more)
           rests same (inl fails) =
               let undone = fails.3 in
@@ -117,7 +124,8 @@ module _ {S V : Type 0} (g : Ghosts S) (takes : V → Row → V → Result Bool 
                 (it.0 ++ row ∷ [], gives clean it.0 it.1, all_same clean asks, takes_one_more takes v w u it.0 row it.3 step);
           }
 
-          at_last : (result : Result Bool Fault) → takes w row u result → HasCleanDisk (state g new) → OnlyAsks old.schema sql → IsEndedWalk takes sql params (state g old) (state g new) v u result
+          at_last : (result : Result Bool Fault) → takes w row u result → HasCleanDisk (state g new) → OnlyAsks old.schema sql
+              → IsEndedWalk takes sql params (state g old) (state g new) v u result
           at_last result step clean asks =
               let it = far.given (was_clean clean) asks in
               let all = all_same clean asks in

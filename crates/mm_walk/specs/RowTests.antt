@@ -50,6 +50,7 @@ pub record TellsAll (sql : List ℕ) (params : Row) (good : Row → Type 0) (old
   pub survives : OnlyAsks old.now.schema sql → CommitsNothing old new
   pub rests : HasCleanDisk new → OnlyAsks old.now.schema sql → Rests old new
   pub same : HasCleanDisk new → OnlyAsks old.now.schema sql → OnOk result (IsUnchanged old new)
-  pub tells : HasCleanDisk new → (schema : Schema) → old.now.schema ≡ schema → (from : Join) (terms project : List Term) (order : List (Term × Key)) (names : List (List ℕ))
+  pub tells : HasCleanDisk new → (schema : Schema) → old.now.schema ≡ schema
+      → (from : Join) (terms project : List Term) (order : List (Term × Key)) (names : List (List ℕ))
       → IsQuery schema sql from terms project order names → IfOk result (λ all. IsTrue all ↔ AllShown old.now.trees params from terms project good)
   pub faults : IfErr result IsStoreFault

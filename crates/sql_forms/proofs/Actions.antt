@@ -32,7 +32,8 @@ use Rattle.sql_forms.proofs.Tables.{rows_in, tables_from}
 
 -- ---- rows that are taken by their rowids
 
-pub filter_left : (p : Row → Bool) (ids : List ℤ) (rows : List Row) → ((id : ℤ) (r : Row) → Has ids id → Has rows r → has_rowid id r ≡ true → p r ≡ false) → filter p (without_all rows ids) ≡ filter p rows
+pub filter_left : (p : Row → Bool) (ids : List ℤ) (rows : List Row)
+    → ((id : ℤ) (r : Row) → Has ids id → Has rows r → has_rowid id r ≡ true → p r ≡ false) → filter p (without_all rows ids) ≡ filter p rows
 filter_left p [] rows so = refl
 filter_left p (id ∷ ids) rows so =
     filter_left p ids (without_rowid id rows) (λ k r h there is. so k r (inr h) (has_filtered _ rows r there).0 is)
@@ -67,7 +68,8 @@ module _ (schema : Schema) (keys : Keys) (keep : Keep) where
     rise = λ t h up. q.rise t h (p.rise t h up);
   }
 
-  pub applied : (db next : Trees) (edit : Edit) → edit.news ≡ [] → ((id : ℤ) (r : Row) → Has edit.gone id → Has (db edit.table.tree) r → has_rowid id r ≡ true → keep edit.table.tree r ≡ false)
+  pub applied : (db next : Trees) (edit : Edit) → edit.news ≡ []
+      → ((id : ℤ) (r : Row) → Has edit.gone id → Has (db edit.table.tree) r → has_rowid id r ≡ true → keep edit.table.tree r ≡ false)
       → Has schema.tables edit.table → Applies schema keys db edit next → Shrinks schema keep db next
   applied db next edit none out listed h =
       let rows : next edit.table.tree ≡ without_all (db edit.table.tree) edit.gone = rw none at h.rows in
@@ -101,8 +103,10 @@ moved (o ∷ olds) move (inl same) = inl (ap (λ m. m.0) same)
 moved (o ∷ olds) move (inr later) = inr (moved olds move later)
 
 module _ (schema : Schema) (keys : Keys) (keep : Keep) (follows : Follows schema keys keep) where
-  work_due : (depth tree : ℕ) (olds : List Row) (child : Table) (ref : Reference) (deed : Option Deed) (key : Option ParentKey) (w : Work) → Has schema.tables child
-      → FollowsAt keep child.tree ref deed key → ((r : Row) → Has olds r → keep tree r ≡ false) → work_by depth tree (pairs olds []) child ref deed key ≡ Some w → IsDue schema keep w
+  work_due : (depth tree : ℕ) (olds : List Row) (child : Table) (ref : Reference) (deed : Option Deed) (key : Option ParentKey) (w : Work)
+      → Has schema.tables child
+      → FollowsAt keep child.tree ref deed key → ((r : Row) → Has olds r → keep tree r ≡ false)
+      → work_by depth tree (pairs olds []) child ref deed key ≡ Some w → IsDue schema keep w
   work_due depth tree olds child ref None key w listed so out is = absurd (cc)
   work_due depth tree olds child ref (Some deed) None w listed so out is = absurd (cc)
   work_due depth tree olds child ref (Some deed) (Some key) w listed so out is =
@@ -130,7 +134,8 @@ module _ (schema : Schema) (keys : Keys) (keep : Keep) (follows : Follows schema
       go false e is = absurd (cc)
       go true e is = let same : made ≡ w = cc in subst (IsDue schema keep) same (due deed refl (eqb-true _ _ (and_parts _ _ e).0) so)
 
-  works_due : (depth tree : ℕ) (olds : List Row) → ((r : Row) → Has olds r → keep tree r ≡ false) → (w : Work) → Has (works schema keys depth tree olds []) w → IsDue schema keep w
+  works_due : (depth tree : ℕ) (olds : List Row) → ((r : Row) → Has olds r → keep tree r ≡ false) → (w : Work)
+      → Has (works schema keys depth tree olds []) w → IsDue schema keep w
   works_due depth tree olds out w h =
       let c = has_flat (λ (child : Table). filter_map (work_for schema keys depth tree olds [] child) child.references) schema.tables w h in
       let r = has_filter_mapped (work_for schema keys depth tree olds [] c.0) c.0.references w c.2 in
@@ -163,8 +168,10 @@ module _ (schema : Schema) (keys : Keys) (keep : Keep) (follows : Follows schema
     -- one action, whatever follows it
     module _ (Then : Trees → List Work → End → Type 0) (on : (now : Trees) (stack : List Work) → Shrinks schema keep db now → AllDue stack → Then now stack (Ok end) → Shrinks schema keep db end)
         (now : Trees) (so : Shrinks schema keep db now) (below : List Work) (rest : AllDue below) where
-      deletes : (w : Work) (ids : List ℤ) → Has schema.tables w.child → ((row : Row) → list_any (is_child_of w row) w.moves ≡ true → keep w.child.tree row ≡ false) → AreChildren now w ids
-          → (edit : Edit) → edit.table ≡ w.child → edit.gone ≡ ids → edit.news ≡ [] → Goes schema keys Then now edit (w.depth + 1) below (Ok end) → Shrinks schema keep db end
+      deletes : (w : Work) (ids : List ℤ) → Has schema.tables w.child
+          → ((row : Row) → list_any (is_child_of w row) w.moves ≡ true → keep w.child.tree row ≡ false) → AreChildren now w ids
+          → (edit : Edit) → edit.table ≡ w.child → edit.gone ≡ ids → edit.news ≡ [] → Goes schema keys Then now edit (w.depth + 1) below (Ok end)
+          → Shrinks schema keep db end
       deletes w ids listed out found edit table gone none (inl refused) = absurd (let k = refused.2 in cc)
       deletes w ids listed out found edit table gone none (inr (inl big)) = absurd (let k = big.3 in cc)
       deletes w ids listed out found edit table gone none (inr (inr went)) =
@@ -178,7 +185,8 @@ module _ (schema : Schema) (keys : Keys) (keep : Keep) (follows : Follows schema
           ])
           went.2
 
-      acted : (w : Work) → IsDue schema keep w → (ids : List ℤ) → AreChildren now w ids → ActsOn schema keys Then now w below (Ok end) ids → Shrinks schema keep db end
+      acted : (w : Work) → IsDue schema keep w → (ids : List ℤ) → AreChildren now w ids → ActsOn schema keys Then now w below (Ok end) ids
+          → Shrinks schema keep db end
       acted w due [] found h = on now below so rest h
       acted w (listed, inl e) (id ∷ ids) found h = absurd (let k = rw e at h in cc)
       acted w (listed, inr (e, out)) (id ∷ ids) found h =
@@ -187,20 +195,24 @@ module _ (schema : Schema) (keys : Keys) (keep : Keep) (follows : Follows schema
       turn : (w : Work) → IsDue schema keep w → Acts schema keys Then now w below (Ok end) → Shrinks schema keep db end
       turn w due h = go (nat_lt w.depth max_depth) h
         where
-          go : (b : Bool) → MatchBool b ((ids : List ℤ) × AreChildren now w ids × ActsOn schema keys Then now w below (Ok end) ids) (◌≡◌ {A = End} (Ok end) (Err (Some TooDeep))) → Shrinks schema keep db end
+          go : (b : Bool)
+              → MatchBool b ((ids : List ℤ) × AreChildren now w ids × ActsOn schema keys Then now w below (Ok end) ids) (◌≡◌ {A = End} (Ok end) (Err (Some TooDeep))) → Shrinks schema keep db end
           go true h = acted w due h.0 h.1 h.2
           go false h = absurd (cc)
 
-    leads_shrinks : (n : ℕ) (now : Trees) (stack : List Work) → Shrinks schema keep db now → AllDue stack → Leads schema keys n now stack (Ok end) → Shrinks schema keep db end
+    leads_shrinks : (n : ℕ) (now : Trees) (stack : List Work) → Shrinks schema keep db now → AllDue stack → Leads schema keys n now stack (Ok end)
+        → Shrinks schema keep db end
     leads_shrinks zero now stack so due h = let same : now ≡ end = (let e = h.1 in cc) in subst (Shrinks schema keep db) same so
     leads_shrinks (suc n) now stack so due h =
         turn (Leads schema keys n) (leads_shrinks n) now so h.0 (λ x k. due x (rw h.2 (has_left h.0 (h.1 ∷ []) x k))) h.1 (due h.1 (rw h.2 (has_right h.0 (h.1 ∷ []) h.1 (inl refl)))) h.3
 
 -- A step that puts no row takes away rows that are not kept, and its actions no others. What the step itself left is told too.
-pub writes_shrinks : (schema : Schema) (keys : Keys) (keep : Keep) → Follows schema keys keep → (db end : Trees) → AreTables schema db → (edit : Edit) → edit.news ≡ [] → Has schema.tables edit.table
+pub writes_shrinks : (schema : Schema) (keys : Keys) (keep : Keep) → Follows schema keys keep → (db end : Trees) → AreTables schema db → (edit : Edit)
+    → edit.news ≡ [] → Has schema.tables edit.table
     → ((id : ℤ) (r : Row) → Has edit.gone id → Has (db edit.table.tree) r → has_rowid id r ≡ true → keep edit.table.tree r ≡ false)
     → ((r : Row) → Has (taken_by db edit) r → keep edit.table.tree r ≡ false)
-    → Writes schema keys db edit (Ok end) → Shrinks schema keep db end × ((r : Row) → Has (end edit.table.tree) r → Has (without_all (db edit.table.tree) edit.gone) r)
+    → Writes schema keys db edit (Ok end)
+    → Shrinks schema keep db end × ((r : Row) → Has (end edit.table.tree) r → Has (without_all (db edit.table.tree) edit.gone) r)
 writes_shrinks schema keys keep follows db end tables edit none listed out olds (inl refused) = absurd (let k = refused.2 in cc)
 writes_shrinks schema keys keep follows db end tables edit none listed out olds (inr (inl big)) = absurd (let k = big.3 in cc)
 writes_shrinks schema keys keep follows db end tables edit none listed out olds (inr (inr went)) =

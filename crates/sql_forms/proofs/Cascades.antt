@@ -55,11 +55,13 @@ binary_is RTrim h = absurd (cc)
 -- ---- the test for `Follows`
 
 -- rows that agree go or stay together
-pub head_out : (place : ℕ → Option ℕ) (v : Value) (child : ℕ) (ps : List ℕ) (key : ParentKey) (row old : Row) → (heads_match (place child) (place key.0) ps key.1 && is_binary (first_key key.2).collation) ≡ true
+pub head_out : (place : ℕ → Option ℕ) (v : Value) (child : ℕ) (ps : List ℕ) (key : ParentKey) (row old : Row)
+    → (heads_match (place child) (place key.0) ps key.1 && is_binary (first_key key.2).collation) ≡ true
     → agree key.2 ps row key.1 old ≡ true → keep_but place v key.0 old ≡ false → keep_but place v child row ≡ false
 head_out place v child ps key row old h same out = go (place child) (place key.0) ps key.1 (and_parts _ _ h).0 same (not_false _ out)
   where
-    go : (c k : Option ℕ) (ps qs : List ℕ) → heads_match c k ps qs ≡ true → agree key.2 ps row qs old ≡ true → has_at k v old ≡ true → not (has_at c v row) ≡ false
+    go : (c k : Option ℕ) (ps qs : List ℕ) → heads_match c k ps qs ≡ true → agree key.2 ps row qs old ≡ true → has_at k v old ≡ true
+        → not (has_at c v row) ≡ false
     go c None ps qs h same out = absurd (cc)
     go None (Some q) ps qs h same out = absurd (cc)
     go (Some p) (Some q) [] qs h same out = absurd (cc)
@@ -76,7 +78,8 @@ carried schema keys place v h =
     all_from _ schema.tables (λ t known. all_from _ t.references (λ ref there.
     at t ref (deed_for keys true ref) (parent_key schema.tables ref) (test_has _ t.references ref (test_has _ schema.tables t h known) there)))
   where
-    at : (t : Table) (ref : Reference) (deed : Option Deed) (key : Option ParentKey) → carries_at place t.tree ref deed key ≡ true → FollowsAt (keep_but place v) t.tree ref deed key
+    at : (t : Table) (ref : Reference) (deed : Option Deed) (key : Option ParentKey) → carries_at place t.tree ref deed key ≡ true
+        → FollowsAt (keep_but place v) t.tree ref deed key
     at t ref None key h = tt
     at t ref (Some Refuse) key h = tt
     at t ref (Some Remove) None h = tt
@@ -87,7 +90,8 @@ carried schema keys place v h =
 
 -- ---- a row whose parents are gone is gone too
 
-present : (key : Option ℕ) (at i : ℕ) (cs : List Column) (row : Row) → are_present key at cs row ≡ true → unwrap_or (option_map (λ (c : Column). c.not_null && not (is_key key (at + i))) (slice_get cs i)) false ≡ true
+present : (key : Option ℕ) (at i : ℕ) (cs : List Column) (row : Row) → are_present key at cs row ≡ true
+    → unwrap_or (option_map (λ (c : Column). c.not_null && not (is_key key (at + i))) (slice_get cs i)) false ≡ true
     → is_null (column row (at + i + 1)) ≡ false
 present key at i [] row all h = absurd (cc)
 present key at zero (c ∷ cs) row all h =
@@ -114,14 +118,16 @@ whole t (suc p ∷ ps) row all h =
 
 module _ (schema : Schema) (db : Trees) (obeys : Obeys schema db) where
   -- each row has a parent
-  pub parent_of : (t : Table) (ref : Reference) (key : ParentKey) → Has schema.tables t → Has t.references ref → parent_key schema.tables ref ≡ Some key → list_all (is_needed t) ref.columns ≡ true
+  pub parent_of : (t : Table) (ref : Reference) (key : ParentKey) → Has schema.tables t → Has t.references ref
+      → parent_key schema.tables ref ≡ Some key → list_all (is_needed t) ref.columns ≡ true
       → (row : Row) → Has (db t.tree) row → (old : Row) × Has (db key.0) old × (agree key.2 key.1 old ref.columns row ≡ true)
   parent_of t ref key listed on is needed row there =
       let full = whole t ref.columns row (keeps_at NotNull schema db t row (obeys.rules NotNull) listed there) needed in
       let held : has_parent schema.tables db row ref ≡ true = test_has _ t.references ref (keeps_at ForeignKey schema db t row (obeys.rules ForeignKey) listed there) on in
       some_has _ (db key.0) (rw (full, is) at held)
 
-  pub orphans_gone : (place : ℕ → Option ℕ) (v : Value) (t : Table) (ref : Reference) (key : ParentKey) → Has schema.tables t → Has t.references ref → parent_key schema.tables ref ≡ Some key
+  pub orphans_gone : (place : ℕ → Option ℕ) (v : Value) (t : Table) (ref : Reference) (key : ParentKey) → Has schema.tables t → Has t.references ref
+      → parent_key schema.tables ref ≡ Some key
       → list_all (is_needed t) ref.columns ≡ true → (heads_match (place key.0) (place t.tree) key.1 ref.columns && is_binary (first_key key.2).collation) ≡ true
       → ((old : Row) → Has (db key.0) old → keep_but place v key.0 old ≡ true) → (row : Row) → Has (db t.tree) row → keep_but place v t.tree row ≡ true
   orphans_gone place v t ref key listed on is needed heads parents row there =
@@ -137,7 +143,8 @@ module _ (schema : Schema) (db : Trees) (obeys : Obeys schema db) (place : ℕ �
   among : (tree : ℕ) (above : List ℕ) → ((t : ℕ) → Has above t → IsClear t) → list_any (λ t. eqb t tree) above ≡ true → IsClear tree
   among tree above clear h = let m = some_has (λ t. eqb t tree) above h in subst IsClear (eqb-true m.0 tree m.2) (clear m.0 m.1)
 
-  led : (t : Table) (above : List ℕ) → Has schema.tables t → ((s : ℕ) → Has above s → IsClear s) → (ref : Reference) → Has t.references ref → (key : Option ParentKey) → parent_key schema.tables ref ≡ key
+  led : (t : Table) (above : List ℕ) → Has schema.tables t → ((s : ℕ) → Has above s → IsClear s) → (ref : Reference) → Has t.references ref
+      → (key : Option ParentKey) → parent_key schema.tables ref ≡ key
       → leads_to place t above ref key ≡ true → IsClear t.tree
   led t above listed clear ref on None is h = absurd (cc)
   led t above listed clear ref on (Some key) is h =
@@ -145,14 +152,16 @@ module _ (schema : Schema) (db : Trees) (obeys : Obeys schema db) (place : ℕ �
       let rest = and_parts (list_all (is_needed t) ref.columns) _ parts.1 in
       orphans_gone schema db obeys place v t ref key listed on is rest.0 rest.1 (among key.0 above clear parts.0)
 
-  covered : (t : Table) (above : List ℕ) → Has schema.tables t → ((s : ℕ) → Has above s → IsClear s) → (o : Option ℕ) → place t.tree ≡ o → is_covered schema.tables place above t o ≡ true → IsClear t.tree
+  covered : (t : Table) (above : List ℕ) → Has schema.tables t → ((s : ℕ) → Has above s → IsClear s) → (o : Option ℕ) → place t.tree ≡ o
+      → is_covered schema.tables place above t o ≡ true → IsClear t.tree
   covered t above listed clear None is h = λ r there. rw is refl
   covered t above listed clear (Some p) is h = elim (or_cases (list_any (λ tree. eqb tree t.tree) above) _ h) [
     | inl before ↦ among t.tree above clear before
     | inr leads ↦ let m = some_has (λ ref. leads_to place t above ref (parent_key schema.tables ref)) t.references leads in led t above listed clear m.0 m.1 (parent_key schema.tables m.0) refl m.2
   ]
 
-  clear_from : (ts : List Table) (above : List ℕ) → ((t : Table) → Has ts t → Has schema.tables t) → ((s : ℕ) → Has above s → IsClear s) → covers_from schema.tables place above ts ≡ true → AllByRecursion (λ t. IsClear t.tree) ts
+  clear_from : (ts : List Table) (above : List ℕ) → ((t : Table) → Has ts t → Has schema.tables t) → ((s : ℕ) → Has above s → IsClear s)
+      → covers_from schema.tables place above ts ≡ true → AllByRecursion (λ t. IsClear t.tree) ts
   clear_from [] above listed clear h = tt
   clear_from (t ∷ ts) above listed clear h =
       let parts = and_parts (is_covered schema.tables place above t (place t.tree)) _ h in
@@ -163,7 +172,8 @@ module _ (schema : Schema) (db : Trees) (obeys : Obeys schema db) (place : ℕ �
   pub all_clear : (first : ℕ) → covers schema place first ≡ true → IsClear first → AllByRecursion (λ t. IsClear t.tree) schema.tables
   all_clear first h clear = clear_from schema.tables (first ∷ []) (λ t k. k) (λ s k. elim k [ inl same ↦ subst IsClear (sym same) clear | inr none ↦ absurd none ]) h
 
-filtered : (o : Option ℕ) (v : Value) (was now : List Row) → filter (λ r. not (has_at o v r)) now ≡ filter (λ r. not (has_at o v r)) was → ((r : Row) → Has now r → not (has_at o v r) ≡ true) → now ≡ left_without o v was
+filtered : (o : Option ℕ) (v : Value) (was now : List Row) → filter (λ r. not (has_at o v r)) now ≡ filter (λ r. not (has_at o v r)) was
+    → ((r : Row) → Has now r → not (has_at o v r) ≡ true) → now ≡ left_without o v was
 filtered None v was now h clear = sym (filter_whole (λ _. true) now (λ r there. refl)) ∙ h ∙ filter_whole (λ _. true) was (λ r there. refl)
 filtered (Some p) v was now h clear = sym (filter_whole (λ r. not (has_at (Some p) v r)) now clear) ∙ h
 
@@ -181,7 +191,8 @@ nothing_less None v = refl
 nothing_less (Some p) v = refl
 
 -- in each table the rows that have the value at its place are gone
-pub cascaded : (schema : Schema) (sql : List ℕ) (at : ℕ) (table : Table) (p : ℕ) (place : ℕ → Option ℕ) → IsCascade schema sql at table p place → (old new : State) (v : Value) (given : Row) (r : Result ℕ Error)
+pub cascaded : (schema : Schema) (sql : List ℕ) (at : ℕ) (table : Table) (p : ℕ) (place : ℕ → Option ℕ) → IsCascade schema sql at table p place
+    → (old new : State) (v : Value) (given : Row) (r : Result ℕ Error)
     → IsReady schema old → given ≡ v ∷ [] → ExecutesInside 0 sql given old new r → OnOk r (Leaves schema old new (cut place v (tables_of schema old.now.trees)))
 cascaded schema sql at table p place it old new v given (Err e) ready same h = tt
 cascaded schema sql at table p place it old new v given (Ok count) ready same h =

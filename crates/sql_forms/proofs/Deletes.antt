@@ -43,7 +43,8 @@ use Rattle.sql_forms.proofs.Queries.{no_overlay}
 use Rattle.sql_forms.proofs.Actions.{writes_shrinks, left_lacks, own_rowid, same_row}
 use Rattle.sql_forms.proofs.Writes.{done_by, wrote, changed_one}
 
-found : (tree : ℕ) (terms : List Term) (db : Trees) (params : Row) (rows : List Row) → IsProgramAnswer [] (deletes tree terms).body db params rows → AreFound terms (db tree) params rows
+found : (tree : ℕ) (terms : List Term) (db : Trees) (params : Row) (rows : List Row) → IsProgramAnswer [] (deletes tree terms).body db params rows
+    → AreFound terms (db tree) params rows
 found tree terms db params rows h =
     let a = h Null in
     let b : IsAnswer (rowid_query tree terms) (overlay db []) params rows =
@@ -51,7 +52,8 @@ found tree terms db params rows h =
     subst (λ all. AreFound terms all params rows) (no_overlay db tree) (found_rowids tree terms (overlay db []) params rows b)
 
 -- Where the rows that WHERE finds are those that are not kept, the statement leaves of its table those that are.
-deletes_rows : (task : Task) (keep : Keep) (terms : List Term) (db : Trees) (out : Written) → Follows task.schema task.keys keep → AreTables task.schema db → Has task.schema.tables task.table
+deletes_rows : (task : Task) (keep : Keep) (terms : List Term) (db : Trees) (out : Written) → Follows task.schema task.keys keep
+    → AreTables task.schema db → Has task.schema.tables task.table
     → ((r : Row) → Has (db task.table.tree) r → passes terms task.params r ≡ not (keep task.table.tree r))
     → Deletes task (deletes task.table.tree terms) db (Ok out)
     → Shrinks task.schema keep db out.trees × ((r : Row) → Has (out.trees task.table.tree) r → keep task.table.tree r ≡ true)
@@ -84,7 +86,8 @@ deletes_rows task keep terms db out follows tables listed where_is h =
 
 -- The same of a statement that ran.
 module _ (schema : Schema) (at : ℕ) (table : Table) (placed : slice_get schema.tables at ≡ Some table) (keep : Keep) (follows : Follows schema Enforced keep) (terms : List Term) (old new : State) (ready : IsReady schema old) where
-  pub deletes_kept : (text : List ℕ) (params : Row) (count : ℕ) → ((r : Row) → Has (old.now.trees table.tree) r → passes terms params r ≡ not (keep table.tree r))
+  pub deletes_kept : (text : List ℕ) (params : Row) (count : ℕ)
+      → ((r : Row) → Has (old.now.trees table.tree) r → passes terms params r ≡ not (keep table.tree r))
       → Writes old new None (Delete at (deletes table.tree terms)) text params count
       → (new.now.schema ≡ schema) × Shrinks schema keep old.now.trees new.now.trees × ((r : Row) → Has (new.now.trees table.tree) r → keep table.tree r ≡ true)
   deletes_kept text params count where_is w =
@@ -110,12 +113,14 @@ pub record IsDelete (schema : Schema) (sql : List ℕ) (at : ℕ) (table : Table
   pub placed : slice_get schema.tables at ≡ Some table
   pub childless : is_childless schema Enforced table.tree ≡ true
 
-spared : (schema : Schema) (keys : Keys) (tree : ℕ) (terms : List Term) (params : Row) → is_childless schema keys tree ≡ true → Follows schema keys (keep_missed tree terms params)
+spared : (schema : Schema) (keys : Keys) (tree : ℕ) (terms : List Term) (params : Row) → is_childless schema keys tree ≡ true
+    → Follows schema keys (keep_missed tree terms params)
 spared schema keys tree terms params h =
     all_from _ schema.tables (λ t known. all_from _ t.references (λ ref there.
     at t ref (deed_for keys true ref) (parent_key schema.tables ref) (test_has _ t.references ref (test_has _ schema.tables t h known) there)))
   where
-    at : (t : Table) (ref : Reference) (deed : Option Deed) (key : Option ParentKey) → spares tree deed key ≡ true → FollowsAt (keep_missed tree terms params) t.tree ref deed key
+    at : (t : Table) (ref : Reference) (deed : Option Deed) (key : Option ParentKey) → spares tree deed key ≡ true
+        → FollowsAt (keep_missed tree terms params) t.tree ref deed key
     at t ref None key h = tt
     at t ref (Some Refuse) key h = tt
     at t ref (Some Remove) None h = tt

@@ -48,7 +48,8 @@ inserted table terms params rows = with_rowid Chosen rows (cast_row table (eval_
 chosen : (table : Table) (top : ℤ) → table.is_counted ≡ false → rowids_for table top ≡ Chosen
 chosen table top h = rw h refl
 
-settled : (counts higher : Bool) (Counted : Type 0) (db next : Trees) → counts ≡ false → MatchBool (cond counts higher false) Counted (Gives db (Ok next)) → next ≡ db
+settled : (counts higher : Bool) (Counted : Type 0) (db next : Trees) → counts ≡ false
+    → MatchBool (cond counts higher false) Counted (Gives db (Ok next)) → next ≡ db
 settled true higher Counted db next h k = absurd cc
 settled false higher Counted db next h k = same_value k
 
@@ -79,7 +80,8 @@ module _ (schema : Schema) (sql : List ℕ) (at : ℕ) (table : Table) (terms : 
       leaves schema old new at table it.placed ready command text params count w put.0 edit now refl a _ refl (record { rise = shaped.0; keyed = shaped.1 })
 
   -- the row is in the table, at the rowid that it gave or else above the others
-  pub has_inserted : (params bound : Row) (r : Result ℕ Error) (v : Value) (vs : Row) → eval_all terms (params ∷ []) ≡ v ∷ vs → is_of Integer v ≡ true → are_of table.columns vs ≡ true → bound ≡ params
+  pub has_inserted : (params bound : Row) (r : Result ℕ Error) (v : Value) (vs : Row) → eval_all terms (params ∷ []) ≡ v ∷ vs → is_of Integer v ≡ true
+      → are_of table.columns vs ≡ true → bound ≡ params
       → ExecutesInside 0 sql bound old new r
       → OnOk r (Leaves schema old new (with_tree (tables_of schema old.now.trees) table.tree
       (put_row (with_rowid Chosen (tables_of schema old.now.trees table.tree) (v ∷ vs)) (tables_of schema old.now.trees table.tree))))

@@ -31,7 +31,8 @@ pub has_filter_mapped : {X Y : Type 0} (f : X → Option Y) (xs : List X) (y : Y
 has_filter_mapped f [] y h = absurd h
 has_filter_mapped {X} {Y} f (x ∷ xs) y h = go (f x) refl h (has_filter_mapped f xs y)
   where
-    go : (o : Option Y) → f x ≡ o → Has (cons_option o (filter_map f xs)) y → (Has (filter_map f xs) y → (z : X) × Has xs z × (f z ≡ Some y)) → (z : X) × Has (x ∷ xs) z × (f z ≡ Some y)
+    go : (o : Option Y) → f x ≡ o → Has (cons_option o (filter_map f xs)) y → (Has (filter_map f xs) y → (z : X) × Has xs z × (f z ≡ Some y))
+        → (z : X) × Has (x ∷ xs) z × (f z ≡ Some y)
     go None is there later = let r = later there in (r.0, inr r.1, r.2)
     go (Some z) is (inl same) later = (x, inl refl, is ∙ ap Some (sym same))
     go (Some z) is (inr there) later = let r = later there in (r.0, inr r.1, r.2)

@@ -114,7 +114,8 @@ module _ {K V : Type 0} {R : K → K → Ordering} (total : IsTotalOrder R) (sam
       step r = cond (test r) (change r) r
 
       -- an entry of the row once it is changed, by whether it was
-      entry : (x : Row) → Has rows x → (b : Bool) → test x ≡ b → (l : K) × (z u : V) × (get m l ≡ Some u) × (part x ≡ row_of l u) × (part (cond b (change x) x) ≡ row_of l z) × (get (insert m k w) l ≡ Some z)
+      entry : (x : Row) → Has rows x → (b : Bool) → test x ≡ b
+          → (l : K) × (z u : V) × (get m l ≡ Some u) × (part x ≡ row_of l u) × (part (cond b (change x) x) ≡ row_of l z) × (get (insert m k w) l ≡ Some z)
       entry x there true is =
           let it = passes_at test decides x there is in
           let e = sym it.1 ∙ stands in

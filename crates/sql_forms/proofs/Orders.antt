@@ -75,7 +75,8 @@ module _ (schema : Schema) (sql : List ℕ) (tree : ℕ) (terms project : List T
       )
 
   -- LIMIT 1
-  pub selects_first : IsSelect schema sql tree (over tree terms project ((t, k) ∷ []) (lit (Int (pos 1)))) names → (first : Option Row) → IsFirstShown sql given old new first
+  pub selects_first : IsSelect schema sql tree (over tree terms project ((t, k) ∷ []) (lit (Int (pos 1)))) names → (first : Option Row)
+      → IsFirstShown sql given old new first
       → IsUnchanged old new × FindsFirst (passes terms params) (by_column t k params) (shows project params) (tables_of schema old.now.trees tree) first
   selects_first it first shown =
       let table = tables_of schema old.now.trees tree in

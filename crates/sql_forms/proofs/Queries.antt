@@ -30,7 +30,8 @@ no_overlay db t = elim (nat_le (2 ^ 31) t) as (λ b. unwrap_or (if b then slice_
 
 module _ (tree : ℕ) (terms project : List Term) (db : Trees) (params : Row) (rows : List Row) where
   module _ (order : List (Term × Key)) (limit : Term) where
-    pub answers_over : IsProgramAnswer [] (over tree terms project order limit) db params rows → AnswersOver (over tree terms project order limit) (filter (passes terms params) (db tree)) rows params
+    pub answers_over : IsProgramAnswer [] (over tree terms project order limit) db params rows
+        → AnswersOver (over tree terms project order limit) (filter (passes terms params) (db tree)) rows params
     answers_over h =
         let q = over tree terms project order limit in
         let a = h Null in
@@ -41,7 +42,8 @@ module _ (tree : ℕ) (terms project : List Term) (db : Trees) (params : Row) (r
         record { ordered = a.ordered; same = subst (λ k. IsPermutation k a.ordered) kept a.same; sorted = a.sorted; shows = a.shown }
 
   -- with no order and no limit
-  pub answers_all : IsProgramAnswer [] (all_of tree terms project) db params rows → IsPermutation (map (λ r. eval_all project (params ∷ r ∷ [])) (filter (passes terms params) (db tree))) rows
+  pub answers_all : IsProgramAnswer [] (all_of tree terms project) db params rows
+      → IsPermutation (map (λ r. eval_all project (params ∷ r ∷ [])) (filter (passes terms params) (db tree))) rows
   answers_all h =
       let a = answers_over [] (all_of tree terms project).limit h in
       let shown = IsPermutation-map (λ (o : Output). o.1) _ _ a.same in

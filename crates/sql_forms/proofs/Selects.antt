@@ -55,20 +55,23 @@ nothing_left test rows none = false_from_ne_true _ (λ any. let r = some_has tes
     past [] x h none = h
     past (y ∷ xs) x h none = omega arith
 
-finds : (test : Row → Bool) (show : Row → Row) (rows shown : List Row) → IsPermutation (map show (filter test rows)) shown → Finds test show rows (slice_get shown 0)
+finds : (test : Row → Bool) (show : Row → Row) (rows shown : List Row) → IsPermutation (map show (filter test rows)) shown
+    → Finds test show rows (slice_get shown 0)
 finds test show rows [] h = nothing_left test rows (sym (length-map (filter test rows) show) ∙ sym (length_permutation _ _ h))
 finds test show rows (x ∷ more) h =
     (all-permutation (λ y. (r : Row) × Has rows r × (test r ≡ true) × (y ≡ show r)) _ _ h
     (all-map (λ y. (r : Row) × Has rows r × (test r ≡ true) × (y ≡ show r)) show (filter test rows) (all_from _ _ (λ r here. let was = has_filtered test rows r here in (r, was.0, was.1, refl))))).0
 
-pub any_found : (test : Row → Bool) (show : Row → Row) (table : List Row) (first : Option Row) → Finds test show table first → is_some first ≡ list_any test table
+pub any_found : (test : Row → Bool) (show : Row → Row) (table : List Row) (first : Option Row) → Finds test show table first
+    → is_some first ≡ list_any test table
 any_found test show table None h = sym h
 any_found test show table (Some x) h = sym (some_from test table h.0 h.1 h.2)
 
 -- with no ORDER BY and no LIMIT
 module _ (schema : Schema) (sql : List ℕ) (tree : ℕ) (terms project : List Term) (names : List (List ℕ))
     (it : IsSelect schema sql tree (all_of tree terms project) names) (old new : State) (has : old.now.schema ≡ schema) (params given : Row) (same : given ≡ params) where
-  pub selects_all : (rows : List Row) → Shown sql given old new rows → IsPermutation (map (shows project params) (filter (passes terms params) (tables_of schema old.now.trees tree))) rows × IsUnchanged old new
+  pub selects_all : (rows : List Row) → Shown sql given old new rows
+      → IsPermutation (map (shows project params) (filter (passes terms params) (tables_of schema old.now.trees tree))) rows × IsUnchanged old new
   selects_all rows shown =
       let answer = read schema sql tree terms project [] no_limit names it old new has params given same rows shown in (
         subst (λ table. IsPermutation (map (shows project params) (filter (passes terms params) table)) rows) (sym (rows_at schema tree old.now.trees it.listed))

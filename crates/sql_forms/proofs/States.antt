@@ -29,7 +29,8 @@ module _ (old new : State) where
   inside_keeps sql params (Err e) (inl h) = either_keeps h.1
   inside_keeps sql params (Err e) (inr h) = unchanged_keeps h.2
 
-  fails_to_show : (sql : List ℕ) (c : Compiled) (params : Row) (e : Error) (returning : Option Returning) → FailsToShow old new sql c params e returning → KeepsCommit old new
+  fails_to_show : (sql : List ℕ) (c : Compiled) (params : Row) (e : Error) (returning : Option Returning)
+      → FailsToShow old new sql c params e returning → KeepsCommit old new
   fails_to_show sql c params e None h = unchanged_keeps h.3
   fails_to_show sql c params e (Some what) (inl h) = unchanged_keeps h.1
   fails_to_show sql c params e (Some what) (inr h) = rolled_back_keeps h.3
@@ -41,13 +42,15 @@ module _ (old new : State) where
   query_keeps sql params e (inl (inr h)) = fails_to_show sql h.0 _ e h.0.returning h.2
   query_keeps sql params e (inr h) = unchanged_keeps h.5
 
-  shows_keeps : (inside : IsTrue old.in_transaction) (sql : List ℕ) (c : Compiled) (params : Row) (rows : List Row) (returning : Option Returning) → ShowsRows old new sql c params rows returning → KeepsCommit old new
+  shows_keeps : (inside : IsTrue old.in_transaction) (sql : List ℕ) (c : Compiled) (params : Row) (rows : List Row) (returning : Option Returning)
+      → ShowsRows old new sql c params rows returning → KeepsCommit old new
   shows_keeps inside sql c params rows None h = unchanged_keeps h.3
   shows_keeps inside sql c params rows (Some what) h =
       record { was_open = λ _. h.1.shown.was_open; committed = λ _. h.1.shown.committed_is ∙ ap (λ b. cond b old.committed new.now) inside }
 
   -- whether or not it fails
-  pub query_all_keeps : {A : Type 0} (rows : A → List Row) (inside : IsTrue old.in_transaction) (sql : List ℕ) (params : Row) (r : Result A Error) → IfOk r (λ a. Shown sql params old new (rows a))
+  pub query_all_keeps : {A : Type 0} (rows : A → List Row) (inside : IsTrue old.in_transaction) (sql : List ℕ) (params : Row) (r : Result A Error)
+      → IfOk r (λ a. Shown sql params old new (rows a))
       → IfErr r (λ e. FailsToQuery sql params old new e ⊎ IsTooLate sql params old new e) → KeepsCommit old new
   unfolding Shown
   query_all_keeps rows inside sql params (Ok a) ok err = shows_keeps inside sql ok.0 _ (rows a) ok.0.returning ok.2

@@ -21,7 +21,8 @@ module _ (schema : Schema) where
   listed_in t h = some_from (λ (x : Table). eqb x.tree t.tree) schema.tables t h (eq-eqb t.tree t.tree refl)
 
   -- a fact on what two databases hold holds of each tree, where it holds of each table and of no rows
-  pub at_tables : (P : ℕ → List Row → List Row → Type 0) (old new : Trees) → ((t : ℕ) → P t [] []) → ((table : Table) → Has schema.tables table → P table.tree (old table.tree) (new table.tree))
+  pub at_tables : (P : ℕ → List Row → List Row → Type 0) (old new : Trees) → ((t : ℕ) → P t [] [])
+      → ((table : Table) → Has schema.tables table → P table.tree (old table.tree) (new table.tree))
       → (t : ℕ) → P t (tables_of schema old t) (tables_of schema new t)
   at_tables P old new none each t = go (is_table schema t) refl
     where

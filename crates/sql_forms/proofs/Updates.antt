@@ -52,7 +52,8 @@ pub record IsUpdate (schema : Schema) (sql : List ℕ) (at : ℕ) (table : Table
   pub idle : (moves : List (Row × Row)) → works_as schema table.tree false moves ≡ []
   pub none : works_as schema table.tree true [] ≡ []
 
-some_news : (schema : Schema) (tree : ℕ) → ((moves : List (Row × Row)) → works_as schema tree false moves ≡ []) → (olds : List Row) (new : Row) (news : List Row) → works schema Enforced 0 tree olds (new ∷ news) ≡ []
+some_news : (schema : Schema) (tree : ℕ) → ((moves : List (Row × Row)) → works_as schema tree false moves ≡ [])
+    → (olds : List Row) (new : Row) (news : List Row) → works schema Enforced 0 tree olds (new ∷ news) ≡ []
 some_news schema tree idle olds new news =
     let some : (length (new ∷ news) == 0) ≡ false = grind (arith, nat_tests) in
     subst (λ b. works_as schema tree b (pairs olds (new ∷ news)) ≡ []) (sym some) (idle (pairs olds (new ∷ news)))
@@ -68,7 +69,8 @@ module _ (schema : Schema) (sql : List ℕ) (at : ℕ) (table : Table) (terms se
   own = own_rows schema old new at table it.placed ready
 
   -- what the statement sets off, by the rows that it found
-  idles : (answer : List Row) → (let edit = edit_of old.now.trees table (ids_of answer) Given 1 answer in works schema Enforced 0 table.tree (taken_by old.now.trees edit) edit.news ≡ [])
+  idles : (answer : List Row)
+      → (let edit = edit_of old.now.trees table (ids_of answer) Given 1 answer in works schema Enforced 0 table.tree (taken_by old.now.trees edit) edit.news ≡ [])
   idles [] = it.none
   idles (x ∷ more) =
       let edit = edit_of old.now.trees table (ids_of (x ∷ more)) Given 1 (x ∷ more) in

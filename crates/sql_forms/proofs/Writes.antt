@@ -23,7 +23,8 @@ database schema trees = record { schema = schema; trees = trees }
 
 -- one table has these rows now, and the others what they had
 pub changed_one : (schema : Schema) (table : Table) (rows : List Row) (old new : Trees) → Has schema.tables table → new table.tree ≡ rows
-    → ((t : Table) → Has schema.tables t → t.tree ≢ table.tree → new t.tree ≡ old t.tree) → tables_of schema new ≡ with_tree (tables_of schema old) table.tree rows
+    → ((t : Table) → Has schema.tables t → t.tree ≢ table.tree → new t.tree ≡ old t.tree)
+    → tables_of schema new ≡ with_tree (tables_of schema old) table.tree rows
 changed_one schema table rows old new listed here others i t = at t i
   where
     at : (t : ℕ) → tables_of schema new t ≡ with_tree (tables_of schema old) table.tree rows t

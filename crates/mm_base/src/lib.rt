@@ -14,9 +14,9 @@ pub mod pieces;
 pub mod records;
 
 pub use mm_definitions::{
-    Amount, Answer, Bytes, Command, ContentType, Coordinate, Count, Definition, EditionState,
-    Entry, Extent, Fault, Id, Identifier, Io, Kind, KitFault, Matrix, MatrixSide, Media,
-    MediaBytes, Moment, Name, Open, Outcome, PageFault, Piece, PixelSize, Place, PlainKind,
+    Amount, Answer, Bounds, Bytes, Command, ContentType, Coordinate, Count, Definition,
+    EditionState, Entry, Extent, Fault, Id, Identifier, Io, Kind, KitFault, Matrix, MatrixSide,
+    Media, MediaBytes, Moment, Name, Open, Outcome, PageFault, Piece, PixelSize, Place, PlainKind,
     Positive, ReadFault, Refusal, Related, RelationName, Remark, Row, RunFault, Signed, Staged,
     Step, SystemName, SystemNumber, Tally, Text, TileBytes, TileSide, Unit, UntilEnd, Zoom, fits,
     is_content_type, is_identifier, is_name, is_stamp, neighbours, read_number, stamp,

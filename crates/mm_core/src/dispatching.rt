@@ -8,7 +8,7 @@ ghost use Rattle.mm_core.specs.Handed.{Tries};
 
 use mm_definitions::answers::{Fault, Outcome};
 use mm_definitions::commands::Command;
-use mm_definitions::extents::Extent;
+use mm_definitions::extents::Bounds;
 use mm_definitions::places::TilePlace;
 use mm_edition::{discard, open_edition, publish, stage};
 use mm_items::{drop_media, drop_row, drop_tile, put_media, put_row, put_tile};
@@ -76,11 +76,11 @@ fn lay_out_pyramid<S: Alter>(
             table,
             identifier.as_str(),
             srs.get(),
-            &Extent {
-                min_x: min_x.get(),
-                min_y: min_y.get(),
-                max_x: max_x.get(),
-                max_y: max_y.get(),
+            &Bounds {
+                min_x: *min_x,
+                min_y: *min_y,
+                max_x: *max_x,
+                max_y: *max_y,
             },
             *step,
             last_change,

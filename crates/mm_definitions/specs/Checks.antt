@@ -2,11 +2,6 @@
 use Rattle.std.specs.Prelude.{◌<ℤ◌}
 use Rattle.mm_definitions.specs.Bounds.{Profile, IsCoordinate}
 use Rattle.mm_definitions.specs.Package.{Box}
-use Rattle.mm_definitions.specs.declared.extents.Extent.{Extent}
-
--- the four bounds of an extent
-abbrev pub box_of : Extent → Box
-box_of e = record { min_x = e.min_x; min_y = e.min_y; max_x = e.max_x; max_y = e.max_y }
 
 -- within the limits, and not empty
 pub record IsExtent (profile : Profile) (b : Box) : Type 0 where

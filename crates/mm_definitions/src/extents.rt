@@ -2,22 +2,47 @@
 
 ghost use Rattle.std.specs.Prelude.{◌≡◌, ◌↔◌, ℕ, pos, ◌<ℤ◌, ◌-ℤ◌, ◌*ℤ◌, IsSome, IfSome, IsTrue};
 ghost use Rattle.mm_definitions.specs.Bounds.{IsCoordinate, current};
-ghost use Rattle.mm_definitions.specs.Checks.{IsExtent, box_of};
 ghost use Rattle.mm_definitions.specs.Rules.{Fits};
 ghost use Rattle.mm_definitions.specs.Conditions.{grid};
 
-use crate::bounded::{MatrixSide, PixelSize, TileSide};
+use crate::bounded::{Coordinate, MatrixSide, PixelSize, TileSide};
 use crate::commands::Matrix;
 use crate::limits::FARTHEST;
+use std::marker::Model;
 
-/// A bounding box, in whole micrometres, which may be empty: that of a command is until it is refused 27, and one that
-/// was read from a file is as it stands there. `new` makes none but those that a pyramid of a package has.
+/// The extent of a pyramid, in whole micrometres: within the limits, and not empty. (Tile Matrix Set: min_x, min_y,
+/// max_x, max_y.)
 #[derive(Clone, Copy, Debug, PartialEq, Eq)]
 pub struct Extent {
-    pub min_x: i64,
-    pub min_y: i64,
-    pub max_x: i64,
-    pub max_y: i64,
+    min_x: i64,
+    min_y: i64,
+    max_x: i64,
+    max_y: i64,
+}
+
+impl Model for Extent {
+    ghost use Rattle.mm_definitions.specs.Bounds.{current};
+    ghost use Rattle.mm_definitions.specs.Checks.{IsExtent};
+    ghost use Rattle.mm_definitions.specs.Package.{Box};
+
+    ghost Value = { Box };
+
+    ghost view = { λ e. record {
+      min_x = e.min_x;
+      min_y = e.min_y;
+      max_x = e.max_x;
+      max_y = e.max_y;
+    } };
+
+    ghost inverse = { λ b. record {
+      min_x = b.min_x;
+      min_y = b.min_y;
+      max_x = b.max_x;
+      max_y = b.max_y;
+    } };
+
+    ghost invariant = { λ e. IsExtent current
+        (record { min_x = e.min_x; min_y = e.min_y; max_x = e.max_x; max_y = e.max_y }) };
 }
 
 fn is_coordinate(number: i64) -> bool
@@ -27,6 +52,8 @@ fn is_coordinate(number: i64) -> bool
 }
 
 impl Extent {
+    ghost use Rattle.std.specs.Prelude.{◌≡◌, ◌↔◌, IsSome, IfSome};
+    ghost use Rattle.mm_definitions.specs.Bounds.{current};
     ghost use Rattle.mm_definitions.specs.Checks.{IsExtent};
 
     /// The extent with these bounds, where they are within the limits and it is not empty.
@@ -59,6 +86,66 @@ impl Extent {
         } else {
             None
         }
+    }
+
+    /// The least x.
+    pub fn min_x(&self) -> i64
+        ensures number { result ≡ self.now.min_x }
+        ensures within { IsExtent current self.now }
+    {
+        self.min_x
+    }
+
+    /// The least y.
+    pub fn min_y(&self) -> i64
+        ensures number { result ≡ self.now.min_y }
+    {
+        self.min_y
+    }
+
+    /// The greatest x.
+    pub fn max_x(&self) -> i64
+        ensures number { result ≡ self.now.max_x }
+    {
+        self.max_x
+    }
+
+    /// The greatest y.
+    pub fn max_y(&self) -> i64
+        ensures number { result ≡ self.now.max_y }
+    {
+        self.max_y
+    }
+}
+
+/// The bounds that a record gives a pyramid: within the limits, and perhaps with nothing between them.
+#[derive(Clone, Copy, Debug, PartialEq, Eq)]
+pub struct Bounds {
+    pub min_x: Coordinate,
+    pub min_y: Coordinate,
+    pub max_x: Coordinate,
+    pub max_y: Coordinate,
+}
+
+impl Bounds {
+    /// The extent between them, or None where it is empty.
+    pub fn extent(&self) -> Option<Extent>
+        ensures within { IsSome result
+            ↔ (self.now.min_x <ℤ self.now.max_x) × (self.now.min_y <ℤ self.now.max_y) }
+        ensures value { IfSome result
+            (λ e. e ≡ record {
+              min_x = self.now.min_x;
+              min_y = self.now.min_y;
+              max_x = self.now.max_x;
+              max_y = self.now.max_y;
+            }) }
+    {
+        Extent::new(
+            self.min_x.get(),
+            self.min_y.get(),
+            self.max_x.get(),
+            self.max_y.get(),
+        )
     }
 }
 
@@ -93,7 +180,7 @@ fn is_same(one: i128, other: i128) -> bool
 
 /// Whether the matrix covers the extent exactly.
 pub fn fits(extent: &Extent, matrix: &Matrix) -> bool
-    ensures { IsTrue result ↔ Fits (box_of extent.now) (grid matrix.now) }
+    ensures { IsTrue result ↔ Fits extent.now (grid matrix.now) }
 {
     let across = is_same(
         distance(extent.min_x, extent.max_x),

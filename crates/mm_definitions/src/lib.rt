@@ -39,7 +39,7 @@ pub use commands::{Command, Kind, Matrix, Piece, PlainKind, RelationName, Step};
 pub use content_types::{ContentType, is_content_type};
 pub use ends::UntilEnd;
 pub use entries::{EditionState, Entry, Media, Related, Row};
-pub use extents::{Extent, fits};
+pub use extents::{Bounds, Extent, fits};
 pub use identifiers::{Identifier, is_identifier};
 pub use matrices::neighbours;
 pub use moments::{Moment, is_stamp, stamp};

@@ -1,9 +1,10 @@
 -- For which number a table or pyramid is not added or removed, from what was looked up.
-use Rattle.std.proofs.Common.{◌≡◌, ℕ, ℤ, pos, Bool, true, false, not, ◌||◌, [], ◌∷◌, Option, Some, None, refl, sym, ap, ◌∙◌}
+use Rattle.std.proofs.Common.{◌≡◌, ◌↔◌, ℕ, ℤ, pos, ◌<ℤ◌, Bool, true, false, not, ◌||◌, [], ◌∷◌, Option, Some, None, IsSome, refl, sym, ap, subst, ◌∙◌, arith}
+use Rattle.std.proofs.lemmas.Int.{ints}
 use Rattle.std.specs.Prelude.{int_le}
 use Rattle.std.specs.FinMap.{contains_key}
 use Rattle.mm_definitions.specs.Keys.{Text, same_number}
-use Rattle.mm_definitions.specs.Package.{Package}
+use Rattle.mm_definitions.specs.Package.{Package, Box}
 use Rattle.mm_definitions.specs.Conditions.{least, own_reasons, is_taken, is_identified, is_used}
 use Rattle.mm_definitions.specs.declared.commands.PlainKind.{PlainKind}
 use Rattle.mm_definitions.specs.declared.commands.Step.{Step}
@@ -35,6 +36,32 @@ module _ (p : Package) (table identifier : Text) (kind : PlainKind) where
   table_is_new none = (either_false (contains_key p.contents table) _ (none_holds (own_reasons p (commands.Table table kind identifier)) (sym none)).0).0
 
 -- ---- pyramid
+
+low : (a b : ℤ) → a <ℤ b → int_le b a ≡ false
+low a b h = grind (arith, ints)
+
+high : (a b : ℤ) → int_le b a ≡ false → a <ℤ b
+high a b e = grind (arith, ints)
+
+neither : (a b : Bool) → a ≡ false → b ≡ false → (a || b) ≡ false
+neither true b e f = e
+neither false b e f = f
+
+either : (a b : Bool) → ¬ ((a ≡ false) × (b ≡ false)) → (a || b) ≡ true
+either true b h = refl
+either false true h = refl
+either false false h = absurd (h (refl, refl))
+
+-- whether nothing is between the bounds, from the extent that they have or have not
+module _ (min_x max_x min_y max_y : ℤ) (extent : Option Box) where
+  pub filled_between : (e : Box) → IsSome extent ↔ (min_x <ℤ max_x) × (min_y <ℤ max_y) → extent ≡ Some e → (int_le max_x min_x || int_le max_y min_y) ≡ false
+  filled_between e within is =
+      let both = within.0 (subst IsSome (sym is) refl) in
+      neither (int_le max_x min_x) (int_le max_y min_y) (low min_x max_x both.0) (low min_y max_y both.1)
+
+  pub empty_between : IsSome extent ↔ (min_x <ℤ max_x) × (min_y <ℤ max_y) → extent ≡ None → (int_le max_x min_x || int_le max_y min_y) ≡ true
+  empty_between within is =
+      either (int_le max_x min_x) (int_le max_y min_y) (λ p. let none : false ≡ true = subst IsSome is (within.1 (high min_x max_x p.0, high min_y max_y p.1)) in cc)
 
 module _ (p : Package) (table identifier : Text) (srs min_x min_y max_x max_y : ℤ) (step : Step) where
   abbrev of_pyramid : Bool → Bool → Bool → Bool → Bool → Option ℕ

@@ -11,11 +11,9 @@ use Rattle.sql_forms.specs.Maps.{Holds}
 use Rattle.sql_forms.proofs.Keys.{columns_are}
 use Rattle.sql_forms.proofs.Selects.{shows}
 use Rattle.mm_definitions.specs.Keys.{Text, text_cmp, same_number}
-use Rattle.mm_definitions.specs.Checks.{box_of}
 use Rattle.mm_definitions.specs.Conditions.{is_product}
 use Rattle.mm_definitions.specs.Package.{Box, Grid, MatrixSet}
 use Rattle.mm_definitions.specs.Rules.{Fits}
-use Rattle.mm_definitions.specs.declared.extents.Extent.{Extent}
 use Rattle.mm_definitions.proofs.Parts.{same_itself, same_some}
 use Rattle.mm_definitions.proofs.KeyLaws.{numbers}
 use Rattle.mm_laws.proofs.KindFacts.{are_same, both_true}
@@ -57,8 +55,8 @@ extent_columns = col 1 3 ∷ col 1 4 ∷ col 1 5 ∷ col 1 6 ∷ []
 same_int : {a b : ℤ} → Int a ≡ Int b → a ≡ b
 same_int e = cc
 
-pub extent_found : (rows : List Row) (m : FinMap text_cmp MatrixSet) (h : Holds past_rowid set_row rows m) (table : Text) (x : Option Extent) (first : Option Row) → GivesExtent x first
-    → Finds (by_text table) (shows extent_columns (Words table ∷ [])) rows first → option_map (λ (s : MatrixSet). s.box) (get m table) ≡ option_map box_of x
+pub extent_found : (rows : List Row) (m : FinMap text_cmp MatrixSet) (h : Holds past_rowid set_row rows m) (table : Text) (x : Option Box) (first : Option Row) → GivesExtent x first
+    → Finds (by_text table) (shows extent_columns (Words table ∷ [])) rows first → option_map (λ (s : MatrixSet). s.box) (get m table) ≡ x
 extent_found rows m h table None first gives found =
     ap (option_map (λ (s : MatrixSet). s.box)) (finds_none parts.sets rows m h table (shows extent_columns (Words table ∷ [])) (subst (Finds (by_text table) (shows extent_columns (Words table ∷ [])) rows) gives found))
 extent_found rows m h table (Some e) first gives found =

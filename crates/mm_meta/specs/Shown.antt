@@ -2,20 +2,20 @@
 use Rattle.std.specs.Prelude.{◌≡◌, ◌⊎◌, ℕ, pos, Option, Some, None}
 use Rattle.sqlite.specs.declared.types.Value.TheVariants.{Int}
 use Rattle.sqlite.specs.Order.{Row, column}
+use Rattle.mm_definitions.specs.Package.{Box}
 use Rattle.mm_definitions.specs.declared.commands.Kind.{Kind}
 use Rattle.mm_definitions.specs.declared.commands.Kind.TheVariants.{Attributes, Media}
 use Rattle.mm_definitions.specs.declared.commands.Matrix.{Matrix}
-use Rattle.mm_definitions.specs.declared.extents.Extent.{Extent}
 
 -- the row shows the extent in its first four columns
-pub record ShowsExtent (row : Row) (e : Extent) : Type 0 where
+pub record ShowsExtent (row : Row) (e : Box) : Type 0 where
   pub min_x : column row 0 ≡ Int e.min_x
   pub min_y : column row 1 ≡ Int e.min_y
   pub max_x : column row 2 ≡ Int e.max_x
   pub max_y : column row 3 ≡ Int e.max_y
 
 -- the row shows the extent, and there is none where there is no extent
-abbrev pub GivesExtent : Option Extent → Option Row → Type 0
+abbrev pub GivesExtent : Option Box → Option Row → Type 0
 GivesExtent None first = first ≡ None
 GivesExtent (Some e) first = (row : Row) × (first ≡ Some row) × ShowsExtent row e
 

@@ -1,33 +1,36 @@
 //! Whether a matrix covers the extent of its pyramid.
 
-ghost use Rattle.std.specs.Prelude.{◌≡◌, option_map, IfOk};
+ghost use Rattle.std.specs.Prelude.{◌≡◌, option_map, IfOk, IfErr};
 ghost use Rattle.std.specs.FinMap.{get};
 ghost use Rattle.sqlite.specs.Values.{bound};
-ghost use Rattle.mm_definitions.specs.Checks.{box_of};
 ghost use Rattle.mm_definitions.specs.Conditions.{is_product, grid};
 ghost use Rattle.mm_definitions.specs.Package.{MatrixSet};
 ghost use Rattle.mm_definitions.specs.Parts.{Has};
 ghost use Rattle.mm_meta.specs.Shown.{ShowsExtent, GivesExtent};
+ghost use Rattle.mm_store.specs.Faults.{IsStoreFault};
 ghost use Rattle.mm_store.specs.Handed.{Asks, Looks};
 
 use mm_definitions::answers::Fault;
 use mm_definitions::commands::Matrix;
 use mm_definitions::extents::{Extent, fits};
-use mm_store::faults::fault_of;
+use mm_store::columns::number_in;
 use mm_store::statements::first;
 use sqlite::types::ValueRef;
-use sqlite::{Alter, Error, Row, Transaction, params};
+use sqlite::{Alter, Row, Transaction, params};
 
-/// The extent in the first four columns of a row.
-fn extent_in(row: &Row) -> Result<Extent, Error>
-    ensures { IfOk result (λ e. ShowsExtent row.now e) }
+/// The extent in the first four columns of a row. Bounds that are none of an extent are a fault, 91.
+fn extent_in(row: &Row) -> Result<Extent, Fault>
+    ensures extent { IfOk result (λ e. ShowsExtent row.now e) }
+    ensures faults { IfErr result IsStoreFault }
 {
-    Ok(Extent {
-        min_x: row.get(0)?,
-        min_y: row.get(1)?,
-        max_x: row.get(2)?,
-        max_y: row.get(3)?,
-    })
+    let min_x = number_in(row, 0)?;
+    let min_y = number_in(row, 1)?;
+    let max_x = number_in(row, 2)?;
+    let max_y = number_in(row, 3)?;
+    match Extent::new(min_x, min_y, max_x, max_y) {
+        Some(extent) => Ok(extent),
+        None => Err(Fault::STORE),
+    }
 }
 
 /// The extent in the first row of a query.
@@ -39,7 +42,7 @@ fn first_extent<S: Alter>(
     ensures { Asks S.Store tx.old tx.new sql.now (bound params.now) GivesExtent result }
 {
     match first(tx, sql, params)? {
-        Some(row) => Ok(Some(extent_in(&row).map_err(fault_of)?)),
+        Some(row) => Ok(Some(extent_in(&row)?)),
         None => Ok(None),
     }
 }
@@ -47,7 +50,7 @@ fn first_extent<S: Alter>(
 /// The extent of a pyramid, where it has a matrix set.
 fn extent_of<S: Alter>(tx: &mut Transaction<'_, S>, table: &str) -> Result<Option<Extent>, Fault>
     ensures { Looks S.Store tx.old tx.new (λ p extent. option_map (λ (s : MatrixSet). s.box)
-        (get p.sets table.now) ≡ option_map box_of extent) result }
+        (get p.sets table.now) ≡ extent) result }
 {
     first_extent(
         tx,

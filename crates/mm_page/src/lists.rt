@@ -38,14 +38,14 @@ fn mate_value(alloc: Global, mate: &Related) -> Result<Value, AllocError>
 fn table_value(alloc: Global, entry: &Entry) -> Result<Value, AllocError>
     ensures { IfOk result (λ v. view v ≡ table_data (listing.table_told entry.now)) }
 {
-    match entry.place {
+    match &entry.place {
         Some((system, extent)) => json!(in alloc; {
             "data_type": "tiles",
-            "extent": [extent.min_x, extent.min_y, extent.max_x, extent.max_y],
+            "extent": [extent.min_x(), extent.min_y(), extent.max_x(), extent.max_y()],
             "identifier": entry.identifier.as_str(),
             "kind": word_of(entry.kind),
             "last_change": entry.last_change.as_str(),
-            "srs_id": system,
+            "srs_id": *system,
             "table": entry.table.as_str()
         }),
         None => json!(in alloc; {

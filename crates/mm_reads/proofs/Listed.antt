@@ -32,16 +32,15 @@ use Rattle.sql_forms.proofs.Keys.{columns_are}
 use Rattle.sql_forms.proofs.Selects.{IsSelect}
 use Rattle.mm_store.specs.Tables.{schema}
 use Rattle.mm_definitions.specs.Keys.{Text, text_cmp, same_text}
-use Rattle.mm_definitions.specs.Package.{Package, Contents, kind_text}
+use Rattle.mm_definitions.specs.Package.{Package, Contents, Box, kind_text}
 use Rattle.mm_definitions.specs.Parts.{at_value}
 use Rattle.mm_definitions.specs.declared.commands.Kind.{Kind}
 use Rattle.mm_definitions.specs.declared.commands.Kind.TheVariants.{Two, Other, Attributes, Media}
 use Rattle.mm_definitions.specs.declared.entries.Entry.{Entry}
-use Rattle.mm_definitions.specs.declared.extents.Extent.{Extent}
 use Rattle.mm_store.specs.Rows.{past_rowid, contents_row, kind_row, maybe}
 use Rattle.mm_store.proofs.Keys as parts
 use Rattle.mm_store.proofs.Keys.{by_text}
-use Rattle.mm_reads.specs.Contents.{placed, entry_told, place_told, table_told, ListsTables, IsShown, ShowsPlaceOf, ShowsEntry}
+use Rattle.mm_reads.specs.Contents.{placed, entry_told, table_told, ListsTables, IsShown, ShowsPlaceOf, ShowsEntry}
 use Rattle.mm_reads.proofs.Found.{same_words}
 use Rattle.mm_reads.proofs.InOrder.{Picks, picked, Enters, entered, all_entered, entries_are}
 
@@ -128,7 +127,7 @@ never_null t e = absurd cc
 -- the place of a pyramid is that of its contents row
 place_is : (row : Row) (c : Contents) → column row 4 ≡ maybe c.system → column row 5 ≡ maybe c.min_x → column row 6 ≡ maybe c.min_y
     → column row 7 ≡ maybe c.max_x → column row 8 ≡ maybe c.max_y
-    → (place : Option (ℤ × Extent)) → IsShown row place → place_told place ≡ placed c.system c.min_x c.min_y c.max_x c.max_y
+    → (place : Option (ℤ × Box)) → IsShown row place → place ≡ placed c.system c.min_x c.min_y c.max_x c.max_y
 place_is row c system min_x min_y max_x max_y None is = absurd is
 place_is row c system min_x min_y max_x max_y (Some place) is =
     let s = maybe_some c.system place.0 (sym system ∙ is.system) in
@@ -142,13 +141,13 @@ abbrev tiled : Option Text → Bool
 tiled o = at_value (same_text (kind_text Two)) o || at_value (same_text (kind_text Other)) o
 
 -- only pyramids have a place
-place_by : (row : Row) (c : Contents) (kind : Kind) (place : Option (ℤ × Extent)) → ShowsPlaceOf row kind place
-    → ((place : Option (ℤ × Extent)) → IsShown row place → place_told place ≡ placed c.system c.min_x c.min_y c.max_x c.max_y)
-    → place_told place ≡ (if tiled (Some (kind_text kind)) then placed c.system c.min_x c.min_y c.max_x c.max_y else None)
+place_by : (row : Row) (c : Contents) (kind : Kind) (place : Option (ℤ × Box)) → ShowsPlaceOf row kind place
+    → ((place : Option (ℤ × Box)) → IsShown row place → place ≡ placed c.system c.min_x c.min_y c.max_x c.max_y)
+    → place ≡ (if tiled (Some (kind_text kind)) then placed c.system c.min_x c.min_y c.max_x c.max_y else None)
 place_by row c Two place is so = so place is
 place_by row c Other place is so = so place is
-place_by row c Attributes place is so = ap place_told is
-place_by row c Media place is so = ap place_told is
+place_by row c Attributes place is so = is
+place_by row c Media place is so = is
 
 module _ (p : Package) (tables kinds : List Row) (ht : Holds past_rowid contents_row tables p.contents) (hk : Holds past_rowid kind_row kinds p.kinds) (ut : IsTable tables) (uk : IsTable kinds) where
   -- ---- each row of the contents joins one row

@@ -3,14 +3,12 @@ use Rattle.std.specs.Prelude.{◌≡◌, ℤ, Bool, true, if◌then◌else◌, L
 use Rattle.std.specs.FinMap.{get, entries}
 use Rattle.sqlite.specs.declared.types.Value.TheVariants.{Int, Text as Words}
 use Rattle.sqlite.specs.Order.{Row, column}
-use Rattle.mm_definitions.specs.Checks.{box_of}
 use Rattle.mm_definitions.specs.Keys.{Text}
 use Rattle.mm_definitions.specs.Package.{Package, Contents, Box, kind_text, is_pyramid}
 use Rattle.mm_definitions.specs.declared.answers.Fault.{Fault}
 use Rattle.mm_definitions.specs.declared.commands.Kind.{Kind}
 use Rattle.mm_definitions.specs.declared.commands.Kind.TheVariants.{Two, Other, Attributes, Media}
 use Rattle.mm_definitions.specs.declared.entries.Entry.{Entry}
-use Rattle.mm_definitions.specs.declared.extents.Extent.{Extent}
 use Rattle.mm_store.specs.Faults.{IsStoreFault}
 
 -- ---- the list
@@ -38,14 +36,9 @@ entry_told p (table, c) = record {
   place = if is_pyramid p.kinds table then placed c.system c.min_x c.min_y c.max_x c.max_y else None;
 }
 
--- a system and an extent, if there are any, as they are told
-abbrev pub place_told : Option (ℤ × Extent) → Option (ℤ × Box)
-place_told None = None
-place_told (Some (system, extent)) = Some (system, box_of extent)
-
 -- a table as it is told, with its kind as the registry writes it
 abbrev pub table_told : Entry → Listed
-table_told e = record { table = e.table; kind = Some (kind_text e.kind); identifier = e.identifier; last_change = e.last_change; place = place_told e.place }
+table_told e = record { table = e.table; kind = Some (kind_text e.kind); identifier = e.identifier; last_change = e.last_change; place = e.place }
 
 -- the entries are the tables of the contents, by rising name
 abbrev pub ListsTables : Package → List Entry → Type 0
@@ -54,7 +47,7 @@ ListsTables p es = map table_told es ≡ map (entry_told p) (entries p.contents)
 -- ---- the rows
 
 -- the row shows the reference system and the extent in the columns from 4 on
-pub record ShowsPlace (row : Row) (place : ℤ × Extent) : Type 0 where
+pub record ShowsPlace (row : Row) (place : ℤ × Box) : Type 0 where
   pub system : column row 4 ≡ Int place.0
   pub min_x : column row 5 ≡ Int place.1.min_x
   pub min_y : column row 6 ≡ Int place.1.min_y
@@ -62,12 +55,12 @@ pub record ShowsPlace (row : Row) (place : ℤ × Extent) : Type 0 where
   pub max_y : column row 8 ≡ Int place.1.max_y
 
 -- a place is told, and the row shows it
-abbrev pub IsShown : Row → Option (ℤ × Extent) → Type 0
+abbrev pub IsShown : Row → Option (ℤ × Box) → Type 0
 IsShown row None = ⊥
 IsShown row (Some place) = ShowsPlace row place
 
 -- the row of a pyramid shows its place, and tables of other kinds have none
-abbrev pub ShowsPlaceOf : Row → Kind → Option (ℤ × Extent) → Type 0
+abbrev pub ShowsPlaceOf : Row → Kind → Option (ℤ × Box) → Type 0
 ShowsPlaceOf row Two place = IsShown row place
 ShowsPlaceOf row Other place = IsShown row place
 ShowsPlaceOf row Attributes place = place ≡ None

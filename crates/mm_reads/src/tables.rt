@@ -55,7 +55,7 @@ fn time_in(row: &Row, at: usize) -> Result<Text<24, 24>, Fault>
     }
 }
 
-/// The reference system and the extent in the columns from 4 on.
+/// The reference system and the extent in the columns from 4 on. Bounds that are none of an extent are a fault, 91.
 fn place_in(row: &Row) -> Result<(i64, Extent), Fault>
     ensures shown { IfOk result (λ place. ShowsPlace row.now place) }
     ensures fault { IfErr result IsStoreFault }
@@ -65,15 +65,10 @@ fn place_in(row: &Row) -> Result<(i64, Extent), Fault>
     let min_y = number_in(row, 6)?;
     let max_x = number_in(row, 7)?;
     let max_y = number_in(row, 8)?;
-    Ok((
-        system,
-        Extent {
-            min_x,
-            min_y,
-            max_x,
-            max_y,
-        },
-    ))
+    match Extent::new(min_x, min_y, max_x, max_y) {
+        Some(extent) => Ok((system, extent)),
+        None => Err(Fault::STORE),
+    }
 }
 
 /// The place of a table of this kind, which only pyramids have.

@@ -2,10 +2,10 @@
 
 use mm_content::{drop_media, drop_row, drop_tile, put_media, put_row, put_tile};
 use mm_definitions::answers::{Fault, Outcome};
-use mm_definitions::bounded::{MatrixSide, PixelSize, TileSide};
+use mm_definitions::bounded::{Coordinate, MatrixSide, PixelSize, TileSide};
 use mm_definitions::bytes::{MediaBytes, TileBytes};
 use mm_definitions::commands::{Matrix, PlainKind, RelationName, Step};
-use mm_definitions::extents::Extent;
+use mm_definitions::extents::Bounds;
 use mm_definitions::names::Name;
 use mm_definitions::places::TilePlace;
 use mm_meta::{add_matrix, add_pyramid, add_srs, add_table, drop_table, touch};
@@ -74,6 +74,10 @@ fn relation_name(field: &str) -> Option<RelationName> {
     }
 }
 
+fn coordinate(field: &str) -> Option<Coordinate> {
+    Coordinate::new(number(field)?)
+}
+
 fn matrix(fields: &[&str]) -> Option<Matrix> {
     let [mw, mh, tw, th, px, py] = fields else {
         return None;
@@ -122,8 +126,8 @@ fn call_pyramid<S: Alter>(
         return None;
     };
     let srs = number(srs)?;
-    let (min_x, min_y) = (number(min_x)?, number(min_y)?);
-    let (max_x, max_y) = (number(max_x)?, number(max_y)?);
+    let (min_x, min_y) = (coordinate(min_x)?, coordinate(min_y)?);
+    let (max_x, max_y) = (coordinate(max_x)?, coordinate(max_y)?);
     let kind = step(kind)?;
     let table = Name::read(table)?;
     number_of(add_pyramid(
@@ -131,7 +135,7 @@ fn call_pyramid<S: Alter>(
         &table,
         identifier,
         srs,
-        &Extent {
+        &Bounds {
             min_x,
             min_y,
             max_x,

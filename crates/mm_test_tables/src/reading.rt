@@ -65,6 +65,13 @@ fault 91|
 fault 91|
 = media photos 4
 fault 91|
+! UPDATE gpkg_contents SET max_x = min_x WHERE table_name = 'base'
+= contents
+fault 91|
+! UPDATE gpkg_contents SET max_x = 100000000000001 WHERE table_name = 'base'
+= contents
+fault 91|
+! UPDATE gpkg_contents SET max_x = 501024000000 WHERE table_name = 'base'
 ! UPDATE mm_tables SET kind = 'three' WHERE table_name = 'photos'
 = contents
 fault 91|

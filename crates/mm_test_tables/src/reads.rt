@@ -108,7 +108,11 @@ fn add_entry(text: &mut String, entry: &Entry) -> Option<()> {
         write!(
             text,
             "{}|{}|{}|{}|{}|",
-            system, extent.min_x, extent.min_y, extent.max_x, extent.max_y
+            system,
+            extent.min_x(),
+            extent.min_y(),
+            extent.max_x(),
+            extent.max_y()
         )
         .ok()?;
     }

@@ -11,13 +11,14 @@ use mm_definitions::refusals::Reason;
 use std::alloc::Global;
 use std::fmt::Write;
 
-fn extent(fields: &[&str]) -> Option<Extent> {
-    Some(Extent {
-        min_x: number(fields, 0)?,
-        min_y: number(fields, 1)?,
-        max_x: number(fields, 2)?,
-        max_y: number(fields, 3)?,
-    })
+/// What the first four fields are of an extent, or None where they are no numbers.
+fn extent(fields: &[&str]) -> Option<Option<Extent>> {
+    Some(Extent::new(
+        number(fields, 0)?,
+        number(fields, 1)?,
+        number(fields, 2)?,
+        number(fields, 3)?,
+    ))
 }
 
 /// The matrix that the fields from the fifth on spell.
@@ -98,14 +99,8 @@ fn tell_number(text: &mut String, fields: &[&str]) -> Option<()> {
 /// Whether what the fields say of extents, matrices or zooms holds.
 fn holds(word: &str, fields: &[&str]) -> Option<bool> {
     match word {
-        "fits" => Some(fits(&extent(fields)?, &matrix(fields)?)),
-        "extent" => Some(Extent::new(
-            number(fields, 0)?,
-            number(fields, 1)?,
-            number(fields, 2)?,
-            number(fields, 3)?,
-        )
-        .is_some()),
+        "fits" => Some(fits(&extent(fields)??, &matrix(fields)?)),
+        "extent" => Some(extent(fields)?.is_some()),
         "neighbours" => are_neighbours(fields),
         _ => None,
     }

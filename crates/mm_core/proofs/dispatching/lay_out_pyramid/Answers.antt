@@ -8,13 +8,8 @@ returns-in-Pyramid g c = record {
   same = search rules;
   lent = λ profile.
       let srs_fits : SFits w64 c.get.result = search rules in
-      let min_x_fits : SFits w64 c.get-in-Pyramid.result = search rules in
-      let min_y_fits : SFits w64 c.get-in-Pyramid-2.result = search rules in
-      let max_x_fits : SFits w64 c.get-in-Pyramid-3.result = search rules in
-      let max_y_fits : SFits w64 c.get-in-Pyramid-4.result = search rules in
       let lent = simp to_z-of_z at (rw c.as_str.ensures.text at (c.add_pyramid.ensures.lent profile)) in
-      rw c.in-Pyramid.is
-      (rw (c.get.ensures.number, c.get-in-Pyramid.ensures.number, c.get-in-Pyramid-2.ensures.number, c.get-in-Pyramid-3.ensures.number, c.get-in-Pyramid-4.ensures.number) at lent);
+      rw c.in-Pyramid.is (rw c.get.ensures.number at lent);
 }
 
 pub returns-in-Matrix : goal.returns-in-Matrix

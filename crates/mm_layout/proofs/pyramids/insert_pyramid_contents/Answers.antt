@@ -7,7 +7,6 @@ use Rattle.sqlite.specs.Held.{state}
 use Rattle.sql_forms.proofs.Keys.{chosen_is_free}
 use Rattle.sql_forms.proofs.Inserts.{has_inserted}
 use Rattle.mm_store.proofs.Inserting as statement
-use Rattle.mm_definitions.specs.Checks.{box_of}
 use Rattle.mm_store.specs.Rows.{contents_row}
 use Rattle.mm_layout.specs.Rows.{pyramid_contents}
 use Rattle.mm_store.proofs.Parts.{puts}
@@ -23,7 +22,7 @@ returns g c = record {
       let old = state g.S.Store c.args.tx.now.conn.now in
       let new = state g.S.Store c.run.new.tx.conn.now in
       let a = c.args in
-      let value = pyramid_contents a.identifier.now a.last_change.now a.srs (box_of a.extent.now) in
+      let value = pyramid_contents a.identifier.now a.last_change.now a.srs a.extent.now in
       let row = contents_row a.table.now value in
       changes profile old new _ _ (λ db. with_tree db 1 (put_row (Int (next_rowid (db 1)) ∷ row) (db 1))) (λ p. get p.contents a.table.now ≡ None) (λ p. record p { contents = insert p.contents a.table.now value })
       c.run.result c.run.ensures.run (λ count ready h. has_inserted _ _ _ _ _ _ statement.insert_pyramid_contents old new ready (Words a.table.now ∷ Words a.identifier.now ∷ Words a.last_change.now ∷ Int a.extent.now.min_x ∷ Int a.extent.now.min_y ∷ Int a.extent.now.max_x ∷ Int a.extent.now.max_y ∷ Int a.srs ∷ []) _ (Ok count) Null row refl refl refl (search rules) h)

@@ -3,7 +3,6 @@ use Rattle.std.specs.FinMap.{get}
 use Rattle.sqlite.specs.declared.types.Value.TheVariants.{Text as Words}
 use Rattle.sqlite.specs.Held.{state}
 use Rattle.sql_forms.proofs.Selects.{selects_one}
-use Rattle.mm_definitions.specs.Checks.{box_of}
 use Rattle.mm_definitions.specs.Package.{MatrixSet}
 use Rattle.mm_store.proofs.Selecting as statement
 use Rattle.mm_store.proofs.Steps.{looks, seen}
@@ -17,7 +16,7 @@ returns g c = record {
       let old = state g.S.Store c.args.tx.now.conn.now in
       let new = state g.S.Store c.first_extent.new.tx.conn.now in
       let table = c.args.table.now in
-      looks profile old new _ _ _ (λ p extent. option_map (λ (s : MatrixSet). s.box) (get p.sets table) ≡ option_map box_of extent) c.first_extent.result c.first_extent.ensures.asked (λ x first ready shown gives.
+      looks profile old new _ _ _ (λ p extent. option_map (λ (s : MatrixSet). s.box) (get p.sets table) ≡ extent) c.first_extent.result c.first_extent.ensures.asked (λ x first ready shown gives.
       let read = selects_one _ _ _ _ _ _ statement.extent_of_table old new ready.schema_is (Words table ∷ []) _ (search rules) first shown in
       (read.0, λ p h. extent_found (seen old 4) p.sets h.sets table x first gives read.1));
 }

@@ -1,6 +1,5 @@
-use Rattle.std.proofs.Common.{option_map, sym, ap, ◌∙◌, rules}
+use Rattle.std.proofs.Common.{sym, ap, ◌∙◌, rules}
 use Rattle.std.proofs.lemmas.Result.{err_from_is_err_and}
-use Rattle.mm_definitions.specs.Checks.{box_of}
 use Rattle.mm_definitions.specs.Conditions.{grid, is_product}
 use Rattle.mm_definitions.specs.Package.{Box}
 use Rattle.std.specs.FinMap.{get}
@@ -14,10 +13,10 @@ returns-in-Some g c = record {
   same = search rules;
   look = λ profile.
       let a = c.args in
-      let told = fits_is (box_of c.in-Some.extent) (grid a.matrix.now) c.fits.result c.fits.ensures in
+      let told = fits_is c.in-Some.extent (grid a.matrix.now) c.fits.result c.fits.ensures in
       look_as profile _ _ _ _ (c.in_ok-extent.ensures.look profile)
       (λ p says.
-      let set = set_of (get p.sets a.table.now) (box_of c.in-Some.extent) (says ∙ ap (option_map box_of) c.in-Some.is) in
+      let set = set_of (get p.sets a.table.now) c.in-Some.extent (says ∙ c.in-Some.is) in
       (set.0, set.1, told ∙ ap (λ (b : Box). is_product b (grid a.matrix.now)) (sym set.2)));
 }
 

@@ -14,3 +14,13 @@ returns-then-min_y-max_y-clause-within c = (
   },
   λ _. refl,
 )
+
+pub invariant_of-result : goal.invariant_of-result
+invariant_of-result c = record {
+  min_x = grind (arith, ints);
+  min_y = grind (arith, ints);
+  max_x = grind (arith, ints);
+  max_y = grind (arith, ints);
+  across = grind (arith, ints);
+  down = grind (arith, ints);
+}

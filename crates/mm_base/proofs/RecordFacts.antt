@@ -328,3 +328,11 @@ stage_refuses {fault = fault} xs some e h =
         → ReadsTo {A = ⊤} (λ _. ⊤) (IsLeast (IsUnmet (stage_form current (text_at xs 0 ∷ text_at xs 1 ∷ texts_of (after_two xs))) (text_at xs 0 ∷ text_at xs 1 ∷ texts_of (after_two xs)))) (Err fault)
     by faults.Memory h = tt
     by (faults.Refused x) h = (h.0, stage_unmet (text_at xs 0) (text_at xs 1) (texts_of (after_two xs)) x.number h.1)
+
+-- two fields and those behind them, of which one is refused
+pub two_refuse : {A : Type 0} {fs : Form} {r : Result A ReadFault} {fault : ReadFault} (xs : List (Bor Text)) → 2 ≤ length xs → r ≡ Err fault
+    → AreFields fs (text_at xs 0 ∷ text_at xs 1 ∷ texts_of (after_two xs)) r
+    → ReadsTo {A = ⊤} (λ _. ⊤) (IsLeast (IsAgainstSome fs (texts_of xs))) (Err fault)
+two_refuse {fs = fs} {fault = fault} xs some e h =
+    subst (λ ts. ReadsTo {A = ⊤} (λ _. ⊤) (IsLeast (IsAgainstSome fs ts)) (Err fault)) (sym (two_and_rest xs some))
+    (subst (ReadsTo (λ x. AllHold fs (text_at xs 0 ∷ text_at xs 1 ∷ texts_of (after_two xs)) (h.values x)) (IsLeast (IsAgainstSome fs (text_at xs 0 ∷ text_at xs 1 ∷ texts_of (after_two xs))))) e h.reads)

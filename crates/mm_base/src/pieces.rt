@@ -4,7 +4,7 @@ ghost use Rattle.std.specs.Prelude.{◌≡◌, IfOk, map, codes};
 ghost use Rattle.mm_definitions.specs.Bounds.{current};
 ghost use Rattle.mm_definitions.specs.Reading.{ReadsTo};
 ghost use Rattle.mm_definitions.specs.Fields.{AllHold, IsAgainstSome};
-ghost use Rattle.mm_definitions.specs.Records.{IsLeast, piece_values, piece_word, SpellsPiece, HoldsAgainstPiece};
+ghost use Rattle.mm_definitions.specs.Records.{IsLeast, matrix_values, piece_values, piece_word, SpellsPiece, HoldsAgainstPiece};
 ghost use Rattle.mm_definitions.specs.Records as forms;
 ghost use Rattle.mm_definitions.specs.Within.{IsPieceWithin};
 
@@ -190,45 +190,55 @@ fn read_map_drop(fields: &[&str]) -> Result<Piece, ReadFault>
     })
 }
 
+/// `MW,MH,TW,TH,PX,PY`
+fn matrix_fields(fields: &[&str]) -> Result<Matrix, ReadFault>
+    ensures { ReadsTo
+        (λ m. AllHold (forms.grid_form current) (map (λ f. f.now) fields.now) (matrix_values m))
+        (IsLeast (IsAgainstSome (forms.grid_form current) (map (λ f. f.now) fields.now))) result }
+{
+    let [mw, mh, tw, th, px, py] = fields else {
+        return Err(ReadFault::refused(Reason::NO_SUCH_RECORD));
+    };
+    let (mw, (mh, (tw, (th, (px, py))))) = both(
+        count_field(mw),
+        both(
+            count_field(mh),
+            both(
+                count_field(tw),
+                both(
+                    count_field(th),
+                    both(positive_field(px), positive_field(py)),
+                ),
+            ),
+        ),
+    )?;
+    Ok(Matrix {
+        mw,
+        mh,
+        tw,
+        th,
+        px,
+        py,
+    })
+}
+
 /// `matrix,TABLE,Z,MW,MH,TW,TH,PX,PY`
 fn read_matrix(fields: &[&str]) -> Result<Piece, ReadFault>
     ensures { ReadsTo (λ c. (piece_word c ≡ codes "matrix")
         × AllHold (forms.matrix_form current) (map (λ f. f.now) fields.now) (piece_values c))
         (IsLeast (IsAgainstSome (forms.matrix_form current) (map (λ f. f.now) fields.now))) result }
 {
-    let [table, zoom, mw, mh, tw, th, px, py] = fields else {
+    let [table, zoom, matrix @ ..] = fields else {
         return Err(ReadFault::refused(Reason::NO_SUCH_RECORD));
     };
-    let (table, (zoom, (mw, (mh, (tw, (th, (px, py))))))) = both(
+    let (table, (zoom, matrix)) = both(
         name_field(table),
-        both(
-            zoom_field(zoom),
-            both(
-                count_field(mw),
-                both(
-                    count_field(mh),
-                    both(
-                        count_field(tw),
-                        both(
-                            count_field(th),
-                            both(positive_field(px), positive_field(py)),
-                        ),
-                    ),
-                ),
-            ),
-        ),
+        both(zoom_field(zoom), matrix_fields(matrix)),
     )?;
     Ok(Piece::Matrix {
         table,
         zoom,
-        matrix: Matrix {
-            mw,
-            mh,
-            tw,
-            th,
-            px,
-            py,
-        },
+        matrix,
     })
 }
 

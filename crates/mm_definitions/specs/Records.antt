@@ -75,9 +75,13 @@ matrix_side = NumberFrom (pos 1) (pos (2 ^ 30))
 abbrev pub tile_side : Field
 tile_side = NumberFrom (pos 1) (pos 4096)
 
--- a matrix: pyramid, zoom, and the width and height of the matrix in tiles, of a tile in pixels, and of a pixel
+-- the width and height of a matrix in tiles, of a tile in pixels, and of a pixel
+abbrev pub grid_form : Profile → Form
+grid_form profile = matrix_side ∷ matrix_side ∷ tile_side ∷ tile_side ∷ pixel_size profile ∷ pixel_size profile ∷ []
+
+-- a matrix: pyramid, zoom, and the six numbers of the matrix
 abbrev pub matrix_form : Profile → Form
-matrix_form profile = AName ∷ zoom_field ∷ matrix_side ∷ matrix_side ∷ tile_side ∷ tile_side ∷ pixel_size profile ∷ pixel_size profile ∷ []
+matrix_form profile = AName ∷ zoom_field ∷ grid_form profile
 
 -- the nine words that a piece begins with, each with the form of what follows it
 abbrev pub piece_forms : Profile → List (Text × Form)

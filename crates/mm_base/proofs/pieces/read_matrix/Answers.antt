@@ -1,36 +1,29 @@
-use Rattle.std.proofs.Common.{pos, arith, refl}
+use Rattle.std.proofs.Common.{pos, refl}
 use Rattle.std.proofs.lemmas.Result.{err_from_is_err_and}
 use Rattle.mm_definitions.specs.Fields.{AName, Plain, Whole}
-use Rattle.mm_definitions.specs.Records.{matrix_side, pixel_size, tile_side, zoom_field}
+use Rattle.mm_definitions.specs.Records.{grid_form, matrix_values, zoom_field}
 use Rattle.mm_definitions.specs.Bounds.{current}
-use Rattle.mm_definitions.proofs.ReadingFacts.{text_at, and_then, the_last, texts_are, holds, refuses}
+use Rattle.mm_definitions.proofs.ReadingFacts.{AreFields, text_at, texts_of, and_then, holds}
+use Rattle.mm_base.proofs.RecordFacts.{after_two, two_and_rest, two_refuse}
 use Rattle.mm_base.proofs.pieces.read_matrix.Goals as goal
 
 pub returns-in_err-table : goal.returns-in_err-table
 returns-in_err-table c =
     let p = err_from_is_err_and c.from_residual.result c.from_residual.ensures.1 in
-    let t = text_at c.args.fields.now in
-    rw (p.1, p.2) (refuses c.args.fields.now 8 (omega arith) (omega arith) c.in_err-table.was
-    (and_then AName (t 0) (record { value = Plain; reads = c.name_field.ensures }) c.both-7.ensures
-    (and_then zoom_field (t 1) (record { value = λ z. Whole (pos z); reads = c.zoom_field.ensures }) c.both-6.ensures
-    (and_then matrix_side (t 2) (record { value = λ z. Whole (pos z); reads = c.count_field.ensures }) c.both-5.ensures
-    (and_then matrix_side (t 3) (record { value = λ z. Whole (pos z); reads = c.count_field-2.ensures }) c.both-4.ensures
-    (and_then tile_side (t 4) (record { value = λ z. Whole (pos z); reads = c.count_field-3.ensures }) c.both-3.ensures
-    (and_then tile_side (t 5) (record { value = λ z. Whole (pos z); reads = c.count_field-4.ensures }) c.both-2.ensures
-    (and_then (pixel_size current) (t 6) (record { value = Whole; reads = c.positive_field.ensures }) c.both.ensures
-    (the_last (pixel_size current) (t 7) (record { value = Whole; reads = c.positive_field-2.ensures }))))))))))
+    let xs = c.args.fields.now in
+    let matrix : AreFields (grid_form current) (texts_of (after_two xs)) c.matrix_fields.result = record { values = matrix_values; reads = c.matrix_fields.ensures } in
+    rw (p.1, p.2) (two_refuse xs c.in-len2-up.len_at_least c.in_err-table.was
+    (and_then AName (text_at xs 0) (record { value = Plain; reads = c.name_field.ensures }) c.both-2.ensures
+    (and_then zoom_field (text_at xs 1) (record { value = λ z. Whole (pos z); reads = c.zoom_field.ensures }) c.both.ensures
+    matrix)))
 
 pub returns : goal.returns
 returns c =
-    let t = text_at c.args.fields.now in
+    let xs = c.args.fields.now in
+    let matrix : AreFields (grid_form current) (texts_of (after_two xs)) c.matrix_fields.result = record { values = matrix_values; reads = c.matrix_fields.ensures } in
     let all =
     holds c.in_ok-table.was
-    (and_then AName (t 0) (record { value = Plain; reads = c.name_field.ensures }) c.both-7.ensures
-    (and_then zoom_field (t 1) (record { value = λ z. Whole (pos z); reads = c.zoom_field.ensures }) c.both-6.ensures
-    (and_then matrix_side (t 2) (record { value = λ z. Whole (pos z); reads = c.count_field.ensures }) c.both-5.ensures
-    (and_then matrix_side (t 3) (record { value = λ z. Whole (pos z); reads = c.count_field-2.ensures }) c.both-4.ensures
-    (and_then tile_side (t 4) (record { value = λ z. Whole (pos z); reads = c.count_field-3.ensures }) c.both-3.ensures
-    (and_then tile_side (t 5) (record { value = λ z. Whole (pos z); reads = c.count_field-4.ensures }) c.both-2.ensures
-    (and_then (pixel_size current) (t 6) (record { value = Whole; reads = c.positive_field.ensures }) c.both.ensures
-    (the_last (pixel_size current) (t 7) (record { value = Whole; reads = c.positive_field-2.ensures }))))))))) in
-    rw (texts_are c.args.fields.now 8 (omega arith) (omega arith)) (refl, all)
+    (and_then AName (text_at xs 0) (record { value = Plain; reads = c.name_field.ensures }) c.both-2.ensures
+    (and_then zoom_field (text_at xs 1) (record { value = λ z. Whole (pos z); reads = c.zoom_field.ensures }) c.both.ensures
+    matrix)) in
+    rw (two_and_rest xs c.in-len2-up.len_at_least) (refl, all)

@@ -1,6 +1,7 @@
 //! The run of a list on a session.
 
 ghost use Rattle.mm_definitions.specs.Bounds.{current};
+ghost use Rattle.mm_store.specs.Seen.{IsSeenAs};
 ghost use Rattle.mm_store.specs.Stands.{IsSettled};
 ghost use Rattle.mm_core.specs.Applied.{StandsForCurrent};
 ghost use Rattle.mm_core.specs.Parts.{connection};
@@ -27,6 +28,8 @@ impl<S: Alter> Apply for Session<S> {
     ghost is_clean = { λ s. HasCleanDisk (state S.Store (connection s)) };
 
     ghost settled = { λ s p. IsSettled current (state S.Store (connection s)) p };
+
+    ghost seen = { λ s p. IsSeenAs current (state S.Store (connection s)) p };
 
     ghost has_failed = { λ s. parts.must_reopen s };
 

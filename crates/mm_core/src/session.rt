@@ -192,6 +192,8 @@ impl<S: Alter> Session<S> {
     /// read. Each command is applied at the moment that is handed in. At each exit every database that may be left is
     /// that of a first part of the accepted commands, with every acknowledged one in it. Unless a command failed, the
     /// session works on: it is settled for the package after the answers that were given, and can run a second list.
+    /// One that only reads as a package, whatever a crash would leave, is answered the same, and reads then as the package
+    /// after the answers; a database that might be left before may be left as long as the package is the one it read as.
     ///
     /// A fault ends the run, with the line of the next record's number where it can be written: 90 want of memory, 91
     /// the store, 92 where the session has to be opened again, 96 where the reader fails, and 97, without a line, where

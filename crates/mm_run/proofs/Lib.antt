@@ -1,4 +1,5 @@
 pub mod Keeps
+pub mod Starts
 pub mod Answered
 pub mod Lists
 pub mod Loops

@@ -6,7 +6,7 @@ ghost use Rattle.mm_definitions.specs.Package.{Package};
 ghost use Rattle.mm_definitions.specs.Rules.{Meets};
 ghost use Rattle.mm_run.specs.Answers.{is_fault};
 ghost use Rattle.mm_run.specs.Applied.{IsApplied, IsApplyFault, OnFault};
-ghost use Rattle.mm_run.specs.Shown.{shown_by};
+ghost use Rattle.mm_run.specs.Shown.{seen_since, settled_since, shown_by};
 
 use mm_definitions::answers::{Answer, Fault};
 use mm_definitions::commands::Command;
@@ -28,6 +28,9 @@ pub trait Apply {
     // It reads as a database for the package, and each database that may be left stands for it.
     ghost settled: { Self → Package → Type 0 };
 
+    // It reads as a database for the package, whatever a crash would leave.
+    ghost seen: { Self → Package → Type 0 };
+
     // It has to be opened again.
     ghost has_failed: { Self → Bool };
 
@@ -42,7 +45,11 @@ pub trait Apply {
         ensures clean { is_clean self.new → is_clean self.old }
         ensures applied { is_clean self.new → (p : Package) → settled self.old p → Meets current p
             → IsApplied p command.now at result
-            (shown_by has_failed settled may_leave stands_for self.new) };
+            (shown_by has_failed settled may_leave stands_for self.new) }
+        ensures seen { is_clean self.new → (first : Self) → (p : Package)
+            → settled_since seen may_leave stands_for first self.old p → Meets current p
+            → IsApplied p command.now at result
+            (seen_since has_failed seen may_leave stands_for first self.new) };
 
     ghost leaves_settled: { (s : Self) (p : Package) → settled s p → (db : Database) → may_leave s db → stands_for db p };
 }

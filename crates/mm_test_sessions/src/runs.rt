@@ -79,6 +79,8 @@ impl Apply for Systems {
 
     ghost settled = { λ s p. ⊥ };
 
+    ghost seen = { λ s p. ⊥ };
+
     ghost has_failed = { λ s. s.failed };
 
     fn apply(&mut self, command: &Command, at: Moment) -> Answer {

@@ -2,13 +2,14 @@ use Rattle.std.proofs.Common.{◌≡◌, ◌+◌, ◌-◌, ◌^◌, ◌∙◌, [
 use Rattle.csv.specs.Reading.{source_of}
 use Rattle.mm_definitions.specs.declared.answers.Answer.TheVariants as answers
 use Rattle.mm_definitions.specs.declared.answers.Fault.{Fault}
-use Rattle.mm_run.specs.Sessions.{shown}
+use Rattle.mm_run.specs.Sessions.{Start, settled_from, shown_from}
 use Rattle.mm_run.specs.Runs.{IsSome, OnRun}
 use Rattle.mm_run.proofs.Loops.{counted-once, run-line, stopped-fault, stopped-with, told-more, told-none, written-once}
 use Rattle.mm_run.proofs.Kept.{kept-more, kept-sound}
 use Rattle.mm_run.proofs.Ended.{ended-all, ended-behind, ended-more, ended-none, ended-stopped}
 use Rattle.mm_run.proofs.Left.{all-answered, so_far-more, so_far-none, some-faulted, some-last, some-so_far}
 use Rattle.mm_run.proofs.Failing.{goes-ended, goes-same, stops-failing, stops-why}
+use Rattle.mm_run.proofs.Starts.{leaves_from}
 use Rattle.mm_run.proofs.run.run_rows.Goals as goal
 
 pub loop-n-init : goal.loop-n-init
@@ -21,9 +22,9 @@ loop-n-init g c = record {
   clean = λ is. is;
   same = refl;
   ended = λ was. (refl, refl);
-  given = ([], told-none _ _ refl refl refl, λ clean p sound xs here. so_far-none p c.args.at xs _ _ (g.A.Apply.settled c.args.session.now) here sound);
-  kept = λ clean p sound.
-      kept-sound (shown g.A.Apply c.args.session.now) (g.met.A.Apply.leaves_settled c.args.session.now) (g.A.Apply.has_failed c.args.session.now) p sound;
+  given = ([], told-none _ _ refl refl refl, λ start clean p sound xs here. so_far-none p c.args.at xs _ _ (settled_from g.A.Apply start c.args.session.now) here sound);
+  kept = λ start clean p sound.
+      kept-sound (shown_from g.A.Apply start c.args.session.now) (leaves_from g.A.Apply g.met.A.Apply.leaves_settled start c.args.session.now) (g.A.Apply.has_failed c.args.session.now) p sound;
   refused = λ was xs here. ended-none xs _ _ _ _ here (told-none _ _ refl refl refl);
 }
 
@@ -37,10 +38,10 @@ returns-in-None g c =
       done = (
         given,
         told,
-        λ clean p sound xs here.
-            all-answered g.T.Read.remaining c.loop-n.rows c.turn.new.rows p c.args.at xs c.args.rows.now.state (g.A.Apply.settled c.loop-n.session) (shown g.A.Apply c.turn.new.session)
-            (g.A.Apply.has_failed c.args.session.now) (g.A.Apply.has_failed c.loop-n.session) given inv.set_up.config (so_far (c.turn.ensures.clean clean) p sound xs here)
-            (λ q sound. rw c.in-None.is at (c.turn.ensures.turns clean q sound)),
+        λ start clean p sound xs here.
+            all-answered g.T.Read.remaining c.loop-n.rows c.turn.new.rows p c.args.at xs c.args.rows.now.state (settled_from g.A.Apply start c.loop-n.session) (shown_from g.A.Apply start c.turn.new.session)
+            (g.A.Apply.has_failed c.args.session.now) (g.A.Apply.has_failed c.loop-n.session) given inv.set_up.config (so_far start (c.turn.ensures.clean clean) p sound xs here)
+            (λ q sound. rw c.in-None.is at (c.turn.ensures.turns start clean q sound)),
       );
       working = inv.working;
       flushed = inv.flushed;
@@ -49,9 +50,9 @@ returns-in-None g c =
       near = tt;
       session = (ap g.A.Apply.has_failed still ∙ inv.same, λ was. let before = inv.ended was in (still ∙ before.0, before.1));
       why = tt;
-      kept =
+      kept = λ start.
           kept-more (g.A.Apply.is_clean c.loop-n.session) (g.A.Apply.is_clean c.turn.new.session)
-          (shown g.A.Apply c.args.session.now) (shown g.A.Apply c.loop-n.session) (shown g.A.Apply c.turn.new.session) c.turn.ensures.clean inv.same inv.kept c.turn.ensures.kept;
+          (shown_from g.A.Apply start c.args.session.now) (shown_from g.A.Apply start c.loop-n.session) (shown_from g.A.Apply start c.turn.new.session) c.turn.ensures.clean inv.same (inv.kept start) (c.turn.ensures.kept start);
       ended = λ was xs here.
           ended-all g.T.Read.remaining c.loop-n.rows c.turn.new.rows xs c.args.rows.now.state c.loop-n.tally _ _ inv.set_up.config (inv.refused was xs here)
           (rw c.in-None.is at (c.turn.ensures.ended (inv.same ∙ was)));
@@ -80,14 +81,14 @@ loop-n-preserved g c =
       given = (
         given ++ c.in-Some.answer ∷ [],
         told-more given c.in-Some.answer c.loop-n.tally c.in-Ok.next c.loop-n.n _ _ _ _ _ told goes at,
-        λ clean p sound xs here.
-            so_far-more g.T.Read.remaining c.loop-n.rows c.turn.new.rows p c.args.at xs c.args.rows.now.state (g.A.Apply.settled c.loop-n.session) (shown g.A.Apply c.turn.new.session)
-            (g.A.Apply.has_failed c.args.session.now) (g.A.Apply.has_failed c.loop-n.session) given inv.set_up.config (so_far (c.turn.ensures.clean clean) p sound xs here) c.in-Some.answer
-            (λ q sound. rw c.in-Some.is at (c.turn.ensures.turns clean q sound)) goes.0,
+        λ start clean p sound xs here.
+            so_far-more g.T.Read.remaining c.loop-n.rows c.turn.new.rows p c.args.at xs c.args.rows.now.state (settled_from g.A.Apply start c.loop-n.session) (shown_from g.A.Apply start c.turn.new.session)
+            (g.A.Apply.has_failed c.args.session.now) (g.A.Apply.has_failed c.loop-n.session) given inv.set_up.config (so_far start (c.turn.ensures.clean clean) p sound xs here) c.in-Some.answer
+            (λ q sound. rw c.in-Some.is at (c.turn.ensures.turns start clean q sound)) goes.0,
       );
-      kept =
+      kept = λ start.
           kept-more (g.A.Apply.is_clean c.loop-n.session) (g.A.Apply.is_clean c.turn.new.session)
-          (shown g.A.Apply c.args.session.now) (shown g.A.Apply c.loop-n.session) (shown g.A.Apply c.turn.new.session) c.turn.ensures.clean inv.same inv.kept c.turn.ensures.kept;
+          (shown_from g.A.Apply start c.args.session.now) (shown_from g.A.Apply start c.loop-n.session) (shown_from g.A.Apply start c.turn.new.session) c.turn.ensures.clean inv.same (inv.kept start) (c.turn.ensures.kept start);
       refused = λ was xs here.
           ended-more g.T.Read.remaining c.loop-n.rows c.turn.new.rows xs c.args.rows.now.state c.loop-n.tally _ _ inv.set_up.config (inv.refused was xs here)
           c.in-Some.answer c.in-Ok.next c.loop-n.n _ _ _ (rw c.in-Some.is at (c.turn.ensures.ended (inv.same ∙ was))) goes inv.numbered;
@@ -107,28 +108,28 @@ returns-in-Err g c =
       flushed = c.in-Err.ensures.told;
       stopped =
           stopped-with
-          (λ told w. OnRun (g.A.Apply.is_clean c.turn.new.session) (g.A.Apply.settled c.args.session.now) (source_of g.T.Read.remaining c.args.rows.now)
-          (λ p xs. IsSome p c.args.at xs c.args.rows.now.state first (shown g.A.Apply c.turn.new.session) told w))
+          (λ told w. (start : Start g.A.Apply) → OnRun (g.A.Apply.is_clean c.turn.new.session) (settled_from g.A.Apply start c.args.session.now) (source_of g.T.Read.remaining c.args.rows.now)
+          (λ p xs. IsSome p c.args.at xs c.args.rows.now.state first (shown_from g.A.Apply start c.turn.new.session) told w))
           given c.loop-n.n c.loop-n.tally c.in-Err.e _ _ _ _ _ _ at (omega arith) told inv.working c.in-Some.answer (run-line c.in-Some.answer _ c.in-Some.ensures.faults) c.in-Err.ensures.stops
-          (λ faulted w enough clean p sound xs here.
-          some-faulted g.T.Read.remaining c.loop-n.rows c.turn.new.rows p c.args.at xs c.args.rows.now.state (g.A.Apply.settled c.loop-n.session) (shown g.A.Apply c.turn.new.session)
-          first before given inv.set_up.config (so_far (c.turn.ensures.clean clean) p sound xs here)
-          (g.met.A.Apply.leaves_settled c.turn.new.session) inv.same c.in-Some.answer faulted (λ q sound. rw c.in-Some.is at (c.turn.ensures.turns clean q sound)) w enough)
-          (λ good w enough clean p sound xs here.
-          some-last p c.args.at (shown g.A.Apply c.turn.new.session) xs c.args.rows.now.state first given c.in-Some.answer
-          (g.met.A.Apply.leaves_settled c.turn.new.session) (goes-same c.in-Some.answer _ _ _ good c.in-Some.ensures.going ∙ inv.same) _ _
-          (so_far-more g.T.Read.remaining c.loop-n.rows c.turn.new.rows p c.args.at xs c.args.rows.now.state (g.A.Apply.settled c.loop-n.session) (shown g.A.Apply c.turn.new.session)
-          first before given inv.set_up.config (so_far (c.turn.ensures.clean clean) p sound xs here) c.in-Some.answer
-          (λ q sound. rw c.in-Some.is at (c.turn.ensures.turns clean q sound)) good) w enough);
+          (λ faulted w enough start clean p sound xs here.
+          some-faulted g.T.Read.remaining c.loop-n.rows c.turn.new.rows p c.args.at xs c.args.rows.now.state (settled_from g.A.Apply start c.loop-n.session) (shown_from g.A.Apply start c.turn.new.session)
+          first before given inv.set_up.config (so_far start (c.turn.ensures.clean clean) p sound xs here)
+          (leaves_from g.A.Apply g.met.A.Apply.leaves_settled start c.turn.new.session) inv.same c.in-Some.answer faulted (λ q sound. rw c.in-Some.is at (c.turn.ensures.turns start clean q sound)) w enough)
+          (λ good w enough start clean p sound xs here.
+          some-last p c.args.at (shown_from g.A.Apply start c.turn.new.session) xs c.args.rows.now.state first given c.in-Some.answer
+          (leaves_from g.A.Apply g.met.A.Apply.leaves_settled start c.turn.new.session) (goes-same c.in-Some.answer _ _ _ good c.in-Some.ensures.going ∙ inv.same) _ _
+          (so_far-more g.T.Read.remaining c.loop-n.rows c.turn.new.rows p c.args.at xs c.args.rows.now.state (settled_from g.A.Apply start c.loop-n.session) (shown_from g.A.Apply start c.turn.new.session)
+          first before given inv.set_up.config (so_far start (c.turn.ensures.clean clean) p sound xs here) c.in-Some.answer
+          (λ q sound. rw c.in-Some.is at (c.turn.ensures.turns start clean q sound)) good) w enough);
       small = tt;
       near = c.in-Err.ensures.near;
       session =
           stops-failing c.args.session.now c.loop-n.session c.turn.new.session first before (g.A.Apply.has_failed c.turn.new.session)
           c.loop-n.tally c.in-Err.e _ _ _ _ _ inv.same inv.ended c.in-Some.answer c.in-Some.ensures.going c.in-Err.ensures.stops;
       why = stops-why c.in-Some.answer c.loop-n.tally c.in-Err.e _ _ _ _ _ _ c.in-Some.ensures.faults c.in-Err.ensures.stops;
-      kept =
+      kept = λ start.
           kept-more (g.A.Apply.is_clean c.loop-n.session) (g.A.Apply.is_clean c.turn.new.session)
-          (shown g.A.Apply c.args.session.now) (shown g.A.Apply c.loop-n.session) (shown g.A.Apply c.turn.new.session) c.turn.ensures.clean inv.same inv.kept c.turn.ensures.kept;
+          (shown_from g.A.Apply start c.args.session.now) (shown_from g.A.Apply start c.loop-n.session) (shown_from g.A.Apply start c.turn.new.session) c.turn.ensures.clean inv.same (inv.kept start) (c.turn.ensures.kept start);
       ended = λ was xs here.
           ended-stopped g.T.Read.remaining c.loop-n.rows c.turn.new.rows xs c.args.rows.now.state c.loop-n.tally _ _ inv.set_up.config (inv.refused was xs here)
           c.in-Err.e c.loop-n.n _ _ _ _ inv.working c.in-Some.answer (run-line c.in-Some.answer _ c.in-Some.ensures.faults)
@@ -155,12 +156,12 @@ returns-in-Err-tell g c =
       flushed = c.in-Err-tell.ensures.told;
       stopped =
           stopped-fault
-          (λ told w. OnRun (g.A.Apply.is_clean c.loop-n.session) (g.A.Apply.settled c.args.session.now) (source_of g.T.Read.remaining c.args.rows.now)
-          (λ p xs. IsSome p c.args.at xs c.args.rows.now.state first (shown g.A.Apply c.loop-n.session) told w))
+          (λ told w. (start : Start g.A.Apply) → OnRun (g.A.Apply.is_clean c.loop-n.session) (settled_from g.A.Apply start c.args.session.now) (source_of g.T.Read.remaining c.args.rows.now)
+          (λ p xs. IsSome p c.args.at xs c.args.rows.now.state first (shown_from g.A.Apply start c.loop-n.session) told w))
           given (2 ^ 64 - 1) c.loop-n.tally c.in-Err-tell.e _ _ _ _ _ _ at (omega arith) told inv.working memory (inl (inl refl)) c.in-Err-tell.ensures.stops
-          (λ w enough clean p sound xs here.
-          some-so_far p c.args.at (shown g.A.Apply c.loop-n.session) xs c.args.rows.now.state first given
-          (g.met.A.Apply.leaves_settled c.loop-n.session) inv.same _ _ (so_far clean p sound xs here) w enough);
+          (λ w enough start clean p sound xs here.
+          some-so_far p c.args.at (shown_from g.A.Apply start c.loop-n.session) xs c.args.rows.now.state first given
+          (leaves_from g.A.Apply g.met.A.Apply.leaves_settled start c.loop-n.session) inv.same _ _ (so_far start clean p sound xs here) w enough);
       small = tt;
       near = c.in-Err-tell.ensures.near;
       session =

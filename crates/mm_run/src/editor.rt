@@ -5,6 +5,7 @@ ghost use Rattle.mm_definitions.specs.Bounds.{current};
 ghost use Rattle.mm_definitions.specs.Package.{Package};
 ghost use Rattle.mm_definitions.specs.Rules.{Meets};
 ghost use Rattle.mm_definitions.specs.Standing.{TellsState};
+ghost use Rattle.mm_run.specs.Shown.{settled_since};
 
 use crate::apply::Apply;
 use mm_definitions::answers::Fault;
@@ -23,7 +24,14 @@ pub trait Editor: Apply {
         ensures clean { Self.is_clean self.new → Self.is_clean self.old }
         ensures settled { Self.is_clean self.new → (p : Package) → Self.settled self.old p
             → Meets current p → Self.settled self.new p }
+        ensures seen { Self.is_clean self.new → (first : Self) → (p : Package)
+            → settled_since Self.seen Self.may_leave Self.stands_for first self.old p
+            → Meets current p
+            → settled_since Self.seen Self.may_leave Self.stands_for first self.new p }
         ensures tells { IfOk result
             (λ found. Self.is_clean self.new → (p : Package) → Self.settled self.old p
+            → Meets current p → TellsState p name.now found) }
+        ensures tells_seen { IfOk result
+            (λ found. Self.is_clean self.new → (p : Package) → Self.seen self.old p
             → Meets current p → TellsState p name.now found) };
 }

@@ -2,7 +2,8 @@ use Rattle.std.proofs.Common.{◌≡◌, ◌≤◌, ◌<◌, ◌+◌, ◌∙◌,
 use Rattle.std.specs.Prelude.{◌||◌, ◌==◌, false}
 use Rattle.std.specs.Vec.Iter.{into_iter_items}
 use Rattle.mm_run.specs.Applied.{IsSound}
-use Rattle.mm_run.specs.Sessions.{shown}
+use Rattle.mm_run.specs.Sessions.{settled_from, shown_from, stands_from}
+use Rattle.mm_run.proofs.Starts.{leaves_from}
 use Rattle.mm_definitions.specs.Package.{Package}
 use Rattle.mm_kit.specs.Imports.{IsImportedSoFar, IsPassedBy}
 use Rattle.mm_kit.proofs.StageFacts.{counted, counted_all, fills, grows, left_in_doubt, has_whole, refused_at, so_far-none, staged-more}
@@ -33,8 +34,8 @@ loop-entry-init g c =
       working = c.requires.working;
       folder = refl;
       files = refl;
-      kept = λ clean p sound old before. (p, sound, passed_by-none c.args.edition.now p old before);
-      so_far = λ clean p sound these tells old before. (p, sound, rw gives (so_far-none these _ c.args.entries.items p old));
+      kept = λ start clean p sound old before. (p, sound, passed_by-none c.args.edition.now p old before);
+      so_far = λ start clean p sound these tells old before. (p, sound, rw gives (so_far-none these _ c.args.entries.items p old));
     }
 
 pub loop-entry-preserved : goal.loop-entry-preserved
@@ -54,17 +55,17 @@ loop-entry-preserved g c =
       working = c.in-Ok-None.ensures.works;
       folder = c.in-Ok-None.ensures.folder ∙ as_before _ ∙ at.invariant.folder;
       files = c.stage_entry.ensures.stays ∙ at.invariant.files;
-      kept = λ clean p sound old before.
-          let (q, stands, here) = at.invariant.kept (c.stage_entry.ensures.clean clean) p sound old before in
-          one_more at.yielded c.in-Some.entry (λ k. (r : Package) × IsSound (g.A.Apply.settled c.stage_entry.new.editor) r × IsPassedBy k c.args.edition.now p old r)
-          (passed-staged (shown g.A.Apply c.stage_entry.new.editor) _ c.in-Some.entry c.args.edition.now p q old (length at.yielded) stands.1 less here c.args.at (staged clean q stands));
-      so_far = λ clean p sound these tells old before.
-          let (q, stands, here) = at.invariant.so_far (c.stage_entry.ensures.clean clean) p sound these tells old before in
+      kept = λ start clean p sound old before.
+          let (q, stands, here) = at.invariant.kept start (c.stage_entry.ensures.clean clean) p sound old before in
+          one_more at.yielded c.in-Some.entry (λ k. (r : Package) × IsSound (settled_from g.A.Apply start c.stage_entry.new.editor) r × IsPassedBy k c.args.edition.now p old r)
+          (passed-staged (shown_from g.A.Apply start c.stage_entry.new.editor) _ c.in-Some.entry c.args.edition.now p q old (length at.yielded) stands.1 less here c.args.at (staged start clean q stands));
+      so_far = λ start clean p sound these tells old before.
+          let (q, stands, here) = at.invariant.so_far start (c.stage_entry.ensures.clean clean) p sound these tells old before in
           one_more at.yielded c.in-Some.entry
-          (λ k. (r : Package) × IsSound (g.A.Apply.settled c.stage_entry.new.editor) r
+          (λ k. (r : Package) × IsSound (settled_from g.A.Apply start c.stage_entry.new.editor) r
           × IsImportedSoFar these c.args.edition.now c.args.entries.items (into_iter_items c.next.new.self) p old k r)
-          (staged-more these c.args.edition.now c.args.entries.items p old before (shown g.A.Apply c.stage_entry.new.editor) (into_iter_items c.next.new.self) c.in-Some.entry (length at.yielded) q (rw steps at here) less
-          stands.1 _ (at.invariant.files ∙ tells) c.args.at (staged clean q stands));
+          (staged-more these c.args.edition.now c.args.entries.items p old before (shown_from g.A.Apply start c.stage_entry.new.editor) (into_iter_items c.next.new.self) c.in-Some.entry (length at.yielded) q (rw steps at here) less
+          stands.1 _ (at.invariant.files ∙ tells) c.args.at (staged start clean q stands));
     }
 
 pub returns-in-Ok-Some : goal.returns-in-Ok-Some
@@ -75,10 +76,10 @@ returns-in-Ok-Some g c =
     let refused = rw (c.in-Ok-Some.field-0-is, at.invariant.count) at c.in-Ok-Some.ensures.staged in
     record {
       clean = λ h. at.invariant.clean (c.stage_entry.ensures.clean h);
-      answered = λ clean p sound these tells old before most.
-          let (q, stands, here) = at.invariant.so_far (c.stage_entry.ensures.clean clean) p sound these tells old before in
+      answered = λ start clean p sound these tells old before most.
+          let (q, stands, here) = at.invariant.so_far start (c.stage_entry.ensures.clean clean) p sound these tells old before in
           let so = rw steps at here in
-          let (next, why) = refused clean q stands in
+          let (next, why) = refused start clean q stands in
           let (answer, has) = refused_at these c.args.edition.now c.args.entries.items p old before _ c.in-Some.entry (length at.yielded) c.in-Ok-Some.number q so less stands.1 _ (at.invariant.files ∙ tells) why in
           record {
             answer_is = rw (answer, at.invariant.count) refl;
@@ -91,9 +92,9 @@ returns-in-Ok-Some g c =
       works = tt;
       session = c.in-Ok-Some.ensures.works;
       fault = tt;
-      kept = λ clean p sound old before.
-          let (q, stands, here) = at.invariant.kept (c.stage_entry.ensures.clean clean) p sound old before in
-          let (next, why) = refused clean q stands in
+      kept = λ start clean p sound old before.
+          let (q, stands, here) = at.invariant.kept start (c.stage_entry.ensures.clean clean) p sound old before in
+          let (next, why) = refused start clean q stands in
           (q, next, kept _ c.args.edition.now p old q before here);
       still_kept = tt;
       folder = c.in-Ok-Some.ensures.folder ∙ ap (λ b. b || false) at.invariant.folder;
@@ -109,38 +110,38 @@ returns-in-Err g c =
     record {
       clean = λ h. at.invariant.clean (c.stage_entry.ensures.clean h);
       answered = tt;
-      stopped = λ clean p sound these tells old before db may.
-          let (q, stands, here) = at.invariant.so_far (c.stage_entry.ensures.clean clean) p sound these tells old before in
+      stopped = λ start clean p sound these tells old before db may.
+          let (q, stands, here) = at.invariant.so_far start (c.stage_entry.ensures.clean clean) p sound these tells old before in
           let so = rw steps at here in
-          rw at.invariant.count (elim (stopped clean q stands) [
+          rw at.invariant.count (elim (stopped start clean q stands) [
             | inl works ↦ (
               q,
-              g.met.A.Apply.leaves_settled _ q works.0.0 db may,
+              leaves_from g.A.Apply g.met.A.Apply.leaves_settled start c.stage_entry.new.editor q works.0.0 db may,
               stands.1,
               grows these _ _ p old before _ _ q so,
               counted these _ _ p old before _ _ q so,
             )
             | inr doubt ↦
-                left_in_doubt these _ _ p old before g.A.Apply.stands_for db _ _ doubt.1 _ q so (fills these _ c.in-Some.entry (Ok doubt.1) (at.invariant.files ∙ tells) doubt.2) less stands.1 c.args.at doubt.3 (doubt.4 db may)
+                left_in_doubt these _ _ p old before (stands_from g.A.Apply start) db _ _ doubt.1 _ q so (fills these _ c.in-Some.entry (Ok doubt.1) (at.invariant.files ∙ tells) doubt.2) less stands.1 c.args.at doubt.3 (doubt.4 db may)
           ]);
-      works = λ clean p sound these tells old before same.
-          let (q, stands, here) = at.invariant.so_far (c.stage_entry.ensures.clean clean) p sound these tells old before in
+      works = λ start clean p sound these tells old before same.
+          let (q, stands, here) = at.invariant.so_far start (c.stage_entry.ensures.clean clean) p sound these tells old before in
           let so = rw steps at here in
-          elim (stopped clean q stands) [
+          elim (stopped start clean q stands) [
             | inl works ↦ (q, works.0, grows these _ _ p old before _ _ q so, rw at.invariant.count (counted_all these _ _ p old before _ _ q so))
             | inr doubt ↦ never_so _ (same ∙ c.requires.working) doubt.0
           ];
       session = tt;
       fault = c.in-Err.ensures.fault;
-      kept = λ clean p sound old before db may.
-          let (q, stands, here) = at.invariant.kept (c.stage_entry.ensures.clean clean) p sound old before in
-          elim (stopped clean q stands) [
-            | inl works ↦ (q, g.met.A.Apply.leaves_settled _ q works.0.0 db may, stands.1, kept _ c.args.edition.now p old q before here)
-            | inr doubt ↦ kept_in_doubt c.args.edition.now p q old stands.1 doubt.1 (length at.yielded) g.A.Apply.stands_for db before less here c.args.at doubt.3 (doubt.4 db may)
+      kept = λ start clean p sound old before db may.
+          let (q, stands, here) = at.invariant.kept start (c.stage_entry.ensures.clean clean) p sound old before in
+          elim (stopped start clean q stands) [
+            | inl works ↦ (q, leaves_from g.A.Apply g.met.A.Apply.leaves_settled start c.stage_entry.new.editor q works.0.0 db may, stands.1, kept _ c.args.edition.now p old q before here)
+            | inr doubt ↦ kept_in_doubt c.args.edition.now p q old stands.1 doubt.1 (length at.yielded) (stands_from g.A.Apply start) db before less here c.args.at doubt.3 (doubt.4 db may)
           ];
-      still_kept = λ clean p sound old before same.
-          let (q, stands, here) = at.invariant.kept (c.stage_entry.ensures.clean clean) p sound old before in
-          elim (stopped clean q stands) [
+      still_kept = λ start clean p sound old before same.
+          let (q, stands, here) = at.invariant.kept start (c.stage_entry.ensures.clean clean) p sound old before in
+          elim (stopped start clean q stands) [
             | inl works ↦ (q, works.0, kept _ c.args.edition.now p old q before here)
             | inr doubt ↦ never_so _ (same ∙ c.requires.working) doubt.0
           ];
@@ -156,8 +157,8 @@ returns g c =
     let all : length at.yielded ≡ length c.args.entries.items = ap length (sym (append-nil at.yielded) ∙ rw empty at at.invariant.items) in
     record {
       clean = at.invariant.clean;
-      answered = λ clean p sound these tells old before most.
-          let (q, stands, here) = at.invariant.so_far clean p sound these tells old before in
+      answered = λ start clean p sound these tells old before most.
+          let (q, stands, here) = at.invariant.so_far start clean p sound these tells old before in
           let (first, whole) = has_whole these _ _ p old before _ q (rw empty at here) (omega (arith, most, all)) in
           record {
             answer_is = rw (first, at.invariant.count, all) refl;
@@ -170,8 +171,8 @@ returns g c =
       works = tt;
       session = at.invariant.working;
       fault = tt;
-      kept = λ clean p sound old before.
-          let (q, stands, here) = at.invariant.kept clean p sound old before in
+      kept = λ start clean p sound old before.
+          let (q, stands, here) = at.invariant.kept start clean p sound old before in
           (q, stands, kept _ c.args.edition.now p old q before here);
       still_kept = tt;
       folder = at.invariant.folder ∙ sym (as_before _);

@@ -2,6 +2,7 @@
 
 ghost use Rattle.std.specs.Prelude.{◌≡◌, ◌<◌, ◌^◌, pos, neg_ℤ};
 ghost use Rattle.mm_definitions.specs.Reading.{ReadsTo, both_of};
+ghost use Rattle.mm_definitions.specs.Reading as reading;
 ghost use Rattle.mm_definitions.specs.Fields.{HoldsValue, IsAgainst, Plain, Whole, NumberFrom, AName};
 ghost use Rattle.mm_definitions.specs.Package.{kind_text};
 ghost use Rattle.mm_definitions.specs.Effects.{step_kind, plain_kind};
@@ -17,25 +18,38 @@ use mm_definitions::names::Name;
 use mm_definitions::numbers::read_number;
 use mm_definitions::refusals::Reason;
 
-/// Both values, or the least number that is against one of them. Want of memory goes before all.
+/// The least of two refusals. Want of memory goes before both.
+fn least_fault(one: ReadFault, other: ReadFault) -> ReadFault
+    ensures { result ≡ reading.least_fault one other }
+{
+    match one {
+        ReadFault::Memory => ReadFault::Memory,
+        ReadFault::Refused(one) => match other {
+            ReadFault::Memory => ReadFault::Memory,
+            ReadFault::Refused(other) => {
+                if one.number() <= other.number() {
+                    ReadFault::Refused(one)
+                } else {
+                    ReadFault::Refused(other)
+                }
+            }
+        },
+    }
+}
+
+/// Both values, or the fault that is against one of them: of two the least.
 pub(crate) fn both<A: Drop, B: Drop>(
     first: Result<A, ReadFault>,
     second: Result<B, ReadFault>,
 ) -> Result<(A, B), ReadFault>
     ensures { result ≡ both_of first second }
 {
-    match (first, second) {
-        (Ok(a), Ok(b)) => Ok((a, b)),
-        (Err(ReadFault::Memory), _) | (_, Err(ReadFault::Memory)) => Err(ReadFault::Memory),
-        (Err(ReadFault::Refused(one)), Err(ReadFault::Refused(other))) => {
-            if one.number() <= other.number() {
-                Err(ReadFault::Refused(one))
-            } else {
-                Err(ReadFault::Refused(other))
-            }
-        }
-        (Err(fault), Ok(_)) => Err(fault),
-        (Ok(_), Err(fault)) => Err(fault),
+    match first {
+        Ok(a) => Ok((a, second?)),
+        Err(one) => match second {
+            Ok(_b) => Err(one),
+            Err(other) => Err(least_fault(one, other)),
+        },
     }
 }
 

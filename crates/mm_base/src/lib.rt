@@ -17,9 +17,10 @@ pub use mm_definitions::{
     Amount, Answer, Bounds, Bytes, Command, ContentType, Coordinate, Count, Definition,
     EditionState, Entry, Extent, Fault, Id, Identifier, Io, Kind, KitFault, Matrix, MatrixSide,
     Media, MediaBytes, Moment, Name, Open, Outcome, PageFault, Piece, PixelSize, Place, PlainKind,
-    Positive, ReadFault, Refusal, Related, RelationName, Remark, Row, RunFault, Signed, Staged,
-    Step, SystemName, SystemNumber, Tally, Text, TileBytes, TileSide, Unit, UntilEnd, Zoom, fits,
-    is_content_type, is_identifier, is_name, is_stamp, neighbours, read_number, stamp,
+    Positive, ReadFault, Reason, Refusal, Related, RelationName, Remark, Row, RuleNumber, RunFault,
+    Signed, Staged, Step, SystemName, SystemNumber, Tally, Text, TileBytes, TileSide, Unit,
+    UntilEnd, Zoom, fits, is_content_type, is_identifier, is_name, is_stamp, neighbours,
+    read_number, stamp,
 };
 pub use pieces::read_piece;
 pub use records::read_command;

@@ -6,7 +6,7 @@ ghost use Rattle.mm_walk.specs.Check.{IsCheck};
 ghost use Rattle.mm_definitions.specs.Units.{profile_of};
 ghost use Rattle.mm_check.specs.Verdict.{rule, Before, IsVerified};
 
-use mm_definitions::answers::Fault;
+use mm_definitions::answers::{Fault, RuleNumber};
 use mm_definitions::units::Unit;
 use mm_limits::{editions, limits};
 use mm_rules::{contents, extensions, items, matrices, systems, tiles};
@@ -42,16 +42,16 @@ fn one_rule<S: Alter>(conn: &mut Connection<S>, unit: Unit, k: u8) -> Result<boo
 /// The whole check of the package that a connection with no transaction shows, whatever that package is: None where it
 /// meets all sixteen rules, 16 where rule 16 fails, else the least rule that fails. It writes nothing. A fault is 90 where
 /// memory was refused and 91 where the store failed, and never stands for a rule that fails.
-pub fn verify<S: Alter>(conn: &mut Connection<S>, unit: Unit) -> Result<Option<u8>, Fault>
+pub fn verify<S: Alter>(conn: &mut Connection<S>, unit: Unit) -> Result<Option<RuleNumber>, Fault>
     ensures { IsVerified (profile_of unit)
         (state S.Store conn.old) (state S.Store conn.new) result }
 {
     if !limits(conn, unit)? {
-        return Ok(Some(16));
+        return Ok(Some(RuleNumber::LIMITS));
     }
     'rules: for k in 1..16u8 {
         if !one_rule(conn, unit, k)? {
-            return Ok(Some(k));
+            return Ok(Some(RuleNumber::of(k)));
         }
     }
     Ok(None)

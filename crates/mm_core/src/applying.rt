@@ -36,14 +36,16 @@ fn run_transaction<S: Alter>(
 {
     let mut tx = conn.transaction();
     match run_command(&mut tx, command, last_change) {
-        Ok(Outcome::Done) => match tx.commit() {
-            Ok(()) => Answer::Ok,
-            Err(error) => Answer::Fault(fault_of(error)),
+        Ok(outcome) => match outcome {
+            Outcome::Done => match tx.commit() {
+                Ok(()) => Answer::Ok,
+                Err(error) => Answer::Fault(fault_of(error)),
+            },
+            Outcome::Refused(why) => {
+                tx.rollback();
+                Answer::Refused(why)
+            }
         },
-        Ok(Outcome::Refused(why)) => {
-            tx.rollback();
-            Answer::Refused(why)
-        }
         Err(fault) => {
             tx.rollback();
             Answer::Fault(fault)
@@ -66,8 +68,10 @@ fn rehearse_once<S: Alter>(
         (state S.Store conn.old) (state S.Store conn.new) result }
 {
     match rehearse(conn, edition, last_change) {
-        Ok(Outcome::Done) => Answer::Ok,
-        Ok(Outcome::Refused(why)) => Answer::Refused(why),
+        Ok(outcome) => match outcome {
+            Outcome::Done => Answer::Ok,
+            Outcome::Refused(why) => Answer::Refused(why),
+        },
         Err(fault) => Answer::Fault(fault),
     }
 }

@@ -2,7 +2,7 @@
 
 use crate::session::Session;
 use mm_check::verify;
-use mm_definitions::answers::Fault;
+use mm_definitions::answers::{Fault, RuleNumber};
 use mm_definitions::units::CURRENT;
 use sqlite::Alter;
 
@@ -16,7 +16,7 @@ impl<S: Alter> Session<S> {
     ///
     /// 92 where the session has to be opened again, and then nothing is asked of the store. After another fault (90 where
     /// memory was refused, and else 91) the session goes on, and the package and what may be left are as they were.
-    pub fn check(&mut self) -> Result<Option<u8>, Fault>
+    pub fn check(&mut self) -> Result<Option<RuleNumber>, Fault>
         ensures { Reads S.Store self.old self.new result
             (λ old new. IsVerified current old new result) }
     {

@@ -13,7 +13,7 @@ use Rattle.mm_definitions.specs.Numbers.{SpellsNumber, LeadDigits, value_from}
 use Rattle.mm_definitions.specs.Reading.{ReadsTo, both_of}
 use Rattle.mm_definitions.specs.Fields.{Field, OneOf, NumberFrom, BytesTo, TextOf, AnIdentifier, AContentType, AName, Value, Whole, Plain, HoldsValue, IsAgainst, AllHold, IsAgainstSome}
 use Rattle.mm_definitions.specs.Records.{IsLeast}
-use Rattle.mm_definitions.specs.declared.answers.Refusal.{Refusal}
+use Rattle.mm_definitions.specs.Refusals.{Refusal}
 use Rattle.mm_definitions.specs.declared.answers.ReadFault.{ReadFault}
 use Rattle.mm_definitions.specs.declared.answers.ReadFault.TheVariants as faults
 
@@ -152,7 +152,8 @@ module _ {A B : Type 0} (value : A → Value) (values : B → List Value) (f : F
   read_both (Ok x) (Ok y) h k = (h, k)
   read_both (Ok x) (Err faults.Memory) h k = tt
   read_both (Ok x) (Err (faults.Refused r)) h k = (k.0, first_holds f fs t ts (value x) r.number h k.1)
-  read_both (Err faults.Memory) b h k = tt
+  read_both (Err faults.Memory) (Ok y) h k = tt
+  read_both (Err faults.Memory) (Err fault) h k = tt
   read_both (Err (faults.Refused r)) (Ok y) h k = (h.0, rest_holds f fs t ts (values y) r.number h.1 k)
   read_both (Err (faults.Refused r)) (Err faults.Memory) h k = tt
   read_both (Err (faults.Refused r)) (Err (faults.Refused s)) h k = lower r s (nat_le r.number s.number) refl h k

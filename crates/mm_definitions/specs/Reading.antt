@@ -39,11 +39,15 @@ refused number = faults.Refused (record { number = number; piece = None })
 abbrev pub outcome_refused : ℕ → Outcome
 outcome_refused number = outcomes.Refused (record { number = number; piece = None })
 
--- both values, or the least number that is against one of them; want of memory goes before all
+-- the least of two refusals; want of memory goes before both
+abbrev pub least_fault : ReadFault → ReadFault → ReadFault
+least_fault faults.Memory other = faults.Memory
+least_fault (faults.Refused one) faults.Memory = faults.Memory
+least_fault (faults.Refused one) (faults.Refused other) = faults.Refused (if nat_le one.number other.number then one else other)
+
+-- both values, or the fault that is against one of them, the least where both have one
 abbrev pub both_of : {A B : Type 0} → Result A ReadFault → Result B ReadFault → Result (A × B) ReadFault
 both_of (Ok a) (Ok b) = Ok (a, b)
 both_of (Ok a) (Err fault) = Err fault
-both_of (Err faults.Memory) second = Err faults.Memory
-both_of (Err (faults.Refused one)) (Ok b) = Err (faults.Refused one)
-both_of (Err (faults.Refused one)) (Err faults.Memory) = Err faults.Memory
-both_of (Err (faults.Refused one)) (Err (faults.Refused other)) = Err (faults.Refused (if nat_le one.number other.number then one else other))
+both_of (Err fault) (Ok b) = Err fault
+both_of (Err one) (Err other) = Err (least_fault one other)

@@ -6,7 +6,7 @@ use Rattle.mm_definitions.specs.Conditions.{Reasons, least, own_reasons, is_open
 use Rattle.mm_definitions.specs.Effects.{effect}
 use Rattle.mm_definitions.specs.Editions.{PieceRefusal, edition_trial, closed}
 use Rattle.mm_definitions.specs.Stamp.{stamp}
-use Rattle.mm_definitions.specs.declared.answers.Refusal.{Refusal}
+use Rattle.mm_definitions.specs.Refusals.{Refusal}
 use Rattle.mm_definitions.specs.declared.commands.Command.{Command}
 use Rattle.mm_definitions.specs.declared.commands.Command.TheVariants as commands
 use Rattle.mm_definitions.specs.declared.refusals.TheConstants.{PIECE_REFUSED}

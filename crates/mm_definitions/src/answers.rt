@@ -5,16 +5,32 @@ ghost use Rattle.mm_definitions.specs.Reading.{refused, outcome_refused};
 
 use crate::refusals::{PIECE_REFUSED, Reason};
 use std::alloc::AllocError;
+use std::marker::Model;
 
-/// Why a command is refused. With 53 it tells the piece's number and the piece's own refusal.
+/// Why a command is refused: a number of the table. With 53, and with no other, it tells the number of a piece and the
+/// piece's own reason.
 #[derive(Clone, Copy, Debug, PartialEq, Eq)]
 pub struct Refusal {
     number: u8,
     piece: Option<(u32, u8)>,
 }
 
+impl Model for Refusal {
+    ghost use Rattle.mm_definitions.specs.Refusals.{IsRefusal};
+    ghost use Rattle.mm_definitions.specs.Refusals as told;
+
+    ghost Value = { told.Refusal };
+
+    ghost view = { λ refusal. record { number = refusal.number; piece = refusal.piece } };
+
+    ghost inverse = { λ refusal. record { number = refusal.number; piece = refusal.piece } };
+
+    ghost invariant = { λ refusal. IsRefusal refusal.number refusal.piece };
+}
+
 impl Refusal {
     ghost use Rattle.std.specs.Prelude.{◌≡◌, None, Some};
+    ghost use Rattle.mm_definitions.specs.Refusals.{IsReason, IsRefusal, reason_of};
 
     /// For this reason.
     pub const fn of(reason: Reason) -> Refusal
@@ -26,55 +42,88 @@ impl Refusal {
         }
     }
 
-    /// 53: the piece of this number is refused, and `number` is the number of its own refusal.
-    pub const fn of_piece(piece: u32, number: u8) -> Refusal
-        ensures { result ≡ record { number = PIECE_REFUSED; piece = Some (piece, number) } }
+    /// 53: the piece of this number is refused, for this reason.
+    pub const fn of_piece(piece: u32, reason: Reason) -> Refusal
+        ensures { result ≡ record { number = PIECE_REFUSED; piece = Some (piece, reason) } }
     {
         Refusal {
             number: PIECE_REFUSED,
-            piece: Some((piece, number)),
+            piece: Some((piece, reason.get())),
         }
     }
 
     /// The number that is told.
     pub const fn number(self) -> u8
-        ensures { result ≡ self.number }
+        ensures number { result ≡ self.number }
+        ensures within { IsRefusal self.number self.piece }
     {
         self.number
     }
 
-    /// With 53 the number of the piece that is refused, and the number of its own refusal.
+    /// With 53 the number of the piece that is refused, and the number of its own reason.
     pub const fn piece(self) -> Option<(u32, u8)>
-        ensures { result ≡ self.piece }
+        ensures piece { result ≡ self.piece }
+        ensures within { IsRefusal self.number self.piece }
     {
         self.piece
     }
+
+    /// The reason; with 53 that of the piece.
+    pub const fn reason(self) -> Reason
+        ensures { result ≡ reason_of self }
+    {
+        match self.piece {
+            None => Reason::numbered(self.number),
+            Some((_piece, own)) => Reason::numbered(own),
+        }
+    }
+}
+
+/// The number of a fault.
+#[derive(Clone, Copy, Debug, PartialEq, Eq)]
+struct FaultNumber {
+    number: u8,
+}
+
+impl Model for FaultNumber {
+    ghost use Rattle.std.specs.Prelude.{ℕ};
+    ghost use Rattle.mm_definitions.specs.Refusals.{IsFaultNumber};
+
+    ghost Value = { ℕ };
+
+    ghost view = { λ fault. fault.number };
+
+    ghost inverse = { λ number. record { number = number } };
+
+    ghost invariant = { λ fault. IsFaultNumber fault.number };
 }
 
 /// What stopped a call: 90 want of memory, 91 the store, 92 a session that has to be opened again, 96 the input,
 /// 97 the output. There is no other.
 #[derive(Clone, Copy, Debug, PartialEq, Eq)]
-pub struct Fault(u8);
+pub struct Fault(FaultNumber);
 
 impl Fault {
     ghost use Rattle.std.specs.Prelude.{◌≡◌};
+    ghost use Rattle.mm_definitions.specs.Refusals.{IsFaultNumber};
 
     /// Want of memory.
-    pub const MEMORY: Fault = Fault(90);
+    pub const MEMORY: Fault = Fault(FaultNumber { number: 90 });
     /// The store failed, or told what no package holds.
-    pub const STORE: Fault = Fault(91);
+    pub const STORE: Fault = Fault(FaultNumber { number: 91 });
     /// The session failed before, and has to be opened again.
-    pub const REOPEN: Fault = Fault(92);
+    pub const REOPEN: Fault = Fault(FaultNumber { number: 92 });
     /// The input could not be read.
-    pub const INPUT: Fault = Fault(96);
+    pub const INPUT: Fault = Fault(FaultNumber { number: 96 });
     /// The output could not be written.
-    pub const OUTPUT: Fault = Fault(97);
+    pub const OUTPUT: Fault = Fault(FaultNumber { number: 97 });
 
     /// Its number.
     pub const fn number(self) -> u8
-        ensures { result ≡ self.0 }
+        ensures number { result ≡ self.0 }
+        ensures within { IsFaultNumber self.0 }
     {
-        self.0
+        self.0.number
     }
 }
 
@@ -85,6 +134,50 @@ impl From<AllocError> for Fault {
 
     fn from(_error: AllocError) -> Fault {
         Fault::MEMORY
+    }
+}
+
+/// The number of a rule, from 1 to 16.
+#[derive(Clone, Copy, Debug, PartialEq, Eq)]
+pub struct RuleNumber {
+    number: u8,
+}
+
+impl Model for RuleNumber {
+    ghost use Rattle.std.specs.Prelude.{ℕ};
+    ghost use Rattle.mm_definitions.specs.Refusals.{IsRuleNumber};
+
+    ghost Value = { ℕ };
+
+    ghost view = { λ rule. rule.number };
+
+    ghost inverse = { λ number. record { number = number } };
+
+    ghost invariant = { λ rule. IsRuleNumber rule.number };
+}
+
+impl RuleNumber {
+    ghost use Rattle.std.specs.Prelude.{◌≡◌, ◌≤◌};
+    ghost use Rattle.mm_definitions.specs.Refusals.{IsRuleNumber};
+
+    /// The rule that every name, number, text and length is within its limits, which is checked first.
+    pub const LIMITS: RuleNumber = RuleNumber { number: 16 };
+
+    /// The rule of this number.
+    pub const fn of(number: u8) -> RuleNumber
+        requires least { 1 ≤ number }
+        requires most { number ≤ 16 }
+        ensures { result ≡ number }
+    {
+        RuleNumber { number }
+    }
+
+    /// Its number.
+    pub const fn get(self) -> u8
+        ensures number { result ≡ self }
+        ensures within { IsRuleNumber self }
+    {
+        self.number
     }
 }
 
@@ -99,8 +192,8 @@ pub enum Open {
     BadProfile,
     /// 98: its bytes are not kept once each, in blobs that are named and have their digests.
     BadBlobs,
-    /// The rule that fails, from 1 to 16.
-    Rule(u8),
+    /// The rule that fails.
+    Rule(RuleNumber),
     Fault(Fault),
 }
 
@@ -176,8 +269,8 @@ pub struct RunFault {
 pub enum Staged {
     /// The edition holds the kit's pieces, so many.
     Complete(u32),
-    /// A piece, or with 0 the kit itself, is refused.
-    Refused { piece: u32, number: u8 },
+    /// A piece, or with 0 the kit itself, is refused for this reason.
+    Refused { piece: u32, number: Reason },
 }
 
 /// What ended an import, and how many pieces it had been answered ok for.

@@ -28,7 +28,8 @@ pub mod units;
 pub mod within;
 
 pub use answers::{
-    Answer, Fault, KitFault, Open, Outcome, PageFault, ReadFault, Refusal, RunFault, Staged, Tally,
+    Answer, Fault, KitFault, Open, Outcome, PageFault, ReadFault, Refusal, RuleNumber, RunFault,
+    Staged, Tally,
 };
 pub use bounded::{
     Amount, Coordinate, Count, Id, MatrixSide, PixelSize, Place, Positive, Signed, SystemNumber,

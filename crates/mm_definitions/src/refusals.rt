@@ -245,6 +245,14 @@ impl Reason {
     /// 57: a file is missing, or its name is out of form.
     pub const NO_FILE: Reason = Reason { number: NO_FILE };
 
+    /// The reason of this number.
+    pub(crate) const fn numbered(number: u8) -> Reason
+        requires { IsReason number }
+        ensures { result ≡ number }
+    {
+        Reason { number }
+    }
+
     /// Its number.
     pub const fn get(self) -> u8
         ensures number { result ≡ self }

@@ -12,7 +12,7 @@ use Rattle.mm_definitions.specs.Conditions.{least, own_reasons}
 use Rattle.mm_definitions.specs.Editions.{PieceRefusal, edition_trial, closed}
 use Rattle.mm_definitions.specs.Step.{refusal, refusal_of, refused_piece, step, done, unless_refused, closed_by}
 use Rattle.mm_definitions.specs.declared.answers.Fault.{Fault}
-use Rattle.mm_definitions.specs.declared.answers.Refusal.{Refusal}
+use Rattle.mm_definitions.specs.Refusals.{Refusal}
 use Rattle.mm_definitions.specs.declared.answers.Outcome.TheVariants as outcome
 use Rattle.mm_definitions.specs.declared.commands.Command.TheVariants as commands
 use Rattle.mm_definitions.proofs.Parts.{same_some}

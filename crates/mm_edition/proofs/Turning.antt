@@ -16,7 +16,8 @@ use Rattle.mm_definitions.specs.Step.{refusal, refusal_of, done, unless_refused}
 use Rattle.mm_definitions.specs.declared.answers.Fault.{Fault}
 use Rattle.mm_definitions.specs.declared.answers.Outcome.{Outcome}
 use Rattle.mm_definitions.specs.declared.answers.Outcome.TheVariants as outcome
-use Rattle.mm_definitions.specs.declared.answers.Refusal.{Refusal}
+use Rattle.mm_definitions.specs.Refusals.{Refusal, reason_of}
+use Rattle.mm_store.proofs.Refusals.{its_reason}
 use Rattle.mm_definitions.specs.declared.commands.Command.{Command}
 use Rattle.mm_definitions.specs.declared.commands.Piece.{Piece}
 use Rattle.mm_definitions.specs.declared.commands.Piece.TheVariants as pieces
@@ -60,10 +61,6 @@ piece_done p (pieces.Matrix table zoom m) at = refl
 no_reason : (v : Option ℕ) → refusal_of v None ≡ None → v ≡ None
 no_reason None e = refl
 no_reason (Some n) e = absurd (let f : ◌≡◌ {A = Option Refusal} (Some _) None = e in cc)
-
-its_reason : (v : Option ℕ) (why : Refusal) → refusal_of v None ≡ Some why → v ≡ Some why.number
-its_reason None why e = absurd (let f : ◌≡◌ {A = Option Refusal} None (Some why) = e in cc)
-its_reason (Some n) why e = ap Some (ap (λ (r : Refusal). r.number) (same_some e))
 
 -- a piece that stands in a package of the rules is within the limits
 stands_within : (profile : Profile) (q : Piece) → IsSpelled profile (piece_row q) → IsPieceWithin profile q
@@ -150,7 +147,7 @@ module _ (profile : Profile) (edition : Text) (number moment : ℕ) where
         faults = tt;
       }
 
-      pub turn_refused : (why : Refusal) → result ≡ Ok (outcome.Refused why) → IsTurn profile edition number moment old new (Ok (Refused why.number))
+      pub turn_refused : (why : Refusal) → result ≡ Ok (outcome.Refused why) → IsTurn profile edition number moment old new (Ok (Refused (reason_of why)))
       turn_refused why refused_is = record {
         survives = quiet_then old mid new look.survives lent.survives;
         on = λ clean ground p it.

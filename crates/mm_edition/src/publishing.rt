@@ -21,6 +21,7 @@ use mm_blobs::blobs::release_each;
 use mm_definitions::answers::{Fault, Outcome, Refusal};
 use mm_definitions::limits::MOST_PIECES;
 use mm_definitions::names::Name;
+use mm_definitions::refusals::Reason;
 use mm_staging::{blobs_of_pieces, closed_refusal};
 use mm_store::statements::run;
 use sqlite::{Alter, Transaction, params};
@@ -34,7 +35,7 @@ pub(crate) fn try_pieces<S: Alter>(
     tx: &mut Transaction<'_, S>,
     edition: &Name,
     last_change: &str,
-) -> Result<Option<(u32, u8)>, Fault>
+) -> Result<Option<(u32, Reason)>, Fault>
     ensures same_reference { IsSame tx.old tx.new }
     ensures any_text { IsQuiet
         (state S.Store tx.old.conn.now) (state S.Store tx.new.conn.now) result }
@@ -120,7 +121,7 @@ pub fn publish<S: Alter>(
     }
     match try_pieces(tx, edition, last_change)? {
         None => {}
-        Some((piece, why)) => return Ok(Outcome::Refused(Refusal::of_piece(piece, why))),
+        Some(refused) => return Ok(Outcome::Refused(Refusal::of_piece(refused.0, refused.1))),
     }
     close_edition(tx, name)?;
     Ok(Outcome::Done)

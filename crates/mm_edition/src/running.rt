@@ -15,6 +15,7 @@ use mm_definitions::answers::{Fault, Outcome};
 use mm_definitions::commands::Piece;
 use mm_definitions::names::Name;
 use mm_definitions::places::TilePlace;
+use mm_definitions::refusals::Reason;
 use mm_items::{drop_media, drop_row, drop_tile, put_media_of_piece, put_row, put_tile_of_piece};
 use mm_meta::add_matrix;
 use mm_relations::{add_map, drop_map};
@@ -26,7 +27,7 @@ pub(crate) enum Turn {
     Done,
     /// The edition has no piece of the number.
     End,
-    Refused(u8),
+    Refused(Reason),
 }
 
 /// Puts or removes the tile of the piece of a number. One that is put names the piece's blob. `last_change` is the
@@ -213,6 +214,6 @@ pub(crate) fn try_piece<S: Alter>(
     };
     match run_piece(tx, edition, number, &found, last_change)? {
         Outcome::Done => Ok(Turn::Done),
-        Outcome::Refused(why) => Ok(Turn::Refused(why.number())),
+        Outcome::Refused(why) => Ok(Turn::Refused(why.reason())),
     }
 }

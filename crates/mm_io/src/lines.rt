@@ -60,22 +60,22 @@ fn put_fault(out: &mut ArrayVec<u8, 96>, fault: Fault)
     put_number(out, fault.number() as u64);
 }
 
-fn put_answer(out: &mut ArrayVec<u8, 96>, answer: Answer)
+fn put_answer(out: &mut ArrayVec<u8, 96>, answer: &Answer)
     requires { length out.old.items ≤ 20 }
-    ensures text { out.new.items ≡ out.old.items ++ answer_text answer }
+    ensures text { out.new.items ≡ out.old.items ++ answer_text answer.now }
     ensures size { length out.new.items ≤ length out.old.items + 71 }
 {
     match answer {
         Answer::Ok => put(out, b" ok"),
-        Answer::Refused(why) => put_refusal(out, why),
-        Answer::Fault(fault) => put_fault(out, fault),
+        Answer::Refused(why) => put_refusal(out, *why),
+        Answer::Fault(fault) => put_fault(out, *fault),
     }
 }
 
 /// Line `n`, which answers record `n`: `3 ok`, `4 refused 34`, `9 refused 53 2 34` (piece 2, its refusal 34) or
 /// `5 fault 91`, with one byte 0x0a at its end. It is built in place and takes no memory.
-pub fn answer_line(n: u64, answer: Answer) -> ArrayVec<u8, 96>
-    ensures { result.items ≡ line n answer }
+pub fn answer_line(n: u64, answer: &Answer) -> ArrayVec<u8, 96>
+    ensures { result.items ≡ line n answer.now }
 {
     let mut out = ArrayVec::new();
     put_number(&mut out, n);

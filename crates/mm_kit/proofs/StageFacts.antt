@@ -15,7 +15,7 @@ use Rattle.mm_definitions.specs.Pieces.{piece_row, row_piece, same_piece}
 use Rattle.mm_definitions.specs.Rules.{Meets, IsNumbered}
 use Rattle.mm_definitions.specs.Stamp.{stamp}
 use Rattle.mm_definitions.specs.Step.{done, refusal, step, unless_refused}
-use Rattle.mm_definitions.specs.declared.answers.Refusal.{Refusal}
+use Rattle.mm_definitions.specs.Refusals.{Refusal}
 use Rattle.mm_definitions.specs.declared.commands.Command.{Command}
 use Rattle.mm_definitions.specs.declared.commands.Command.TheVariants as commands
 use Rattle.mm_definitions.specs.declared.commands.Piece.{Piece}

@@ -10,7 +10,7 @@ use Rattle.mm_definitions.specs.Step.{refusal, step}
 use Rattle.mm_definitions.specs.declared.commands.Command.TheVariants as commands
 use Rattle.mm_definitions.specs.declared.commands.Piece.{Piece}
 use Rattle.mm_definitions.specs.declared.answers.Fault.{Fault}
-use Rattle.mm_definitions.specs.declared.answers.Refusal.{Refusal}
+use Rattle.mm_definitions.specs.Refusals.{Refusal}
 use Rattle.mm_definitions.specs.declared.answers.Staged.{Staged}
 use Rattle.mm_definitions.specs.declared.answers.Staged.TheVariants.{Complete, Refused}
 use Rattle.mm_definitions.specs.declared.answers.KitFault.{KitFault}

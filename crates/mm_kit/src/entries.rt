@@ -127,10 +127,12 @@ fn place_record(place: u32, number: i64, field: Option<&str>) -> Result<Option<F
 fn least_fault(number: Reason, piece: Result<Piece, ReadFault>) -> ReadFault
     ensures { result ≡ entries.least_fault number piece }
 {
-    match piece {
-        Ok(_piece) => ReadFault::refused(number),
-        Err(ReadFault::Memory) => ReadFault::Memory,
-        Err(ReadFault::Refused(why)) => {
+    let Err(fault) = piece else {
+        return ReadFault::refused(number);
+    };
+    match fault {
+        ReadFault::Memory => ReadFault::Memory,
+        ReadFault::Refused(why) => {
             if why.number() < number.get() {
                 ReadFault::Refused(why)
             } else {

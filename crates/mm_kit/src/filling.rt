@@ -12,14 +12,14 @@ use crate::file_names::FileName;
 use crate::folders::{Folder, FolderFault, Found};
 use mm_definitions::bytes::Bytes;
 use mm_definitions::commands::Piece;
-use mm_definitions::refusals;
+use mm_definitions::refusals::Reason;
 use std::alloc::Global;
 
 /// Why a piece has no bytes.
 #[derive(Clone, Copy, Debug, PartialEq, Eq)]
 pub(crate) enum Unfilled {
-    /// The number that refuses the file: 57 where there is none, 11 where its length is outside the limits.
-    Refused(u8),
+    /// What refuses the file: 57 where there is none, 11 where its length is outside the limits.
+    Refused(Reason),
     /// The folder's own fault.
     Folder(FolderFault),
 }
@@ -51,10 +51,10 @@ fn read_bytes<const MOST: usize, F: Folder>(
     match folder.read(alloc, name.as_str(), MOST as u64)? {
         Found::Bytes(bytes) => match Bytes::new(bytes) {
             Some(bytes) => Ok(bytes),
-            None => Err(Unfilled::Refused(refusals::OUT_OF_LIMITS)),
+            None => Err(Unfilled::Refused(Reason::OUT_OF_LIMITS)),
         },
-        Found::TooLong => Err(Unfilled::Refused(refusals::OUT_OF_LIMITS)),
-        Found::Missing => Err(Unfilled::Refused(refusals::NO_FILE)),
+        Found::TooLong => Err(Unfilled::Refused(Reason::OUT_OF_LIMITS)),
+        Found::Missing => Err(Unfilled::Refused(Reason::NO_FILE)),
     }
 }
 

@@ -13,7 +13,7 @@ use mm_definitions::answers::{KitFault, Staged};
 use mm_definitions::entries::EditionState;
 use mm_definitions::moments::Moment;
 use mm_definitions::names::Name;
-use mm_definitions::refusals;
+use mm_definitions::refusals::Reason;
 use mm_run::Editor;
 use std::alloc::Global;
 
@@ -33,8 +33,8 @@ fn find_list<F: Folder>(alloc: Global, folder: &mut F) -> Result<Listed, FolderF
             Ok(listed) => Ok(listed),
             Err(_) => Err(FolderFault::Memory),
         },
-        Found::TooLong => Ok(Listed::Refused(0, refusals::OUT_OF_LIMITS)),
-        Found::Missing => Ok(Listed::Refused(0, refusals::NO_FILE)),
+        Found::TooLong => Ok(Listed::Refused(0, Reason::OUT_OF_LIMITS)),
+        Found::Missing => Ok(Listed::Refused(0, Reason::NO_FILE)),
     }
 }
 
@@ -57,18 +57,18 @@ fn import_entries<A: Editor, F: Folder>(
             if records < pieces {
                 return Ok(Staged::Refused {
                     piece: records + 1,
-                    number: refusals::NOT_THE_NEXT_PIECE,
+                    number: Reason::NOT_THE_NEXT_PIECE,
                 });
             }
             stage_all(alloc, editor, name, folder, entries, at)
         }
         Ok(Some(EditionState::Published)) => Ok(Staged::Refused {
             piece: 0,
-            number: refusals::PUBLISHED_ALREADY,
+            number: Reason::PUBLISHED_ALREADY,
         }),
         Ok(None) => Ok(Staged::Refused {
             piece: 0,
-            number: refusals::NO_EDITION,
+            number: Reason::NO_EDITION,
         }),
         Err(fault) => Err(KitFault { fault, staged: 0 }),
     }
@@ -98,8 +98,10 @@ pub fn import_kit<A: Editor, F: Folder>(
         result }
 {
     match find_list(alloc, folder) {
-        Ok(Listed::Entries(entries)) => import_entries(alloc, editor, name, folder, entries, at),
-        Ok(Listed::Refused(piece, number)) => Ok(Staged::Refused { piece, number }),
+        Ok(listed) => match listed {
+            Listed::Entries(entries) => import_entries(alloc, editor, name, folder, entries, at),
+            Listed::Refused(piece, number) => Ok(Staged::Refused { piece, number }),
+        },
         Err(fault) => Err(KitFault {
             fault: folder_fault(fault),
             staged: 0,

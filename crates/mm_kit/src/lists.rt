@@ -21,7 +21,7 @@ use std::io::Read;
 #[derive(Drop)]
 pub enum Listed {
     Entries(Vec<Entry>),
-    Refused(u32, u8),
+    Refused(u32, Reason),
 }
 
 /// The next record, if there is one. The bytes are in memory, so that nothing but memory is wanted.
@@ -71,8 +71,10 @@ fn read_rows<T: Read>(alloc: Global, rows: &mut Reader<T>) -> Result<Listed, All
                         return Err(AllocError);
                     }
                 }
-                Err(ReadFault::Refused(why)) => return Ok(Listed::Refused(place, why.number())),
-                Err(ReadFault::Memory) => return Err(AllocError),
+                Err(fault) => match fault {
+                    ReadFault::Refused(why) => return Ok(Listed::Refused(place, why.reason())),
+                    ReadFault::Memory => return Err(AllocError),
+                },
             },
             None => return Ok(Listed::Entries(entries)),
         }

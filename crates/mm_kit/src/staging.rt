@@ -23,6 +23,7 @@ use mm_definitions::bounded::Id;
 use mm_definitions::commands::{Command, Piece};
 use mm_definitions::moments::Moment;
 use mm_definitions::names::Name;
+use mm_definitions::refusals::Reason;
 use mm_run::{Apply, Editor};
 use std::alloc::Global;
 
@@ -92,7 +93,7 @@ fn stage_piece<A: Apply>(
 }
 
 /// Reads the file of an entry and stages its piece under this number: None where it is staged or stands already, else
-/// the number that refuses it. A fault of the folder comes before the command.
+/// what refuses it. A fault of the folder comes before the command.
 fn stage_entry<A: Editor, F: Folder>(
     alloc: Global,
     editor: &mut A,
@@ -101,7 +102,7 @@ fn stage_entry<A: Editor, F: Folder>(
     number: u32,
     entry: Entry,
     at: Moment,
-) -> Result<Option<u8>, Fault>
+) -> Result<Option<Reason>, Fault>
     requires number { 0 < number }
     requires working { A.has_failed editor.old ≡ false }
     ensures clean { A.is_clean editor.new → A.is_clean editor.old }
@@ -119,11 +120,13 @@ fn stage_entry<A: Editor, F: Folder>(
     match fill(alloc, folder, entry) {
         Ok(piece) => match stage_piece(editor, edition, number, piece, at) {
             Answer::Ok => Ok(None),
-            Answer::Refused(why) => Ok(Some(why.number())),
+            Answer::Refused(why) => Ok(Some(why.reason())),
             Answer::Fault(fault) => Err(fault),
         },
-        Err(Unfilled::Refused(number)) => Ok(Some(number)),
-        Err(Unfilled::Folder(fault)) => Err(folder_fault(fault)),
+        Err(unfilled) => match unfilled {
+            Unfilled::Refused(number) => Ok(Some(number)),
+            Unfilled::Folder(fault) => Err(folder_fault(fault)),
+        },
     }
 }
 

@@ -12,7 +12,7 @@ use Rattle.mm_definitions.specs.Conditions.{Reasons, least, own_reasons, is_open
 use Rattle.mm_definitions.specs.Effects.{is_other}
 use Rattle.mm_definitions.specs.Editions.{PieceRefusal, decided, piece_trial, after_trial, trial, edition_trial, closed}
 use Rattle.mm_definitions.specs.Step.{reasons, publishing, is_publishing, refused_piece, refusal_of, refusal, refusal_at, closed_by, done, unless_refused, step}
-use Rattle.mm_definitions.specs.declared.answers.Refusal.{Refusal}
+use Rattle.mm_definitions.specs.Refusals.{Refusal}
 use Rattle.mm_definitions.specs.declared.commands.Command.{Command}
 use Rattle.mm_definitions.specs.declared.commands.Command.TheVariants as commands
 use Rattle.mm_definitions.proofs.Parts.{at_put, after_retain, same_itself, not_none, none_of}

@@ -5,7 +5,7 @@ use Rattle.std.proofs.Math.Seq.{take-append-add, take-length}
 use Rattle.mm_definitions.specs.Package.{Package}
 use Rattle.mm_definitions.specs.Step.{refusal, step}
 use Rattle.mm_definitions.specs.Runs.{Call, run, if_ok, accepted, IsFirstPart}
-use Rattle.mm_definitions.specs.declared.answers.Refusal.{Refusal}
+use Rattle.mm_definitions.specs.Refusals.{Refusal}
 use Rattle.mm_laws.proofs.RunFacts.{run_accepted}
 
 run_append : (before after : List Call) (p : Package) → run p (before ++ after) ≡ run (run p before) after

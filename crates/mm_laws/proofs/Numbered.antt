@@ -5,7 +5,7 @@ use Rattle.mm_definitions.specs.Package.{Package}
 use Rattle.mm_definitions.specs.Conditions.{Reasons, least, smaller, own_reasons}
 use Rattle.mm_definitions.specs.Editions.{PieceRefusal}
 use Rattle.mm_definitions.specs.Step.{reasons, is_publishing, publishing, refused_piece, refusal_of, refusal}
-use Rattle.mm_definitions.specs.declared.answers.Refusal.{Refusal}
+use Rattle.mm_definitions.specs.Refusals.{Refusal}
 use Rattle.mm_definitions.specs.declared.commands.Command.{Command}
 use Rattle.mm_definitions.specs.declared.commands.Command.TheVariants as commands
 use Rattle.mm_laws.specs.Laws.{is_reason_number, IsNumberedRefusal}

@@ -7,7 +7,7 @@ use Rattle.mm_definitions.specs.Within.{IsWithin}
 use Rattle.mm_definitions.specs.Rules.{Meets}
 use Rattle.mm_definitions.specs.Step.{refusal, done, unless_refused, step}
 use Rattle.mm_definitions.specs.Runs.{Call, run, if_ok, accepted, IsFirstPart}
-use Rattle.mm_definitions.specs.declared.answers.Refusal.{Refusal}
+use Rattle.mm_definitions.specs.Refusals.{Refusal}
 use Rattle.mm_definitions.specs.declared.commands.Command.{Command}
 use Rattle.mm_laws.specs.Laws.{AllWithin}
 use Rattle.mm_laws.proofs.Steps.{run_keeps}

@@ -12,7 +12,7 @@ use Rattle.mm_definitions.specs.Stamp.{stamp}
 use Rattle.mm_definitions.specs.Conditions.{least, piece_reasons, pieces_of}
 use Rattle.mm_definitions.specs.Editions.{trial, edition_trial, closed}
 use Rattle.mm_definitions.specs.Runs.{Call}
-use Rattle.mm_definitions.specs.declared.answers.Refusal.{Refusal}
+use Rattle.mm_definitions.specs.Refusals.{Refusal}
 use Rattle.mm_definitions.specs.declared.commands.Command.{Command}
 use Rattle.mm_definitions.specs.declared.commands.Command.TheVariants as commands
 use Rattle.mm_definitions.specs.declared.commands.Piece.{Piece}

@@ -5,7 +5,7 @@ ghost use Rattle.mm_definitions.specs.Editions.{edition_trial};
 ghost use Rattle.mm_definitions.specs.Keys.{Text};
 ghost use Rattle.mm_definitions.specs.Package.{Package};
 ghost use Rattle.mm_definitions.specs.Step.{refusal, refusal_at, refused_piece};
-ghost use Rattle.mm_definitions.specs.declared.answers.Refusal.{Refusal};
+ghost use Rattle.mm_definitions.specs.Refusals.{Refusal};
 ghost use Rattle.mm_definitions.specs.declared.commands.Command.{Command};
 ghost use Rattle.mm_laws.specs.Laws.{IsNumberedRefusal};
 

@@ -7,7 +7,7 @@ ghost use Rattle.mm_definitions.specs.Parts.{Has};
 ghost use Rattle.mm_definitions.specs.Stamp.{stamp};
 ghost use Rattle.mm_definitions.specs.Runs.{Call, run, accepted, IsFirstPart};
 ghost use Rattle.mm_definitions.specs.Step.{refusal, step};
-ghost use Rattle.mm_definitions.specs.declared.answers.Refusal.{Refusal};
+ghost use Rattle.mm_definitions.specs.Refusals.{Refusal};
 ghost use Rattle.mm_definitions.specs.declared.commands.Command.{Command};
 ghost use Rattle.mm_laws.specs.Laws.{IsSetOrKept, sets_last_change};
 

@@ -10,7 +10,7 @@ use Rattle.mm_definitions.specs.Parts.{Stands}
 use Rattle.mm_definitions.specs.declared.answers.Fault.{Fault}
 use Rattle.mm_definitions.specs.declared.answers.Outcome.{Outcome}
 use Rattle.mm_definitions.specs.declared.answers.Outcome.TheVariants.{Done, Refused}
-use Rattle.mm_definitions.specs.declared.answers.Refusal.{Refusal}
+use Rattle.mm_definitions.specs.Refusals.{Refusal}
 use Rattle.mm_store.specs.Stands.{Ground, StandsOn, StandsInside}
 use Rattle.mm_store.specs.Faults.{IsStoreFault}
 use Rattle.mm_store.specs.Statements.{CommitsNothing}

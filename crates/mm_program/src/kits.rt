@@ -184,8 +184,9 @@ pub(crate) fn import_and_tell<'a, S: Start, W: Write>(
             return (tell_stop(output, Stop::Fault(Fault::INPUT)), Left::Unopened);
         }
     };
-    match import_file(rt, path, start, &name, folder, moment) {
-        (Ok(import), left) => (tell_import(output, import), left),
-        (Err(why), left) => (tell_stop(output, why), left),
+    let (done, left) = import_file(rt, path, start, &name, folder, moment);
+    match done {
+        Ok(import) => (tell_import(output, import), left),
+        Err(why) => (tell_stop(output, why), left),
     }
 }

@@ -149,8 +149,9 @@ pub(crate) fn list_told<'a, S: Start, W: Write>(
     ensures status { result.0 ≤ 4 }
     ensures unprinted { TellsFailure (has_failed output.old) (has_failed output.new) result.0 }
 {
-    match list_file(rt, path, start, output) {
-        (Ok(()), left) => (DONE, left),
-        (Err(why), left) => (tell_stop(output, why), left),
+    let (done, left) = list_file(rt, path, start, output);
+    match done {
+        Ok(()) => (DONE, left),
+        Err(why) => (tell_stop(output, why), left),
     }
 }

@@ -203,8 +203,9 @@ pub(crate) fn serve_told<'a, S: Start, W: Write>(
     ensures unprinted { TellsFailure (streams.has_failed output.old)
         (streams.has_failed output.new) result.0 }
 {
-    match serve_file(rt, path, start, port, count, output) {
-        (Ok(status), left) => (status, left),
-        (Err(why), left) => (tell_stop(output, why), left),
+    let (done, left) = serve_file(rt, path, start, port, count, output);
+    match done {
+        Ok(status) => (status, left),
+        Err(why) => (tell_stop(output, why), left),
     }
 }

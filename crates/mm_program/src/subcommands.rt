@@ -184,9 +184,10 @@ fn run_told<'a, S: Start, R: Read, W: Write>(
             return (tell_stop(output, Stop::Fault(Fault::INPUT)), Left::Unopened);
         }
     };
-    match run_file(rt, path, start, input, output, moment) {
-        (Ok(status), left) => (status, left),
-        (Err(why), left) => (tell_stop(output, why), left),
+    let (done, left) = run_file(rt, path, start, input, output, moment);
+    match done {
+        Ok(status) => (status, left),
+        Err(why) => (tell_stop(output, why), left),
     }
 }
 

@@ -5,7 +5,7 @@ use Rattle.csv.specs.declared.reader.Reader.{Reader}
 use Rattle.mm_definitions.specs.Bounds.{IsMoment, current}
 use Rattle.mm_definitions.specs.Package.{Package}
 use Rattle.mm_definitions.specs.Rules.{Meets}
-use Rattle.mm_definitions.specs.declared.answers.Refusal.{Refusal}
+use Rattle.mm_definitions.specs.Refusals.{Refusal}
 use Rattle.mm_definitions.specs.declared.answers.Answer.{Answer}
 use Rattle.mm_definitions.specs.declared.answers.Answer.TheVariants as answers
 use Rattle.mm_definitions.specs.declared.commands.Command.{Command}

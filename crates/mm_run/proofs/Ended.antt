@@ -7,7 +7,7 @@ use Rattle.csv.specs.declared.parser.State.TheVariants as states
 use Rattle.csv.specs.declared.reader.Reader.{Reader}
 use Rattle.csv.proofs.ReadFacts.{rows-end, rows-more}
 use Rattle.mm_definitions.specs.declared.answers.Fault.{Fault}
-use Rattle.mm_definitions.specs.declared.answers.Refusal.{Refusal}
+use Rattle.mm_definitions.specs.Refusals.{Refusal}
 use Rattle.mm_definitions.specs.declared.answers.Answer.{Answer}
 use Rattle.mm_definitions.specs.declared.answers.Answer.TheVariants as answers
 use Rattle.mm_definitions.specs.declared.answers.ReadFault.{ReadFault}

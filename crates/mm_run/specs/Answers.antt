@@ -3,7 +3,7 @@ use Rattle.std.specs.Prelude.{ℕ, ◌+◌, List, [], ◌∷◌, Bool, true, fal
 use Rattle.mm_definitions.specs.Package.{Package}
 use Rattle.mm_definitions.specs.Step.{refusal, step}
 use Rattle.mm_definitions.specs.Runs.{Call}
-use Rattle.mm_definitions.specs.declared.answers.Refusal.{Refusal}
+use Rattle.mm_definitions.specs.Refusals.{Refusal}
 use Rattle.mm_definitions.specs.declared.answers.Answer.{Answer}
 use Rattle.mm_definitions.specs.declared.answers.Answer.TheVariants as answers
 use Rattle.mm_run.specs.Readings.{Reading}

@@ -10,9 +10,9 @@ use mm_io::{Sent, answer_line, send};
 use std::io::Write;
 
 /// The tally with one more answer.
-fn count_answer(tally: Tally, answer: Answer) -> Tally
+fn count_answer(tally: Tally, answer: &Answer) -> Tally
     requires { (tally.accepted + 1 < 2 ^ 64) × (tally.refused + 1 < 2 ^ 64) }
-    ensures { result ≡ with_answer answer tally }
+    ensures { result ≡ with_answer answer.now tally }
 {
     match answer {
         Answer::Ok => Tally {
@@ -46,8 +46,8 @@ pub(crate) fn tell<W: Write>(
     ensures flushed { IfOk result (λ t. is_flushed writer.new ≡ true) }
     ensures told { IfErr result (λ e. e.fault.0 ≢ 97 → is_flushed writer.new ≡ true) }
 {
-    let mut tally = count_answer(tally, answer);
-    match send(writer, answer_line(n, answer).as_slice()) {
+    let mut tally = count_answer(tally, &answer);
+    match send(writer, answer_line(n, &answer).as_slice()) {
         Sent::Flushed => {
             tally.written += 1;
             match answer {

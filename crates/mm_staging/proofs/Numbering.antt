@@ -210,13 +210,13 @@ low_or_past z = by (int_le z (pos 1)) refl
     by false e = inr (gt_tells z e)
 
 module _ (p : Package) (edition : Text) (number before : ℤ) (is : pos 1 <ℤ number → before ≡ number -ℤ pos 1) (found : Bool) (says : found ≡ contains_key p.pieces (piece edition before)) where
-  pub found_behind : found ≡ true → TellsBehind p edition number found
+  pub found_behind : found ≡ true → TellsBehind p edition number true
   found_behind is_found = record {
     yes = λ _. elim (low_or_past number) as (λ _. (number ≤ℤ pos 1) ⊎ (contains_key p.pieces (piece edition (number -ℤ pos 1)) ≡ true)) [
       | inl low ↦ inl low
       | inr past ↦ inr (ap (λ z. contains_key p.pieces (piece edition z)) (sym (is past)) ∙ sym says ∙ is_found)
     ];
-    no = λ is_lost. absurd (let f : true ≡ false = sym is_found ∙ is_lost in cc);
+    no = λ is_lost. absurd (let f : true ≡ false = is_lost in cc);
   }
 
   pub lost_behind : found ≡ false → TellsBehind p edition number (int_le number (pos 1))

@@ -57,7 +57,10 @@ fn is_behind<S: Alter>(
         result }
 {
     let found = has_piece(tx, edition, number_before(number))?;
-    Ok(found || number <= 1)
+    if found {
+        return Ok(true);
+    }
+    Ok(number <= 1)
 }
 
 /// What staging under a number comes to where the edition has no piece of that number.

@@ -8,7 +8,7 @@ use Rattle.mm_definitions.specs.Step.{refusal, step}
 use Rattle.mm_definitions.specs.declared.answers.Fault.{Fault}
 use Rattle.mm_definitions.specs.declared.answers.Outcome.{Outcome}
 use Rattle.mm_definitions.specs.declared.answers.Outcome.TheVariants.{Done, Refused}
-use Rattle.mm_definitions.specs.declared.answers.Refusal.{Refusal}
+use Rattle.mm_definitions.specs.Refusals.{Refusal}
 use Rattle.mm_definitions.specs.declared.commands.Command.{Command}
 use Rattle.mm_store.specs.Stands.{Ground, StandsOn, StandsInside}
 use Rattle.mm_store.specs.Faults.{IsStoreFault}

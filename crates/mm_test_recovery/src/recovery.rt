@@ -88,17 +88,18 @@ fn run_and_crash<D: Crash + Drop>(
     let mut reader = Io::new(RECORDS);
     let mut writer = Io::new(Vec::new(alloc));
     let at = Moment::new(0)?;
-    match run_and_recover(
+    let (ran, again) = run_and_recover(
         alloc,
         session,
         &mut reader,
         &mut writer,
         at,
         Options::new(7),
-    ) {
-        (Ok(tally), Ok(again)) => Some((tally.accepted, true, again)),
-        (Err(stopped), Ok(again)) => Some((stopped.tally.accepted, false, again)),
-        (_, Err(_)) => None,
+    );
+    let again = again.ok()?;
+    match ran {
+        Ok(tally) => Some((tally.accepted, true, again)),
+        Err(stopped) => Some((stopped.tally.accepted, false, again)),
     }
 }
 

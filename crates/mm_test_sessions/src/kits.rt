@@ -47,8 +47,12 @@ fn folder_of(alloc: Global, list: &[u8], second: Option<&[u8]>) -> Option<Memory
 /// What an import came to, as a text.
 pub(crate) fn import_text(alloc: Global, import: Result<Staged, KitFault>) -> Option<String> {
     match import {
-        Ok(Staged::Complete(count)) => format!(in alloc; "complete {count}").ok(),
-        Ok(Staged::Refused { piece, number }) => format!(in alloc; "refused {piece} {number}").ok(),
+        Ok(staged) => match staged {
+            Staged::Complete(count) => format!(in alloc; "complete {count}").ok(),
+            Staged::Refused { piece, number } => {
+                format!(in alloc; "refused {piece} {}", number.get()).ok()
+            }
+        },
         Err(stopped) => {
             format!(in alloc; "fault {} after {}", stopped.fault.number(), stopped.staged).ok()
         }

@@ -133,7 +133,7 @@ fn adopt(alloc: Global, conn: Connection<MemStore>) -> Result<Session<MemStore>,
     }
     match Session::adopt(alloc, conn) {
         Ok(session) => Ok(session),
-        Err((_, why)) => Err(why),
+        Err((_conn, why)) => Err(why),
     }
 }
 
@@ -176,7 +176,8 @@ fn changed(conn: Connection<MemStore>, statement: &str) -> Option<Connection<Mem
 /// The rule that the package of a session breaks, if it breaks one.
 fn checked(session: Session<MemStore>) -> Option<Option<u8>> {
     let mut session = session;
-    session.check().ok()
+    let broken = session.check().ok()?;
+    Some(broken.map(|rule| rule.get()))
 }
 
 /// Which rule the package breaks after a statement of the test's own, 98 where its bytes are not kept once each, and none where
@@ -185,9 +186,11 @@ fn broken_rule(alloc: Global, statement: &str) -> Option<Option<u8>> {
     let session = session_after(alloc, &[PYRAMID, FINER])?;
     match adopt(alloc, changed(session.close(), statement)?) {
         Ok(session) => checked(session),
-        Err(Open::Rule(rule)) => Some(Some(rule)),
-        Err(Open::BadBlobs) => Some(Some(98)),
-        Err(_) => None,
+        Err(why) => match why {
+            Open::Rule(rule) => Some(Some(rule.get())),
+            Open::BadBlobs => Some(Some(98)),
+            _ => None,
+        },
     }
 }
 

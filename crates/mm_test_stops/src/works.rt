@@ -114,11 +114,13 @@ fn import_first<S: Alter>(
     let mut files = folder_of(alloc, first_lines(records, lines))?;
     let edition = Name::read("k")?;
     match import_kit(alloc, session, &edition, &mut files, Moment::new(0)?) {
-        Ok(Staged::Complete(count)) => Some(Told {
-            steps: usize::try_from(count).ok()?,
-            ended: true,
-        }),
-        Ok(Staged::Refused { .. }) => None,
+        Ok(staged) => match staged {
+            Staged::Complete(count) => Some(Told {
+                steps: usize::try_from(count).ok()?,
+                ended: true,
+            }),
+            Staged::Refused { .. } => None,
+        },
         Err(stopped) => Some(stopped_behind(usize::try_from(stopped.staged).ok()?)),
     }
 }

@@ -21,10 +21,12 @@ pub(crate) const LATER: &str = "2000-02-29T23:59:59.999Z";
 /// 0 for done, else the number of the refusal or of the fault; None for a refusal of a piece.
 fn number_of(outcome: Result<Outcome, Fault>) -> Option<u8> {
     match outcome {
-        Ok(Outcome::Done) => Some(0),
-        Ok(Outcome::Refused(refusal)) => match refusal.piece() {
-            None => Some(refusal.number()),
-            Some(_) => None,
+        Ok(outcome) => match outcome {
+            Outcome::Done => Some(0),
+            Outcome::Refused(refusal) => match refusal.piece() {
+                None => Some(refusal.number()),
+                Some(_) => None,
+            },
         },
         Err(fault) => Some(fault.number()),
     }

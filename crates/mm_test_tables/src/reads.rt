@@ -4,7 +4,7 @@ use crate::commands::{count, fields_of, number, zoom};
 use crate::rows::add_bytes;
 use mm_check::verify;
 use mm_content::{contents, media, row, tile};
-use mm_definitions::answers::{Fault, Open};
+use mm_definitions::answers::{Fault, Open, RuleNumber};
 use mm_definitions::commands::Kind;
 use mm_definitions::entries::{Entry, Media, Related, Row};
 use mm_definitions::names::Name;
@@ -136,12 +136,14 @@ fn add_contents(text: &mut String, found: &Result<Vec<Entry>, Fault>) -> Option<
 fn add_look(text: &mut String, found: Result<(), Open>) -> Option<()> {
     match found {
         Ok(()) => text.push_str("a package|\n").ok(),
-        Err(Open::Version(version)) => writeln!(text, "version {version}|").ok(),
-        Err(Open::NoProfile) => text.push_str("no profile|\n").ok(),
-        Err(Open::BadProfile) => text.push_str("bad profile|\n").ok(),
-        Err(Open::BadBlobs) => text.push_str("bad blobs|\n").ok(),
-        Err(Open::Rule(rule)) => writeln!(text, "rule {rule}|").ok(),
-        Err(Open::Fault(fault)) => add_nothing(text, Some(fault)),
+        Err(why) => match why {
+            Open::Version(version) => writeln!(text, "version {version}|").ok(),
+            Open::NoProfile => text.push_str("no profile|\n").ok(),
+            Open::BadProfile => text.push_str("bad profile|\n").ok(),
+            Open::BadBlobs => text.push_str("bad blobs|\n").ok(),
+            Open::Rule(rule) => writeln!(text, "rule {}|", rule.get()).ok(),
+            Open::Fault(fault) => add_nothing(text, Some(fault)),
+        },
     }
 }
 
@@ -152,9 +154,9 @@ fn add_made(text: &mut String, made: Result<(), Fault>) -> Option<()> {
     }
 }
 
-fn add_verdict(text: &mut String, found: Result<Option<u8>, Fault>) -> Option<()> {
+fn add_verdict(text: &mut String, found: Result<Option<RuleNumber>, Fault>) -> Option<()> {
     match found {
-        Ok(Some(rule)) => writeln!(text, "{rule}|").ok(),
+        Ok(Some(rule)) => writeln!(text, "{}|", rule.get()).ok(),
         Ok(None) => add_nothing(text, None),
         Err(fault) => add_nothing(text, Some(fault)),
     }

@@ -10,9 +10,11 @@ use std::fmt::Write;
 /// 0 where a record was read, the number of its refusal, or 90.
 fn number_of<T: Drop>(read: Result<T, ReadFault>) -> u8 {
     match read {
-        Ok(_) => 0,
-        Err(ReadFault::Refused(refusal)) => refusal.number(),
-        Err(ReadFault::Memory) => 90,
+        Ok(_value) => 0,
+        Err(fault) => match fault {
+            ReadFault::Refused(refusal) => refusal.number(),
+            ReadFault::Memory => 90,
+        },
     }
 }
 

@@ -19,6 +19,7 @@ use arrayvec::ArrayVec;
 use mm_definitions::answers::{KitFault, Staged};
 use mm_definitions::moments::Moment;
 use mm_definitions::names::Name;
+use mm_definitions::refusals::Reason;
 use mm_definitions::streams::Io;
 use mm_io::{put, put_number};
 use mm_kit::{Folder, import_kit};
@@ -73,7 +74,7 @@ fn complete_line(count: u32) -> ArrayVec<u8, 64>
 }
 
 /// It is built in place and takes no memory.
-fn refused_line(piece: u32, number: u8) -> ArrayVec<u8, 64>
+fn refused_line(piece: u32, number: Reason) -> ArrayVec<u8, 64>
     ensures { result.items ≡ codes "kit refused " ++ decimal piece ++ codes " " ++ decimal number
         ++ codes "\n" }
 {
@@ -81,7 +82,7 @@ fn refused_line(piece: u32, number: u8) -> ArrayVec<u8, 64>
     put(&mut line, b"kit refused ");
     put_number(&mut line, piece as u64);
     put(&mut line, b" ");
-    put_number(&mut line, number as u64);
+    put_number(&mut line, number.get() as u64);
     put(&mut line, b"\n");
     line
 }

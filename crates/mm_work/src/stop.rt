@@ -1,6 +1,6 @@
 //! Why the work was not done.
 
-use mm_definitions::answers::Fault;
+use mm_definitions::answers::{Fault, RuleNumber};
 
 /// Why the work was not done.
 #[derive(Clone, Copy, Debug, PartialEq, Eq)]
@@ -10,6 +10,6 @@ pub enum Stop {
     /// The file is no package of this profile: 93, 94, 95 or 98.
     NotPackage(u8),
     /// The package breaks this rule.
-    Rule(u8),
+    Rule(RuleNumber),
     Fault(Fault),
 }

@@ -74,7 +74,7 @@ pub fn tell_stop<W: Write>(output: &mut Io<W>, why: Stop) -> u8
             tell_bytes(output, line.as_slice(), NO_PACKAGE)
         }
         Stop::Rule(rule) => {
-            let line = numbered_line(b"rule Q", rule);
+            let line = numbered_line(b"rule Q", rule.get());
             tell_bytes(output, line.as_slice(), NO_PACKAGE)
         }
         Stop::Fault(fault) => {

@@ -18,7 +18,8 @@ rules-init g c = limits_pass (profile_of c.args.unit) (state g.S.Store c.args.co
 
 pub returns-then-not-branch-2 : goal.returns-then-not-branch-2
 returns-then-not-branch-2 g c =
-    rule_stops (profile_of c.args.unit) (state g.S.Store c.args.conn.now) (state g.S.Store c.rules.conn) (state g.S.Store c.one_rule.new.conn) c.rules.k c.rules.auto.k c.rules-test.true c.rules.invariant (Ok c.in_ok-one_rule.field-0) refl c.if-not-branch-2.true c.in_ok-one_rule.ensures
+    rw c.of.ensures
+    (rule_stops (profile_of c.args.unit) (state g.S.Store c.args.conn.now) (state g.S.Store c.rules.conn) (state g.S.Store c.one_rule.new.conn) c.rules.k c.rules.auto.k c.rules-test.true c.rules.invariant (Ok c.in_ok-one_rule.field-0) refl c.if-not-branch-2.true c.in_ok-one_rule.ensures)
 
 pub returns-in_err-one_rule : goal.returns-in_err-one_rule
 returns-in_err-one_rule g c =

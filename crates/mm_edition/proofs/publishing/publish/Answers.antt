@@ -42,7 +42,7 @@ returns-in_err-number-clause-tried g c profile moment stamped =
 pub returns-in-Some-2-clause-tried : goal.returns-in-Some-2-clause-tried
 returns-in-Some-2-clause-tried g c profile moment stamped =
     rw c.of_piece.ensures
-    (publish_53 profile _ moment _ _ _ c.in_default.is (rw c.as_str-name.ensures.text at (c.in_ok-number.ensures.look profile)) _ _ (c.in-Some-2.piece, c.in-Some-2.why) c.in-Some-2.is (c.in_ok-try_pieces.ensures.trial profile moment stamped))
+    (publish_53 profile _ moment _ _ _ c.in_default.is (rw c.as_str-name.ensures.text at (c.in_ok-number.ensures.look profile)) _ _ c.in-Some-2.refused c.in-Some-2.is (c.in_ok-try_pieces.ensures.trial profile moment stamped))
 
 pub returns-in_err-try_pieces-clause-tried : goal.returns-in_err-try_pieces-clause-tried
 returns-in_err-try_pieces-clause-tried g c profile moment stamped =

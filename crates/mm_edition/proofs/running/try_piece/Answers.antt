@@ -39,7 +39,7 @@ returns-in-Done-clause-turn g c profile moment stamped =
 
 pub returns-clause-turn : goal.returns-clause-turn
 returns-clause-turn g c profile moment stamped =
-    rw c.number.ensures
+    rw c.reason.ensures
     (turn_refused profile _ _ moment _ _ _ _ c.in-Some.found c.in-Some.is (c.in_ok-found.ensures.look profile) c.args.last_change.now c.run_piece.result (c.run_piece.ensures.lent profile) c.in-Refused.why
     (c.in_ok-run_piece.was ∙ ap Ok c.in-Refused.is))
 

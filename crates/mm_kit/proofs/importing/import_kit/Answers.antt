@@ -14,26 +14,26 @@ use Rattle.mm_kit.specs.Imports.{ImportEnded, is_folders}
 use Rattle.mm_kit.proofs.FolderFacts.{as_before, folder-ended, folder-tells, folder_no_92, kit_fault, told, where_told}
 use Rattle.mm_kit.proofs.importing.import_kit.Goals as goal
 
-pub returns-in-Ok-Entries : goal.returns-in-Ok-Entries
-returns-in-Ok-Entries g c =
-    let found = c.in-Ok-Entries.ensures in
+pub returns-in-Entries : goal.returns-in-Entries
+returns-in-Entries g c =
+    let found = c.in-Ok.ensures in
     let r = c.import_entries.result in
     let new = c.import_entries.new.editor in
     let on : (start : Start g.A.Apply) → Imports c.args.name.now (g.A.Apply.is_clean new) (settled_from g.A.Apply start c.args.editor.now) (g.F.Folder.files c.args.folder.now)
     (g.A.Apply.has_failed c.args.editor.now) (shown_from g.A.Apply start new) r = λ start. record {
       answered =
           IfOk-weaker r _ _ (λ answer made clean p sound these tells.
-          let is : IsKitList these (Ok c.in-Ok-Entries.entries.items) = rw c.in-Ok-Entries.field-0-is at (found.lists these tells) in
+          let is : IsKitList these (Ok c.in-Entries.entries.items) = rw c.in-Entries.is at (found.lists these tells) in
           imported these c.args.name.now p _ answer _ is (made start clean p sound these (found.stays ∙ tells)))
           c.import_entries.ensures.answered;
       stopped =
           IfErr-weaker r _ _ (λ e made clean p sound these tells.
-          let is : IsKitList these (Ok c.in-Ok-Entries.entries.items) = rw c.in-Ok-Entries.field-0-is at (found.lists these tells) in
+          let is : IsKitList these (Ok c.in-Entries.entries.items) = rw c.in-Entries.is at (found.lists these tells) in
           stopped_some these c.args.name.now p _ _ (stands_from g.A.Apply start) e.staged is (made start clean p sound these (found.stays ∙ tells)))
           c.import_entries.ensures.stopped;
       works =
           IfErr-weaker r _ _ (λ e made clean p sound these tells same.
-          let is : IsKitList these (Ok c.in-Ok-Entries.entries.items) = rw c.in-Ok-Entries.field-0-is at (found.lists these tells) in
+          let is : IsKitList these (Ok c.in-Entries.entries.items) = rw c.in-Entries.is at (found.lists these tells) in
           works_some these c.args.name.now p _ _ e.staged is (made start clean p sound these (found.stays ∙ tells) same))
           c.import_entries.ensures.works;
       kept = c.import_entries.ensures.kept start;
@@ -48,8 +48,8 @@ returns-in-Ok-Entries g c =
       session = c.import_entries.ensures.session;
       ended = λ was.
           subst (ImportEnded (g.F.Folder.files c.args.folder.now)) (sym (c.import_entries.ensures.ended was))
-          (refl, inr (inr (refl, λ these tells. (c.in-Ok-Entries.entries.items, rw c.in-Ok-Entries.field-0-is at (found.lists these tells)))));
-      needed = IfErr-weaker r _ _ (λ e _ is these tells. (c.in-Ok-Entries.entries.items, rw c.in-Ok-Entries.field-0-is at (found.lists these tells))) c.import_entries.ensures.why;
+          (refl, inr (inr (refl, λ these tells. (c.in-Entries.entries.items, rw c.in-Entries.is at (found.lists these tells)))));
+      needed = IfErr-weaker r _ _ (λ e _ is these tells. (c.in-Entries.entries.items, rw c.in-Entries.is at (found.lists these tells))) c.import_entries.ensures.why;
       kept = it.kept;
       still_kept = it.still_kept;
       seen = imports_seen g.A.Apply c.args.name.now _ c.args.editor.now _ _ _ r (on (Some c.args.editor.now));
@@ -57,15 +57,15 @@ returns-in-Ok-Entries g c =
       why = c.import_entries.ensures.why;
     }
 
-pub returns-in-Ok-Refused : goal.returns-in-Ok-Refused
-returns-in-Ok-Refused g c =
+pub returns-in-Refused : goal.returns-in-Refused
+returns-in-Refused g c =
     let here = c.args.editor.now in
-    let answer = Refused c.in-Ok-Refused.piece c.in-Ok-Refused.number in
+    let answer = Refused c.in-Refused.piece c.in-Refused.number in
     let on : (start : Start g.A.Apply) → Imports c.args.name.now (g.A.Apply.is_clean here) (settled_from g.A.Apply start here) (g.F.Folder.files c.args.folder.now)
     (g.A.Apply.has_failed here) (shown_from g.A.Apply start here) (Ok answer) = λ start. record {
       answered = λ clean p sound these tells.
-          let is : IsKitList these (Err (c.in-Ok-Refused.piece, c.in-Ok-Refused.number)) = rw c.in-Ok-Refused.field-0-is at (c.in-Ok-Refused.ensures.lists these tells) in
-          no_kit these c.args.name.now p c.in-Ok-Refused.piece c.in-Ok-Refused.number _ is sound;
+          let is : IsKitList these (Err (c.in-Refused.piece, c.in-Refused.number)) = rw c.in-Refused.is at (c.in-Ok.ensures.lists these tells) in
+          no_kit these c.args.name.now p c.in-Refused.piece c.in-Refused.number _ is sound;
       stopped = tt;
       works = tt;
       kept = λ clean p sound. (p, sound, keeps_itself c.args.name.now p);
@@ -79,12 +79,12 @@ returns-in-Ok-Refused g c =
       works = tt;
       session = (refl, λ was. refl);
       ended = λ was.
-          where_told _ _ (λ these tells. rw c.in-Ok-Refused.field-0-is at (c.in-Ok-Refused.ensures.lists these tells));
+          where_told _ _ (λ these tells. rw c.in-Refused.is at (c.in-Ok.ensures.lists these tells));
       needed = tt;
       kept = it.kept;
       still_kept = tt;
       seen = imports_seen g.A.Apply c.args.name.now _ here _ _ _ (Ok answer) (on (Some here));
-      folder = c.in-Ok-Refused.ensures.fails;
+      folder = c.in-Ok.ensures.fails;
       why = tt;
     }
 

@@ -1,7 +1,8 @@
-use Rattle.std.proofs.Common.{◌≡◌, ◌≤◌, length, [], ◌∷◌, ap, refl, arith, rules, true, length-append}
+use Rattle.std.proofs.Common.{◌≡◌, ◌≤◌, length, [], ◌∷◌, ap, refl, ◌∙◌, arith, rules, true, length-append}
 use Rattle.std.specs.Result.{is_ok}
 use Rattle.std.specs.Prelude.{Ok, Err}
 use Rattle.csv.specs.Records.{fields_of}
+use Rattle.mm_definitions.specs.Refusals.{own_number}
 use Rattle.mm_kit.specs.Entries.{IsEntryReadAs}
 use Rattle.mm_kit.proofs.ListFacts.{all-read, one-refused, read_few, so_far-more, so_far-none}
 use Rattle.mm_kit.proofs.lists.read_rows.Goals as goal
@@ -16,12 +17,13 @@ loop-place-init g c =
       so_far = λ bytes tells starts. rw (starts, none) (so_far-none bytes _ tells);
     }
 
-pub returns-in-Err-Refused-clause-lists : goal.returns-in-Err-Refused-clause-lists
-returns-in-Err-Refused-clause-lists g c bytes tells starts =
+pub returns-in-Refused-clause-lists : goal.returns-in-Refused-clause-lists
+returns-in-Refused-clause-lists g c bytes tells starts =
     let at = c.loop-place in
-    let bad : IsEntryReadAs at.place (fields_of c.in-Some.row) (Err c.in-Err-Refused.why.number) = (rw (c.in-Err-Refused.field-0-is) at c.in-Err-Refused.ensures).1 in
+    let told = rw c.in-Refused.is at c.in-Err.ensures in
+    let bad : IsEntryReadAs at.place (fields_of c.in-Some.row) (Err c.in-Refused.why.number) = told.1 in
     let read = rw c.in-Some.is at c.in_ok-row.ensures.reads in
-    rw (c.number.ensures, c.in-Err-Refused.why-is) (one-refused g.T.Read.remaining at.rows c.next_record.new.rows bytes _ _ at.entries.items at.place at.invariant.set_up.config (at.invariant.so_far bytes tells starts) read bad)
+    rw (c.reason.ensures ∙ ap (own_number c.in-Refused.why.number) told.0) (one-refused g.T.Read.remaining at.rows c.next_record.new.rows bytes _ _ at.entries.items at.place at.invariant.set_up.config (at.invariant.so_far bytes tells starts) read bad)
 
 pub returns-in-None-clause-lists : goal.returns-in-None-clause-lists
 returns-in-None-clause-lists g c bytes tells starts =

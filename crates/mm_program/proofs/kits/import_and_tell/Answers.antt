@@ -11,26 +11,26 @@ returns-in-Unread-clause-told g c =
     let named : IsName c.args.edition.now = search rules in
     inr (inr (named, Err (stops.Fault (record { 0 = 96 })), c.tell_stop.ensures, (refl, tt)))
 
-pub returns-in-Ok-default-clause-told : goal.returns-in-Ok-default-clause-told
-returns-in-Ok-default-clause-told g c =
+pub returns-in-Ok-clause-told : goal.returns-in-Ok-clause-told
+returns-in-Ok-clause-told g c =
     let named : IsName c.args.edition.now = search rules in
     let old = written g.W.Write.contents c.args.output.now in
     let new = written g.W.Write.contents c.tell_import.new.output in
     inr (inr (
       named,
-      c.import_file.result.0,
-      subst (λ o. IsTold old new (import_text o) (import_status o) c.tell_import.result) (sym c.in-Ok-default.is-0) c.tell_import.ensures,
-      rw (← c.in-Some.ensures.value) c.import_file.ensures,
+      c.import_file-done.result.0,
+      subst (λ o. IsTold old new (import_text o) (import_status o) c.tell_import.result) (sym c.in-Ok.is) c.tell_import.ensures,
+      rw (← c.in-Some.ensures.value) c.import_file-done.ensures,
     ))
 
-pub returns-in-Err-default-clause-told : goal.returns-in-Err-default-clause-told
-returns-in-Err-default-clause-told g c =
+pub returns-in-Err-clause-told : goal.returns-in-Err-clause-told
+returns-in-Err-clause-told g c =
     let named : IsName c.args.edition.now = search rules in
     let old = written g.W.Write.contents c.args.output.now in
-    let new = written g.W.Write.contents c.tell_stop-in-Err-default.new.output in
+    let new = written g.W.Write.contents c.tell_stop-in-Err.new.output in
     inr (inr (
       named,
-      c.import_file.result.0,
-      subst (λ o. IsTold old new (import_text o) (import_status o) c.tell_stop-in-Err-default.result) (sym c.in-Err-default.is-0) c.tell_stop-in-Err-default.ensures,
-      rw (← c.in-Some.ensures.value) c.import_file.ensures,
+      c.import_file-done.result.0,
+      subst (λ o. IsTold old new (import_text o) (import_status o) c.tell_stop-in-Err.result) (sym c.in-Err.is) c.tell_stop-in-Err.ensures,
+      rw (← c.in-Some.ensures.value) c.import_file-done.ensures,
     ))

@@ -4,24 +4,24 @@ use Rattle.mm_program.specs.Told.{IsOutcome}
 use Rattle.mm_program.proofs.Told.{list_untold}
 use Rattle.mm_program.proofs.reporting.list_told.Goals as goal
 
-pub returns-in-Ok-default-clause-listed : goal.returns-in-Ok-default-clause-listed
-returns-in-Ok-default-clause-listed g c =
-    let new = written g.W.Write.contents c.list_file.new.output in (
+pub returns-in-Ok-clause-listed : goal.returns-in-Ok-clause-listed
+returns-in-Ok-clause-listed g c =
+    let new = written g.W.Write.contents c.list_file-done.new.output in (
       new,
-      c.list_file.result.0,
-      (list_untold _ _ _ c.list_file.ensures.listed, subst (λ o. IsOutcome (λ (done : Unit {0}). 0) new new o 0) (sym c.in-Ok-default.is-0) (refl, refl)),
-      c.list_file.ensures.left,
+      c.list_file-done.result.0,
+      (list_untold _ _ _ c.list_file-done.ensures.listed, subst (λ o. IsOutcome (λ (done : Unit {0}). 0) new new o 0) (sym c.in-Ok.is) (refl, refl)),
+      c.list_file-done.ensures.left,
     )
 
-pub returns-in-Err-default-clause-listed : goal.returns-in-Err-default-clause-listed
-returns-in-Err-default-clause-listed g c =
-    let between = written g.W.Write.contents c.list_file.new.output in
+pub returns-in-Err-clause-listed : goal.returns-in-Err-clause-listed
+returns-in-Err-clause-listed g c =
+    let between = written g.W.Write.contents c.list_file-done.new.output in
     let new = written g.W.Write.contents c.tell_stop.new.output in (
       between,
-      c.list_file.result.0,
+      c.list_file-done.result.0,
       (
-        list_untold _ _ _ c.list_file.ensures.listed,
-        subst (λ o. IsOutcome (λ (done : Unit {0}). 0) between new o c.tell_stop.result) (sym c.in-Err-default.is-0) c.tell_stop.ensures,
+        list_untold _ _ _ c.list_file-done.ensures.listed,
+        subst (λ o. IsOutcome (λ (done : Unit {0}). 0) between new o c.tell_stop.result) (sym c.in-Err.is) c.tell_stop.ensures,
       ),
-      c.list_file.ensures.left,
+      c.list_file-done.ensures.left,
     )

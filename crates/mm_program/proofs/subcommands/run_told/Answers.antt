@@ -16,30 +16,30 @@ returns-in-Unread-clause-ran g c = inr (
   (refl, tt),
 )
 
-pub returns-in-Ok-default-clause-ran : goal.returns-in-Ok-default-clause-ran
-returns-in-Ok-default-clause-ran g c =
-    let new = written g.W.Write.contents c.run_file.new.output in
+pub returns-in-Ok-clause-ran : goal.returns-in-Ok-clause-ran
+returns-in-Ok-clause-ran g c =
+    let new = written g.W.Write.contents c.run_file-done.new.output in
     inr (
       c.in-At.moment,
       at_given _ _ _ c.moment_or_now.ensures.given c.in-At.is,
       new,
-      c.run_file.result.0,
-      (run_untold _ _ _ c.run_file.ensures.run, subst (λ o. IsOutcome (λ status. status) new new o c.in-Ok-default.status) (sym c.in-Ok-default.is-0) (refl, refl)),
-      c.run_file.ensures.left,
+      c.run_file-done.result.0,
+      (run_untold _ _ _ c.run_file-done.ensures.run, subst (λ o. IsOutcome (λ status. status) new new o c.in-Ok.status) (sym c.in-Ok.is) (refl, refl)),
+      c.run_file-done.ensures.left,
     )
 
-pub returns-in-Err-default-clause-ran : goal.returns-in-Err-default-clause-ran
-returns-in-Err-default-clause-ran g c =
-    let between = written g.W.Write.contents c.run_file.new.output in
-    let new = written g.W.Write.contents c.tell_stop-in-Err-default.new.output in
+pub returns-in-Err-clause-ran : goal.returns-in-Err-clause-ran
+returns-in-Err-clause-ran g c =
+    let between = written g.W.Write.contents c.run_file-done.new.output in
+    let new = written g.W.Write.contents c.tell_stop-in-Err.new.output in
     inr (
       c.in-At.moment,
       at_given _ _ _ c.moment_or_now.ensures.given c.in-At.is,
       between,
-      c.run_file.result.0,
+      c.run_file-done.result.0,
       (
-        run_untold _ _ _ c.run_file.ensures.run,
-        subst (λ o. IsOutcome (λ (status : ℕ). status) between new o c.tell_stop-in-Err-default.result) (sym c.in-Err-default.is-0) c.tell_stop-in-Err-default.ensures,
+        run_untold _ _ _ c.run_file-done.ensures.run,
+        subst (λ o. IsOutcome (λ (status : ℕ). status) between new o c.tell_stop-in-Err.result) (sym c.in-Err.is) c.tell_stop-in-Err.ensures,
       ),
-      c.run_file.ensures.left,
+      c.run_file-done.ensures.left,
     )

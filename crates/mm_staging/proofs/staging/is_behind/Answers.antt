@@ -15,8 +15,8 @@ returns-then-found g c = record {
       (λ p says. found_behind p c.args.edition.now c.args.number c.number_before.result (rw (to_z-of_z c.ranges.number) at c.number_before.ensures) c.in_ok-found.found says c.if-found.true);
 }
 
-pub returns-else-found : goal.returns-else-found
-returns-else-found g c = record {
+pub returns : goal.returns
+returns g c = record {
   same = search rules;
   look = λ profile.
       let fits : SFits w64 c.number_before.result = search rules in

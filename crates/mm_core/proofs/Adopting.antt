@@ -1,5 +1,5 @@
 -- A connection that is looked at and then checked reads as it did before, and is settled where it was.
-use Rattle.std.proofs.Common.{◌≡◌, ℕ, inl, inr, Bool, true, false, Option, Some, None, Result, Ok, Err, refl, sym, subst, ◌∙◌, arith}
+use Rattle.std.proofs.Common.{◌≡◌, ℕ, inl, inr, Bool, true, false, Option, Some, None, Result, Ok, Err, refl, sym, subst, arith}
 use Rattle.sqlite.specs.State.{State, HasCleanDisk, IsUnchanged}
 use Rattle.mm_definitions.specs.Bounds.{Profile, current}
 use Rattle.mm_definitions.specs.Package.{Package}

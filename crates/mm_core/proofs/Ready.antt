@@ -4,7 +4,7 @@ use Rattle.std.specs.Prelude.{⊤}
 use Rattle.sqlite.specs.State.{State}
 use Rattle.sqlite.specs.Store.{Ghosts}
 use Rattle.mm_definitions.specs.declared.answers.Fault.{Fault}
-use Rattle.mm_core.specs.Parts.{connection, must_reopen, readiness}
+use Rattle.mm_core.specs.Parts.{must_reopen, readiness}
 use Rattle.mm_core.specs.Reads.{Reads}
 use Rattle.mm_core.specs.declared.session.Session.{Session}
 

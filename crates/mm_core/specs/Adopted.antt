@@ -1,5 +1,5 @@
 -- What becomes of a connection that is to be adopted.
-use Rattle.std.specs.Prelude.{◌≡◌, ⊤, ℤ, pos, Err, IsTrue}
+use Rattle.std.specs.Prelude.{◌≡◌, ⊤, ℤ, Err, IsTrue}
 use Rattle.sqlite.specs.State.{State, HasCleanDisk}
 use Rattle.mm_definitions.specs.Bounds.{Profile, current}
 use Rattle.mm_definitions.specs.Package.{Package}

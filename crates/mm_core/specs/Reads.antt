@@ -1,5 +1,5 @@
 -- What a call promises that only reads of the package of a session.
-use Rattle.std.specs.Prelude.{◌≡◌, Bool, true, false, Result, Err}
+use Rattle.std.specs.Prelude.{◌≡◌, true, false, Result, Err}
 use Rattle.sqlite.specs.Held.{state}
 use Rattle.sqlite.specs.State.{State}
 use Rattle.sqlite.specs.Store.{Ghosts}

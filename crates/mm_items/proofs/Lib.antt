@@ -4,3 +4,5 @@ pub mod Ends
 pub mod Writing
 pub mod Staging
 pub mod Selecting
+pub mod Piecing
+pub mod Giving

@@ -1,9 +1,9 @@
 -- From the bytes of an entry to the blob that it names.
-use Rattle.std.proofs.Common.{◌≡◌, ℕ, ℤ, true, List, Option, Some, None, option_map, refl, sym, ap, subst, ◌∙◌}
+use Rattle.std.proofs.Common.{◌≡◌, ℕ, ℤ, List, Option, Some, None, option_map, refl}
 use Rattle.sqlite.specs.State.{State}
 use Rattle.mm_definitions.specs.Bounds.{Profile}
 use Rattle.mm_definitions.specs.Package.{Package}
-use Rattle.mm_store.specs.Kept.{Kept, Spare, no_spare}
+use Rattle.mm_store.specs.Kept.{no_spare}
 use Rattle.mm_store.specs.Stands.{Ground}
 use Rattle.mm_store.specs.Blobs.{bytes_at}
 use Rattle.mm_store.specs.Rows.{MediumRow}

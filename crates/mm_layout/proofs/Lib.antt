@@ -7,3 +7,4 @@ pub mod Stamping
 pub mod Touched
 pub mod Freeing
 pub mod Joined
+pub mod Lending

@@ -8,7 +8,7 @@ use Rattle.sqlite.specs.Schema.{Schema}
 use Rattle.sqlite.specs.Tree.{Trees, with_tree, put_row}
 use Rattle.sqlite.specs.State.{State, ExecutesInside}
 use Rattle.sql_forms.specs.Listing.{IsSound}
-use Rattle.sql_forms.specs.Tables.{tables_of, IsBare, IsReady, Leaves}
+use Rattle.sql_forms.specs.Tables.{tables_of, IsReady, Leaves}
 use Rattle.sql_forms.proofs.Tables.{bare_at, bare_rows}
 use Rattle.mm_store.specs.Tables.{schema}
 use Rattle.mm_definitions.specs.Bounds.{Profile}

@@ -1,5 +1,5 @@
 -- What becomes of a connection whose package is to be told in micrometres.
-use Rattle.std.specs.Prelude.{◌≡◌, ◌≢◌, ⊤, ℤ, pos, Bool, false, Result, Ok, Err, OnOk, IsTrue}
+use Rattle.std.specs.Prelude.{◌≡◌, ◌≢◌, ⊤, false, Result, Ok, Err, OnOk, IsTrue}
 use Rattle.sqlite.specs.Tree.{Trees}
 use Rattle.sqlite.specs.State.{State, HasCleanDisk, Survives}
 use Rattle.mm_definitions.specs.Bounds.{Profile, millimetres, micrometres}

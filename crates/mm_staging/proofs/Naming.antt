@@ -1,5 +1,5 @@
 -- A piece that names a blob, or none.
-use Rattle.std.proofs.Common.{◌≡◌, ◌≢◌, ◌&&◌, ℤ, List, ℕ, true, Option, Some, None, refl, sym, ap, ◌∙◌}
+use Rattle.std.proofs.Common.{◌≡◌, ◌≢◌, ◌&&◌, ℤ, true, Option, Some, None, refl, sym, ap}
 use Rattle.sqlite.specs.declared.types.Value.TheVariants.{Int}
 use Rattle.sqlite.specs.Kind.TheVariants.{Integer}
 use Rattle.sqlite.specs.Values.{or_null}

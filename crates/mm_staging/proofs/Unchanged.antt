@@ -1,24 +1,19 @@
--- A lent call that is accepted and changes nothing.
-use Rattle.std.proofs.Common.{◌≡◌, ℕ, None, Ok, sym, subst}
-use Rattle.sqlite.specs.State.{State}
+-- A command that is accepted and changes nothing.
+use Rattle.std.proofs.Common.{◌≡◌, ℕ, None, Ok}
+use Rattle.std.specs.Prelude.{⊤}
+use Rattle.sqlite.specs.Store.{Ghosts}
+use Rattle.sqlite.specs.declared.transaction.Transaction.{Transaction}
 use Rattle.mm_definitions.specs.Bounds.{Profile}
 use Rattle.mm_definitions.specs.Package.{Package}
 use Rattle.mm_definitions.specs.Rules.{Meets}
 use Rattle.mm_definitions.specs.Step.{refusal, step}
 use Rattle.mm_definitions.specs.declared.answers.Outcome.TheVariants.{Done}
 use Rattle.mm_definitions.specs.declared.commands.Command.{Command}
-use Rattle.mm_store.specs.Stands.{StandsInside}
-use Rattle.mm_store.specs.Shapes.{IsLook, IsLent}
+use Rattle.mm_store.specs.Handed.{Goes, Applies}
+use Rattle.mm_store.proofs.Going.{goes_given, goes_as}
 
-pub accepts_unchanged : (profile : Profile) (c : Command) (moment : ℕ) {T : Type 0} {Says : Package → T → Type 0} (old new : State) (x : T)
-    → IsLook profile old new Says (Ok x)
-    → ((p : Package) → Meets profile p → Says p x → (refusal p c ≡ None) × (step p c moment ≡ p)) → IsLent profile c moment old new (Ok Done)
-accepts_unchanged profile c moment old new x look finds = record {
-  survives = look.survives;
-  on = λ clean ground p it. look.on clean ground p it.inside;
-  answers = λ clean ground p it.
-      let found = look.looked clean ground p it.inside in
-      let f = finds p it.meets found.2 in
-      (f.0, found.0, subst (StandsInside profile new ground) (sym f.1) found.1);
-  faults = tt;
+pub applies_unchanged : {S T : Type 0} {g : Ghosts S} {a b : Transaction S} {c : Command} {Says : Profile → Package → T → Type 0} {x : T} → Goes g a b (λ profile p. ⊤) (λ p it. p) Says (Ok x)
+    → ((moment : ℕ) (profile : Profile) (p : Package) → Meets profile p → Says profile p x → (refusal p c ≡ None) × (step p c moment ≡ p)) → Applies g a b c (Ok Done)
+applies_unchanged h finds = record {
+  goes = λ moment. goes_as (goes_given h (λ profile p meets. tt)) (λ profile p meets says. let f = finds moment profile p meets says in (f.1, f.0));
 }

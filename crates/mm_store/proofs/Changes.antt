@@ -1,5 +1,5 @@
 -- What each UPDATE makes of the row that it changes.
-use Rattle.std.proofs.Common.{◌≡◌, ℕ, ℤ, true, List, [], ◌∷◌, codes, Option, Some, None, refl}
+use Rattle.std.proofs.Common.{◌≡◌, ℤ, true, List, [], ◌∷◌, codes, Option, Some, None, refl}
 use Rattle.sqlite.specs.declared.types.Value.TheVariants.{Int, Text as Words}
 use Rattle.sqlite.specs.Kind.TheVariants.{Integer}
 use Rattle.sqlite.specs.Order.{Row}

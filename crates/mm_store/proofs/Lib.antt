@@ -20,3 +20,5 @@ pub mod Inserting
 pub mod Updating
 pub mod Deleting
 pub mod Cascading
+pub mod Going
+pub mod Applying

@@ -1,5 +1,5 @@
 -- What a DELETE with its cascades leaves of the parts of a package.
-use Rattle.std.proofs.Common.{◌≡◌, ◌⊎◌, inl, inr, ℕ, ℤ, Bool, true, false, not, List, ◌∷◌, Option, Some, refl, sym, ap, subst₂, ◌∙◌}
+use Rattle.std.proofs.Common.{◌≡◌, ◌⊎◌, inl, inr, ℕ, ℤ, Bool, true, not, List, ◌∷◌, Option, Some, refl, sym, ap, subst₂, ◌∙◌}
 use Rattle.std.specs.declared.cmp.Ordering.{Ordering}
 use Rattle.std.specs.FinMap.{FinMap, retain_keys}
 use Rattle.mm_definitions.proofs.Parts.{IsKeyOrder, kept, let_go, true_or_false}
@@ -17,7 +17,7 @@ use Rattle.mm_definitions.specs.Effects.{is_other}
 use Rattle.mm_definitions.specs.Package.{Package, Relation}
 use Rattle.mm_store.specs.Rows.{past_rowid, past_id, relation_row}
 use Rattle.mm_store.specs.Stands.{HoldingBut}
-use Rattle.mm_store.specs.Blobs.{Shelf, Blob, Told, Tells, NamesBlob}
+use Rattle.mm_store.specs.Blobs.{Shelf, Told, Tells, NamesBlob}
 use Rattle.mm_store.specs.Kept.{Spare, tile_id, tile_with, medium_id, medium_with, piece_id, piece_with}
 use Rattle.mm_store.specs.Removals.{without_table_rows, without_relation_rows, without_edition_rows, kept_without_table, kept_without_edition, Freed, FreedByTable, FreedByEdition}
 use Rattle.mm_store.proofs.Parts.{removes_where, retains}

@@ -1,5 +1,5 @@
 -- What a call does with the transaction that it is handed, whatever the profile is. Each leaves it the transaction on the same connection (`same`).
-use Rattle.std.specs.Prelude.{◌≡◌, ◌⊎◌, ℕ, ⊤, List, Option, Result, IfErr}
+use Rattle.std.specs.Prelude.{◌≡◌, ◌⊎◌, ℕ, ⊤, List, Option, Result, IfOk, IfErr, IsTrue}
 use Rattle.sqlite.specs.Held.{state}
 use Rattle.sqlite.specs.Order.{Row}
 use Rattle.sqlite.specs.State.{HasCleanDisk, FailsToQuery, IsTooLate}
@@ -10,12 +10,14 @@ use Rattle.mm_definitions.specs.Bounds.{Profile}
 use Rattle.mm_definitions.specs.Conditions.{Reasons, least}
 use Rattle.mm_definitions.specs.Package.{Package}
 use Rattle.mm_definitions.specs.Rules.{Meets}
+use Rattle.mm_definitions.specs.Step.{refusal, step}
 use Rattle.mm_definitions.specs.declared.answers.Fault.{Fault}
 use Rattle.mm_definitions.specs.declared.answers.Outcome.{Outcome}
 use Rattle.mm_definitions.specs.declared.commands.Command.{Command}
-use Rattle.mm_store.specs.Shapes.{IsLook, IsChange, IsLent}
-use Rattle.mm_store.specs.Faults.{told_as}
-use Rattle.mm_store.specs.Statements.{AreGiven, IsAsked, IsRun}
+use Rattle.mm_store.specs.Stands.{Ground, StandsOn, StandsInside}
+use Rattle.mm_store.specs.Shapes.{IsChange, refused_as}
+use Rattle.mm_store.specs.Faults.{IsStoreFault, told_as}
+use Rattle.mm_store.specs.Statements.{CommitsNothing, AreGiven, IsAsked, IsRun}
 
 -- both are the transaction on one connection
 abbrev pub IsSame : {S : Type 0} → Transaction S → Transaction S → Type 0
@@ -48,24 +50,33 @@ module _ {S : Type 0} (g : Ghosts S) (old new : Transaction S) where
       pub same : IsSame old new
       pub asked : IsAsked (state g old.conn.now) (state g new.conn.now) sql params Says result
 
-    -- it only looks, and answers so of the package
-    pub record Looks (Says : Package → T → Type 0) (result : Result T Fault) : Type 0 where
+    -- Where `When` holds of the package, a success leaves the transaction standing for `next`, and `Says` holds of the package before and of
+    -- the answer. Nothing is committed, a rollback goes back to where it did, after a fault too, and a fault is 90 or 91.
+    pub record Goes (When : Profile → Package → Type 0) (next : Package → T → Package) (Says : Profile → Package → T → Type 0) (result : Result T Fault) : Type 0 where
       pub same : IsSame old new
-      pub look : (profile : Profile) → IsLook profile (state g old.conn.now) (state g new.conn.now) Says result
+      pub survives : CommitsNothing (state g old.conn.now) (state g new.conn.now)
+      pub on : HasCleanDisk (state g new.conn.now) → (profile : Profile) (ground : Ground) (p : Package) → StandsInside profile (state g old.conn.now) ground p
+          → When profile p → StandsOn (state g new.conn.now) ground
+      pub comes : HasCleanDisk (state g new.conn.now) → (profile : Profile) (ground : Ground) (p : Package) → StandsInside profile (state g old.conn.now) ground p
+          → When profile p
+          → IfOk result (λ it. IsTrue (state g new.conn.now).is_open × StandsInside profile (state g new.conn.now) ground (next p it) × Says profile p it)
+      pub faults : IfErr result IsStoreFault
+
+    -- it only looks, and answers so of the package
+    abbrev pub Looks : (Package → T → Type 0) → Result T Fault → Type 0
+    Looks Says = Goes (λ profile p. ⊤) (λ p it. p) (λ profile. Says)
 
     -- it only looks, and answers this of the package
     abbrev pub Tells : (Package → T) → Result T Fault → Type 0
     Tells told = Looks (λ p answer. answer ≡ told p)
 
     -- it only looks, and answers so of a package that meets the rules
-    pub record LooksByRules (Says : Package → T → Type 0) (result : Result T Fault) : Type 0 where
-      pub same : IsSame old new
-      pub look : (profile : Profile) → IsLook profile (state g old.conn.now) (state g new.conn.now) (λ p it. Meets profile p → Says p it) result
+    abbrev pub LooksByRules : (Package → T → Type 0) → Result T Fault → Type 0
+    LooksByRules Says = Goes (λ profile p. ⊤) (λ p it. p) (λ profile p it. Meets profile p → Says p it)
 
     -- it makes this change where it may
-    pub record ChangesWhere (When : Package → Type 0) (next : Package → Package) (result : Result T Fault) : Type 0 where
-      pub same : IsSame old new
-      pub change : (profile : Profile) → IsChange profile (state g old.conn.now) (state g new.conn.now) When next result
+    abbrev pub ChangesWhere : (Package → Type 0) → (Package → Package) → Result T Fault → Type 0
+    ChangesWhere When next = Goes (λ profile. When) (λ p it. next p) (λ profile p it. ⊤)
 
     -- it makes this change
     abbrev pub Changes : (Package → Package) → Result T Fault → Type 0
@@ -79,11 +90,9 @@ module _ {S : Type 0} (g : Ghosts S) (old new : Transaction S) where
   -- ---- a command
 
   -- it only looks, and answers the least of these reasons of a package that meets the rules, if any holds
-  pub record FindsRefusal (reasons : Package → Reasons) (result : Result (Option ℕ) Fault) : Type 0 where
-    pub same : IsSame old new
-    pub look : (profile : Profile) → IsLook profile (state g old.conn.now) (state g new.conn.now) (λ p why. Meets profile p → why ≡ least (reasons p)) result
+  abbrev pub FindsRefusal : (Package → Reasons) → Result (Option ℕ) Fault → Type 0
+  FindsRefusal reasons = LooksByRules (λ p why. why ≡ least (reasons p))
 
   -- it does the command, whatever the moment is
   pub record Applies (command : Command) (result : Result Outcome Fault) : Type 0 where
-    pub same : IsSame old new
-    pub lent : (profile : Profile) (moment : ℕ) → IsLent profile command moment (state g old.conn.now) (state g new.conn.now) result
+    pub goes : (moment : ℕ) → Goes Meets (λ p it. step p command moment) (λ profile p it. refusal p command ≡ refused_as it) result

@@ -1,5 +1,5 @@
 -- How a database keeps the bytes of a package: the entries that name blobs, and the blobs.
-use Rattle.std.specs.Prelude.{◌≡◌, ◌⊎◌, ℕ, ℤ, Bool, true, false, List, Option, Some, None}
+use Rattle.std.specs.Prelude.{◌≡◌, ◌⊎◌, ℕ, ℤ, Bool, true, false, List, Option, Some}
 use Rattle.std.specs.FinMap.{FinMap, get}
 use Rattle.sqlite.specs.Tree.{Trees}
 use Rattle.sql_forms.specs.Maps.{Holds}

@@ -4,7 +4,7 @@ use Rattle.std.specs.List.{AllByRecursion}
 use Rattle.sqlite.specs.Table.{Table}
 use Rattle.sqlite.specs.Schema.{Schema}
 use Rattle.sqlite.specs.Change.{created, indexed}
-use Rattle.sqlite.specs.Compile.{table_defined_by, index_defined_by}
+use Rattle.sqlite.specs.Compile.{table_defined_by}
 use Rattle.sql_forms.specs.Index.{Index}
 use Rattle.mm_store.specs.Tables as tables
 use Rattle.mm_store.specs.Creates as creates

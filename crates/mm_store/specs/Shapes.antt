@@ -47,6 +47,11 @@ Answers profile new ground p refusal next (Ok Done) = IsDone profile new ground 
 Answers profile new ground p refusal next (Ok (Refused why)) = (refusal ≡ Some why) × StandsInside profile new ground p
 Answers profile new ground p refusal next (Err fault) = ⊤
 
+-- why the command was refused, if it was
+abbrev pub refused_as : Outcome → Option Refusal
+refused_as Done = None
+refused_as (Refused why) = Some why
+
 -- the same with nothing said of the transaction after a refusal
 abbrev pub Tries : Profile → State → Ground → Package → Option Refusal → Package → Result Outcome Fault → Type 0
 Tries profile new ground p refusal next (Ok Done) = IsDone profile new ground refusal next

@@ -4,18 +4,12 @@ use mir.Val.{SFits}
 use Rattle.mm_core.proofs.dispatching.lay_out_pyramid.Goals as goal
 
 pub returns-in-Pyramid : goal.returns-in-Pyramid
-returns-in-Pyramid g c = record {
-  same = search rules;
-  lent = λ profile.
-      let srs_fits : SFits w64 c.get.result = search rules in
-      let lent = simp to_z-of_z at (rw c.as_str.ensures.text at (c.add_pyramid.ensures.lent profile)) in
-      rw c.in-Pyramid.is (rw c.get.ensures.number at lent);
-}
+returns-in-Pyramid g c =
+    let srs_fits : SFits w64 c.get.result = search rules in
+    let lent = simp to_z-of_z at (rw c.as_str.ensures.text at c.add_pyramid.ensures) in
+    rw c.in-Pyramid.is (rw c.get.ensures.number at lent)
 
 pub returns-in-Matrix : goal.returns-in-Matrix
-returns-in-Matrix g c = record {
-  same = search rules;
-  lent = λ profile.
-      let lent = rw c.get-in-Matrix.ensures.number at (c.add_matrix.ensures.lent profile) in
-      rw c.in-Matrix.is lent;
-}
+returns-in-Matrix g c =
+    let lent = rw c.get-in-Matrix.ensures.number at c.add_matrix.ensures in
+    rw c.in-Matrix.is lent

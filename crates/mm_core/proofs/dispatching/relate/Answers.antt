@@ -4,35 +4,23 @@ use mir.Val.{SFits}
 use Rattle.mm_core.proofs.dispatching.relate.Goals as goal
 
 pub returns-in-Relation : goal.returns-in-Relation
-returns-in-Relation g c = record {
-  same = search rules;
-  lent = λ profile moment.
-      rw c.in-Relation.is (c.add_relation.ensures.lent profile moment);
-}
+returns-in-Relation g c =
+    rw c.in-Relation.is c.add_relation.ensures
 
 pub returns-in-RelationDrop : goal.returns-in-RelationDrop
-returns-in-RelationDrop g c = record {
-  same = search rules;
-  lent = λ profile moment.
-      rw c.in-RelationDrop.is (c.drop_relation.ensures.lent profile moment);
-}
+returns-in-RelationDrop g c =
+    rw c.in-RelationDrop.is c.drop_relation.ensures
 
 pub returns-in-Map : goal.returns-in-Map
-returns-in-Map g c = record {
-  same = search rules;
-  lent = λ profile moment.
-      let base_fits : SFits w64 c.get.result = search rules in
-      let related_fits : SFits w64 c.get-in-Map.result = search rules in
-      let lent = simp to_z-of_z at (c.add_map.ensures.lent profile moment) in
-      rw c.in-Map.is (rw (c.get.ensures.number, c.get-in-Map.ensures.number) at lent);
-}
+returns-in-Map g c =
+    let base_fits : SFits w64 c.get.result = search rules in
+    let related_fits : SFits w64 c.get-in-Map.result = search rules in
+    let lent = simp to_z-of_z at c.add_map.ensures in
+    rw c.in-Map.is (rw (c.get.ensures.number, c.get-in-Map.ensures.number) at lent)
 
 pub returns-in-MapDrop : goal.returns-in-MapDrop
-returns-in-MapDrop g c = record {
-  same = search rules;
-  lent = λ profile moment.
-      let base_fits : SFits w64 c.get-in-MapDrop.result = search rules in
-      let related_fits : SFits w64 c.get-in-MapDrop-2.result = search rules in
-      let lent = simp to_z-of_z at (c.drop_map.ensures.lent profile moment) in
-      rw c.in-MapDrop.is (rw (c.get-in-MapDrop.ensures.number, c.get-in-MapDrop-2.ensures.number) at lent);
-}
+returns-in-MapDrop g c =
+    let base_fits : SFits w64 c.get-in-MapDrop.result = search rules in
+    let related_fits : SFits w64 c.get-in-MapDrop-2.result = search rules in
+    let lent = simp to_z-of_z at c.drop_map.ensures in
+    rw c.in-MapDrop.is (rw (c.get-in-MapDrop.ensures.number, c.get-in-MapDrop-2.ensures.number) at lent)

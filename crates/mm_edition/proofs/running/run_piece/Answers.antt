@@ -1,9 +1,8 @@
-use Rattle.std.proofs.Common.{rules}
-use Rattle.mm_edition.proofs.Turning.{anywhere}
+use Rattle.mm_layout.proofs.Lending.{anywhere, unstamped_anywhere}
 use Rattle.mm_edition.proofs.running.run_piece.Goals as goal
 
 pub returns-in-Map : goal.returns-in-Map
-returns-in-Map g c = record { same = search rules; lent = λ profile. anywhere _ profile _ _ _ _ _ (c.run_mapping.ensures.lent profile c.args.last_change.now) }
+returns-in-Map g c = unstamped_anywhere c.run_mapping.ensures
 
 pub returns-in-Matrix : goal.returns-in-Matrix
-returns-in-Matrix g c = record { same = search rules; lent = λ profile. anywhere _ profile _ _ _ _ _ (c.run_matrix.ensures.lent profile) }
+returns-in-Matrix g c = anywhere c.run_matrix.ensures

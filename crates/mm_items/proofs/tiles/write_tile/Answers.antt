@@ -1,46 +1,14 @@
-use Rattle.std.proofs.Common.{◌≡◌, inr, refl, ap, ◌∙◌, rules, w64, to_z, of_z, to_z-of_z}
-use Rattle.std.proofs.lemmas.Result.{err_from_is_err_and}
-use Rattle.std.specs.Prelude.{⊤}
-use Rattle.std.specs.FinMap.{insert}
-use Rattle.sqlite.specs.Held.{state}
-use Rattle.mm_definitions.specs.Package.{Package}
-use Rattle.mm_store.specs.Kept.{no_spare}
-use Rattle.mm_blobs.specs.Views.{View, IsSeen, spare_too, spare_but}
-use Rattle.mm_blobs.proofs.Moving.{then_moves}
-use Rattle.mm_blobs.proofs.Naming.{named_again}
-use Rattle.mm_blobs.proofs.Opening.{tidies, tidy_failed, seen_looser}
-use Rattle.mm_blobs.proofs.Releasing.{commits_nothing}
-use Rattle.mm_definitions.specs.Places.{tile_at}
+use Rattle.std.proofs.Common.{◌≡◌, refl, rules, w64, to_z, of_z, to_z-of_z}
+use Rattle.mm_items.proofs.Giving.{writes, writes_not, writes_nothing}
 use Rattle.mm_items.proofs.tiles.write_tile.Goals as goal
 
 pub returns-then-is_empty : goal.returns-then-is_empty
-returns-then-is_empty g c = record { same = search rules; change = λ profile. record { survives = commits_nothing _; on = λ clean ground p it when. it.back; made = λ clean ground p it when. tt; faults = inr refl } }
+returns-then-is_empty g c = writes_nothing
 
 pub returns : goal.returns
-returns g c = record {
-  same = search rules;
-  change = λ profile.
-      let a = c.args in
-      let s0 = state g.S.Store a.tx.now.conn.now in
-      let s1 = state g.S.Store c.keep.new.tx.conn.now in
-      let s2 = state g.S.Store c.give_tile.new.tx.conn.now in
-      let key = tile_at a.table.now a.place in
-      let next = λ (p : Package). record p { tiles = insert p.tiles key a.bytes.now } in
-      let blob = c.in_ok-blob.blob in
-      let back : to_z w64 (of_z w64 blob) ≡ blob = search (rules, to_z-of_z) in
-      tidies profile s0 s2 c.give_tile.result next
-      (then_moves (λ base x _ y. (y.content ≡ next x.content) × IsSeen no_spare profile s2 base y) s0 s1 s2 blob c.give_tile.result (c.in_ok-blob.ensures.kept profile no_spare) ((rw (back) at c.give_tile.ensures.given) profile (spare_too blob no_spare) a.bytes.now)
-      (λ base x y it mid. (mid.1, mid.2))
-      (λ base x y z u it mid last. (last.0 ∙ ap (λ (v : View). next v.content) mid.0, seen_looser (spare_but blob (spare_too blob no_spare)) no_spare profile s2 base z (named_again no_spare blob) last.1)))
-      (λ base x y t last. last);
-}
+returns g c =
+    let back : to_z w64 (of_z w64 c.in_ok-blob.blob) ≡ c.in_ok-blob.blob = search (rules, to_z-of_z) in
+    writes c.in_ok-blob.ensures (rw (back) at c.give_tile.ensures) (λ p. refl)
 
 pub returns-in_err-blob : goal.returns-in_err-blob
-returns-in_err-blob g c = record {
-  same = search rules;
-  change = λ profile.
-      let p = err_from_is_err_and c.from_residual.result c.from_residual.ensures.1 in
-      let a = c.args in
-      let key = tile_at a.table.now a.place in
-      rw (p.1, p.2) (tidy_failed profile _ _ (λ p. ⊤) (λ (p : Package). record p { tiles = insert p.tiles key a.bytes.now }) c.in_err-blob.field-0.0 (c.in_err-blob.ensures.kept profile no_spare));
-}
+returns-in_err-blob g c = writes_not c.in_err-blob.ensures c.from_residual.ensures.1

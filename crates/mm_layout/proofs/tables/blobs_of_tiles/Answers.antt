@@ -1,5 +1,5 @@
-use Rattle.std.proofs.Common.{◌≡◌, ◌∷◌, [], false, ap, ◌∙◌, refl, rules}
-use Rattle.sqlite.specs.declared.types.Value.TheVariants.{Int, Text as Words}
+use Rattle.std.proofs.Common.{◌∷◌, [], ap, ◌∙◌, rules}
+use Rattle.sqlite.specs.declared.types.Value.TheVariants.{Text as Words}
 use Rattle.sqlite.specs.Held.{state}
 use Rattle.sqlite.specs.Term.{col}
 use Rattle.sql_forms.specs.Forms.{equals}

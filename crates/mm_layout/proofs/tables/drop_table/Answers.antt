@@ -1,49 +1,29 @@
-use Rattle.std.proofs.Common.{sym, refl, ◌∙◌, rules}
-use Rattle.std.proofs.lemmas.Result.{err_from_is_err_and}
-use Rattle.mm_store.proofs.Refusals.{refused, refused_for, accepted_for}
-use Rattle.mm_store.proofs.Shapes.{refuses, accepts, look_gave_up, change_gave_up, changes_then}
+use Rattle.std.proofs.Common.{sym, refl, ◌∙◌}
+use Rattle.mm_store.proofs.Refusals.{refused_for, accepted_for}
+use Rattle.mm_store.proofs.Going.{changes_then}
+use Rattle.mm_store.proofs.Applying.{declines, applies, applies_unasked, applies_not}
 use Rattle.mm_layout.proofs.tables.drop_table.Goals as goal
 
 pub returns-in-Some : goal.returns-in-Some
-returns-in-Some g c = record {
-  same = search rules;
-  lent = λ profile moment.
-      rw (← c.as_str-table.ensures.text)
-      (rw c.refused.ensures (refuses profile _ moment _ _ _ (refused c.in-Some.number) (c.in_ok-number.ensures.look profile) (λ p meets says. refused_for _ c.in-Some.number (sym says ∙ c.in-Some.is))));
-}
+returns-in-Some g c =
+    rw (← c.as_str-table.ensures.text) (rw c.refused.ensures (declines c.in_ok-number.ensures
+    (λ profile p meets says. refused_for _ c.in-Some.number (sym says ∙ c.in-Some.is))))
 
 pub returns-in_err-number : goal.returns-in_err-number
-returns-in_err-number g c = record {
-  same = search rules;
-  lent = λ profile moment.
-      let p = err_from_is_err_and c.from_residual.result c.from_residual.ensures.1 in
-      rw (p.1, p.2) (rw (← c.as_str-table.ensures.text) (look_gave_up profile _ moment _ _ _ (c.in_err-number.ensures.look profile)));
-}
+returns-in_err-number g c =
+    rw (← c.as_str-table.ensures.text) (applies_unasked c.in_err-number.ensures c.from_residual.ensures.1)
 
 pub returns-in_err-delete_table : goal.returns-in_err-delete_table
-returns-in_err-delete_table g c = record {
-  same = search rules;
-  lent = λ profile moment.
-      let p = err_from_is_err_and c.from_residual-in_err-delete_table.result c.from_residual-in_err-delete_table.ensures.1 in
-      rw (p.1, p.2) (rw (← c.as_str-table.ensures.text)
-      (change_gave_up profile _ moment _ _ _ _ (c.in_ok-number.ensures.look profile) _ (c.in_err-delete_table.ensures.change profile) (λ p meets says. tt)));
-}
+returns-in_err-delete_table g c =
+    rw (← c.as_str-table.ensures.text) (applies_not c.in_ok-number.ensures c.in_err-delete_table.ensures
+    (λ profile p meets says. tt) c.from_residual-in_err-delete_table.ensures.1)
 
 pub returns : goal.returns
-returns g c = record {
-  same = search rules;
-  lent = λ profile moment.
-      rw (← c.as_str-table.ensures.text)
-      (accepts profile _ moment _ _ _ _ (c.in_ok-number.ensures.look profile) _ (changes_then profile _ _ _ _ _ (c.in_ok-delete_table.ensures.change profile) (c.in_ok-delete_zoom_row.ensures.change profile) (λ p any. tt))
-      (λ p meets says. (tt, accepted_for _ (sym says ∙ c.in_default.is), refl)));
-}
+returns g c =
+    rw (← c.as_str-table.ensures.text) (applies c.in_ok-number.ensures (changes_then c.in_ok-delete_table.ensures c.in_ok-delete_zoom_row.ensures (λ p any. tt))
+    (λ moment profile p meets says. (tt, accepted_for _ (sym says ∙ c.in_default.is), refl)))
 
 pub returns-in_err-delete_zoom_row : goal.returns-in_err-delete_zoom_row
-returns-in_err-delete_zoom_row g c = record {
-  same = search rules;
-  lent = λ profile moment.
-      let p = err_from_is_err_and c.from_residual-in_err-delete_zoom_row.result c.from_residual-in_err-delete_zoom_row.ensures.1 in
-      rw (p.1, p.2) (rw (← c.as_str-table.ensures.text)
-      (change_gave_up profile _ moment _ _ _ _ (c.in_ok-number.ensures.look profile) _ (changes_then profile _ _ _ _ _ (c.in_ok-delete_table.ensures.change profile) (c.in_err-delete_zoom_row.ensures.change profile) (λ p any. tt))
-      (λ p meets says. tt)));
-}
+returns-in_err-delete_zoom_row g c =
+    rw (← c.as_str-table.ensures.text) (applies_not c.in_ok-number.ensures (changes_then c.in_ok-delete_table.ensures c.in_err-delete_zoom_row.ensures (λ p any. tt))
+    (λ profile p meets says. tt) c.from_residual-in_err-delete_zoom_row.ensures.1)

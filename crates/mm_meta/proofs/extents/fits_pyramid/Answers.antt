@@ -1,32 +1,23 @@
 use Rattle.std.proofs.Common.{sym, ap, ◌∙◌, rules}
-use Rattle.std.proofs.lemmas.Result.{err_from_is_err_and}
 use Rattle.mm_definitions.specs.Conditions.{grid, is_product}
 use Rattle.mm_definitions.specs.Package.{Box}
 use Rattle.std.specs.FinMap.{get}
-use Rattle.mm_store.proofs.Shapes.{look_as, look_failed}
 use Rattle.mm_layout.proofs.Looking.{look_denied}
 use Rattle.mm_meta.proofs.Covering.{fits_is, set_of}
+use Rattle.mm_store.proofs.Going.{tells, failed}
+use Rattle.mm_store.proofs.Going.{look_at, look_by}
 use Rattle.mm_meta.proofs.extents.fits_pyramid.Goals as goal
 
 pub returns-in-Some : goal.returns-in-Some
-returns-in-Some g c = record {
-  same = search rules;
-  look = λ profile.
-      let a = c.args in
-      let told = fits_is c.in-Some.extent (grid a.matrix.now) c.fits.result c.fits.ensures in
-      look_as profile _ _ _ _ (c.in_ok-extent.ensures.look profile)
-      (λ p says.
-      let set = set_of (get p.sets a.table.now) c.in-Some.extent (says ∙ c.in-Some.is) in
-      (set.0, set.1, told ∙ ap (λ (b : Box). is_product b (grid a.matrix.now)) (sym set.2)));
-}
+returns-in-Some g c =
+    let a = c.args in
+    let told = fits_is c.in-Some.extent (grid a.matrix.now) c.fits.result c.fits.ensures in
+    tells c.in_ok-extent.ensures
+    (λ profile p says. let set = set_of (get p.sets a.table.now) c.in-Some.extent (says ∙ c.in-Some.is) in (set.0, set.1, told ∙ ap (λ (b : Box). is_product b (grid a.matrix.now)) (sym set.2)))
 
 pub returns-in-None : goal.returns-in-None
-returns-in-None g c = record { same = search rules; look = λ profile. look_denied profile _ _ _ (c.in_ok-extent.ensures.look profile) }
+returns-in-None g c = look_by (search rules) (λ profile. look_denied profile _ _ _ (look_at c.in_ok-extent.ensures profile))
 
 pub returns-in_err-extent : goal.returns-in_err-extent
-returns-in_err-extent g c = record {
-  same = search rules;
-  look = λ profile.
-      let p = err_from_is_err_and c.from_residual.result c.from_residual.ensures.1 in
-      rw (p.1, p.2) (look_failed profile _ _ _ (c.in_err-extent.ensures.look profile));
-}
+returns-in_err-extent g c =
+    failed c.in_err-extent.ensures c.from_residual.ensures.1

@@ -3,6 +3,7 @@ use Rattle.std.proofs.lemmas.Result.{err_from_is_err_and}
 use Rattle.mm_definitions.specs.Bounds.{current}
 use Rattle.mm_definitions.specs.Opening.{opening}
 use Rattle.mm_meta.proofs.Making.{creating_makes, creating_gave_up, making_then, making_failed, general_free}
+use Rattle.mm_store.proofs.Going.{change_at}
 use Rattle.mm_meta.proofs.opening.make.Goals as goal
 
 pub returns-in_err-create_tables : goal.returns-in_err-create_tables
@@ -26,5 +27,5 @@ returns g c = record {
   same = search rules;
   made =
       let made = creating_makes current _ _ _ _ _ _ _ _ c.in_ok-create_tables.ensures.made c.in_ok-put_systems.ensures.made in
-      making_then current _ _ _ _ _ _ _ made (c.insert_related_row.ensures.change current) general_free;
+      making_then current _ _ _ _ _ _ _ made (change_at c.insert_related_row.ensures current) general_free;
 }

@@ -1,32 +1,22 @@
-use Rattle.std.proofs.Common.{◌||◌, sym, ap, ◌∙◌, rules}
+use Rattle.std.proofs.Common.{refl, ◌||◌, sym, ap, ◌∙◌}
 use Rattle.std.proofs.Math.Facts.{to_z-of_z}
-use Rattle.std.proofs.lemmas.Result.{err_from_is_err_and}
 use Rattle.std.specs.FinMap.{contains_key}
 use Rattle.mm_definitions.specs.Keys.{item}
-use Rattle.mm_store.proofs.Shapes.{look_as, look_weaker, look_failed, looks_then}
+use Rattle.mm_store.proofs.Going.{goes_on, goes_less, tells, failed}
 use Rattle.mm_reads.proofs.items.has_item.Goals as goal
 
 pub returns-then-branch : goal.returns-then-branch
-returns-then-branch g c = record {
-  same = search rules;
-  look = λ profile.
-      let a = c.args in
-      look_as profile _ _ _ _ ((rw (to_z-of_z c.ranges.id) at c.in_ok-has_row.ensures.look) profile) (λ p says. sym (ap (λ b. b || contains_key p.media (item a.table.now a.id)) (sym says ∙ c.if-branch.true)));
-}
+returns-then-branch g c =
+    let a = c.args in
+    tells (rw (to_z-of_z c.ranges.id) at c.in_ok-has_row.ensures)
+    (λ profile p says. sym (ap (λ b. b || contains_key p.media (item a.table.now a.id)) (sym says ∙ c.if-branch.true)))
 
 pub returns-else-branch : goal.returns-else-branch
-returns-else-branch g c = record {
-  same = search rules;
-  look = λ profile.
-      let a = c.args in
-      look_weaker profile _ _ _ (looks_then profile _ _ _ _ _ ((rw (to_z-of_z c.ranges.id) at c.in_ok-has_row.ensures.look) profile) ((rw (to_z-of_z c.ranges.id) at c.has_medium.ensures.look) profile))
-      (λ p found says. says.1 ∙ sym (ap (λ b. b || contains_key p.media (item a.table.now a.id)) (sym says.0 ∙ c.if-branch.false)));
-}
+returns-else-branch g c =
+    let a = c.args in
+    goes_less (goes_on (rw (to_z-of_z c.ranges.id) at c.in_ok-has_row.ensures) (rw (to_z-of_z c.ranges.id) at c.has_medium.ensures))
+    (λ profile p found when says. (refl, says.1 ∙ sym (ap (λ b. b || contains_key p.media (item a.table.now a.id)) (sym says.0 ∙ c.if-branch.false))))
 
 pub returns-in_err-has_row : goal.returns-in_err-has_row
-returns-in_err-has_row g c = record {
-  same = search rules;
-  look = λ profile.
-      let p = err_from_is_err_and c.from_residual.result c.from_residual.ensures.1 in
-      rw (p.1, p.2) (look_failed profile _ _ _ (c.in_err-has_row.ensures.look profile));
-}
+returns-in_err-has_row g c =
+    failed c.in_err-has_row.ensures c.from_residual.ensures.1

@@ -1,5 +1,4 @@
-use Rattle.std.proofs.Common.{rules}
 use Rattle.mm_relations.proofs.relations.add_relation.Goals as goal
 
 pub returns : goal.returns
-returns g c = record { same = search rules; lent = λ profile moment. (rw (c.as_str.ensures.text, c.as_str-2.ensures.text, c.as_str-3.ensures.text) at c.relate.ensures.lent) profile moment }
+returns g c = rw (c.as_str.ensures.text, c.as_str-2.ensures.text, c.as_str-3.ensures.text) at c.relate.ensures

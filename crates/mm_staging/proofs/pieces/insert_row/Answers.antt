@@ -1,4 +1,4 @@
-use Rattle.std.proofs.Common.{◌≡◌, ◌∷◌, Ok, None, refl, sym, ap, ◌∙◌, rules}
+use Rattle.std.proofs.Common.{◌≡◌, ◌∷◌, Ok, None, refl, ap, rules}
 use Rattle.std.specs.FinMap.{get, insert}
 use Rattle.sqlite.specs.declared.types.Value.TheVariants.{Int, Null}
 use Rattle.sqlite.specs.Tree.{with_tree, put_row}
@@ -9,7 +9,7 @@ use Rattle.sql_forms.proofs.Inserts.{has_inserted}
 use Rattle.mm_definitions.specs.Keys.{piece}
 use Rattle.mm_store.proofs.Inserting as statement
 use Rattle.mm_store.specs.Blobs.{StandsAt}
-use Rattle.mm_store.specs.Kept.{piece_id, piece_with}
+use Rattle.mm_store.specs.Kept.{piece_with}
 use Rattle.mm_store.specs.Rows.{staged_row}
 use Rattle.mm_store.proofs.Parts.{puts}
 use Rattle.mm_store.proofs.Keys as parts

@@ -1,43 +1,33 @@
 use Rattle.std.proofs.Common.{◌≡◌, Some, option_map, pos, rules, ap, ◌∙◌, w64}
 use Rattle.std.proofs.Math.Facts.{to_z-of_z}
-use Rattle.std.proofs.lemmas.Result.{err_from_is_err_and}
 use mir.Val.{SFits}
-use Rattle.mm_store.proofs.Shapes.{look_as, look_failed}
 use Rattle.mm_layout.proofs.Looking.{look_denied}
 use Rattle.mm_staging.specs.Kept.{kept_row}
 use Rattle.mm_staging.proofs.Spelled.{spelled_row}
+use Rattle.mm_store.proofs.Going.{failed, tells}
+use Rattle.mm_store.proofs.Going.{look_at, look_by}
 use Rattle.mm_staging.proofs.pieces.piece.Goals as goal
 
 pub returns-in-Some-spelled : goal.returns-in-Some-spelled
-returns-in-Some-spelled g c = record {
-  same = search rules;
-  look = λ profile.
-      let is : c.from.result ≡ pos c.args.number = search rules in
-      let fits : SFits w64 c.from.result = search rules in
-      rw (← c.as_str-edition.ensures.text)
-      (look_as profile _ _ _ _ ((rw is at (rw (to_z-of_z fits) at c.in_ok-kept.ensures.look)) profile)
-      (λ p says meets.
-      let there = says ∙ ap (option_map kept_row) c.in-Some.is in
-      there ∙ ap Some (spelled_row profile _ c.in-Some-spelled.piece (meets.q15.spelled _ _ there) c.in-Some-spelled.ensures)));
-}
+returns-in-Some-spelled g c =
+    let is : c.from.result ≡ pos c.args.number = search rules in
+    let fits : SFits w64 c.from.result = search rules in
+    rw (← c.as_str-edition.ensures.text)
+    (tells (rw is at (rw (to_z-of_z fits) at c.in_ok-kept.ensures))
+    (λ profile p says meets.
+    let there = says ∙ ap (option_map kept_row) c.in-Some.is in
+    there ∙ ap Some (spelled_row profile _ c.in-Some-spelled.piece (meets.q15.spelled _ _ there) c.in-Some-spelled.ensures)))
 
 pub returns-in-None-spelled : goal.returns-in-None-spelled
-returns-in-None-spelled g c = record { same = search rules; look = λ profile. rw (← c.as_str-edition.ensures.text) (look_denied profile _ _ _ (c.in_ok-kept.ensures.look profile)) }
+returns-in-None-spelled g c = look_by (search rules) (λ profile. rw (← c.as_str-edition.ensures.text) (look_denied profile _ _ _ (look_at c.in_ok-kept.ensures profile)))
 
 pub returns-in-None : goal.returns-in-None
-returns-in-None g c = record {
-  same = search rules;
-  look = λ profile.
-      let is : c.from.result ≡ pos c.args.number = search rules in
-      let fits : SFits w64 c.from.result = search rules in
-      rw (← c.as_str-edition.ensures.text)
-      (look_as profile _ _ _ _ ((rw is at (rw (to_z-of_z fits) at c.in_ok-kept.ensures.look)) profile) (λ p says meets. says ∙ ap (option_map kept_row) c.in-None.is));
-}
+returns-in-None g c =
+    let is : c.from.result ≡ pos c.args.number = search rules in
+    let fits : SFits w64 c.from.result = search rules in
+    rw (← c.as_str-edition.ensures.text)
+    (tells (rw is at (rw (to_z-of_z fits) at c.in_ok-kept.ensures)) (λ profile p says meets. says ∙ ap (option_map kept_row) c.in-None.is))
 
 pub returns-in_err-kept : goal.returns-in_err-kept
-returns-in_err-kept g c = record {
-  same = search rules;
-  look = λ profile.
-      let p = err_from_is_err_and c.from_residual.result c.from_residual.ensures.1 in
-      rw (p.1, p.2) (rw (← c.as_str-edition.ensures.text) (look_failed profile _ _ _ (c.in_err-kept.ensures.look profile)));
-}
+returns-in_err-kept g c =
+    rw (← c.as_str-edition.ensures.text) (failed c.in_err-kept.ensures c.from_residual.ensures.1)

@@ -8,7 +8,6 @@ use Rattle.mm_definitions.specs.Keys.{piece}
 use Rattle.mm_store.proofs.Selecting as statement
 use Rattle.mm_store.specs.Blobs.{Told}
 use Rattle.mm_store.specs.Kept.{piece_id, piece_with}
-use Rattle.mm_blobs.specs.Views.{IsSeen}
 use Rattle.mm_blobs.proofs.Keeping.{kept_in}
 use Rattle.mm_blobs.proofs.Moving.{looks, seen}
 use Rattle.mm_staging.specs.Kept.{IsPieceRow}

@@ -29,6 +29,7 @@
 
 mod applying;
 mod checking;
+mod desking;
 mod dispatching;
 mod editing;
 mod listing;

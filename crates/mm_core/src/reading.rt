@@ -6,7 +6,7 @@ use mm_definitions::entries::{EditionState, Entry, Media, Related, Row};
 use mm_definitions::names::Name;
 use mm_definitions::places::TilePlace;
 use mm_edition::edition;
-use mm_reads::{contents, media, related, row, tile};
+use mm_reads::{contents, media, related, row, rows_from, tile};
 use sqlite::Alter;
 
 impl<S: Alter> Session<S> {
@@ -19,6 +19,7 @@ impl<S: Alter> Session<S> {
     ghost use Rattle.mm_reads.specs.Told.{TellsBytes, shown_medium, shown_row};
     ghost use Rattle.mm_reads.specs.Contents.{ListsTables};
     ghost use Rattle.mm_reads.specs.Related.{TellsMates};
+    ghost use Rattle.mm_reads.specs.RowLists.{TellsRows};
     ghost use Rattle.mm_definitions.specs.Standing.{TellsState};
     ghost use Rattle.mm_core.specs.Reads.{Reads};
 
@@ -83,6 +84,19 @@ impl<S: Alter> Session<S> {
     {
         self.ready()?;
         related(self.alloc, &mut self.conn, table, id)
+    }
+
+    /// The rows of an attribute table from an id on, each with its id, by rising id and 1,000 at most; None where no attribute
+    /// table has the name. (Attributes.)
+    ///
+    /// 92 where the session has to be opened again, and then nothing is asked of the store. After another fault the session goes
+    /// on, and the package and what may be left are as they were.
+    pub fn rows(&mut self, table: &Name, first: i64) -> Result<Option<Vec<(i64, Row)>>, Fault>
+        ensures { Reads S.Store self.old self.new result (λ old new. IsRead current old new
+            (λ p found. TellsRows p table.now first found) result) }
+    {
+        self.ready()?;
+        rows_from(self.alloc, &mut self.conn, table, first)
     }
 
     /// How an edition stands, or None where none has the name: open with so many pieces, or published.

@@ -10,7 +10,7 @@ use Rattle.mm_reads.specs.Related.{Mate}
 use Rattle.mm_page.specs.Lists.{mate_data, table_data, table_data_at, whole_number}
 
 -- a whole number is no float
-whole_clean : (z : ℤ) → has_float (whole_number z) ≡ false
+pub whole_clean : (z : ℤ) → has_float (whole_number z) ≡ false
 whole_clean (pos n) = refl
 whole_clean (negsuc n) = refl
 

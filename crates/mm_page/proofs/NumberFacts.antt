@@ -13,7 +13,7 @@ use Rattle.mm_page.specs.Routes.{IsPart}
 use Rattle.mm_definitions.specs.Numbers.{AreDigits, IsDigit, LeadDigits, SpellsNumber}
 
 -- what is no slash before what has none
-onward : (b : ℕ) (rest : List ℕ) → b ≢ 47 → has_slash rest ≡ false → has_slash (b ∷ rest) ≡ false
+pub onward : (b : ℕ) (rest : List ℕ) → b ≢ 47 → has_slash rest ≡ false → has_slash (b ∷ rest) ≡ false
 onward b rest other none = let q : (b == 47) ≡ false = grind (arith, nat_tests) in rw (q, none) refl
 
 -- a text of letters and digits, byte by byte

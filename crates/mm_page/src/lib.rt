@@ -29,6 +29,7 @@ mod routes;
 mod serving;
 
 pub use heads::{one_head, read_head};
+pub use replies::{printed, reply};
 pub use responses::{bad_request, found, not_allowed, not_found};
 pub use routes::{Wanted, read_path};
 pub use serving::{one_page, serve_one};

@@ -9,6 +9,9 @@ pub mod Mates
 pub mod ListedMates
 pub mod OnlyAsks
 pub mod ReadingMates
+pub mod GatheredRead
+pub mod ListedRows
+pub mod ReadingRows
 pub mod Leaving
 pub mod Counting
 pub mod Fronts

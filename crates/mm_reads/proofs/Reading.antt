@@ -1,8 +1,8 @@
 -- A walk over the tables of the contents is a read.
-use Rattle.std.proofs.Common.{◌≡◌, ◌⊎◌, inl, inr, Bool, true, false, List, [], ◌∷◌, ◌++◌, Result, Ok, Err, IfOk, IfErr, Vec, Global, refl, sym, ap, subst, ◌∙◌, append_assoc, append-nil}
+use Rattle.std.proofs.Common.{◌≡◌, Bool, true, false, List, [], ◌∷◌, ◌++◌, Result, Ok, Err, IfOk, Vec, Global, refl, sym, ap, subst, ◌∙◌, append_assoc, append-nil}
 use Rattle.sqlite.specs.Order.{Row}
 use Rattle.sql_forms.specs.Values.TheVariants.{Null}
-use Rattle.sqlite.specs.State.{State, HasCleanDisk}
+use Rattle.sqlite.specs.State.{State}
 use Rattle.sql_forms.proofs.States.{shows_as, shown_open}
 use Rattle.sql_forms.proofs.Queries.{no_overlay}
 use Rattle.sql_forms.specs.Tables.{tables_of}
@@ -11,13 +11,11 @@ use Rattle.mm_definitions.specs.Bounds.{Profile}
 use Rattle.mm_definitions.specs.Package.{Package}
 use Rattle.mm_definitions.specs.declared.answers.Fault.{Fault}
 use Rattle.mm_definitions.specs.declared.entries.Entry.{Entry}
-use Rattle.mm_store.specs.Faults.{IsStoreFault}
 use Rattle.mm_store.specs.Seen.{IsSeenAs, IsRead}
-use Rattle.mm_store.proofs.Seen.{settled_still}
 use Rattle.mm_walk.specs.Walk.{TakesRows, Ends, IsWalk}
-use Rattle.mm_walk.proofs.Resting.{seen_still, ends_rest}
 use Rattle.mm_reads.specs.Contents.{GathersTables, ListsTables}
 use Rattle.mm_reads.proofs.Asking.{list_asks}
+use Rattle.mm_reads.proofs.GatheredRead.{Found, gathered_read}
 use Rattle.mm_reads.proofs.Listed.{list_text, list_tables, ShowsAll, lists_tables}
 
 -- ---- the walk of a visitor that keeps what it gathers
@@ -44,35 +42,6 @@ module _ {V : Type 0} (takes : V → Row → V → Result Bool Fault → Type 0)
           subst (ListsTables p) (sym (all.1 ∙ ap (λ es. es ++ all.0) empty))
           (lists_tables p (tables_of schema old.now.trees 1) (tables_of schema old.now.trees 13) holds.contents holds.kinds (at.stands.rows 1).rise (at.stands.rows 13).rise _ (no_overlay old.now.trees 1) (no_overlay old.now.trees 13) h.rows (read.0.answer Null) all.0 all.2)
 
-      -- the entries, where the walk came to its end
-      abbrev pub Found : Result Bool Fault → Result (Vec Entry Global) Fault → Type 0
-      Found (Ok goes) (Ok entries) = entries.items ≡ items w
-      Found (Ok goes) (Err fault) = ⊥
-      Found (Err fault) (Ok entries) = ⊥
-      Found (Err fault) (Err other) = fault ≡ other
-
       pub read_by_walk : (result : Result Bool Fault) (last : Result (Vec Entry Global) Fault) → IsWalk takes list_text [] old new v w result
-          → Found result last → IsRead profile old new (λ p (tables : Vec Entry Global). ListsTables p tables.items) last
-      read_by_walk result last it found = record {
-        survives = it.survives (list_asks old.now.schema);
-        seen = seen;
-        settled = λ clean p was. settled_still profile old new p (it.survives (list_asks old.now.schema)) clean (seen clean p) was;
-        says = λ clean p meets was. says p result last found (tables_told p was result (it.walked clean (list_asks old.now.schema)));
-        faults = faults result last found it.faults;
-      }
-        where
-          seen : HasCleanDisk new → (p : Package) → IsSeenAs profile old p → IsSeenAs profile new p
-          seen clean p = seen_still profile old new p (ends_rest takes list_text [] old new v w result (it.walked clean (list_asks old.now.schema)))
-
-          says : (p : Package) (result : Result Bool Fault) (last : Result (Vec Entry Global) Fault) → Found result last
-              → IfOk result (λ _. ListsTables p (items w)) → IfOk last (λ tables. ListsTables p tables.items)
-          says p (Ok goes) (Ok entries) same h = subst (ListsTables p) (sym same) h
-          says p (Err fault) (Ok entries) none h = absurd none
-          says p result (Err fault) found h = tt
-
-          faults : (result : Result Bool Fault) (last : Result (Vec Entry Global) Fault) → Found result last
-              → IfErr result (λ fault. IsStoreFault fault ⊎ ((before : V) × (row : Row) × takes before row w (Err fault))) → IfErr last IsStoreFault
-          faults result (Ok entries) found h = tt
-          faults (Ok goes) (Err fault) none h = absurd none
-          faults (Err fault) (Err other) same (inl stored) = subst IsStoreFault same stored
-          faults (Err fault) (Err other) same (inr told) = subst IsStoreFault same (gathers told.0 w told.1 (Err fault) told.2)
+          → Found (items w) result last → IsRead profile old new (λ p (tables : Vec Entry Global). ListsTables p tables.items) last
+      read_by_walk = gathered_read takes list_text [] old new v w (items w) profile (list_asks old.now.schema) ListsTables tables_told (λ before row fault. gathers before w row (Err fault))

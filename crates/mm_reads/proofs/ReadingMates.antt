@@ -1,9 +1,9 @@
 -- A walk over an item's mapping rows is a read, and so is one read after another.
-use Rattle.std.proofs.Common.{◌≡◌, ◌⊎◌, inl, inr, ℤ, Bool, true, false, List, [], ◌∷◌, ◌++◌, Result, Ok, Err, IfOk, IfErr, Vec, Global, refl, sym, ap, subst, ◌∙◌, append_assoc, append-nil, arith}
+use Rattle.std.proofs.Common.{◌≡◌, ℤ, Bool, true, false, List, [], ◌∷◌, ◌++◌, Result, Ok, Err, IfOk, Vec, Global, refl, sym, ap, subst, ◌∙◌, append_assoc, append-nil, arith}
 use Rattle.sqlite.specs.declared.types.Value.TheVariants.{Int, Text as Words}
 use Rattle.sql_forms.specs.Values.TheVariants.{Null}
 use Rattle.sqlite.specs.Order.{Row}
-use Rattle.sqlite.specs.State.{State, HasCleanDisk, Shown}
+use Rattle.sqlite.specs.State.{State, Shown}
 use Rattle.sql_forms.proofs.States.{shows_as, shown_open}
 use Rattle.sql_forms.proofs.Queries.{no_overlay}
 use Rattle.sql_forms.specs.Tables.{tables_of}
@@ -13,26 +13,17 @@ use Rattle.mm_definitions.specs.Keys.{Text}
 use Rattle.mm_definitions.specs.Package.{Package}
 use Rattle.mm_definitions.specs.declared.answers.Fault.{Fault}
 use Rattle.mm_definitions.specs.declared.entries.Related.{Related}
-use Rattle.mm_store.specs.Faults.{IsStoreFault}
 use Rattle.mm_store.specs.Seen.{IsSeenAs, IsRead}
-use Rattle.mm_store.proofs.Seen.{settled_still}
 use Rattle.mm_store.proofs.Shapes.{quiet_then}
 use Rattle.mm_walk.specs.Walk.{TakesRows, Ends, IsWalk}
-use Rattle.mm_walk.proofs.Resting.{seen_still, ends_rest}
 use Rattle.mm_reads.specs.Related.{GathersMates, ListsMates}
 use Rattle.mm_reads.proofs.Asked as asked
 use Rattle.mm_reads.proofs.Asked.{listed_text}
 use Rattle.mm_reads.proofs.OnlyAsks.{only_asks}
+use Rattle.mm_reads.proofs.GatheredRead.{Found, gathered_read}
 use Rattle.mm_reads.proofs.ListedMates.{ShowsAll, lists_mates}
 
 -- ---- the walk of a visitor that keeps what it gathers
-
--- the items that were gathered, where the walk came to its end
-abbrev pub Found : List Related → Result Bool Fault → Result (Vec Related Global) Fault → Type 0
-Found gathered (Ok goes) (Ok found) = found.items ≡ gathered
-Found gathered (Ok goes) (Err fault) = ⊥
-Found gathered (Err fault) (Ok found) = ⊥
-Found gathered (Err fault) (Err other) = fault ≡ other
 
 module _ {V : Type 0} (takes : V → Row → V → Result Bool Fault → Type 0) (items : V → List Related) (gathers : (v u : V) (row : Row) (result : Result Bool Fault) → takes v row u result → GathersMates (items v) row (items u) result) where
   gathered : (v w : V) (rows : List Row) → TakesRows takes v rows w → (found : List Related) × (items w ≡ items v ++ found) × ShowsAll rows found
@@ -59,29 +50,7 @@ module _ {V : Type 0} (takes : V → Row → V → Result Bool Fault → Type 0)
 
       pub read_by_walk : (result : Result Bool Fault) (last : Result (Vec Related Global) Fault) → IsWalk takes listed_text given old new v w result
           → Found (items w) result last → IsRead profile old new (λ p (found : Vec Related Global). ListsMates p table id found.items) last
-      read_by_walk result last it found = record {
-        survives = it.survives (only_asks old.now.schema);
-        seen = seen;
-        settled = λ clean p was. settled_still profile old new p (it.survives (only_asks old.now.schema)) clean (seen clean p) was;
-        says = λ clean p meets was. says p result last found (items_told p was result (it.walked clean (only_asks old.now.schema)));
-        faults = faults result last found it.faults;
-      }
-        where
-          seen : HasCleanDisk new → (p : Package) → IsSeenAs profile old p → IsSeenAs profile new p
-          seen clean p = seen_still profile old new p (ends_rest takes listed_text given old new v w result (it.walked clean (only_asks old.now.schema)))
-
-          says : (p : Package) (result : Result Bool Fault) (last : Result (Vec Related Global) Fault) → Found (items w) result last
-              → IfOk result (λ _. ListsMates p table id (items w)) → IfOk last (λ found. ListsMates p table id found.items)
-          says p (Ok goes) (Ok found) same h = subst (ListsMates p table id) (sym same) h
-          says p (Err fault) (Ok found) none h = absurd none
-          says p result (Err fault) found h = tt
-
-          faults : (result : Result Bool Fault) (last : Result (Vec Related Global) Fault) → Found (items w) result last
-              → IfErr result (λ fault. IsStoreFault fault ⊎ ((before : V) × (row : Row) × takes before row w (Err fault))) → IfErr last IsStoreFault
-          faults result (Ok found) same h = tt
-          faults (Ok goes) (Err fault) none h = absurd none
-          faults (Err fault) (Err other) same (inl stored) = subst IsStoreFault same stored
-          faults (Err fault) (Err other) same (inr told) = subst IsStoreFault same (gathers told.0 w told.1 (Err fault) told.2)
+      read_by_walk = gathered_read takes listed_text given old new v w (items w) profile (only_asks old.now.schema) (λ p. ListsMates p table id) items_told (λ before row fault. gathers before w row (Err fault))
 
 -- ---- reads whose answers are made of others'
 

@@ -1,6 +1,7 @@
 pub mod Told
 pub mod Contents
 pub mod Related
+pub mod RowLists
 pub mod Shown
 pub mod Viewers
 pub mod Lines

@@ -5,6 +5,7 @@
 //! - `tiles`: the bytes of a tile.
 //! - `media_items`: a medium.
 //! - `rows`: an attribute row.
+//! - `row_lists`: the rows of an attribute table from an id on.
 //! - `tables`: the list of the tables.
 //! - `relations`: the list of an item's mapping rows.
 //! - `items`: whether an item stands.
@@ -20,6 +21,7 @@ mod lines;
 mod listing;
 mod media_items;
 mod relations;
+mod row_lists;
 mod rows;
 mod shown;
 mod tables;
@@ -29,6 +31,7 @@ mod viewer;
 pub use listing::list;
 pub use media_items::media;
 pub use relations::related;
+pub use row_lists::rows_from;
 pub use rows::row;
 pub use tables::contents;
 pub use tiles::tile;

@@ -5,7 +5,8 @@ use Rattle.sqlite.specs.Held.{state}
 use Rattle.mm_definitions.specs.declared.answers.Fault.{Fault}
 use Rattle.mm_reads.specs.declared.relations.Gathered.{Gathered}
 use Rattle.mm_reads.specs.Related.{GathersMates}
-use Rattle.mm_reads.proofs.ReadingMates.{Found, read_by_walk}
+use Rattle.mm_reads.proofs.GatheredRead.{Found}
+use Rattle.mm_reads.proofs.ReadingMates.{read_by_walk}
 use Rattle.mm_reads.proofs.relations.listed.Goals as goal
 
 abbrev takes : Gathered → Row → Gathered → Result Bool Fault → Type 0

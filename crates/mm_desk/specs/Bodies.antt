@@ -1,0 +1,30 @@
+-- The run of the records of a body that is held.
+use Rattle.std.specs.Prelude.{◌≡◌, ◌≤◌, ℕ, List, true, Some, Result, IfErr, codes, length, take}
+use Rattle.std.specs.Io.KnownBytes.{Appends}
+use Rattle.mm_definitions.specs.Streams.{Written}
+use Rattle.mm_definitions.specs.declared.answers.RunFault.{RunFault}
+use Rattle.mm_definitions.specs.declared.answers.Tally.{Tally}
+use Rattle.mm_run.specs.Promised.{Runs}
+use Rattle.mm_run.specs.Runs.{IsToldOf, RunTellsReopening, TellsWriter}
+use Rattle.mm_run.specs.Sessions.{shown, shown_since}
+use Rattle.mm_run.specs.declared.apply.Apply as applies
+
+-- the head of the answers to records
+abbrev pub answers_head : List ℕ
+answers_head = codes "HTTP/1.1 200 OK\r\nContent-Type: text/plain\r\nX-Content-Type-Options: nosniff\r\nConnection: close\r\n\r\n"
+
+-- The output has failed behind a front of the head.
+abbrev pub CutsHead : Written → Written → Type 0
+CutsHead old new = (new.failed ≡ true) × (taken : ℕ) × (taken ≤ length answers_head) × Appends old.contents new.contents (take taken answers_head)
+
+-- It runs the records of these bytes, whatever a connection tells of them.
+pub record RunsBody {A : Type 0} (apply : applies.Ghosts A) (moment : ℕ) (old new : A) (bytes : List ℕ)
+    (output output_now : Written) (result : Result Tally RunFault) : Type 0 where
+  pub clean : apply.is_clean new → apply.is_clean old
+  -- of a session that was settled for a package
+  pub settled : Runs moment (apply.is_clean new) (apply.settled old) (Some bytes) (apply.has_failed old) (shown apply new) output output_now result
+  -- of one that only read as a package
+  pub seen : Runs moment (apply.is_clean new) (apply.seen old) (Some bytes) (apply.has_failed old) (shown_since apply old new) output output_now result
+  pub told : IsToldOf output output_now result
+  pub session : RunTellsReopening (apply.has_failed old) (apply.has_failed new) (new ≡ old) result
+  pub writer : IfErr result (TellsWriter output.failed output_now.failed)

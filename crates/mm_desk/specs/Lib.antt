@@ -1,0 +1,5 @@
+pub mod Bodies
+pub mod Exchanges
+pub mod Lists
+pub mod Replies
+pub mod Sittings

@@ -1,0 +1,44 @@
+//! The run of the records of a body that is held.
+
+ghost use Rattle.std.specs.Prelude.{◌≡◌, ℕ, codes, true, IfOk, IfErr};
+ghost use Rattle.std.specs.Io.KnownBytes.{Appends};
+ghost use Rattle.mm_definitions.specs.Streams.{Written, written};
+ghost use Rattle.mm_desk.specs.Bodies.{CutsHead, RunsBody, answers_head};
+
+use mm_definitions::answers::{Fault, PageFault, RunFault, Tally};
+use mm_definitions::moments::Moment;
+use mm_definitions::streams::Io;
+use mm_io::{Sent, send};
+use mm_run::{Apply, run_list};
+use std::alloc::Global;
+use std::io::Write;
+
+/// The head of the answers to records.
+const ANSWERS: &[u8] =
+    b"HTTP/1.1 200 OK\r\nContent-Type: text/plain\r\nX-Content-Type-Options: nosniff\r\nConnection: close\r\n\r\n";
+
+/// Writes the head of the answers, and runs the records of a body, each command at this moment: line n answers record n, and is written
+/// and flushed before the next record is read. 97 where the head could not be written whole: then no record was run.
+pub fn run_body<A: Apply, W: Write>(
+    alloc: Global,
+    session: &mut A,
+    body: &[u8],
+    writer: &mut Io<W>,
+    at: Moment,
+) -> Result<Result<Tally, RunFault>, PageFault>
+    ensures ran { IfOk result (λ ran. (between : Written)
+        × Appends (written W.contents writer.old).contents between.contents answers_head
+        × RunsBody A.Apply at session.old session.new body.now between
+        (written W.contents writer.new) ran) }
+    ensures stayed { IfErr result (λ e. session.new ≡ session.old) }
+    ensures cut { IfErr result (λ e. (e.0.0 ≡ 97)
+        × CutsHead (written W.contents writer.old) (written W.contents writer.new)) }
+{
+    match send(writer, ANSWERS) {
+        Sent::Flushed => {}
+        Sent::Unflushed => return Err(PageFault(Fault::OUTPUT)),
+        Sent::Cut => return Err(PageFault(Fault::OUTPUT)),
+    }
+    let mut records = Io::new(body);
+    Ok(run_list(alloc, session, &mut records, writer, at))
+}

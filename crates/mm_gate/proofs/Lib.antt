@@ -1,0 +1,2 @@
+mod DemandFacts
+mod FieldFacts

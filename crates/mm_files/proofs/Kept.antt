@@ -1,6 +1,6 @@
 -- What is left of a connection's files.
-use Rattle.std.proofs.Common.{arith, ◌≡◌, ℕ, ◌≤◌, Bool, true, false, IsTrue, subst}
-use Rattle.std.proofs.Math.Logic.{∥∥₁_map}
+use Rattle.std.proofs.Common.{arith, ◌≡◌, ◌∙◌, ℕ, ◌≤◌, Bool, true, false, not, IsTrue, refl, subst, sym}
+use Rattle.std.proofs.Math.Logic.{∥∥₁_elim, ∥∥₁_map}
 use Rattle.sqlite_disk.specs.declared.Disk.{Ghosts}
 use Rattle.sqlite_disk.specs.declared.Files.{Files}
 use Rattle.sqlite_wal.specs.Reads.{AreClean}
@@ -10,7 +10,10 @@ use Rattle.sqlite_wal.proofs.LogLemmas.{SeenMayStay}
 use Rattle.sqlite_pool.specs.Pool as pool
 use Rattle.sqlite_store.specs.declared.store.FileStore.{FileStore}
 use Rattle.sqlite_store.specs.FileStore as file
-use Rattle.sqlite_store.specs.Laws.{stays_at}
+use Rattle.sqlite_store.specs.Laws.{not_broken, stays_at}
+use Rattle.sqlite_store.specs.Listing.{IsOurs}
+use Rattle.sqlite_pool.proofs.StateLemmas.{size_is_allowed}
+use Rattle.sqlite_pool.proofs.ResealLemmas.{adopts_of}
 use Rattle.sqlite.specs.Held.{Held, AreDatabases}
 use Rattle.sqlite.specs.Tree.{Trees}
 use Rattle.sqlite.specs.Files.{file_state, HoldsDatabase}
@@ -20,7 +23,7 @@ use Rattle.sqlite_trees.proofs.Doubt.{no_doubt}
 use Rattle.sqlite.specs.State.{State, HasCleanDisk}
 use Rattle.sqlite.proofs.Theorems.{opens_again}
 use Rattle.mm_definitions.specs.Streams.{Written}
-use Rattle.mm_files.specs.Worked.{HoldsAfter, KeepsLeft, WorkedOn}
+use Rattle.mm_files.specs.Worked.{EndedOn, HoldsAfter, HoldsStill, KeepsLeft, KeepsStill, WorkedOn}
 
 -- what is no more than nothing is nothing
 nothing_less : (a b : ℕ) → a ≤ b → b ≡ 0 → a ≡ 0
@@ -28,6 +31,10 @@ nothing_less a b less none = omega (arith, less, none)
 
 never : IsTrue false → ⊥
 never lie = cc
+
+false_by : (b : Bool) → IsTrue (not b) → b ≡ false
+false_by false on = refl
+false_by true on = absurd (never on)
 
 -- of files that are not closed nothing is said of the one alone
 holds_both : (image : Image) (db : Trees) → HoldsDatabase image db → HoldsAfter false image db
@@ -59,6 +66,61 @@ module _ {D : Type 0} {g : Ghosts D} where
             (λ found. let r : (after : Trees) × (file_state conn).may_leave after × HoldsAfter false left after = (found.0, quiet.outcomes _ found.1, holds_both left found.0 found.2) in r);
       }
 
+  -- a store that answers that it is not broken is open
+  pub open_by : (it : FileStore D g) (broken : Bool) → broken ≡ (file.view it).is_broken → IsTrue (not broken) → IsTrue (file.view it).is_open
+  open_by it broken is on = (not_broken _ _ (sym is ∙ false_by broken on)).1
+
+  -- Each image that a crash may leave reads as a database of those that the store allows; where its trees are numbered it holds it.
+  reads_again : (it : FileStore D g) (is_open : Bool) → (IsTrue is_open → IsTrue (file.view it).is_numbered) → AreDatabases (file.recovers it)
+      → (left : Image) → (file.state it).may_leave left → ∥ ((db : Trees) × file.recovers it db × HoldsStill is_open left db) ∥₁
+  reads_again it is_open numbered sound left may = ∥∥₁_elim it.safe squash₁ (λ all.
+      let found = all left may in
+      let db = file.reading it found.0 in
+      let allowed : file.recovers it db = (left, found.0, may, ∣ found.1 ∣₁, refl) in
+      let schema = sound db allowed in
+      ∥∥₁_elim (size_is_allowed it.pool) squash₁ (λ size. ∥∥₁_map found.2 (λ ours. let r : (x : Trees) × file.recovers it x × HoldsStill is_open left x = (
+        db,
+        allowed,
+        record {
+          reads = ∣ record {
+            size = (file.state it).page_size;
+            pages = found.0;
+            wanted = file.schema_in it found.0;
+            found = adopts_of _ left found.0 found.1;
+            ours = record { file = ours.file; numbered = λ lie. absurd (never lie) };
+            reads = refl;
+            sound = λ other same. sound other (subst (file.recovers it) (sym same) allowed);
+          } ∣₁;
+          holds = λ on. ∣ (
+            (file.state it).page_size,
+            size,
+            record {
+              pages = found.0;
+              wanted = file.schema_in it found.0;
+              schema = schema.0;
+              found = adopts_of _ left found.0 found.1;
+              reads = refl;
+              sound = schema.1;
+              ours = subst (λ b. IsOurs (file.state it).page_size b (file.schema_in it found.0) found.0) (numbered on) ours;
+            },
+          ) ∣₁;
+        },
+      ) in r)))
+
+  pub kept_still : (conn : Held (FileStore D g)) (last : FileStore D g) (files : Files D) (is_open : Bool) → (files.log, files.db) ≡ file.files last
+      → (IsClean (file.view last) → IsTrue is_open → IsTrue (file.view last).is_numbered) → (IsClean (file.view last) → AreDatabases (file.recovers last))
+      → (IsClean (file.view last) → HasCleanDisk (file_state conn)) → ((db : Trees) → file.recovers last db → (file_state conn).may_leave db)
+      → KeepsStill g (file_state conn) is_open files
+  kept_still conn last files is_open are numbered sound was_clean fewer =
+      let was = λ (clean : AreClean g files.log files.db). subst (λ (f : D × D). AreClean g f.0 f.1) are clean in
+      let calm = λ (clean : AreClean g files.log files.db). no_doubt _ (clean_by last (was clean)) in
+      record {
+        was_clean = λ clean. was_clean (calm clean);
+        left = λ clean left may. ∥∥₁_map
+            (reads_again last is_open (numbered (calm clean)) (sound (calm clean)) left (left_by last left (was clean) (subst (λ (f : D × D). outcomes g f.0 f.1 left) are may)))
+            (λ found. let r : (after : Trees) × (file_state conn).may_leave after × HoldsStill is_open left after = (found.0, fewer _ found.1, found.2) in r);
+      }
+
   pub kept_by_copy : (conn : Held (FileStore D g)) (files : Files D) → SeenMayStay g → (AreClean g files.log files.db → IsCopied conn files)
       → KeepsLeft g (file_state conn) true files
   kept_by_copy conn files stays copied = record {
@@ -82,4 +144,18 @@ module _ {D Done : Type 0} {g : Ghosts D} {tells : Trees → Written → Written
     told = λ clean. told (kept.was_clean clean);
     left = λ clean left may. ∥∥₁_map (kept.left clean left may)
         (λ found. let r : (db : Trees) × leaves before.committed.trees db old new done × HoldsAfter closes left db = (found.0, worked (kept.was_clean clean) found.0 found.1, found.2) in r);
+  }
+
+  pub ended_on : (closes : Done → Bool) (is_open : Bool) (files : Files D) (done : Done) → true ≡ closes done → KeepsStill g after is_open files
+      → (HasCleanDisk after → HasCleanDisk before)
+      → (HasCleanDisk after → tells before.committed.trees old new done)
+      → (HasCleanDisk after → (db : Trees) → after.may_leave db → leaves before.committed.trees db old new done)
+      → EndedOn g tells leaves closes old new is_open files before
+  ended_on closes is_open files done is kept cleaned told worked = record {
+    done = done;
+    ended = sym is;
+    was_clean = λ clean. cleaned (kept.was_clean clean);
+    told = λ clean. told (kept.was_clean clean);
+    left = λ clean left may. ∥∥₁_map (kept.left clean left may)
+        (λ found. let r : (db : Trees) × leaves before.committed.trees db old new done × HoldsStill is_open left db = (found.0, worked (kept.was_clean clean) found.0 found.1, found.2) in r);
   }

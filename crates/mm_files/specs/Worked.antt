@@ -1,5 +1,5 @@
 -- What work on a file found, and what it leaves.
-use Rattle.std.specs.Prelude.{◌≡◌, ⊤, Bool, [], IsTrue}
+use Rattle.std.specs.Prelude.{◌≡◌, ⊤, ℕ, Bool, true, false, List, [], IsTrue}
 use Rattle.sqlite_disk.specs.declared.Disk.{Ghosts}
 use Rattle.sqlite_disk.specs.declared.Files.{Files}
 use Rattle.sqlite.specs.Tree.{Trees}
@@ -9,11 +9,17 @@ use Rattle.sqlite.specs.WalFiles.{outcomes}
 use Rattle.sqlite.specs.WalReads.{AreClean}
 use Rattle.sqlite.specs.Files.{HoldsDatabase, AreFoundIn, IsNothing, LeavesFiles, IsCleanLeft, image_of}
 use Rattle.sqlite.specs.State.{State, HasCleanDisk, IsLive, Opens}
+use Rattle.sqlite.specs.Held.{AreDatabases}
+use Rattle.sqlite_pages.specs.PageMap.{PageMap}
+use Rattle.sqlite_pool.specs.Stored.{Adopts}
+use Rattle.sqlite_store.specs.Listing.{IsOurs, file_trees}
+use Rattle.sqlite_store.specs.declared.catalog.Wanted.{Wanted}
 use Rattle.mm_definitions.specs.Keys.{Text}
 use Rattle.mm_definitions.specs.Streams.{Written}
 use Rattle.mm_files.specs.Files.{IsBare}
 use Rattle.mm_files.specs.declared.left.NotDone.{NotDone}
 use Rattle.mm_files.specs.declared.left.NotDone.TheVariants as why
+use Rattle.sqlite.specs.declared.file.Leftover.{Leftover}
 use Rattle.mm_files.specs.declared.left.Left.{Left}
 use Rattle.mm_files.specs.declared.left.Left.TheVariants as left
 
@@ -40,6 +46,22 @@ pub record HoldsAfter (closed : Bool) (image : Image) (db : Trees) : Type 0 wher
   pub both : HoldsDatabase image db
   pub alone : IsTrue closed → ∥ HoldsDatabase (record image { log = [] }) db ∥₁
 
+-- The two files recover to pages of a sound file that read as the database, which obeys a schema: all that an open asks of them but
+-- the numbers under which the file lists its trees.
+pub record ReadsAs (image : Image) (db : Trees) : Type 0 where
+  pub size : ℕ
+  pub pages : PageMap
+  pub wanted : List Wanted
+  pub found : Adopts size image pages
+  pub ours : IsOurs size false wanted pages
+  pub reads : db ≡ file_trees size wanted pages
+  pub sound : AreDatabases (λ it. it ≡ db)
+
+-- The two files read as the database; where the store was open still they hold it, so that the next open finds it.
+pub record HoldsStill (is_open : Bool) (image : Image) (db : Trees) : Type 0 where
+  pub reads : ∥ ReadsAs image db ∥₁
+  pub holds : IsTrue is_open → ∥ HoldsDatabase image db ∥₁
+
 module _ {D : Type 0} (g : Ghosts D) where
   -- they hold this, and a crash leaves it
   pub record AreHeld (image : Image) (files : Files D) : Type 0 where
@@ -50,10 +72,19 @@ module _ {D : Type 0} (g : Ghosts D) where
   abbrev pub LeavesTo : (Trees → Type 0) → Bool → Files D → Type 0
   LeavesTo is closed files = (image : Image) → outcomes g files.log files.db image → ∥ ((after : Trees) × is after × HoldsAfter closed image after) ∥₁
 
+  -- so of files that could not be closed
+  abbrev pub LeavesStill : (Trees → Type 0) → Bool → Files D → Type 0
+  LeavesStill is is_open files = (image : Image) → outcomes g files.log files.db image → ∥ ((after : Trees) × is after × HoldsStill is_open image after) ∥₁
+
   -- Where the files are clean the disk was, and they hold a database that might be left, also after a crash.
   pub record KeepsLeft (s : State) (closed : Bool) (files : Files D) : Type 0 where
     pub was_clean : AreClean g files.log files.db → HasCleanDisk s
     pub left : AreClean g files.log files.db → LeavesTo s.may_leave closed files
+
+  -- so where they could not be closed
+  pub record KeepsStill (s : State) (is_open : Bool) (files : Files D) : Type 0 where
+    pub was_clean : AreClean g files.log files.db → HasCleanDisk s
+    pub left : AreClean g files.log files.db → LeavesStill s.may_leave is_open files
 
   module _ {Done : Type 0} (tells : Trees → Written → Written → Done → Type 0) (leaves : Trees → Trees → Written → Written → Done → Type 0)
       (closed : Bool) (old new : Written) (files : Files D) (done : Done) where
@@ -71,17 +102,59 @@ module _ {D : Type 0} (g : Ghosts D) where
     abbrev pub WorkedFrom : Image → Type 0
     WorkedFrom image = AreClean g files.log files.db → (found : Trees) × IsFoundIn image found × tells found old new done × LeavesOf found
 
-  -- Of files that held this: an open failed, and what it leaves is said of them; or they were opened at this path, and could not be closed.
-  abbrev pub IsUnworked : Image → Text → Left D g → Type 0
+  -- Work that came to its end, behind which the files could not be closed: what was found is told of, and each thing that a crash, or none,
+  -- may leave of them reads as a database that the work leaves.
+  module _ {Done : Type 0} (tells : Trees → Written → Written → Done → Type 0) (leaves : Trees → Trees → Written → Written → Done → Type 0)
+      (closes : Done → Bool) (old new : Written) (is_open : Bool) (files : Files D) where
+    -- of the database that a connection found
+    pub record EndedOn (s : State) : Type 0 where
+      pub done : Done
+      pub ended : closes done ≡ true
+      pub was_clean : AreClean g files.log files.db → HasCleanDisk s
+      pub told : AreClean g files.log files.db → tells s.committed.trees old new done
+      pub left : AreClean g files.log files.db → LeavesStill (λ after. leaves s.committed.trees after old new done) is_open files
+
+    -- of what was found in the files, by what they held as they were opened
+    abbrev pub EndedFrom : Image → Type 0
+    EndedFrom image = (done : Done) × (closes done ≡ true) × (AreClean g files.log files.db
+        → (found : Trees) × IsFoundIn image found × tells found old new done × LeavesStill (λ after. leaves found after old new done) is_open files)
+
+  -- an open of files that held this failed, and what it leaves is said of them
+  abbrev pub IsRefused : Image → Leftover D g → Type 0
+  IsRefused image rest = IsCleanLeft rest → (files : Files D) × AreHeld image files × LeavesFiles files rest
+
+  -- Of files that held this: none was opened; or an open failed, and what it leaves is said of them; or they were opened at this path, and
+  -- could not be closed.
+  abbrev pub IsUnworked : {S : Type 0} → Image → Text → Left D S g → Type 0
+  IsUnworked image path (left.Untouched start) = ⊤
   IsUnworked image path left.Unopened = ⊤
-  IsUnworked image path (left.Refused rest) = IsCleanLeft rest → (files : Files D) × AreHeld image files × LeavesFiles files rest
-  IsUnworked image path (left.Unclosed opened) = opened.path.now ≡ path
+  IsUnworked image path (left.Refused rest) = IsRefused image rest
+  IsUnworked image path (left.Unclosed it) = it.path.now ≡ path
   IsUnworked image path (left.Worked opened) = ⊥
 
-  -- bytes are told where they stand
-  abbrev pub TellsBytes : Image → NotDone → Left D g → Type 0
+  -- no work was begun
+  abbrev pub IsUnbegun : {S : Type 0} → Left D S g → Type 0
+  IsUnbegun (left.Unclosed it) = ⊥
+  IsUnbegun (left.Worked opened) = ⊥
+  IsUnbegun rest = ⊤
+
+  -- Where no work was begun nothing was printed.
+  abbrev pub IsUnprinted : {S : Type 0} → Written → Written → Left D S g → Type 0
+  IsUnprinted old new (left.Unclosed it) = ⊤
+  IsUnprinted old new (left.Worked opened) = ⊤
+  IsUnprinted old new rest = new ≡ old
+
+  -- files that could not be closed are left as the work leaves them
+  abbrev pub IsUnclosed : {S Done : Type 0} → (Trees → Written → Written → Done → Type 0) → (Trees → Trees → Written → Written → Done → Type 0)
+      → (Done → Bool) → Written → Written → Image → Left D S g → Type 0
+  IsUnclosed tells leaves closes old new image (left.Unclosed it) = EndedFrom tells leaves closes old new it.is_open it.files image
+  IsUnclosed tells leaves closes old new image rest = ⊤
+
+  -- bytes are told where they stand, and of files alone that were opened
+  abbrev pub TellsBytes : {S : Type 0} → Image → NotDone → Left D S g → Type 0
   TellsBytes image why.NotEmpty (left.Refused rest) = IsCleanLeft rest → IsBare image → ⊥
-  TellsBytes image other rest = ⊤
+  TellsBytes image why.NotEmpty other = ⊥
+  TellsBytes image (why.Fault fault) rest = ⊤
 
 -- ---- from one to the next
 

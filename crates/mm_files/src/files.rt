@@ -10,15 +10,17 @@ ghost use Rattle.sqlite.specs.Start.{FindsIn};
 ghost use Rattle.sqlite.specs.WalFiles.{image_at};
 ghost use Rattle.sqlite.specs.WalReads.{AreClean, OnlyReads};
 ghost use Rattle.mm_files.specs.Files.{IsBare, IsStoreFault, IsUntold, IsUntoldFor, IsWhyNot, TellsBare};
-ghost use Rattle.mm_files.specs.Worked.{IsJustOpened, IsUnworked, KeepsLeft, TellsBytes, WorkedFrom, WorkedOn};
+ghost use Rattle.mm_files.specs.Worked.{EndedOn, IsJustOpened, IsUnbegun, IsUnclosed, IsUnprinted, IsUnworked, KeepsLeft, KeepsStill, TellsBytes, WorkedFrom, WorkedOn};
 
-use crate::left::{Left, NotDone, Opened};
+use crate::left::{Left, NotDone, Opened, Unclosed};
 use crate::works::Works;
 use mm_definitions::answers::Fault;
 use mm_definitions::streams::Io;
 use sqlite::{Connection, Error, ErrorCode, FileFrom, FileStore, Files, Leftover, Options, Start};
 use sqlite_disk::Disk;
 use sqlite_std_file::OpenError;
+use sqlite_trees::error::StoreError;
+use sqlite_trees::store::Store;
 use std::alloc::Global;
 use std::hash::{BuildHasher, RandomState};
 use std::io;
@@ -51,12 +53,12 @@ fn options_for(rt: &HostRuntime, length: Option<u64>) -> Result<Options, Fault>
     Ok(options)
 }
 
-/// The file at a path with its journal. What SQLite means by another thing than a file is refused.
+/// The file at a path with its journal. What SQLite means by another thing than a file is refused, and what stands for them handed back.
 fn files_at<'a, S: Start>(
     rt: &HostRuntime,
     path: &'a str,
     start: S,
-) -> Result<Opened<'a, FileFrom<S>>, Fault>
+) -> Result<Opened<'a, FileFrom<S>>, (Option<S>, Fault)>
     ensures log { IfOk result (λ opened. IsTrue (file_is_usable S.Start opened.files.log)) }
     ensures db { IfOk result (λ opened. IsTrue (file_is_usable S.Start opened.files.db)) }
     ensures fresh { IfOk result
@@ -64,18 +66,19 @@ fn files_at<'a, S: Start>(
     ensures path { IfOk result (λ opened. opened.path.now ≡ path.now) }
     ensures memory { path.now ≡ codes ":memory:" → IsErr result }
     ensures uri { IsTrue (starts_with nat_eq path.now (codes "file:")) → IsErr result }
-    ensures fault { IfErr result IsStoreFault }
+    ensures fault { IfErr result (λ e. IsStoreFault e.1) }
 {
     if path == ":memory:" || path.as_bytes().starts_with(b"file:") {
-        return Err(Fault::STORE);
+        return Err((Some(start), Fault::STORE));
     }
     match sqlite_std_file::open(rt, path, start) {
         Ok(files) => Ok(Opened { path, files }),
-        Err(OpenError::OutOfMemory) => Err(Fault::MEMORY),
-        Err(OpenError::Io(error)) if error.kind() == io::ErrorKind::OutOfMemory => Err(
+        Err(OpenError::OutOfMemory) => Err((None, Fault::MEMORY)),
+        Err(OpenError::Io(error)) if error.kind() == io::ErrorKind::OutOfMemory => Err((
+            None,
             Fault::MEMORY,
-        ),
-        Err(_) => Err(Fault::STORE),
+        )),
+        Err(_) => Err((None, Fault::STORE)),
     }
 }
 
@@ -131,7 +134,7 @@ fn open_files<'a, S: Start>(
     path: &'a str,
     length: Option<u64>,
     start: S,
-) -> Result<(&'a str, Connection<FileStore<FileFrom<S>>>), (Left<'a, FileFrom<S>>, NotDone)>
+) -> Result<(&'a str, Connection<FileStore<FileFrom<S>>>), (Left<'a, FileFrom<S>, S>, NotDone)>
     ensures mode { IfOk result (λ r. r.1.in_transaction ≡ false) }
     ensures found { IfOk result
         (λ r. HasCleanDisk (file_state r.1) → FindsIn (image_at S.Start) (file_state r.1)) }
@@ -144,17 +147,24 @@ fn open_files<'a, S: Start>(
     ensures uri { IsTrue (starts_with nat_eq path.now (codes "file:")) → IsErr result }
     ensures left { IfErr result
         (λ e. IsUnworked ⟦<FileFrom<S> as Disk>⟧ (image_at S.Start) path.now e.0) }
+    ensures begun { IfErr result (λ e. IsUnbegun ⟦<FileFrom<S> as Disk>⟧ e.0) }
     ensures bytes { IfErr result
         (λ e. TellsBytes ⟦<FileFrom<S> as Disk>⟧ (image_at S.Start) e.1 e.0) }
     ensures why { IfErr result (λ e. IsWhyNot length e.1) }
 {
     let options = match options_for(rt, length) {
         Ok(options) => options,
-        Err(fault) => return Err((Left::Unopened, NotDone::Fault(fault))),
+        Err(fault) => return Err((Left::Untouched(start), NotDone::Fault(fault))),
     };
     let Opened { path, files } = match files_at(rt, path, start) {
         Ok(opened) => opened,
-        Err(fault) => return Err((Left::Unopened, NotDone::Fault(fault))),
+        Err((rest, fault)) => {
+            let left = match rest {
+                Some(start) => Left::Untouched(start),
+                None => Left::Unopened,
+            };
+            return Err((left, NotDone::Fault(fault)));
+        }
     };
     let files = match files_to_use(files, length) {
         Ok(files) => files,
@@ -186,16 +196,34 @@ fn let_go<D: Disk + Drop>(conn: Connection<FileStore<D>>) -> Files<D>
     conn.into_store().close()
 }
 
-/// Closes the files, which copies the journal back, and gives them back.
+/// 90 where memory was refused, and 91 for every other failure of the store.
+fn told_as(error: StoreError) -> Fault
+    ensures { IsStoreFault result }
+{
+    match error {
+        StoreError::OutOfMemory => Fault::MEMORY,
+        _ => Fault::STORE,
+    }
+}
+
+/// Closes the files, which copies the journal back, and gives them back. Where that fails they are given back as they are, with whether
+/// the store was open still.
 fn close_files<D: Disk + Drop>(
     conn: Connection<FileStore<D>>,
-) -> Result<Files<D>, (Files<D>, Fault)>
+) -> Result<Files<D>, (Files<D>, bool, Fault)>
     ensures kept { IfOk result (KeepsLeft D.Disk (file_state conn) true) }
-    ensures fault { IfErr result (λ e. IsStoreFault e.1) }
+    ensures still { IfErr result (λ e. KeepsStill D.Disk (file_state conn) e.1 e.0) }
+    ensures fault { IfErr result (λ e. IsStoreFault e.2) }
 {
-    match conn.close_files() {
-        Ok(files) => Ok(files),
-        Err((error, store)) => Err((store.close(), fault_of(error))),
+    let mut store = conn.into_store();
+    // Again, for what only this store's rollback says of the journal.
+    store.rollback();
+    match store.checkpoint() {
+        Ok(()) => Ok(store.close()),
+        Err(error) => {
+            let is_open = !store.is_broken();
+            Err((store.close(), is_open, told_as(error)))
+        }
     }
 }
 
@@ -205,7 +233,7 @@ fn work_and_close<D: Disk + Drop, K: Works, W: Write>(
     conn: Connection<FileStore<D>>,
     work: &mut K,
     output: &mut Io<W>,
-) -> Result<(Files<D>, K::Done), (Files<D>, Fault)>
+) -> Result<(Files<D>, K::Done), (Files<D>, bool, Fault)>
     requires mode { conn.in_transaction ≡ false }
     requires fresh { HasCleanDisk (file_state conn) → IsJustOpened (file_state conn) }
     ensures done { IfOk result (λ r. K.comes_to work.old
@@ -213,7 +241,10 @@ fn work_and_close<D: Disk + Drop, K: Works, W: Write>(
     ensures worked { IfOk result (λ r. WorkedOn D.Disk (K.tells work.old) (K.leaves work.old)
         (K.closes r.1) (written W.contents output.old) (written W.contents output.new)
         r.0 r.1 (file_state conn)) }
-    ensures fault { IfErr result (λ e. IsStoreFault e.1) }
+    ensures ended { IfErr result (λ e. EndedOn D.Disk (K.tells work.old) (K.leaves work.old)
+        K.closes (written W.contents output.old) (written W.contents output.new)
+        e.1 e.0 (file_state conn)) }
+    ensures fault { IfErr result (λ e. IsStoreFault e.2) }
     ensures untold { OnErr result (IsUntold (K.comes_to work.old) K.closes
         (written W.contents output.old) (written W.contents output.new)) }
 {
@@ -237,7 +268,7 @@ pub fn on_file<'a, S: Start, K: Works, W: Write>(
     start: S,
     work: &mut K,
     output: &mut Io<W>,
-) -> Result<(Opened<'a, FileFrom<S>>, K::Done), (Left<'a, FileFrom<S>>, NotDone)>
+) -> Result<(Opened<'a, FileFrom<S>>, K::Done), (Left<'a, FileFrom<S>, S>, NotDone)>
     ensures done { IfOk result (λ r. K.comes_to work.old
         (written W.contents output.old) (written W.contents output.new) r.1) }
     ensures path { IfOk result (λ r. r.0.path.now ≡ path.now) }
@@ -255,6 +286,11 @@ pub fn on_file<'a, S: Start, K: Works, W: Write>(
     ensures bytes { IfErr result
         (λ e. TellsBytes ⟦<FileFrom<S> as Disk>⟧ (image_at S.Start) e.1 e.0) }
     ensures why { IfErr result (λ e. IsWhyNot length e.1) }
+    ensures unclosed { IfErr result (λ e. IsUnclosed ⟦<FileFrom<S> as Disk>⟧
+        (K.tells work.old) (K.leaves work.old) K.closes (written W.contents output.old)
+        (written W.contents output.new) (image_at S.Start) e.0) }
+    ensures unprinted { IfErr result (λ e. IsUnprinted ⟦<FileFrom<S> as Disk>⟧
+        (written W.contents output.old) (written W.contents output.new) e.0) }
     ensures untold { IfErr result (λ e. IsUntoldFor (K.comes_to work.old) K.closes
         (written W.contents output.old) (written W.contents output.new) e.1) }
 {
@@ -264,8 +300,12 @@ pub fn on_file<'a, S: Start, K: Works, W: Write>(
     };
     match work_and_close(rt.alloc(), conn, work, output) {
         Ok((files, done)) => Ok((Opened { path, files }, done)),
-        Err((files, fault)) => Err((
-            Left::Unclosed(Opened { path, files }),
+        Err((files, is_open, fault)) => Err((
+            Left::Unclosed(Unclosed {
+                path,
+                files,
+                is_open,
+            }),
             NotDone::Fault(fault),
         )),
     }

@@ -20,30 +20,43 @@ pub struct Opened<'a, D: Disk> {
     pub files: Files<D>,
 }
 
-/// What is left of the file at a path, and of its journal.
-pub enum Left<'a, D: Disk> {
-    /// They were not opened.
+/// A file and its journal that could not be closed behind work that came to its end.
+#[derive(Drop)]
+pub struct Unclosed<'a, D: Disk> {
+    /// The path that the system was given.
+    pub path: &'a str,
+    pub files: Files<D>,
+    /// The fault left the store open, as one does that comes while pages are copied; one that comes as the journal is begun anew shuts it.
+    pub is_open: bool,
+}
+
+/// What is left of the file at a path, and of its journal, where `S` stands for what they held.
+pub enum Left<'a, D: Disk, S> {
+    /// No file was opened: what stands for them is handed back.
+    Untouched(S),
+    /// The system did not open them.
     Unopened,
     /// They hold no database, or bytes where none are wanted, or an open failed: what it left.
     Refused(Leftover<D>),
-    /// Work on them was done, and then they could not be closed.
-    Unclosed(Opened<'a, D>),
+    /// Work on them came to its end, and then they could not be closed.
+    Unclosed(Unclosed<'a, D>),
     /// Work on them was done.
     Worked(Opened<'a, D>),
 }
 
-impl<'a, D: Disk + Drop> Left<'a, D> {
+impl<'a, D: Disk + Drop, S: Drop> Left<'a, D, S> {
     /// Lets the files go, which gives up their lock.
     pub fn let_go(self) {}
 }
 
 // It is written out, so that a caller does not prove again how each part is dropped.
-impl<'a, D: Disk + Drop> Drop for Left<'a, D> {
+impl<'a, D: Disk + Drop, S: Drop> Drop for Left<'a, D, S> {
     fn drop(self) {
         match self {
+            Left::Untouched(_start) => {}
             Left::Unopened => {}
             Left::Refused(_rest) => {}
-            Left::Unclosed(_opened) => {}
+            Left::Unclosed(_unclosed) => {}
             Left::Worked(_opened) => {}
         }
     }

@@ -13,6 +13,6 @@ mod next;
 mod works;
 
 pub use files::on_file;
-pub use left::{Left, NotDone, Opened};
+pub use left::{Left, NotDone, Opened, Unclosed};
 pub use next::next_run;
 pub use works::Works;

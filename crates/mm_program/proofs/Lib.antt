@@ -3,3 +3,4 @@ pub mod Told
 pub mod Life
 pub mod ServiceFacts
 pub mod Printed
+pub mod Off

@@ -1,5 +1,5 @@
 -- From one run of the program to the next.
-use Rattle.std.proofs.Common.{arith, ◌≡◌, ◌==◌, ℕ, List, [], ◌∷◌, Option, Some, None, Result, Ok, Err, Bool, IfErr, inl, inr, refl, sym, subst}
+use Rattle.std.proofs.Common.{arith, ◌≡◌, ◌==◌, ℕ, List, [], ◌∷◌, Option, Some, Result, Ok, Err, Bool, IfErr, inl, inr, refl, sym, subst}
 use Rattle.std.specs.Prelude.{⊤}
 use Rattle.std.proofs.Math.Logic.{∥∥₁_elim, ∥∥₁_map}
 use Rattle.sqlite_disk.specs.declared.Disk.{Ghosts}
@@ -22,21 +22,23 @@ use Rattle.mm_walk.proofs.InTurn.{either_holds}
 use Rattle.mm_core.specs.Verdict.{rule, IsFailing}
 use Rattle.mm_core.specs.Adopted.{Declines}
 use Rattle.mm_core.specs.Applied.{StandsForCurrent}
-use Rattle.mm_files.specs.declared.left.Left.TheVariants as left
+use Rattle.mm_definitions.specs.declared.answers.KitFault.{KitFault}
+use Rattle.mm_definitions.specs.declared.answers.Staged.{Staged}
+use Rattle.mm_kit.specs.Folders.{Files}
 use Rattle.mm_files.specs.declared.left.Opened.{Opened}
 use Rattle.mm_work.specs.Declined.{stop_of}
 use Rattle.mm_work.specs.Told.{stop_status}
 use Rattle.mm_work.specs.declared.stop.Stop.{Stop}
 use Rattle.mm_work.specs.declared.stop.Stop.TheVariants as stops
-use Rattle.mm_program.specs.Files.{OnFile, WasBare}
-use Rattle.mm_program.specs.Left.{IsDeclinedFor, LeavesMade, LeavesRun, LeavesSame, RanTo, TellsChecked}
-use Rattle.mm_program.specs.Life.{AreMade, IsLife, IsPartOf, Leads, LeavesBy, LivesOn, Makes, MakesBy, Ran, Use}
+use Rattle.mm_program.specs.Files.{OnOpened, WereBare}
+use Rattle.mm_program.specs.Left.{IsDeclinedFor, LeavesFine, LeavesImport, LeavesMade, LeavesRun, LeavesSame, RanTo, StaysFor, TellsChecked}
+use Rattle.mm_program.specs.Life.{AreMade, Deed, IsLife, IsPartOf, Leads, LeavesBy, LivesOn, Makes, MakesBy, MakesImport, Ran, Use, Looks, Runs, Imports, Migrates}
 use Rattle.mm_program.specs.Worked.{closes_done}
 
 -- what is left of files that were worked on, by what they held
 module _ {D T : Type 0} (g : Ghosts D) (image : Image) (path : Text) (tells : Trees → Result T Stop → Type 0) (leaves : Trees → Trees → Result T Stop → Type 0)
     (closes : Result T Stop → Bool) (done : Result T Stop) (opened : Opened D) where
-  pub leads_on : OnFile g image path tells leaves closes done (left.Worked opened) → AreClean g opened.files.log opened.files.db
+  pub leads_on : OnOpened g image path tells leaves closes done opened → AreClean g opened.files.log opened.files.db
       → (next : Image) → outcomes g opened.files.log opened.files.db next → Leads (λ found after. leaves found after done) image next
   leads_on on clean next may db holds =
       let (found, is, told, left) = on.1 clean in
@@ -58,12 +60,34 @@ makes_by r (Ok status) db after p stands meets leaves =
     let (q, now, still, part) = part_by p r.moment r.bytes after r.old r.new status ran in (q, now, still, record { after = after; ran = ran; part = part })
 makes_by r (Err why) db after p stands meets same = (p, subst (λ t. StandsForCurrent t p) (sym same) stands, meets, refl)
 
-makes : (ran : Option Ran) (db after : Trees) (p : Package) → StandsForCurrent db p → Meets current p → LeavesBy ran db after
-    → (q : Package) × StandsForCurrent after q × Meets current q × Makes ran p q
-makes None db after p stands meets same = (p, subst (λ t. StandsForCurrent t p) (sym same) stands, meets, refl)
-makes (Some r) db after p stands meets leaves = makes_by r r.done db after p stands meets leaves
+import_makes : (told : Option Files) (name : Text) (done : Result (Result Staged KitFault) Stop) (db after : Trees) (p : Package) → StandsForCurrent db p
+    → Meets current p → LeavesImport told name db after done → (q : Package) × StandsForCurrent after q × Meets current q × MakesImport name done p q
+import_makes told name (Ok (Ok answer)) db after p stands meets leaves =
+    let (q, sound, keeps) = (leaves p stands meets).kept in (q, sound.0, sound.1, keeps)
+import_makes told name (Ok (Err stopped)) db after p stands meets leaves =
+    let (q, now, still, keeps) = (leaves p stands meets).kept after refl in (q, now, still, keeps)
+import_makes told name (Err why) db after p stands meets same = (p, subst (λ t. StandsForCurrent t p) (sym same) stands, meets, refl)
 
-lives_further : (next : Image) (used : Use) (uses : List Use) (p q : Package) → Makes used.ran p q → Meets current q → LivesOn next q uses
+still_there : (p : Package) (after : Trees) (cause : Open) → StaysFor p after cause → StandsForCurrent after p
+still_there p after (opens.Rule rule) it = it.0
+still_there p after (opens.Fault fault) it = it
+still_there p after (opens.Version version) it = absurd it
+still_there p after opens.NoProfile it = absurd it
+still_there p after opens.BadProfile it = absurd it
+still_there p after opens.BadBlobs it = absurd it
+
+migration_makes : (done : Result (Unit {0}) Stop) (after : Trees) (p : Package) → LeavesFine p after done → StandsForCurrent after p
+migration_makes (Ok done) after p it = it.0
+migration_makes (Err why) after p it = still_there p after it.0 it.1
+
+makes : (did : Deed) (db after : Trees) (p : Package) → StandsForCurrent db p → Meets current p → LeavesBy did db after
+    → (q : Package) × StandsForCurrent after q × Meets current q × Makes did p q
+makes Looks db after p stands meets same = (p, subst (λ t. StandsForCurrent t p) (sym same) stands, meets, refl)
+makes (Runs r) db after p stands meets leaves = makes_by r r.done db after p stands meets leaves
+makes (Imports i) db after p stands meets leaves = import_makes i.told i.name i.done db after p stands meets leaves
+makes (Migrates done) db after p stands meets leaves = (p, migration_makes done after p (leaves.0 p stands), meets, refl)
+
+lives_further : (next : Image) (used : Use) (uses : List Use) (p q : Package) → Makes used.did p q → Meets current q → LivesOn next q uses
     → LivesOn next p (used ∷ uses)
 unfolding AreMade
 lives_further next used uses p q made meets it = record {
@@ -82,13 +106,13 @@ unfolding IsLife AreMade
 lives_on [] image next same db p holds stands meets =
     ∣ record { database = db; kept = p; holds = subst (λ i. HoldsDatabase i db) (sym same) holds; stands = stands; meets = meets; made = refl } ∣₁
 lives_on (used ∷ uses) image next (leads, life) db p holds stands meets = ∥∥₁_elim (leads db holds) squash₁ (λ it.
-    let (q, now, still, made) = makes used.ran db it.0 p stands meets it.1 in
+    let (q, now, still, made) = makes used.did db it.0 p stands meets it.1 in
     ∥∥₁_map (lives_on uses used.left next life it.0 q it.2 now still) (lives_further next used uses p q made still))
 
 -- ---- how it begins
 
-module _ {D : Type 0} (g : Ghosts D) (image : Image) (path : Text) (opened_at : Opened D) (none : WasBare g image (left.Worked opened_at))
-    (on : OnFile g image path (λ found done. ⊤) LeavesMade closes_done (Ok tt) (left.Worked opened_at)) (clean : AreClean g opened_at.files.log opened_at.files.db) where
+module _ {D : Type 0} (g : Ghosts D) (image : Image) (path : Text) (opened_at : Opened D) (none : WereBare g image opened_at)
+    (on : OnOpened g image path (λ found done. ⊤) LeavesMade closes_done (Ok tt) opened_at) (clean : AreClean g opened_at.files.log opened_at.files.db) where
   begins : (next : Image) → outcomes g opened_at.files.log opened_at.files.db next
       → ∥ ((after : Trees) × StandsForCurrent after opening × HoldsDatabase next after) ∥₁
   begins next may =
@@ -134,7 +158,7 @@ only_fault (stops.NotPackage number) some = absurd (∥∥₁_elim some (λ a b.
 only_fault (stops.Rule number) some = absurd (∥∥₁_elim some (λ a b. absurd a) four)
 
 pub checked : {D : Type 0} (g : Ghosts D) (image : Image) (path : Text) (opened_at : Opened D) (p : Package) (uses : List Use) (done : Result (Unit {0}) Stop)
-    → ∥ LivesOn image p uses ∥₁ → OnFile g image path TellsChecked (λ found after it. LeavesSame found after) closes_done done (left.Worked opened_at)
+    → ∥ LivesOn image p uses ∥₁ → OnOpened g image path TellsChecked (λ found after it. LeavesSame found after) closes_done done opened_at
     → AreClean g opened_at.files.log opened_at.files.db → IfErr done (λ why. stop_status why ≡ 3)
 checked g image path opened_at p uses (Ok done) lives on clean = tt
 checked g image path opened_at p uses (Err why) lives on clean =

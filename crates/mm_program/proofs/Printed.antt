@@ -10,7 +10,7 @@ use Rattle.mm_files.specs.declared.left.Left.{Left}
 use Rattle.mm_program.specs.Printed.{PrintsKit, PrintsRequest, PrintsWords}
 use Rattle.mm_program.specs.Told.{TellsKit, TellsRequest, TellsWords}
 
-module _ {D : Type 0} (g : Ghosts D) (image : Image) (source : Option (List ℕ)) (old new : Written) (result : ℕ) (left : Left D g) where
+module _ {D S : Type 0} (g : Ghosts D) (image : Image) (source : Option (List ℕ)) (old new : Written) (result : ℕ) (left : Left D S g) where
   prints_kit : (path edition : Text) (at : Option ℕ) → TellsKit g image path old new result left edition at → PrintsKit edition at old new result
   prints_kit path edition at (inl (none, told, is)) = inl (none, told)
   prints_kit path edition at (inr (inl (named, none, told, is))) = inr (inl (named, none, told))

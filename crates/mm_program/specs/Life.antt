@@ -1,19 +1,24 @@
 -- The life of a file: one run of the program behind another, and a crash, or none, between them.
-use Rattle.std.specs.Prelude.{◌≡◌, ℕ, List, [], ◌∷◌, Option, Some, None, Result, Ok, Err}
+use Rattle.std.specs.Prelude.{◌≡◌, ℕ, List, [], ◌∷◌, Option, Some, Result, Ok, Err}
 use Rattle.std.proofs.Common.{inl, inr}
 use Rattle.sqlite.specs.Tree.{Trees}
 use Rattle.sqlite.specs.Recovery.{Image}
 use Rattle.sqlite.specs.Files.{HoldsDatabase}
 use Rattle.mm_definitions.specs.Bounds.{current}
+use Rattle.mm_definitions.specs.Keys.{Text}
 use Rattle.mm_definitions.specs.Package.{Package}
 use Rattle.mm_definitions.specs.Rules.{Meets}
 use Rattle.mm_definitions.specs.Runs.{IsFirstPart}
 use Rattle.mm_definitions.specs.Streams.{Written}
+use Rattle.mm_definitions.specs.declared.answers.KitFault.{KitFault}
+use Rattle.mm_definitions.specs.declared.answers.Staged.{Staged}
+use Rattle.mm_kit.specs.Folders.{Files}
+use Rattle.mm_kit.specs.Imports.{KeepsOthers}
 use Rattle.mm_core.specs.Applied.{StandsForCurrent}
 use Rattle.mm_core.specs.Answers.{calls_of}
 use Rattle.mm_core.specs.Runs.{acknowledged_of}
 use Rattle.mm_work.specs.declared.stop.Stop.{Stop}
-use Rattle.mm_program.specs.Left.{LeavesRun, LeavesSame, RanTo}
+use Rattle.mm_program.specs.Left.{LeavesImport, LeavesMigrated, LeavesRun, LeavesSame, RanTo}
 
 -- of each database that files held, what was left of them holds such a one
 abbrev pub Leads : (Trees → Trees → Type 0) → Image → Image → Type 0
@@ -27,20 +32,35 @@ pub record Ran : Type 0 where
   pub new : Written
   pub done : Result ℕ Stop
 
--- One use of the program, and what was then left of the files: a run, or none where the subcommand changes nothing.
+-- an import of a kit: what its folder tells of its files, the name of the edition, and what it came to
+pub record Imported : Type 0 where
+  pub told : Option Files
+  pub name : Text
+  pub done : Result (Result Staged KitFault) Stop
+
+-- What was done: a subcommand that changes nothing, a run, an import of a kit, or a migration and what it came to.
+pub data Deed : Type 0 where
+  Looks : Deed
+  Runs : Ran → Deed
+  Imports : Imported → Deed
+  Migrates : Result (Unit {0}) Stop → Deed
+
+-- one use of the program, and what was then left of the files
 pub record Use : Type 0 where
-  pub ran : Option Ran
+  pub did : Deed
   pub left : Image
 
 -- what a use leaves of a database
-abbrev pub LeavesBy : Option Ran → Trees → Trees → Type 0
-LeavesBy None found after = LeavesSame found after
-LeavesBy (Some r) found after = LeavesRun (Some r.bytes) r.moment found after r.old r.new r.done
+abbrev pub LeavesBy : Deed → Trees → Trees → Type 0
+LeavesBy Looks found after = LeavesSame found after
+LeavesBy (Runs r) found after = LeavesRun (Some r.bytes) r.moment found after r.old r.new r.done
+LeavesBy (Imports i) found after = LeavesImport i.told i.name found after i.done
+LeavesBy (Migrates done) found after = LeavesMigrated found after done
 
 -- Files that held this were used; the system opened the next use on what was left of them then, and so to the last.
 unfoldable pub IsLife : Image → List Use → Image → Type 0
 IsLife image [] left = left ≡ image
-IsLife image (used ∷ uses) left = Leads (LeavesBy used.ran) image used.left × IsLife used.left uses left
+IsLife image (used ∷ uses) left = Leads (LeavesBy used.did) image used.left × IsLife used.left uses left
 
 -- the package after a first part of the accepted commands of those that were read, with every one that was acknowledged
 abbrev pub IsPartOf : (p : Package) (moment : ℕ) (bytes : List ℕ) (after : Trees) (old new : Written) (status : ℕ) (q : Package) → RanTo p moment bytes after old new status → Type 0
@@ -58,15 +78,22 @@ abbrev pub MakesBy : Ran → Result ℕ Stop → Package → Package → Type 0
 MakesBy r (Ok status) p q = IsPart r status p q
 MakesBy r (Err why) p q = q ≡ p
 
--- what a use makes of it
-abbrev pub Makes : Option Ran → Package → Package → Type 0
-Makes None p q = q ≡ p
-Makes (Some r) p q = MakesBy r r.done p q
+-- what an import makes of it: nothing but the pieces of its edition differs, and those that stood stand; or nothing was imported
+abbrev pub MakesImport : Text → Result (Result Staged KitFault) Stop → Package → Package → Type 0
+MakesImport name (Ok import) p q = KeepsOthers name p q
+MakesImport name (Err why) p q = q ≡ p
+
+-- what a use makes of it; a migration finds it in micrometres
+abbrev pub Makes : Deed → Package → Package → Type 0
+Makes Looks p q = q ≡ p
+Makes (Runs r) p q = MakesBy r r.done p q
+Makes (Imports i) p q = MakesImport i.name i.done p q
+Makes (Migrates done) p q = q ≡ p
 
 -- Each use makes a package of the one that the use before made, and each of them meets the rules.
 unfoldable pub AreMade : Package → List Use → Package → Type 0
 AreMade p [] q = q ≡ p
-AreMade p (used ∷ uses) q = (between : Package) × Makes used.ran p between × Meets current between × AreMade between uses q
+AreMade p (used ∷ uses) q = (between : Package) × Makes used.did p between × Meets current between × AreMade between uses q
 
 -- what is left holds a package that these uses have made of another one, and it meets the rules
 pub record LivesOn (left : Image) (p : Package) (uses : List Use) : Type 0 where

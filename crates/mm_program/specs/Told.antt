@@ -17,8 +17,8 @@ use Rattle.mm_arguments.specs.Requests.{Asks, status_of}
 use Rattle.mm_arguments.specs.declared.requests.Request.{Request}
 use Rattle.mm_arguments.specs.declared.requests.Request.TheVariants as asked
 use Rattle.mm_files.specs.declared.left.Left.{Left}
-use Rattle.mm_files.specs.declared.left.Left.TheVariants as lefts
-use Rattle.mm_program.specs.Files.{OnFile, StopsNew, WasBare}
+use Rattle.mm_files.specs.Worked.{IsUnprinted}
+use Rattle.mm_program.specs.Files.{IsUntouched, OnFile, StopsNew, StopsOld, WasBare}
 use Rattle.mm_program.specs.Left.{LeavesImport, LeavesMade, LeavesMigrated, LeavesRun, LeavesSame, TellsChecked, TellsImport, TellsListing, TellsRun, TellsServed}
 use Rattle.mm_program.specs.Served.{TellsServe}
 pub use Rattle.mm_program.specs.Stops.{StopsCheck}
@@ -38,51 +38,51 @@ abbrev pub IsEnded : {T : Type 0} → (T → ℕ) → Written → Written → Wr
 IsEnded status old between new outcome result =
     IfErr outcome (λ why. (between ≡ old) ⊎ (stop_status why ≡ 3)) × IsOutcome status between new outcome result
 
-module _ {D : Type 0} (g : Ghosts D) (image : Image) (path : Text) (old new : Written) (result : ℕ) (left : Left D g) where
+module _ {D S : Type 0} (g : Ghosts D) (image : Image) (path : Text) (old new : Written) (result : ℕ) (left : Left D S g) where
   -- `init` tells one of its outcomes and nothing else; files that it works on hold no byte, and then the new package where it tells so
   abbrev pub TellsInit : Type 0
   TellsInit = (outcome : Result (Unit {0}) Stop) × IfErr outcome StopsNew × IsTold old new (init_text outcome) (init_status outcome) result
-      × OnFile g image path (λ found done. ⊤) LeavesMade closes_done outcome left × WasBare g image left
+      × OnFile g image path StopsNew (λ found done. ⊤) LeavesMade closes_done outcome left × WasBare g image left
 
   -- so does `check`, of the package that was found, which is as it was
   abbrev pub TellsCheck : Type 0
   TellsCheck = (outcome : Result (Unit {0}) Stop) × IfErr outcome StopsCheck × IsTold old new (check_text outcome) (check_status outcome) result
-      × OnFile g image path TellsChecked (λ found after done. LeavesSame found after) closes_done outcome left
+      × OnFile g image path StopsOld TellsChecked (λ found after done. LeavesSame found after) closes_done outcome left
 
   -- so does `migrate`, which tells the package in micrometres
   abbrev pub TellsMigrate : Type 0
   TellsMigrate = (outcome : Result (Unit {0}) Stop) × IfErr outcome StopsCheck × IsTold old new (migrate_text outcome) (migrate_status outcome) result
-      × OnFile g image path (λ found done. ⊤) LeavesMigrated closes_done outcome left
+      × OnFile g image path StopsOld (λ found done. ⊤) LeavesMigrated closes_done outcome left
 
   -- `list` prints the listing of the package that was found, which is as it was
   abbrev pub TellsList : Type 0
-  TellsList = (between : Written) × (outcome : Result (Unit {0}) Stop) × IsEnded (λ done. 0) old between new outcome result
-      × OnFile g image path (λ found done. TellsListing found old between done) (λ found after done. LeavesSame found after) closes_done outcome left
+  TellsList = (between : Written) × (outcome : Result (Unit {0}) Stop) × IsEnded (λ done. 0) old between new outcome result × IsUnprinted g old between left
+      × OnFile g image path StopsOld (λ found done. TellsListing found old between done) (λ found after done. LeavesSame found after) closes_done outcome left
 
   -- `run` runs the records of the input, which has these bytes, at the moment that is given, or at that of the clock, or refuses the clock's
   abbrev pub TellsRan : Option (List ℕ) → Option ℕ → Type 0
   TellsRan source at =
-      ((at ≡ None) × IsTold old new (codes "refused 11\n") 1 result × (left ≡ lefts.Unopened))
-      ⊎ ((moment : ℕ) × IfSome at (λ given. moment ≡ given) × (between : Written) × (outcome : Result ℕ Stop) × IsEnded (λ status. status) old between new outcome result
-      × OnFile g image path TellsRun (λ found after done. LeavesRun source moment found after old between done) closes_run outcome left)
+      ((at ≡ None) × IsTold old new (codes "refused 11\n") 1 result × IsUntouched left)
+      ⊎ ((moment : ℕ) × IfSome at (λ given. moment ≡ given) × (between : Written) × (outcome : Result ℕ Stop) × IsEnded (λ status. status) old between new outcome result × IsUnprinted g old between left
+      × OnFile g image path StopsOld TellsRun (λ found after done. LeavesRun source moment found after old between done) closes_run outcome left)
 
   -- `kit` refuses an edition that is no name, and a moment of the clock outside the limits; else it tells what the import came to.
   abbrev pub TellsKit : Text → Option ℕ → Type 0
   TellsKit edition at =
-      (¬ (IsName edition) × IsTold old new (codes "kit refused 0 12\n") 1 result × (left ≡ lefts.Unopened))
-      ⊎ (IsName edition × (at ≡ None) × IsTold old new (codes "refused 11\n") 1 result × (left ≡ lefts.Unopened))
+      (¬ (IsName edition) × IsTold old new (codes "kit refused 0 12\n") 1 result × IsUntouched left)
+      ⊎ (IsName edition × (at ≡ None) × IsTold old new (codes "refused 11\n") 1 result × IsUntouched left)
       ⊎ (IsName edition × (outcome : Result (Result Staged KitFault) Stop) × IsTold old new (import_text outcome) (import_status outcome) result
-      × OnFile g image path TellsImport (LeavesImport None edition) closes_import outcome left)
+      × OnFile g image path StopsOld TellsImport (LeavesImport None edition) closes_import outcome left)
 
   -- `serve` serves the package that was found, which is as it was
   abbrev pub TellsService : Type 0
-  TellsService = (between : Written) × (outcome : Result ℕ Stop) × IsEnded (λ status. status) old between new outcome result
-      × OnFile g image path TellsServed (λ found after done. LeavesSame found after) closes_run outcome left
+  TellsService = (between : Written) × (outcome : Result ℕ Stop) × IsEnded (λ status. status) old between new outcome result × IsUnprinted g old between left
+      × OnFile g image path StopsOld TellsServed (λ found after done. LeavesSame found after) closes_run outcome left
 
 -- ---- the program
 
 -- what is told of what was asked for, and left of the file that the words name
-abbrev pub TellsRequest : {D : Type 0} (g : Ghosts D) → Image → Option (List ℕ) → Request → Written → Written → ℕ → Left D g → Type 0
+abbrev pub TellsRequest : {D S : Type 0} (g : Ghosts D) → Image → Option (List ℕ) → Request → Written → Written → ℕ → Left D S g → Type 0
 TellsRequest g image source (asked.Init file) old new result left = TellsInit g image file.now old new result left
 TellsRequest g image source (asked.Run file at) old new result left =
     TellsDecline old new result × TellsRan g image file.now old new result left source at
@@ -94,7 +94,7 @@ TellsRequest g image source (asked.Serve file port count) old new result left =
     TellsServe port count old new result × TellsService g image file.now old new result left
 
 -- What the words ask for is told and left; or what is wrong with them, or that memory is wanted to read them, and no file was opened.
-abbrev pub TellsWords : {D : Type 0} (g : Ghosts D) → Image → Option (List ℕ) → List Text → Written → Written → ℕ → Left D g → Type 0
+abbrev pub TellsWords : {D S : Type 0} (g : Ghosts D) → Image → Option (List ℕ) → List Text → Written → Written → ℕ → Left D S g → Type 0
 TellsWords g image source words old new result left =
     ((request : Request) × Asks words request × TellsRequest g image source request old new result left)
-    ⊎ ((error : Error) × HasKind (fault_of command_line words) error × TellsStatus (status_of (kind_of error)) old new result × (left ≡ lefts.Unopened))
+    ⊎ ((error : Error) × HasKind (fault_of command_line words) error × TellsStatus (status_of (kind_of error)) old new result × IsUntouched left)

@@ -5,8 +5,8 @@ ghost use Rattle.sqlite.specs.WalFiles.{image_at};
 ghost use Rattle.sqlite.specs.WalReads.{AreClean};
 ghost use Rattle.mm_definitions.specs.Streams.{written};
 ghost use Rattle.mm_files.specs.Files.{IsBare};
-ghost use Rattle.mm_files.specs.Worked.{IsUnworked, WorkedFrom};
-ghost use Rattle.mm_program.specs.Files.{IsUndone, StopsAny, StopsNew, StopsOld, StopsOn, stop_for};
+ghost use Rattle.mm_files.specs.Worked.{IsUnprinted, WorkedFrom};
+ghost use Rattle.mm_program.specs.Files.{IsUndone, OffFile, StopsAny, StopsNew, StopsOld, StopsOn, stop_for};
 
 use mm_definitions::answers::Fault;
 use mm_definitions::streams::Io;
@@ -18,7 +18,7 @@ use std::io::Write;
 use std::{fs, io};
 
 /// What work on a file came to, with the files that it was done on; or why it was not, with what is left of them.
-pub type Worked<'a, S, T> = Result<(Opened<'a, FileFrom<S>>, T), (Left<'a, FileFrom<S>>, Stop)>;
+pub type Worked<'a, S, T> = Result<(Opened<'a, FileFrom<S>>, T), (Left<'a, FileFrom<S>, S>, Stop)>;
 
 /// No database is as short as this; a shorter file is refused without being opened, so that it stays as it is.
 const SHORTEST: u64 = 512;
@@ -86,8 +86,13 @@ fn on_length<'a, S: Start, K: Works, W: Write>(
         (K.tells work.old) (K.leaves work.old) (K.closes r.1)
         (written W.contents output.old) (written W.contents output.new)
         r.0.files r.1 (image_at S.Start)) }
-    ensures left { IfErr result
-        (λ e. IsUnworked ⟦<FileFrom<S> as Disk>⟧ (image_at S.Start) path.now e.0) }
+    ensures left { IfErr result (λ e. OffFile ⟦<FileFrom<S> as Disk>⟧ (image_at S.Start) path.now
+        (StopsOn length) (λ found done. K.tells work.old found (written W.contents output.old)
+        (written W.contents output.new) done)
+        (λ found after done. K.leaves work.old found after (written W.contents output.old)
+        (written W.contents output.new) done) K.closes e.1 e.0) }
+    ensures unprinted { IfErr result (λ e. IsUnprinted ⟦<FileFrom<S> as Disk>⟧
+        (written W.contents output.old) (written W.contents output.new) e.0) }
     ensures stopped { IfErr result (λ e. StopsOn length e.1) }
     ensures undone { IfErr result (λ e. IsUndone (K.comes_to work.old) K.closes
         (written W.contents output.old) (written W.contents output.new) e.1) }
@@ -99,6 +104,7 @@ fn on_length<'a, S: Start, K: Works, W: Write>(
 }
 
 /// Does work on a file that is to be made: neither it nor its journal holds a byte.
+#[tactic(auto, using(crate::proofs::Off::off_wider, crate::proofs::Off::stops_new))]
 pub fn on_new<'a, S: Start, K: Works, W: Write>(
     rt: &HostRuntime,
     path: &'a str,
@@ -116,20 +122,26 @@ pub fn on_new<'a, S: Start, K: Works, W: Write>(
         (K.tells work.old) (K.leaves work.old) (K.closes r.1)
         (written W.contents output.old) (written W.contents output.new)
         r.0.files r.1 (image_at S.Start)) }
-    ensures left { IfErr result
-        (λ e. IsUnworked ⟦<FileFrom<S> as Disk>⟧ (image_at S.Start) path.now e.0) }
+    ensures left { IfErr result (λ e. OffFile ⟦<FileFrom<S> as Disk>⟧ (image_at S.Start) path.now
+        StopsNew (λ found done. K.tells work.old found (written W.contents output.old)
+        (written W.contents output.new) done)
+        (λ found after done. K.leaves work.old found after (written W.contents output.old)
+        (written W.contents output.new) done) K.closes e.1 e.0) }
+    ensures unprinted { IfErr result (λ e. IsUnprinted ⟦<FileFrom<S> as Disk>⟧
+        (written W.contents output.old) (written W.contents output.new) e.0) }
     ensures stopped { IfErr result (λ e. StopsNew e.1) }
     ensures undone { IfErr result (λ e. IsUndone (K.comes_to work.old) K.closes
         (written W.contents output.old) (written W.contents output.new) e.1) }
 {
     match is_new(rt, path) {
         Ok(true) => on_length(rt, path, None, start, work, output),
-        Ok(false) => Err((Left::Unopened, Stop::NotEmpty)),
-        Err(why) => Err((Left::Unopened, why)),
+        Ok(false) => Err((Left::Untouched(start), Stop::NotEmpty)),
+        Err(why) => Err((Left::Untouched(start), why)),
     }
 }
 
 /// Does work on a file that is there.
+#[tactic(auto, using(crate::proofs::Off::off_wider, crate::proofs::Off::stops_old))]
 pub fn on_old<'a, S: Start, K: Works, W: Write>(
     rt: &HostRuntime,
     path: &'a str,
@@ -144,16 +156,24 @@ pub fn on_old<'a, S: Start, K: Works, W: Write>(
         (K.tells work.old) (K.leaves work.old) (K.closes r.1)
         (written W.contents output.old) (written W.contents output.new)
         r.0.files r.1 (image_at S.Start)) }
-    ensures left { IfErr result
-        (λ e. IsUnworked ⟦<FileFrom<S> as Disk>⟧ (image_at S.Start) path.now e.0) }
+    ensures left { IfErr result (λ e. OffFile ⟦<FileFrom<S> as Disk>⟧ (image_at S.Start) path.now
+        StopsOld (λ found done. K.tells work.old found (written W.contents output.old)
+        (written W.contents output.new) done)
+        (λ found after done. K.leaves work.old found after (written W.contents output.old)
+        (written W.contents output.new) done) K.closes e.1 e.0) }
+    ensures unprinted { IfErr result (λ e. IsUnprinted ⟦<FileFrom<S> as Disk>⟧
+        (written W.contents output.old) (written W.contents output.new) e.0) }
     ensures stopped { IfErr result (λ e. StopsOld e.1) }
     ensures undone { IfErr result (λ e. IsUndone (K.comes_to work.old) K.closes
         (written W.contents output.old) (written W.contents output.new) e.1) }
 {
     match length_of(rt, path) {
-        Ok(None | Some(0)) => Err((Left::Unopened, Stop::NotPackage(94))),
-        Ok(Some(length)) if length < SHORTEST => Err((Left::Unopened, Stop::Fault(Fault::STORE))),
+        Ok(None | Some(0)) => Err((Left::Untouched(start), Stop::NotPackage(94))),
+        Ok(Some(length)) if length < SHORTEST => Err((
+            Left::Untouched(start),
+            Stop::Fault(Fault::STORE),
+        )),
         Ok(Some(length)) => on_length(rt, path, Some(length), start, work, output),
-        Err(why) => Err((Left::Unopened, why)),
+        Err(why) => Err((Left::Untouched(start), why)),
     }
 }

@@ -4,7 +4,7 @@ ghost use Rattle.std.specs.Prelude.{◌≡◌, ◌≤◌, ⊤, IfOk, None};
 ghost use Rattle.sqlite.specs.WalFiles.{image_at};
 ghost use Rattle.mm_definitions.specs.Streams.{has_failed, written};
 ghost use Rattle.mm_work.specs.Told.{TellsFailure};
-ghost use Rattle.mm_program.specs.Files.{IsFew, OnFile};
+ghost use Rattle.mm_program.specs.Files.{IsFew, OnFile, StopsOld};
 ghost use Rattle.mm_program.specs.Left.{LeavesImport, TellsImport};
 ghost use Rattle.mm_program.specs.Told.{TellsKit};
 ghost use Rattle.mm_program.specs.Worked.{closes_import};
@@ -126,6 +126,7 @@ impl<'a, F: Folder> Works for Importing<'a, F> {
 }
 
 /// Imports the kit of a folder into an edition of the package of a file.
+#[tactic(auto, using(crate::proofs::Off::on_err))]
 fn import_file<'a, S: Start>(
     rt: &HostRuntime,
     path: &'a str,
@@ -133,8 +134,8 @@ fn import_file<'a, S: Start>(
     edition: &Name,
     folder: &str,
     at: Moment,
-) -> (Result<Import, Stop>, Left<'a, FileFrom<S>>)
-    ensures { OnFile ⟦<FileFrom<S> as Disk>⟧ (image_at S.Start) path.now TellsImport
+) -> (Result<Import, Stop>, Left<'a, FileFrom<S>, S>)
+    ensures { OnFile ⟦<FileFrom<S> as Disk>⟧ (image_at S.Start) path.now StopsOld TellsImport
         (LeavesImport None edition.now) closes_import result.0 result.1 }
 {
     let folder = SystemFolder {
@@ -162,7 +163,7 @@ pub(crate) fn import_and_tell<'a, S: Start, W: Write>(
     folder: &str,
     at: Option<Moment>,
     output: &mut Io<W>,
-) -> (u8, Left<'a, FileFrom<S>>)
+) -> (u8, Left<'a, FileFrom<S>, S>)
     ensures told { TellsKit ⟦<FileFrom<S> as Disk>⟧ (image_at S.Start) path.now
         (written W.contents output.old) (written W.contents output.new) result.0 result.1
         edition.now at }
@@ -172,16 +173,22 @@ pub(crate) fn import_and_tell<'a, S: Start, W: Write>(
     let Some(name) = Name::read(edition) else {
         return (
             tell_bytes(output, b"kit refused 0 12\n", REFUSED),
-            Left::Unopened,
+            Left::Untouched(start),
         );
     };
     let moment = match moment_or_now(rt, at) {
         Now::At(moment) => moment,
         Now::Outside => {
-            return (tell_bytes(output, b"refused 11\n", REFUSED), Left::Unopened);
+            return (
+                tell_bytes(output, b"refused 11\n", REFUSED),
+                Left::Untouched(start),
+            );
         }
         Now::Unread => {
-            return (tell_stop(output, Stop::Fault(Fault::INPUT)), Left::Unopened);
+            return (
+                tell_stop(output, Stop::Fault(Fault::INPUT)),
+                Left::Untouched(start),
+            );
         }
     };
     let (done, left) = import_file(rt, path, start, &name, folder, moment);

@@ -13,13 +13,15 @@ ghost use Rattle.mm_definitions.specs.Package.{Package};
 ghost use Rattle.mm_definitions.specs.Rules.{Meets};
 ghost use Rattle.mm_definitions.specs.Streams.{Written};
 ghost use Rattle.mm_core.specs.Applied.{StandsForCurrent};
-ghost use Rattle.mm_files.specs.declared.left.Left.TheVariants as left;
+ghost use Rattle.mm_definitions.specs.declared.answers.KitFault.{KitFault};
+ghost use Rattle.mm_definitions.specs.declared.answers.Staged.{Staged};
+ghost use Rattle.mm_kit.specs.Folders.{Files};
 ghost use Rattle.mm_work.specs.Told.{stop_status};
 ghost use Rattle.mm_work.specs.declared.stop.Stop.{Stop as Why};
-ghost use Rattle.mm_program.specs.Files.{OnFile, WasBare};
-ghost use Rattle.mm_program.specs.Left.{LeavesMade, LeavesRun, LeavesSame, TellsChecked, TellsListing, TellsRun, TellsServed};
+ghost use Rattle.mm_program.specs.Files.{OnOpened, WereBare};
+ghost use Rattle.mm_program.specs.Left.{LeavesImport, LeavesMade, LeavesMigrated, LeavesRun, LeavesSame, TellsChecked, TellsImport, TellsListing, TellsRun, TellsServed};
 ghost use Rattle.mm_program.specs.Life.{IsLife, Leads, LivesOn, Use};
-ghost use Rattle.mm_program.specs.Worked.{closes_done, closes_run};
+ghost use Rattle.mm_program.specs.Worked.{closes_done, closes_import, closes_run};
 
 use mm_files::Opened;
 use sqlite_disk::Disk;
@@ -28,9 +30,9 @@ use sqlite_disk::Disk;
 pub fn a_run_leads_on<'a, D: Disk>(_opened: &Opened<'a, D>)
     ensures { (image next : Image) (path : Text) (source : Option (List ℕ)) (moment : ℕ)
         (old new : Written) (done : Result ℕ Why)
-        → OnFile D.Disk image path TellsRun
+        → OnOpened D.Disk image path TellsRun
         (λ found after it. LeavesRun source moment found after old new it) closes_run done
-        (left.Worked _opened.now)
+        _opened.now
         → AreClean D.Disk _opened.now.files.log _opened.now.files.db
         → outcomes D.Disk _opened.now.files.log _opened.now.files.db next
         → Leads (λ found after. LeavesRun source moment found after old new done) image next }
@@ -39,39 +41,55 @@ pub fn a_run_leads_on<'a, D: Disk>(_opened: &Opened<'a, D>)
 /// So of `check`, `list` and `serve`, which leave what was held.
 pub fn a_look_leads_on<'a, D: Disk>(_opened: &Opened<'a, D>)
     ensures check { (image next : Image) (path : Text) (done : Result (Unit {0}) Why)
-        → OnFile D.Disk image path TellsChecked (λ found after it. LeavesSame found after)
-        closes_done done (left.Worked _opened.now)
+        → OnOpened D.Disk image path TellsChecked (λ found after it. LeavesSame found after)
+        closes_done done _opened.now
         → AreClean D.Disk _opened.now.files.log _opened.now.files.db
         → outcomes D.Disk _opened.now.files.log _opened.now.files.db next
         → Leads LeavesSame image next }
     ensures list { (image next : Image) (path : Text) (old new : Written)
         (done : Result (Unit {0}) Why)
-        → OnFile D.Disk image path (λ found it. TellsListing found old new it)
-        (λ found after it. LeavesSame found after) closes_done done (left.Worked _opened.now)
+        → OnOpened D.Disk image path (λ found it. TellsListing found old new it)
+        (λ found after it. LeavesSame found after) closes_done done _opened.now
         → AreClean D.Disk _opened.now.files.log _opened.now.files.db
         → outcomes D.Disk _opened.now.files.log _opened.now.files.db next
         → Leads LeavesSame image next }
     ensures serve { (image next : Image) (path : Text) (done : Result ℕ Why)
-        → OnFile D.Disk image path TellsServed (λ found after it. LeavesSame found after)
-        closes_run done (left.Worked _opened.now)
+        → OnOpened D.Disk image path TellsServed (λ found after it. LeavesSame found after)
+        closes_run done _opened.now
         → AreClean D.Disk _opened.now.files.log _opened.now.files.db
         → outcomes D.Disk _opened.now.files.log _opened.now.files.db next
         → Leads LeavesSame image next }
+{}
+
+/// So of `kit`, whatever its folder tells, and of `migrate`.
+pub fn an_import_leads_on<'a, D: Disk>(_opened: &Opened<'a, D>)
+    ensures import { (image next : Image) (path name : Text) (told : Option Files)
+        (done : Result (Result Staged KitFault) Why)
+        → OnOpened D.Disk image path TellsImport (LeavesImport told name) closes_import done
+        _opened.now → AreClean D.Disk _opened.now.files.log _opened.now.files.db
+        → outcomes D.Disk _opened.now.files.log _opened.now.files.db next
+        → Leads (λ found after. LeavesImport told name found after done) image next }
+    ensures migration { (image next : Image) (path : Text) (done : Result (Unit {0}) Why)
+        → OnOpened D.Disk image path (λ found it. ⊤) LeavesMigrated closes_done done _opened.now
+        → AreClean D.Disk _opened.now.files.log _opened.now.files.db
+        → outcomes D.Disk _opened.now.files.log _opened.now.files.db next
+        → Leads (λ found after. LeavesMigrated found after done) image next }
 {}
 
 /// Where a package was made in files that held no byte, each thing that a crash, or none, may leave of them holds the new package.
 pub fn a_making_leads_on<'a, D: Disk>(_opened: &Opened<'a, D>)
     ensures { (image next : Image) (path : Text)
-        → WasBare D.Disk image (left.Worked _opened.now)
-        → OnFile D.Disk image path (λ found done. ⊤) LeavesMade closes_done (Ok tt)
-        (left.Worked _opened.now)
+        → WereBare D.Disk image _opened.now
+        → OnOpened D.Disk image path (λ found done. ⊤) LeavesMade closes_done (Ok tt)
+        _opened.now
         → AreClean D.Disk _opened.now.files.log _opened.now.files.db
         → outcomes D.Disk _opened.now.files.log _opened.now.files.db next
         → ∥ LivesOn next opening [] ∥₁ }
 {}
 
-/// The headline over the life of a file: where it held a package that meets the rules, then behind any number of runs and crashes it holds
-/// the one that is made of it by a first part of the accepted commands of each list, in turn, with every command that was acknowledged.
+/// The headline over the life of a file: where it held a package that meets the rules, then behind any number of uses and crashes it holds
+/// the one that is made of it by a first part of the accepted commands of each list, in turn, with every command that was acknowledged;
+/// an import changes the pieces of its edition alone, and drops none, and a migration changes nothing.
 pub fn a_life_keeps_what_was_acknowledged()
     ensures { (image next : Image) (uses : List Use) → IsLife image uses next
         → (db : Trees) (p : Package) → HoldsDatabase image db → StandsForCurrent db p
@@ -81,9 +99,9 @@ pub fn a_life_keeps_what_was_acknowledged()
 /// So behind `init`.
 pub fn a_life_begins_with_the_new_package<'a, D: Disk>(_opened: &Opened<'a, D>)
     ensures { (image first next : Image) (path : Text) (uses : List Use)
-        → WasBare D.Disk image (left.Worked _opened.now)
-        → OnFile D.Disk image path (λ found done. ⊤) LeavesMade closes_done (Ok tt)
-        (left.Worked _opened.now)
+        → WereBare D.Disk image _opened.now
+        → OnOpened D.Disk image path (λ found done. ⊤) LeavesMade closes_done (Ok tt)
+        _opened.now
         → AreClean D.Disk _opened.now.files.log _opened.now.files.db
         → outcomes D.Disk _opened.now.files.log _opened.now.files.db first
         → IsLife first uses next → ∥ LivesOn next opening uses ∥₁ }
@@ -93,8 +111,8 @@ pub fn a_life_begins_with_the_new_package<'a, D: Disk>(_opened: &Opened<'a, D>)
 pub fn what_lives_on_is_told_ok<'a, D: Disk>(_opened: &Opened<'a, D>)
     ensures { (image : Image) (path : Text) (p : Package) (uses : List Use)
         (done : Result (Unit {0}) Why) → ∥ LivesOn image p uses ∥₁
-        → OnFile D.Disk image path TellsChecked (λ found after it. LeavesSame found after)
-        closes_done done (left.Worked _opened.now)
+        → OnOpened D.Disk image path TellsChecked (λ found after it. LeavesSame found after)
+        closes_done done _opened.now
         → AreClean D.Disk _opened.now.files.log _opened.now.files.db
         → IfErr done (λ why. stop_status why ≡ 3) }
 {}

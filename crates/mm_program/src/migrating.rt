@@ -4,7 +4,7 @@ ghost use Rattle.std.specs.Prelude.{◌≤◌, IfErr, ⊤};
 ghost use Rattle.sqlite.specs.WalFiles.{image_at};
 ghost use Rattle.mm_definitions.specs.Streams.{has_failed, written};
 ghost use Rattle.mm_work.specs.Told.{TellsFailure};
-ghost use Rattle.mm_program.specs.Files.{OnFile};
+ghost use Rattle.mm_program.specs.Files.{OnFile, StopsOld};
 ghost use Rattle.mm_program.specs.Left.{LeavesMigrated};
 ghost use Rattle.mm_program.specs.Told.{StopsCheck, TellsMigrate};
 ghost use Rattle.mm_program.specs.Worked.{closes_done};
@@ -52,13 +52,14 @@ impl Works for Migration {
 }
 
 /// Migrates the package of a file.
+#[tactic(auto, using(crate::proofs::Off::on_err))]
 fn migrate_file<'a, S: Start>(
     rt: &HostRuntime,
     path: &'a str,
     start: S,
-) -> (Result<(), Stop>, Left<'a, FileFrom<S>>)
+) -> (Result<(), Stop>, Left<'a, FileFrom<S>, S>)
     ensures stopped { IfErr result.0 StopsCheck }
-    ensures left { OnFile ⟦<FileFrom<S> as Disk>⟧ (image_at S.Start) path.now (λ found done. ⊤)
+    ensures left { OnFile ⟦<FileFrom<S> as Disk>⟧ (image_at S.Start) path.now StopsOld (λ found done. ⊤)
         LeavesMigrated closes_done result.0 result.1 }
 {
     match on_old(rt, path, start, &mut Migration, &mut Io::new(io::sink())) {
@@ -73,7 +74,7 @@ pub(crate) fn migrate_told<'a, S: Start, W: Write>(
     path: &'a str,
     start: S,
     output: &mut Io<W>,
-) -> (u8, Left<'a, FileFrom<S>>)
+) -> (u8, Left<'a, FileFrom<S>, S>)
     ensures told { TellsMigrate ⟦<FileFrom<S> as Disk>⟧ (image_at S.Start) path.now
         (written W.contents output.old) (written W.contents output.new) result.0 result.1 }
     ensures status { result.0 ≤ 4 }

@@ -3,8 +3,9 @@
 ghost use Rattle.std.specs.Prelude.{◌≡◌, ◌≤◌, false, IfErr};
 ghost use Rattle.sqlite.specs.WalFiles.{image_at};
 ghost use Rattle.mm_definitions.specs.Streams.{has_failed, written};
+ghost use Rattle.mm_files.specs.Worked.{IsUnprinted};
 ghost use Rattle.mm_work.specs.Told.{TellsFailure};
-ghost use Rattle.mm_program.specs.Files.{OnFile};
+ghost use Rattle.mm_program.specs.Files.{OnFile, StopsOld};
 ghost use Rattle.mm_program.specs.Left.{LeavesSame, TellsChecked, TellsListing};
 ghost use Rattle.mm_program.specs.Told.{StopsCheck, TellsCheck, TellsDecline, TellsList};
 ghost use Rattle.mm_program.specs.Worked.{IsListed, closes_done};
@@ -52,13 +53,14 @@ impl Works for Check {
 }
 
 /// Checks the package of a file.
+#[tactic(auto, using(crate::proofs::Off::on_err))]
 fn check_file<'a, S: Start>(
     rt: &HostRuntime,
     path: &'a str,
     start: S,
-) -> (Result<(), Stop>, Left<'a, FileFrom<S>>)
+) -> (Result<(), Stop>, Left<'a, FileFrom<S>, S>)
     ensures stopped { IfErr result.0 StopsCheck }
-    ensures left { OnFile ⟦<FileFrom<S> as Disk>⟧ (image_at S.Start) path.now TellsChecked
+    ensures left { OnFile ⟦<FileFrom<S> as Disk>⟧ (image_at S.Start) path.now StopsOld TellsChecked
         (λ found after done. LeavesSame found after) closes_done result.0 result.1 }
 {
     match on_old(rt, path, start, &mut Check, &mut Io::new(io::sink())) {
@@ -73,7 +75,7 @@ pub(crate) fn check_told<'a, S: Start, W: Write>(
     path: &'a str,
     start: S,
     output: &mut Io<W>,
-) -> (u8, Left<'a, FileFrom<S>>)
+) -> (u8, Left<'a, FileFrom<S>, S>)
     ensures told { TellsCheck ⟦<FileFrom<S> as Disk>⟧ (image_at S.Start) path.now
         (written W.contents output.old) (written W.contents output.new) result.0 result.1 }
     ensures status { result.0 ≤ 4 }
@@ -116,15 +118,18 @@ impl Works for Listing {
 }
 
 /// Writes the listing of the package of a file.
+#[tactic(auto, using(crate::proofs::Off::on_err))]
 fn list_file<'a, S: Start, W: Write>(
     rt: &HostRuntime,
     path: &'a str,
     start: S,
     output: &mut Io<W>,
-) -> (Result<(), Stop>, Left<'a, FileFrom<S>>)
+) -> (Result<(), Stop>, Left<'a, FileFrom<S>, S>)
     ensures listed { IsListed (written W.contents output.old)
         (written W.contents output.new) result.0 }
-    ensures left { OnFile ⟦<FileFrom<S> as Disk>⟧ (image_at S.Start) path.now
+    ensures unprinted { IsUnprinted ⟦<FileFrom<S> as Disk>⟧ (written W.contents output.old)
+        (written W.contents output.new) result.1 }
+    ensures left { OnFile ⟦<FileFrom<S> as Disk>⟧ (image_at S.Start) path.now StopsOld
         (λ found done. TellsListing found (written W.contents output.old)
         (written W.contents output.new) done)
         (λ found after done. LeavesSame found after) closes_done result.0 result.1 }
@@ -141,7 +146,7 @@ pub(crate) fn list_told<'a, S: Start, W: Write>(
     path: &'a str,
     start: S,
     output: &mut Io<W>,
-) -> (u8, Left<'a, FileFrom<S>>)
+) -> (u8, Left<'a, FileFrom<S>, S>)
     ensures declined { TellsDecline (written W.contents output.old)
         (written W.contents output.new) result.0 }
     ensures listed { TellsList ⟦<FileFrom<S> as Disk>⟧ (image_at S.Start) path.now

@@ -3,12 +3,13 @@
 ghost use Rattle.std.specs.Prelude.{◌≡◌, ◌≤◌, ◌⊎◌, IfErr, IfOk, None};
 ghost use Rattle.mm_definitions.specs.Streams.{written};
 ghost use Rattle.mm_definitions.specs.Streams as streams;
+ghost use Rattle.mm_files.specs.Worked.{IsUnprinted};
 ghost use Rattle.mm_work.specs.Told.{TellsFailure, stop_status};
 ghost use Rattle.sqlite.specs.Held.{state};
 ghost use Rattle.sqlite.specs.WalFiles.{image_at};
 ghost use Rattle.mm_core.specs.Parts.{connection};
 ghost use Rattle.mm_core.specs.Viewers.{LeavesPackage};
-ghost use Rattle.mm_program.specs.Files.{OnFile};
+ghost use Rattle.mm_program.specs.Files.{OnFile, StopsOld};
 ghost use Rattle.mm_program.specs.Left.{LeavesSame, TellsServed};
 ghost use Rattle.mm_program.specs.Served.{PrintsNothing, IsServing, TellsServe, WasServed};
 ghost use Rattle.mm_program.specs.Told.{TellsService};
@@ -156,6 +157,7 @@ impl<'a> Works for Page<'a> {
 }
 
 /// Serves the package of a file.
+#[tactic(auto, using(crate::proofs::Off::on_err))]
 fn serve_file<'a, S: Start, W: Write>(
     rt: &HostRuntime,
     path: &'a str,
@@ -163,7 +165,7 @@ fn serve_file<'a, S: Start, W: Write>(
     port: u16,
     count: u32,
     output: &mut Io<W>,
-) -> (Result<u8, Stop>, Left<'a, FileFrom<S>>)
+) -> (Result<u8, Stop>, Left<'a, FileFrom<S>, S>)
     ensures status { IfOk result.0 (λ status. status ≤ 3) }
     ensures working { IfOk result.0
         (λ status. (status ≡ 3) ⊎ (streams.has_failed output.new ≡ streams.has_failed output.old)) }
@@ -177,7 +179,9 @@ fn serve_file<'a, S: Start, W: Write>(
         (written W.contents output.new)) }
     ensures told { IfErr result.0 (λ why.
         (written W.contents output.new ≡ written W.contents output.old) ⊎ (stop_status why ≡ 3)) }
-    ensures left { OnFile ⟦<FileFrom<S> as Disk>⟧ (image_at S.Start) path.now TellsServed
+    ensures unprinted { IsUnprinted ⟦<FileFrom<S> as Disk>⟧ (written W.contents output.old)
+        (written W.contents output.new) result.1 }
+    ensures left { OnFile ⟦<FileFrom<S> as Disk>⟧ (image_at S.Start) path.now StopsOld TellsServed
         (λ found after done. LeavesSame found after) closes_run result.0 result.1 }
 {
     match on_old(rt, path, start, &mut Page { rt, port, count }, output) {
@@ -194,7 +198,7 @@ pub(crate) fn serve_told<'a, S: Start, W: Write>(
     port: u16,
     count: u32,
     output: &mut Io<W>,
-) -> (u8, Left<'a, FileFrom<S>>)
+) -> (u8, Left<'a, FileFrom<S>, S>)
     ensures told { TellsServe port count (written W.contents output.old)
         (written W.contents output.new) result.0 }
     ensures served { TellsService ⟦<FileFrom<S> as Disk>⟧ (image_at S.Start) path.now

@@ -5,8 +5,9 @@ ghost use Rattle.sqlite.specs.WalFiles.{image_at};
 ghost use Rattle.mm_definitions.specs.Streams.{has_failed, inside, written};
 ghost use Rattle.clap.specs.Words.{kind_of};
 ghost use Rattle.mm_arguments.specs.Requests as arguments;
+ghost use Rattle.mm_files.specs.Worked.{IsUnprinted};
 ghost use Rattle.mm_work.specs.Told.{TellsFailure};
-ghost use Rattle.mm_program.specs.Files.{OnFile, StopsNew, WasBare};
+ghost use Rattle.mm_program.specs.Files.{OnFile, StopsNew, StopsOld, WasBare};
 ghost use Rattle.mm_program.specs.Left.{LeavesMade, LeavesRun, TellsRun};
 ghost use Rattle.mm_program.specs.Printed.{PrintsWords};
 ghost use Rattle.mm_program.specs.Told.{TellsDecline, TellsInit, TellsRan, TellsStatus, TellsWords};
@@ -65,13 +66,14 @@ impl Works for Making {
 }
 
 /// Makes a package in a new file.
+#[tactic(auto, using(crate::proofs::Off::on_err))]
 fn init_file<'a, S: Start>(
     rt: &HostRuntime,
     path: &'a str,
     start: S,
-) -> (Result<(), Stop>, Left<'a, FileFrom<S>>)
+) -> (Result<(), Stop>, Left<'a, FileFrom<S>, S>)
     ensures stopped { IfErr result.0 StopsNew }
-    ensures left { OnFile ⟦<FileFrom<S> as Disk>⟧ (image_at S.Start) path.now (λ found done. ⊤)
+    ensures left { OnFile ⟦<FileFrom<S> as Disk>⟧ (image_at S.Start) path.now StopsNew (λ found done. ⊤)
         LeavesMade closes_done result.0 result.1 }
     ensures bare { WasBare ⟦<FileFrom<S> as Disk>⟧ (image_at S.Start) result.1 }
 {
@@ -122,6 +124,7 @@ impl<'a, R: Read> Works for Run<'a, R> {
 }
 
 /// Runs the records of the input on the package of a file.
+#[tactic(auto, using(crate::proofs::Off::on_err))]
 fn run_file<'a, S: Start, R: Read, W: Write>(
     rt: &HostRuntime,
     path: &'a str,
@@ -129,9 +132,11 @@ fn run_file<'a, S: Start, R: Read, W: Write>(
     input: &mut Io<R>,
     output: &mut Io<W>,
     at: Moment,
-) -> (Result<u8, Stop>, Left<'a, FileFrom<S>>)
+) -> (Result<u8, Stop>, Left<'a, FileFrom<S>, S>)
     ensures run { IsRun (written W.contents output.old) (written W.contents output.new) result.0 }
-    ensures left { OnFile ⟦<FileFrom<S> as Disk>⟧ (image_at S.Start) path.now TellsRun
+    ensures unprinted { IsUnprinted ⟦<FileFrom<S> as Disk>⟧ (written W.contents output.old)
+        (written W.contents output.new) result.1 }
+    ensures left { OnFile ⟦<FileFrom<S> as Disk>⟧ (image_at S.Start) path.now StopsOld TellsRun
         (λ found after done. LeavesRun (R.remaining (inside input.old)) at found after
         (written W.contents output.old) (written W.contents output.new) done)
         closes_run result.0 result.1 }
@@ -148,7 +153,7 @@ fn init_told<'a, S: Start, W: Write>(
     path: &'a str,
     start: S,
     output: &mut Io<W>,
-) -> (u8, Left<'a, FileFrom<S>>)
+) -> (u8, Left<'a, FileFrom<S>, S>)
     ensures told { TellsInit ⟦<FileFrom<S> as Disk>⟧ (image_at S.Start) path.now
         (written W.contents output.old) (written W.contents output.new) result.0 result.1 }
     ensures status { result.0 ≤ 4 }
@@ -166,7 +171,7 @@ fn run_told<'a, S: Start, R: Read, W: Write>(
     at: Option<Moment>,
     input: &mut Io<R>,
     output: &mut Io<W>,
-) -> (u8, Left<'a, FileFrom<S>>)
+) -> (u8, Left<'a, FileFrom<S>, S>)
     ensures declined { TellsDecline (written W.contents output.old)
         (written W.contents output.new) result.0 }
     ensures ran { TellsRan ⟦<FileFrom<S> as Disk>⟧ (image_at S.Start) path.now
@@ -178,10 +183,16 @@ fn run_told<'a, S: Start, R: Read, W: Write>(
     let moment = match moment_or_now(rt, at) {
         Now::At(moment) => moment,
         Now::Outside => {
-            return (tell_bytes(output, b"refused 11\n", REFUSED), Left::Unopened);
+            return (
+                tell_bytes(output, b"refused 11\n", REFUSED),
+                Left::Untouched(start),
+            );
         }
         Now::Unread => {
-            return (tell_stop(output, Stop::Fault(Fault::INPUT)), Left::Unopened);
+            return (
+                tell_stop(output, Stop::Fault(Fault::INPUT)),
+                Left::Untouched(start),
+            );
         }
     };
     let (done, left) = run_file(rt, path, start, input, output, moment);
@@ -213,7 +224,7 @@ pub fn program_on<'a, S: Start, R: Read, W: Write>(
     start: S,
     input: &mut Io<R>,
     output: &mut Io<W>,
-) -> (u8, Left<'a, FileFrom<S>>)
+) -> (u8, Left<'a, FileFrom<S>, S>)
     requires { S.Start.is_mixing ≡ false }
     ensures told { TellsWords ⟦<FileFrom<S> as Disk>⟧ (image_at S.Start)
         (R.remaining (inside input.old)) (map (λ word. word.now) words.entry.now)
@@ -238,7 +249,7 @@ pub fn program_on<'a, S: Start, R: Read, W: Write>(
                 at,
             },
         ) => import_and_tell(rt, file, start, edition, folder, at, output),
-        Err(error) => (tell_words(output, error), Left::Unopened),
+        Err(error) => (tell_words(output, error), Left::Untouched(start)),
     }
 }
 

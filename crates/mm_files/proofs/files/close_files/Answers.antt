@@ -1,5 +1,57 @@
-use Rattle.mm_files.proofs.Kept.{kept_by_copy}
+use Rattle.std.proofs.Common.{◌≡◌, ◌∙◌, IsTrue, ap, arith, subst}
+use Rattle.sqlite_trees.specs.View.{IsClean, View}
+use Rattle.sqlite_trees.proofs.Doubt.{clean_of as sure, no_doubt}
+use Rattle.sqlite_store.specs.FileStore.{state, view}
+use Rattle.sqlite_wal.specs.Recovery.{Image}
+use Rattle.sqlite_wal.specs.Files.{outcomes}
+use Rattle.sqlite_wal.specs.Reads.{AreClean}
+use Rattle.sqlite_wal.proofs.StateLemmas.{open_from}
+use Rattle.sqlite_pool.proofs.StateLemmas.{clean_is, may_leave_is}
+use Rattle.sqlite.specs.Closing.{HoldsAlone}
+use Rattle.sqlite.proofs.Theorems.{copied}
+use Rattle.mm_files.proofs.Kept.{kept_by_copy, kept_still, open_by}
 use Rattle.mm_files.proofs.files.close_files.Goals as goal
 
 pub returns-in-Ok-clause-kept : goal.returns-in-Ok-clause-kept
-returns-in-Ok-clause-kept g c = kept_by_copy c.args.conn c.in-Ok.files g.met.D.Disk.seen_may_stay c.in-Ok.ensures.copied
+returns-in-Ok-clause-kept g c = kept_by_copy c.args.conn c.close.result g.met.D.Disk.seen_may_stay (λ honest.
+    let back = c.into_store-store.result in
+    let before = c.rollback.new.self in
+    let last = c.checkpoint.new.self in
+    let q = c.checkpoint.ensures.quiet in
+    let stays = g.met.D.Disk.seen_may_stay in
+    let sure_now = subst (λ p. AreClean g.D.Disk p.0 p.1) c.close.ensures honest in
+    let none : IsClean (view last) = no_doubt _ (clean_is last.pool ∙ sure_now) in
+    let clean : IsClean (view before) = omega (arith, q.clean) in
+    let early : IsClean (view back) = omega (arith, c.rollback.ensures.quiet.clean) in
+    let h = open_from (state before) c.in-Ok.ensures.ready (sure (view before).is_clean clean) in
+    let second = c.rollback.ensures.undone.kept clean in
+    let first = c.into_store-store.ensures.undone.kept early in
+    let on = c.in-Ok.ensures.open none in
+    let same = c.checkpoint.ensures.same on in
+    let numbered : IsTrue (view last).is_numbered = ap (λ (v : View). v.is_numbered) same ∙ second.numbered ∙ c.into_store-store.ensures.numbered early in
+    let committed : (view last).committed ≡ (view c.args.conn.store).committed = ap (λ (v : View). v.committed) same ∙ second.committed h ∙ first.committed (second.was_open h) in
+    let each = λ (image : Image) (may : outcomes g.D.Disk c.close.result.log c.close.result.db image).
+    subst (HoldsAlone image) committed (copied last stays on numbered
+    (λ db found. c.into_store-store.ensures.sound early db (c.rollback.ensures.quiet.outcomes db (q.outcomes db found)))
+    (c.in-Ok.ensures.moved (c.rollback.ensures.logged (second.was_open h))) image
+    (may_leave_is last.pool image sure_now (subst (λ p. outcomes g.D.Disk p.0 p.1 image) c.close.ensures may))) in
+    record {
+      was_clean = omega (arith, c.into_store-store.ensures.quiet.clean);
+      was_open = first.was_open (second.was_open h);
+      seen = each _ (stays _, stays _);
+      left = each;
+    })
+
+pub returns-in-Err-clause-still : goal.returns-in-Err-clause-still
+returns-in-Err-clause-still g c =
+    let before = c.rollback.new.self in
+    let last = c.checkpoint.new.self in
+    let q = c.checkpoint.ensures.quiet in
+    kept_still c.args.conn last c.close-in-Err.result _ c.close-in-Err.ensures
+    (λ none on.
+    let clean : IsClean (view before) = omega (arith, q.clean) in
+    let early : IsClean (view c.into_store-store.result) = omega (arith, c.rollback.ensures.quiet.clean) in
+    ap (λ (v : View). v.is_numbered) (c.checkpoint.ensures.same (open_by last _ (c.is_broken-is_open.ensures.shown none) on)) ∙ (c.rollback.ensures.undone.kept clean).numbered ∙ c.into_store-store.ensures.numbered early)
+    (λ none db may. c.into_store-store.ensures.sound (omega (arith, q.clean, c.rollback.ensures.quiet.clean)) db (c.rollback.ensures.quiet.outcomes db (q.outcomes db may)))
+    (λ none. omega (arith, c.into_store-store.ensures.quiet.clean, c.rollback.ensures.quiet.clean, q.clean))
+    (λ db may. c.into_store-store.ensures.quiet.outcomes db (c.rollback.ensures.quiet.outcomes db (q.outcomes db may)))

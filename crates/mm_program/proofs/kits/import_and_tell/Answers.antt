@@ -9,7 +9,7 @@ use Rattle.mm_program.proofs.kits.import_and_tell.Goals as goal
 pub returns-in-Unread-clause-told : goal.returns-in-Unread-clause-told
 returns-in-Unread-clause-told g c =
     let named : IsName c.args.edition.now = search rules in
-    inr (inr (named, Err (stops.Fault (record { 0 = 96 })), c.tell_stop.ensures, (refl, tt)))
+    inr (inr (named, Err (stops.Fault (record { 0 = 96 })), c.tell_stop.ensures, (stops.Fault (record { 0 = 96 }), refl, inr (inr refl))))
 
 pub returns-in-Ok-clause-told : goal.returns-in-Ok-clause-told
 returns-in-Ok-clause-told g c =

@@ -13,7 +13,8 @@ returns-in-Unread-clause-ran g c = inr (
   written g.W.Write.contents c.args.output.now,
   Err (stops.Fault (record { 0 = 96 })),
   (inl refl, c.tell_stop.ensures),
-  (refl, tt),
+  refl,
+  (stops.Fault (record { 0 = 96 }), refl, inr (inr refl)),
 )
 
 pub returns-in-Ok-clause-ran : goal.returns-in-Ok-clause-ran
@@ -25,6 +26,7 @@ returns-in-Ok-clause-ran g c =
       new,
       c.run_file-done.result.0,
       (run_untold _ _ _ c.run_file-done.ensures.run, subst (λ o. IsOutcome (λ status. status) new new o c.in-Ok.status) (sym c.in-Ok.is) (refl, refl)),
+      c.run_file-done.ensures.unprinted,
       c.run_file-done.ensures.left,
     )
 
@@ -41,5 +43,6 @@ returns-in-Err-clause-ran g c =
         run_untold _ _ _ c.run_file-done.ensures.run,
         subst (λ o. IsOutcome (λ (status : ℕ). status) between new o c.tell_stop-in-Err.result) (sym c.in-Err.is) c.tell_stop-in-Err.ensures,
       ),
+      c.run_file-done.ensures.unprinted,
       c.run_file-done.ensures.left,
     )

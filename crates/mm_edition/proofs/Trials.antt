@@ -22,7 +22,7 @@ use Rattle.mm_store.proofs.Shapes.{quiet_then}
 use Rattle.mm_edition.specs.Turns.{StandsReady, TakesTurn, IsTurn, TellsTrial, IsTrial}
 use Rattle.mm_edition.specs.declared.running.Turn.{Turn}
 use Rattle.mm_edition.specs.declared.running.Turn.TheVariants.{Done, End, Refused}
-use Rattle.mm_staging.proofs.InOrder.{AreFrom, pieces_in_order}
+use Rattle.mm_laws.proofs.InOrder.{AreFrom, pieces_in_order}
 
 -- ---- a piece leaves the editions and what is staged
 

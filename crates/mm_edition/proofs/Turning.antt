@@ -17,7 +17,7 @@ use Rattle.mm_definitions.specs.declared.answers.Fault.{Fault}
 use Rattle.mm_definitions.specs.declared.answers.Outcome.{Outcome}
 use Rattle.mm_definitions.specs.declared.answers.Outcome.TheVariants as outcome
 use Rattle.mm_definitions.specs.Refusals.{Refusal, reason_of}
-use Rattle.mm_store.proofs.Refusals.{its_reason}
+use Rattle.mm_definitions.proofs.RefusalFacts.{its_reason}
 use Rattle.mm_definitions.specs.declared.commands.Command.{Command}
 use Rattle.mm_definitions.specs.declared.commands.Piece.{Piece}
 use Rattle.mm_definitions.specs.declared.commands.Piece.TheVariants as pieces

@@ -16,7 +16,7 @@ use Rattle.mm_definitions.specs.declared.commands.Kind.TheVariants as kinds
 use Rattle.mm_definitions.specs.declared.commands.PlainKind.{PlainKind}
 use Rattle.mm_definitions.specs.declared.commands.Command.TheVariants as commands
 use Rattle.mm_definitions.proofs.Parts.{some_of, not_none}
-use Rattle.mm_layout.proofs.Reasons.{first_of}
+use Rattle.mm_definitions.proofs.FirstReason.{first_of}
 
 -- ---- the kind of the table
 

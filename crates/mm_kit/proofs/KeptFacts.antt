@@ -11,7 +11,7 @@ use Rattle.mm_definitions.specs.Refusals.{Refusal}
 use Rattle.mm_definitions.specs.declared.commands.Command.{Command}
 use Rattle.mm_definitions.specs.declared.commands.Command.TheVariants as commands
 use Rattle.mm_definitions.specs.declared.commands.Piece.{Piece}
-use Rattle.mm_store.proofs.Refusals.{refused}
+use Rattle.mm_definitions.proofs.RefusalFacts.{refused}
 use Rattle.mm_kit.specs.Editions.{HasPieces}
 use Rattle.mm_kit.specs.Imports.{IsEntryStaged, IsFirstOf, IsPassedBy, KeepsOthers, SameBut}
 use Rattle.mm_kit.specs.Folders.{Files}

@@ -12,7 +12,7 @@ use Rattle.mm_definitions.specs.Pieces.{piece_row}
 use Rattle.mm_definitions.specs.declared.commands.Piece.{Piece}
 use Rattle.mm_definitions.proofs.KeyLaws.{piece_keys, texts}
 use Rattle.mm_definitions.proofs.Parts.{not_none, same_key, same_some}
-use Rattle.mm_staging.proofs.InOrder.{AreFrom, pieces_in_order}
+use Rattle.mm_laws.proofs.InOrder.{AreFrom, pieces_in_order}
 use Rattle.mm_kit.specs.Editions.{HasPieces, numbered, rows_from}
 use Rattle.mm_kit.specs.Imports.{AreRepeats, IsFirstOf, OnlyGrows, SameBut}
 use Rattle.mm_kit.proofs.StageFacts.{has_one}

@@ -24,9 +24,9 @@ use Rattle.mm_definitions.proofs.KeyLaws.{piece_keys}
 use Rattle.mm_laws.proofs.Again.{same_row}
 use Rattle.mm_laws.proofs.Counted.{piece_count-is}
 use Rattle.mm_laws.proofs.Published.{read_back, row_itself}
-use Rattle.mm_store.proofs.Refusals.{accepted_for, refused, refused_for}
-use Rattle.mm_staging.specs.Places.{IsNextNumber}
-use Rattle.mm_staging.proofs.Numbering.{stage_equal, stage_other, stage_next, again}
+use Rattle.mm_definitions.proofs.RefusalFacts.{accepted_for, refused, refused_for}
+use Rattle.mm_laws.specs.NextNumber.{IsNextNumber}
+use Rattle.mm_laws.proofs.PieceReasons.{stage_equal, stage_other, stage_next, again}
 use Rattle.mm_run.specs.Applied.{IsSound}
 use Rattle.mm_run.specs.Shown.{Shown}
 use Rattle.mm_kit.specs.Editions.{HasPieces, numbered}
@@ -242,7 +242,7 @@ module _ (p : Package) (name : Text) (list : List Piece) (meets : Meets current 
     low = low_id i (numbered-low list i y at) (omega (arith, numbered-high list i y at, few p name list meets h))
 
     equal_free : x ≡ y → refusal p (commands.Stage name (pos i) x) ≡ None
-    equal_free e = accepted_for _ (stage_equal p name (pos i) x (length list) (few p name list meets h) h.numbers low h.is_open (piece_row y) there (ap piece_row e)).0
+    equal_free e = accepted_for _ (stage_equal p name (pos i) x (length list) (few p name list meets h) h.numbers low h.is_open (piece_row y) there (ap piece_row e))
 
     pub equal_step : x ≡ y → (moment : ℕ) → step p (commands.Stage name (pos i) x) moment ≡ p
     equal_step e moment = again p name (pos i) x moment (equal_free e) (there ∙ ap (λ q. Some (piece_row q)) (sym e))

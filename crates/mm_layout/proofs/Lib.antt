@@ -1,4 +1,3 @@
-pub mod Reasons
 pub mod Refusing
 pub mod Registered
 pub mod Touching

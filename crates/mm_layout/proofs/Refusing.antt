@@ -11,7 +11,7 @@ use Rattle.mm_definitions.specs.declared.commands.Step.{Step}
 use Rattle.mm_definitions.specs.declared.commands.Command.TheVariants as commands
 use Rattle.mm_definitions.proofs.Parts.{either_false}
 use Rattle.mm_laws.proofs.Reasons.{none_holds}
-use Rattle.mm_layout.proofs.Reasons.{first_of}
+use Rattle.mm_definitions.proofs.FirstReason.{first_of}
 
 -- ---- table
 

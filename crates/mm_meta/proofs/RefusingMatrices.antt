@@ -19,7 +19,7 @@ use Rattle.mm_definitions.specs.declared.commands.Command.TheVariants as command
 use Rattle.mm_definitions.proofs.Parts.{some_of, none_of, not_none}
 use Rattle.mm_laws.proofs.Clashes.{clash_by_nearest}
 use Rattle.mm_laws.proofs.Reasons.{none_holds, and_false, is_suited}
-use Rattle.mm_layout.proofs.Reasons.{first_of}
+use Rattle.mm_definitions.proofs.FirstReason.{first_of}
 use Rattle.mm_meta.specs.Shown.{IsPlainKind}
 
 module _ (p : Package) (table : Text) (zoom : ℕ) (m : Matrix) where

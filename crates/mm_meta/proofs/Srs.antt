@@ -5,7 +5,7 @@ use Rattle.mm_definitions.specs.Keys.{Text}
 use Rattle.mm_definitions.specs.Package.{Package}
 use Rattle.mm_definitions.specs.Step.{refusal}
 use Rattle.mm_definitions.specs.declared.commands.Command.TheVariants as commands
-use Rattle.mm_store.proofs.Refusals.{refused, refused_for, accepted_for}
+use Rattle.mm_definitions.proofs.RefusalFacts.{refused, refused_for, accepted_for}
 
 module _ (p : Package) (id organization_id : ℤ) (name organization definition description : Text) where
   pub srs_taken : contains_key p.systems id ≡ true → refusal p (commands.Srs id name organization organization_id definition description) ≡ Some (refused 20)

@@ -14,7 +14,7 @@ use Rattle.mm_definitions.specs.declared.commands.RelationName.{RelationName}
 use Rattle.mm_definitions.specs.declared.commands.Command.TheVariants as commands
 use Rattle.mm_definitions.proofs.Parts.{some_of, not_none}
 use Rattle.mm_laws.proofs.Reasons.{none_holds}
-use Rattle.mm_layout.proofs.Reasons.{first_of}
+use Rattle.mm_definitions.proofs.FirstReason.{first_of}
 use Rattle.mm_relations.specs.Relations.{ends, lacks}
 
 -- ---- relation

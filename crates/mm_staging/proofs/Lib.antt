@@ -4,7 +4,6 @@ pub mod Rows
 pub mod Numbering
 pub mod Unchanged
 pub mod Spelled
-pub mod InOrder
 pub mod LastPiece
 pub mod Naming
 pub mod Freeing

@@ -8,6 +8,7 @@ use Rattle.mm_definitions.specs.Pieces.{piece_row}
 use Rattle.mm_definitions.specs.Conditions.{least, own_reasons}
 use Rattle.mm_definitions.specs.declared.commands.Command.TheVariants as commands
 use Rattle.mm_definitions.specs.declared.commands.Piece.{Piece}
+use Rattle.mm_laws.specs.NextNumber.{IsNextNumber}
 use Rattle.mm_staging.specs.declared.staging.Place.{Place}
 use Rattle.mm_staging.specs.declared.staging.Place.TheVariants.{Equal, Next, Refused}
 
@@ -22,10 +23,6 @@ abbrev pub IsPlaceAt : PieceRow → PieceRow → Place → Type 0
 IsPlaceAt written row Equal = written ≡ row
 IsPlaceAt written row Next = ⊥
 IsPlaceAt written row (Refused why) = (why ≡ NOT_THE_NEXT_PIECE) × (written ≢ row)
-
--- the first number, or one behind a piece that stands
-abbrev pub IsNextNumber : Package → Text → ℤ → Type 0
-IsNextNumber p edition number = (number ≤ℤ pos 1) ⊎ (contains_key p.pieces (piece edition (number -ℤ pos 1)) ≡ true)
 
 -- Behind means so, and not behind that there is a number before and no piece has it.
 pub record TellsBehind (p : Package) (edition : Text) (number : ℤ) (behind : Bool) : Type 0 where

@@ -5,7 +5,6 @@ pub mod Single
 pub mod Asking
 pub mod Steps
 pub mod Shapes
-pub mod Refusals
 pub mod Transactions
 pub mod Extensions
 pub mod Entries

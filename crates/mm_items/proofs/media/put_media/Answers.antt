@@ -1,6 +1,6 @@
 use Rattle.std.proofs.Common.{refl, sym, ◌∙◌}
 use Rattle.std.proofs.Math.Facts.{to_z-of_z}
-use Rattle.mm_store.proofs.Refusals.{refused_for, accepted_for}
+use Rattle.mm_definitions.proofs.RefusalFacts.{refused_for, accepted_for}
 use Rattle.mm_store.proofs.Going.{next_change}
 use Rattle.mm_layout.proofs.Lending.{does, refuses, command_failed}
 use Rattle.mm_items.proofs.media.put_media.Goals as goal

@@ -1,5 +1,5 @@
 use Rattle.std.proofs.Common.{refl, sym, ◌∙◌}
-use Rattle.mm_store.proofs.Refusals.{refused_for, accepted_for}
+use Rattle.mm_definitions.proofs.RefusalFacts.{refused_for, accepted_for}
 use Rattle.mm_store.proofs.Going.{next_change}
 use Rattle.mm_layout.proofs.Lending.{does, refuses, command_failed}
 use Rattle.mm_items.proofs.tiles.put_tile.Goals as goal

@@ -1,5 +1,5 @@
 use Rattle.std.proofs.Common.{inr, sym, ◌∙◌}
-use Rattle.mm_store.proofs.Refusals.{its_number}
+use Rattle.mm_definitions.proofs.RefusalFacts.{its_number}
 use Rattle.mm_kit.proofs.staging.stage_entry.Goals as goal
 
 pub returns-in-Refused-clause-staged : goal.returns-in-Refused-clause-staged

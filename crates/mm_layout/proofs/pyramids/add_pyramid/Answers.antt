@@ -4,7 +4,7 @@ use Rattle.std.specs.FinMap.{get}
 use Rattle.std.specs.Result.{result_err}
 use Rattle.mm_definitions.specs.Effects.{with_pyramid, with_zoom_row}
 use Rattle.mm_definitions.specs.Package.{Box, zoom_extension}
-use Rattle.mm_store.proofs.Refusals.{refused_for, accepted_for}
+use Rattle.mm_definitions.proofs.RefusalFacts.{refused_for, accepted_for}
 use Rattle.mm_layout.specs.Rows.{IsUnregistered}
 use Rattle.mm_layout.proofs.Refusing.{pyramid_is_new}
 use Rattle.mm_layout.proofs.Registered.{unregistered, no_zoom_row}

@@ -1,5 +1,5 @@
 use Rattle.std.proofs.Common.{sym, refl, ◌∙◌}
-use Rattle.mm_store.proofs.Refusals.{refused_for, accepted_for}
+use Rattle.mm_definitions.proofs.RefusalFacts.{refused_for, accepted_for}
 use Rattle.mm_store.proofs.Going.{changes_then}
 use Rattle.mm_store.proofs.Applying.{declines, applies, applies_unasked, applies_not}
 use Rattle.mm_layout.proofs.tables.drop_table.Goals as goal

@@ -1,5 +1,5 @@
 use Rattle.std.proofs.Common.{refl, sym, ◌∙◌}
-use Rattle.mm_store.proofs.Refusals.{refused_for, accepted_for}
+use Rattle.mm_definitions.proofs.RefusalFacts.{refused_for, accepted_for}
 use Rattle.mm_meta.proofs.RefusingMatrices.{matrix_is_new}
 use Rattle.mm_store.proofs.Going.{changes_then}
 use Rattle.mm_layout.proofs.Lending.{refuses, command_failed, lends, lends_not}

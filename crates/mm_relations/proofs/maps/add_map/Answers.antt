@@ -3,7 +3,7 @@ use Rattle.std.proofs.Math.Facts.{to_z-of_z}
 use Rattle.std.specs.FinMap.{get}
 use Rattle.mm_definitions.specs.Keys.{pairing}
 use Rattle.mm_definitions.proofs.Parts.{none_of}
-use Rattle.mm_store.proofs.Refusals.{refused_for, accepted_for}
+use Rattle.mm_definitions.proofs.RefusalFacts.{refused_for, accepted_for}
 use Rattle.mm_relations.proofs.Refusing.{map_is_new}
 use Rattle.mm_store.proofs.Applying.{declines, applies, applies_unasked, applies_not}
 use Rattle.mm_relations.proofs.maps.add_map.Goals as goal

@@ -1,5 +1,5 @@
 use Rattle.std.proofs.Common.{refl, sym, ◌∙◌}
-use Rattle.mm_store.proofs.Refusals.{refused_for, accepted_for}
+use Rattle.mm_definitions.proofs.RefusalFacts.{refused_for, accepted_for}
 use Rattle.mm_store.proofs.Applying.{declines, applies, applies_unasked, applies_not}
 use Rattle.mm_staging.proofs.editions.discard.Goals as goal
 

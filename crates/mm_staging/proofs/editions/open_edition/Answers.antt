@@ -1,5 +1,5 @@
 use Rattle.std.proofs.Common.{option_map, refl, ap, ◌∙◌}
-use Rattle.mm_store.proofs.Refusals.{refused_for, accepted_for}
+use Rattle.mm_definitions.proofs.RefusalFacts.{refused_for, accepted_for}
 use Rattle.mm_staging.specs.Standings.{standing_text}
 use Rattle.mm_staging.proofs.Refusing.{taken_50, free_50}
 use Rattle.mm_store.proofs.Applying.{declines, applies, applies_unasked, applies_not}

@@ -2,7 +2,8 @@ use Rattle.std.proofs.Common.{refl, Some, option_map, ap, ◌∙◌}
 use Rattle.std.proofs.Math.Facts.{to_z-of_z}
 use Rattle.mm_staging.specs.Kept.{kept_row}
 use Rattle.mm_staging.specs.Standings.{standing_text}
-use Rattle.mm_staging.proofs.Numbering.{stage_51, stage_55, placed, unplaced}
+use Rattle.mm_laws.proofs.PieceReasons.{stage_51, stage_55}
+use Rattle.mm_staging.proofs.Numbering.{placed, unplaced}
 use Rattle.mm_store.proofs.Going.{goes_on, goes_less, tells, failed}
 use Rattle.mm_staging.proofs.staging.place_of.Goals as goal
 

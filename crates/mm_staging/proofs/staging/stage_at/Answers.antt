@@ -1,10 +1,10 @@
 use Rattle.std.proofs.Common.{refl, subst}
 use Rattle.std.proofs.Math.Facts.{to_z-of_z}
-use Rattle.mm_store.proofs.Refusals.{refused_for, accepted_for}
+use Rattle.mm_definitions.proofs.RefusalFacts.{refused_for, accepted_for}
 use Rattle.mm_staging.specs.Places.{IsPlace}
 use Rattle.mm_staging.specs.declared.staging.Place.TheVariants.{Equal, Next}
 use Rattle.mm_staging.proofs.Unchanged.{applies_unchanged}
-use Rattle.mm_staging.proofs.Numbering.{again}
+use Rattle.mm_laws.proofs.PieceReasons.{again}
 use Rattle.mm_store.proofs.Applying.{declines, applies, applies_unasked, applies_not}
 use Rattle.mm_staging.proofs.staging.stage_at.Goals as goal
 

@@ -34,7 +34,7 @@ def main():
     asked = common.words_of(__doc__, tiles=(10000, "tiles"), bytes=(10000, "bytes of a tile"))
     with tempfile.TemporaryDirectory(dir=asked.folder) as folder:
         for name, is_blank in (("all differ", lambda number: False), ("every second is blank", lambda number: number % 2 == 1)):
-            file = os.path.join(folder, f"{name.replace(' ', '_')}.gpkg")
+            file = os.path.join(folder, f"{name.replace(' ', '_')}.mmpkg")
             size = make(asked.program, file, folder, asked.tiles, asked.bytes, is_blank)
             seconds, peak = measured([asked.program, "check", file])
             print(f"{name}: {size / 1e6:.1f} MB; check {seconds:.2f} s of processor time, {peak / 1024:.0f} MiB at most")

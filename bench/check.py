@@ -71,7 +71,7 @@ def fill_other(file, start, end, size):
 
 def opening(program, file, folder):
     """The same of opening alone: a copy whose profile row is that of another program is refused as soon as it is open."""
-    copy = os.path.join(folder, "copy.gpkg")
+    copy = os.path.join(folder, "copy.mmpkg")
     shutil.copy(file, copy)
     database = sqlite3.connect(copy)
     database.execute("UPDATE mm_profile SET version = 3")
@@ -84,7 +84,7 @@ def new_package(given, folder):
     """Makes a package with an empty pyramid in a file of the folder, whose path it returns."""
     if given.tiles > SIDE * SIDE:
         raise SystemExit(f"at most {SIDE * SIDE} tiles")
-    file = os.path.join(folder, "bench.gpkg")
+    file = os.path.join(folder, "bench.mmpkg")
     common.make_package(given.program, file, common.layout(SIDE))
     return file
 

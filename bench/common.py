@@ -86,7 +86,7 @@ def sides(program):
 
 def make_packages(program, folder, records=""):
     """Makes a package with these records for each side, equal files, and returns their paths by the sides."""
-    files = {side: os.path.join(folder, f"{number}.gpkg") for number, side in enumerate(sides(program))}
+    files = {side: os.path.join(folder, f"{number}.mmpkg") for number, side in enumerate(sides(program))}
     first = files["mmpkg"]
     make_package(program, first, records)
     for file in files.values():

@@ -48,7 +48,7 @@ def round_of(program, folder):
 
 def memory_of_publishing(program, folder, count):
     """The most that the program holds while it publishes so many pieces of 10 kB, in MiB."""
-    file = os.path.join(folder, "memory.gpkg")
+    file = os.path.join(folder, "memory.mmpkg")
     common.make_package(program, file, common.layout(SIDE) + "edition,spring\n" + stage_records(count, 10000))
     words = ["/usr/bin/time", "-v", program, "run", file, "--at", "0"]
     done = subprocess.run(words, input=b"publish,spring\n", stdout=subprocess.DEVNULL, stderr=subprocess.PIPE, check=True)

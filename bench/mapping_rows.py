@@ -35,7 +35,7 @@ def records_of(rows):
 def main():
     asked = common.words_of(__doc__, rows=(10000, "mapping rows, at most 10,000"))
     with tempfile.TemporaryDirectory(dir=asked.folder) as folder:
-        file = os.path.join(folder, "bench.gpkg")
+        file = os.path.join(folder, "bench.mmpkg")
         common.make_package(asked.program, file)
         times = common.times_by_kind(asked.program, file, records_of(asked.rows))
     first, last = statistics.median(times["map"][:1000]), statistics.median(times["map"][-1000:])

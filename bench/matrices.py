@@ -48,7 +48,7 @@ def main():
     asked = common.words_of(__doc__, pyramids=(500, "pyramids of 31 matrices each"))
     for name, order in ORDERS.items():
         with tempfile.TemporaryDirectory(dir=asked.folder) as folder:
-            times = times_of(asked.program, os.path.join(folder, "bench.gpkg"), asked.pyramids, order)
+            times = times_of(asked.program, os.path.join(folder, "bench.mmpkg"), asked.pyramids, order)
         first, last = statistics.median(times[:100]), statistics.median(times[-100:])
         print(f"{name}: {1e6 * first:.0f} us at first, {1e6 * last:.0f} us at last; ratio {last / first:.2f}")
 

@@ -37,7 +37,7 @@ def seconds(words):
 def main():
     asked = common.words_of(__doc__, rounds=(100, "runs"))
     with tempfile.TemporaryDirectory(dir=asked.folder) as folder:
-        file = os.path.join(folder, "bench.gpkg")
+        file = os.path.join(folder, "bench.mmpkg")
         common.make_package(asked.program, file, "".join(records()))
         opened = [seconds([asked.program, "run", file, "--at", "0"]) for _ in range(asked.rounds)]
         started = [seconds([asked.program, "--help"]) for _ in range(asked.rounds)]

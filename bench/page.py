@@ -80,7 +80,7 @@ def main():
     given = common.words_of(__doc__, requests=(2000, "requests in a round"), bytes=(20000, "bytes of the tile"), rounds=(5, "rounds of each side"),
                             port=(18082, "the first of the ports, one for each round of each side"))
     with tempfile.TemporaryDirectory(dir=given.folder) as folder:
-        file = str(pathlib.Path(folder) / "a.gpkg")
+        file = str(pathlib.Path(folder) / "a.mmpkg")
         common.make_package(given.program, file, common.layout(1) + f"tile,base,0,0,0,{'5a' * given.bytes}\n")
         # Python's SQLite reads a copy of the rows, since the package's own journal is not SQLite's.
         copy = str(pathlib.Path(folder) / "copy.db")

@@ -39,7 +39,7 @@ def main():
     asked = common.words_of(__doc__, bytes=(10000, "bytes of a tile"))
     for what in ("drop,base", "discard,spring", "publish,spring"):
         with tempfile.TemporaryDirectory(dir=asked.folder) as folder:
-            file = os.path.join(folder, "removal.gpkg")
+            file = os.path.join(folder, "removal.mmpkg")
             common.make_package(asked.program, file, common.layout(SIDE))
             with subprocess.Popen([asked.program, "run", file, "--at", "0"], stdin=subprocess.PIPE, stdout=subprocess.DEVNULL, text=True) as run:
                 run.stdin.writelines(records_of(what, asked.bytes))

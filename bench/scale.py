@@ -101,7 +101,7 @@ def main():
     sizes = [asked.most // 100, asked.most // 10, asked.most]
     times = {}
     with tempfile.TemporaryDirectory(dir=asked.folder) as folder:
-        filled = {count: os.path.join(folder, f"filled{count}.gpkg") for count in sizes}
+        filled = {count: os.path.join(folder, f"filled{count}.mmpkg") for count in sizes}
         for count, file in filled.items():
             fill(asked.program, file, count)
         for _ in range(asked.rounds):

@@ -27,6 +27,7 @@ declare -A tools=(
     [mmpkg-export]=export_standard.py
     [mmpkg-kit]=make_kit.py
     [mmpkg-kit-between]=kit_between.py
+    [mmpkg-repair-gis]=repair_gis.py
     [mmpkg-viewer]=make_viewer.py
 )
 
@@ -50,7 +51,7 @@ put_programs() {
     install -D "$program" "$root/usr/bin/mmpkg"
     install -d "$root/usr/share/mmpkg"
     find tools -maxdepth 1 -type f ! -name '.*' -exec install -m 644 {} "$root/usr/share/mmpkg/" \;
-    for name in mmpkg-import mmpkg-export mmpkg-kit mmpkg-kit-between mmpkg-viewer; do
+    for name in $(printf "%s\n" "${!tools[@]}" | sort); do
         if [ ! -e "tools/${tools[$name]}" ]; then
             echo "left out: $name: tools/${tools[$name]} isn't there" >&2
             continue

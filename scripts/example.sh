@@ -7,7 +7,7 @@
 # nothing is built.
 set -eu -o pipefail
 
-file=$(realpath -m "${1:-$(mktemp -d)/example.gpkg}")
+file=$(realpath -m "${1:-$(mktemp -d)/example.mmpkg}")
 cd "$(dirname "$0")/.."
 if [ -z "${MMPKG:-}" ]; then
     scripts/build.sh

@@ -8,7 +8,7 @@ set -eu -o pipefail
 cd "$(dirname "$0")/.."
 room=$(mktemp -d)
 trap 'rm -rf "$room"' EXIT
-file=$room/example.gpkg
+file=$room/example.mmpkg
 mkdir "$room/cases"
 
 # The program's commands, in their order: what is read from standard input, and the words.

@@ -56,7 +56,7 @@ try() {
 
 # The example's output is what examples/expected.txt has, with the name of its file in place of the path.
 example() {
-    scripts/example.sh "$folder/example.gpkg" | sed "s|$folder/||g" >"$folder/example.txt" || return 1
+    scripts/example.sh "$folder/example.mmpkg" | sed "s|$folder/||g" >"$folder/example.txt" || return 1
     diff examples/expected.txt "$folder/example.txt" && echo "each line as in examples/expected.txt"
 }
 
@@ -66,7 +66,7 @@ want gdalinfo:gdal-bin gdal2tiles.py:python3-gdal /usr/lib/python3/dist-packages
 want chromium:chromium /usr/share/javascript/leaflet/leaflet.min.js:libjs-leaflet lintian:lintian debootstrap:debootstrap
 try 'the example' example
 try 'the documents' scripts/outside/check_docs.py "$MMPKG"
-try 'the tables of its file' scripts/outside/compare_schema.sh "$folder/example.gpkg"
+try 'the tables of its file' scripts/outside/compare_schema.sh "$folder/example.mmpkg"
 try 'the page' scripts/outside/page_curl.sh
 try 'the clock' scripts/outside/clock.sh
 try 'a terminal' scripts/outside/terminal.py "$MMPKG"

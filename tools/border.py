@@ -101,17 +101,27 @@ def program():
     return named
 
 
-def checked_copy(file, folder):
-    """Copies a package with its journal into a folder, where the program has to find it whole."""
-    copy = folder / "copy.gpkg"
+def copy_with_journal(file, copy):
+    """Copies a package and its journal, as far as they are there."""
     for suffix in ("", "-wal"):
         if pathlib.Path(f"{file}{suffix}").exists():
             shutil.copyfile(f"{file}{suffix}", f"{copy}{suffix}")
-    done = subprocess.run([program(), "check", copy], stdin=subprocess.DEVNULL, stdout=subprocess.PIPE, check=False)
-    if done.returncode != 0:
-        said = done.stdout.decode(errors="replace").strip()
+
+
+def program_says(*words):
+    """The exit status of a subcommand of the program, at least 0, and what it prints."""
+    done = subprocess.run([program(), *words], stdin=subprocess.DEVNULL, stdout=subprocess.PIPE, check=False)
+    return done.returncode if done.returncode >= 0 else 3, done.stdout.decode(errors="replace").strip()
+
+
+def checked_copy(file, folder):
+    """Copies a package with its journal into a folder, where the program has to find it whole."""
+    copy = folder / "copy.mmpkg"
+    copy_with_journal(file, copy)
+    status, said = program_says("check", copy)
+    if status != 0:
         remedy = f" (of profile 1; 'mmpkg migrate {file}' brings it to this one)" if said.endswith(" 93") and is_profile_1(copy) else ""
-        raise Refused(f"{file}: {said}{remedy}", done.returncode if done.returncode > 0 else 3)
+        raise Refused(f"{file}: {said}{remedy}", status)
     return copy
 
 

@@ -29,15 +29,15 @@ show "gdal_translate -q -outsize 768 768 -r nearest -a_srs EPSG:25832 small.tif 
 show "gdal_translate -q -of GPKG -co TILE_FORMAT=PNG -co RASTER_TABLE=base picture.tif in.gpkg"
 # In: the layout as a list, the tiles as a kit.
 show "import_standard.py in.gpkg layout.csv --kit first kit"
-show "mmpkg init crew.gpkg"
-show "mmpkg run crew.gpkg --at 0 < layout.csv"
-show "mmpkg kit crew.gpkg first kit --at 0"
-show "echo publish,first | mmpkg run crew.gpkg --at 0"
+show "mmpkg init crew.mmpkg"
+show "mmpkg run crew.mmpkg --at 0 < layout.csv"
+show "mmpkg kit crew.mmpkg first kit --at 0"
+show "echo publish,first | mmpkg run crew.mmpkg --at 0"
 # A day's work: a spot with a photo, and the tile in the middle anew.
-show "mmpkg run crew.gpkg --at 86400000 < edit.csv"
-show "mmpkg list crew.gpkg"
+show "mmpkg run crew.mmpkg --at 86400000 < edit.csv"
+show "mmpkg list crew.mmpkg"
 # Out, and opened.
-show "export_standard.py crew.gpkg out.gpkg"
+show "export_standard.py crew.mmpkg out.gpkg"
 show "gdalinfo -nomd out.gpkg | grep -E '^(Driver|Size|Origin|Pixel Size)'"
 show "ogrinfo -al out.gpkg spots | tail -n 5"
 show "gdallocationinfo -valonly -geoloc out.gpkg 500384 5600384"

@@ -68,64 +68,64 @@ show 'gdaladdo -q -r average in.gpkg 2'
 show 'import_standard.py in.gpkg layout.csv --kit first first'
 # Zoom 0 would be one small tile of the whole, which none of the crews draws: the map begins at zoom 1.
 show "sed -i '/^matrix,base,0,/d' layout.csv"
-show 'mmpkg init office.gpkg'
-show 'mmpkg run office.gpkg --at $dawn < layout.csv'
-show 'mmpkg kit office.gpkg first first --at $dawn'
-show 'echo publish,first | mmpkg run office.gpkg --at $dawn'
-show 'mmpkg run office.gpkg --at $dawn < spots.csv | tail -n 1'
-show 'make_viewer.py office.gpkg viewer'
-show 'mmpkg run office.gpkg --at $dawn < viewer/layout.csv'
-show 'mmpkg kit office.gpkg viewer viewer --at $dawn'
-show 'echo publish,viewer | mmpkg run office.gpkg --at $dawn'
-show 'look.py office.gpkg 7 before.png'
+show 'mmpkg init office.mmpkg'
+show 'mmpkg run office.mmpkg --at $dawn < layout.csv'
+show 'mmpkg kit office.mmpkg first first --at $dawn'
+show 'echo publish,first | mmpkg run office.mmpkg --at $dawn'
+show 'mmpkg run office.mmpkg --at $dawn < spots.csv | tail -n 1'
+show 'make_viewer.py office.mmpkg viewer'
+show 'mmpkg run office.mmpkg --at $dawn < viewer/layout.csv'
+show 'mmpkg kit office.mmpkg viewer viewer --at $dawn'
+show 'echo publish,viewer | mmpkg run office.mmpkg --at $dawn'
+show 'look.py office.mmpkg 7 before.png'
 
 # A crew's day: NAME SEED COLOUR ROW_AT_ZOOM_1 TILES_AT_ZOOM_2
 crew() {
     local name=$1 seed=$2 colour=$3 row=$4 tiles=$5
     echo
     echo "The crew in the $name: a copy, a list, and a kit. The program is killed five times in each."
-    show "cp office.gpkg $name.gpkg && cp office.gpkg-wal $name.gpkg-wal"
+    show "cp office.mmpkg $name.mmpkg && cp office.mmpkg-wal $name.mmpkg-wal"
     show "land.py crew $name terrain.asc"
     show "cp picture.tif $name.tif && draw $name.tif $name $colour"
     show "records $name.tif $row >> $name.csv"
     show "tiles $name.tif tiles_$name $tiles"
     show "make_kit.py tiles_$name base ${name}_kit ${name}_kit"
     show "awk '{ print NR + 6 \",\" \$0 }' ${name}_more.csv >> ${name}_kit/kit.csv"
-    show "killed.py run $name.gpkg $name.csv $seed \$morning"
-    show "mmpkg check $name.gpkg"
-    show "mmpkg run $name.gpkg --at \$morning < $name.csv | tail -n 1"
-    show "echo edition,${name}_kit | mmpkg run $name.gpkg --at \$noon"
-    show "killed.py kit $name.gpkg ${name}_kit ${name}_kit $seed \$noon"
-    show "mmpkg check $name.gpkg"
-    show "mmpkg kit $name.gpkg ${name}_kit ${name}_kit --at \$noon"
-    show "echo publish,${name}_kit | mmpkg run $name.gpkg --at \$noon"
-    show "mmpkg list $name.gpkg"
+    show "killed.py run $name.mmpkg $name.csv $seed \$morning"
+    show "mmpkg check $name.mmpkg"
+    show "mmpkg run $name.mmpkg --at \$morning < $name.csv | tail -n 1"
+    show "echo edition,${name}_kit | mmpkg run $name.mmpkg --at \$noon"
+    show "killed.py kit $name.mmpkg ${name}_kit ${name}_kit $seed \$noon"
+    show "mmpkg check $name.mmpkg"
+    show "mmpkg kit $name.mmpkg ${name}_kit ${name}_kit --at \$noon"
+    show "echo publish,${name}_kit | mmpkg run $name.mmpkg --at \$noon"
+    show "mmpkg list $name.mmpkg"
 }
 
 # Takes a crew's work into the office's package: NAME
 home() {
-    show "mmpkg run office.gpkg --at \$evening < $1_home/before.csv"
-    show "mmpkg kit office.gpkg $1_home $1_home/$1_home --at \$evening"
-    show "echo publish,$1_home | mmpkg run office.gpkg --at \$evening"
+    show "mmpkg run office.mmpkg --at \$evening < $1_home/before.csv"
+    show "mmpkg kit office.mmpkg $1_home $1_home/$1_home --at \$evening"
+    show "echo publish,$1_home | mmpkg run office.mmpkg --at \$evening"
 }
 
-show 'cp office.gpkg before.gpkg && cp office.gpkg-wal before.gpkg-wal'
+show 'cp office.mmpkg before.mmpkg && cp office.mmpkg-wal before.mmpkg-wal'
 crew north 7 '208 52 44' 0 '0/0 1/0 2/0 1/1 2/1 3/1'
 crew south 11 '74 62 168' 1 '1/2 2/2 3/2 0/3 1/3 3/3'
 
 echo
 echo "The work comes home. Both crews saw boundary stone 7, and tell other heights: the office keeps the first until it decides."
-show 'kit_between.py before.gpkg north.gpkg north_home north_home --onto office.gpkg 2>&1'
+show 'kit_between.py before.mmpkg north.mmpkg north_home north_home --onto office.mmpkg 2>&1'
 home north
-show 'kit_between.py before.gpkg south.gpkg south_home south_home --onto office.gpkg 2>&1 || echo "status $?"'
+show 'kit_between.py before.mmpkg south.mmpkg south_home south_home --onto office.mmpkg 2>&1 || echo "status $?"'
 show 'cat south_home/conflicts.csv'
 home south
-show 'mmpkg list office.gpkg'
-show 'look.py office.gpkg 11 after.png'
+show 'mmpkg list office.mmpkg'
+show 'look.py office.mmpkg 11 after.png'
 
 echo
 echo "Out to GDAL, which finds the colours of both crews and what they wrote."
-show 'export_standard.py office.gpkg out.gpkg 2>&1'
+show 'export_standard.py office.mmpkg out.gpkg 2>&1'
 show "gdalinfo -nomd out.gpkg | grep -E '^(Driver|Size|Origin|Pixel Size)'"
 show 'gdallocationinfo -valonly -geoloc out.gpkg 501210 5601640 | paste -sd " "'
 show 'gdallocationinfo -valonly -geoloc out.gpkg 500610 5600560 | paste -sd " "'

@@ -74,7 +74,7 @@ class Round:
         self.random = random.Random(f"{seed} {number}")
         self.edges = edges
         self.folder = pathlib.Path(tempfile.mkdtemp(prefix=f"random_lists_{seed}_{number}_"))
-        self.file = self.folder / "a.gpkg"
+        self.file = self.folder / "a.mmpkg"
         self.package = Package()
         self.author = Author(self.random, self.package)
         self.again = [f"mmpkg init {self.file.name}"]

@@ -16,6 +16,7 @@ import hashlib
 import pathlib
 import random
 import re
+import shutil
 import sqlite3
 import subprocess
 import sys
@@ -137,9 +138,9 @@ def expect_round_trip(file, folder, *kit, valid=True, moment=0):
     expect_same_content(file, folder / "out.gpkg")
     commands, told = tool("import_standard.py", folder / "out.gpkg", folder / "list.csv", *kit)
     expect(told, "", "what the import tells")
-    mmpkg("init", folder / "back.gpkg")
-    take_in(commands, folder / "back.gpkg", folder, moment)
-    expect_equal(file, folder / "back.gpkg")
+    mmpkg("init", folder / "back.mmpkg")
+    take_in(commands, folder / "back.mmpkg", folder, moment)
+    expect_equal(file, folder / "back.mmpkg")
 
 
 def nine_tiles():
@@ -160,16 +161,16 @@ def check_worked_example(folder):
     colours[4] = (20, 20, 20)
     found = [colour_at(out, 500_128 + 256 * (number % 3), 5_600_640 - 256 * (number // 3)) for number in range(9)]
     expect(found, colours, "colours of the example")
-    expect_round_trip(folder / "example" / "crew.gpkg", folder, moment=86_400_000)
+    expect_round_trip(folder / "example" / "crew.mmpkg", folder, moment=86_400_000)
 
 
 def check_nine_tiles_by_gdal(folder):
     """GDAL finds nine colours in their places, the attribute row and the relation, in what is exported."""
     out = folder / "out.gpkg"
-    new_package(folder / "a.gpkg", nine_tiles())
-    expect(export(folder / "a.gpkg", out), "", "what the export tells")
+    new_package(folder / "a.mmpkg", nine_tiles())
+    expect(export(folder / "a.mmpkg", out), "", "what the export tells")
     validate(out)
-    expect_same_content(folder / "a.gpkg", out)
+    expect_same_content(folder / "a.mmpkg", out)
     info, told = run("gdalinfo", out)
     expect(told, "", "what gdalinfo tells")
     for line in ("Size is 192, 192", "Pixel Size = (1.000000000000000,-1.000000000000000)", 'PROJCRS["ETRS89 / UTM zone 32N"'):
@@ -189,15 +190,15 @@ def check_nine_tiles_by_gdal(folder):
 def check_round_trip_of_the_examples(folder):
     """The package of the readme's lists; its tiles are no pictures, so the validator has no say."""
     lists = "".join((TOP / "examples" / f"{name}.csv").read_text() for name in ("systems", "base_map", "spring"))
-    new_package(folder / "a.gpkg", lists, status=1)
-    mmpkg("run", folder / "a.gpkg", "--at", "0", given=b"edition,autumn\n")
-    mmpkg("kit", folder / "a.gpkg", "autumn", TOP / "examples" / "autumn", "--at", "0")
-    mmpkg("run", folder / "a.gpkg", "--at", "0", given=b"publish,autumn\n")
-    told = export(folder / "a.gpkg", folder / "told.gpkg")
+    new_package(folder / "a.mmpkg", lists, status=1)
+    mmpkg("run", folder / "a.mmpkg", "--at", "0", given=b"edition,autumn\n")
+    mmpkg("kit", folder / "a.mmpkg", "autumn", TOP / "examples" / "autumn", "--at", "0")
+    mmpkg("run", folder / "a.mmpkg", "--at", "0", given=b"publish,autumn\n")
+    told = export(folder / "a.mmpkg", folder / "told.gpkg")
     for name in ("autumn", "spring"):
         assert f"edition {name}: left out, published" in told, f"edition {name} isn't named"
     (folder / "trip").mkdir()
-    expect_round_trip(folder / "a.gpkg", folder / "trip", "--kit", "again", folder / "trip" / "kit", valid=False)
+    expect_round_trip(folder / "a.mmpkg", folder / "trip", "--kit", "again", folder / "trip" / "kit", valid=False)
 
 
 def random_text(source, least):
@@ -256,23 +257,23 @@ def random_package(seed):
 
 def check_round_trip_of_random_1(folder):
     """By a command list."""
-    new_package(folder / "a.gpkg", random_package(1))
-    expect_round_trip(folder / "a.gpkg", folder)
+    new_package(folder / "a.mmpkg", random_package(1))
+    expect_round_trip(folder / "a.mmpkg", folder)
 
 
 def check_round_trip_of_random_2(folder):
     """By a kit."""
-    new_package(folder / "a.gpkg", random_package(2))
-    expect_round_trip(folder / "a.gpkg", folder, "--kit", "all", folder / "kit")
+    new_package(folder / "a.mmpkg", random_package(2))
+    expect_round_trip(folder / "a.mmpkg", folder, "--kit", "all", folder / "kit")
 
 
 def check_round_trip_of_random_3(folder):
     """By a command list; the open edition is named, and the system whose number GDAL can't read."""
-    new_package(folder / "a.gpkg", random_package(3))
-    told = export(folder / "a.gpkg", folder / "told.gpkg").splitlines()
+    new_package(folder / "a.mmpkg", random_package(3))
+    told = export(folder / "a.mmpkg", folder / "told.gpkg").splitlines()
     expect([line.split(": ")[1:3] for line in told], [["system 9007199254740992", "GDAL reads numbers of systems as 32 bits, and takes it for another"],
                                                       ["edition draft", "left out, open with pieces"]], "what the export tells")
-    expect_round_trip(folder / "a.gpkg", folder)
+    expect_round_trip(folder / "a.mmpkg", folder)
 
 
 # What a standard GeoPackage may have and a package has not, put beside a package's own tables.
@@ -324,8 +325,8 @@ def check_what_is_whole(_):
 
 def check_what_is_left_out(folder):
     """Each thing that a package can't hold is named, and the rest is taken whole."""
-    new_package(folder / "a.gpkg", nine_tiles() + "pyramid,fine,fine,25832,0,0,32,32,two\n")
-    export(folder / "a.gpkg", folder / "out.gpkg")
+    new_package(folder / "a.mmpkg", nine_tiles() + "pyramid,fine,fine,25832,0,0,32,32,two\n")
+    export(folder / "a.mmpkg", folder / "out.gpkg")
     with contextlib.closing(sqlite3.connect(folder / "out.gpkg")) as opened:
         for table in ("gpkg_tile_matrix_set", "gpkg_contents"):
             opened.execute(f"DELETE FROM {table} WHERE table_name = 'fine'")
@@ -335,41 +336,42 @@ def check_what_is_left_out(folder):
     commands, told = tool("import_standard.py", folder / "out.gpkg", folder / "list.csv", status=1)
     named = [line.split(": ")[1] for line in told.splitlines() if line.startswith("left out: ")]
     expect(sorted(named), sorted(LEFT_OUT), "what is named")
-    mmpkg("init", folder / "back.gpkg")
-    take_in(commands, folder / "back.gpkg", folder)
-    expect_equal(folder / "a.gpkg", folder / "back.gpkg")
+    mmpkg("init", folder / "back.mmpkg")
+    take_in(commands, folder / "back.mmpkg", folder)
+    expect_equal(folder / "a.mmpkg", folder / "back.mmpkg")
 
 
 def check_what_is_refused(folder):
     """No package is told by the program's own numbers; nothing is written or overwritten, and FILE stays byte for byte."""
-    new_package(folder / "a.gpkg", nine_tiles())
-    with contextlib.closing(sqlite3.connect(folder / "a.gpkg")) as opened:
+    new_package(folder / "a.mmpkg", nine_tiles())
+    with contextlib.closing(sqlite3.connect(folder / "a.mmpkg")) as opened:
         opened.execute("UPDATE gpkg_contents SET description = 'x' WHERE table_name = 'spots'")
         opened.commit()
-    (folder / "notes.gpkg").write_bytes(b"ten bytes\n")
-    with contextlib.closing(sqlite3.connect(folder / "other.gpkg")) as opened:
+    (folder / "notes.mmpkg").write_bytes(b"ten bytes\n")
+    with contextlib.closing(sqlite3.connect(folder / "other.mmpkg")) as opened:
         opened.execute("CREATE TABLE other (id INTEGER)")
+    (folder / "stands.gpkg").write_bytes(b"stands")
     files = sorted(folder.iterdir())
     before = [file.read_bytes() for file in files]
     for name, line, status in (("none", "not a package 94", 4), ("other", "not a package 94", 4), ("notes", "fault 91", 3), ("a", "rule Q16", 4)):
-        _, told = tool("export_standard.py", folder / f"{name}.gpkg", folder / "out.gpkg", status=status)
-        expect(told, f"{folder / name}.gpkg: {line}\n", f"what is told of {name}")
-    tool("export_standard.py", folder / "a.gpkg", folder / "other.gpkg", status=2)
-    tool("import_standard.py", folder / "a.gpkg", folder / "list.csv", status=2)
+        _, told = tool("export_standard.py", folder / f"{name}.mmpkg", folder / "out.gpkg", status=status)
+        expect(told, f"{folder / name}.mmpkg: {line}\n", f"what is told of {name}")
+    tool("export_standard.py", folder / "a.mmpkg", folder / "stands.gpkg", status=2)
+    tool("import_standard.py", folder / "a.mmpkg", folder / "list.csv", status=2)
     expect(sorted(folder.iterdir()), files, "files")
     expect([file.read_bytes() for file in files], before, "bytes of the files")
 
 
 def check_units_of_the_profile(folder):
     """Coordinates go out in metres by the version of the profile."""
-    new_package(folder / "a.gpkg", nine_tiles())
+    new_package(folder / "a.mmpkg", nine_tiles())
     for version, units in UNITS_OF_VERSION.items():
-        with contextlib.closing(sqlite3.connect(folder / "a.gpkg")) as opened:
+        with contextlib.closing(sqlite3.connect(folder / "a.mmpkg")) as opened:
             opened.execute("UPDATE mm_profile SET version = ?", (version,))
             opened.commit()
             (wide,) = opened.execute("SELECT max_x FROM gpkg_contents WHERE table_name = 'base'").fetchone()
         out = folder / f"{version}.gpkg"
-        run("env", "MMPKG=true", TOOLS / "export_standard.py", folder / "a.gpkg", out)
+        run("env", "MMPKG=true", TOOLS / "export_standard.py", folder / "a.mmpkg", out)
         with contextlib.closing(sqlite3.connect(out)) as opened:
             for table in ("gpkg_contents", "gpkg_tile_matrix_set"):
                 expect(opened.execute(f"SELECT max_x FROM {table} WHERE table_name = 'base'").fetchone(), (wide / units,), table)
@@ -378,19 +380,57 @@ def check_units_of_the_profile(folder):
 
 def check_what_stands_in_the_journal(folder):
     """A command that was answered crosses where the program was killed behind it, when it stands in the journal alone."""
-    mmpkg("init", folder / "a.gpkg")
-    with subprocess.Popen([PROGRAM, "run", folder / "a.gpkg", "--at", "0"], stdin=subprocess.PIPE, stdout=subprocess.PIPE) as running:
+    mmpkg("init", folder / "a.mmpkg")
+    with subprocess.Popen([PROGRAM, "run", folder / "a.mmpkg", "--at", "0"], stdin=subprocess.PIPE, stdout=subprocess.PIPE) as running:
         running.stdin.write(b"table,spots,attributes,Spots\nrow,spots,1,Well,,2\n")
         running.stdin.flush()
         expect([running.stdout.readline() for _ in range(2)], [b"1 ok\n", b"2 ok\n"], "answers")
         running.kill()
-    files = [folder / "a.gpkg", folder / "a.gpkg-wal"]
+    files = [folder / "a.mmpkg", folder / "a.mmpkg-wal"]
     before = [file.read_bytes() for file in files]
-    export(folder / "a.gpkg", folder / "out.gpkg")
+    export(folder / "a.mmpkg", folder / "out.gpkg")
     expect([file.read_bytes() for file in files], before, "bytes of the package and its journal")
     validate(folder / "out.gpkg")
     with contextlib.closing(sqlite3.connect(folder / "out.gpkg")) as opened:
         expect(opened.execute("SELECT * FROM spots").fetchall(), [(1, "Well", "", 2)], "rows of spots")
+
+
+POINT = ('{"type":"FeatureCollection","features":[{"type":"Feature","properties":{"name":"x"},'
+         '"geometry":{"type":"Point","coordinates":[10,50]}}]}')
+
+
+def check_what_gdal_puts_in(folder):
+    """GDAL writes into a package that is named as a GeoPackage; what it put in is taken out, and the package is as it was."""
+    (folder / "points.json").write_text(POINT)
+    new_package(folder / "a.mmpkg", nine_tiles())
+    shutil.copyfile(folder / "a.mmpkg", folder / "trap.gpkg")
+    run("ogr2ogr", "-f", "GPKG", "-update", folder / "trap.gpkg", folder / "points.json", "-nln", "points")
+    mmpkg("check", folder / "trap.gpkg", status=3)
+    trap = (folder / "trap.gpkg").read_bytes()
+    _, told = tool("repair_gis.py", folder / "trap.gpkg", folder / "back.mmpkg")
+    for line in ("taken out: table points", "taken out: table rtree_points_geom", "taken out: 1 of the rows of gpkg_contents"):
+        assert line in told.splitlines(), f"{line!r} isn't told: {told}"
+    expect((folder / "trap.gpkg").read_bytes(), trap, "the file that was mended")
+    expect_equal(folder / "a.mmpkg", folder / "back.mmpkg")
+
+
+def check_what_can_not_be_mended(folder):
+    """What was changed in a package's own tables is named with the program's line, and nothing is made."""
+    new_package(folder / "a.mmpkg", nine_tiles())
+    with contextlib.closing(sqlite3.connect(folder / "a.mmpkg")) as opened:
+        opened.execute("CREATE TABLE layer_styles (id INTEGER PRIMARY KEY)")
+        opened.execute("UPDATE gpkg_contents SET description = 'x' WHERE table_name = 'spots'")
+        opened.commit()
+    with contextlib.closing(sqlite3.connect(folder / "other.mmpkg")) as opened:
+        opened.execute("CREATE TABLE other (id INTEGER)")
+    files = sorted(folder.iterdir())
+    for name, line, status in (("a", "what a package doesn't have is out, and the rest is still rule Q16: go back to a copy", 4),
+                               ("other", "has no table mm_profile, so it never was a package", 4), ("none", "is no file", 2)):
+        _, told = tool("repair_gis.py", folder / f"{name}.mmpkg", folder / "back.mmpkg", status=status)
+        expect(told.splitlines()[-1], f"{folder / name}.mmpkg: {line}", f"what is told of {name}")
+    tool("repair_gis.py", folder / "a.mmpkg", folder / "back.gpkg", status=2)
+    tool("repair_gis.py", folder / "a.mmpkg", folder / "other.mmpkg", status=2)
+    expect(sorted(folder.iterdir()), files, "files")
 
 
 def check_kit_of_gdal2tiles(folder):
@@ -403,9 +443,9 @@ def check_kit_of_gdal2tiles(folder):
     commands, told = tool("make_kit.py", folder / "tiles", "base", "first", folder / "kit", status=1)
     expect(told, "left out: about.txt: it is no tile Z/C/R.png\n", "what is told")
     layout = page_map.records().splitlines()[0] + "\npyramid,base,Base,25832,0,0,{0},{0},two\nmatrix,base,2,3,3,256,256,{1},{1}\n"
-    new_package(folder / "a.gpkg", layout.format(768 * UNITS_PER_METRE, UNITS_PER_METRE) + "edition,first\n")
-    take_in(commands, folder / "a.gpkg", folder)
-    export(folder / "a.gpkg", folder / "out.gpkg")
+    new_package(folder / "a.mmpkg", layout.format(768 * UNITS_PER_METRE, UNITS_PER_METRE) + "edition,first\n")
+    take_in(commands, folder / "a.mmpkg", folder)
+    export(folder / "a.mmpkg", folder / "out.gpkg")
     validate(folder / "out.gpkg")
     found = [colour_at(folder / "out.gpkg", 128 + 256 * (number % 3), 640 - 256 * (number // 3)) for number in range(9)]
     expect(found, page_map.COLOURS, "colours")
@@ -423,9 +463,9 @@ def check_kits_of_many_tiles(folder):
     expect([len(lines) for lines in lists], [KIT_PIECES, 1], "pieces")
     expect([lists[0][-1], lists[1][0]], ["4096,tile,base,0,0,4095,base-0-0-4095.png", "1,tile,base,0,0,4096,base-0-0-4096.png"], "the last pieces")
     layout = f"pyramid,base,Base,-1,0,0,{64 * UNITS_PER_METRE},{64 * UNITS_PER_METRE * (KIT_PIECES + 1)},two\nmatrix,base,0,1,{KIT_PIECES + 1},64,64,{UNITS_PER_METRE},{UNITS_PER_METRE}\n"
-    new_package(folder / "a.gpkg", layout + "edition,first\nedition,first_2\n")
-    take_in("\n".join(commands.splitlines()[2:]), folder / "a.gpkg", folder)
-    expect(listing(folder / "a.gpkg"), ["base                     two                 1 1970-01-01T00:00:00.000Z Base"], "the package")
+    new_package(folder / "a.mmpkg", layout + "edition,first\nedition,first_2\n")
+    take_in("\n".join(commands.splitlines()[2:]), folder / "a.mmpkg", folder)
+    expect(listing(folder / "a.mmpkg"), ["base                     two                 1 1970-01-01T00:00:00.000Z Base"], "the package")
 
 
 def main():

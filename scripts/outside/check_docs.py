@@ -67,7 +67,7 @@ class Tour:
         os.symlink(program, f"{folder}/bin/mmpkg")
         for name in "examples", "scripts", "tools":
             os.symlink(f"{TOP}/{name}", f"{folder}/{name}")
-        with open(f"{folder}/notes.gpkg", "w", encoding="utf-8") as it:
+        with open(f"{folder}/notes.mmpkg", "w", encoding="utf-8") as it:
             it.write("some notes")
         self.environment = {**os.environ, "PATH": f"{folder}/bin:{os.environ['PATH']}", "LC_ALL": "C.UTF-8"}
 

@@ -42,18 +42,18 @@ run() {
         settings+=("$1")
         shift
     done
-    rm -f a.gpkg a.gpkg-wal
-    "$program" init a.gpkg
-    cp a.gpkg before.gpkg
-    said=$(echo table,spots,attributes,Spots | env "${settings[@]}" LD_PRELOAD="$folder/clock.so" "$program" run a.gpkg "$@") || got=$?
+    rm -f a.mmpkg a.mmpkg-wal
+    "$program" init a.mmpkg
+    cp a.mmpkg before.mmpkg
+    said=$(echo table,spots,attributes,Spots | env "${settings[@]}" LD_PRELOAD="$folder/clock.so" "$program" run a.mmpkg "$@") || got=$?
     if [ "$said" != "$wanted" ] || [ "$got" != "$status" ]; then
         echo "${settings[*]} $*: '$said', status $got; wanted '$wanted', status $status"
         exit 1
     fi
     if [ "$change" = same ]; then
-        cmp a.gpkg before.gpkg
-    elif [ "$(sqlite3 a.gpkg 'SELECT last_change FROM gpkg_contents')" != "$change" ]; then
-        echo "${settings[*]} $*: the last_change is $(sqlite3 a.gpkg 'SELECT last_change FROM gpkg_contents'); wanted $change"
+        cmp a.mmpkg before.mmpkg
+    elif [ "$(sqlite3 a.mmpkg 'SELECT last_change FROM gpkg_contents')" != "$change" ]; then
+        echo "${settings[*]} $*: the last_change is $(sqlite3 a.mmpkg 'SELECT last_change FROM gpkg_contents'); wanted $change"
         exit 1
     fi
 }
@@ -68,7 +68,7 @@ run_without() {
     done
     shift
     said=$(env "${settings[@]}" LD_PRELOAD="$folder/clock.so" "$program" "$@" </dev/null) || got=$?
-    if [ "$said" != "$wanted" ] || [ "$got" != "$status" ] || [ -e none.gpkg ]; then
+    if [ "$said" != "$wanted" ] || [ "$got" != "$status" ] || [ -e none.mmpkg ]; then
         echo "${settings[*]} $*: '$said', status $got; wanted '$wanted', status $status, and no file"
         exit 1
     fi
@@ -82,12 +82,12 @@ run 'refused 11' 1 same CLOCK_SECONDS=-1 CLOCK_NANOSECONDS=999999999
 run 'fault 96' 3 same CLOCK_NANOSECONDS=0
 run '1 ok' 0 1970-01-02T00:00:00.000Z CLOCK_SECONDS=0 CLOCK_NANOSECONDS=0 --at 86400000
 run '1 ok' 0 1970-01-02T00:00:00.000Z CLOCK_NANOSECONDS=0 --at 86400000
-run_without 'refused 11' 1 CLOCK_SECONDS=253402300800 CLOCK_NANOSECONDS=0 -- run none.gpkg
-run_without 'fault 96' 3 CLOCK_NANOSECONDS=0 -- run none.gpkg
-run_without 'not a package 94' 4 CLOCK_NANOSECONDS=0 -- run none.gpkg --at 0
-run_without 'refused 11' 1 CLOCK_SECONDS=-1 CLOCK_NANOSECONDS=0 -- kit none.gpkg spring none
-run_without 'fault 96' 3 CLOCK_NANOSECONDS=0 -- kit none.gpkg spring none
-run_without 'kit refused 0 12' 1 CLOCK_SECONDS=253402300800 CLOCK_NANOSECONDS=0 -- kit none.gpkg Spring none
-run_without 'kit refused 0 12' 1 CLOCK_NANOSECONDS=0 -- kit none.gpkg Spring none
-run_without 'not a package 94' 4 CLOCK_NANOSECONDS=0 -- check none.gpkg
+run_without 'refused 11' 1 CLOCK_SECONDS=253402300800 CLOCK_NANOSECONDS=0 -- run none.mmpkg
+run_without 'fault 96' 3 CLOCK_NANOSECONDS=0 -- run none.mmpkg
+run_without 'not a package 94' 4 CLOCK_NANOSECONDS=0 -- run none.mmpkg --at 0
+run_without 'refused 11' 1 CLOCK_SECONDS=-1 CLOCK_NANOSECONDS=0 -- kit none.mmpkg spring none
+run_without 'fault 96' 3 CLOCK_NANOSECONDS=0 -- kit none.mmpkg spring none
+run_without 'kit refused 0 12' 1 CLOCK_SECONDS=253402300800 CLOCK_NANOSECONDS=0 -- kit none.mmpkg Spring none
+run_without 'kit refused 0 12' 1 CLOCK_NANOSECONDS=0 -- kit none.mmpkg Spring none
+run_without 'not a package 94' 4 CLOCK_NANOSECONDS=0 -- check none.mmpkg
 echo "three moments, two outside the limits, a clock that can't be read, a moment that is given, and what is asked before the clock and behind it"

@@ -117,14 +117,14 @@ there_and_back() {
         cd "$(mktemp -d)"
         trap "rm -r \"\$PWD\"" EXIT
         examples=/usr/share/doc/mmpkg/examples
-        mmpkg init a.gpkg
-        cat $examples/systems.csv $examples/base_map.csv $examples/spring.csv | mmpkg run a.gpkg --at 0 || [ $? = 1 ]
-        mmpkg-export a.gpkg out.gpkg
+        mmpkg init a.mmpkg
+        cat $examples/systems.csv $examples/base_map.csv $examples/spring.csv | mmpkg run a.mmpkg --at 0 || [ $? = 1 ]
+        mmpkg-export a.mmpkg out.gpkg
         mmpkg-import out.gpkg list.csv
-        mmpkg init b.gpkg
-        mmpkg run b.gpkg --at 0 <list.csv
-        mmpkg list a.gpkg | grep -v ^edition >a
-        mmpkg list b.gpkg >b
+        mmpkg init b.mmpkg
+        mmpkg run b.mmpkg --at 0 <list.csv
+        mmpkg list a.mmpkg | grep -v ^edition >a
+        mmpkg list b.mmpkg >b
         cmp a b && test -s a'
 }
 

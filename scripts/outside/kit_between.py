@@ -218,7 +218,7 @@ def expect_between(before, after, other, folder, onto, seen=None):
     expect(listed(out), wanted if onto else [], "conflicts")
     why = {line.split(": ")[1]: line.split(": ", 2)[2] for line in told.splitlines() if line.startswith("left out: ")}
     expect(sorted(why), sorted(" ".join(name) for name in wanted), "what is named")
-    target = other.copy(folder / "target.gpkg")
+    target = other.copy(folder / "target.mmpkg")
     editions = take_in(printed, target.file, out)
     expect_rows(target.file, package_of(result, target.package.editions | dict.fromkeys(editions)))
     if seen is not None:
@@ -240,7 +240,7 @@ def count(seen, out, editions, why):
 def check_random_packages(folder, given):
     """What turns one into another, and what one changed onto the other, gives the rows that the rule gives."""
     seen = collections.Counter()
-    empty = new_package(folder / "empty.gpkg")
+    empty = new_package(folder / "empty.mmpkg")
     for number in range(1, given.rounds + 1):
         source = random.Random(f"{given.seed} {number}")
         try:
@@ -257,8 +257,8 @@ def check_random_packages(folder, given):
 
 def one_round(folder, empty, source, number, seen):
     """A pair, a three, and now and then a pair of which neither came of the other, so that systems may have changed or gone."""
-    before = empty.copy(folder / "before.gpkg").change(source, [*OPENING, *words_of(source, 45)])
-    after, other = (before.copy(folder / f"{name}.gpkg").change(source, words_of(source, 24)) for name in ("after", "other"))
+    before = empty.copy(folder / "before.mmpkg").change(source, [*OPENING, *words_of(source, 45)])
+    after, other = (before.copy(folder / f"{name}.mmpkg").change(source, words_of(source, 24)) for name in ("after", "other"))
     for kept in (before, after, other):
         expect_rows(kept.file, kept.package)
     conflicts, _ = expect_between(before, after, before, folder, False, seen)
@@ -463,9 +463,9 @@ tile turned 0 0 0"""
 
 def check_each_conflict(folder, _):
     """By hand: each way in which two changes don't go together is listed, with the values of all three, and no other."""
-    before = by_hand(new_package(folder / "before.gpkg"), BY_HAND)
-    after = by_hand(before.copy(folder / "after.gpkg"), AFTER_BY_HAND)
-    other = by_hand(before.copy(folder / "other.gpkg"), OTHER_BY_HAND)
+    before = by_hand(new_package(folder / "before.mmpkg"), BY_HAND)
+    after = by_hand(before.copy(folder / "after.mmpkg"), AFTER_BY_HAND)
+    other = by_hand(before.copy(folder / "other.mmpkg"), OTHER_BY_HAND)
     run(TOOL, before.file, after.file, "home", folder / "listed", "--onto", other.file, status=1)
     found = (folder / "listed" / "conflicts.csv").read_text().splitlines()
     assert 'row,spots 1,"one,,1","ours,,1","theirs,,1"' in found, found
@@ -478,10 +478,10 @@ def check_each_conflict(folder, _):
 
 def check_system_that_changed(folder, _):
     """A system that is another is named and left out, with the pyramids that come on it, and the rest is taken in."""
-    empty = new_package(folder / "empty.gpkg")
+    empty = new_package(folder / "empty.mmpkg")
     layout = "table,a,attributes,One\npyramid,base,Base,8,0,0,1024,1024,two\nmatrix,base,2,4,4,64,64,4,4\n"
-    before = by_hand(empty.copy(folder / "before.gpkg"), "srs,8,theirs,EPSG,8,a,\nsrs,9,gone,EPSG,9,a,\n")
-    after = by_hand(empty.copy(folder / "after.gpkg"), "srs,8,ours,EPSG,8,a,\nsrs,10,new,EPSG,10,a,\n" + layout)
+    before = by_hand(empty.copy(folder / "before.mmpkg"), "srs,8,theirs,EPSG,8,a,\nsrs,9,gone,EPSG,9,a,\n")
+    after = by_hand(empty.copy(folder / "after.mmpkg"), "srs,8,ours,EPSG,8,a,\nsrs,10,new,EPSG,10,a,\n" + layout)
     conflicts, _ = expect_between(before, after, before, folder, False)
     expect(conflicts, [["matrix", "base 2"], ["system", "8"], ["system", "9"], ["table", "base"]], "what is left out")
 
@@ -491,16 +491,16 @@ def check_identifiers_that_swap(folder, _):
     layout = "table,a,attributes,One\ntable,b,media,Two\nrow,a,1,x,,1\nmedia,b,1,a/b,00\nrelation,m,a,b,media\nmap,m,1,1\ntable,t,attributes,T\n"
     swapped = ("relation-drop,m\ndrop,a\ndrop,b\ndrop,t\ntable,a,attributes,Two\ntable,b,media,One\nrow,a,1,x,,1\nmedia,b,1,a/b,00\n"
                "relation,t,a,b,media\nmap,t,1,1\ntable,m,attributes,T\n")
-    before = by_hand(new_package(folder / "before.gpkg"), layout)
-    after = by_hand(before.copy(folder / "after.gpkg"), swapped)
+    before = by_hand(new_package(folder / "before.mmpkg"), layout)
+    after = by_hand(before.copy(folder / "after.mmpkg"), swapped)
     expect_between(before, after, before, folder, False)
     expect_between(after, before, after, folder, False)
 
 
 def check_one_that_is_as_the_other(folder, _):
     """Between equal packages nothing is written but an empty list; other editions and moments are named, and change no status."""
-    before = by_hand(new_package(folder / "before.gpkg"), "table,a,attributes,One\nrow,a,1,x,,1\n")
-    after = by_hand(before.copy(folder / "after.gpkg"), "edition,draft\nstage,draft,1,row,a,2,,,0\n")
+    before = by_hand(new_package(folder / "before.mmpkg"), "table,a,attributes,One\nrow,a,1,x,,1\n")
+    after = by_hand(before.copy(folder / "after.mmpkg"), "edition,draft\nstage,draft,1,row,a,2,,,0\n")
     run(PROGRAM, "run", after.file, "--at", 86400000, given=b"row,a,1,x,,1\n")
     printed, told = run(TOOL, before.file, after.file, "home", folder / "out")
     expect(printed, "", "commands")
@@ -521,8 +521,8 @@ def with_rows(kept, numbers, *values):
 
 def check_many_pieces(folder, _):
     """One piece more than a kit takes begins a second one, and both are taken in."""
-    before = by_hand(new_package(folder / "before.gpkg"), f"table,{'z' * 60},attributes,One\n")
-    after = before.copy(folder / "after.gpkg")
+    before = by_hand(new_package(folder / "before.mmpkg"), f"table,{'z' * 60},attributes,One\n")
+    after = before.copy(folder / "after.mmpkg")
     with_rows(after, range(1, MOST_PIECES + 2), "x", "", 0)
     printed, _ = run(TOOL, before.file, after.file, "home", folder / "out")
     lists = [(folder / "out" / name / "kit.csv").read_text().splitlines() for name in ("home", "home_2")]
@@ -535,8 +535,8 @@ def check_many_pieces(folder, _):
 
 def check_full_list(folder, _):
     """A list that would grow past its limit ends, and a second kit begins."""
-    before = by_hand(new_package(folder / "before.gpkg"), f"table,{'z' * 60},attributes,One\n")
-    after = before.copy(folder / "after.gpkg")
+    before = by_hand(new_package(folder / "before.mmpkg"), f"table,{'z' * 60},attributes,One\n")
+    after = before.copy(folder / "after.mmpkg")
     with_rows(after, range(2**53 - MOST_PIECES + 1, 2**53 + 1), '"' * 1000, '"' * 1000, -(10**15))
     run(TOOL, before.file, after.file, "home", folder / "out")
     sizes = [(folder / "out" / name / "kit.csv").stat().st_size for name in ("home", "home_2")]
@@ -545,23 +545,23 @@ def check_full_list(folder, _):
 
 def check_bad_input(folder, _):
     """No package is told by the program's own line; OUT that stands is not touched, nothing half made is left, and the packages stay."""
-    one = by_hand(new_package(folder / "a.gpkg"), "table,a,attributes,One\nrow,a,1,x,,1\nedition,taken\n")
-    two = by_hand(one.copy(folder / "b.gpkg"), "row,a,2,y,,2\n")
-    shutil.copyfile(one.file, folder / "older.gpkg")
-    assert put_back(folder / "older.gpkg")
-    (folder / "notes.gpkg").write_bytes(b"ten bytes\n")
-    with contextlib.closing(sqlite3.connect(folder / "other.gpkg")) as opened:
+    one = by_hand(new_package(folder / "a.mmpkg"), "table,a,attributes,One\nrow,a,1,x,,1\nedition,taken\n")
+    two = by_hand(one.copy(folder / "b.mmpkg"), "row,a,2,y,,2\n")
+    shutil.copyfile(one.file, folder / "older.mmpkg")
+    assert put_back(folder / "older.mmpkg")
+    (folder / "notes.mmpkg").write_bytes(b"ten bytes\n")
+    with contextlib.closing(sqlite3.connect(folder / "other.mmpkg")) as opened:
         opened.execute("CREATE TABLE other (id INTEGER)")
     (folder / "stands").mkdir()
     files = {file: file.is_file() and file.read_bytes() for file in sorted(folder.iterdir())}
     lines = {"none": ("not a package 94", 4), "other": ("not a package 94", 4), "notes": ("fault 91", 3),
              "older": ("not a package 93 (of profile 1; 'mmpkg migrate {}' brings it to this one)", 4)}
     for name, (line, status) in lines.items():
-        bad = folder / f"{name}.gpkg"
+        bad = folder / f"{name}.mmpkg"
         for words in ((bad, two.file, "home", folder / "out"), (one.file, bad, "home", folder / "out"),
                       (one.file, two.file, "home", folder / "out", "--onto", bad)):
             expect(run(TOOL, *words, status=status), ("", f"{bad}: {line.format(bad)}\n"), f"what is told of {name}")
-    for edition, out in (("home", "stands"), ("home", "notes.gpkg/out"), ("home", "missing/out"), ("taken", "out"), ("Home", "out"), ("mm_a", "out")):
+    for edition, out in (("home", "stands"), ("home", "notes.mmpkg/out"), ("home", "missing/out"), ("taken", "out"), ("Home", "out"), ("mm_a", "out")):
         printed, told = run(TOOL, one.file, two.file, edition, folder / out, status=2)
         assert printed == "" and len(told.splitlines()) == 1, told
     expect(run(TOOL, one.file, two.file, "taken", folder / "out", status=2)[1],
@@ -572,8 +572,8 @@ def check_bad_input(folder, _):
 
 def check_output_that_fails(folder, _):
     """Where nobody reads the commands, that is told in a line, and the files stand whole."""
-    one = by_hand(new_package(folder / "a.gpkg"), "table,a,attributes,One\n")
-    two = by_hand(one.copy(folder / "b.gpkg"), "row,a,2,y,,2\n")
+    one = by_hand(new_package(folder / "a.mmpkg"), "table,a,attributes,One\n")
+    two = by_hand(one.copy(folder / "b.mmpkg"), "row,a,2,y,,2\n")
     read, write = os.pipe()
     os.close(read)
     told = run(TOOL, one.file, two.file, "home", folder / "out", status=2, out=write)[1]

@@ -14,8 +14,8 @@ program=${MMPKG:-$PWD/out/mmpkg}
 folder=$(mktemp -d)
 trap 'kill "${server:-}" 2>/dev/null || true; rm -rf "$folder"' EXIT
 
-"$program" init "$folder/a.gpkg" >/dev/null
-"$program" run "$folder/a.gpkg" --at 0 >/dev/null <<'END'
+"$program" init "$folder/a.mmpkg" >/dev/null
+"$program" run "$folder/a.mmpkg" --at 0 >/dev/null <<'END'
 srs,25832,ETRS89 / UTM zone 32N,EPSG,25832,projected metres,
 pyramid,base,Base map,25832,500000000000,5600000000000,501024000000,5601024000000,two
 matrix,base,0,1,1,256,256,4000000,4000000
@@ -45,7 +45,7 @@ END
 }
 
 count=$(($(cases | wc -l) + 1))
-"$program" serve "$folder/a.gpkg" --port "$port" --count "$count" >"$folder/printed" &
+"$program" serve "$folder/a.mmpkg" --port "$port" --count "$count" >"$folder/printed" &
 server=$!
 for _ in $(seq 100); do
     grep -q serving "$folder/printed" && break

@@ -104,11 +104,11 @@ def main():
     program = str(pathlib.Path(given.program).resolve())
     with tempfile.TemporaryDirectory() as name:
         folder = pathlib.Path(name)
-        subprocess.run([program, "init", folder / "a.gpkg"], check=True, stdout=subprocess.DEVNULL)
-        subprocess.run([program, "run", folder / "a.gpkg"], input=records().encode(), check=True, stdout=subprocess.DEVNULL)
+        subprocess.run([program, "init", folder / "a.mmpkg"], check=True, stdout=subprocess.DEVNULL)
+        subprocess.run([program, "run", folder / "a.mmpkg"], input=records().encode(), check=True, stdout=subprocess.DEVNULL)
         (folder / "map.html").write_text(html(given.port))
         # More connections than tiles: a browser may open some that it doesn't use. The service is ended here.
-        served = subprocess.Popen([program, "serve", folder / "a.gpkg", "--port", str(given.port), "--count", "1000"], stdout=subprocess.PIPE)
+        served = subprocess.Popen([program, "serve", folder / "a.mmpkg", "--port", str(given.port), "--count", "1000"], stdout=subprocess.PIPE)
         assert served.stdout.readline().startswith(b"serving ")
         try:
             subprocess.run([given.browser, "--headless=new", "--no-sandbox", "--disable-gpu", "--hide-scrollbars", "--force-device-scale-factor=1",

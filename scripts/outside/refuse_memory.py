@@ -179,7 +179,7 @@ class Room:
 
     def __init__(self, program, library, folder, case):
         self.program, self.library, self.folder, self.case = program, library, folder, case
-        self.file, self.port = folder / "a.gpkg", free_port()
+        self.file, self.port = folder / "a.mmpkg", free_port()
         (folder / "kit").mkdir()
         for name, it in KIT.items():
             (folder / "kit" / name).write_bytes(it)

@@ -57,7 +57,7 @@ def typed(program, package):
 def main():
     program = os.path.realpath(sys.argv[1])
     with tempfile.TemporaryDirectory() as folder:
-        package = f"{folder}/a.gpkg"
+        package = f"{folder}/a.mmpkg"
         subprocess.run([program, "init", package], check=True, stdout=subprocess.DEVNULL)
         wrong = typed(program, package)
     print(wrong or "two records are answered as they are typed, and one end key ends the list")

@@ -40,7 +40,7 @@ class Scene:
         self.folder = folder
         self.browser = browser
         self.keep = keep
-        self.file = folder / "a.gpkg"
+        self.file = folder / "a.mmpkg"
         self.address = ""
         self.pages = []
 
@@ -392,7 +392,7 @@ def check_tables(scene):
     """All tables are listed with identifier and last change, as text whatever they are called."""
     page = scene.open()
     listed = page.value("[...byId('tables').children].map(it => it.innerText)")
-    told = [line for line in mmpkg("list", copy_of(scene, "listed.gpkg")).splitlines() if not line.startswith("edition ")]
+    told = [line for line in mmpkg("list", copy_of(scene, "listed.mmpkg")).splitlines() if not line.startswith("edition ")]
     expect(len(listed), len(told), "tables")
     for shown, line in zip(listed, told):
         table, kind, _, changed, identifier = line.split(None, 4)
@@ -431,7 +431,7 @@ def copy_of(scene, name):
 
 def check_no_answer(scene):
     """Where the program has ended the page says so in words, in place of holes alone; where it never answered too."""
-    with served(copy_of(scene, "ended.gpkg")) as address:
+    with served(copy_of(scene, "ended.mmpkg")) as address:
         page = scene.open(f"{address}/media/viewer/1")
         zoom_to(page, 0)
         expect(page.value("byId('messages').innerText"), "", "messages")
@@ -444,7 +444,7 @@ def check_no_answer(scene):
 
 def check_what_came_later(scene):
     """A pyramid that came behind the viewer is named, and shown when the viewer is made anew and taken in by the same commands."""
-    file = copy_of(scene, "later.gpkg")
+    file = copy_of(scene, "later.mmpkg")
     later = dataclasses.replace(PYRAMIDS[2], table="later", identifier="Later map", missing=frozenset())
     mmpkg("run", file, given=later.records().encode())
     with served(file) as address:
@@ -494,7 +494,7 @@ def check_tool_makes_a_kit(scene):
 
 def check_tool_with_a_standing_table(scene):
     """A media table of the name is taken, where its items 1 to 4 are a viewer's or aren't there; the next edition's name is found."""
-    file = scene.folder / "named.gpkg"
+    file = scene.folder / "named.mmpkg"
     new_package(file, "table,maps,media,Map viewer\nmedia,maps,9,image/png,89504e47\nedition,maps\npublish,maps\nedition,maps_2\n")
     commands, told = take_in(file, scene.folder / "maps out", "--table", "maps")
     expect(told, f"note: edition maps_2: is open; 'discard,maps_2' takes it back where it was for an earlier viewer\n"
@@ -510,34 +510,34 @@ def check_tool_with_a_standing_table(scene):
 
 # Words for the tool with {} for the folder, the line that it tells, and its status.
 REFUSED = [
-    (["{}/none.gpkg", "{}/out"], "{}/none.gpkg: not a package 94", 4),
-    (["{}/notes.gpkg", "{}/out"], "{}/notes.gpkg: fault 91", 3),
-    (["{}/broken.gpkg", "{}/out"], "{}/broken.gpkg: rule Q16", 4),
-    (["{}/one.gpkg", "{}/out"], "{}/one.gpkg: not a package 93 (of profile 1; 'mmpkg migrate {}/one.gpkg' brings it to this one)", 4),
+    (["{}/none.mmpkg", "{}/out"], "{}/none.mmpkg: not a package 94", 4),
+    (["{}/notes.mmpkg", "{}/out"], "{}/notes.mmpkg: fault 91", 3),
+    (["{}/broken.mmpkg", "{}/out"], "{}/broken.mmpkg: rule Q16", 4),
+    (["{}/one.mmpkg", "{}/out"], "{}/one.mmpkg: not a package 93 (of profile 1; 'mmpkg migrate {}/one.mmpkg' brings it to this one)", 4),
     (["{}", "{}/out"], "[Errno 21] Is a directory: '{}'", 2),
-    (["{}/good.gpkg", "{}/stands"], "{}/stands: is there, and is not overwritten", 2),
-    (["{}/good.gpkg", "{}/no/out"], "{}/no: is no folder", 2),
-    (["{}/good.gpkg", "{}/notes.gpkg/out"], "{}/notes.gpkg: is no folder", 2),
-    (["{}/good.gpkg", "{}/out", "--table", "spots"], "spots: is a table of kind attributes; --table names another table", 2),
-    (["{}/good.gpkg", "{}/out", "--table", "photos"], "photos: its item 1 is image/png and no viewer's; --table names another table", 2),
-    (["{}/good.gpkg", "{}/out", "--table", "views"], "views: is the name of a mapping; --table names another table", 2),
-    (["{}/good.gpkg", "{}/out", "--table", "mm_map"], "'mm_map' is no name of a package", 2),
-    (["{}/good.gpkg", "{}/out", "--edition", "old"], "old: this edition is published in the package; --edition names another", 2),
+    (["{}/good.mmpkg", "{}/stands"], "{}/stands: is there, and is not overwritten", 2),
+    (["{}/good.mmpkg", "{}/no/out"], "{}/no: is no folder", 2),
+    (["{}/good.mmpkg", "{}/notes.mmpkg/out"], "{}/notes.mmpkg: is no folder", 2),
+    (["{}/good.mmpkg", "{}/out", "--table", "spots"], "spots: is a table of kind attributes; --table names another table", 2),
+    (["{}/good.mmpkg", "{}/out", "--table", "photos"], "photos: its item 1 is image/png and no viewer's; --table names another table", 2),
+    (["{}/good.mmpkg", "{}/out", "--table", "views"], "views: is the name of a mapping; --table names another table", 2),
+    (["{}/good.mmpkg", "{}/out", "--table", "mm_map"], "'mm_map' is no name of a package", 2),
+    (["{}/good.mmpkg", "{}/out", "--edition", "old"], "old: this edition is published in the package; --edition names another", 2),
 ]
 
 
 def make_refused(folder):
     """The files that are refused, and a good one."""
     folder.mkdir()
-    new_package(folder / "good.gpkg", "table,spots,attributes,Spots\ntable,photos,media,Photos\nmedia,photos,1,image/png,89504e47\n"
+    new_package(folder / "good.mmpkg", "table,spots,attributes,Spots\ntable,photos,media,Photos\nmedia,photos,1,image/png,89504e47\n"
                                       "relation,views,spots,photos,media\nedition,old\npublish,old\n")
-    shutil.copy(folder / "good.gpkg", folder / "broken.gpkg")
-    with contextlib.closing(sqlite3.connect(folder / "broken.gpkg")) as opened:
+    shutil.copy(folder / "good.mmpkg", folder / "broken.mmpkg")
+    with contextlib.closing(sqlite3.connect(folder / "broken.mmpkg")) as opened:
         opened.execute("UPDATE gpkg_contents SET description = 'x'")
         opened.commit()
-    new_package(folder / "one.gpkg")
-    expect(make_profile_1.put_back(folder / "one.gpkg"), True, "a package of profile 1")
-    (folder / "notes.gpkg").write_bytes(b"ten bytes\n")
+    new_package(folder / "one.mmpkg")
+    expect(make_profile_1.put_back(folder / "one.mmpkg"), True, "a package of profile 1")
+    (folder / "notes.mmpkg").write_bytes(b"ten bytes\n")
     (folder / "stands").mkdir()
 
 
@@ -549,7 +549,7 @@ def check_tool_refuses(scene):
     for words, line, status in REFUSED:
         told = run(TOOL, *(it.replace("{}", str(folder)) for it in words), status=status)
         expect(told, ("", line.replace("{}", str(folder)) + "\n"), f"what is told of {words}")
-    _, told = run(TOOL, folder / "good.gpkg", "/proc/out", status=2)
+    _, told = run(TOOL, folder / "good.mmpkg", "/proc/out", status=2)
     expect(len(told.splitlines()), 1, "lines where a folder can't be written")
     expect((package_files(folder), sorted(it.name for it in folder.iterdir())), before, "the files")
 

@@ -13,10 +13,12 @@ import math
 import os
 import pathlib
 import re
+import shlex
 import shutil
 import sqlite3
 import subprocess
 import sys
+import tempfile
 
 # By the version in mm_profile, how many units of a package's coordinates and pixel sizes are a metre.
 UNITS_OF_VERSION = {1: 1_000, 2: 1_000_000}
@@ -84,6 +86,9 @@ def run_tool(main):
     except Refused as refused:
         print(refused, file=sys.stderr)
         status = refused.status
+    except KeyboardInterrupt:
+        print("stopped; nothing was made", file=sys.stderr)
+        status = 130
     except OSError as error:
         print("standard output: nobody reads it" if isinstance(error, BrokenPipeError) else error, file=sys.stderr)
         # What standard output still holds would be tried once more as Python ends.
@@ -114,20 +119,95 @@ def program_says(*words):
     return done.returncode if done.returncode >= 0 else 3, done.stdout.decode(errors="replace").strip()
 
 
-def checked_copy(file, folder):
-    """Copies a package with its journal into a folder, where the program has to find it whole."""
-    copy = folder / "copy.mmpkg"
-    copy_with_journal(file, copy)
-    status, said = program_says("check", copy)
-    if status != 0:
-        remedy = f" (of profile 1; 'mmpkg migrate {file}' brings it to this one)" if said.endswith(" 93") and is_profile_1(copy) else ""
-        raise Refused(f"{file}: {said}{remedy}", status)
-    return copy
+class Source:
+    """A package that is read, in which the program found no fault: FILE itself where all of it stands there, else a copy in a folder.
+
+    All of it stands in FILE where its journal holds nothing. Where the program doesn't get FILE, since another has it or it can't be
+    written, a copy is read too.
+    """
+
+    def __init__(self, file, folder):
+        self.file = file
+        self.stamps = None
+        self.path = file if self.passes_here() else self.passing_copy(folder)
+
+    def passes_here(self):
+        """Whether FILE can be read as it is. A journal that only the check made is taken away again."""
+        journal = pathlib.Path(f"{self.file}-wal")
+        there = journal.exists()
+        if there and journal.stat().st_size or not all(os.access(it, os.W_OK) for it in (self.file, self.file.absolute().parent)):
+            return False
+        status, said = program_says("check", self.file)
+        if not there and journal.exists() and journal.stat().st_size == 0:
+            journal.unlink()
+        if status not in (0, 3):
+            self.refuse(self.file, status, said)
+        self.stamps = stamps_of(self.file)
+        return status == 0
+
+    def passing_copy(self, folder):
+        copy = folder / "copy.mmpkg"
+        expect_room(self.file, folder)
+        copy_with_journal(self.file, copy)
+        status, said = program_says("check", copy)
+        if status != 0:
+            self.refuse(copy, status, said)
+        return copy
+
+    def refuse(self, path, status, said):
+        remedy = ""
+        if said.endswith(" 93") and is_profile_1(path):
+            remedy = f" (of profile 1; 'mmpkg migrate {shlex.quote(str(self.file))}' brings it to this one)"
+        raise Refused(f"{self.file}: {said}{remedy}", status)
+
+    def address(self):
+        """How SQLite is told to read it, and to make nothing beside it."""
+        return f"{self.path.resolve().as_uri()}?mode=ro{'&immutable=1' if self.path == self.file else ''}"
+
+    def expect_unchanged(self):
+        """Refuses where FILE was written while it was read; of a copy there is nothing to say."""
+        if self.path == self.file and stamps_of(self.file) != self.stamps:
+            raise Refused(f"{self.file}: was written while it was read; do it again when no program has it")
 
 
-def is_profile_1(copy):
-    with contextlib.closing(sqlite3.connect(copy)) as opened:
+def stamps_of(file):
+    """Sizes and moments of a package's file and its journal."""
+    paths = [pathlib.Path(f"{file}{suffix}") for suffix in ("", "-wal")]
+    return [(it.stat().st_size, it.stat().st_mtime_ns) for it in paths if it.exists()]
+
+
+def expect_room(file, folder):
+    """Refuses where a folder has no room for a copy of a package, into which its journal is taken."""
+    wanted = sum(size * times for (size, _), times in zip(stamps_of(file), (1, 2)))
+    free = shutil.disk_usage(folder).free
+    if wanted > free:
+        raise Refused(f"{file}: its journal holds commits, or another program has it, so a copy is read, which wants {megabytes(wanted)} in "
+                      f"{folder.parent}, where {megabytes(free)} are free; TMPDIR names another folder")
+
+
+def megabytes(size):
+    return f"{size / 1e6:.0f} MB"
+
+
+def is_profile_1(path):
+    with contextlib.closing(sqlite3.connect(f"{path.resolve().as_uri()}?mode=ro&immutable=1", uri=True)) as opened:
         return opened.execute("SELECT id, version FROM mm_profile").fetchall() == [(1, 1)]
+
+
+def expect_new(path):
+    """Refuses where something has a name that is to be made, or its folder isn't there."""
+    if os.path.lexists(path):
+        raise Refused(f"{path}: is there, and is not overwritten; remove it, or choose another name")
+    if not path.parent.is_dir():
+        raise Refused(f"{path.parent}: is no folder")
+
+
+@contextlib.contextmanager
+def made_beside(path):
+    """A folder beside what is to be made, in which it is made first; it goes in any case."""
+    expect_new(path)
+    with tempfile.TemporaryDirectory(prefix=f".{path.name}-", dir=path.parent) as beside:
+        yield pathlib.Path(beside)
 
 
 def quoted(name):
@@ -219,12 +299,14 @@ def media_piece(table, number, content_type, data):
 class KitWriter:
     """Writes pieces as kits: the first in FOLDER for EDITION, and where one is full the next in FOLDER_2 for EDITION_2, and so on.
 
-    Pieces that name one file have equal bytes; it is written once a kit.
+    They are written in a folder beside, and have their names only when all are whole. Pieces that name one file have equal bytes; it is
+    written once a kit.
     """
 
-    def __init__(self, edition, folder):
+    def __init__(self, edition, folder, beside):
         self.edition = edition
         self.folder = pathlib.Path(folder)
+        self.beside = pathlib.Path(beside)
         self.kits = []
         self.lines = []
         self.size = 0
@@ -235,9 +317,13 @@ class KitWriter:
             self.begin()
             line = self.line(piece)
         if piece.data is not None:
-            self.write_file(self.kits[-1][1] / piece.file, piece.data)
+            self.write_file(self.made() / piece.file, piece.data)
         self.lines.append(line)
         self.size += len(line.encode())
+
+    def made(self):
+        """Where the kit that stands is written."""
+        return self.beside / self.kits[-1][1].name
 
     def write_file(self, file, data):
         if not file.exists():
@@ -254,20 +340,25 @@ class KitWriter:
         edition = self.edition + suffix
         if not is_name(edition):
             raise Refused(f"{edition!r} is no name of an edition")
-        folder = pathlib.Path(f"{self.folder}{suffix}")
-        folder.mkdir(parents=True)
-        self.kits.append((edition, folder))
+        self.kits.append((edition, pathlib.Path(f"{self.folder}{suffix}")))
+        self.made().mkdir()
 
     def end(self):
-        """Writes the list of the kit that stands: the last of its files, so that a kit which was cut short has none."""
+        """Writes the list of the kit that stands."""
         if self.lines:
-            (self.kits[-1][1] / "kit.csv").write_text("".join(self.lines), encoding="utf-8", newline="")
+            (self.made() / "kit.csv").write_text("".join(self.lines), encoding="utf-8", newline="")
         self.lines = []
         self.size = 0
 
-    def tell(self, parent=None):
-        """Ends the last kit, and prints the commands that take the kits in, of folders in the parent where they were moved there."""
+    def name(self):
+        """Ends the last kit, and gives all their names."""
         self.end()
+        for _, folder in self.kits:
+            expect_new(folder)
+            os.rename(self.beside / folder.name, folder)
+
+    def tell(self):
+        """Prints the commands that take the kits in."""
         for edition, folder in self.kits:
-            print(f"mmpkg kit FILE {edition} {parent / folder.name if parent else folder}")
+            print(f"mmpkg kit FILE {edition} {shlex.quote(str(folder))}")
             print(f"echo publish,{edition} | mmpkg run FILE")

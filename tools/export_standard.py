@@ -3,8 +3,9 @@
 
     tools/export_standard.py FILE OUT.gpkg
 
-FILE is a package of mmpkg. It and its journal are copied first and left as they are; nothing may write them meanwhile. The copy has to
-pass 'mmpkg check', with the program that the environment's MMPKG names, else out/mmpkg of this repository, else mmpkg of the path.
+FILE is a package of mmpkg, which is left as it is; nothing may write it meanwhile. It has to pass 'mmpkg check', with the program that
+the environment's MMPKG names, else out/mmpkg of this repository, else mmpkg of the path. Where its journal holds commits, or another program
+has it, or it can't be written, a copy of both is read, in the folder that the environment's TMPDIR names, else /tmp; as large as they are.
 OUT.gpkg must not be there; it is written under another name and renamed when it is whole. docs/BORDER.md says what goes across; editions
 don't, and are named on standard error, as are tiles that the standard has no place for.
 
@@ -18,7 +19,7 @@ import re
 import sqlite3
 import tempfile
 
-from border import UNITS_OF_VERSION, Refused, Report, arguments, checked_copy, quoted, run_tool
+from border import UNITS_OF_VERSION, Refused, Report, Source, arguments, expect_new, made_beside, quoted, run_tool
 
 # The tables of OGC 12-128r17, annex C, and of OGC 18-000, as those write them. No table has features, so gpkg_geometry_columns stays empty;
 # without it GDAL lists no attribute table.
@@ -155,11 +156,11 @@ def tell_editions(out, report):
         report.note(f"edition {name}", f"left out, {state}" + (f" with pieces: {pieces}" if state == "open" else ""))
 
 
-def write_standard(copy, made, report):
-    """Writes all that goes across from the copy of a package into a new file."""
-    out = sqlite3.connect(made)
+def write_standard(source, made, report):
+    """Writes all that goes across from a package into a new file."""
+    out = sqlite3.connect(made.absolute().as_uri(), uri=True)
     try:
-        out.execute("ATTACH DATABASE ? AS package", (str(copy),))
+        out.execute("ATTACH DATABASE ? AS package", (source.address(),))
         (version,) = out.execute("SELECT version FROM package.mm_profile").fetchone()
         if version not in UNITS_OF_VERSION:
             raise Refused(f"version {version} of the profile isn't known here")
@@ -185,17 +186,15 @@ def main():
     given = parser.parse_args()
     if given.OUT.suffix != ".gpkg":
         raise Refused(f"{given.OUT}: a GeoPackage's name ends with .gpkg")
-    if os.path.lexists(given.OUT):
-        raise Refused(f"{given.OUT}: is there, and is not overwritten")
-    with tempfile.TemporaryDirectory() as name, tempfile.TemporaryDirectory(prefix=".export-", dir=given.OUT.parent) as beside:
-        copy = checked_copy(given.FILE, pathlib.Path(name))
-        made = pathlib.Path(beside) / given.OUT.name
+    with tempfile.TemporaryDirectory() as name, made_beside(given.OUT) as beside:
+        source = Source(given.FILE, pathlib.Path(name))
+        made = beside / given.OUT.name
         try:
-            write_standard(copy, made, Report())
+            write_standard(source, made, Report())
         except sqlite3.Error as error:
             raise Refused(f"{given.OUT}: {error}") from error
-        if os.path.lexists(given.OUT):
-            raise Refused(f"{given.OUT}: is there, and is not overwritten")
+        source.expect_unchanged()
+        expect_new(given.OUT)
         os.rename(made, given.OUT)
     return 0
 

@@ -14,15 +14,17 @@ What a package can't hold is named on standard error and left out (docs/BORDER.m
 Exit status: 0 all was taken; 1 something was left out; 2 wrong arguments, or a file that can't be read or written.
 """
 
+import contextlib
 import os
 import pathlib
 import re
+import shlex
 import sqlite3
 
 from border import (AMOUNT_LIMIT, CONTENT_TYPE, COORDINATE_LIMIT, DEFINITION_LIMIT, GEOGRAPHIC_SYSTEMS, GIVEN_SYSTEMS, MATRIX_LIMIT,
                     MEDIA_LIMIT, NUMBER_LIMIT, PIXEL_SIZE_LIMIT, TEXT_LIMIT, TILE_LIMIT, TILE_SIDE_LIMIT, ZOOM_LIMIT, KitWriter, Piece,
-                    Refused, Report, arguments, is_identifier, is_name, is_text, is_whole, media_piece, quoted, record, run_tool, tile_piece,
-                    whole_units)
+                    Refused, Report, arguments, expect_new, is_identifier, is_name, is_text, is_whole, made_beside, media_piece, quoted, record,
+                    run_tool, tile_piece, whole_units)
 
 APPLICATION_IDS = {int.from_bytes(mark, "big") for mark in (b"GPKG", b"GP10", b"GP11")}
 GEOGRAPHIC = re.compile(r"\s*(GEOGCS|GEOGCRS|GEODCRS|GEOGRAPHICCRS|GEODETICCRS|GEOCCS)\b")
@@ -284,13 +286,28 @@ def write_list(standard, made):
         out.writelines(piece.command() for piece in standard.pieces())
 
 
-def write_kits(standard, made, edition, folder):
-    kits = KitWriter(edition, folder)
+def write_kits(standard, made, beside, edition, folder):
+    kits = KitWriter(edition, folder, beside)
     for piece in standard.pieces():
         kits.add(piece)
     with open(made, "w", encoding="utf-8", newline="") as out:
         out.writelines(map(record, standard.records))
         out.writelines(record(["edition", name]) for name, _ in kits.kits)
+    return kits
+
+
+def write(standard, given):
+    """Writes the list, and the kits where they are asked for; returns those."""
+    with contextlib.ExitStack() as stack:
+        made = stack.enter_context(made_beside(given.LIST)) / given.LIST.name
+        if given.kit:
+            beside = stack.enter_context(made_beside(pathlib.Path(given.kit[1])))
+            kits = write_kits(standard, made, beside, *given.kit)
+            kits.name()
+        else:
+            kits = write_list(standard, made)
+        expect_new(given.LIST)
+        os.rename(made, given.LIST)
     return kits
 
 
@@ -300,22 +317,16 @@ def main():
     parser.add_argument("LIST", type=pathlib.Path)
     parser.add_argument("--kit", nargs=2, metavar=("EDITION", "FOLDER"))
     given = parser.parse_args()
-    if os.path.lexists(given.LIST):
-        raise Refused(f"{given.LIST}: is there, and is not overwritten")
     if given.kit and not is_name(given.kit[0]):
         raise Refused(f"{given.kit[0]!r} is no name of an edition")
-    made = given.LIST.with_name(f".{given.LIST.name}.part")
     report = Report()
     try:
         standard = Standard(given.IN, report)
         standard.read_layout()
-        kits = write_kits(standard, made, *given.kit) if given.kit else write_list(standard, made)
-        os.rename(made, given.LIST)
+        kits = write(standard, given)
     except sqlite3.Error as error:
         raise Refused(f"{given.IN}: {error}") from error
-    finally:
-        made.unlink(missing_ok=True)
-    print(f"mmpkg run FILE < {given.LIST}")
+    print(f"mmpkg run FILE < {shlex.quote(str(given.LIST))}")
     if kits:
         kits.tell()
     return 1 if report.count else 0

@@ -4,9 +4,10 @@
     tools/kit_between.py BEFORE AFTER EDITION OUT
     tools/kit_between.py BEFORE AFTER EDITION OUT --onto OTHER
 
-BEFORE, AFTER and OTHER are packages of mmpkg. Each is copied with its journal and left as it is; nothing may write it meanwhile. Each copy
-has to pass 'mmpkg check', with the program that the environment's MMPKG names, else out/mmpkg of this repository. OUT must not be there;
-it is written under another name and renamed when it is whole. It gets
+BEFORE, AFTER and OTHER are packages of mmpkg, and are left as they are; nothing may write them meanwhile. Each has to pass 'mmpkg check',
+with the program that the environment's MMPKG names, else out/mmpkg of this repository. Of one whose journal holds commits, or which another
+program has, or which can't be written, a copy is read, in the folder that the environment's TMPDIR names, else /tmp; as large as it is. OUT
+must not be there; it is written under another name and renamed when it is whole. It gets
 
     before.csv   records for 'mmpkg run': relations and tables that go; systems, tables and relations that come; the editions
     EDITION      a kit: mapping rows, rows, media and tiles that go; matrices by rising zoom; rows, media and tiles that come or changed;
@@ -46,12 +47,13 @@ import collections
 import functools
 import os
 import pathlib
+import shlex
 import sqlite3
 import sys
 import tempfile
 
 import three_way
-from border import KitWriter, Piece, Refused, Report, arguments, checked_copy, image_suffix, is_name, record, run_tool
+from border import KitWriter, Piece, Refused, Report, Source, arguments, expect_new, image_suffix, is_name, made_beside, record, run_tool
 from three_way import Table
 
 PROFILE = 2
@@ -76,13 +78,13 @@ PIECES = ("SELECT edition, piece_no, kind, name, k1, k2, k3, k4, k5, k6, k7, t1,
 
 
 class Package:
-    """What a package has: by part, a value for each key. Bytes stay in its copy, and are told by their digest."""
+    """What a package has: by part, a value for each key. Bytes stay in the file, and are told by their digest."""
 
     def __init__(self, file, folder):
         self.file = file
         folder.mkdir()
-        copy = checked_copy(file, folder)
-        self.source = sqlite3.connect(f"{copy.as_uri()}?mode=ro", uri=True)
+        self.read = Source(file, folder)
+        self.source = sqlite3.connect(self.read.address(), uri=True)
         # Names and digests come again and again, and are kept once.
         self.source.text_factory = lambda data: sys.intern(data.decode())
         versions = self.source.execute("SELECT version FROM mm_profile").fetchall()
@@ -227,9 +229,9 @@ def summary(counts):
     return ", ".join(f"{count} {word}" for word, count in sorted(counts.items())) or "nothing"
 
 
-def write_files(difference, edition, folder):
+def write_files(difference, edition, out, folder):
     """Writes the kits, and before.csv with their editions; returns the kits, and how many records there are of each word."""
-    kits = KitWriter(edition, folder / edition)
+    kits = KitWriter(edition, out / edition, folder)
     records, counts = list(difference.layout()), collections.Counter()
     for piece in difference.content():
         kits.add(piece)
@@ -247,21 +249,21 @@ def write_conflicts(rows, folder):
         out.writelines(map(record, [["what", "key", "before", "after", "other"], *rows]))
 
 
-def expect_new(edition, package):
+def expect_new_edition(edition, package):
     if package.has_edition(edition):
         raise Refused(f"{package.file}: has an edition {edition}, and no name is used twice")
 
 
-def write(packages, edition, folder, report):
+def write(packages, edition, out, folder, report):
     """Writes all files into a folder; returns the kits, and how many records there are of each word."""
     before, after, other = packages[0], packages[1], packages[-1] if len(packages) == 3 else packages[0]
-    expect_new(edition, other)
+    expect_new_edition(edition, other)
     tell_rest(before, after, report)
     merged = three_way.Merge(before.parts, after.parts, other.parts)
     rows, conflicts = tell_conflicts(merged, report)
-    kits, counts = write_files(Difference(other.parts, merged.result, Files((after, other))), edition, folder)
+    kits, counts = write_files(Difference(other.parts, merged.result, Files((after, other))), edition, out, folder)
     for name, _ in kits.kits:
-        expect_new(name, other)
+        expect_new_edition(name, other)
     print(f"written: {summary(counts)}", file=sys.stderr)
     if len(packages) == 3:
         print(f"there already: {summary(collections.Counter(word_of(merged, *change) for change in merged.there))}", file=sys.stderr)
@@ -279,24 +281,23 @@ def main():
     given = parser.parse_args()
     if not is_name(given.EDITION):
         raise Refused(f"{given.EDITION!r} is no name of an edition")
-    if os.path.lexists(given.OUT):
-        raise Refused(f"{given.OUT}: is there, and is not overwritten")
     report = Report()
     files = [given.BEFORE, given.AFTER] + ([given.onto] if given.onto else [])
-    with tempfile.TemporaryDirectory() as name, tempfile.TemporaryDirectory(prefix=".kit-", dir=given.OUT.parent) as beside:
-        made = pathlib.Path(beside) / "made"
+    with tempfile.TemporaryDirectory() as name, made_beside(given.OUT) as beside:
+        made = beside / "made"
         made.mkdir()
         try:
             packages = [Package(file, pathlib.Path(name) / str(place)) for place, file in enumerate(files)]
-            kits, counts = write(packages, given.EDITION, made, report)
+            kits, counts = write(packages, given.EDITION, given.OUT, made, report)
         except sqlite3.Error as error:
             raise Refused(f"{given.OUT}: {error}") from error
-        if os.path.lexists(given.OUT):
-            raise Refused(f"{given.OUT}: is there, and is not overwritten")
+        for package in packages:
+            package.read.expect_unchanged()
+        expect_new(given.OUT)
         os.rename(made, given.OUT)
     if counts:
-        print(f"mmpkg run FILE < {given.OUT / 'before.csv'}")
-    kits.tell(given.OUT)
+        print(f"mmpkg run FILE < {shlex.quote(str(given.OUT / 'before.csv'))}")
+    kits.tell()
     return 1 if report.count else 0
 
 

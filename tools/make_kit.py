@@ -16,7 +16,7 @@ Exit status: 0 all was taken; 1 something was left out; 2 wrong arguments, no ti
 import pathlib
 import re
 
-from border import MATRIX_LIMIT, TILE_LIMIT, ZOOM_LIMIT, KitWriter, Refused, Report, arguments, is_name, run_tool, tile_piece
+from border import MATRIX_LIMIT, TILE_LIMIT, ZOOM_LIMIT, KitWriter, Refused, Report, arguments, is_name, made_beside, run_tool, tile_piece
 
 TILE = re.compile(r"(0|[1-9][0-9]{0,9})/(0|[1-9][0-9]{0,9})/(0|[1-9][0-9]{0,9})\.png")
 
@@ -53,9 +53,11 @@ def main():
     tiles = tiles_of(given.FOLDER, report)
     if not tiles:
         raise Refused(f"{given.FOLDER}: has no tile")
-    kits = KitWriter(given.EDITION, given.OUT)
-    for zoom, column, row, file in tiles:
-        kits.add(tile_piece(given.TABLE, zoom, column, row, file.read_bytes()))
+    with made_beside(given.OUT) as beside:
+        kits = KitWriter(given.EDITION, given.OUT, beside)
+        for zoom, column, row, file in tiles:
+            kits.add(tile_piece(given.TABLE, zoom, column, row, file.read_bytes()))
+        kits.name()
     kits.tell()
     return 1 if report.count else 0
 

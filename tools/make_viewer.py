@@ -13,8 +13,9 @@ puts the four items in place of the old ones. An edition is published once, so i
 so on, the first that FILE doesn't have; --edition names another. A table TABLE that is no media table, or has other media as 1 to 4, is
 refused.
 
-FILE and its journal are copied first and left as they are; nothing may write them meanwhile. The copy has to pass 'mmpkg check', with the
-program that the environment's MMPKG names, else out/mmpkg of this repository.
+FILE is left as it is; nothing may write it meanwhile. It has to pass 'mmpkg check', with the program that the environment's MMPKG names,
+else out/mmpkg of this repository. Where its journal holds commits, or another program has it, or it can't be written, a copy of both is read,
+in the folder that the environment's TMPDIR names, else /tmp; as large as they are.
 
 Exit status: 0 OUT was made; 2 wrong arguments, a name that is taken, Leaflet isn't there, or a file that can't be read or written; else
 what 'mmpkg check' ended with, whose line is told: 3 a fault, 4 no package or one that breaks a rule.
@@ -25,14 +26,13 @@ import contextlib
 import hashlib
 import itertools
 import json
-import os
 import pathlib
 import re
 import shlex
 import sqlite3
 import tempfile
 
-from border import MEDIA_LIMIT, KitWriter, Refused, Report, arguments, checked_copy, is_name, media_piece, record, run_tool
+from border import MEDIA_LIMIT, KitWriter, Refused, Report, Source, arguments, is_name, made_beside, media_piece, record, run_tool
 
 PAGE = pathlib.Path(__file__).resolve().parent / "viewer.html"
 LEAFLET = pathlib.Path("/usr/share/javascript/leaflet")
@@ -116,18 +116,18 @@ def page_item():
     return page.encode()
 
 
-def write_kit(folder, table, edition, items):
-    kit = KitWriter(edition, folder)
+def write_kit(folder, beside, table, edition, items):
+    kit = KitWriter(edition, folder, beside)
     for number, content_type in CONTENT_TYPES.items():
         if len(items[number]) > MEDIA_LIMIT:
             raise Refused(f"item {number} has {len(items[number])} bytes, and a media item at most {MEDIA_LIMIT}")
         kit.add(media_piece(table, number, content_type, items[number]))
-    kit.end()
+    return kit
 
 
-def read_package(copy, given, report):
+def read_package(source, given, report):
     """The layout's text, the edition, and the matrices as an item."""
-    with contextlib.closing(sqlite3.connect(copy)) as opened:
+    with contextlib.closing(sqlite3.connect(source.address(), uri=True)) as opened:
         package = Package(opened)
         tables = package.table_records(given.table)
         edition = package.free_edition(given.table, given.edition, report)
@@ -146,26 +146,19 @@ def main():
     for name in (given.table, given.edition or given.table):
         if not is_name(name):
             raise Refused(f"{name!r} is no name of a package")
-    if os.path.lexists(given.OUT):
-        raise Refused(f"{given.OUT}: is there, and is not overwritten")
-    if not given.OUT.parent.is_dir():
-        raise Refused(f"{given.OUT.parent}: is no folder")
     items = {1: page_item(), 2: leaflet_item("leaflet.min.js"), 3: leaflet_item("leaflet.css")}
-    with tempfile.TemporaryDirectory() as name, tempfile.TemporaryDirectory(prefix=".viewer-", dir=given.OUT.parent) as beside:
-        copy = checked_copy(given.FILE, pathlib.Path(name))
+    with tempfile.TemporaryDirectory() as name, made_beside(given.OUT) as beside:
+        source = Source(given.FILE, pathlib.Path(name))
         try:
-            layout, edition, items[4] = read_package(copy, given, Report())
+            layout, edition, items[4] = read_package(source, given, Report())
         except sqlite3.Error as error:
             raise Refused(f"{given.FILE}: {error}") from error
-        made = pathlib.Path(beside) / given.OUT.name
-        write_kit(made, given.table, edition, items)
-        (made / "layout.csv").write_text(layout, encoding="utf-8", newline="")
-        if os.path.lexists(given.OUT):
-            raise Refused(f"{given.OUT}: is there, and is not overwritten")
-        os.rename(made, given.OUT)
+        source.expect_unchanged()
+        kit = write_kit(given.OUT, beside, given.table, edition, items)
+        (beside / given.OUT.name / "layout.csv").write_text(layout, encoding="utf-8", newline="")
+        kit.name()
     print(f"mmpkg run FILE < {shlex.quote(str(given.OUT / 'layout.csv'))}")
-    print(f"mmpkg kit FILE {edition} {shlex.quote(str(given.OUT))}")
-    print(f"echo publish,{edition} | mmpkg run FILE")
+    kit.tell()
     return 0
 
 

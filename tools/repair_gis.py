@@ -22,9 +22,8 @@ import os
 import pathlib
 import sqlite3
 import sys
-import tempfile
 
-from border import Refused, arguments, copy_with_journal, program_says, quoted, run_tool
+from border import Refused, arguments, copy_with_journal, expect_new, made_beside, program_says, quoted, run_tool
 
 # The tables of a package with their columns (docs/FORMATS.md, section 2).
 TABLES = {
@@ -136,16 +135,14 @@ def main():
     given = parser.parse_args()
     if given.OUT.suffix != ".mmpkg":
         raise Refused(f"{given.OUT}: a package's name ends with .mmpkg, so that GDAL and QGIS leave it alone")
-    if os.path.lexists(given.OUT) or os.path.lexists(f"{given.OUT}-wal"):
-        raise Refused(f"{given.OUT}: it or its journal is there, and is not overwritten")
+    expect_new(pathlib.Path(f"{given.OUT}-wal"))
     if not given.FILE.is_file():
         raise Refused(f"{given.FILE}: is no file")
-    with tempfile.TemporaryDirectory(prefix=".repair-", dir=given.OUT.parent) as beside:
-        made = pathlib.Path(beside) / "made.mmpkg"
+    with made_beside(given.OUT) as beside:
+        made = beside / given.OUT.name
         copy_with_journal(given.FILE, made)
         mend(given.FILE, made)
-        if os.path.lexists(given.OUT):
-            raise Refused(f"{given.OUT}: is there, and is not overwritten")
+        expect_new(given.OUT)
         os.rename(made, given.OUT)
     print(f"{given.OUT}: package ok", file=sys.stderr)
     return 0

@@ -395,6 +395,56 @@ def check_what_stands_in_the_journal(folder):
         expect(opened.execute("SELECT * FROM spots").fetchall(), [(1, "Well", "", 2)], "rows of spots")
 
 
+def patched(name, patch, *words, status=0):
+    """Runs a tool behind a patch of what it imports."""
+    code = f"import sys, os, signal, types, border, {name}\n{patch}\n{name}.run_tool({name}.main)"
+    return run("env", f"PYTHONPATH={TOOLS}", sys.executable, "-B", "-c", code, *words, status=status)
+
+
+def check_reading_in_place(folder):
+    """A package whose journal holds nothing is read without a copy; where a copy has no room that is told with what it wants."""
+    new_package(folder / "a.mmpkg", nine_tiles())
+    patched("export_standard", "border.shutil.copyfile = None", folder / "a.mmpkg", folder / "in_place.gpkg")
+    with subprocess.Popen([PROGRAM, "run", folder / "a.mmpkg", "--at", "0"], stdin=subprocess.PIPE, stdout=subprocess.PIPE) as running:
+        running.stdin.write(b"row,spots,1,Well,,2\n")
+        running.stdin.flush()
+        expect(running.stdout.readline(), b"1 ok\n", "the answer")
+        export(folder / "a.mmpkg", folder / "in_use.gpkg")
+        running.kill()
+    no_room = "border.shutil.disk_usage = lambda _: types.SimpleNamespace(free=0)"
+    _, told = patched("export_standard", no_room, folder / "a.mmpkg", folder / "out.gpkg", status=2)
+    assert re.search(r"a copy is read, which wants \d+ MB in /\S+, where 0 MB are free; TMPDIR names another folder\n$", told), told
+
+
+def check_stopped_by_hand(folder):
+    """Behind Ctrl-C there is a line and no traceback, and nothing that was half made."""
+    new_package(folder / "a.mmpkg", nine_tiles())
+    export(folder / "a.mmpkg", folder / "in.gpkg")
+    (folder / "tiles" / "0" / "0").mkdir(parents=True)
+    (folder / "tiles" / "0" / "0" / "0.png").write_bytes(page_map.png_of((1, 2, 3)))
+    files = sorted(folder.rglob("*"))
+    stop = "os.kill(os.getpid(), signal.SIGINT)"
+    for name, patch, words in (("import_standard", f"border.KitWriter.end = lambda *_: {stop}", (folder / "in.gpkg", folder / "l", "--kit", "k", folder / "k")),
+                               ("make_kit", f"border.KitWriter.end = lambda *_: {stop}", (folder / "tiles", "base", "k", folder / "k")),
+                               ("export_standard", f"export_standard.write_relations = lambda *_: {stop}", (folder / "a.mmpkg", folder / "out.gpkg"))):
+        expect(patched(name, patch, *words, status=130), ("", "stopped; nothing was made\n"), f"what {name} tells")
+    expect(sorted(folder.rglob("*")), files, "files")
+
+
+def check_names_with_spaces(folder):
+    """The commands that are printed are quoted as a shell wants them, and a folder that stands is named before the work."""
+    new_package(folder / "a.mmpkg", nine_tiles())
+    export(folder / "a.mmpkg", folder / "in.gpkg")
+    words = ("import_standard.py", folder / "in.gpkg", folder / "my list.csv", "--kit", "first", folder / "my kit")
+    commands, _ = tool(*words)
+    mmpkg("init", folder / "back.mmpkg")
+    for line in commands.splitlines():
+        run("bash", "-c", f"set -o pipefail; mmpkg() {{ {PROGRAM} \"$@\" --at 0; }}; " + line.replace("FILE", str(folder / "back.mmpkg")))
+    expect_equal(folder / "a.mmpkg", folder / "back.mmpkg")
+    (folder / "my list.csv").unlink()
+    expect(tool(*words, status=2)[1], f"{folder}/my kit: is there, and is not overwritten; remove it, or choose another name\n", "what is told")
+
+
 POINT = ('{"type":"FeatureCollection","features":[{"type":"Feature","properties":{"name":"x"},'
          '"geometry":{"type":"Point","coordinates":[10,50]}}]}')
 

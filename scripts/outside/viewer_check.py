@@ -515,7 +515,7 @@ REFUSED = [
     (["{}/broken.mmpkg", "{}/out"], "{}/broken.mmpkg: rule Q16", 4),
     (["{}/one.mmpkg", "{}/out"], "{}/one.mmpkg: not a package 93 (of profile 1; 'mmpkg migrate {}/one.mmpkg' brings it to this one)", 4),
     (["{}", "{}/out"], "[Errno 21] Is a directory: '{}'", 2),
-    (["{}/good.mmpkg", "{}/stands"], "{}/stands: is there, and is not overwritten", 2),
+    (["{}/good.mmpkg", "{}/stands"], "{}/stands: is there, and is not overwritten; remove it, or choose another name", 2),
     (["{}/good.mmpkg", "{}/no/out"], "{}/no: is no folder", 2),
     (["{}/good.mmpkg", "{}/notes.mmpkg/out"], "{}/notes.mmpkg: is no folder", 2),
     (["{}/good.mmpkg", "{}/out", "--table", "spots"], "spots: is a table of kind attributes; --table names another table", 2),

@@ -40,6 +40,14 @@ MEDIA_LIMIT = 4_194_304
 KIT_PIECES = 4096
 KIT_LIST_LIMIT = 16_777_216
 
+# How many things of which one note speaks are told by their names.
+NOTED = 3
+
+# The table of attribute rows in which an import keeps the bounds of maps whose tiles reach further: a row has the map's name as its title, and
+# as its note MIN_X MIN_Y MAX_X MAX_Y in whole units.
+BOUNDS_TABLE = "map_bounds"
+BOUNDS_IDENTIFIER = "Bounds of maps"
+
 GIVEN_SYSTEMS = (-1, 0, 4326)
 GEOGRAPHIC_SYSTEMS = (0, 4326)
 
@@ -56,17 +64,24 @@ class Refused(Exception):
 
 
 class Report:
-    """Tells on standard error what does not cross the border, and counts what was left out."""
+    """Tells on standard error what does not cross the border, and counts what was left out. Notes that are alike are told once."""
 
     def __init__(self):
         self.count = 0
+        self.notes = {}
 
     def left_out(self, what, why):
         self.count += 1
         print(f"left out: {what}: {why}", file=sys.stderr)
 
     def note(self, what, why):
-        print(f"note: {what}: {why}", file=sys.stderr)
+        self.notes.setdefault(why, []).append(str(what))
+
+    def tell_notes(self):
+        for why, of in self.notes.items():
+            more = f" and {len(of) - NOTED} more" if len(of) > NOTED else ""
+            print(f"note: {', '.join(of[:NOTED])}{more}: {why}", file=sys.stderr)
+        self.notes = {}
 
 
 def arguments(description):
@@ -208,6 +223,23 @@ def made_beside(path):
     expect_new(path)
     with tempfile.TemporaryDirectory(prefix=f".{path.name}-", dir=path.parent) as beside:
         yield pathlib.Path(beside)
+
+
+def bounds_of(package, schema="main"):
+    """By name, the bounds of maps that a package keeps, of those that lie within the map's extent."""
+    kept = package.execute(f"SELECT title, note FROM {schema}.mm_rows WHERE table_name = ? ORDER BY id", (BOUNDS_TABLE,)).fetchall()
+    extents = {row[0]: row[1:] for row in package.execute(f"SELECT table_name, min_x, min_y, max_x, max_y FROM {schema}.gpkg_tile_matrix_set")}
+    found = {}
+    for name, note in kept:
+        bounds = [int(it) for it in note.split() if re.fullmatch("-?[0-9]{1,18}", it)]
+        if name in extents and is_within(bounds, extents[name]):
+            found[name] = bounds
+    return found
+
+
+def is_within(bounds, extent):
+    """Whether bounds are some, and lie within an extent."""
+    return len(bounds) == 4 and extent[0] <= bounds[0] < bounds[2] <= extent[2] and extent[1] <= bounds[1] < bounds[3] <= extent[3]
 
 
 def quoted(name):

@@ -19,7 +19,7 @@ import re
 import sqlite3
 import tempfile
 
-from border import UNITS_OF_VERSION, Refused, Report, Source, arguments, expect_new, made_beside, quoted, run_tool
+from border import UNITS_OF_VERSION, Refused, Report, Source, arguments, bounds_of, expect_new, made_beside, quoted, run_tool
 
 # The tables of OGC 12-128r17, annex C, and of OGC 18-000, as those write them. No table has features, so gpkg_geometry_columns stays empty;
 # without it GDAL lists no attribute table.
@@ -104,6 +104,9 @@ def write_contents(out, units):
     extent = "min_x / :units, min_y / :units, max_x / :units, max_y / :units"
     out.execute(f"INSERT INTO main.gpkg_contents SELECT table_name, data_type, identifier, description, last_change, {extent}, srs_id "
                 "FROM package.gpkg_contents ORDER BY table_name", metres)
+    for name, bounds in bounds_of(out, "package").items():
+        out.execute("UPDATE main.gpkg_contents SET min_x = ?, min_y = ?, max_x = ?, max_y = ? WHERE table_name = ?",
+                    (*(it / units for it in bounds), name))
     out.execute(f"INSERT INTO main.gpkg_tile_matrix_set SELECT table_name, srs_id, {extent} "
                 "FROM package.gpkg_tile_matrix_set ORDER BY table_name", metres)
     out.execute("INSERT INTO main.gpkg_tile_matrix SELECT table_name, zoom_level, matrix_width, matrix_height, tile_width, tile_height, "
@@ -189,13 +192,15 @@ def main():
     with tempfile.TemporaryDirectory() as name, made_beside(given.OUT) as beside:
         source = Source(given.FILE, pathlib.Path(name))
         made = beside / given.OUT.name
+        report = Report()
         try:
-            write_standard(source, made, Report())
+            write_standard(source, made, report)
         except sqlite3.Error as error:
             raise Refused(f"{given.OUT}: {error}") from error
         source.expect_unchanged()
         expect_new(given.OUT)
         os.rename(made, given.OUT)
+    report.tell_notes()
     return 0
 
 

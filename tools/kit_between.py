@@ -264,6 +264,7 @@ def write(packages, edition, out, folder, report):
     kits, counts = write_files(Difference(other.parts, merged.result, Files((after, other))), edition, out, folder)
     for name, _ in kits.kits:
         expect_new_edition(name, other)
+    report.tell_notes()
     print(f"written: {summary(counts)}", file=sys.stderr)
     if len(packages) == 3:
         print(f"there already: {summary(collections.Counter(word_of(merged, *change) for change in merged.there))}", file=sys.stderr)

@@ -148,15 +148,16 @@ def main():
             raise Refused(f"{name!r} is no name of a package")
     items = {1: page_item(), 2: leaflet_item("leaflet.min.js"), 3: leaflet_item("leaflet.css")}
     with tempfile.TemporaryDirectory() as name, made_beside(given.OUT) as beside:
-        source = Source(given.FILE, pathlib.Path(name))
+        source, report = Source(given.FILE, pathlib.Path(name)), Report()
         try:
-            layout, edition, items[4] = read_package(source, given, Report())
+            layout, edition, items[4] = read_package(source, given, report)
         except sqlite3.Error as error:
             raise Refused(f"{given.FILE}: {error}") from error
         source.expect_unchanged()
         kit = write_kit(given.OUT, beside, given.table, edition, items)
         (beside / given.OUT.name / "layout.csv").write_text(layout, encoding="utf-8", newline="")
         kit.name()
+    report.tell_notes()
     print(f"mmpkg run FILE < {shlex.quote(str(given.OUT / 'layout.csv'))}")
     kit.tell()
     return 0

@@ -23,10 +23,11 @@ show() {
 }
 
 PATH="$top/tools:$PATH"
-# A picture of nine colours, a metre a pixel, and a GeoPackage with its tiles.
+# A picture of nine colours, a metre a pixel, and a GeoPackage with its tiles at all zooms.
 show "gdaldem color-relief -q -nearest_color_entry picture.asc colours.txt small.tif"
 show "gdal_translate -q -outsize 768 768 -r nearest -a_srs EPSG:25832 small.tif picture.tif"
 show "gdal_translate -q -of GPKG -co TILE_FORMAT=PNG -co RASTER_TABLE=base picture.tif in.gpkg"
+show "gdaladdo -q -r nearest in.gpkg 2 4"
 # In: the layout as a list, the tiles as a kit.
 show "import_standard.py in.gpkg layout.csv --kit first kit"
 show "mmpkg init crew.mmpkg"

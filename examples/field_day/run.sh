@@ -66,8 +66,6 @@ show 'draw picture.tif stones 40 40 48'
 show 'gdal_translate -q -of GPKG -co TILE_FORMAT=PNG -co RASTER_TABLE=base -co "RASTER_IDENTIFIER=Base map" picture.tif in.gpkg'
 show 'gdaladdo -q -r average in.gpkg 2'
 show 'import_standard.py in.gpkg layout.csv --kit first first'
-# Zoom 0 would be one small tile of the whole, which none of the crews draws: the map begins at zoom 1.
-show "sed -i '/^matrix,base,0,/d' layout.csv"
 show 'mmpkg init office.mmpkg'
 show 'mmpkg run office.mmpkg --at $dawn < layout.csv'
 show 'mmpkg kit office.mmpkg first first --at $dawn'

@@ -136,7 +136,7 @@ def expect_round_trip(file, folder, *kit, valid=True, moment=0):
     if valid:
         validate(folder / "out.gpkg")
     expect_same_content(file, folder / "out.gpkg")
-    commands, told = tool("import_standard.py", folder / "out.gpkg", folder / "list.csv", *kit)
+    commands, told = tool("import_standard.py", folder / "out.gpkg", folder / "list.csv", "--all-zooms", *kit)
     expect(told, "", "what the import tells")
     mmpkg("init", folder / "back.mmpkg")
     take_in(commands, folder / "back.mmpkg", folder, moment)
@@ -161,7 +161,11 @@ def check_worked_example(folder):
     colours[4] = (20, 20, 20)
     found = [colour_at(out, 500_128 + 256 * (number % 3), 5_600_640 - 256 * (number // 3)) for number in range(9)]
     expect(found, colours, "colours of the example")
-    expect_round_trip(folder / "example" / "crew.mmpkg", folder, moment=86_400_000)
+    crew = folder / "example" / "crew.mmpkg"
+    with contextlib.closing(sqlite3.connect(crew)) as opened:
+        ((*row,),) = opened.execute("SELECT 'row', * FROM mm_rows WHERE table_name = 'map_bounds'")
+    mmpkg("run", crew, "--at", 86_400_000, given=record(row).encode())
+    expect_round_trip(crew, folder, moment=86_400_000)
 
 
 def check_nine_tiles_by_gdal(folder):
@@ -195,8 +199,7 @@ def check_round_trip_of_the_examples(folder):
     mmpkg("kit", folder / "a.mmpkg", "autumn", TOP / "examples" / "autumn", "--at", "0")
     mmpkg("run", folder / "a.mmpkg", "--at", "0", given=b"publish,autumn\n")
     told = export(folder / "a.mmpkg", folder / "told.gpkg")
-    for name in ("autumn", "spring"):
-        assert f"edition {name}: left out, published" in told, f"edition {name} isn't named"
+    assert "note: edition autumn, edition spring: left out, published\n" in told, f"the editions aren't named: {told}"
     (folder / "trip").mkdir()
     expect_round_trip(folder / "a.mmpkg", folder / "trip", "--kit", "again", folder / "trip" / "kit", valid=False)
 
@@ -447,6 +450,121 @@ def check_names_with_spaces(folder):
 
 POINT = ('{"type":"FeatureCollection","features":[{"type":"Feature","properties":{"name":"x"},'
          '"geometry":{"type":"Point","coordinates":[10,50]}}]}')
+
+
+def geotiff(folder, width, height, system="EPSG:25832", corner=(500_000, 5_600_000), pixel=1):
+    """A picture of nine colours as GDAL's users have it: of no whole number of tiles."""
+    example = TOP / "examples" / "border"
+    run("gdaldem", "color-relief", "-q", "-nearest_color_entry", example / "picture.asc", example / "colours.txt", folder / "small.tif")
+    left, low = corner
+    place = left, low + height * pixel, left + width * pixel, low
+    run("gdal_translate", "-q", "-outsize", width, height, "-r", "nearest", "-a_srs", system, "-a_ullr", *place, folder / "small.tif",
+        folder / "picture.tif")
+    return folder / "picture.tif"
+
+
+def standard_of(picture, out, table):
+    run("gdal_translate", "-q", "-of", "GPKG", "-co", "TILE_FORMAT=PNG", "-co", f"RASTER_TABLE={table}", picture, out)
+
+
+def matrices_of(listed):
+    return [int(line.split(",")[2]) for line in listed.read_text().splitlines() if line.startswith("matrix,")]
+
+
+def check_zooms_without_tiles(folder):
+    """A zoom without tiles is left out and noted, or kept by --all-zooms; gdaladdo makes its tiles."""
+    standard_of(geotiff(folder, 1500, 1100), folder / "in.gpkg", "base")
+    _, told = tool("import_standard.py", folder / "in.gpkg", folder / "one.csv")
+    note = "note: zoom 0 of base, zoom 1 of base, zoom 2 of base: it has no tiles and is left out; gdaladdo makes them, --all-zooms keeps it without"
+    assert note in told.splitlines(), told
+    expect(matrices_of(folder / "one.csv"), [3], "zooms")
+    tool("import_standard.py", folder / "in.gpkg", folder / "all.csv", "--all-zooms")
+    expect(matrices_of(folder / "all.csv"), [0, 1, 2, 3], "zooms of --all-zooms")
+    run("gdaladdo", "-q", "-r", "average", folder / "in.gpkg", 2, 4, 8)
+    _, told = tool("import_standard.py", folder / "in.gpkg", folder / "full.csv")
+    expect("zoom" in told, False, "a zoom is noted")
+    expect(matrices_of(folder / "full.csv"), [0, 1, 2, 3], "zooms behind gdaladdo")
+
+
+def check_bounds_are_kept(folder):
+    """A map of no whole number of tiles comes out as large as it went in, and once more."""
+    standard_of(geotiff(folder, 1500, 1100), folder / "in.gpkg", "base")
+    for number, source in enumerate(("in", "out_0")):
+        commands, _ = tool("import_standard.py", folder / f"{source}.gpkg", folder / f"{number}.csv")
+        mmpkg("init", folder / f"{number}.mmpkg")
+        take_in(commands, folder / f"{number}.mmpkg", folder)
+        export(folder / f"{number}.mmpkg", folder / f"out_{number}.gpkg")
+        validate(folder / f"out_{number}.gpkg")
+        assert "Size is 1500, 1100" in run("gdalinfo", folder / f"out_{number}.gpkg")[0], "the size by GDAL"
+    expect_equal(folder / "0.mmpkg", folder / "1.mmpkg")
+
+
+HANDED_OVER = """
+CREATE TABLE Spots (fid INTEGER PRIMARY KEY AUTOINCREMENT, title TEXT, note TEXT, amount REAL);
+INSERT INTO Spots VALUES (1, 'Well', NULL, 7.0), (2, NULL, NULL, -3), (3, 'Gate', '', 1.5), (4, 'Oak', '', NULL);
+INSERT INTO gpkg_contents VALUES ('Spots', 'attributes', 'Spots of 2026', '', '2026-01-01T00:00:00.000Z', NULL, NULL, NULL, NULL, NULL);
+CREATE TABLE photos (fid INTEGER PRIMARY KEY AUTOINCREMENT, data BLOB, content_type TEXT);
+INSERT INTO photos VALUES (1, x'01', 'text/plain; charset=utf-8'), (2, x'02', 'image'), (3, x'03', 'text/plain;charset=utf-8');
+INSERT INTO gpkg_contents VALUES ('photos', 'attributes', 'photos', '', '2026-01-01T00:00:00.000Z', NULL, NULL, NULL, NULL, NULL);
+CREATE TABLE gpkgext_relations (id INTEGER PRIMARY KEY, base_table_name, base_primary_column, related_table_name, related_primary_column,
+    relation_name, mapping_table_name);
+INSERT INTO gpkgext_relations VALUES (1, 'Spots', 'fid', 'photos', 'fid', 'media', 'spots_photos');
+CREATE TABLE spots_photos (base_id INTEGER, related_id INTEGER);
+INSERT INTO spots_photos VALUES (1, 1), (2, 3);
+"""
+HANDED_OVER_LEFT_OUT = ["row 3 of spots: its amount 1.5 is no whole number of at most 10^15",
+                        "row 4 of spots: its amount NULL is no whole number of at most 10^15",
+                        "media item 2 of photos: its content type 'image' isn't two words round a /, as image/png is"]
+HANDED_OVER_NOTED = ["note of row 1 of spots, title of row 2 of spots, note of row 2 of spots: it is NULL, and comes in as the empty text",
+                     "media item 1 of photos: its content type 'text/plain; charset=utf-8' comes in as text/plain"]
+
+
+def check_what_a_gis_hands_over(folder):
+    """Names, keys and values as GDAL and QGIS write them come in by --table and --key, and what doesn't is told with what takes it."""
+    standard_of(geotiff(folder, 768, 768), folder / "in.gpkg", "Basemap")
+    with contextlib.closing(sqlite3.connect(folder / "in.gpkg")) as opened:
+        opened.executescript(HANDED_OVER)
+    _, told = tool("import_standard.py", folder / "in.gpkg", folder / "none.csv", status=1)
+    for line in ("left out: table 'Basemap': its name is no name of a package, which has small letters, digits and _; "
+                 "--table Basemap=basemap gives it one",
+                 "left out: table 'photos': its key is fid, as GDAL and QGIS call it; --key fid takes it"):
+        assert line in told.splitlines(), f"{line!r} isn't told: {told}"
+    words = "--table", "Basemap=base", "--table", "Spots=spots", "--key", "fid"
+    commands, told = tool("import_standard.py", folder / "in.gpkg", folder / "list.csv", *words, status=1)
+    for kind, lines in (("left out", HANDED_OVER_LEFT_OUT), ("note", HANDED_OVER_NOTED)):
+        for line in lines:
+            assert f"{kind}: {line}" in told.splitlines(), f"{line!r} isn't told: {told}"
+    mmpkg("init", folder / "a.mmpkg")
+    take_in(commands, folder / "a.mmpkg", folder)
+    expect([line.split()[:3] for line in listing(folder / "a.mmpkg")],
+           [["base", "two", "9"], ["map_bounds", "attributes", "1"], ["photos", "media", "2"], ["spots", "attributes", "2"]], "what came in")
+    with contextlib.closing(sqlite3.connect(folder / "a.mmpkg")) as opened:
+        expect(opened.execute("SELECT id, title, note, amount FROM mm_rows WHERE table_name = 'spots'").fetchall(),
+               [(1, "Well", "", 7), (2, "", "", -3)], "rows")
+        expect(opened.execute("SELECT base_id, related_id FROM mm_map ORDER BY base_id").fetchall(), [(1, 1), (2, 3)], "mapping rows")
+
+
+def remedy(told, command):
+    """The command that a message tells, up to the word that goes on behind it."""
+    return re.search(f"; ({command} .*?) (?:makes|takes) ", told)[1]
+
+
+def check_remedies(folder):
+    """The commands that are told for a map in degrees of arc or of Web Mercator, and for a layer of features, bring what comes in."""
+    for system, corner, pixel in (("EPSG:3857", (1_001_875.4, 6_446_275.8), 2.388657133911758), ("EPSG:4326", (9, 50.5), 0.00001)):
+        where = folder / system[5:]
+        where.mkdir()
+        standard_of(geotiff(where, 500, 300, system, corner, pixel), where / "in.gpkg", "base")
+        _, told = tool("import_standard.py", where / "in.gpkg", where / "none.csv", status=1)
+        run("bash", "-c", f"cd '{where}' && {remedy(told, 'gdalwarp')} -q")
+        standard_of(where / "whole.tif", where / "whole.gpkg", "base")
+        tool("import_standard.py", where / "whole.gpkg", where / "list.csv")
+    (folder / "points.json").write_text(POINT)
+    run("ogr2ogr", "-f", "GPKG", folder / "points.gpkg", folder / "points.json", "-nln", "points")
+    _, told = tool("import_standard.py", folder / "points.gpkg", folder / "none.csv", status=1)
+    run("bash", "-c", f"cd '{folder}' && {remedy(told, 'ogr2ogr')}".replace("COLUMN", "name"))
+    tool("import_standard.py", folder / "rows.gpkg", folder / "list.csv")
+    expect((folder / "list.csv").read_text(), "table,points,attributes,points\nrow,points,1,x,,0\n", "the list")
 
 
 def check_what_gdal_puts_in(folder):

@@ -5,7 +5,7 @@
 
 FILE is a package of mmpkg. OUT, which must not be there, gets layout.csv, which makes the media table TABLE ('viewer') and an open edition,
 and a kit of four media items: 1 the page (tools/viewer.html), 2 and 3 the script and the style of Leaflet with their licence, 4 the
-matrices of all pyramids of FILE. The commands that take them in are printed, with FILE for the package; then 'mmpkg serve FILE' serves the
+matrices of all pyramids of FILE, and where their tiles are. The commands that take them in are printed, with FILE for the package; then 'mmpkg serve FILE' serves the
 page at /media/TABLE/1. Leaflet is that of Debian's package libjs-leaflet.
 
 Where matrices come later, make the viewer anew, in another OUT: where FILE has the table, layout.csv only makes the edition, and publishing
@@ -32,7 +32,7 @@ import shlex
 import sqlite3
 import tempfile
 
-from border import MEDIA_LIMIT, KitWriter, Refused, Report, Source, arguments, is_name, made_beside, media_piece, record, run_tool
+from border import MEDIA_LIMIT, KitWriter, Refused, Report, Source, arguments, bounds_of, is_name, made_beside, media_piece, record, run_tool
 
 PAGE = pathlib.Path(__file__).resolve().parent / "viewer.html"
 LEAFLET = pathlib.Path("/usr/share/javascript/leaflet")
@@ -86,14 +86,23 @@ class Package:
             return []
         return [["table", table, "media", first_free("Map viewer", self.column("SELECT identifier FROM gpkg_contents"), " ")]]
 
+    def tiles(self, table):
+        """By zoom, where the tiles of a pyramid are: the least and the greatest column and row, and a tile near their middle."""
+        boxes = self.opened.execute("SELECT zoom_level, min(tile_column), min(tile_row), max(tile_column), max(tile_row) FROM mm_tiles "
+                                    "WHERE table_name = ? GROUP BY zoom_level", (table,)).fetchall()
+        near = ("SELECT tile_column, tile_row FROM mm_tiles WHERE table_name = ? AND zoom_level = ? "
+                "ORDER BY abs(2 * tile_column - ?) + abs(2 * tile_row - ?) LIMIT 1")
+        return {zoom: [*box, *self.opened.execute(near, (table, zoom, box[0] + box[2], box[1] + box[3])).fetchone()] for zoom, *box in boxes}
+
     def matrices(self):
-        """The matrices of each pyramid with its last change, in the package's columns and unit, as JSON."""
+        """The matrices of each pyramid with its last change, its tiles and its bounds, in the package's columns and unit, as JSON."""
         columns = "zoom_level, matrix_width, matrix_height, tile_width, tile_height, pixel_x_size, pixel_y_size"
-        found = {}
+        found, bounds = {}, bounds_of(self.opened)
         tiled = "SELECT table_name, last_change FROM gpkg_contents WHERE data_type = 'tiles' ORDER BY table_name"
         for table, last_change in self.opened.execute(tiled):
             rows = self.opened.execute(f"SELECT {columns} FROM gpkg_tile_matrix WHERE table_name = ? ORDER BY zoom_level", (table,))
-            found[table] = {"last_change": last_change, "matrices": [dict(zip(columns.split(", "), row)) for row in rows]}
+            found[table] = {"last_change": last_change, "matrices": [dict(zip(columns.split(", "), row)) for row in rows],
+                            "tiles": self.tiles(table), **({"bounds": bounds[table]} if table in bounds else {})}
         return json.dumps(found, separators=(",", ":")).encode()
 
 

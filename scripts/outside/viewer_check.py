@@ -30,7 +30,7 @@ import devtools
 import make_profile_1
 import page_map
 from checks import PROGRAM, TOP, end, expect, mmpkg, run, run_checks
-from viewer_package import BLANK, PLAIN, PYRAMIDS, TOOL, UNITS_PER_METRE, content, new_package, served, take_in
+from viewer_package import BLANK, PLAIN, PYRAMIDS, TOOL, UNITS_PER_METRE, content, new_package, picture, served, take_in, tile_piece
 
 
 class Scene:
@@ -89,7 +89,7 @@ def zoom_to(page, zoom, easting=None, northing=None):
 def position(page):
     """What the page tells: easting, northing, of what, and the zoom."""
     told = page.value("byId('position').innerText")
-    found = re.fullmatch(r"E (-?[0-9.]+) m, N (-?[0-9.]+) m \((pointer|centre)\)\nzoom ([0-9]+), ([0-9.]+)(?: by ([0-9.]+))? m a pixel", told)
+    found = re.fullmatch(r"E (-?[0-9.]+) m, N (-?[0-9.]+) m \((pointer|centre)\)\nzoom ([0-9]+), ([0-9.]+)(?: by ([0-9.]+))? m a pixel(?:, [0-9]+ times (?:larger|smaller))?", told)
     assert found, f"the page tells {told!r}"
     return float(found[1]), float(found[2]), found[3], int(found[4])
 
@@ -463,6 +463,72 @@ def check_what_came_later(scene):
         expect(page.value("shown.matrices.length"), 3, "zooms of the later map")
 
 
+def shown_tiles(page):
+    """How many tiles of the zoom that is shown have a picture."""
+    return page.value("document.querySelectorAll('img.leaflet-tile[src]').length")
+
+
+def is_told_missing(page):
+    return not page.value("byId('none').hidden")
+
+
+# Two maps of 4096 m: one with tiles at its last zoom alone, in a corner; one without any.
+SPARSE = """srs,1,grid,NONE,1,metres,
+pyramid,corner,Corner,1,0,0,4096000000,4096000000,two
+matrix,corner,0,1,1,64,64,64000000,64000000
+matrix,corner,6,64,64,64,64,1000000,1000000
+pyramid,empty,Empty,1,0,0,4096000000,4096000000,two
+matrix,empty,0,1,1,64,64,64000000,64000000
+"""
+
+
+def sparse_package(file):
+    tile = picture(64, 64, PLAIN)
+    new_package(file, SPARSE + "".join(tile_piece("corner", 6, column, row, tile).command() for column in range(50, 54) for row in range(3, 6)))
+
+
+def check_where_tiles_are(scene):
+    """A map opens where its tiles are; where there is none that is said, and a button and a typed place go on from there."""
+    file = scene.folder / "sparse.mmpkg"
+    sparse_package(file)
+    take_in(file, scene.folder / "sparse")
+    with served(file) as address:
+        page = scene.open(f"{address}/media/viewer/1")
+        expect((position(page)[3], is_told_missing(page), shown_tiles(page)), (6, False, 12), "the zoom, the word, and tiles at the start")
+        page.click(*middle(page, "fit"))
+        settle(page)
+        expect((position(page)[3], is_told_missing(page), shown_tiles(page)), (0, True, 0), "behind 'Whole map'")
+        scene.screenshot(page, "no-tile")
+        page.click(*middle(page, "tiles"))
+        settle(page)
+        expect((position(page)[3], is_told_missing(page), shown_tiles(page)), (6, False, 12), "behind 'To the tiles'")
+        for typed, place, said in (("1000 2000", (1000, 2000), ""), ("E 3296.5, N 3808", (3296.5, 3808), ""), ("9000 1", (9000, 1), "This place is outside the map."),
+                                   ("x 7", (9000, 1), "Two numbers are asked for: easting, then northing.")):
+            page.value(f"byId('wanted').value = '{typed}'; byId('go').requestSubmit(); 0")
+            settle(page)
+            assert near(position(page)[:2], place, 0.51), f"{typed}: {position(page)}"
+            expect(page.value("byId('gone').innerText"), said, f"what is said of {typed}")
+        choose(page, "empty")
+        expect((is_told_missing(page), page.value("byId('tiles').disabled"), page.value("byId('messages').innerText")), (True, True, ""), "an empty map")
+
+
+def check_bounds_of_a_map(scene):
+    """A map of kept bounds is shown within them: what its tiles have outside is covered, and 'Whole map' is theirs."""
+    file = scene.folder / "bounded.mmpkg"
+    sparse_package(file)
+    mmpkg("run", file, given=b"table,map_bounds,attributes,Bounds of maps\nrow,map_bounds,1,corner,3200000000 3700000000 3300000000 3904000000,0\n")
+    take_in(file, scene.folder / "bounded")
+    with served(file) as address:
+        page = scene.open(f"{address}/media/viewer/1")
+        page.value("byId('wanted').value = '3300 3800'; byId('go').requestSubmit(); 0")
+        settle(page)
+        page.value("byId('map').classList.remove('centre'); 0")
+        rows, (x, y) = scene.screenshot(page, "bounds"), middle(page, "map")
+        expect((rows[int(y)][int(x) - 10], rows[int(y)][int(x) + 10]), (PLAIN, BLANK), "colours within and outside")
+        page.click(*middle(page, "fit"))
+        assert near(position(page)[:2], (3250, 3802), 0.51), f"the middle is {position(page)}"
+
+
 def check_small_screens(scene):
     """On a phone nothing is cut off at the side, and the map has its place."""
     for wide, high in ((390, 800), (844, 390), (320, 640)):
@@ -488,7 +554,7 @@ def check_tool_makes_a_kit(scene):
     known = json.loads((out / "viewer-4").read_text())
     expect({table: [tuple(it.values()) for it in entry["matrices"]] for table, entry in known.items()},
            {it.table: [dataclasses.astuple(zoom) for zoom in it.zooms] for it in PYRAMIDS}, "item 4")
-    expect(len((TOP / "tools" / "viewer.html").read_text().splitlines()) <= 300, True, "the page has at most 300 lines")
+    expect(len((TOP / "tools" / "viewer.html").read_text().splitlines()) <= 400, True, "the page has at most 400 lines")
     expect({it.name for it in scene.folder.iterdir() if it.name.startswith(".viewer")}, set(), "what is left behind")
 
 

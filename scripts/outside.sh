@@ -2,8 +2,8 @@
 # What the built program shows from outside, by programs that share no code with this repository: the example with its
 # output, the lines of the documents, the tables of the file, the page by curl, a machine's clock at its ends, a
 # terminal, refused growths of memory, random lists against a model, what turns one package into another; and where the
-# peers are there, the border to the standard, the viewer in a browser, the day of two crews, and the Debian package in a
-# fresh Debian. The last line is 'N passed, M failed'.
+# peers are there, the border to the standard, the viewer in a browser, GDAL and QGIS by WMTS, the day of two crews, and
+# the Debian package in a fresh Debian. The last line is 'N passed, M failed'.
 #
 #     scripts/outside.sh [PROGRAM]
 #
@@ -75,6 +75,7 @@ try 'random lists' scripts/model/random_lists.py
 try 'the border to the standard' scripts/outside/border.sh
 try 'what turns one package into another' scripts/outside/kit_between.py
 try 'the viewer' scripts/outside/viewer.sh
+try 'GDAL and QGIS live' scripts/outside/wmts.sh
 try 'the day of a crew' scripts/outside/field_day.sh
 try 'the Debian package' scripts/outside/deb.sh
 echo "$passed passed, $failed failed"

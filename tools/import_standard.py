@@ -27,6 +27,7 @@ import pathlib
 import re
 import shlex
 import sqlite3
+import zlib
 
 from border import (AMOUNT_LIMIT, BOUNDS_IDENTIFIER, BOUNDS_TABLE, CONTENT_TYPE, COORDINATE_LIMIT, DEFINITION_LIMIT, GEOGRAPHIC_SYSTEMS, GIVEN_SYSTEMS, MATRIX_LIMIT,
                     MEDIA_LIMIT, NUMBER_LIMIT, PIXEL_SIZE_LIMIT, TEXT_LIMIT, TILE_LIMIT, TILE_SIDE_LIMIT, UNITS_PER_METRE, ZOOM_LIMIT, KitWriter, Piece,
@@ -314,8 +315,9 @@ class Standard:
         readers = {"two": self.tiles, "other": self.tiles, "attributes": self.attribute_rows, "media": self.media}
         for name, kind in self.kinds.items():
             yield from readers[kind](name, self.theirs[name])
-        for number, (name, bounds) in enumerate(self.bounds.items(), 1):
-            yield Piece(["row", BOUNDS_TABLE, number, name, " ".join(map(str, bounds)), 0])
+        for name, bounds in self.bounds.items():
+            # Several imports into one package don't take each other's numbers.
+            yield Piece(["row", BOUNDS_TABLE, zlib.crc32(name.encode()) + 1, name, " ".join(map(str, bounds)), 0])
         for relation in self.relations:
             yield from self.mapping_rows(*relation)
 

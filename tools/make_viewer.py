@@ -1,12 +1,15 @@
 #!/usr/bin/env python3
 """Makes a viewer that travels in a package: a page with its map, which 'mmpkg serve' serves beside the tiles.
 
-    tools/make_viewer.py FILE OUT [--table TABLE] [--edition EDITION]
+    tools/make_viewer.py FILE OUT [--table TABLE] [--edition EDITION] [--wmts PORT]
 
 FILE is a package of mmpkg. OUT, which must not be there, gets layout.csv, which makes the media table TABLE ('viewer') and an open edition,
 and a kit of four media items: 1 the page (tools/viewer.html), 2 and 3 the script and the style of Leaflet with their licence, 4 the
-matrices of all pyramids of FILE, and where their tiles are. The commands that take them in are printed, with FILE for the package; then 'mmpkg serve FILE' serves the
-page at /media/TABLE/1. Leaflet is that of Debian's package libjs-leaflet.
+matrices of all pyramids of FILE, and where their tiles are. The commands that take them in are printed, with FILE for the package; then 'mmpkg serve FILE --port PORT
+--count 1000000' serves the page at http://127.0.0.1:PORT/media/TABLE/1. Leaflet is that of Debian's package libjs-leaflet.
+
+With --wmts there is a fifth item, a WMTS description by which QGIS and GDAL open the maps of http://127.0.0.1:PORT/media/TABLE/5 while they
+are served. It has whole addresses, so another port wants another description. Maps that WMTS doesn't tell are named on standard error.
 
 Where matrices come later, make the viewer anew, in another OUT: where FILE has the table, layout.csv only makes the edition, and publishing
 puts the four items in place of the old ones. An edition is published once, so it has the table's name, or behind that TABLE_2, TABLE_3 and
@@ -17,7 +20,7 @@ FILE is left as it is; nothing may write it meanwhile. It has to pass 'mmpkg che
 else out/mmpkg of this repository. Where its journal holds commits, or another program has it, or it can't be written, a copy of both is read,
 in the folder that the environment's TMPDIR names, else /tmp; as large as they are.
 
-Exit status: 0 OUT was made; 2 wrong arguments, a name that is taken, Leaflet isn't there, or a file that can't be read or written; else
+Exit status: 0 OUT was made; 1 so, and a map is no part of the WMTS description; 2 wrong arguments, a name that is taken, Leaflet isn't there, or a file that can't be read or written; else
 what 'mmpkg check' ended with, whose line is told: 3 a fault, 4 no package or one that breaks a rule.
 """
 
@@ -32,12 +35,15 @@ import shlex
 import sqlite3
 import tempfile
 
+import wmts
 from border import MEDIA_LIMIT, KitWriter, Refused, Report, Source, arguments, bounds_of, is_name, made_beside, media_piece, record, run_tool
 
 PAGE = pathlib.Path(__file__).resolve().parent / "viewer.html"
 LEAFLET = pathlib.Path("/usr/share/javascript/leaflet")
 LICENCE = pathlib.Path("/usr/share/doc/libjs-leaflet/copyright")
 CONTENT_TYPES = {1: "text/html", 2: "text/javascript", 3: "text/css", 4: "application/json"}
+DESCRIPTION = 5
+DESCRIPTION_TYPE = "text/xml"
 
 
 def first_free(name, taken, between):
@@ -55,7 +61,7 @@ class Package:
     def column(self, query, *values):
         return [value for (value,) in self.opened.execute(query, values)]
 
-    def has_viewer_table(self, table):
+    def has_viewer_table(self, table, content_types):
         """Whether the table stands already; refused where another kind has its name, or it has other media than a viewer's."""
         if self.column("SELECT 1 FROM gpkgext_relations WHERE mapping_table_name = ?", table):
             raise Refused(f"{table}: is the name of a mapping; --table names another table")
@@ -63,7 +69,7 @@ class Package:
         if kinds not in ([], ["media"]):
             raise Refused(f"{table}: is a table of kind {kinds[0]}; --table names another table")
         for number, content_type in self.opened.execute("SELECT id, content_type FROM mm_media WHERE table_name = ? ORDER BY id", (table,)):
-            if CONTENT_TYPES.get(number, content_type) != content_type:
+            if content_types.get(number, content_type) != content_type:
                 raise Refused(f"{table}: its item {number} is {content_type} and no viewer's; --table names another table")
         return bool(kinds)
 
@@ -80,9 +86,9 @@ class Package:
                 report.note(f"edition {name}", f"is open; 'discard,{name}' takes it back where it was for an earlier viewer")
         return edition
 
-    def table_records(self, table):
+    def table_records(self, table, content_types):
         """The record that makes the table, none where it stands."""
-        if self.has_viewer_table(table):
+        if self.has_viewer_table(table, content_types):
             return []
         return [["table", table, "media", first_free("Map viewer", self.column("SELECT identifier FROM gpkg_contents"), " ")]]
 
@@ -127,22 +133,28 @@ def page_item():
 
 def write_kit(folder, beside, table, edition, items):
     kit = KitWriter(edition, folder, beside)
-    for number, content_type in CONTENT_TYPES.items():
-        if len(items[number]) > MEDIA_LIMIT:
-            raise Refused(f"item {number} has {len(items[number])} bytes, and a media item at most {MEDIA_LIMIT}")
-        kit.add(media_piece(table, number, content_type, items[number]))
+    for number, (content_type, data) in items.items():
+        if len(data) > MEDIA_LIMIT:
+            raise Refused(f"item {number} has {len(data)} bytes, and a media item at most {MEDIA_LIMIT}")
+        kit.add(media_piece(table, number, content_type, data))
     return kit
 
 
 def read_package(source, given, report):
-    """The layout's text, the edition, and the matrices as an item."""
+    """The layout's text, the edition, and the items that tell of the package."""
+    types = CONTENT_TYPES | ({DESCRIPTION: DESCRIPTION_TYPE} if given.wmts else {})
     with contextlib.closing(sqlite3.connect(source.address(), uri=True)) as opened:
         package = Package(opened)
-        tables = package.table_records(given.table)
+        tables = package.table_records(given.table, types)
         edition = package.free_edition(given.table, given.edition, report)
         if not package.column("SELECT 1 FROM gpkg_tile_matrix LIMIT 1"):
             report.note(given.FILE, "has no matrix yet: make the viewer anew when it has")
-        return "".join(map(record, [*tables, ["edition", edition]])), edition, package.matrices()
+        items = {4: package.matrices()}
+        if given.wmts:
+            items[DESCRIPTION] = wmts.describe(opened, given.wmts, f"/media/{given.table}/{DESCRIPTION}", report)
+        elif package.column("SELECT 1 FROM mm_media WHERE table_name = ? AND id = ? AND content_type = ?", given.table, DESCRIPTION, DESCRIPTION_TYPE):
+            report.note(f"item {DESCRIPTION} of {given.table}", "the WMTS description stays as it is; --wmts PORT makes it anew")
+        return "".join(map(record, [*tables, ["edition", edition]])), edition, {number: (types[number], data) for number, data in items.items()}
 
 
 def main():
@@ -151,25 +163,29 @@ def main():
     parser.add_argument("OUT", type=pathlib.Path)
     parser.add_argument("--table", default="viewer")
     parser.add_argument("--edition")
+    parser.add_argument("--wmts", type=int, choices=range(1, 65536), metavar="PORT")
     given = parser.parse_args()
     for name in (given.table, given.edition or given.table):
         if not is_name(name):
             raise Refused(f"{name!r} is no name of a package")
     items = {1: page_item(), 2: leaflet_item("leaflet.min.js"), 3: leaflet_item("leaflet.css")}
+    items = {number: (CONTENT_TYPES[number], data) for number, data in items.items()}
     with tempfile.TemporaryDirectory() as name, made_beside(given.OUT) as beside:
         source, report = Source(given.FILE, pathlib.Path(name)), Report()
         try:
-            layout, edition, items[4] = read_package(source, given, report)
+            layout, edition, more = read_package(source, given, report)
         except sqlite3.Error as error:
             raise Refused(f"{given.FILE}: {error}") from error
         source.expect_unchanged()
-        kit = write_kit(given.OUT, beside, given.table, edition, items)
+        kit = write_kit(given.OUT, beside, given.table, edition, items | more)
         (beside / given.OUT.name / "layout.csv").write_text(layout, encoding="utf-8", newline="")
         kit.name()
     report.tell_notes()
     print(f"mmpkg run FILE < {shlex.quote(str(given.OUT / 'layout.csv'))}")
     kit.tell()
-    return 0
+    if given.wmts:
+        print(f"mmpkg serve FILE --port {given.wmts} --count 1000000")
+    return 1 if report.count else 0
 
 
 if __name__ == "__main__":

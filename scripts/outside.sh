@@ -20,6 +20,8 @@ folder=$(mktemp -d)
 trap 'rm -rf "$folder"' EXIT
 passed=0
 failed=0
+names=()
+side_by_side=$(nproc)
 
 # Installs Debian's packages of the commands and files that are missing, and names those that can't be had: COMMAND:PACKAGE ..
 want() {
@@ -37,21 +39,46 @@ has() {
     [ -e "${1%%:*}" ] || command -v "${1%%:*}" >/dev/null
 }
 
-# Runs a command, and counts it by its status, but for 77, which says that what it needs is missing: NAME COMMAND ..
-try() {
-    local name=$1 began=$SECONDS status=0
+# Begins a command, as soon as fewer run than there are processors: NAME COMMAND ..
+begin() {
+    local name=$1 number=${#names[@]}
     shift
-    "$@" >"$folder/said" 2>&1 || status=$?
-    if [ "$status" = 0 ]; then
-        passed=$((passed + 1))
-        echo "outside: $name: ok ($((SECONDS - began)) s): $(tail -n 1 "$folder/said")"
-    elif [ "$status" = 77 ]; then
-        echo "outside: $name: not tried: $(tail -n 1 "$folder/said")"
-    else
-        failed=$((failed + 1))
-        cat "$folder/said"
-        echo "outside: $name: FAILED"
-    fi
+    names+=("$name")
+    while [ "$(jobs -rp | wc -l)" -ge "$side_by_side" ]; do
+        wait -n || true
+    done
+    timed "$number" "$@" &
+}
+
+# Runs a command, and leaves what it said, how it ended and its seconds: NUMBER COMMAND ..
+timed() {
+    local number=$1 began=$SECONDS status=0
+    shift
+    "$@" >"$folder/said.$number" 2>&1 </dev/null || status=$?
+    echo "$status $((SECONDS - began))" >"$folder/ended.$number"
+}
+
+# Waits for all that was begun, and counts each by its status, but for 77, which says that what it needs is missing.
+tell() {
+    local number status seconds said
+    wait
+    for number in "${!names[@]}"; do
+        said=$folder/said.$number
+        read -r status seconds <"$folder/ended.$number" || status=1
+        case $status in
+        0)
+            passed=$((passed + 1))
+            echo "outside: ${names[number]}: ok ($seconds s): $(tail -n 1 "$said")"
+            ;;
+        77) echo "outside: ${names[number]}: not tried: $(tail -n 1 "$said")" ;;
+        *)
+            failed=$((failed + 1))
+            cat "$said"
+            echo "outside: ${names[number]}: FAILED"
+            ;;
+        esac
+    done
+    names=()
 }
 
 # The example's output is what examples/expected.txt has, with the name of its file in place of the path.
@@ -64,19 +91,21 @@ want sqlite3:sqlite3 curl:curl xxd:xxd cc:gcc python3:python3
 # Peers: what needs one that can't be had is not tried.
 want gdalinfo:gdal-bin gdal2tiles.py:python3-gdal /usr/lib/python3/dist-packages/osgeo:python3-gdal
 want chromium:chromium /usr/share/javascript/leaflet/leaflet.min.js:libjs-leaflet lintian:lintian debootstrap:debootstrap
-try 'the example' example
-try 'the documents' scripts/outside/check_docs.py "$MMPKG"
-try 'the tables of its file' scripts/outside/compare_schema.sh "$folder/example.mmpkg"
-try 'the page' scripts/outside/page_curl.sh
-try 'the clock' scripts/outside/clock.sh
-try 'a terminal' scripts/outside/terminal.py "$MMPKG"
-try 'refused growths of memory' scripts/outside/refuse_memory.py ${WHOLE:+--whole} "$MMPKG"
-try 'random lists' scripts/model/random_lists.py
-try 'the border to the standard' scripts/outside/border.sh
-try 'what turns one package into another' scripts/outside/kit_between.py
-try 'the viewer' scripts/outside/viewer.sh
-try 'GDAL and QGIS live' scripts/outside/wmts.sh
-try 'the day of a crew' scripts/outside/field_day.sh
-try 'the Debian package' scripts/outside/deb.sh
+begin 'the example' example
+tell
+begin 'the documents' scripts/outside/check_docs.py "$MMPKG"
+begin 'the tables of its file' scripts/outside/compare_schema.sh "$folder/example.mmpkg"
+begin 'the page' scripts/outside/page_curl.sh
+begin 'the clock' scripts/outside/clock.sh
+begin 'a terminal' scripts/outside/terminal.py "$MMPKG"
+begin 'refused growths of memory' scripts/outside/refuse_memory.py ${WHOLE:+--whole} "$MMPKG"
+begin 'random lists' scripts/model/random_lists.py
+begin 'the border to the standard' scripts/outside/border.sh
+begin 'what turns one package into another' scripts/outside/kit_between.py
+begin 'the viewer' scripts/outside/viewer.sh
+begin 'GDAL and QGIS live' scripts/outside/wmts.sh
+begin 'the day of a crew' scripts/outside/field_day.sh
+begin 'the Debian package' scripts/outside/deb.sh
+tell
 echo "$passed passed, $failed failed"
 [ "$failed" = 0 ] && [ "$passed" -gt 0 ]

@@ -1,0 +1,16 @@
+#!/usr/bin/env bash
+# What to run before a push, short of the gate: lays out what changed, tries the tests with no proof, looks through the documents, and then proves the
+# crates that changed since a commit with those above them (`rt ci`, whose work the gate takes over).
+#
+#     scripts/ready.sh [COMMIT]      without it: origin's main
+set -eu -o pipefail
+cd "$(dirname "$0")/.."
+
+since=${1:-origin/main}
+scripts/fmt.sh "$since"
+for crate in crates/mm_test_*/; do
+    (cd "$crate" && rt try --test)
+done
+[ ! -x out/mmpkg ] || scripts/outside/check_docs.py "$PWD/out/mmpkg"
+mapfile -t touched < <(scripts/touched.sh "$since")
+[ "${#touched[@]}" = 0 ] || rt ci "${touched[@]}"

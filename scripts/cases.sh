@@ -4,7 +4,7 @@
 #
 #     scripts/cases.sh
 set -u -o pipefail
-cd "$(dirname "$0")/.."
+cd "$(dirname "$0")/.." || exit 2
 room=$(mktemp -d)
 trap 'rm -rf "$room"' EXIT
 chmod 777 "$room"

@@ -6,10 +6,10 @@ set -eu -o pipefail
 cd "$(dirname "$0")/.."
 
 if [ "${1:-}" = all ]; then
-    set -- $(sed -n 's/^\([a-z_0-9]*\)[^:#]*:.*/\1/p' crates.txt)
+    mapfile -t crates < <(sed -n 's/^\([a-z_0-9]*\)[^:#]*:.*/\1/p' crates.txt)
 else
-    set -- $({ git diff --name-only "${1:-HEAD}" -- crates; git ls-files --others --exclude-standard crates; } | cut -d/ -f2 | sort -u)
+    mapfile -t crates < <({ git diff --name-only "${1:-HEAD}" -- crates; git ls-files --others --exclude-standard crates; } | cut -d/ -f2 | sort -u)
 fi
-for crate in "$@"; do
+for crate in "${crates[@]}"; do
     [ ! -d "crates/$crate" ] || (cd "crates/$crate" && rt fmt)
 done

@@ -8,7 +8,8 @@
 set -eu -o pipefail
 cd "$(dirname "$0")/.."
 if [ $# = 0 ]; then
-    set -- $(find crates -mindepth 2 -maxdepth 2 -name mutants -printf '%h\n' | sort | xargs -n 1 basename)
+    mapfile -t crates < <(find crates -mindepth 2 -maxdepth 2 -name mutants -printf '%h\n' | sort | xargs -n 1 basename)
+    set -- "${crates[@]}"
 fi
 for crate in "$@"; do
     if ! ls "crates/$crate"/mutants/*.edit >/dev/null 2>&1; then
@@ -18,7 +19,7 @@ for crate in "$@"; do
 done
 copy=$(mktemp -d)
 trap 'rm -rf "$copy"' EXIT
-tar -c crates.txt HANDLES $(find crates -mindepth 2 -maxdepth 2 ! -name out) | tar -x -C "$copy"
+find crates -mindepth 2 -maxdepth 2 ! -name out -print0 | tar -c --null -T - crates.txt HANDLES | tar -x -C "$copy"
 for crate in "$@"; do
     rm -rf "$copy/crates/$crate/must-fail"
     mv "$copy/crates/$crate/mutants" "$copy/crates/$crate/must-fail"

@@ -2,8 +2,8 @@
 # What the built program shows from outside, by programs that share no code with this repository: the example with its
 # output, the lines of the documents, the tables of the file, the page by curl, a machine's clock at its ends, a
 # terminal, refused growths of memory, random lists against a model, what turns one package into another; and where the
-# peers are there, the border to the standard, the viewer in a browser, GDAL and QGIS by WMTS, the day of two crews, and
-# the Debian package in a fresh Debian. The last line is 'N passed, M failed'.
+# peers are there, the border to the standard, the viewer in a browser, GDAL and QGIS by WMTS, the day of two crews, the
+# Debian package in a fresh Debian, and the power of a virtual machine that is cut. The last line is 'N passed, M failed'.
 #
 #     scripts/outside.sh [PROGRAM]
 #
@@ -11,7 +11,7 @@
 # environment each growth of memory is refused, else as many as three minutes allow.
 set -u -o pipefail
 
-cd "$(dirname "$0")/.."
+cd "$(dirname "$0")/.." || exit 2
 program=${1:-out/mmpkg}
 [ -x "$program" ] || program=crates/mm_cli/out/mm_cli
 export MMPKG
@@ -91,11 +91,14 @@ want sqlite3:sqlite3 curl:curl xxd:xxd cc:gcc python3:python3
 # Peers: what needs one that can't be had is not tried.
 want gdalinfo:gdal-bin gdal2tiles.py:python3-gdal /usr/lib/python3/dist-packages/osgeo:python3-gdal
 want chromium:chromium /usr/share/javascript/leaflet/leaflet.min.js:libjs-leaflet lintian:lintian debootstrap:debootstrap
+want qemu-system-x86_64:qemu-system-x86 busybox:busybox-static /usr/sbin/mkfs.vfat:dosfstools mcopy:mtools cpio:cpio shellcheck:shellcheck pyflakes3:pyflakes3
 begin 'the example' example
 tell
+begin 'a power cut' scripts/outside/power_cut.sh
 begin 'the documents' scripts/outside/check_docs.py "$MMPKG"
 begin 'the tables of its file' scripts/outside/compare_schema.sh "$folder/example.mmpkg"
 begin 'the page' scripts/outside/page_curl.sh
+begin 'the linters' scripts/outside/lint.sh
 begin 'the clock' scripts/outside/clock.sh
 begin 'a terminal' scripts/outside/terminal.py "$MMPKG"
 begin 'refused growths of memory' scripts/outside/refuse_memory.py ${WHOLE:+--whole} "$MMPKG"

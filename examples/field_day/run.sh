@@ -17,6 +17,7 @@ mkdir "$folder"
 cd "$folder"
 cp "$top"/examples/field_day/{colours.txt,shaded.vrt} .
 # Moments of 15 June 2026, as milliseconds since 1970.
+# shellcheck disable=SC2034  # they stand in what show evaluates
 dawn=1781496000000 morning=1781503200000 noon=1781524800000 evening=1781542800000
 
 mmpkg() {

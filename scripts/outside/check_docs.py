@@ -14,7 +14,6 @@ crates/mm_cli/out.
 import os
 import pathlib
 import re
-import shutil
 import socket
 import subprocess
 import sys

@@ -132,7 +132,7 @@ module _ (p : Package) (edition : Text) (number : ℤ) (q : Piece) where
 
       pub stage_equal : piece_row q ≡ row → why ≡ None
       stage_equal e =
-        why_is true (equal_is true (ap (same_piece (piece_row q)) (sym e) ∙ row_itself (piece_row q))) ∙ ap (λ b. of_open b full) (apart_is true) ∙ ap (of_open false) full_not
+          why_is true (equal_is true (ap (same_piece (piece_row q)) (sym e) ∙ row_itself (piece_row q))) ∙ ap (λ b. of_open b full) (apart_is true) ∙ ap (of_open false) full_not
 
       pub stage_other : (piece_row q ≢ row) → why ≡ Some 52
       stage_other d = by (same_piece (piece_row q) row) refl

@@ -35,6 +35,14 @@ abbrev pub read_fault : Bool → ℕ
 read_fault true = 96
 read_fault false = 90
 
+-- where the reader had not failed before it has not failed since
+abbrev pub WorksStill : Bool → Bool → Type 0
+WorksStill before now = before ≡ false → now ≡ false
+
+-- where the reader has failed since the fault is 96
+abbrev pub TellsFailing : Bool → Bool → ℕ → Type 0
+TellsFailing before now fault = before ≡ false → now ≡ true → fault ≡ 96
+
 -- at least so many of the known bytes were read
 abbrev pub ReadAtLeast : ℕ → Option (List ℕ) → Option (List ℕ) → Type 0
 ReadAtLeast n None new = ⊤

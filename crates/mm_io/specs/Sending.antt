@@ -1,5 +1,5 @@
 -- What became of bytes that were sent.
-use Rattle.std.specs.Prelude.{◌≡◌, ◌<◌, ℕ, List, length, take, Bool, true, Option}
+use Rattle.std.specs.Prelude.{◌≡◌, ◌<◌, ℕ, List, length, take, true}
 use Rattle.std.specs.Io.KnownBytes.{Appends}
 use Rattle.mm_io.specs.declared.sending.Sent.{Sent}
 use Rattle.mm_io.specs.declared.sending.Sent.TheVariants as sent

@@ -1,10 +1,10 @@
 //! Reading records by `csv`.
 
-ghost use Rattle.std.specs.Prelude.{◌≡◌, IfOk, IfErr, OnSome, map, option_map};
+ghost use Rattle.std.specs.Prelude.{◌≡◌, IfOk, IfErr, OnOk, OnSome, map, option_map};
 ghost use Rattle.csv.specs.Reading.{reader_source, reader_state, source_of, strip_bom};
 ghost use Rattle.csv.specs.Records.{fields_of};
 ghost use Rattle.csv.specs.declared.parser.State.TheVariants as states;
-ghost use Rattle.mm_io.specs.Records.{IsReadFault, IsSetUp, NextRow, read_fault};
+ghost use Rattle.mm_io.specs.Records.{IsReadFault, IsSetUp, NextRow, WorksStill, read_fault};
 
 use crate::lending::Tells;
 use csv::{ByteRecord, Reader, ReaderBuilder, StringRecord};
@@ -26,13 +26,13 @@ pub fn open_rows<T: Read>(alloc: Global, source: T) -> Reader<T>
         .from_reader(alloc, source)
 }
 
-/// The next record, or none at the end of the bytes.
+/// The next record as `csv` reads it, or none at the end of the bytes.
 ///
 /// # Errors
 ///
 /// 96 where the reader tells that it failed, and 90 else: want of memory is the only other cause. (An error of the
 /// reader that it doesn't tell can't occur; it would be 90.) After an error no more records are read.
-pub fn next_row<T: Read + Tells>(
+fn parsed_row<T: Read + Tells>(
     alloc: Global,
     rows: &mut Reader<T>,
 ) -> Result<Option<ByteRecord>, Fault>
@@ -54,6 +54,35 @@ pub fn next_row<T: Read + Tells>(
             }
         }
     }
+}
+
+/// The next record, or none at the end of the bytes.
+///
+/// # Errors
+///
+/// 96 where the reader has failed, and 90 for want of memory. After an error no more records are read.
+pub fn next_row<T: Read + Tells>(
+    alloc: Global,
+    rows: &mut Reader<T>,
+) -> Result<Option<ByteRecord>, Fault>
+    requires { IsSetUp rows.old }
+    ensures stays { IfOk result (λ o. OnSome o (IsSetUp rows.new)) }
+    ensures reads { IfOk result (λ o. NextRow T.remaining rows.old rows.new o) }
+    ensures working { OnOk result
+        (WorksStill (T.has_failed (reader_source rows.old)) (T.has_failed (reader_source rows.new))) }
+    ensures fault { IfErr result (λ f. IsReadFault f.0 (T.has_failed (reader_source rows.new))) }
+    ensures number { IfErr result (λ f. f.0 ≡ read_fault (T.has_failed (reader_source rows.new))) }
+{
+    let had_failed = rows.get_ref().failed();
+    let row = parsed_row(alloc, rows)?;
+    if had_failed {
+        return Ok(row);
+    }
+    // `csv` reads no record from a reader that fails, but doesn't promise it.
+    if rows.get_ref().failed() {
+        return Err(Fault::INPUT);
+    }
+    Ok(row)
 }
 
 /// The fields of a record of text, in order.

@@ -10,6 +10,7 @@ use Rattle.mm_definitions.specs.Streams.{has_failed, inside}
 use Rattle.mm_definitions.specs.declared.answers.Fault.{Fault}
 use Rattle.mm_definitions.specs.declared.answers.PageFault.{PageFault}
 use Rattle.mm_definitions.specs.declared.streams.Io.{Io}
+use Rattle.mm_io.specs.Records.{TellsFailing}
 use Rattle.mm_reads.specs.Viewers.{IsOn, IsViewFault, LeavesPackage, ShowsPart}
 use Rattle.mm_reads.specs.declared.viewer.Viewer as viewers
 use Rattle.mm_page.specs.Asked.{Wanted}
@@ -30,6 +31,10 @@ pub record Serves {V R W : Type 0} (view : viewers.Ghosts V) (read : reads.Ghost
       (read.remaining (inside input)) (write.contents (inside output)) (write.contents (inside output_now)))
   -- The output has not failed then.
   pub working : OnOk result (has_failed output_now ≡ has_failed output)
+  -- Nor has the input failed since.
+  pub reading : OnOk result (has_failed input_now ≡ has_failed input)
+  -- An input that has failed since is told: by 96.
+  pub failing : IfErr result (λ e. TellsFailing (has_failed input) (has_failed input_now) e.0.0)
   -- No more is read than the head needs.
   pub frugal : OnOk result (ReadsNoMore 8192 (read.remaining (inside input)) (read.remaining (inside input_now)))
   -- With a fault too, unless it is the input's.
@@ -49,6 +54,8 @@ pub record Responds {V R : Type 0} (view : viewers.Ghosts V) (read : reads.Ghost
   pub same : view.has_failed new ≡ view.has_failed old
   pub kept : LeavesPackage (view.store old) (view.store new)
   pub response : IfOk result (λ v. Served (IsOn (view.has_failed old) (view.store old) (view.store new)) (read.remaining (inside input)) v.items)
+  pub reading : OnOk result (has_failed input_now ≡ has_failed input)
+  pub failing : IfErr result (λ fault. TellsFailing (has_failed input) (has_failed input_now) fault.0)
   pub frugal : OnOk result (ReadsNoMore 8192 (read.remaining (inside input)) (read.remaining (inside input_now)))
   pub frugal_fault : IfErr result (λ fault. (fault.0 ≡ 96) ⊎ ReadsNoMore 8192 (read.remaining (inside input)) (read.remaining (inside input_now)))
   pub needed : IfErr result (λ fault. fault.0 ≡ 92 → AsksForPart (read.remaining (inside input)))

@@ -27,6 +27,7 @@ pub fn read_head<R: Read>(
     ensures frugal { OnOk result
         (ReadsNoMore (length buf.old) (R.remaining (inside reader.old))
         (R.remaining (inside reader.new))) }
+    ensures working { OnOk result (has_failed reader.new ≡ has_failed reader.old) }
     ensures fault { IfErr result (λ f. (f.0 ≡ 96) × (has_failed reader.new ≡ true)) }
 {
     let mut len = 0;

@@ -1,5 +1,5 @@
 -- What a run tells of a session that has to be opened again.
-use Rattle.std.proofs.Common.{◌≡◌, ◌≢◌, ◌∙◌, ◌⊎◌, inl, inr, ℕ, List, Option, Bool, true, false, Err, refl, sym, ap, subst, arith}
+use Rattle.std.proofs.Common.{◌≡◌, ◌≢◌, ◌∙◌, ◌⊎◌, inl, inr, ℕ, List, Option, Some, Bool, true, false, Err, refl, sym, ap, subst, arith}
 use Rattle.mm_definitions.specs.declared.answers.Fault.{Fault}
 use Rattle.mm_definitions.specs.declared.answers.Answer.{Answer}
 use Rattle.mm_definitions.specs.declared.answers.Answer.TheVariants as answers
@@ -8,11 +8,11 @@ use Rattle.mm_definitions.specs.declared.answers.ReadFault.TheVariants as faults
 use Rattle.mm_definitions.specs.declared.answers.RunFault.{RunFault}
 use Rattle.mm_run.specs.Ended.{answer_unread}
 use Rattle.mm_definitions.specs.declared.answers.Tally.{Tally}
-use Rattle.mm_io.specs.Records.{IsReadFault}
+use Rattle.mm_io.specs.Records.{IsReadFault, TellsFailing, WorksStill, read_fault}
 use Rattle.mm_run.specs.Answers.{is_fault}
 use Rattle.mm_run.specs.Applied.{IsAnswer, IsApplyFault, OnFault, TellsReopening}
 use Rattle.mm_run.specs.Told.{Stops, with_answer, with_line}
-use Rattle.mm_run.specs.Runs.{IsRunFault, RunTellsReopening}
+use Rattle.mm_run.specs.Runs.{IsRunFault, RunTellsReopening, TellsTurn}
 use Rattle.mm_definitions.specs.Streams.{written_as}
 
 no_such : (f : ℕ) → IsApplyFault f → f ≡ 96 → ⊥
@@ -108,6 +108,32 @@ stops-why a t e old new was failed reading n why (inr (inr h)) = inl h.0
 stops-why (answers.Fault f) t e old new was failed reading n why (inl h) = inr (subst (λ (x : Fault). IsRunFault x.0 reading) (cc (h.0)) why)
 stops-why answers.Ok t e old new was failed reading n why (inl h) = absurd (let g : answers.Ok ≡ answers.Fault e.fault = h.0 in cc)
 stops-why (answers.Refused r) t e old new was failed reading n why (inl h) = absurd (let g : answers.Refused r ≡ answers.Fault e.fault = h.0 in cc)
+
+-- what a turn tells of a reader: a record was read, or it wasn't
+pub read-tells_reader : (before now : Bool) (a : Answer) → WorksStill before now → TellsTurn before now (Some a)
+read-tells_reader before now answers.Ok works = works
+read-tells_reader before now (answers.Refused why) works = works
+read-tells_reader before now (answers.Fault f) works = λ first down. absurd (let g : false ≡ true = sym (works first) ∙ down in cc)
+
+pub unread-tells_reader : (before now : Bool) (f : ℕ) → f ≡ read_fault now → TellsFailing before now f
+unread-tells_reader before now f number = λ first down. number ∙ ap read_fault down
+
+pub tells_on : (before now : Bool) (a : Answer) → IsAnswer a → TellsTurn before now (Some a) → WorksStill before now
+tells_on before now answers.Ok good tells = tells
+tells_on before now (answers.Refused why) good tells = tells
+tells_on before now (answers.Fault f) good tells = absurd good
+
+-- of a reader that has failed in the turn: by its own fault, or the writer's
+pub stops-reader : (a : Answer) (t : Tally) (e : RunFault) (old new : Option (List ℕ)) (was failed before now : Bool) (n : ℕ)
+    → TellsTurn before now (Some a) → Stops (written_as old was) (written_as new failed) n a t e → before ≡ false → now ≡ true
+    → (e.fault.0 ≡ 96) ⊎ (e.fault.0 ≡ 97)
+stops-reader a t e old new was failed before now n tells (inr (inl h)) first down = inr h.0
+stops-reader a t e old new was failed before now n tells (inr (inr h)) first down = inr h.0
+stops-reader (answers.Fault f) t e old new was failed before now n tells (inl h) first down =
+    inl (subst (λ (x : Fault). x.0 ≡ 96) (cc (h.0)) (tells first down))
+stops-reader answers.Ok t e old new was failed before now n tells (inl h) first down = absurd (let g : answers.Ok ≡ answers.Fault e.fault = h.0 in cc)
+stops-reader (answers.Refused r) t e old new was failed before now n tells (inl h) first down =
+    absurd (let g : answers.Refused r ≡ answers.Fault e.fault = h.0 in cc)
 
 -- a fault of reading is one that has a line, and does nothing to a session
 pub read-why : (f : ℕ) (b : Bool) → IsReadFault f b → IsRunFault f b

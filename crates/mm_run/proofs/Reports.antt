@@ -111,7 +111,7 @@ begins apply s p sound = ((sound.0, λ db may. inl (may, sound.0)), sound.1)
 -- from the records of a reader's bytes to the list of all of them
 pub lists : {A R W : Type 0} (apply : applies.Ghosts A) (read : reads.Ghosts R) (write : writes.Ghosts W) (moment : ℕ) (old new : A) (input input_now : Io R) (output output_now : Io W) (result : Result Tally RunFault)
     → ((s : A) (q : Package) → apply.settled s q → (db : apply.Database) → apply.may_leave s db → apply.stands_for db q)
-    → RunsSource apply write moment old new (option_map strip_bom (read.remaining (inside input))) states.StartRecord (has_failed input_now) output output_now result
+    → RunsSource apply write moment old new (option_map strip_bom (read.remaining (inside input))) states.StartRecord (has_failed input) (has_failed input_now) output output_now result
     → OnOk result (IsAtEnd (read.remaining (inside input_now)))
     → RunsList apply read write moment old new input input_now output output_now result
 lists apply read write moment old new input input_now output output_now (Ok t) law it at_end = record {
@@ -128,6 +128,7 @@ lists apply read write moment old new input input_now output output_now (Ok t) l
   session = it.session;
   writer = tt;
   why = tt;
+  reader = it.reader;
   kept = it.kept None;
   seen = record {
     done = λ clean p sound bytes here.
@@ -152,6 +153,7 @@ lists apply read write moment old new input input_now output output_now (Err e) 
   session = it.session;
   writer = it.stopped.1.writer;
   why = it.why;
+  reader = it.reader;
   kept = it.kept None;
   seen = record {
     done = tt;

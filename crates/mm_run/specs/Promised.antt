@@ -12,7 +12,7 @@ use Rattle.mm_definitions.specs.declared.answers.Tally.{Tally}
 use Rattle.mm_definitions.specs.declared.streams.Io.{Io}
 use Rattle.mm_run.specs.Told.{AreTold, IsNear}
 use Rattle.mm_run.specs.Ended.{IsEndedRun, OnEnded, RanEnded}
-use Rattle.mm_run.specs.Runs.{IsAll, IsKept, IsRunFault, IsSome, IsStopped, IsToldOf, OnRun, OnSound, RanAll, RanSome, RunTellsReopening, TellsFlush, TellsWriter, WorksOn}
+use Rattle.mm_run.specs.Runs.{IsAll, IsKept, IsRunFault, IsSome, IsStopped, IsToldOf, OnRun, OnSound, RanAll, RanSome, RunTellsReopening, TellsFlush, TellsReader, TellsWriter, WorksOn}
 use Rattle.mm_run.specs.Sessions.{Start, settled_from, shown, shown_from, shown_since}
 use Rattle.mm_run.specs.Shown.{Shown}
 use Rattle.mm_run.specs.declared.apply.Apply as applies
@@ -56,6 +56,8 @@ pub record RunsList {A R W : Type 0} (apply : applies.Ghosts A) (read : reads.Gh
   pub writer : IfErr result (TellsWriter (has_failed output) (has_failed output_now))
   -- 96 is the input's, which tells it; the others are faults of commands and of reading.
   pub why : IfErr result (λ e. (e.fault.0 ≡ 97) ⊎ IsRunFault e.fault.0 (has_failed input_now))
+  -- And told wherever it fails, unless the output does then.
+  pub reader : TellsReader (has_failed input) (has_failed input_now) result
   -- Whatever the input tells: the package that a crash may leave, and the one that the session goes on with, meet the rules.
   pub kept : OnSound (apply.is_clean new) (apply.settled old) (IsKept (apply.has_failed old) (shown apply new))
   -- Of a session that only reads as a package, whatever a crash would leave of it: it is answered the same, and reads then as the
@@ -69,10 +71,10 @@ pub record RunsList {A R W : Type 0} (apply : applies.Ghosts A) (read : reads.Gh
 
 -- ---- inside a run
 
--- The same of the records of these bytes, where a reader of records is in this state, and tells in the end whether it has failed;
--- from either start of the session.
+-- The same of the records of these bytes, where a reader of records is in this state, and tells at first and in the end whether it
+-- has failed; from either start of the session.
 pub record RunsSource {A W : Type 0} (apply : applies.Ghosts A) (write : writes.Ghosts W) (moment : ℕ)
-    (old new : A) (source : Option (List ℕ)) (state : State) (reading : Bool) (output output_now : Io W) (result : Result Tally RunFault) : Type 0 where
+    (old new : A) (source : Option (List ℕ)) (state : State) (read_before reading : Bool) (output output_now : Io W) (result : Result Tally RunFault) : Type 0 where
   pub clean : apply.is_clean new → apply.is_clean old
   -- Without a fault each record is answered, and its line written.
   pub done : IfOk result (λ t. (given : List Answer) × AreTold given t (write.contents (inside output)) (write.contents (inside output_now))
@@ -89,6 +91,7 @@ pub record RunsSource {A W : Type 0} (apply : applies.Ghosts A) (write : writes.
   pub near : IfErr result (λ e. IsNear e.tally)
   pub session : RunTellsReopening (apply.has_failed old) (apply.has_failed new) (new ≡ old) result
   pub why : IfErr result (λ e. (e.fault.0 ≡ 97) ⊎ IsRunFault e.fault.0 reading)
+  pub reader : TellsReader read_before reading result
   pub kept : (start : Start apply) → OnSound (apply.is_clean new) (settled_from apply start old) (IsKept (apply.has_failed old) (shown_from apply start new))
   pub ended : OnEnded (apply.has_failed old) source
       (λ xs. IsEndedRun xs state (written write.contents output) (written write.contents output_now) result)

@@ -16,7 +16,7 @@ use Rattle.mm_definitions.specs.declared.answers.Answer.TheVariants as answers
 use Rattle.mm_definitions.specs.declared.answers.Tally.{Tally}
 use Rattle.mm_definitions.specs.declared.answers.RunFault.{RunFault}
 use Rattle.mm_io.specs.Lines.{lines}
-use Rattle.mm_io.specs.Records.{Record, records_of}
+use Rattle.mm_io.specs.Records.{Record, TellsFailing, WorksStill, records_of}
 use Rattle.mm_run.specs.Readings.{Reading, IsReadAs, AreReadAs}
 use Rattle.mm_run.specs.Answers.{answer_to, after, answers_to, calls_of, accepted_of}
 use Rattle.mm_run.specs.Shown.{Shown}
@@ -102,6 +102,12 @@ RunTellsReopening before failed same (Err e) =
 abbrev pub TellsWriter : Bool → Bool → RunFault → Type 0
 TellsWriter before failed e = (e.fault.0 ≡ 97 → failed ≡ true) × (e.fault.0 ≢ 97 → failed ≡ before)
 
+-- What a run tells of a reader that had not failed before: without a fault it has not failed since, and where it has the fault is
+-- 96, or 97 where the writer failed too.
+abbrev pub TellsReader : Bool → Bool → Result Tally RunFault → Type 0
+TellsReader before failed (Ok t) = WorksStill before failed
+TellsReader before failed (Err e) = before ≡ false → failed ≡ true → (e.fault.0 ≡ 96) ⊎ (e.fault.0 ≡ 97)
+
 -- Where a fault stopped a run: each of these answers was counted and told, with the line of the fault behind them; at 97 up to the
 -- line that was cut.
 pub record IsStopped (given : List Answer) (e : RunFault) (old new : Written) : Type 0 where
@@ -131,6 +137,13 @@ IsAnswered fields p moment before answers.Ok shows =
     (reading : Reading) × IsReadAs fields reading × (answers.Ok ≡ answer_to p reading) × IsSound shows.settled (after p moment reading)
 IsAnswered fields p moment before (answers.Refused why) shows =
     (reading : Reading) × IsReadAs fields reading × (answers.Refused why ≡ answer_to p reading) × IsSound shows.settled (after p moment reading)
+
+-- what one turn tells of a reader
+abbrev pub TellsTurn : Bool → Bool → Option Answer → Type 0
+TellsTurn before failed None = WorksStill before failed
+TellsTurn before failed (Some answers.Ok) = WorksStill before failed
+TellsTurn before failed (Some (answers.Refused why)) = WorksStill before failed
+TellsTurn before failed (Some (answers.Fault fault)) = TellsFailing before failed fault.0
 
 -- a record was read and answered, or couldn't be read, or the end was reached
 abbrev pub Turns : {D T : Type 0} → (T → Option (List ℕ)) → Reader T → Reader T → Package → ℕ → Bool → Option Answer → Shown D → Type 0

@@ -7,7 +7,7 @@ ghost use Rattle.mm_io.specs.Records.{IsSetUp, Record};
 ghost use Rattle.mm_run.specs.Applied.{IsAnswer, IsApplyFault, IsSound, OnFault, TellsReopening};
 ghost use Rattle.mm_run.specs.Ended.{IsEndedTurn, answer_unread, ended_answer};
 ghost use Rattle.mm_run.specs.Readings.{IsCommandRead};
-ghost use Rattle.mm_run.specs.Runs.{IsAnswered, IsKept, IsRunFault, OnSound, Turns};
+ghost use Rattle.mm_run.specs.Runs.{IsAnswered, IsKept, IsRunFault, OnSound, TellsTurn, Turns};
 ghost use Rattle.mm_run.specs.Sessions.{Start, settled_from, shown_from};
 
 use crate::apply::Apply;
@@ -66,6 +66,8 @@ pub(crate) fn turn<A: Apply, T: Read + Tells>(
     ensures stays { IfSome result (λ a. IsAnswer a → IsSetUp rows.new) }
     ensures faults { IfSome result
         (λ a. OnFault a (λ f. IsRunFault f (T.has_failed (reader_source rows.new)))) }
+    ensures reader { TellsTurn (T.has_failed (reader_source rows.old))
+        (T.has_failed (reader_source rows.new)) result }
     ensures going { IfSome result
         (TellsReopening (A.has_failed session.old) (A.has_failed session.new)
         (session.new ≡ session.old)) }

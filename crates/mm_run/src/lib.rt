@@ -1,5 +1,5 @@
 //! The run of a list of records: each is read, applied and answered with a line, which is written and flushed before
-//! the next record is read. What may be left at each exit is a first part of the accepted commands.
+//! the next record is answered. What may be left at each exit is a first part of the accepted commands.
 #![tactic(auto)]
 
 mod answering;

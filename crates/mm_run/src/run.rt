@@ -1,12 +1,14 @@
 //! The run of a list.
 
-ghost use Rattle.std.specs.Prelude.{◌≡◌, OnOk, option_map};
+ghost use Rattle.std.specs.Prelude.{◌≡◌, ◌≢◌, ◌+◌, ◌-◌, ◌^◌, OnOk, option_map, true};
 ghost use Rattle.std.specs.Io.KnownBytes.{IsAtEnd};
 ghost use Rattle.csv.specs.Reading.{reader_source, reader_state, source_of, strip_bom};
 ghost use Rattle.csv.specs.declared.parser.State.TheVariants as states;
-ghost use Rattle.mm_definitions.specs.Streams.{has_failed, inside};
+ghost use Rattle.mm_definitions.specs.Streams.{has_failed, inside, is_flushed, written};
+ghost use Rattle.mm_definitions.specs.declared.answers.Answer.TheVariants as answers;
 ghost use Rattle.mm_io.specs.Records.{IsSetUp};
 ghost use Rattle.mm_run.specs.Promised.{RunsList, RunsSource};
+ghost use Rattle.mm_run.specs.Told.{IsNear, Stops};
 
 use crate::answering::turn;
 use crate::apply::Apply;
@@ -20,6 +22,21 @@ use std::alloc::Global;
 use std::io::{Read, Write};
 use std::marker::{Brand, PhantomData};
 
+/// Tells, behind as many records as there are numbers for, that there is none for the next. No list is as long.
+fn tell_endless<W: Write>(writer: &mut Io<W>, tally: Tally) -> RunFault
+    requires { (tally.accepted + tally.refused + 1 ≡ 2 ^ 64 - 1)
+        × (tally.written + 1 ≡ 2 ^ 64 - 1) }
+    ensures near { IsNear result.tally }
+    ensures stops { Stops (written W.contents writer.old) (written W.contents writer.new)
+        (2 ^ 64 - 1) (answers.Fault (record { 0 = 90 })) tally result }
+    ensures told { result.fault.0 ≢ 97 → is_flushed writer.new ≡ true }
+{
+    match tell(u64::MAX, Answer::Fault(Fault::MEMORY), writer, tally) {
+        Ok(_) => unreachable!(),
+        Err(e) => e,
+    }
+}
+
 /// Runs the records of a reader of records, and answers each with a line.
 fn run_rows<A: Apply, T: Read + Tells, W: Write>(
     alloc: Global,
@@ -31,7 +48,8 @@ fn run_rows<A: Apply, T: Read + Tells, W: Write>(
     requires { IsSetUp rows.old }
     ensures { RunsSource A.Apply W.Write at session.old session.new
         (source_of T.remaining rows.old) (reader_state rows.old)
-        (T.has_failed (reader_source rows.new)) writer.old writer.new result }
+        (T.has_failed (reader_source rows.old)) (T.has_failed (reader_source rows.new))
+        writer.old writer.new result }
 {
     let mut tally = Tally {
         accepted: 0,
@@ -47,11 +65,7 @@ fn run_rows<A: Apply, T: Read + Tells, W: Write>(
             None => return Ok(tally),
         }
     }
-    // No list is as long as this. A fault is told with no `Ok`: the proof answers for each of the two.
-    match tell(u64::MAX, Answer::Fault(Fault::MEMORY), writer, tally) {
-        Ok(tally) => Ok(tally),
-        Err(e) => Err(e),
-    }
+    Err(tell_endless(writer, tally))
 }
 
 /// The run, with the caller's reader under the name that `K` has.
@@ -66,7 +80,8 @@ fn run_source<'a, A: Apply, R: Read, W: Write, K: Lender>(
     ensures same_reference { result.0.reader.ghost_name ≡ held.entry.reader.ghost_name }
     ensures runs { RunsSource A.Apply W.Write at session.old session.new
         (option_map strip_bom (R.remaining (inside held.entry.reader.now))) states.StartRecord
-        (has_failed result.0.reader.now) writer.old writer.new result.1 }
+        (has_failed held.entry.reader.now) (has_failed result.0.reader.now)
+        writer.old writer.new result.1 }
 {
     let source = Source::<'a, R, K> {
         held,
@@ -88,7 +103,7 @@ fn run_to_end<A: Apply, R: Read, W: Write>(
 ) -> Result<Tally, RunFault>
     ensures runs { RunsSource A.Apply W.Write at session.old session.new
         (option_map strip_bom (R.remaining (inside reader.old))) states.StartRecord
-        (has_failed reader.new) writer.old writer.new result }
+        (has_failed reader.old) (has_failed reader.new) writer.old writer.new result }
     ensures end { OnOk result (IsAtEnd (R.remaining (inside reader.new))) }
 {
     let (held, outcome) = run_source::<A, R, W, Brand>(alloc, session, Held { reader }, writer, at);
@@ -103,7 +118,7 @@ fn run_to_end<A: Apply, R: Read, W: Write>(
     };
     match drain(inner) {
         Ok(()) => Ok(tally),
-        // Here too the proof answers for each of the two.
+        // A fault is told with no `Ok`: the proof answers for each of the two.
         Err(fault) => match tell(tally.written + 1, Answer::Fault(fault), writer, tally) {
             Ok(tally) => Ok(tally),
             Err(e) => Err(e),
@@ -112,7 +127,7 @@ fn run_to_end<A: Apply, R: Read, W: Write>(
 }
 
 /// Runs the records of the bytes that the reader has still to give, each command at this moment. Line n answers record
-/// n; it is written and flushed before the next record is read. A record that spells no command has its refusal and
+/// n; it is written and flushed before the next one is answered. A record that spells no command has its refusal and
 /// leaves the package as it was. The tally counts the accepted records, the refused ones, and the lines written whole.
 ///
 /// # Errors

@@ -1,4 +1,4 @@
-use Rattle.std.proofs.Common.{◌≡◌, ◌≤◌, inr, arith, length, take}
+use Rattle.std.proofs.Common.{◌≡◌, ◌≤◌, inr, arith, length, rules, take}
 use Rattle.std.proofs.lemmas.List.{length-take}
 use Rattle.std.proofs.KnownBytes.{Consumes-trans}
 use Rattle.mm_page.proofs.HeadFacts.{complete, from_consumed, full, taken, within_buffer}
@@ -40,4 +40,5 @@ pieces-preserved g c =
         rw (c.in-Ok-Partial.is, c.in-Ok-Partial.field-0-is) at c.parse_request.ensures.partial,
       );
       read = rw (taken c.pieces.len c.in-Ok.n _ c.pieces.buf c.read.new.buf inv.in_range fits) (Consumes-trans _ _ _ _ _ inv.read c.in-Ok.ensures.bytes.0);
+      working = search rules;
     }

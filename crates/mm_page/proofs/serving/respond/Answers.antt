@@ -1,4 +1,4 @@
-use Rattle.std.proofs.Common.{◌∙◌, inl, inr, subst, sym}
+use Rattle.std.proofs.Common.{◌≡◌, ◌∙◌, false, inl, inr, subst, sym, true}
 use Rattle.std.proofs.lemmas.Result.{IfErr-weaker}
 use Rattle.mm_definitions.specs.Package.{Package}
 use Rattle.mm_definitions.specs.Streams.{inside}
@@ -25,6 +25,8 @@ returns-in-Some g c =
           let target = c.of-in-Some.ensures ∙ at.path in
           inl (h, is, subst (λ t. Writes p h.method t v.items) target (subst (λ m. Writes p m c.of-in-Some.result.now v.items) method (w (p, st)))))
           all;
+      reading = ok_so c.head_response.result c.in_ok-n.ensures.working;
+      failing = err_so _ c.head_response.result (λ fault first down. absurd (let g : false ≡ true = sym (c.in_ok-n.ensures.working ∙ first) ∙ down in cc));
       frugal = ok_so c.head_response.result c.in_ok-n.ensures.frugal;
       frugal_fault = err_so _ c.head_response.result (λ fault. inr c.in_ok-n.ensures.frugal);
       needed =

@@ -1,4 +1,4 @@
-use Rattle.std.proofs.Common.{◌≡◌, inr, arith, sym, subst, refl, length, take}
+use Rattle.std.proofs.Common.{◌≡◌, ◌∙◌, false, inr, arith, sym, subst, refl, length, take, true}
 use Rattle.std.proofs.lemmas.List.{take_all}
 use Rattle.std.specs.Io.KnownBytes.{Appends}
 use Rattle.mm_definitions.specs.Streams.{inside}
@@ -12,6 +12,8 @@ returns-in-Flushed g c =
       kept = c.in-Ok.ensures.kept;
       served = (c.in-Ok.response.items, c.in-Ok.ensures.response, sent.0);
       working = sent.1;
+      reading = c.in-Ok.ensures.reading;
+      failing = tt;
       frugal = c.in-Ok.ensures.frugal;
       frugal_fault = tt;
       needed = tt;
@@ -28,6 +30,8 @@ returns-in-Unflushed g c =
       kept = c.in-Ok.ensures.kept;
       served = tt;
       working = tt;
+      reading = tt;
+      failing = λ first down. absurd (let g : false ≡ true = sym (c.in-Ok.ensures.reading ∙ first) ∙ down in cc);
       frugal = tt;
       frugal_fault = inr c.in-Ok.ensures.frugal;
       needed = λ is. absurd (omega arith);
@@ -42,6 +46,8 @@ returns g c =
       kept = c.in-Ok.ensures.kept;
       served = tt;
       working = tt;
+      reading = tt;
+      failing = λ first down. absurd (let g : false ≡ true = sym (c.in-Ok.ensures.reading ∙ first) ∙ down in cc);
       frugal = tt;
       frugal_fault = inr c.in-Ok.ensures.frugal;
       needed = λ is. absurd (omega arith);

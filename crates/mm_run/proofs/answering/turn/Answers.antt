@@ -1,7 +1,9 @@
 use Rattle.csv.specs.Records.{fields_of}
 use Rattle.mm_run.specs.Sessions.{shown_from}
 use Rattle.mm_run.proofs.Answered.{turned}
+use Rattle.csv.specs.Reading.{reader_source}
 use Rattle.mm_run.proofs.Ended.{ended_turn}
+use Rattle.mm_run.proofs.Failing.{read-tells_reader, unread-tells_reader}
 use Rattle.mm_run.proofs.Kept.{kept-sound}
 use Rattle.mm_run.proofs.Starts.{leaves_from}
 use Rattle.mm_run.proofs.answering.turn.Goals as goal
@@ -27,3 +29,11 @@ returns-in-Ok-Some-clause-kept g c start = c.answer_row.ensures.kept start (fiel
 pub returns-in-Ok-Some-clause-ended : goal.returns-in-Ok-Some-clause-ended
 returns-in-Ok-Some-clause-ended g c was =
     ended_turn g.T.Read.remaining c.args.rows.now c.next_row.new.rows (fields_of c.in-Ok-Some.row) c.read_row.result c.answer_row.result (rw c.in-Ok-Some.field-0-is at c.in-Ok-Some.ensures.reads) c.read_row.ensures (c.answer_row.ensures.ended was)
+
+pub returns-in-Ok-Some-clause-reader : goal.returns-in-Ok-Some-clause-reader
+returns-in-Ok-Some-clause-reader g c =
+    read-tells_reader (g.T.Tells.has_failed (reader_source c.args.rows.now)) (g.T.Tells.has_failed (reader_source c.next_row.new.rows)) c.answer_row.result c.in-Ok-Some.ensures.working
+
+pub returns-in-Err-clause-reader : goal.returns-in-Err-clause-reader
+returns-in-Err-clause-reader g c =
+    unread-tells_reader (g.T.Tells.has_failed (reader_source c.args.rows.now)) (g.T.Tells.has_failed (reader_source c.next_row.new.rows)) c.in-Err.fault.0 c.in-Err.ensures.number

@@ -1,4 +1,4 @@
-use Rattle.std.proofs.Common.{◌≡◌, ◌+◌, ◌-◌, ◌^◌, ◌∙◌, [], ◌∷◌, ◌++◌, inl, refl, ap, arith, length}
+use Rattle.std.proofs.Common.{◌≡◌, ◌+◌, ◌-◌, ◌^◌, ◌∙◌, [], ◌∷◌, ◌++◌, false, inl, refl, ap, arith, length, sym, true}
 use Rattle.csv.specs.Reading.{source_of}
 use Rattle.mm_definitions.specs.declared.answers.Answer.TheVariants as answers
 use Rattle.mm_definitions.specs.declared.answers.Fault.{Fault}
@@ -8,7 +8,7 @@ use Rattle.mm_run.proofs.Loops.{counted-once, run-line, stopped-fault, stopped-w
 use Rattle.mm_run.proofs.Kept.{kept-more, kept-sound}
 use Rattle.mm_run.proofs.Ended.{ended-all, ended-behind, ended-more, ended-none, ended-stopped}
 use Rattle.mm_run.proofs.Left.{all-answered, so_far-more, so_far-none, some-faulted, some-last, some-so_far}
-use Rattle.mm_run.proofs.Failing.{goes-ended, goes-same, stops-failing, stops-why}
+use Rattle.mm_run.proofs.Failing.{goes-ended, goes-same, stops-failing, stops-reader, stops-why, tells_on}
 use Rattle.mm_run.proofs.Starts.{leaves_from}
 use Rattle.mm_run.proofs.run.run_rows.Goals as goal
 
@@ -22,6 +22,7 @@ loop-n-init g c = record {
   clean = λ is. is;
   same = refl;
   ended = λ was. (refl, refl);
+  reading = λ first. first;
   given = ([], told-none _ _ refl refl refl, λ start clean p sound xs here. so_far-none p c.args.at xs _ _ (settled_from g.A.Apply start c.args.session.now) here sound);
   kept = λ start clean p sound.
       kept-sound (shown_from g.A.Apply start c.args.session.now) (leaves_from g.A.Apply g.met.A.Apply.leaves_settled start c.args.session.now) (g.A.Apply.has_failed c.args.session.now) p sound;
@@ -50,6 +51,7 @@ returns-in-None g c =
       near = tt;
       session = (ap g.A.Apply.has_failed still ∙ inv.same, λ was. let before = inv.ended was in (still ∙ before.0, before.1));
       why = tt;
+      reader = λ first. (rw c.in-None.is at c.turn.ensures.reader) (inv.reading first);
       kept = λ start.
           kept-more (g.A.Apply.is_clean c.loop-n.session) (g.A.Apply.is_clean c.turn.new.session)
           (shown_from g.A.Apply start c.args.session.now) (shown_from g.A.Apply start c.loop-n.session) (shown_from g.A.Apply start c.turn.new.session) c.turn.ensures.clean inv.same (inv.kept start) (c.turn.ensures.kept start);
@@ -78,6 +80,7 @@ loop-n-preserved g c =
           let before = inv.ended was in
           let on = goes-ended c.in-Some.answer _ _ _ c.loop-n.tally c.in-Ok.next goes.0 c.in-Some.ensures.going (inv.same ∙ was) goes.1 in
           (on.0 ∙ before.0, on.1 ∙ before.1);
+      reading = λ first. tells_on _ _ c.in-Some.answer goes.0 (rw c.in-Some.is at c.turn.ensures.reader) (inv.reading first);
       given = (
         given ++ c.in-Some.answer ∷ [],
         told-more given c.in-Some.answer c.loop-n.tally c.in-Ok.next c.loop-n.n _ _ _ _ _ told goes at,
@@ -127,6 +130,8 @@ returns-in-Err g c =
           stops-failing c.args.session.now c.loop-n.session c.turn.new.session first before (g.A.Apply.has_failed c.turn.new.session)
           c.loop-n.tally c.in-Err.e _ _ _ _ _ inv.same inv.ended c.in-Some.answer c.in-Some.ensures.going c.in-Err.ensures.stops;
       why = stops-why c.in-Some.answer c.loop-n.tally c.in-Err.e _ _ _ _ _ _ c.in-Some.ensures.faults c.in-Err.ensures.stops;
+      reader = λ first down.
+          stops-reader c.in-Some.answer c.loop-n.tally c.in-Err.e _ _ _ _ _ _ _ (rw c.in-Some.is at c.turn.ensures.reader) c.in-Err.ensures.stops (inv.reading first) down;
       kept = λ start.
           kept-more (g.A.Apply.is_clean c.loop-n.session) (g.A.Apply.is_clean c.turn.new.session)
           (shown_from g.A.Apply start c.args.session.now) (shown_from g.A.Apply start c.loop-n.session) (shown_from g.A.Apply start c.turn.new.session) c.turn.ensures.clean inv.same (inv.kept start) (c.turn.ensures.kept start);
@@ -136,12 +141,8 @@ returns-in-Err g c =
           (rw c.in-Some.is at (c.turn.ensures.ended (inv.same ∙ was))) c.in-Err.ensures.stops inv.numbered;
     }
 
--- a fault is no answer to go on behind
-pub returns-in-Ok-tell : goal.returns-in-Ok-tell
-returns-in-Ok-tell g c = absurd c.in-Ok-tell.ensures.goes.0
-
-pub returns-in-Err-tell : goal.returns-in-Err-tell
-returns-in-Err-tell g c =
+pub returns : goal.returns
+returns g c =
     let inv = c.loop-n.invariant in
     let (given, told, so_far) = inv.given in
     let end : c.loop-n.n ≡ 2 ^ 64 - 1 = omega (arith, c.loop-n-test.false) in
@@ -153,24 +154,25 @@ returns-in-Err-tell g c =
       clean = inv.clean;
       done = tt;
       working = tt;
-      flushed = c.in-Err-tell.ensures.told;
+      flushed = c.tell_endless.ensures.told;
       stopped =
           stopped-fault
           (λ told w. (start : Start g.A.Apply) → OnRun (g.A.Apply.is_clean c.loop-n.session) (settled_from g.A.Apply start c.args.session.now) (source_of g.T.Read.remaining c.args.rows.now)
           (λ p xs. IsSome p c.args.at xs c.args.rows.now.state first (shown_from g.A.Apply start c.loop-n.session) told w))
-          given (2 ^ 64 - 1) c.loop-n.tally c.in-Err-tell.e _ _ _ _ _ _ at (omega arith) told inv.working memory (inl (inl refl)) c.in-Err-tell.ensures.stops
+          given (2 ^ 64 - 1) c.loop-n.tally c.tell_endless.result _ _ _ _ _ _ at (omega arith) told inv.working memory (inl (inl refl)) c.tell_endless.ensures.stops
           (λ w enough start clean p sound xs here.
           some-so_far p c.args.at (shown_from g.A.Apply start c.loop-n.session) xs c.args.rows.now.state first given
           (leaves_from g.A.Apply g.met.A.Apply.leaves_settled start c.loop-n.session) inv.same _ _ (so_far start clean p sound xs here) w enough);
       small = tt;
-      near = c.in-Err-tell.ensures.near;
+      near = c.tell_endless.ensures.near;
       session =
-          stops-failing c.args.session.now c.loop-n.session c.loop-n.session first before before c.loop-n.tally c.in-Err-tell.e _ _ _ _ _ inv.same inv.ended (answers.Fault memory)
-          (λ e. absurd (omega arith), λ e. absurd (omega arith), λ e. refl, λ e. refl) c.in-Err-tell.ensures.stops;
-      why = stops-why (answers.Fault memory) c.loop-n.tally c.in-Err-tell.e _ _ _ _ _ _ (inl (inl refl)) c.in-Err-tell.ensures.stops;
+          stops-failing c.args.session.now c.loop-n.session c.loop-n.session first before before c.loop-n.tally c.tell_endless.result _ _ _ _ _ inv.same inv.ended (answers.Fault memory)
+          (λ e. absurd (omega arith), λ e. absurd (omega arith), λ e. refl, λ e. refl) c.tell_endless.ensures.stops;
+      reader = λ first down. absurd (let g : false ≡ true = sym (inv.reading first) ∙ down in cc);
+      why = stops-why (answers.Fault memory) c.loop-n.tally c.tell_endless.result _ _ _ _ _ _ (inl (inl refl)) c.tell_endless.ensures.stops;
       kept = inv.kept;
       ended = λ was xs here.
           let h = inv.refused was xs here in
-          ended-behind xs c.args.rows.now.state c.loop-n.tally c.in-Err-tell.e (2 ^ 64 - 1) _ _ _ _ _ _ inv.working h.numbers h.rows c.loop-n.rows.state h.rest h.reached h.read h.told
-          (inv.numbered ∙ end) memory (λ e. absurd (omega arith)) (inl (inl refl)) c.in-Err-tell.ensures.stops;
+          ended-behind xs c.args.rows.now.state c.loop-n.tally c.tell_endless.result (2 ^ 64 - 1) _ _ _ _ _ _ inv.working h.numbers h.rows c.loop-n.rows.state h.rest h.reached h.read h.told
+          (inv.numbered ∙ end) memory (λ e. absurd (omega arith)) (inl (inl refl)) c.tell_endless.ensures.stops;
     }

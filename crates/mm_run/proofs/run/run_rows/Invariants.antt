@@ -1,8 +1,8 @@
 use Rattle.std.proofs.Common.{◌≡◌, ◌+◌, List, true}
-use Rattle.csv.specs.Reading.{source_of}
+use Rattle.csv.specs.Reading.{reader_source, source_of}
 use Rattle.mm_definitions.specs.Streams.{has_failed, inside, is_flushed}
 use Rattle.mm_definitions.specs.declared.answers.Answer.{Answer}
-use Rattle.mm_io.specs.Records.{IsSetUp}
+use Rattle.mm_io.specs.Records.{IsSetUp, WorksStill}
 use Rattle.mm_run.specs.Told.{AreTold}
 use Rattle.mm_run.specs.Ended.{AreRefusedSoFar, OnEnded}
 use Rattle.mm_run.specs.Sessions.{Start, settled_from, shown_from}
@@ -19,6 +19,7 @@ invariant-loop-n g l = record {
   clean : g.A.Apply.is_clean l.session → g.A.Apply.is_clean l.fn.session;
   same : g.A.Apply.has_failed l.session ≡ g.A.Apply.has_failed l.fn.session;
   ended : g.A.Apply.has_failed l.fn.session ≡ true → (l.session ≡ l.fn.session) × (l.tally.accepted ≡ 0);
+  reading : WorksStill (g.T.Tells.has_failed (reader_source l.fn.rows)) (g.T.Tells.has_failed (reader_source l.rows));
   given : (given : List Answer) × AreTold given l.tally (g.W.Write.contents (inside l.fn.writer)) (g.W.Write.contents (inside l.writer))
       × ((start : Start g.A.Apply) → OnRun (g.A.Apply.is_clean l.session) (settled_from g.A.Apply start l.fn.session) (source_of g.T.Read.remaining l.fn.rows)
       (λ p xs. IsSoFar p l.at xs l.fn.rows.state (source_of g.T.Read.remaining l.rows) l.rows.state (settled_from g.A.Apply start l.session) given));

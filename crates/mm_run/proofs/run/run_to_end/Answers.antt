@@ -1,13 +1,13 @@
-use Rattle.std.proofs.Common.{◌≡◌, ◌+◌, ◌∙◌, ◌⊎◌, arith, length, option_map, refl, rules}
+use Rattle.std.proofs.Common.{◌≡◌, ◌+◌, ◌∙◌, ◌⊎◌, Err, arith, length, option_map, refl, rules}
 use Rattle.csv.specs.Reading.{strip_bom}
 use Rattle.csv.specs.declared.parser.State.TheVariants as states
 use Rattle.mm_definitions.specs.Streams.{has_failed, inside}
 use Rattle.mm_definitions.specs.declared.answers.Answer.TheVariants as answers
-use Rattle.mm_run.specs.Runs.{IsRunFault, IsSome, OnRun}
+use Rattle.mm_run.specs.Runs.{IsRunFault, IsSome, OnRun, TellsReader}
 use Rattle.mm_run.specs.Sessions.{Start, settled_from, shown_from}
 use Rattle.mm_run.proofs.Loops.{read-line, stopped-fault}
 use Rattle.mm_run.proofs.Ended.{ended-behind, read_not_92}
-use Rattle.mm_run.proofs.Failing.{read-tells, read-why, stops-failing, stops-why}
+use Rattle.mm_run.proofs.Failing.{read-tells, read-why, stops-failing, stops-reader, stops-why}
 use Rattle.mm_run.proofs.Left.{some-all}
 use Rattle.mm_run.proofs.Starts.{leaves_from}
 use Rattle.mm_run.proofs.run.run_to_end.Goals as goal
@@ -25,6 +25,8 @@ returns-in-Err-tell-clause-runs g c =
     let stops = c.in-Err-tell.ensures.stops in
     let why : (c.in-Err-tell.e.fault.0 ≡ 97) ⊎ IsRunFault c.in-Err-tell.e.fault.0 (has_failed c.drain.new.reader) =
     stops-why (answers.Fault fault) t c.in-Err-tell.e _ _ _ _ _ _ (read-why fault.0 _ c.in-Err-drain.ensures.fault) stops in
+    let tells : TellsReader (has_failed c.args.reader.now) (has_failed c.drain.new.reader) (Err c.in-Err-tell.e) =
+    λ first down. stops-reader (answers.Fault fault) t c.in-Err-tell.e _ _ _ _ _ _ _ c.in-Err-drain.ensures.failing stops (ran.reader first) down in
     record {
       clean = ran.clean;
       done = tt;
@@ -43,6 +45,7 @@ returns-in-Err-tell-clause-runs g c =
           stops-failing c.args.session.now new new first (g.A.Apply.has_failed new) (g.A.Apply.has_failed new) t c.in-Err-tell.e _ _ _ _ _ same ran.session.1
           (answers.Fault fault) (read-tells fault.0 _ (g.A.Apply.has_failed new) (new ≡ new) refl c.in-Err-drain.ensures.fault) stops;
       why = search rules;
+      reader = search rules;
       kept = ran.kept;
       ended = λ was xs here.
           let h = ran.ended was xs here in

@@ -41,7 +41,7 @@ KIT_PIECES = 4096
 KIT_LIST_LIMIT = 16_777_216
 
 # How many things of which one note speaks are told by their names.
-NOTED = 3
+NOTED = 10
 
 # The table of attribute rows in which an import keeps the bounds of maps whose tiles reach further: a row has the map's name as its title, and
 # as its note MIN_X MIN_Y MAX_X MAX_Y in whole units.
@@ -84,10 +84,20 @@ class Report:
         self.notes = {}
 
 
+class Parser(argparse.ArgumentParser):
+    """A parser whose help is a text as it stands, the second paragraph of which is the usage."""
+
+    def format_help(self):
+        return self.description.strip("\n") + "\n"
+
+    def error(self, message):
+        usage = self.description.split("\n\n")[1]
+        self.exit(2, f"usage:\n{usage}\n{self.prog}: {message}\n")
+
+
 def arguments(description):
-    """A parser whose help is the docstring of a tool as it stands."""
-    return argparse.ArgumentParser(usage=argparse.SUPPRESS, description=description, add_help=True,
-                                   formatter_class=argparse.RawDescriptionHelpFormatter)
+    """The parser of a tool, of its docstring."""
+    return Parser(usage=argparse.SUPPRESS, description=description, allow_abbrev=False)
 
 
 def run_tool(main):
@@ -185,15 +195,21 @@ class Source:
             raise Refused(f"{self.file}: was written while it was read; do it again when no program has it")
 
 
-def stamps_of(file):
-    """Sizes and moments of a package's file and its journal."""
+def sizes_of(file):
+    """The sizes of a package's file and its journal; one that isn't there has none."""
     paths = [pathlib.Path(f"{file}{suffix}") for suffix in ("", "-wal")]
-    return [(it.stat().st_size, it.stat().st_mtime_ns) for it in paths if it.exists()]
+    return [it.stat().st_size if it.exists() else 0 for it in paths]
+
+
+def stamps_of(file):
+    """What changes where a package is written: a commit stands in the journal, or in the file behind it."""
+    return sizes_of(file), file.stat().st_mtime_ns
 
 
 def expect_room(file, folder):
     """Refuses where a folder has no room for a copy of a package, into which its journal is taken."""
-    wanted = sum(size * times for (size, _), times in zip(stamps_of(file), (1, 2)))
+    size, journal = sizes_of(file)
+    wanted = size + 2 * journal
     free = shutil.disk_usage(folder).free
     if wanted > free:
         raise Refused(f"{file}: its journal holds commits, or another program has it, so a copy is read, which wants {megabytes(wanted)} in "

@@ -2,10 +2,10 @@
 """Writes what turns one package into another: the work of a crew comes home as records and kits.
 
     tools/kit_between.py BEFORE AFTER EDITION OUT
-    tools/kit_between.py BEFORE AFTER EDITION OUT --onto OTHER
+    tools/kit_between.py BEFORE AFTER EDITION OUT --onto OTHER [--renumber]
 
 BEFORE, AFTER and OTHER are packages of mmpkg, and are left as they are; nothing may write them meanwhile. Each has to pass 'mmpkg check',
-with the program that the environment's MMPKG names, else out/mmpkg of this repository. Of one whose journal holds commits, or which another
+with the program that the environment's MMPKG names, else out/mmpkg of this repository, else mmpkg of the path. Of one whose journal holds commits, or which another
 program has, or which can't be written, a copy is read, in the folder that the environment's TMPDIR names, else /tmp; as large as it is. OUT
 must not be there; it is written under another name and renamed when it is whole. It gets
 
@@ -37,7 +37,13 @@ is one that is as OTHER is. By the key of each system, table, matrix, tile, row,
     4. Names, identifiers and pixel sizes suit what else the result has (docs/FORMATS.md, Q3, Q4, Q8, Q9).
     5. A change against 2 to 4 is a conflict, and is taken back; the others are asked again, until nothing is left to take back.
 
-A conflict leaves OTHER as it is. conflicts.csv has them by what, key, before, after and other (of bytes the digest); standard error says why.
+A conflict leaves OTHER as it is. conflicts.csv has them by what, key, before, after and other (of bytes the digest); standard error says why:
+'both made one' where BEFORE has none, else 'both changed it', or what else it goes against. The kit 'conflicts' has AFTER's side of them, with
+bytes: published as EDITION_theirs behind all others it takes AFTER's side where a piece does that, and what no piece can do is named. Records
+that are not wanted are taken out of its kit.csv, where the others are numbered anew.
+
+With --renumber rows and media that AFTER made, and OTHER made otherwise under the same number, are new ones and no conflict: they get the
+next numbers behind all that their table has, their mapping rows too. renumbered.csv has what, table, old and new number.
 
 Exit status: 0 all was written; 1 something was left out, or was a conflict; 2 wrong arguments, or a file that can't be read or written; else
 what 'mmpkg check' ended with, whose line is told: 3 a fault, 4 no package or one that breaks a rule.
@@ -213,6 +219,24 @@ def tell_rest(before, after, report):
             report.note(f"last_change of {name}", f"{before.changed[name]} in BEFORE, {after.changed[name]} in AFTER")
 
 
+def tell_order(before, packages, report):
+    """Notes where a package was last changed before BEFORE was, by the tables that both have."""
+    for name, package in packages.items():
+        moments = [(package.changed[table], changed) for table, changed in before.changed.items() if table in package.changed]
+        if any(one < other for one, other in moments) and not any(one > other for one, other in moments):
+            report.note(package.file, f"as {name} it was last changed before BEFORE was: are the packages in the wrong order?")
+
+
+def tell_numbers(numbers, after, folder):
+    """Names which rows and media have other numbers than in AFTER."""
+    rows = [[after.parts["items"][key][0], *key, number] for key, number in sorted(numbers.items())]
+    for what, table, old, new in rows:
+        print(f"renumbered: {what} {table} {old} is {new}", file=sys.stderr)
+    if rows:
+        with open(folder / "renumbered.csv", "w", encoding="utf-8", newline="") as out:
+            out.writelines(map(record, [["what", "table", "old", "new"], *rows]))
+
+
 def tell_conflicts(merged, report):
     """Names what was left out, with why; returns the rows of the list, and how many there are of each sort."""
     rows, counts = [], collections.Counter()
@@ -249,28 +273,57 @@ def write_conflicts(rows, folder):
         out.writelines(map(record, [["what", "key", "before", "after", "other"], *rows]))
 
 
+def write_theirs(merged, files, edition, out, folder):
+    """Writes AFTER's side of the conflicts as a kit, or several; returns them, and what no piece settles."""
+    theirs = three_way.Theirs(merged)
+    kits = KitWriter(f"{edition}_theirs", out / "conflicts", folder)
+    for piece in Difference(merged.result, theirs.goal, files).content():
+        kits.add(piece)
+    kits.end()
+    return kits, sorted(merged.conflicts.keys() - theirs.taken)
+
+
+def tell_next(merged, theirs, left, out):
+    """Says on standard error what there is to do about conflicts, behind the commands that are printed."""
+    lines = [f"look at {shlex.quote(str(out / 'conflicts.csv'))}: OTHER keeps its side of each"]
+    if left:
+        lines.append("no piece takes AFTER's side of " + ", ".join(f"{word_of(merged, part, key)} {' '.join(map(str, key))}" for part, key in left))
+    if theirs.kits:
+        lines.append(f"to take AFTER's side of {'the others' if left else 'them'}, behind the commands that are printed:")
+    print("next: " + "; ".join(lines), file=sys.stderr)
+    for edition, folder in theirs.kits:
+        print(f"    echo edition,{edition} | mmpkg run FILE\n    mmpkg kit FILE {edition} {shlex.quote(str(folder))}\n"
+              f"    echo publish,{edition} | mmpkg run FILE", file=sys.stderr)
+
+
 def expect_new_edition(edition, package):
     if package.has_edition(edition):
         raise Refused(f"{package.file}: has an edition {edition}, and no name is used twice")
 
 
-def write(packages, edition, out, folder, report):
+def write(packages, given, folder, report):
     """Writes all files into a folder; returns the kits, and how many records there are of each word."""
     before, after, other = packages[0], packages[1], packages[-1] if len(packages) == 3 else packages[0]
+    edition, out = given.EDITION, given.OUT
     expect_new_edition(edition, other)
     tell_rest(before, after, report)
-    merged = three_way.Merge(before.parts, after.parts, other.parts)
+    tell_order(before, {"AFTER": after, "OTHER": other}, report)
+    report.tell_notes()
+    goal, numbers = three_way.renumbered(before.parts, after.parts, other.parts) if given.renumber else (after.parts, {})
+    tell_numbers(numbers, after, folder)
+    merged = three_way.Merge(before.parts, goal, other.parts)
+    files = Files((after, other))
     rows, conflicts = tell_conflicts(merged, report)
-    kits, counts = write_files(Difference(other.parts, merged.result, Files((after, other))), edition, out, folder)
+    kits, counts = write_files(Difference(other.parts, merged.result, files), edition, out, folder)
     for name, _ in kits.kits:
         expect_new_edition(name, other)
-    report.tell_notes()
     print(f"written: {summary(counts)}", file=sys.stderr)
     if len(packages) == 3:
         print(f"there already: {summary(collections.Counter(word_of(merged, *change) for change in merged.there))}", file=sys.stderr)
         print(f"conflicts: {summary(conflicts)}", file=sys.stderr)
         if rows:
             write_conflicts(rows, folder)
+            tell_next(merged, *write_theirs(merged, files, edition, out, folder), out)
     return kits, counts
 
 
@@ -279,9 +332,14 @@ def main():
     for name, kind in (("BEFORE", pathlib.Path), ("AFTER", pathlib.Path), ("EDITION", str), ("OUT", pathlib.Path)):
         parser.add_argument(name, type=kind)
     parser.add_argument("--onto", type=pathlib.Path, metavar="OTHER")
+    parser.add_argument("--renumber", action="store_true")
     given = parser.parse_args()
     if not is_name(given.EDITION):
         raise Refused(f"{given.EDITION!r} is no name of an edition")
+    if given.EDITION == "conflicts":
+        raise Refused("'conflicts' is the folder of what is left out; choose another name of an edition")
+    if given.renumber and not given.onto:
+        raise Refused("--renumber is for --onto OTHER")
     report = Report()
     files = [given.BEFORE, given.AFTER] + ([given.onto] if given.onto else [])
     with tempfile.TemporaryDirectory() as name, made_beside(given.OUT) as beside:
@@ -289,7 +347,7 @@ def main():
         made.mkdir()
         try:
             packages = [Package(file, pathlib.Path(name) / str(place)) for place, file in enumerate(files)]
-            kits, counts = write(packages, given.EDITION, given.OUT, made, report)
+            kits, counts = write(packages, given, made, report)
         except sqlite3.Error as error:
             raise Refused(f"{given.OUT}: {error}") from error
         for package in packages:

@@ -6,7 +6,9 @@ relation (of a system its number). docs/FORMATS.md has the rules that a state ke
 
 import collections
 import dataclasses
+import itertools
 
+NUMBER_LIMIT = 2**53
 PARTS = ("systems", "tables", "matrices", "tiles", "items", "relations", "mapped")
 
 
@@ -45,6 +47,30 @@ def in_order(kind, zooms):
     return all(at_low > at_high for at_low, at_high in pairs)
 
 
+def renumbered(before, after, other):
+    """AFTER where its new rows and media have numbers that OTHER's new ones don't have, and by key the numbers that changed.
+
+    The next numbers behind all that a table has anywhere are taken. Mapping rows go along.
+    """
+    used = collections.defaultdict(set)
+    for name, number in (key for state in (before, after, other) for key in state["items"]):
+        used[name].add(number)
+    numbers = {}
+    for key, value in sorted(after["items"].items()):
+        if key not in before["items"] and other["items"].get(key, value) != value:
+            numbers[key] = next_number(used[key[0]])
+            used[key[0]].add(numbers[key])
+    items = {(key[0], numbers.get(key, key[1])): value for key, value in after["items"].items()}
+    mapped = {(name, *(numbers.get(end, end[1]) for end in zip(tables, ids))): tables for (name, *ids), tables in after["mapped"].items()}
+    return {**after, "items": items, "mapped": mapped}, numbers
+
+
+def next_number(used):
+    """The number behind those that are used, or where that is past the limit the first that is free."""
+    last = max(used)
+    return last + 1 if last < NUMBER_LIMIT else next(it for it in itertools.count(1) if it not in used)
+
+
 class Merge:
     """OTHER with the changes from BEFORE to AFTER that can be made on it (result), those that can't with why (conflicts), and those that
     it has already (there)."""
@@ -70,7 +96,7 @@ class Merge:
             self.changes.add((part, key))
             put(self.result[part], key, after)
         else:
-            self.conflicts[part, key] = "both changed it"
+            self.conflicts[part, key] = "both made one" if before is None else "both changed it"
 
     def take_back(self):
         """Takes back the changes that don't suit the result; returns whether there were some."""
@@ -171,3 +197,55 @@ class Fit:
         if tables and not all(end in self.result["items"] and ("items", end) not in self.conflicts for end in zip(tables, key[1:])):
             return "what it relates isn't there, or is a conflict"
         return None
+
+
+class Theirs:
+    """Which conflicts pieces of a kit can settle as AFTER has them, behind a merge; `goal` is its result with these."""
+
+    def __init__(self, merged):
+        self.start, self.after = merged.result, merged.after
+        self.goal = {part: dict(values) for part, values in self.start.items()}
+        self.taken = {change for change in merged.conflicts if change[0] in ("matrices", "tiles", "items", "mapped")}
+        for part, key in self.taken:
+            put(self.goal[part], key, self.after[part].get(key))
+        while self.take_back():
+            pass
+
+    def take_back(self):
+        """Takes back what the goal doesn't suit; returns whether there was some."""
+        self.ends = {end for (_, *ids), tables in self.goal["mapped"].items() for end in zip(tables, ids)}
+        rules = {"matrices": self.suits_matrix, "tiles": self.suits_tile, "items": self.suits_item, "mapped": self.suits_mapped}
+        unsuited = {(part, key) for part, key in self.taken if not rules[part](key, self.after[part].get(key))}
+        for part, key in unsuited:
+            put(self.goal[part], key, self.start[part].get(key))
+        self.taken -= unsuited
+        return bool(unsuited)
+
+    def suits_matrix(self, key, sizes):
+        """A matrix only comes: none goes or changes as a piece."""
+        table = self.goal["tables"].get(key[:1])
+        if sizes is None or key in self.start["matrices"] or table is None or table.system is None:
+            return False
+        left, low, right, high = table.extent
+        covers = (right - left, high - low) == (sizes[0] * sizes[2] * sizes[4], sizes[1] * sizes[3] * sizes[5])
+        others = [(zoom, it[4:]) for (name, zoom), it in self.goal["matrices"].items() if name == key[0] and zoom != key[1]]
+        return covers and all(in_order(table.kind, [(key[1], sizes[4:]), other]) for other in others)
+
+    def suits_tile(self, key, value):
+        if value is None:
+            return key in self.start["tiles"]
+        sizes = self.goal["matrices"].get(key[:2])
+        return sizes is not None and key[2] < sizes[0] and key[3] < sizes[1]
+
+    def suits_item(self, key, value):
+        if value is None:
+            return key in self.start["items"] and key not in self.ends
+        table = self.goal["tables"].get(key[:1])
+        return table is not None and table.kind == {"row": "attributes", "media": "media"}[value[0]]
+
+    def suits_mapped(self, key, tables):
+        if tables is None:
+            return key in self.start["mapped"]
+        relation = self.goal["relations"].get(key[:1])
+        return (key not in self.start["mapped"] and relation is not None and relation[:2] == tables
+                and all(end in self.goal["items"] for end in zip(tables, key[1:])))

@@ -13,11 +13,11 @@ PROGRAM = os.path.realpath(os.environ.get("MMPKG") or TOP / "out" / "mmpkg")
 
 
 def run(*command, status=0, given=b"", out=subprocess.PIPE):
-    """Runs a command, which has to end with the status, and answers what it printed and what it told on standard error."""
+    """Runs a command, which has to end with the status, unless that is None, and answers what it printed and what it told on standard error."""
     done = subprocess.run([str(word) for word in command], input=given, stdout=out, stderr=subprocess.PIPE, check=False,
                           env={**os.environ, "MMPKG": PROGRAM})
     printed, told = (done.stdout or b"").decode(), done.stderr.decode()
-    assert done.returncode == status, f"{command[:6]} ended with {done.returncode}, wanted {status}:\n{printed[-800:]}{told[-800:]}"
+    assert status in (None, done.returncode), f"{command[:6]} ended with {done.returncode}, wanted {status}:\n{printed[-800:]}{told[-800:]}"
     return printed, told
 
 

@@ -16,6 +16,7 @@ import csv
 import os
 import pathlib
 import random
+import re
 import shutil
 import sqlite3
 import sys
@@ -208,12 +209,59 @@ def by_hand(kept, text):
     return kept.do(text.encode())
 
 
-def expect_between(before, after, other, folder, onto, seen=None):
+def renumbered(after, before, other, out):
+    """AFTER's entries with the numbers that the tool gave: free ones, to new rows and media that collide and nothing else."""
+    numbers = {}
+    if (out / "renumbered.csv").exists():
+        with open(out / "renumbered.csv", newline="", encoding="utf-8") as opened:
+            numbers = {("item", table, int(old)): ("item", table, int(new)) for _, table, old, new in list(csv.reader(opened))[1:]}
+    wanted = {key for key in after if key[0] == "item" and key not in before and other.get(key, after[key]) != after[key]}
+    expect(numbers.keys(), wanted, "what is renumbered")
+    expect([key for key in numbers.values() if key in after or key in before or key in other], [], "numbers that are taken")
+    expect(len(set(numbers.values())), len(numbers), "new numbers")
+    return {with_numbers(key, value, numbers): value for key, value in after.items()}
+
+
+def with_numbers(key, value, numbers):
+    if key[0] != "map":
+        return numbers.get(key, key)
+    ends = [("item", *end) for end in zip(value, key[2:])]
+    return (*key[:2], *(numbers.get(end, end)[2] for end in ends))
+
+
+def expect_theirs(out, told, target, after, result, conflicts):
+    """The kit of the conflicts is accepted behind the others; returns what stands then: of each conflict that it has AFTER's side."""
+    commands = [line.strip() for line in told.splitlines() if line.startswith("    ")]
+    expect(bool(commands), (out / "conflicts").exists(), "whether there is a kit of conflicts")
+    settled = set()
+    for line in commands:
+        run("bash", "-c", f"set -o pipefail; mmpkg() {{ {PROGRAM} \"$@\" --at 0; }}; " + line.replace("FILE", str(target.file)))
+    for folder in sorted(out.glob("conflicts*")):
+        if folder.is_dir():
+            settled |= {entry_of(fields) for fields in records((folder / "kit.csv").read_bytes())}
+    expect(settled - conflicts, set(), "what the kit of conflicts has that is none")
+    left = re.search("no piece takes AFTER's side of (.*?)(;|$)", told, re.MULTILINE)
+    expect(len(settled) + (len(left[1].split(", ")) if left else 0), len(conflicts), "conflicts that are settled or named")
+    final = {entry: value for entry, value in result.items() if entry not in settled} | {entry: after[entry] for entry in settled if entry in after}
+    return final, [line.split()[1].split(",")[1] for line in commands if line.startswith("echo edition,")]
+
+
+def entry_of(fields):
+    """What a record of a kit's list is of, as the model names it."""
+    word = fields[1].decode().removesuffix("-drop")
+    part, size = {"matrix": ("matrix", 1), "tile": ("tile", 3), "row": ("item", 1), "media": ("item", 1), "map": ("map", 2)}[word]
+    return (part, fields[2].decode(), *map(int, fields[3:3 + size]))
+
+
+def expect_between(before, after, other, folder, onto, seen=None, renumber=False):
     """What the tool writes makes of a copy of OTHER what the rule gives, without a refusal; returns the conflicts, and what was told."""
     out, states = folder / "out", [entries(it.package) for it in (after, before, other)]
+    words = [*(["--onto", other.file] if onto else []), *(["--renumber"] if renumber else [])]
+    status = 1 if by_the_rule(states[1], states[0], states[2])[1] else 0
+    printed, told = run(TOOL, before.file, after.file, "home", out, *words, status=status if not renumber else None)
+    if renumber:
+        states[0] = renumbered(*states, out)
     result, conflicts = by_the_rule(states[1], states[0], states[2])
-    words = ["--onto", other.file] if onto else []
-    printed, told = run(TOOL, before.file, after.file, "home", out, *words, status=1 if conflicts else 0)
     wanted = sorted(named(entry, states) for entry in conflicts)
     expect(listed(out), wanted if onto else [], "conflicts")
     why = {line.split(": ")[1]: line.split(": ", 2)[2] for line in told.splitlines() if line.startswith("left out: ")}
@@ -221,8 +269,13 @@ def expect_between(before, after, other, folder, onto, seen=None):
     target = other.copy(folder / "target.mmpkg")
     editions = take_in(printed, target.file, out)
     expect_rows(target.file, package_of(result, target.package.editions | dict.fromkeys(editions)))
+    if onto and conflicts:
+        final, more = expect_theirs(out, told, target, states[0], result, conflicts)
+        expect_rows(target.file, package_of(final, target.package.editions | dict.fromkeys([*editions, *more])))
     if seen is not None:
         count(seen, out, editions, why)
+        seen["renumbered"] += (out / "renumbered.csv").exists()
+        seen["kit of conflicts"] += (out / "conflicts").exists()
     shutil.rmtree(out)
     return wanted, told
 
@@ -250,9 +303,9 @@ def check_random_packages(folder, given):
     for word, times in sorted(seen.items()):
         print(f"    {times:6} {word}")
     missing = {"relation-drop", "drop", "srs", "pyramid", "table", "relation", "edition", "matrix", "tile", "tile-drop", "row", "row-drop", "media",
-               "media-drop", "map", "map-drop"} - seen.keys()
+               "media-drop", "map", "map-drop", "renumbered", "kit of conflicts"} - {it for it, times in seen.items() if times}
     assert given.rounds < DEFAULT_ROUNDS or not missing, f"not seen: {missing}"
-    return given.rounds * 2 + given.rounds // 4
+    return given.rounds * 3 + given.rounds // 4
 
 
 def one_round(folder, empty, source, number, seen):
@@ -265,6 +318,7 @@ def one_round(folder, empty, source, number, seen):
     expect(conflicts, [], "what is left out")
     expect(by_the_rule(*(entries(it.package) for it in (before, after, before)))[0], entries(after.package), "the rule between two")
     expect_between(before, after, other, folder, True, seen)
+    expect_between(before, after, other, folder, True, seen, renumber=True)
     if number % 4 == 0:
         expect_between(other, after, other, folder, False, seen)
 
@@ -413,6 +467,7 @@ a table has its name
 a table that it relates isn't as in AFTER, or is a conflict
 another table has its identifier
 both changed it
+both made one
 it would take mapping rows along that AFTER doesn't have so
 it would take something along that AFTER doesn't have so
 it would take tiles along that AFTER doesn't have so
@@ -474,6 +529,56 @@ def check_each_conflict(folder, _):
     expect(sorted(" ".join(it) for it in conflicts), sorted(BY_HAND_CONFLICTS.splitlines()), "conflicts")
     expect(sorted({line.split(": ", 2)[2] for line in told.splitlines() if line.startswith("left out: ")}), REASONS.splitlines(), "reasons")
     assert "there already: 1 row\n" in told, told
+
+
+CREWS = "table,spots,attributes,Spots\ntable,photos,media,Photos\nrelation,spots_photos,spots,photos,media\nrow,spots,3,Well,,1\n"
+CREW_A = "row,spots,4,Oak,,1\nmedia,photos,2,image/png,89504e47\nmap,spots_photos,4,2\n"
+CREW_B = "row,spots,4,Gate,,2\nmedia,photos,2,image/jpeg,ffd8ff\nmap,spots_photos,4,2\nrow,spots,5,Fence,,1\nrow,spots,3,Well,dry,1\n"
+
+
+def two_crews(folder):
+    """Two crews that both made row 4 with photo 2; the second made a row more, and changed one. The second one's work comes behind the first's."""
+    before = by_hand(new_package(folder / "before.mmpkg"), CREWS)
+    other = by_hand(before.copy(folder / "other.mmpkg"), CREW_A + "row,spots,3,Well,deep,1\n")
+    after = by_hand(before.copy(folder / "after.mmpkg"), CREW_B)
+    return before, after, other
+
+
+def check_two_crews(folder, _):
+    """What both made is told in other words than what both changed, and the kit of conflicts brings the bytes of the second crew."""
+    before, after, other = two_crews(folder)
+    _, told = expect_between(before, after, other, folder, True)
+    for line in ("left out: media photos 2: both made one", "left out: row spots 4: both made one", "left out: row spots 3: both changed it",
+                 "    echo edition,home_theirs | mmpkg run FILE", "    echo publish,home_theirs | mmpkg run FILE"):
+        assert line in told.splitlines(), f"{line!r} isn't told: {told}"
+    run(TOOL, before.file, after.file, "home", folder / "kept", "--onto", other.file, status=1)
+    expect(sorted(it.read_bytes() for it in (folder / "kept" / "conflicts").iterdir() if it.name != "kit.csv"), [b"\xff\xd8\xff"], "bytes")
+
+
+def check_new_numbers(folder, _):
+    """With --renumber what the second crew made comes in beside the first one's, with its mapping row, and old and new numbers are told."""
+    before, after, other = two_crews(folder)
+    conflicts, told = expect_between(before, after, other, folder, True, renumber=True)
+    expect(conflicts, [["row", "spots 3"]], "conflicts")
+    for line in ("renumbered: media photos 2 is 3", "renumbered: row spots 4 is 6", "there already: nothing"):
+        assert line in told.splitlines(), f"{line!r} isn't told: {told}"
+    run(TOOL, before.file, after.file, "home", folder / "kept", "--onto", other.file, "--renumber", status=1)
+    expect((folder / "kept" / "renumbered.csv").read_text(), "what,table,old,new\nmedia,photos,2,3\nrow,spots,4,6\n", "renumbered.csv")
+    assert ",map,spots_photos,6,3\n" in (folder / "kept" / "home" / "kit.csv").read_text(), "the mapping row isn't there"
+    run(TOOL, before.file, after.file, "home", folder / "out", "--renumber", status=2)
+
+
+def check_wrong_order(folder, _):
+    """Packages in the wrong order are noticed by the moments of their last change."""
+    before = by_hand(new_package(folder / "before.mmpkg"), CREWS)
+    after = before.copy(folder / "after.mmpkg")
+    run(PROGRAM, "run", after.file, "--at", 86400000, given=b"row,spots,4,Oak,,1\n")
+    note = "it was last changed before BEFORE was: are the packages in the wrong order?"
+    assert note not in run(TOOL, before.file, after.file, "home", folder / "right")[1], "a note in the right order"
+    told = run(TOOL, after.file, before.file, "home", folder / "wrong")[1]
+    assert f"note: {before.file}: as AFTER {note}\n" in told, told
+    told = run(TOOL, after.file, after.file, "home", folder / "older", "--onto", before.file)[1]
+    assert f"note: {before.file}: as OTHER {note}\n" in told, told
 
 
 def check_system_that_changed(folder, _):

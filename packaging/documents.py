@@ -72,6 +72,7 @@ def page_of_program(command, program, version, *others):
 
 def page_of_tool(command, script, version, *others):
     told = said_by(sys.executable, "-B", script, "--help").replace(f"tools/{pathlib.Path(script).name}", command)
+    told = re.sub(r"out/mmpkg\s+of\s+this\s+repository,\s+else\s+", "", told)
     summary, usage, *rest = told.strip("\n").split("\n\n")
     yield from head(command, version, summary)
     yield from (".SH SYNOPSIS", *as_it_is(re.sub("^    ", "", usage, flags=re.MULTILINE)), ".SH DESCRIPTION", *running("\n\n".join(rest)))

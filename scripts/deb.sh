@@ -57,7 +57,11 @@ put_programs() {
             continue
         fi
         commands+=("$name")
-        printf '#!/bin/sh\nexec python3 -B /usr/share/mmpkg/%s "$@"\n' "${tools[$name]}" >"$root/usr/bin/$name"
+        cat >"$root/usr/bin/$name" <<END
+#!/bin/sh
+command -v python3 >/dev/null || { echo "$name: wants python3: apt-get install python3" >&2; exit 2; }
+exec python3 -B /usr/share/mmpkg/${tools[$name]} "\$@"
+END
         chmod 755 "$root/usr/bin/$name"
     done
 }

@@ -4,7 +4,7 @@
     tools/make_viewer.py FILE OUT [--table TABLE] [--edition EDITION] [--wmts PORT]
 
 FILE is a package of mmpkg. OUT, which must not be there, gets layout.csv, which makes the media table TABLE ('viewer') and an open edition,
-and a kit of four media items: 1 the page (tools/viewer.html), 2 and 3 the script and the style of Leaflet with their licence, 4 the
+and a kit of four media items: 1 the page, 2 and 3 the script and the style of Leaflet with their licence, 4 the
 matrices of all pyramids of FILE, and where their tiles are. The commands that take them in are printed, with FILE for the package; then 'mmpkg serve FILE --port PORT
 --count 1000000' serves the page at http://127.0.0.1:PORT/media/TABLE/1. Leaflet is that of Debian's package libjs-leaflet.
 
@@ -17,7 +17,7 @@ so on, the first that FILE doesn't have; --edition names another. A table TABLE 
 refused.
 
 FILE is left as it is; nothing may write it meanwhile. It has to pass 'mmpkg check', with the program that the environment's MMPKG names,
-else out/mmpkg of this repository. Where its journal holds commits, or another program has it, or it can't be written, a copy of both is read,
+else out/mmpkg of this repository, else mmpkg of the path. Where its journal holds commits, or another program has it, or it can't be written, a copy of both is read,
 in the folder that the environment's TMPDIR names, else /tmp; as large as they are.
 
 Exit status: 0 OUT was made; 1 so, and a map is no part of the WMTS description; 2 wrong arguments, a name that is taken, Leaflet isn't there, or a file that can't be read or written; else

@@ -89,7 +89,7 @@ def zoom_to(page, zoom, easting=None, northing=None):
 def position(page):
     """What the page tells: easting, northing, of what, and the zoom."""
     told = page.value("byId('position').innerText")
-    found = re.fullmatch(r"E (-?[0-9.]+) m, N (-?[0-9.]+) m \((pointer|centre)\)\nzoom ([0-9]+), ([0-9.]+)(?: by ([0-9.]+))? m a pixel(?:, [0-9]+ times (?:larger|smaller))?", told)
+    found = re.fullmatch(r"E (-?[0-9.]+) m, N (-?[0-9.]+) m \((pointer|finger|centre)\)\nzoom ([0-9]+), ([0-9.]+)(?: by ([0-9.]+))? m a pixel(?:, [0-9]+ times (?:larger|smaller))?", told)
     assert found, f"the page tells {told!r}"
     return float(found[1]), float(found[2]), found[3], int(found[4])
 
@@ -320,7 +320,7 @@ def check_fingers(scene):
     page.touch([(x, y)], *([(x - 12 * step, y)] for step in range(1, 11)))
     time.sleep(0.6)
     settle(page)
-    expect(position(page)[2], "pointer", "whose position is told")
+    expect(position(page)[2], "finger", "whose position is told")
     centre = page.value("map.getCenter().lng")
     assert centre > before[0] + 50 * page.value("metresAt(shown, map.getZoom())"), f"the map moved from {before[0]} to {centre}"
     zoom = page.value("map.getZoom()")
@@ -354,7 +354,7 @@ def expect_colours_touched(scene, page):
         easting, northing, whose, zoom = position(page)
         colour, edges = pyramid.colour_at(next(it for it in pyramid.zooms if it.zoom == zoom), easting, northing)
         if min(edges) > 3 * page.value("metresAt(shown, map.getZoom())"):
-            return whose == "pointer" and near(rows[int(at[1])][int(at[0])], colour, 2)
+            return whose == "finger" and near(rows[int(at[1])][int(at[0])], colour, 2)
     return False
 
 

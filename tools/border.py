@@ -1,8 +1,8 @@
-"""What the tools at the border share: the profile's limits, how a package is read, and how command lists and kits are written.
+"""What the tools at the border share: limits, how a package is read, and how lists and kits are written.
 
-The tools are export_standard.py, import_standard.py, make_kit.py, make_viewer.py and kit_between.py. Nothing here is proved:
-docs/FORMATS.md has the limits, the records and the kits, docs/BORDER.md says what goes across, and the checks of
-scripts/outside compare.
+The tools are export_standard.py, import_standard.py, make_kit.py, make_viewer.py and kit_between.py. Nothing here is
+proved: docs/FORMATS.md has the limits, the records and the kits, docs/BORDER.md says what goes across, and the checks
+of scripts/outside compare.
 """
 
 import argparse
@@ -43,8 +43,8 @@ KIT_LIST_LIMIT = 16_777_216
 # How many things of which one note speaks are told by their names.
 NOTED = 10
 
-# The table of attribute rows in which an import keeps the bounds of maps whose tiles reach further: a row has the map's name as its title, and
-# as its note MIN_X MIN_Y MAX_X MAX_Y in whole units.
+# The table of attribute rows in which an import keeps the bounds of maps whose tiles reach further: a row has the map's
+# name as its title, and as its note MIN_X MIN_Y MAX_X MAX_Y in whole units.
 BOUNDS_TABLE = "map_bounds"
 BOUNDS_IDENTIFIER = "Bounds of maps"
 
@@ -64,7 +64,10 @@ class Refused(Exception):
 
 
 class Report:
-    """Tells on standard error what does not cross the border, and counts what was left out. Notes that are alike are told once."""
+    """Tells on standard error what does not cross the border, and counts what was left out.
+
+    Notes that are alike are told once.
+    """
 
     def __init__(self):
         self.count = 0
@@ -101,7 +104,10 @@ def arguments(description):
 
 
 def run_tool(main):
-    """Runs a tool and ends with its exit status; a refusal is told on standard error, and that what it prints can't be written."""
+    """Runs a tool and ends with its exit status.
+
+    A refusal is told on standard error, and that what it prints can't be written.
+    """
     try:
         try:
             status = main()
@@ -123,7 +129,7 @@ def run_tool(main):
 
 
 def program():
-    """The built program: the one that the environment's MMPKG names, else out/mmpkg beside the tools, else mmpkg of the path."""
+    """The program: what the environment's MMPKG names, else out/mmpkg beside the tools, else mmpkg of the path."""
     beside = pathlib.Path(__file__).resolve().parent.parent / "out" / "mmpkg"
     named = os.environ.get("MMPKG") or (str(beside) if beside.exists() else "mmpkg")
     if shutil.which(named) is None:
@@ -145,10 +151,10 @@ def program_says(*words):
 
 
 class Source:
-    """A package that is read, in which the program found no fault: FILE itself where all of it stands there, else a copy in a folder.
+    """A package that is read, in which the program found no fault: FILE itself, or a copy in a folder.
 
-    All of it stands in FILE where its journal holds nothing. Where the program doesn't get FILE, since another has it or it can't be
-    written, a copy is read too.
+    All of it stands in FILE where its journal holds nothing. Where the program doesn't get FILE, since another has it
+    or it can't be written, a copy is read too.
     """
 
     def __init__(self, file, folder):
@@ -160,7 +166,11 @@ class Source:
         """Whether FILE can be read as it is. A journal that only the check made is taken away again."""
         journal = pathlib.Path(f"{self.file}-wal")
         there = journal.exists()
-        if there and journal.stat().st_size or not all(os.access(it, os.W_OK) for it in (self.file, self.file.absolute().parent)):
+        if (
+            there
+            and journal.stat().st_size
+            or not all(os.access(it, os.W_OK) for it in (self.file, self.file.absolute().parent))
+        ):
             return False
         status, said = program_says("check", self.file)
         if not there and journal.exists() and journal.stat().st_size == 0:
@@ -212,8 +222,11 @@ def expect_room(file, folder):
     wanted = size + 2 * journal
     free = shutil.disk_usage(folder).free
     if wanted > free:
-        raise Refused(f"{file}: its journal holds commits, or another program has it, so a copy is read, which wants {megabytes(wanted)} in "
-                      f"{folder.parent}, where {megabytes(free)} are free; TMPDIR names another folder")
+        raise Refused(
+            f"{file}: its journal holds commits, or another program has it, so a copy is read, "
+            f"which wants {megabytes(wanted)} in "
+            f"{folder.parent}, where {megabytes(free)} are free; TMPDIR names another folder"
+        )
 
 
 def megabytes(size):
@@ -243,8 +256,13 @@ def made_beside(path):
 
 def bounds_of(package, schema="main"):
     """By name, the bounds of maps that a package keeps, of those that lie within the map's extent."""
-    kept = package.execute(f"SELECT title, note FROM {schema}.mm_rows WHERE table_name = ? ORDER BY id", (BOUNDS_TABLE,)).fetchall()
-    extents = {row[0]: row[1:] for row in package.execute(f"SELECT table_name, min_x, min_y, max_x, max_y FROM {schema}.gpkg_tile_matrix_set")}
+    kept = package.execute(
+        f"SELECT title, note FROM {schema}.mm_rows WHERE table_name = ? ORDER BY id", (BOUNDS_TABLE,)
+    ).fetchall()
+    extents = {
+        row[0]: row[1:]
+        for row in package.execute(f"SELECT table_name, min_x, min_y, max_x, max_y FROM {schema}.gpkg_tile_matrix_set")
+    }
     found = {}
     for name, note in kept:
         bounds = [int(it) for it in note.split() if re.fullmatch("-?[0-9]{1,18}", it)]
@@ -255,7 +273,11 @@ def bounds_of(package, schema="main"):
 
 def is_within(bounds, extent):
     """Whether bounds are some, and lie within an extent."""
-    return len(bounds) == 4 and extent[0] <= bounds[0] < bounds[2] <= extent[2] and extent[1] <= bounds[1] < bounds[3] <= extent[3]
+    return (
+        len(bounds) == 4
+        and extent[0] <= bounds[0] < bounds[2] <= extent[2]
+        and extent[1] <= bounds[1] < bounds[3] <= extent[3]
+    )
 
 
 def quoted(name):
@@ -289,7 +311,8 @@ def is_identifier(value):
 def whole_units(metres):
     """A DOUBLE of metres in whole units, None where it is not whole.
 
-    What a sum or a quotient of DOUBLEs is off by is passed over: a millionth of a unit, or a few steps of a DOUBLE of that size.
+    What a sum or a quotient of DOUBLEs is off by is passed over: a millionth of a unit, or a few steps of a DOUBLE of
+    that size.
     """
     if not isinstance(metres, (int, float)) or not math.isfinite(metres):
         return None
@@ -299,7 +322,10 @@ def whole_units(metres):
 
 
 def image_suffix(data):
-    """The suffix of a file with such bytes, by the three image formats of the standard's tiles; empty for other bytes."""
+    """The suffix of a file with such bytes, by the three image formats of the standard's tiles.
+
+    Empty for other bytes.
+    """
     if data.startswith(b"\x89PNG"):
         return ".png"
     if data.startswith(b"\xff\xd8\xff"):
@@ -323,7 +349,9 @@ def field(value):
 
 @dataclasses.dataclass
 class Piece:
-    """A record of content. The last field of a tile or a media item, its bytes, is kept apart, with the name that a kit's file gets.
+    """A record of content.
+
+    The last field of a tile or a media item, its bytes, is kept apart, with the name that a kit's file gets.
 
     In place of bytes that are read only when they are written there may be what reads them.
     """
@@ -345,10 +373,10 @@ def media_piece(table, number, content_type, data):
 
 
 class KitWriter:
-    """Writes pieces as kits: the first in FOLDER for EDITION, and where one is full the next in FOLDER_2 for EDITION_2, and so on.
+    """Writes pieces as kits: in FOLDER for EDITION, and where that is full in FOLDER_2 for EDITION_2, and so on.
 
-    They are written in a folder beside, and have their names only when all are whole. Pieces that name one file have equal bytes; it is
-    written once a kit.
+    They are written in a folder beside, and have their names only when all are whole. Pieces that name one file have
+    equal bytes; it is written once a kit.
     """
 
     def __init__(self, edition, folder, beside):

@@ -3,14 +3,15 @@
 
     tools/export_standard.py FILE OUT.gpkg
 
-FILE is a package of mmpkg, which is left as it is; nothing may write it meanwhile. It has to pass 'mmpkg check', with the program that
-the environment's MMPKG names, else out/mmpkg of this repository, else mmpkg of the path. Where its journal holds commits, or another program
-has it, or it can't be written, a copy of both is read, in the folder that the environment's TMPDIR names, else /tmp; as large as they are.
-OUT.gpkg must not be there; it is written under another name and renamed when it is whole. docs/BORDER.md says what goes across; editions
-don't, and are named on standard error, as are tiles that the standard has no place for.
+FILE is a package of mmpkg, which is left as it is; nothing may write it meanwhile. It has to pass 'mmpkg check', with
+the program that the environment's MMPKG names, else out/mmpkg of this repository, else mmpkg of the path. Where its
+journal holds commits, or another program has it, or it can't be written, a copy of both is read, in the folder that the
+environment's TMPDIR names, else /tmp; as large as they are. OUT.gpkg must not be there; it is written under another
+name and renamed when it is whole. docs/BORDER.md says what goes across; editions don't, and are named on standard
+error, as are tiles that the standard has no place for.
 
-Exit status: 0 OUT.gpkg was written; 2 wrong arguments, or a file that can't be read or written; else what 'mmpkg check' ended with,
-whose line is told: 3 a fault, 4 no package or one that breaks a rule.
+Exit status: 0 OUT.gpkg was written; 2 wrong arguments, or a file that can't be read or written; else what 'mmpkg check'
+ended with, whose line is told: 3 a fault, 4 no package or one that breaks a rule.
 """
 
 import os
@@ -19,13 +20,24 @@ import re
 import sqlite3
 import tempfile
 
-from border import UNITS_OF_VERSION, Refused, Report, Source, arguments, bounds_of, expect_new, made_beside, quoted, run_tool
+from border import (
+    UNITS_OF_VERSION,
+    Refused,
+    Report,
+    Source,
+    arguments,
+    bounds_of,
+    expect_new,
+    made_beside,
+    quoted,
+    run_tool,
+)
 
-# The tables of OGC 12-128r17, annex C, and of OGC 18-000, as those write them. No table has features, so gpkg_geometry_columns stays empty;
-# without it GDAL lists no attribute table.
+# The tables of OGC 12-128r17, annex C, and of OGC 18-000, as those write them. No table has features, so
+# gpkg_geometry_columns stays empty; without it GDAL lists no attribute table.
 TABLES = """
-CREATE TABLE gpkg_spatial_ref_sys (srs_name TEXT NOT NULL, srs_id INTEGER NOT NULL PRIMARY KEY, organization TEXT NOT NULL,
-    organization_coordsys_id INTEGER NOT NULL, definition TEXT NOT NULL, description TEXT);
+CREATE TABLE gpkg_spatial_ref_sys (srs_name TEXT NOT NULL, srs_id INTEGER NOT NULL PRIMARY KEY,
+    organization TEXT NOT NULL, organization_coordsys_id INTEGER NOT NULL, definition TEXT NOT NULL, description TEXT);
 CREATE TABLE gpkg_contents (table_name TEXT NOT NULL PRIMARY KEY, data_type TEXT NOT NULL, identifier TEXT UNIQUE,
     description TEXT DEFAULT '', last_change DATETIME NOT NULL DEFAULT (strftime('%Y-%m-%dT%H:%M:%fZ','now')),
     min_x DOUBLE, min_y DOUBLE, max_x DOUBLE, max_y DOUBLE, srs_id INTEGER,
@@ -38,8 +50,9 @@ CREATE TABLE gpkg_tile_matrix (table_name TEXT NOT NULL, zoom_level INTEGER NOT 
     matrix_height INTEGER NOT NULL, tile_width INTEGER NOT NULL, tile_height INTEGER NOT NULL,
     pixel_x_size DOUBLE NOT NULL, pixel_y_size DOUBLE NOT NULL, CONSTRAINT pk_ttm PRIMARY KEY (table_name, zoom_level),
     CONSTRAINT fk_tmm_table_name FOREIGN KEY (table_name) REFERENCES gpkg_contents (table_name));
-CREATE TABLE gpkg_geometry_columns (table_name TEXT NOT NULL, column_name TEXT NOT NULL, geometry_type_name TEXT NOT NULL,
-    srs_id INTEGER NOT NULL, z TINYINT NOT NULL, m TINYINT NOT NULL, CONSTRAINT pk_geom_cols PRIMARY KEY (table_name, column_name),
+CREATE TABLE gpkg_geometry_columns (table_name TEXT NOT NULL, column_name TEXT NOT NULL,
+    geometry_type_name TEXT NOT NULL, srs_id INTEGER NOT NULL, z TINYINT NOT NULL, m TINYINT NOT NULL,
+    CONSTRAINT pk_geom_cols PRIMARY KEY (table_name, column_name),
     CONSTRAINT uk_gc_table_name UNIQUE (table_name),
     CONSTRAINT fk_gc_tn FOREIGN KEY (table_name) REFERENCES gpkg_contents (table_name),
     CONSTRAINT fk_gc_srs FOREIGN KEY (srs_id) REFERENCES gpkg_spatial_ref_sys (srs_id));
@@ -49,19 +62,33 @@ CREATE TABLE gpkg_extensions (table_name TEXT, column_name TEXT, extension_name 
 RELATIONS_TABLE = """
 CREATE TABLE gpkgext_relations (id INTEGER PRIMARY KEY AUTOINCREMENT, base_table_name TEXT NOT NULL,
     base_primary_column TEXT NOT NULL DEFAULT 'id', related_table_name TEXT NOT NULL,
-    related_primary_column TEXT NOT NULL DEFAULT 'id', relation_name TEXT NOT NULL, mapping_table_name TEXT NOT NULL UNIQUE)
+    related_primary_column TEXT NOT NULL DEFAULT 'id', relation_name TEXT NOT NULL,
+    mapping_table_name TEXT NOT NULL UNIQUE)
 """
 
-# By a table's kind, its columns behind id, the package's table that has its rows, the columns' names, and what they are of in the package.
+# By a table's kind, its columns behind id, the package's table that has its rows, the columns' names, and what they are
+# of in the package.
 BYTES = "(SELECT data FROM package.mm_blobs b WHERE b.id = blob)"
-TILE_COLUMNS = ("zoom_level INTEGER NOT NULL, tile_column INTEGER NOT NULL, tile_row INTEGER NOT NULL, tile_data BLOB NOT NULL, "
-                "UNIQUE (zoom_level, tile_column, tile_row)")
+TILE_COLUMNS = (
+    "zoom_level INTEGER NOT NULL, tile_column INTEGER NOT NULL, tile_row INTEGER NOT NULL, tile_data BLOB NOT NULL, "
+    "UNIQUE (zoom_level, tile_column, tile_row)"
+)
 TILE_NAMES = ("zoom_level, tile_column, tile_row, tile_data", f"zoom_level, tile_column, tile_row, {BYTES}")
 USER_TABLES = {
     "two": (TILE_COLUMNS, "mm_tiles", *TILE_NAMES),
     "other": (TILE_COLUMNS, "mm_tiles", *TILE_NAMES),
-    "attributes": ("title TEXT NOT NULL, note TEXT NOT NULL, amount INTEGER NOT NULL", "mm_rows", "id, title, note, amount", "id, title, note, amount"),
-    "media": ("data BLOB NOT NULL, content_type TEXT NOT NULL", "mm_media", "id, data, content_type", f"id, {BYTES}, content_type"),
+    "attributes": (
+        "title TEXT NOT NULL, note TEXT NOT NULL, amount INTEGER NOT NULL",
+        "mm_rows",
+        "id, title, note, amount",
+        "id, title, note, amount",
+    ),
+    "media": (
+        "data BLOB NOT NULL, content_type TEXT NOT NULL",
+        "mm_media",
+        "id, data, content_type",
+        f"id, {BYTES}, content_type",
+    ),
 }
 
 DEFINITIONS = {
@@ -70,12 +97,19 @@ DEFINITIONS = {
     "gpkg_related_tables": "http://www.geopackage.org/18-000.html",
 }
 
-WKT = re.compile(r"\s*(PROJ|GEOG|GEOC|LOCAL_|VERT_|COMPD_|FITTED_|GEOD|GEODETIC|GEOGRAPHIC|PROJECTED|ENG|ENGINEERING|VERT|COMPOUND|BOUND)"
-                 r"(CS|CRS)\s*[\[(].*[\])]\s*", re.DOTALL)
+WKT = re.compile(
+    r"\s*(PROJ|GEOG|GEOC|LOCAL_|VERT_|COMPD_|FITTED_|GEOD|GEODETIC|GEOGRAPHIC|PROJECTED|ENG|ENGINEERING|VERT|COMPOUND|"
+    r"BOUND)"
+    r"(CS|CRS)\s*[\[(].*[\])]\s*",
+    re.DOTALL,
+)
 # The standard wants a definition of WGS 84, and the package has none in WKT.
-WGS_84 = ('GEOGCS["WGS 84",DATUM["WGS_1984",SPHEROID["WGS 84",6378137,298.257223563,AUTHORITY["EPSG","7030"]],AUTHORITY["EPSG","6326"]],'
-          'PRIMEM["Greenwich",0,AUTHORITY["EPSG","8901"]],UNIT["degree",0.0174532925199433,AUTHORITY["EPSG","9122"]],'
-          'AUTHORITY["EPSG","4326"]]')
+WGS_84 = (
+    'GEOGCS["WGS 84",DATUM["WGS_1984",SPHEROID["WGS 84",6378137,298.257223563,AUTHORITY["EPSG","7030"]],'
+    'AUTHORITY["EPSG","6326"]],'
+    'PRIMEM["Greenwich",0,AUTHORITY["EPSG","8901"]],UNIT["degree",0.0174532925199433,AUTHORITY["EPSG","9122"]],'
+    'AUTHORITY["EPSG","4326"]]'
+)
 
 IS_WEBP = "(substr(tile_data, 1, 4) = x'52494646' AND substr(tile_data, 9, 4) = x'57454250')"
 IS_IMAGE = f"(substr(tile_data, 1, 4) = x'89504e47' OR substr(tile_data, 1, 3) = x'ffd8ff' OR {IS_WEBP})"
@@ -89,10 +123,14 @@ def wkt_of(system, definition):
 
 
 def write_systems(out, report):
-    rows = out.execute("SELECT srs_name, srs_id, organization, organization_coordsys_id, definition, description "
-                       "FROM package.gpkg_spatial_ref_sys ORDER BY srs_id").fetchall()
-    out.executemany("INSERT INTO main.gpkg_spatial_ref_sys VALUES (?, ?, ?, ?, ?, ?)",
-                    [(*row[:4], wkt_of(row[1], row[4]), row[5]) for row in rows])
+    rows = out.execute(
+        "SELECT srs_name, srs_id, organization, organization_coordsys_id, definition, description "
+        "FROM package.gpkg_spatial_ref_sys ORDER BY srs_id"
+    ).fetchall()
+    out.executemany(
+        "INSERT INTO main.gpkg_spatial_ref_sys VALUES (?, ?, ?, ?, ?, ?)",
+        [(*row[:4], wkt_of(row[1], row[4]), row[5]) for row in rows],
+    )
     for row in rows:
         if row[1] >= 2**31:
             report.note(f"system {row[1]}", "GDAL reads numbers of systems as 32 bits, and takes it for another")
@@ -102,19 +140,34 @@ def write_contents(out, units):
     """The contents, the matrix sets and the matrices, with coordinates and pixel sizes in metres."""
     metres = {"units": float(units)}
     extent = "min_x / :units, min_y / :units, max_x / :units, max_y / :units"
-    out.execute(f"INSERT INTO main.gpkg_contents SELECT table_name, data_type, identifier, description, last_change, {extent}, srs_id "
-                "FROM package.gpkg_contents ORDER BY table_name", metres)
+    out.execute(
+        f"INSERT INTO main.gpkg_contents SELECT table_name, data_type, identifier, description, last_change, {extent}, "
+        "srs_id FROM package.gpkg_contents ORDER BY table_name",
+        metres,
+    )
     for name, bounds in bounds_of(out, "package").items():
-        out.execute("UPDATE main.gpkg_contents SET min_x = ?, min_y = ?, max_x = ?, max_y = ? WHERE table_name = ?",
-                    (*(it / units for it in bounds), name))
-    out.execute(f"INSERT INTO main.gpkg_tile_matrix_set SELECT table_name, srs_id, {extent} "
-                "FROM package.gpkg_tile_matrix_set ORDER BY table_name", metres)
-    out.execute("INSERT INTO main.gpkg_tile_matrix SELECT table_name, zoom_level, matrix_width, matrix_height, tile_width, tile_height, "
-                "pixel_x_size / :units, pixel_y_size / :units FROM package.gpkg_tile_matrix ORDER BY table_name, zoom_level", metres)
+        out.execute(
+            "UPDATE main.gpkg_contents SET min_x = ?, min_y = ?, max_x = ?, max_y = ? WHERE table_name = ?",
+            (*(it / units for it in bounds), name),
+        )
+    out.execute(
+        f"INSERT INTO main.gpkg_tile_matrix_set SELECT table_name, srs_id, {extent} "
+        "FROM package.gpkg_tile_matrix_set ORDER BY table_name",
+        metres,
+    )
+    out.execute(
+        "INSERT INTO main.gpkg_tile_matrix SELECT table_name, zoom_level, matrix_width, matrix_height, tile_width, "
+        "tile_height, pixel_x_size / :units, pixel_y_size / :units FROM package.gpkg_tile_matrix "
+        "ORDER BY table_name, zoom_level",
+        metres,
+    )
 
 
 def add_extension(out, table, column, extension):
-    out.execute("INSERT INTO main.gpkg_extensions VALUES (?, ?, ?, ?, 'read-write')", (table, column, extension, DEFINITIONS[extension]))
+    out.execute(
+        "INSERT INTO main.gpkg_extensions VALUES (?, ?, ?, ?, 'read-write')",
+        (table, column, extension, DEFINITIONS[extension]),
+    )
 
 
 def write_user_table(out, name, kind):
@@ -122,7 +175,11 @@ def write_user_table(out, name, kind):
     columns, source, names, values = USER_TABLES[kind]
     out.execute(f"CREATE TABLE main.{quoted(name)} (id INTEGER PRIMARY KEY AUTOINCREMENT, {columns})")
     order = "zoom_level, tile_column, tile_row" if source == "mm_tiles" else "id"
-    out.execute(f"INSERT INTO main.{quoted(name)} ({names}) SELECT {values} FROM package.{source} WHERE table_name = ? ORDER BY {order}", (name,))
+    out.execute(
+        f"INSERT INTO main.{quoted(name)} ({names}) SELECT {values} FROM package.{source} "
+        f"WHERE table_name = ? ORDER BY {order}",
+        (name,),
+    )
 
 
 def finish_pyramid(out, name, kind, report):
@@ -131,31 +188,43 @@ def finish_pyramid(out, name, kind, report):
         add_extension(out, name, "tile_data", "gpkg_zoom_other")
     if out.execute(f"SELECT EXISTS (SELECT 1 FROM main.{quoted(name)} WHERE {IS_WEBP})").fetchone()[0]:
         add_extension(out, name, "tile_data", "gpkg_webp")
-    for zoom, column, row in out.execute(f"SELECT zoom_level, tile_column, tile_row FROM main.{quoted(name)} WHERE NOT {IS_IMAGE} ORDER BY id"):
+    for zoom, column, row in out.execute(
+        f"SELECT zoom_level, tile_column, tile_row FROM main.{quoted(name)} WHERE NOT {IS_IMAGE} ORDER BY id"
+    ):
         report.note(f"tile {zoom}/{column}/{row} of {name}", "it is no PNG, JPEG or WebP; it was written all the same")
 
 
 def write_relations(out):
     """The relations with their mapping tables; without a relation the standard has none of the extension's tables."""
-    relations = out.execute("SELECT base_table_name, base_primary_column, related_table_name, related_primary_column, relation_name, "
-                            "mapping_table_name FROM package.gpkgext_relations ORDER BY mapping_table_name").fetchall()
+    relations = out.execute(
+        "SELECT base_table_name, base_primary_column, related_table_name, related_primary_column, relation_name, "
+        "mapping_table_name FROM package.gpkgext_relations ORDER BY mapping_table_name"
+    ).fetchall()
     if not relations:
         return
     out.execute(RELATIONS_TABLE)
     add_extension(out, "gpkgext_relations", None, "gpkg_related_tables")
     for relation in relations:
         mapping = relation[5]
-        out.execute("INSERT INTO main.gpkgext_relations (base_table_name, base_primary_column, related_table_name, related_primary_column, "
-                    "relation_name, mapping_table_name) VALUES (?, ?, ?, ?, ?, ?)", relation)
+        out.execute(
+            "INSERT INTO main.gpkgext_relations (base_table_name, base_primary_column, related_table_name, "
+            "related_primary_column, relation_name, mapping_table_name) VALUES (?, ?, ?, ?, ?, ?)",
+            relation,
+        )
         add_extension(out, mapping, None, "gpkg_related_tables")
         out.execute(f"CREATE TABLE main.{quoted(mapping)} (base_id INTEGER NOT NULL, related_id INTEGER NOT NULL)")
-        out.execute(f"INSERT INTO main.{quoted(mapping)} SELECT base_id, related_id FROM package.mm_map WHERE mapping = ? "
-                    "ORDER BY base_id, related_id", (mapping,))
+        out.execute(
+            f"INSERT INTO main.{quoted(mapping)} SELECT base_id, related_id FROM package.mm_map WHERE mapping = ? "
+            "ORDER BY base_id, related_id",
+            (mapping,),
+        )
 
 
 def tell_editions(out, report):
-    for name, state, pieces in out.execute("SELECT e.name, e.state, (SELECT count(*) FROM package.mm_pieces p WHERE p.edition = e.name) "
-                                           "FROM package.mm_editions e ORDER BY e.name"):
+    for name, state, pieces in out.execute(
+        "SELECT e.name, e.state, (SELECT count(*) FROM package.mm_pieces p WHERE p.edition = e.name) "
+        "FROM package.mm_editions e ORDER BY e.name"
+    ):
         report.note(f"edition {name}", f"left out, {state}" + (f" with pieces: {pieces}" if state == "open" else ""))
 
 

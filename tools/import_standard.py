@@ -4,18 +4,20 @@
     tools/import_standard.py IN.gpkg LIST.csv [--table 'THEIRS=OURS'].. [--key NAME] [--all-zooms]
     tools/import_standard.py IN.gpkg LIST.csv --kit EDITION FOLDER
 
-LIST.csv gets the records for 'mmpkg run': systems, tile pyramids with their matrices, attribute tables (id, title, note, amount), media
-tables (id, data, content_type), relations between them, and their content. With --kit the content goes into kits of at most 4,096 pieces
-for 'mmpkg kit' instead, and LIST.csv makes their editions: FOLDER for EDITION, then FOLDER_2 for EDITION_2 and so on. The commands that
-take all in are printed, with FILE for the package. Neither LIST.csv nor a kit's folder may be there. Nothing may write IN.gpkg meanwhile.
+LIST.csv gets the records for 'mmpkg run': systems, tile pyramids with their matrices, attribute tables (id, title,
+note, amount), media tables (id, data, content_type), relations between them, and their content. With --kit the content
+goes into kits of at most 4,096 pieces for 'mmpkg kit' instead, and LIST.csv makes their editions: FOLDER for EDITION,
+then FOLDER_2 for EDITION_2 and so on. The commands that take all in are printed, with FILE for the package. Neither
+LIST.csv nor a kit's folder may be there. Nothing may write IN.gpkg meanwhile.
 
---table gives a table of IN.gpkg another name in the package. --key says what the key of tables of rows and media is called; without it it is
-id, and GDAL and QGIS call theirs fid. A matrix without tiles is left out where its pyramid has tiles at other zooms, and noted; --all-zooms
-keeps it. NULL comes in as the empty text, 7.0 as 7, and a content type without its parameters. Bounds of a map that are less than its tiles
-are kept as rows of the table map_bounds, for the viewer and the export.
+--table gives a table of IN.gpkg another name in the package. --key says what the key of tables of rows and media is
+called; without it it is id, and GDAL and QGIS call theirs fid. A matrix without tiles is left out where its pyramid has
+tiles at other zooms, and noted; --all-zooms keeps it. NULL comes in as the empty text, 7.0 as 7, and a content type
+without its parameters. Bounds of a map that are less than its tiles are kept as rows of the table map_bounds, for the
+viewer and the export.
 
-What a package can't hold is named on standard error and left out, with a command that brings it where there is one (docs/BORDER.md). What is
-only noted there changes no exit status.
+What a package can't hold is named on standard error and left out, with a command that brings it where there is one
+(docs/BORDER.md). What is only noted there changes no exit status.
 
 Exit status: 0 all was taken; 1 something was left out; 2 wrong arguments, or a file that can't be read or written.
 """
@@ -29,10 +31,43 @@ import shlex
 import sqlite3
 import zlib
 
-from border import (AMOUNT_LIMIT, BOUNDS_IDENTIFIER, BOUNDS_TABLE, CONTENT_TYPE, COORDINATE_LIMIT, DEFINITION_LIMIT, GEOGRAPHIC_SYSTEMS, GIVEN_SYSTEMS, MATRIX_LIMIT,
-                    MEDIA_LIMIT, NUMBER_LIMIT, PIXEL_SIZE_LIMIT, TEXT_LIMIT, TILE_LIMIT, TILE_SIDE_LIMIT, UNITS_PER_METRE, ZOOM_LIMIT, KitWriter, Piece,
-                    Refused, Report, arguments, expect_new, is_identifier, is_name, is_text, is_whole, is_within, made_beside, media_piece, quoted,
-                    record, run_tool, tile_piece, whole_units)
+from border import (
+    AMOUNT_LIMIT,
+    BOUNDS_IDENTIFIER,
+    BOUNDS_TABLE,
+    CONTENT_TYPE,
+    COORDINATE_LIMIT,
+    DEFINITION_LIMIT,
+    GEOGRAPHIC_SYSTEMS,
+    GIVEN_SYSTEMS,
+    MATRIX_LIMIT,
+    MEDIA_LIMIT,
+    NUMBER_LIMIT,
+    PIXEL_SIZE_LIMIT,
+    TEXT_LIMIT,
+    TILE_LIMIT,
+    TILE_SIDE_LIMIT,
+    UNITS_PER_METRE,
+    ZOOM_LIMIT,
+    KitWriter,
+    Piece,
+    Refused,
+    Report,
+    arguments,
+    expect_new,
+    is_identifier,
+    is_name,
+    is_text,
+    is_whole,
+    is_within,
+    made_beside,
+    media_piece,
+    quoted,
+    record,
+    run_tool,
+    tile_piece,
+    whole_units,
+)
 
 APPLICATION_IDS = {int.from_bytes(mark, "big") for mark in (b"GPKG", b"GP10", b"GP11")}
 GEOGRAPHIC = re.compile(r"\s*(GEOGCS|GEOGCRS|GEODCRS|GEOGRAPHICCRS|GEODETICCRS|GEOCCS)\b")
@@ -74,7 +109,11 @@ def why_no_system(row):
     number, name, organization, organization_number, definition, description = row
     if not is_whole(number, 1, NUMBER_LIMIT) or not is_whole(organization_number, 1, NUMBER_LIMIT):
         return "its number, or that at its organization, is outside 1 to 2^53"
-    if not is_text(name, 1, TEXT_LIMIT) or not is_text(organization, 1, TEXT_LIMIT) or not is_text(description or "", 0, TEXT_LIMIT):
+    if (
+        not is_text(name, 1, TEXT_LIMIT)
+        or not is_text(organization, 1, TEXT_LIMIT)
+        or not is_text(description or "", 0, TEXT_LIMIT)
+    ):
         return "its name, organization or description is no text within the limits"
     if not is_text(definition, 1, DEFINITION_LIMIT):
         return "its definition is no text within the limits"
@@ -86,7 +125,10 @@ def why_no_system(row):
 
 
 def why_no_matrix(row, extent, step, before):
-    """Why a matrix doesn't suit its pyramid, None where it does. All sizes are in units; before has those of the zoom before, if any."""
+    """Why a matrix doesn't suit its pyramid, None where it does.
+
+    All sizes are in units; before has those of the zoom before, if any.
+    """
     zoom, width, height, tile_width, tile_height, pixel_x, pixel_y = row
     if not is_whole(zoom, 0, ZOOM_LIMIT):
         return "its zoom is outside 0 to 30"
@@ -106,13 +148,19 @@ def why_no_matrix(row, extent, step, before):
 
 
 def read_only(file):
-    """The address of a file that is read, beside which nothing is made; where a journal stands, what is in it is read too."""
+    """The address of a file that is read, beside which nothing is made.
+
+    Where a journal stands, what is in it is read too.
+    """
     journal = any(pathlib.Path(f"{file}{suffix}").exists() for suffix in ("-wal", "-journal"))
     return f"{file.resolve().as_uri()}?mode=ro{'' if journal else '&immutable=1'}"
 
 
 class Standard:
-    """A standard GeoPackage that is read, and the layout records that came of it. Names are those of the package, but in `theirs`."""
+    """A standard GeoPackage that is read, and the layout records that came of it.
+
+    Names are those of the package, but in `theirs`.
+    """
 
     def __init__(self, file, report, names, key="id", all_zooms=False):
         self.file = file
@@ -134,20 +182,37 @@ class Standard:
             raise Refused(f"{file}: no standard GeoPackage")
 
     def columns(self, table):
-        """The columns of a table by name, each with its place in the primary key; empty where there is no such table."""
+        """The columns of a table by name, each with its place in the primary key.
+
+        Empty where there is no such table.
+        """
         return {row[1]: row[5] for row in self.source.execute(f"PRAGMA table_info({quoted(table)})")}
 
     def rows(self, table, columns, order, condition="", values=()):
         """Rows of a table in an order; none where the table is missing."""
         if not self.columns(table):
             return iter(())
-        return self.source.execute(f"SELECT {', '.join(columns)} FROM {quoted(table)} {condition} ORDER BY {order}", values)
+        return self.source.execute(
+            f"SELECT {', '.join(columns)} FROM {quoted(table)} {condition} ORDER BY {order}", values
+        )
 
     def read_layout(self):
         """The records of systems, tables and relations."""
         self.read_systems()
-        contents = ["table_name", "data_type", "identifier", "description", "srs_id", "min_x", "min_y", "max_x", "max_y"]
-        for theirs, data_type, identifier, description, *bounds in self.rows("gpkg_contents", contents, "table_name").fetchall():
+        contents = [
+            "table_name",
+            "data_type",
+            "identifier",
+            "description",
+            "srs_id",
+            "min_x",
+            "min_y",
+            "max_x",
+            "max_y",
+        ]
+        for theirs, data_type, identifier, description, *bounds in self.rows(
+            "gpkg_contents", contents, "table_name"
+        ).fetchall():
             self.read_table(theirs, data_type, identifier, description, bounds)
         self.read_bounds()
         self.read_relations()
@@ -158,7 +223,7 @@ class Standard:
             self.report.left_out(f"--table {theirs!r}", "no table of this name came in")
 
     def read_bounds(self):
-        """The table of bounds that are less than the tiles, where there are some and it didn't come in with the others."""
+        """The table of bounds that are less than the tiles, where there are some and it didn't come in by itself."""
         if BOUNDS_TABLE in self.kinds or BOUNDS_IDENTIFIER in self.identifiers:
             self.bounds = {}
         if self.bounds:
@@ -182,11 +247,16 @@ class Standard:
         """The records that make a table, or why there are none."""
         name = self.names.get(theirs, theirs)
         identifier = theirs if identifier is None else identifier
-        readers = {"tiles": lambda: self.read_pyramid(name, theirs, identifier, bounds), "attributes": lambda: self.read_plain(name, theirs, identifier)}
+        readers = {
+            "tiles": lambda: self.read_pyramid(name, theirs, identifier, bounds),
+            "attributes": lambda: self.read_plain(name, theirs, identifier),
+        }
         why = None
         if not is_name(name):
-            why = ("its name is no name of a package, which has small letters, digits and _; "
-                   f"--table {shlex.quote(f'{theirs}={name_for(theirs)}')} gives it one")
+            why = (
+                "its name is no name of a package, which has small letters, digits and _; "
+                f"--table {shlex.quote(f'{theirs}={name_for(theirs)}')} gives it one"
+            )
         elif name in self.kinds:
             why = f"another table came in as {name}"
         elif not is_identifier(identifier) or identifier in self.identifiers:
@@ -204,13 +274,34 @@ class Standard:
     def why_no_kind(self, name, theirs, data_type):
         """Why a table of another type of data is none that a package takes, with what makes one of it."""
         why = f"a package has no table of {data_type}"
-        return f"{why}; {self.rows_of(name, theirs)} takes its rows along" if data_type in ("features", "aspatial") else why
+        return (
+            f"{why}; {self.rows_of(name, theirs)} takes its rows along"
+            if data_type in ("features", "aspatial")
+            else why
+        )
 
     def rows_of(self, name, theirs):
         """The command that makes rows of a package of any table."""
         select = f"SELECT CAST(COLUMN AS text) AS title, '' AS note, 0 AS amount FROM {quoted(theirs)}"
-        words = ["ogr2ogr", "-f", "GPKG", "rows.gpkg", str(self.file), "-dialect", "SQLite", "-sql", select, "-nln", name, "-nlt", "NONE",
-                 "-lco", "FID=id", "-lco", "ASPATIAL_VARIANT=GPKG_ATTRIBUTES"]
+        words = [
+            "ogr2ogr",
+            "-f",
+            "GPKG",
+            "rows.gpkg",
+            str(self.file),
+            "-dialect",
+            "SQLite",
+            "-sql",
+            select,
+            "-nln",
+            name,
+            "-nlt",
+            "NONE",
+            "-lco",
+            "FID=id",
+            "-lco",
+            "ASPATIAL_VARIANT=GPKG_ATTRIBUTES",
+        ]
         return shlex.join(words)
 
     def key_of(self, columns):
@@ -227,14 +318,23 @@ class Standard:
         if key is None and kinds.get(frozenset(columns) - {"fid"}):
             return "its key is fid, as GDAL and QGIS call it; --key fid takes it"
         if key is None or kind is None:
-            return (f"its columns {', '.join(columns)} are neither id, title, note, amount nor id, data, content_type with id as the key; "
-                    f"{self.rows_of(name, theirs)} makes rows of it, where COLUMN is one of these")
+            return (
+                f"its columns {', '.join(columns)} are neither id, title, note, amount nor id, data, content_type "
+                "with id as the key; "
+                f"{self.rows_of(name, theirs)} makes rows of it, where COLUMN is one of these"
+            )
         self.kinds[name] = kind
         self.records.append(["table", name, kind, identifier])
         return None
 
     def read_pyramid(self, name, theirs, identifier, bounds):
-        sets = self.rows("gpkg_tile_matrix_set", ["srs_id", "min_x", "min_y", "max_x", "max_y"], "rowid", "WHERE table_name = ?", (theirs,))
+        sets = self.rows(
+            "gpkg_tile_matrix_set",
+            ["srs_id", "min_x", "min_y", "max_x", "max_y"],
+            "rowid",
+            "WHERE table_name = ?",
+            (theirs,),
+        )
         system, *metres = sets.fetchone() or (None,)
         if not metres or not self.columns(theirs).keys() >= set(TILE_COLUMNS):
             return "it has no matrix set, or lacks a column of tiles"
@@ -247,7 +347,9 @@ class Standard:
             return "its extent is empty"
         if bounds[1:] != metres:
             self.note_bounds(name, bounds[1:], metres, extent)
-        marked = self.rows("gpkg_extensions", ["1"], "1", "WHERE table_name = ? AND extension_name = 'gpkg_zoom_other'", (theirs,)).fetchone()
+        marked = self.rows(
+            "gpkg_extensions", ["1"], "1", "WHERE table_name = ? AND extension_name = 'gpkg_zoom_other'", (theirs,)
+        ).fetchone()
         step = "other" if marked else "two"
         self.kinds[name] = step
         self.records.append(["pyramid", name, identifier, system, *extent, step])
@@ -256,8 +358,13 @@ class Standard:
 
     def warped(self, theirs):
         """The command that makes a map of whole lengths of a pyramid."""
-        words = shlex.join(["gdalwarp", "-t_srs", "EPSG:25832", "-tr", "2.5", "2.5", "-tap", f"GPKG:{self.file}:{theirs}", "whole.tif"])
-        return f"{words} makes a map that comes in, where 25832 is your projected system in metres, and 2.5 the metres of a pixel"
+        words = shlex.join(
+            ["gdalwarp", "-t_srs", "EPSG:25832", "-tr", "2.5", "2.5", "-tap", f"GPKG:{self.file}:{theirs}", "whole.tif"]
+        )
+        return (
+            f"{words} makes a map that comes in, where 25832 is your projected system in metres, "
+            "and 2.5 the metres of a pixel"
+        )
 
     def note_bounds(self, name, bounds, metres, extent):
         """Keeps bounds that are less than the extent of the tiles, to the nearest unit."""
@@ -268,14 +375,25 @@ class Standard:
             self.report.note(f"bounds of {name}", f"{bounds} become those of its matrix set, {metres}")
 
     def read_matrices(self, name, theirs, extent, step):
-        columns = ["zoom_level", "matrix_width", "matrix_height", "tile_width", "tile_height", "pixel_x_size", "pixel_y_size"]
+        columns = [
+            "zoom_level",
+            "matrix_width",
+            "matrix_height",
+            "tile_width",
+            "tile_height",
+            "pixel_x_size",
+            "pixel_y_size",
+        ]
         filled = {zoom for (zoom,) in self.source.execute(f"SELECT DISTINCT zoom_level FROM {quoted(theirs)}")}
         before = None
         taken = self.matrices[name] = {}
         for row in self.rows("gpkg_tile_matrix", columns, "zoom_level", "WHERE table_name = ?", (theirs,)):
             row = (*row[:5], whole_units(row[5]), whole_units(row[6]))
             if filled and row[0] not in filled and not self.all_zooms:
-                self.report.note(f"zoom {row[0]} of {name}", "it has no tiles and is left out; gdaladdo makes them, --all-zooms keeps it without")
+                self.report.note(
+                    f"zoom {row[0]} of {name}",
+                    "it has no tiles and is left out; gdaladdo makes them, --all-zooms keeps it without",
+                )
                 continue
             why = why_no_matrix(row, extent, step, before)
             if why:
@@ -290,17 +408,34 @@ class Standard:
         return next((name for name, it in self.theirs.items() if it == theirs), "")
 
     def read_relations(self):
-        columns = ["mapping_table_name", "base_table_name", "base_primary_column", "related_table_name", "related_primary_column",
-                   "relation_name"]
-        for theirs, base, base_column, related, related_column, name in self.rows("gpkgext_relations", columns, "mapping_table_name"):
+        columns = [
+            "mapping_table_name",
+            "base_table_name",
+            "base_primary_column",
+            "related_table_name",
+            "related_primary_column",
+            "relation_name",
+        ]
+        for theirs, base, base_column, related, related_column, name in self.rows(
+            "gpkgext_relations", columns, "mapping_table_name"
+        ):
             mapping = self.names.get(theirs, theirs)
             ends = [self.came(base), self.came(related)]
             keys = [self.key_of(self.columns(it)) for it in (base, related)]
             why = None
-            if not is_name(mapping) or mapping in self.kinds or not {"base_id", "related_id"} <= self.columns(theirs).keys():
+            if (
+                not is_name(mapping)
+                or mapping in self.kinds
+                or not {"base_id", "related_id"} <= self.columns(theirs).keys()
+            ):
                 why = "its mapping table has no name of a package, or lacks a column"
-            elif self.kinds.get(ends[0]) not in ("attributes", "media") or self.kinds.get(ends[1]) != RELATED_KINDS.get(name, ""):
-                why = f"it is {name!r} from {base!r} to {related!r}, which a package doesn't relate so, or which were left out"
+            elif self.kinds.get(ends[0]) not in ("attributes", "media") or self.kinds.get(ends[1]) != RELATED_KINDS.get(
+                name, ""
+            ):
+                why = (
+                    f"it is {name!r} from {base!r} to {related!r}, which a package doesn't relate so, "
+                    "or which were left out"
+                )
             elif [base_column, related_column] != keys:
                 why = "it isn't by the keys of its tables"
             if why:
@@ -348,7 +483,9 @@ class Standard:
                 continue
             for column, text in zip(ROW_COLUMNS, texts):
                 if text is None:
-                    self.report.note(f"{column} of row {number} of {name}", "it is NULL, and comes in as the empty text")
+                    self.report.note(
+                        f"{column} of row {number} of {name}", "it is NULL, and comes in as the empty text"
+                    )
             taken.add(number)
             yield Piece(["row", name, number, title, note, amount])
 
@@ -360,21 +497,30 @@ class Standard:
             if not is_whole(number, 1, NUMBER_LIMIT):
                 self.report.left_out(f"media item {number} of {name}", "its id is outside 1 to 2^53")
             elif not isinstance(content_type, str) or not CONTENT_TYPE.fullmatch(content_type):
-                self.report.left_out(f"media item {number} of {name}", f"its content type {told!r} isn't two words round a /, as image/png is")
+                self.report.left_out(
+                    f"media item {number} of {name}",
+                    f"its content type {told!r} isn't two words round a /, as image/png is",
+                )
             elif not isinstance(data, bytes) or not 1 <= len(data) <= MEDIA_LIMIT:
                 self.report.left_out(f"media item {number} of {name}", f"it has no 1 to {MEDIA_LIMIT} bytes")
             else:
                 if content_type != told:
-                    self.report.note(f"media item {number} of {name}", f"its content type {told!r} comes in as {content_type}")
+                    self.report.note(
+                        f"media item {number} of {name}", f"its content type {told!r} comes in as {content_type}"
+                    )
                 taken.add(number)
                 yield media_piece(name, number, content_type, data)
 
     def mapping_rows(self, mapping, base, related):
-        for base_id, related_id in self.rows(self.theirs[mapping], ["DISTINCT base_id", "related_id"], "base_id, related_id"):
+        for base_id, related_id in self.rows(
+            self.theirs[mapping], ["DISTINCT base_id", "related_id"], "base_id, related_id"
+        ):
             if base_id in self.ids[base] and related_id in self.ids[related]:
                 yield Piece(["map", mapping, base_id, related_id])
             else:
-                self.report.left_out(f"mapping row {base_id}, {related_id} of {mapping}", "an end isn't there, or was left out")
+                self.report.left_out(
+                    f"mapping row {base_id}, {related_id} of {mapping}", "an end isn't there, or was left out"
+                )
 
 
 def why_no_row(number, title, note, amount):

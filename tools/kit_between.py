@@ -4,49 +4,63 @@
     tools/kit_between.py BEFORE AFTER EDITION OUT
     tools/kit_between.py BEFORE AFTER EDITION OUT --onto OTHER [--renumber]
 
-BEFORE, AFTER and OTHER are packages of mmpkg, and are left as they are; nothing may write them meanwhile. Each has to pass 'mmpkg check',
-with the program that the environment's MMPKG names, else out/mmpkg of this repository, else mmpkg of the path. Of one whose journal holds commits, or which another
-program has, or which can't be written, a copy is read, in the folder that the environment's TMPDIR names, else /tmp; as large as it is. OUT
-must not be there; it is written under another name and renamed when it is whole. It gets
+BEFORE, AFTER and OTHER are packages of mmpkg, and are left as they are; nothing may write them meanwhile. Each has to
+pass 'mmpkg check', with the program that the environment's MMPKG names, else out/mmpkg of this repository, else mmpkg
+of the path. Of one whose journal holds commits, or which another program has, or which can't be written, a copy is
+read, in the folder that the environment's TMPDIR names, else /tmp; as large as it is. OUT must not be there; it is
+written under another name and renamed when it is whole. It gets
 
-    before.csv   records for 'mmpkg run': relations and tables that go; systems, tables and relations that come; the editions
-    EDITION      a kit: mapping rows, rows, media and tiles that go; matrices by rising zoom; rows, media and tiles that come or changed;
-                 mapping rows that come. Behind 4,096 pieces or a full list EDITION_2 goes on, and so on. Equal bytes are one file
+    before.csv   records for 'mmpkg run': relations and tables that go; systems, tables and relations that come; the
+                 editions
+    EDITION      a kit: mapping rows, rows, media and tiles that go; matrices by rising zoom; rows, media and tiles that
+                 come or changed; mapping rows that come. Behind 4,096 pieces or a full list EDITION_2 goes on, and so
+                 on. Equal bytes are one file
 
-and the commands that take these in are printed in their order, with FILE for a package that is as BEFORE is. What has no record of its own
-to change it goes and comes again: a table with another kind, identifier, system or extent, or of which a matrix goes or changed, with all its
-content; a relation with other ends, or an end that does so, with all its mapping rows.
+and the commands that take these in are printed in their order, with FILE for a package that is as BEFORE is. What has
+no record of its own to change it goes and comes again: a table with another kind, identifier, system or extent, or of
+which a matrix goes or changed, with all its content; a relation with other ends, or an end that does so, with all its
+mapping rows.
 
-The records of before.csv are done one by one, and each kit is published by itself. From before.csv on until the last kit is published the
-content of what goes and comes again is missing in FILE, and what goes is gone for good: keep a copy. Where before.csv was cut short, run it
-again before the first kit is published; what is done already is refused, and it goes on. Never run it again behind that. An edition that is
-open in FILE keeps its pieces, whether or not they suit what stands then.
+The records of before.csv are done one by one, and each kit is published by itself. From before.csv on until the last
+kit is published the content of what goes and comes again is missing in FILE, and what goes is gone for good: keep a
+copy. Where before.csv was cut short, run it again before the first kit is published; what is done already is refused,
+and it goes on. Never run it again behind that. An edition that is open in FILE keeps its pieces, whether or not they
+suit what stands then.
 
-Editions, their pieces and last_change are no part of it, and are named on standard error where they differ. A system that changed or
-went is named too: no record does that. It is left out, with the pyramids that come on it. Bytes with equal digests are taken for equal.
+Editions, their pieces and last_change are no part of it, and are named on standard error where they differ. A system
+that changed or went is named too: no record does that. It is left out, with the pyramids that come on it. Bytes with
+equal digests are taken for equal.
 
-With --onto OTHER, a package that began as BEFORE and was changed meanwhile, the changes are written as they can be made on OTHER, and FILE
-is one that is as OTHER is. By the key of each system, table, matrix, tile, row, media item, relation and mapping row:
+With --onto OTHER, a package that began as BEFORE and was changed meanwhile, the changes are written as they can be made
+on OTHER, and FILE is one that is as OTHER is. By the key of each system, table, matrix, tile, row, media item, relation
+and mapping row:
 
-    1. Where AFTER is as BEFORE, or as OTHER, nothing is done. Where OTHER is as BEFORE, the change is made. Else it is a conflict.
-    2. A pyramid rests on its system; a matrix, a tile, a row or a media item on its table, but not on the table's identifier; a tile on its
-       matrix too; a relation on its two tables; a mapping row on its relation, on both tables, and, by their numbers alone, on
-       the row and the item. What goes rests on its table, its matrix or its relation alone.
-    3. A change is made only where the result has what it rests on as AFTER has it, which may be: not at all, and that is no conflict itself.
-       And it takes nothing along: whatever of the result rests on what changed, AFTER has it so too.
+    1. Where AFTER is as BEFORE, or as OTHER, nothing is done. Where OTHER is as BEFORE, the change is made. Else it is
+       a conflict.
+    2. A pyramid rests on its system; a matrix, a tile, a row or a media item on its table, but not on the table's
+       identifier; a tile on its matrix too; a relation on its two tables; a mapping row on its relation, on both
+       tables, and, by their numbers alone, on the row and the item. What goes rests on its table, its matrix or its
+       relation alone.
+    3. A change is made only where the result has what it rests on as AFTER has it, which may be: not at all, and that
+       is no conflict itself. And it takes nothing along: whatever of the result rests on what changed, AFTER has it so
+       too.
     4. Names, identifiers and pixel sizes suit what else the result has (docs/FORMATS.md, Q3, Q4, Q8, Q9).
-    5. A change against 2 to 4 is a conflict, and is taken back; the others are asked again, until nothing is left to take back.
+    5. A change against 2 to 4 is a conflict, and is taken back; the others are asked again, until nothing is left to
+       take back.
 
-A conflict leaves OTHER as it is. conflicts.csv has them by what, key, before, after and other (of bytes the digest); standard error says why:
-'both made one' where BEFORE has none, else 'both changed it', or what else it goes against. The kit 'conflicts' has AFTER's side of them, with
-bytes: published as EDITION_theirs behind all others it takes AFTER's side where a piece does that, and what no piece can do is named. Records
-that are not wanted are taken out of its kit.csv, where the others are numbered anew.
+A conflict leaves OTHER as it is. conflicts.csv has them by what, key, before, after and other (of bytes the digest);
+standard error says why: 'both made one' where BEFORE has none, else 'both changed it', or what else it goes against.
+The kit 'conflicts' has AFTER's side of them, with bytes: published as EDITION_theirs behind all others it takes AFTER's
+side where a piece does that, and what no piece can do is named. Records that are not wanted are taken out of its
+kit.csv, where the others are numbered anew.
 
-With --renumber rows and media that AFTER made, and OTHER made otherwise under the same number, are new ones and no conflict: they get the
-next numbers behind all that their table has, their mapping rows too. renumbered.csv has what, table, old and new number.
+With --renumber rows and media that AFTER made, and OTHER made otherwise under the same number, are new ones and no
+conflict: they get the next numbers behind all that their table has, their mapping rows too. renumbered.csv has what,
+table, old and new number.
 
-Exit status: 0 all was written; 1 something was left out, or was a conflict; 2 wrong arguments, or a file that can't be read or written; else
-what 'mmpkg check' ended with, whose line is told: 3 a fault, 4 no package or one that breaks a rule.
+Exit status: 0 all was written; 1 something was left out, or was a conflict; 2 wrong arguments, or a file that can't be
+read or written; else what 'mmpkg check' ended with, whose line is told: 3 a fault, 4 no package or one that breaks a
+rule.
 """
 
 import collections
@@ -59,28 +73,70 @@ import sys
 import tempfile
 
 import three_way
-from border import KitWriter, Piece, Refused, Report, Source, arguments, expect_new, image_suffix, is_name, made_beside, record, run_tool
+from border import (
+    KitWriter,
+    Piece,
+    Refused,
+    Report,
+    Source,
+    arguments,
+    expect_new,
+    image_suffix,
+    is_name,
+    made_beside,
+    record,
+    run_tool,
+)
 from three_way import Table
 
 PROFILE = 2
 
-# By part, how many columns in front are the key, and the query. What is behind the key is what a record has behind it, but for bytes,
-# in whose place their digest stands, and for a mapping row, which has the tables that it relates.
+# By part, how many columns in front are the key, and the query. What is behind the key is what a record has behind it,
+# but for bytes, in whose place their digest stands, and for a mapping row, which has the tables that it relates.
 QUERIES = (
-    ("systems", 1, "SELECT srs_id, srs_name, organization, organization_coordsys_id, definition, description FROM gpkg_spatial_ref_sys"),
-    ("matrices", 2, "SELECT table_name, zoom_level, matrix_width, matrix_height, tile_width, tile_height, pixel_x_size, pixel_y_size "
-                    "FROM gpkg_tile_matrix"),
-    ("tiles", 4, "SELECT table_name, zoom_level, tile_column, tile_row, digest FROM mm_tiles t JOIN mm_blobs b ON b.id = t.blob"),
+    (
+        "systems",
+        1,
+        "SELECT srs_id, srs_name, organization, organization_coordsys_id, definition, description "
+        "FROM gpkg_spatial_ref_sys",
+    ),
+    (
+        "matrices",
+        2,
+        "SELECT table_name, zoom_level, matrix_width, matrix_height, tile_width, tile_height, pixel_x_size, "
+        "pixel_y_size FROM gpkg_tile_matrix",
+    ),
+    (
+        "tiles",
+        4,
+        "SELECT table_name, zoom_level, tile_column, tile_row, digest FROM mm_tiles t JOIN mm_blobs b ON b.id = t.blob",
+    ),
     ("items", 2, "SELECT table_name, id, 'row', title, note, amount FROM mm_rows"),
-    ("items", 2, "SELECT table_name, m.id, 'media', content_type, digest FROM mm_media m JOIN mm_blobs b ON b.id = m.blob"),
-    ("relations", 1, "SELECT mapping_table_name, base_table_name, related_table_name, relation_name FROM gpkgext_relations"),
-    ("mapped", 3, "SELECT mapping, base_id, related_id, base_table_name, related_table_name "
-                  "FROM mm_map JOIN gpkgext_relations ON mapping_table_name = mapping"),
+    (
+        "items",
+        2,
+        "SELECT table_name, m.id, 'media', content_type, digest FROM mm_media m JOIN mm_blobs b ON b.id = m.blob",
+    ),
+    (
+        "relations",
+        1,
+        "SELECT mapping_table_name, base_table_name, related_table_name, relation_name FROM gpkgext_relations",
+    ),
+    (
+        "mapped",
+        3,
+        "SELECT mapping, base_id, related_id, base_table_name, related_table_name "
+        "FROM mm_map JOIN gpkgext_relations ON mapping_table_name = mapping",
+    ),
 )
-TABLES = ("SELECT table_name, kind, identifier, srs_id, min_x, min_y, max_x, max_y, last_change "
-          "FROM gpkg_contents JOIN mm_tables USING (table_name)")
-PIECES = ("SELECT edition, piece_no, kind, name, k1, k2, k3, k4, k5, k6, k7, t1, t2, digest "
-          "FROM mm_pieces p LEFT JOIN mm_blobs b ON b.id = p.blob ORDER BY edition, piece_no")
+TABLES = (
+    "SELECT table_name, kind, identifier, srs_id, min_x, min_y, max_x, max_y, last_change "
+    "FROM gpkg_contents JOIN mm_tables USING (table_name)"
+)
+PIECES = (
+    "SELECT edition, piece_no, kind, name, k1, k2, k3, k4, k5, k6, k7, t1, t2, digest "
+    "FROM mm_pieces p LEFT JOIN mm_blobs b ON b.id = p.blob ORDER BY edition, piece_no"
+)
 
 
 class Package:
@@ -95,7 +151,9 @@ class Package:
         self.source.text_factory = lambda data: sys.intern(data.decode())
         versions = self.source.execute("SELECT version FROM mm_profile").fetchall()
         if versions != [(PROFILE,)]:
-            raise Refused(f"{file}: a package of profile {PROFILE} is asked for; 'mmpkg migrate' brings one of profile 1 over")
+            raise Refused(
+                f"{file}: a package of profile {PROFILE} is asked for; 'mmpkg migrate' brings one of profile 1 over"
+            )
         self.parts = {part: {} for part in three_way.PARTS}
         for part, size, query in QUERIES:
             self.parts[part].update((row[:size], row[size:]) for row in self.source.execute(query))
@@ -142,9 +200,17 @@ class Difference:
 
     def __init__(self, start, goal, files):
         self.start, self.goal, self.files = start, goal, files
-        self.tables = {key[0] for part in ("tables", "matrices") for key, value in start[part].items() if goal[part].get(key) != value}
-        self.relations = {key[0] for key, value in start["relations"].items()
-                          if goal["relations"].get(key) != value or self.tables & set(value[:2])}
+        self.tables = {
+            key[0]
+            for part in ("tables", "matrices")
+            for key, value in start[part].items()
+            if goal[part].get(key) != value
+        }
+        self.relations = {
+            key[0]
+            for key, value in start["relations"].items()
+            if goal["relations"].get(key) != value or self.tables & set(value[:2])
+        }
 
     def layout(self):
         """The records that go before the content."""
@@ -166,13 +232,17 @@ class Difference:
     def goes(self, part):
         """What goes of what the layout leaves."""
         gone = self.gone(part)
-        return sorted((key, value) for key, value in self.start[part].items() if key not in self.goal[part] and key[0] not in gone)
+        return sorted(
+            (key, value) for key, value in self.start[part].items() if key not in self.goal[part] and key[0] not in gone
+        )
 
     def comes(self, part):
         """What comes, changed, or comes again."""
         start, gone = self.start[part], self.gone(part)
-        return sorted(((key, value) for key, value in self.goal[part].items() if start.get(key) != value or key[0] in gone),
-                      key=lambda entry: entry[0])
+        return sorted(
+            ((key, value) for key, value in self.goal[part].items() if start.get(key) != value or key[0] in gone),
+            key=lambda entry: entry[0],
+        )
 
     def content(self):
         """The pieces, in an order in which each is accepted behind the layout."""
@@ -203,7 +273,14 @@ def word_of(merged, part, key):
     """What a key is of, in one word: of a row or a media item that goes it is what BEFORE has."""
     if part == "items":
         return (merged.after[part].get(key) or merged.before[part][key])[0]
-    return {"systems": "system", "tables": "table", "matrices": "matrix", "tiles": "tile", "relations": "relation", "mapped": "map"}[part]
+    return {
+        "systems": "system",
+        "tables": "table",
+        "matrices": "matrix",
+        "tiles": "tile",
+        "relations": "relation",
+        "mapped": "map",
+    }[part]
 
 
 def tell_rest(before, after, report):
@@ -212,8 +289,12 @@ def tell_rest(before, after, report):
     for name in sorted(first.keys() | second.keys()):
         states = [editions.get(name, ["none"]) for editions in (first, second)]
         if states[0] != states[1]:
-            told_states = [state[0] + (f" with pieces: {len(state) - 1}" if state[0] == "open" else "") for state in states]
-            report.note(f"edition {name}", f"{told_states[0]} in BEFORE, {told_states[1]} in AFTER; editions don't cross")
+            told_states = [
+                state[0] + (f" with pieces: {len(state) - 1}" if state[0] == "open" else "") for state in states
+            ]
+            report.note(
+                f"edition {name}", f"{told_states[0]} in BEFORE, {told_states[1]} in AFTER; editions don't cross"
+            )
     for name in sorted(before.changed.keys() & after.changed.keys()):
         if before.changed[name] != after.changed[name]:
             report.note(f"last_change of {name}", f"{before.changed[name]} in BEFORE, {after.changed[name]} in AFTER")
@@ -222,9 +303,13 @@ def tell_rest(before, after, report):
 def tell_order(before, packages, report):
     """Notes where a package was last changed before BEFORE was, by the tables that both have."""
     for name, package in packages.items():
-        moments = [(package.changed[table], changed) for table, changed in before.changed.items() if table in package.changed]
+        moments = [
+            (package.changed[table], changed) for table, changed in before.changed.items() if table in package.changed
+        ]
         if any(one < other for one, other in moments) and not any(one > other for one, other in moments):
-            report.note(package.file, f"as {name} it was last changed before BEFORE was: are the packages in the wrong order?")
+            report.note(
+                package.file, f"as {name} it was last changed before BEFORE was: are the packages in the wrong order?"
+            )
 
 
 def tell_numbers(numbers, after, folder):
@@ -254,7 +339,10 @@ def summary(counts):
 
 
 def write_files(difference, edition, out, folder):
-    """Writes the kits, and before.csv with their editions; returns the kits, and how many records there are of each word."""
+    """Writes the kits, and before.csv with their editions.
+
+    Returns the kits, and how many records there are of each word.
+    """
     kits = KitWriter(edition, out / edition, folder)
     records, counts = list(difference.layout()), collections.Counter()
     for piece in difference.content():
@@ -287,13 +375,21 @@ def tell_next(merged, theirs, left, out):
     """Says on standard error what there is to do about conflicts, behind the commands that are printed."""
     lines = [f"look at {shlex.quote(str(out / 'conflicts.csv'))}: OTHER keeps its side of each"]
     if left:
-        lines.append("no piece takes AFTER's side of " + ", ".join(f"{word_of(merged, part, key)} {' '.join(map(str, key))}" for part, key in left))
+        lines.append(
+            "no piece takes AFTER's side of "
+            + ", ".join(f"{word_of(merged, part, key)} {' '.join(map(str, key))}" for part, key in left)
+        )
     if theirs.kits:
-        lines.append(f"to take AFTER's side of {'the others' if left else 'them'}, behind the commands that are printed:")
+        lines.append(
+            f"to take AFTER's side of {'the others' if left else 'them'}, behind the commands that are printed:"
+        )
     print("next: " + "; ".join(lines), file=sys.stderr)
     for edition, folder in theirs.kits:
-        print(f"    echo edition,{edition} | mmpkg run FILE\n    mmpkg kit FILE {edition} {shlex.quote(str(folder))}\n"
-              f"    echo publish,{edition} | mmpkg run FILE", file=sys.stderr)
+        print(
+            f"    echo edition,{edition} | mmpkg run FILE\n    mmpkg kit FILE {edition} {shlex.quote(str(folder))}\n"
+            f"    echo publish,{edition} | mmpkg run FILE",
+            file=sys.stderr,
+        )
 
 
 def expect_new_edition(edition, package):
@@ -309,7 +405,9 @@ def write(packages, given, folder, report):
     tell_rest(before, after, report)
     tell_order(before, {"AFTER": after, "OTHER": other}, report)
     report.tell_notes()
-    goal, numbers = three_way.renumbered(before.parts, after.parts, other.parts) if given.renumber else (after.parts, {})
+    goal, numbers = (
+        three_way.renumbered(before.parts, after.parts, other.parts) if given.renumber else (after.parts, {})
+    )
     tell_numbers(numbers, after, folder)
     merged = three_way.Merge(before.parts, goal, other.parts)
     files = Files((after, other))
@@ -319,7 +417,10 @@ def write(packages, given, folder, report):
         expect_new_edition(name, other)
     print(f"written: {summary(counts)}", file=sys.stderr)
     if len(packages) == 3:
-        print(f"there already: {summary(collections.Counter(word_of(merged, *change) for change in merged.there))}", file=sys.stderr)
+        print(
+            f"there already: {summary(collections.Counter(word_of(merged, *change) for change in merged.there))}",
+            file=sys.stderr,
+        )
         print(f"conflicts: {summary(conflicts)}", file=sys.stderr)
         if rows:
             write_conflicts(rows, folder)

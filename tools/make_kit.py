@@ -3,20 +3,34 @@
 
     tools/make_kit.py FOLDER TABLE EDITION OUT
 
-FOLDER has the tiles of one pyramid as Z/C/R.png: zoom, column and row, where row 0 is the uppermost (without --xyz the lowest, which is
-wrong here). OUT gets them as pieces for the pyramid TABLE, with kit.csv, for 'mmpkg kit FILE EDITION OUT'; behind 4,096 tiles a next kit
-begins, OUT_2 for EDITION_2 and so on. OUT must not be there. TABLE and its matrices have to stand when EDITION is published; nothing here
-looks at them. The commands that take the kits in are printed, with FILE for the package.
+FOLDER has the tiles of one pyramid as Z/C/R.png: zoom, column and row, where row 0 is the uppermost (without --xyz the
+lowest, which is wrong here). OUT gets them as pieces for the pyramid TABLE, with kit.csv, for 'mmpkg kit FILE EDITION
+OUT'; behind 4,096 tiles a next kit begins, OUT_2 for EDITION_2 and so on. OUT must not be there. TABLE and its matrices
+have to stand when EDITION is published; nothing here looks at them. The commands that take the kits in are printed,
+with FILE for the package.
 
 Other files are named on standard error and left out.
 
-Exit status: 0 all was taken; 1 something was left out; 2 wrong arguments, no tile, or a file that can't be read or written.
+Exit status: 0 all was taken; 1 something was left out; 2 wrong arguments, no tile, or a file that can't be read or
+written.
 """
 
 import pathlib
 import re
 
-from border import MATRIX_LIMIT, TILE_LIMIT, ZOOM_LIMIT, KitWriter, Refused, Report, arguments, is_name, made_beside, run_tool, tile_piece
+from border import (
+    MATRIX_LIMIT,
+    TILE_LIMIT,
+    ZOOM_LIMIT,
+    KitWriter,
+    Refused,
+    Report,
+    arguments,
+    is_name,
+    made_beside,
+    run_tool,
+    tile_piece,
+)
 
 TILE = re.compile(r"(0|[1-9][0-9]{0,9})/(0|[1-9][0-9]{0,9})/(0|[1-9][0-9]{0,9})\.png")
 

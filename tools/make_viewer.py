@@ -3,25 +3,29 @@
 
     tools/make_viewer.py FILE OUT [--table TABLE] [--edition EDITION] [--wmts PORT]
 
-FILE is a package of mmpkg. OUT, which must not be there, gets layout.csv, which makes the media table TABLE ('viewer') and an open edition,
-and a kit of four media items: 1 the page, 2 and 3 the script and the style of Leaflet with their licence, 4 the
-matrices of all pyramids of FILE, and where their tiles are. The commands that take them in are printed, with FILE for the package; then 'mmpkg serve FILE --port PORT
---count 1000000' serves the page at http://127.0.0.1:PORT/media/TABLE/1. Leaflet is that of Debian's package libjs-leaflet.
+FILE is a package of mmpkg. OUT, which must not be there, gets layout.csv, which makes the media table TABLE ('viewer')
+and an open edition, and a kit of four media items: 1 the page, 2 and 3 the script and the style of Leaflet with their
+licence, 4 the matrices of all pyramids of FILE, and where their tiles are. The commands that take them in are printed,
+with FILE for the package; then 'mmpkg serve FILE --port PORT --count 1000000' serves the page at
+http://127.0.0.1:PORT/media/TABLE/1. Leaflet is that of Debian's package libjs-leaflet.
 
-With --wmts there is a fifth item, a WMTS description by which QGIS and GDAL open the maps of http://127.0.0.1:PORT/media/TABLE/5 while they
-are served. It has whole addresses, so another port wants another description. Maps that WMTS doesn't tell are named on standard error.
+With --wmts there is a fifth item, a WMTS description by which QGIS and GDAL open the maps of
+http://127.0.0.1:PORT/media/TABLE/5 while they are served. It has whole addresses, so another port wants another
+description. Maps that WMTS doesn't tell are named on standard error.
 
-Where matrices come later, make the viewer anew, in another OUT: where FILE has the table, layout.csv only makes the edition, and publishing
-puts the four items in place of the old ones. An edition is published once, so it has the table's name, or behind that TABLE_2, TABLE_3 and
-so on, the first that FILE doesn't have; --edition names another. A table TABLE that is no media table, or has other media as 1 to 4, is
-refused.
+Where matrices come later, make the viewer anew, in another OUT: where FILE has the table, layout.csv only makes the
+edition, and publishing puts the four items in place of the old ones. An edition is published once, so it has the
+table's name, or behind that TABLE_2, TABLE_3 and so on, the first that FILE doesn't have; --edition names another. A
+table TABLE that is no media table, or has other media as 1 to 4, is refused.
 
-FILE is left as it is; nothing may write it meanwhile. It has to pass 'mmpkg check', with the program that the environment's MMPKG names,
-else out/mmpkg of this repository, else mmpkg of the path. Where its journal holds commits, or another program has it, or it can't be written, a copy of both is read,
-in the folder that the environment's TMPDIR names, else /tmp; as large as they are.
+FILE is left as it is; nothing may write it meanwhile. It has to pass 'mmpkg check', with the program that the
+environment's MMPKG names, else out/mmpkg of this repository, else mmpkg of the path. Where its journal holds commits,
+or another program has it, or it can't be written, a copy of both is read, in the folder that the environment's TMPDIR
+names, else /tmp; as large as they are.
 
-Exit status: 0 OUT was made; 1 so, and a map is no part of the WMTS description; 2 wrong arguments, a name that is taken, Leaflet isn't there, or a file that can't be read or written; else
-what 'mmpkg check' ended with, whose line is told: 3 a fault, 4 no package or one that breaks a rule.
+Exit status: 0 OUT was made; 1 so, and a map is no part of the WMTS description; 2 wrong arguments, a name that is
+taken, Leaflet isn't there, or a file that can't be read or written; else what 'mmpkg check' ended with, whose line is
+told: 3 a fault, 4 no package or one that breaks a rule.
 """
 
 import base64
@@ -36,7 +40,20 @@ import sqlite3
 import tempfile
 
 import wmts
-from border import MEDIA_LIMIT, KitWriter, Refused, Report, Source, arguments, bounds_of, is_name, made_beside, media_piece, record, run_tool
+from border import (
+    MEDIA_LIMIT,
+    KitWriter,
+    Refused,
+    Report,
+    Source,
+    arguments,
+    bounds_of,
+    is_name,
+    made_beside,
+    media_piece,
+    record,
+    run_tool,
+)
 
 PAGE = pathlib.Path(__file__).resolve().parent / "viewer.html"
 LEAFLET = pathlib.Path("/usr/share/javascript/leaflet")
@@ -62,19 +79,26 @@ class Package:
         return [value for (value,) in self.opened.execute(query, values)]
 
     def has_viewer_table(self, table, content_types):
-        """Whether the table stands already; refused where another kind has its name, or it has other media than a viewer's."""
+        """Whether the table stands already.
+
+        Refused where another kind has its name, or it has other media than a viewer's.
+        """
         if self.column("SELECT 1 FROM gpkgext_relations WHERE mapping_table_name = ?", table):
             raise Refused(f"{table}: is the name of a mapping; --table names another table")
         kinds = self.column("SELECT kind FROM mm_tables WHERE table_name = ?", table)
         if kinds not in ([], ["media"]):
             raise Refused(f"{table}: is a table of kind {kinds[0]}; --table names another table")
-        for number, content_type in self.opened.execute("SELECT id, content_type FROM mm_media WHERE table_name = ? ORDER BY id", (table,)):
+        for number, content_type in self.opened.execute(
+            "SELECT id, content_type FROM mm_media WHERE table_name = ? ORDER BY id", (table,)
+        ):
             if content_types.get(number, content_type) != content_type:
-                raise Refused(f"{table}: its item {number} is {content_type} and no viewer's; --table names another table")
+                raise Refused(
+                    f"{table}: its item {number} is {content_type} and no viewer's; --table names another table"
+                )
         return bool(kinds)
 
     def free_edition(self, table, wanted, report):
-        """The edition that brings the viewer: the one that is wanted, else the first of the table's name that is free."""
+        """The edition that brings the viewer: what is wanted, else the first of the table's name that is free."""
         states = dict(self.opened.execute("SELECT name, state FROM mm_editions"))
         edition = wanted or first_free(table, states, "_")
         if wanted in states:
@@ -83,47 +107,74 @@ class Package:
             raise Refused(f"{edition!r} is no name of an edition; --edition names another")
         for name, state in states.items():
             if state == "open" and re.fullmatch(f"{table}(_[0-9]+)?", name):
-                report.note(f"edition {name}", f"is open; 'discard,{name}' takes it back where it was for an earlier viewer")
+                report.note(
+                    f"edition {name}", f"is open; 'discard,{name}' takes it back where it was for an earlier viewer"
+                )
         return edition
 
     def table_records(self, table, content_types):
         """The record that makes the table, none where it stands."""
         if self.has_viewer_table(table, content_types):
             return []
-        return [["table", table, "media", first_free("Map viewer", self.column("SELECT identifier FROM gpkg_contents"), " ")]]
+        return [
+            [
+                "table",
+                table,
+                "media",
+                first_free("Map viewer", self.column("SELECT identifier FROM gpkg_contents"), " "),
+            ]
+        ]
 
     def tiles(self, table):
-        """By zoom, where the tiles of a pyramid are: the least and the greatest column and row, and a tile near their middle."""
-        boxes = self.opened.execute("SELECT zoom_level, min(tile_column), min(tile_row), max(tile_column), max(tile_row) FROM mm_tiles "
-                                    "WHERE table_name = ? GROUP BY zoom_level", (table,)).fetchall()
-        near = ("SELECT tile_column, tile_row FROM mm_tiles WHERE table_name = ? AND zoom_level = ? "
-                "ORDER BY abs(2 * tile_column - ?) + abs(2 * tile_row - ?) LIMIT 1")
-        return {zoom: [*box, *self.opened.execute(near, (table, zoom, box[0] + box[2], box[1] + box[3])).fetchone()] for zoom, *box in boxes}
+        """By zoom, where tiles of a pyramid are: the least and greatest column and row, and one near their middle."""
+        boxes = self.opened.execute(
+            "SELECT zoom_level, min(tile_column), min(tile_row), max(tile_column), max(tile_row) FROM mm_tiles "
+            "WHERE table_name = ? GROUP BY zoom_level",
+            (table,),
+        ).fetchall()
+        near = (
+            "SELECT tile_column, tile_row FROM mm_tiles WHERE table_name = ? AND zoom_level = ? "
+            "ORDER BY abs(2 * tile_column - ?) + abs(2 * tile_row - ?) LIMIT 1"
+        )
+        return {
+            zoom: [*box, *self.opened.execute(near, (table, zoom, box[0] + box[2], box[1] + box[3])).fetchone()]
+            for zoom, *box in boxes
+        }
 
     def matrices(self):
-        """The matrices of each pyramid with its last change, its tiles and its bounds, in the package's columns and unit, as JSON."""
+        """The matrices, last change, tiles and bounds of each pyramid, in the package's columns and unit, as JSON."""
         columns = "zoom_level, matrix_width, matrix_height, tile_width, tile_height, pixel_x_size, pixel_y_size"
         found, bounds = {}, bounds_of(self.opened)
         tiled = "SELECT table_name, last_change FROM gpkg_contents WHERE data_type = 'tiles' ORDER BY table_name"
         for table, last_change in self.opened.execute(tiled):
-            rows = self.opened.execute(f"SELECT {columns} FROM gpkg_tile_matrix WHERE table_name = ? ORDER BY zoom_level", (table,))
-            found[table] = {"last_change": last_change, "matrices": [dict(zip(columns.split(", "), row)) for row in rows],
-                            "tiles": self.tiles(table), **({"bounds": bounds[table]} if table in bounds else {})}
+            rows = self.opened.execute(
+                f"SELECT {columns} FROM gpkg_tile_matrix WHERE table_name = ? ORDER BY zoom_level", (table,)
+            )
+            found[table] = {
+                "last_change": last_change,
+                "matrices": [dict(zip(columns.split(", "), row)) for row in rows],
+                "tiles": self.tiles(table),
+                **({"bounds": bounds[table]} if table in bounds else {}),
+            }
         return json.dumps(found, separators=(",", ":")).encode()
 
 
 def leaflet_item(name):
-    """A file of Leaflet, its licence as a comment in front; what it says of a map of its source, which doesn't travel, is left out."""
+    """A file of Leaflet, its licence as a comment in front.
+
+    What it says of a map of its source, which doesn't travel, is left out.
+    """
     for file in (LEAFLET / name, LICENCE):
         if not file.exists():
             raise Refused(f"{file}: isn't there; 'apt-get install libjs-leaflet' brings it")
     licence = LICENCE.read_text(encoding="utf-8").replace("*/", "* /")
     text = re.sub(r"(?m)^(//#|/\*#) sourceMappingURL=.*$", "", (LEAFLET / name).read_text(encoding="utf-8"))
-    return f"/* Leaflet, from Debian's package libjs-leaflet, whose file 'copyright' follows.\n\n{licence}*/\n{text}".encode()
+    head = "Leaflet, from Debian's package libjs-leaflet, whose file 'copyright' follows."
+    return f"/* {head}\n\n{licence}*/\n{text}".encode()
 
 
 def page_item():
-    """The page, with the hashes of its own style and script in its policy, which lets nothing else run that stands in it."""
+    """The page, with the hashes of its style and script in its policy, which lets nothing else run in it."""
     page = PAGE.read_text(encoding="utf-8")
     for element, place in (("style", "HASH-OF-STYLE"), ("script", "HASH-OF-SCRIPT")):
         (text,) = re.findall(f"<{element}>(.*?)</{element}>", page, re.DOTALL)
@@ -152,9 +203,20 @@ def read_package(source, given, report):
         items = {4: package.matrices()}
         if given.wmts:
             items[DESCRIPTION] = wmts.describe(opened, given.wmts, f"/media/{given.table}/{DESCRIPTION}", report)
-        elif package.column("SELECT 1 FROM mm_media WHERE table_name = ? AND id = ? AND content_type = ?", given.table, DESCRIPTION, DESCRIPTION_TYPE):
-            report.note(f"item {DESCRIPTION} of {given.table}", "the WMTS description stays as it is; --wmts PORT makes it anew")
-        return "".join(map(record, [*tables, ["edition", edition]])), edition, {number: (types[number], data) for number, data in items.items()}
+        elif package.column(
+            "SELECT 1 FROM mm_media WHERE table_name = ? AND id = ? AND content_type = ?",
+            given.table,
+            DESCRIPTION,
+            DESCRIPTION_TYPE,
+        ):
+            report.note(
+                f"item {DESCRIPTION} of {given.table}", "the WMTS description stays as it is; --wmts PORT makes it anew"
+            )
+        return (
+            "".join(map(record, [*tables, ["edition", edition]])),
+            edition,
+            {number: (types[number], data) for number, data in items.items()},
+        )
 
 
 def main():

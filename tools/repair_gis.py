@@ -3,18 +3,19 @@
 
     tools/repair_gis.py FILE OUT.mmpkg
 
-GDAL and QGIS open a file whose name ends with .gpkg for writing, also one that is a package of mmpkg: they add tables of their own, and from
-then on the program answers 'fault 91' or names a broken rule. FILE and its journal are copied and left as they are; nothing may write them
-meanwhile. Out of the copy go all tables, views, triggers, indexes and columns that a package doesn't have, what its own tables say of
-these, and the mark of GeoPackage in the file's header. Each is named on standard error. Then the copy has to pass 'mmpkg check', with the
-program that the environment's MMPKG names, else out/mmpkg of this repository, else mmpkg of the path, and becomes OUT.mmpkg, which must not
-be there. The content of what is taken out is lost in OUT.mmpkg; FILE has it still.
+GDAL and QGIS open a file whose name ends with .gpkg for writing, also one that is a package of mmpkg: they add tables
+of their own, and from then on the program answers 'fault 91' or names a broken rule. FILE and its journal are copied
+and left as they are; nothing may write them meanwhile. Out of the copy go all tables, views, triggers, indexes and
+columns that a package doesn't have, what its own tables say of these, and the mark of GeoPackage in the file's header.
+Each is named on standard error. Then the copy has to pass 'mmpkg check', with the program that the environment's MMPKG
+names, else out/mmpkg of this repository, else mmpkg of the path, and becomes OUT.mmpkg, which must not be there. The
+content of what is taken out is lost in OUT.mmpkg; FILE has it still.
 
-What was changed in the package's own tables can't be mended: where the copy doesn't pass the check OUT.mmpkg isn't made, and a copy of the
-package has to be fetched. Systems that GDAL or QGIS added stay, as a package may have them.
+What was changed in the package's own tables can't be mended: where the copy doesn't pass the check OUT.mmpkg isn't
+made, and a copy of the package has to be fetched. Systems that GDAL or QGIS added stay, as a package may have them.
 
-Exit status: 0 OUT.mmpkg was written; 2 wrong arguments, or a file that can't be read or written; else what 'mmpkg check' ended with, whose
-line is told: 3 a fault, 4 no package or one that breaks a rule.
+Exit status: 0 OUT.mmpkg was written; 2 wrong arguments, or a file that can't be read or written; else what 'mmpkg
+check' ended with, whose line is told: 3 a fault, 4 no package or one that breaks a rule.
 """
 
 import contextlib
@@ -30,9 +31,11 @@ TABLES = {
     "gpkg_spatial_ref_sys": "srs_name srs_id organization organization_coordsys_id definition description",
     "gpkg_contents": "table_name data_type identifier description last_change min_x min_y max_x max_y srs_id",
     "gpkg_tile_matrix_set": "table_name srs_id min_x min_y max_x max_y",
-    "gpkg_tile_matrix": "table_name zoom_level matrix_width matrix_height tile_width tile_height pixel_x_size pixel_y_size",
+    "gpkg_tile_matrix": "table_name zoom_level matrix_width matrix_height tile_width tile_height pixel_x_size "
+    "pixel_y_size",
     "gpkg_extensions": "table_name column_name extension_name definition scope",
-    "gpkgext_relations": "id base_table_name base_primary_column related_table_name related_primary_column relation_name mapping_table_name",
+    "gpkgext_relations": "id base_table_name base_primary_column related_table_name related_primary_column "
+    "relation_name mapping_table_name",
     "mm_profile": "id version",
     "mm_tables": "table_name kind",
     "mm_tiles": "table_name zoom_level tile_column tile_row blob",
@@ -48,8 +51,8 @@ INDEXES = {"mm_blobs_digest", "mm_tiles_blob", "mm_media_blob", "mm_pieces_blob"
 # Which rows of a package's own tables speak of nothing that a package has.
 FOREIGN_ROWS = {
     "gpkg_extensions": "extension_name NOT IN ('gpkg_related_tables', 'gpkg_zoom_other') OR "
-                       "table_name NOT IN (SELECT table_name FROM mm_tables UNION SELECT mapping_table_name FROM gpkgext_relations "
-                       "UNION SELECT 'gpkgext_relations')",
+    "table_name NOT IN (SELECT table_name FROM mm_tables UNION SELECT mapping_table_name FROM gpkgext_relations "
+    "UNION SELECT 'gpkgext_relations')",
     "gpkg_tile_matrix": "table_name NOT IN (SELECT table_name FROM mm_tables)",
     "gpkg_tile_matrix_set": "table_name NOT IN (SELECT table_name FROM mm_tables)",
     "gpkg_contents": "table_name NOT IN (SELECT table_name FROM mm_tables)",
@@ -66,7 +69,9 @@ class Patient:
             raise Refused("has no table mm_profile, so it never was a package", 4)
 
     def names(self, condition):
-        return [name for (name,) in self.opened.execute(f"SELECT name FROM sqlite_schema WHERE {condition} ORDER BY name")]
+        return [
+            name for (name,) in self.opened.execute(f"SELECT name FROM sqlite_schema WHERE {condition} ORDER BY name")
+        ]
 
     def take_out(self, what, statement):
         self.opened.execute(statement)
@@ -125,7 +130,9 @@ def mend(file, copy):
     status, said = program_says("check", copy)
     if status != 0:
         why = f" (rows that refer to what isn't there: {loose})" if loose else ""
-        raise Refused(f"{file}: what a package doesn't have is out, and the rest is still {said}{why}: go back to a copy", status)
+        raise Refused(
+            f"{file}: what a package doesn't have is out, and the rest is still {said}{why}: go back to a copy", status
+        )
 
 
 def main():

@@ -1,7 +1,8 @@
-"""What becomes of a package that was changed in two places: the rule of kit_between.py, over dictionaries, and without a file.
+"""What becomes of a package that was changed in two places: the rule of kit_between.py, over dictionaries.
 
-A state of a package is a dictionary by part. Each part has a value for each key, a tuple whose first entry is the name of a table or of a
-relation (of a system its number). docs/FORMATS.md has the rules that a state keeps; the help of kit_between.py states this one.
+A state of a package is a dictionary by part. Each part has a value for each key, a tuple whose first entry is the name
+of a table or of a relation (of a system its number). docs/FORMATS.md has the rules that a state keeps; the help of
+kit_between.py states this one.
 """
 
 import collections
@@ -48,7 +49,7 @@ def in_order(kind, zooms):
 
 
 def renumbered(before, after, other):
-    """AFTER where its new rows and media have numbers that OTHER's new ones don't have, and by key the numbers that changed.
+    """AFTER with other numbers for new rows and media that collide with OTHER's, and by key the numbers that changed.
 
     The next numbers behind all that a table has anywhere are taken. Mapping rows go along.
     """
@@ -61,7 +62,10 @@ def renumbered(before, after, other):
             numbers[key] = next_number(used[key[0]])
             used[key[0]].add(numbers[key])
     items = {(key[0], numbers.get(key, key[1])): value for key, value in after["items"].items()}
-    mapped = {(name, *(numbers.get(end, end[1]) for end in zip(tables, ids))): tables for (name, *ids), tables in after["mapped"].items()}
+    mapped = {
+        (name, *(numbers.get(end, end[1]) for end in zip(tables, ids))): tables
+        for (name, *ids), tables in after["mapped"].items()
+    }
     return {**after, "items": items, "mapped": mapped}, numbers
 
 
@@ -72,8 +76,10 @@ def next_number(used):
 
 
 class Merge:
-    """OTHER with the changes from BEFORE to AFTER that can be made on it (result), those that can't with why (conflicts), and those that
-    it has already (there)."""
+    """OTHER with the changes from BEFORE to AFTER that can be made on it (result).
+
+    Those that can't are kept with why (conflicts), and those that it has already are listed (there).
+    """
 
     def __init__(self, before, after, other):
         self.before, self.after, self.other = before, after, other
@@ -122,12 +128,21 @@ class Fit:
 
     def __init__(self, after, other, result, conflicts):
         self.after, self.other, self.result, self.conflicts = after, other, result, conflicts
-        self.rules = {"systems": self.against_system, "tables": self.against_table, "matrices": self.against_matrix, "tiles": self.against_tile,
-                      "items": self.against_item, "relations": self.against_relation, "mapped": self.against_mapped}
+        self.rules = {
+            "systems": self.against_system,
+            "tables": self.against_table,
+            "matrices": self.against_matrix,
+            "tiles": self.against_tile,
+            "items": self.against_item,
+            "relations": self.against_relation,
+            "mapped": self.against_mapped,
+        }
         own = {part: {key for key, value in result[part].items() if after[part].get(key) != value} for part in PARTS}
         # Where the result has what AFTER has not so.
         self.own_tables = {key[0] for part in ("matrices", "tiles", "items") for key in own[part]}
-        self.own_tables |= {name for part in ("relations", "mapped") for key in own[part] for name in result[part][key][:2]}
+        self.own_tables |= {
+            name for part in ("relations", "mapped") for key in own[part] for name in result[part][key][:2]
+        }
         self.own_zooms = {key[:2] for key in own["tiles"]}
         self.own_relations = {key[0] for key in own["mapped"]}
         self.identifiers = collections.Counter(table.identifier for table in result["tables"].values())
@@ -146,7 +161,10 @@ class Fit:
 
     def same_ground(self, *names):
         """Whether the result has tables as AFTER has them, their identifiers aside, and none is a conflict."""
-        return all(ground(self.result, name) == ground(self.after, name) and ("tables", (name,)) not in self.conflicts for name in names)
+        return all(
+            ground(self.result, name) == ground(self.after, name) and ("tables", (name,)) not in self.conflicts
+            for name in names
+        )
 
     def against_system(self, key, _):
         return "no record changes a system or takes it away" if key in self.other["systems"] else None
@@ -168,7 +186,11 @@ class Fit:
             return "its table isn't as in AFTER, or is a conflict"
         if key in self.own_zooms:
             return "it would take tiles along that AFTER doesn't have so"
-        if sizes and not all(in_order(ground(self.result, name)[0], [(zoom, sizes[4:]), other]) for other in self.zooms[name] if other[0] != zoom):
+        if sizes and not all(
+            in_order(ground(self.result, name)[0], [(zoom, sizes[4:]), other])
+            for other in self.zooms[name]
+            if other[0] != zoom
+        ):
             return "its pixel size doesn't suit another zoom"
         return None
 
@@ -194,7 +216,9 @@ class Fit:
             return "its relation isn't as in AFTER, or is a conflict"
         if tables and not self.same_ground(*tables):
             return "a table that it relates isn't as in AFTER, or is a conflict"
-        if tables and not all(end in self.result["items"] and ("items", end) not in self.conflicts for end in zip(tables, key[1:])):
+        if tables and not all(
+            end in self.result["items"] and ("items", end) not in self.conflicts for end in zip(tables, key[1:])
+        ):
             return "what it relates isn't there, or is a conflict"
         return None
 
@@ -214,7 +238,12 @@ class Theirs:
     def take_back(self):
         """Takes back what the goal doesn't suit; returns whether there was some."""
         self.ends = {end for (_, *ids), tables in self.goal["mapped"].items() for end in zip(tables, ids)}
-        rules = {"matrices": self.suits_matrix, "tiles": self.suits_tile, "items": self.suits_item, "mapped": self.suits_mapped}
+        rules = {
+            "matrices": self.suits_matrix,
+            "tiles": self.suits_tile,
+            "items": self.suits_item,
+            "mapped": self.suits_mapped,
+        }
         unsuited = {(part, key) for part, key in self.taken if not rules[part](key, self.after[part].get(key))}
         for part, key in unsuited:
             put(self.goal[part], key, self.start[part].get(key))
@@ -228,7 +257,9 @@ class Theirs:
             return False
         left, low, right, high = table.extent
         covers = (right - left, high - low) == (sizes[0] * sizes[2] * sizes[4], sizes[1] * sizes[3] * sizes[5])
-        others = [(zoom, it[4:]) for (name, zoom), it in self.goal["matrices"].items() if name == key[0] and zoom != key[1]]
+        others = [
+            (zoom, it[4:]) for (name, zoom), it in self.goal["matrices"].items() if name == key[0] and zoom != key[1]
+        ]
         return covers and all(in_order(table.kind, [(key[1], sizes[4:]), other]) for other in others)
 
     def suits_tile(self, key, value):
@@ -247,5 +278,9 @@ class Theirs:
         if tables is None:
             return key in self.start["mapped"]
         relation = self.goal["relations"].get(key[:1])
-        return (key not in self.start["mapped"] and relation is not None and relation[:2] == tables
-                and all(end in self.goal["items"] for end in zip(tables, key[1:])))
+        return (
+            key not in self.start["mapped"]
+            and relation is not None
+            and relation[:2] == tables
+            and all(end in self.goal["items"] for end in zip(tables, key[1:]))
+        )

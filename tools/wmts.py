@@ -1,6 +1,7 @@
-"""A WMTS description of a package's maps, by which GDAL and QGIS open the page of 'mmpkg serve': what make_viewer.py --wmts writes.
+"""A WMTS description of a package's maps, by which GDAL and QGIS open the page of 'mmpkg serve'.
 
-Each pyramid is a layer with a matrix set of its own name. docs/BORDER.md says what is left out, and how the programs open it.
+Each pyramid is a layer with a matrix set of its own name. docs/BORDER.md says what is left out, and how the programs
+open it.
 """
 
 import fractions
@@ -26,12 +27,15 @@ DESCRIPTION = """<?xml version="1.0" encoding="UTF-8"?>
 """
 LAYER = """  <Layer>
    <ows:Title>{title}</ows:Title>
-   <ows:BoundingBox crs="{system}"><ows:LowerCorner>{low}</ows:LowerCorner><ows:UpperCorner>{high}</ows:UpperCorner></ows:BoundingBox>
+   <ows:BoundingBox crs="{system}">
+    <ows:LowerCorner>{low}</ows:LowerCorner><ows:UpperCorner>{high}</ows:UpperCorner>
+   </ows:BoundingBox>
    <ows:Identifier>{name}</ows:Identifier>
    <Style isDefault="true"><ows:Identifier>default</ows:Identifier></Style>
    <Format>{format}</Format>
    <TileMatrixSetLink><TileMatrixSet>{name}</TileMatrixSet></TileMatrixSetLink>
-   <ResourceURL format="{format}" resourceType="tile" template="{page}/tiles/{name}/{{TileMatrix}}/{{TileCol}}/{{TileRow}}"/>
+   <ResourceURL format="{format}" resourceType="tile"
+    template="{page}/tiles/{name}/{{TileMatrix}}/{{TileCol}}/{{TileRow}}"/>
   </Layer>
 """
 MATRIX_SET = """  <TileMatrixSet>
@@ -68,9 +72,15 @@ class Map:
 
     def __init__(self, opened, row):
         self.name, self.title, self.organization, self.number, self.definition, *self.extent = row
-        self.matrices = opened.execute("SELECT zoom_level, matrix_width, matrix_height, tile_width, tile_height, pixel_x_size, pixel_y_size "
-                                       "FROM gpkg_tile_matrix WHERE table_name = ? ORDER BY zoom_level", (self.name,)).fetchall()
-        heads = opened.execute("SELECT DISTINCT substr(data, 1, 12) FROM mm_tiles JOIN mm_blobs b ON b.id = blob WHERE table_name = ?", (self.name,))
+        self.matrices = opened.execute(
+            "SELECT zoom_level, matrix_width, matrix_height, tile_width, tile_height, pixel_x_size, pixel_y_size "
+            "FROM gpkg_tile_matrix WHERE table_name = ? ORDER BY zoom_level",
+            (self.name,),
+        ).fetchall()
+        heads = opened.execute(
+            "SELECT DISTINCT substr(data, 1, 12) FROM mm_tiles JOIN mm_blobs b ON b.id = blob WHERE table_name = ?",
+            (self.name,),
+        )
         self.formats = {FORMATS.get(image_suffix(head), "image/png") for (head,) in heads}
         self.northing_first = is_northing_first(self.definition)
 
@@ -93,23 +103,43 @@ class Map:
         return f"urn:ogc:def:crs:EPSG::{self.number}"
 
     def layer(self, page, bounds):
-        """The layer; tiles of several formats are told as PNG, the one that may be transparent, since programs look at the bytes."""
+        """The layer.
+
+        Tiles of several formats are told as PNG, the one that may be transparent, since programs look at the bytes.
+        """
         left, low, right, high = bounds
-        return LAYER.format(title=escape(self.title), name=self.name, system=self.system(), page=page, low=self.corner(left, low),
-                            high=self.corner(right, high), format=min(self.formats) if len(self.formats) == 1 else "image/png")
+        return LAYER.format(
+            title=escape(self.title),
+            name=self.name,
+            system=self.system(),
+            page=page,
+            low=self.corner(left, low),
+            high=self.corner(right, high),
+            format=min(self.formats) if len(self.formats) == 1 else "image/png",
+        )
 
     def matrix_set(self):
-        matrices = "".join(MATRIX.format(zoom=zoom, width=width, height=height, tile_width=tile_width, tile_height=tile_height,
-                                         scale=decimal(fractions.Fraction(pixel, UNITS_PER_METRE) / PIXEL),
-                                         corner=self.corner(self.extent[0], self.extent[3]))
-                           for zoom, width, height, tile_width, tile_height, pixel, _ in self.matrices)
+        matrices = "".join(
+            MATRIX.format(
+                zoom=zoom,
+                width=width,
+                height=height,
+                tile_width=tile_width,
+                tile_height=tile_height,
+                scale=decimal(fractions.Fraction(pixel, UNITS_PER_METRE) / PIXEL),
+                corner=self.corner(self.extent[0], self.extent[3]),
+            )
+            for zoom, width, height, tile_width, tile_height, pixel, _ in self.matrices
+        )
         return MATRIX_SET.format(name=self.name, system=self.system(), matrices=matrices)
 
 
 def maps_of(opened, report):
     """The maps of a package that WMTS tells; the others are named."""
-    rows = opened.execute("SELECT table_name, identifier, organization, organization_coordsys_id, definition, min_x, min_y, max_x, max_y "
-                          "FROM gpkg_contents JOIN gpkg_spatial_ref_sys USING (srs_id) WHERE data_type = 'tiles' ORDER BY table_name").fetchall()
+    rows = opened.execute(
+        "SELECT table_name, identifier, organization, organization_coordsys_id, definition, min_x, min_y, max_x, max_y "
+        "FROM gpkg_contents JOIN gpkg_spatial_ref_sys USING (srs_id) WHERE data_type = 'tiles' ORDER BY table_name"
+    ).fetchall()
     for row in rows:
         it = Map(opened, row)
         why = it.why_not()
@@ -117,7 +147,10 @@ def maps_of(opened, report):
             report.left_out(f"map {it.name} of the WMTS description", why)
             continue
         if it.northing_first is None:
-            report.note(f"map {it.name}", "its system's definition is no WKT with axes, so the WMTS description tells easting first")
+            report.note(
+                f"map {it.name}",
+                "its system's definition is no WKT with axes, so the WMTS description tells easting first",
+            )
         yield it
 
 

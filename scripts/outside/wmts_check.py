@@ -1,11 +1,13 @@
 #!/usr/bin/env python3
-"""Compares what GDAL and QGIS see of a served package by its WMTS description with the export. Called by scripts/outside/wmts.sh.
+"""Compares what GDAL and QGIS see of a served package by its WMTS description with the export.
+
+Called by scripts/outside/wmts.sh.
 
     MMPKG=out/mmpkg scripts/outside/wmts_check.py [WORD ..]
 
-A package of maps in three systems, two of which tell the northing first, gets its viewer with --wmts, is served and exported; each map has
-to have the same place, size, system and pixels by both ways. WORD picks the checks whose names have it. The last line is
-'N passed, M failed'; the exit status is 1 where one failed.
+A package of maps in three systems, two of which tell the northing first, gets its viewer with --wmts, is served and
+exported; each map has to have the same place, size, system and pixels by both ways. WORD picks the checks whose names
+have it. The last line is 'N passed, M failed'; the exit status is 1 where one failed.
 """
 
 import argparse
@@ -23,9 +25,13 @@ from viewer_package import served
 TOOLS = TOP / "tools"
 PYTHON = "/usr/bin/python3"
 
-# Name, system, lower left corner in metres, columns, rows, metres of a pixel, and the format of the tiles. The last two are northing first.
-MAPS = [("utm", 25832, (500_000, 5_600_000), 1500, 1100, 1, "PNG"), ("gauss", 31468, (4_468_000, 5_332_000), 512, 512, 0.5, "JPEG"),
-        ("new_zealand", 2193, (1_500_000, 5_200_000), 600, 520, 2, "PNG8")]
+# Name, system, lower left corner in metres, columns, rows, metres of a pixel, and the format of the tiles. The last two
+# are northing first.
+MAPS = [
+    ("utm", 25832, (500_000, 5_600_000), 1500, 1100, 1, "PNG"),
+    ("gauss", 31468, (4_468_000, 5_332_000), 512, 512, 0.5, "JPEG"),
+    ("new_zealand", 2193, (1_500_000, 5_200_000), 600, 520, 2, "PNG8"),
+]
 MORE = """srs,7,plan,NONE,7,metres,
 srs,8,without axes,EPSG,8,metres,
 pyramid,plan,Plan,7,0,0,64000000,64000000,two
@@ -36,10 +42,12 @@ pyramid,none,None,25832,0,0,128000000,64000000,two
 pyramid,axes,Axes,8,0,0,64000000,64000000,two
 matrix,axes,0,1,1,64,64,1000000,1000000
 """
-NAMED = ["left out: map flat of the WMTS description: its pixels aren't square, and WMTS has one scale for both sides",
-         "left out: map none of the WMTS description: it has no matrix",
-         "left out: map plan of the WMTS description: its system is NONE:7, and WMTS names one of EPSG's",
-         "note: map axes: its system's definition is no WKT with axes, so the WMTS description tells easting first"]
+NAMED = [
+    "left out: map flat of the WMTS description: its pixels aren't square, and WMTS has one scale for both sides",
+    "left out: map none of the WMTS description: it has no matrix",
+    "left out: map plan of the WMTS description: its system is NONE:7, and WMTS names one of EPSG's",
+    "note: map axes: its system's definition is no WKT with axes, so the WMTS description tells easting first",
+]
 
 BY_GDAL = """
 import sys
@@ -78,13 +86,15 @@ def drawn(layer, extent, side):
 description, out, *names = sys.argv[1:]
 for name, form in (it.split("=") for it in names):
     file = QgsRasterLayer(f"GPKG:{out}:{name}", name, "gdal")
-    words = f"crs={file.crs().authid()}&dpiMode=7&format={form}&layers={name}&styles=default&tileMatrixSet={name}&url={description}"
+    words = f"crs={file.crs().authid()}&dpiMode=7&format={form}&layers={name}&styles=default"
+    words += f"&tileMatrixSet={name}&url={description}"
     live = QgsRasterLayer(words, name, "wms")
     if not live.isValid():
         print(name, "isn't valid:", live.error().message())
         continue
     whole, side, pixel = file.extent(), 512, file.rasterUnitsPerPixelX()
-    part = QgsRectangle(whole.xMinimum(), whole.yMaximum() - side * pixel, whole.xMinimum() + side * pixel, whole.yMaximum())
+    left, top = whole.xMinimum(), whole.yMaximum()
+    part = QgsRectangle(left, top - side * pixel, left + side * pixel, top)
     one, other = drawn(live, part, side), drawn(file, part, side)
     places = [(x, y) for x in range(0, side, 7) for y in range(0, side, 7)]
     off = sum(one.pixel(*it) != other.pixel(*it) for it in places)
@@ -107,15 +117,33 @@ class Scene:
         self.description = f"http://127.0.0.1:{self.port}/media/viewer/5"
 
     def make(self):
-        """Makes the package of GDAL's maps by the tools' own commands; answers what the tool told of its description."""
+        """Makes the package of GDAL's maps by the tools' own commands.
+
+        Answers what the tool told of its description.
+        """
         mmpkg("init", self.file)
         for name, system, corner, columns, rows, pixel, form in MAPS:
             picture = geotiff(self.folder, columns, rows, f"EPSG:{system}", corner, pixel)
             made = self.folder / "in.gpkg"
             made.unlink(missing_ok=True)
-            run("gdal_translate", "-q", "-of", "GPKG", "-co", f"TILE_FORMAT={form}", "-co", f"RASTER_TABLE={name}", picture, made)
+            run(
+                "gdal_translate",
+                "-q",
+                "-of",
+                "GPKG",
+                "-co",
+                f"TILE_FORMAT={form}",
+                "-co",
+                f"RASTER_TABLE={name}",
+                picture,
+                made,
+            )
             run("gdaladdo", "-q", "-r", "nearest", made, 2)
-            self.take_in(run(TOOLS / "import_standard.py", made, self.folder / f"{name}.csv", "--kit", name, self.folder / name)[0])
+            self.take_in(
+                run(TOOLS / "import_standard.py", made, self.folder / f"{name}.csv", "--kit", name, self.folder / name)[
+                    0
+                ]
+            )
         mmpkg("run", self.file, given=MORE.encode())
         commands, told = run(TOOLS / "make_viewer.py", self.file, self.folder / "viewer", "--wmts", self.port, status=1)
         *commands, last = commands.splitlines(keepends=True)
@@ -125,9 +153,16 @@ class Scene:
         return told
 
     def take_in(self, commands):
-        """Runs commands on the package. The table of bounds is refused where it stands, and its rows are put beside the others."""
+        """Runs commands on the package.
+
+        The table of bounds is refused where it stands, and its rows are put beside the others.
+        """
         commands = commands.replace("FILE", f"'{self.file}'")
-        subprocess.run(["bash", "-c", f"mmpkg() {{ '{os.environ['MMPKG']}' \"$@\"; }}; {commands}"], stdout=subprocess.DEVNULL, check=False)
+        subprocess.run(
+            ["bash", "-c", f"mmpkg() {{ '{os.environ['MMPKG']}' \"$@\"; }}; {commands}"],
+            stdout=subprocess.DEVNULL,
+            check=False,
+        )
 
 
 def check_what_is_named(scene):
@@ -141,7 +176,9 @@ def check_by_gdal(scene):
     found, told = run("env", "-C", scene.folder, PYTHON, "-c", BY_GDAL, scene.description, scene.out, *names)
     for line, (name, system, _, columns, rows, *_) in zip(found.splitlines(), MAPS):
         print(f"    {line}")
-        assert line.startswith(f"{name} {columns} {rows} [") and line.endswith(f" {system} differing: 0 of {columns * rows}"), line
+        assert line.startswith(f"{name} {columns} {rows} [") and line.endswith(
+            f" {system} differing: 0 of {columns * rows}"
+        ), line
     expect(len(found.splitlines()), len(MAPS), "maps")
 
 

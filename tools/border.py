@@ -40,6 +40,9 @@ MEDIA_LIMIT = 4_194_304
 KIT_PIECES = 4096
 KIT_LIST_LIMIT = 16_777_216
 
+# From how many bytes on a copy of a package is told.
+TOLD_COPY = 100_000_000
+
 # How many things of which one note speaks are told by their names.
 NOTED = 10
 
@@ -217,16 +220,17 @@ def stamps_of(file):
 
 
 def expect_room(file, folder):
-    """Refuses where a folder has no room for a copy of a package, into which its journal is taken."""
+    """Refuses where a folder has no room for a copy of a package, into which its journal is taken; a large one is told."""
     size, journal = sizes_of(file)
-    wanted = size + 2 * journal
-    free = shutil.disk_usage(folder).free
+    wanted, free = size + 2 * journal, shutil.disk_usage(folder).free
+    why = f"{file}: its journal holds commits, another program has it, or it can't be written, so a copy is read"
     if wanted > free:
         raise Refused(
-            f"{file}: its journal holds commits, or another program has it, so a copy is read, "
-            f"which wants {megabytes(wanted)} in "
-            f"{folder.parent}, where {megabytes(free)} are free; TMPDIR names another folder"
+            f"{why}, which wants {megabytes(wanted)} in {folder.parent}, where {megabytes(free)} are free; "
+            "TMPDIR names another folder"
         )
+    if wanted > TOLD_COPY:
+        print(f"note: {why}: {megabytes(wanted)} in {folder.parent}; TMPDIR names another folder", file=sys.stderr)
 
 
 def megabytes(size):

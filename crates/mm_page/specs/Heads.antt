@@ -31,3 +31,8 @@ IsNeeded limit read = (read ≡ []) ⊎ ((before last : List ℕ) × (read ≡ b
 -- so much was read, and no more
 abbrev pub ReadsNoMore : ℕ → Option (List ℕ) → Option (List ℕ) → Type 0
 ReadsNoMore limit old now = (read : List ℕ) × Consumes old now read × IsNeeded limit read
+
+-- what was read stands in the buffer, as many bytes as are answered
+abbrev pub HoldsRead : ℕ → Option (List ℕ) → Option (List ℕ) → List ℕ → Option (ℕ × RequestSpans) → Type 0
+HoldsRead limit old now buf None = ⊤
+HoldsRead limit old now buf (Some (n, spans)) = Consumes old now (take n buf) × IsNeeded limit (take n buf)

@@ -3,7 +3,7 @@
 ghost use Rattle.std.specs.Prelude.{◌≡◌, ℕ, List, IfOk, IfErr, IfSome, OnOk, length, true};
 ghost use Rattle.httparse.specs.Grammar.{RequestHead};
 ghost use Rattle.mm_definitions.specs.Streams.{has_failed, inside};
-ghost use Rattle.mm_page.specs.Heads.{Heads, IsHead, Lies, ReadsNoMore};
+ghost use Rattle.mm_page.specs.Heads.{Heads, HoldsRead, IsHead, Lies, ReadsNoMore};
 
 use httparse::Status;
 use httparse::spans::{HeaderSpan, RequestSpans, parse_request};
@@ -24,6 +24,8 @@ pub fn read_head<R: Read>(
     ensures head { IfOk result (λ o. IfSome (R.remaining (inside reader.old))
         (λ input. Heads (length buf.old) (length headers.old) input buf.new headers.new o)) }
     ensures lies { IfOk result (λ o. Lies buf.new headers.new o) }
+    ensures holds { IfOk result (λ o. HoldsRead (length buf.old)
+        (R.remaining (inside reader.old)) (R.remaining (inside reader.new)) buf.new o) }
     ensures frugal { OnOk result
         (ReadsNoMore (length buf.old) (R.remaining (inside reader.old))
         (R.remaining (inside reader.new))) }

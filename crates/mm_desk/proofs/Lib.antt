@@ -1,3 +1,5 @@
+pub mod Answering
 pub mod Leaving
 pub mod Sitting
 pub mod RowPaths
+pub mod Showing

@@ -1,6 +1,5 @@
 -- The run of the records of a body that is held.
-use Rattle.std.specs.Prelude.{◌≡◌, ◌≤◌, ℕ, List, true, Some, Result, IfErr, codes, length, take}
-use Rattle.std.specs.Io.KnownBytes.{Appends}
+use Rattle.std.specs.Prelude.{◌≡◌, ℕ, List, Some, Result, IfErr, codes}
 use Rattle.mm_definitions.specs.Streams.{Written}
 use Rattle.mm_definitions.specs.declared.answers.RunFault.{RunFault}
 use Rattle.mm_definitions.specs.declared.answers.Tally.{Tally}
@@ -12,10 +11,6 @@ use Rattle.mm_run.specs.declared.apply.Apply as applies
 -- the head of the answers to records
 abbrev pub answers_head : List ℕ
 answers_head = codes "HTTP/1.1 200 OK\r\nContent-Type: text/plain\r\nX-Content-Type-Options: nosniff\r\nConnection: close\r\n\r\n"
-
--- The output has failed behind a front of the head.
-abbrev pub CutsHead : Written → Written → Type 0
-CutsHead old new = (new.failed ≡ true) × (taken : ℕ) × (taken ≤ length answers_head) × Appends old.contents new.contents (take taken answers_head)
 
 -- It runs the records of these bytes, whatever a connection tells of them.
 pub record RunsBody {A : Type 0} (apply : applies.Ghosts A) (moment : ℕ) (old new : A) (bytes : List ℕ)

@@ -1,5 +1,5 @@
 -- What one request does to a session.
-use Rattle.std.specs.Prelude.{ℕ, List, Result, Ok, Err, ◌⊎◌, ⊤}
+use Rattle.std.specs.Prelude.{ℕ, List, Result, Ok, Err, ◌⊎◌}
 use Rattle.mm_definitions.specs.Streams.{Written}
 use Rattle.mm_definitions.specs.declared.answers.PageFault.{PageFault}
 use Rattle.mm_run.specs.declared.apply.Apply as applies
@@ -7,13 +7,6 @@ use Rattle.mm_desk.specs.Bodies.{RunsBody}
 use Rattle.mm_desk.specs.Sittings.{Runs, Stays, Visit}
 use Rattle.mm_desk.specs.declared.desk.Done.{Done}
 use Rattle.mm_desk.specs.declared.desk.Done.TheVariants as dones
-
--- no records were run
-abbrev pub IsNoRun : Result Done PageFault → Type 0
-IsNoRun (Ok (dones.Ran run)) = ⊥
-IsNoRun (Ok dones.Shown) = ⊤
-IsNoRun (Ok dones.Ended) = ⊤
-IsNoRun (Err fault) = ⊤
 
 -- Its records were run, those of some body; or the session is as it was but for reads.
 abbrev pub IsExchange : {A : Type 0} (apply : applies.Ghosts A) → ℕ → A → A → Written → Result Done PageFault → Type 0

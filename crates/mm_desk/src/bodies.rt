@@ -1,14 +1,14 @@
 //! The run of the records of a body that is held.
 
-ghost use Rattle.std.specs.Prelude.{◌≡◌, ℕ, codes, true, IfOk, IfErr};
-ghost use Rattle.std.specs.Io.KnownBytes.{Appends};
+ghost use Rattle.std.specs.Prelude.{◌≡◌, IfOk, IfErr};
 ghost use Rattle.mm_definitions.specs.Streams.{Written, written};
-ghost use Rattle.mm_desk.specs.Bodies.{CutsHead, RunsBody, answers_head};
+ghost use Rattle.mm_desk.specs.Bodies.{RunsBody, answers_head};
+ghost use Rattle.mm_desk.specs.Sent.{IsCut, IsWritten};
 
-use mm_definitions::answers::{Fault, PageFault, RunFault, Tally};
+use crate::sending::sent;
+use mm_definitions::answers::{PageFault, RunFault, Tally};
 use mm_definitions::moments::Moment;
 use mm_definitions::streams::Io;
-use mm_io::{Sent, send};
 use mm_run::{Apply, run_list};
 use std::alloc::Global;
 use std::io::Write;
@@ -27,17 +27,16 @@ pub fn run_body<A: Apply, W: Write>(
     at: Moment,
 ) -> Result<Result<Tally, RunFault>, PageFault>
     ensures ran { IfOk result (λ ran. (between : Written)
-        × Appends (written W.contents writer.old).contents between.contents answers_head
+        × IsWritten (written W.contents writer.old) between answers_head
         × RunsBody A.Apply at session.old session.new body.now between
         (written W.contents writer.new) ran) }
     ensures stayed { IfErr result (λ e. session.new ≡ session.old) }
-    ensures cut { IfErr result (λ e. (e.0.0 ≡ 97)
-        × CutsHead (written W.contents writer.old) (written W.contents writer.new)) }
+    ensures cut { IfErr result (λ e. IsCut (written W.contents writer.old)
+        (written W.contents writer.new) answers_head e.0) }
 {
-    match send(writer, ANSWERS) {
-        Sent::Flushed => {}
-        Sent::Unflushed => return Err(PageFault(Fault::OUTPUT)),
-        Sent::Cut => return Err(PageFault(Fault::OUTPUT)),
+    match sent(writer, ANSWERS) {
+        Ok(()) => {}
+        Err(fault) => return Err(fault),
     }
     let mut records = Io::new(body);
     Ok(run_list(alloc, session, &mut records, writer, at))

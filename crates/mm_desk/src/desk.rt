@@ -1,24 +1,40 @@
 //! A request read and answered.
 
-ghost use Rattle.std.specs.Prelude.{◌≡◌, ℕ, length, All, IfErr, IfOk};
-ghost use Rattle.mm_definitions.specs.Streams.{Written, written};
-ghost use Rattle.mm_desk.specs.Exchanges.{IsExchange, IsNoRun};
-ghost use Rattle.mm_desk.specs.Sittings.{Stays};
+ghost use Rattle.std.specs.Prelude.{◌≡◌, ◌⊎◌, map, option_map, IfErr, OnOk};
+ghost use Rattle.httparse.specs.Grammar.{RequestHead};
+ghost use Rattle.httparse.specs.Spans.{IsRequestAt, IsRequestOf, IsRequestWithin, name_and_value};
+ghost use Rattle.mm_definitions.specs.Streams.{has_failed, inside, written};
+ghost use Rattle.mm_gate.specs.Bodies.{IsReadFrugally};
+ghost use Rattle.mm_gate.specs.Demand.{IsDemand, demanded};
+ghost use Rattle.mm_desk.specs.Answered.{Demands, IsAnswered, IsBehind, IsHeadless, IsPathAnswered, IsReadOn, IsReadTo, IsRecordsRun, Never, page_of};
+ghost use Rattle.mm_desk.specs.Exchanges.{IsExchange};
+ghost use Rattle.mm_desk.specs.Responses.{go_on};
+ghost use Rattle.mm_desk.specs.Sent.{IsSentOff};
 
 use crate::bodies::run_body;
 use crate::reads::Desk;
-use crate::replies::rows_reply;
-use crate::routes::rows_wanted;
-use httparse::spans::EMPTY_HEADER_SPAN;
-use mm_definitions::answers::{Fault, PageFault, RunFault, Tally};
+use crate::replies::show;
+use crate::responses::{ENDED, GO_ON, refusal};
+use crate::sending::sent;
+use httparse::spans::{EMPTY_HEADER_SPAN, HeaderSpan, RequestSpans};
+use mm_definitions::answers::{PageFault, RunFault, Tally};
 use mm_definitions::moments::Moment;
+use mm_definitions::names::Name;
 use mm_definitions::streams::Io;
 use mm_gate::{Taken, read_body, take_request};
-use mm_io::{Sent, send};
-use mm_page::{bad_request, not_found, read_head, read_path, reply};
-use std::alloc::{AllocError, Global};
+use mm_page::read_head;
+use std::alloc::Global;
 use std::io::{Read, Write};
 use std::str::from_utf8;
+
+/// What a desk lets in: the port that it is reached at, the front that each path begins with (the key behind a slash), and the media table
+/// whose items may run as pages.
+#[derive(Clone, Copy)]
+pub struct Gate<'a> {
+    pub port: u16,
+    pub front: &'a str,
+    pub page: Option<&'a Name>,
+}
 
 /// What became of a request.
 pub enum Done {
@@ -30,56 +46,19 @@ pub enum Done {
     Ran(Result<Tally, RunFault>),
 }
 
-/// Sends a response that was made whole, and tells whether the desk is to end.
-fn answer<W: Write>(
-    writer: &mut Io<W>,
-    response: Result<Vec<u8>, Fault>,
-    ends: bool,
-) -> Result<Done, PageFault>
-    ensures { IsNoRun result }
+/// Tells a sender that waits to go on.
+fn let_go_on<W: Write>(writer: &mut Io<W>, waits: bool) -> Result<(), PageFault>
+    ensures { IsSentOff (written W.contents writer.old) (written W.contents writer.new)
+        (go_on waits) result }
 {
-    let bytes = match response {
-        Ok(bytes) => bytes,
-        Err(fault) => return Err(PageFault(fault)),
-    };
-    match send(writer, bytes.as_slice()) {
-        Sent::Flushed => {
-            if ends {
-                Ok(Done::Ended)
-            } else {
-                Ok(Done::Shown)
-            }
-        }
-        Sent::Unflushed => Err(PageFault(Fault::OUTPUT)),
-        Sent::Cut => Err(PageFault(Fault::OUTPUT)),
+    if waits {
+        return sent(writer, GO_ON);
     }
-}
-
-fn in_memory(made: Result<Vec<u8>, AllocError>) -> Result<Vec<u8>, Fault> {
-    match made {
-        Ok(bytes) => Ok(bytes),
-        Err(_) => Err(Fault::MEMORY),
-    }
-}
-
-/// The response to a path behind the key.
-fn show<D: Desk>(alloc: Global, desk: &mut D, path: &[u8]) -> Result<Vec<u8>, Fault>
-    ensures { Stays D.Apply desk.old desk.new }
-{
-    let Ok(path) = from_utf8(path) else {
-        return in_memory(not_found(alloc));
-    };
-    if let Some((table, first)) = rows_wanted(path) {
-        return rows_reply(alloc, desk, &table, first);
-    }
-    match read_path(alloc, path)? {
-        Some(wanted) => reply(alloc, desk, wanted),
-        None => in_memory(not_found(alloc)),
-    }
+    Ok(())
 }
 
 /// Reads the records whole, and runs them; where they did not come whole none is run.
-fn take_body<D: Desk, R: Read, W: Write>(
+fn run_records<D: Desk, R: Read, W: Write>(
     alloc: Global,
     desk: &mut D,
     reader: &mut Io<R>,
@@ -88,54 +67,156 @@ fn take_body<D: Desk, R: Read, W: Write>(
     here: &[u8],
     length: usize,
 ) -> Result<Done, PageFault>
-    ensures { IsExchange D.Apply at desk.old desk.new (written W.contents writer.new) result }
+    ensures run { IsRecordsRun length here.now
+        D.Apply at (R.remaining (inside reader.old)) (has_failed reader.new)
+        desk.old desk.new (written W.contents writer.old) (written W.contents writer.new) result }
+    ensures frugal { IsReadFrugally here.now length
+        (R.remaining (inside reader.old)) (R.remaining (inside reader.new)) }
 {
     match read_body(alloc, reader, here, length) {
         Ok(Some(body)) => match run_body(alloc, desk, body.as_slice(), writer, at) {
             Ok(run) => Ok(Done::Ran(run)),
             Err(fault) => Err(fault),
         },
-        Ok(None) => answer(writer, in_memory(bad_request(alloc)), false),
+        Ok(None) => match sent(writer, refusal(400).as_bytes()) {
+            Ok(()) => Ok(Done::Shown),
+            Err(fault) => Err(fault),
+        },
         Err(fault) => Err(PageFault(fault)),
     }
 }
 
-/// Reads one request and answers it.
+/// Shows what a path behind the key asks for.
+fn answer_path<D: Desk, W: Write>(
+    alloc: Global,
+    desk: &mut D,
+    page: Option<&Name>,
+    path: &[u8],
+    writer: &mut Io<W>,
+) -> Result<Done, PageFault>
+    ensures { IsPathAnswered (option_map (λ name. name.now) page.entry) path.now D.Viewer D.Apply
+        desk.old desk.new (written W.contents writer.old) (written W.contents writer.new) result }
+{
+    let response = match show(alloc, desk, page, path) {
+        Ok(response) => response,
+        Err(fault) => return Err(PageFault(fault)),
+    };
+    match sent(writer, &response) {
+        Ok(()) => Ok(Done::Shown),
+        Err(fault) => Err(fault),
+    }
+}
+
+/// Answers a request by what its head asks for; `here` are the bytes behind the head that were read with it.
+fn answer_demand<D: Desk, R: Read, W: Write>(
+    alloc: Global,
+    desk: &mut D,
+    gate: Gate<'_>,
+    reader: &mut Io<R>,
+    writer: &mut Io<W>,
+    at: Moment,
+    taken: Taken<'_>,
+    here: &[u8],
+) -> Result<Done, PageFault>
+    ensures answered { IsAnswered (page_of gate.entry) (IsBehind (demanded taken.entry) here.now) Never
+        D.Viewer D.Apply at (R.remaining (inside reader.old)) (has_failed reader.new)
+        desk.old desk.new (written W.contents writer.old) (written W.contents writer.new) result }
+    ensures frugal { IsReadOn (demanded taken.entry) here.now
+        (R.remaining (inside reader.old)) (R.remaining (inside reader.new)) }
+{
+    match taken {
+        Taken::Show(path) => answer_path(alloc, desk, gate.page, path, writer),
+        Taken::Records(length, waits) => match let_go_on(writer, waits) {
+            Ok(()) => run_records(alloc, desk, reader, writer, at, here, length as usize),
+            Err(fault) => Err(fault),
+        },
+        Taken::End => match sent(writer, ENDED) {
+            Ok(()) => Ok(Done::Ended),
+            Err(fault) => Err(fault),
+        },
+        Taken::Refused(status) => match sent(writer, refusal(status).as_bytes()) {
+            Ok(()) => Ok(Done::Shown),
+            Err(fault) => Err(fault),
+        },
+    }
+}
+
+/// What a head is taken for.
+fn taken_for<'b>(
+    gate: Gate<'_>,
+    read: &'b [u8],
+    headers: &[HeaderSpan],
+    spans: RequestSpans,
+) -> Taken<'b>
+    requires within { IsRequestWithin read.now headers.now spans }
+    requires of { IsRequestOf read.now headers.now spans }
+    ensures { (h : RequestHead) → IsRequestAt read.now headers.now spans h
+        → IsDemand gate.entry.port gate.entry.front.now h.method h.target (map name_and_value h.fields)
+        h.minor (demanded result) }
+{
+    let Ok(target) = from_utf8(spans.path.of(read)) else {
+        unreachable!()
+    };
+    let method = spans.method.of(read);
+    let fields = &headers[..spans.headers];
+    let front = gate.front.as_bytes();
+    take_request(
+        gate.port,
+        front,
+        method,
+        target,
+        read,
+        fields,
+        spans.version,
+    )
+}
+
+/// Reads one request and answers it, at a moment. The records of a body are run once it came whole, and never in part; each is answered by a
+/// line that is written and flushed before the next record is read. With every other answer, and with every fault, no record was run, and
+/// the package is as it was.
+///
+/// A fault ends it. With 90 want of memory, 91 the store, 92 where the package is needed and the session has to be opened again, and 96
+/// where the reader fails, nothing was written, but to a sender that waits that it may go on; with 97, where the writer fails, a front of
+/// the response was. What stops a list whose head was answered is a fault of its run, and no fault of the request.
 pub fn desk_one<D: Desk, R: Read, W: Write>(
     alloc: Global,
     desk: &mut D,
-    port: u16,
-    front: &str,
+    gate: Gate<'_>,
     reader: &mut Io<R>,
     writer: &mut Io<W>,
     at: Moment,
 ) -> Result<Done, PageFault>
-    ensures { IsExchange D.Apply at desk.old desk.new (written W.contents writer.new) result }
+    ensures exchange { IsExchange D.Apply at desk.old desk.new (written W.contents writer.new)
+        result }
+    ensures answered { IsAnswered (page_of gate.entry) (Demands gate.entry) IsHeadless
+        D.Viewer D.Apply at (R.remaining (inside reader.old)) (has_failed reader.new)
+        desk.old desk.new (written W.contents writer.old) (written W.contents writer.new) result }
+    ensures frugal { OnOk result (IsReadTo gate.entry
+        (R.remaining (inside reader.old)) (R.remaining (inside reader.new))) }
+    ensures frugal_fault { IfErr result (λ e. (e.0.0 ≡ 96) ⊎ IsReadTo gate.entry
+        (R.remaining (inside reader.old)) (R.remaining (inside reader.new))) }
 {
     let mut buf = [0; 8192];
     let mut headers = [EMPTY_HEADER_SPAN; 64];
-    let (n, spans) = match read_head(reader, &mut buf, &mut headers) {
-        Ok(Some(found)) => found,
-        Ok(None) => return answer(writer, in_memory(bad_request(alloc)), false),
-        Err(fault) => return Err(PageFault(fault)),
-    };
-    let read = &buf[..n];
-    let Ok(target) = from_utf8(spans.path.of(read)) else {
-        return answer(writer, in_memory(not_found(alloc)), false);
-    };
-    let method = spans.method.of(read);
-    let fields = &headers[..spans.headers];
-    let front = front.as_bytes();
-    match take_request(port, front, method, target, read, fields, spans.version) {
-        Taken::Show(path) => {
-            let response = show(alloc, desk, path);
-            answer(writer, response, false)
+    match read_head(reader, &mut buf, &mut headers) {
+        Ok(Some((n, spans))) => {
+            let read = &buf[..n];
+            let taken = taken_for(gate, read, &headers, spans);
+            answer_demand(
+                alloc,
+                desk,
+                gate,
+                reader,
+                writer,
+                at,
+                taken,
+                &read[spans.len..],
+            )
         }
-        Taken::Records(length, _) => {
-            let here = &read[spans.len..];
-            take_body(alloc, desk, reader, writer, at, here, length as usize)
-        }
-        Taken::End => answer(writer, in_memory(not_found(alloc)), true),
-        Taken::Refused(_) => answer(writer, in_memory(not_found(alloc)), false),
+        Ok(None) => match sent(writer, refusal(400).as_bytes()) {
+            Ok(()) => Ok(Done::Shown),
+            Err(fault) => Err(fault),
+        },
+        Err(fault) => Err(PageFault(fault)),
     }
 }

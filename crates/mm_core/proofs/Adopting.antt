@@ -19,7 +19,7 @@ use Rattle.mm_walk.proofs.Resting.{seen_still}
 use Rattle.mm_check.specs.Verdict.{IsVerified}
 use Rattle.mm_check.specs.Form.{AreInForm, IsFormCheck, BlobsStand, TellsForm}
 use Rattle.mm_check.proofs.Reading.{asked_stands, asked_fails, stand_as_before, fail_as_before, formed_for}
-use Rattle.mm_core.specs.Adopted.{IsAdopted, IsOfThisVersion, Declines, DeclinesNone, TellsProfile, IsNotAdopted}
+use Rattle.mm_core.specs.Adopted.{IsAdopted, WasAdopted, IsOfThisVersion, Declines, DeclinesNone, TellsProfile, IsNotAdopted}
 use Rattle.std.specs.Prelude.{ℕ}
 
 -- what is known of a database that passed the look and the form of its blobs
@@ -30,6 +30,16 @@ pub record IsOpened (old new : State) : Type 0 where
   pub profile : HasCleanDisk new → IsOfThisVersion old
   pub blobs : HasCleanDisk new → BlobsStand old
   pub seen : HasCleanDisk new → (profile : Profile) (p : Package) → IsSeenAs profile old p → IsSeenAs profile new p
+
+-- so it is known of it later
+pub was_adopted : (old mid new : State) → IsAdopted old mid → (HasCleanDisk new → HasCleanDisk mid) → WasAdopted old new
+was_adopted old mid new it early = record {
+  row = λ clean. it.row (early clean);
+  some = λ clean. it.some (early clean);
+  profile = λ clean. it.profile (early clean);
+  blobs = λ clean. it.blobs (early clean);
+  meets = λ clean. it.meets (early clean);
+}
 
 module _ (old new : State) {result : Result (Unit {0}) Open} (looked : IsLooked old new result) (clean : HasCleanDisk new) where
   looked_seen : (profile : Profile) (p : Package) → IsSeenAs profile old p → IsSeenAs profile new p

@@ -32,6 +32,15 @@ pub record IsAdopted (old new : State) : Type 0 where
   pub settled : HasCleanDisk new → (p : Package) → IsSettled current old p → IsSettled current new p
   pub meets : HasCleanDisk new → (p : Package) → IsSeenAs current old p → Meets current p
 
+-- It was adopted before it became what it is now: so its profile's table shows this profile's row alone, there is a table, its blobs
+-- have their form, and a package meets the rules.
+pub record WasAdopted (old new : State) : Type 0 where
+  pub row : HasCleanDisk new → ShowsProfile current.version old
+  pub some : HasCleanDisk new → IsBlank old → ⊥
+  pub profile : HasCleanDisk new → IsOfThisVersion old
+  pub blobs : HasCleanDisk new → BlobsStand old
+  pub meets : HasCleanDisk new → (p : Package) → IsSeenAs current old p → Meets current p
+
 -- A package that is not adopted breaks the rule that is told, or there was a fault.
 abbrev pub Declines : Package → Open → Type 0
 Declines p (opens.Rule rule) = IsFailing current p rule

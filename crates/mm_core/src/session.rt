@@ -189,7 +189,7 @@ impl<S: Alter> Session<S> {
     ghost use Rattle.mm_run.specs.Promised.{RunsList};
 
     /// Reads records to the end and answers each with a line, which is written and flushed before the next record is
-    /// read. Each command is applied at the moment that is handed in. At each exit every database that may be left is
+    /// answered. Each command is applied at the moment that is handed in. At each exit every database that may be left is
     /// that of a first part of the accepted commands, with every acknowledged one in it. Unless a command failed, the
     /// session works on: it is settled for the package after the answers that were given, and can run a second list.
     /// One that only reads as a package, whatever a crash would leave, is answered the same, and reads then as the package

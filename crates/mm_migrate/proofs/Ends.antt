@@ -1,5 +1,5 @@
 -- How a migration comes to its ends.
-use Rattle.std.proofs.Common.{◌≡◌, ◌≢◌, inl, inr, ℕ, true, false, Option, Some, None, Result, Ok, Err, refl, sym, ap, subst, ◌∙◌, arith}
+use Rattle.std.proofs.Common.{◌≡◌, ◌≢◌, inl, inr, ℕ, true, false, Option, Some, None, Result, Ok, Err, OnOk, refl, sym, ap, subst, ◌∙◌, arith}
 use Rattle.sqlite.specs.Tree.{Trees}
 use Rattle.sqlite.specs.State.{State, HasCleanDisk, Survives, IsUnchanged}
 use Rattle.sqlite.proofs.StateLemmas.{survives_then, survives_weaker}
@@ -21,7 +21,7 @@ use Rattle.mm_check.specs.Verdict.{IsVerified}
 use Rattle.mm_check.specs.Form.{AreInForm, IsFormCheck, TellsForm}
 use Rattle.mm_check.proofs.Reading.{asked_stands, asked_fails, told_as_before, formed_for}
 use Rattle.mm_migrate.specs.Moves.{MayScale, IsRescaled}
-use Rattle.mm_migrate.specs.Migrations.{Judged, IsChecked, Adopts, Migrates, TellsNumber, NoNumber, OnlyStoreFaults, MayCommitScaled, IsMigration, IsOlder}
+use Rattle.mm_migrate.specs.Migrations.{Judged, IsChecked, Adopts, Migrates, ShowsEither, TellsNumber, NoNumber, OnlyStoreFaults, MayCommitScaled, IsMigration, IsOlder}
 
 -- ---- the check
 
@@ -168,6 +168,10 @@ module _ (old mid : State) where
 committing_nothing : (old new : State) → CommitsNothing old new → Survives old new (MayCommitScaled old)
 committing_nothing old new h = survives_weaker old new (λ _. ⊥) (MayCommitScaled old) (λ _ db none. absurd none) h
 
+when_ok : {P : Type 0} (result : Result (Unit {0}) Open) → P → OnOk result P
+when_ok (Ok u) it = it
+when_ok (Err why) it = tt
+
 other_versions : millimetres.version ≡ micrometres.version → ⊥
 other_versions e = absurd (cc)
 
@@ -182,14 +186,14 @@ module _ (old mid : State) where
   in_micrometres (Err opens.BadProfile) new p quiet clean was it judged = absurd judged
   in_micrometres (Err opens.BadBlobs) new p quiet clean was it judged = absurd judged
 
-  no_telling : (new : State) (result : Result (Unit {0}) Open) → NoNumber result → TellsNumber old new result
-  no_telling new (Ok u) h = tt
-  no_telling new (Err (opens.Version version)) h = absurd h
-  no_telling new (Err opens.NoProfile) h = absurd h
-  no_telling new (Err opens.BadProfile) h = absurd h
-  no_telling new (Err opens.BadBlobs) h = tt
-  no_telling new (Err (opens.Rule rule)) h = tt
-  no_telling new (Err (opens.Fault fault)) h = tt
+  no_telling : (new : State) (result : Result (Unit {0}) Open) → NoNumber result → ShowsEither old → TellsNumber old new result
+  no_telling new (Ok u) h shows = shows
+  no_telling new (Err (opens.Version version)) h shows = absurd h
+  no_telling new (Err opens.NoProfile) h shows = absurd h
+  no_telling new (Err opens.BadProfile) h shows = absurd h
+  no_telling new (Err opens.BadBlobs) h shows = shows
+  no_telling new (Err (opens.Rule rule)) h shows = shows
+  no_telling new (Err (opens.Fault fault)) h shows = tt
 
   looked_well : IsLooked old mid (Ok tt) → HasCleanDisk mid → (p : Package) → IsSettled micrometres old p → IsSettled micrometres mid p
   looked_well looked clean p it = go (looked.answers clean)
@@ -197,6 +201,10 @@ module _ (old mid : State) where
       go : AnswersLook old mid (Ok tt) → IsSettled micrometres mid p
       go (inl a) = unchanged_settled micrometres old mid p looked.survives clean a.2 it
       go (inr a) = absurd a.2
+
+  shows_current : AnswersLook old mid (Ok tt) → ShowsProfile micrometres.version old
+  shows_current (inl it) = (it.0, asked_still old mid it.0 it.1, it.3)
+  shows_current (inr it) = absurd it.2
 
   unchanged_well : AnswersLook old mid (Ok tt) → IsUnchanged old mid
   unchanged_well (inl a) = a.2
@@ -212,7 +220,9 @@ module _ (old mid : State) where
         refused = λ _. quiet;
         adopts = λ clean p s. let it = looked_well looked (early clean) p s in in_micrometres result new p quiet clean s (checked.settled clean p it) (checked.says clean p it);
         migrates = λ clean p s. absurd (other_versions (looked.agrees (early clean) millimetres.version p s.reads));
-        tells = λ clean. no_telling new result checked.no_number;
+        tells = λ clean. no_telling new result checked.no_number (inl (shows_current (looked.answers (early clean))));
+        some = λ clean. when_ok result (λ blank. looked.none (early clean) blank);
+        profile = λ clean. when_ok result (λ version p reads. inl (looked.agrees (early clean) version p reads));
         blobs = λ clean. told_as_before old mid (unchanged_well (looked.answers (early clean))) result (checked.blobs clean);
         faults = λ clean. checked.faults;
       }
@@ -245,7 +255,9 @@ module _ (old mid : State) where
         refused = λ is. quiet_then old mid new at.survives (it.refused is);
         adopts = λ clean p s. absurd (other_versions (at.agrees (early clean) micrometres.version p s.reads).0);
         migrates = λ clean p s. it.migrates clean p (looked_older at (early clean) p s);
-        tells = λ clean. no_telling new result it.no_number;
+        tells = λ clean. no_telling new result it.no_number (inr (shows_version (at.answers (early clean))));
+        some = λ clean. when_ok result (λ blank. at.none (early clean) blank);
+        profile = λ clean. when_ok result (λ version p reads. inr (sym (at.agrees (early clean) version p reads).0));
         blobs = λ clean. told_as_before old mid (unchanged_older (at.answers (early clean))) result (it.blobs clean);
         faults = λ clean. it.faults;
       }
@@ -259,8 +271,10 @@ module _ (old mid : State) where
   told (opens.Version version) other it = (it, λ e. other (ap opens.Version e))
   told opens.NoProfile other it = it
   told opens.BadProfile other it = it
-  told opens.BadBlobs other it = tt
-  told (opens.Rule rule) other it = tt
+  told opens.BadBlobs other (inl it) = absurd it.3
+  told opens.BadBlobs other (inr it) = absurd it.2
+  told (opens.Rule rule) other (inl it) = absurd it.3
+  told (opens.Rule rule) other (inr it) = absurd it.2
   told (opens.Fault fault) other it = tt
 
   not_adopted : (why : Open) (p : Package) → CommitsNothing old mid → HasCleanDisk mid → IsSettled micrometres old p
@@ -309,6 +323,8 @@ module _ (old mid : State) where
     adopts = λ clean p s. not_adopted why p looked.survives clean s (looked.agrees clean micrometres.version p s.reads);
     migrates = λ clean p s. not_migrated why p other looked.survives clean s (looked.agrees clean millimetres.version p s.reads);
     tells = λ clean. told why other (looked.answers clean);
+    some = λ clean. tt;
+    profile = λ clean. tt;
     blobs = λ clean. form_untold why (looked.answers clean);
     faults = λ clean. fault_told why (looked.answers clean);
   }

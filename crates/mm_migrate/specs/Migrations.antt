@@ -1,5 +1,5 @@
 -- What becomes of a connection whose package is to be told in micrometres.
-use Rattle.std.specs.Prelude.{◌≡◌, ◌≢◌, ⊤, false, Result, Ok, Err, OnOk, IsTrue}
+use Rattle.std.specs.Prelude.{◌≡◌, ◌≢◌, ◌⊎◌, ⊤, ℤ, false, Result, Ok, Err, OnOk, IsTrue}
 use Rattle.sqlite.specs.Tree.{Trees}
 use Rattle.sqlite.specs.State.{State, HasCleanDisk, Survives}
 use Rattle.mm_definitions.specs.Bounds.{Profile, millimetres, micrometres}
@@ -8,10 +8,11 @@ use Rattle.mm_definitions.specs.Rules.{Meets}
 use Rattle.mm_definitions.specs.declared.answers.Open.{Open}
 use Rattle.mm_definitions.specs.declared.answers.Open.TheVariants as opens
 use Rattle.mm_definitions.specs.Scale.{scale}
-use Rattle.mm_store.specs.Stands.{StandsFor, IsSettled}
+use Rattle.mm_store.specs.Stands.{StandsFor, ReadsAs, IsSettled}
 use Rattle.mm_store.specs.Faults.{IsStoreFault}
 use Rattle.mm_store.specs.Statements.{CommitsNothing}
 use Rattle.mm_meta.specs.Look.{AnswersLook, ShowsProfile}
+use Rattle.mm_meta.specs.Opening.{IsBlank}
 use Rattle.mm_check.specs.Verdict.{IsFailing}
 use Rattle.mm_check.specs.Form.{TellsForm}
 use Rattle.mm_migrate.specs.Moves.{MayScale, StandsForEither}
@@ -62,12 +63,22 @@ Migrates p new (Err (opens.Rule rule)) = IsSettled millimetres new p × IsFailin
 Migrates p new (Err (opens.Fault fault)) = (db : Trees) → new.may_leave db → StandsForEither db p
 Migrates p new (Err _) = ⊥
 
--- 93, 94 and 95 are as the look at the profile's row gives it, and another version than these two
+-- the profile's table shows the row of the one version or of the other
+abbrev pub ShowsEither : State → Type 0
+ShowsEither s = ShowsProfile micrometres.version s ⊎ ShowsProfile millimetres.version s
+
+-- 93, 94 and 95 are as the look at the profile's row gives it, and another version than these two; all else but a fault is told of a
+-- database of these two alone
 abbrev pub TellsNumber : State → State → Result (Unit {0}) Open → Type 0
 TellsNumber old new (Err (opens.Version version)) = AnswersLook old new (Err (opens.Version version)) × (version ≢ millimetres.version)
 TellsNumber old new (Err opens.NoProfile) = AnswersLook old new (Err opens.NoProfile)
 TellsNumber old new (Err opens.BadProfile) = AnswersLook old new (Err opens.BadProfile)
-TellsNumber old new _ = ⊤
+TellsNumber old new (Err (opens.Fault fault)) = ⊤
+TellsNumber old new _ = ShowsEither old
+
+-- a package of any other version is not read
+abbrev pub IsOfEither : State → Type 0
+IsOfEither s = (version : ℤ) (p : Package) → (IsTrue s.is_open → ReadsAs version s.now p) → (version ≡ micrometres.version) ⊎ (version ≡ millimetres.version)
 
 -- what may be committed: of a database whose profile's table shows that of millimetres, the package in micrometres; of others nothing
 abbrev pub MayCommitScaled : State → Trees → Type 0
@@ -87,6 +98,8 @@ pub record IsMigration (old new : State) (result : Result (Unit {0}) Open) : Typ
   pub adopts : HasCleanDisk new → (p : Package) → IsSettled micrometres old p → Adopts p new result
   pub migrates : HasCleanDisk new → (p : Package) → IsSettled millimetres old p → Migrates p new result
   pub tells : HasCleanDisk new → TellsNumber old new result
+  pub some : HasCleanDisk new → OnOk result (IsBlank old → ⊥)
+  pub profile : HasCleanDisk new → OnOk result (IsOfEither old)
   pub blobs : HasCleanDisk new → TellsForm old result
   pub faults : HasCleanDisk new → OnlyStoreFaults result
 

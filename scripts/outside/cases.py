@@ -28,6 +28,7 @@ Words that end in '< FILE' or '> FILE' take the input from that file, or have th
     ! same FILE          the file is byte for byte as it was before the last run of the program
     ! missing FILE       there is no such file
     ! folder NAME        makes a folder
+    ! link NAME TARGET   makes a link to a file or a folder, which need not be there
     ! remove NAME        removes a file or an empty folder
     ! limit WHAT SIZE    from here on the program may have so many bytes of 'memory', or make no file longer ('files'); without SIZE any
     ! listen             the port is taken, by a listener of this script's own
@@ -236,7 +237,7 @@ class Room:
     def do(self, step):
         """Does a step, and fails where something else comes of it than must."""
         verbs = {"$": self.run, "write": self.write, "cut": self.cut, "sql": self.sql, "older": self.older, "listen": self.listen}
-        verbs |= {"same": self.same, "missing": self.missing, "folder": self.make_folder, "remove": self.remove, "limit": self.limit}
+        verbs |= {"same": self.same, "missing": self.missing, "folder": self.make_folder, "remove": self.remove, "limit": self.limit, "link": self.link}
         if step.verb not in verbs:
             raise Failed("no such step")
         verbs[step.verb](step)
@@ -308,6 +309,10 @@ class Room:
 
     def make_folder(self, step):
         os.mkdir(self.at(step.rest))
+
+    def link(self, step):
+        name, _, target = step.rest.partition(" ")
+        os.symlink(target, self.at(name))
 
     def remove(self, step):
         path = self.at(step.rest)

@@ -424,7 +424,10 @@ def write(packages, given, folder, report):
         print(f"conflicts: {summary(conflicts)}", file=sys.stderr)
         if rows:
             write_conflicts(rows, folder)
-            tell_next(merged, *write_theirs(merged, files, edition, out, folder), out)
+            theirs, left = write_theirs(merged, files, edition, out, folder)
+            for name, _ in theirs.kits:
+                expect_new_edition(name, other)
+            tell_next(merged, theirs, left, out)
     return kits, counts
 
 

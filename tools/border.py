@@ -40,6 +40,9 @@ MEDIA_LIMIT = 4_194_304
 KIT_PIECES = 4096
 KIT_LIST_LIMIT = 16_777_216
 
+# The bytes of a journal with its head, and the head and the least page of one commit.
+LEAST_COMMIT = 32 + 24 + 512
+
 # From how many bytes on a copy of a package is told.
 TOLD_COPY = 100_000_000
 
@@ -153,6 +156,25 @@ def program_says(*words):
     return done.returncode if done.returncode >= 0 else 3, done.stdout.decode(errors="replace").strip()
 
 
+def checked_copy(file, folder):
+    """Copies a package with its journal into a folder, where the program has to find it whole."""
+    copy = folder / "copy.mmpkg"
+    expect_room(file, folder)
+    copy_with_journal(file, copy)
+    status, said = program_says("check", copy)
+    if status != 0:
+        refuse(file, copy, status, said)
+    return copy
+
+
+def refuse(file, path, status, said):
+    """Refuses a package by what the program says of it, or of its copy."""
+    remedy = ""
+    if said.endswith(" 93") and is_profile_1(path):
+        remedy = f" (of profile 1; 'mmpkg migrate {shlex.quote(str(file))}' brings it to this one)"
+    raise Refused(f"{file}: {said}{remedy}", status)
+
+
 class Source:
     """A package that is read, in which the program found no fault: FILE itself, or a copy in a folder.
 
@@ -163,40 +185,21 @@ class Source:
     def __init__(self, file, folder):
         self.file = file
         self.stamps = None
-        self.path = file if self.passes_here() else self.passing_copy(folder)
+        self.path = file if self.passes_here() else checked_copy(file, folder)
 
     def passes_here(self):
         """Whether FILE can be read as it is. A journal that only the check made is taken away again."""
-        journal = pathlib.Path(f"{self.file}-wal")
-        there = journal.exists()
-        if (
-            there
-            and journal.stat().st_size
-            or not all(os.access(it, os.W_OK) for it in (self.file, self.file.absolute().parent))
-        ):
+        there = pathlib.Path(f"{self.file}-wal").exists()
+        may_be_written = all(os.access(it, os.W_OK) for it in (self.file, self.file.absolute().parent))
+        if not may_be_written or has_commits(self.file):
             return False
         status, said = program_says("check", self.file)
-        if not there and journal.exists() and journal.stat().st_size == 0:
-            journal.unlink()
+        if not there and not has_commits(self.file):
+            pathlib.Path(f"{self.file}-wal").unlink(missing_ok=True)
         if status not in (0, 3):
-            self.refuse(self.file, status, said)
+            refuse(self.file, self.file, status, said)
         self.stamps = stamps_of(self.file)
         return status == 0
-
-    def passing_copy(self, folder):
-        copy = folder / "copy.mmpkg"
-        expect_room(self.file, folder)
-        copy_with_journal(self.file, copy)
-        status, said = program_says("check", copy)
-        if status != 0:
-            self.refuse(copy, status, said)
-        return copy
-
-    def refuse(self, path, status, said):
-        remedy = ""
-        if said.endswith(" 93") and is_profile_1(path):
-            remedy = f" (of profile 1; 'mmpkg migrate {shlex.quote(str(self.file))}' brings it to this one)"
-        raise Refused(f"{self.file}: {said}{remedy}", status)
 
     def address(self):
         """How SQLite is told to read it, and to make nothing beside it."""
@@ -214,9 +217,14 @@ def sizes_of(file):
     return [it.stat().st_size if it.exists() else 0 for it in paths]
 
 
+def has_commits(file):
+    """Whether the journal of a package may hold a commit: it has room for a page behind two heads."""
+    return sizes_of(file)[1] >= LEAST_COMMIT
+
+
 def stamps_of(file):
     """What changes where a package is written: a commit stands in the journal, or in the file behind it."""
-    return sizes_of(file), file.stat().st_mtime_ns
+    return file.stat().st_size, file.stat().st_mtime_ns, has_commits(file)
 
 
 def expect_room(file, folder):

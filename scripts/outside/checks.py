@@ -30,6 +30,12 @@ def expect(found, wanted, what):
     assert found == wanted, f"{what}:\n  found:  {found!r:.1500}\n  wanted: {wanted!r:.1500}"
 
 
+def content_of(file):
+    """The bytes of a file, None where it is none. A journal that has its head alone has no content: each opening makes it anew."""
+    data = file.read_bytes() if file.is_file() else None
+    return b"" if data and file.name.endswith("-wal") and len(data) < 32 + 24 + 512 else data
+
+
 def run_checks(of, functions, words, call):
     """Runs the functions check_NAME whose names have one of the words (each, where there are none), and tells of each.
 

@@ -22,7 +22,7 @@ import sqlite3
 import sys
 import tempfile
 
-from checks import PROGRAM, TOP, end, expect, run, run_checks
+from checks import PROGRAM, TOP, content_of, end, expect, run, run_checks
 
 sys.path.insert(0, str(TOP / "scripts" / "model"))
 from make_profile_1 import put_back  # noqa: E402
@@ -658,7 +658,7 @@ def check_bad_input(folder, _):
     with contextlib.closing(sqlite3.connect(folder / "other.mmpkg")) as opened:
         opened.execute("CREATE TABLE other (id INTEGER)")
     (folder / "stands").mkdir()
-    files = {file: file.is_file() and file.read_bytes() for file in sorted(folder.iterdir())}
+    files = {file: content_of(file) for file in sorted(folder.iterdir())}
     lines = {"none": ("not a package 94", 4), "other": ("not a package 94", 4), "notes": ("fault 91", 3),
              "older": ("not a package 93 (of profile 1; 'mmpkg migrate {}' brings it to this one)", 4)}
     for name, (line, status) in lines.items():
@@ -672,7 +672,7 @@ def check_bad_input(folder, _):
     expect(run(TOOL, one.file, two.file, "taken", folder / "out", status=2)[1],
            f"{one.file}: has an edition taken, and no name is used twice\n", "what is told of a name that is taken")
     run(TOOL, one.file, two.file, status=2)
-    expect({file: file.is_file() and file.read_bytes() for file in sorted(folder.iterdir())}, files, "files")
+    expect({file: content_of(file) for file in sorted(folder.iterdir())}, files, "files")
 
 
 def check_output_that_fails(folder, _):

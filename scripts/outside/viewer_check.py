@@ -29,7 +29,7 @@ import traceback
 import devtools
 import make_profile_1
 import page_map
-from checks import PROGRAM, TOP, end, expect, mmpkg, run, run_checks
+from checks import PROGRAM, TOP, content_of, end, expect, mmpkg, run, run_checks
 from viewer_package import BLANK, PLAIN, PYRAMIDS, TOOL, UNITS_PER_METRE, content, new_package, picture, served, take_in, tile_piece
 
 
@@ -540,7 +540,7 @@ def check_small_screens(scene):
 
 
 def package_files(folder):
-    return {file.name: file.read_bytes() for file in sorted(folder.rglob("*")) if file.is_file()}
+    return {file.name: content_of(file) for file in sorted(folder.rglob("*")) if file.is_file()}
 
 
 def check_tool_makes_a_kit(scene):

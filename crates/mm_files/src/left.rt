@@ -31,6 +31,7 @@ pub struct Unclosed<'a, D: Disk> {
 }
 
 /// What is left of the file at a path, and of its journal, where `S` stands for what they held.
+#[derive(Drop)]
 pub enum Left<'a, D: Disk, S> {
     /// No file was opened: what stands for them is handed back.
     Untouched(S),
@@ -47,17 +48,4 @@ pub enum Left<'a, D: Disk, S> {
 impl<'a, D: Disk + Drop, S: Drop> Left<'a, D, S> {
     /// Lets the files go, which gives up their lock.
     pub fn let_go(self) {}
-}
-
-// It is written out, so that a caller does not prove again how each part is dropped.
-impl<'a, D: Disk + Drop, S: Drop> Drop for Left<'a, D, S> {
-    fn drop(self) {
-        match self {
-            Left::Untouched(_start) => {}
-            Left::Unopened => {}
-            Left::Refused(_rest) => {}
-            Left::Unclosed(_unclosed) => {}
-            Left::Worked(_opened) => {}
-        }
-    }
 }

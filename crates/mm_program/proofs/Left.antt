@@ -6,7 +6,6 @@ use Rattle.mm_store.proofs.Seen.{seen_of}
 use Rattle.mm_definitions.specs.Bounds.{current, micrometres, millimetres}
 use Rattle.mm_definitions.specs.Keys.{Text}
 use Rattle.mm_definitions.specs.Package.{Package}
-use Rattle.mm_definitions.specs.Rules.{Meets}
 use Rattle.mm_definitions.specs.Streams.{Written}
 use Rattle.mm_definitions.specs.declared.answers.KitFault.{KitFault}
 use Rattle.mm_definitions.specs.declared.answers.Open.{Open}
@@ -15,7 +14,8 @@ use Rattle.mm_definitions.specs.declared.answers.Staged.{Staged}
 use Rattle.mm_store.specs.Stands.{IsSettled}
 use Rattle.mm_store.specs.Statements.{CommitsNothing}
 use Rattle.mm_store.proofs.Shapes.{quiet_then}
-use Rattle.mm_core.specs.Adopted.{IsAdopted}
+use Rattle.mm_core.proofs.Adopting.{was_adopted}
+use Rattle.mm_core.specs.Adopted.{IsAdopted, WasAdopted}
 use Rattle.mm_core.specs.Applied.{StandsForCurrent}
 use Rattle.mm_core.specs.Sessions.{IsCreated, IsNotCreated}
 use Rattle.mm_kit.specs.Folders.{Files}
@@ -33,7 +33,7 @@ use Rattle.mm_work.specs.Ran.{IsListRun}
 use Rattle.mm_work.specs.declared.stop.Stop.{Stop}
 use Rattle.mm_work.specs.declared.stop.Stop.TheVariants as stops
 use Rattle.mm_files.specs.Worked.{IsJustOpened}
-use Rattle.mm_program.specs.Left.{IsImportOf, LeavesImport, LeavesMade, LeavesMigrated, LeavesSame, RanTo, StaysFor, StaysIn, TellsDeclined, TellsListing, TellsServed}
+use Rattle.mm_program.specs.Left.{IsImportOf, LeavesImport, LeavesMade, LeavesMigrated, LeavesSame, RanTo, StaysFor, StaysIn, TellsDeclined, TellsListing, TellsMigrated, TellsServed, WasFoundWell}
 use Rattle.mm_core.proofs.Opened.{nothing_less, opened_blank, opened_settles}
 
 -- ---- a run
@@ -112,11 +112,23 @@ module _ (old new : State) (fresh : HasCleanDisk old → IsJustOpened old) (clea
   tells_declined why declined p stands =
       (declined.0, declined.1.declines clean p (seen_of current _ p (settles (λ c. nothing_less _ _ declined.1.survives.clean c) p stands)), declined.2)
 
+  -- one that was adopted
+  pub found_well : (HasCleanDisk new → HasCleanDisk old) → WasAdopted old new → WasFoundWell old.committed.trees
+  found_well was it = record {
+    some = λ none. it.some clean (opened_blank old (fresh (was clean)) none);
+    profile = λ version p stands. it.profile clean version p (opened_settles old (fresh (was clean)) (record current { version = version }) p stands).reads;
+    meets = λ p stands. it.meets clean p (seen_of current _ p (settles was p stands));
+  }
+
+  pub found_adopted : IsAdopted old new → WasFoundWell old.committed.trees
+  found_adopted it = found_well (λ is. nothing_less _ _ it.survives.clean is) (was_adopted old new new it (λ is. is))
+
   -- ---- a listing
   pub tells_listing : (held holds : Written) (done : Unit {0}) → IsListing old new held.contents holds.contents
       → TellsListing old.committed.trees held holds (Ok done)
-  tells_listing held holds done it p stands =
-      let settled = settles (λ c. nothing_less _ _ it.survives.clean c) p stands in (it.meets clean p settled, it.printed clean p settled)
+  tells_listing held holds done it =
+      let was : HasCleanDisk new → HasCleanDisk old = λ is. nothing_less _ _ it.survives.clean is in
+      (found_well was it.adopted, λ p stands. it.printed clean p (settles was p stands))
 
   pub tells_unlisted : (held holds : Written) (why : Stop) → IsUnlisted old new held holds why → TellsListing old.committed.trees held holds (Err why)
   tells_unlisted held holds why (inl (declined, same)) p stands = inl (tells_declined why declined p stands, same)
@@ -139,6 +151,13 @@ module _ (old new : State) (fresh : HasCleanDisk old → IsJustOpened old) (clea
   leaves_unmade why it after may none = it.left clean (blank (nothing_less _ _ it.survives.clean clean) none) after may
 
   -- ---- a migration
+  pub tells_migrated : (done : Unit {0}) → IsMigration old new (Ok tt) → TellsMigrated old.committed.trees (Ok done)
+  tells_migrated done it =
+      let opened = fresh (nothing_less _ _ it.survives.clean clean) in (
+        λ none. it.some clean (opened_blank old opened none),
+        λ version p stands. it.profile clean version p (opened_settles old opened (record current { version = version }) p stands).reads,
+      )
+
   pub leaves_migrated : (done : Unit {0}) → IsMigration old new (Ok tt) → (after : Trees) → new.may_leave after
       → LeavesMigrated old.committed.trees after (Ok done)
   leaves_migrated done it after may =
@@ -187,10 +206,10 @@ module _ (old new : State) (fresh : HasCleanDisk old → IsJustOpened old) (clea
 
 -- ---- a service
 
-tells_served : (found : Trees) (served : Result ℕ Stop) → ((p : Package) → StandsForCurrent found p → Meets current p)
+tells_served : (found : Trees) (served : Result ℕ Stop) → WasFoundWell found
     → IfErr served (λ why. why ≡ stops.Fault (record { 0 = 96 })) → TellsServed found served
-tells_served found (Ok status) meets unbound = meets
-tells_served found (Err why) meets unbound = λ p stands. inr (meets p stands, unbound)
+tells_served found (Ok status) well unbound = well
+tells_served found (Err why) well unbound = λ p stands. inr (well.meets p stands, unbound)
 
 module _ (old mid new : State) (fresh : HasCleanDisk old → IsJustOpened old) (clean : HasCleanDisk new) (adopted : IsAdopted old mid) (kept : LeavesPackage mid new) where
   early : HasCleanDisk mid
@@ -198,7 +217,7 @@ module _ (old mid new : State) (fresh : HasCleanDisk old → IsJustOpened old) (
 
   pub tells_service : (served : Result ℕ Stop) → IfErr served (λ why. why ≡ stops.Fault (record { 0 = 96 })) → TellsServed old.committed.trees served
   tells_service served unbound = tells_served _ served
-      (λ p stands. adopted.meets early p (seen_of current _ p (opened_settles old (fresh (nothing_less _ _ adopted.survives.clean early)) current p stands))) unbound
+      (found_well old new fresh clean (λ _. nothing_less _ _ adopted.survives.clean early) (was_adopted old mid new adopted (λ _. early))) unbound
 
   pub leaves_service : (after : Trees) → new.may_leave after → LeavesSame old.committed.trees after
   leaves_service = leaves_same old new fresh clean (quiet_then old mid new adopted.survives kept.survives)

@@ -1,6 +1,6 @@
 -- From one run of the program to the next.
 use Rattle.std.proofs.Common.{arith, ◌≡◌, ◌==◌, ℕ, List, [], ◌∷◌, Option, Some, Result, Ok, Err, Bool, IfErr, inl, inr, refl, sym, subst}
-use Rattle.std.specs.Prelude.{⊤}
+use Rattle.std.specs.Prelude.{⊤, IsTrue, true}
 use Rattle.std.proofs.Math.Logic.{∥∥₁_elim, ∥∥₁_map}
 use Rattle.sqlite_disk.specs.declared.Disk.{Ghosts}
 use Rattle.sqlite.specs.Tree.{Trees}
@@ -26,11 +26,12 @@ use Rattle.mm_definitions.specs.declared.answers.KitFault.{KitFault}
 use Rattle.mm_definitions.specs.declared.answers.Staged.{Staged}
 use Rattle.mm_kit.specs.Folders.{Files}
 use Rattle.mm_files.specs.declared.left.Opened.{Opened}
+use Rattle.mm_files.specs.declared.left.Unclosed.{Unclosed}
 use Rattle.mm_work.specs.Declined.{stop_of}
 use Rattle.mm_work.specs.Told.{stop_status}
 use Rattle.mm_work.specs.declared.stop.Stop.{Stop}
 use Rattle.mm_work.specs.declared.stop.Stop.TheVariants as stops
-use Rattle.mm_program.specs.Files.{OnOpened, WereBare}
+use Rattle.mm_program.specs.Files.{OffClose, OnOpened, WereBare}
 use Rattle.mm_program.specs.Left.{IsDeclinedFor, LeavesFine, LeavesImport, LeavesMade, LeavesRun, LeavesSame, RanTo, StaysFor, TellsChecked}
 use Rattle.mm_program.specs.Life.{AreMade, Deed, IsLife, IsPartOf, Leads, LeavesBy, LivesOn, Makes, MakesBy, MakesImport, Ran, Use, Looks, Runs, Imports, Migrates}
 use Rattle.mm_program.specs.Worked.{closes_done}
@@ -45,6 +46,21 @@ module _ {D T : Type 0} (g : Ghosts D) (image : Image) (path : Text) (tells : Tr
       ∥∥₁_map (left next may) (λ it.
       let r : (after : Trees) × leaves db after done × HoldsDatabase next after = (it.0, subst (λ t. leaves t it.0 done) (is.holds db holds) it.1, it.2.both) in r)
 
+-- what is left of files that could not be closed behind work that came to its end, where the store was open still
+module _ {D T : Type 0} (g : Ghosts D) (image : Image) (path : Text) (tells : Trees → Result T Stop → Type 0) (leaves : Trees → Trees → Result T Stop → Type 0)
+    (closes : Result T Stop → Bool) (why : Stop) (it : Unclosed D) where
+  pub leads_unclosed : OffClose g image path tells leaves closes why it → IsTrue it.is_open → AreClean g it.files.log it.files.db
+      → (next : Image) → outcomes g it.files.log it.files.db next
+      → (done : Result T Stop) × (closes done ≡ true) × Leads (λ found after. leaves found after done) image next
+  leads_unclosed off up clean next may =
+      let (done, ended, all) = off.2 in
+      let (found, is, told, left) = all clean in (
+        done,
+        ended,
+        λ db holds. ∥∥₁_elim (left next may) squash₁ (λ x. ∥∥₁_map (x.2.holds up) (λ held.
+            let r : (after : Trees) × leaves db after done × HoldsDatabase next after = (x.0, subst (λ t. leaves t x.0 done) (is.holds db holds) x.1, held) in r)),
+      )
+
 -- ---- a life
 
 -- the package that a run has left, and that it is the one of a first part
@@ -56,7 +72,7 @@ part_by p moment bytes after old new status (inr (e, some, is)) = let (q, stands
 makes_by : (r : Ran) (done : Result ℕ Stop) (db after : Trees) (p : Package) → StandsForCurrent db p → Meets current p
     → LeavesRun (Some r.bytes) r.moment db after r.old r.new done → (q : Package) × StandsForCurrent after q × Meets current q × MakesBy r done p q
 makes_by r (Ok status) db after p stands meets leaves =
-    let ran = leaves p stands meets r.bytes refl in
+    let ran = (leaves p stands meets).1 r.bytes refl in
     let (q, now, still, part) = part_by p r.moment r.bytes after r.old r.new status ran in (q, now, still, record { after = after; ran = ran; part = part })
 makes_by r (Err why) db after p stands meets same = (p, subst (λ t. StandsForCurrent t p) (sym same) stands, meets, refl)
 

@@ -13,6 +13,7 @@ use Rattle.mm_files.specs.declared.left.NotDone.TheVariants as why
 use Rattle.mm_files.specs.declared.left.Left.{Left}
 use Rattle.mm_files.specs.declared.left.Left.TheVariants as left
 use Rattle.mm_files.specs.declared.left.Opened.{Opened}
+use Rattle.mm_files.specs.declared.left.Unclosed.{Unclosed}
 use Rattle.mm_kit.specs.declared.folders.Found.{Found}
 use Rattle.mm_kit.specs.declared.folders.Found.TheVariants as found
 use Rattle.mm_work.specs.declared.stop.Stop.{Stop}
@@ -34,6 +35,15 @@ abbrev pub StopsStore : Stop → Type 0
 StopsStore (stops.Fault fault) = IsStoreFault fault
 StopsStore other = ⊥
 
+-- The files at this path could not be closed behind work that came to its end: the store tells why, the database that was found in them is told
+-- of, and each thing that a crash, or none, may leave of them is as the work leaves it.
+module _ {D Done : Type 0} (g : Ghosts D) (image : Image) (path : Text) (tells : Trees → Done → Type 0) (leaves : Trees → Trees → Done → Type 0)
+    (closes : Done → Bool) (why : Stop) where
+  abbrev pub OffClose : Unclosed D → Type 0
+  OffClose it = StopsStore why × (it.path.now ≡ path) × ((ended : Done) × (closes ended ≡ true)
+      × (AreClean g it.files.log it.files.db
+      → (found : Trees) × IsFoundIn image found × tells found ended × LeavesStill g (λ after. leaves found after ended) it.is_open it.files))
+
 -- Of the files at this path, by what they held as they were opened, and by why work on them is not told: no file was opened, for such a
 -- cause; the system did not open them; an open failed, and what it leaves is said of them; or they could not be closed behind work that came
 -- to its end, and what that tells and leaves is said of them.
@@ -43,9 +53,7 @@ module _ {D Done : Type 0} (g : Ghosts D) (image : Image) (path : Text) (IsCause
   OffFile (left.Untouched start) = IsCause why
   OffFile left.Unopened = StopsStore why
   OffFile (left.Refused rest) = IsCause why × IsRefused g image rest
-  OffFile (left.Unclosed it) = StopsStore why × (it.path.now ≡ path) × ((ended : Done) × (closes ended ≡ true)
-      × (AreClean g it.files.log it.files.db
-      → (found : Trees) × IsFoundIn image found × tells found ended × LeavesStill g (λ after. leaves found after ended) it.is_open it.files))
+  OffFile (left.Unclosed it) = OffClose g image path tells leaves closes why it
   OffFile (left.Worked opened) = ⊥
 
 -- The database that was found in the files at this path is told of, and each thing that a crash, or none, may leave of them holds what the work

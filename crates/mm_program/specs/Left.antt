@@ -1,5 +1,5 @@
 -- What a subcommand leaves of a database, and what it tells of the one that it found.
-use Rattle.std.specs.Prelude.{◌≡◌, ◌⊎◌, ⊤, ℕ, List, false, Option, Some, Result, Ok, Err}
+use Rattle.std.specs.Prelude.{◌≡◌, ◌⊎◌, ⊤, ℕ, ℤ, List, false, Option, Some, Result, Ok, Err}
 use Rattle.std.specs.Io.KnownBytes.{Appends}
 use Rattle.sqlite.specs.Tree.{Trees}
 use Rattle.mm_core.specs.Opening.{HasNoTable}
@@ -47,9 +47,15 @@ IsDeclinedFor p why = (cause : Open) × Declines p cause × (why ≡ stop_of cau
 abbrev pub TellsDeclined : Trees → Stop → Type 0
 TellsDeclined found why = (p : Package) → StandsForCurrent found p → IsDeclinedFor p why
 
+-- The database was adopted: it has a table, and a package that it stands for is of this profile and meets the rules.
+pub record WasFoundWell (found : Trees) : Type 0 where
+  pub some : HasNoTable found → ⊥
+  pub profile : (version : ℤ) (p : Package) → StandsFor version found p → version ≡ current.version
+  pub meets : (p : Package) → StandsForCurrent found p → Meets current p
+
 -- `check`: all rules hold of the package, or the one that is told does not
 abbrev pub TellsChecked : Trees → Result (Unit {0}) Stop → Type 0
-TellsChecked found (Ok done) = (p : Package) → StandsForCurrent found p → Meets current p
+TellsChecked found (Ok done) = WasFoundWell found
 TellsChecked found (Err why) = TellsDeclined found why
 
 -- the package is declined, and nothing was printed; or it meets the rules, and a fault ended its listing behind a beginning
@@ -60,12 +66,12 @@ IsListingEnded p old new why =
 
 -- `list`: the listing that is printed is that of the package, which meets the rules
 abbrev pub TellsListing : Trees → Written → Written → Result (Unit {0}) Stop → Type 0
-TellsListing found old new (Ok done) = (p : Package) → StandsForCurrent found p → Meets current p × Appends old.contents new.contents (listing p)
+TellsListing found old new (Ok done) = WasFoundWell found × ((p : Package) → StandsForCurrent found p → Appends old.contents new.contents (listing p))
 TellsListing found old new (Err why) = (p : Package) → StandsForCurrent found p → IsListingEnded p old new why
 
 -- `serve`: the package meets the rules, or is declined; or the port could not be bound
 abbrev pub TellsServed : Trees → Result ℕ Stop → Type 0
-TellsServed found (Ok status) = (p : Package) → StandsForCurrent found p → Meets current p
+TellsServed found (Ok status) = WasFoundWell found
 TellsServed found (Err why) = (p : Package) → StandsForCurrent found p → IsDeclinedFor p why ⊎ (Meets current p × (why ≡ stops.Fault (record { 0 = 96 })))
 
 -- ---- `init`
@@ -87,15 +93,20 @@ RanTo p moment bytes after old new status =
     ((t : Tally) × RanAll p moment bytes (shown_in after) old new t × IsStatusOf t.refused status)
     ⊎ ((e : RunFault) × RanSome p moment bytes (λ q. StandsForCurrent after q) ⊤ (shown_in after) old new e × (status ≡ 3))
 
--- of each package of the rules that the database stood for, by the bytes of the input; nothing where none was adopted
+-- it stands for a package that meets the rules
+abbrev pub IsKept : Trees → Type 0
+IsKept after = (q : Package) × StandsForCurrent after q × Meets current q
+
+-- of each package of the rules that the database stood for, and by the bytes of the input, where it tells them; nothing where none was adopted
 abbrev pub LeavesRun : Option (List ℕ) → ℕ → Trees → Trees → Written → Written → Result ℕ Stop → Type 0
 LeavesRun source moment found after old new (Ok status) =
-    (p : Package) → StandsForCurrent found p → Meets current p → (bytes : List ℕ) → source ≡ Some bytes → RanTo p moment bytes after old new status
+    (p : Package) → StandsForCurrent found p → Meets current p
+    → IsKept after × ((bytes : List ℕ) → source ≡ Some bytes → RanTo p moment bytes after old new status)
 LeavesRun source moment found after old new (Err why) = after ≡ found
 
--- why nothing was run
+-- what was found, or why nothing was run
 abbrev pub TellsRun : Trees → Result ℕ Stop → Type 0
-TellsRun found (Ok status) = ⊤
+TellsRun found (Ok status) = WasFoundWell found
 TellsRun found (Err why) = TellsDeclined found why
 
 -- ---- `kit`
@@ -115,12 +126,19 @@ abbrev pub LeavesImport : Option Files → Text → Trees → Trees → Result (
 LeavesImport told name found after (Ok import) = (p : Package) → StandsForCurrent found p → Meets current p → HasImported told name p after import
 LeavesImport told name found after (Err why) = after ≡ found
 
--- why nothing was imported
+-- what was found, or why nothing was imported
 abbrev pub TellsImport : Trees → Result (Result Staged KitFault) Stop → Type 0
-TellsImport found (Ok import) = ⊤
+TellsImport found (Ok import) = WasFoundWell found
 TellsImport found (Err why) = TellsDeclined found why
 
 -- ---- `migrate`
+
+-- the database has a table, and a package that it stands for is of the one profile or of the other
+abbrev pub TellsMigrated : Trees → Result (Unit {0}) Stop → Type 0
+TellsMigrated found (Ok done) =
+    (HasNoTable found → ⊥)
+    × ((version : ℤ) (p : Package) → StandsFor version found p → (version ≡ micrometres.version) ⊎ (version ≡ millimetres.version))
+TellsMigrated found (Err why) = ⊤
 
 -- a package in micrometres is as it was, and breaks the rule that is told, or there was a fault
 abbrev pub StaysFor : Package → Trees → Open → Type 0

@@ -1,6 +1,7 @@
 -- Why a file is not opened, or not adopted.
 use Rattle.std.specs.Prelude.{◌≡◌, ◌⊎◌, ⊤, ℕ, Option, None}
 use Rattle.mm_definitions.specs.declared.answers.Fault.{Fault}
+use Rattle.mm_work.specs.declared.stop.NoPackage.TheVariants as causes
 use Rattle.mm_work.specs.declared.stop.Stop.{Stop}
 use Rattle.mm_work.specs.declared.stop.Stop.TheVariants as stops
 
@@ -25,12 +26,12 @@ StopsNew other = StopsAny other
 
 -- of one that is there
 abbrev pub StopsOld : Stop → Type 0
-StopsOld (stops.NotPackage number) = number ≡ 94
+StopsOld (stops.NotPackage cause) = cause ≡ causes.NoProfile
 StopsOld other = StopsAny other
 
 -- the check or the migration of a file never tells that it is not empty
 abbrev pub StopsCheck : Stop → Type 0
 StopsCheck stops.NotEmpty = ⊥
-StopsCheck (stops.NotPackage number) = (number ≡ 93) ⊎ (number ≡ 94) ⊎ (number ≡ 95) ⊎ (number ≡ 98)
+StopsCheck (stops.NotPackage cause) = ⊤
 StopsCheck (stops.Rule rule) = ⊤
 StopsCheck (stops.Fault fault) = ⊤

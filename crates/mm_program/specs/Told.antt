@@ -19,7 +19,7 @@ use Rattle.mm_arguments.specs.declared.requests.Request.TheVariants as asked
 use Rattle.mm_files.specs.declared.left.Left.{Left}
 use Rattle.mm_files.specs.Worked.{IsUnprinted}
 use Rattle.mm_program.specs.Files.{IsUntouched, OnFile, StopsNew, StopsOld, WasBare}
-use Rattle.mm_program.specs.Left.{LeavesImport, LeavesMade, LeavesMigrated, LeavesRun, LeavesSame, TellsChecked, TellsImport, TellsListing, TellsRun, TellsServed}
+use Rattle.mm_program.specs.Left.{LeavesImport, LeavesMade, LeavesMigrated, LeavesRun, LeavesSame, TellsChecked, TellsImport, TellsListing, TellsMigrated, TellsRun, TellsServed}
 use Rattle.mm_program.specs.Served.{TellsServe}
 pub use Rattle.mm_program.specs.Stops.{StopsCheck}
 pub use Rattle.mm_program.specs.Printed.{TellsDecline, TellsStatus, import_status, import_text}
@@ -52,7 +52,7 @@ module _ {D S : Type 0} (g : Ghosts D) (image : Image) (path : Text) (old new : 
   -- so does `migrate`, which tells the package in micrometres
   abbrev pub TellsMigrate : Type 0
   TellsMigrate = (outcome : Result (Unit {0}) Stop) × IfErr outcome StopsCheck × IsTold old new (migrate_text outcome) (migrate_status outcome) result
-      × OnFile g image path StopsOld (λ found done. ⊤) LeavesMigrated closes_done outcome left
+      × OnFile g image path StopsOld TellsMigrated LeavesMigrated closes_done outcome left
 
   -- `list` prints the listing of the package that was found, which is as it was
   abbrev pub TellsList : Type 0

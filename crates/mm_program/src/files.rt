@@ -11,7 +11,7 @@ ghost use Rattle.mm_program.specs.Files.{IsUndone, OffFile, StopsAny, StopsNew, 
 use mm_definitions::answers::Fault;
 use mm_definitions::streams::Io;
 use mm_files::{Left, NotDone, Opened, Works, on_file};
-use mm_work::Stop;
+use mm_work::{NoPackage, Stop};
 use sqlite::{FileFrom, Start};
 use sqlite_disk::Disk;
 use std::io::Write;
@@ -168,7 +168,10 @@ pub fn on_old<'a, S: Start, K: Works, W: Write>(
         (written W.contents output.old) (written W.contents output.new) e.1) }
 {
     match length_of(rt, path) {
-        Ok(None | Some(0)) => Err((Left::Untouched(start), Stop::NotPackage(94))),
+        Ok(None | Some(0)) => Err((
+            Left::Untouched(start),
+            Stop::NotPackage(NoPackage::NoProfile),
+        )),
         Ok(Some(length)) if length < SHORTEST => Err((
             Left::Untouched(start),
             Stop::Fault(Fault::STORE),

@@ -1,6 +1,6 @@
 //! From one run of the program to the next, as laws: what is left of a file by one is what the next is opened on.
 
-ghost use Rattle.std.specs.Prelude.{◌≡◌, List, [], ℕ, Result, Option, IfErr, Ok, ⊤};
+ghost use Rattle.std.specs.Prelude.{◌≡◌, List, [], ℕ, Result, Option, IfErr, IsTrue, Ok, true, ⊤};
 ghost use Rattle.sqlite.specs.Tree.{Trees};
 ghost use Rattle.sqlite.specs.Recovery.{Image};
 ghost use Rattle.sqlite.specs.Files.{HoldsDatabase};
@@ -18,12 +18,12 @@ ghost use Rattle.mm_definitions.specs.declared.answers.Staged.{Staged};
 ghost use Rattle.mm_kit.specs.Folders.{Files};
 ghost use Rattle.mm_work.specs.Told.{stop_status};
 ghost use Rattle.mm_work.specs.declared.stop.Stop.{Stop as Why};
-ghost use Rattle.mm_program.specs.Files.{OnOpened, WereBare};
-ghost use Rattle.mm_program.specs.Left.{LeavesImport, LeavesMade, LeavesMigrated, LeavesRun, LeavesSame, TellsChecked, TellsImport, TellsListing, TellsRun, TellsServed};
+ghost use Rattle.mm_program.specs.Files.{OffClose, OnOpened, WereBare};
+ghost use Rattle.mm_program.specs.Left.{LeavesImport, LeavesMade, LeavesMigrated, LeavesRun, LeavesSame, TellsChecked, TellsImport, TellsListing, TellsMigrated, TellsRun, TellsServed};
 ghost use Rattle.mm_program.specs.Life.{IsLife, Leads, LivesOn, Use};
 ghost use Rattle.mm_program.specs.Worked.{closes_done, closes_import, closes_run};
 
-use mm_files::Opened;
+use mm_files::{Opened, Unclosed};
 use sqlite_disk::Disk;
 
 /// What a run leaves of the files leads from what they held to each thing that a crash, or none, may leave of them.
@@ -70,10 +70,36 @@ pub fn an_import_leads_on<'a, D: Disk>(_opened: &Opened<'a, D>)
         → outcomes D.Disk _opened.now.files.log _opened.now.files.db next
         → Leads (λ found after. LeavesImport told name found after done) image next }
     ensures migration { (image next : Image) (path : Text) (done : Result (Unit {0}) Why)
-        → OnOpened D.Disk image path (λ found it. ⊤) LeavesMigrated closes_done done _opened.now
+        → OnOpened D.Disk image path TellsMigrated LeavesMigrated closes_done done _opened.now
         → AreClean D.Disk _opened.now.files.log _opened.now.files.db
         → outcomes D.Disk _opened.now.files.log _opened.now.files.db next
         → Leads (λ found after. LeavesMigrated found after done) image next }
+{}
+
+/// So of files that could not be closed behind work that came to its end, where the fault left the store open, as one does that comes
+/// while the journal is copied into FILE.
+pub fn what_is_not_closed_leads_on<'a, D: Disk>(_left: &Unclosed<'a, D>)
+    ensures run { (image next : Image) (path : Text) (source : Option (List ℕ)) (moment : ℕ)
+        (old new : Written) (why : Why)
+        → OffClose D.Disk image path TellsRun
+        (λ found after it. LeavesRun source moment found after old new it) closes_run why _left.now
+        → IsTrue _left.now.is_open → AreClean D.Disk _left.now.files.log _left.now.files.db
+        → outcomes D.Disk _left.now.files.log _left.now.files.db next
+        → (done : Result ℕ Why) × (closes_run done ≡ true)
+        × Leads (λ found after. LeavesRun source moment found after old new done) image next }
+    ensures import { (image next : Image) (path name : Text) (told : Option Files) (why : Why)
+        → OffClose D.Disk image path TellsImport (LeavesImport told name) closes_import why
+        _left.now
+        → IsTrue _left.now.is_open → AreClean D.Disk _left.now.files.log _left.now.files.db
+        → outcomes D.Disk _left.now.files.log _left.now.files.db next
+        → (done : Result (Result Staged KitFault) Why) × (closes_import done ≡ true)
+        × Leads (λ found after. LeavesImport told name found after done) image next }
+    ensures migration { (image next : Image) (path : Text) (why : Why)
+        → OffClose D.Disk image path TellsMigrated LeavesMigrated closes_done why _left.now
+        → IsTrue _left.now.is_open → AreClean D.Disk _left.now.files.log _left.now.files.db
+        → outcomes D.Disk _left.now.files.log _left.now.files.db next
+        → (done : Result (Unit {0}) Why) × (closes_done done ≡ true)
+        × Leads (λ found after. LeavesMigrated found after done) image next }
 {}
 
 /// Where a package was made in files that held no byte, each thing that a crash, or none, may leave of them holds the new package.

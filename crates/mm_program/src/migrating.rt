@@ -1,11 +1,11 @@
 //! The subcommand `migrate`.
 
-ghost use Rattle.std.specs.Prelude.{◌≤◌, IfErr, ⊤};
+ghost use Rattle.std.specs.Prelude.{◌≤◌, IfErr};
 ghost use Rattle.sqlite.specs.WalFiles.{image_at};
 ghost use Rattle.mm_definitions.specs.Streams.{has_failed, written};
 ghost use Rattle.mm_work.specs.Told.{TellsFailure};
 ghost use Rattle.mm_program.specs.Files.{OnFile, StopsOld};
-ghost use Rattle.mm_program.specs.Left.{LeavesMigrated};
+ghost use Rattle.mm_program.specs.Left.{LeavesMigrated, TellsMigrated};
 ghost use Rattle.mm_program.specs.Told.{StopsCheck, TellsMigrate};
 ghost use Rattle.mm_program.specs.Worked.{closes_done};
 
@@ -28,7 +28,7 @@ impl Works for Migration {
 
     ghost comes_to = { λ work old new done. IfErr done StopsCheck };
 
-    ghost tells = { λ work found old new done. ⊤ };
+    ghost tells = { λ work found old new done. TellsMigrated found done };
 
     ghost leaves = { λ work found after old new done. LeavesMigrated found after done };
 
@@ -59,7 +59,7 @@ fn migrate_file<'a, S: Start>(
     start: S,
 ) -> (Result<(), Stop>, Left<'a, FileFrom<S>, S>)
     ensures stopped { IfErr result.0 StopsCheck }
-    ensures left { OnFile ⟦<FileFrom<S> as Disk>⟧ (image_at S.Start) path.now StopsOld (λ found done. ⊤)
+    ensures left { OnFile ⟦<FileFrom<S> as Disk>⟧ (image_at S.Start) path.now StopsOld TellsMigrated
         LeavesMigrated closes_done result.0 result.1 }
 {
     match on_old(rt, path, start, &mut Migration, &mut Io::new(io::sink())) {

@@ -7,7 +7,9 @@ use mm_definitions::moments::Moment;
 use mm_definitions::streams::Io;
 use mm_recovery::{close_files, open_files};
 use mm_test_packages::{create, open};
-use mm_work::{DONE, FAULT, Stop, make_package, run_package, tell_init, tell_stop, tell_text};
+use mm_work::{
+    DONE, FAULT, NoPackage, Stop, make_package, run_package, tell_init, tell_stop, tell_text,
+};
 use sqlite::{Alter, Connection, FileStore, Files, Options};
 use sqlite_disk::{Disk, Memory};
 use std::alloc::Global;
@@ -189,7 +191,10 @@ fn ends_with_the_status_of_a_fault(rt: HostRuntime) -> Result<(), Fail> {
 fn unprinted(alloc: Global) -> [u8; 3] {
     [
         tell_text(&mut short_writer(alloc, 3), "Usage: mmpkg <COMMAND>", DONE),
-        tell_stop(&mut short_writer(alloc, 3), Stop::NotPackage(94)),
+        tell_stop(
+            &mut short_writer(alloc, 3),
+            Stop::NotPackage(NoPackage::NoProfile),
+        ),
         tell_init(&mut short_writer(alloc, 3), Ok(())),
     ]
 }

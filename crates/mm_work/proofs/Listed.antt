@@ -4,6 +4,7 @@ use Rattle.sqlite.specs.State.{State, HasCleanDisk}
 use Rattle.mm_definitions.specs.Bounds.{current}
 use Rattle.mm_store.proofs.Seen.{seen_of}
 use Rattle.mm_store.proofs.Shapes.{quiet_then}
+use Rattle.mm_core.proofs.Adopting.{was_adopted}
 use Rattle.mm_core.specs.Adopted.{IsAdopted}
 use Rattle.mm_core.specs.Listing.{listing}
 use Rattle.mm_core.specs.Writing.{IsListed}
@@ -17,6 +18,7 @@ lists old mid new held holds before failed done adopted listed =
     let early : HasCleanDisk new → HasCleanDisk mid = λ clean. omega (arith, clean, listed.survives.clean) in
     record {
       survives = quiet_then old mid new adopted.survives listed.survives;
+      adopted = was_adopted old mid new adopted early;
       settled = λ clean p s. listed.settled clean p (adopted.settled (early clean) p s);
       meets = λ clean p s. adopted.meets (early clean) p (seen_of current _ p s);
       printed = λ clean p s. listed.written clean p (seen_of current mid p (adopted.settled (early clean) p s));
@@ -28,6 +30,7 @@ cuts old mid new held holds fault adopted listed =
     let early : HasCleanDisk new → HasCleanDisk mid = λ clean. omega (arith, clean, listed.survives.clean) in
     record {
       survives = quiet_then old mid new adopted.survives listed.survives;
+      adopted = was_adopted old mid new adopted early;
       settled = λ clean p s. listed.settled clean p (adopted.settled (early clean) p s);
       meets = λ clean p s. adopted.meets (early clean) p (seen_of current _ p s);
       begun = λ clean p s. listed.written clean p (seen_of current mid p (adopted.settled (early clean) p s));

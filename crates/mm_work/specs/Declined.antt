@@ -4,15 +4,16 @@ use Rattle.sqlite.specs.State.{State}
 use Rattle.mm_definitions.specs.declared.answers.Open.{Open}
 use Rattle.mm_definitions.specs.declared.answers.Open.TheVariants as opens
 use Rattle.mm_core.specs.Adopted.{IsNotAdopted}
+use Rattle.mm_work.specs.declared.stop.NoPackage.TheVariants as causes
 use Rattle.mm_work.specs.declared.stop.Stop.{Stop}
 use Rattle.mm_work.specs.declared.stop.Stop.TheVariants as stops
 
--- why a file is not opened, as it is told: with 93, 94, 95 or 98 that it is no package, or the rule that fails, or a fault
+-- why a file is not opened, as it is told: that it is no package, and why, or the rule that fails, or a fault
 abbrev pub stop_of : Open → Stop
-stop_of (opens.Version version) = stops.NotPackage 93
-stop_of opens.NoProfile = stops.NotPackage 94
-stop_of opens.BadProfile = stops.NotPackage 95
-stop_of opens.BadBlobs = stops.NotPackage 98
+stop_of (opens.Version version) = stops.NotPackage causes.Version
+stop_of opens.NoProfile = stops.NotPackage causes.NoProfile
+stop_of opens.BadProfile = stops.NotPackage causes.BadProfile
+stop_of opens.BadBlobs = stops.NotPackage causes.BadBlobs
 stop_of (opens.Rule rule) = stops.Rule rule
 stop_of (opens.Fault fault) = stops.Fault fault
 

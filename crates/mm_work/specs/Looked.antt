@@ -9,6 +9,7 @@ use Rattle.mm_definitions.specs.Streams.{Written}
 use Rattle.mm_definitions.specs.declared.answers.Fault.{Fault}
 use Rattle.mm_store.specs.Stands.{IsSettled}
 use Rattle.mm_store.specs.Statements.{CommitsNothing}
+use Rattle.mm_core.specs.Adopted.{WasAdopted}
 use Rattle.mm_core.specs.Listing.{listing}
 use Rattle.mm_core.specs.Writing.{IsBegun, ListingTellsWriter}
 use Rattle.mm_work.specs.Declined.{IsDeclined}
@@ -26,16 +27,18 @@ abbrev pub check_status : Result (Unit {0}) Stop → ℕ
 check_status (Ok done) = 0
 check_status (Err why) = stop_status why
 
--- It wrote nothing to the package, which meets the rules, and the listing of it was printed.
+-- It was adopted, and wrote nothing to the package, which meets the rules, and the listing of it was printed.
 pub record IsListing (old new : State) (held holds : Option (List ℕ)) : Type 0 where
   pub survives : CommitsNothing old new
+  pub adopted : WasAdopted old new
   pub settled : HasCleanDisk new → (p : Package) → IsSettled current old p → IsSettled current new p
   pub meets : HasCleanDisk new → (p : Package) → IsSettled current old p → Meets current p
   pub printed : HasCleanDisk new → (p : Package) → IsSettled current old p → Appends held holds (listing p)
 
--- It wrote nothing to the package, which meets the rules, and a beginning of its listing was printed. The fault is 97 exactly where the writer failed, and else 90 or 91.
+-- It was adopted, and wrote nothing to the package, which meets the rules, and a beginning of its listing was printed. The fault is 97 exactly where the writer failed, and else 90 or 91.
 pub record IsListingCut (old new : State) (held holds : Written) (fault : Fault) : Type 0 where
   pub survives : CommitsNothing old new
+  pub adopted : WasAdopted old new
   pub settled : HasCleanDisk new → (p : Package) → IsSettled current old p → IsSettled current new p
   pub meets : HasCleanDisk new → (p : Package) → IsSettled current old p → Meets current p
   pub begun : HasCleanDisk new → (p : Package) → IsSettled current old p → IsBegun held.contents holds.contents (listing p)

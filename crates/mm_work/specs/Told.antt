@@ -3,6 +3,8 @@ use Rattle.std.specs.Prelude.{◌≡◌, ℕ, List, ◌++◌, Bool, false, true,
 use Rattle.mm_io.specs.Sending.{Sends}
 use Rattle.mm_io.specs.declared.sending.Sent.{Sent}
 use Rattle.mm_io.specs.declared.sending.Sent.TheVariants as sent
+use Rattle.mm_work.specs.declared.stop.NoPackage.{NoPackage}
+use Rattle.mm_work.specs.declared.stop.NoPackage.TheVariants as causes
 use Rattle.mm_work.specs.declared.stop.Stop.{Stop}
 use Rattle.mm_work.specs.declared.stop.Stop.TheVariants as stops
 use Rattle.mm_definitions.specs.Streams.{Written}
@@ -23,17 +25,24 @@ abbrev pub TellsFailure : Bool → Bool → ℕ → Type 0
 TellsFailure before failed result = before ≡ false → failed ≡ true → result ≡ 3
 
 -- ---- why the work was not done
+-- the number of why a file is no package
+abbrev pub no_package_number : NoPackage → ℕ
+no_package_number causes.Version = 93
+no_package_number causes.NoProfile = 94
+no_package_number causes.BadProfile = 95
+no_package_number causes.BadBlobs = 98
+
 -- the line that tells it
 abbrev pub stop_text : Stop → List ℕ
 stop_text stops.NotEmpty = codes "not empty\n"
-stop_text (stops.NotPackage number) = codes "not a package " ++ decimal number ++ codes "\n"
+stop_text (stops.NotPackage cause) = codes "not a package " ++ decimal (no_package_number cause) ++ codes "\n"
 stop_text (stops.Rule rule) = codes "rule Q" ++ decimal rule ++ codes "\n"
 stop_text (stops.Fault fault) = codes "fault " ++ decimal fault.0 ++ codes "\n"
 
 -- the exit status that goes with it: 3 for a fault, else 4
 abbrev pub stop_status : Stop → ℕ
 stop_status stops.NotEmpty = 4
-stop_status (stops.NotPackage number) = 4
+stop_status (stops.NotPackage cause) = 4
 stop_status (stops.Rule rule) = 4
 stop_status (stops.Fault fault) = 3
 

@@ -6,6 +6,7 @@ ghost use Rattle.sqlite.specs.State.{HasCleanDisk};
 ghost use Rattle.mm_definitions.specs.Bounds.{current};
 ghost use Rattle.mm_definitions.specs.Streams.{written};
 ghost use Rattle.mm_store.specs.Stands.{IsSettled};
+ghost use Rattle.mm_core.specs.Adopted.{WasAdopted};
 ghost use Rattle.mm_core.specs.Applied.{StandsForCurrent};
 ghost use Rattle.mm_kit.specs.Imports.{IsImportKept, OnAnyFolder, OnKit, TellsFolder};
 ghost use Rattle.mm_work.specs.Declined.{IsDeclined};
@@ -52,6 +53,8 @@ pub fn import_package<S: Alter + Drop, F: Folder>(
         (λ db. (state S.Store done.0).may_leave db) StandsForCurrent done.1)) }
     ensures folder { IfOk result
         (λ done. TellsFolder (F.has_failed folder.old) (F.has_failed folder.new) done.1) }
+    ensures adopted { IfOk result
+        (λ done. WasAdopted (state S.Store conn) (state S.Store done.0)) }
     ensures idle { IfOk result (λ done. done.0.in_transaction ≡ false) }
     ensures declined { IfErr result (λ e. IsDeclined (state S.Store conn) (state S.Store e.0) e.1) }
     ensures handed_back { IfErr result (λ e. e.0.in_transaction ≡ false) }

@@ -22,7 +22,7 @@ pub use migrating::{migrate_package, tell_migration};
 pub use package::{adopt_package, make_package, run_package};
 pub use pages::{tell_page_fault, tell_serving};
 pub use reporting::{check_package, list_package, tell_check};
-pub use stop::Stop;
+pub use stop::{NoPackage, Stop};
 pub use tell::{
     DONE, FAULT, NO_PACKAGE, REFUSED, USAGE, numbered_line, tell_bytes, tell_init, tell_stop,
     tell_text,

@@ -7,16 +7,16 @@ ghost use Rattle.mm_definitions.specs.Bounds.{current};
 ghost use Rattle.mm_definitions.specs.Streams.{has_failed, inside, written};
 ghost use Rattle.mm_store.specs.Stands.{IsSettled};
 ghost use Rattle.mm_core.specs.Runs.{OnRun};
-ghost use Rattle.mm_core.specs.Adopted.{IsAdopted};
+ghost use Rattle.mm_core.specs.Adopted.{IsAdopted, WasAdopted};
 ghost use Rattle.mm_core.specs.Parts.{connection};
 ghost use Rattle.mm_core.specs.Parts as sessions;
 ghost use Rattle.mm_core.specs.Sessions.{IsCreated, IsNotCreated};
 ghost use Rattle.mm_work.specs.Declined.{IsDeclined};
 ghost use Rattle.mm_work.specs.Declined as declined;
-ghost use Rattle.mm_work.specs.Ran.{IsListRun};
+ghost use Rattle.mm_work.specs.Ran.{IsListRun, KeepsRules};
 ghost use Rattle.mm_work.specs.Stops.{StopsMaking};
 
-use crate::stop::Stop;
+use crate::stop::{NoPackage, Stop};
 use crate::tell::{DONE, FAULT, REFUSED};
 use mm_core::Session;
 use mm_definitions::answers::Open;
@@ -50,10 +50,10 @@ pub(crate) fn stop_of(cause: Open) -> Stop
     ensures { result ≡ declined.stop_of cause }
 {
     match cause {
-        Open::Version(_) => Stop::NotPackage(93),
-        Open::NoProfile => Stop::NotPackage(94),
-        Open::BadProfile => Stop::NotPackage(95),
-        Open::BadBlobs => Stop::NotPackage(98),
+        Open::Version(_) => Stop::NotPackage(NoPackage::Version),
+        Open::NoProfile => Stop::NotPackage(NoPackage::NoProfile),
+        Open::BadProfile => Stop::NotPackage(NoPackage::BadProfile),
+        Open::BadBlobs => Stop::NotPackage(NoPackage::BadBlobs),
         Open::Rule(rule) => Stop::Rule(rule),
         Open::Fault(fault) => Stop::Fault(fault),
     }
@@ -93,6 +93,8 @@ fn run_session<S: Alter, R: Read, W: Write>(
         (R.remaining (inside input.old))
         (λ p bytes. IsListRun p at bytes (state S.Store (connection session.new))
         (written W.contents output.old) (written W.contents output.new) result) }
+    ensures kept { KeepsRules (state S.Store (connection session.old))
+        (state S.Store (connection session.new)) }
 {
     match session.run_list(input, output, at) {
         Ok(tally) if tally.refused == 0 => DONE,
@@ -121,6 +123,10 @@ pub fn run_package<S: Alter + Drop, R: Read, W: Write>(
         (λ p. IsSettled current (state S.Store conn) p) (R.remaining (inside input.old))
         (λ p bytes. IsListRun p at bytes (state S.Store ran.0)
         (written W.contents output.old) (written W.contents output.new) ran.1)) }
+    ensures kept { IfOk result
+        (λ ran. KeepsRules (state S.Store conn) (state S.Store ran.0)) }
+    ensures adopted { IfOk result
+        (λ ran. WasAdopted (state S.Store conn) (state S.Store ran.0)) }
     ensures idle { IfOk result (λ ran. ran.0.in_transaction ≡ false) }
     ensures declined { IfErr result (λ e. IsDeclined (state S.Store conn) (state S.Store e.0) e.1) }
     ensures handed_back { IfErr result (λ e. e.0.in_transaction ≡ false) }

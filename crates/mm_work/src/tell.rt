@@ -69,8 +69,8 @@ pub fn tell_stop<W: Write>(output: &mut Io<W>, why: Stop) -> u8
 {
     match why {
         Stop::NotEmpty => tell_bytes(output, b"not empty\n", NO_PACKAGE),
-        Stop::NotPackage(number) => {
-            let line = numbered_line(b"not a package ", number);
+        Stop::NotPackage(cause) => {
+            let line = numbered_line(b"not a package ", cause.number());
             tell_bytes(output, line.as_slice(), NO_PACKAGE)
         }
         Stop::Rule(rule) => {

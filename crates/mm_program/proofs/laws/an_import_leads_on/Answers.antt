@@ -1,5 +1,4 @@
-use Rattle.std.specs.Prelude.{⊤}
-use Rattle.mm_program.specs.Left.{LeavesImport, LeavesMigrated, TellsImport}
+use Rattle.mm_program.specs.Left.{LeavesImport, LeavesMigrated, TellsImport, TellsMigrated}
 use Rattle.mm_program.specs.Worked.{closes_done, closes_import}
 use Rattle.mm_program.proofs.Life.{leads_on}
 use Rattle.mm_program.proofs.laws.an_import_leads_on.Goals as goal
@@ -10,4 +9,4 @@ returns-clause-import g c image next path name told done on clean =
 
 pub returns-clause-migration : goal.returns-clause-migration
 returns-clause-migration g c image next path done on clean =
-    leads_on g.D.Disk image path (λ found it. ⊤) LeavesMigrated closes_done done c.args._opened.now on clean next
+    leads_on g.D.Disk image path TellsMigrated LeavesMigrated closes_done done c.args._opened.now on clean next

@@ -1,3 +1,6 @@
+use Rattle.sqlite.specs.Held.{state}
+use Rattle.mm_core.proofs.Adopting.{was_adopted}
+use Rattle.mm_core.specs.Parts.{connection}
 use Rattle.mm_work.proofs.Imported.{imports, keeps}
 use Rattle.mm_work.proofs.imports.import_package.Goals as goal
 
@@ -6,3 +9,6 @@ returns-clause-imported g c = rw c.close.ensures (imports _ _ _ c.in_ok-session.
 
 pub returns-clause-kept : goal.returns-clause-kept
 returns-clause-kept g c = rw c.close.ensures (keeps _ _ _ c.in_ok-session.ensures.adopted c.import_kit-import.ensures.clean _ c.import_kit-import.result c.import_kit-import.ensures.kept)
+
+pub returns-clause-adopted : goal.returns-clause-adopted
+returns-clause-adopted g c = rw c.close.ensures (was_adopted (state g.S.Store c.args.conn) (state g.S.Store (connection c.in_ok-session.session)) _ c.in_ok-session.ensures.adopted c.import_kit-import.ensures.clean)

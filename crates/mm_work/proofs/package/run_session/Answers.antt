@@ -15,3 +15,12 @@ returns-in-Ok-2-clause-ran g c clean p sound bytes is =
 
 pub returns-in-Err-clause-ran : goal.returns-in-Err-clause-ran
 returns-in-Err-clause-ran g c clean p sound bytes is = inr (c.in-Err.field-0, ran-some-less p c.args.at bytes _ _ _ _ _ _ _ _ c.in-Err.field-0 (λ q works. works.1.0) (λ _. tt) (c.in-Err.ensures.stopped clean p sound bytes is), refl)
+
+pub returns-in-Ok-clause-kept : goal.returns-in-Ok-clause-kept
+returns-in-Ok-clause-kept g c clean p settled meets = (c.in-Ok.ensures.kept clean p (settled, meets)).0
+
+pub returns-in-Ok-2-clause-kept : goal.returns-in-Ok-2-clause-kept
+returns-in-Ok-2-clause-kept g c clean p settled meets = (c.in-Ok-2.ensures.kept clean p (settled, meets)).0
+
+pub returns-in-Err-clause-kept : goal.returns-in-Err-clause-kept
+returns-in-Err-clause-kept g c clean p settled meets = (c.in-Err.ensures.kept clean p (settled, meets)).0

@@ -1,5 +1,8 @@
-use Rattle.mm_program.proofs.Left.{leaves_migrated, leaves_unmigrated}
+use Rattle.mm_program.proofs.Left.{leaves_migrated, leaves_unmigrated, tells_migrated}
 use Rattle.mm_program.proofs.migrating.MigrationWorks.work.Goals as goal
+
+pub returns-in-Ok-clause-found : goal.returns-in-Ok-clause-found
+returns-in-Ok-clause-found g c clean = tells_migrated _ _ c.requires.fresh clean tt c.in-Ok.ensures.migrated
 
 pub returns-in-Ok-clause-worked : goal.returns-in-Ok-clause-worked
 returns-in-Ok-clause-worked g c clean = leaves_migrated _ _ c.requires.fresh clean tt c.in-Ok.ensures.migrated

@@ -1,13 +1,8 @@
-use Rattle.mm_store.proofs.Seen.{seen_of}
-use Rattle.mm_program.proofs.Left.{leaves_same, tells_declined}
-use Rattle.mm_core.proofs.Opened.{nothing_less, opened_settles}
-use Rattle.mm_definitions.specs.Bounds.{current}
+use Rattle.mm_program.proofs.Left.{found_adopted, leaves_same, tells_declined}
 use Rattle.mm_program.proofs.reporting.CheckWorks.work.Goals as goal
 
 pub returns-in-Ok-clause-found : goal.returns-in-Ok-clause-found
-returns-in-Ok-clause-found g c clean p stands =
-    let checked = c.in-Ok.ensures.checked in
-    checked.meets clean p (seen_of current _ p (opened_settles _ (c.requires.fresh (nothing_less _ _ checked.survives.clean clean)) current p stands))
+returns-in-Ok-clause-found g c clean = found_adopted _ _ c.requires.fresh clean c.in-Ok.ensures.checked
 
 pub returns-in-Err-clause-found : goal.returns-in-Err-clause-found
 returns-in-Err-clause-found g c clean = tells_declined _ _ c.requires.fresh clean _ c.in-Err.ensures.declined

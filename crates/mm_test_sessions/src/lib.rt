@@ -7,10 +7,13 @@
 //! - `sessions`: what is answered, adopted, checked and listed.
 //! - `kits`: imports of folders in memory.
 //! - `pages`: requests and their responses.
+//! - `desks`: the same of a desk, and records that are sent.
 //! - `reopening`: sessions that have to be opened again.
 //! - `streams`: what stands where a reader or a writer failed.
 #![tactic(auto)]
 
+#[cfg(test)]
+mod desks;
 #[cfg(test)]
 mod examples;
 #[cfg(test)]

@@ -1,2 +1,3 @@
 mod DemandFacts
 mod FieldFacts
+mod OneDemand

@@ -21,7 +21,7 @@ mod routes;
 mod sending;
 
 pub use bodies::run_body;
-pub use connections::{Comes, desk_on};
+pub use connections::Comes;
 pub use desk::{Done, Gate, desk_one};
 pub use laws::a_desk_is_one_run;
 pub use reads::Desk;

@@ -55,7 +55,7 @@ module _ {A : Type 0} (apply : Ghosts A) (leaves_settled : (s : A) (p : Package)
   kept_sound : (p : Package) (old new : A) → Stays apply old new → apply.is_clean new → IsSound (apply.settled old) p → IsSound (apply.settled new) p
   kept_sound p old new stays clean sound = (stays.settled clean p sound.0, sound.1)
 
-  clean_before : (visits : List Visit) (old new : A) → Sat apply old visits new → apply.is_clean new → apply.is_clean old
+  pub clean_before : (visits : List Visit) (old new : A) → Sat apply old visits new → apply.is_clean new → apply.is_clean old
   unfolding Sat
   clean_before [] old new sat clean = sat.clean clean
   clean_before (v ∷ []) old new (before, behind, first, ran, last) clean = first.clean (ran.clean (last.clean clean))

@@ -3,7 +3,7 @@
 //! - `desk`: a request read and answered.
 //! - `replies`: what is shown to a path, with `routes` (which paths ask for rows), `lists` (rows as JSON) and `responses`.
 //! - `bodies`: the run of the records of a body that came whole.
-//! - `connections`: requests one after another.
+//! - `connections`: where requests come from.
 //! - `laws`: a desk's sitting is one run of its lists.
 //! - `reads`: what a desk works on.
 //! - `sending`: bytes sent whole.

@@ -41,6 +41,13 @@ count = record (new_rule (codes "count")) {
   parser = Some (Signed (pos 1) (pos 1000000));
 }
 
+-- --page TABLE: the media table whose items a browser may run as pages
+abbrev pub page : Rule
+page = record (new_rule (codes "page")) {
+  long = Some (codes "page");
+  value_names = 1;
+}
+
 -- ---- the subcommands
 
 -- a subcommand of this name, which takes FILE
@@ -75,6 +82,10 @@ migrate = with_file_word (codes "migrate")
 abbrev pub serve : App
 serve = with_rule (with_rule (with_file_word (codes "serve")) port) count
 
+-- desk FILE --port P --count N [--page TABLE]: shows the package and takes records, in one session
+abbrev pub desk : App
+desk = with_rule (with_rule (with_rule (with_file_word (codes "desk")) port) count) page
+
 -- ---- the whole
 
 -- without words it shows help, a subcommand has to stand, and it has a version to show
@@ -84,11 +95,11 @@ start = record {
   subs = [];
 }
 
--- the program with its seven subcommands
+-- the program with its eight subcommands
 abbrev pub command_line : App
 command_line =
-    with_subcommand (with_subcommand (with_subcommand (with_subcommand (with_subcommand (with_subcommand (with_subcommand start
-    init.top) run_subcommand.top) kit.top) check.top) list.top) serve.top) migrate.top
+    with_subcommand (with_subcommand (with_subcommand (with_subcommand (with_subcommand (with_subcommand (with_subcommand (with_subcommand start
+    init.top) run_subcommand.top) kit.top) check.top) list.top) serve.top) desk.top) migrate.top
 
 -- ---- the values that are made of it
 

@@ -7,7 +7,7 @@ use Rattle.clap.specs.declared.error.kind.ErrorKind.{ErrorKind}
 use Rattle.clap.specs.declared.error.kind.ErrorKind.TheVariants as kind
 use Rattle.mm_arguments.specs.CommandLine.{command_line}
 use Rattle.mm_arguments.specs.declared.requests.Request.{Request}
-use Rattle.mm_arguments.specs.declared.requests.Request.TheVariants.{Init, Run, Kit, Check, List as Tables, Serve, Migrate}
+use Rattle.mm_arguments.specs.declared.requests.Request.TheVariants.{Init, Run, Kit, Check, List as Tables, Serve, Desk, Migrate}
 
 -- a port is at least 1, and so many connections are served: 1 to 1,000,000
 abbrev pub IsRequestWithin : Request → Type 0
@@ -18,6 +18,7 @@ IsRequestWithin (Check file) = ⊤
 IsRequestWithin (Tables file) = ⊤
 IsRequestWithin (Migrate file) = ⊤
 IsRequestWithin (Serve file port count) = (1 ≤ port) × (1 ≤ count) × (count ≤ 1000000)
+IsRequestWithin (Desk file port count page) = (1 ≤ port) × (1 ≤ count) × (count ≤ 1000000)
 
 -- ---- what the words of a subcommand give
 
@@ -30,6 +31,11 @@ module _ (rows : List Row) where
   abbrev pub IsNumber : Text → ℕ → Type 0
   IsNumber id number = (text : Text) × (one_of id rows ≡ Some text)
       × IsNumeral 10 (without_leading_plus text) × (number ≡ digits_value 10 (without_leading_plus text))
+
+  -- the word of this argument, where one is given
+  abbrev pub IsMaybeWord : Text → Option (Bor Text) → Type 0
+  IsMaybeWord id None = all_of id rows ≡ None
+  IsMaybeWord id (Some word) = IsGivenWord id word
 
   -- the moment, where the words give one
   abbrev pub IsGivenMoment : Option ℕ → Type 0
@@ -48,6 +54,8 @@ AsksFor name rows (Tables file) = (name ≡ codes "list") × IsGivenWord rows (c
 AsksFor name rows (Migrate file) = (name ≡ codes "migrate") × IsGivenWord rows (codes "FILE") file
 AsksFor name rows (Serve file port count) = (name ≡ codes "serve") × IsGivenWord rows (codes "FILE") file
     × IsNumber rows (codes "port") port × IsNumber rows (codes "count") count
+AsksFor name rows (Desk file port count page) = (name ≡ codes "desk") × IsGivenWord rows (codes "FILE") file
+    × IsNumber rows (codes "port") port × IsNumber rows (codes "count") count × IsMaybeWord rows (codes "page") page
 
 -- the words ask for this: of what `clap` reads of them on the command line
 abbrev pub Asks : List Text → Request → Type 0

@@ -66,6 +66,15 @@ fn count_argument<'a>(alloc: Global) -> Arg<'a>
         .value_parser(value_parser!(u32).range(1..=1000000))
 }
 
+fn page_argument<'a>(alloc: Global) -> Arg<'a>
+    ensures { IsArgument line.page result }
+{
+    Arg::new(alloc, "page")
+        .long("page")
+        .value_name("TABLE")
+        .help("The media table whose items a browser may run as pages, as `viewer`")
+}
+
 fn init_command<'a>(alloc: Global) -> Result<Command<'a>, AllocError>
     ensures { IfOk result (IsCommand line.init) }
 {
@@ -81,7 +90,7 @@ fn run_command<'a>(alloc: Global) -> Result<Command<'a>, AllocError>
     Command::new(alloc, "run")
         .about("Applies the CSV records of standard input, and answers each with a line")
         .after_help(
-            "Example: mmpkg run map.gpkg < records.csv\nLine N answers record N: `N ok`, `N refused R`, or `N fault F`, which ends the run.",
+            "Example: mmpkg run map.mmpkg < records.csv\nLine N answers record N: `N ok`, `N refused R`, or `N fault F`, which ends the run.",
         )
         .after_long_help(texts::RUN)
         .arg(file_argument(alloc))?
@@ -96,7 +105,7 @@ fn kit_command<'a>(alloc: Global) -> Result<Command<'a>, AllocError>
             "Stages the pieces of a kit in an open edition; an import that was stopped is done again",
         )
         .after_help(
-            "Example: mmpkg kit map.gpkg spring kits/spring\nPrints `kit complete N`, `kit refused PIECE R`, or `kit fault F`.",
+            "Example: mmpkg kit map.mmpkg spring kits/spring\nPrints `kit complete N`, `kit refused PIECE R`, or `kit fault F`.",
         )
         .after_long_help(texts::KIT)
         .arg(file_argument(alloc))?
@@ -145,12 +154,27 @@ fn serve_command<'a>(alloc: Global) -> Result<Command<'a>, AllocError>
             "Serves tiles, media and lists of the package over HTTP, one connection after another",
         )
         .after_help(
-            "Example: mmpkg serve map.gpkg --port 8080 --count 1000\nRoutes: /tiles/TABLE/Z/COLUMN/ROW, /media/TABLE/ID, /related/TABLE/ID, /contents.",
+            "Example: mmpkg serve map.mmpkg --port 8080 --count 1000\nRoutes: /tiles/TABLE/Z/COLUMN/ROW, /media/TABLE/ID, /related/TABLE/ID, /contents.",
         )
         .after_long_help(texts::SERVE)
         .arg(file_argument(alloc))?
         .arg(port_argument(alloc))?
         .arg(count_argument(alloc))
+}
+
+fn desk_command<'a>(alloc: Global) -> Result<Command<'a>, AllocError>
+    ensures { IfOk result (IsCommand line.desk) }
+{
+    Command::new(alloc, "desk")
+        .about("Shows the package in a browser and takes records from it, in one session")
+        .after_help(
+            "Example: mmpkg desk map.mmpkg --port 8090 --count 1000000 --page viewer\nPrints the address with its key; GET shows as `serve` does, POST /KEY/records runs a list as `run` does.",
+        )
+        .after_long_help(texts::DESK)
+        .arg(file_argument(alloc))?
+        .arg(port_argument(alloc))?
+        .arg(count_argument(alloc))?
+        .arg(page_argument(alloc))
 }
 
 /// The whole command line.
@@ -173,5 +197,6 @@ pub(crate) fn command<'a>(alloc: Global) -> Result<Command<'a>, AllocError>
         .subcommand(check_command(alloc)?)?
         .subcommand(list_command(alloc)?)?
         .subcommand(serve_command(alloc)?)?
+        .subcommand(desk_command(alloc)?)?
         .subcommand(migrate_command(alloc)?)
 }

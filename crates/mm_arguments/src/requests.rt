@@ -3,7 +3,7 @@
 ghost use Rattle.std.specs.Prelude.{◌≡◌, ◌⊎◌, IfOk, IfSome, codes, map};
 ghost use Rattle.clap.specs.Words.{FailsBy, fault_of, found_of, kind_of, rows_of};
 ghost use Rattle.mm_arguments.specs.CommandLine.{command_line};
-ghost use Rattle.mm_arguments.specs.Requests.{Asks, AsksFor, IsGivenMoment, IsRequestWithin, IsGivenWord};
+ghost use Rattle.mm_arguments.specs.Requests.{Asks, AsksFor, IsGivenMoment, IsRequestWithin, IsGivenWord, IsMaybeWord};
 ghost use Rattle.mm_arguments.specs.Requests as spec;
 
 use crate::commands::command;
@@ -39,6 +39,13 @@ pub enum Request<'a> {
         file: &'a str,
         port: u16,
         count: u32,
+    },
+    /// The same limits as of `Serve`, and the media table whose items run as pages, where one is named.
+    Desk {
+        file: &'a str,
+        port: u16,
+        count: u32,
+        page: Option<&'a str>,
     },
     Migrate {
         file: &'a str,
@@ -99,6 +106,40 @@ fn serve_of<'a>(file: &'a str, matches: &ArgMatches<'a>) -> Option<Request<'a>>
     Some(Request::Serve { file, port, count })
 }
 
+/// The word of an argument that need not stand.
+fn maybe_word<'a>(matches: &ArgMatches<'a>, id: &str) -> Result<Option<&'a str>, Unfit>
+    ensures { IfOk result (IsMaybeWord (rows_of (found_of matches.now)) id.now) }
+{
+    if !matches.contains_id(id) {
+        return Ok(None);
+    }
+    match word_of(matches, id) {
+        Some(word) => Ok(Some(word)),
+        None => Err(Unfit),
+    }
+}
+
+fn desk_of<'a>(file: &'a str, matches: &ArgMatches<'a>) -> Option<Request<'a>>
+    requires { IsGivenWord (rows_of (found_of matches.now)) (codes "FILE") file }
+    ensures within { IfSome result IsRequestWithin }
+    ensures asks { IfSome result (AsksFor (codes "desk") (rows_of (found_of matches.now))) }
+{
+    let port = matches.get_one::<u16>("port")?;
+    let count = matches.get_one::<u32>("count")?;
+    if port == 0 || count == 0 || count > 1000000 {
+        return None;
+    }
+    match maybe_word(matches, "page") {
+        Ok(page) => Some(Request::Desk {
+            file,
+            port,
+            count,
+            page,
+        }),
+        Err(_) => None,
+    }
+}
+
 fn request_of<'a>(name: &str, matches: &ArgMatches<'a>) -> Option<Request<'a>>
     ensures within { IfSome result IsRequestWithin }
     ensures asks { IfSome result (AsksFor name.now (rows_of (found_of matches.now))) }
@@ -114,6 +155,7 @@ fn request_of<'a>(name: &str, matches: &ArgMatches<'a>) -> Option<Request<'a>>
         "check" => Some(Request::Check { file }),
         "list" => Some(Request::List { file }),
         "serve" => serve_of(file, matches),
+        "desk" => desk_of(file, matches),
         "migrate" => Some(Request::Migrate { file }),
         _ => None,
     }

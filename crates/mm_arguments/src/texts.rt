@@ -10,7 +10,7 @@ journal is left over from a package that was removed, remove it too. After a pow
 whether the package stands; where it does not, remove both files and do it again.";
 
 /// Behind `help run`.
-pub(crate) const RUN: &str = "Example: mmpkg run map.gpkg < records.csv
+pub(crate) const RUN: &str = "Example: mmpkg run map.mmpkg < records.csv
 Line N answers record N: `N ok`, `N refused R`, or `N fault F`, which ends the run. What is `ok` stays, also after a power loss.
 
 Records, the fields parted by commas; a field may stand in double quotes:
@@ -58,7 +58,7 @@ Faults, which end the run; what was answered before stands:
   96 the input failed     97 the output failed";
 
 /// Behind `help kit`.
-pub(crate) const KIT: &str = "Example: mmpkg kit map.gpkg spring kits/spring
+pub(crate) const KIT: &str = "Example: mmpkg kit map.mmpkg spring kits/spring
 Prints `kit complete N`, `kit refused PIECE R`, or `kit fault F`; PIECE is a record's place in the list, 0 for none.
 
 Records of FOLDER/kit.csv, where NO is the record's place, counted from 1, and FILE a file of FOLDER:
@@ -90,8 +90,26 @@ Not a package:
   93 of another version (1: `mmpkg migrate`)   94 no package, or no such file   95 its version is told in another form
   98 its bytes are not kept once each, as another program left them";
 
+/// Behind `help desk`.
+pub(crate) const DESK: &str =
+    "Example: mmpkg desk map.mmpkg --port 8090 --count 1000000 --page viewer
+Prints the address to open, with its key; whoever has the key may ask, over 127.0.0.1 alone. The key is that of the
+environment's MMPKG_KEY (16 to 64 letters, digits, - and _), or else a new one.
+
+GET /KEY/PATH shows what `serve` shows at PATH, and at /rows/TABLE/ID the rows of an attributes table from ID on, by
+rising id, 1,000 at most, as JSON. Media of other tables than --page's run no script in a browser.
+POST /KEY/records, with Content-Type: text/csv and Content-Length, runs the body's records once it came whole, 16,777,216
+bytes at most; each is answered by a line as in `run`, sent as the command stands.
+POST /KEY/end ends the desk well: the file alone holds all then.
+Else: 400 no request, or a body that was cut (nothing is run); 403 another Host, or another site's page; 404 no such
+path, or not the key; 405 neither GET nor POST; 411 no length; 413 too long; 415 no text/csv.
+
+Prints `page fault F` for a request that wasn't answered (no record of it was run), and `list fault F` where a list was
+ended: by 97 since its lines could not be sent, by 90 or 91 since a command failed. Then the desk ends with 3, and the
+next start goes on with what stands.";
+
 /// Behind `help serve`.
-pub(crate) const SERVE: &str = "Example: mmpkg serve map.gpkg --port 8080 --count 1000
+pub(crate) const SERVE: &str = "Example: mmpkg serve map.mmpkg --port 8080 --count 1000
 Routes: /tiles/TABLE/Z/COLUMN/ROW, /media/TABLE/ID, /related/TABLE/ID, /contents.
 
 It listens on 127.0.0.1 alone, so that only this machine sees the page. Prints `page fault F` for a connection that met a

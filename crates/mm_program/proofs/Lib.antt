@@ -3,4 +3,5 @@ pub mod Told
 pub mod Life
 pub mod ServiceFacts
 pub mod Printed
+pub mod Attending
 pub mod Off

@@ -32,8 +32,9 @@ use Rattle.mm_work.specs.Told.{stop_status}
 use Rattle.mm_work.specs.declared.stop.Stop.{Stop}
 use Rattle.mm_work.specs.declared.stop.Stop.TheVariants as stops
 use Rattle.mm_program.specs.Files.{OffClose, OnOpened, WereBare}
+use Rattle.mm_program.specs.Desks.{LeavesDesk}
 use Rattle.mm_program.specs.Left.{IsDeclinedFor, LeavesFine, LeavesImport, LeavesMade, LeavesRun, LeavesSame, RanTo, StaysFor, TellsChecked}
-use Rattle.mm_program.specs.Life.{AreMade, Deed, IsLife, IsPartOf, Leads, LeavesBy, LivesOn, Makes, MakesBy, MakesImport, Ran, Use, Looks, Runs, Imports, Migrates}
+use Rattle.mm_program.specs.Life.{AreMade, Deed, IsLife, IsPartOf, Leads, LeavesBy, LivesOn, Makes, MakesAttended, MakesBy, MakesImport, Ran, Use, Looks, Runs, Attends, Imports, Migrates}
 use Rattle.mm_program.specs.Worked.{closes_done}
 
 -- what is left of files that were worked on, by what they held
@@ -96,10 +97,17 @@ migration_makes : (done : Result (Unit {0}) Stop) (after : Trees) (p : Package) 
 migration_makes (Ok done) after p it = it.0
 migration_makes (Err why) after p it = still_there p after it.0 it.1
 
+attends_makes : (done : Result ℕ Stop) (db after : Trees) (p : Package) → StandsForCurrent db p → Meets current p → LeavesDesk db after done
+    → (q : Package) × StandsForCurrent after q × Meets current q × MakesAttended done p q
+attends_makes (Ok status) db after p stands meets leaves =
+    let it = leaves p stands meets in (it.last, it.stands, it.meets, (it.visits, it.calls, it.kept, it.sitting, it.part))
+attends_makes (Err why) db after p stands meets same = (p, subst (λ t. StandsForCurrent t p) (sym same) stands, meets, refl)
+
 makes : (did : Deed) (db after : Trees) (p : Package) → StandsForCurrent db p → Meets current p → LeavesBy did db after
     → (q : Package) × StandsForCurrent after q × Meets current q × Makes did p q
 makes Looks db after p stands meets same = (p, subst (λ t. StandsForCurrent t p) (sym same) stands, meets, refl)
 makes (Runs r) db after p stands meets leaves = makes_by r r.done db after p stands meets leaves
+makes (Attends done) db after p stands meets leaves = attends_makes done db after p stands meets leaves
 makes (Imports i) db after p stands meets leaves = import_makes i.told i.name i.done db after p stands meets leaves
 makes (Migrates done) db after p stands meets leaves = (p, migration_makes done after p (leaves.0 p stands), meets, refl)
 

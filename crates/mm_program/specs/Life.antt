@@ -8,7 +8,7 @@ use Rattle.mm_definitions.specs.Bounds.{current}
 use Rattle.mm_definitions.specs.Keys.{Text}
 use Rattle.mm_definitions.specs.Package.{Package}
 use Rattle.mm_definitions.specs.Rules.{Meets}
-use Rattle.mm_definitions.specs.Runs.{IsFirstPart}
+use Rattle.mm_definitions.specs.Runs.{Call, IsFirstPart}
 use Rattle.mm_definitions.specs.Streams.{Written}
 use Rattle.mm_definitions.specs.declared.answers.KitFault.{KitFault}
 use Rattle.mm_definitions.specs.declared.answers.Staged.{Staged}
@@ -18,6 +18,8 @@ use Rattle.mm_core.specs.Applied.{StandsForCurrent}
 use Rattle.mm_core.specs.Answers.{calls_of}
 use Rattle.mm_core.specs.Runs.{acknowledged_of}
 use Rattle.mm_work.specs.declared.stop.Stop.{Stop}
+use Rattle.mm_desk.specs.Sittings.{IsSitting, Visit}
+use Rattle.mm_program.specs.Desks.{LeavesDesk}
 use Rattle.mm_program.specs.Left.{LeavesImport, LeavesMigrated, LeavesRun, LeavesSame, RanTo}
 
 -- of each database that files held, what was left of them holds such a one
@@ -38,10 +40,11 @@ pub record Imported : Type 0 where
   pub name : Text
   pub done : Result (Result Staged KitFault) Stop
 
--- What was done: a subcommand that changes nothing, a run, an import of a kit, or a migration and what it came to.
+-- What was done: a subcommand that changes nothing, a run, a desk and what it came to, an import of a kit, or a migration and what it came to.
 pub data Deed : Type 0 where
   Looks : Deed
   Runs : Ran → Deed
+  Attends : Result ℕ Stop → Deed
   Imports : Imported → Deed
   Migrates : Result (Unit {0}) Stop → Deed
 
@@ -54,6 +57,7 @@ pub record Use : Type 0 where
 abbrev pub LeavesBy : Deed → Trees → Trees → Type 0
 LeavesBy Looks found after = LeavesSame found after
 LeavesBy (Runs r) found after = LeavesRun (Some r.bytes) r.moment found after r.old r.new r.done
+LeavesBy (Attends done) found after = LeavesDesk found after done
 LeavesBy (Imports i) found after = LeavesImport i.told i.name found after i.done
 LeavesBy (Migrates done) found after = LeavesMigrated found after done
 
@@ -78,6 +82,12 @@ abbrev pub MakesBy : Ran → Result ℕ Stop → Package → Package → Type 0
 MakesBy r (Ok status) p q = IsPart r status p q
 MakesBy r (Err why) p q = q ≡ p
 
+-- What a desk makes of it: the package after a first part of the accepted commands of all its lists, one behind another, with every one that was
+-- acknowledged; or it had none.
+abbrev pub MakesAttended : Result ℕ Stop → Package → Package → Type 0
+MakesAttended (Ok status) p q = (visits : List Visit) × (calls : List Call) × (kept : ℕ) × IsSitting p visits calls kept × IsFirstPart p calls kept q
+MakesAttended (Err why) p q = q ≡ p
+
 -- what an import makes of it: nothing but the pieces of its edition differs, and those that stood stand; or nothing was imported
 abbrev pub MakesImport : Text → Result (Result Staged KitFault) Stop → Package → Package → Type 0
 MakesImport name (Ok import) p q = KeepsOthers name p q
@@ -87,6 +97,7 @@ MakesImport name (Err why) p q = q ≡ p
 abbrev pub Makes : Deed → Package → Package → Type 0
 Makes Looks p q = q ≡ p
 Makes (Runs r) p q = MakesBy r r.done p q
+Makes (Attends done) p q = MakesAttended done p q
 Makes (Imports i) p q = MakesImport i.name i.done p q
 Makes (Migrates done) p q = q ≡ p
 

@@ -17,6 +17,7 @@ use Rattle.mm_work.specs.Migrated.{migrate_status, migrate_text}
 use Rattle.mm_work.specs.Told.{IsTold, init_status, init_text, stop_status, stop_text}
 use Rattle.mm_work.specs.declared.stop.Stop.{Stop}
 use Rattle.mm_work.specs.declared.stop.Stop.TheVariants as stops
+use Rattle.mm_program.specs.Desks.{TellsDesk, table_of}
 use Rattle.mm_program.specs.Served.{TellsServe}
 use Rattle.mm_program.specs.Stops.{StopsCheck, StopsNew}
 
@@ -67,6 +68,7 @@ PrintsRequest (asked.Check file) old new result = PrintsCheck old new result
 PrintsRequest (asked.List file) old new result = TellsDecline old new result
 PrintsRequest (asked.Migrate file) old new result = PrintsMigrate old new result
 PrintsRequest (asked.Serve file port count) old new result = TellsServe port count old new result
+PrintsRequest (asked.Desk file port count page) old new result = TellsDesk port count (table_of page) old new result
 
 -- What the words ask for is printed; or what is wrong with them, or that memory is wanted to read them.
 abbrev pub PrintsWords : List Text → Written → Written → ℕ → Type 0

@@ -18,6 +18,7 @@ use Rattle.mm_arguments.specs.declared.requests.Request.{Request}
 use Rattle.mm_arguments.specs.declared.requests.Request.TheVariants as asked
 use Rattle.mm_files.specs.declared.left.Left.{Left}
 use Rattle.mm_files.specs.Worked.{IsUnprinted}
+use Rattle.mm_program.specs.Desks.{LeavesDesk, TellsDesk, TellsSat, table_of}
 use Rattle.mm_program.specs.Files.{IsUntouched, OnFile, StopsNew, StopsOld, WasBare}
 use Rattle.mm_program.specs.Left.{LeavesImport, LeavesMade, LeavesMigrated, LeavesRun, LeavesSame, TellsChecked, TellsImport, TellsListing, TellsMigrated, TellsRun, TellsServed}
 use Rattle.mm_program.specs.Served.{TellsServe}
@@ -79,6 +80,13 @@ module _ {D S : Type 0} (g : Ghosts D) (image : Image) (path : Text) (old new : 
   TellsService = (between : Written) × (outcome : Result ℕ Stop) × IsEnded (λ status. status) old between new outcome result × IsUnprinted g old between left
       × OnFile g image path StopsOld TellsServed (λ found after done. LeavesSame found after) closes_run outcome left
 
+  -- `desk` shows the package that was found and runs lists on it; a key or a table's name that is none opens no file
+  abbrev pub TellsSitting : Type 0
+  TellsSitting =
+      ((IsTold old new (codes "refused 11\n") 1 result ⊎ IsTold old new (codes "refused 12\n") 1 result) × IsUntouched left)
+      ⊎ ((between : Written) × (outcome : Result ℕ Stop) × IsEnded (λ status. status) old between new outcome result × IsUnprinted g old between left
+      × OnFile g image path StopsOld TellsSat (λ found after done. LeavesDesk found after done) closes_run outcome left)
+
 -- ---- the program
 
 -- what is told of what was asked for, and left of the file that the words name
@@ -92,6 +100,8 @@ TellsRequest g image source (asked.List file) old new result left = TellsDecline
 TellsRequest g image source (asked.Migrate file) old new result left = TellsMigrate g image file.now old new result left
 TellsRequest g image source (asked.Serve file port count) old new result left =
     TellsServe port count old new result × TellsService g image file.now old new result left
+TellsRequest g image source (asked.Desk file port count page) old new result left =
+    TellsDesk port count (table_of page) old new result × TellsSitting g image file.now old new result left
 
 -- What the words ask for is told and left; or what is wrong with them, or that memory is wanted to read them, and no file was opened.
 abbrev pub TellsWords : {D S : Type 0} (g : Ghosts D) → Image → Option (List ℕ) → List Text → Written → Written → ℕ → Left D S g → Type 0

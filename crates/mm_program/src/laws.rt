@@ -18,6 +18,7 @@ ghost use Rattle.mm_definitions.specs.declared.answers.Staged.{Staged};
 ghost use Rattle.mm_kit.specs.Folders.{Files};
 ghost use Rattle.mm_work.specs.Told.{stop_status};
 ghost use Rattle.mm_work.specs.declared.stop.Stop.{Stop as Why};
+ghost use Rattle.mm_program.specs.Desks.{LeavesDesk, TellsSat};
 ghost use Rattle.mm_program.specs.Files.{OffClose, OnOpened, WereBare};
 ghost use Rattle.mm_program.specs.Left.{LeavesImport, LeavesMade, LeavesMigrated, LeavesRun, LeavesSame, TellsChecked, TellsImport, TellsListing, TellsMigrated, TellsRun, TellsServed};
 ghost use Rattle.mm_program.specs.Life.{IsLife, Leads, LivesOn, Use};
@@ -59,6 +60,16 @@ pub fn a_look_leads_on<'a, D: Disk>(_opened: &Opened<'a, D>)
         → AreClean D.Disk _opened.now.files.log _opened.now.files.db
         → outcomes D.Disk _opened.now.files.log _opened.now.files.db next
         → Leads LeavesSame image next }
+{}
+
+/// So of `desk`.
+pub fn a_desk_leads_on<'a, D: Disk>(_opened: &Opened<'a, D>)
+    ensures { (image next : Image) (path : Text) (done : Result ℕ Why)
+        → OnOpened D.Disk image path TellsSat (λ found after it. LeavesDesk found after it)
+        closes_run done _opened.now
+        → AreClean D.Disk _opened.now.files.log _opened.now.files.db
+        → outcomes D.Disk _opened.now.files.log _opened.now.files.db next
+        → Leads (λ found after. LeavesDesk found after done) image next }
 {}
 
 /// So of `kit`, whatever its folder tells, and of `migrate`.
@@ -114,7 +125,7 @@ pub fn a_making_leads_on<'a, D: Disk>(_opened: &Opened<'a, D>)
 {}
 
 /// The headline over the life of a file: where it held a package that meets the rules, then behind any number of uses and crashes it holds
-/// the one that is made of it by a first part of the accepted commands of each list, in turn, with every command that was acknowledged;
+/// the one that is made of it by a first part of the accepted commands of each list, in turn, with every command that was acknowledged, and of all the lists of a desk;
 /// an import changes the pieces of its edition alone, and drops none, and a migration changes nothing.
 pub fn a_life_keeps_what_was_acknowledged()
     ensures { (image next : Image) (uses : List Use) → IsLife image uses next

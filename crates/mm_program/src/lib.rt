@@ -7,20 +7,27 @@
 //! - `files`: the package's file and its journal.
 //! - `connections`: the page served to one connection after another.
 //! - `serving`: the page served over sockets.
+//! - `sittings`: requests that a desk answers, one after another.
+//! - `keys`: the key in a desk's address.
+//! - `desks`: the desk over sockets.
 //! - `clock`: the moment of a run that names none.
 //! - `laws`: from one run of the program to the next.
 #![tactic(auto)]
 
 mod clock;
 mod connections;
+mod desks;
 mod files;
+mod keys;
 mod kits;
 pub mod laws;
 mod migrating;
 mod reporting;
 mod serving;
+mod sittings;
 mod subcommands;
 
 pub use connections::{Serves, serve_on};
 pub use files::{Worked, on_new, on_old};
+pub use sittings::{Turn, attend};
 pub use subcommands::{program, program_on};

@@ -14,6 +14,7 @@ ghost use Rattle.mm_program.specs.Told.{TellsDecline, TellsInit, TellsRan, Tells
 ghost use Rattle.mm_program.specs.Worked.{IsRun, closes_done, closes_run};
 
 use crate::clock::{Now, moment_or_now};
+use crate::desks::desk_told;
 use crate::files::{on_new, on_old};
 use crate::kits::import_and_tell;
 use crate::migrating::migrate_told;
@@ -241,6 +242,14 @@ pub fn program_on<'a, S: Start, R: Read, W: Write>(
         Ok(Request::Serve { file, port, count }) => {
             serve_told(rt, file, start, port, count, output)
         }
+        Ok(
+            Request::Desk {
+                file,
+                port,
+                count,
+                page,
+            },
+        ) => desk_told(rt, file, start, port, count, page, output),
         Ok(
             Request::Kit {
                 file,

@@ -14,6 +14,10 @@ serving_text port = codes "serving 127.0.0.1:" ++ decimal port ++ codes "\n"
 abbrev pub page_fault_text : Fault → List ℕ
 page_fault_text fault = codes "page fault " ++ decimal fault.0 ++ codes "\n"
 
+-- the fault that ended a list of a desk
+abbrev pub list_fault_text : Fault → List ℕ
+list_fault_text fault = codes "list fault " ++ decimal fault.0 ++ codes "\n"
+
 -- The bytes were printed whole; or the writer has failed, behind a front of them.
 abbrev pub IsPrinted : Written → Written → List ℕ → Bool → Type 0
 IsPrinted old new bytes true = Appends old.contents new.contents bytes × (new.failed ≡ old.failed)

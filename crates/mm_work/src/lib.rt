@@ -20,7 +20,7 @@ mod tell;
 pub use imports::{Import, import_package, tell_import};
 pub use migrating::{migrate_package, tell_migration};
 pub use package::{adopt_package, make_package, run_package};
-pub use pages::{tell_page_fault, tell_serving};
+pub use pages::{is_printed, tell_list_fault, tell_page_fault, tell_serving};
 pub use reporting::{check_package, list_package, tell_check};
 pub use stop::{NoPackage, Stop};
 pub use tell::{

@@ -2,17 +2,17 @@
 
 ghost use Rattle.std.specs.Prelude.{◌≡◌, ◌++◌, codes, decimal};
 ghost use Rattle.mm_definitions.specs.Streams.{written};
-ghost use Rattle.mm_work.specs.Pages.{IsPrinted, page_fault_text, serving_text};
+ghost use Rattle.mm_work.specs.Pages.{IsPrinted, list_fault_text, page_fault_text, serving_text};
 
 use crate::tell::numbered_line;
 use arrayvec::ArrayVec;
-use mm_definitions::answers::PageFault;
+use mm_definitions::answers::{Fault, PageFault};
 use mm_definitions::streams::Io;
 use mm_io::{Sent, put, put_number, send};
 use std::io::Write;
 
 /// Prints bytes, and tells whether they were printed whole.
-fn is_printed<W: Write>(output: &mut Io<W>, bytes: &[u8]) -> bool
+pub fn is_printed<W: Write>(output: &mut Io<W>, bytes: &[u8]) -> bool
     ensures { IsPrinted (written W.contents output.old) (written W.contents output.new)
         bytes.now result }
 {
@@ -49,5 +49,14 @@ pub fn tell_page_fault<W: Write>(output: &mut Io<W>, fault: PageFault) -> bool
         (page_fault_text fault.0) result }
 {
     let line = numbered_line(b"page fault ", fault.0.number());
+    is_printed(output, line.as_slice())
+}
+
+/// Prints the fault that ended a list of a desk, and tells whether it was printed whole.
+pub fn tell_list_fault<W: Write>(output: &mut Io<W>, fault: Fault) -> bool
+    ensures { IsPrinted (written W.contents output.old) (written W.contents output.new)
+        (list_fault_text fault) result }
+{
+    let line = numbered_line(b"list fault ", fault.number());
     is_printed(output, line.as_slice())
 }

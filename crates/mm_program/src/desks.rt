@@ -1,0 +1,371 @@
+//! The desk over sockets: one session that shows the package and takes records.
+
+ghost use Rattle.std.specs.Prelude.{◌≡◌, ◌≤◌, ◌⊎◌, List, false, IfErr, IfOk, string_bytes};
+ghost use Rattle.sqlite.specs.Held.{state};
+ghost use Rattle.sqlite.specs.WalFiles.{image_at};
+ghost use Rattle.mm_definitions.specs.Streams.{written};
+ghost use Rattle.mm_definitions.specs.Streams as streams;
+ghost use Rattle.mm_core.specs.Parts.{connection, must_reopen};
+ghost use Rattle.mm_core.specs.Viewers.{LeavesPackage};
+ghost use Rattle.mm_desk.specs.Sittings.{Sat, Visit};
+ghost use Rattle.mm_files.specs.Worked.{IsUnprinted};
+ghost use Rattle.mm_program.specs.Desks.{IsAttended, IsDeskDone, IsKey, IsSeated, LeavesDesk, NamesNone, Sits, TellsDesk, TellsSat, WasSeated, address_text, table_of};
+ghost use Rattle.mm_program.specs.Files.{OnFile, StopsOld};
+ghost use Rattle.mm_program.specs.Served.{PrintsNothing};
+ghost use Rattle.mm_program.specs.Stops.{StopsAny};
+ghost use Rattle.mm_program.specs.Told.{TellsSitting};
+ghost use Rattle.mm_program.specs.Worked.{closes_run};
+ghost use Rattle.mm_work.specs.Told.{TellsFailure, stop_status};
+
+use crate::clock::{Now, moment_or_now};
+use crate::files::on_old;
+use crate::keys::key_of;
+use crate::sittings::attend;
+use mm_core::Session;
+use mm_definitions::answers::{Fault, PageFault};
+use mm_definitions::names::{Name, is_name};
+use mm_definitions::streams::Io;
+use mm_desk::{Comes, Done, Gate, desk_one};
+use mm_files::{Left, Works};
+use mm_run::Apply;
+use mm_work::{FAULT, REFUSED, Stop, adopt_package, is_printed, tell_bytes, tell_stop};
+use sqlite::{Alter, Connection, FileFrom, Start};
+use sqlite_disk::Disk;
+use std::alloc::Global;
+use std::io;
+use std::io::{Read, Write};
+use std::net::{Ipv4Addr, Shutdown, TcpListener, TcpStream};
+use std::time::{Duration, Instant};
+
+/// How many seconds a request may take to come whole, and each write of a response.
+const PATIENCE: u64 = 20;
+
+/// How many seconds its first byte may be waited for: a browser opens a connection to spare, and the next one waits behind it.
+const FIRST_PATIENCE: u64 = 1;
+
+/// How many times the rest of a request is read off behind a response, and how many bytes each time.
+const LAST_READS: usize = 16;
+
+const LAST_BYTES: usize = 65_536;
+
+/// A stream whose reads end together: what comes later than its patience is an error.
+#[derive(Drop)]
+struct Timed<'a> {
+    rt: &'a HostRuntime,
+    stream: &'a TcpStream,
+    start: Instant,
+}
+
+impl<'a> Read for Timed<'a> {
+    fn read(&mut self, buf: &mut [u8]) -> io::Result<usize> {
+        let gone = self.start.elapsed(self.rt)?;
+        let most = Duration::from_secs(PATIENCE);
+        let Some(rest) = most.checked_sub(gone) else {
+            return Err(io::Error::from(io::ErrorKind::TimedOut));
+        };
+        if rest.is_zero() {
+            return Err(io::Error::from(io::ErrorKind::TimedOut));
+        }
+        self.stream.set_read_timeout(Some(rest))?;
+        let mut stream = self.stream;
+        stream.read(buf)
+    }
+}
+
+/// The next connection, once its first byte is there, or its end.
+fn next_stream(listener: &TcpListener) -> io::Result<TcpStream> {
+    let (stream, _address) = listener.accept()?;
+    stream.set_read_timeout(Some(Duration::from_secs(FIRST_PATIENCE)))?;
+    let _first = stream.peek(&mut [0])?;
+    stream.set_write_timeout(Some(Duration::from_secs(PATIENCE)))?;
+    Ok(stream)
+}
+
+/// Ends the response, and reads off what is left of the request, up to 1 MiB: with bytes unread the system would reset the
+/// connection, and the client could lose the response.
+fn read_off(stream: &TcpStream) -> io::Result<()> {
+    stream.shutdown(Shutdown::Write)?;
+    stream.set_read_timeout(Some(Duration::from_secs(FIRST_PATIENCE)))?;
+    let mut rest = [0u8; LAST_BYTES];
+    let mut reader = stream;
+    for _ in 0..LAST_READS {
+        if reader.read(&mut rest)? == 0 {
+            break;
+        }
+    }
+    Ok(())
+}
+
+/// The connections of a port, each with one request.
+#[derive(Drop)]
+struct Doors<'a> {
+    rt: &'a HostRuntime,
+    listener: &'a TcpListener,
+    gate: Gate<'a>,
+}
+
+impl<'a, S: Alter> Comes<Session<S>> for Doors<'a> {
+    /// Answers the next connection. 96 where there is none to be had, where nothing came on it, and where the clock tells no moment.
+    fn answer_next(&mut self, alloc: Global, session: &mut Session<S>) -> Result<Done, PageFault> {
+        let Ok(stream) = next_stream(self.listener) else {
+            return Err(PageFault(Fault::INPUT));
+        };
+        let Ok(start) = Instant::now(self.rt) else {
+            return Err(PageFault(Fault::INPUT));
+        };
+        let Now::At(at) = moment_or_now(self.rt, None) else {
+            return Err(PageFault(Fault::INPUT));
+        };
+        let mut reader = Io::new(Timed {
+            rt: self.rt,
+            stream: &stream,
+            start,
+        });
+        let mut writer = Io::new(&stream);
+        let done = desk_one(alloc, session, self.gate, &mut reader, &mut writer, at);
+        // The response is written, or has failed: what becomes of the connection behind it is no fault.
+        let _ended = read_off(&stream);
+        done
+    }
+}
+
+/// The work of a desk.
+#[derive(Drop)]
+struct DeskWork<'a> {
+    rt: &'a HostRuntime,
+    port: u16,
+    count: u32,
+    key: &'a str,
+    page: Option<&'a str>,
+}
+
+/// The line that tells where the desk is.
+fn address_line(alloc: Global, port: u16, key: &str, page: Option<&str>) -> Result<String, Stop>
+    ensures line { IfOk result (λ line. string_bytes line
+        ≡ address_text port key.now (table_of page.entry)) }
+    ensures stopped { IfErr result StopsAny }
+{
+    let made = match page {
+        Some(table) => format!(in alloc; "desk http://127.0.0.1:{port}/{key}/media/{table}/1\n"),
+        None => format!(in alloc; "desk http://127.0.0.1:{port}/{key}/\n"),
+    };
+    match made {
+        Ok(line) => Ok(line),
+        Err(_) => Err(Stop::Fault(Fault::MEMORY)),
+    }
+}
+
+/// The connections of a listener, for who has the key behind the slash.
+fn doors_of<'a>(
+    rt: &'a HostRuntime,
+    listener: &'a TcpListener,
+    port: u16,
+    front: &'a str,
+    named: &'a Option<Name>,
+) -> Doors<'a> {
+    let page = named.as_ref();
+    let gate = Gate { port, front, page };
+    Doors { rt, listener, gate }
+}
+
+/// Answers requests by a key behind a slash.
+fn attend_doors<S: Alter, W: Write>(
+    work: &DeskWork<'_>,
+    session: &mut Session<S>,
+    listener: &TcpListener,
+    front: &str,
+    output: &mut Io<W>,
+) -> u8
+    ensures told { IsAttended work.now.count (written W.contents output.old)
+        (written W.contents output.new) result }
+    ensures sat { must_reopen session.old ≡ false → (visits : List Visit)
+        × Sat ⟦<Session<S> as Apply>⟧ session.old visits session.new }
+{
+    let named = match work.page {
+        Some(table) => Name::read(table),
+        None => None,
+    };
+    let mut doors = doors_of(work.rt, listener, work.port, front, &named);
+    attend(work.rt.alloc(), session, &mut doors, work.count, output)
+}
+
+/// Binds the port on the loopback address, tells where the desk is, and answers so many connections. 96 where the port can't be bound, 90
+/// for want of memory: then nothing was printed, and the session is as it was.
+fn desk_port<S: Alter, W: Write>(
+    work: &DeskWork<'_>,
+    session: &mut Session<S>,
+    output: &mut Io<W>,
+) -> Result<u8, Stop>
+    ensures done { IsDeskDone work.now.port work.now.count work.now.key.now
+        (table_of work.now.page)
+        (written W.contents output.old) (written W.contents output.new) result }
+    ensures stopped { IfErr result StopsAny }
+    ensures kept { IfErr result (λ why. LeavesPackage
+        (state S.Store (connection session.old)) (state S.Store (connection session.new))) }
+    ensures sat { IfOk result (λ status. must_reopen session.old ≡ false
+        → Sits (state S.Store (connection session.old)) (state S.Store (connection session.new))) }
+{
+    let line = address_line(work.rt.alloc(), work.port, work.key, work.page)?;
+    let Ok(front) = format!(in work.rt.alloc(); "/{}", work.key) else {
+        return Err(Stop::Fault(Fault::MEMORY));
+    };
+    let Ok(listener) = TcpListener::bind(work.rt, (Ipv4Addr::LOCALHOST, work.port)) else {
+        return Err(Stop::Fault(Fault::INPUT));
+    };
+    if !is_printed(output, line.as_bytes()) {
+        return Ok(FAULT);
+    }
+    Ok(attend_doors(work, session, &listener, front.as_str(), output))
+}
+
+impl<'a> Works for DeskWork<'a> {
+    type Done = Result<u8, Stop>;
+
+    ghost comes_to = { λ work. IsDeskDone work.port work.count work.key.now (table_of work.page) };
+
+    ghost tells = { λ work found old new done. TellsSat found done };
+
+    ghost leaves = { λ work found after old new done. LeavesDesk found after done };
+
+    ghost closes = { closes_run };
+
+    // The port is bound once the package is adopted.
+    fn work<S: Alter + Drop, W: Write>(
+        &mut self,
+        alloc: Global,
+        conn: Connection<S>,
+        output: &mut Io<W>,
+    ) -> (Connection<S>, Result<u8, Stop>) {
+        let mut session = match adopt_package(alloc, conn) {
+            Ok(session) => session,
+            Err((conn, why)) => return (conn, Err(why)),
+        };
+        let done = desk_port(self, &mut session, output);
+        (session.close(), done)
+    }
+
+    fn closes(done: Result<u8, Stop>) -> bool
+        ensures { result ≡ closes_run done }
+    {
+        match done {
+            Ok(status) => status != FAULT,
+            Err(_) => false,
+        }
+    }
+}
+
+/// Opens a desk on the package of a file, by a key.
+#[tactic(auto, using(crate::proofs::Off::on_err))]
+fn desk_file<'a, S: Start, W: Write>(
+    path: &'a str,
+    start: S,
+    work: &mut DeskWork<'_>,
+    output: &mut Io<W>,
+) -> (Result<u8, Stop>, Left<'a, FileFrom<S>, S>)
+    ensures status { IfOk result.0 (λ status. status ≤ 3) }
+    ensures working { IfOk result.0
+        (λ status. (status ≡ 3) ⊎ (streams.has_failed output.new ≡ streams.has_failed output.old)) }
+    ensures seated { IfOk result.0 (IsSeated work.old.port work.old.count work.old.key.now
+        (table_of work.old.page)
+        (written W.contents output.old) (written W.contents output.new)) }
+    ensures unused { IfErr result.0
+        (λ why. streams.has_failed output.new ≡ streams.has_failed output.old) }
+    ensures stopped { IfErr result.0
+        (λ why. PrintsNothing (written W.contents output.old) (written W.contents output.new)
+        ⊎ WasSeated work.old.port work.old.count work.old.key.now
+        (table_of work.old.page)
+        (written W.contents output.old) (written W.contents output.new)) }
+    ensures told { IfErr result.0 (λ why.
+        (written W.contents output.new ≡ written W.contents output.old) ⊎ (stop_status why ≡ 3)) }
+    ensures unprinted { IsUnprinted ⟦<FileFrom<S> as Disk>⟧ (written W.contents output.old)
+        (written W.contents output.new) result.1 }
+    ensures left { OnFile ⟦<FileFrom<S> as Disk>⟧ (image_at S.Start) path.now StopsOld TellsSat
+        (λ found after done. LeavesDesk found after done) closes_run result.0 result.1 }
+{
+    match on_old(work.rt, path, start, work, output) {
+        Ok((opened, done)) => (done, Left::Worked(opened)),
+        Err((left, why)) => (Err(why), left),
+    }
+}
+
+/// Whether no table is named, or one by a name.
+fn is_named(page: Option<&str>) -> bool
+    ensures { result ≡ false → NamesNone (table_of page.entry) }
+{
+    match page {
+        Some(table) => is_name(table),
+        None => true,
+    }
+}
+
+/// The subcommand `desk` by a key.
+fn desk_keyed<'a, S: Start, W: Write>(
+    path: &'a str,
+    start: S,
+    work: &mut DeskWork<'_>,
+    output: &mut Io<W>,
+) -> (u8, Left<'a, FileFrom<S>, S>)
+    ensures told { IsKey work.old.key.now
+        → TellsDesk work.old.port work.old.count (table_of work.old.page)
+        (written W.contents output.old) (written W.contents output.new) result.0 }
+    ensures sitting { TellsSitting ⟦<FileFrom<S> as Disk>⟧ (image_at S.Start) path.now
+        (written W.contents output.old) (written W.contents output.new) result.0 result.1 }
+    ensures status { result.0 ≤ 4 }
+    ensures unprinted { TellsFailure (streams.has_failed output.old)
+        (streams.has_failed output.new) result.0 }
+{
+    let (done, left) = desk_file(path, start, work, output);
+    match done {
+        Ok(status) => (status, left),
+        Err(why) => (tell_stop(output, why), left),
+    }
+}
+
+/// The subcommand `desk`. `refused 12` where the page's table is no name, `refused 11` where the environment's key is none.
+pub(crate) fn desk_told<'a, S: Start, W: Write>(
+    rt: &HostRuntime,
+    path: &'a str,
+    start: S,
+    port: u16,
+    count: u32,
+    page: Option<&str>,
+    output: &mut Io<W>,
+) -> (u8, Left<'a, FileFrom<S>, S>)
+    ensures told { TellsDesk port count (table_of page.entry)
+        (written W.contents output.old) (written W.contents output.new) result.0 }
+    ensures sitting { TellsSitting ⟦<FileFrom<S> as Disk>⟧ (image_at S.Start) path.now
+        (written W.contents output.old) (written W.contents output.new) result.0 result.1 }
+    ensures status { result.0 ≤ 4 }
+    ensures unprinted { TellsFailure (streams.has_failed output.old)
+        (streams.has_failed output.new) result.0 }
+{
+    if !is_named(page) {
+        return (
+            tell_bytes(output, b"refused 12\n", REFUSED),
+            Left::Untouched(start),
+        );
+    }
+    let key = match key_of(rt) {
+        Ok(Some(key)) => key,
+        Ok(None) => {
+            return (
+                tell_bytes(output, b"refused 11\n", REFUSED),
+                Left::Untouched(start),
+            );
+        }
+        Err(fault) => {
+            return (
+                tell_stop(output, Stop::Fault(fault)),
+                Left::Untouched(start),
+            );
+        }
+    };
+    let mut work = DeskWork {
+        rt,
+        port,
+        count,
+        key: key.as_str(),
+        page,
+    };
+    desk_keyed(path, start, &mut work, output)
+}

@@ -1,10 +1,10 @@
 #!/usr/bin/env bash
 # What the built program shows from outside, by programs that share no code with this repository: the example with its
-# output, the lines of the documents, where the program calls the system for files, the tables of the file, the page by
-# curl, a machine's clock at its ends, a terminal, refused growths of memory, random lists against a model, what turns one
-# package into another; and where the
-# peers are there, the border to the standard, the viewer in a browser, GDAL and QGIS by WMTS, the day of two crews, the
-# Debian package in a fresh Debian, and the power of a virtual machine that is cut. The last line is 'N passed, M failed'.
+# output, the lines of the documents, where the program calls the system for files, the tables of the file, the page and
+# the desk by curl and over sockets, a machine's clock at its ends, a terminal, refused growths of memory, random lists
+# against a model, what turns one package into another; and where the peers are there, the border to the standard, the
+# viewer in a browser, GDAL and QGIS by WMTS, the day of two crews, the Debian package in a fresh Debian, and the power of
+# a virtual machine that is cut. The last line is 'N passed, M failed'.
 #
 #     scripts/outside.sh [PROGRAM]
 #
@@ -99,6 +99,7 @@ begin 'a power cut' scripts/outside/power_cut.sh
 begin 'the documents' scripts/outside/check_docs.py "$MMPKG"
 begin 'the tables of its file' scripts/outside/compare_schema.sh "$folder/example.mmpkg"
 begin 'the page' scripts/outside/page_curl.sh
+begin 'the desk' scripts/outside/desk.sh
 begin 'calls for files' scripts/outside/file_calls_check.py
 begin 'the linters' scripts/outside/lint.sh
 begin 'the clock' scripts/outside/clock.sh

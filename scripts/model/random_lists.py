@@ -5,8 +5,8 @@
 
 PROGRAM is the built program: without it the one of the environment's MMPKG, or out/mmpkg. The model (scripts/model/package_model.py)
 is written from docs/FORMATS.md alone. A round makes a package and runs a few lists and kits on it, each in a run of its own;
-behind each, the answers, the listing, the check and the rows of all tables are compared, and at the end what the page
-answers. The first round fills an edition. At the first mismatch the lists are kept, and how to run them again is told;
+behind each, the answers, the listing, the check and the rows of all tables are compared, then what a desk answers to lists
+and looks of one sitting, and at the end what the page answers. The first round fills an edition. At the first mismatch the lists are kept, and how to run them again is told;
 else the last line says what was compared. It fails too where a refusal was not seen in all of DEFAULT_ROUNDS.
 """
 
@@ -24,6 +24,7 @@ import subprocess
 import sys
 import tempfile
 
+from package_desk import Desk
 from package_model import Package
 from package_records import MOST_KIT_BYTES, MOST_MOMENT, MOST_PIECES, Refused, read_command, records
 from package_views import listing, query_of, respond, table_rows
@@ -41,8 +42,34 @@ REFUSALS = {10, 11, 12, *range(20, 28), *range(30, 36), *range(40, 49), *range(5
 KIT_REFUSALS = {11, 51, 52, 54, 55, 56, 57}
 
 
+# A machine whose clock stands, so that a desk's moment is known.
+CLOCK = r"""
+#include <stdlib.h>
+#include <sys/syscall.h>
+#include <time.h>
+#include <unistd.h>
+int clock_gettime(clockid_t id, struct timespec *at) {
+    if (id != CLOCK_REALTIME)
+        return syscall(SYS_clock_gettime, id, at);
+    long long moment = atoll(getenv("CLOCK_MILLISECONDS"));
+    at->tv_sec = moment / 1000;
+    at->tv_nsec = moment % 1000 * 1000000;
+    return 0;
+}
+"""
+KEY = "random-lists-0123456789"
+
+
 class Mismatch(Exception):
     """The program and the model do not answer the same."""
+
+
+def standing_clock(folder):
+    """Compiles a library for a clock that stands; its path."""
+    source, library = pathlib.Path(folder, "clock.c"), pathlib.Path(folder, "clock.so")
+    source.write_text(CLOCK)
+    subprocess.run(["cc", "-shared", "-fPIC", "-o", library, source], check=True)
+    return library
 
 
 def answers(package, text, moment):
@@ -69,8 +96,8 @@ def stages(*numbers):
 class Round:
     """A package, and what is done to it by the program and by the model."""
 
-    def __init__(self, program, seed, number, edges, seen):
-        self.program, self.seed, self.number, self.seen = program, seed, number, seen
+    def __init__(self, program, clock, seed, number, edges, seen):
+        self.program, self.clock, self.seed, self.number, self.seen = program, clock, seed, number, seen
         self.random = random.Random(f"{seed} {number}")
         self.edges = edges
         self.folder = pathlib.Path(tempfile.mkdtemp(prefix=f"random_lists_{seed}_{number}_"))
@@ -91,6 +118,7 @@ class Round:
             if self.random.random() < 0.6:
                 self.author.package = self.package.copy()
                 self.do_kit(*self.author.kit())
+        self.do_desk()
         self.compare_page()
         shutil.rmtree(self.folder)
 
@@ -184,6 +212,48 @@ class Round:
             connection.close()
         return rows
 
+    def do_desk(self):
+        """Runs lists and looks by one desk, and compares each response, how it ends, and what it leaves."""
+        with socket.create_server(("127.0.0.1", 0)) as free:
+            port = free.getsockname()[1]
+        moment = self.random.randrange(MOST_MOMENT + 1)
+        table = self.random.choice([*(name for name, it in self.package.tables.items() if it.kind == "media"), "nowhere"])
+        words = [self.program, "desk", self.file, "--port", str(port), "--count", "1000", "--page", table]
+        clock = {"LD_PRELOAD": str(self.clock), "CLOCK_MILLISECONDS": str(moment), "MMPKG_KEY": KEY}
+        self.again.append(f"MMPKG_KEY={KEY} mmpkg desk {self.file.name} --port {port} --count 1000 --page {table}, at {moment}")
+        desk = Desk(port, KEY, table)
+        with subprocess.Popen(words, stdout=subprocess.PIPE, env=os.environ | clock) as server:
+            try:
+                self.compare("desk", [server.stdout.readline()], [f"desk http://127.0.0.1:{port}/{KEY}/media/{table}/1\n".encode()])
+                for _ in range(LISTS):
+                    self.sit(desk, port, moment)
+                self.compare("end", [self.ask(desk, port, moment, "POST", f"/{KEY}/end", [], b"")], [True])
+                self.compare("desk", [server.stdout.read(), server.wait(PATIENCE)], [b"", 0])
+            finally:
+                server.kill()
+        self.compare_package()
+
+    def sit(self, desk, port, moment):
+        """Runs a random list by a desk, and asks it for some things."""
+        self.author.package = self.package.copy()
+        body = self.author.next_list(self.author.words(WORDS), [], moment)
+        self.ask(desk, port, moment, "POST", f"/{KEY}/records", [("Content-Type", "text/csv"), ("Content-Length", str(len(body)))], body)
+        self.author.package = self.package
+        for method, target, _ in self.author.requests():
+            if method is not None:
+                self.ask(desk, port, moment, method, f"/{KEY}{target}" if target.startswith("/") else target, [], b"")
+        for table in self.package.tables:
+            self.ask(desk, port, moment, "GET", f"/{KEY}/rows/{table}/{self.random.choice((0, 1, 2, 5, MOST_PIECES))}", [], b"")
+
+    def ask(self, desk, port, moment, method, target, fields, body):
+        """Asks the desk, and compares what it answers with the model; whether the desk ends."""
+        lines = [("Host", desk.host), *fields]
+        head = f"{method} {target} HTTP/1.1\r\n" + "".join(f"{name}: {value}\r\n" for name, value in lines) + "\r\n"
+        wanted, ends = desk.answer(self.package, moment, method, target, lines, body)
+        self.compare(f"the desk's response to {head[:200]!r}", [exchange(port, head.encode() + body)], [wanted])
+        self.seen["desk", int(wanted[9:12])] += 1
+        return ends
+
     def compare_page(self):
         """Compares the responses to some requests."""
         self.author.package = self.package
@@ -241,15 +311,20 @@ def arguments():
 
 
 def main():
+    """Does the rounds on a clock that stands."""
+    with tempfile.TemporaryDirectory() as room:
+        return all_rounds(arguments(), standing_clock(room))
+
+
+def all_rounds(given, clock):
     """Does the rounds, and tells what was compared."""
-    given = arguments()
     edges = all_edges()
     random.Random(given.seed).shuffle(edges)
     parts = DEFAULT_ROUNDS * LISTS
     seen = collections.Counter()
     for number in range(given.first, given.rounds + 1):
         chosen = [edges[(number * LISTS + it) % parts :: parts] for it in range(LISTS)]
-        one = Round(pathlib.Path(given.program).resolve(), given.seed, number, chosen, seen)
+        one = Round(pathlib.Path(given.program).resolve(), clock, given.seed, number, chosen, seen)
         try:
             one.run()
         except (Mismatch, OSError, subprocess.TimeoutExpired) as error:
@@ -258,7 +333,8 @@ def main():
             return 1
     print(f"seed {given.seed}, rounds {given.first} to {given.rounds}, all as in the model: records", counts(seen, "answer"), end="; ")
     print("kits", counts(seen, "kit"), end="; ")
-    print(f"{seen['packages', '']} listings, checks and files of {seen['rows', '']} rows in all; requests", counts(seen, "page"))
+    print(f"{seen['packages', '']} listings, checks and files of {seen['rows', '']} rows in all; requests", counts(seen, "page"), end="; ")
+    print("a desk's", counts(seen, "desk"))
     if given.first == 1 and given.rounds >= DEFAULT_ROUNDS and unseen(seen):
         print("not seen:", unseen(seen))
         return 1

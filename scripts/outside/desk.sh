@@ -1,0 +1,18 @@
+#!/usr/bin/env bash
+# The desk over sockets and by curl, which share no code with this repository: the worked requests, bodies that are large, cut or slow, clients that
+# vanish, kills, keys.
+#
+#     scripts/outside/desk.sh [PROGRAM]
+#
+# PROGRAM is the built program: without it the one that the environment's MMPKG names, or else out/mmpkg. The last line is 'N passed, M failed'.
+# Exit status: 0 all passed, 1 something failed, 2 the program isn't there.
+set -eu -o pipefail
+
+top=$(cd "$(dirname "$0")/../.." && pwd)
+export MMPKG
+MMPKG=$(realpath -m "${1:-${MMPKG:-$top/out/mmpkg}}")
+if [ ! -x "$MMPKG" ]; then
+    echo "$MMPKG isn't there: scripts/build.sh makes out/mmpkg" >&2
+    exit 2
+fi
+exec "$top/scripts/outside/desk_check.py"

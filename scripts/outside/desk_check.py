@@ -1,0 +1,382 @@
+#!/usr/bin/env python3
+"""Asks the desk over sockets and by curl: the worked requests, large and cut bodies, clients that vanish, kills, keys (desk.sh calls it).
+
+    desk_check.py [WORD ..]
+
+With words only the checks whose names have one of them. Wanted values are those of docs/FORMATS.md, by the model in scripts/model.
+"""
+import contextlib
+import os
+import pathlib
+import re
+import select
+import signal
+import socket
+import subprocess
+import sys
+import tempfile
+import time
+
+from checks import PROGRAM, TOP, end, expect, mmpkg, run, run_checks
+
+sys.path.insert(0, str(TOP / "scripts" / "model"))
+# Behind the line that says where they are.
+from package_desk import MOST_BODY_BYTES, Desk  # noqa: E402
+from package_model import Package  # noqa: E402
+from package_views import listing  # noqa: E402
+
+KEY = "0123456789abcdef"
+PAGE = "viewer"
+# How many seconds an answer may take that the desk owes at once; its own patience with a request that doesn't come.
+AT_ONCE, FIRST_BYTE, WHOLE_REQUEST = 10, 1, 20
+OPENING = b"table,spots,attributes,Spots\nrow,spots,7,Well,by the road,3\n"
+
+
+def free_port():
+    """A port that is free now."""
+    with socket.create_server(("127.0.0.1", 0)) as listener:
+        return listener.getsockname()[1]
+
+
+class Running:
+    """A desk that runs on a package in a folder of its own."""
+
+    def __init__(self, folder, count=1000, key=KEY, table=PAGE):
+        self.file, self.port = pathlib.Path(folder) / "p.mmpkg", free_port()
+        if not self.file.exists():
+            expect(mmpkg("init", self.file), "init ok\n", "init")
+        words = [PROGRAM, "desk", self.file, "--port", str(self.port), "--count", str(count), *(["--page", table] if table else [])]
+        self.model, self.package = Desk(self.port, key or "", table), Package()
+        environment = {name: value for name, value in os.environ.items() if name != "MMPKG_KEY"} | ({"MMPKG_KEY": key} if key else {})
+        self.program = subprocess.Popen(words, stdout=subprocess.PIPE, env=environment)
+        self.address = self.line()
+
+    def line(self):
+        """The next line that the desk prints, within the time that it may take."""
+        ready, _, _ = select.select([self.program.stdout], [], [], AT_ONCE)
+        assert ready, "the desk printed nothing"
+        return self.program.stdout.readline().decode()
+
+    def connect(self):
+        """A new connection."""
+        return socket.create_connection(("127.0.0.1", self.port), timeout=WHOLE_REQUEST + AT_ONCE)
+
+    def head(self, method, path, *fields, length=None):
+        """The bytes of a head, with the host and, of records, their type and length."""
+        lines = [f"Host: 127.0.0.1:{self.port}", *fields]
+        if length is not None:
+            lines += ["Content-Type: text/csv", f"Content-Length: {length}"]
+        return (f"{method} /{KEY}{path} HTTP/1.1\r\n" + "".join(f"{line}\r\n" for line in lines) + "\r\n").encode()
+
+    def ask(self, sent, shut=True):
+        """All that is answered to some bytes."""
+        with self.connect() as connection:
+            with contextlib.suppress(OSError):
+                connection.sendall(sent)
+                if shut:
+                    connection.shutdown(socket.SHUT_WR)
+            return everything(connection)
+
+    def post(self, body):
+        """What is answered to a list, which has to be as the model has it."""
+        told = self.ask(self.head("POST", "/records", length=len(body)) + body)
+        fields = [("Host", self.model.host), ("Content-Type", "text/csv"), ("Content-Length", str(len(body)))]
+        wanted, _ = self.model.answer(self.package, 0, "POST", f"/{KEY}/records", fields, body)
+        expect(told, wanted, f"the answer to {body[:60]!r}")
+
+    def rows(self, table="spots", first=1):
+        """What stands, by the desk."""
+        return body_of(self.ask(self.head("GET", f"/rows/{table}/{first}"))).decode()
+
+    def end(self):
+        """Ends the desk well: it tells 200, ends with 0, and FILE alone holds all."""
+        expect(self.ask(self.head("POST", "/end")), b"HTTP/1.1 200 OK\r\nContent-Length: 0\r\nConnection: close\r\n\r\n", "the end")
+        said, _ = self.program.communicate(timeout=AT_ONCE)
+        expect((said, self.program.returncode), (b"", 0), "what is printed behind the end")
+        journal = self.file.with_name(self.file.name + "-wal")
+        assert not journal.exists() or journal.stat().st_size == 0, "the journal holds bytes behind a good end"
+
+    def listed(self):
+        """Compares the listing, but for the moments of changes."""
+        expect(untimed(mmpkg("list", self.file)), untimed("\n".join([*listing(self.package), ""])), "the listing")
+
+
+def everything(connection):
+    """What a connection tells until its end."""
+    told = b""
+    with contextlib.suppress(ConnectionResetError):
+        while part := connection.recv(1 << 16):
+            told += part
+    return told
+
+
+def body_of(response):
+    """The body of a response."""
+    return response.partition(b"\r\n\r\n")[2]
+
+
+def status_of(response):
+    """The status of a response."""
+    return int(response.split(b" ")[1])
+
+
+def untimed(text):
+    """A listing without its moments."""
+    return re.sub(r"\d{4}-\d\d-\d\dT[0-9:.]+Z", "-", text)
+
+
+@contextlib.contextmanager
+def desk(**words):
+    """A desk on a new package, which is killed behind the check where it still runs."""
+    with tempfile.TemporaryDirectory() as folder:
+        running = Running(folder, **words)
+        try:
+            yield running
+        finally:
+            running.program.kill()
+            running.program.wait()
+
+
+def check_the_worked_requests():
+    """The requests of the document, one after another on a new package."""
+    with desk() as it:
+        expect(it.address, f"desk http://127.0.0.1:{it.port}/{KEY}/media/{PAGE}/1\n", "the address")
+        host, csv = ("Host", it.model.host), ("Content-Type", "text/csv")
+        body = OPENING + b"row,spots,x,,,0\n"
+        records = [host, csv, ("Content-Length", str(len(body)))]
+        asked = 0
+        for method, target, fields, sent in (
+            ("GET", f"/{KEY}/contents", [host], b""),
+            ("GET", "/contents", [host], b""),
+            ("GET", f"/{KEY}/contents", [("Host", f"evil.example:{it.port}")], b""),
+            ("GET", f"/{KEY}/contents", [("Host", f"localhost:{it.port}")], b""),
+            ("GET", f"/{KEY}/contents", [host, host], b""),
+            ("GET", f"/{KEY}/contents", [host, ("Sec-Fetch-Site", "same-site")], b""),
+            ("GET", f"/{KEY}/contents", [host, ("Sec-Fetch-Site", "none")], b""),
+            ("POST", f"/{KEY}/records", [*records, ("Origin", f"http://127.0.0.1:{it.port}")], body),
+            ("GET", f"/{KEY}/rows/spots/1", [host], b""),
+            ("GET", f"/{KEY}/rows/spots/8", [host], b""),
+            ("GET", f"/{KEY}/rows/nope/1", [host], b""),
+            ("GET", f"/{KEY}/rows/spots/0", [host], b""),
+            ("POST", f"/{KEY}/records", [host, ("Content-Type", "text/plain"), records[2]], body),
+            ("POST", f"/{KEY}/records", [*records, ("Origin", "http://evil.example")], body),
+            ("POST", f"/{KEY}/records", [host, csv], b""),
+            ("POST", f"/{KEY}/records", [*records, ("Transfer-Encoding", "chunked")], body),
+            ("POST", f"/{KEY}/records", [host, csv, ("Content-Length", str(MOST_BODY_BYTES + 1))], b""),
+            ("POST", f"/{KEY}/records", [host, csv, ("Content-Length", "30")], b"row,spots,10,Cut,,0\nrow,spo"),
+            ("OPTIONS", f"/{KEY}/records", [host, ("Origin", f"http://127.0.0.1:{it.port}")], b""),
+            ("POST", f"/{KEY}/contents", [host], b""),
+            ("POST", f"/{KEY}/records", [host, csv, ("Content-Length", "62")],
+             b"table,photos,media,Photos\nmedia,photos,3,text/html,3c\ntable,vi"),
+            ("GET", f"/{KEY}/media/photos/3", [host], b""),
+        ):  # fmt: skip
+            head = f"{method} {target} HTTP/1.1\r\n" + "".join(f"{name}: {value}\r\n" for name, value in fields) + "\r\n"
+            wanted, _ = it.model.answer(it.package, 0, method, target, fields, sent)
+            expect(untimed(it.ask(head.encode() + sent).decode()), untimed(wanted.decode()), f"{method} {target} {fields}")
+            asked += 1
+        it.end()
+        it.listed()
+        return asked
+
+
+def check_a_head_that_is_none():
+    """400 to what is no head."""
+    with desk() as it:
+        for sent in (b"\r\n\r\n\r\n", b"GET /\r\n\r\n", b"x" * 8193, b"GET / HTTP/1.1\r\n" + b"a: b\r\n" * 65 + b"\r\n"):
+            expect(status_of(it.ask(sent)), 400, f"the answer to {sent[:30]!r}")
+        it.end()
+
+
+def check_a_large_body_by_curl():
+    """curl waits for 100 Continue before it sends; the largest body is taken, one byte more isn't."""
+    with desk() as it, tempfile.TemporaryDirectory() as folder:
+        it.post(b"table,photos,media,Photos\n")
+        photo = b"media,photos,%d,image/jpeg," + b"ab" * 4_194_000 + b"\n"
+        body = photo % 1 + photo % 2
+        body = body[:-1].rsplit(b",", 1)[0] + b"," + b"cd" * ((MOST_BODY_BYTES - len(body[:-1].rsplit(b",", 1)[0]) - 2) // 2)
+        body += b"\n" * (MOST_BODY_BYTES - len(body))
+        for more, wanted in ((b"", "1 ok\n2 refused 11\n"), (b"\n", "")):
+            file = pathlib.Path(folder) / "body.csv"
+            file.write_bytes(body + more)
+            began = time.monotonic()
+            said, _ = run("curl", "-s", "-H", "Content-Type: text/csv", "--data-binary", f"@{file}", "-w", "%{http_code}",
+                          f"http://127.0.0.1:{it.port}/{KEY}/records")
+            expect(said[-3:], "413" if more else "200", "the status")
+            expect("ok" in said, not more, f"the answers {said[:80]!r} (wanted like {wanted!r})")
+            assert time.monotonic() - began < AT_ONCE, "curl waited"
+        it.end()
+
+
+def check_a_body_that_is_cut_at_each_byte():
+    """A client that vanishes within the body: nothing is run, and the desk goes on."""
+    body = b"row,spots,10,Cut,,0\nrow,spots,11,Cut,,0\n"
+    with desk() as it:
+        it.post(OPENING)
+        before = it.rows()
+        for length in range(len(body)):
+            told = it.ask(it.head("POST", "/records", length=len(body)) + body[:length])
+            expect(told, b"HTTP/1.1 400 Bad Request\r\nContent-Length: 0\r\nConnection: close\r\n\r\n", f"the answer behind {length} bytes")
+        expect(it.rows(), before, "the rows behind cut bodies")
+        it.post(body)
+        it.end()
+        return len(body)
+
+
+def check_a_body_that_is_reset_at_each_byte():
+    """A client that resets within the body: nothing is run, 'page fault 96' or nothing is printed, and the desk goes on."""
+    body = b"row,spots,10,Cut,,0\n"
+    with desk() as it:
+        it.post(OPENING)
+        before = it.rows()
+        for length in range(len(body)):
+            with it.connect() as connection:
+                connection.sendall(it.head("POST", "/records", length=len(body)) + body[:length])
+                connection.setsockopt(socket.SOL_SOCKET, socket.SO_LINGER, b"\1\0\0\0\0\0\0\0")
+        expect(it.rows(), before, "the rows behind reset bodies")
+        it.program.send_signal(signal.SIGKILL)
+        said = it.program.stdout.read().decode()
+        expect(set(said.splitlines()) <= {"page fault 96", "page fault 97"}, True, f"what was printed: {said!r}")
+
+
+def check_a_body_byte_by_byte():
+    """A request that comes byte by byte is answered as one that comes at once."""
+    with desk() as it:
+        it.post(OPENING)
+        body = b'row,spots,9,"Gate, N",,0\n'
+        with it.connect() as connection:
+            for byte in it.head("POST", "/records", length=len(body)) + body:
+                connection.sendall(bytes([byte]))
+                time.sleep(0.001)
+            expect(body_of(everything(connection)), b"1 ok\n", "the answer")
+        it.end()
+
+
+def check_200_requests_one_after_another():
+    """200 lists and looks, each behind the other."""
+    with desk() as it:
+        it.post(OPENING)
+        for number in range(100):
+            it.post(b"row,spots,%d,Spot,,%d\n" % (number + 100, number))
+            assert f'"id":{number + 100}' in it.rows(first=number + 100)
+        it.end()
+        it.listed()
+        return 200
+
+
+def check_the_lines_come_one_by_one():
+    """Each line is sent as its command stands, before the list is done."""
+    with desk() as it:
+        it.post(OPENING)
+        body = b"".join(b"row,spots,%d,Spot,,0\n" % (number + 100) for number in range(2000))
+        with it.connect() as connection:
+            connection.sendall(it.head("POST", "/records", length=len(body)) + body)
+            told = b""
+            while b"\n1 ok\n" not in told:
+                told += connection.recv(100)
+            early = told.count(b" ok\n")
+            told += everything(connection)
+        expect(told.count(b" ok\n"), 2000, "the answers")
+        assert early < 2000, "the lines came only when the list was done"
+        it.end()
+
+
+def killed_behind(it, lines):
+    """Sends a thousand rows and kills the desk behind some whole lines; how many came whole."""
+    body = b"".join(b"row,spots,%d,Spot,,0\n" % (number + 100) for number in range(1000))
+    with it.connect() as connection:
+        connection.sendall(it.head("POST", "/records", length=len(body)) + body)
+        told = b""
+        while body_of(told).count(b"\n") < lines:
+            told += connection.recv(37)
+        it.program.kill()
+        told += everything(connection)
+    it.program.wait()
+    return body_of(told).count(b"\n")
+
+
+def check_kills():
+    """Behind a kill the package is whole, and has every answered row and one more at the most."""
+    for lines in (1, 7, 60, 203, 350):
+        with desk() as it:
+            it.post(OPENING)
+            whole = killed_behind(it, lines)
+            expect(mmpkg("check", it.file), "package ok\n", "the check behind a kill")
+            stands = int(re.search(r"^spots +attributes +(\d+)", mmpkg("list", it.file), re.M)[1]) - 1
+            assert whole <= stands <= whole + 1, f"{whole} lines came and {stands} rows stand"
+            again = Running(it.file.parent)
+            expect(again.rows().count('"id"'), stands + 1, "the rows by the next desk")
+            again.end()
+    return 5
+
+
+def check_a_client_that_goes_away():
+    """A client that resets behind some lines: the run stops, it is told, and the desk goes on."""
+    with desk() as it:
+        it.post(OPENING)
+        body = b"".join(b"row,spots,%d,Spot,,0\n" % (number + 100) for number in range(20000))
+        with it.connect() as connection:
+            connection.sendall(it.head("POST", "/records", length=len(body)) + body)
+            told = b""
+            while told.count(b" ok\n") < 30:
+                told += connection.recv(100)
+            connection.setsockopt(socket.SOL_SOCKET, socket.SO_LINGER, b"\1\0\0\0\0\0\0\0")
+        expect(it.line(), "list fault 97\n", "what is printed")
+        stands = it.rows().count('"id"')
+        assert told.count(b" ok\n") <= stands < 20000, f"{told.count(b' ok')} lines came, and {stands} rows are shown"
+        expect(it.ask(it.head("POST", "/end"))[:15], b"HTTP/1.1 200 OK", "the end")
+        expect(it.program.wait(AT_ONCE), 0, "the status")
+
+
+def check_the_key():
+    """The key is the environment's, or else 32 digits of the system's random source; a bad one opens nothing."""
+    found = set()
+    for _ in range(2):
+        with desk(key=None, table=None) as it:
+            address = re.fullmatch(rf"desk http://127\.0\.0\.1:{it.port}/([0-9a-f]{{32}})/\n", it.address)
+            assert address, it.address
+            found.add(address[1])
+    expect(len(found), 2, "keys of two desks")
+    with tempfile.TemporaryDirectory() as folder:
+        for key in ("short", "x" * 65, "0123456789abcde/", "0123456789abcde\u00e9"):
+            words = [PROGRAM, "desk", f"{folder}/none.mmpkg", "--port", str(free_port()), "--count", "1"]
+            done = subprocess.run(words, capture_output=True, env=os.environ | {"MMPKG_KEY": key}, timeout=AT_ONCE, check=False)
+            expect((done.stdout, done.returncode), (b"refused 11\n", 1), f"a desk by the key {key}")
+        expect(os.listdir(folder), [], "files")
+    return 6
+
+
+def check_patience():
+    """Who sends nothing is let go behind a second, who sends slowly behind twenty; others are answered then."""
+    with desk() as it:
+        for sent, seconds in ((b"", FIRST_BYTE), (b"GET / HT", WHOLE_REQUEST)):
+            with it.connect() as slow:
+                slow.sendall(sent)
+                began = time.monotonic()
+                expect(status_of(it.ask(it.head("GET", "/contents"))), 200, "the next request")
+                waited = time.monotonic() - began
+                assert seconds - 0.5 < waited < seconds + 5, f"the next waited {waited:.1f} s"
+            expect(it.line(), "page fault 96\n", "what is printed")
+        it.end()
+
+
+def check_bound_on_this_machine_alone():
+    """The port is bound on 127.0.0.1 alone."""
+    with desk() as it:
+        wanted = f"{it.port:04X}"
+        bound = [line.split()[1] for name in ("tcp", "tcp6") for line in pathlib.Path("/proc/net", name).read_text().splitlines()[1:]
+                 if line.split()[3] == "0A" and line.split()[1].endswith(":" + wanted)]  # fmt: skip
+        expect(bound, [f"0100007F:{wanted}"], "what is bound")
+        it.end()
+
+
+def check_the_last_connection():
+    """The desk ends well behind its last connection."""
+    with desk(count=2) as it:
+        it.post(OPENING)
+        expect(status_of(it.ask(it.head("GET", "/contents"))), 200, "the last")
+        expect(it.program.wait(AT_ONCE), 0, "the status")
+        it.listed()
+
+
+if __name__ == "__main__":
+    end(*run_checks("desk", globals(), sys.argv[1:], lambda check: check()))

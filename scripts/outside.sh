@@ -107,11 +107,11 @@ begin 'a terminal' scripts/outside/terminal.py "$MMPKG"
 begin 'refused growths of memory' scripts/outside/refuse_memory.py ${WHOLE:+--whole} "$MMPKG"
 begin 'random lists' scripts/model/random_lists.py
 begin 'the border to the standard' scripts/outside/border.sh
-begin 'what turns one package into another' scripts/outside/kit_between.py
+begin 'what turns one package into another' scripts/outside/kit_between_check.py
 begin 'the viewer' scripts/outside/viewer.sh
 begin 'GDAL and QGIS live' scripts/outside/wmts.sh
 begin 'the day of a crew' scripts/outside/field_day.sh
-begin 'the Debian package' scripts/outside/deb.sh
+begin 'the Debian package' scripts/outside/deb_check.sh
 tell
 echo "$passed passed, $failed failed"
 [ "$failed" = 0 ] && [ "$passed" -gt 0 ]

@@ -8,13 +8,8 @@
 # 'N passed, M failed'. Exit status: 0 all passed, 1 something failed, 2 the program isn't there, 77 GDAL isn't there.
 set -eu -o pipefail
 
-top=$(cd "$(dirname "$0")/../.." && pwd)
-export MMPKG
-MMPKG=$(realpath -m "${1:-${MMPKG:-$top/out/mmpkg}}")
-if [ ! -x "$MMPKG" ]; then
-    echo "$MMPKG isn't there: scripts/build.sh makes out/mmpkg" >&2
-    exit 2
-fi
+# shellcheck source=scripts/outside/lib.sh
+source "$(dirname "$0")/lib.sh" "$@"
 
 missing=()
 for command in gdalinfo ogrinfo gdal_translate gdaldem gdallocationinfo gdal2tiles.py; do

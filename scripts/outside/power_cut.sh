@@ -10,7 +10,6 @@
 # passed, 1 something failed, 2 the program isn't there, 77 qemu or the kernel can't be had.
 set -eu -o pipefail
 
-top=$(cd "$(dirname "$0")/../.." && pwd)
 cuts=10 seed=$RANDOM
 while [[ ${1:-} == --* ]]; do
     case $1 in
@@ -20,11 +19,8 @@ while [[ ${1:-} == --* ]]; do
     esac
     shift 2
 done
-program=$(realpath -m "${1:-${MMPKG:-$top/out/mmpkg}}")
-if [ ! -x "$program" ]; then
-    echo "$program isn't there: scripts/build.sh makes out/mmpkg" >&2
-    exit 2
-fi
+# shellcheck source=scripts/outside/lib.sh
+source "$(dirname "$0")/lib.sh" "$@"
 
 missing=()
 for command in qemu-system-x86_64 busybox mkfs.ext4 debugfs mkfs.vfat mcopy cpio modprobe; do
@@ -48,4 +44,4 @@ if ! kernel_into "$room"; then
     echo "no power was cut: Debian's linux-image-amd64 can't be had"
     exit 77
 fi
-PATH=$PATH:/usr/sbin:/sbin MMPKG=$program python3 "$top/scripts/outside/power_cut_check.py" "$room" "$cuts" "$seed"
+PATH=$PATH:/usr/sbin:/sbin python3 "$top/scripts/outside/power_cut_check.py" "$room" "$cuts" "$seed"

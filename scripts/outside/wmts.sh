@@ -10,13 +10,8 @@
 # isn't there.
 set -eu -o pipefail
 
-top=$(cd "$(dirname "$0")/../.." && pwd)
-export MMPKG
-MMPKG=$(realpath -m "${1:-${MMPKG:-$top/out/mmpkg}}")
-if [ ! -x "$MMPKG" ]; then
-    echo "$MMPKG isn't there: scripts/build.sh makes out/mmpkg" >&2
-    exit 2
-fi
+# shellcheck source=scripts/outside/lib.sh
+source "$(dirname "$0")/lib.sh" "$@"
 
 missing=()
 for command in gdal_translate gdaladdo gdaldem gdalinfo; do

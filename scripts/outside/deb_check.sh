@@ -1,7 +1,7 @@
 #!/usr/bin/env bash
 # The Debian package in a fresh Debian: built, looked at by lintian, installed, used and removed. The last line is 'N passed, M failed'.
 #
-#     scripts/outside/deb.sh [PROGRAM]
+#     scripts/outside/deb_check.sh [PROGRAM]
 #
 # PROGRAM is the built program: without it the one that the environment's MMPKG names, or else out/mmpkg. The fresh Debian (bookworm, minbase,
 # with python3, libjs-leaflet and curl) is made by debootstrap, which takes a minute or two, and kept packed in a folder of the system's for

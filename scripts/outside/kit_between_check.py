@@ -1,7 +1,7 @@
 #!/usr/bin/env python3
 """Compares what tools/kit_between.py writes with the rule that its help states, on random packages and on some by hand.
 
-    MMPKG=out/mmpkg scripts/outside/kit_between.py [--seed N] [--rounds N] [WORD ..]
+    MMPKG=out/mmpkg scripts/outside/kit_between_check.py [--seed N] [--rounds N] [WORD ..]
 
 A round makes a package by random lists, changes two copies of it by more of them, takes what turns one into another to a copy, and what one
 changed onto the other. What then stands is compared row by row with what the rule gives, which scripts/model/package_merge.py states once

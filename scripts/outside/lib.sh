@@ -1,0 +1,10 @@
+# Read by the scripts of this folder that run the built program: sets `top`, the repository, and exports MMPKG, the program: the one that the word names,
+# or the environment's MMPKG, or else out/mmpkg. Ends with 2 where it isn't there.
+# shellcheck shell=bash
+top=$(cd "$(dirname "${BASH_SOURCE[0]}")/../.." && pwd)
+export MMPKG
+MMPKG=$(realpath -m "${1:-${MMPKG:-$top/out/mmpkg}}")
+if [ ! -x "$MMPKG" ]; then
+    echo "$MMPKG isn't there: scripts/build.sh makes out/mmpkg" >&2
+    exit 2
+fi

@@ -29,6 +29,8 @@ KEY = "0123456789abcdef"
 PAGE = "viewer"
 # How many seconds an answer may take that the desk owes at once; its own patience with a request that doesn't come.
 AT_ONCE, FIRST_BYTE, WHOLE_REQUEST = 10, 1, 20
+# A journal of so many bytes has its head alone.
+JOURNAL_HEAD = 41
 OPENING = b"table,spots,attributes,Spots\nrow,spots,7,Well,by the road,3\n"
 
 
@@ -94,7 +96,7 @@ class Running:
         said, _ = self.program.communicate(timeout=AT_ONCE)
         expect((said, self.program.returncode), (b"", 0), "what is printed behind the end")
         journal = self.file.with_name(self.file.name + "-wal")
-        assert not journal.exists() or journal.stat().st_size == 0, "the journal holds bytes behind a good end"
+        assert not journal.exists() or journal.stat().st_size <= JOURNAL_HEAD, "the journal holds commits behind a good end"
 
     def listed(self):
         """Compares the listing, but for the moments of changes."""

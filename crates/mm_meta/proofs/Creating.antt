@@ -1,15 +1,21 @@
 -- One CREATE after another.
-use Rattle.std.proofs.Common.{◌≡◌, ℕ, [], Result, Ok, Err, OnOk, IsTrue, ◌∙◌, arith, List}
+use Rattle.std.proofs.Common.{◌≡◌, ℕ, Bool, true, false, [], Result, Ok, Err, OnOk, IsTrue, refl, sym, ap, true≢false, ◌∙◌, arith, List}
 use Rattle.sqlite.specs.Schema.{Schema}
 use Rattle.sqlite.specs.Table.{Table}
 use Rattle.sql_forms.specs.Index.{Index}
-use Rattle.sqlite.specs.State.{State, ExecutesInside}
+use Rattle.sqlite.specs.Listing.{understood}
+use Rattle.sqlite.specs.State.{State, ExecutesIn, Executes, ExecutesInside}
+use Rattle.sql_forms.specs.Compute.{everything}
+use Rattle.sql_forms.specs.Compiled.{Compiled}
+use Rattle.sql_forms.specs.CompileError.{CompileError}
 use Rattle.sql_forms.proofs.Creates.{IsCreate, creates, IsIndexing, indexes}
 use Rattle.mm_definitions.specs.declared.answers.Fault.{Fault}
 use Rattle.mm_store.specs.Stands.{Ground}
-use Rattle.mm_store.specs.Statements.{IsRun}
+use Rattle.mm_store.specs.Statements.{CommitsNothing, IsRun}
 use Rattle.mm_store.proofs.Shapes.{quiet_then}
-use Rattle.mm_meta.specs.Opening.{IsBareAt, IsCreating}
+use Rattle.mm_store.specs.Creates.{create_gpkg_spatial_ref_sys}
+use Rattle.mm_store.specs.Tables.{schema}
+use Rattle.mm_meta.specs.Opening.{IsBareAt, IsCreating, MakesNoneAgain}
 
 pub creates_one : (old new : State) (sql : List ℕ) (table : Table) (from to : Schema) → IsCreate from sql table to
     → (result : Result (Unit {0}) Fault) → IsRun old new sql [] result → IsCreating from old new to result
@@ -57,3 +63,33 @@ creating_then a b c from mid to t result one two = record {
 pub creating_failed : {T U : Type 0} (a b : State) (from mid to : Schema) (e : Fault) → IsCreating {T = T} from a b mid (Err e)
     → IsCreating {T = U} from a b to (Err e)
 creating_failed a b from mid to e one = record { survives = one.survives; made = λ clean ground bare. tt; faults = one.faults }
+
+-- ---- where the tables stand already
+
+abbrev first_text : List ℕ
+first_text = create_gpkg_spatial_ref_sys
+
+abbrev compiles : Result Compiled CompileError → Bool
+compiles (Ok c) = true
+compiles (Err e) = false
+
+-- the first text is no statement where its table stands
+first_refused : compiles (understood schema first_text) ≡ false
+unfolding understood everything
+first_refused = refl
+
+not_again : (old new : State) (count : ℕ) → old.now.schema ≡ schema → Executes first_text [] old new (Ok count) → ⊥
+unfolding ExecutesIn
+not_again old new count has ran = true≢false (sym (ap compiles (ap (λ s. understood s first_text) (sym has) ∙ ran.1.is)) ∙ first_refused)
+
+pub none_again : (old new : State) (result : Result (Unit {0}) Fault) → IsRun old new first_text [] result → MakesNoneAgain old new result
+none_again old new result run clean inside has = go result (run.ran clean inside)
+  where
+    go : (r : Result (Unit {0}) Fault) → OnOk r ((count : ℕ) × ExecutesInside 0 first_text [] old new (Ok count)) → OnOk r ⊥
+    go (Err e) ran = tt
+    go (Ok u) ran = not_again old new ran.0 (has ran.1.1.was_open) ran.1.0
+
+-- nor does any call that goes on behind it
+pub none_again_then : {U : Type 0} (a b c : State) (result : Result U Fault) → MakesNoneAgain a b {T = Unit {0}} (Ok tt) → CommitsNothing b c
+    → MakesNoneAgain a c result
+none_again_then a b c result none quiet clean inside has = absurd (none (omega (arith, clean, quiet.clean)) inside has)

@@ -8,7 +8,7 @@ use Rattle.mm_definitions.specs.Bounds.{Profile}
 use Rattle.mm_definitions.specs.Package.{Package}
 use Rattle.mm_definitions.specs.declared.answers.Fault.{Fault}
 use Rattle.mm_store.specs.Handed.{IsSame}
-use Rattle.mm_meta.specs.Opening.{IsCreating, IsMaking}
+use Rattle.mm_meta.specs.Opening.{IsCreating, IsMaking, MakesNoneAgain}
 
 module _ {S T : Type 0} (g : Ghosts S) (old new : Transaction S) where
   -- it makes the tables of one schema, each without a row, to those of another
@@ -25,3 +25,7 @@ module _ {S T : Type 0} (g : Ghosts S) (old new : Transaction S) where
   pub record MakesOfVersion (from : Schema) (version : ℤ) (p : Package) (result : Result T Fault) : Type 0 where
     pub same : IsSame old new
     pub made : (profile : Profile) → profile.version ≡ version → IsMaking from (state g old.conn.now) (state g new.conn.now) profile p result
+
+  -- where the tables stand already it makes none
+  abbrev pub MakesNone : Result T Fault → Type 0
+  MakesNone result = MakesNoneAgain (state g old.conn.now) (state g new.conn.now) result

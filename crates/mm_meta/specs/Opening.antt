@@ -6,6 +6,7 @@ use Rattle.sqlite.specs.Tree.{Trees}
 use Rattle.sqlite.specs.State.{State, HasCleanDisk, Survives}
 use Rattle.sql_forms.specs.Listing.{IsSound}
 use Rattle.sql_forms.specs.Tables.{IsBare}
+use Rattle.mm_store.specs.Tables.{schema}
 use Rattle.mm_store.specs.Made.{no_schema}
 use Rattle.mm_definitions.specs.Bounds.{Profile}
 use Rattle.mm_definitions.specs.Opening.{opening}
@@ -37,6 +38,10 @@ nothing = record {
 abbrev pub given_systems : Package
 given_systems = record nothing { systems = opening.systems }
 
+-- the connection sees the tables of a package, of whatever profile and with whatever rows
+abbrev pub HasTables : State → Type 0
+HasTables s = IsTrue s.is_open → s.now.schema ≡ schema
+
 -- ---- inside the transaction
 
 -- a transaction is open on the ground, and sees the tables of this schema, each without a row
@@ -58,6 +63,10 @@ module _ {T : Type 0} (from : Schema) (old new : State) where
     pub made : HasCleanDisk new → (ground : Ground) → IsBareAt from old ground → OnOk result (IsTrue new.is_open × StandsInside profile new ground p)
     pub faults : IfErr result IsStoreFault
 
+-- where the tables stand already it fails
+abbrev pub MakesNoneAgain : State → State → {T : Type 0} → Result T Fault → Type 0
+MakesNoneAgain old new result = HasCleanDisk new → IsTrue old.in_transaction → HasTables old → OnOk result ⊥
+
 -- ---- the whole
 
 -- the trees list no table
@@ -72,9 +81,11 @@ pub record IsBlank (s : State) : Type 0 where
 
 -- `Ok` only where the store is open, the database then stands for the opening package, and nothing else may be left. In each case, after a crash
 -- or a fault too, each database that may be left was there before or stands for it; so it has no table or stands for it.
+-- Where the tables of a package stand already nothing is committed.
 pub record IsInit (profile : Profile) (old new : State) (result : Result (Unit {0}) Fault) : Type 0 where
   pub survives : Survives old new (λ db. IsBlank old → StandsFor profile.version db opening)
   pub is_open : HasCleanDisk new → OnOk result (IsTrue new.is_open)
   pub made : HasCleanDisk new → IsBlank old → OnOk result (IsSettled profile new opening)
   pub left : HasCleanDisk new → IsBlank old → (db : Trees) → new.may_leave db → HasNoTable db ⊎ StandsFor profile.version db opening
+  pub stays : HasTables old → CommitsNothing old new
   pub faults : IfErr result IsStoreFault

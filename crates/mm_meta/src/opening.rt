@@ -7,7 +7,7 @@ ghost use Rattle.mm_definitions.specs.Opening.{opening};
 ghost use Rattle.mm_store.specs.Tables.{schema};
 ghost use Rattle.mm_store.specs.Made.{first_tables};
 ghost use Rattle.mm_meta.specs.Opening.{IsInit, given_systems};
-ghost use Rattle.mm_meta.specs.Handed.{Makes};
+ghost use Rattle.mm_meta.specs.Handed.{Makes, MakesNone};
 
 use crate::profile::insert_profile;
 use crate::schema::create_tables;
@@ -51,9 +51,10 @@ fn put_systems<S: Alter>(tx: &mut Transaction<'_, S>) -> Result<(), Fault>
     )
 }
 
-/// Makes the tables where there is none, and puts what every package has into them.
+/// Makes the tables where there is none, and puts what every package has into them. Where the tables stand already it fails.
 fn make<S: Alter>(tx: &mut Transaction<'_, S>) -> Result<(), Fault>
-    ensures { Makes S.Store tx.old tx.new (first_tables 0) current opening result }
+    ensures makes { Makes S.Store tx.old tx.new (first_tables 0) current opening result }
+    ensures again { MakesNone S.Store tx.old tx.new result }
 {
     create_tables(tx)?;
     put_systems(tx)?;
@@ -62,7 +63,7 @@ fn make<S: Alter>(tx: &mut Transaction<'_, S>) -> Result<(), Fault>
 
 /// Makes a package in a database that has no table: the 15 tables with their indexes, the three given systems, the row of the
 /// profile and the extension row that always stands, in one commit. After a fault the database has no table; only a commit that answered
-/// the fault may still survive a crash, as a whole.
+/// the fault may still survive a crash, as a whole. Where the tables of a package stand already it answers a fault, and nothing is committed.
 pub fn init<S: Alter>(conn: &mut Connection<S>) -> Result<(), Fault>
     requires { conn.old.in_transaction ≡ false }
     ensures mode { conn.new.in_transaction ≡ false }

@@ -2,15 +2,16 @@
 
 ghost use Rattle.mm_store.specs.Tables.{schema};
 ghost use Rattle.mm_store.specs.Made.{first_tables, with_pieces};
-ghost use Rattle.mm_meta.specs.Handed.{Creates};
+ghost use Rattle.mm_meta.specs.Handed.{Creates, MakesNone};
 
 use mm_definitions::answers::Fault;
 use mm_store::statements::run;
 use sqlite::{Alter, Transaction};
 
-/// Makes the tables of systems, contents, matrix sets and matrices.
+/// Makes the tables of systems, contents, matrix sets and matrices. Where the tables stand already it fails.
 fn create_pyramid_tables<S: Alter>(tx: &mut Transaction<'_, S>) -> Result<(), Fault>
-    ensures { Creates S.Store tx.old tx.new (first_tables 0) (first_tables 4) result }
+    ensures makes { Creates S.Store tx.old tx.new (first_tables 0) (first_tables 4) result }
+    ensures again { MakesNone S.Store tx.old tx.new result }
 {
     run(
         tx,
@@ -128,9 +129,10 @@ fn create_mapping_index<S: Alter>(tx: &mut Transaction<'_, S>) -> Result<(), Fau
     )
 }
 
-/// Makes the 15 tables and the five indexes where there is none.
+/// Makes the 15 tables and the five indexes where there is none. Where they stand already it fails.
 pub(crate) fn create_tables<S: Alter>(tx: &mut Transaction<'_, S>) -> Result<(), Fault>
-    ensures { Creates S.Store tx.old tx.new (first_tables 0) schema result }
+    ensures makes { Creates S.Store tx.old tx.new (first_tables 0) schema result }
+    ensures again { MakesNone S.Store tx.old tx.new result }
 {
     create_pyramid_tables(tx)?;
     create_further_tables(tx)?;

@@ -13,6 +13,7 @@ use Rattle.mm_definitions.specs.Scale.{scale}
 use Rattle.mm_store.specs.Faults.{IsStoreFault}
 use Rattle.mm_store.specs.Stands.{StandsFor, ground_of, StandsInside, IsSettled}
 use Rattle.mm_store.specs.Statements.{CommitsNothing}
+use Rattle.mm_store.proofs.Seen.{seen_of}
 use Rattle.mm_store.proofs.Transactions.{OnlyCommitted, settles}
 use Rattle.mm_migrate.specs.Moves.{IsScaling, IsRescaled, MayScale}
 
@@ -31,7 +32,7 @@ module _ {S : Type 0} (g : Ghosts S) (was now : Held S) (begun : now ≡ record 
     survives = survives;
     is_open = is_open;
     done = done;
-    left = λ clean p it db may. elim (survives.crash clean db may) [ inl before ↦ inl (it.0.left db before) | inr new ↦ inr (new p it) ];
+    left = λ clean p it limits db may. elim (survives.crash clean db may) [ inl before ↦ inl (it.left db before) | inr new ↦ inr (new p (seen_of millimetres old p it, limits)) ];
     faults = faults;
   }
 

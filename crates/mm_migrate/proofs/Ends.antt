@@ -13,7 +13,8 @@ use Rattle.mm_laws.proofs.Scaled.{scaled}
 use Rattle.mm_store.specs.Stands.{StandsFor, ReadsAs, IsSettled}
 use Rattle.mm_store.specs.Statements.{CommitsNothing}
 use Rattle.mm_store.proofs.Asking.{told_fault}
-use Rattle.mm_store.proofs.Seen.{seen_of}
+use Rattle.mm_store.specs.Seen.{IsSeenAs}
+use Rattle.mm_store.proofs.Seen.{seen_of, settled_still}
 use Rattle.mm_store.proofs.Shapes.{quiet_then}
 use Rattle.mm_meta.specs.Look.{AnswersLook, IsLooked, Agrees, ShowsProfile}
 use Rattle.mm_meta.proofs.Looking.{asked_still}
@@ -21,7 +22,7 @@ use Rattle.mm_check.specs.Verdict.{IsVerified}
 use Rattle.mm_check.specs.Form.{AreInForm, IsFormCheck, TellsForm}
 use Rattle.mm_check.proofs.Reading.{asked_stands, asked_fails, told_as_before, formed_for}
 use Rattle.mm_migrate.specs.Moves.{MayScale, IsRescaled}
-use Rattle.mm_migrate.specs.Migrations.{Judged, IsChecked, Adopts, Migrates, ShowsEither, TellsNumber, NoNumber, OnlyStoreFaults, MayCommitScaled, IsMigration, IsOlder}
+use Rattle.mm_migrate.specs.Migrations.{Judged, IsChecked, Adopts, Migrates, AdoptsSeen, MigratesSeen, ShowsEither, TellsNumber, NoNumber, OnlyStoreFaults, MayCommitScaled, IsMigration, IsOlder}
 
 -- ---- the check
 
@@ -31,6 +32,7 @@ module _ (profile : Profile) (old new : State) where
     mode = it.mode;
     survives = it.survives;
     is_open = λ clean. tt;
+    seen = λ clean p s. it.seen clean profile p s;
     settled = λ clean p s. it.settled clean profile p s;
     says = λ clean p s. formed_for profile.version old p s.reads (asked_fails old new it clean) (it.same clean).0;
     blobs = λ clean. asked_fails old new it clean;
@@ -39,12 +41,15 @@ module _ (profile : Profile) (old new : State) where
   }
 
   pub form_unknown : (fault : Fault) → IsFormCheck old new AreInForm (Err fault) → IsChecked profile old new (Err (opens.Fault fault))
-  form_unknown fault it = record { mode = it.mode; survives = it.survives; is_open = λ clean. tt; settled = λ clean p s. it.settled clean profile p s; says = λ clean p s. tt; blobs = λ clean. tt; no_number = tt; faults = it.faults }
+  form_unknown fault it = record { mode = it.mode; survives = it.survives; is_open = λ clean. tt; seen = λ clean p s. it.seen clean profile p s; settled = λ clean p s. it.settled clean profile p s; says = λ clean p s. tt; blobs = λ clean. tt; no_number = tt; faults = it.faults }
 
 module _ (profile : Profile) (old mid new : State) (formed : IsFormCheck old mid AreInForm (Ok true)) where
   module _ {r : Result (Option ℕ) Fault} (it : IsVerified profile mid new r) where
     before : HasCleanDisk new → HasCleanDisk mid
     before clean = omega (arith, clean, it.survives.clean)
+
+    formed_seen : HasCleanDisk new → (p : Package) → IsSeenAs profile old p → IsSeenAs profile mid p
+    formed_seen clean p s = formed.seen (before clean) profile p s
 
     formed_settled : HasCleanDisk new → (p : Package) → IsSettled profile old p → IsSettled profile mid p
     formed_settled clean p s = formed.settled (before clean) profile p s
@@ -54,8 +59,9 @@ module _ (profile : Profile) (old mid new : State) (formed : IsFormCheck old mid
     mode = λ none. it.mode (formed.mode none);
     survives = quiet_then old mid new formed.survives it.survives;
     is_open = it.is_open;
+    seen = λ clean p s. it.seen clean p (formed_seen it clean p s);
     settled = λ clean p s. it.settled clean p (formed_settled it clean p s);
-    says = λ clean p s. it.says clean p (seen_of profile mid p (formed_settled it clean p s));
+    says = λ clean p s. it.says clean p (formed_seen it clean p s);
     blobs = λ clean. asked_stands old mid formed (before it clean);
     no_number = tt;
     faults = tt;
@@ -66,8 +72,9 @@ module _ (profile : Profile) (old mid new : State) (formed : IsFormCheck old mid
     mode = λ none. it.mode (formed.mode none);
     survives = quiet_then old mid new formed.survives it.survives;
     is_open = λ clean. tt;
+    seen = λ clean p s. it.seen clean p (formed_seen it clean p s);
     settled = λ clean p s. it.settled clean p (formed_settled it clean p s);
-    says = λ clean p s. it.says clean p (seen_of profile mid p (formed_settled it clean p s));
+    says = λ clean p s. it.says clean p (formed_seen it clean p s);
     blobs = λ clean. asked_stands old mid formed (before it clean);
     no_number = tt;
     faults = tt;
@@ -78,6 +85,7 @@ module _ (profile : Profile) (old mid new : State) (formed : IsFormCheck old mid
     mode = λ none. it.mode (formed.mode none);
     survives = quiet_then old mid new formed.survives it.survives;
     is_open = λ clean. tt;
+    seen = λ clean p s. it.seen clean p (formed_seen it clean p s);
     settled = λ clean p s. it.settled clean p (formed_settled it clean p s);
     says = λ clean p s. tt;
     blobs = λ clean. tt;
@@ -94,14 +102,16 @@ left_before : (profile : Profile) (old new : State) (p : Package) → CommitsNot
     → new.may_leave db → StandsFor profile.version db p
 left_before profile old new p quiet clean it db may = elim (quiet.crash clean db may) [ inl before ↦ it.left db before | inr none ↦ absurd none ]
 
-unchanged_settled : (profile : Profile) (old new : State) (p : Package) → CommitsNothing old new → HasCleanDisk new → IsUnchanged old new
-    → IsSettled profile old p → IsSettled profile new p
-unchanged_settled profile old new p quiet clean same it = let shows = same.0 in record {
+unchanged_seen : (profile : Profile) (old new : State) (p : Package) → IsUnchanged old new → IsSeenAs profile old p → IsSeenAs profile new p
+unchanged_seen profile old new p same it = let shows = same.0 in record {
   mode = shows.mode ∙ it.mode;
   back = λ up. subst (λ db. ReadsAs profile.version db p) (sym shows.committed_is) (it.back shows.was_open);
   reads = λ up. subst (λ db. ReadsAs profile.version db p) (sym shows.now_is) (it.reads shows.was_open);
-  left = left_before profile old new p quiet clean it;
 }
+
+unchanged_settled : (profile : Profile) (old new : State) (p : Package) → CommitsNothing old new → HasCleanDisk new → IsUnchanged old new
+    → IsSettled profile old p → IsSettled profile new p
+unchanged_settled profile old new p quiet clean same it = settled_still profile old new p quiet clean (unchanged_seen profile old new p same) it
 
 -- ---- a package in millimetres
 
@@ -118,12 +128,21 @@ module _ (old mid : State) where
   stopped_by opens.BadProfile p quiet clean was it judged = absurd judged
   stopped_by opens.BadBlobs p quiet clean was it judged = absurd judged
 
+  stopped_seen : (why : Open) (p : Package) → IsSeenAs millimetres mid p → Judged millimetres p (Err why) → MigratesSeen p mid (Err why)
+  stopped_seen (opens.Rule rule) p it judged = (it, judged)
+  stopped_seen (opens.Fault fault) p it judged = tt
+  stopped_seen (opens.Version version) p it judged = absurd judged
+  stopped_seen opens.NoProfile p it judged = absurd judged
+  stopped_seen opens.BadProfile p it judged = absurd judged
+  stopped_seen opens.BadBlobs p it judged = absurd judged
+
   pub stopped : (why : Open) → IsChecked millimetres old mid (Err why) → IsOlder old mid (Err why)
   stopped why it = record {
     survives = quietly it.survives;
     is_open = λ clean. tt;
     refused = λ _. it.survives;
-    migrates = λ clean p s. stopped_by why p it.survives clean s (it.settled clean p s) (it.says clean p s);
+    migrates = λ clean p s. stopped_by why p it.survives clean s (it.settled clean p s) (it.says clean p (seen_of millimetres old p s));
+    migrates_seen = λ clean p s. stopped_seen why p (it.seen clean p s) (it.says clean p s);
     blobs = it.blobs;
     no_number = it.no_number;
     faults = it.faults;
@@ -131,22 +150,26 @@ module _ (old mid : State) where
 
   module _ (new : State) (checked : IsChecked millimetres old mid (Ok tt)) where
     may : HasCleanDisk mid → (p : Package) → MayScale old p → MayScale mid p
-    may clean p it = (checked.settled clean p it.0, it.1)
+    may clean p it = (checked.seen clean p it.0, it.1)
 
     survived : Survives mid new (Scaled mid) → Survives old new (Scaled old)
     survived h = survives_then old mid new _ _ (Scaled old) (λ _ db none. absurd none) (λ clean db it p s. it p (may (omega (arith, clean, h.clean)) p s)) checked.survives h
 
-    limits : HasCleanDisk mid → (p : Package) → IsSettled millimetres old p → MayScale old p
+    limits : HasCleanDisk mid → (p : Package) → IsSeenAs millimetres old p → MayScale old p
     limits clean p s = (s, (checked.says clean p s).q16)
+
+    scales : IsRescaled mid new (Ok tt) → HasCleanDisk new → (p : Package) → IsSeenAs millimetres old p → MigratesSeen p new (Ok tt)
+    scales it clean p s =
+        let early : HasCleanDisk mid = omega (arith, clean, it.survives.clean) in
+        (it.done clean p (may early p (limits early p s)), scaled p (checked.says early p s))
 
     pub done : IsRescaled mid new (Ok tt) → IsOlder old new (Ok tt)
     done it = record {
       survives = survived it.survives;
       is_open = it.is_open;
       refused = λ none. absurd none;
-      migrates = λ clean p s.
-          let early : HasCleanDisk mid = omega (arith, clean, it.survives.clean) in
-          (it.done clean p (may early p (limits early p s)), scaled p (checked.says early p s));
+      migrates = λ clean p s. scales it clean p (seen_of millimetres old p s);
+      migrates_seen = scales it;
       blobs = λ clean. checked.blobs (omega (arith, clean, it.survives.clean));
       no_number = tt;
       faults = tt;
@@ -157,7 +180,10 @@ module _ (old mid : State) where
       survives = survived it.survives;
       is_open = λ clean. tt;
       refused = λ none. absurd none;
-      migrates = λ clean p s. let early : HasCleanDisk mid = omega (arith, clean, it.survives.clean) in it.left clean p (may early p (limits early p s));
+      migrates = λ clean p s.
+          let early : HasCleanDisk mid = omega (arith, clean, it.survives.clean) in
+          it.left clean p (checked.settled early p s) (limits early p (seen_of millimetres old p s)).1;
+      migrates_seen = λ clean p s. tt;
       blobs = λ clean. tt;
       no_number = tt;
       faults = it.faults;
@@ -186,6 +212,16 @@ module _ (old mid : State) where
   in_micrometres (Err opens.BadProfile) new p quiet clean was it judged = absurd judged
   in_micrometres (Err opens.BadBlobs) new p quiet clean was it judged = absurd judged
 
+  seen_in_micrometres : (result : Result (Unit {0}) Open) (new : State) (p : Package) → IsSeenAs micrometres new p → Judged micrometres p result
+      → AdoptsSeen p new result
+  seen_in_micrometres (Ok u) new p it judged = (it, judged)
+  seen_in_micrometres (Err (opens.Rule rule)) new p it judged = (it, judged)
+  seen_in_micrometres (Err (opens.Fault fault)) new p it judged = tt
+  seen_in_micrometres (Err (opens.Version version)) new p it judged = absurd judged
+  seen_in_micrometres (Err opens.NoProfile) new p it judged = absurd judged
+  seen_in_micrometres (Err opens.BadProfile) new p it judged = absurd judged
+  seen_in_micrometres (Err opens.BadBlobs) new p it judged = absurd judged
+
   no_telling : (new : State) (result : Result (Unit {0}) Open) → NoNumber result → ShowsEither old → TellsNumber old new result
   no_telling new (Ok u) h shows = shows
   no_telling new (Err (opens.Version version)) h shows = absurd h
@@ -195,13 +231,6 @@ module _ (old mid : State) where
   no_telling new (Err (opens.Rule rule)) h shows = shows
   no_telling new (Err (opens.Fault fault)) h shows = tt
 
-  looked_well : IsLooked old mid (Ok tt) → HasCleanDisk mid → (p : Package) → IsSettled micrometres old p → IsSettled micrometres mid p
-  looked_well looked clean p it = go (looked.answers clean)
-    where
-      go : AnswersLook old mid (Ok tt) → IsSettled micrometres mid p
-      go (inl a) = unchanged_settled micrometres old mid p looked.survives clean a.2 it
-      go (inr a) = absurd a.2
-
   shows_current : AnswersLook old mid (Ok tt) → ShowsProfile micrometres.version old
   shows_current (inl it) = (it.0, asked_still old mid it.0 it.1, it.3)
   shows_current (inr it) = absurd it.2
@@ -209,6 +238,12 @@ module _ (old mid : State) where
   unchanged_well : AnswersLook old mid (Ok tt) → IsUnchanged old mid
   unchanged_well (inl a) = a.2
   unchanged_well (inr a) = absurd a.2
+
+  looked_well : IsLooked old mid (Ok tt) → HasCleanDisk mid → (p : Package) → IsSettled micrometres old p → IsSettled micrometres mid p
+  looked_well looked clean p it = unchanged_settled micrometres old mid p looked.survives clean (unchanged_well (looked.answers clean)) it
+
+  seen_well : IsLooked old mid (Ok tt) → HasCleanDisk mid → (p : Package) → IsSeenAs micrometres old p → IsSeenAs micrometres mid p
+  seen_well looked clean p it = unchanged_seen micrometres old mid p (unchanged_well (looked.answers clean)) it
 
   pub adopted : (new : State) (result : Result (Unit {0}) Open) → IsLooked old mid (Ok tt) → IsChecked micrometres mid new result → IsMigration old new result
   adopted new result looked checked =
@@ -218,22 +253,16 @@ module _ (old mid : State) where
         survives = committing_nothing old new quiet;
         is_open = checked.is_open;
         refused = λ _. quiet;
-        adopts = λ clean p s. let it = looked_well looked (early clean) p s in in_micrometres result new p quiet clean s (checked.settled clean p it) (checked.says clean p it);
+        adopts = λ clean p s. let it = looked_well looked (early clean) p s in in_micrometres result new p quiet clean s (checked.settled clean p it) (checked.says clean p (seen_of micrometres mid p it));
+        adopts_seen = λ clean p s. let it = seen_well looked (early clean) p s in seen_in_micrometres result new p (checked.seen clean p it) (checked.says clean p it);
         migrates = λ clean p s. absurd (other_versions (looked.agrees (early clean) millimetres.version p s.reads));
+        migrates_seen = λ clean p s. absurd (other_versions (looked.agrees (early clean) millimetres.version p s.reads));
         tells = λ clean. no_telling new result checked.no_number (inl (shows_current (looked.answers (early clean))));
         some = λ clean. when_ok result (λ blank. looked.none (early clean) blank);
         profile = λ clean. when_ok result (λ version p reads. inl (looked.agrees (early clean) version p reads));
         blobs = λ clean. told_as_before old mid (unchanged_well (looked.answers (early clean))) result (checked.blobs clean);
         faults = λ clean. checked.faults;
       }
-
-  looked_older : IsLooked old mid (Err (opens.Version millimetres.version)) → HasCleanDisk mid → (p : Package) → IsSettled millimetres old p
-      → IsSettled millimetres mid p
-  looked_older looked clean p it = go (looked.answers clean)
-    where
-      go : AnswersLook old mid (Err (opens.Version millimetres.version)) → IsSettled millimetres mid p
-      go (inl a) = unchanged_settled millimetres old mid p looked.survives clean a.2 it
-      go (inr a) = absurd a.2
 
   shows_version : AnswersLook old mid (Err (opens.Version millimetres.version)) → ShowsProfile millimetres.version old
   shows_version (inl it) = (it.0, asked_still old mid it.0 it.1, it.3.0)
@@ -243,6 +272,14 @@ module _ (old mid : State) where
   unchanged_older (inl a) = a.2
   unchanged_older (inr a) = absurd a.2
 
+  looked_older : IsLooked old mid (Err (opens.Version millimetres.version)) → HasCleanDisk mid → (p : Package) → IsSettled millimetres old p
+      → IsSettled millimetres mid p
+  looked_older looked clean p it = unchanged_settled millimetres old mid p looked.survives clean (unchanged_older (looked.answers clean)) it
+
+  seen_older : IsLooked old mid (Err (opens.Version millimetres.version)) → HasCleanDisk mid → (p : Package) → IsSeenAs millimetres old p
+      → IsSeenAs millimetres mid p
+  seen_older looked clean p it = unchanged_seen millimetres old mid p (unchanged_older (looked.answers clean)) it
+
   pub older : (new : State) (why : Open) (result : Result (Unit {0}) Open) → IsLooked old mid (Err why) → why ≡ opens.Version millimetres.version
       → IsOlder mid new result → IsMigration old new result
   older new why result looked is it =
@@ -250,11 +287,13 @@ module _ (old mid : State) where
       let early : HasCleanDisk new → HasCleanDisk mid = λ clean. omega (arith, clean, it.survives.clean) in
       record {
         survives = survives_then old mid new _ _ (MayCommitScaled old) (λ _ db none. absurd none)
-            (λ clean db all. (shows_version (at.answers (early_from it clean)), λ p s. all p (looked_older at (early_from it clean) p s.0, s.1))) at.survives it.survives;
+            (λ clean db all. (shows_version (at.answers (early_from it clean)), λ p s. all p (seen_older at (early_from it clean) p s.0, s.1))) at.survives it.survives;
         is_open = it.is_open;
         refused = λ is. quiet_then old mid new at.survives (it.refused is);
         adopts = λ clean p s. absurd (other_versions (at.agrees (early clean) micrometres.version p s.reads).0);
         migrates = λ clean p s. it.migrates clean p (looked_older at (early clean) p s);
+        adopts_seen = λ clean p s. absurd (other_versions (at.agrees (early clean) micrometres.version p s.reads).0);
+        migrates_seen = λ clean p s. it.migrates_seen clean p (seen_older at (early clean) p s);
         tells = λ clean. no_telling new result it.no_number (inr (shows_version (at.answers (early clean))));
         some = λ clean. when_ok result (λ blank. at.none (early clean) blank);
         profile = λ clean. when_ok result (λ version p reads. inr (sym (at.agrees (early clean) version p reads).0));
@@ -295,6 +334,23 @@ module _ (old mid : State) where
   not_migrated (opens.Rule rule) p other quiet clean s it = absurd it
   not_migrated (opens.Fault fault) p other quiet clean s it = λ db may. inl (left_before millimetres old mid p quiet clean s db may)
 
+  not_adopted_seen : (why : Open) (p : Package) → Agrees micrometres.version (Err why) → AdoptsSeen p mid (Err why)
+  not_adopted_seen (opens.Version version) p it = absurd (it.1 refl)
+  not_adopted_seen opens.NoProfile p it = absurd it
+  not_adopted_seen opens.BadProfile p it = absurd it
+  not_adopted_seen opens.BadBlobs p it = absurd it
+  not_adopted_seen (opens.Rule rule) p it = absurd it
+  not_adopted_seen (opens.Fault fault) p it = tt
+
+  not_migrated_seen : (why : Open) (p : Package) → why ≢ opens.Version millimetres.version → Agrees millimetres.version (Err why)
+      → MigratesSeen p mid (Err why)
+  not_migrated_seen (opens.Version version) p other it = absurd (other (ap opens.Version it.0))
+  not_migrated_seen opens.NoProfile p other it = absurd it
+  not_migrated_seen opens.BadProfile p other it = absurd it
+  not_migrated_seen opens.BadBlobs p other it = absurd it
+  not_migrated_seen (opens.Rule rule) p other it = absurd it
+  not_migrated_seen (opens.Fault fault) p other it = tt
+
   fault_told : (why : Open) → AnswersLook old mid (Err why) → OnlyStoreFaults (Err why)
   fault_told (opens.Version version) it = tt
   fault_told opens.NoProfile it = tt
@@ -322,6 +378,8 @@ module _ (old mid : State) where
     refused = λ _. looked.survives;
     adopts = λ clean p s. not_adopted why p looked.survives clean s (looked.agrees clean micrometres.version p s.reads);
     migrates = λ clean p s. not_migrated why p other looked.survives clean s (looked.agrees clean millimetres.version p s.reads);
+    adopts_seen = λ clean p s. not_adopted_seen why p (looked.agrees clean micrometres.version p s.reads);
+    migrates_seen = λ clean p s. not_migrated_seen why p other (looked.agrees clean millimetres.version p s.reads);
     tells = λ clean. told why other (looked.answers clean);
     some = λ clean. tt;
     profile = λ clean. tt;

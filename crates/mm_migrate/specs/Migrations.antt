@@ -8,6 +8,7 @@ use Rattle.mm_definitions.specs.Rules.{Meets}
 use Rattle.mm_definitions.specs.declared.answers.Open.{Open}
 use Rattle.mm_definitions.specs.declared.answers.Open.TheVariants as opens
 use Rattle.mm_definitions.specs.Scale.{scale}
+use Rattle.mm_store.specs.Seen.{IsSeenAs}
 use Rattle.mm_store.specs.Stands.{StandsFor, ReadsAs, IsSettled}
 use Rattle.mm_store.specs.Faults.{IsStoreFault}
 use Rattle.mm_store.specs.Statements.{CommitsNothing}
@@ -36,13 +37,15 @@ NoNumber (Err opens.NoProfile) = ⊥
 NoNumber (Err opens.BadProfile) = ⊥
 NoNumber _ = ⊤
 
--- It wrote nothing, leaves the connection as settled as before and, at `Ok`, the store open, and answers what the form of the blobs and the whole check tell.
+-- It wrote nothing, leaves the connection reading as before, and settled where it was, and, at `Ok`, the store open. It answers what the form of the blobs
+-- and the whole check tell.
 pub record IsChecked (profile : Profile) (old new : State) (result : Result (Unit {0}) Open) : Type 0 where
   pub mode : old.in_transaction ≡ false → new.in_transaction ≡ false
   pub survives : CommitsNothing old new
   pub is_open : HasCleanDisk new → OnOk result (IsTrue new.is_open)
+  pub seen : HasCleanDisk new → (p : Package) → IsSeenAs profile old p → IsSeenAs profile new p
   pub settled : HasCleanDisk new → (p : Package) → IsSettled profile old p → IsSettled profile new p
-  pub says : HasCleanDisk new → (p : Package) → IsSettled profile old p → Judged profile p result
+  pub says : HasCleanDisk new → (p : Package) → IsSeenAs profile old p → Judged profile p result
   pub blobs : HasCleanDisk new → TellsForm old result
   pub no_number : NoNumber result
   pub faults : OnlyStoreFaults result
@@ -62,6 +65,19 @@ Migrates p new (Ok _) = IsSettled micrometres new (scale p) × Meets micrometres
 Migrates p new (Err (opens.Rule rule)) = IsSettled millimetres new p × IsFailing millimetres p rule
 Migrates p new (Err (opens.Fault fault)) = (db : Trees) → new.may_leave db → StandsForEither db p
 Migrates p new (Err _) = ⊥
+
+-- ---- the same of a package that the connection reads as, whatever a crash would leave
+abbrev pub AdoptsSeen : Package → State → Result (Unit {0}) Open → Type 0
+AdoptsSeen p new (Ok _) = IsSeenAs micrometres new p × Meets micrometres p
+AdoptsSeen p new (Err (opens.Rule rule)) = IsSeenAs micrometres new p × IsFailing micrometres p rule
+AdoptsSeen p new (Err (opens.Fault fault)) = ⊤
+AdoptsSeen p new (Err _) = ⊥
+
+abbrev pub MigratesSeen : Package → State → Result (Unit {0}) Open → Type 0
+MigratesSeen p new (Ok _) = IsSettled micrometres new (scale p) × Meets micrometres (scale p)
+MigratesSeen p new (Err (opens.Rule rule)) = IsSeenAs millimetres new p × IsFailing millimetres p rule
+MigratesSeen p new (Err (opens.Fault fault)) = ⊤
+MigratesSeen p new (Err _) = ⊥
 
 -- the profile's table shows the row of the one version or of the other
 abbrev pub ShowsEither : State → Type 0
@@ -97,6 +113,8 @@ pub record IsMigration (old new : State) (result : Result (Unit {0}) Open) : Typ
   pub refused : IsRefusal result → CommitsNothing old new
   pub adopts : HasCleanDisk new → (p : Package) → IsSettled micrometres old p → Adopts p new result
   pub migrates : HasCleanDisk new → (p : Package) → IsSettled millimetres old p → Migrates p new result
+  pub adopts_seen : HasCleanDisk new → (p : Package) → IsSeenAs micrometres old p → AdoptsSeen p new result
+  pub migrates_seen : HasCleanDisk new → (p : Package) → IsSeenAs millimetres old p → MigratesSeen p new result
   pub tells : HasCleanDisk new → TellsNumber old new result
   pub some : HasCleanDisk new → OnOk result (IsBlank old → ⊥)
   pub profile : HasCleanDisk new → OnOk result (IsOfEither old)
@@ -109,6 +127,7 @@ pub record IsOlder (old new : State) (result : Result (Unit {0}) Open) : Type 0 
   pub is_open : HasCleanDisk new → OnOk result (IsTrue new.is_open)
   pub refused : IsRefusal result → CommitsNothing old new
   pub migrates : HasCleanDisk new → (p : Package) → IsSettled millimetres old p → Migrates p new result
+  pub migrates_seen : HasCleanDisk new → (p : Package) → IsSeenAs millimetres old p → MigratesSeen p new result
   pub blobs : HasCleanDisk new → TellsForm old result
   pub no_number : NoNumber result
   pub faults : OnlyStoreFaults result

@@ -7,6 +7,7 @@ use Rattle.mm_definitions.specs.Package.{Package}
 use Rattle.mm_definitions.specs.Rules.{Limits}
 use Rattle.mm_definitions.specs.declared.answers.Fault.{Fault}
 use Rattle.mm_definitions.specs.Scale.{scale}
+use Rattle.mm_store.specs.Seen.{IsSeenAs}
 use Rattle.mm_store.specs.Stands.{StandsFor, Ground, StandsOn, StandsInside, IsSettled}
 use Rattle.mm_store.specs.Faults.{IsStoreFault}
 use Rattle.mm_store.specs.Statements.{CommitsNothing}
@@ -19,19 +20,19 @@ pub record IsScaling (from to : Profile) (old new : State) (When : Package → T
       → OnOk result (IsTrue new.is_open × StandsInside to new ground (next p))
   pub faults : IfErr result IsStoreFault
 
--- the package in millimetres, whose numbers are within the limits
+-- the connection reads as the package in millimetres, whose numbers are within the limits
 abbrev pub MayScale : State → Package → Type 0
-MayScale s p = IsSettled millimetres s p × Limits millimetres p
+MayScale s p = IsSeenAs millimetres s p × Limits millimetres p
 
 -- the database stands for the package in the one unit, or for it in the other
 abbrev pub StandsForEither : Trees → Package → Type 0
 StandsForEither db p = StandsFor millimetres.version db p ⊎ StandsFor micrometres.version db (scale p)
 
--- `Ok` leaves the store open, and settles the connection for the package in micrometres; in each case a database that may be left stands for the one or
--- wholly for the other.
+-- `Ok` leaves the store open, and settles the connection for the package in micrometres. Where it was settled a database that may be left stands for the
+-- one or wholly for the other, in each case.
 pub record IsRescaled (old new : State) (result : Result (Unit {0}) Fault) : Type 0 where
   pub survives : Survives old new (λ db. (p : Package) → MayScale old p → StandsFor micrometres.version db (scale p))
   pub is_open : HasCleanDisk new → OnOk result (IsTrue new.is_open)
   pub done : HasCleanDisk new → (p : Package) → MayScale old p → OnOk result (IsSettled micrometres new (scale p))
-  pub left : HasCleanDisk new → (p : Package) → MayScale old p → (db : Trees) → new.may_leave db → StandsForEither db p
+  pub left : HasCleanDisk new → (p : Package) → IsSettled millimetres old p → Limits millimetres p → (db : Trees) → new.may_leave db → StandsForEither db p
   pub faults : IfErr result IsStoreFault

@@ -6,16 +6,19 @@ use Rattle.sqlite_disk.specs.declared.Files.{Files}
 use Rattle.sqlite.specs.State.{State, HasCleanDisk, Survives}
 use Rattle.sqlite.proofs.StateLemmas.{survives_then, survives_weaker}
 use Rattle.mm_store.proofs.Seen.{seen_of}
-use Rattle.mm_definitions.specs.Bounds.{current}
+use Rattle.mm_store.proofs.Shapes.{quiet_then}
+use Rattle.mm_definitions.specs.Bounds.{Profile, current}
 use Rattle.mm_definitions.specs.Opening.{opening}
+use Rattle.mm_definitions.specs.Package.{Package}
 use Rattle.mm_definitions.specs.declared.answers.Fault.{Fault}
 use Rattle.mm_definitions.specs.declared.answers.Open.{Open}
 use Rattle.mm_definitions.specs.declared.answers.Open.TheVariants as opens
 use Rattle.mm_laws.proofs.Opened.{opened}
 use Rattle.mm_store.specs.Faults.{IsStoreFault}
+use Rattle.mm_store.specs.Seen.{IsSeenAs}
 use Rattle.mm_store.specs.Stands.{IsSettled}
 use Rattle.mm_store.specs.Statements.{CommitsNothing}
-use Rattle.mm_core.specs.Opening.{IsBlank}
+use Rattle.mm_core.specs.Opening.{IsBlank, HasTables}
 use Rattle.mm_core.specs.Adopted.{IsAdopted, IsNotAdopted, TellsProfile}
 use Rattle.mm_core.specs.Sessions.{MayMake, IsCreated, IsNotCreated}
 use Rattle.mm_recovery.specs.Found.{FindsLeft}
@@ -47,6 +50,7 @@ found_by old new it = record {
   is_open = it.is_open;
   made = λ clean blank. absurd (it.some clean blank);
   found = λ clean p s. (it.settled clean p s, it.meets clean p (seen_of current _ p s));
+  stays = λ _ _ _. it.survives;
 }
 
 -- a connection with no table is declined for want of a profile, or at a fault
@@ -73,11 +77,30 @@ declined_by old new why it other = record {
   none = other_is_fault old new why it other;
   left = λ clean blank db may. elim (it.survives.crash clean db may) [ inl before ↦ inl (blank.left db before) | inr none ↦ absurd none ];
   settled = λ clean p s. (it.settled clean current p s, it.declines clean p (seen_of current _ p s));
+  stays = λ _ _ _. it.survives;
+}
+
+-- what commits nothing on a clean disk commits nothing
+quiet_where : (old new : State) → Survives old new (MayMake old) → (HasCleanDisk new → CommitsNothing old new) → CommitsNothing old new
+quiet_where old new h quiet = record {
+  clean = h.clean;
+  shield = h.shield;
+  counts = h.counts;
+  limit = h.limit;
+  closes = h.closes;
+  crash = λ clean. (quiet clean).crash clean;
 }
 
 module _ (old mid new : State) (declined : IsNotAdopted old mid opens.NoProfile) where
   survived : Survives mid new (MayMake mid) → Survives old new (MayMake old)
   survived h = survives_then old mid new _ _ (MayMake old) (λ _ db none. absurd none) (λ clean db may blank. may (declined.none (omega (arith, clean, h.clean)) blank)) declined.survives h
+
+  -- where it read as a package its tables stand, and nothing is made
+  none_made : Survives mid new (MayMake mid) → (HasTables mid → CommitsNothing mid new) → (profile : Profile) (p : Package) → IsSeenAs profile old p
+      → CommitsNothing old new
+  none_made h stays profile p seen =
+      let tables : HasCleanDisk new → HasTables mid = λ clean up. ((declined.seen (omega (arith, clean, h.clean)) profile p seen).reads up).schema_is in
+      quiet_then old mid new declined.survives (quiet_where mid new h (λ clean. stays (tables clean)))
 
   pub made_by : IsCreated mid new → IsMadeOrFound old new
   made_by it =
@@ -87,6 +110,7 @@ module _ (old mid new : State) (declined : IsNotAdopted old mid opens.NoProfile)
         is_open = it.is_open;
         made = λ clean blank. it.settled clean (declined.none (early clean) blank);
         found = λ clean p s. absurd (declined.declines (early clean) p (seen_of current _ p s));
+        stays = none_made it.survives it.stays;
       }
 
   pub not_made_by : (fault : Fault) → IsStoreFault fault → IsNotCreated mid new → IsNeither old new (opens.Fault fault)
@@ -98,6 +122,7 @@ module _ (old mid new : State) (declined : IsNotAdopted old mid opens.NoProfile)
         none = λ clean blank. told;
         left = λ clean blank. it.left clean (declined.none (early clean) blank);
         settled = λ clean p s. absurd (declined.declines (early clean) p (seen_of current _ p s));
+        stays = none_made it.survives it.stays;
       }
 
 module _ (old mid new : State) (why : Open) (is : why ≡ opens.NoProfile) (declined : IsNotAdopted old mid why) where

@@ -7,13 +7,15 @@ use Rattle.sqlite.specs.State.{State, HasCleanDisk, Survives}
 use Rattle.sqlite_store.specs.declared.store.FileStore.{FileStore}
 use Rattle.sqlite_disk.specs.declared.Disk.{Ghosts}
 use Rattle.sqlite_disk.specs.declared.Files.{Files}
-use Rattle.mm_definitions.specs.Bounds.{current}
+use Rattle.mm_definitions.specs.Bounds.{Profile, current}
 use Rattle.mm_definitions.specs.Opening.{opening}
 use Rattle.mm_definitions.specs.Package.{Package}
 use Rattle.mm_definitions.specs.declared.answers.Open.{Open}
 use Rattle.mm_definitions.specs.declared.answers.Open.TheVariants as opens
 use Rattle.mm_store.specs.Faults.{IsStoreFault}
+use Rattle.mm_store.specs.Seen.{IsSeenAs}
 use Rattle.mm_store.specs.Stands.{StandsFor, IsSettled}
+use Rattle.mm_store.specs.Statements.{CommitsNothing}
 use Rattle.mm_core.specs.Opening.{IsBlank, HasNoTable}
 use Rattle.mm_core.specs.Adopted.{Declines}
 use Rattle.mm_core.specs.Sessions.{MayMake}
@@ -53,12 +55,14 @@ module _ {D : Type 0} {g : Ghosts D} where
 
 -- ---- a connection that a making may have left
 
--- The store is open. It is settled for a new package where there was no table, and else for the package that it was settled for.
+-- The store is open. It is settled for a new package where there was no table, and else for the package that it was settled for. Where
+-- it read as a package, of whatever profile, nothing was committed.
 pub record IsMadeOrFound (old new : State) : Type 0 where
   pub survives : Survives old new (MayMake old)
   pub is_open : HasCleanDisk new → IsTrue new.is_open
   pub made : HasCleanDisk new → IsBlank old → IsSettled current new opening
   pub found : HasCleanDisk new → (p : Package) → IsSettled current old p → IsSoundOn new p
+  pub stays : (profile : Profile) (p : Package) → IsSeenAs profile old p → CommitsNothing old new
 
 -- what is told as a fault is the store's
 abbrev pub OnlyStoreFault : Open → Type 0
@@ -66,12 +70,14 @@ OnlyStoreFault (opens.Fault fault) = IsStoreFault fault
 OnlyStoreFault _ = ⊤
 
 -- Where there was no table it is a fault, and no more is left than a new package. A package is left as it was, and declined for a cause.
+-- Where it read as a package, of whatever profile, nothing was committed.
 pub record IsNeither (old new : State) (why : Open) : Type 0 where
   pub survives : Survives old new (MayMake old)
   pub faults : HasCleanDisk new → OnlyStoreFault why
   pub none : HasCleanDisk new → IsBlank old → IsFault why
   pub left : HasCleanDisk new → IsBlank old → LeavesNoMore new
   pub settled : HasCleanDisk new → (p : Package) → IsSettled current old p → IsSettled current new p × Declines p why
+  pub stays : (profile : Profile) (p : Package) → IsSeenAs profile old p → CommitsNothing old new
 
 -- ---- the making of a package that was stopped, and is begun again
 

@@ -31,7 +31,7 @@ assert sum(len(row[4]) for row in database.execute("SELECT * FROM mm_tiles")) > 
 
 def measured(words, status=0):
     """Processor seconds and peak kilobytes of a command."""
-    done = subprocess.run(["/usr/bin/time", "-v", *words], stdout=subprocess.PIPE, stderr=subprocess.PIPE, check=False)
+    done = subprocess.run(["/usr/bin/time", "-v", *words], stdin=subprocess.DEVNULL, stdout=subprocess.PIPE, stderr=subprocess.PIPE, check=False)
     told = done.stderr.decode()
     if done.returncode != status:
         raise SystemExit(done.stdout.decode()[:400] + told[-400:])

@@ -1,7 +1,8 @@
 -- The command line, as `clap` reads one: the subcommands, and what each takes.
-use Rattle.std.specs.Prelude.{◌≡◌, Some, [], codes, pos, true, false}
+use Rattle.std.specs.Prelude.{◌≡◌, Some, [], ◌∷◌, codes, pos, true, false}
 use Rattle.clap.specs.Simple.{new_shape}
 use Rattle.clap.specs.Words.{App, Rule, Text, app_of, new_app, new_rule, rule_of, with_rule, with_subcommand}
+use Rattle.clap.specs.declared.builder.action.ArgAction.TheVariants.{SetTrue}
 use Rattle.clap.specs.declared.builder.arg.Arg.{Arg}
 use Rattle.clap.specs.declared.builder.command.Command.{Command}
 use Rattle.clap.specs.declared.builder.command.Command.TheViews.{out-Command as fields_of}
@@ -32,12 +33,12 @@ port = record (new_rule (codes "port")) {
   parser = Some (Signed (pos 1) (pos 65535));
 }
 
--- --count N: how many connections are served, from 1 to 1,000,000; it has to stand
+-- --count N: how many connections are served, from 1 to 1,000,000, and so many where it doesn't stand
 abbrev pub count : Rule
 count = record (new_rule (codes "count")) {
   long = Some (codes "count");
   value_names = 1;
-  required = true;
+  defaults = codes "1000000" ∷ [];
   parser = Some (Signed (pos 1) (pos 1000000));
 }
 
@@ -47,6 +48,22 @@ page = record (new_rule (codes "page")) {
   long = Some (codes "page");
   value_names = 1;
 }
+
+-- a flag of this name
+abbrev pub flag : Text → Rule
+flag id = record (new_rule id) { long = Some id; action = Some SetTrue }
+
+-- --words: what each refusal says is written to standard error
+abbrev pub words : Rule
+words = flag (codes "words")
+
+-- --progress: what is being done, and how far, is written to standard error
+abbrev pub progress : Rule
+progress = flag (codes "progress")
+
+-- ANSWER: one to eight words
+abbrev pub answer : Rule
+answer = record (word (codes "ANSWER")) { range = Some (record { start_inclusive = 1; end_inclusive = 8 }) }
 
 -- ---- the subcommands
 
@@ -58,17 +75,19 @@ with_file_word name = with_rule (new_app name) file
 abbrev pub init : App
 init = with_file_word (codes "init")
 
--- run FILE [--at MS]: applies the records of the input
+-- run FILE [--at MS] [--words] [--progress]: applies the records of the input
 abbrev pub run_subcommand : App
-run_subcommand = with_rule (with_file_word (codes "run")) at
+run_subcommand = with_rule (with_rule (with_rule (with_file_word (codes "run")) at) words) progress
 
--- kit FILE EDITION FOLDER [--at MS]: stages the pieces of the kit in FOLDER
+-- kit FILE EDITION FOLDER [--at MS] [--words] [--progress]: stages the pieces of the kit in FOLDER
 abbrev pub kit : App
-kit = with_rule (with_rule (with_rule (with_file_word (codes "kit")) (word (codes "EDITION"))) (word (codes "FOLDER"))) at
+kit =
+    with_rule (with_rule (with_rule (with_rule (with_rule (with_file_word (codes "kit")) (word (codes "EDITION"))) (word (codes "FOLDER"))) at)
+    words) progress
 
--- check FILE: decides the sixteen rules
+-- check FILE [--progress]: decides the sixteen rules
 abbrev pub check : App
-check = with_file_word (codes "check")
+check = with_rule (with_file_word (codes "check")) progress
 
 -- list FILE: lists the tables and the editions
 abbrev pub list : App
@@ -78,13 +97,17 @@ list = with_file_word (codes "list")
 abbrev pub migrate : App
 migrate = with_file_word (codes "migrate")
 
--- serve FILE --port P --count N: serves the page
+-- serve FILE --port P [--count N] [--progress]: serves the page
 abbrev pub serve : App
-serve = with_rule (with_rule (with_file_word (codes "serve")) port) count
+serve = with_rule (with_rule (with_rule (with_file_word (codes "serve")) port) count) progress
 
--- desk FILE --port P --count N [--page TABLE]: shows the package and takes records, in one session
+-- desk FILE --port P [--count N] [--page TABLE] [--progress]: shows the package and takes records, in one session
 abbrev pub desk : App
-desk = with_rule (with_rule (with_rule (with_file_word (codes "desk")) port) count) page
+desk = with_rule (with_rule (with_rule (with_rule (with_file_word (codes "desk")) port) count) page) progress
+
+-- explain ANSWER..: tells what a number says
+abbrev pub explain : App
+explain = with_rule (new_app (codes "explain")) answer
 
 -- ---- the whole
 
@@ -95,11 +118,12 @@ start = record {
   subs = [];
 }
 
--- the program with its eight subcommands
+-- the program with its nine subcommands
 abbrev pub command_line : App
 command_line =
-    with_subcommand (with_subcommand (with_subcommand (with_subcommand (with_subcommand (with_subcommand (with_subcommand (with_subcommand start
-    init.top) run_subcommand.top) kit.top) check.top) list.top) serve.top) desk.top) migrate.top
+    with_subcommand (with_subcommand (with_subcommand (with_subcommand (with_subcommand (with_subcommand (with_subcommand (with_subcommand
+    (with_subcommand start
+    init.top) run_subcommand.top) kit.top) check.top) list.top) serve.top) desk.top) migrate.top) explain.top
 
 -- ---- the values that are made of it
 

@@ -1,5 +1,5 @@
 -- What words ask for, and what a request is limited to.
-use Rattle.std.specs.Prelude.{◌≡◌, ◌≤◌, ⊤, ℕ, List, Option, Some, None, codes, pos}
+use Rattle.std.specs.Prelude.{◌≡◌, ◌≤◌, ◌-◌, ⊤, ℕ, Bool, true, false, List, Option, Some, None, codes, length, pos, slice_get}
 use Rattle.std.specs.Borrow.{Bor}
 use Rattle.std.specs.Str.Parse.{IsNumeral, digits_value, signed_digits_value, without_leading_plus, without_leading_sign}
 use Rattle.clap.specs.Words.{Row, Text, all_of, first_of, one_of, subcommand_of}
@@ -7,7 +7,8 @@ use Rattle.clap.specs.declared.error.kind.ErrorKind.{ErrorKind}
 use Rattle.clap.specs.declared.error.kind.ErrorKind.TheVariants as kind
 use Rattle.mm_arguments.specs.CommandLine.{command_line}
 use Rattle.mm_arguments.specs.declared.requests.Request.{Request}
-use Rattle.mm_arguments.specs.declared.requests.Request.TheVariants.{Init, Run, Kit, Check, List as Tables, Serve, Desk, Migrate}
+use Rattle.mm_arguments.specs.declared.requests.Request.TheVariants.{Init, Run, Kit, Check, List as Tables, Serve, Desk, Migrate, Explain}
+use Rattle.mm_arguments.specs.declared.requests.Aids.{Aids}
 
 -- a port is at least 1, and so many connections are served: 1 to 1,000,000
 abbrev pub IsRequestWithin : Request → Type 0
@@ -17,6 +18,7 @@ IsRequestWithin (Kit file edition folder at) = ⊤
 IsRequestWithin (Check file) = ⊤
 IsRequestWithin (Tables file) = ⊤
 IsRequestWithin (Migrate file) = ⊤
+IsRequestWithin (Explain answer) = ⊤
 IsRequestWithin (Serve file port count) = (1 ≤ port) × (1 ≤ count) × (count ≤ 1000000)
 IsRequestWithin (Desk file port count page) = (1 ≤ port) × (1 ≤ count) × (count ≤ 1000000)
 
@@ -26,6 +28,15 @@ module _ (rows : List Row) where
   -- the word of this argument
   abbrev pub IsGivenWord : Text → Bor Text → Type 0
   IsGivenWord id word = first_of id rows ≡ Some word.now
+
+  -- the last of the words of this argument
+  abbrev pub IsLastWord : Text → Bor Text → Type 0
+  IsLastWord id word = (texts : List Text) × (all_of id rows ≡ Some texts) × (slice_get texts (length texts - 1) ≡ Some word.now)
+
+  -- whether this flag stands
+  abbrev pub IsFlag : Text → Bool → Type 0
+  IsFlag id stands = (one_of id rows ≡ Some (codes "true") → stands ≡ true) × (one_of id rows ≡ Some (codes "false") → stands ≡ false)
+      × (one_of id rows ≡ None → stands ≡ false)
 
   -- the number that stands behind an option
   abbrev pub IsNumber : Text → ℕ → Type 0
@@ -52,6 +63,7 @@ AsksFor name rows (Kit file edition folder at) = (name ≡ codes "kit") × IsGiv
 AsksFor name rows (Check file) = (name ≡ codes "check") × IsGivenWord rows (codes "FILE") file
 AsksFor name rows (Tables file) = (name ≡ codes "list") × IsGivenWord rows (codes "FILE") file
 AsksFor name rows (Migrate file) = (name ≡ codes "migrate") × IsGivenWord rows (codes "FILE") file
+AsksFor name rows (Explain answer) = (name ≡ codes "explain") × IsLastWord rows (codes "ANSWER") answer
 AsksFor name rows (Serve file port count) = (name ≡ codes "serve") × IsGivenWord rows (codes "FILE") file
     × IsNumber rows (codes "port") port × IsNumber rows (codes "count") count
 AsksFor name rows (Desk file port count page) = (name ≡ codes "desk") × IsGivenWord rows (codes "FILE") file
@@ -60,6 +72,11 @@ AsksFor name rows (Desk file port count page) = (name ≡ codes "desk") × IsGiv
 -- the words ask for this: of what `clap` reads of them on the command line
 abbrev pub Asks : List Text → Request → Type 0
 Asks words request = (name : Text) × (rows : List Row) × (subcommand_of command_line words ≡ Some (name, rows)) × AsksFor name rows request
+
+-- the words want this told on standard error: of what `clap` reads of them on the command line
+abbrev pub Wants : List Text → Aids → Type 0
+Wants words aids = (name : Text) × (rows : List Row) × (subcommand_of command_line words ≡ Some (name, rows))
+    × IsFlag rows (codes "words") aids.words × IsFlag rows (codes "progress") aids.progress
 
 -- ---- the exit status of an error
 

@@ -5,7 +5,7 @@ ghost use Rattle.mm_arguments.specs.CommandLine as line;
 ghost use Rattle.mm_arguments.specs.CommandLine.{IsArgument, IsCommand};
 
 use crate::texts;
-use clap::{Arg, Command, value_parser};
+use clap::{Arg, ArgAction, Command, value_parser};
 use std::alloc::{AllocError, Global};
 
 fn file_argument<'a>(alloc: Global) -> Arg<'a>
@@ -61,9 +61,36 @@ fn count_argument<'a>(alloc: Global) -> Arg<'a>
     Arg::new(alloc, "count")
         .long("count")
         .value_name("N")
-        .required(true)
+        .default_value("1000000")
         .help("How many connections to serve before the end, from 1 to 1000000")
         .value_parser(value_parser!(u32).range(1..=1000000))
+}
+
+fn words_argument<'a>(alloc: Global) -> Arg<'a>
+    ensures { IsArgument line.words result }
+{
+    Arg::new(alloc, "words")
+        .long("words")
+        .action(ArgAction::SetTrue)
+        .help("Write to standard error what each refusal says, and which field or file it is about")
+}
+
+fn progress_argument<'a>(alloc: Global) -> Arg<'a>
+    ensures { IsArgument line.progress result }
+{
+    Arg::new(alloc, "progress")
+        .long("progress")
+        .action(ArgAction::SetTrue)
+        .help("Write to standard error what is being done, and how far it is")
+}
+
+fn answer_argument<'a>(alloc: Global) -> Arg<'a>
+    ensures { IsArgument line.answer result }
+{
+    Arg::new(alloc, "ANSWER")
+        .required(true)
+        .num_args(1..=8)
+        .help("A number, a rule, or a whole line as it was printed, whose last word counts")
 }
 
 fn page_argument<'a>(alloc: Global) -> Arg<'a>
@@ -94,7 +121,9 @@ fn run_command<'a>(alloc: Global) -> Result<Command<'a>, AllocError>
         )
         .after_long_help(texts::RUN)
         .arg(file_argument(alloc))?
-        .arg(at_argument(alloc))
+        .arg(at_argument(alloc))?
+        .arg(words_argument(alloc))?
+        .arg(progress_argument(alloc))
 }
 
 fn kit_command<'a>(alloc: Global) -> Result<Command<'a>, AllocError>
@@ -111,17 +140,20 @@ fn kit_command<'a>(alloc: Global) -> Result<Command<'a>, AllocError>
         .arg(file_argument(alloc))?
         .arg(edition_argument(alloc))?
         .arg(folder_argument(alloc))?
-        .arg(at_argument(alloc))
+        .arg(at_argument(alloc))?
+        .arg(words_argument(alloc))?
+        .arg(progress_argument(alloc))
 }
 
 fn check_command<'a>(alloc: Global) -> Result<Command<'a>, AllocError>
     ensures { IfOk result (IsCommand line.check) }
 {
     Command::new(alloc, "check")
-        .about("Checks the whole package against its rules, and changes nothing")
+        .about("Checks the whole package against its rules, and changes nothing in it")
         .after_help("Prints `package ok`, or `rule Qk` for the rule that fails.")
         .after_long_help(texts::CHECK)
-        .arg(file_argument(alloc))
+        .arg(file_argument(alloc))?
+        .arg(progress_argument(alloc))
 }
 
 fn migrate_command<'a>(alloc: Global) -> Result<Command<'a>, AllocError>
@@ -154,12 +186,13 @@ fn serve_command<'a>(alloc: Global) -> Result<Command<'a>, AllocError>
             "Serves tiles, media and lists of the package over HTTP, one connection after another",
         )
         .after_help(
-            "Example: mmpkg serve map.mmpkg --port 8080 --count 1000\nRoutes: /tiles/TABLE/Z/COLUMN/ROW, /media/TABLE/ID, /related/TABLE/ID, /contents.",
+            "Example: mmpkg serve map.mmpkg --port 8080\nRoutes: /tiles/TABLE/Z/COLUMN/ROW, /media/TABLE/ID, /related/TABLE/ID, /contents.",
         )
         .after_long_help(texts::SERVE)
         .arg(file_argument(alloc))?
         .arg(port_argument(alloc))?
-        .arg(count_argument(alloc))
+        .arg(count_argument(alloc))?
+        .arg(progress_argument(alloc))
 }
 
 fn desk_command<'a>(alloc: Global) -> Result<Command<'a>, AllocError>
@@ -168,13 +201,25 @@ fn desk_command<'a>(alloc: Global) -> Result<Command<'a>, AllocError>
     Command::new(alloc, "desk")
         .about("Shows the package in a browser and takes records from it, in one session")
         .after_help(
-            "Example: mmpkg desk map.mmpkg --port 8090 --count 1000000 --page viewer\nPrints the address with its key; GET shows as `serve` does, POST /KEY/records runs a list as `run` does.",
+            "Example: mmpkg desk map.mmpkg --port 8090 --page viewer\nPrints the address with its key; GET shows as `serve` does, POST /KEY/records runs a list as `run` does.",
         )
         .after_long_help(texts::DESK)
         .arg(file_argument(alloc))?
         .arg(port_argument(alloc))?
         .arg(count_argument(alloc))?
-        .arg(page_argument(alloc))
+        .arg(page_argument(alloc))?
+        .arg(progress_argument(alloc))
+}
+
+fn explain_command<'a>(alloc: Global) -> Result<Command<'a>, AllocError>
+    ensures { IfOk result (IsCommand line.explain) }
+{
+    Command::new(alloc, "explain")
+        .about("Tells what a number says, and what to do then")
+        .after_help(
+            "Examples: mmpkg explain 34\n          mmpkg explain fault 91\n          mmpkg explain Q7",
+        )
+        .arg(answer_argument(alloc))
 }
 
 /// The whole command line.
@@ -198,5 +243,6 @@ pub(crate) fn command<'a>(alloc: Global) -> Result<Command<'a>, AllocError>
         .subcommand(list_command(alloc)?)?
         .subcommand(serve_command(alloc)?)?
         .subcommand(desk_command(alloc)?)?
-        .subcommand(migrate_command(alloc)?)
+        .subcommand(migrate_command(alloc)?)?
+        .subcommand(explain_command(alloc)?)
 }

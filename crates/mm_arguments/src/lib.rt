@@ -6,4 +6,4 @@ mod commands;
 mod requests;
 mod texts;
 
-pub use requests::{Request, read_arguments, status_of};
+pub use requests::{Aids, Request, read_aids, read_arguments, status_of};

@@ -3,7 +3,7 @@
 ghost use Rattle.std.specs.Prelude.{◌≡◌, ◌⊎◌, IfOk, IfSome, codes, map};
 ghost use Rattle.clap.specs.Words.{FailsBy, fault_of, found_of, kind_of, rows_of};
 ghost use Rattle.mm_arguments.specs.CommandLine.{command_line};
-ghost use Rattle.mm_arguments.specs.Requests.{Asks, AsksFor, IsGivenMoment, IsRequestWithin, IsGivenWord, IsMaybeWord};
+ghost use Rattle.mm_arguments.specs.Requests.{Asks, AsksFor, IsGivenMoment, IsRequestWithin, IsGivenWord, IsLastWord, IsMaybeWord, Wants};
 ghost use Rattle.mm_arguments.specs.Requests as spec;
 
 use crate::commands::command;
@@ -50,6 +50,19 @@ pub enum Request<'a> {
     Migrate {
         file: &'a str,
     },
+    /// The last of the words that were given.
+    Explain {
+        answer: &'a str,
+    },
+}
+
+/// What is told to people beside the answers, on standard error.
+#[derive(Clone, Copy, Debug)]
+pub struct Aids {
+    /// What each refusal says.
+    pub words: bool,
+    /// What is being done, and how far it is.
+    pub progress: bool,
 }
 
 /// A value that `clap` let pass is outside its range.
@@ -140,10 +153,22 @@ fn desk_of<'a>(file: &'a str, matches: &ArgMatches<'a>) -> Option<Request<'a>>
     }
 }
 
+/// The last of the words of an argument.
+fn last_word<'a>(matches: &ArgMatches<'a>, id: &str) -> Option<&'a str>
+    ensures { IfSome result (IsLastWord (rows_of (found_of matches.now)) id.now) }
+{
+    matches.get_strs(id)?.last().copied()
+}
+
 fn request_of<'a>(name: &str, matches: &ArgMatches<'a>) -> Option<Request<'a>>
     ensures within { IfSome result IsRequestWithin }
     ensures asks { IfSome result (AsksFor name.now (rows_of (found_of matches.now))) }
 {
+    if name == "explain" {
+        return Some(Request::Explain {
+            answer: last_word(matches, "ANSWER")?,
+        });
+    }
     let file = word_of(matches, "FILE")?;
     match name {
         "init" => Some(Request::Init { file }),
@@ -182,6 +207,26 @@ pub fn read_arguments<'a>(alloc: Global, words: &'a [&'a str]) -> Result<Request
     };
     match asked {
         Some(request) => Ok(request),
+        None => Err(AllocError.into()),
+    }
+}
+
+/// What the words want told on standard error, as `clap` reads them on the command line that is defined.
+///
+/// # Errors
+///
+/// As of `read_arguments`: on words that it reads, want of memory alone.
+pub fn read_aids<'a>(alloc: Global, words: &'a [&'a str]) -> Result<Aids, Error>
+    ensures wants { IfOk result (Wants (map (λ word. word.now) words.entry.now)) }
+    ensures fails { FailsBy
+        (fault_of command_line (map (λ word. word.now) words.entry.now)) result }
+{
+    let matches = command(alloc)?.try_get_matches_from(words)?;
+    match matches.subcommand() {
+        Some((_, inner)) => Ok(Aids {
+            words: inner.get_flag("words"),
+            progress: inner.get_flag("progress"),
+        }),
         None => Err(AllocError.into()),
     }
 }

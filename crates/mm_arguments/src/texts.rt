@@ -55,7 +55,9 @@ Refusals, which change nothing:
 
 Faults, which end the run; what was answered before stands:
   90 memory was refused   91 the file could not be read or written   92 open the file again
-  96 the input failed     97 the output failed";
+  96 the input failed     97 the output failed
+
+`mmpkg explain 34` tells more of a number, and what to do then; --words writes what each refusal says to standard error.";
 
 /// Behind `help kit`.
 pub(crate) const KIT: &str = "Example: mmpkg kit map.mmpkg spring kits/spring
@@ -74,7 +76,8 @@ Refusals beside those of `help run`:
 
 /// Behind `help check`.
 pub(crate) const CHECK: &str =
-    "Prints `package ok`, or `rule Qk` for the rule that fails, or `not a package N`.
+    "Prints `package ok`, or `rule Qk` for the rule that fails, or `not a package N`. The package stays as it is; commits
+that stand in the journal FILE-wal alone are taken into FILE.
 
 Rules:
   Q1 the three given systems stand               Q9 in a pyramid of kind two, the next zoom halves the pixel size
@@ -91,8 +94,7 @@ Not a package:
   98 its bytes are not kept once each, as another program left them";
 
 /// Behind `help desk`.
-pub(crate) const DESK: &str =
-    "Example: mmpkg desk map.mmpkg --port 8090 --count 1000000 --page viewer
+pub(crate) const DESK: &str = "Example: mmpkg desk map.mmpkg --port 8090 --page viewer
 Prints the address to open, with its key; whoever has the key may ask, over 127.0.0.1 alone. The key is that of the
 environment's MMPKG_KEY (16 to 64 letters, digits, - and _), or else a new one.
 
@@ -109,7 +111,7 @@ ended: by 97 since its lines could not be sent, by 90 or 91 since a command fail
 next start goes on with what stands.";
 
 /// Behind `help serve`.
-pub(crate) const SERVE: &str = "Example: mmpkg serve map.mmpkg --port 8080 --count 1000
+pub(crate) const SERVE: &str = "Example: mmpkg serve map.mmpkg --port 8080
 Routes: /tiles/TABLE/Z/COLUMN/ROW, /media/TABLE/ID, /related/TABLE/ID, /contents.
 
 It listens on 127.0.0.1 alone, so that only this machine sees the page. Prints `page fault F` for a connection that met a

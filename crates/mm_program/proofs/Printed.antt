@@ -25,6 +25,7 @@ module _ {D S : Type 0} (g : Ghosts D) (image : Image) (source : Option (List �
   prints_request (asked.Migrate file) (outcome, stops, told, on) = (outcome, stops, told)
   prints_request (asked.Serve file port count) (told, served) = told
   prints_request (asked.Desk file port count page) (told, sitting) = told
+  prints_request (asked.Explain answer) (told, is) = told
 
   pub prints : (words : List Text) → TellsWords g image source words old new result left → PrintsWords words old new result
   prints words (inl (request, asks, told)) = inl (request, asks, prints_request request told)

@@ -2,6 +2,7 @@ pub mod Clock
 pub mod Stops
 pub mod Files
 pub mod Desks
+pub mod Explained
 pub mod Left
 pub mod Life
 pub mod Printed

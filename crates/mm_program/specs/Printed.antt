@@ -18,6 +18,7 @@ use Rattle.mm_work.specs.Told.{IsTold, init_status, init_text, stop_status, stop
 use Rattle.mm_work.specs.declared.stop.Stop.{Stop}
 use Rattle.mm_work.specs.declared.stop.Stop.TheVariants as stops
 use Rattle.mm_program.specs.Desks.{TellsDesk, table_of}
+use Rattle.mm_program.specs.Explained.{TellsExplained}
 use Rattle.mm_program.specs.Served.{TellsServe}
 use Rattle.mm_program.specs.Stops.{StopsCheck, StopsNew}
 
@@ -69,6 +70,7 @@ PrintsRequest (asked.List file) old new result = TellsDecline old new result
 PrintsRequest (asked.Migrate file) old new result = PrintsMigrate old new result
 PrintsRequest (asked.Serve file port count) old new result = TellsServe port count old new result
 PrintsRequest (asked.Desk file port count page) old new result = TellsDesk port count (table_of page) old new result
+PrintsRequest (asked.Explain answer) old new result = TellsExplained answer.now old new result
 
 -- What the words ask for is printed; or what is wrong with them, or that memory is wanted to read them.
 abbrev pub PrintsWords : List Text → Written → Written → ℕ → Type 0

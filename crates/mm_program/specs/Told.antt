@@ -19,6 +19,7 @@ use Rattle.mm_arguments.specs.declared.requests.Request.TheVariants as asked
 use Rattle.mm_files.specs.declared.left.Left.{Left}
 use Rattle.mm_files.specs.Worked.{IsUnprinted}
 use Rattle.mm_program.specs.Desks.{LeavesDesk, TellsDesk, TellsSat, table_of}
+use Rattle.mm_program.specs.Explained.{TellsExplained}
 use Rattle.mm_program.specs.Files.{IsUntouched, OnFile, StopsNew, StopsOld, WasBare}
 use Rattle.mm_program.specs.Left.{LeavesImport, LeavesMade, LeavesMigrated, LeavesRun, LeavesSame, TellsChecked, TellsImport, TellsListing, TellsMigrated, TellsRun, TellsServed}
 use Rattle.mm_program.specs.Served.{TellsServe}
@@ -102,6 +103,7 @@ TellsRequest g image source (asked.Serve file port count) old new result left =
     TellsServe port count old new result × TellsService g image file.now old new result left
 TellsRequest g image source (asked.Desk file port count page) old new result left =
     TellsDesk port count (table_of page) old new result × TellsSitting g image file.now old new result left
+TellsRequest g image source (asked.Explain answer) old new result left = TellsExplained answer.now old new result × IsUntouched left
 
 -- What the words ask for is told and left; or what is wrong with them, or that memory is wanted to read them, and no file was opened.
 abbrev pub TellsWords : {D S : Type 0} (g : Ghosts D) → Image → Option (List ℕ) → List Text → Written → Written → ℕ → Left D S g → Type 0

@@ -11,12 +11,14 @@ ghost use Rattle.mm_program.specs.Worked.{closes_import};
 
 use crate::clock::{Now, moment_or_now};
 use crate::files::on_old;
+use mm_arguments::read_aids;
 use mm_definitions::answers::Fault;
 use mm_definitions::moments::Moment;
 use mm_definitions::names::Name;
 use mm_definitions::streams::Io;
 use mm_files::{Left, Works};
 use mm_kit::{Folder, FolderFault, Found};
+use mm_words::Pieces;
 use mm_work::{Import, REFUSED, Stop, import_package, tell_bytes, tell_import, tell_stop};
 use sqlite::{Alter, Connection, FileFrom, Start};
 use sqlite_disk::Disk;
@@ -27,10 +29,55 @@ use std::{fs, io};
 /// A folder of the system. It opens names of one file alone, so that nothing outside the folder is read but what a link in
 /// it leads to.
 #[derive(Drop)]
-struct SystemFolder<'a> {
+pub(crate) struct SystemFolder<'a> {
     rt: &'a HostRuntime,
     path: &'a str,
     failed: bool,
+    /// How far the import is, where that is wanted.
+    pieces: Option<Pieces<'a>>,
+}
+
+impl<'a> SystemFolder<'a> {
+    /// The folder at this path, of which nothing was read.
+    pub(crate) fn new(
+        rt: &'a HostRuntime,
+        path: &'a str,
+        pieces: Option<Pieces<'a>>,
+    ) -> SystemFolder<'a> {
+        let failed = false;
+        SystemFolder {
+            rt,
+            path,
+            failed,
+            pieces,
+        }
+    }
+}
+
+/// How far the import into the package at this path is, where the words want it told.
+pub(crate) fn pieces_wanted<'a>(
+    rt: &'a HostRuntime,
+    words: &[&str],
+    path: &str,
+) -> Option<Pieces<'a>> {
+    match read_aids(rt.alloc(), words) {
+        Ok(aids) if aids.progress => Some(Pieces::new(rt, path)),
+        _ => None,
+    }
+}
+
+/// Tells that a file was read.
+fn tell_read(pieces: &mut Option<Pieces<'_>>, alloc: Global, found: &Found) {
+    if let (Some(pieces), Found::Bytes(bytes)) = (pieces, found) {
+        pieces.take(alloc, bytes.as_slice());
+    }
+}
+
+/// Tells that no more is read.
+fn tell_end(pieces: &mut Option<Pieces<'_>>) {
+    if let Some(pieces) = pieces {
+        pieces.end();
+    }
 }
 
 /// The failure of a call of the system.
@@ -67,9 +114,12 @@ impl<'a> Folder for SystemFolder<'a> {
 
     ghost has_failed = { λ s. s.failed };
 
-    fn read(&mut self, _alloc: Global, name: &str, most: u64) -> Result<Found, FolderFault> {
+    fn read(&mut self, alloc: Global, name: &str, most: u64) -> Result<Found, FolderFault> {
         match read_file(self.rt, self.path, name, most) {
-            Ok(found) => Ok(found),
+            Ok(found) => {
+                tell_read(&mut self.pieces, alloc, &found);
+                Ok(found)
+            }
             Err(FolderFault::Memory) => Err(FolderFault::Memory),
             Err(FolderFault::Failed) => {
                 self.failed = true;
@@ -132,23 +182,20 @@ fn import_file<'a, S: Start>(
     path: &'a str,
     start: S,
     edition: &Name,
-    folder: &str,
+    folder: SystemFolder<'_>,
     at: Moment,
 ) -> (Result<Import, Stop>, Left<'a, FileFrom<S>, S>)
     ensures { OnFile ⟦<FileFrom<S> as Disk>⟧ (image_at S.Start) path.now StopsOld TellsImport
         (LeavesImport None edition.now) closes_import result.0 result.1 }
 {
-    let folder = SystemFolder {
-        rt,
-        path: folder,
-        failed: false,
-    };
     let mut importing = Importing {
         folder,
         edition,
         at,
     };
-    match on_old(rt, path, start, &mut importing, &mut Io::new(io::sink())) {
+    let done = on_old(rt, path, start, &mut importing, &mut Io::new(io::sink()));
+    tell_end(&mut importing.folder.pieces);
+    match done {
         Ok((opened, done)) => (done, Left::Worked(opened)),
         Err((left, why)) => (Err(why), left),
     }
@@ -160,7 +207,7 @@ pub(crate) fn import_and_tell<'a, S: Start, W: Write>(
     path: &'a str,
     start: S,
     edition: &str,
-    folder: &str,
+    folder: SystemFolder<'_>,
     at: Option<Moment>,
     output: &mut Io<W>,
 ) -> (u8, Left<'a, FileFrom<S>, S>)

@@ -10,6 +10,7 @@
 //! - `sittings`: requests that a desk answers, one after another.
 //! - `keys`: the key in a desk's address.
 //! - `desks`: the desk over sockets.
+//! - `explaining`: what a number says.
 //! - `clock`: the moment of a run that names none.
 //! - `laws`: from one run of the program to the next.
 #![tactic(auto)]
@@ -17,6 +18,7 @@
 mod clock;
 mod connections;
 mod desks;
+mod explaining;
 mod files;
 mod keys;
 mod kits;

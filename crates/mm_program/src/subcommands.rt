@@ -15,8 +15,9 @@ ghost use Rattle.mm_program.specs.Worked.{IsRun, closes_done, closes_run};
 
 use crate::clock::{Now, moment_or_now};
 use crate::desks::desk_told;
+use crate::explaining::explain_told;
 use crate::files::{on_new, on_old};
-use crate::kits::import_and_tell;
+use crate::kits::{SystemFolder, import_and_tell, pieces_wanted};
 use crate::migrating::migrate_told;
 use crate::reporting::{check_told, list_told};
 use crate::serving::serve_told;
@@ -257,7 +258,11 @@ pub fn program_on<'a, S: Start, R: Read, W: Write>(
                 folder,
                 at,
             },
-        ) => import_and_tell(rt, file, start, edition, folder, at, output),
+        ) => {
+            let folder = SystemFolder::new(rt, folder, pieces_wanted(rt, words, file));
+            import_and_tell(rt, file, start, edition, folder, at, output)
+        }
+        Ok(Request::Explain { answer }) => (explain_told(answer, output), Left::Untouched(start)),
         Err(error) => (tell_words(output, error), Left::Untouched(start)),
     }
 }

@@ -15,4 +15,5 @@ returns c =
     let with_file = takes _ _ _ _ _ named c.file_argument.ensures c.in_ok-arg.ensures in
     let with_port = takes _ _ _ _ _ with_file c.port_argument.ensures c.in_ok-arg-2.ensures in
     let with_count = takes _ _ _ _ _ with_port c.count_argument.ensures c.in_ok-arg-3.ensures in
-    IfOk-weaker c.arg-4.result _ _ (λ whole added. takes _ _ _ _ _ with_count c.page_argument.ensures added) c.arg-4.ensures
+    let with_page = takes _ _ _ _ _ with_count c.page_argument.ensures c.in_ok-arg-4.ensures in
+    IfOk-weaker c.arg-5.result _ _ (λ whole added. takes _ _ _ _ _ with_page c.progress_argument.ensures added) c.arg-5.ensures

@@ -15,4 +15,6 @@ returns c =
     let with_file = takes _ _ _ _ _ named c.file_argument.ensures c.in_ok-arg.ensures in
     let with_edition = takes _ _ _ _ _ with_file c.edition_argument.ensures c.in_ok-arg-2.ensures in
     let with_folder = takes _ _ _ _ _ with_edition c.folder_argument.ensures c.in_ok-arg-3.ensures in
-    IfOk-weaker c.arg-4.result _ _ (λ whole added. takes _ _ _ _ _ with_folder c.at_argument.ensures added) c.arg-4.ensures
+    let with_at = takes _ _ _ _ _ with_folder c.at_argument.ensures c.in_ok-arg-4.ensures in
+    let with_words = takes _ _ _ _ _ with_at c.words_argument.ensures c.in_ok-arg-5.ensures in
+    IfOk-weaker c.arg-6.result _ _ (λ whole added. takes _ _ _ _ _ with_words c.progress_argument.ensures added) c.arg-6.ensures

@@ -19,6 +19,7 @@ import sqlite3
 import subprocess
 import sys
 import tempfile
+import time
 
 # By the version in mm_profile, how many units of a package's coordinates and pixel sizes are a metre.
 UNITS_OF_VERSION = {1: 1_000, 2: 1_000_000}
@@ -49,6 +50,9 @@ TOLD_COPY = 100_000_000
 # How many things of which one note speaks are told by their names.
 NOTED = 10
 
+# How many seconds the line of a terminal that tells how far the work is stands at least.
+RENEWED = 0.2
+
 # The table of attribute rows in which an import keeps the bounds of maps whose tiles reach further: a row has the map's
 # name as its title, and as its note MIN_X MIN_Y MAX_X MAX_Y in whole units.
 BOUNDS_TABLE = "map_bounds"
@@ -69,6 +73,36 @@ class Refused(Exception):
         self.status = status
 
 
+class Line:
+    """The line of a terminal on which it is told how far the work is. Where standard error is none nothing is told."""
+
+    def __init__(self):
+        self.since = 0.0
+        self.stands = False
+
+    def tell(self, text, at_once=False):
+        now = time.monotonic()
+        if sys.stderr.isatty() and (at_once or now - self.since >= RENEWED):
+            print(f"\r{text}\x1b[K", end="", file=sys.stderr, flush=True)
+            self.since, self.stands = now, True
+
+    def clear(self):
+        if self.stands:
+            print("\r\x1b[K", end="", file=sys.stderr, flush=True)
+            self.stands = False
+
+
+LINE = Line()
+
+
+def counted(what, things):
+    """The things, one after another, while it is told how many there were."""
+    for number, it in enumerate(things, 1):
+        LINE.tell(f"{what} {number}")
+        yield it
+    LINE.clear()
+
+
 class Report:
     """Tells on standard error what does not cross the border, and counts what was left out.
 
@@ -81,12 +115,14 @@ class Report:
 
     def left_out(self, what, why):
         self.count += 1
+        LINE.clear()
         print(f"left out: {what}: {why}", file=sys.stderr)
 
     def note(self, what, why):
         self.notes.setdefault(why, []).append(str(what))
 
     def tell_notes(self):
+        LINE.clear()
         for why, of in self.notes.items():
             more = f" and {len(of) - NOTED} more" if len(of) > NOTED else ""
             print(f"note: {', '.join(of[:NOTED])}{more}: {why}", file=sys.stderr)
@@ -119,11 +155,14 @@ def run_tool(main):
             status = main()
         except SystemExit as ended:  # help, or wrong words
             status = ended.code
+        LINE.clear()
         sys.stdout.flush()
     except Refused as refused:
+        LINE.clear()
         print(refused, file=sys.stderr)
         status = refused.status
     except KeyboardInterrupt:
+        LINE.clear()
         print("stopped; nothing was made", file=sys.stderr)
         status = 130
     except OSError as error:
@@ -152,7 +191,9 @@ def copy_with_journal(file, copy):
 
 def program_says(*words):
     """The exit status of a subcommand of the program, at least 0, and what it prints."""
+    LINE.tell(f"mmpkg {words[0]} {words[-1]}: {megabytes(sizes_of(words[-1])[0])}", at_once=True)
     done = subprocess.run([program(), *words], stdin=subprocess.DEVNULL, stdout=subprocess.PIPE, check=False)
+    LINE.clear()
     return done.returncode if done.returncode >= 0 else 3, done.stdout.decode(errors="replace").strip()
 
 
@@ -401,6 +442,7 @@ class KitWriter:
 
     def add(self, piece):
         line = self.line(piece)
+        LINE.tell(f"{self.folder}: piece {len(self.lines) + 1}")
         if not self.kits or len(self.lines) == KIT_PIECES or self.size + len(line.encode()) > KIT_LIST_LIMIT:
             self.begin()
             line = self.line(piece)
@@ -433,6 +475,7 @@ class KitWriter:
 
     def end(self):
         """Writes the list of the kit that stands."""
+        LINE.clear()
         if self.lines:
             (self.made() / "kit.csv").write_text("".join(self.lines), encoding="utf-8", newline="")
         self.lines = []

@@ -21,6 +21,7 @@ import sqlite3
 import tempfile
 
 from border import (
+    LINE,
     UNITS_OF_VERSION,
     Refused,
     Report,
@@ -241,9 +242,11 @@ def write_standard(source, made, report):
         write_systems(out, report)
         write_contents(out, UNITS_OF_VERSION[version])
         for name, kind in out.execute("SELECT table_name, kind FROM package.mm_tables ORDER BY table_name").fetchall():
+            LINE.tell(f"table {name}", at_once=True)
             write_user_table(out, name, kind)
             if kind in ("two", "other"):
                 finish_pyramid(out, name, kind, report)
+        LINE.clear()
         write_relations(out)
         tell_editions(out, report)
         out.commit()

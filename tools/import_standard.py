@@ -54,6 +54,7 @@ from border import (
     Refused,
     Report,
     arguments,
+    counted,
     expect_new,
     is_identifier,
     is_name,
@@ -538,7 +539,7 @@ def why_no_row(number, title, note, amount):
 def write_list(standard, made):
     with open(made, "w", encoding="utf-8", newline="") as out:
         out.writelines(map(record, standard.records))
-        out.writelines(piece.command() for piece in standard.pieces())
+        out.writelines(piece.command() for piece in counted("record", standard.pieces()))
 
 
 def write_kits(standard, made, beside, edition, folder):

@@ -74,6 +74,7 @@ import tempfile
 
 import three_way
 from border import (
+    LINE,
     KitWriter,
     Piece,
     Refused,
@@ -155,12 +156,14 @@ class Package:
                 f"{file}: a package of profile {PROFILE} is asked for; 'mmpkg migrate' brings one of profile 1 over"
             )
         self.parts = {part: {} for part in three_way.PARTS}
+        LINE.tell(f"reading {file}", at_once=True)
         for part, size, query in QUERIES:
             self.parts[part].update((row[:size], row[size:]) for row in self.source.execute(query))
         self.changed = {}
         for name, kind, identifier, system, *extent, changed in self.source.execute(TABLES):
             self.parts["tables"][(name,)] = Table(kind, identifier, system, tuple(extent))
             self.changed[name] = changed
+        LINE.clear()
 
     def editions(self):
         """By name, the state of each edition, and behind it its pieces."""

@@ -6,7 +6,7 @@
 FILE is a package of mmpkg. OUT, which must not be there, gets layout.csv, which makes the media table TABLE ('viewer')
 and an open edition, and a kit of four media items: 1 the page, 2 and 3 the script and the style of Leaflet with their
 licence, 4 the matrices of all pyramids of FILE, and where their tiles are. The commands that take them in are printed,
-with FILE for the package; then 'mmpkg serve FILE --port PORT --count 1000000' serves the page at
+with FILE for the package; then 'mmpkg serve FILE --port PORT' serves the page at
 http://127.0.0.1:PORT/media/TABLE/1. Leaflet is that of Debian's package libjs-leaflet.
 
 With --wmts there is a fifth item, a WMTS description by which QGIS and GDAL open the maps of
@@ -246,7 +246,7 @@ def main():
     print(f"mmpkg run FILE < {shlex.quote(str(given.OUT / 'layout.csv'))}")
     kit.tell()
     if given.wmts:
-        print(f"mmpkg serve FILE --port {given.wmts} --count 1000000")
+        print(f"mmpkg serve FILE --port {given.wmts}")
     return 1 if report.count else 0
 
 

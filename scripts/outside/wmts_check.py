@@ -147,7 +147,7 @@ class Scene:
         mmpkg("run", self.file, given=MORE.encode())
         commands, told = run(TOOLS / "make_viewer.py", self.file, self.folder / "viewer", "--wmts", self.port, status=1)
         *commands, last = commands.splitlines(keepends=True)
-        expect(last, f"mmpkg serve FILE --port {self.port} --count 1000000\n", "the last command")
+        expect(last, f"mmpkg serve FILE --port {self.port}\n", "the last command")
         self.take_in("".join(commands))
         run(TOOLS / "export_standard.py", self.file, self.out)
         return told

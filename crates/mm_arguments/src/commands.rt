@@ -232,7 +232,7 @@ pub(crate) fn command<'a>(alloc: Global) -> Result<Command<'a>, AllocError>
             "Edits offline map packages: GeoPackage tables with coordinates in whole micrometres",
         )
         .after_help(
-            "Exit status: 0 all accepted, 1 something refused, 2 wrong arguments, 3 a fault, 4 not a package.",
+            "Exit status: 0 all accepted, 1 something refused, 2 wrong arguments, 3 a fault, 4 not a package.\nTools beside it: mmpkg-import, mmpkg-export, mmpkg-kit, mmpkg-viewer, mmpkg-kit-between, mmpkg-repair-gis.",
         )
         .subcommand_required(true)
         .arg_required_else_help(true)

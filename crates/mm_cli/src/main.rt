@@ -1,6 +1,16 @@
 //! The program `mmpkg`: it makes packages, and runs lists of commands on them.
+//!
+//! - `telling`: what is told to people on standard error, beside what is printed.
+//! - `records`: the records that were read and are not answered yet, for the words about their fields.
+//! - `kits`: which record or file of a kit is refused.
 #![tactic(auto)]
 
+mod kits;
+mod records;
+mod telling;
+
+use crate::telling::{run_told, warn_of_name};
+use mm_arguments::read_aids;
 use mm_definitions::answers::Fault;
 use mm_definitions::ends::UntilEnd;
 use mm_definitions::streams::Io;
@@ -17,6 +27,12 @@ fn run_words(rt: &HostRuntime) -> io::Result<u8> {
     let mut texts = Vec::with_capacity(alloc, words.len())?;
     for word in &words {
         texts.push(word.as_str())?;
+    }
+    warn_of_name(rt, texts.as_slice());
+    if let Ok(aids) = read_aids(alloc, texts.as_slice()) {
+        if aids.words || aids.progress {
+            return run_told(rt, texts.as_slice(), aids);
+        }
     }
     let mut input = Io::new(UntilEnd::new(BufReader::new(alloc, rt.reader())?));
     let mut output = Io::new(io::writer(rt));

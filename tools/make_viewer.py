@@ -1,13 +1,15 @@
 #!/usr/bin/env python3
-"""Makes a viewer that travels in a package: a page with its map, which 'mmpkg serve' serves beside the tiles.
+"""Makes a viewer that travels in a package: a page with its map, on which a crew works.
 
     tools/make_viewer.py FILE OUT [--table TABLE] [--edition EDITION] [--wmts PORT]
 
 FILE is a package of mmpkg. OUT, which must not be there, gets layout.csv, which makes the media table TABLE ('viewer')
 and an open edition, and a kit of four media items: 1 the page, 2 and 3 the script and the style of Leaflet with their
-licence, 4 the matrices of all pyramids of FILE, and where their tiles are. The commands that take them in are printed,
-with FILE for the package; then 'mmpkg serve FILE --port PORT' serves the page at
-http://127.0.0.1:PORT/media/TABLE/1. Leaflet is that of Debian's package libjs-leaflet.
+licence, 4 what the page has to know: the matrices of all pyramids of FILE and where their tiles are, the relations, and
+the systems in which it can tell a device's place. The commands that take them in are printed, with FILE for the
+package; then 'mmpkg serve FILE --port PORT' shows the page at http://127.0.0.1:PORT/media/TABLE/1, and 'mmpkg desk FILE
+--port PORT --page TABLE' works at the address that it prints (tools/crew.py does all of this). Leaflet is that of
+Debian's package libjs-leaflet.
 
 With --wmts there is a fifth item, a WMTS description by which QGIS and GDAL open the maps of
 http://127.0.0.1:PORT/media/TABLE/5 while they are served. It has whole addresses, so another port wants another
@@ -35,10 +37,12 @@ import itertools
 import json
 import pathlib
 import re
+import secrets
 import shlex
 import sqlite3
 import tempfile
 
+import systems
 import wmts
 from border import (
     MEDIA_LIMIT,
@@ -55,12 +59,14 @@ from border import (
     run_tool,
 )
 
-PAGE = pathlib.Path(__file__).resolve().parent / "viewer.html"
+PAGE = pathlib.Path(__file__).resolve().parent / "page"
+SCRIPTS = ("map.js", "places.js", "outbox.js", "photos.js", "work.js", "start.js")
 LEAFLET = pathlib.Path("/usr/share/javascript/leaflet")
 LICENCE = pathlib.Path("/usr/share/doc/libjs-leaflet/copyright")
 CONTENT_TYPES = {1: "text/html", 2: "text/javascript", 3: "text/css", 4: "application/json"}
 DESCRIPTION = 5
 DESCRIPTION_TYPE = "text/xml"
+WORD = re.compile("[0-9a-f]{16}")
 
 
 def first_free(name, taken, between):
@@ -142,7 +148,7 @@ class Package:
         }
 
     def matrices(self):
-        """The matrices, last change, tiles and bounds of each pyramid, in the package's columns and unit, as JSON."""
+        """The matrices, last change, tiles and bounds of each pyramid, in the package's columns and unit."""
         columns = "zoom_level, matrix_width, matrix_height, tile_width, tile_height, pixel_x_size, pixel_y_size"
         found, bounds = {}, bounds_of(self.opened)
         tiled = "SELECT table_name, last_change FROM gpkg_contents WHERE data_type = 'tiles' ORDER BY table_name"
@@ -156,7 +162,68 @@ class Package:
                 "tiles": self.tiles(table),
                 **({"bounds": bounds[table]} if table in bounds else {}),
             }
-        return json.dumps(found, separators=(",", ":")).encode()
+        return found
+
+    def relations(self):
+        """The relations, by the names of their mappings."""
+        query = (
+            "SELECT mapping_table_name, base_table_name, related_table_name, relation_name FROM gpkgext_relations "
+            "ORDER BY mapping_table_name"
+        )
+        return [dict(zip(("mapping", "base", "related", "name"), row)) for row in self.opened.execute(query)]
+
+    def systems(self):
+        """By number, the parameters of the pyramids' systems that the page can reckon."""
+        query = (
+            "SELECT srs_id, definition FROM gpkg_spatial_ref_sys "
+            "WHERE srs_id IN (SELECT srs_id FROM gpkg_tile_matrix_set) ORDER BY srs_id"
+        )
+        found = {number: systems.transverse_mercator(definition) for number, definition in self.opened.execute(query)}
+        return {number: it for number, it in found.items() if it}
+
+    def item(self, table, number):
+        """The bytes of a media item, None where there is none."""
+        query = "SELECT data FROM mm_media JOIN mm_blobs b ON b.id = blob WHERE table_name = ? AND mm_media.id = ?"
+        return next(iter(self.column(query, table, number)), None)
+
+    def known(self, table):
+        """What the page has to know.
+
+        Its word of the package stays when the viewer is made anew: by it a browser keeps what isn't in the package yet.
+        """
+        before = read_known(self.item(table, 4)).get("package")
+        word = before if isinstance(before, str) and WORD.fullmatch(before) else secrets.token_hex(8)
+        return {
+            "package": word,
+            "pyramids": self.matrices(),
+            "relations": self.relations(),
+            "systems": self.systems(),
+        }
+
+    def is_current(self, table):
+        """Whether the page stands in the package as it would be made now, but for where tiles are."""
+        items = fixed_items()
+        return all(self.item(table, number) == items[number] for number in items) and without_tiles(
+            read_known(self.item(table, 4))
+        ) == without_tiles(json.loads(json.dumps(self.known(table))))
+
+
+def read_known(data):
+    """What item 4 tells; nothing where it is none."""
+    try:
+        known = json.loads(data or "{}")
+    except ValueError:
+        known = {}
+    return known if isinstance(known, dict) else {}
+
+
+def without_tiles(known):
+    """What a page knows, without what each new tile changes."""
+    kept = {
+        name: {key: it[key] for key in ("matrices", "bounds") if key in it}
+        for name, it in known.get("pyramids", {}).items()
+    }
+    return known | {"pyramids": kept}
 
 
 def leaflet_item(name):
@@ -174,12 +241,20 @@ def leaflet_item(name):
 
 
 def page_item():
-    """The page, with the hashes of its style and script in its policy, which lets nothing else run in it."""
-    page = PAGE.read_text(encoding="utf-8")
-    for element, place in (("style", "HASH-OF-STYLE"), ("script", "HASH-OF-SCRIPT")):
-        (text,) = re.findall(f"<{element}>(.*?)</{element}>", page, re.DOTALL)
-        page = page.replace(place, "sha256-" + base64.b64encode(hashlib.sha256(text.encode()).digest()).decode(), 1)
+    """The page with its style and script, whose hashes are in its policy, which lets nothing else run in it."""
+    page = (PAGE / "page.html").read_text(encoding="utf-8")
+    script = "\n".join((PAGE / name).read_text(encoding="utf-8") for name in SCRIPTS)
+    style = (PAGE / "page.css").read_text(encoding="utf-8")
+    for element, text in (("style", f"\n{style}"), ("script", f"\n{script}")):
+        digest = base64.b64encode(hashlib.sha256(text.encode()).digest()).decode()
+        page = page.replace(f"HASH-OF-{element.upper()}", f"sha256-{digest}", 1)
+        page = page.replace(f"<{element}></{element}>", f"<{element}>{text}</{element}>", 1)
     return page.encode()
+
+
+def fixed_items():
+    """The items that are the same for every package."""
+    return {1: page_item(), 2: leaflet_item("leaflet.min.js"), 3: leaflet_item("leaflet.css")}
 
 
 def write_kit(folder, beside, table, edition, items):
@@ -200,7 +275,7 @@ def read_package(source, given, report):
         edition = package.free_edition(given.table, given.edition, report)
         if not package.column("SELECT 1 FROM gpkg_tile_matrix LIMIT 1"):
             report.note(given.FILE, "has no matrix yet: make the viewer anew when it has")
-        items = {4: package.matrices()}
+        items = {4: json.dumps(package.known(given.table), separators=(",", ":")).encode()}
         if given.wmts:
             items[DESCRIPTION] = wmts.describe(opened, given.wmts, f"/media/{given.table}/{DESCRIPTION}", report)
         elif package.column(
@@ -230,8 +305,7 @@ def main():
     for name in (given.table, given.edition or given.table):
         if not is_name(name):
             raise Refused(f"{name!r} is no name of a package")
-    items = {1: page_item(), 2: leaflet_item("leaflet.min.js"), 3: leaflet_item("leaflet.css")}
-    items = {number: (CONTENT_TYPES[number], data) for number, data in items.items()}
+    items = {number: (CONTENT_TYPES[number], data) for number, data in fixed_items().items()}
     with tempfile.TemporaryDirectory() as name, made_beside(given.OUT) as beside:
         source, report = Source(given.FILE, pathlib.Path(name)), Report()
         try:

@@ -14,7 +14,7 @@ import time
 ANSWER_SECONDS = 60
 OPTIONS = ["--headless=new", "--no-sandbox", "--disable-gpu", "--hide-scrollbars", "--force-device-scale-factor=1", "--no-first-run",
            "--disable-background-networking", "--disable-component-update", "--disable-sync", "--mute-audio", "--remote-debugging-pipe"]
-KEYS = {"Tab": 9, "Enter": 13, "ArrowLeft": 37, "ArrowUp": 38, "ArrowRight": 39, "ArrowDown": 40, "+": 187, "-": 189}
+KEYS = {"Tab": 9, "Enter": 13, "Delete": 46, "ArrowLeft": 37, "ArrowUp": 38, "ArrowRight": 39, "ArrowDown": 40, "+": 187, "-": 189}
 TEXTS = {"Enter": "\r", "+": "+", "-": "-"}
 CODES = {"+": "Equal", "-": "Minus"}
 
@@ -79,12 +79,21 @@ class Browser:
         if event.get("sessionId") in self.pages:
             self.pages[event["sessionId"]].happened(event["method"], event["params"])
 
-    def open(self, address, width=1280, height=800, scale=1, touch=False):
-        """Opens an address in a page of its own, which knows nothing of earlier ones: a browser that does opens connections ahead."""
-        context = self.ask("Target.createBrowserContext", disposeOnDetach=True)["browserContextId"]
-        target = self.ask("Target.createTarget", url="about:blank", browserContextId=context)["targetId"]
+    def kill(self):
+        """Ends the browser as a loss of power does."""
+        self.process.kill()
+        self.process.wait()
+
+    def open(self, address, width=1280, height=800, scale=1, touch=False, kept=False):
+        """Opens an address in a page of its own, which knows nothing of earlier ones: a browser that does opens connections ahead.
+
+        With `kept` the page is of the profile, so that what it keeps is there when the browser is started again.
+        """
+        context = None if kept else self.ask("Target.createBrowserContext", disposeOnDetach=True)["browserContextId"]
+        of = {} if kept else {"browserContextId": context}
+        target = self.ask("Target.createTarget", url="about:blank", **of)["targetId"]
         session = self.ask("Target.attachToTarget", targetId=target, flatten=True)["sessionId"]
-        page = self.pages[session] = Page(self, session, context)
+        page = self.pages[session] = Page(self, session, context, target)
         for domain in ("Page", "Runtime", "Network", "Log"):
             page.ask(f"{domain}.enable")
         page.ask("Emulation.setDeviceMetricsOverride", width=width, height=height, deviceScaleFactor=scale, mobile=touch)
@@ -97,10 +106,11 @@ class Browser:
 class Page:
     """A page with what it asked for and said."""
 
-    def __init__(self, browser, session, context):
+    def __init__(self, browser, session, context, target):
         self.browser = browser
         self.session = session
         self.context = context
+        self.target = target
         self.asked = []
         self.said = []
 
@@ -120,8 +130,16 @@ class Page:
             self.said.append((entry["source"], entry["text"], entry.get("url", "")))
 
     def close(self):
-        self.browser.ask("Target.disposeBrowserContext", browserContextId=self.context)
+        if self.context:
+            self.browser.ask("Target.disposeBrowserContext", browserContextId=self.context)
+        else:
+            self.browser.ask("Target.closeTarget", targetId=self.target)
         del self.browser.pages[self.session]
+
+    def choose_files(self, element, files):
+        """Gives files to an input of files, as its dialog does."""
+        it = self.ask("Runtime.evaluate", expression=element)["result"]["objectId"]
+        self.ask("DOM.setFileInputFiles", files=[str(file) for file in files], objectId=it)
 
     def value(self, expression):
         """The value of an expression in the page; a promise is waited for."""

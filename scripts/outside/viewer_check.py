@@ -411,8 +411,8 @@ def check_nothing_elsewhere(scene):
         expect(page.value(f"fetch('{there}/a').then(() => 'had', () => 'kept')"), "kept", "a fetch of another address")
         image = f"new Promise(done => {{ const it = new Image(); it.onload = it.onerror = event => done(event.type); it.src = '{there}/b'; }})"
         expect(page.value(image), "error", "an image of another address")
-        page.value("document.body.append(Object.assign(document.createElement('script'), { textContent: 'window.ran = true' }))")
-        expect(page.value("window.ran ?? false"), False, "a script that isn't the page's own")
+        page.value("document.body.append(Object.assign(document.createElement('script'), { textContent: 'window.foreign = true' }))")
+        expect(page.value("window.foreign ?? false"), False, "a script that isn't the page's own")
         with contextlib.suppress(TimeoutError):
             other.accept()
             raise AssertionError("another address was asked")
@@ -454,6 +454,8 @@ def check_what_came_later(scene):
         expect(page.value("[...byId('pyramids').options].map(it => it.value)"), [it.table for it in PYRAMIDS], "maps to choose")
         scene.screenshot(page, "later")
     commands, _ = take_in(file, scene.folder / "anew")
+    words = [json.loads((scene.folder / it / "viewer-4").read_text())["package"] for it in ("out", "anew")]
+    expect(words[1], words[0], "the package's word in a viewer that is made anew")
     expect((scene.folder / "anew" / "layout.csv").read_text(), "edition,viewer_2\n", "the layout of the second viewer")
     assert "publish,viewer_2" in commands, commands
     with served(file) as address:
@@ -544,7 +546,7 @@ def package_files(folder):
 
 
 def check_tool_makes_a_kit(scene):
-    """OUT has the layout and four items, whose bytes are the page, Leaflet with its licence, and the matrices."""
+    """OUT has the layout and four items, whose bytes are the page, Leaflet with its licence, and what the page has to know."""
     out = scene.folder / "out"
     expect(sorted(it.name for it in out.iterdir()), ["kit.csv", "layout.csv", "viewer-1", "viewer-2", "viewer-3", "viewer-4"], "files")
     expect((out / "layout.csv").read_text(), "table,viewer,media,Map viewer\nedition,viewer\n", "layout.csv")
@@ -552,9 +554,12 @@ def check_tool_makes_a_kit(scene):
         text = (out / f"viewer-{number}").read_text()
         assert text.startswith("/* Leaflet") and "Redistributions in binary form" in text and "sourceMappingURL" not in text, f"item {number}"
     known = json.loads((out / "viewer-4").read_text())
-    expect({table: [tuple(it.values()) for it in entry["matrices"]] for table, entry in known.items()},
-           {it.table: [dataclasses.astuple(zoom) for zoom in it.zooms] for it in PYRAMIDS}, "item 4")
-    expect(len((TOP / "tools" / "viewer.html").read_text().splitlines()) <= 400, True, "the page has at most 400 lines")
+    expect({table: [tuple(it.values()) for it in entry["matrices"]] for table, entry in known["pyramids"].items()},
+           {it.table: [dataclasses.astuple(zoom) for zoom in it.zooms] for it in PYRAMIDS}, "matrices of item 4")
+    expect([tuple(it.values()) for it in known["relations"]], [("spots_owners", "spots", "owners", "simple_attributes"),
+           ("spots_papers", "spots", "papers", "media"), ("spots_photos", "spots", "photos", "media")], "relations of item 4")
+    assert re.fullmatch("[0-9a-f]{16}", known["package"]), known["package"]
+    expect(max(len(it.read_text().splitlines()) for it in (TOP / "tools" / "page").iterdir()) <= 400, True, "each file of the page has at most 400 lines")
     expect({it.name for it in scene.folder.iterdir() if it.name.startswith(".viewer")}, set(), "what is left behind")
 
 

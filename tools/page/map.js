@@ -1,84 +1,18 @@
-<!doctype html>
-<html lang="en">
-<head>
-<meta charset="utf-8">
-<meta http-equiv="Content-Security-Policy" content="default-src 'none'; script-src 'self' 'HASH-OF-SCRIPT'; style-src 'self' 'HASH-OF-STYLE';
- img-src 'self' blob: data:; connect-src 'self'; base-uri 'none'; form-action 'none'">
-<meta name="viewport" content="width=device-width, initial-scale=1">
-<title>Map package</title>
-<link rel="icon" href="data:,">
-<link rel="stylesheet" href="3">
-<script src="2"></script>
-<style>
-body { height: 100vh; height: 100dvh; margin: 0; display: flex; flex-direction: column; font: 16px/22px system-ui, sans-serif; color: #1c2630; }
-header { display: flex; flex-wrap: wrap; align-items: center; gap: 8px 16px; padding: 8px 12px; background: #1f3a4d; color: #fff; }
-header label { display: flex; align-items: center; gap: 8px; min-width: 0; }
-#position { margin-left: auto; min-width: min(20rem, 100%); min-height: 44px; text-align: right; font-variant-numeric: tabular-nums; }
-button, select, input { font: inherit; height: 44px; min-width: 0; box-sizing: border-box; padding: 0 12px; border: 1px solid #89a;
-  border-radius: 6px; background: #fff; }
-:focus-visible { outline: 3px solid #f0a020; outline-offset: -3px; }
-ul { margin: 0; padding: 0; list-style: none; overflow-wrap: anywhere; }
-#messages li { padding: 8px 12px; border-bottom: 1px solid #d9c37a; background: #fff3cd; }
-main { flex: 1; min-height: 0; display: flex; }
-#place { flex: 1; min-width: 0; min-height: 200px; display: flex; position: relative; }
-#map { flex: 1; min-width: 0; background: #e4e8ea; }
-#map.centre::after { content: "+"; position: absolute; inset: 0; display: grid; place-items: center; z-index: 500; font: 36px monospace; color: #c00;
-  text-shadow: 0 0 3px #fff; pointer-events: none; }
-#none { position: absolute; bottom: 8px; left: 50%; z-index: 600; max-width: 60%; padding: 4px 12px; border-radius: 6px; background: #fff3cd;
-  transform: translateX(-50%); pointer-events: none; }
-#none button { pointer-events: auto; }
-#map img:not([src]) { visibility: hidden; } /* a browser draws a frame round an image without a picture */
-#map .leaflet-bar a { width: 44px; height: 44px; line-height: 44px; }
-#map .leaflet-control-scale-line { font-size: 13px; background: #fffc; }
-aside { flex: 0 0 22rem; overflow: auto; padding: 0 16px 16px; border-left: 1px solid #c5ced4; box-sizing: border-box; }
-form { display: flex; flex-wrap: wrap; align-items: end; gap: 8px; }
-form label { display: flex; flex-direction: column; flex: 1 1 12rem; min-width: 0; font-size: 0.9rem; }
-h2 { font-size: 1.1rem; margin: 16px 0 8px; } aside small { display: block; line-height: 18px; color: #52616c; }
-aside li { padding: 6px 0; border-bottom: 1px solid #e2e7ea; }
-#related a { display: inline-block; padding: 10px 0; } #related img { display: block; max-width: 100%; max-height: 16rem; }
-@media (max-width: 760px), (orientation: portrait) {
-  main { flex-direction: column; } aside { flex: 0 1 40%; border: none; } #position { margin: 0; text-align: left; }
-}
-</style>
-</head>
-<body>
-<header>
-  <label>Map <select id="pyramids"></select></label>
-  <button type="button" id="fit">Whole map</button>
-  <button type="button" id="toggle" aria-controls="panel" aria-expanded="true">Tables and media</button>
-  <output id="position"></output>
-</header>
-<ul id="messages" role="alert"></ul>
-<main>
-  <div id="place">
-    <div id="map" role="application" aria-label="Map: arrow keys move it, plus and minus zoom"></div>
-    <div id="none" role="status" hidden>No tile at this zoom here <button type="button" id="tiles">To the tiles</button></div>
-  </div>
-  <aside id="panel">
-    <h2>Place</h2>
-    <form id="go">
-      <label>Easting and northing in metres <input id="wanted" required placeholder="500307 5601886"></label>
-      <button>Go</button>
-    </form>
-    <p id="gone" role="status"></p>
-    <h2>Related media</h2>
-    <form id="form">
-      <label>Table <select id="table" required></select></label>
-      <label>ID <input id="number" required inputmode="numeric" pattern="[1-9][0-9]{0,15}" title="a whole number from 1"></label>
-      <button>Show</button>
-    </form>
-    <p id="answer" role="status"></p><ul id="related"></ul>
-    <h2>Tables</h2><ul id="tables"></ul>
-  </aside>
-</main>
-<script>
 "use strict";
-// The map of the package that serves this page. Item 2 beside it is Leaflet, 3 Leaflet's style, 4 the matrices as they were when the viewer
-// was made (tools/make_viewer.py). The rest is asked of /contents, /tiles, /related and /media. What a package says is put in as text only.
+// The map of the package that serves this page. Item 2 beside it is Leaflet, 3 Leaflet's style, 4 what was known when the page was made
+// (tools/make_viewer.py). The rest is asked of /contents, /tiles, /related, /media and /rows. What a package says is put in as text only.
 
 const MICROMETRES = 1e6;  // in a metre: the package's lengths are whole micrometres, and metres from pyramidOf on
 const BESIDE = 2;         // how many zooms before the first, and behind the last, show its tiles, made smaller or larger
-const GONE = "The package doesn't answer: 'mmpkg serve' has ended, or isn't to be reached. Start it again, and load this page anew.";
+const AGAIN = 4000;       // milliseconds until a program that doesn't answer is asked again
+// The page is ROOT media/TABLE/1: "/" of 'mmpkg serve', where it shows, and "/KEY/" of 'mmpkg desk', where it works.
+const ROOT = new URL("../..", location.href).pathname;
+const WORKS = ROOT !== "/";
+const GONE = WORKS
+  ? "The package doesn't answer: 'mmpkg desk' has ended, or isn't to be reached. What isn't in the package yet is kept in this browser until it is."
+  : "The package doesn't answer: 'mmpkg serve' has ended, or isn't to be reached. Start it again.";
+const NO_KEY = "This address isn't the package's any more: its key has changed. Open the address that 'mmpkg desk' printed last; " +
+  "what isn't in the package yet is kept in this browser.";
 
 const byId = id => document.getElementById(id);
 const messages = {};
@@ -86,6 +20,9 @@ let map = null, contents = [];
 let shown = null;    // the pyramid on the map
 let pointed = null;  // where on the map the pointer or a finger was last; null behind keys and over buttons, which are for the centre
 let asked = 0;       // how often related media were asked for: only the last answer is shown
+let away = null;     // what waits until a program that doesn't answer is asked again
+let ended = false;   // the day was ended here
+const onReturn = []; // what is done when it answers again
 
 function element(name, text, ...children) {
   const made = document.createElement(name);
@@ -93,22 +30,39 @@ function element(name, text, ...children) {
   return made;
 }
 
-/** Says something above the map, in place of what was said by that key. */
+/** Says something above the map, in place of what was said by that key; null says nothing more. */
 function say(key, text) {
-  if (messages[key] === text) return;
+  if ((messages[key] ?? null) === text) return;
   messages[key] = text;
+  if (text === null) delete messages[key];
   byId("messages").replaceChildren(...Object.values(messages).map(it => element("li", it)));
 }
 
-/** Asks for a body as a "blob" or as "json", null where there is none. No answer is said once and for all: the map may have holes then. */
+/** Asks for a body as a "blob" or as "json", null where there is none. */
 async function ask(address, form) {
   try {
     const response = await fetch(address, { cache: "no-store" });
     return response.ok ? await response[form]() : null;
   } catch {
-    say("gone", GONE);
+    noAnswer();
     return null;
   }
+}
+
+/** Says that the program doesn't answer, and asks it until it does. The map may have holes meanwhile. */
+function noAnswer() {
+  if (ended || away) return;
+  say("gone", GONE);
+  away = setTimeout(askAgain, AGAIN);
+}
+
+async function askAgain() {
+  const response = await fetch(`${ROOT}contents`, { cache: "no-store" }).catch(() => null);
+  away = response?.ok ? null : setTimeout(askAgain, AGAIN);
+  if (response && !response.ok) say("gone", NO_KEY);
+  if (!response?.ok) return;
+  say("gone", null);
+  for (const it of onReturn) it();
 }
 
 /** A pyramid with its lengths in metres, null where none of the known matrices makes its extent. */
@@ -134,7 +88,8 @@ const boundsOf = ([minX, minY, maxX, maxY]) => L.latLngBounds([minY, minX], [max
 function placesOf([minX, , , maxY], it, found) {
   if (!found) return null;
   const wide = it.tile_width * it.pixel_x_size / MICROMETRES, high = it.tile_height * it.pixel_y_size / MICROMETRES;
-  const around = (left, upper, right, lower) => boundsOf([minX + left * wide, maxY - (lower + 1) * high, minX + (right + 1) * wide, maxY - upper * high]);
+  const around = (left, upper, right, lower) =>
+    boundsOf([minX + left * wide, maxY - (lower + 1) * high, minX + (right + 1) * wide, maxY - upper * high]);
   return { all: around(...found.slice(0, 4)), near: around(...found.slice(4), ...found.slice(4)).getCenter() };
 }
 
@@ -177,7 +132,7 @@ function tilesOf(pyramid) {
     },
     createTile({ x, y, z }, done) {
       const image = new Image(), place = `${pyramid.table}/${pyramid.matrices[z].zoom_level}/${x}/${y}`;
-      ask(`/tiles/${place}`, "blob").then(async body => {
+      ask(`${ROOT}tiles/${place}`, "blob").then(async body => {
         if (body && !await drawn(image, body)) say("picture", `The tile ${place} is no picture that this browser draws.`);
         done(null, image);
       });
@@ -224,13 +179,18 @@ function show(pyramid) {
   map.on("move zoomend", tell);
   if (before) map.setView(...before); else begin();
   byId("tiles").disabled = pyramid.tiles.every(it => !it);
+  map.on("click", tapped);
   const layer = tilesOf(pyramid).addTo(map);
+  onReturn[0] = () => layer.redraw();
   layer.on("load", () => tellMissing(layer));
   map.on("moveend", () => tellMissing(layer));
   tellMissing(layer);
   cover(pyramid);
   scaleBar().addTo(map);
   document.title = pyramid.identifier;
+  showMarks();
+  showDraft();
+  offerDevice();
 }
 
 /** Outlines a map, and covers what its tiles have outside the bounds that are kept. */
@@ -271,7 +231,8 @@ function begin() {
 /** Shows the tiles of the zoom that is shown, or of the nearest that has some: all of them where they have their place. */
 function toTiles() {
   const zoom = map.getZoom(), from = placeOf(zoom);
-  const found = shown.tiles.map((it, at) => ({ it, at })).filter(({ it }) => it).sort((one, other) => Math.abs(one.at - from) - Math.abs(other.at - from))[0];
+  const far = ({ at }) => Math.abs(at - from);
+  const found = shown.tiles.map((it, at) => ({ it, at })).filter(({ it }) => it).sort((one, other) => far(one) - far(other))[0];
   if (!found) return;
   const { it: { all, near }, at } = found, target = at === from ? zoom : at, metres = metresAt(shown, target), size = map.getSize();
   const fits = all.getEast() - all.getWest() <= size.x * metres && all.getNorth() - all.getSouth() <= size.y * metres;
@@ -283,15 +244,18 @@ function toTiles() {
 function goTo(text) {
   const [easting, northing, ...more] = text.match(/-?[0-9]+(?:\.[0-9]+)?/g)?.map(Number) ?? [];
   const place = northing === undefined || more.length ? null : L.latLng(northing, easting);
-  byId("gone").textContent = !place ? "Two numbers are asked for: easting, then northing." : shown.bounds.contains(place) ? "" : "This place is outside the map.";
+  byId("gone").textContent = !place ? "Two numbers are asked for: easting, then northing."
+    : shown.bounds.contains(place) ? "" : "This place is outside the map.";
   pointed = null;
   if (place) map.setView(place, map.getZoom(), { animate: false });
 }
 
+/** How many decimals of a metre a pixel of the map is worth. */
+const digitsHere = () => Math.min(Math.max(Math.ceil(1 - Math.log10(metresAt(shown, map.getZoom()))), 0), 6);
+
 /** Tells the place of the pointer or the centre as easting and northing, and the zoom. */
 function tell() {
-  const place = pointed ? map.containerPointToLatLng(pointed) : map.getCenter();
-  const digits = Math.min(Math.max(Math.ceil(1 - Math.log10(metresAt(shown, map.getZoom()))), 0), 6);
+  const place = pointed ? map.containerPointToLatLng(pointed) : map.getCenter(), digits = digitsHere();
   const { zoom_level, pixel_x_size, pixel_y_size } = matrixOf(shown, map.getZoom());
   const sides = [...new Set([pixel_x_size, pixel_y_size])].map(it => it / MICROMETRES).join(" by ");
   const larger = Math.min(pixel_x_size, pixel_y_size) / MICROMETRES / metresAt(shown, map.getZoom());
@@ -316,10 +280,10 @@ async function relatedItem({ table, id, name }) {
     button.addEventListener("click", () => showRelated(table, id));
     return element("li", "", button);
   }
-  const body = await ask(`/media/${table}/${id}`, "blob");
+  const body = await ask(`${ROOT}media/${table}/${id}`, "blob");
   if (!body) return element("li", `${table} ${id} isn't to be had`);
   const link = element("a", `${table} ${id} (${body.type})`), image = new Image();
-  Object.assign(link, { href: `/media/${table}/${id}`, target: "_blank", rel: "noopener" });
+  Object.assign(link, { href: `${ROOT}media/${table}/${id}`, target: "_blank", rel: "noopener" });
   if (body.type.startsWith("image/") && await drawn(image, body)) link.prepend(image);
   return element("li", "", link);
 }
@@ -329,7 +293,7 @@ async function showRelated(table, id) {
   const turn = ++asked;
   [byId("table").value, byId("number").value, byId("answer").textContent] = [table, id, "asking .."];
   byId("related").replaceChildren();
-  const related = await ask(`/related/${table}/${id}`, "json");
+  const related = await ask(`${ROOT}related/${table}/${id}`, "json");
   if (turn !== asked) return;
   const count = related?.length === 1 ? "one item" : `${related?.length || "no"} items`;
   byId("answer").textContent = related ? `${table} ${id} is related to ${count}.` : messages.gone || `${table} has no ${id}.`;
@@ -341,44 +305,3 @@ async function showRelated(table, id) {
   }
 }
 
-const option = ({ table, identifier }) => new Option(identifier === table ? table : `${identifier} (${table})`, table);
-
-async function start() {
-  if (!window.L) return say("start", "Leaflet's script, item 2 beside this page, isn't to be had. Take the viewer in anew.");
-  contents = await ask("/contents", "json") ?? [];
-  const known = await ask("4", "json");
-  if (messages.gone) return;
-  if (!known) say("start", "The matrices, item 4 beside this page, aren't to be had. Take the viewer in anew.");
-  const tiled = contents.filter(it => it.extent);
-  const pyramids = new Map(tiled.map(it => [it.table, pyramidOf(it, known?.[it.table])]));
-  const strange = tiled.filter(it => !pyramids.get(it.table)).map(it => it.identifier);
-  if (known && strange.length) say("anew", `This viewer was made before the zooms of ${strange.join(", ")}: make the viewer anew to see them.`);
-  if (tiled.length === 0) say("start", "The package has no map yet.");
-  byId("tables").replaceChildren(...contents.map(it => listed(it, pyramids.get(it.table), known?.[it.table])));
-  byId("table").replaceChildren(...contents.filter(it => !it.extent).map(option));
-  byId("pyramids").replaceChildren(...tiled.filter(it => pyramids.get(it.table)).map(option));
-  byId("pyramids").addEventListener("change", event => show(pyramids.get(event.target.value)));
-  if (!byId("pyramids").value) return;
-  show(pyramids.get(byId("pyramids").value));
-  const point = event => {
-    pointed = event?.target.closest(".leaflet-control") === null ? map.mouseEventToContainerPoint(event) : null;
-    if (pointed) pointed.by = event.pointerType === "touch" ? "finger" : "pointer";
-    tell();
-  };
-  byId("map").addEventListener("pointermove", point);
-  byId("map").addEventListener("pointerdown", point, true);  // on the way down: Leaflet's buttons keep it from going up
-  byId("map").addEventListener("keydown", event => /^(Arrow|[-+=])/.test(event.key) && point(null));
-  byId("fit").addEventListener("click", fit);
-  byId("tiles").addEventListener("click", toTiles);
-  byId("go").addEventListener("submit", event => { event.preventDefault(); goTo(byId("wanted").value); });
-}
-
-byId("form").addEventListener("submit", event => { event.preventDefault(); showRelated(byId("table").value, byId("number").value); });
-byId("toggle").addEventListener("click", () => {
-  byId("toggle").setAttribute("aria-expanded", String(!byId("panel").toggleAttribute("hidden")));
-});
-new ResizeObserver(() => map?.invalidateSize()).observe(byId("map"));
-start().catch(error => say("start", `This page failed: ${error.message}`));
-</script>
-</body>
-</html>

@@ -1,0 +1,168 @@
+"""The page of 'mmpkg desk' as a crew uses it: its forms by mouse and keys in a Chromium that scripts/outside/devtools.py drives.
+
+A Seat is a package whose desk is killed and started again at one port; a Crew is a page of it.
+"""
+
+import contextlib
+import json
+import os
+import select
+import signal
+import socket
+import subprocess
+import time
+
+from checks import PROGRAM
+
+KEY = "a-key-of-this-crew"
+STANDS = "all is in the package"
+AT_ONCE = 10
+SECONDS = 600
+# The middle of an element, which is scrolled into view.
+MIDDLE = """it => {
+  it.scrollIntoView({ block: 'center' });
+  const { x, y, width, height } = it.getBoundingClientRect();
+  return [x + width / 2, y + height / 2];
+}"""
+
+
+def free_port():
+    with socket.create_server(("127.0.0.1", 0)) as listener:
+        return listener.getsockname()[1]
+
+
+class Seat:
+    """A desk on a package, at a port that stays when it is killed and started again."""
+
+    def __init__(self, file, key=KEY, port=0):
+        self.file, self.key, self.port = file, key, port or free_port()
+        self.program = None
+        self.start()
+
+    @property
+    def address(self):
+        return f"http://127.0.0.1:{self.port}/{self.key}"
+
+    def start(self, key=None):
+        self.key = key or self.key
+        # The desk ends by itself, should this script be killed.
+        words = ["desk", self.file, "--port", str(self.port), "--count", "1000000", "--page", "viewer"]
+        command = ["timeout", "--kill-after=1", str(SECONDS), PROGRAM, *words]
+        self.program = subprocess.Popen(command, stdout=subprocess.PIPE, env=os.environ | {"MMPKG_KEY": self.key}, start_new_session=True)
+        ready, _, _ = select.select([self.program.stdout], [], [], AT_ONCE)
+        said = self.program.stdout.readline().decode() if ready else ""
+        assert said == f"desk {self.address}/media/viewer/1\n", f"the desk says {said!r}"
+
+    def kill(self):
+        """Kills the desk, as a loss of power does."""
+        with contextlib.suppress(ProcessLookupError):
+            os.killpg(self.program.pid, signal.SIGKILL)
+        self.program.wait()
+        if not self.program.stdout.closed:
+            # Its end is read when the desk itself has gone, and with it what it held of the file.
+            self.program.stdout.read()
+            self.program.stdout.close()
+
+    def again(self, key=None):
+        self.kill()
+        self.start(key)
+
+
+class Crew:
+    """A page of a desk, and what a crew does there."""
+
+    def __init__(self, browser, address, kept=False, **how):
+        self.page = browser.open(f"{address}/media/viewer/1", kept=kept, **how)
+        self.wait_for_rows()
+
+    def wait_for_rows(self):
+        self.page.wait("document.readyState === 'complete' && typeof byId === 'function' && byId('count').innerText !== '' && store !== null")
+
+    def value(self, expression):
+        return self.page.value(expression)
+
+    def text(self, element):
+        return self.value(f"byId('{element}').innerText")
+
+    def press(self, element):
+        """Presses what an expression or an id names, in its middle."""
+        it = element if "(" in element else f"byId('{element}')"
+        self.page.click(*self.value(f"({MIDDLE})({it})"))
+
+    def write(self, element, text):
+        """Writes into a field, in place of what it has."""
+        self.value(f"byId('{element}').focus(); byId('{element}').select(); 0")
+        if text:
+            self.page.type(text)
+        else:
+            self.page.press("Delete")
+
+    def tap(self, east, north):
+        """Taps on a place of the map, which is shown."""
+        self.value(f"map.setView([{north}, {east}], map.getZoom(), {{ animate: false }}); 0")
+        where = f"map.latLngToContainerPoint([{north}, {east}]), byId('map').getBoundingClientRect()"
+        self.page.click(*self.value(f"((it, box) => [box.x + it.x, box.y + it.y])({where})"))
+
+    def fill(self, title=None, note=None, amount=None, place=None, photos=()):
+        """Fills in the form that is open."""
+        for element, text in (("title", title), ("note", note), ("amount", amount)):
+            if text is not None:
+                self.write(element, str(text))
+        if place is not None:
+            if self.value("!isTapping()"):
+                self.press("tap")
+            self.tap(*place)
+        if photos:
+            self.page.choose_files("byId('pictures')", photos)
+            self.page.wait(f"form !== null && form.photos.length >= {len(photos)} && byId('pictures').files.length === 0")
+
+    def save(self):
+        """Saves the form; it closes when the act is in the outbox."""
+        self.press("save")
+        self.page.wait("byId('edit').hidden || byId('told').innerText !== ''")
+
+    def new(self, **what):
+        self.page.ask("Page.bringToFront")
+        self.press("fresh")
+        self.fill(**what)
+        self.save()
+
+    def open(self, title):
+        """Opens the form of the row of a title, by the list."""
+        self.write("search", title)
+        mine = f"[...byId('rows').querySelectorAll('button')].find(it => it.firstChild.data === {json.dumps(title)})"
+        self.page.wait(f"{mine} !== undefined")
+        self.press(f"({mine})")
+        # Photos that come move what is below them.
+        self.page.wait("form !== null && byId('thumbnails').ariaBusy === 'false'")
+        assert self.value("form.row.title") == title, f"the form of {self.value('form.row.title')} opened, not that of {title}"
+
+    def change(self, row, **what):
+        self.open(row)
+        self.fill(**what)
+        self.save()
+
+    def remove(self, title):
+        self.open(title)
+        for _ in range(2):
+            self.press("remove")
+        self.page.wait("byId('edit').hidden")
+
+    def rows(self):
+        """The titles that the list shows."""
+        return self.value("[...byId('rows').querySelectorAll('button')].map(it => it.firstChild.data)")
+
+    def waiting(self):
+        """What the outbox shows, as lines."""
+        return self.value("[...byId('outbox').children].map(it => it.innerText.replaceAll('\\n', ' / '))")
+
+    def wait_until_it_stands(self, seconds=30):
+        self.page.wait(f"byId('state').innerText === '{STANDS}' && waiting.length === 0", seconds)
+        return self
+
+
+def wait_until(holds, what, seconds=20):
+    deadline = time.monotonic() + seconds
+    while not holds():
+        assert time.monotonic() < deadline, f"not within {seconds} s: {what}"
+        time.sleep(0.05)

@@ -1,0 +1,22 @@
+#!/usr/bin/env bash
+# The page of 'mmpkg desk' as a crew works at it (docs/BORDER.md), in a browser that shares no code with this repository.
+#
+#     apt-get install chromium libjs-leaflet
+#     scripts/outside/crew_page.sh [PROGRAM]
+#
+# PROGRAM is the built program: without it the one that the environment's MMPKG names, or else out/mmpkg. The last line is
+# 'N passed, M failed'. Exit status: 0 all passed, 1 something failed, 2 the program isn't there, 77 Chromium or Leaflet isn't there.
+set -eu -o pipefail
+
+# shellcheck source=scripts/outside/lib.sh
+source "$(dirname "$0")/lib.sh" "$@"
+
+missing=()
+command -v chromium >/dev/null || missing+=(chromium)
+[ -e /usr/share/javascript/leaflet/leaflet.min.js ] || missing+=(libjs-leaflet)
+if [ ${#missing[@]} != 0 ]; then
+    echo "no crew worked at the page (${missing[*]}): apt-get install chromium libjs-leaflet"
+    exit 77
+fi
+
+exec "$top/scripts/outside/crew_page_check.py"

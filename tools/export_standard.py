@@ -1,7 +1,7 @@
 #!/usr/bin/env python3
 """Writes a package as a GeoPackage 1.3, which GDAL and QGIS open.
 
-    tools/export_standard.py FILE OUT.gpkg
+    tools/export_standard.py FILE OUT.gpkg [--points TABLE ..]
 
 FILE is a package of mmpkg, which is left as it is; nothing may write it meanwhile. It has to pass 'mmpkg check', with
 the program that the environment's MMPKG names, else out/mmpkg of this repository, else mmpkg of the path. Where its
@@ -9,6 +9,11 @@ journal holds commits, or another program has it, or it can't be written, a copy
 environment's TMPDIR names, else /tmp; as large as they are. OUT.gpkg must not be there; it is written under another
 name and renamed when it is whole. docs/BORDER.md says what goes across; editions don't, and are named on standard
 error, as are tiles that the standard has no place for.
+
+With --points each attribute table that is named is a layer of points: its rows stand at the places that their notes
+tell (docs/FORMATS.md), in the system of most of them, and without the place's word in the note. A row without a place
+has no geometry. One whose place is of another system keeps it in its note, and is noted. Relations stay, so a row's
+photos are a point's.
 
 Exit status: 0 OUT.gpkg was written; 2 wrong arguments, or a file that can't be read or written; else what 'mmpkg check'
 ended with, whose line is told: 3 a fault, 4 no package or one that breaks a rule.
@@ -20,6 +25,7 @@ import re
 import sqlite3
 import tempfile
 
+import points
 from border import (
     LINE,
     UNITS_OF_VERSION,
@@ -34,7 +40,7 @@ from border import (
     run_tool,
 )
 
-# The tables of OGC 12-128r17, annex C, and of OGC 18-000, as those write them. No table has features, so
+# The tables of OGC 12-128r17, annex C, and of OGC 18-000, as those write them. Where no table has features,
 # gpkg_geometry_columns stays empty; without it GDAL lists no attribute table.
 TABLES = """
 CREATE TABLE gpkg_spatial_ref_sys (srs_name TEXT NOT NULL, srs_id INTEGER NOT NULL PRIMARY KEY,
@@ -183,6 +189,56 @@ def write_user_table(out, name, kind):
     )
 
 
+def only_system(out):
+    """The system of all pyramids, None where they have several: a place that names no system is of it."""
+    found = [it for (it,) in out.execute("SELECT DISTINCT srs_id FROM package.gpkg_tile_matrix_set")]
+    return found[0] if len(found) == 1 else None
+
+
+def points_of(out, name, report):
+    """The system of a table's points, and its rows with their places.
+
+    A place of another system, or of none, stays in its note, which is noted.
+    """
+    rows = out.execute(
+        "SELECT id, title, note, amount FROM package.mm_rows WHERE table_name = ? ORDER BY id", (name,)
+    ).fetchall()
+    # Geometries have 32 bits for the number of a system.
+    numbers = {it for (it,) in out.execute("SELECT srs_id FROM package.gpkg_spatial_ref_sys")}
+    only, systems = only_system(out), {it for it in numbers if 0 < it < 2**31 and it != 4326}
+    found = [(row, *points.place_in(row[2], only)) for row in rows]
+    system = points.system_of([place for _, place, _ in found if place], systems)
+    placed = []
+    for (number, title, note, amount), place, rest in found:
+        if place and place.system != system:
+            report.note(f"row {number} of {name}", f"its place is of system {place.system}; it stays in its note")
+            place, rest = None, note
+        placed.append((number, title, rest, amount, place))
+    return system, placed
+
+
+def write_points(out, name, report):
+    """An attribute table as a layer of points."""
+    system, rows = points_of(out, name, report)
+    if system is None:
+        report.note(f"table {name}", "no note of it tells a place, so it is no layer of points")
+        write_user_table(out, name, "attributes")
+        return
+    columns = "title TEXT NOT NULL, note TEXT NOT NULL, amount INTEGER NOT NULL"
+    out.execute(f"CREATE TABLE main.{quoted(name)} (id INTEGER PRIMARY KEY AUTOINCREMENT, geom POINT, {columns})")
+    out.executemany(
+        f"INSERT INTO main.{quoted(name)} (id, title, note, amount, geom) VALUES (?, ?, ?, ?, ?)",
+        [(*row, place and points.geometry_of(place)) for *row, place in rows],
+    )
+    east, north = zip(*((it.east, it.north) for *_, it in rows if it))
+    out.execute(
+        "UPDATE main.gpkg_contents SET data_type = 'features', min_x = ?, min_y = ?, max_x = ?, max_y = ?, srs_id = ? "
+        "WHERE table_name = ?",
+        (min(east), min(north), max(east), max(north), system, name),
+    )
+    out.execute("INSERT INTO main.gpkg_geometry_columns VALUES (?, 'geom', 'POINT', ?, 0, 0)", (name, system))
+
+
 def finish_pyramid(out, name, kind, report):
     """The extensions of a pyramid; tiles that the standard doesn't have are named."""
     if kind == "other":
@@ -229,20 +285,32 @@ def tell_editions(out, report):
         report.note(f"edition {name}", f"left out, {state}" + (f" with pieces: {pieces}" if state == "open" else ""))
 
 
-def write_standard(source, made, report):
-    """Writes all that goes across from a package into a new file."""
+def expect_attributes(out, names):
+    """Refuses where a table that is to be a layer of points has no rows."""
+    kinds = dict(out.execute("SELECT table_name, kind FROM package.mm_tables"))
+    for name in names:
+        if kinds.get(name) != "attributes":
+            raise Refused(f"--points: {name!r} is no attribute table of the package")
+
+
+def write_standard(source, made, report, layers):
+    """Writes all that goes across from a package into a new file, and the tables that are named as layers of points."""
     out = sqlite3.connect(made.absolute().as_uri(), uri=True)
     try:
         out.execute("ATTACH DATABASE ? AS package", (source.address(),))
         (version,) = out.execute("SELECT version FROM package.mm_profile").fetchone()
         if version not in UNITS_OF_VERSION:
             raise Refused(f"version {version} of the profile isn't known here")
+        expect_attributes(out, layers)
         out.executescript(f"PRAGMA main.application_id = {0x47504B47}; PRAGMA main.user_version = 10300; {TABLES}")
         out.execute("BEGIN")
         write_systems(out, report)
         write_contents(out, UNITS_OF_VERSION[version])
         for name, kind in out.execute("SELECT table_name, kind FROM package.mm_tables ORDER BY table_name").fetchall():
             LINE.tell(f"table {name}", at_once=True)
+            if name in layers:
+                write_points(out, name, report)
+                continue
             write_user_table(out, name, kind)
             if kind in ("two", "other"):
                 finish_pyramid(out, name, kind, report)
@@ -258,6 +326,7 @@ def main():
     parser = arguments(__doc__)
     parser.add_argument("FILE", type=pathlib.Path)
     parser.add_argument("OUT", type=pathlib.Path)
+    parser.add_argument("--points", nargs="+", default=[], metavar="TABLE")
     given = parser.parse_args()
     if given.OUT.suffix != ".gpkg":
         raise Refused(f"{given.OUT}: a GeoPackage's name ends with .gpkg")
@@ -266,7 +335,7 @@ def main():
         made = beside / given.OUT.name
         report = Report()
         try:
-            write_standard(source, made, report)
+            write_standard(source, made, report, given.points)
         except sqlite3.Error as error:
             raise Refused(f"{given.OUT}: {error}") from error
         source.expect_unchanged()

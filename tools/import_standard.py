@@ -5,7 +5,8 @@
     tools/import_standard.py IN.gpkg LIST.csv --kit EDITION FOLDER
 
 LIST.csv gets the records for 'mmpkg run': systems, tile pyramids with their matrices, attribute tables (id, title,
-note, amount), media tables (id, data, content_type), relations between them, and their content. With --kit the content
+note, amount), layers of points with these columns, media tables (id, data, content_type), relations between them, and
+their content. A point comes in as a place in the note of its row (docs/FORMATS.md). With --kit the content
 goes into kits of at most 4,096 pieces for 'mmpkg kit' instead, and LIST.csv makes their editions: FOLDER for EDITION,
 then FOLDER_2 for EDITION_2 and so on. The commands that take all in are printed, with FILE for the package. Neither
 LIST.csv nor a kit's folder may be there. Nothing may write IN.gpkg meanwhile.
@@ -31,6 +32,7 @@ import shlex
 import sqlite3
 import zlib
 
+import points
 from border import (
     AMOUNT_LIMIT,
     BOUNDS_IDENTIFIER,
@@ -168,6 +170,7 @@ class Standard:
         self.names, self.key, self.all_zooms = names, key, all_zooms
         self.theirs = {}
         self.bounds = {}
+        self.points = {}
         self.source = sqlite3.connect(read_only(file), uri=True)
         self.source.text_factory = lambda data: data.decode("utf-8", "surrogateescape")
         self.report = report
@@ -251,6 +254,7 @@ class Standard:
         readers = {
             "tiles": lambda: self.read_pyramid(name, theirs, identifier, bounds),
             "attributes": lambda: self.read_plain(name, theirs, identifier),
+            "features": lambda: self.read_points(name, theirs, identifier),
         }
         why = None
         if not is_name(name):
@@ -275,11 +279,49 @@ class Standard:
     def why_no_kind(self, name, theirs, data_type):
         """Why a table of another type of data is none that a package takes, with what makes one of it."""
         why = f"a package has no table of {data_type}"
-        return (
-            f"{why}; {self.rows_of(name, theirs)} takes its rows along"
-            if data_type in ("features", "aspatial")
-            else why
-        )
+        return f"{why}; {self.rows_of(name, theirs)} takes its rows along" if data_type == "aspatial" else why
+
+    def points_of(self, name, theirs, column):
+        """The command that makes points that come in of a layer of points."""
+        names = f"CAST(COLUMN AS text) AS title, '' AS note, 0 AS amount, {quoted(column)}"
+        select = f"SELECT {names} FROM {quoted(theirs)}"
+        words = ["-dialect", "SQLite", "-sql", select, "-nln", name, "-nlt", "POINT", "-lco", "FID=id"]
+        return shlex.join(["ogr2ogr", "-f", "GPKG", "-t_srs", "EPSG:25832", "rows.gpkg", str(self.file), *words])
+
+    def read_points(self, name, theirs, identifier):
+        """A layer of points: rows, whose notes tell their places."""
+        layer = self.rows(
+            "gpkg_geometry_columns",
+            ["column_name", "geometry_type_name", "srs_id"],
+            "1",
+            "WHERE table_name = ?",
+            (theirs,),
+        ).fetchone()
+        column, kind, system = layer or ("", "", 0)
+        if kind.upper() not in ("POINT", "GEOMETRY"):
+            return (
+                f"a package has no {kind or 'geometry'}, only points come in, as places; "
+                f"{self.rows_of(name, theirs)} takes its rows along"
+            )
+        columns = self.columns(theirs)
+        key = self.key_of(columns)
+        makes = f"{self.points_of(name, theirs, column)} makes points that come in"
+        if key is None and set(columns) - {"fid", column} == set(ROW_COLUMNS):
+            return "its key is fid, as GDAL and QGIS call it; --key fid takes it"
+        if key is None or set(columns) - {key, column} != set(ROW_COLUMNS):
+            return (
+                f"its columns {', '.join(columns)} are not id, {column}, title, note, amount with id as the key; "
+                f"{makes}, where COLUMN is one of these, and 25832 your projected system in metres"
+            )
+        if system in GEOGRAPHIC_SYSTEMS or system not in self.systems:
+            return (
+                f"its system {system} is geographic, or was left out; {makes}, where COLUMN is title, and 25832 your "
+                "projected system in metres"
+            )
+        self.points[name] = (column, system)
+        self.kinds[name] = "attributes"
+        self.records.append(["table", name, "attributes", identifier])
+        return None
 
     def rows_of(self, name, theirs):
         """The command that makes rows of a package of any table."""
@@ -475,10 +517,13 @@ class Standard:
     def attribute_rows(self, name, theirs):
         key = self.key_of(self.columns(theirs))
         taken = self.ids[name] = set()
-        for number, *texts, amount in self.rows(theirs, [quoted(key), *ROW_COLUMNS], quoted(key)):
+        column, system = self.points.get(name, ("", 0))
+        geometry = quoted(column) if column else "NULL"
+        for number, *texts, amount, point in self.rows(theirs, [quoted(key), *ROW_COLUMNS, geometry], quoted(key)):
             title, note = ("" if text is None else text for text in texts)
             amount = int(amount) if is_whole_double(amount) else amount
-            why = why_no_row(number, title, note, amount)
+            note, why = placed(note, point, system)
+            why = why or why_no_row(number, title, note, amount)
             if why:
                 self.report.left_out(f"row {number} of {name}", why)
                 continue
@@ -522,6 +567,20 @@ class Standard:
                 self.report.left_out(
                     f"mapping row {base_id}, {related_id} of {mapping}", "an end isn't there, or was left out"
                 )
+
+
+def placed(note, geometry, system):
+    """A note with the place of a geometry in front of it, and why there is none."""
+    try:
+        found = points.point_in(geometry)
+    except points.OtherGeometry:
+        return note, "its geometry is no point"
+    if found is None or not isinstance(note, str):
+        return note, None
+    if max(map(abs, found)) >= points.COORDINATE_LIMIT:
+        return note, "its place is outside the limits"
+    word = points.Place(system, *found).word()
+    return f"{word} {note}" if note else word, None
 
 
 def why_no_row(number, title, note, amount):

@@ -12,6 +12,7 @@ pieces and the ids of relations are no part of it, and a definition of a system 
 
 import argparse
 import contextlib
+import csv
 import hashlib
 import pathlib
 import random
@@ -448,6 +449,8 @@ def check_names_with_spaces(folder):
     expect(tool(*words, status=2)[1], f"{folder}/my kit: is there, and is not overwritten; remove it, or choose another name\n", "what is told")
 
 
+AREA = ('{"type":"FeatureCollection","features":[{"type":"Feature","properties":{"name":"x"},'
+        '"geometry":{"type":"Polygon","coordinates":[[[9,50],[9.1,50],[9,50.1],[9,50]]]}}]}')
 POINT = ('{"type":"FeatureCollection","features":[{"type":"Feature","properties":{"name":"x"},'
          '"geometry":{"type":"Point","coordinates":[10,50]}}]}')
 
@@ -559,12 +562,84 @@ def check_remedies(folder):
         run("bash", "-c", f"cd '{where}' && {remedy(told, 'gdalwarp')} -q")
         standard_of(where / "whole.tif", where / "whole.gpkg", "base")
         tool("import_standard.py", where / "whole.gpkg", where / "list.csv")
-    (folder / "points.json").write_text(POINT)
-    run("ogr2ogr", "-f", "GPKG", folder / "points.gpkg", folder / "points.json", "-nln", "points")
-    _, told = tool("import_standard.py", folder / "points.gpkg", folder / "none.csv", status=1)
-    run("bash", "-c", f"cd '{folder}' && {remedy(told, 'ogr2ogr')}".replace("COLUMN", "name"))
-    tool("import_standard.py", folder / "rows.gpkg", folder / "list.csv")
-    expect((folder / "list.csv").read_text(), "table,points,attributes,points\nrow,points,1,x,,0\n", "the list")
+    for kind, shape, note in (("points", POINT, "@25832:571666.447504/5539109.815176"), ("areas", AREA, "")):
+        where = folder / kind
+        where.mkdir()
+        (where / "in.json").write_text(shape)
+        run("ogr2ogr", "-f", "GPKG", where / "in.gpkg", where / "in.json", "-nln", kind)
+        _, told = tool("import_standard.py", where / "in.gpkg", where / "none.csv", status=1)
+        run("bash", "-c", f"cd '{where}' && {remedy(told, 'ogr2ogr')}".replace("COLUMN", "name"))
+        tool("import_standard.py", where / "rows.gpkg", where / "list.csv")
+        lines = [line for line in (where / "list.csv").read_text().splitlines() if not line.startswith(("srs,", '"'))]
+        expect(lines[-2:], [f"table,{kind},attributes,{kind}", f"row,{kind},1,x,{note},0"], f"the list of {kind}")
+
+
+PLACES = [(1, "Spring", "@25832:500000.5/5600000.25 by the road", 3), (2, "Gate", "", 0), (3, "Oak", "@25832:-7/0.000001", -5),
+          (4, "Plan", "@7:10/20 of the plan", 0), (5, "Late", "seen @500100/5600100 by", 1), (6, "No", "@25832:1,5/2 @x/y a@1/2", 0),
+          (2**53, "Far", "@25832:999999999.999999/-999999999.999999 \"x\"\nüß", 10**15)]  # fmt: skip
+NOTED_PLACES = "note: row 4 of spots: its place is of system 7; it stays in its note\n"
+
+
+def points_package(file):
+    """A map in UTM, a plan's system, rows at places, and photos."""
+    lines = [["srs", 7, "plan", "NONE", 7, "metres", ""], *(["row", "spots", *row] for row in PLACES)]
+    new_package(file, nine_tiles() + "".join(map(record, [*lines, ["map", "spots_photos", 1, 1], ["table", "bare", "attributes", "Bare"]])))
+
+
+def check_points_go_out_and_in(folder):
+    """Rows go out as points at their places with their photos, and come in letter by letter but for where a place stood in its note."""
+    points_package(folder / "a.mmpkg")
+    _, told = tool("export_standard.py", folder / "a.mmpkg", folder / "out.gpkg", "--points", "spots", "bare")
+    expect(sorted(told.splitlines(keepends=True)), ["note: row 4 of spots: its place is of system 7; it stays in its note\n",
+           "note: table bare: no note of it tells a place, so it is no layer of points\n"], "what is told")
+    validate(folder / "out.gpkg")
+    run("ogr2ogr", "-f", "CSV", "-lco", "GEOMETRY=AS_XY", folder / "seen.csv", folder / "out.gpkg", "spots")
+    with open(folder / "seen.csv", encoding="utf-8", newline="") as it:
+        seen = {row["title"]: (row["X"] and float(row["X"]), row["Y"] and float(row["Y"]), row["note"]) for row in csv.DictReader(it)}
+    expect(seen, {"Spring": (500000.5, 5600000.25, "by the road"), "Gate": ("", "", ""), "Oak": (-7, 0.000001, ""),
+                  "Plan": ("", "", "@7:10/20 of the plan"), "Well": ("", "", "by the road, north"), "Late": (500100, 5600100, "seen by"),
+                  "No": ("", "", "@25832:1,5/2 @x/y a@1/2"),
+                  "Far": (999999999.999999, -999999999.999999, '"x"\nüß')}, "points by GDAL")  # fmt: skip
+    assert "ETRS89 / UTM zone 32N" in run("ogrinfo", "-so", folder / "out.gpkg", "spots")[0], "the layer's system"
+    expect(run(python_with_gdal, "-c", RELATIONSHIPS, folder / "out.gpkg")[0], "spots photos spots_photos media\n", "relations by GDAL")
+    commands, told = tool("import_standard.py", folder / "out.gpkg", folder / "list.csv")
+    expect(told, "", "what the import tells")
+    mmpkg("init", folder / "back.mmpkg")
+    take_in(commands, folder / "back.mmpkg", folder)
+    mmpkg("run", folder / "a.mmpkg", "--at", 0, given=b"row,spots,5,Late,@25832:500100/5600100 seen by,1\n")
+    expect_equal(folder / "a.mmpkg", folder / "back.mmpkg")
+    _, told = tool("export_standard.py", folder / "a.mmpkg", folder / "no.gpkg", "--points", "photos", status=2)
+    expect(told, "--points: 'photos' is no attribute table of the package\n", "what is told of a table of photos")
+
+
+BY_A_GIS = """
+ALTER TABLE spots RENAME COLUMN geom TO shape;
+UPDATE gpkg_geometry_columns SET column_name = 'shape', geometry_type_name = 'GEOMETRY';
+"""
+# By the number of a row: an empty point, one with the greatest byte first, one with a height, a line, and no geometry.
+SHAPES = {
+    1: "4750001164000000 01 01000000 000000000000F87F 000000000000F87F",
+    2: "4750000000000064 00 00000001 3FF0000000000000 4000000000000000",
+    3: "4750000164000000 01 E9030000 000000000000F03F 0000000000000040 0000000000000840",
+    4: "4750000164000000 01 02000000 00000000",
+    5: "4750",
+}
+
+
+def check_points_of_other_programs(folder):
+    """Points in either order of bytes, with heights, and empty ones come in; what is no point is named, and the rest comes in."""
+    points_package(folder / "a.mmpkg")
+    tool("export_standard.py", folder / "a.mmpkg", folder / "out.gpkg", "--points", "spots")
+    with contextlib.closing(sqlite3.connect(folder / "out.gpkg")) as opened:
+        opened.executescript(BY_A_GIS)
+        opened.executemany("UPDATE spots SET shape = ? WHERE id = ?", [(bytes.fromhex(it), number) for number, it in SHAPES.items()])
+        opened.commit()
+    _, told = tool("import_standard.py", folder / "out.gpkg", folder / "list.csv", status=1)
+    named = [line for line in told.splitlines() if "row " in line]
+    expect(named, [f"left out: row {it} of spots: its geometry is no point" for it in (4, 5)], "what is named")
+    lines = (folder / "list.csv").read_text().splitlines()
+    expect([line for line in lines if line.startswith("row,spots,")][:3],
+           ["row,spots,1,Spring,by the road,3", "row,spots,2,Gate,@25832:1/2,0", "row,spots,3,Oak,@25832:1/2,-5"], "the rows")
 
 
 def check_what_gdal_puts_in(folder):

@@ -1,0 +1,252 @@
+#!/usr/bin/env python3
+"""Starts the crew's command, tools/crew.py, and looks at what it does and says: the page, the key, kills, Ctrl-C, what can't be opened.
+
+    MMPKG=out/mmpkg scripts/outside/crew_check.py [WORD ..]
+
+WORD picks the checks whose names have it. The last line is 'N passed, M failed'; the exit status is 1 where one failed, and 77 where Leaflet
+isn't there.
+"""
+
+import contextlib
+import os
+import pathlib
+import re
+import select
+import signal
+import socket
+import stat
+import subprocess
+import sys
+import tempfile
+import time
+
+from checks import PROGRAM, TOP, end, expect, mmpkg, run, run_checks
+from crew_page import free_port, wait_until
+
+TOOL = TOP / "tools" / "crew.py"
+LEAFLET = pathlib.Path("/usr/share/javascript/leaflet/leaflet.min.js")
+AT_ONCE = 60
+ENDED = "The day is ended: {} alone holds all, and may be copied."
+
+
+class Started:
+    """A crew's command that runs on a package."""
+
+    def __init__(self, file, *words, port=0, **environment):
+        self.file, self.port = file, port or free_port()
+        command = [sys.executable, "-B", TOOL, file, "--port", str(self.port), *words]
+        self.running = subprocess.Popen(command, stdout=subprocess.PIPE, stderr=subprocess.STDOUT, bufsize=0, env={**bare(), **environment})
+        self.said = []
+
+    def until(self, words):
+        """The next line that has some words."""
+        deadline = time.monotonic() + AT_ONCE
+        while select.select([self.running.stdout], [], [], max(0, deadline - time.monotonic()))[0]:
+            line = self.running.stdout.readline().decode()
+            if not line:
+                break
+            self.said.append(line.rstrip("\n"))
+            if words in line:
+                return line.rstrip("\n")
+        raise AssertionError(f"{words!r} isn't said, but {self.said}")
+
+    def address(self):
+        return self.until("The page is http").split()[-1].removesuffix("/media/viewer/1")
+
+    def wait(self, status=0):
+        """Waits for its end; all that it said."""
+        with contextlib.suppress(AssertionError):
+            self.until("no line has these words")
+        self.running.wait(AT_ONCE)
+        expect(self.running.returncode, status, f"the status, behind {self.said}")
+        return self.said
+
+
+def bare():
+    """The environment without a screen."""
+    return {name: it for name, it in os.environ.items() if name not in ("DISPLAY", "WAYLAND_DISPLAY", "BROWSER")} | {"MMPKG": PROGRAM}
+
+
+@contextlib.contextmanager
+def folder_with(records=True):
+    """A folder with the package of examples/crew.csv."""
+    with tempfile.TemporaryDirectory() as name:
+        file = pathlib.Path(name) / "trip.mmpkg"
+        mmpkg("init", file)
+        if records:
+            mmpkg("run", file, "--at", 0, given=(TOP / "examples" / "crew.csv").read_bytes())
+        try:
+            yield file
+        finally:
+            kill_desks(file)
+
+
+def desks(file):
+    """The desks that run on a file, by their process."""
+    found = []
+    for it in pathlib.Path("/proc").iterdir():
+        with contextlib.suppress(OSError):
+            if it.name.isdigit() and (it / "cmdline").read_bytes().split(b"\0")[1:3] == [b"desk", str(file).encode()]:
+                found.append(int(it.name))
+    return found
+
+
+def kill_desks(file):
+    for it in desks(file):
+        with contextlib.suppress(ProcessLookupError):
+            os.kill(it, signal.SIGKILL)
+
+
+def status_of(address, *words):
+    return run("curl", "-s", "-o", "/dev/null", "-w", "%{http_code}", *words, address, status=None)[0]
+
+
+def post(address, body):
+    return run("curl", "-s", "-H", "Content-Type: text/csv", "--data-binary", body, f"{address}/records")[0]
+
+
+def check_a_day():
+    """The page comes in, the key is its owner's, Ctrl-C ends well; the next day has the same address, and nothing is brought in."""
+    with folder_with() as file:
+        first = Started(file)
+        expect(first.until("opened"), f"{file} is opened: first it is checked as a whole.", "the first line")
+        first.until("The page is brought in")
+        address = first.address()
+        key = pathlib.Path(f"{file}.key")
+        expect((stat.S_IMODE(key.stat().st_mode), address), (0o600, f"http://127.0.0.1:{first.port}/{key.read_text().strip()}"), "the key")
+        expect([status_of(f"{address}{it}") for it in ("/media/viewer/1", "/contents", "x")], ["200", "200", "404"], "what is asked")
+        expect(post(address, "row,spots,20,Spring,,1\n"), "1 ok\n", "a row")
+        first.running.send_signal(signal.SIGINT)
+        expect(first.wait()[-1], ENDED.format(file), "the last line")
+        journal = pathlib.Path(f"{file}-wal")
+        assert not journal.exists() or journal.stat().st_size < 100, "the journal holds commits"
+        before = mmpkg("list", file)
+        second = Started(file, port=first.port)
+        expect(second.address(), address, "the address of the next day")
+        expect(status_of(f"{address}/end", "-X", "POST"), "200", "the page's end of the day")
+        said = second.wait()
+        expect((said[-1], any("brought in" in it for it in said)), (ENDED.format(file), False), "what is said")
+        expect(mmpkg("list", file), before, "the listing")
+
+
+def check_an_older_page():
+    """A page that is older than the tools is brought in anew, and keeps the package's word."""
+    with folder_with() as file:
+        first = Started(file)
+        address = first.address()
+        word = run("curl", "-s", f"{address}/media/viewer/4")[0]
+        expect(post(address, "media,viewer,1,text/html,00\nrow,spots,21,x,,0\n"), "1 ok\n2 ok\n", "an older page")
+        status_of(f"{address}/end", "-X", "POST")
+        first.wait()
+        second = Started(file)
+        second.until("The page is brought in")
+        address = second.address()
+        expect(run("curl", "-s", f"{address}/media/viewer/4")[0][:40], word[:40], "the word")
+        assert "<!doctype html>" in run("curl", "-s", f"{address}/media/viewer/1")[0], "the page"
+        second.running.send_signal(signal.SIGTERM)
+        second.wait()
+
+
+def check_kills():
+    """A desk that is killed is started again; one that a killed command has left is ended by the next."""
+    with folder_with() as file:
+        first = Started(file)
+        address = first.address()
+        for number in range(3):
+            kill_desks(file)
+            expect(first.until("The program was killed"), "The program was killed (signal 9): it is started again.", "what is said")
+            first.until("The program runs again")
+            expect(post(address, f"row,spots,{30 + number},Spring,,1\n"), "1 ok\n", "a row")
+        first.running.kill()
+        first.running.wait()
+        expect(len(desks(file)), 1, "desks that are left")
+        second = Started(file, port=first.port)
+        second.until("an earlier start")
+        expect(second.address(), address, "the address")
+        expect(run("curl", "-s", f"{address}/rows/spots/30")[0].count('"id"'), 3, "the rows")
+        second.running.send_signal(signal.SIGHUP)
+        second.wait()
+
+
+def check_the_key():
+    """A key that others could have read is made anew; a link in its place is refused."""
+    with folder_with() as file:
+        key = pathlib.Path(f"{file}.key")
+        key.write_text("a-key-that-all-can-read\n")
+        key.chmod(0o644)
+        started = Started(file)
+        address = started.address()
+        found = stat.S_IMODE(key.stat().st_mode), "a-key-that-all" in address, key.read_text().strip() in address
+        expect(found, (0o600, False, True), "the key")
+        started.running.send_signal(signal.SIGINT)
+        started.wait()
+        key.unlink()
+        key.symlink_to("/dev/null")
+        said = Started(file).wait(2)
+        assert "trip.mmpkg.key" in said[-1], said
+
+
+def check_the_address_without_the_key():
+    """The browser's command has an address without the key, which leads its user on, and no other; no process has the key in its words."""
+    with folder_with() as file:
+        seen = file.parent / "seen"
+        # What %s stands for is the address that is opened.
+        started = Started(file, BROWSER=f"sh -c 'echo \"$1\" > {seen}.part && mv {seen}.part {seen}' sh %s")
+        address = started.address()
+        wait_until(seen.exists, "the browser's command", 30)
+        lead = seen.read_text().strip()
+        assert re.fullmatch(r"http://127\.0\.0\.1:[0-9]+/", lead), lead
+        expect(run("curl", "-s", "-o", "/dev/null", "-w", "%{redirect_url}", lead)[0], f"{address}/media/viewer/1", "where it leads")
+        if os.getuid() == 0:
+            other = ["setpriv", "--reuid=65534", "--clear-groups", "curl", "-s", "-o", "/dev/null", "-w", "%{http_code}", lead]
+            expect(run(*other)[0], "403", "what another user gets")
+        key = address.rpartition("/")[2].encode()
+        for it in pathlib.Path("/proc").glob("[0-9]*/cmdline"):
+            with contextlib.suppress(OSError):
+                assert key not in it.read_bytes(), f"the key stands in the words of {it}"
+        started.running.send_signal(signal.SIGINT)
+        started.wait()
+
+
+def check_what_can_not_be_opened():
+    """What can't be opened is told in a line, with its status, and the package stays as it was."""
+    with folder_with() as file, socket.create_server(("127.0.0.1", 0)) as taken:
+        port = taken.getsockname()[1]
+        said = Started(file, port=port).wait(2)
+        assert said[-1].startswith(f"port {port}: another program has it"), said
+        notes = file.parent / "notes.mmpkg"
+        notes.write_text("x" * 1000)
+        none = file.parent / "none.mmpkg"
+        for words, line, status in (([none], "none.mmpkg: isn't there; 'mmpkg init", 4), ([notes], "notes.mmpkg: fault 91", 3),
+                                    ([file, "--port", "0"], "argument --port", 2),
+                                    ([file, "--table", "gpkg_x"], "is no name of a package", 2)):  # fmt: skip
+            _, told = run(sys.executable, "-B", TOOL, *words, status=status)
+            assert line in told and "Traceback" not in told, told
+        served = subprocess.Popen([PROGRAM, "serve", file, "--port", str(free_port()), "--count", "9"], stdout=subprocess.PIPE)
+        served.stdout.readline()
+        said = Started(file).wait(3)
+        served.kill()
+        served.communicate()
+        assert f"{file}: fault 91: another program has the file" in said[-1], said
+
+
+def check_without_a_name():
+    """Without FILE the folder's only package is taken; of several none is."""
+    with folder_with() as file:
+        command = [sys.executable, "-B", TOOL, "--port", str(free_port()), "--no-browser"]
+        running = subprocess.Popen(command, cwd=file.parent, stdout=subprocess.PIPE, env=bare())
+        expect(running.stdout.readline(), b"trip.mmpkg is opened: first it is checked as a whole.\n", "the first line")
+        wait_until(lambda: b"Ctrl-C" in running.stdout.readline(), "the page", 60)
+        running.send_signal(signal.SIGINT)
+        running.communicate(timeout=AT_ONCE)
+        (file.parent / "other.mmpkg").touch()
+        done = subprocess.run(command, cwd=file.parent, capture_output=True, env=bare(), check=False)
+        expect((done.returncode, done.stderr.decode().splitlines()[0]),
+               (2, "which package? other.mmpkg, trip.mmpkg: name one, as in 'crew.py other.mmpkg'"), "several")
+
+
+if __name__ == "__main__":
+    if not LEAFLET.exists():
+        print("no crew's command was started (libjs-leaflet): apt-get install libjs-leaflet")
+        sys.exit(77)
+    end(*run_checks("crew", globals(), sys.argv[1:], lambda check: check()))

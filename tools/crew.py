@@ -1,0 +1,338 @@
+#!/usr/bin/env python3
+"""Opens a package for a crew's day: its map and rows in a browser, by a program that is started again when it ends.
+
+    tools/crew.py [FILE] [--port PORT] [--table TABLE] [--no-browser] [--wait]
+
+FILE is a package of mmpkg; without it the only *.mmpkg of the folder is taken. The page is brought into FILE where it
+is missing or older than these tools (as the media table TABLE, 'viewer'). Then 'mmpkg desk' is started at PORT (8090)
+of this machine, and its address opened in the browser. The address has a key, which is kept in FILE.key, that nobody
+else may read: so the address is the same tomorrow, and what a browser keeps is sent there. Keep PORT the same too.
+
+When the program ends by a fault, or is killed, it is started again, and the page goes on. Ctrl-C, or 'End the day' in
+the page, ends it well: then FILE alone holds all, and may be copied. What can't be opened at the first start is told in
+words. --no-browser opens none; --wait keeps the window open at the end until Enter is pressed.
+
+The program is the one that the environment's MMPKG names, else out/mmpkg of this repository, else mmpkg of the path.
+
+Exit status: 0 the day was ended; 2 wrong arguments, or a file or port that can't be had; 3 the program ends again and
+again, or a fault; 4 FILE is no package, or one that breaks a rule.
+"""
+
+import contextlib
+import http.client
+import http.server
+import os
+import pathlib
+import re
+import secrets
+import shlex
+import signal
+import sqlite3
+import stat
+import subprocess
+import sys
+import tempfile
+import threading
+import time
+import webbrowser
+
+import make_viewer
+from border import Refused, arguments, has_commits, is_name, program, program_says, refuse, run_tool
+
+PORT = 8090
+CONNECTIONS = 1_000_000
+KEY = re.compile("[A-Za-z0-9_-]{16,64}")
+# How often in a row the program may end within so many seconds of its start; how long it may take to end.
+ENDS, SOON, PATIENCE = 5, 3, 120
+STOPS = (signal.SIGINT, signal.SIGTERM, signal.SIGHUP)
+# How long the address without the key leads on to the one with it.
+LEADS = 120
+
+FAULTS = {
+    "fault 90": "the program was refused memory: end other programs",
+    "fault 91": "another program has the file, the disk is full, or it can't be written (docs/USING.md, 'What a "
+    "number asks of you')",
+    "fault 96": "the port or the clock can't be had",
+    "refused 11": "the clock of this machine is outside the years 1970 to 9999",
+    "list fault 90": "the program was refused memory in the midst of a list",
+    "list fault 91": "the file could not be read or written in the midst of a list. Is the disk full?",
+    "page fault 90": "the program was refused memory for a request",
+    "page fault 91": "the file could not be read for a request",
+}
+
+
+def tell(*words):
+    print(*words, flush=True)
+
+
+def the_only_package():
+    """The package of the folder, where there is one alone."""
+    found = sorted(pathlib.Path().glob("*.mmpkg"))
+    if len(found) != 1:
+        names = ", ".join(map(str, found)) or "there is none here"
+        raise Refused(f"which package? {names}: name one, as in 'crew.py {found[0] if found else 'FILE.mmpkg'}'")
+    return found[0]
+
+
+def key_of(file):
+    """The key of a package's address, of a file beside it that only its owner may read; made where there is none."""
+    path = pathlib.Path(f"{file}.key")
+    with os.fdopen(os.open(path, os.O_RDWR | os.O_CREAT | os.O_NOFOLLOW, 0o600), "r+", encoding="ascii") as kept:
+        found = os.fstat(kept.fileno())
+        if not stat.S_ISREG(found.st_mode) or found.st_uid != os.getuid():
+            raise Refused(f"{path}: is no file of your own; remove it")
+        text = kept.read(100).strip()
+        if KEY.fullmatch(text) and not found.st_mode & 0o077:
+            return text
+        os.fchmod(kept.fileno(), 0o600)
+        key = secrets.token_urlsafe(24)
+        if os.fstat(kept.fileno()).st_mode & 0o077:
+            tell(f"{path}: others may read it on this disk, so the key isn't kept, and the address is new each time.")
+            path.unlink()
+            return key
+        kept.seek(0)
+        kept.truncate()
+        kept.write(key + "\n")
+        kept.flush()
+        os.fsync(kept.fileno())
+        return key
+
+
+def expect_package(file, patience):
+    """Refuses where the program finds no package; its journal is in FILE then.
+
+    A program that is about to end has the file for some seconds still.
+    """
+    status, said = program_says("check", file)
+    while said == "fault 91" and patience > 0:
+        time.sleep(0.5)
+        patience -= 0.5
+        status, said = program_says("check", file)
+    if said in FAULTS:
+        raise Refused(f"{file}: {said}: {FAULTS[said]}", status)
+    if status != 0:
+        refuse(file, file, status, said)
+
+
+def has_page(file, table):
+    """Whether the page stands in a package as it would be made now."""
+    if has_commits(file):
+        return False
+    address = f"{file.resolve().as_uri()}?mode=ro&immutable=1"
+    with contextlib.closing(sqlite3.connect(address, uri=True)) as opened:
+        return make_viewer.Package(opened).is_current(table)
+
+
+def run_program(file, what, given=b""):
+    """Runs a subcommand that has to end with 0."""
+    done = subprocess.run([program(), *what], input=given, capture_output=True, check=False)
+    if done.returncode != 0:
+        said = " / ".join(done.stdout.decode(errors="replace").split("\n")).strip(" /")
+        raise Refused(f"{file}: the page can't be brought in: {said}", 3)
+
+
+def bring_page(file, table):
+    """Makes the page, and takes it in as the tool says."""
+    with tempfile.TemporaryDirectory() as name:
+        out = pathlib.Path(name) / "page"
+        words = [sys.executable, "-B", make_viewer.__file__, file, out, "--table", table]
+        made = subprocess.run(words, capture_output=True, check=False)
+        if made.returncode != 0:
+            raise Refused(made.stderr.decode(errors="replace").strip(), made.returncode)
+        layout = (out / "layout.csv").read_bytes()
+        edition = layout.decode().split()[-1].removeprefix("edition,")
+        run_program(file, ["run", file], layout)
+        run_program(file, ["kit", file, edition, out])
+        run_program(file, ["run", file], f"publish,{edition}\n".encode())
+
+
+def is_own(here, peer):
+    """Whether a connection from a port of this machine is of a program of this user, as Linux tells it."""
+    wanted = [f"0100007F:{peer:04X}", f"0100007F:{here:04X}"]
+    lines = [line.split() for line in pathlib.Path("/proc/net/tcp").read_text(encoding="ascii").splitlines()[1:]]
+    return any(line[1:3] == wanted and line[7] == str(os.getuid()) for line in lines)
+
+
+def lead_to(address):
+    """An address without the key, for the words of a browser's command, which every user sees.
+
+    It leads programs of this user on to the address with the key, for a while.
+    """
+
+    class Leads(http.server.BaseHTTPRequestHandler):
+        def do_GET(self):
+            own = is_own(self.server.server_address[1], self.client_address[1])
+            self.send_response(302 if own else 403)
+            if own:
+                self.send_header("Location", address)
+            self.send_header("Cache-Control", "no-store")
+            self.send_header("Content-Length", "0")
+            self.end_headers()
+
+        def log_message(self, *_):
+            pass
+
+    server = http.server.ThreadingHTTPServer(("127.0.0.1", 0), Leads)
+    threading.Thread(target=server.serve_forever, daemon=True).start()
+    closing = threading.Timer(LEADS, lambda: (server.shutdown(), server.server_close()))
+    closing.daemon = True
+    closing.start()
+    return f"http://127.0.0.1:{server.server_address[1]}/"
+
+
+def open_browser(address):
+    """Opens the address in the browser, where there is a screen."""
+    if not any(os.environ.get(it) for it in ("DISPLAY", "WAYLAND_DISPLAY", "BROWSER")):
+        tell("No screen is told here: open this address in the browser of this machine.")
+        return
+    lead = lead_to(address)
+    threading.Thread(target=webbrowser.open, args=(lead,), daemon=True).start()
+
+
+class Desk:
+    """The program at its port, which is started again when it ends."""
+
+    def __init__(self, given, file, key):
+        self.given, self.file, self.key = given, file, key
+        self.running = None
+        self.had = False
+
+    def ask(self, method, path, seconds=PATIENCE):
+        """The status that the desk answers with; None where there is none."""
+        connection = http.client.HTTPConnection("127.0.0.1", self.given.port, timeout=seconds)
+        try:
+            connection.request(method, f"/{self.key}{path}")
+            return connection.getresponse().status
+        except (OSError, http.client.HTTPException):
+            return None
+        finally:
+            connection.close()
+
+    def end_earlier(self):
+        """Ends a desk of this package that an earlier start has left, and answers whether there was one."""
+        if self.ask("GET", "/contents", seconds=5) != 200:
+            return False
+        tell("The program runs already, of an earlier start: it is ended, and started anew.")
+        self.ask("POST", "/end")
+        return True
+
+    def sit(self):
+        """Runs the program until it ends, and answers its exit status and its last words."""
+        words = ["--port", str(self.given.port), "--count", str(CONNECTIONS), "--page", self.given.table]
+        self.running = subprocess.Popen(
+            [program(), "desk", self.file, *words],
+            stdin=subprocess.DEVNULL,
+            stdout=subprocess.PIPE,
+            env={**os.environ, "MMPKG_KEY": self.key},
+            start_new_session=True,
+            text=True,
+        )
+        said = ""
+        for line in self.running.stdout:
+            said = line.strip()
+            if said.startswith("desk "):
+                self.opened(said.removeprefix("desk "))
+            elif said in FAULTS and self.had:
+                tell(f"{said}: {FAULTS[said]}")
+        return self.running.wait(), said
+
+    def opened(self, address):
+        if self.had:
+            tell("The program runs again, and the page goes on.")
+            return
+        self.had = True
+        tell(f"The page is {address}")
+        tell("Ctrl-C here, or 'End the day' in the page, ends the day.")
+        if not self.given.no_browser:
+            open_browser(address)
+
+    def day(self):
+        """Starts the program again and again, until it ends well."""
+        quick = 0
+        while True:
+            began = time.monotonic()
+            status, said = self.sit()
+            if status == 0 and self.had:
+                return
+            if not self.had:
+                self.refuse_start(status, said)
+            quick = quick + 1 if time.monotonic() - began < SOON else 0
+            if quick >= ENDS:
+                raise Refused(f"{self.file}: the program ended {ENDS} times as soon as it was started: {said}", 3)
+            how = f"was killed (signal {-status})" if status < 0 else f"ended with {status}"
+            tell(f"The program {how}: it is started again.")
+            time.sleep(min(quick, 5))
+
+    def refuse_start(self, status, said):
+        """Refuses where the first start came to nothing."""
+        if said == "fault 96":
+            raise Refused(
+                f"port {self.given.port}: another program has it; end that, or choose another by --port (a browser "
+                "keeps what isn't in the package yet by the port)"
+            )
+        raise Refused(f"{self.file}: {said}: {FAULTS.get(said, 'it can not be opened')}", status if status > 0 else 3)
+
+    def end(self):
+        """Ends the program well, as far as it lets."""
+        if self.running is None or self.running.poll() is not None:
+            return True
+        tell("Ending the day ..")
+        self.ask("POST", "/end")
+        try:
+            return self.running.wait(PATIENCE) == 0
+        except subprocess.TimeoutExpired:
+            self.running.kill()
+            return False
+
+
+def stop(*_):
+    raise KeyboardInterrupt
+
+
+def work(given):
+    file = given.FILE or the_only_package()
+    if not file.exists():
+        raise Refused(f"{file}: isn't there; 'mmpkg init {shlex.quote(str(file))}' makes an empty package", 4)
+    desk = Desk(given, file, key_of(file))
+    tell(f"{file} is opened: first it is checked as a whole.")
+    expect_package(file, patience=PATIENCE if desk.end_earlier() else 0)
+    if not has_page(file, given.table):
+        tell("The page is brought in: it is missing, or older than these tools.")
+        bring_page(file, given.table)
+    try:
+        desk.day()
+    except KeyboardInterrupt:
+        # The end takes its time, and who asks for it twice gets it once.
+        for it in STOPS:
+            signal.signal(it, signal.SIG_IGN)
+        if not desk.end():
+            raise Refused(f"{file}: the program didn't end well: keep {file} and {file}-wal together", 3) from None
+    tell(f"The day is ended: {file} alone holds all, and may be copied.")
+    return 0
+
+
+def main():
+    parser = arguments(__doc__)
+    parser.add_argument("FILE", type=pathlib.Path, nargs="?")
+    parser.add_argument("--port", type=int, default=PORT, choices=range(1, 65536), metavar="PORT")
+    parser.add_argument("--table", default="viewer")
+    parser.add_argument("--no-browser", action="store_true")
+    parser.add_argument("--wait", action="store_true")
+    given = parser.parse_args()
+    if not is_name(given.table):
+        raise Refused(f"{given.table!r} is no name of a package")
+    for it in STOPS:
+        signal.signal(it, stop)
+    try:
+        return work(given)
+    except Refused as refused:
+        print(refused, file=sys.stderr)
+        return refused.status
+    finally:
+        if given.wait and sys.stdin.isatty():
+            with contextlib.suppress(EOFError, KeyboardInterrupt):
+                input("Press Enter to close this window.")
+
+
+if __name__ == "__main__":
+    run_tool(main)

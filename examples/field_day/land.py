@@ -5,6 +5,7 @@
     land.py office TERRAIN.asc         spots.csv: tables, boundary stones and a photo; stones.geojson and stones_wide.geojson to draw
     land.py crew NAME TERRAIN.asc      of the crew north or south: NAME.csv, a list of rows and photos; NAME_more.csv, rows and mapping rows
                                        for its kit; NAME.geojson and NAME_wide.geojson, its way and what it found, to draw
+    land.py try > crew.csv             the list of a small package for a try (examples/crew.csv): a map of 1,024 m, and tables for rows and photos
 """
 
 import itertools
@@ -17,7 +18,7 @@ import sys
 import zlib
 
 sys.path.insert(0, str(pathlib.Path(__file__).resolve().parents[2] / "tools"))
-from border import Piece, media_piece  # noqa: E402
+from border import Piece, media_piece, tile_piece  # noqa: E402
 
 SIDE, METRES, LAKE = 128, 16, 230.0
 LEFT, BOTTOM = 500_000, 5_600_000
@@ -100,9 +101,11 @@ def shade(land, x, y, ground, far):
     return tuple(min(255, int(part * light * (1 - haze) + air * haze)) for part, air in zip(colour, (176, 202, 226)))
 
 
+def chunk(kind, data):
+    return struct.pack(">I", len(data)) + kind + data + struct.pack(">I", zlib.crc32(kind + data))
+
+
 def png(wide, high, rows):
-    def chunk(kind, data):
-        return struct.pack(">I", len(data)) + kind + data + struct.pack(">I", zlib.crc32(kind + data))
     packed = zlib.compress(b"".join(b"\0" + bytes(itertools.chain(*row)) for row in rows), 9)
     return b"\x89PNG\r\n\x1a\n" + chunk(b"IHDR", struct.pack(">IIBBBBB", wide, high, 8, 2, 0, 0, 0)) + chunk(b"IDAT", packed) + chunk(b"IEND", b"")
 
@@ -127,7 +130,8 @@ def draw(file, discs):
 
 
 def where(place):
-    return f"E {LEFT + round(place[0])}, N {BOTTOM + round(place[1])}"
+    """A place as a word of a note (docs/FORMATS.md)."""
+    return f"@25832:{LEFT + round(place[0])}/{BOTTOM + round(place[1])}"
 
 
 def decimetres(land, place):
@@ -142,7 +146,7 @@ def office(land):
     """Stones as they stand in the books, none measured yet."""
     pieces = [Piece(["table", "spots", "attributes", "Spots"]), Piece(["table", "photos", "media", "Photos"]),
               Piece(["relation", "spots_photos", "spots", "photos", "media"])]
-    pieces += [Piece(["row", "spots", it, f"Boundary stone {it}", f"by the books {where(place)}", 0]) for it, place in enumerate(STONES, 1)]
+    pieces += [Piece(["row", "spots", it, f"Boundary stone {it}", f"{where(place)} by the books", 0]) for it, place in enumerate(STONES, 1)]
     pieces += [media_piece("photos", 1, "image/png", view(land, STONES[6])), Piece(["map", "spots_photos", 7, 1])]
     write("spots.csv", pieces)
     draw("stones_wide.geojson", [(place, 17) for place in STONES])
@@ -154,8 +158,9 @@ def crew(name, land):
     first, stones = CREWS[name]
     way = list(walk(PATHS[name]))
     finds = [way[len(way) * it // 50 + 3] for it in range(50)]
-    found = [Piece(["row", "spots", it, f"Boundary stone {it}", f"found by the {name} crew", decimetres(land, STONES[it - 1])]) for it in stones]
-    seen = Piece(["row", "spots", 7, "Boundary stone 7", f"leaning, seen from the {name}", 2300 + first // 20])
+    notes = {it: f"{where(STONES[it - 1])} found by the {name} crew" for it in stones}
+    found = [Piece(["row", "spots", it, f"Boundary stone {it}", notes[it], decimetres(land, STONES[it - 1])]) for it in stones]
+    seen = Piece(["row", "spots", 7, "Boundary stone 7", f"{where(STONES[6])} leaning, seen from the {name}", 2300 + first // 20])
     spots = [Piece(["row", "spots", first + it, FINDS[it % 6], where(place), decimetres(land, place)]) for it, place in enumerate(finds)]
     photos = [media_piece("photos", first + it, "image/png", view(land, STONES[it - 1])) for it in stones]
     write(f"{name}.csv", [*found, seen, *spots[:20], *photos])
@@ -163,6 +168,39 @@ def crew(name, land):
     discs = [(place, 5) for place in way] + [(place, 10) for place in finds[2::5]] + [(STONES[it - 1], 14) for it in stones]
     draw(f"{name}_wide.geojson", [(place, radius + 4) for place, radius in discs])
     draw(f"{name}.geojson", discs)
+
+
+def bands(land, left, top, metres):
+    """A tile of 256 by 256 pixels in a few colours, by heights, from an upper left corner."""
+    colours = [(112, 150, 180), *((96 + 12 * it, 130 + 8 * it, 66 + 14 * it) for it in range(9))]
+    pixels = (height(land, left + (x + 0.5) * metres, top - (y + 0.5) * metres) for y in range(256) for x in range(256))
+    found = bytes(min(9, int((it - LAKE) / 40 + 0.99)) for it in pixels)
+    lines = (found[at:at + 256] for at in range(0, 65536, 256))
+    rows = b"".join(b"\0" + bytes(16 * a + b for a, b in zip(line[::2], line[1::2])) for line in lines)
+    head, palette = struct.pack(">IIBBBBB", 256, 256, 4, 3, 0, 0, 0), bytes(itertools.chain(*colours))
+    parts = [(b"IHDR", head), (b"PLTE", palette), (b"IDAT", zlib.compress(rows, 9)), (b"IEND", b"")]
+    return b"\x89PNG\r\n\x1a\n" + b"".join(chunk(*it) for it in parts)
+
+
+def write_try():
+    """A small package's list: one map, a table of rows, and one of photos."""
+    land, side = terrain(), 1024
+    definition = ('PROJCS["ETRS89 / UTM zone 32N",GEOGCS["ETRS89",DATUM["European_Terrestrial_Reference_System_1989",SPHEROID["GRS 1980",6378137,'
+                  '298.257222101]],PRIMEM["Greenwich",0],UNIT["degree",0.0174532925199433]],PROJECTION["Transverse_Mercator"],'
+                  'PARAMETER["latitude_of_origin",0],PARAMETER["central_meridian",9],PARAMETER["scale_factor",0.9996],'
+                  'PARAMETER["false_easting",500000],PARAMETER["false_northing",0],UNIT["metre",1]]')
+    micrometres = [it * 10**6 for it in (LEFT, BOTTOM, LEFT + side, BOTTOM + side)]
+    pieces = [Piece(["srs", 25832, "ETRS89 / UTM zone 32N", "EPSG", 25832, definition, ""]),
+              Piece(["pyramid", "base", "Base map", 25832, *micrometres, "two"])]
+    for zoom, count, metres in ((0, 1, 4), (1, 2, 2)):
+        pieces.append(Piece(["matrix", "base", zoom, count, count, 256, 256, metres * 10**6, metres * 10**6]))
+        pieces += [tile_piece("base", zoom, column, row, bands(land, column * 512, side - row * 512, metres))
+                   for column, row in itertools.product(range(count), repeat=2)]
+    pieces += [Piece(["table", "spots", "attributes", "Spots"]), Piece(["table", "photos", "media", "Photos"]),
+               Piece(["relation", "spots_photos", "spots", "photos", "media"])]
+    for it in (9, 10, 11, 12):
+        pieces.append(Piece(["row", "spots", it, f"Boundary stone {it}", f"{where(STONES[it - 1])} by the books", 0]))
+    print("".join(piece.command() for piece in pieces), end="")
 
 
 def main():
@@ -173,6 +211,8 @@ def main():
             office(read_terrain(file))
         case ["crew", ("north" | "south") as name, file]:
             crew(name, read_terrain(file))
+        case ["try"]:
+            write_try()
         case _:
             print(__doc__)
             sys.exit(2)

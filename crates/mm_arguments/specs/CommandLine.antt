@@ -65,6 +65,10 @@ progress = flag (codes "progress")
 abbrev pub answer : Rule
 answer = record (word (codes "ANSWER")) { range = Some (record { start_inclusive = 1; end_inclusive = 8 }) }
 
+-- ID: the number of a row; it need not stand
+abbrev pub id : Rule
+id = record (new_rule (codes "ID")) { parser = Some (Signed (pos 1) (pos 9007199254740992)) }
+
 -- ---- the subcommands
 
 -- a subcommand of this name, which takes FILE
@@ -93,6 +97,10 @@ check = with_rule (with_file_word (codes "check")) progress
 abbrev pub list : App
 list = with_file_word (codes "list")
 
+-- show FILE TABLE [ID]: prints rows as the records that write them
+abbrev pub show : App
+show = with_rule (with_rule (with_file_word (codes "show")) (word (codes "TABLE"))) id
+
 -- migrate FILE: brings a package of profile 1 to profile 2
 abbrev pub migrate : App
 migrate = with_file_word (codes "migrate")
@@ -118,12 +126,12 @@ start = record {
   subs = [];
 }
 
--- the program with its nine subcommands
+-- the program with its ten subcommands
 abbrev pub command_line : App
 command_line =
     with_subcommand (with_subcommand (with_subcommand (with_subcommand (with_subcommand (with_subcommand (with_subcommand (with_subcommand
-    (with_subcommand start
-    init.top) run_subcommand.top) kit.top) check.top) list.top) serve.top) desk.top) migrate.top) explain.top
+    (with_subcommand (with_subcommand start
+    init.top) run_subcommand.top) kit.top) check.top) list.top) show.top) serve.top) desk.top) migrate.top) explain.top
 
 -- ---- the values that are made of it
 

@@ -1,5 +1,5 @@
 -- What words ask for, and what a request is limited to.
-use Rattle.std.specs.Prelude.{◌≡◌, ◌≤◌, ◌-◌, ⊤, ℕ, Bool, true, false, List, Option, Some, None, codes, length, pos, slice_get}
+use Rattle.std.specs.Prelude.{◌≡◌, ◌≤◌, ◌≤ℤ◌, ◌-◌, ⊤, ℕ, ℤ, Bool, true, false, List, Option, Some, None, IfSome, codes, length, pos, slice_get}
 use Rattle.std.specs.Borrow.{Bor}
 use Rattle.std.specs.Str.Parse.{IsNumeral, digits_value, signed_digits_value, without_leading_plus, without_leading_sign}
 use Rattle.clap.specs.Words.{Row, Text, all_of, first_of, one_of, subcommand_of}
@@ -7,16 +7,17 @@ use Rattle.clap.specs.declared.error.kind.ErrorKind.{ErrorKind}
 use Rattle.clap.specs.declared.error.kind.ErrorKind.TheVariants as kind
 use Rattle.mm_arguments.specs.CommandLine.{command_line}
 use Rattle.mm_arguments.specs.declared.requests.Request.{Request}
-use Rattle.mm_arguments.specs.declared.requests.Request.TheVariants.{Init, Run, Kit, Check, List as Tables, Serve, Desk, Migrate, Explain}
+use Rattle.mm_arguments.specs.declared.requests.Request.TheVariants.{Init, Run, Kit, Check, List as Tables, Show, Serve, Desk, Migrate, Explain}
 use Rattle.mm_arguments.specs.declared.requests.Aids.{Aids}
 
--- a port is at least 1, and so many connections are served: 1 to 1,000,000
+-- a port is at least 1, and so many connections are served: 1 to 1,000,000; the number of a row is from 1 to 2^53
 abbrev pub IsRequestWithin : Request → Type 0
 IsRequestWithin (Init file) = ⊤
 IsRequestWithin (Run file at) = ⊤
 IsRequestWithin (Kit file edition folder at) = ⊤
 IsRequestWithin (Check file) = ⊤
 IsRequestWithin (Tables file) = ⊤
+IsRequestWithin (Show file table id) = IfSome id (λ number. (pos 1 ≤ℤ number) × (number ≤ℤ pos 9007199254740992))
 IsRequestWithin (Migrate file) = ⊤
 IsRequestWithin (Explain answer) = ⊤
 IsRequestWithin (Serve file port count) = (1 ≤ port) × (1 ≤ count) × (count ≤ 1000000)
@@ -54,6 +55,12 @@ module _ (rows : List Row) where
   IsGivenMoment (Some at) = (text : Text) × (one_of (codes "at") rows ≡ Some text)
       × IsNumeral 10 (without_leading_sign text) × (pos at ≡ signed_digits_value 10 text)
 
+  -- the number of a row, where the words give one
+  abbrev pub IsGivenId : Option ℤ → Type 0
+  IsGivenId None = all_of (codes "ID") rows ≡ None
+  IsGivenId (Some id) = (text : Text) × (one_of (codes "ID") rows ≡ Some text)
+      × IsNumeral 10 (without_leading_sign text) × (id ≡ signed_digits_value 10 text)
+
 -- the subcommand and its words ask for this
 abbrev pub AsksFor : Text → List Row → Request → Type 0
 AsksFor name rows (Init file) = (name ≡ codes "init") × IsGivenWord rows (codes "FILE") file
@@ -62,6 +69,8 @@ AsksFor name rows (Kit file edition folder at) = (name ≡ codes "kit") × IsGiv
     × IsGivenWord rows (codes "EDITION") edition × IsGivenWord rows (codes "FOLDER") folder × IsGivenMoment rows at
 AsksFor name rows (Check file) = (name ≡ codes "check") × IsGivenWord rows (codes "FILE") file
 AsksFor name rows (Tables file) = (name ≡ codes "list") × IsGivenWord rows (codes "FILE") file
+AsksFor name rows (Show file table id) = (name ≡ codes "show") × IsGivenWord rows (codes "FILE") file
+    × IsGivenWord rows (codes "TABLE") table × IsGivenId rows id
 AsksFor name rows (Migrate file) = (name ≡ codes "migrate") × IsGivenWord rows (codes "FILE") file
 AsksFor name rows (Explain answer) = (name ≡ codes "explain") × IsLastWord rows (codes "ANSWER") answer
 AsksFor name rows (Serve file port count) = (name ≡ codes "serve") × IsGivenWord rows (codes "FILE") file

@@ -44,6 +44,22 @@ fn folder_argument<'a>(alloc: Global) -> Arg<'a>
     )
 }
 
+fn table_argument<'a>(alloc: Global) -> Arg<'a>
+    ensures { IsArgument (line.word (codes "TABLE")) result }
+{
+    Arg::new(alloc, "TABLE")
+        .required(true)
+        .help("The name of a table of kind attributes")
+}
+
+fn id_argument<'a>(alloc: Global) -> Arg<'a>
+    ensures { IsArgument line.id result }
+{
+    Arg::new(alloc, "ID")
+        .help("The number of one row, from 1 to 9007199254740992 [default: all rows]")
+        .value_parser(value_parser!(i64).range(1..=9007199254740992))
+}
+
 fn port_argument<'a>(alloc: Global) -> Arg<'a>
     ensures { IsArgument line.port result }
 {
@@ -178,6 +194,20 @@ fn list_command<'a>(alloc: Global) -> Result<Command<'a>, AllocError>
         .arg(file_argument(alloc))
 }
 
+fn show_command<'a>(alloc: Global) -> Result<Command<'a>, AllocError>
+    ensures { IfOk result (IsCommand line.show) }
+{
+    Command::new(alloc, "show")
+        .about("Prints rows of a table as the CSV records that write them")
+        .after_help(
+            "Example: mmpkg show map.mmpkg spots 7\nPrints `row,TABLE,ID,TITLE,NOTE,AMOUNT` for each row, by rising id, or `refused R` where there is none to show.",
+        )
+        .after_long_help(texts::SHOW)
+        .arg(file_argument(alloc))?
+        .arg(table_argument(alloc))?
+        .arg(id_argument(alloc))
+}
+
 fn serve_command<'a>(alloc: Global) -> Result<Command<'a>, AllocError>
     ensures { IfOk result (IsCommand line.serve) }
 {
@@ -241,6 +271,7 @@ pub(crate) fn command<'a>(alloc: Global) -> Result<Command<'a>, AllocError>
         .subcommand(kit_command(alloc)?)?
         .subcommand(check_command(alloc)?)?
         .subcommand(list_command(alloc)?)?
+        .subcommand(show_command(alloc)?)?
         .subcommand(serve_command(alloc)?)?
         .subcommand(desk_command(alloc)?)?
         .subcommand(migrate_command(alloc)?)?

@@ -1,9 +1,9 @@
 //! What the words ask for.
 
-ghost use Rattle.std.specs.Prelude.{◌≡◌, ◌⊎◌, IfOk, IfSome, codes, map};
+ghost use Rattle.std.specs.Prelude.{◌≡◌, ◌⊎◌, ◌≤ℤ◌, pos, IfOk, IfSome, codes, map};
 ghost use Rattle.clap.specs.Words.{FailsBy, fault_of, found_of, kind_of, rows_of};
 ghost use Rattle.mm_arguments.specs.CommandLine.{command_line};
-ghost use Rattle.mm_arguments.specs.Requests.{Asks, AsksFor, IsGivenMoment, IsRequestWithin, IsGivenWord, IsLastWord, IsMaybeWord, Wants};
+ghost use Rattle.mm_arguments.specs.Requests.{Asks, AsksFor, IsGivenId, IsGivenMoment, IsRequestWithin, IsGivenWord, IsLastWord, IsMaybeWord, Wants};
 ghost use Rattle.mm_arguments.specs.Requests as spec;
 
 use crate::commands::command;
@@ -33,6 +33,12 @@ pub enum Request<'a> {
     },
     List {
         file: &'a str,
+    },
+    /// The number of a row is from 1 to 2^53; without one all rows are meant.
+    Show {
+        file: &'a str,
+        table: &'a str,
+        id: Option<i64>,
     },
     /// The port is from 1 to 65535, and the number of connections from 1 to 1,000,000.
     Serve {
@@ -160,6 +166,36 @@ fn last_word<'a>(matches: &ArgMatches<'a>, id: &str) -> Option<&'a str>
     matches.get_strs(id)?.last().copied()
 }
 
+// `clap` has tested the range, for the message that it prints. The clause rests on this test.
+fn id_of(matches: &ArgMatches) -> Result<Option<i64>, Unfit>
+    ensures within { IfOk result (λ id. IfSome id
+        (λ number. (pos 1 ≤ℤ number) × (number ≤ℤ pos 9007199254740992))) }
+    ensures given { IfOk result (IsGivenId (rows_of (found_of matches.now))) }
+{
+    if !matches.contains_id("ID") {
+        return Ok(None);
+    }
+    let Some(id) = matches.get_one::<i64>("ID") else {
+        return Err(Unfit);
+    };
+    if id < 1 || id > 9007199254740992 {
+        return Err(Unfit);
+    }
+    Ok(Some(id))
+}
+
+fn show_of<'a>(file: &'a str, matches: &ArgMatches<'a>) -> Option<Request<'a>>
+    requires { IsGivenWord (rows_of (found_of matches.now)) (codes "FILE") file }
+    ensures within { IfSome result IsRequestWithin }
+    ensures asks { IfSome result (AsksFor (codes "show") (rows_of (found_of matches.now))) }
+{
+    Some(Request::Show {
+        file,
+        table: word_of(matches, "TABLE")?,
+        id: id_of(matches).ok()?,
+    })
+}
+
 fn request_of<'a>(name: &str, matches: &ArgMatches<'a>) -> Option<Request<'a>>
     ensures within { IfSome result IsRequestWithin }
     ensures asks { IfSome result (AsksFor name.now (rows_of (found_of matches.now))) }
@@ -179,6 +215,7 @@ fn request_of<'a>(name: &str, matches: &ArgMatches<'a>) -> Option<Request<'a>>
         "kit" => kit_of(file, matches),
         "check" => Some(Request::Check { file }),
         "list" => Some(Request::List { file }),
+        "show" => show_of(file, matches),
         "serve" => serve_of(file, matches),
         "desk" => desk_of(file, matches),
         "migrate" => Some(Request::Migrate { file }),

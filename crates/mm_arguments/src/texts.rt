@@ -93,6 +93,16 @@ Not a package:
   93 of another version (1: `mmpkg migrate`)   94 no package, or no such file   95 its version is told in another form
   98 its bytes are not kept once each, as another program left them";
 
+/// Behind `help show`.
+pub(crate) const SHOW: &str = "Example: mmpkg show map.mmpkg spots > spots.csv
+         mmpkg show map.mmpkg spots 7
+Prints a record `row,TABLE,ID,TITLE,NOTE,AMOUNT` for each row of the table, by rising id, or for the row ID alone. `run`
+takes these records as they are: on a package that has the table they write the same rows.
+
+Prints `refused R` with status 1, and no record:
+  12 TABLE is no name       25 no such table        26 a table of another kind       40 no such row
+Prints `fault F` behind what was printed where a fault ended it.";
+
 /// Behind `help desk`.
 pub(crate) const DESK: &str = "Example: mmpkg desk map.mmpkg --port 8090 --page viewer
 Prints the address to open, with its key; whoever has the key may ask, over 127.0.0.1 alone. The key is that of the

@@ -22,6 +22,7 @@ module _ {D S : Type 0} (g : Ghosts D) (image : Image) (source : Option (List â„
   prints_request (asked.Kit file edition folder at) told = prints_kit file.now edition.now at told
   prints_request (asked.Check file) (outcome, stops, told, on) = (outcome, stops, told)
   prints_request (asked.List file) (declined, listed) = declined
+  prints_request (asked.Show file table id) (declined, shown) = declined
   prints_request (asked.Migrate file) (outcome, stops, told, on) = (outcome, stops, told)
   prints_request (asked.Serve file port count) (told, served) = told
   prints_request (asked.Desk file port count page) (told, sitting) = told

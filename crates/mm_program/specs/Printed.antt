@@ -67,6 +67,7 @@ PrintsRequest (asked.Run file at) old new result = TellsDecline old new result
 PrintsRequest (asked.Kit file edition folder at) old new result = PrintsKit edition.now at old new result
 PrintsRequest (asked.Check file) old new result = PrintsCheck old new result
 PrintsRequest (asked.List file) old new result = TellsDecline old new result
+PrintsRequest (asked.Show file table id) old new result = TellsDecline old new result
 PrintsRequest (asked.Migrate file) old new result = PrintsMigrate old new result
 PrintsRequest (asked.Serve file port count) old new result = TellsServe port count old new result
 PrintsRequest (asked.Desk file port count page) old new result = TellsDesk port count (table_of page) old new result

@@ -1,5 +1,5 @@
 -- What a subcommand prints, and the exit status that goes with it.
-use Rattle.std.specs.Prelude.{◌≡◌, ◌⊎◌, ⊤, ℕ, List, Option, None, Result, Ok, Err, IfErr, IfSome, codes}
+use Rattle.std.specs.Prelude.{◌≡◌, ◌⊎◌, ⊤, ℕ, ℤ, List, Option, None, Result, Ok, Err, IfErr, IfSome, codes}
 use Rattle.sqlite_disk.specs.declared.Disk.{Ghosts}
 use Rattle.sqlite.specs.Recovery.{Image}
 use Rattle.mm_definitions.specs.Bounds.{IsName}
@@ -22,6 +22,7 @@ use Rattle.mm_program.specs.Desks.{LeavesDesk, TellsDesk, TellsSat, table_of}
 use Rattle.mm_program.specs.Explained.{TellsExplained}
 use Rattle.mm_program.specs.Files.{IsUntouched, OnFile, StopsNew, StopsOld, WasBare}
 use Rattle.mm_program.specs.Left.{LeavesImport, LeavesMade, LeavesMigrated, LeavesRun, LeavesSame, TellsChecked, TellsImport, TellsListing, TellsMigrated, TellsRun, TellsServed}
+use Rattle.mm_program.specs.Rows.{TellsShown}
 use Rattle.mm_program.specs.Served.{TellsServe}
 pub use Rattle.mm_program.specs.Stops.{StopsCheck}
 pub use Rattle.mm_program.specs.Printed.{TellsDecline, TellsStatus, import_status, import_text}
@@ -61,6 +62,13 @@ module _ {D S : Type 0} (g : Ghosts D) (image : Image) (path : Text) (old new : 
   TellsList = (between : Written) × (outcome : Result (Unit {0}) Stop) × IsEnded (λ done. 0) old between new outcome result × IsUnprinted g old between left
       × OnFile g image path StopsOld (λ found done. TellsListing found old between done) (λ found after done. LeavesSame found after) closes_done outcome left
 
+  -- `show` prints the rows of a table of the package that was found, which is as it was; a table's name that is none opens no file
+  abbrev pub TellsShow : Text → Option ℤ → Type 0
+  TellsShow table id =
+      (¬ (IsName table) × IsTold old new (codes "refused 12\n") 1 result × IsUntouched left)
+      ⊎ (IsName table × (between : Written) × (outcome : Result ℕ Stop) × IsEnded (λ status. status) old between new outcome result × IsUnprinted g old between left
+      × OnFile g image path StopsOld (λ found done. TellsShown table id found old between done) (λ found after done. LeavesSame found after) closes_run outcome left)
+
   -- `run` runs the records of the input, which has these bytes, at the moment that is given, or at that of the clock, or refuses the clock's
   abbrev pub TellsRan : Option (List ℕ) → Option ℕ → Type 0
   TellsRan source at =
@@ -98,6 +106,8 @@ TellsRequest g image source (asked.Run file at) old new result left =
 TellsRequest g image source (asked.Kit file edition folder at) old new result left = TellsKit g image file.now old new result left edition.now at
 TellsRequest g image source (asked.Check file) old new result left = TellsCheck g image file.now old new result left
 TellsRequest g image source (asked.List file) old new result left = TellsDecline old new result × TellsList g image file.now old new result left
+TellsRequest g image source (asked.Show file table id) old new result left =
+    TellsDecline old new result × TellsShow g image file.now old new result left table.now id
 TellsRequest g image source (asked.Migrate file) old new result left = TellsMigrate g image file.now old new result left
 TellsRequest g image source (asked.Serve file port count) old new result left =
     TellsServe port count old new result × TellsService g image file.now old new result left

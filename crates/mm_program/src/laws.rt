@@ -1,6 +1,6 @@
 //! From one run of the program to the next, as laws: what is left of a file by one is what the next is opened on.
 
-ghost use Rattle.std.specs.Prelude.{◌≡◌, List, [], ℕ, Result, Option, IfErr, IsTrue, Ok, true, ⊤};
+ghost use Rattle.std.specs.Prelude.{◌≡◌, List, [], ℕ, ℤ, Result, Option, IfErr, IsTrue, Ok, true, ⊤};
 ghost use Rattle.sqlite.specs.Tree.{Trees};
 ghost use Rattle.sqlite.specs.Recovery.{Image};
 ghost use Rattle.sqlite.specs.Files.{HoldsDatabase};
@@ -22,6 +22,7 @@ ghost use Rattle.mm_program.specs.Desks.{LeavesDesk, TellsSat};
 ghost use Rattle.mm_program.specs.Files.{OffClose, OnOpened, WereBare};
 ghost use Rattle.mm_program.specs.Left.{LeavesImport, LeavesMade, LeavesMigrated, LeavesRun, LeavesSame, TellsChecked, TellsImport, TellsListing, TellsMigrated, TellsRun, TellsServed};
 ghost use Rattle.mm_program.specs.Life.{IsLife, Leads, LivesOn, Use};
+ghost use Rattle.mm_program.specs.Rows.{TellsShown};
 ghost use Rattle.mm_program.specs.Worked.{closes_done, closes_import, closes_run};
 
 use mm_files::{Opened, Unclosed};
@@ -39,7 +40,7 @@ pub fn a_run_leads_on<'a, D: Disk>(_opened: &Opened<'a, D>)
         → Leads (λ found after. LeavesRun source moment found after old new done) image next }
 {}
 
-/// So of `check`, `list` and `serve`, which leave what was held.
+/// So of `check`, `list`, `show` and `serve`, which leave what was held.
 pub fn a_look_leads_on<'a, D: Disk>(_opened: &Opened<'a, D>)
     ensures check { (image next : Image) (path : Text) (done : Result (Unit {0}) Why)
         → OnOpened D.Disk image path TellsChecked (λ found after it. LeavesSame found after)
@@ -51,6 +52,13 @@ pub fn a_look_leads_on<'a, D: Disk>(_opened: &Opened<'a, D>)
         (done : Result (Unit {0}) Why)
         → OnOpened D.Disk image path (λ found it. TellsListing found old new it)
         (λ found after it. LeavesSame found after) closes_done done _opened.now
+        → AreClean D.Disk _opened.now.files.log _opened.now.files.db
+        → outcomes D.Disk _opened.now.files.log _opened.now.files.db next
+        → Leads LeavesSame image next }
+    ensures show { (image next : Image) (path table : Text) (id : Option ℤ) (old new : Written)
+        (done : Result ℕ Why)
+        → OnOpened D.Disk image path (λ found it. TellsShown table id found old new it)
+        (λ found after it. LeavesSame found after) closes_run done _opened.now
         → AreClean D.Disk _opened.now.files.log _opened.now.files.db
         → outcomes D.Disk _opened.now.files.log _opened.now.files.db next
         → Leads LeavesSame image next }

@@ -3,6 +3,7 @@
 //! - `subcommands`: what each subcommand does.
 //! - `kits`: a folder of the system, and the subcommand `kit` on it.
 //! - `reporting`: those that change nothing.
+//! - `rows`: the one that prints rows of a table.
 //! - `migrating`: the one that brings a package of profile 1 to micrometres.
 //! - `files`: the package's file and its journal.
 //! - `connections`: the page served to one connection after another.
@@ -25,6 +26,7 @@ mod kits;
 pub mod laws;
 mod migrating;
 mod reporting;
+mod rows;
 mod serving;
 mod sittings;
 mod subcommands;

@@ -20,6 +20,7 @@ use crate::files::{on_new, on_old};
 use crate::kits::{SystemFolder, import_and_tell, pieces_wanted};
 use crate::migrating::migrate_told;
 use crate::reporting::{check_told, list_told};
+use crate::rows::show_told;
 use crate::serving::serve_told;
 use mm_arguments::{Request, read_arguments, status_of};
 use mm_definitions::answers::Fault;
@@ -239,6 +240,7 @@ pub fn program_on<'a, S: Start, R: Read, W: Write>(
         Ok(Request::Run { file, at }) => run_told(rt, file, start, at, input, output),
         Ok(Request::Check { file }) => check_told(rt, file, start, output),
         Ok(Request::List { file }) => list_told(rt, file, start, output),
+        Ok(Request::Show { file, table, id }) => show_told(rt, file, start, table, id, output),
         Ok(Request::Migrate { file }) => migrate_told(rt, file, start, output),
         Ok(Request::Serve { file, port, count }) => {
             serve_told(rt, file, start, port, count, output)

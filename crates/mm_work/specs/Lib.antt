@@ -6,3 +6,4 @@ pub mod Declined
 pub mod Migrated
 pub mod Stops
 pub mod Imports
+pub mod Shown

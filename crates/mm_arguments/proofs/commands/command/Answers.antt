@@ -22,7 +22,8 @@ returns c =
     let with_kit = adds _ _ _ _ _ with_run c.in_ok-kit_command.ensures c.in_ok-subcommand-3.ensures in
     let with_check = adds _ _ _ _ _ with_kit c.in_ok-check_command.ensures c.in_ok-subcommand-4.ensures in
     let with_list = adds _ _ _ _ _ with_check c.in_ok-list_command.ensures c.in_ok-subcommand-5.ensures in
-    let with_serve = adds _ _ _ _ _ with_list c.in_ok-serve_command.ensures c.in_ok-subcommand-6.ensures in
-    let with_desk = adds _ _ _ _ _ with_serve c.in_ok-desk_command.ensures c.in_ok-subcommand-7.ensures in
-    let with_migrate = adds _ _ _ _ _ with_desk c.in_ok-migrate_command.ensures c.in_ok-subcommand-8.ensures in
-    IfOk-weaker c.subcommand-9.result _ _ (λ whole added. adds _ _ _ _ _ with_migrate c.in_ok-explain_command.ensures added) c.subcommand-9.ensures
+    let with_show = adds _ _ _ _ _ with_list c.in_ok-show_command.ensures c.in_ok-subcommand-6.ensures in
+    let with_serve = adds _ _ _ _ _ with_show c.in_ok-serve_command.ensures c.in_ok-subcommand-7.ensures in
+    let with_desk = adds _ _ _ _ _ with_serve c.in_ok-desk_command.ensures c.in_ok-subcommand-8.ensures in
+    let with_migrate = adds _ _ _ _ _ with_desk c.in_ok-migrate_command.ensures c.in_ok-subcommand-9.ensures in
+    IfOk-weaker c.subcommand-10.result _ _ (λ whole added. adds _ _ _ _ _ with_migrate c.in_ok-explain_command.ensures added) c.subcommand-10.ensures

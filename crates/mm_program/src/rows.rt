@@ -1,0 +1,117 @@
+//! The subcommand that prints rows of a table as the records that write them.
+
+ghost use Rattle.std.specs.Prelude.{◌≡◌, ◌≤◌, false};
+ghost use Rattle.sqlite.specs.WalFiles.{image_at};
+ghost use Rattle.mm_definitions.specs.Streams.{has_failed, written};
+ghost use Rattle.mm_files.specs.Worked.{IsUnprinted};
+ghost use Rattle.mm_work.specs.Told.{TellsFailure};
+ghost use Rattle.mm_program.specs.Files.{OnFile, StopsOld};
+ghost use Rattle.mm_program.specs.Left.{LeavesSame};
+ghost use Rattle.mm_program.specs.Rows.{IsShown, TellsShown};
+ghost use Rattle.mm_program.specs.Told.{TellsDecline, TellsShow};
+ghost use Rattle.mm_program.specs.Worked.{closes_run};
+
+use crate::files::on_old;
+use mm_definitions::names::Name;
+use mm_definitions::streams::Io;
+use mm_files::{Left, Works};
+use mm_work::{FAULT, REFUSED, Stop, show_package, tell_bytes, tell_stop};
+use sqlite::{Alter, Connection, FileFrom, Start};
+use sqlite_disk::Disk;
+use std::alloc::Global;
+use std::io::Write;
+
+/// The rows of a table, or the one of an id.
+#[derive(Drop)]
+struct Showing<'a> {
+    table: &'a Name,
+    id: Option<i64>,
+}
+
+impl<'a> Works for Showing<'a> {
+    type Done = Result<u8, Stop>;
+
+    ghost comes_to = { λ work. IsShown };
+
+    ghost tells = { λ work. TellsShown work.table.now work.id };
+
+    ghost leaves = { λ work found after old new done. LeavesSame found after };
+
+    ghost closes = { closes_run };
+
+    fn work<S: Alter + Drop, W: Write>(
+        &mut self,
+        alloc: Global,
+        conn: Connection<S>,
+        output: &mut Io<W>,
+    ) -> (Connection<S>, Result<u8, Stop>) {
+        match show_package(alloc, conn, self.table, self.id, output) {
+            Ok((conn, status)) => (conn, Ok(status)),
+            Err((conn, why)) => (conn, Err(why)),
+        }
+    }
+
+    fn closes(done: Result<u8, Stop>) -> bool
+        ensures { result ≡ closes_run done }
+    {
+        match done {
+            Ok(status) => status != FAULT,
+            Err(_) => false,
+        }
+    }
+}
+
+/// Prints rows of the package of a file.
+#[tactic(auto, using(crate::proofs::Off::on_err))]
+fn show_file<'a, S: Start, W: Write>(
+    rt: &HostRuntime,
+    path: &'a str,
+    start: S,
+    table: &Name,
+    id: Option<i64>,
+    output: &mut Io<W>,
+) -> (Result<u8, Stop>, Left<'a, FileFrom<S>, S>)
+    ensures shown { IsShown (written W.contents output.old)
+        (written W.contents output.new) result.0 }
+    ensures unprinted { IsUnprinted ⟦<FileFrom<S> as Disk>⟧ (written W.contents output.old)
+        (written W.contents output.new) result.1 }
+    ensures left { OnFile ⟦<FileFrom<S> as Disk>⟧ (image_at S.Start) path.now StopsOld
+        (λ found done. TellsShown table.now id found (written W.contents output.old)
+        (written W.contents output.new) done)
+        (λ found after done. LeavesSame found after) closes_run result.0 result.1 }
+{
+    match on_old(rt, path, start, &mut Showing { table, id }, output) {
+        Ok((opened, done)) => (done, Left::Worked(opened)),
+        Err((left, why)) => (Err(why), left),
+    }
+}
+
+/// The subcommand `show`. `refused 12` where the table is no name, and then no file is opened.
+pub(crate) fn show_told<'a, S: Start, W: Write>(
+    rt: &HostRuntime,
+    path: &'a str,
+    start: S,
+    table: &str,
+    id: Option<i64>,
+    output: &mut Io<W>,
+) -> (u8, Left<'a, FileFrom<S>, S>)
+    ensures declined { TellsDecline (written W.contents output.old)
+        (written W.contents output.new) result.0 }
+    ensures shown { TellsShow ⟦<FileFrom<S> as Disk>⟧ (image_at S.Start) path.now
+        (written W.contents output.old) (written W.contents output.new) result.0 result.1
+        table.now id }
+    ensures status { result.0 ≤ 4 }
+    ensures unprinted { TellsFailure (has_failed output.old) (has_failed output.new) result.0 }
+{
+    let Some(name) = Name::read(table) else {
+        return (
+            tell_bytes(output, b"refused 12\n", REFUSED),
+            Left::Untouched(start),
+        );
+    };
+    let (done, left) = show_file(rt, path, start, &name, id, output);
+    match done {
+        Ok(status) => (status, left),
+        Err(why) => (tell_stop(output, why), left),
+    }
+}

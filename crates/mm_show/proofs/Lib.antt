@@ -1,0 +1,6 @@
+mod ReadBack
+mod Spelled
+mod Chunks
+mod Turning
+mod Standing
+mod Shown

@@ -224,6 +224,27 @@ def check_a_body_that_is_cut_at_each_byte():
         return len(body)
 
 
+def reset(connection):
+    """From here on the end of the connection is a reset, with what is unread lost."""
+    connection.setsockopt(socket.SOL_SOCKET, socket.SO_LINGER, b"\1\0\0\0\0\0\0\0")
+
+
+def rows_sent(it, count):
+    """A connection on which so many rows were sent as one list."""
+    body = b"".join(b"row,spots,%d,Spot,,0\n" % (number + 100) for number in range(count))
+    connection = it.connect()
+    connection.sendall(it.head("POST", "/records", length=len(body)) + body)
+    return connection
+
+
+def told_until(connection, is_enough):
+    """What came on it until that was enough."""
+    told = b""
+    while not is_enough(told):
+        told += connection.recv(37)
+    return told
+
+
 def check_a_body_that_is_reset_at_each_byte():
     """A client that resets within the body: nothing is run, 'page fault 96' or nothing is printed, and the desk goes on."""
     body = b"row,spots,10,Cut,,0\n"
@@ -233,7 +254,7 @@ def check_a_body_that_is_reset_at_each_byte():
         for length in range(len(body)):
             with it.connect() as connection:
                 connection.sendall(it.head("POST", "/records", length=len(body)) + body[:length])
-                connection.setsockopt(socket.SOL_SOCKET, socket.SO_LINGER, b"\1\0\0\0\0\0\0\0")
+                reset(connection)
         expect(it.rows(), before, "the rows behind reset bodies")
         it.program.send_signal(signal.SIGKILL)
         said = it.program.stdout.read().decode()
@@ -269,12 +290,8 @@ def check_the_lines_come_one_by_one():
     """Each line is sent as its command stands, before the list is done."""
     with desk() as it:
         it.post(OPENING)
-        body = b"".join(b"row,spots,%d,Spot,,0\n" % (number + 100) for number in range(2000))
-        with it.connect() as connection:
-            connection.sendall(it.head("POST", "/records", length=len(body)) + body)
-            told = b""
-            while b"\n1 ok\n" not in told:
-                told += connection.recv(100)
+        with rows_sent(it, 2000) as connection:
+            told = told_until(connection, lambda told: b"\n1 ok\n" in told)
             early = told.count(b" ok\n")
             told += everything(connection)
         expect(told.count(b" ok\n"), 2000, "the answers")
@@ -284,12 +301,8 @@ def check_the_lines_come_one_by_one():
 
 def killed_behind(it, lines):
     """Sends a thousand rows and kills the desk behind some whole lines; how many came whole."""
-    body = b"".join(b"row,spots,%d,Spot,,0\n" % (number + 100) for number in range(1000))
-    with it.connect() as connection:
-        connection.sendall(it.head("POST", "/records", length=len(body)) + body)
-        told = b""
-        while body_of(told).count(b"\n") < lines:
-            told += connection.recv(37)
+    with rows_sent(it, 1000) as connection:
+        told = told_until(connection, lambda told: body_of(told).count(b"\n") >= lines)
         it.program.kill()
         told += everything(connection)
     it.program.wait()
@@ -315,13 +328,9 @@ def check_a_client_that_goes_away():
     """A client that resets behind some lines: the run stops, it is told, and the desk goes on."""
     with desk() as it:
         it.post(OPENING)
-        body = b"".join(b"row,spots,%d,Spot,,0\n" % (number + 100) for number in range(20000))
-        with it.connect() as connection:
-            connection.sendall(it.head("POST", "/records", length=len(body)) + body)
-            told = b""
-            while told.count(b" ok\n") < 30:
-                told += connection.recv(100)
-            connection.setsockopt(socket.SOL_SOCKET, socket.SO_LINGER, b"\1\0\0\0\0\0\0\0")
+        with rows_sent(it, 20000) as connection:
+            told = told_until(connection, lambda told: told.count(b" ok\n") >= 30)
+            reset(connection)
         expect(it.line(), "list fault 97\n", "what is printed")
         stands = it.rows().count('"id"')
         assert told.count(b" ok\n") <= stands < 20000, f"{told.count(b' ok')} lines came, and {stands} rows are shown"

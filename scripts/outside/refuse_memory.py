@@ -8,9 +8,9 @@ memory. A small library is loaded before it whose N-th call of malloc or realloc
 meets no refusal. The answer has to be that of ample memory, or fault 90 behind what was answered before. What then stands in the file, its
 rows read by Python's sqlite3, has to be the package after the commands that were acknowledged, or after one more.
 
-Each subcommand is a case, and so is each command, accepted once, each kind of read through the page, and a list whose records can't be
-read. With --whole each growth of each case is refused; else every so many-th, as few left out as N seconds allow (120 unless given). The
-last line says how many runs there were. Needs cc.
+Each subcommand is a case, and so is each command, accepted once, each kind of read through the page, a list whose records can't be
+read, a list that is sent to a desk, and rows that one shows. With --whole each growth of each case is refused; else every so many-th,
+as few left out as N seconds allow (120 unless given). The last line says how many runs there were. Needs cc.
 """
 
 import argparse
@@ -116,9 +116,13 @@ KIT = {
     "c.bin": b"\x03",
 }
 PAGES = "/tiles/base/1/0/1", "/related/spots/7", "/media/photos/3", "/contents"
+KEY = "0123456789abcdef"
+# A list that a desk is sent: three commands, of which one is refused.
+SENT = b"row,spots,10,Well,,3\nrow,spots,x,,,0\nmedia,photos,6,image/png,02\n"
 
-# A case: what stands before it (None: no file), the words with FILE left out, its input, and what is asked of the page.
-Case = collections.namedtuple("Case", "name start words input page", defaults=(b"", None))
+# A case: what stands before it (None: no file), the words with FILE left out, its input, and what is asked of the page or of a desk; a desk that has
+# input is sent it.
+Case = collections.namedtuple("Case", "name start words input page behind", defaults=(b"", None, ()))
 # What a run came to: its status, the lines that it printed, the page's response, and whether a growth was refused.
 Ran = collections.namedtuple("Ran", "status lines response refused")
 
@@ -136,10 +140,13 @@ def cases():
     yield Case("a list that can't be read", "", ["run", "--at", "0"], UNREADABLE)
     yield Case("check", STAGED, ["check"])
     yield Case("list", STAGED, ["list"])
+    yield Case("show", STAGED, ["show"], b"", None, ("spots",))
     yield Case("kit", FILLED, ["kit", "k", "kit", "--at", "0"])
     yield Case("migrate", PYRAMID, ["migrate"])
     for page in PAGES:
         yield Case(f"GET {page}", FILLED, ["serve", "--count", "1"], b"", page)
+    yield Case("GET rows of a desk", FILLED, ["desk", "--count", "1"], b"", "/rows/spots/1")
+    yield Case("POST to a desk", FILLED, ["desk", "--count", "1"], SENT, "/records")
 
 
 def build_refuser(folder):
@@ -163,13 +170,21 @@ def rows_in(file):
         return [(name, it.execute(f"SELECT * FROM {name}").fetchall()) for name in tables]
 
 
-def asked(running, port, page):
-    """Asks the page of a program that is running once it serves; returns what it printed, and the response."""
+def request(case, port, given):
+    """The request of a case."""
+    if case.words[0] == "serve":
+        return f"GET {case.page} HTTP/1.1\r\n\r\n".encode()
+    sends = f"Content-Type: text/csv\r\nContent-Length: {len(given)}\r\n" if given else ""
+    return f"{'POST' if given else 'GET'} /{KEY}{case.page} HTTP/1.1\r\nHost: 127.0.0.1:{port}\r\n{sends}\r\n".encode() + given
+
+
+def asked(running, port, sent):
+    """Asks a program that is running once it serves; returns what it printed, and the response."""
     first = running.stdout.readline()
-    if not first.startswith(b"serving "):
+    if not first.startswith((b"serving ", b"desk ")):
         return first + running.stdout.read(), b""
     with socket.create_connection(("127.0.0.1", port), PATIENCE) as it:
-        it.sendall(f"GET {page} HTTP/1.1\r\n\r\n".encode())
+        it.sendall(sent)
         response = b"".join(iter(lambda: it.recv(65536), b""))
     return first + running.stdout.read(), response
 
@@ -209,16 +224,17 @@ class Room:
         """Runs the program where its growth of this number is refused, and none with 0."""
         self.put_start()
         subcommand, *rest = self.case.words
-        words = [self.program, subcommand, self.file, *rest, *(["--port", str(self.port)] if self.case.page else [])]
+        words = [self.program, subcommand, self.file, *self.case.behind, *rest, *(["--port", str(self.port)] if self.case.page else [])]
+        given = self.case.input if given is None else given
         reader, writer = os.pipe()
         how = {"cwd": self.folder, "pass_fds": (writer,), "stdin": subprocess.PIPE, "stdout": subprocess.PIPE}
-        how["env"] = {"LD_PRELOAD": str(self.library), "REFUSE": str(number), "REFUSE_TOLD": str(writer)}
+        how["env"] = {"LD_PRELOAD": str(self.library), "REFUSE": str(number), "REFUSE_TOLD": str(writer), "MMPKG_KEY": KEY}
         with open(reader, "rb") as told, subprocess.Popen(words, **how) as running:
             os.close(writer)
             if self.case.page:
-                printed, response = asked(running, self.port, self.case.page)
+                printed, response = asked(running, self.port, request(self.case, self.port, given))
             else:
-                printed, response = running.communicate(self.case.input if given is None else given, PATIENCE)[0], b""
+                printed, response = running.communicate(given, PATIENCE)[0], b""
             return Ran(running.wait(PATIENCE), printed.splitlines(keepends=True), response, told.read() != b"")
 
     def standings(self):
@@ -242,10 +258,29 @@ def parts_of(case):
         yield b"".join(lines[:end])
 
 
+def lines_of(response):
+    """The head of a response, and the lines behind it."""
+    head, end, body = response.partition(b"\r\n\r\n")
+    return head + end, body.splitlines(keepends=True)
+
+
+def is_desk_answer(ample, ran):
+    """Whether a desk answers a request, where a growth was refused, up to a fault 90."""
+    told = ran.status, [line for line in ran.lines if not line.startswith(b"desk ")]
+    if told in ((3, [b"fault 90\n"]), (0, [b"page fault 90\n"])):
+        return ran.response in (b"", ample.response)
+    (head, lines), (wanted_head, wanted) = lines_of(ran.response), lines_of(ample.response)
+    if told[1] != [b"list fault 90\n"] or head != wanted_head or not lines:
+        return False
+    return lines == wanted[: len(lines) - 1] + [b"%d fault 90\n" % len(lines)]
+
+
 def is_answer(case, ample, ran):
     """Whether a run answers as one with ample memory does, or where a growth was refused as that one up to a fault 90."""
     if (ran.status, ran.lines, ran.response) == ample[:3]:
         return True
+    if ran.refused and case.words[0] == "desk":
+        return is_desk_answer(ample, ran)
     if not ran.refused or ran.status != 3 or not ran.lines or ran.response not in (b"", ample.response):
         return False
     *before, last = ran.lines
@@ -257,9 +292,10 @@ def may_stand(case, found, ample, ran):
     """Returns what may stand after a run, of what stands after each part of the work."""
     if ran.lines == ample.lines:
         return found[-1:]
-    if case.words[0] != "run":
+    if case.words[0] not in ("run", "desk"):
         return found
-    done = sum(line.endswith(b" ok\n") for line in ran.lines)
+    answers = ran.lines if case.words[0] == "run" else lines_of(ran.response)[1]
+    done = sum(line.endswith(b" ok\n") for line in answers)
     return found[done : done + 2]
 
 

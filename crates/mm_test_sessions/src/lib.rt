@@ -3,6 +3,7 @@
 //!
 //! - `examples`: the examples in the heads of `mm_core`, `mm_kit` and `mm_page`.
 //! - `fakes`: writers, readers and folders that fail.
+//! - `rows`: rows that are shown as records.
 //! - `runs`: a run on systems of the tests' own.
 //! - `sessions`: what is answered, adopted, checked and listed.
 //! - `kits`: imports of folders in memory.
@@ -24,6 +25,8 @@ mod kits;
 mod pages;
 #[cfg(test)]
 mod reopening;
+#[cfg(test)]
+mod rows;
 #[cfg(test)]
 mod runs;
 #[cfg(test)]

@@ -6,7 +6,7 @@ use Rattle.sqlite.specs.State.{State, HasCleanDisk}
 use Rattle.mm_definitions.specs.Bounds.{current}
 use Rattle.mm_definitions.specs.Keys.{Text}
 use Rattle.mm_definitions.specs.Package.{Package}
-use Rattle.mm_definitions.specs.Streams.{Written, written_as}
+use Rattle.mm_definitions.specs.Streams.{Written}
 use Rattle.mm_definitions.specs.declared.answers.Fault.{Fault}
 use Rattle.mm_store.specs.Stands.{IsSettled}
 use Rattle.mm_store.proofs.Seen.{seen_of}

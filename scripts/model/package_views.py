@@ -2,6 +2,7 @@
 
 import hashlib
 import json
+import re
 
 from package_records import ITEM, NAME, PLACE, PROFILE_VERSION, PYRAMIDS, ZOOM, read_fields
 
@@ -91,6 +92,19 @@ def listing(package):
     for name, pieces in sorted(package.editions.items()):
         lines.append(f"edition {name} published" if pieces is None else f"edition {name} open {len(pieces)}")
     return lines
+
+
+def quoted(field):
+    """Returns a field as a record has it: in double quotes where it needs them."""
+    return '"' + field.replace('"', '""') + '"' if re.search('[,"\r\n]', field) else field
+
+
+def records_of_rows(package, table):
+    """Returns the text of the rows of a table as the records that write them, or of the number of why it has none."""
+    if package.kind(table) != "attributes":
+        return f"refused {26 if table in package.tables else 25}\n"
+    found = sorted((item, row) for (name, item), row in package.rows.items() if name == table)
+    return "".join(",".join(map(quoted, ("row", table, str(item), title, note, str(amount)))) + "\n" for item, (title, note, amount) in found)
 
 
 def respond(package, method, target):

@@ -27,7 +27,7 @@ import tempfile
 from package_desk import Desk
 from package_model import Package
 from package_records import MOST_KIT_BYTES, MOST_MOMENT, MOST_PIECES, Refused, read_command, records
-from package_views import listing, query_of, respond, table_rows
+from package_views import listing, query_of, records_of_rows, respond, table_rows
 from random_records import OPENING, Author, all_edges
 
 TOP = pathlib.Path(__file__).resolve().parent.parent.parent
@@ -195,11 +195,21 @@ class Round:
         """Compares the listing, the check and the rows."""
         self.compare("listing", self.program_lines("list", self.file), listing(self.package))
         self.compare("check", self.program_lines("check", self.file), ["package ok"])
+        self.compare_records()
         told, wanted = self.file_rows(), table_rows(self.package)
         for table in sorted(told.keys() | wanted.keys()):
             self.compare("rows of " + table, *[sorted(rows.get(table, ["no table"]), key=repr) for rows in (told, wanted)])
         self.seen["packages", ""] += 1
         self.seen["rows", ""] += sum(map(len, told.values()))
+
+    def compare_records(self):
+        """Compares the records of the rows of each table that may have some, and why the first of the others shows none."""
+        tables = sorted(self.package.tables, key=lambda table: (self.package.kind(table) == "attributes", table))
+        for place, table in enumerate(["nowhere", *tables]):
+            if place < 2 or self.package.kind(table) == "attributes":
+                wanted = records_of_rows(self.package, table)
+                told = self.program_lines("show", self.file, table, status=int(wanted.startswith("refused")))
+                self.compare("records of " + table, told, wanted.split("\n")[:-1])
 
     def file_rows(self):
         """Returns the rows of each table of a copy of the file, as Python's sqlite3 has them."""

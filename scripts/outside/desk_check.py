@@ -9,6 +9,7 @@ import contextlib
 import os
 import pathlib
 import re
+import resource
 import select
 import signal
 import socket
@@ -40,6 +41,11 @@ def free_port():
         return listener.getsockname()[1]
 
 
+def long_files_are_errors():
+    """Has a write past the length that files may have answer an error, and not end the program."""
+    signal.signal(signal.SIGXFSZ, signal.SIG_IGN)
+
+
 class Running:
     """A desk that runs on a package in a folder of its own."""
 
@@ -50,7 +56,7 @@ class Running:
         words = [PROGRAM, "desk", self.file, "--port", str(self.port), "--count", str(count), *(["--page", table] if table else [])]
         self.model, self.package = Desk(self.port, key or "", table), Package()
         environment = {name: value for name, value in os.environ.items() if name != "MMPKG_KEY"} | ({"MMPKG_KEY": key} if key else {})
-        self.program = subprocess.Popen(words, stdout=subprocess.PIPE, env=environment)
+        self.program = subprocess.Popen(words, stdout=subprocess.PIPE, env=environment, preexec_fn=long_files_are_errors)
         self.address = self.line()
 
     def line(self):
@@ -322,6 +328,46 @@ def check_kills():
             expect(again.rows().count('"id"'), stands + 1, "the rows by the next desk")
             again.end()
     return 5
+
+
+def no_file_past(it, most):
+    """From here on a write of the desk past this length of a file fails."""
+    resource.prlimit(it.program.pid, resource.RLIMIT_FSIZE, (most, resource.RLIM_INFINITY))
+
+
+def rows_under(folder, most):
+    """Sends four rows to a desk whose files may not grow past a length; how many were answered ok, and whether all were."""
+    it = Running(folder)
+    it.post(OPENING)
+    no_file_past(it, most)
+    body = b"".join(b"row,spots,%d,Spot,,0\n" % (number + 100) for number in range(4))
+    told = body_of(it.ask(it.head("POST", "/records", length=len(body)) + body))
+    whole = told.count(b" ok\n")
+    last = b"" if whole == 4 else b"%d fault 91\n" % (whole + 1)
+    expect(told, b"".join(b"%d ok\n" % (number + 1) for number in range(whole)) + last, "the answers")
+    no_file_past(it, resource.RLIM_INFINITY)
+    if whole == 4:
+        it.end()
+    else:
+        expect(it.line(), "list fault 91\n", "what is printed")
+        expect(it.program.wait(AT_ONCE), 3, "the status")
+    return whole
+
+
+def check_a_store_that_fails():
+    """At lengths past which no file may grow, a list ends behind its last whole command, and the next desk goes on with what stands."""
+    seen, most = set(), 0
+    while 4 not in seen:
+        most += 4096
+        with tempfile.TemporaryDirectory() as folder:
+            whole = rows_under(folder, most)
+            again = Running(folder)
+            stands = again.rows().count('"id"') - 1
+            assert whole <= stands <= min(4, whole + 1), f"past {most} bytes {whole} lines came, and {stands} rows stand"
+            again.end()
+            seen.add(whole)
+    assert {0, 1} < seen, f"each list stopped behind {seen} commands"
+    return most // 4096
 
 
 def check_a_client_that_goes_away():

@@ -1,4 +1,4 @@
-use Rattle.std.proofs.Common.{ℕ, inl, inr, refl, subst, sym}
+use Rattle.std.proofs.Common.{ℕ, inr, refl, subst, sym}
 use Rattle.mm_definitions.specs.Streams.{written}
 use Rattle.mm_program.specs.Told.{IsOutcome}
 use Rattle.mm_program.proofs.desks.desk_keyed.Goals as goal

@@ -1,4 +1,4 @@
-use Rattle.std.proofs.Common.{inl, inr, refl}
+use Rattle.std.proofs.Common.{inr, refl}
 use Rattle.mm_work.specs.Pages.{list_fault_text}
 use Rattle.mm_program.proofs.Attending.{line_turn, quiet_turn}
 use Rattle.mm_program.proofs.sittings.tell_list.Goals as goal

@@ -11,12 +11,6 @@ set -eu -o pipefail
 # shellcheck source=scripts/outside/lib.sh
 source "$(dirname "$0")/lib.sh" "$@"
 
-missing=()
-command -v chromium >/dev/null || missing+=(chromium)
-[ -e /usr/share/javascript/leaflet/leaflet.min.js ] || missing+=(libjs-leaflet)
-if [ ${#missing[@]} != 0 ]; then
-    echo "no crew worked at the page (${missing[*]}): apt-get install chromium libjs-leaflet"
-    exit 77
-fi
+want_browser "no crew worked at the page"
 
 exec "$top/scripts/outside/crew_page_check.py"

@@ -8,3 +8,13 @@ if [ ! -x "$MMPKG" ]; then
     echo "$MMPKG isn't there: scripts/build.sh makes out/mmpkg" >&2
     exit 2
 fi
+
+# Ends with 77, and these words, where Chromium or Leaflet isn't there.
+want_browser() {
+    local missing=()
+    command -v chromium >/dev/null || missing+=(chromium)
+    [ -e /usr/share/javascript/leaflet/leaflet.min.js ] || missing+=(libjs-leaflet)
+    [ ${#missing[@]} = 0 ] && return
+    echo "$1 (${missing[*]}): apt-get install chromium libjs-leaflet"
+    exit 77
+}

@@ -11,12 +11,6 @@ set -eu -o pipefail
 # shellcheck source=scripts/outside/lib.sh
 source "$(dirname "$0")/lib.sh" "$@"
 
-missing=()
-command -v chromium >/dev/null || missing+=(chromium)
-[ -e /usr/share/javascript/leaflet/leaflet.min.js ] || missing+=(libjs-leaflet)
-if [ ${#missing[@]} != 0 ]; then
-    echo "the viewer wasn't looked at (${missing[*]}): apt-get install chromium libjs-leaflet"
-    exit 77
-fi
+want_browser "the viewer wasn't looked at"
 
 exec "$top/scripts/outside/viewer_check.py"

@@ -182,16 +182,19 @@ module _ (p : Package) (table : Text) where
         go false under = not_beyond e rest q tail_up under
 
     by_id : (q : Item) → q.table ≡ table → item_cmp q e.0 ≡ int_cmp q.id e.0.id
-    by_id q of = (λ i. ordering_then (text_cmp (of i) (here.0 i)) (int_cmp q.id e.0.id)) ∙ ap (λ o. ordering_then o (int_cmp q.id e.0.id)) (tied_itself texts.total table)
+    by_id q of = (λ i. ordering_then (text_cmp (of i) (here.0 i)) (int_cmp q.id e.0.id)) ∙ ap (λ o. ordering_then o (int_cmp q.id e.0.id))
+        (tied_itself texts.total table)
 
     in_table : (q : Item) → same_text q.table table ≡ true → find item_cmp q (rows_on p table next) ≡ find item_cmp q rest
     in_table q on = go (int_cmp q.id e.0.id) (int_ranks q.id e.0.id) (by_id q (are_same texts q.table table on))
       where
-        go : (o : Ordering) → MatchOrdering o (q.id <ℤ e.0.id) (q.id ≡ e.0.id) (e.0.id <ℤ q.id) → item_cmp q e.0 ≡ o → find item_cmp q (rows_on p table next) ≡ find item_cmp q rest
+        go : (o : Ordering) → MatchOrdering o (q.id <ℤ e.0.id) (q.id ≡ e.0.id) (e.0.id <ℤ q.id) → item_cmp q e.0 ≡ o → find item_cmp q
+            (rows_on p table next) ≡ find item_cmp q rest
         go Less it cmp = not_of next q (from_below next q on (omega (arith, ints, it))) ∙ sym (not_beyond e rest q tail_up (ap is_gt cmp))
         go Equal it cmp = not_of next q (from_below next q on (omega (arith, ints, it))) ∙ sym (not_beyond e rest q tail_up (ap is_gt cmp))
         go Greater it cmp =
-            is_of next q (from_on next q on (omega (arith, ints, it))) ∙ sym (is_of first q (from_on first q on (omega (arith, ints, it, here.1)))) ∙ sym (behind q (ap is_gt cmp))
+            is_of next q (from_on next q on (omega (arith, ints, it))) ∙ sym (is_of first q (from_on first q on (omega (arith, ints, it, here.1))))
+            ∙ sym (behind q (ap is_gt cmp))
 
     rows_behind : rows_on p table next ≡ rest
     rows_behind = same_entries item_cmp items.total items.exact (rows_on p table next) rest (entries_sorted (retain_keys p.rows (is_from_id table next)))
@@ -204,7 +207,8 @@ module _ (p : Package) (table : Text) where
   -- ---- as they are told
 
   -- a list whose image is cut at an element is cut there
-  split : (es : List Entry) (before : List (ℤ × AttributeRow)) (last : ℤ × AttributeRow) (more : List (ℤ × AttributeRow)) → map numbered es ≡ (before ++ last ∷ []) ++ more
+  split : (es : List Entry) (before : List (ℤ × AttributeRow)) (last : ℤ × AttributeRow) (more : List (ℤ × AttributeRow)) → map numbered es ≡
+      (before ++ last ∷ []) ++ more
       → (front : List Entry) × (e : Entry) × (rest : List Entry) × (es ≡ front ++ e ∷ rest) × (numbered e ≡ last) × (map numbered rest ≡ more)
   split [] [] last more is = absurd cc
   split [] (x ∷ before) last more is = absurd cc
@@ -221,10 +225,13 @@ module _ (p : Package) (table : Text) where
       let whole : all ≡ rows ++ drop MostRows all = sym (take-append-drop MostRows all) ∙ ap (λ l. l ++ drop MostRows all) (sym read) in
       let cut = split (rows_on p table first) before last (drop MostRows all) (whole ∙ ap (λ l. l ++ drop MostRows all) ends) in
       let (front, e, rest, is, same, behind) = cut in
-      whole ∙ ap (λ l. rows ++ l) (sym behind ∙ ap (map numbered) (sym (rows_behind first front e rest is)) ∙ ap (λ (r : ℤ × AttributeRow). map numbered (rows_on p table (r.0 +ℤ pos 1))) same)
+      whole ∙ ap (λ l. rows ++ l)
+      (sym behind ∙ ap (map numbered) (sym (rows_behind first front e rest is)) ∙ ap
+      (λ (r : ℤ × AttributeRow). map numbered (rows_on p table (r.0 +ℤ pos 1))) same)
 
   -- where fewer were read than a read tells, they are all
-  pub all_read : (first : ℤ) (rows : List (ℤ × AttributeRow)) → rows ≡ first_rows p table first → length rows < MostRows → map numbered (rows_on p table first) ≡ rows
+  pub all_read : (first : ℤ) (rows : List (ℤ × AttributeRow)) → rows ≡ first_rows p table first → length rows < MostRows → map numbered
+      (rows_on p table first) ≡ rows
   all_read first rows read few =
       let all = map numbered (rows_on p table first) in
       let short : length all ≤ MostRows = omega (arith, few, ap length read, length-take MostRows all) in
@@ -246,10 +253,15 @@ module _ (p : Package) (table : Text) where
   alike q low false off = from_off (pos 1) q off ∙ sym off
 
   pub all_rows : Meets current p → map numbered (rows_on p table (pos 1)) ≡ rows_of p table
-  all_rows meets = ap (λ m. map numbered (entries m)) (same_map items.total items.exact _ _ (λ q. at_retain items p.rows (is_from_id table (pos 1)) q ∙ go q (get p.rows q) refl ∙ sym (at_retain items p.rows (λ (k : Item). same_text k.table table) q)))
+  all_rows meets = ap (λ m. map numbered (entries m))
+      (same_map items.total items.exact _ _
+      (λ q. at_retain items p.rows (is_from_id table (pos 1)) q ∙ go q (get p.rows q) refl ∙ sym
+      (at_retain items p.rows (λ (k : Item). same_text k.table table) q)))
     where
-      go : (q : Item) (o : Option AttributeRow) → get p.rows q ≡ o → cond (is_from_id table (pos 1) q) (get p.rows q) None ≡ cond (same_text q.table table) (get p.rows q) None
-      go q None none = ap (cond_of (is_from_id table (pos 1) q)) none ∙ either (is_from_id table (pos 1) q) (same_text q.table table) ∙ ap (cond_of (same_text q.table table)) (sym none)
+      go : (q : Item) (o : Option AttributeRow) → get p.rows q ≡ o → cond (is_from_id table (pos 1) q) (get p.rows q) None ≡ cond
+          (same_text q.table table) (get p.rows q) None
+      go q None none = ap (cond_of (is_from_id table (pos 1) q)) none ∙ either (is_from_id table (pos 1) q) (same_text q.table table) ∙ ap
+          (cond_of (same_text q.table table)) (sym none)
       go q (Some row) is = ap (λ b. cond b (get p.rows q) None) (alike q (meets.q16.7 q row is).id.0 (same_text q.table table) refl)
 
   -- ---- one of them
@@ -273,17 +285,21 @@ module _ (p : Package) (table : Text) where
         up = subst (λ l. T (is_sorted item_cmp l)) is (entries_sorted (retain_keys p.rows (is_from_id table id)))
 
         turned : item_cmp (item table id) e.0 ≡ ordering_reverse (int_cmp e.0.id id)
-        turned = ap (λ t. ordering_then (text_cmp table t) (int_cmp id e.0.id)) here.0 ∙ ap (λ o. ordering_then o (int_cmp id e.0.id)) (tied_itself texts.total table)
+        turned = ap (λ t. ordering_then (text_cmp table t) (int_cmp id e.0.id)) here.0 ∙ ap (λ o. ordering_then o (int_cmp id e.0.id))
+            (tied_itself texts.total table)
             ∙ numbers.total.antisymm id e.0.id
 
-        go : (o : Ordering) → MatchOrdering o (e.0.id <ℤ id) (e.0.id ≡ id) (id <ℤ e.0.id) → int_cmp e.0.id id ≡ o → item_cmp (item table id) e.0 ≡ ordering_reverse o
+        go : (o : Ordering) → MatchOrdering o (e.0.id <ℤ id) (e.0.id ≡ id) (id <ℤ e.0.id) → int_cmp e.0.id id ≡ o → item_cmp
+            (item table id) e.0 ≡ ordering_reverse o
             → first_at id (take MostRows (map numbered (e ∷ rest))) ≡ at_id id (find item_cmp (item table id) (e ∷ rest))
         go Less it cmp back = absurd (omega (arith, ints, it, here.1))
         go Equal it cmp back =
-            ap (λ o. if is_eq o then numbered e ∷ [] else []) cmp ∙ ap (λ n. (n, e.1) ∷ []) it ∙ sym (ap (λ o. at_id id (cond (is_eq o) (Some e.1) (find item_cmp (item table id) rest))) back)
+            ap (λ o. if is_eq o then numbered e ∷ [] else []) cmp ∙ ap (λ n. (n, e.1) ∷ []) it ∙ sym
+            (ap (λ o. at_id id (cond (is_eq o) (Some e.1) (find item_cmp (item table id) rest))) back)
         go Greater it cmp back =
             ap (λ o. if is_eq o then numbered e ∷ [] else []) cmp
-            ∙ sym (ap (λ o. at_id id (cond (is_eq o) (Some e.1) (find item_cmp (item table id) rest))) back ∙ ap (at_id id) (not_beyond e rest (item table id) up (ap is_gt back)))
+            ∙ sym (ap (λ o. at_id id (cond (is_eq o) (Some e.1) (find item_cmp (item table id) rest))) back ∙ ap (at_id id)
+            (not_beyond e rest (item table id) up (ap is_gt back)))
 
     pub one_row : first_at id (first_rows p table id) ≡ at_id id (get p.rows (item table id))
     one_row = of_first (rows_on p table id) refl ∙ ap (at_id id) found

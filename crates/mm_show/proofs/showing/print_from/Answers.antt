@@ -9,7 +9,8 @@ pub loop-turn-init : goal.loop-turn-init
 loop-turn-init g c = record {
   same = refl;
   kept = leaves_same (g.D.Viewer.store c.args.desk.now);
-  printed = λ p on lists first read. printed_none p c.args.table.now first (g.W.Write.contents (inside c.args.output.now)) (map numbered_told c.args.first_of_all.items) read;
+  printed = λ p on lists first read. printed_none p c.args.table.now first (g.W.Write.contents (inside c.args.output.now))
+      (map numbered_told c.args.first_of_all.items) read;
   working = refl;
 }
 
@@ -21,7 +22,8 @@ loop-turn-preserved g c = record {
       let it = c.loop-turn.invariant.printed p (on_first _ _ _ _ p c.print_and_read.ensures.kept on) lists first read in
       let turned = c.in_ok-more.ensures.turned p (on_then _ _ _ _ _ p c.loop-turn.invariant.same c.loop-turn.invariant.kept c.print_and_read.ensures.kept on)
       lists it.next (ap (map numbered_told) c.deref.ensures.value ∙ it.read) in
-      printed_more p c.args.table.now first _ _ _ (map numbered_told c.loop-turn.rows.items) it (map numbered_told c.in-Some.more.items) (rw c.in-Some.is at turned);
+      printed_more p c.args.table.now first _ _ _ (map numbered_told c.loop-turn.rows.items) it (map numbered_told c.in-Some.more.items)
+      (rw c.in-Some.is at turned);
   working = c.in_ok-more.ensures.working ∙ c.loop-turn.invariant.working;
 }
 
@@ -33,7 +35,8 @@ returns-in_err-more-clause-printed g c p on lists first read =
     let it = c.loop-turn.invariant.printed p (on_first _ _ _ _ p c.print_and_read.ensures.kept on) lists first read in
     let turned = c.in_err-more.ensures.turned p (on_then _ _ _ _ _ p c.loop-turn.invariant.same c.loop-turn.invariant.kept c.print_and_read.ensures.kept on)
     lists it.next (ap (map numbered_told) c.deref.ensures.value ∙ it.read) in
-    print_stops p c.args.table.now first (written g.W.Write.contents c.args.output.now) (written g.W.Write.contents c.print_and_read.new.output) c.from_residual.result c.from_residual.ensures.0
+    print_stops p c.args.table.now first (written g.W.Write.contents c.args.output.now)
+    (written g.W.Write.contents c.print_and_read.new.output) c.from_residual.result c.from_residual.ensures.0
     (printed_cut p c.args.table.now first _ _ _ (map numbered_told c.loop-turn.rows.items) it turned)
 
 pub returns-in-None-clause-kept : goal.returns-in-None-clause-kept

@@ -20,7 +20,9 @@ returns-in-None-clause-kept g c = leaves_then _ _ _ c.rows.ensures.kept c.reason
 pub returns-in-Some-clause-shown : goal.returns-in-Some-clause-shown
 returns-in-Some-clause-shown g c p on =
     let fits : SFits w64 c.unwrap_or.result = search rules in
-    elim (cases_Bool (g.D.Viewer.has_failed c.args.desk.now)) as (λ _. Shows p c.args.table.now c.args.id (written g.W.Write.contents c.args.output.now) (written g.W.Write.contents c.show_found.new.output) c.show_found.result) [
+    elim (cases_Bool (g.D.Viewer.has_failed c.args.desk.now)) as
+    (λ _. Shows p c.args.table.now c.args.id (written g.W.Write.contents c.args.output.now)
+    (written g.W.Write.contents c.show_found.new.output) c.show_found.result) [
       | inl failed ↦ absurd (let f : Ok c.in_ok-rows.field-0 ≡ Err (record { 0 = 92 }) = sym c.in_ok-rows.was ∙ c.rows.ensures.ended failed in cc)
       | inr works ↦
           let value = c.in_ok-rows.ensures.value p (on_first _ _ _ _ p c.show_found.ensures.kept on) in
@@ -34,4 +36,5 @@ returns-in-None-clause-shown g c p on =
     let value = c.in_ok-rows.ensures.value p (on_first _ _ _ _ p c.reason_of.ensures.kept on) in
     let off = told_none (lists_rows p c.args.table.now) _ (rw c.in-None.is at value) in
     none_shown p c.args.table.now c.args.id (written g.W.Write.contents c.args.output.now) off c.reason_of.result
-    (IfOk-weaker c.reason_of.result _ _ (λ why h. h p (on_then _ _ _ _ _ p c.rows.ensures.same c.rows.ensures.kept c.reason_of.ensures.kept on)) c.reason_of.ensures.why)
+    (IfOk-weaker c.reason_of.result _ _
+    (λ why h. h p (on_then _ _ _ _ _ p c.rows.ensures.same c.rows.ensures.kept c.reason_of.ensures.kept on)) c.reason_of.ensures.why)

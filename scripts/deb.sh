@@ -23,6 +23,7 @@ fail() {
 
 # By a command's name, the tool that it is.
 declare -A tools=(
+    [mmpkg-crew]=crew.py
     [mmpkg-import]=import_standard.py
     [mmpkg-export]=export_standard.py
     [mmpkg-kit]=make_kit.py
@@ -51,6 +52,8 @@ put_programs() {
     install -D "$program" "$root/usr/bin/mmpkg"
     install -d "$root/usr/share/mmpkg"
     find tools -maxdepth 1 -type f ! -name '.*' -exec install -m 644 {} "$root/usr/share/mmpkg/" \;
+    install -d "$root/usr/share/mmpkg/page"
+    install -m 644 tools/page/* "$root/usr/share/mmpkg/page/"
     for name in $(printf "%s\n" "${!tools[@]}" | sort); do
         if [ ! -e "tools/${tools[$name]}" ]; then
             echo "left out: $name: tools/${tools[$name]} isn't there" >&2
@@ -64,6 +67,12 @@ exec python3 -B /usr/share/mmpkg/${tools[$name]} "\$@"
 END
         chmod 755 "$root/usr/bin/$name"
     done
+}
+
+# What a desktop opens packages with: their type by its name, and the crew's command.
+put_desktop() {
+    install -D -m 644 packaging/mmpkg-crew.desktop "$root/usr/share/applications/mmpkg-crew.desktop"
+    install -D -m 644 packaging/mmpkg.xml "$root/usr/share/mime/packages/mmpkg.xml"
 }
 
 put_pages() {
@@ -111,6 +120,7 @@ put_control() {
 umask 022
 find_version
 put_programs
+put_desktop
 put_pages
 put_documents
 put_control

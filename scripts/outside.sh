@@ -3,8 +3,9 @@
 # output, the lines of the documents, where the program calls the system for files, the tables of the file, the page and
 # the desk by curl and over sockets, a machine's clock at its ends, a terminal, refused growths of memory, random lists
 # against a model, what turns one package into another; and where the peers are there, the border to the standard, the
-# viewer in a browser, GDAL and QGIS by WMTS, the day of two crews, the Debian package in a fresh Debian, and the power of
-# a virtual machine that is cut. The last line is 'N passed, M failed'.
+# viewer in a browser, a crew at the page and its command, GDAL and QGIS by WMTS, the day of two crews by lists and by the
+# page, the Debian package in a fresh Debian, and the power of a virtual machine that is cut. The last line is 'N passed, M
+# failed'.
 #
 #     scripts/outside.sh [PROGRAM]
 #
@@ -109,6 +110,9 @@ begin 'random lists' scripts/model/random_lists.py
 begin 'the border to the standard' scripts/outside/border.sh
 begin 'what turns one package into another' scripts/outside/kit_between_check.py
 begin 'the viewer' scripts/outside/viewer.sh
+begin 'the page of a crew' scripts/outside/crew_page.sh
+begin "the crew's command" scripts/outside/crew_check.py
+begin 'the day of a crew at the page' scripts/outside/crew_day.sh
 begin 'GDAL and QGIS live' scripts/outside/wmts.sh
 begin 'the day of a crew' scripts/outside/field_day.sh
 begin 'the Debian package' scripts/outside/deb_check.sh

@@ -68,7 +68,9 @@ class Tour:
             os.symlink(f"{TOP}/{name}", f"{folder}/{name}")
         with open(f"{folder}/notes.mmpkg", "w", encoding="utf-8") as it:
             it.write("some notes")
-        self.environment = {**os.environ, "PATH": f"{folder}/bin:{os.environ['PATH']}", "LC_ALL": "C.UTF-8"}
+        # Python writes nothing beside the tools, which may be a package's.
+        more = {"PATH": f"{folder}/bin:{os.environ['PATH']}", "LC_ALL": "C.UTF-8", "PYTHONDONTWRITEBYTECODE": "1"}
+        self.environment = os.environ | more
 
     def start(self, command):
         """Starts a command that goes on behind the next, and returns the first line that it prints."""

@@ -76,7 +76,13 @@ class Crew:
         self.wait_for_rows()
 
     def wait_for_rows(self):
-        self.page.wait("document.readyState === 'complete' && typeof byId === 'function' && byId('count').innerText !== '' && store !== null")
+        there = "document.readyState === 'complete' && typeof byId === 'function' && store !== null && byId('count').innerText !== ''"
+        self.page.wait(f"!window.wasBefore && {there}")
+
+    def reload(self):
+        self.value("window.wasBefore = true")
+        self.page.ask("Page.reload")
+        self.wait_for_rows()
 
     def value(self, expression):
         return self.page.value(expression)

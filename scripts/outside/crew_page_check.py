@@ -557,6 +557,26 @@ def check_5000_rows(scene):
     expect_quiet(crew)
 
 
+def check_what_is_typed(scene):
+    """What is typed and not saved is there when the page is loaded again, until it is saved or closed."""
+    seat, crew = scene.begin()
+    crew.press("fresh")
+    crew.fill(title="Half", note="a word", place=(500_400, 5_600_500))
+    number = crew.value("form.row.id")
+    for _ in range(2):
+        crew.reload()
+        crew.page.wait("form !== null")
+        found = [crew.value(f"byId('{it}').value") for it in ("title", "note", "east", "north")]
+        expect((found, crew.value("form.row.id")), (["Half", "a word", "500400.0", "5600500.0"], number), "the form")
+        expect(crew.text("told"), "This wasn't saved yet.", "what is said")
+    crew.save()
+    crew.wait_until_it_stands()
+    crew.reload()
+    expect(crew.value("form"), None, "the form behind that")
+    expect_quiet(crew)
+    expect(by_title(rows_of(seat), "Half")[0], number, "the row's number")
+
+
 def check_a_mark_opens_its_row(scene):
     """A tap on a row's mark opens its form; while a place is set the tap is that place."""
     _, crew = scene.begin()

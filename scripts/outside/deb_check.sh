@@ -128,6 +128,20 @@ there_and_back() {
         cmp a b && test -s a'
 }
 
+# What a desktop finds: an entry whose command is there, and the type of packages.
+desktop() {
+    local entry=$root/usr/share/applications/mmpkg-crew.desktop
+    [ -x "$root/usr/bin/$(sed -n 's/^Exec=\([^ ]*\).*/\1/p' "$entry")" ] || return 1
+    grep -q "^MimeType=$(sed -n 's/.*mime-type type="\([^"]*\)".*/\1/p' "$root/usr/share/mime/packages/mmpkg.xml");$" "$entry" || return 1
+    ! command -v desktop-file-validate >/dev/null || desktop-file-validate "$entry"
+}
+
+# As a new user: from the installed package to a row with a photo on the map, in this machine's browser.
+first_minute() {
+    command -v chromium >/dev/null || { echo "chromium isn't there" && return 0; }
+    scripts/outside/first_minute.py "$root"
+}
+
 remove() {
     inside dpkg --purge mmpkg && list_files | diff "$folder/before" -
 }
@@ -145,6 +159,8 @@ try 'the package is installed, with the program as it was built' install_package
 try 'each command answers --help, and has a page' commands
 try 'the tours of the documents' tours
 try 'a package goes out and in by the tools' there_and_back
+try 'a desktop opens packages by the crew'"'"'s command' desktop
+try 'a row with a photo stands on the map within a minute' first_minute
 try 'purged, it leaves nothing' remove
 echo "$passed passed, $failed failed"
 [ "$failed" = 0 ]

@@ -17,7 +17,7 @@ let stood = new Map();    // the rows of the table that is shown, as the package
 let showing = "";         // the table whose rows are shown
 let turn = 0;             // how often rows were asked for: only the last answer is shown
 let most = SHOWN_ROWS;    // how many rows the list has
-let form = null;          // what the form is about: { table, row, fresh, act, place, photos, before }
+let form = null;          // what the form is about: { table, row, fresh, act, place, photos }
 let marks = null, draft = null;  // the layers of the rows, and of the place in the form
 
 const tables = () => contents.filter(it => it.kind === "attributes");
@@ -98,7 +98,8 @@ function arrange(list, items) {
 /** The rows that have all words that are searched for, in the order that is chosen. */
 function foundOf(rows) {
   const words = byId("search").value.trim().toLowerCase().split(/\s+/), [key, compare] = ORDERS[byId("order").value];
-  const has = ({ id, title, note }, text = `${title} ${note} ${id}`.toLowerCase()) => words.every(it => text.includes(it));
+  const textOf = ({ id, title, note }) => `${title} ${placeIn(note)?.rest ?? note} ${id}`.toLowerCase();
+  const has = (row, text = textOf(row)) => words.every(it => text.includes(it));
   const keyed = rows.filter(it => has(it)).map(it => [key(it), it]);
   return keyed.sort(([one, first], [other, second]) => compare(one, other) || first.id - second.id).map(([, it]) => it);
 }
@@ -153,7 +154,7 @@ async function change(act) {
 
 function openForm({ table, row, fresh, act = null, photos = [] }) {
   const place = placeIn(row.note);
-  form = { table, row, fresh, act, photos, place, before: "" };
+  form = { table, row, fresh, act, photos, place };
   byId("which").textContent = act ? `Refused: ${act.refused}` : fresh ? "A new row" : `Row ${row.id}`;
   byId("other").hidden = !fresh || tables().length < 2;
   byId("into").value = table;
@@ -161,7 +162,6 @@ function openForm({ table, row, fresh, act = null, photos = [] }) {
   [byId("east").value, byId("north").value, byId("told").textContent] = [place?.east ?? "", place?.north ?? "", ""];
   byId("remove").hidden = fresh;
   byId("edit").hidden = false;
-  form.before = written();
   tap(fresh && !place && !act && Boolean(map));
   showPhotos();
   showPlace();
@@ -170,12 +170,30 @@ function openForm({ table, row, fresh, act = null, photos = [] }) {
   (fresh && matchMedia("(pointer: fine)").matches ? byId("title") : byId("which")).focus({ preventScroll: true });
 }
 
-/** What stands in the form's fields. */
-const written = () => JSON.stringify(["into", "title", "note", "amount", "east", "north"].map(it => byId(it).value));
-const isChanged = () => form !== null && (written() !== form.before || form.photos.length !== photosIn(form.act).length);
+const FIELDS = ["into", "title", "note", "amount", "east", "north"];
+const draftName = () => `${store.name} draft`;
+
+/** Keeps what is typed, but for photos, so that it is there when the page is loaded again. */
+function keepDraft() {
+  if (!form || form.act) return;
+  const { table, row, fresh, place } = form;
+  localStorage.setItem(draftName(), JSON.stringify({ table, row, fresh, place, values: FIELDS.map(it => byId(it).value) }));
+}
+
+/** Opens the form as it was typed in when the page went. */
+function openDraft() {
+  const { table, row, fresh, place, values } = JSON.parse(localStorage.getItem(draftName()) ?? "{}");
+  if (!row || !tables().some(it => it.table === table)) return;
+  openForm({ table, row, fresh });
+  for (const [at, it] of FIELDS.entries()) byId(it).value = values[at];
+  form.place = place;
+  showPlace();
+  byId("told").textContent = "This wasn't saved yet.";
+}
 
 function closeForm() {
   form = null;
+  localStorage.removeItem(draftName());
   byId("edit").hidden = true;
   tap(false);
   showDraft();
@@ -202,6 +220,7 @@ function setPlace(east, north, digits) {
   [byId("east").value, byId("north").value] = [east.toFixed(digits), north.toFixed(digits)];
   form.place = { system: shown.srs_id };
   showPlace();
+  keepDraft();
 }
 
 const isTapping = () => byId("tap").getAttribute("aria-pressed") === "true";
@@ -322,7 +341,8 @@ function listenToForm() {
   twice(byId("remove"), removeRow);
   byId("edit").addEventListener("submit", event => { event.preventDefault(); save(); });
   byId("edit").addEventListener("keydown", event => event.key === "Escape" && closeForm());
-  addEventListener("beforeunload", event => isChanged() && event.preventDefault());
+  byId("edit").addEventListener("input", keepDraft);
+  addEventListener("beforeunload", event => form && form.photos.length > photosIn(form.act).length && event.preventDefault());
 }
 
 function listenToList() {
@@ -355,5 +375,6 @@ async function startWork(known) {
   onReturn[1] = () => { readRows(); send(); };
   await readRows();
   showWaiting();
+  openDraft();
   send();
 }

@@ -20,6 +20,7 @@ import contextlib
 import math
 import os
 import pathlib
+import re
 import socket
 import sqlite3
 import subprocess
@@ -117,6 +118,9 @@ KIT = {
 }
 PAGES = "/tiles/base/1/0/1", "/related/spots/7", "/media/photos/3", "/contents"
 KEY = "0123456789abcdef"
+# How a moment is written in a package, and what stands for each but the first.
+MOMENT = re.compile(r"\d{4}-\d\d-\d\dT\d\d:\d\d:\d\d\.\d{3}Z")
+LATER = "later"
 # A list that a desk is sent: three commands, of which one is refused.
 SENT = b"row,spots,10,Well,,3\nrow,spots,x,,,0\nmedia,photos,6,image/png,02\n"
 
@@ -164,10 +168,17 @@ def free_port():
 
 
 def rows_in(file):
-    """Returns all rows of all tables of a package, and nothing of a file that has no table."""
+    """Returns all rows of all tables of a package, and nothing of a file that has no table. A desk's moments are the clock's: each but the
+    first is a later one."""
     with contextlib.closing(sqlite3.connect(file)) as it:
         tables = [name for (name,) in it.execute("SELECT name FROM sqlite_schema WHERE type = 'table' ORDER BY name")]
-        return [(name, it.execute(f"SELECT * FROM {name}").fetchall()) for name in tables]
+        found = [(name, it.execute(f"SELECT * FROM {name}").fetchall()) for name in tables]
+    return [(name, [[LATER if is_later(value) else value for value in row] for row in rows]) for name, rows in found]
+
+
+def is_later(value):
+    """Whether a value is a moment, and not the first."""
+    return isinstance(value, str) and MOMENT.fullmatch(value) is not None and not value.startswith("1970-01-01T00:00:00.000")
 
 
 def request(case, port, given):

@@ -27,7 +27,8 @@ told_records p table id old new (none, printed) = (
   ap status_by (sym none),
 )
 
-pub told_reason : (p : Package) (table : Text) (id : Option ℤ) (old mid new : Written) (number : ℕ) (r : Result ℕ Fault) → Shows p table id old mid (Ok (Some number))
+pub told_reason : (p : Package) (table : Text) (id : Option ℤ) (old mid new : Written) (number : ℕ) (r : Result ℕ Fault) → Shows p table id old mid
+    (Ok (Some number))
     → TellsReason mid new number r → TellsRows p table id old new r
 told_reason p table id old mid new number (Ok status) (why, same) (printed, is) = (
   subst (λ (o : Option ℕ). Appends old.contents new.contents (text_by o (row_records table (rows_shown p table id)))) (sym why)
@@ -43,7 +44,8 @@ begun_by None records old new begun = begun
 begun_by (Some number) records old new ([], rest, is, appends) = ([], text_by (Some number) records, refl, appends)
 begun_by (Some number) records old new (b ∷ front, rest, is, appends) = absurd cc
 
-pub told_begun : (p : Package) (table : Text) (id : Option ℤ) (old new : Written) (fault : Fault) (r : Result ℕ Fault) → IsErr r → Shows p table id old new (Err fault)
+pub told_begun : (p : Package) (table : Text) (id : Option ℤ) (old new : Written) (fault : Fault) (r : Result ℕ Fault) → IsErr r
+    → Shows p table id old new (Err fault)
     → TellsRows p table id old new r
 told_begun p table id old new fault (Ok status) stops begun = absurd (let f : false ≡ true = stops in cc)
 told_begun p table id old new fault (Err other) stops begun = begun_by (show_refusal p table id) _ old.contents new.contents begun
@@ -58,7 +60,8 @@ module _ (table : Text) (id : Option ℤ) (old mid new : State) (adopted : IsAdo
   Tells before after r = (p : Package) → IsOn false mid new p → TellsRows p table id before after r
 
   on : (clean : HasCleanDisk new) (p : Package) → IsSettled current old p → IsOn false mid new p
-  on clean p settled works = (clean, adopted.meets (early clean) p (seen_of current _ p settled), seen_of current mid p (adopted.settled (early clean) p settled))
+  on clean p settled works =
+      (clean, adopted.meets (early clean) p (seen_of current _ p settled), seen_of current mid p (adopted.settled (early clean) p settled))
 
   pub shows : (held holds : Written) (status : ℕ) → Tells held holds (Ok status) → IsShowing table id old new held.contents holds.contents status
   shows held holds status told = record {

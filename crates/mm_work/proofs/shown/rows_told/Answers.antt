@@ -6,7 +6,8 @@ use Rattle.mm_work.proofs.shown.rows_told.Goals as goal
 
 pub returns-in_err-reason-clause-told : goal.returns-in_err-reason-clause-told
 returns-in_err-reason-clause-told g c p on =
-    told_begun p c.args.table.now c.args.id (written g.W.Write.contents c.args.output.now) (written g.W.Write.contents c.show_rows.new.output) c.in_err-reason.field-0.0
+    told_begun p c.args.table.now c.args.id (written g.W.Write.contents c.args.output.now)
+    (written g.W.Write.contents c.show_rows.new.output) c.in_err-reason.field-0.0
     c.from_residual.result c.from_residual.ensures.0 (c.in_err-reason.ensures.shown p on)
 
 pub returns-in-Some-clause-told : goal.returns-in-Some-clause-told
@@ -20,4 +21,5 @@ pub returns-in-None-clause-told : goal.returns-in-None-clause-told
 returns-in-None-clause-told g c p on =
     let old = written g.W.Write.contents c.args.output.now in
     let new = written g.W.Write.contents c.show_rows.new.output in
-    told_records p c.args.table.now c.args.id old new (subst (λ (o : Option ℕ). Shows p c.args.table.now c.args.id old new (Ok o)) c.in-None.is (c.in_ok-reason.ensures.shown p on))
+    told_records p c.args.table.now c.args.id old new
+    (subst (λ (o : Option ℕ). Shows p c.args.table.now c.args.id old new (Ok o)) c.in-None.is (c.in_ok-reason.ensures.shown p on))

@@ -5,5 +5,13 @@ use Rattle.mm_work.proofs.shown.tell_reason.Goals as goal
 pub returns-in-Cut : goal.returns-in-Cut
 returns-in-Cut g c =
     let (failed, taken, less, appends) = c.in-Cut.ensures.sent in
-    let text = c.as_slice.result.now in
-    ((take taken text, drop taken text, sym (rw c.get.ensures.number at (c.as_slice.ensures.value ∙ c.numbered_line-line.ensures)) ∙ sym (take-append-drop taken text), appends), inr (refl, failed))
+    let text = c.as_slice.result.now in (
+      (
+        take taken text,
+        drop taken text,
+        sym (rw c.get.ensures.number at (c.as_slice.ensures.value ∙ c.numbered_line-line.ensures)) ∙ sym
+            (take-append-drop taken text),
+        appends,
+      ),
+      inr (refl, failed),
+    )

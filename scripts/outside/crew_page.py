@@ -3,11 +3,9 @@
 A Seat is a package whose desk is killed and started again at one port; a Crew is a page of it.
 """
 
-import contextlib
 import json
 import os
 import select
-import signal
 import socket
 import subprocess
 import time
@@ -17,7 +15,6 @@ from checks import PROGRAM
 KEY = "a-key-of-this-crew"
 STANDS = "all is in the package"
 AT_ONCE = 10
-SECONDS = 600
 # The middle of an element, which is scrolled into view.
 MIDDLE = """it => {
   it.scrollIntoView({ block: 'center' });
@@ -45,23 +42,17 @@ class Seat:
 
     def start(self, key=None):
         self.key = key or self.key
-        # The desk ends by itself, should this script be killed.
         words = ["desk", self.file, "--port", str(self.port), "--count", "1000000", "--page", "viewer"]
-        command = ["timeout", "--kill-after=1", str(SECONDS), PROGRAM, *words]
-        self.program = subprocess.Popen(command, stdout=subprocess.PIPE, env=os.environ | {"MMPKG_KEY": self.key}, start_new_session=True)
+        self.program = subprocess.Popen([PROGRAM, *words], stdout=subprocess.PIPE, env=os.environ | {"MMPKG_KEY": self.key})
         ready, _, _ = select.select([self.program.stdout], [], [], AT_ONCE)
         said = self.program.stdout.readline().decode() if ready else ""
         assert said == f"desk {self.address}/media/viewer/1\n", f"the desk says {said!r}"
 
     def kill(self):
         """Kills the desk, as a loss of power does."""
-        with contextlib.suppress(ProcessLookupError):
-            os.killpg(self.program.pid, signal.SIGKILL)
+        self.program.kill()
         self.program.wait()
-        if not self.program.stdout.closed:
-            # Its end is read when the desk itself has gone, and with it what it held of the file.
-            self.program.stdout.read()
-            self.program.stdout.close()
+        self.program.stdout.close()
 
     def again(self, key=None):
         self.kill()

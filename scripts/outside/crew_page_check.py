@@ -558,11 +558,13 @@ def check_5000_rows(scene):
 
 
 def check_what_is_typed(scene):
-    """What is typed and not saved is there when the page is loaded again, until it is saved or closed."""
+    """What is typed and not saved stays where another row is tapped, and when the page is loaded again, until it is saved or closed."""
     seat, crew = scene.begin()
     crew.press("fresh")
     crew.fill(title="Half", note="a word", place=(500_400, 5_600_500))
     number = crew.value("form.row.id")
+    crew.tap(500_350, 5_600_300)
+    expect((crew.text("told"), crew.value("form.row.id")), ("Save or close this row first.", number), "the form behind a tap on another row")
     for _ in range(2):
         crew.reload()
         crew.page.wait("form !== null")

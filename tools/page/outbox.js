@@ -152,11 +152,12 @@ function judged({ records }, { status, lines }) {
   return lines.length < records.length ? { again: "the answer was cut short" } : {};
 }
 
-/** A removal with its records, which are kept before they are sent. */
+/** A removal with its records, which are kept before they are sent. Where the package doesn't tell the row it may be gone, or the key. */
 async function removalOf(act) {
-  const response = await fetch(`${ROOT}related/${act.table}/${act.dropped}`, { cache: "no-store" });
-  const related = response.ok ? await response.json() : [], photos = related.filter(it => it.name === "media");
-  const records = [...related.map(it => ["map-drop", it.mapping, act.dropped, it.id]), ["row-drop", act.table, act.dropped]];
+  const response = await fetch(`${ROOT}related/${act.table}/${act.dropped}`, { cache: "no-store" }), last = ["row-drop", act.table, act.dropped];
+  if (!response.ok) return { ...act, records: [last] };
+  const related = await response.json(), photos = related.filter(it => it.name === "media");
+  const records = [...related.map(it => ["map-drop", it.mapping, act.dropped, it.id]), last];
   const full = { ...act, records, then: [...act.then ?? [], ...photos.map(it => ["media-drop", it.table, it.id])] };
   await keep(it => it.put(full));
   return full;
@@ -245,13 +246,13 @@ function showWaiting() {
   byId("outbox").replaceChildren(...waiting.map(waitingItem));
 }
 
-/** Has a button do something only when it is pressed twice. */
-function twice(button, act) {
+/** Has a button do something only when it is pressed twice, where that is asked for. */
+function twice(button, act, asks = () => true) {
   const text = button.textContent;
   const back = () => { button.textContent = text; delete button.dataset.asked; };
   button.addEventListener("blur", back);
   button.addEventListener("click", () => {
-    if (button.dataset.asked) return void (back(), act());
+    if (button.dataset.asked || !asks()) return void (back(), act());
     button.dataset.asked = "yes";
     button.textContent = `${text}: press again`;
   });

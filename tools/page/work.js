@@ -1,6 +1,6 @@
 // The crew's work: rows as a list and on the map, and their form.
 
-const ROWS_AT_ONCE = 1000, SHOWN_ROWS = 100, NAMED_MARKS = 24;
+const ROWS_AT_ONCE = 1000, SHOWN_ROWS = 100;
 const MOST_TEXT = 1000, MOST_AMOUNT = 10n ** 15n;
 const WORDS = new Intl.Collator(undefined, { numeric: true });
 // By its name, what a row is ordered by, and how two of these are.
@@ -17,8 +17,7 @@ let stood = new Map();    // the rows of the table that is shown, as the package
 let showing = "";         // the table whose rows are shown
 let turn = 0;             // how often rows were asked for: only the last answer is shown
 let most = SHOWN_ROWS;    // how many rows the list has
-let form = null;          // what the form is about: { table, row, fresh, act, place, photos }
-let marks = null, draft = null;  // the layers of the rows, and of the place in the form
+let form = null;          // what the form is about: { table, row, fresh, act, place, photos, before }
 
 const tables = () => contents.filter(it => it.kind === "attributes");
 
@@ -114,33 +113,17 @@ function showRows() {
   byId("more").hidden = part.length === found.length;
 }
 
-/** Draws the rows of the map's system at their places. */
-function showMarks() {
-  marks?.remove();
-  if (!map || !showing) return;
-  const placed = rowsNow().map(row => [row, placeIn(row.note)]).filter(([, place]) => place?.system === shown.srs_id);
-  const colours = { waits: "#b35c00", refused: "#a4161a" }, named = placed.length <= NAMED_MARKS;
-  marks = L.layerGroup();
-  const how = { renderer: L.canvas({ tolerance: 8 }), bubblingMouseEvents: false, radius: 8, weight: 2, color: "#fff", fillOpacity: 1 };
-  for (const [row, { east, north }] of placed) {
-    L.circleMarker([Number(north), Number(east)], { ...how, fillColor: colours[row.waits] ?? "#1d5fa8" })
-      .bindTooltip(element("span", nameOf(row)), { permanent: named, direction: "right", offset: [8, 0] })
-      .on("click", event => isTapping() ? tapped(event) : open(row)).addTo(marks);
-  }
-  marks.addTo(map);
-}
-
-/** Draws the place that the form has. */
-function showDraft() {
-  draft?.remove();
-  const place = form && map ? placeOfForm() : null;
-  if (!place || place.system !== shown.srs_id) return;
-  const how = { interactive: false, radius: 13, weight: 3, color: "#c00", fill: false };
-  draft = L.circleMarker([Number(place.north), Number(place.east)], how).addTo(map);
+/** Whether what is typed in the form would be lost; then that is said. */
+function isHeld() {
+  const held = form !== null && (typed() !== form.before || form.photos.length !== photosIn(form.act).length);
+  if (held) byId("told").textContent = "Save or close this row first.";
+  if (held) byId("edit").scrollIntoView({ block: "end" });
+  return held;
 }
 
 /** Opens the form on a row that stands or waits. */
 function open(row) {
+  if (isHeld()) return;
   const act = row.waits === "refused" ? waiting.find(it => it.refused && it.row?.id === row.id && it.table === showing) : null;
   if (act) change(act);
   else openForm({ table: showing, row, fresh: !stood.has(row.id) && !row.waits });
@@ -148,18 +131,20 @@ function open(row) {
 
 /** Opens the form on an act that was refused, so that it is changed and sent again. */
 async function change(act) {
+  if (isHeld()) return;
   const photos = await Promise.all(photosIn(act).map(async id => ({ id, bytes: await photoOf(id) })));
   openForm({ table: act.table, row: act.row, fresh: true, act, photos });
 }
 
 function openForm({ table, row, fresh, act = null, photos = [] }) {
   const place = placeIn(row.note);
-  form = { table, row, fresh, act, photos, place };
+  form = { table, row, fresh, act, photos, place, before: null };
   byId("which").textContent = act ? `Refused: ${act.refused}` : fresh ? "A new row" : `Row ${row.id}`;
   byId("other").hidden = !fresh || tables().length < 2;
   byId("into").value = table;
   [byId("title").value, byId("note").value, byId("amount").value] = [row.title, place ? place.rest : row.note, row.amount];
   [byId("east").value, byId("north").value, byId("told").textContent] = [place?.east ?? "", place?.north ?? "", ""];
+  form.before = typed();
   byId("remove").hidden = fresh;
   byId("edit").hidden = false;
   tap(fresh && !place && !act && Boolean(map));
@@ -171,6 +156,7 @@ function openForm({ table, row, fresh, act = null, photos = [] }) {
 }
 
 const FIELDS = ["into", "title", "note", "amount", "east", "north"];
+const typed = () => JSON.stringify(FIELDS.map(it => byId(it).value));
 const draftName = () => `${store.name} draft`;
 
 /** Keeps what is typed, but for photos, so that it is there when the page is loaded again. */
@@ -297,14 +283,14 @@ async function save() {
   if (why) return;
   const table = form.fresh ? byId("into").value : form.table;
   if (form.photos.length && !photosOf(table)) return void (byId("told").textContent = "The package relates no photos to this table.");
-  await keepAndClose(actsOf(table, row, form.photos));
+  await keepAndClose(actsOf(table, row, form.photos), form.photos, photosIn(form.act));
 }
 
-/** Puts acts into the outbox, and closes the form once they are on the disk. */
-async function keepAndClose(made) {
+/** Puts acts and photos into the outbox, and closes the form once they are on the disk. */
+async function keepAndClose(made, photos = [], gone = []) {
   byId("save").disabled = byId("remove").disabled = true;
   try {
-    if (made.length) await post(made, form.photos, photosIn(form.act));
+    if (made.length) await post(made, photos, gone);
     closeForm();
     byId("fresh").focus({ preventScroll: true });
   } catch (error) {
@@ -331,22 +317,27 @@ async function endDay() {
 }
 
 function listenToForm() {
-  byId("fresh").addEventListener("click", () => openForm({ table: showing, row: { id: freshId(), title: "", note: "", amount: 0 }, fresh: true }));
+  const fresh = () => ({ table: showing, row: { id: freshId(), title: "", note: "", amount: 0 }, fresh: true });
+  byId("fresh").addEventListener("click", () => isHeld() || openForm(fresh()));
   byId("tap").addEventListener("click", () => tap(!isTapping()));
   byId("middle").addEventListener("click", () => map && setPlace(map.getCenter().lng, map.getCenter().lat, digitsHere()));
   byId("here").addEventListener("click", placeByDevice);
   for (const it of ["east", "north"]) byId(it).addEventListener("input", showDraft);
   for (const it of ["camera", "pictures"]) byId(it).addEventListener("change", choose);
-  byId("leave").addEventListener("click", closeForm);
+  twice(byId("leave"), closeForm, isHeld);
   twice(byId("remove"), removeRow);
   byId("edit").addEventListener("submit", event => { event.preventDefault(); save(); });
-  byId("edit").addEventListener("keydown", event => event.key === "Escape" && closeForm());
+  byId("edit").addEventListener("keydown", event => event.key === "Escape" && (isHeld() || closeForm()));
   byId("edit").addEventListener("input", keepDraft);
   addEventListener("beforeunload", event => form && form.photos.length > photosIn(form.act).length && event.preventDefault());
 }
 
 function listenToList() {
-  byId("book").addEventListener("change", () => { closeForm(); readRows(); });
+  byId("book").addEventListener("change", () => {
+    if (isHeld()) return void (byId("book").value = showing);
+    closeForm();
+    readRows();
+  });
   byId("search").addEventListener("input", () => { most = SHOWN_ROWS; showRows(); });
   byId("order").addEventListener("change", showRows);
   byId("more").addEventListener("click", () => { most += SHOWN_ROWS; showRows(); });
@@ -371,7 +362,7 @@ async function startWork(known) {
     throw error;
   });
   if (await hasOther()) say("other", "This browser keeps work for another package too, which isn't in that yet: open it at this port to send it.");
-  await navigator.storage?.persist?.();
+  navigator.storage?.persist?.();  // which may ask the user, and isn't waited for
   onReturn[1] = () => { readRows(); send(); };
   await readRows();
   showWaiting();

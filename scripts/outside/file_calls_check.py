@@ -5,8 +5,8 @@
 
 What a clause says of the package's file is of its bytes as the store opened them. No clause tells what another call of
 the system does to a file, before or behind that. So such calls stand in the few places that are listed here, and are read
-there: the length of FILE and of its journal, also as it is told on standard error; the files of a kit's folder, which are read
-once more for what is told of a refusal; the one open of the store, and the port.
+there: the length of FILE and of its journal, and what is told of lengths on standard error; the files of a kit's folder, which
+are read once more for what is told of a refusal; the one open of the store, and the port.
 """
 
 import pathlib
@@ -22,6 +22,7 @@ PLACES = {
         "mm_program/src/kits.rt": {"fs", "fs::File::open"},
         "mm_words/src/progress.rt": {"fs", "fs::metadata"},
         "mm_cli/src/kits.rt": {"fs", "fs::metadata", "fs::File::open"},
+        "mm_cli/src/records.rt": {"fs", "fs::metadata"},
     },
     r"\bsqlite_std_file\b(?:::\w+)*": {
         "mm_files/src/files.rt": {"sqlite_std_file::open", "sqlite_std_file::OpenError"},

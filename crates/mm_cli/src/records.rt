@@ -4,8 +4,8 @@ use csv::{ByteRecord, Reader, ReaderBuilder, StringRecord};
 use mm_words::{Hears, Opening, remark_on};
 use std::alloc::Global;
 use std::cell::Cell;
-use std::io;
 use std::io::Read;
+use std::{fs, io};
 
 /// What is known of a run while it goes on.
 #[derive(Drop)]
@@ -17,7 +17,8 @@ pub struct Run {
     at: Cell<usize>,
     /// Memory was refused, so that records are missing from then on.
     lost: Cell<bool>,
-    /// How many bytes were read.
+    /// How many bytes the input has, where it is a file, else 0; and how many were read.
+    pub of: u64,
     pub read: Cell<u64>,
     pub answered: Cell<u64>,
     pub refused: Cell<u64>,
@@ -26,9 +27,10 @@ pub struct Run {
 }
 
 impl Run {
-    pub fn new(alloc: Global) -> Run {
+    pub fn new(alloc: Global, of: u64) -> Run {
         Run {
             alloc,
+            of,
             bytes: Cell::new(Vec::new(alloc)),
             at: Cell::new(0),
             lost: Cell::new(false),
@@ -46,6 +48,14 @@ impl Run {
             self.lost.set(true);
         }
         self.bytes.set(bytes);
+    }
+}
+
+/// How many bytes the input has, where it is a file, else 0.
+pub fn length_of_input(rt: &HostRuntime) -> u64 {
+    match fs::metadata(rt, "/dev/stdin") {
+        Ok(found) => found.len(),
+        Err(_) => 0,
     }
 }
 

@@ -1,14 +1,18 @@
 //! What is told to people on standard error, beside what is printed.
 
 use crate::kits::tell_piece;
-use crate::records::{Ear, Records, Run, tell_field};
+use crate::records::{Ear, Records, Run, length_of_input, tell_field};
 use mm_arguments::{Aids, Request, read_arguments};
 use mm_definitions::ends::UntilEnd;
 use mm_definitions::streams::Io;
 use mm_program::program;
 use mm_words::{Heard, Opening, Progress, Size, Told, Watched, Watches, meaning_of, told_of};
-use std::io;
+use std::fmt::{Display, Formatter};
 use std::io::{BufReader, IsTerminal};
+use std::{fmt, io};
+
+/// From how many bytes on it is told what memory an opening wants.
+const LARGE: u64 = 10_000_000;
 
 /// The file that the words name, and the folder of a kit.
 fn names_of<'a>(rt: &HostRuntime, words: &'a [&'a str]) -> Option<(&'a str, &'a str)> {
@@ -29,6 +33,30 @@ pub fn warn_of_name(rt: &HostRuntime, words: &[&str]) {
             );
         }
     }
+}
+
+/// So many bytes of so many, where it is known of how many.
+#[derive(Clone, Copy, Debug)]
+struct Part(u64, u64);
+
+impl Display for Part {
+    fn fmt<W: fmt::Write>(&self, f: &mut Formatter<W>) -> fmt::Result {
+        write!(f, "{}", Size(self.0))?;
+        if self.1 > 0 {
+            write!(f, " of {}", Size(self.1))?;
+        }
+        Ok(())
+    }
+}
+
+/// Tells that a package is about to be opened, and what a large one wants.
+fn tell_opening(rt: &HostRuntime, file: &str, size: Size) -> io::Result<()> {
+    let wants = if size.0 < LARGE {
+        ""
+    } else {
+        ", and as much memory"
+    };
+    eprintln!(rt; "opening {file}: {size}{wants}")
 }
 
 /// Looks at what is printed.
@@ -121,7 +149,7 @@ impl Eye<'_> {
         }
         if !self.rt.stdout().is_terminal() {
             let refused = self.run.refused.get();
-            let read = Size(self.run.read.get());
+            let read = Part(self.run.read.get(), self.run.of);
             progress.renew(format_args!(
                 "{answered} answered, {refused} of them refused, {read} read"
             ));
@@ -157,9 +185,9 @@ pub fn run_told(rt: &HostRuntime, words: &[&str], aids: Aids) -> io::Result<u8> 
     let (file, folder) = names_of(rt, words).unwrap_or(("", ""));
     let opening = Opening::new(rt, file);
     if aids.progress {
-        eprintln!(rt; "opening {file}: {}, and as much memory", opening.size())?;
+        tell_opening(rt, file, opening.size())?;
     }
-    let run = Run::new(alloc);
+    let run = Run::new(alloc, length_of_input(rt));
     let ear = Ear::new(rt, &run, aids.words, aids.progress.then_some(&opening));
     let eye = Eye {
         rt,

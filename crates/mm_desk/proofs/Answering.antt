@@ -49,7 +49,8 @@ lifted (Some input) (Some more) front F P Q consumed facts go p = go input more 
 
 -- ---- what is sent
 
-pub written_on : (old between new : Written) (first second : Text) → IsWritten old between first → IsWritten between new second → IsWritten old new (first ++ second)
+pub written_on : (old between new : Written) (first second : Text) → IsWritten old between first → IsWritten between new second → IsWritten old new
+    (first ++ second)
 written_on old between new first second one two = (Appends-trans old.contents between.contents new.contents first second one.0 two.0, two.1 ∙ one.1)
 
 -- ---- a session that is as it was
@@ -64,17 +65,26 @@ module _ (page : Option Text) (Asked : Text → Demand → Text → Type 0) (Hea
   module _ {D : Type 0} (view : viewers.Ghosts D) (apply : applies.Ghosts D) (moment : ℕ) (source : Option Text) (reading : Bool) where
     -- a response of one kind was sent
     pub shown_whole : (old new : D) (output output_now : Written) (response : Text) → Stays apply old new → IsWritten output output_now response
-        → ((p : Package) → On page Asked Headless view apply moment source reading old new output output_now p → IfSome source (λ input. Shows page Asked Headless p input response))
+        → ((p : Package) → On page Asked Headless view apply moment source reading old new output output_now p → IfSome source
+        (λ input. Shows page Asked Headless p input response))
         → IsAnswered page Asked Headless view apply moment source reading old new output output_now (Ok dones.Shown)
     shown_whole old new output output_now response stays written shows = (stays, response, written, shows)
 
     -- a front of it was
     pub cut_short : (old new : D) (output output_now : Written) (response : Text) (e : PageFault) → Stays apply old new → IsCut output output_now response e.0
-        → ((p : Package) → On page Asked Headless view apply moment source reading old new output output_now p → IfSome source (λ input. IsResponse page Asked Headless p input response))
+        → ((p : Package) → On page Asked Headless view apply moment source reading old new output output_now p → IfSome source
+        (λ input. IsResponse page Asked Headless p input response))
         → IsAnswered page Asked Headless view apply moment source reading old new output output_now (Err e)
     cut_short old new output output_now response e stays (is, failed, begun, more, whole, front) shows = (
       stays,
-      inr (is, failed, begun, front, λ p on. some_weaker source _ _ (λ input it. (more, subst (λ bytes. IsResponse page Asked Headless p input bytes) whole it)) (shows p on)),
+      inr (
+        is,
+        failed,
+        begun,
+        front,
+        λ p on. some_weaker source _ _
+            (λ input it. (more, subst (λ bytes. IsResponse page Asked Headless p input bytes) whole it)) (shows p on),
+      ),
       λ other. absurd (let f : 97 ≡ 92 = sym is ∙ other in omega (arith, f)),
     )
 
@@ -94,7 +104,8 @@ module _ (page : Option Text) (Asked : Text → Demand → Text → Type 0) (Hea
 
 -- ---- behind a head: what its demand is answered
 
-module _ (page : Option Text) (d : Demand) (here : Text) {D : Type 0} (view : viewers.Ghosts D) (apply : applies.Ghosts D) (moment : ℕ) (source : Option Text) (reading : Bool)
+module _ (page : Option Text) (d : Demand) (here : Text) {D : Type 0} (view : viewers.Ghosts D) (apply : applies.Ghosts D) (moment : ℕ)
+    (source : Option Text) (reading : Bool)
     (desk : D) (output output_now : Written) where
   pub refused_whole : (status : ℕ) → d ≡ Refuse status → IsWritten output output_now (refusal_of status)
       → IsAnswered page (IsBehind d here) Never view apply moment source reading desk desk output output_now (Ok dones.Shown)
@@ -119,7 +130,8 @@ module _ (page : Option Text) (d : Demand) (here : Text) {D : Type 0} (view : vi
       (λ p on. some_all source _ (λ more. inr (inl ((here ++ more, (sym is, refl)), refl))))
 
 -- a part of the package
-module _ (page : Option Text) (path here : Text) {D : Type 0} (view : viewers.Ghosts D) (apply : applies.Ghosts D) (moment : ℕ) (source : Option Text) (reading : Bool)
+module _ (page : Option Text) (path here : Text) {D : Type 0} (view : viewers.Ghosts D) (apply : applies.Ghosts D) (moment : ℕ) (source : Option Text)
+    (reading : Bool)
     (old new : D) (output output_now : Written) where
   pub path_answered : (result : Result Done PageFault) → IsPathAnswered page path view apply old new output output_now result
       → IsAnswered page (IsBehind (Show path) here) Never view apply moment source reading old new output output_now result
@@ -144,7 +156,8 @@ came n here more = elim (leb_tells n (length (here ++ more))) [
   | inr (is, less) ↦ inr less
 ]
 
-module _ (page : Option Text) (n : ℕ) (waits : Bool) (here : Text) {D : Type 0} (view : viewers.Ghosts D) (apply : applies.Ghosts D) (moment : ℕ) (source : Option Text)
+module _ (page : Option Text) (n : ℕ) (waits : Bool) (here : Text) {D : Type 0} (view : viewers.Ghosts D) (apply : applies.Ghosts D) (moment : ℕ)
+    (source : Option Text)
     (reading : Bool) (old new : D) (output : Written) where
   abbrev Answered : Written → Result Done PageFault → Type 0
   Answered now result = IsAnswered page (IsBehind (Records n waits) here) Never view apply moment source reading old new output now result
@@ -159,7 +172,8 @@ module _ (page : Option Text) (n : ℕ) (waits : Bool) (here : Text) {D : Type 0
   short p more less = inl (inl (Records n waits, here ++ more, (refl, refl), (less, refl)))
 
   -- of what the sender is told behind that it may go on
-  cut_on : (between now : Written) (rest : Text) (fault : Fault) → IsWritten output between (go_on waits) → IsCut between now rest fault → IsCut output now (go_on waits ++ rest) fault
+  cut_on : (between now : Written) (rest : Text) (fault : Fault) → IsWritten output between (go_on waits) → IsCut between now rest fault
+      → IsCut output now (go_on waits ++ rest) fault
   cut_on between now rest fault on (is, failed, begun, more, whole, front) = (
     is,
     failed,
@@ -262,18 +276,23 @@ head_lifts gate d front headers spans demand input h head at more is = (
 pub reads_head : (gate : Gate) (old now : Option Text) → ReadsNoMore 8192 old now → IsReadTo gate old now
 reads_head gate old now (front, consumed, needed) = (front, [], subst (λ l. Consumes old now l) (sym (append-nil front)) consumed, needed, inl refl)
 
-module _ (gate : Gate) (d : Demand) (here front : Text) (old mid : Option Text) (consumed : Consumes old mid front) (lifts : IfSome old (Lifts gate d here front)) where
-  asked_up : (input more : Text) → input ≡ front ++ more → Lifts gate d here front input → (e : Demand) (rest : Text) → IsBehind d here more e rest → Demands gate input e rest
+module _ (gate : Gate) (d : Demand) (here front : Text) (old mid : Option Text) (consumed : Consumes old mid front)
+    (lifts : IfSome old (Lifts gate d here front)) where
+  asked_up : (input more : Text) → input ≡ front ++ more → Lifts gate d here front input → (e : Demand) (rest : Text) → IsBehind d here more e rest
+      → Demands gate input e rest
   asked_up input more is lift e rest (same, behind) =
       subst (λ r. Demands gate input e r) (sym behind) (subst (λ x. Demands gate input x (here ++ more)) (sym same) (lift more is))
 
-  module _ (page : Option Text) {D : Type 0} (view : viewers.Ghosts D) (apply : applies.Ghosts D) (moment : ℕ) (reading : Bool) (before after : D) (output output_now : Written) where
-    shows_up : (p : Package) (response input more : Text) → input ≡ front ++ more → Lifts gate d here front input → Shows page (IsBehind d here) Never p more response
+  module _ (page : Option Text) {D : Type 0} (view : viewers.Ghosts D) (apply : applies.Ghosts D) (moment : ℕ) (reading : Bool) (before after : D)
+      (output output_now : Written) where
+    shows_up : (p : Package) (response input more : Text) → input ≡ front ++ more → Lifts gate d here front input → Shows page
+        (IsBehind d here) Never p more response
         → Shows page (Demands gate) IsHeadless p input response
     shows_up p response input more is lift (inl (e, rest, asked, shown)) = inl (e, rest, asked_up input more is lift e rest asked, shown)
     shows_up p response input more is lift (inr (never, bytes)) = absurd never
 
-    responds_up : (p : Package) (bytes input more : Text) → input ≡ front ++ more → Lifts gate d here front input → IsResponse page (IsBehind d here) Never p more bytes
+    responds_up : (p : Package) (bytes input more : Text) → input ≡ front ++ more → Lifts gate d here front input → IsResponse page
+        (IsBehind d here) Never p more bytes
         → IsResponse page (Demands gate) IsHeadless p input bytes
     responds_up p bytes input more is lift (inl shows) = inl (shows_up p bytes input more is lift shows)
     responds_up p bytes input more is lift (inr (inl ((rest, asked), same))) = inr (inl ((rest, asked_up input more is lift End rest asked), same))
@@ -284,16 +303,19 @@ module _ (gate : Gate) (d : Demand) (here front : Text) (old mid : Option Text) 
     begun_up (waits, text, told) = (
       waits,
       text,
-      λ is. lifted old mid front _ _ _ consumed lifts (λ input more same lift it. (it.0, it.1, asked_up input more same lift (Records it.0 true) it.1 it.2)) (told is),
+      λ is. lifted old mid front _ _ _ consumed lifts
+          (λ input more same lift it. (it.0, it.1, asked_up input more same lift (Records it.0 true) it.1 it.2)) (told is),
     )
 
-    pub answered_up : (result : Result Done PageFault) → IsAnswered page (IsBehind d here) Never view apply moment mid reading before after output output_now result
+    pub answered_up : (result : Result Done PageFault) → IsAnswered page
+        (IsBehind d here) Never view apply moment mid reading before after output output_now result
         → IsAnswered page (Demands gate) IsHeadless view apply moment old reading before after output output_now result
     answered_up (Ok (dones.Ran run)) (body, waits, between, sends, written, runs) = (
       body,
       waits,
       between,
-      lifted old mid front _ _ _ consumed lifts (λ input more is lift it. (it.0, it.1, asked_up input more is lift (Records it.0 waits) it.1 it.2, it.3, it.4)) sends,
+      lifted old mid front _ _ _ consumed lifts
+          (λ input more is lift it. (it.0, it.1, asked_up input more is lift (Records it.0 waits) it.1 it.2, it.3, it.4)) sends,
       written,
       runs,
     )
@@ -311,18 +333,22 @@ module _ (gate : Gate) (d : Demand) (here front : Text) (old mid : Option Text) 
     answered_up (Err e) (stays, stopped, looks) = (
       stays,
       stops_up stopped,
-      λ is. lifted old mid front _ _ _ consumed lifts (λ input more same lift it. (it.0, it.1, asked_up input more same lift (Show it.0) it.1 it.2, it.3)) (looks is),
+      λ is. lifted old mid front _ _ _ consumed lifts
+          (λ input more same lift it. (it.0, it.1, asked_up input more same lift (Show it.0) it.1 it.2, it.3)) (looks is),
     )
       where
-        stops_up : IsStopped page (IsBehind d here) Never (view.has_failed before) (On page (IsBehind d here) Never view apply moment mid reading before after output output_now) mid reading output output_now e.0
-            → IsStopped page (Demands gate) IsHeadless (view.has_failed before) (On page (Demands gate) IsHeadless view apply moment old reading before after output output_now) old reading output output_now e.0
+        stops_up : IsStopped page (IsBehind d here) Never (view.has_failed before)
+            (On page (IsBehind d here) Never view apply moment mid reading before after output output_now) mid reading output output_now e.0
+            → IsStopped page (Demands gate) IsHeadless (view.has_failed before)
+            (On page (Demands gate) IsHeadless view apply moment old reading before after output output_now) old reading output output_now e.0
         stops_up (inl (why, begun)) = inl (why, begun_up begun)
         stops_up (inr (is, failed, begun, text, front_of)) = inr (
           is,
           failed,
           begun,
           text,
-          λ p on. lifted old mid front _ _ _ consumed lifts (λ input more same lift it. (it.0, responds_up p (begun ++ it.0) input more same lift it.1)) (front_of p on),
+          λ p on. lifted old mid front _ _ _ consumed lifts
+              (λ input more same lift it. (it.0, responds_up p (begun ++ it.0) input more same lift it.1)) (front_of p on),
         )
 
   -- how much was read of the whole input

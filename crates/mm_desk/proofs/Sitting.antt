@@ -24,17 +24,26 @@ as_many (x ∷ xs) (r ∷ rs) it = ap (λ n. suc n) (as_many xs rs it.1)
 whole : (rows : List (List (List ℕ))) (readings : List Reading) → AreReadAs rows readings → AreReadAs (take (length readings) rows) readings
 whole rows readings it = let n = as_many rows readings it in subst (λ l. AreReadAs l readings) (sym (take_all (length readings) rows (omega (arith, n)))) it
 
-module _ {A : Type 0} (apply : Ghosts A) (leaves_settled : (s : A) (p : Package) → apply.settled s p → (db : apply.Database) → apply.may_leave s db → apply.stands_for db p) where
+module _ {A : Type 0} (apply : Ghosts A)
+    (leaves_settled : (s : A) (p : Package) → apply.settled s p → (db : apply.Database) → apply.may_leave s db → apply.stands_for db p) where
   -- what one list comes to: its readings, what may be left, and, where it did not fail the session, what that is settled for
   abbrev Came : Package → Visit → A → A → Type 0
   Came p v before behind = (readings : List Reading) × AreReadOf v readings
       × AreFirstParts (shown apply behind) p (calls_of v.moment readings) (acknowledged_by p v.moment readings v.result)
-      × (apply.has_failed before ≡ false → apply.has_failed behind ≡ apply.has_failed before → IsSound (apply.settled behind) (run p (calls_of v.moment readings)))
+      × (apply.has_failed before ≡ false → apply.has_failed behind ≡ apply.has_failed before → IsSound (apply.settled behind)
+      (run p (calls_of v.moment readings)))
 
-  came_by : (result : Result Tally RunFault) (p : Package) (v : Visit) (before behind : A) → v.result ≡ result → Runs apply v before behind → apply.is_clean behind → IsSound (apply.settled before) p → Came p v before behind
+  came_by : (result : Result Tally RunFault) (p : Package) (v : Visit) (before behind : A) → v.result ≡ result → Runs apply v before behind
+      → apply.is_clean behind → IsSound (apply.settled before) p → Came p v before behind
   came_by (Ok t) p v before behind is ran clean sound =
-      let all = rw is at ran.settled.done clean p sound v.bytes refl in
-      (all.readings, whole _ _ all.read, subst (λ r. AreFirstParts (shown apply behind) p (calls_of v.moment all.readings) (acknowledged_by p v.moment all.readings r)) (sym is) all.left, λ works same. all.stands)
+      let all = rw is at ran.settled.done clean p sound v.bytes refl in (
+        all.readings,
+        whole _ _ all.read,
+        subst
+            (λ r. AreFirstParts (shown apply behind) p (calls_of v.moment all.readings) (acknowledged_by p v.moment all.readings r))
+            (sym is) all.left,
+        λ works same. all.stands,
+      )
   came_by (Err e) p v before behind is ran clean sound =
       let some = rw is at ran.settled.stopped clean p sound v.bytes refl in (
         some.readings,
@@ -46,10 +55,12 @@ module _ {A : Type 0} (apply : Ghosts A) (leaves_settled : (s : A) (p : Package)
         ],
       )
 
-  came : (p : Package) (v : Visit) (before behind : A) → Runs apply v before behind → apply.is_clean behind → IsSound (apply.settled before) p → Came p v before behind
+  came : (p : Package) (v : Visit) (before behind : A) → Runs apply v before behind → apply.is_clean behind → IsSound (apply.settled before) p
+      → Came p v before behind
   came p v before behind = came_by v.result p v before behind refl
 
-  kept_left : (p : Package) (calls : List Call) (kept : ℕ) (old new : A) → Stays apply old new → apply.is_clean new → AreFirstParts (shown apply old) p calls kept → AreFirstParts (shown apply new) p calls kept
+  kept_left : (p : Package) (calls : List Call) (kept : ℕ) (old new : A) → Stays apply old new → apply.is_clean new → AreFirstParts
+      (shown apply old) p calls kept → AreFirstParts (shown apply new) p calls kept
   kept_left p calls kept old new stays clean parts db may = parts db (stays.left clean db may)
 
   kept_sound : (p : Package) (old new : A) → Stays apply old new → apply.is_clean new → IsSound (apply.settled old) p → IsSound (apply.settled new) p
@@ -61,7 +72,8 @@ module _ {A : Type 0} (apply : Ghosts A) (leaves_settled : (s : A) (p : Package)
   clean_before (v ∷ []) old new (before, behind, first, ran, last) clean = first.clean (ran.clean (last.clean clean))
   clean_before (v ∷ w ∷ vs) old new (before, behind, first, ran, same, more) clean = first.clean (ran.clean (clean_before (w ∷ vs) behind new more clean))
 
-  pub one_run : (visits : List Visit) (p : Package) (old new : A) → Sat apply old visits new → apply.is_clean new → IsSound (apply.settled old) p → apply.has_failed old ≡ false
+  pub one_run : (visits : List Visit) (p : Package) (old new : A) → Sat apply old visits new → apply.is_clean new → IsSound (apply.settled old) p
+      → apply.has_failed old ≡ false
       → (calls : List Call) × (kept : ℕ) × IsSitting p visits calls kept × AreFirstParts (shown apply new) p calls kept
   unfolding Sat IsSitting
   one_run [] p old new sat clean sound works = (
@@ -111,7 +123,8 @@ module _ {A : Type 0} (apply : Ghosts A) (leaves_settled : (s : A) (p : Package)
   rests (v ∷ w ∷ vs) old mid new (before, behind, first, ran, same, more) stays = (before, behind, first, ran, same, rests (w ∷ vs) behind mid new more stays)
 
   -- one more list is run, where none has failed it
-  pub grows : (visits : List Visit) (v : Visit) (old mid new : A) → Sat apply old visits mid → apply.has_failed mid ≡ apply.has_failed old → Runs apply v mid new → Sat apply old (visits ++ v ∷ []) new
+  pub grows : (visits : List Visit) (v : Visit) (old mid new : A) → Sat apply old visits mid → apply.has_failed mid ≡ apply.has_failed old
+      → Runs apply v mid new → Sat apply old (visits ++ v ∷ []) new
   unfolding Sat
   grows [] v old mid new sat works run = (mid, new, sat, run, itself new)
   grows (u ∷ []) v old mid new (before, behind, first, ran, last) works run =
@@ -124,6 +137,7 @@ module _ {A : Type 0} (apply : Ghosts A) (leaves_settled : (s : A) (p : Package)
   begins s = itself s
 
   -- one more turn
-  pub turns : (visits : List Visit) (old mid new : A) → apply.has_failed old ≡ false → Sat apply old visits mid → apply.has_failed mid ≡ false → IsTurn apply mid new → (more : List Visit) × Sat apply old more new
+  pub turns : (visits : List Visit) (old mid new : A) → apply.has_failed old ≡ false → Sat apply old visits mid → apply.has_failed mid ≡ false
+      → IsTurn apply mid new → (more : List Visit) × Sat apply old more new
   turns visits old mid new works sat here (inl stays) = (visits, rests visits old mid new sat stays)
   turns visits old mid new works sat here (inr (v, run)) = (visits ++ v ∷ [], grows visits v old mid new sat (here ∙ sym works) run)

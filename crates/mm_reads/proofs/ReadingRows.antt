@@ -28,7 +28,8 @@ use Rattle.mm_reads.proofs.ListedRows.{rows_text, asked, list_rows, rows_ask, Sh
 pub filled : (before now most : ℕ) → before < most → now ≡ before + 1 → (IsTrue false ↔ now < most) → now ≡ most
 filled before now most room one stopped = let off : now < most → ⊥ = λ more. let e : false ≡ true = stopped.1 more in cc in omega (arith, off)
 
-module _ {V : Type 0} (takes : V → Row → V → Result Bool Fault → Type 0) (items : V → List (ℤ × RowTold)) (gathers : (v u : V) (row : Row) (result : Result Bool Fault) → takes v row u result → GathersRows (items v) row (items u) result) where
+module _ {V : Type 0} (takes : V → Row → V → Result Bool Fault → Type 0) (items : V → List (ℤ × RowTold))
+    (gathers : (v u : V) (row : Row) (result : Result Bool Fault) → takes v row u result → GathersRows (items v) row (items u) result) where
   gathered : (v w : V) (rows : List Row) → TakesRows takes v rows w → (found : List (ℤ × RowTold)) × (items w ≡ items v ++ found) × ShowsAll rows found
   gathered v w [] same = ([], ap items (sym same) ∙ sym (append-nil (items v)), refl)
   gathered v w (r ∷ rows) (u, step, more) =
@@ -48,35 +49,44 @@ module _ {V : Type 0} (takes : V → Row → V → Result Bool Fault → Type 0)
 
       module _ (p : Package) (it : IsSeenAs profile old p) (up : IsTrue old.is_open) where
         -- the first rows of an answer begin the list, and all of them are the list
-        started : (rows tail : List Row) → IsAnswer asked (overlay old.now.trees []) (Words table ∷ Int first ∷ []) (rows ++ tail) → (found : List (ℤ × RowTold)) → ShowsAll rows found
+        started : (rows tail : List Row) → IsAnswer asked (overlay old.now.trees []) (Words table ∷ Int first ∷ []) (rows ++ tail) →
+            (found : List (ℤ × RowTold)) → ShowsAll rows found
             → Starts (map numbered (rows_on p table first)) found tail
         started =
             let at = it.reads up in
-            rows_begin table first p (tables_of schema old.now.trees 17) at.stands.holds.rows (at.stands.rows 17).rise (overlay old.now.trees []) (no_overlay old.now.trees 17)
+            rows_begin table first p (tables_of schema old.now.trees 17) at.stands.holds.rows (at.stands.rows 17).rise (overlay old.now.trees [])
+            (no_overlay old.now.trees 17)
 
         rows_whole : (rows : List Row) → Shown rows_text given old new rows → TakesRows takes v rows w → ListsRows p table first (items w)
         rows_whole rows shown taken =
             let at = it.reads up in
-            let read = shows_as old new rows_text (Words table ∷ Int first ∷ []) schema at.schema_is _ list_rows.compiled list_rows.plain list_rows.unlisted rows (subst (λ x. Shown rows_text x old new rows) same shown) in
+            let read = shows_as old new rows_text
+            (Words table ∷ Int first ∷ []) schema at.schema_is _ list_rows.compiled list_rows.plain list_rows.unlisted rows
+            (subst (λ x. Shown rows_text x old new rows) same shown) in
             let all = gathered v w rows taken in
-            let told = started rows [] (subst (IsAnswer asked (overlay old.now.trees []) (Words table ∷ Int first ∷ [])) (sym (append-nil rows)) (read.0.answer Null)) all.0 all.2 in
+            let told = started rows []
+            (subst (IsAnswer asked (overlay old.now.trees []) (Words table ∷ Int first ∷ [])) (sym (append-nil rows)) (read.0.answer Null)) all.0 all.2 in
             let are : items w ≡ all.0 = all.1 ∙ ap (λ l. l ++ all.0) empty in
             let room = has_room v w rows taken begun in
             let few : length all.0 ≤ MostRows = omega (arith, room, ap length are) in
             subst (ListsRows p table first) (sym are) (lists_all MostRows (map numbered (rows_on p table first)) all.0 told.0 told.1 (told.2 refl) few)
 
-        rows_full : (rows : List Row) (last : Row) (before : V) → Begins rows_text given old (rows ++ last ∷ []) → TakesRows takes v rows before → takes before last w (Ok false)
+        rows_full : (rows : List Row) (last : Row) (before : V) → Begins rows_text given old (rows ++ last ∷ []) → TakesRows takes v rows before
+            → takes before last w (Ok false)
             → ListsRows p table first (items w)
         rows_full rows last before shown taken ends =
             let at = it.reads up in
-            let start = begins_as rows_text (Words table ∷ Int first ∷ []) old old schema at.schema_is _ list_rows.compiled list_rows.plain list_rows.unlisted (rows ++ last ∷ []) (subst (λ x. Begins rows_text x old (rows ++ last ∷ [])) same shown) in
+            let start = begins_as rows_text
+            (Words table ∷ Int first ∷ []) old old schema at.schema_is _ list_rows.compiled list_rows.plain list_rows.unlisted (rows ++ last ∷ [])
+            (subst (λ x. Begins rows_text x old (rows ++ last ∷ [])) same shown) in
             let all = gathered v before rows taken in
             let one = gathers before w last (Ok false) ends in
             let told = started (rows ++ last ∷ []) start.1.0 (start.1.1 Null) (all.0 ++ one.1 ∷ []) (shows_more rows last all.0 one.1 all.2 one.2) in
             let are : items w ≡ all.0 ++ one.1 ∷ [] = one.3 ∙ ap (λ l. l ++ one.1 ∷ []) (all.1 ∙ ap (λ l. l ++ all.0) empty) in
             let longer : length (items w) ≡ length (items before) + 1 = ap length one.3 ∙ length-append (items before) (one.1 ∷ []) in
             let full = filled (length (items before)) (length (items w)) MostRows (has_room v before rows taken begun) longer one.0 in
-            subst (ListsRows p table first) (sym are) (lists_first MostRows (map numbered (rows_on p table first)) (all.0 ++ one.1 ∷ []) told.0 told.1 (ap length (sym are) ∙ full))
+            subst (ListsRows p table first) (sym are)
+            (lists_first MostRows (map numbered (rows_on p table first)) (all.0 ++ one.1 ∷ []) told.0 told.1 (ap length (sym are) ∙ full))
 
       rows_told : (p : Package) → IsSeenAs profile old p → (result : Result Bool Fault) → Ends takes rows_text given old new v w result
           → IfOk result (λ _. ListsRows p table first (items w))
@@ -86,4 +96,5 @@ module _ {V : Type 0} (takes : V → Row → V → Result Bool Fault → Type 0)
 
       pub read_by_walk : (result : Result Bool Fault) (last : Result (Vec (ℤ × RowTold) Global) Fault) → IsWalk takes rows_text given old new v w result
           → Found (items w) result last → IsRead profile old new (λ p (found : Vec (ℤ × RowTold) Global). ListsRows p table first found.items) last
-      read_by_walk = gathered_read takes rows_text given old new v w (items w) profile (rows_ask old.now.schema) (λ p. ListsRows p table first) rows_told (λ before row fault. gathers before w row (Err fault))
+      read_by_walk = gathered_read takes rows_text given old new v w (items w) profile (rows_ask old.now.schema)
+          (λ p. ListsRows p table first) rows_told (λ before row fault. gathers before w row (Err fault))

@@ -24,11 +24,12 @@ fi
 
 folder=$(mktemp -d)
 trap 'rm -rf "$folder"' EXIT
-if timeout 230 "$top/examples/field_day/by_page.sh" "$folder/day" >"$folder/said.txt" &&
+if timeout 230 "$top/examples/field_day/by_page.sh" "$folder/day" >"$folder/said.txt" 2>"$folder/told.txt" &&
     diff "$top/examples/field_day/by_page.txt" "$folder/said.txt"; then
     echo "1 passed, 0 failed"
 else
     tail -n 5 "$folder/said.txt"
+    tail -n 20 "$folder/told.txt"
     echo "0 passed, 1 failed"
     exit 1
 fi

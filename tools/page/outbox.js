@@ -31,7 +31,7 @@ async function openOutbox(word) {
   const request = indexedDB.open(`mmpkg outbox ${word}`, 1);
   request.onupgradeneeded = () => {
     request.result.createObjectStore("acts", { keyPath: "number", autoIncrement: true });
-    request.result.createObjectStore("photos");
+    for (const name of ["photos", "drafts"]) request.result.createObjectStore(name);
   };
   store = await done(request);
   tabs = new BroadcastChannel(store.name);
@@ -61,17 +61,21 @@ const photoOf = id => done(store.transaction("photos").objectStore("photos").get
 
 /** Changes the outbox; once the promise is kept the disk has it. */
 async function keep(work) {
-  const change = store.transaction(["acts", "photos"], "readwrite", { durability: "strict" });
+  const change = store.transaction(["acts", "photos", "drafts"], "readwrite", { durability: "strict" });
   const end = new Promise((good, bad) => { change.oncomplete = good; change.onabort = change.onerror = () => bad(change.error); });
-  work(change.objectStore("acts"), change.objectStore("photos"));
+  work(...["acts", "photos", "drafts"].map(it => change.objectStore(it)));
   await end;
   await recount();
   tabs.postMessage(null);
 }
 
-/** Puts acts and the bytes of their photos into the outbox, all or none, and sends them. One that has a number takes the place of that. */
-async function post(list, photos = [], gone = []) {
-  await keep((acts, bytes) => {
+/**
+ * Puts acts and the bytes of their photos into the outbox, all or none, and sends them. One that has a number takes the place of that.
+ * Where they close a form, what was typed in it goes by the same change: it isn't there again where the browser ends behind it.
+ */
+async function post(list, photos = [], gone = [], closes = false) {
+  await keep((acts, bytes, drafts) => {
+    if (closes) drafts.delete(0);
     for (const act of list) acts.put({ ...act, at: KEY });
     for (const id of gone) bytes.delete(id);
     for (const photo of photos) bytes.put(photo.bytes, photo.id);

@@ -157,19 +157,19 @@ function openForm({ table, row, fresh, act = null, photos = [] }) {
 
 const FIELDS = ["into", "title", "note", "amount", "east", "north"];
 const typed = () => JSON.stringify(FIELDS.map(it => byId(it).value));
-const draftName = () => `${store.name} draft`;
+const drafts = () => store.transaction("drafts", "readwrite").objectStore("drafts");
 
 /** Keeps what is typed, but for photos, so that it is there when the page is loaded again. */
 function keepDraft() {
   if (!form || form.act) return;
   const { table, row, fresh, place } = form;
-  localStorage.setItem(draftName(), JSON.stringify({ table, row, fresh, place, values: FIELDS.map(it => byId(it).value) }));
+  drafts().put({ table, row, fresh, place, values: FIELDS.map(it => byId(it).value) }, 0);
 }
 
 /** Opens the form as it was typed in when the page went. */
-function openDraft() {
-  const { table, row, fresh, place, values } = JSON.parse(localStorage.getItem(draftName()) ?? "{}");
-  if (!row || !tables().some(it => it.table === table)) return;
+async function openDraft() {
+  const { table, row, fresh, place, values } = await done(drafts().get(0)) ?? {};
+  if (!row || form || !tables().some(it => it.table === table)) return;
   openForm({ table, row, fresh });
   for (const [at, it] of FIELDS.entries()) byId(it).value = values[at];
   form.place = place;
@@ -179,7 +179,7 @@ function openDraft() {
 
 function closeForm() {
   form = null;
-  localStorage.removeItem(draftName());
+  drafts().delete(0);
   byId("edit").hidden = true;
   tap(false);
   showDraft();
@@ -290,7 +290,7 @@ async function save() {
 async function keepAndClose(made, photos = [], gone = []) {
   byId("save").disabled = byId("remove").disabled = true;
   try {
-    if (made.length) await post(made, photos, gone);
+    if (made.length) await post(made, photos, gone, true);
     closeForm();
     byId("fresh").focus({ preventScroll: true });
   } catch (error) {
@@ -366,6 +366,6 @@ async function startWork(known) {
   onReturn[1] = () => { readRows(); send(); };
   await readRows();
   showWaiting();
-  openDraft();
+  await openDraft();
   send();
 }

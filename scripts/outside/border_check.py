@@ -401,7 +401,9 @@ def check_what_stands_in_the_journal(folder):
 
 def patched(name, patch, *words, status=0):
     """Runs a tool behind a patch of what it imports."""
-    code = f"import sys, os, signal, types, border, {name}\n{patch}\n{name}.run_tool({name}.main)"
+    # What runs behind a shell's & would pass over SIGINT.
+    heard = "signal.signal(signal.SIGINT, signal.default_int_handler)"
+    code = f"import sys, os, signal, types, border, {name}\n{heard}\n{patch}\n{name}.run_tool({name}.main)"
     return run("env", f"PYTHONPATH={TOOLS}", sys.executable, "-B", "-c", code, *words, status=status)
 
 

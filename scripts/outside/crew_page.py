@@ -158,7 +158,7 @@ class Crew:
         return self
 
 
-def wait_until(holds, what, seconds=20):
+def wait_until(holds, what, seconds=60):
     deadline = time.monotonic() + seconds
     while not holds():
         assert time.monotonic() < deadline, f"not within {seconds} s: {what}"

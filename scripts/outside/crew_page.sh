@@ -13,4 +13,4 @@ source "$(dirname "$0")/lib.sh" "$@"
 
 want_browser "no crew worked at the page"
 
-exec "$top/scripts/outside/crew_page_check.py"
+with_browser "$top/scripts/outside/crew_page_check.py"

@@ -67,11 +67,12 @@ class Scene:
         try:
             check(self)
         finally:
-            for page in self.pages:
-                page.close()
-            for seat in self.seats:
+            pages, seats = self.pages, self.seats
+            self.pages, self.seats = [], []
+            for seat in seats:
                 seat.kill()
-            self.seats, self.pages = [], []
+            for page in pages:
+                page.close()
 
     def copy(self):
         self.count += 1

@@ -12,11 +12,20 @@ import subprocess
 import time
 
 ANSWER_SECONDS = 60
+# How long a page may take on a busy machine.
+WAIT_SECONDS = 60
+# What is answered while one page goes and another comes.
+AWAY = ("Inspected target navigated or closed", "Execution context was destroyed.", "Cannot find context with specified id",
+        "Cannot find default execution context")
 OPTIONS = ["--headless=new", "--no-sandbox", "--disable-gpu", "--hide-scrollbars", "--force-device-scale-factor=1", "--no-first-run",
            "--disable-background-networking", "--disable-component-update", "--disable-sync", "--mute-audio", "--remote-debugging-pipe"]
 KEYS = {"Tab": 9, "Enter": 13, "Delete": 46, "ArrowLeft": 37, "ArrowUp": 38, "ArrowRight": 39, "ArrowDown": 40, "+": 187, "-": 189}
 TEXTS = {"Enter": "\r", "+": "+", "-": "-"}
 CODES = {"+": "Equal", "-": "Minus"}
+
+
+class Away(Exception):
+    """The page that was asked has gone, and another comes."""
 
 
 class Browser:
@@ -71,6 +80,8 @@ class Browser:
             answer = self.message(deadline)
             assert answer is not None, f"{method}: no answer in {ANSWER_SECONDS} s"
             if answer.get("id") == asked["id"]:
+                if answer.get("error", {}).get("message") in AWAY:
+                    raise Away(method)
                 assert "error" not in answer, f"{method}: {answer.get('error')}"
                 return answer["result"]
             self.tell(answer)
@@ -147,10 +158,17 @@ class Page:
         assert "exceptionDetails" not in answer, f"{expression}: {answer.get('exceptionDetails')}"
         return answer["result"].get("value")
 
-    def wait(self, expression, seconds=20):
+    def is_so(self, expression):
+        """Whether an expression is true; not while another page comes."""
+        try:
+            return self.value(expression)
+        except Away:
+            return False
+
+    def wait(self, expression, seconds=WAIT_SECONDS):
         """Waits until an expression is true."""
         deadline = time.monotonic() + seconds
-        while not self.value(expression):
+        while not self.is_so(expression):
             assert time.monotonic() < deadline, f"not within {seconds} s: {expression}"
             time.sleep(0.05)
 

@@ -18,3 +18,8 @@ want_browser() {
     echo "$1 (${missing[*]}): apt-get install chromium libjs-leaflet"
     exit 77
 }
+
+# Runs a command with a browser, as soon as no other such check runs: on a busy machine they disturb one another.
+with_browser() {
+    flock -o "${TMPDIR:-/tmp}/mmpkg-browser-$(id -u).lock" "$@"
+}

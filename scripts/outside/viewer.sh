@@ -13,4 +13,4 @@ source "$(dirname "$0")/lib.sh" "$@"
 
 want_browser "the viewer wasn't looked at"
 
-exec "$top/scripts/outside/viewer_check.py"
+with_browser "$top/scripts/outside/viewer_check.py"

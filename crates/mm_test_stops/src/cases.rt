@@ -92,6 +92,8 @@ pub(crate) enum Work {
     Run(&'static str),
     /// A kit of these records is imported into the edition `k`.
     Import(&'static str),
+    /// Records are posted to a desk in one request, each of which is accepted.
+    Post(&'static str),
     /// A package is migrated.
     Migrate,
 }
@@ -101,7 +103,9 @@ impl Work {
     pub(crate) fn steps(self) -> usize {
         match self {
             Work::Make | Work::Migrate => 1,
-            Work::Run(records) | Work::Import(records) => count_lines(records),
+            Work::Run(records) | Work::Import(records) | Work::Post(records) => count_lines(
+                records,
+            ),
         }
     }
 }
@@ -144,7 +148,7 @@ const KIT: &str = "1,tile,base,1,0,0,a.bin
 ";
 
 /// What isn't one command on a package that has all.
-pub(crate) const WHOLES: [Case; 6] = [
+pub(crate) const WHOLES: [Case; 7] = [
     Case {
         name: "init",
         start: Start::Blank,
@@ -154,6 +158,11 @@ pub(crate) const WHOLES: [Case; 6] = [
         name: "a list of three",
         start: Start::New,
         work: Work::Run(PYRAMID),
+    },
+    Case {
+        name: "a list of three at a desk",
+        start: Start::New,
+        work: Work::Post(PYRAMID),
     },
     Case {
         name: "a kit of five",

@@ -9,6 +9,7 @@ use mm_definitions::moments::Moment;
 use mm_definitions::names::Name;
 use mm_definitions::places::TilePlace;
 use mm_definitions::streams::Io;
+use mm_desk::{Done, Gate, desk_one};
 use mm_kit::{MemoryFile, MemoryFolder, import_kit};
 use mm_test_packages::run;
 use sqlite::{Alter, Connection};
@@ -125,6 +126,45 @@ fn import_first<S: Alter>(
     }
 }
 
+/// The request that posts records to a desk.
+fn request_of(alloc: Global, records: &[u8]) -> Option<Vec<u8>> {
+    let length = records.len();
+    let head = format!(in alloc;
+        "POST /0123456789abcdef/records HTTP/1.1\r\nHost: 127.0.0.1:8090\r\nContent-Type: text/csv\r\nContent-Length: {length}\r\n\r\n"
+    ).ok()?;
+    let mut request = Vec::new(alloc);
+    request.extend_from_slice(head.as_bytes()).ok()?;
+    request.extend_from_slice(records).ok()?;
+    Some(request)
+}
+
+/// Posts the first so many records to a desk, in one request.
+fn post_first<S: Alter>(
+    alloc: Global,
+    session: &mut Session<S>,
+    records: &str,
+    lines: usize,
+) -> Option<Told> {
+    let request = request_of(alloc, first_lines(records, lines))?;
+    let mut reader = Io::new(request.as_slice());
+    let mut writer = Io::new(Vec::new(alloc));
+    let gate = Gate {
+        port: 8090,
+        front: "/0123456789abcdef",
+        page: None,
+    };
+    let at = Moment::new(0)?;
+    let (tally, ended) = match desk_one(alloc, session, gate, &mut reader, &mut writer, at) {
+        Ok(Done::Ran(Ok(tally))) => (tally, true),
+        Ok(Done::Ran(Err(stopped))) => (stopped.tally, false),
+        Ok(Done::Shown) => return None,
+        Ok(Done::Ended) => return None,
+        Err(_fault) => return None,
+    };
+    let steps = usize::try_from(tally.accepted).ok()?;
+    Some(Told { steps, ended })
+}
+
 /// Does the first so many steps of the work on a session. None where one is refused, or where a session that met a fault goes on.
 fn work_on<S: Alter>(
     alloc: Global,
@@ -137,6 +177,7 @@ fn work_on<S: Alter>(
         Work::Make | Work::Migrate => None,
         Work::Run(records) => run_first(alloc, session, records, steps),
         Work::Import(records) => import_first(alloc, session, records, steps),
+        Work::Post(records) => post_first(alloc, session, records, steps),
     }?;
     if told.ended || has_ended(alloc, session, plans) {
         Some(told)
@@ -218,6 +259,8 @@ pub(crate) fn perform<S: Alter + Drop>(
     match work {
         Work::Make => make(alloc, conn),
         Work::Migrate => migrate(alloc, conn),
-        Work::Run(_) | Work::Import(_) => adopt_and_work(alloc, conn, work, steps, plans),
+        Work::Run(_) | Work::Import(_) | Work::Post(_) => adopt_and_work(
+            alloc, conn, work, steps, plans,
+        ),
     }
 }

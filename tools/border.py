@@ -53,6 +53,9 @@ NOTED = 10
 # How many seconds the line of a terminal that tells how far the work is stands at least.
 RENEWED = 0.2
 
+# From how many bytes on what an opening took is kept: a smaller package is open as soon as the program has started.
+PACED = 20_000_000
+
 # The table of attribute rows in which an import keeps the bounds of maps whose tiles reach further: a row has the map's
 # name as its title, and as its note MIN_X MIN_Y MAX_X MAX_Y in whole units.
 BOUNDS_TABLE = "map_bounds"
@@ -189,12 +192,54 @@ def copy_with_journal(file, copy):
             shutil.copyfile(f"{file}{suffix}", f"{copy}{suffix}")
 
 
-def program_says(*words):
-    """The exit status of a subcommand of the program, at least 0, and what it prints."""
-    LINE.tell(f"mmpkg {words[0]} {words[-1]}: {megabytes(sizes_of(words[-1])[0])}", at_once=True)
-    done = subprocess.run([program(), *words], stdin=subprocess.DEVNULL, stdout=subprocess.PIPE, check=False)
+def pace_file():
+    """Where a user's tools keep how many seconds the last opening took a GB, among what may be forgotten."""
+    kept = os.environ.get("XDG_CACHE_HOME") or os.path.expanduser("~/.cache")
+    return pathlib.Path(kept) / "mmpkg" / "seconds_a_gb"
+
+
+def seconds_to_open(size):
+    """About how many seconds opening so many bytes takes, by what the last opening took; 0 where nothing is known."""
+    try:
+        seconds = float(pace_file().read_text(encoding="ascii")) * size / 1e9
+    except (OSError, ValueError):
+        return 0
+    return round(seconds) if math.isfinite(seconds) and size >= PACED else 0
+
+
+def keep_pace(size, seconds):
+    """Keeps what opening so many bytes took, where the user's folder takes it."""
+    if size >= PACED:
+        with contextlib.suppress(OSError):
+            pace_file().parent.mkdir(parents=True, exist_ok=True)
+            pace_file().write_text(f"{seconds / size * 1e9:.1f}\n", encoding="ascii")
+
+
+def program_says(subcommand, file):
+    """The exit status of a subcommand of the program that opens a package, at least 0, and what it prints.
+
+    On a terminal it is told how large the package is, how long it has taken, and about how long it will take.
+    """
+    size, began = sum(sizes_of(file)), time.monotonic()
+    about = seconds_to_open(size)
+    of_about = f" of about {about}" if about else ""
+    said = None
+    with subprocess.Popen(
+        [program(), subcommand, file], stdin=subprocess.DEVNULL, stdout=subprocess.PIPE
+    ) as running:
+        try:
+            while said is None:
+                took = time.monotonic() - began
+                LINE.tell(f"mmpkg {subcommand} {file}: {megabytes(size)}, {took:.0f}{of_about} s")
+                with contextlib.suppress(subprocess.TimeoutExpired):
+                    said = running.communicate(timeout=RENEWED)[0]
+        except BaseException:
+            running.kill()
+            raise
     LINE.clear()
-    return done.returncode if done.returncode >= 0 else 3, done.stdout.decode(errors="replace").strip()
+    if running.returncode == 0:
+        keep_pace(size, time.monotonic() - began)
+    return running.returncode if running.returncode >= 0 else 3, said.decode(errors="replace").strip()
 
 
 def checked_copy(file, folder):

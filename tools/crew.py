@@ -37,7 +37,20 @@ import time
 import webbrowser
 
 import make_viewer
-from border import Refused, arguments, has_commits, is_name, program, program_says, refuse, run_tool
+from border import (
+    Refused,
+    arguments,
+    has_commits,
+    is_name,
+    keep_pace,
+    megabytes,
+    program,
+    program_says,
+    refuse,
+    run_tool,
+    seconds_to_open,
+    sizes_of,
+)
 
 PORT = 8090
 CONNECTIONS = 1_000_000
@@ -115,12 +128,18 @@ def expect_package(file, patience):
 
 
 def has_page(file, table):
-    """Whether the page stands in a package as it would be made now."""
+    """Whether the page stands in a package as it would be made now, as far as a file tells that nobody has checked.
+
+    The program checks it as it opens it, and tells what it is then.
+    """
     if has_commits(file):
         return False
     address = f"{file.resolve().as_uri()}?mode=ro&immutable=1"
-    with contextlib.closing(sqlite3.connect(address, uri=True)) as opened:
-        return make_viewer.Package(opened).is_current(table)
+    try:
+        with contextlib.closing(sqlite3.connect(address, uri=True)) as opened:
+            return make_viewer.Package(opened).is_current(table)
+    except Exception:  # whatever a file that is no package makes of the reading
+        return False
 
 
 def run_program(file, what, given=b""):
@@ -196,6 +215,7 @@ class Desk:
         self.given, self.file, self.key = given, file, key
         self.running = None
         self.had = False
+        self.size, self.began = 0, 0.0
 
     def ask(self, method, path, seconds=PATIENCE):
         """The status that the desk answers with; None where there is none."""
@@ -219,6 +239,7 @@ class Desk:
     def sit(self):
         """Runs the program until it ends, and answers its exit status and its last words."""
         words = ["--port", str(self.given.port), "--count", str(CONNECTIONS), "--page", self.given.table]
+        self.size, self.began = sum(sizes_of(self.file)), time.monotonic()
         self.running = subprocess.Popen(
             [program(), "desk", self.file, *words],
             stdin=subprocess.DEVNULL,
@@ -237,6 +258,7 @@ class Desk:
         return self.running.wait(), said
 
     def opened(self, address):
+        keep_pace(self.size, time.monotonic() - self.began)
         if self.had:
             tell("The program runs again, and the page goes on.")
             return
@@ -270,7 +292,9 @@ class Desk:
                 f"port {self.given.port}: another program has it; end that, or choose another by --port (a browser "
                 "keeps what isn't in the package yet by the port)"
             )
-        raise Refused(f"{self.file}: {said}: {FAULTS.get(said, 'it can not be opened')}", status if status > 0 else 3)
+        if said in FAULTS:
+            raise Refused(f"{self.file}: {said}: {FAULTS[said]}", 3)
+        refuse(self.file, self.file, status if status > 0 else 3, said or "it can not be opened")
 
     def end(self):
         """Ends the program well, as far as it lets."""
@@ -285,6 +309,13 @@ class Desk:
             return False
 
 
+def how_long(file):
+    """What is told before an opening that takes a while, by what the last one took."""
+    size = sum(sizes_of(file))
+    seconds = seconds_to_open(size)
+    return f" ({megabytes(size)}: about {seconds} s)" if seconds > 1 else ""
+
+
 def stop(*_):
     raise KeyboardInterrupt
 
@@ -294,8 +325,10 @@ def work(given):
     if not file.exists():
         raise Refused(f"{file}: isn't there; 'mmpkg init {shlex.quote(str(file))}' makes an empty package", 4)
     desk = Desk(given, file, key_of(file))
-    tell(f"{file} is opened: first it is checked as a whole.")
-    expect_package(file, patience=PATIENCE if desk.end_earlier() else 0)
+    tell(f"{file} is opened: first it is checked as a whole{how_long(file)}.")
+    earlier = desk.end_earlier()
+    if earlier or not has_page(file, given.table):
+        expect_package(file, patience=PATIENCE if earlier else 0)
     if not has_page(file, given.table):
         tell("The page is brought in: it is missing, or older than these tools.")
         bring_page(file, given.table)

@@ -230,6 +230,36 @@ def check_what_can_not_be_opened():
         assert f"{file}: fault 91: another program has the file" in said[-1], said
 
 
+def check_one_opening():
+    """A package that has the page is opened once, by the desk; what a large one took is told before it is opened again."""
+    with folder_with() as file:
+        folder = file.parent
+        kit = folder / "kit"
+        kit.mkdir()
+        for number in range(6):
+            (kit / str(number)).write_bytes(os.urandom(4_000_000))
+        (kit / "kit.csv").write_text("".join(f"{it + 1},media,photos,{90 + it},image/png,{it}\n" for it in range(6)))
+        mmpkg("run", file, given=b"edition,large\n")
+        mmpkg("kit", file, "large", kit)
+        mmpkg("run", file, given=b"publish,large\n")
+        ran = folder / "ran"
+        told = folder / "program"
+        told.write_text(f'#!/bin/sh\necho "$1" >>"{ran}"\nexec "{PROGRAM}" "$@"\n')
+        told.chmod(0o755)
+        kept = folder / "cache" / "mmpkg" / "seconds_a_gb"
+        how = {"MMPKG": str(told), "XDG_CACHE_HOME": str(folder / "cache")}
+        for day, (words, runs) in enumerate(((".", ["check", "run", "kit", "run", "desk"]), (" (24 MB: about 24 s).", ["desk"]))):
+            started = Started(file, **how)
+            expect(started.until("is opened"), f"{file} is opened: first it is checked as a whole{words}", f"the words of day {day}")
+            started.until("Ctrl-C")
+            started.running.send_signal(signal.SIGINT)
+            started.wait()
+            expect(ran.read_text().split(), runs, f"the runs of day {day}")
+            assert 0 < float(kept.read_text()) < 1000, "what the opening took a GB"
+            ran.unlink()
+            kept.write_text("999.9\n")
+
+
 def check_without_a_name():
     """Without FILE the folder's only package is taken; of several none is."""
     with folder_with() as file:

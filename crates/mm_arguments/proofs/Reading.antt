@@ -1,11 +1,13 @@
 -- What the matches give, as facts of their rows.
-use Rattle.std.proofs.Common.{◌≡◌, ◌∙◌, ◌-◌, Bool, true, false, List, Option, Some, None, Result, Ok, refl, sym, ap, subst, is_some, option_map, codes, length, map, slice_get}
+use Rattle.std.proofs.Common.{◌≡◌, ◌∙◌, ◌-◌, Bool, true, false, List, Option, Some, None, Result, Ok, refl, sym, ap, subst}
+use Rattle.std.proofs.Common.{is_some, option_map, codes, length, map, slice_get}
 use Rattle.std.proofs.lemmas.List.{length-map}
 use Rattle.std.proofs.lemmas.Option.{slice_get-map}
 use Rattle.std.specs.Prelude.{IfSome, Box}
 use Rattle.std.specs.Borrow.{Bor}
 use Rattle.std.specs.Box.{box_value}
-use Rattle.clap.specs.Words.{ReadsOne, Row, Text, all_of, first_value, matched_of, one_of, one_text, raw_values, rows_of, subcommand_name_of, subcommand_rows, subcommand_rows_of}
+use Rattle.clap.specs.Words.{ReadsOne, Row, Text, all_of, first_value, matched_of, one_of, one_text, raw_values, rows_of}
+use Rattle.clap.specs.Words.{subcommand_name_of, subcommand_rows, subcommand_rows_of}
 use Rattle.clap.specs.declared.parser.matches.ArgMatches.{ArgMatches}
 use Rattle.clap.specs.declared.parser.matches.ArgMatches.TheViews.{out-ArgMatches, out-SubCommand}
 use Rattle.clap.specs.declared.parser.matches.Found.{Found}
@@ -38,8 +40,8 @@ last_read f id texts (Some w) given last = (
 )
 
 -- whether a flag stands
-pub flag_read : (f : Found) (id : Text) (stands : Bool) → (one_text f id ≡ None → stands ≡ false) → (one_text f id ≡ Some (codes "true") → stands ≡ true)
-    → (one_text f id ≡ Some (codes "false") → stands ≡ false) → IsFlag (rows_of f) id stands
+pub flag_read : (f : Found) (id : Text) (stands : Bool) → (one_text f id ≡ None → stands ≡ false)
+    → (one_text f id ≡ Some (codes "true") → stands ≡ true) → (one_text f id ≡ Some (codes "false") → stands ≡ false) → IsFlag (rows_of f) id stands
 flag_read f id stands none if_true if_false = (
   λ e. if_true (one_text-rows f id ∙ e),
   λ e. if_false (one_text-rows f id ∙ e),
@@ -56,8 +58,8 @@ number_read {T} {E} gives f id r x is none value = go (one_text f id) refl
     go (Some t) e = (t, sym (one_text-rows f id) ∙ e, subst (λ (q : Option T). ReadsOne gives t q) is (value t e))
 
 -- the name and the rows of the subcommand that was met
-pub met : (m : ArgMatches) (name : Text) (rows : List Row) → Some name ≡ subcommand_name_of m → Some rows ≡ option_map (λ p. p.1) (subcommand_rows_of m)
-    → subcommand_rows_of m ≡ Some (name, rows)
+pub met : (m : ArgMatches) (name : Text) (rows : List Row) → Some name ≡ subcommand_name_of m
+    → Some rows ≡ option_map (λ p. p.1) (subcommand_rows_of m) → subcommand_rows_of m ≡ Some (name, rows)
 met m name rows = go (out-ArgMatches m).subcommand
   where
     go : {Z : Type 0} (o : Option (Box SubCommand Z)) → Some name ≡ option_map (λ b. (out-SubCommand (box_value b)).name.now) o

@@ -1,5 +1,6 @@
 -- What words ask for, and what a request is limited to.
-use Rattle.std.specs.Prelude.{◌≡◌, ◌≤◌, ◌≤ℤ◌, ◌-◌, ⊤, ℕ, ℤ, Bool, true, false, List, Option, Some, None, IfSome, codes, length, pos, slice_get}
+use Rattle.std.specs.Prelude.{◌≡◌, ◌≤◌, ◌≤ℤ◌, ◌-◌, ⊤, ℕ, ℤ, Bool, true, false}
+use Rattle.std.specs.Prelude.{List, Option, Some, None, IfSome, codes, length, pos, slice_get}
 use Rattle.std.specs.Borrow.{Bor}
 use Rattle.std.specs.Str.Parse.{IsNumeral, digits_value, signed_digits_value, without_leading_plus, without_leading_sign}
 use Rattle.clap.specs.Words.{Row, Text, all_of, first_of, one_of, subcommand_of}
@@ -79,8 +80,8 @@ AsksFor name rows (Desk file port count page) = (name ≡ codes "desk") × IsGiv
     × IsNumber rows (codes "port") port × IsNumber rows (codes "count") count × IsMaybeWord rows (codes "page") page
 
 -- the words ask for this: of what `clap` reads of them on the command line
-abbrev pub Asks : List Text → Request → Type 0
-Asks words request = (name : Text) × (rows : List Row) × (subcommand_of command_line words ≡ Some (name, rows)) × AsksFor name rows request
+abbrev pub WordsAsk : List Text → Request → Type 0
+WordsAsk words request = (name : Text) × (rows : List Row) × (subcommand_of command_line words ≡ Some (name, rows)) × AsksFor name rows request
 
 -- the words want this told on standard error: of what `clap` reads of them on the command line
 abbrev pub Wants : List Text → Aids → Type 0

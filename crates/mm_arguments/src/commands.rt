@@ -132,9 +132,7 @@ fn run_command<'a>(alloc: Global) -> Result<Command<'a>, AllocError>
 {
     Command::new(alloc, "run")
         .about("Applies the CSV records of standard input, and answers each with a line")
-        .after_help(
-            "Example: mmpkg run map.mmpkg < records.csv\nLine N answers record N: `N ok`, `N refused R`, or `N fault F`, which ends the run.",
-        )
+        .after_help(texts::SHORT_RUN)
         .after_long_help(texts::RUN)
         .arg(file_argument(alloc))?
         .arg(at_argument(alloc))?
@@ -149,9 +147,7 @@ fn kit_command<'a>(alloc: Global) -> Result<Command<'a>, AllocError>
         .about(
             "Stages the pieces of a kit in an open edition; an import that was stopped is done again",
         )
-        .after_help(
-            "Example: mmpkg kit map.mmpkg spring kits/spring\nPrints `kit complete N`, `kit refused PIECE R`, or `kit fault F`.",
-        )
+        .after_help(texts::SHORT_KIT)
         .after_long_help(texts::KIT)
         .arg(file_argument(alloc))?
         .arg(edition_argument(alloc))?
@@ -177,9 +173,7 @@ fn migrate_command<'a>(alloc: Global) -> Result<Command<'a>, AllocError>
 {
     Command::new(alloc, "migrate")
         .about("Brings a package of profile 1, in whole millimetres, to whole micrometres")
-        .after_help(
-            "Done once, in one commit; after a loss of power it can be done again. A package in micrometres is only checked.\nThe file can't go back. Prints `migrate ok`, or `rule Qk` for the rule that fails.",
-        )
+        .after_help(texts::SHORT_MIGRATE)
         .arg(file_argument(alloc))
 }
 
@@ -188,9 +182,7 @@ fn list_command<'a>(alloc: Global) -> Result<Command<'a>, AllocError>
 {
     Command::new(alloc, "list")
         .about("Lists the tables and editions of the package")
-        .after_help(
-            "A line for each table: name, kind, how many tiles, rows or media, last change, identifier.\nThen a line for each edition: its name, and `open` with the number of its pieces, or `published`.",
-        )
+        .after_help(texts::SHORT_LIST)
         .arg(file_argument(alloc))
 }
 
@@ -199,9 +191,7 @@ fn show_command<'a>(alloc: Global) -> Result<Command<'a>, AllocError>
 {
     Command::new(alloc, "show")
         .about("Prints rows of a table as the CSV records that write them")
-        .after_help(
-            "Example: mmpkg show map.mmpkg spots 7\nPrints `row,TABLE,ID,TITLE,NOTE,AMOUNT` for each row, by rising id, or `refused R` where there is none to show.",
-        )
+        .after_help(texts::SHORT_SHOW)
         .after_long_help(texts::SHOW)
         .arg(file_argument(alloc))?
         .arg(table_argument(alloc))?
@@ -215,9 +205,7 @@ fn serve_command<'a>(alloc: Global) -> Result<Command<'a>, AllocError>
         .about(
             "Serves tiles, media and lists of the package over HTTP, one connection after another",
         )
-        .after_help(
-            "Example: mmpkg serve map.mmpkg --port 8080\nRoutes: /tiles/TABLE/Z/COLUMN/ROW, /media/TABLE/ID, /related/TABLE/ID, /contents.",
-        )
+        .after_help(texts::SHORT_SERVE)
         .after_long_help(texts::SERVE)
         .arg(file_argument(alloc))?
         .arg(port_argument(alloc))?
@@ -230,9 +218,7 @@ fn desk_command<'a>(alloc: Global) -> Result<Command<'a>, AllocError>
 {
     Command::new(alloc, "desk")
         .about("Shows the package in a browser and takes records from it, in one session")
-        .after_help(
-            "Example: mmpkg desk map.mmpkg --port 8090 --page viewer\nPrints the address with its key; GET shows as `serve` does, POST /KEY/records runs a list as `run` does.",
-        )
+        .after_help(texts::SHORT_DESK)
         .after_long_help(texts::DESK)
         .arg(file_argument(alloc))?
         .arg(port_argument(alloc))?
@@ -261,9 +247,7 @@ pub(crate) fn command<'a>(alloc: Global) -> Result<Command<'a>, AllocError>
         .about(
             "Edits offline map packages: GeoPackage tables with coordinates in whole micrometres",
         )
-        .after_help(
-            "Exit status: 0 all accepted, 1 something refused, 2 wrong arguments, 3 a fault, 4 not a package.\nTools beside it: mmpkg-import, mmpkg-export, mmpkg-kit, mmpkg-viewer, mmpkg-kit-between, mmpkg-repair-gis.",
-        )
+        .after_help(texts::PROGRAM)
         .subcommand_required(true)
         .arg_required_else_help(true)
         .subcommand(init_command(alloc)?)?

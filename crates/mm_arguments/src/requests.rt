@@ -3,7 +3,7 @@
 ghost use Rattle.std.specs.Prelude.{◌≡◌, ◌⊎◌, ◌≤ℤ◌, pos, IfOk, IfSome, codes, map};
 ghost use Rattle.clap.specs.Words.{FailsBy, fault_of, found_of, kind_of, rows_of};
 ghost use Rattle.mm_arguments.specs.CommandLine.{command_line};
-ghost use Rattle.mm_arguments.specs.Requests.{Asks, AsksFor, IsGivenId, IsGivenMoment, IsRequestWithin, IsGivenWord, IsLastWord, IsMaybeWord, Wants};
+ghost use Rattle.mm_arguments.specs.Requests.{WordsAsk, AsksFor, IsGivenId, IsGivenMoment, IsRequestWithin, IsGivenWord, IsLastWord, IsMaybeWord, Wants};
 ghost use Rattle.mm_arguments.specs.Requests as spec;
 
 use crate::commands::command;
@@ -233,7 +233,7 @@ fn request_of<'a>(name: &str, matches: &ArgMatches<'a>) -> Option<Request<'a>>
 /// words, and is of its kind.
 pub fn read_arguments<'a>(alloc: Global, words: &'a [&'a str]) -> Result<Request<'a>, Error>
     ensures within { IfOk result IsRequestWithin }
-    ensures asks { IfOk result (Asks (map (λ word. word.now) words.entry.now)) }
+    ensures asks { IfOk result (WordsAsk (map (λ word. word.now) words.entry.now)) }
     ensures fails { FailsBy
         (fault_of command_line (map (λ word. word.now) words.entry.now)) result }
 {

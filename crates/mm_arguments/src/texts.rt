@@ -1,7 +1,42 @@
-//! The long texts behind the help of a subcommand: what a crew without a network looks up.
+//! The texts behind the help of a subcommand: what a crew without a network looks up.
 
 /// What `--version` prints behind the program's name.
 pub(crate) const VERSION: &str = "0.2 (packages of profile 2)";
+
+/// Behind `run -h`, where `help run` has more.
+pub(crate) const SHORT_RUN: &str = "Example: mmpkg run map.mmpkg < records.csv
+Line N answers record N: `N ok`, `N refused R`, or `N fault F`, which ends the run.";
+
+/// Behind `kit -h`, where `help kit` has more.
+pub(crate) const SHORT_KIT: &str = "Example: mmpkg kit map.mmpkg spring kits/spring
+Prints `kit complete N`, `kit refused PIECE R`, or `kit fault F`.";
+
+/// Behind `migrate -h`, where `help migrate` has the same.
+pub(crate) const SHORT_MIGRATE: &str =
+    "Done once, in one commit; after a loss of power it can be done again. A package in micrometres is only checked.
+The file can't go back. Prints `migrate ok`, or `rule Qk` for the rule that fails.";
+
+/// Behind `list -h`, where `help list` has the same.
+pub(crate) const SHORT_LIST: &str =
+    "A line for each table: name, kind, how many tiles, rows or media, last change, identifier.
+Then a line for each edition: its name, and `open` with the number of its pieces, or `published`.";
+
+/// Behind `show -h`, where `help show` has more.
+pub(crate) const SHORT_SHOW: &str = "Example: mmpkg show map.mmpkg spots 7
+Prints `row,TABLE,ID,TITLE,NOTE,AMOUNT` for each row, by rising id, or `refused R` where there is none to show.";
+
+/// Behind `serve -h`, where `help serve` has more.
+pub(crate) const SHORT_SERVE: &str = "Example: mmpkg serve map.mmpkg --port 8080
+Routes: /tiles/TABLE/Z/COLUMN/ROW, /media/TABLE/ID, /related/TABLE/ID, /contents.";
+
+/// Behind `desk -h`, where `help desk` has more.
+pub(crate) const SHORT_DESK: &str = "Example: mmpkg desk map.mmpkg --port 8090 --page viewer
+Prints the address with its key; GET shows as `serve` does, POST /KEY/records runs a list as `run` does.";
+
+/// Behind the help of the whole program.
+pub(crate) const PROGRAM: &str =
+    "Exit status: 0 all accepted, 1 something refused, 2 wrong arguments, 3 a fault, 4 not a package.
+Tools beside it: mmpkg-crew, mmpkg-import, mmpkg-export, mmpkg-kit, mmpkg-viewer, mmpkg-kit-between, mmpkg-repair-gis.";
 
 /// Behind `help init`.
 pub(crate) const INIT: &str =

@@ -1,5 +1,5 @@
 -- What is said of a number.
-use Rattle.std.specs.Prelude.{List, [], ◌∷◌, Option, Some, None, bytes_eq, if◌then◌else◌, map}
+use Rattle.std.specs.Prelude.{◌≡◌, ℕ, List, [], ◌∷◌, Option, Some, None, bytes_eq, drop, if◌then◌else◌, map, take}
 use Rattle.std.specs.Option.{option_or}
 use Rattle.mm_definitions.specs.Keys.{Text}
 use Rattle.mm_words.specs.declared.entries.TheConstants.{RECORDS, LAYOUT, CONTENT, EDITIONS, FAULTS, OPENINGS, RULES}
@@ -42,3 +42,7 @@ abbrev pub text_of : Text → Option Text
 text_of word =
     option_or (of_records word) (option_or (of_layout word) (option_or (of_content word) (option_or (of_editions word)
     (option_or (of_faults word) (option_or (of_openings word) (of_rules word))))))
+
+-- it is a part of the text of the entry that has this name
+abbrev pub IsOfItsText : Text → Text → Type 0
+IsOfItsText word part = (text : Text) × (text_of word ≡ Some text) × (from : ℕ) × (to : ℕ) × (part ≡ drop from (take to text))

@@ -1,5 +1,8 @@
 //! What an answer line says.
 
+ghost use Rattle.std.specs.Prelude.{IfSome};
+ghost use Rattle.mm_words.specs.Words.{IsOfItsText};
+
 use crate::explaining::explanation_of;
 
 /// A line that says that something was not accepted.
@@ -54,7 +57,9 @@ pub fn told_of(line: &str) -> Option<Told<'_>> {
 }
 
 /// What a number or a rule says, in a line: the first line of its text, behind the colon.
-pub fn meaning_of(word: &str) -> Option<&'static str> {
+pub fn meaning_of(word: &str) -> Option<&'static str>
+    ensures { IfSome result (λ meaning. IsOfItsText word.now meaning.now) }
+{
     let (line, _) = explanation_of(word)?.split_once('\n')?;
     let (_, meaning) = line.split_once(": ")?;
     Some(meaning)

@@ -1,4 +1,4 @@
-use Rattle.std.proofs.Common.{◌∙◌, ap, true}
+use Rattle.std.proofs.Common.{◌∙◌, ap, Bool, true}
 use Rattle.std.proofs.lemmas.Result.{IfOk-weaker}
 use Rattle.clap.specs.Simple.{app_of_fields, on_top}
 use Rattle.clap.specs.declared.builder.command.Command.{Command}
@@ -13,10 +13,13 @@ returns c =
     let with_version = ap app_of_fields c.version.ensures ∙ ap (on_top (λ s. record s { has_version = true })) c.new.ensures.app in
     let shown = ap app_of_fields c.after_help.ensures ∙ ap app_of_fields c.about.ensures ∙ with_version in
     let wanted = ap app_of_fields c.subcommand_required.ensures ∙ ap (on_top (λ s. record s { subcommand_required = true })) shown in
-    let local = ap (λ (f : Command-F Command). f.has_globals) (c.arg_required_else_help.ensures) ∙ ap (λ (f : Command-F Command). f.has_globals) c.subcommand_required.ensures
-    ∙ ap (λ (f : Command-F Command). f.has_globals) c.after_help.ensures ∙ ap (λ (f : Command-F Command). f.has_globals) c.about.ensures ∙ ap (λ (f : Command-F Command). f.has_globals) c.version.ensures ∙ c.new.ensures.local in
+    let globals : Command-F Command → Bool = λ f. f.has_globals in
+    let told = ap globals c.about.ensures ∙ ap globals c.version.ensures ∙ c.new.ensures.local in
+    let local =
+    ap globals c.arg_required_else_help.ensures ∙ ap globals c.subcommand_required.ensures ∙ ap globals c.after_help.ensures ∙ told in
+    let asked = ap (on_top (λ s. record s { arg_required_else_help = true })) wanted in
     let start : IsCommand line.start c.arg_required_else_help.result =
-    (ap app_of_fields c.arg_required_else_help.ensures ∙ ap (on_top (λ s. record s { arg_required_else_help = true })) wanted, local) in
+    (ap app_of_fields c.arg_required_else_help.ensures ∙ asked, local) in
     let with_init = adds _ _ _ _ _ start c.in_ok-init_command.ensures c.in_ok-subcommand.ensures in
     let with_run = adds _ _ _ _ _ with_init c.in_ok-run_command.ensures c.in_ok-subcommand-2.ensures in
     let with_kit = adds _ _ _ _ _ with_run c.in_ok-kit_command.ensures c.in_ok-subcommand-3.ensures in

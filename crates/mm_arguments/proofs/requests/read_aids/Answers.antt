@@ -17,12 +17,14 @@ returns-in-Some-clause-wants c =
     let is : app_of c.in_ok-command.field-0 ≡ command_line = c.in_ok-command.ensures.0 in
     let given = c.in_ok-matches.ensures.matches (ap is_simple is ∙ is_simple_line) in
     let f = found_of c.in-Some.inner.now in
+    let words = c.get_flag.ensures in
+    let progress = c.get_flag-in-Some.ensures in
     let entered = met c.in_ok-matches.matches c.in-Some.field-0-0.now (rows_of f) c.in-Some.ensures.name c.in-Some.ensures.rows in (
       c.in-Some.field-0-0.now,
       rows_of f,
       sym (ap (λ (a : App). subcommand_of a (map (λ word. word.now) c.args.words.now)) is) ∙ (sym given.1 ∙ entered),
-      flag_read f (codes "words") c.get_flag.result c.get_flag.ensures.none c.get_flag.ensures.value c.get_flag.ensures.other,
-      flag_read f (codes "progress") c.get_flag-in-Some.result c.get_flag-in-Some.ensures.none c.get_flag-in-Some.ensures.value c.get_flag-in-Some.ensures.other,
+      flag_read f (codes "words") c.get_flag.result words.none words.value words.other,
+      flag_read f (codes "progress") c.get_flag-in-Some.result progress.none progress.value progress.other,
     )
 
 pub returns-in-Some-clause-fails : goal.returns-in-Some-clause-fails

@@ -1,5 +1,7 @@
 -- What is read of a record by its first word, and the limits of what it spells.
-use Rattle.std.proofs.Common.{◌≡◌, ◌∙◌, ◌≤◌, inl, inr, ℕ, ℤ, List, [], ◌∷◌, ◌++◌, length, drop, take, ◌-◌, length-drop, Option, None, Some, IfOk, Bool, true, false, Result, Ok, Err, refl, sym, ap, subst, arith}
+use Rattle.std.proofs.Common.{◌≡◌, ◌∙◌, ◌≤◌, inl, inr, ℕ, ℤ, List, [], ◌∷◌, ◌++◌, length, drop, take, ◌-◌}
+use Rattle.std.proofs.Common.{length-drop, Option, None, Some, IfOk, Bool, true, false, Result, Ok, Err, refl, sym}
+use Rattle.std.proofs.Common.{ap, subst, arith}
 use Rattle.std.specs.Prelude.{⊤, codes, bytes_eq, if◌then◌else◌}
 use Rattle.std.specs.Borrow.{Bor}
 use Rattle.std.proofs.lemmas.List.{take_all}
@@ -7,8 +9,12 @@ use Rattle.std.proofs.lemmas.Slice.Eq.{bytes_eq-Decides}
 use Rattle.mm_definitions.specs.Keys.{Text}
 use Rattle.mm_definitions.specs.Bounds.{IsFrom, IsLong, IsText, IsIdentifier, IsContentType, IsName, current}
 use Rattle.mm_definitions.specs.Reading.{ReadsTo}
-use Rattle.mm_definitions.specs.Fields.{Field, OneOf, NumberFrom, BytesTo, TextOf, AnIdentifier, AContentType, AName, Value, Whole, Plain, HoldsValue, AllHold, IsAgainstSome}
-use Rattle.mm_definitions.specs.Records.{Form, form_of, piece_forms, piece_form, other_forms, record_form, stage_form, with_piece, id_field, IsLeast, IsMet, IsUnmet, SpellsPiece, HoldsAgainstPiece, Spells, HoldsAgainst, piece_word, piece_values, command_word, command_values}
+use Rattle.mm_definitions.specs.Fields.{Field, OneOf, NumberFrom, BytesTo, TextOf, AnIdentifier, AContentType, AName}
+use Rattle.mm_definitions.specs.Fields.{Value, Whole, Plain, HoldsValue, AllHold, IsAgainstSome}
+use Rattle.mm_definitions.specs.Records.{Form, form_of, piece_forms, piece_form, other_forms, record_form, stage_form}
+use Rattle.mm_definitions.specs.Records.{with_piece, id_field, IsLeast, IsMet, IsUnmet, SpellsPiece}
+use Rattle.mm_definitions.specs.Records.{HoldsAgainstPiece, Spells, HoldsAgainst, piece_word, piece_values}
+use Rattle.mm_definitions.specs.Records.{command_word, command_values}
 use Rattle.mm_definitions.specs.Records as forms
 use Rattle.mm_definitions.specs.Pieces.{piece_command}
 use Rattle.mm_definitions.specs.Within.{IsWithin, IsPieceWithin, Takes}
@@ -122,7 +128,9 @@ edit_arm r xs some stage others h =
     same = same_form (text_at xs 0) (texts_of (rest_of xs)) stage others
 
     by : (r : Result Command ReadFault)
-        → ReadsTo (λ c. (q : Piece) × (c ≡ piece_command q) × SpellsPiece current (text_at xs 0 ∷ texts_of (rest_of xs)) q) (IsLeast (HoldsAgainstPiece current (text_at xs 0 ∷ texts_of (rest_of xs)))) r
+        → ReadsTo (λ c. (q : Piece) × (c ≡ piece_command q)
+        × SpellsPiece current (text_at xs 0 ∷ texts_of (rest_of xs)) q)
+        (IsLeast (HoldsAgainstPiece current (text_at xs 0 ∷ texts_of (rest_of xs)))) r
         → ReadsTo (Spells current (text_at xs 0 ∷ texts_of (rest_of xs))) (IsLeast (HoldsAgainst current (text_at xs 0 ∷ texts_of (rest_of xs)))) r
     by (Ok c) (q, is, (word, met)) = (
       word ∙ sym (same_word q) ∙ ap command_word (sym is),
@@ -177,7 +185,20 @@ met_by_piece ts (Media table id content_type bytes) h = let a = all_within forms
 met_by_piece ts (MediaDrop table id) h = let a = all_within forms.item_form ts (piece_values (MediaDrop table id)) h in (a.0, a.1.0)
 met_by_piece ts (Map mapping base_id related_id) h = let a = all_within forms.map_form ts (piece_values (Map mapping base_id related_id)) h in (a.0, a.1.0, a.1.1.0)
 met_by_piece ts (MapDrop mapping base_id related_id) h = let a = all_within forms.map_form ts (piece_values (MapDrop mapping base_id related_id)) h in (a.0, a.1.0, a.1.1.0)
-met_by_piece ts (pieces.Matrix table zoom matrix) h = let a = all_within (forms.matrix_form current) ts (piece_values (pieces.Matrix table zoom matrix)) h in (a.0, a.1.0, record { mw = a.1.1.0; mh = a.1.1.1.0; tw = a.1.1.1.1.0; th = a.1.1.1.1.1.0; px = a.1.1.1.1.1.1.0; py = a.1.1.1.1.1.1.1.0 })
+met_by_piece ts (pieces.Matrix table zoom matrix) h = let a =
+    all_within (forms.matrix_form current) ts (piece_values (pieces.Matrix table zoom matrix)) h in (
+      a.0,
+      a.1.0,
+      record {
+        mw = a.1.1.0;
+        mh = a.1.1.1.0;
+        tw = a.1.1.1.1.0;
+        th = a.1.1.1.1.1.0;
+        px =
+            a.1.1.1.1.1.1.0;
+        py = a.1.1.1.1.1.1.1.0;
+      },
+    )
 
 spelled_piece : (ts : List Text) (q : Piece) → SpellsPiece current ts q → IsPieceWithin current q
 spelled_piece [] q h = absurd h
@@ -207,8 +228,13 @@ met_by_command ts (commands.Media table id content_type bytes) h = met_by_piece 
 met_by_command ts (commands.MediaDrop table id) h = met_by_piece ts (MediaDrop table id) h
 met_by_command ts (commands.Map mapping base_id related_id) h = met_by_piece ts (Map mapping base_id related_id) h
 met_by_command ts (commands.MapDrop mapping base_id related_id) h = met_by_piece ts (MapDrop mapping base_id related_id) h
-met_by_command ts (commands.Srs id name organization organization_id definition description) h = let a = all_within forms.srs_form ts (command_values (commands.Srs id name organization organization_id definition description)) h in (a.0, a.1.0, a.1.1.0, a.1.1.1.0, a.1.1.1.1.0, a.1.1.1.1.1.0)
-met_by_command ts (commands.Pyramid table identifier srs min_x min_y max_x max_y step) h = let a = all_within (forms.pyramid_form current) ts (command_values (commands.Pyramid table identifier srs min_x min_y max_x max_y step)) h in (a.0, a.1.0, a.1.1.0, a.1.1.1.0, a.1.1.1.1.0, a.1.1.1.1.1.0, a.1.1.1.1.1.1.0)
+met_by_command ts (commands.Srs id name organization organization_id definition description) h = let a =
+    all_within forms.srs_form ts (command_values (commands.Srs id name organization organization_id definition
+    description)) h in (a.0, a.1.0, a.1.1.0, a.1.1.1.0, a.1.1.1.1.0, a.1.1.1.1.1.0)
+met_by_command ts (commands.Pyramid table identifier srs min_x min_y max_x max_y step) h = let a =
+    all_within (forms.pyramid_form current) ts (command_values
+    (commands.Pyramid table identifier srs min_x min_y max_x max_y step)) h in
+    (a.0, a.1.0, a.1.1.0, a.1.1.1.0, a.1.1.1.1.0, a.1.1.1.1.1.0, a.1.1.1.1.1.1.0)
 met_by_command ts (commands.Matrix table zoom matrix) h = met_by_piece ts (pieces.Matrix table zoom matrix) h
 met_by_command ts (commands.Table table kind identifier) h = let a = all_within forms.table_form ts (command_values (commands.Table table kind identifier)) h in (a.0, a.1.1.0)
 met_by_command ts (commands.Drop table) h = let a = all_within forms.name_form ts (command_values (commands.Drop table)) h in a.0
@@ -335,4 +361,5 @@ pub two_refuse : {A : Type 0} {fs : Form} {r : Result A ReadFault} {fault : Read
     → ReadsTo {A = ⊤} (λ _. ⊤) (IsLeast (IsAgainstSome fs (texts_of xs))) (Err fault)
 two_refuse {fs = fs} {fault = fault} xs some e h =
     subst (λ ts. ReadsTo {A = ⊤} (λ _. ⊤) (IsLeast (IsAgainstSome fs ts)) (Err fault)) (sym (two_and_rest xs some))
-    (subst (ReadsTo (λ x. AllHold fs (text_at xs 0 ∷ text_at xs 1 ∷ texts_of (after_two xs)) (h.values x)) (IsLeast (IsAgainstSome fs (text_at xs 0 ∷ text_at xs 1 ∷ texts_of (after_two xs))))) e h.reads)
+    (subst (ReadsTo (λ x. AllHold fs (text_at xs 0 ∷ text_at xs 1 ∷ texts_of (after_two xs)) (h.values x))
+    (IsLeast (IsAgainstSome fs (text_at xs 0 ∷ text_at xs 1 ∷ texts_of (after_two xs))))) e h.reads)

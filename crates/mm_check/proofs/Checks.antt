@@ -20,7 +20,8 @@ use Rattle.mm_check.specs.Form.{KeepsAs, IsFormCheck}
 abbrev pub SaysForm : Row → Join → List Term → List Term → (Row → Type 0) → (Kept → Type 0) → Type 0
 SaysForm params from terms project good Form = (db : Database) (kept : Kept) → KeepsAs db kept → AllShown db.trees params from terms project good ↔ Form kept
 
-module _ (sql : List ℕ) (good : Row → Type 0) (from : Join) (terms project : List Term) (order : List (Term × Key)) (names : List (List ℕ)) (it : IsQuery schema sql from terms project order names) (quiet : IsQuiet sql)
+module _ (sql : List ℕ) (good : Row → Type 0) (from : Join) (terms project : List Term) (order : List (Term × Key))
+    (names : List (List ℕ)) (it : IsQuery schema sql from terms project order names) (quiet : IsQuiet sql)
     (Form : Kept → Type 0) (says : SaysForm [] from terms project good Form) (old new : State) where
   told : (result : Result Bool Fault) → TellsAll sql [] good old new result → HasCleanDisk new → (kept : Kept)
       → (IsTrue old.is_open → KeepsAs old.now kept) → IfOk result (λ b. IsTrue b ↔ Form kept)
@@ -105,4 +106,14 @@ module _ (old new : State) (A B C : Kept → Type 0) (alike : (kept : Kept) → 
 
 pub gives_up : (old new : State) (A C : Kept → Type 0) (r : Result Bool Fault) (fault : Fault) → r ≡ Err fault → IsFormCheck old new A r
     → IsFormCheck old new C (Err fault)
-gives_up old new A C r fault is one = let h = subst (IsFormCheck old new A) is one in record { mode = h.mode; survives = h.survives; same = λ clean. tt; seen = h.seen; settled = h.settled; says = λ clean kept keeps. tt; faults = h.faults }
+gives_up old new A C r fault is one = let h = subst (IsFormCheck old new A) is one in
+    record {
+      mode = h.mode;
+      survives = h.survives;
+      same = λ clean. tt;
+      seen = h.seen;
+      settled = h.settled;
+      says =
+          λ clean kept keeps. tt;
+      faults = h.faults;
+    }

@@ -1,5 +1,6 @@
 -- What the queries of the form show.
-use Rattle.std.proofs.Common.{◌≡◌, ◌↔◌, ◌⊎◌, inl, inr, ℕ, suc, ℤ, pos, Bool, true, false, cond, not, ◌&&◌, ◌||◌, ◌++◌, List, [], ◌∷◌, length, filter, if◌then◌else◌, Some, refl, sym, ap, subst, ◌∙◌, arith}
+use Rattle.std.proofs.Common.{◌≡◌, ◌↔◌, ◌⊎◌, inl, inr, ℕ, suc, ℤ, pos, Bool, true, false, cond, not, ◌&&◌, ◌||◌, ◌++◌}
+use Rattle.std.proofs.Common.{List, [], ◌∷◌, length, filter, if◌then◌else◌, Some, refl, sym, ap, subst, ◌∙◌, arith}
 use Rattle.std.specs.Prelude.{◌<ℤ◌, min}
 use Rattle.std.specs.declared.cmp.Ordering.{Ordering}
 use Rattle.std.specs.declared.cmp.Ordering.TheVariants.{Less, Equal, Greater}
@@ -141,16 +142,24 @@ module _ (db : Database) (kept : Kept) (h : KeepsAs db kept) (id : ℤ) (b : Blo
   all_counted =
       ap (λ n. after_tiles (Int (pos (min 1 n)))) (passed (at_id 5 id) (λ s. [] ∷ row ∷ s ∷ []) (db.trees 15)) ∙ ap after_tiles (counted_is (at_id 5 id) (db.trees 15))
       ∙ ap (λ n. after_media (Int (pos (min 1 n)))) (passed (at_id 3 id) (λ s. [] ∷ row ∷ (exists_value in_tiles ∷ []) ∷ s ∷ []) (db.trees 19)) ∙ ap after_media (counted_is (at_id 3 id) (db.trees 19))
-      ∙ ap (λ n. after_pieces (Int (pos (min 1 n)))) (passed (at_id 14 id) (λ s. [] ∷ row ∷ (exists_value in_tiles ∷ []) ∷ (exists_value in_media ∷ []) ∷ s ∷ []) (db.trees 25)) ∙ ap after_pieces (counted_is (at_id 14 id) (db.trees 25))
+      ∙ ap (λ n. after_pieces (Int (pos (min 1 n))))
+      (passed (at_id 14 id) (λ s. [] ∷ row ∷ (exists_value in_tiles ∷ []) ∷ (exists_value in_media ∷ []) ∷ s
+      ∷ []) (db.trees 25)) ∙ ap after_pieces (counted_is (at_id 14 id) (db.trees 25))
       ∙ ap (λ t. if t then last_env (exists_value in_pieces) ∷ [] else []) (shown_where row in_tiles in_media in_pieces)
 
   pub named_is : AllByRecursion (λ (_ : Env). ⊥) (matches trees no_names by_tiles ([] ∷ row ∷ [])) ↔ IsNamed kept id
   named_is =
       subst (λ found. AllByRecursion (λ (_ : Env). ⊥) found ↔ IsNamed kept id) (sym all_counted)
       (decide in_tiles in_media in_pieces _ _ _ (last_env (exists_value in_pieces))
-      (told_names tile_id tile_row (db.trees 15) kept.tiles h.tiles id (at_id 5 id) (λ r k i same. hits_id 5 id r (tile_id i) (columns_are r (tile_row k i) 4 same)) (λ r k i same. only_id 5 id r (tile_id i) (columns_are r (tile_row k i) 4 same)) in_tiles refl)
-      (told_names medium_id medium_row (db.trees 19) kept.media h.media id (at_id 3 id) (λ r k i same. hits_id 3 id r (medium_id i) (columns_are r (medium_row k i) 2 same)) (λ r k i same. only_id 3 id r (medium_id i) (columns_are r (medium_row k i) 2 same)) in_media refl)
-      (told_names piece_id staged_row (db.trees 25) kept.pieces h.pieces id (at_id 14 id) (λ r k i same. hits_id 14 id r (piece_id i) (columns_are r (staged_row k i) 13 same)) (λ r k i same. only_id 14 id r (piece_id i) (columns_are r (staged_row k i) 13 same)) in_pieces refl))
+      (told_names tile_id tile_row (db.trees 15) kept.tiles h.tiles id (at_id 5 id)
+      (λ r k i same. hits_id 5 id r (tile_id i) (columns_are r (tile_row k i) 4 same))
+      (λ r k i same. only_id 5 id r (tile_id i) (columns_are r (tile_row k i) 4 same)) in_tiles refl)
+      (told_names medium_id medium_row (db.trees 19) kept.media h.media id (at_id 3 id)
+      (λ r k i same. hits_id 3 id r (medium_id i) (columns_are r (medium_row k i) 2 same))
+      (λ r k i same. only_id 3 id r (medium_id i) (columns_are r (medium_row k i) 2 same)) in_media refl)
+      (told_names piece_id staged_row (db.trees 25) kept.pieces h.pieces id (at_id 14 id)
+      (λ r k i same. hits_id 14 id r (piece_id i) (columns_are r (staged_row k i) 13 same))
+      (λ r k i same. only_id 14 id r (piece_id i) (columns_are r (staged_row k i) 13 same)) in_pieces refl))
 
 pub named : SaysForm [] (inner 27 by_tiles) no_names (col 1 0 ∷ []) (λ _. ⊥) AreNamed
 named db kept h = each_row as_whole blob_row (db.trees 27) kept.shelf (covered_whole h.blobs) _ _ (λ id b x. named_is db kept h id b)

@@ -48,7 +48,8 @@ module _ (profile : Profile) (old new : State) where
 module _ (profile : Profile) (old mid new : State) (k : ℕ) (low : 1 ≤ k) (high : k < 16) (so_far : HasPassed profile old mid ⊤ (Before profile k)) where
   pub rule_passes : (r : Result Bool Fault) {b : Bool} → r ≡ Ok b → b ≡ true → IsCheck profile mid new (Before profile k) (rule profile k) r
       → HasPassed profile old new ⊤ (Before profile (k + 1))
-  rule_passes r is told h = next_passes profile old mid new ⊤ (Before profile k) (Before profile k) (rule profile k) (λ p before. before) so_far (Before profile (k + 1)) ⊤ (λ p before here. one_more_rule profile p k before here) r is told h
+  rule_passes r is told h = next_passes profile old mid new ⊤ (Before profile k) (Before profile k) (rule profile k)
+      (λ p before. before) so_far (Before profile (k + 1)) ⊤ (λ p before here. one_more_rule profile p k before here) r is told h
 
   alone : (r : Result Bool Fault) → IsCheck profile mid new (Before profile k) (rule profile k) r → IsCheck profile old new (λ _. ⊤) (rule profile k) r
   alone r h = asked_alone profile old mid new ⊤ (Before profile k) (Before profile k) (rule profile k) (λ p before. before) so_far r h

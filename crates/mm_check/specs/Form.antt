@@ -8,13 +8,17 @@ use Rattle.sqlite.specs.State.{State, HasCleanDisk}
 use Rattle.sql_forms.specs.Listing.{IsSound}
 use Rattle.sql_forms.specs.Tables.{tables_of, AreTables}
 use Rattle.sql_forms.specs.Maps.{Holds}
-use Rattle.mm_store.specs.Tables.{schema, gpkg_spatial_ref_sys, gpkg_contents, gpkg_tile_matrix_set, gpkg_tile_matrix, gpkg_extensions, gpkgext_relations, mm_profile, mm_tables, mm_rows, mm_map, mm_editions, mm_tiles, mm_media, mm_pieces, mm_blobs}
+use Rattle.mm_store.specs.Tables.{schema, gpkg_spatial_ref_sys, gpkg_contents, gpkg_tile_matrix_set, gpkg_tile_matrix}
+use Rattle.mm_store.specs.Tables.{gpkg_extensions, gpkgext_relations, mm_profile, mm_tables, mm_rows, mm_map}
+use Rattle.mm_store.specs.Tables.{mm_editions, mm_tiles, mm_media, mm_pieces, mm_blobs}
 use Rattle.mm_definitions.specs.Bounds.{Profile}
 use Rattle.mm_definitions.specs.Package.{Package}
 use Rattle.mm_definitions.specs.declared.answers.Fault.{Fault}
 use Rattle.mm_definitions.specs.declared.answers.Open.{Open}
 use Rattle.mm_definitions.specs.declared.answers.Open.TheVariants as opens
-use Rattle.mm_store.specs.Rows.{whole, past_rowid, past_id, system_row, contents_row, kind_row, set_row, grid_row, tile_row, attribute_row, medium_row, relation_row, pairing_row, edition_row, staged_row, Counts}
+use Rattle.mm_store.specs.Rows.{whole, past_rowid, past_id, system_row, contents_row, kind_row, set_row, grid_row}
+use Rattle.mm_store.specs.Rows.{tile_row, attribute_row, medium_row, relation_row, pairing_row, edition_row}
+use Rattle.mm_store.specs.Rows.{staged_row, Counts}
 use Rattle.mm_store.specs.Blobs.{Blob, AreBlobs, blob_row, digest_of, Tells}
 use Rattle.mm_store.specs.Kept.{Kept, IsNamed, tile_id, tile_with, medium_id, medium_with, piece_id, piece_with}
 use Rattle.mm_store.specs.Faults.{IsStoreFault}
@@ -48,7 +52,8 @@ AreDigested kept = (id : ℤ) (b : Blob) → get kept.shelf id ≡ Some b → (b
 
 -- no two have one digest and the same bytes
 abbrev pub AreApart : Kept → Type 0
-AreApart kept = (i : ℤ) (b : Blob) → get kept.shelf i ≡ Some b → (j : ℤ) (c : Blob) → get kept.shelf j ≡ Some c → (c.digest ≡ b.digest) × (i <ℤ j) × (c.bytes ≡ b.bytes) → ⊥
+AreApart kept = (i : ℤ) (b : Blob) → get kept.shelf i ≡ Some b → (j : ℤ) (c : Blob) → get kept.shelf j ≡ Some c
+    → (c.digest ≡ b.digest) × (i <ℤ j) × (c.bytes ≡ b.bytes) → ⊥
 
 -- each is named
 abbrev pub AreNamed : Kept → Type 0
@@ -99,7 +104,8 @@ pub record IsFormCheck (old new : State) (Form : Kept → Type 0) (result : Resu
 
 -- Where all else is as it should be, the form is what tells whether the database reads as the package.
 abbrev pub DecidesReading : State → State → Result Bool Fault → Type 0
-DecidesReading old new result = (version : ℤ) (kept : Kept) (p : Package) → (IsTrue old.is_open → ReadsLoosely version old.now kept p) → IfOk result (λ b. IsTrue b ↔ ReadsAs version new.now p)
+DecidesReading old new result = (version : ℤ) (kept : Kept) (p : Package)
+    → (IsTrue old.is_open → ReadsLoosely version old.now kept p) → IfOk result (λ b. IsTrue b ↔ ReadsAs version new.now p)
 
 -- ---- what a form that is asked for tells of a database
 

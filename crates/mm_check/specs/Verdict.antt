@@ -3,7 +3,9 @@ use Rattle.std.specs.Prelude.{◌≡◌, ◌⊎◌, ℕ, ◌≤◌, ◌<◌, ◌
 use Rattle.sqlite.specs.State.{State, HasCleanDisk}
 use Rattle.mm_definitions.specs.Bounds.{Profile}
 use Rattle.mm_definitions.specs.Package.{Package}
-use Rattle.mm_definitions.specs.Rules.{Meets, GivenSystems, NamedSystems, DistinctIdentifiers, Names, Registry, Extents, MatricesFit, HigherIsFiner, NextIsHalved, TilesInside, Items, RelationsSuited, PairingsJoin, ExactExtensions, Editions, Limits}
+use Rattle.mm_definitions.specs.Rules.{Meets, GivenSystems, NamedSystems, DistinctIdentifiers, Names, Registry}
+use Rattle.mm_definitions.specs.Rules.{Extents, MatricesFit, HigherIsFiner, NextIsHalved, TilesInside, Items}
+use Rattle.mm_definitions.specs.Rules.{RelationsSuited, PairingsJoin, ExactExtensions, Editions, Limits}
 use Rattle.mm_definitions.specs.declared.answers.Fault.{Fault}
 use Rattle.mm_store.specs.Faults.{IsStoreFault}
 use Rattle.mm_store.specs.Seen.{IsSeenAs}

@@ -26,7 +26,7 @@ ascii_is_clean text low none = record {
 }
 
 -- a test that is true of fewer bytes
-none_of_fewer : (test fewer : ℕ → Bool) → ((c : ℕ) → test c ≡ false → fewer c ≡ false) → (text : Text) → list_any test text ≡ false
+pub none_of_fewer : (test fewer : ℕ → Bool) → ((c : ℕ) → test c ≡ false → fewer c ≡ false) → (text : Text) → list_any test text ≡ false
     → list_any fewer text ≡ false
 none_of_fewer test fewer so [] e = refl
 none_of_fewer test fewer so (c ∷ cs) e =
@@ -40,7 +40,7 @@ not_zero (suc n) e = grind (arith, nat_tests)
 not_beyond : (c : ℕ) → not (is_letter_or_digit c) ≡ false → is_beyond_ascii c ≡ false
 not_beyond c e = grind (arith, nat_tests)
 
-not_true : (b : Bool) → not b ≡ true → b ≡ false
+pub not_true : (b : Bool) → not b ≡ true → b ≡ false
 not_true true e = sym e
 not_true false e = refl
 

@@ -7,7 +7,9 @@ use Rattle.std.specs.Option.{option_cmp}
 use Rattle.std.specs.Cmp.{int_cmp_total, on_total, then_total}
 use Rattle.std.specs.Cmp.Lexicographic.{nat_list_cmp_total, options_total}
 use Rattle.std.specs.FinMap.{IsAntisymmetric, nat_cmp-IsAntisymmetric, int_cmp-IsAntisymmetric, slice_cmp-IsAntisymmetric}
-use Rattle.mm_definitions.specs.Keys.{Text, text_cmp, Level, level_cmp, level, TileKey, tile_cmp, tile, Item, item_cmp, item, Pairing, pairing_cmp, pairing, PieceKey, piece_cmp, piece, Extension, extension_cmp}
+use Rattle.mm_definitions.specs.Keys.{Text, text_cmp, Level, level_cmp, level, TileKey, tile_cmp, tile, Item}
+use Rattle.mm_definitions.specs.Keys.{item_cmp, item, Pairing, pairing_cmp, pairing, PieceKey, piece_cmp, piece}
+use Rattle.mm_definitions.specs.Keys.{Extension, extension_cmp}
 use Rattle.mm_definitions.proofs.Parts.{IsKeyOrder}
 
 pub then_equal : (a b : Ordering) → ordering_then a b ≡ Equal → (a ≡ Equal) × (b ≡ Equal)
@@ -66,7 +68,8 @@ pub pairing_keys : IsKeyOrder pairing_cmp
 pairing_keys = by_parts (λ (k : Pairing). k.mapping) (λ (k : Pairing). (k.base_id, k.related_id)) (λ a (p : ℤ × ℤ). pairing a p.0 p.1) (λ k. refl) texts (in_pairs numbers numbers)
 
 pub tile_keys : IsKeyOrder tile_cmp
-tile_keys = by_parts (λ (k : TileKey). k.table) (λ (k : TileKey). (k.zoom, (k.column, k.row))) (λ a (p : ℤ × (ℤ × ℤ)). tile a p.0 p.1.0 p.1.1) (λ k. refl) texts (in_pairs numbers (in_pairs numbers numbers))
+tile_keys = by_parts (λ (k : TileKey). k.table) (λ (k : TileKey). (k.zoom, (k.column, k.row)))
+    (λ a (p : ℤ × (ℤ × ℤ)). tile a p.0 p.1.0 p.1.1) (λ k. refl) texts (in_pairs numbers (in_pairs numbers numbers))
 
 pub extension_keys : IsKeyOrder extension_cmp
 extension_keys = by_parts (λ (k : Extension). k.table) (λ (k : Extension). (k.column, (k.name, (k.definition, k.scope))))

@@ -10,7 +10,7 @@ use Rattle.std.specs.FinMap.Entries.{below_all}
 use Rattle.mm_definitions.specs.Parts.{Each}
 use Rattle.mm_definitions.proofs.Parts.{IsKeyOrder, same_key, same_itself, not_none}
 
-and_parts : (a b : Bool) → T (a && b) → T a × T b
+pub and_parts : (a b : Bool) → T (a && b) → T a × T b
 and_parts true b h = (tt, h)
 and_parts false b h = absurd h
 

@@ -5,7 +5,8 @@ use Rattle.std.specs.declared.cmp.Ordering.TheVariants.{Less, Equal, Greater}
 use Rattle.std.specs.Ordering.{eq_by_cmp, is_eq}
 use Rattle.std.specs.Cmp.{IsTotalOrder, tied_itself}
 use Rattle.std.specs.List.{list_any}
-use Rattle.std.specs.FinMap.{FinMap, get, contains_key, insert, remove, retain_keys, entries, find, IsAntisymmetric, same_map, get-insert, get-remove, get-retain_keys, get-entries}
+use Rattle.std.specs.FinMap.{FinMap, get, contains_key, insert, remove, retain_keys, entries, find, IsAntisymmetric}
+use Rattle.std.specs.FinMap.{same_map, get-insert, get-remove, get-retain_keys, get-entries}
 use Rattle.mm_definitions.specs.Parts.{Each, Has, Stands, some_entry}
 
 -- An order under which only equal keys tie.

@@ -1,5 +1,7 @@
 -- What is read of the fields of a record, one field at a time.
-use Rattle.std.proofs.Common.{◌^◌, ◌≡◌, ◌≢◌, ◌∙◌, ◌≤◌, ◌<◌, ◌+◌, ◌⊎◌, inl, inr, ℕ, zero, suc, ℤ, pos, neg_ℤ, List, [], ◌∷◌, length, drop, map, None, Bool, true, false, Result, Ok, Err, IsErr, refl, sym, ap, subst, arith, ◌<ℤ◌, ◌≤ℤ◌}
+use Rattle.std.proofs.Common.{◌≡◌, ◌≢◌, ◌∙◌, ◌≤◌, ◌<◌, ◌+◌, ◌⊎◌, inl, inr, ℕ, zero, suc, ℤ, pos, neg_ℤ, List, []}
+use Rattle.std.proofs.Common.{◌∷◌, length, drop, map, None, Bool, true, false, Result, Ok, Err, IsErr, refl, sym, ap}
+use Rattle.std.proofs.Common.{subst, arith, ◌<ℤ◌, ◌≤ℤ◌}
 use Rattle.std.specs.Prelude.{get_or, nat_le, if◌then◌else◌, ⊤}
 use Rattle.std.specs.Borrow.{Bor}
 use Rattle.std.proofs.lemmas.Int.{ints}
@@ -11,7 +13,8 @@ use Rattle.mm_definitions.specs.Bounds.{IsLong}
 use Rattle.mm_definitions.specs.Keys.{Text}
 use Rattle.mm_definitions.specs.Numbers.{SpellsNumber, LeadDigits, value_from}
 use Rattle.mm_definitions.specs.Reading.{ReadsTo, both_of}
-use Rattle.mm_definitions.specs.Fields.{Field, OneOf, NumberFrom, BytesTo, TextOf, AnIdentifier, AContentType, AName, Value, Whole, Plain, HoldsValue, IsAgainst, AllHold, IsAgainstSome}
+use Rattle.mm_definitions.specs.Fields.{Field, OneOf, NumberFrom, BytesTo, TextOf, AnIdentifier, AContentType, AName}
+use Rattle.mm_definitions.specs.Fields.{Value, Whole, Plain, HoldsValue, IsAgainst, AllHold, IsAgainstSome}
 use Rattle.mm_definitions.specs.Records.{IsLeast}
 use Rattle.mm_definitions.specs.Refusals.{Refusal}
 use Rattle.mm_definitions.specs.declared.answers.ReadFault.{ReadFault}
@@ -49,7 +52,7 @@ not_both : (r : Result (List ℕ) FromHexError) (bytes : List ℕ) → r ≡ Ok 
 not_both (Ok b) bytes e h = absurd (cc)
 not_both (Err f) bytes e h = absurd (cc)
 
-one_value : (r : Result (List ℕ) FromHexError) (a b : List ℕ) → r ≡ Ok a → r ≡ Ok b → a ≡ b
+pub one_value : (r : Result (List ℕ) FromHexError) (a b : List ℕ) → r ≡ Ok a → r ≡ Ok b → a ≡ b
 one_value r a b e f = cc
 
 pub not_against : (f : Field) (t : Text) (v : Value) (n : ℕ) → HoldsValue f t v → IsAgainst f t n → ⊥

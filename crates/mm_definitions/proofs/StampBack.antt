@@ -63,7 +63,8 @@ read_back y mo d t hy hm hd ht = (
   two_back mo hm,
   two_back d hd,
   summed _ _ _ _ _ (t / 3600000) (t / 60000 % 60) (t / 1000 % 60) (t % 1000) t
-      (two_back (t / 3600000) (hours_low t ht)) (two_back (t / 60000 % 60) (sixty_low (t / 60000))) (two_back (t / 1000 % 60) (sixty_low (t / 1000))) (three_back (t % 1000) (thousand_low t)) (time_parts t ht),
+      (two_back (t / 3600000) (hours_low t ht)) (two_back (t / 60000 % 60) (sixty_low (t / 60000)))
+      (two_back (t / 1000 % 60) (sixty_low (t / 1000))) (three_back (t % 1000) (thousand_low t)) (time_parts t ht),
 )
 
 abs_pos : (z : ℤ) → pos 1970 ≤ℤ z → pos (unsigned_abs z) ≡ z
@@ -87,7 +88,9 @@ pub shown_parts : (text : List ℕ) (m : ℕ) (st : IsStamp m text)
 shown_parts text m st =
     let d = st.date in
     let low = from_1970 d (subst (λ z. pos 0 ≤ℤ z) (sym st.day) (search rules)) in
-    let r = read_back (unsigned_abs d.year) d.month d.day (m % 86400000) (abs_low d.year d.year_in.1 low) (below_month d.month d.month_in.1) (below_day d.day (days_in_month d.year d.month) d.day_in.1 (days_in_month_bounds d.year d.month).0) (part_low m) in
+    let r = read_back (unsigned_abs d.year) d.month d.day (m % 86400000) (abs_low d.year d.year_in.1 low)
+    (below_month d.month d.month_in.1) (below_day d.day (days_in_month d.year d.month) d.day_in.1
+    (days_in_month_bounds d.year d.month).0) (part_low m) in
     let s = st.spelled in (
       (sym (abs_pos d.year low) ∙ ap pos (sym (ap year_in s ∙ r.0)), ap pos (sym (ap (λ x. pair_at x 5) s ∙ r.1)), ap pos (sym (ap (λ x. pair_at x 8) s ∙ r.2))),
       ap time_in s ∙ r.3,

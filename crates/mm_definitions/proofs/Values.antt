@@ -24,7 +24,8 @@ module _ {K X Y : Type 0} (R : K → K → Ordering) (change : X → Y) where
 
   found : (q : K) (es : List (K × X)) → find R q (map changed es) ≡ option_map change (find R q es)
   found q [] = refl
-  found q (e ∷ es) = elim (eq_by_cmp R q e.0) as (λ b. cond b (Some (change e.1)) (find R q (map changed es)) ≡ option_map change (cond b (Some e.1) (find R q es))) [ true ↦ refl | false ↦ found q es ]
+  found q (e ∷ es) = elim (eq_by_cmp R q e.0) as (λ b. cond b (Some (change e.1)) (find R q (map changed es))
+      ≡ option_map change (cond b (Some e.1) (find R q es))) [ true ↦ refl | false ↦ found q es ]
 
   pub get_changed : (m : FinMap R X) (q : K) → get (change_values change m) q ≡ option_map change (get m q)
   get_changed m q =

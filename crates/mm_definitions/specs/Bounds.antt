@@ -1,5 +1,6 @@
 -- What the numbers, bytes and texts of a package are limited to.
-use Rattle.std.specs.Prelude.{ℕ, ◌-◌, ◌≤◌, ◌^◌, Bool, true, false, not, ◌&&◌, ◌||◌, IsTrue, nat_le, ℤ, pos, negsuc, neg_ℤ, ◌≤ℤ◌, List, [], ◌∷◌, length, codes, nat_eq, ◌==◌}
+use Rattle.std.specs.Prelude.{ℕ, ◌-◌, ◌≤◌, ◌^◌, Bool, true, false, not, ◌&&◌, ◌||◌, IsTrue, nat_le, ℤ, pos, negsuc}
+use Rattle.std.specs.Prelude.{neg_ℤ, ◌≤ℤ◌, List, [], ◌∷◌, length, codes, nat_eq, ◌==◌}
 use Rattle.std.specs.Str.{IsUtf8}
 use Rattle.std.specs.List.{list_any, starts_with, before_first, after_first}
 

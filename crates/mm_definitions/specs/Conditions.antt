@@ -1,5 +1,6 @@
 -- For which numbered reasons a command is refused. The reasons are a set: the least number is the answer.
-use Rattle.std.specs.Prelude.{ℕ, ◌+◌, length, ◌==◌, ℤ, pos, ◌+ℤ◌, ◌-ℤ◌, ◌*ℤ◌, Bool, not, cond, ◌&&◌, ◌||◌, List, [], ◌∷◌, Option, Some, None, min, int_lt, int_le, codes}
+use Rattle.std.specs.Prelude.{ℕ, ◌+◌, length, ◌==◌, ℤ, pos, ◌+ℤ◌, ◌-ℤ◌, ◌*ℤ◌, Bool, not, cond, ◌&&◌, ◌||◌, List, []}
+use Rattle.std.specs.Prelude.{◌∷◌, Option, Some, None, min, int_lt, int_le, codes}
 use Rattle.std.specs.FinMap.{get, contains_key, entries, retain_keys}
 use Rattle.mm_definitions.specs.Keys.{Text, same_text, same_number, level, tile, item, Pairing, pairing, PieceKey, piece}
 use Rattle.mm_definitions.specs.Parts.{some_entry, at_value}
@@ -16,7 +17,16 @@ use Rattle.mm_definitions.specs.declared.commands.Command.{Command}
 use Rattle.mm_definitions.specs.declared.commands.Command.TheVariants as commands
 use Rattle.mm_definitions.specs.declared.commands.Piece.TheVariants as pieces
 use Rattle.mm_definitions.specs.declared.commands.Piece.TheVariants.{Tile, TileDrop, Row, RowDrop, Media, MediaDrop, Map, MapDrop}
-use Rattle.mm_definitions.specs.declared.refusals.TheConstants.{SYSTEM_EXISTS, NO_SYSTEM, GEOGRAPHIC_SYSTEM, TABLE_NAME_TAKEN, IDENTIFIER_TAKEN, NO_TABLE, ANOTHER_KIND, EMPTY_EXTENT, MATRIX_EXISTS, NOT_THE_PRODUCT, PIXEL_SIZES_OUT_OF_ORDER, NO_MATRIX, OUTSIDE_MATRIX, NO_TILE, NO_ROW, NO_MEDIA_ITEM, STILL_MAPPED, MAPPING_NAME_TAKEN, NO_RELATION, MAPPING_ROW_EXISTS, NO_MAPPING_ROW, UNSUITED_KINDS, USED_BY_A_RELATION, EDITION_EXISTS, NO_EDITION, NOT_THE_NEXT_PIECE, TOO_MANY_PIECES, PUBLISHED_ALREADY}
+use Rattle.mm_definitions.specs.declared.refusals.TheConstants.{SYSTEM_EXISTS, NO_SYSTEM, GEOGRAPHIC_SYSTEM}
+use Rattle.mm_definitions.specs.declared.refusals.TheConstants.{TABLE_NAME_TAKEN, IDENTIFIER_TAKEN, NO_TABLE}
+use Rattle.mm_definitions.specs.declared.refusals.TheConstants.{ANOTHER_KIND, EMPTY_EXTENT, MATRIX_EXISTS}
+use Rattle.mm_definitions.specs.declared.refusals.TheConstants.{NOT_THE_PRODUCT, PIXEL_SIZES_OUT_OF_ORDER, NO_MATRIX}
+use Rattle.mm_definitions.specs.declared.refusals.TheConstants.{OUTSIDE_MATRIX, NO_TILE, NO_ROW, NO_MEDIA_ITEM}
+use Rattle.mm_definitions.specs.declared.refusals.TheConstants.{STILL_MAPPED, MAPPING_NAME_TAKEN, NO_RELATION}
+use Rattle.mm_definitions.specs.declared.refusals.TheConstants.{MAPPING_ROW_EXISTS, NO_MAPPING_ROW, UNSUITED_KINDS}
+use Rattle.mm_definitions.specs.declared.refusals.TheConstants.{USED_BY_A_RELATION, EDITION_EXISTS, NO_EDITION}
+use Rattle.mm_definitions.specs.declared.refusals.TheConstants.{NOT_THE_NEXT_PIECE, TOO_MANY_PIECES}
+use Rattle.mm_definitions.specs.declared.refusals.TheConstants.{PUBLISHED_ALREADY}
 
 -- numbered reasons, each with whether it holds
 abbrev pub Reasons : Type 0
@@ -43,7 +53,8 @@ of_another_kind p table suits = (ANOTHER_KIND, contains_key p.contents table && 
 
 -- the mapping row's relation has this item as an end
 abbrev pub joins_item : Package → Text → ℤ → Pairing → Bool
-joins_item p table id k = at_value (λ r. (same_text r.base table && same_number k.base_id id) || (same_text r.related table && same_number k.related_id id)) (get p.relations k.mapping)
+joins_item p table id k = at_value (λ r. (same_text r.base table && same_number k.base_id id)
+    || (same_text r.related table && same_number k.related_id id)) (get p.relations k.mapping)
 
 -- a mapping row has this item as an end
 abbrev pub is_mapped : Package → Text → ℤ → Bool
@@ -190,7 +201,11 @@ own_reasons p (commands.Drop table) =
 own_reasons p (commands.Relation mapping base related name) =
     (NO_TABLE, not (contains_key p.contents base) || not (contains_key p.contents related))
     ∷ (MAPPING_NAME_TAKEN, is_taken p mapping)
-    ∷ (UNSUITED_KINDS, contains_key p.contents base && contains_key p.contents related && not (is_plain p base && has_kind p.kinds related (related_kind name))) ∷ []
+    ∷ (
+      UNSUITED_KINDS,
+      contains_key p.contents base && contains_key p.contents related
+          && not (is_plain p base && has_kind p.kinds related (related_kind name)),
+    ) ∷ []
 own_reasons p (commands.RelationDrop mapping) =
     (NO_RELATION, not (contains_key p.relations mapping)) ∷ []
 own_reasons p (commands.Edition name) =
@@ -199,7 +214,11 @@ own_reasons p (commands.Discard name) =
     (NO_EDITION, not (contains_key p.editions name)) ∷ (PUBLISHED_ALREADY, contains_key p.editions name && not (is_open p name)) ∷ []
 own_reasons p (commands.Stage edition number q) =
     (NO_EDITION, not (contains_key p.editions edition))
-    ∷ (NOT_THE_NEXT_PIECE, is_open p edition && (int_lt (pos (piece_count p edition + 1)) number || (int_le number (pos (piece_count p edition)) && not (has_equal_piece p edition number q))))
+    ∷ (
+      NOT_THE_NEXT_PIECE,
+      is_open p edition && (int_lt (pos (piece_count p edition + 1)) number
+          || (int_le number (pos (piece_count p edition)) && not (has_equal_piece p edition number q))),
+    )
     ∷ (TOO_MANY_PIECES, is_open p edition && same_number number (pos (piece_count p edition + 1)) && (piece_count p edition == MostPieces))
     ∷ (PUBLISHED_ALREADY, contains_key p.editions edition && not (is_open p edition)) ∷ []
 own_reasons p (commands.Publish edition) =

@@ -106,7 +106,16 @@ without_table p table = record p {
 -- the package after an accepted command at this stamp; what `publish` does is left to `done`
 abbrev pub effect : Package → Command → Text → Package
 effect p (commands.Srs id name organization organization_id definition description) stamp =
-    record p { systems = insert p.systems id (record { name = name; organization = organization; organization_id = organization_id; definition = definition; description = description }) }
+    record p {
+      systems = insert p.systems id (record {
+        name = name;
+        organization = organization;
+        organization_id =
+            organization_id;
+        definition = definition;
+        description = description;
+      });
+    }
 effect p (commands.Pyramid table identifier srs min_x min_y max_x max_y step) stamp =
     with_zoom_row (with_pyramid p table identifier srs (record { min_x = min_x; min_y = min_y; max_x = max_x; max_y = max_y }) step stamp) table step
 effect p (commands.Matrix table zoom matrix) stamp = piece_effect p (pieces.Matrix table zoom matrix) stamp
@@ -128,7 +137,13 @@ effect p (commands.Table table kind identifier) stamp =
 effect p (commands.Drop table) stamp = without_table p table
 effect p (commands.Relation mapping base related name) stamp =
     record p {
-      relations = insert p.relations mapping (record { base = base; related = related; base_column = codes "id"; related_column = codes "id"; name = relation_text name });
+      relations = insert p.relations mapping (record {
+        base = base;
+        related = related;
+        base_column = codes "id";
+        related_column = codes "id";
+        name = relation_text name;
+      });
       extensions = insert p.extensions (mapping_extension mapping) 1;
     }
 effect p (commands.RelationDrop mapping) stamp =

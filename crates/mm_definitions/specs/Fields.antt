@@ -42,7 +42,8 @@ HoldsValue _ t v = ⊥
 -- value or length is outside the limits; 12 where it is no name
 abbrev pub IsAgainst : Field → Text → ℕ → Type 0
 IsAgainst (OneOf words) t n = (n ≡ NO_SUCH_RECORD) × ¬ (IsOneOf words t)
-IsAgainst (NumberFrom low high) t n = ((n ≡ NO_SUCH_RECORD) × ((z : ℤ) → ¬ (numbers.SpellsNumber t z))) ⊎ ((n ≡ OUT_OF_LIMITS) × (z : ℤ) × numbers.SpellsNumber t z × ((z <ℤ low) ⊎ (high <ℤ z)))
+IsAgainst (NumberFrom low high) t n = ((n ≡ NO_SUCH_RECORD) × ((z : ℤ) → ¬ (numbers.SpellsNumber t z)))
+    ⊎ ((n ≡ OUT_OF_LIMITS) × (z : ℤ) × numbers.SpellsNumber t z × ((z <ℤ low) ⊎ (high <ℤ z)))
 IsAgainst (BytesTo most) t n = refuses_bytes most t n
 IsAgainst (TextOf least most) t n = refuses_unless (IsText least most) OUT_OF_LIMITS t n
 IsAgainst AnIdentifier t n = refuses_unless IsIdentifier OUT_OF_LIMITS t n

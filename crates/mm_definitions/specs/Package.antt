@@ -179,15 +179,35 @@ is_pyramid kinds table = has_kind kinds table Two || has_kind kinds table Other
 -- ---- the extension rows of a package: of related tables, of each mapping, and of each pyramid with other zoom intervals (Zoom Other Intervals)
 -- the extension row of `gpkgext_relations`, which each package has
 abbrev pub general_extension : Extension
-general_extension = record { table = Some (codes "gpkgext_relations"); column = None; name = codes "gpkg_related_tables"; definition = codes "OGC 18-000"; scope = codes "read-write" }
+general_extension = record {
+  table = Some (codes "gpkgext_relations");
+  column = None;
+  name =
+      codes "gpkg_related_tables";
+  definition = codes "OGC 18-000";
+  scope = codes "read-write";
+}
 
 -- the extension row of a mapping
 abbrev pub mapping_extension : Text → Extension
-mapping_extension mapping = record { table = Some mapping; column = None; name = codes "gpkg_related_tables"; definition = codes "OGC 18-000"; scope = codes "read-write" }
+mapping_extension mapping = record {
+  table = Some mapping;
+  column = None;
+  name = codes "gpkg_related_tables";
+  definition = codes "OGC 18-000";
+  scope = codes "read-write";
+}
 
 -- the extension row of a pyramid of kind `other`
 abbrev pub zoom_extension : Text → Extension
-zoom_extension table = record { table = Some table; column = Some (codes "tile_data"); name = codes "gpkg_zoom_other"; definition = codes "OGC 12-128r17"; scope = codes "read-write" }
+zoom_extension table = record {
+  table = Some table;
+  column = Some (codes "tile_data");
+  name =
+      codes "gpkg_zoom_other";
+  definition = codes "OGC 12-128r17";
+  scope = codes "read-write";
+}
 
 -- ---- states of editions
 -- the state of an edition that takes pieces

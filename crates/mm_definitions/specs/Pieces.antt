@@ -9,7 +9,20 @@ use Rattle.mm_definitions.specs.declared.commands.Piece.TheVariants.{Tile, TileD
 
 -- a row of this kind; the columns that matrices alone use are 0
 abbrev pub piece_of : Text → Text → ℤ → ℤ → ℤ → Text → Text → List ℕ → PieceRow
-piece_of kind name k1 k2 k3 t1 t2 bytes = record { kind = kind; name = name; k1 = k1; k2 = k2; k3 = k3; k4 = pos 0; k5 = pos 0; k6 = pos 0; k7 = pos 0; t1 = t1; t2 = t2; bytes = bytes }
+piece_of kind name k1 k2 k3 t1 t2 bytes = record {
+  kind = kind;
+  name = name;
+  k1 = k1;
+  k2 = k2;
+  k3 = k3;
+  k4 = pos 0;
+  k5 = pos 0;
+  k6 = pos 0;
+  k7 = pos 0;
+  t1 = t1;
+  t2 = t2;
+  bytes = bytes;
+}
 
 -- the row that a piece is staged as, beside its edition and its number
 abbrev pub piece_row : Piece → PieceRow
@@ -53,7 +66,16 @@ piece_by_kind r =
     else (if same_text r.kind (codes "media-drop") then Some (MediaDrop r.name r.k1)
     else (if same_text r.kind (codes "map") then Some (Map r.name r.k1 r.k2)
     else (if same_text r.kind (codes "map-drop") then Some (MapDrop r.name r.k1 r.k2)
-    else (if same_text r.kind (codes "matrix") then Some (Matrix r.name (unsigned_abs r.k1) (record { mw = unsigned_abs r.k2; mh = unsigned_abs r.k3; tw = unsigned_abs r.k4; th = unsigned_abs r.k5; px = r.k6; py = r.k7 }))
+    else (if same_text r.kind (codes "matrix") then Some
+    (Matrix r.name (unsigned_abs r.k1) (record {
+      mw = unsigned_abs r.k2;
+      mh = unsigned_abs r.k3;
+      tw =
+          unsigned_abs r.k4;
+      th = unsigned_abs r.k5;
+      px = r.k6;
+      py = r.k7;
+    }))
     else None))))))))
 
 -- where all columns are as that piece's row has them

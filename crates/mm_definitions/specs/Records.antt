@@ -3,7 +3,8 @@ use Rattle.std.specs.Prelude.{◌≡◌, ℕ, ◌-◌, ◌≤◌, ◌^◌, pos, 
 use Rattle.mm_definitions.specs.declared.refusals.TheConstants.{NO_SUCH_RECORD}
 use Rattle.mm_definitions.specs.Keys.{Text}
 use Rattle.mm_definitions.specs.Bounds.{Profile}
-use Rattle.mm_definitions.specs.Fields.{Field, OneOf, NumberFrom, BytesTo, TextOf, AnIdentifier, AContentType, AName, Value, Whole, Plain, AllHold, IsAgainstSome}
+use Rattle.mm_definitions.specs.Fields.{Field, OneOf, NumberFrom, BytesTo, TextOf, AnIdentifier, AContentType, AName}
+use Rattle.mm_definitions.specs.Fields.{Value, Whole, Plain, AllHold, IsAgainstSome}
 use Rattle.mm_definitions.specs.Package.{kind_text}
 use Rattle.mm_definitions.specs.Effects.{step_kind, plain_kind}
 use Rattle.mm_definitions.specs.Conditions.{relation_text}
@@ -87,7 +88,8 @@ matrix_form profile = AName ∷ zoom_field ∷ grid_form profile
 abbrev pub piece_forms : Profile → List (Text × Form)
 piece_forms profile =
     (codes "tile", tile_form) ∷ (codes "tile-drop", tile_drop_form) ∷ (codes "row", row_form) ∷ (codes "row-drop", item_form)
-    ∷ (codes "media", media_form) ∷ (codes "media-drop", item_form) ∷ (codes "map", map_form) ∷ (codes "map-drop", map_form) ∷ (codes "matrix", matrix_form profile) ∷ []
+    ∷ (codes "media", media_form) ∷ (codes "media-drop", item_form) ∷ (codes "map", map_form)
+    ∷ (codes "map-drop", map_form) ∷ (codes "matrix", matrix_form profile) ∷ []
 
 -- ---- the records of the other commands
 -- a coordinate in the profile's unit
@@ -171,7 +173,8 @@ stage_form profile _ = None
 -- the form of the record of a command, by its word, and of `stage` by the piece's word too
 abbrev pub record_form : Profile → List Text → Option Form
 record_form profile [] = None
-record_form profile (word ∷ texts) = if bytes_eq word (codes "stage") then stage_form profile texts else form_of (piece_forms profile ++ other_forms profile) word
+record_form profile (word ∷ texts) = if bytes_eq word (codes "stage") then stage_form profile texts else form_of
+    (piece_forms profile ++ other_forms profile) word
 
 -- ---- the record that a command is spelled by
 -- the word that the record of a piece begins with

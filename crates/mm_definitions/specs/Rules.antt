@@ -1,10 +1,17 @@
 -- The rules that a whole package meets, Q1 to Q16. Each reads only the parts that it names.
 use Rattle.std.specs.Prelude.{◌≡◌, ◌≢◌, ℕ, ◌≤◌, ℤ, pos, negsuc, ◌+ℤ◌, ◌-ℤ◌, ◌*ℤ◌, ◌≤ℤ◌, ◌<ℤ◌, ◌⊎◌, List, [], Option, Some, None, IfSome, codes, ⊤}
 use Rattle.std.specs.FinMap.{get}
-use Rattle.mm_definitions.specs.Bounds.{Profile, IsFrom, IsCoordinate, IsPixelSize, IsZoom, IsMatrixSide, IsTileSide, IsTilePlace, IsId, IsSystemNumber, IsAmount, IsTileBytes, IsMediaBytes, IsName, IsClean, IsIdentifier, IsSystemName, IsDefinition, IsRemark, IsContentType, MostPieces}
+use Rattle.mm_definitions.specs.Bounds.{Profile, IsFrom, IsCoordinate, IsPixelSize, IsZoom, IsMatrixSide, IsTileSide}
+use Rattle.mm_definitions.specs.Bounds.{IsTilePlace, IsId, IsSystemNumber, IsAmount, IsTileBytes, IsMediaBytes}
+use Rattle.mm_definitions.specs.Bounds.{IsName, IsClean, IsIdentifier, IsSystemName, IsDefinition, IsRemark}
+use Rattle.mm_definitions.specs.Bounds.{IsContentType, MostPieces}
 use Rattle.mm_definitions.specs.Keys.{Text, Level, level, TileKey, Item, item, Pairing, PieceKey, piece, Extension}
 use Rattle.mm_definitions.specs.Parts.{Each, Has, Stands}
-use Rattle.mm_definitions.specs.Package.{Package, System, Contents, Box, MatrixSet, Grid, AttributeRow, Medium, Relation, PieceRow, SystemsPart, ContentsPart, Kinds, SetsPart, MatricesPart, ExtensionsPart, TilesPart, RowsPart, MediaPart, RelationsPart, PairingsPart, EditionsPart, PiecesPart, HasKind, IsPyramid, general_extension, mapping_extension, zoom_extension, open_state, published_state}
+use Rattle.mm_definitions.specs.Package.{Package, System, Contents, Box, MatrixSet, Grid, AttributeRow, Medium}
+use Rattle.mm_definitions.specs.Package.{Relation, PieceRow, SystemsPart, ContentsPart, Kinds, SetsPart, MatricesPart}
+use Rattle.mm_definitions.specs.Package.{ExtensionsPart, TilesPart, RowsPart, MediaPart, RelationsPart, PairingsPart}
+use Rattle.mm_definitions.specs.Package.{EditionsPart, PiecesPart, HasKind, IsPyramid, general_extension}
+use Rattle.mm_definitions.specs.Package.{mapping_extension, zoom_extension, open_state, published_state}
 use Rattle.mm_definitions.specs.Pieces.{piece_row}
 use Rattle.mm_definitions.specs.Within.{IsPieceWithin, Takes}
 use Rattle.mm_definitions.specs.Stamp.{IsSomeStamp}
@@ -15,15 +22,35 @@ use Rattle.mm_definitions.specs.declared.commands.Piece.{Piece}
 -- ---- 1: the three given systems stand
 -- the given system 4326, of longitude and latitude
 abbrev pub geographic : System
-geographic = record { name = codes "WGS 84 geographic"; organization = codes "EPSG"; organization_id = pos 4326; definition = codes "EPSG:4326"; description = codes "longitude and latitude" }
+geographic = record {
+  name = codes "WGS 84 geographic";
+  organization = codes "EPSG";
+  organization_id = pos 4326;
+  definition = codes "EPSG:4326";
+  description = codes "longitude and latitude";
+}
 
 -- the given system -1, of undefined Cartesian coordinates
 abbrev pub undefined_cartesian : System
-undefined_cartesian = record { name = codes "Undefined Cartesian"; organization = codes "NONE"; organization_id = negsuc 0; definition = codes "undefined"; description = codes "undefined Cartesian coordinates" }
+undefined_cartesian = record {
+  name = codes "Undefined Cartesian";
+  organization = codes "NONE";
+  organization_id =
+      negsuc 0;
+  definition = codes "undefined";
+  description = codes "undefined Cartesian coordinates";
+}
 
 -- the given system 0, of undefined geographic coordinates
 abbrev pub undefined_geographic : System
-undefined_geographic = record { name = codes "Undefined geographic"; organization = codes "NONE"; organization_id = pos 0; definition = codes "undefined"; description = codes "undefined geographic coordinates" }
+undefined_geographic = record {
+  name = codes "Undefined geographic";
+  organization = codes "NONE";
+  organization_id =
+      pos 0;
+  definition = codes "undefined";
+  description = codes "undefined geographic coordinates";
+}
 
 -- 4326, -1 and 0 stand with these values
 pub record GivenSystems (systems : SystemsPart) : Type 0 where
@@ -60,7 +87,8 @@ pub record Names (contents : ContentsPart) (relations : RelationsPart) (editions
 -- ---- 5: the registry, the contents and the matrix sets speak of the same tables
 -- the contents row of a table that is no pyramid: data_type `attributes`, no extent, no system, and no matrix set beside it
 abbrev pub IsUnplaced : Contents → Option MatrixSet → Type 0
-IsUnplaced c set = (c.data_type ≡ codes "attributes") × (c.min_x ≡ None) × (c.min_y ≡ None) × (c.max_x ≡ None) × (c.max_y ≡ None) × (c.system ≡ None) × (set ≡ None)
+IsUnplaced c set = (c.data_type ≡ codes "attributes") × (c.min_x ≡ None) × (c.min_y ≡ None) × (c.max_x ≡ None)
+    × (c.max_y ≡ None) × (c.system ≡ None) × (set ≡ None)
 
 -- the contents row of a pyramid: data_type `tiles`, and the system and the extent of its matrix set
 pub record IsPlacedAt (c : Contents) (s : MatrixSet) : Type 0 where
@@ -122,7 +150,8 @@ pub record IsFiner (g h : Grid) : Type 0 where
 
 -- of two matrices of a table the one at the higher zoom has the smaller pixels, both across and down
 abbrev pub HigherIsFiner : MatricesPart → Type 0
-HigherIsFiner matrices = (table : Text) (low high : ℤ) (g h : Grid) → Has matrices (level table low) g → Has matrices (level table high) h → low <ℤ high → IsFiner g h
+HigherIsFiner matrices = (table : Text) (low high : ℤ) (g h : Grid) → Has matrices (level table low) g → Has matrices
+    (level table high) h → low <ℤ high → IsFiner g h
 
 -- ---- 9: in a pyramid of kind `two` the next zoom halves the pixels (Zoom Levels)
 -- the second matrix has half the pixel sizes, both across and down
@@ -132,7 +161,8 @@ pub record IsHalved (g h : Grid) : Type 0 where
 
 -- where a pyramid of kind `two` has matrices at a zoom and the next, the next has half the pixel sizes, both across and down
 abbrev pub NextIsHalved : Kinds → MatricesPart → Type 0
-NextIsHalved kinds matrices = (table : Text) (zoom : ℤ) (g h : Grid) → HasKind kinds table Two → Has matrices (level table zoom) g → Has matrices (level table (zoom +ℤ pos 1)) h → IsHalved g h
+NextIsHalved kinds matrices = (table : Text) (zoom : ℤ) (g h : Grid) → HasKind kinds table Two → Has matrices
+    (level table zoom) g → Has matrices (level table (zoom +ℤ pos 1)) h → IsHalved g h
 
 -- ---- 10: each tile lies in the matrix at its zoom; column 0, row 0 is the upper left, and tiles may be missing (Tile Pyramid User Data Tables)
 -- there is a matrix, and it has this column and this row
@@ -181,7 +211,8 @@ PairingsJoin rows media relations pairings = Each pairings (λ k _. Joins rows m
 abbrev pub IsWanted : Kinds → RelationsPart → Extension → Type 0
 IsWanted kinds relations e =
     (e ≡ general_extension)
-    ⊎ (((mapping : Text) × Stands relations mapping × (e ≡ mapping_extension mapping)) ⊎ ((table : Text) × HasKind kinds table Other × (e ≡ zoom_extension table)))
+    ⊎ (((mapping : Text) × Stands relations mapping × (e ≡ mapping_extension mapping))
+    ⊎ ((table : Text) × HasKind kinds table Other × (e ≡ zoom_extension table)))
 
 -- no other extension row stands than the wanted ones, and each of these stands once
 pub record ExactExtensions (kinds : Kinds) (relations : RelationsPart) (extensions : ExtensionsPart) : Type 0 where
@@ -191,7 +222,8 @@ pub record ExactExtensions (kinds : Kinds) (relations : RelationsPart) (extensio
 -- ---- 15: editions and their pieces
 -- the numbers of the pieces are those from 1 to n
 abbrev pub IsNumbered : PiecesPart → Text → ℕ → Type 0
-IsNumbered pieces edition n = (number : ℤ) → (Stands pieces (piece edition number) → IsFrom (pos 1) (pos n) number) × (IsFrom (pos 1) (pos n) number → Stands pieces (piece edition number))
+IsNumbered pieces edition n = (number : ℤ) → (Stands pieces (piece edition number) → IsFrom (pos 1) (pos n) number)
+    × (IsFrom (pos 1) (pos n) number → Stands pieces (piece edition number))
 
 -- the row spells a piece that the profile takes, and whose fields are within their limits
 abbrev pub IsSpelled : Profile → PieceRow → Type 0
@@ -317,21 +349,20 @@ abbrev pub PieceWithin : PieceKey → PieceRow → Type 0
 PieceWithin k r = IsName k.edition × IsId k.number
 
 -- each entry of each part is within its limits
-abbrev pub Limits : Profile → Package → Type 0
-Limits profile p =
-    Each p.systems SystemWithin
-    × Each p.contents (ContentsWithin profile)
-    × Each p.kinds KindWithin
-    × Each p.sets (SetWithin profile)
-    × Each p.matrices (MatrixWithin profile)
-    × Each p.extensions ExtensionWithin
-    × Each p.tiles TileWithin
-    × Each p.rows RowWithin
-    × Each p.media MediumWithin
-    × Each p.relations RelationWithin
-    × Each p.pairings PairingWithin
-    × Each p.editions EditionWithin
-    × Each p.pieces PieceWithin
+pub record Limits (profile : Profile) (p : Package) : Type 0 where
+  pub systems : Each p.systems SystemWithin
+  pub contents : Each p.contents (ContentsWithin profile)
+  pub kinds : Each p.kinds KindWithin
+  pub sets : Each p.sets (SetWithin profile)
+  pub matrices : Each p.matrices (MatrixWithin profile)
+  pub extensions : Each p.extensions ExtensionWithin
+  pub tiles : Each p.tiles TileWithin
+  pub rows : Each p.rows RowWithin
+  pub media : Each p.media MediumWithin
+  pub relations : Each p.relations RelationWithin
+  pub pairings : Each p.pairings PairingWithin
+  pub editions : Each p.editions EditionWithin
+  pub pieces : Each p.pieces PieceWithin
 
 -- All sixteen.
 pub record Meets (profile : Profile) (p : Package) : Type 0 where

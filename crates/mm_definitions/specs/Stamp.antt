@@ -38,12 +38,14 @@ pub record Place : Type 0 where
 -- the year in which a day lies that is counted from the start of this one, where it is at most n years on
 abbrev pub year_of : ℕ → ℕ → ℕ → Place
 year_of zero year day = record { unit = year; day = day }
-year_of (suc n) year day = if nat_lt day (days_in_year (pos year)) then record { unit = year; day = day } else year_of n (suc year) (day - days_in_year (pos year))
+year_of (suc n) year day = if nat_lt day (days_in_year (pos year)) then record { unit = year; day = day } else
+    year_of n (suc year) (day - days_in_year (pos year))
 
 -- the month in which a day of that year lies, counted from the start of this one, where it is at most n months on
 abbrev pub month_of : ℕ → ℕ → ℕ → ℕ → Place
 month_of zero year month day = record { unit = month; day = day }
-month_of (suc n) year month day = if nat_lt day (days_in_month (pos year) month) then record { unit = month; day = day } else month_of n year (suc month) (day - days_in_month (pos year) month)
+month_of (suc n) year month day = if nat_lt day (days_in_month (pos year) month) then
+    record { unit = month; day = day } else month_of n year (suc month) (day - days_in_month (pos year) month)
 
 -- the text of the day at that place in a month of that year, and of a time of that day in milliseconds
 abbrev pub stamp_in : Place → Place → ℕ → List ℕ

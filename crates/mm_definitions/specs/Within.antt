@@ -1,6 +1,8 @@
 -- What the fields of a command are limited to.
 use Rattle.std.specs.Prelude.{pos, ⊤, IsTrue}
-use Rattle.mm_definitions.specs.Bounds.{Profile, IsCoordinate, IsPixelSize, IsZoom, IsMatrixSide, IsTileSide, IsTilePlace, IsId, IsSystemNumber, IsAmount, IsTileBytes, IsMediaBytes, IsName, IsIdentifier, IsSystemName, IsDefinition, IsRemark, IsContentType}
+use Rattle.mm_definitions.specs.Bounds.{Profile, IsCoordinate, IsPixelSize, IsZoom, IsMatrixSide, IsTileSide}
+use Rattle.mm_definitions.specs.Bounds.{IsTilePlace, IsId, IsSystemNumber, IsAmount, IsTileBytes, IsMediaBytes}
+use Rattle.mm_definitions.specs.Bounds.{IsName, IsIdentifier, IsSystemName, IsDefinition, IsRemark, IsContentType}
 use Rattle.mm_definitions.specs.declared.commands.Matrix.{Matrix}
 use Rattle.mm_definitions.specs.declared.commands.Piece.{Piece}
 use Rattle.mm_definitions.specs.declared.commands.Piece.TheVariants as pieces
@@ -19,7 +21,8 @@ pub record IsMatrixWithin (profile : Profile) (m : Matrix) : Type 0 where
 
 -- each field of a piece is within its limits
 abbrev pub IsPieceWithin : Profile → Piece → Type 0
-IsPieceWithin profile (Tile table zoom column row bytes) = IsName table × IsZoom (pos zoom) × IsTilePlace (pos column) × IsTilePlace (pos row) × IsTileBytes bytes
+IsPieceWithin profile (Tile table zoom column row bytes) = IsName table × IsZoom (pos zoom) × IsTilePlace
+    (pos column) × IsTilePlace (pos row) × IsTileBytes bytes
 IsPieceWithin profile (TileDrop table zoom column row) = IsName table × IsZoom (pos zoom) × IsTilePlace (pos column) × IsTilePlace (pos row)
 IsPieceWithin profile (Row table id title note amount) = IsName table × IsId id × IsRemark title × IsRemark note × IsAmount amount
 IsPieceWithin profile (RowDrop table id) = IsName table × IsId id
@@ -39,7 +42,8 @@ abbrev pub IsWithin : Profile → Command → Type 0
 IsWithin profile (commands.Srs id name organization organization_id definition description) =
     IsId id × IsSystemName name × IsSystemName organization × IsId organization_id × IsDefinition definition × IsRemark description
 IsWithin profile (commands.Pyramid table identifier srs min_x min_y max_x max_y step) =
-    IsName table × IsIdentifier identifier × IsSystemNumber srs × IsCoordinate profile min_x × IsCoordinate profile min_y × IsCoordinate profile max_x × IsCoordinate profile max_y
+    IsName table × IsIdentifier identifier × IsSystemNumber srs × IsCoordinate profile min_x
+    × IsCoordinate profile min_y × IsCoordinate profile max_x × IsCoordinate profile max_y
 IsWithin profile (commands.Matrix table zoom matrix) = IsPieceWithin profile (pieces.Matrix table zoom matrix)
 IsWithin profile (commands.Table table kind identifier) = IsName table × IsIdentifier identifier
 IsWithin profile (commands.Drop table) = IsName table

@@ -1,5 +1,7 @@
 -- What is answered to a request, put together of what was read, asked and sent.
-use Rattle.std.proofs.Common.{◌≡◌, ◌∙◌, ◌≤◌, ◌<◌, ◌+◌, ◌⊎◌, inl, inr, ℕ, Bool, true, false, List, [], ◌∷◌, ◌++◌, Option, Some, None, IfSome, Result, Ok, Err, refl, sym, ap, subst, arith, length, length-append, map, take, drop, append_assoc, append-nil}
+use Rattle.std.proofs.Common.{◌≡◌, ◌∙◌, ◌≤◌, ◌<◌, ◌+◌, ◌⊎◌, inl, inr, ℕ, Bool, true, false, List, [], ◌∷◌, ◌++◌}
+use Rattle.std.proofs.Common.{Option, Some, None, IfSome, Result, Ok, Err, refl, sym, ap, subst, arith, length}
+use Rattle.std.proofs.Common.{length-append, map, take, drop, append_assoc, append-nil}
 use Rattle.std.proofs.KnownBytes.{Appends-nil, Appends-trans, Consumes-nil, Consumes-trans}
 use Rattle.std.proofs.lemmas.Bool.Decides.{leb_tells}
 use Rattle.std.proofs.lemmas.List.{append_cancel_left, length-take}
@@ -19,12 +21,14 @@ use Rattle.mm_page.specs.Heads.{IsHead, IsNeeded, ReadsNoMore}
 use Rattle.mm_page.specs.Served.{IsPageFault}
 use Rattle.mm_reads.specs.declared.viewer.Viewer as viewers
 use Rattle.mm_run.specs.declared.apply.Apply as applies
-use Rattle.mm_desk.specs.Answered.{AreShort, AreWhole, Demands, Ends, HasBegun, IsAnswered, IsBehind, IsFront, IsHeadless, IsPathAnswered, IsReadOn, IsReadTo, IsRecordsRun, IsResponse, IsStopped, IsWithinRecords, Looks, Never, On, Sends, Shows, Waits}
+use Rattle.mm_desk.specs.Answered.{AreShort, AreWhole, Demands, AsksToEnd, HasBegun, IsDeskAnswered, IsBehindHead, IsBegunAnswer}
+use Rattle.mm_desk.specs.Answered.{IsHeadless, IsPathAnswered, IsReadOn, IsReadTo, IsRecordsRun, IsResponse}
+use Rattle.mm_desk.specs.Answered.{IsCutAnswer, IsWithinRecords, AsksToLook, Never, On, SendsRecords, ShowsResponse, Waits}
 use Rattle.mm_desk.specs.Bodies.{answers_head}
 use Rattle.mm_desk.specs.Exchanges.{IsExchange}
 use Rattle.mm_desk.specs.Replies.{AsksPart, ShowsTo}
 use Rattle.mm_desk.specs.Responses.{ended, go_on, refusal_of}
-use Rattle.mm_desk.specs.Sent.{IsCut, IsWritten}
+use Rattle.mm_desk.specs.Sent.{IsCut, IsSentWhole}
 use Rattle.mm_desk.specs.Sittings.{Stays}
 use Rattle.mm_desk.specs.declared.desk.Done.{Done}
 use Rattle.mm_desk.specs.declared.desk.Gate.{Gate}
@@ -49,7 +53,7 @@ lifted (Some input) (Some more) front F P Q consumed facts go p = go input more 
 
 -- ---- what is sent
 
-pub written_on : (old between new : Written) (first second : Text) → IsWritten old between first → IsWritten between new second → IsWritten old new
+pub written_on : (old between new : Written) (first second : Text) → IsSentWhole old between first → IsSentWhole between new second → IsSentWhole old new
     (first ++ second)
 written_on old between new first second one two = (Appends-trans old.contents between.contents new.contents first second one.0 two.0, two.1 ∙ one.1)
 
@@ -64,17 +68,17 @@ module _ (page : Option Text) (Asked : Text → Demand → Text → Type 0) (Hea
 
   module _ {D : Type 0} (view : viewers.Ghosts D) (apply : applies.Ghosts D) (moment : ℕ) (source : Option Text) (reading : Bool) where
     -- a response of one kind was sent
-    pub shown_whole : (old new : D) (output output_now : Written) (response : Text) → Stays apply old new → IsWritten output output_now response
+    pub shown_whole : (old new : D) (output output_now : Written) (response : Text) → Stays apply old new → IsSentWhole output output_now response
         → ((p : Package) → On page Asked Headless view apply moment source reading old new output output_now p → IfSome source
-        (λ input. Shows page Asked Headless p input response))
-        → IsAnswered page Asked Headless view apply moment source reading old new output output_now (Ok dones.Shown)
+        (λ input. ShowsResponse page Asked Headless p input response))
+        → IsDeskAnswered page Asked Headless view apply moment source reading old new output output_now (Ok dones.Shown)
     shown_whole old new output output_now response stays written shows = (stays, response, written, shows)
 
     -- a front of it was
     pub cut_short : (old new : D) (output output_now : Written) (response : Text) (e : PageFault) → Stays apply old new → IsCut output output_now response e.0
         → ((p : Package) → On page Asked Headless view apply moment source reading old new output output_now p → IfSome source
         (λ input. IsResponse page Asked Headless p input response))
-        → IsAnswered page Asked Headless view apply moment source reading old new output output_now (Err e)
+        → IsDeskAnswered page Asked Headless view apply moment source reading old new output output_now (Err e)
     cut_short old new output output_now response e stays (is, failed, begun, more, whole, front) shows = (
       stays,
       inr (
@@ -90,13 +94,13 @@ module _ (page : Option Text) (Asked : Text → Demand → Text → Type 0) (Hea
 
     -- nothing was
     pub unanswered : (old new : D) (output : Written) (e : PageFault) → Stays apply old new
-        → (IsPageFault (view.has_failed old) e.0 ⊎ ((e.0.0 ≡ 96) × (reading ≡ true))) → (e.0.0 ≡ 92 → IfSome source (Looks page Asked Headless))
-        → IsAnswered page Asked Headless view apply moment source reading old new output output (Err e)
+        → (IsPageFault (view.has_failed old) e.0 ⊎ ((e.0.0 ≡ 96) × (reading ≡ true))) → (e.0.0 ≡ 92 → IfSome source (AsksToLook page Asked Headless))
+        → IsDeskAnswered page Asked Headless view apply moment source reading old new output output (Err e)
     unanswered old new output e stays why looks = (stays, inl (why, begun_nothing source output), looks)
 
     -- what was done to the session
     pub exchanged : (old new : D) (output output_now : Written) (result : Result Done PageFault)
-        → IsAnswered page Asked Headless view apply moment source reading old new output output_now result → IsExchange apply moment old new output_now result
+        → IsDeskAnswered page Asked Headless view apply moment source reading old new output output_now result → IsExchange apply moment old new output_now result
     exchanged old new output output_now (Ok (dones.Ran run)) (body, waits, between, sends, written, runs) = (body, between, runs)
     exchanged old new output output_now (Ok dones.Shown) it = it.0
     exchanged old new output output_now (Ok dones.Ended) it = it.0
@@ -107,26 +111,26 @@ module _ (page : Option Text) (Asked : Text → Demand → Text → Type 0) (Hea
 module _ (page : Option Text) (d : Demand) (here : Text) {D : Type 0} (view : viewers.Ghosts D) (apply : applies.Ghosts D) (moment : ℕ)
     (source : Option Text) (reading : Bool)
     (desk : D) (output output_now : Written) where
-  pub refused_whole : (status : ℕ) → d ≡ Refuse status → IsWritten output output_now (refusal_of status)
-      → IsAnswered page (IsBehind d here) Never view apply moment source reading desk desk output output_now (Ok dones.Shown)
+  pub refused_whole : (status : ℕ) → d ≡ Refuse status → IsSentWhole output output_now (refusal_of status)
+      → IsDeskAnswered page (IsBehindHead d here) Never view apply moment source reading desk desk output output_now (Ok dones.Shown)
   refused_whole status is written =
-      shown_whole page (IsBehind d here) Never view apply moment source reading desk desk output output_now (refusal_of status) (stays_same apply desk) written
+      shown_whole page (IsBehindHead d here) Never view apply moment source reading desk desk output output_now (refusal_of status) (stays_same apply desk) written
       (λ p on. some_all source _ (λ more. inl (Refuse status, here ++ more, (sym is, refl), refl)))
 
   pub refused_cut : (status : ℕ) (e : PageFault) → d ≡ Refuse status → IsCut output output_now (refusal_of status) e.0
-      → IsAnswered page (IsBehind d here) Never view apply moment source reading desk desk output output_now (Err e)
+      → IsDeskAnswered page (IsBehindHead d here) Never view apply moment source reading desk desk output output_now (Err e)
   refused_cut status e is cut =
-      cut_short page (IsBehind d here) Never view apply moment source reading desk desk output output_now (refusal_of status) e (stays_same apply desk) cut
+      cut_short page (IsBehindHead d here) Never view apply moment source reading desk desk output output_now (refusal_of status) e (stays_same apply desk) cut
       (λ p on. some_all source _ (λ more. inl (inl (Refuse status, here ++ more, (sym is, refl), refl))))
 
-  pub ended_whole : d ≡ End → IsWritten output output_now ended
-      → IsAnswered page (IsBehind d here) Never view apply moment source reading desk desk output output_now (Ok dones.Ended)
+  pub ended_whole : d ≡ End → IsSentWhole output output_now ended
+      → IsDeskAnswered page (IsBehindHead d here) Never view apply moment source reading desk desk output output_now (Ok dones.Ended)
   ended_whole is written = (stays_same apply desk, written, some_all source _ (λ more. (here ++ more, (sym is, refl))))
 
   pub ended_cut : (e : PageFault) → d ≡ End → IsCut output output_now ended e.0
-      → IsAnswered page (IsBehind d here) Never view apply moment source reading desk desk output output_now (Err e)
+      → IsDeskAnswered page (IsBehindHead d here) Never view apply moment source reading desk desk output output_now (Err e)
   ended_cut e is cut =
-      cut_short page (IsBehind d here) Never view apply moment source reading desk desk output output_now ended e (stays_same apply desk) cut
+      cut_short page (IsBehindHead d here) Never view apply moment source reading desk desk output output_now ended e (stays_same apply desk) cut
       (λ p on. some_all source _ (λ more. inr (inl ((here ++ more, (sym is, refl)), refl))))
 
 -- a part of the package
@@ -134,18 +138,18 @@ module _ (page : Option Text) (path here : Text) {D : Type 0} (view : viewers.Gh
     (reading : Bool)
     (old new : D) (output output_now : Written) where
   pub path_answered : (result : Result Done PageFault) → IsPathAnswered page path view apply old new output output_now result
-      → IsAnswered page (IsBehind (Show path) here) Never view apply moment source reading old new output output_now result
+      → IsDeskAnswered page (IsBehindHead (Show path) here) Never view apply moment source reading old new output output_now result
   path_answered (Ok (dones.Ran run)) it = absurd it
   path_answered (Ok dones.Ended) it = absurd it
   path_answered (Ok dones.Shown) (stays, response, written, shown) =
-      shown_whole page (IsBehind (Show path) here) Never view apply moment source reading old new output output_now response stays written
+      shown_whole page (IsBehindHead (Show path) here) Never view apply moment source reading old new output output_now response stays written
       (λ p on. some_all source _ (λ more. inl (Show path, here ++ more, (refl, refl), shown p on)))
   path_answered (Err e) (stays, asks, inl (fault, same)) =
-      subst (λ now. IsAnswered page (IsBehind (Show path) here) Never view apply moment source reading old new output now (Err e)) (sym same)
-      (unanswered page (IsBehind (Show path) here) Never view apply moment source reading old new output e stays (inl fault)
+      subst (λ now. IsDeskAnswered page (IsBehindHead (Show path) here) Never view apply moment source reading old new output now (Err e)) (sym same)
+      (unanswered page (IsBehindHead (Show path) here) Never view apply moment source reading old new output e stays (inl fault)
       (λ is. some_all source _ (λ more. (path, here ++ more, (refl, refl), asks is))))
   path_answered (Err e) (stays, asks, inr (response, shown, cut)) =
-      cut_short page (IsBehind (Show path) here) Never view apply moment source reading old new output output_now response e stays cut
+      cut_short page (IsBehindHead (Show path) here) Never view apply moment source reading old new output output_now response e stays cut
       (λ p on. some_all source _ (λ more. inl (inl (Show path, here ++ more, (refl, refl), shown p on))))
 
 -- ---- records
@@ -160,10 +164,10 @@ module _ (page : Option Text) (n : ℕ) (waits : Bool) (here : Text) {D : Type 0
     (source : Option Text)
     (reading : Bool) (old new : D) (output : Written) where
   abbrev Answered : Written → Result Done PageFault → Type 0
-  Answered now result = IsAnswered page (IsBehind (Records n waits) here) Never view apply moment source reading old new output now result
+  Answered now result = IsDeskAnswered page (IsBehindHead (Records n waits) here) Never view apply moment source reading old new output now result
 
   abbrev Response : Package → Text → Text → Type 0
-  Response = IsResponse page (IsBehind (Records n waits) here) Never
+  Response = IsResponse page (IsBehindHead (Records n waits) here) Never
 
   ran : (p : Package) (more : Text) → n ≤ length (here ++ more) → Response p more (go_on waits ++ answers_head)
   ran p more whole = inr (inr (take n (here ++ more), waits, (n, here ++ more, (refl, refl), whole, refl), refl))
@@ -172,7 +176,7 @@ module _ (page : Option Text) (n : ℕ) (waits : Bool) (here : Text) {D : Type 0
   short p more less = inl (inl (Records n waits, here ++ more, (refl, refl), (less, refl)))
 
   -- of what the sender is told behind that it may go on
-  cut_on : (between now : Written) (rest : Text) (fault : Fault) → IsWritten output between (go_on waits) → IsCut between now rest fault
+  cut_on : (between now : Written) (rest : Text) (fault : Fault) → IsSentWhole output between (go_on waits) → IsCut between now rest fault
       → IsCut output now (go_on waits ++ rest) fault
   cut_on between now rest fault on (is, failed, begun, more, whole, front) = (
     is,
@@ -183,7 +187,7 @@ module _ (page : Option Text) (n : ℕ) (waits : Bool) (here : Text) {D : Type 0
     Appends-trans output.contents between.contents now.contents (go_on waits) begun on.0 front,
   )
 
-  pub records_answered : (between now : Written) (result : Result Done PageFault) → IsWritten output between (go_on waits)
+  pub records_answered : (between now : Written) (result : Result Done PageFault) → IsSentWhole output between (go_on waits)
       → IsRecordsRun n here apply moment source reading old new between now result → Answered now result
   records_answered between now (Ok (dones.Ran run)) on (body, head, whole, written, runs) = (
     body,
@@ -219,10 +223,10 @@ module _ (page : Option Text) (n : ℕ) (waits : Bool) (here : Text) {D : Type 0
     ]),
   )
   records_answered between now (Err e) on (stays, inr (inl (cut, whole))) =
-      cut_short page (IsBehind (Records n waits) here) Never view apply moment source reading old new output now (go_on waits ++ answers_head) e stays
+      cut_short page (IsBehindHead (Records n waits) here) Never view apply moment source reading old new output now (go_on waits ++ answers_head) e stays
       (cut_on between now answers_head e.0 on cut) (λ p is. some_weaker source _ _ (ran p) whole)
   records_answered between now (Err e) on (stays, inr (inr (cut, less))) =
-      cut_short page (IsBehind (Records n waits) here) Never view apply moment source reading old new output now (go_on waits ++ refusal_of 400) e stays
+      cut_short page (IsBehindHead (Records n waits) here) Never view apply moment source reading old new output now (go_on waits ++ refusal_of 400) e stays
       (cut_on between now (refusal_of 400) e.0 on cut) (λ p is. some_weaker source _ _ (short p) less)
 
   -- it could not be told to go on
@@ -278,28 +282,28 @@ reads_head gate old now (front, consumed, needed) = (front, [], subst (λ l. Con
 
 module _ (gate : Gate) (d : Demand) (here front : Text) (old mid : Option Text) (consumed : Consumes old mid front)
     (lifts : IfSome old (Lifts gate d here front)) where
-  asked_up : (input more : Text) → input ≡ front ++ more → Lifts gate d here front input → (e : Demand) (rest : Text) → IsBehind d here more e rest
+  asked_up : (input more : Text) → input ≡ front ++ more → Lifts gate d here front input → (e : Demand) (rest : Text) → IsBehindHead d here more e rest
       → Demands gate input e rest
   asked_up input more is lift e rest (same, behind) =
       subst (λ r. Demands gate input e r) (sym behind) (subst (λ x. Demands gate input x (here ++ more)) (sym same) (lift more is))
 
   module _ (page : Option Text) {D : Type 0} (view : viewers.Ghosts D) (apply : applies.Ghosts D) (moment : ℕ) (reading : Bool) (before after : D)
       (output output_now : Written) where
-    shows_up : (p : Package) (response input more : Text) → input ≡ front ++ more → Lifts gate d here front input → Shows page
-        (IsBehind d here) Never p more response
-        → Shows page (Demands gate) IsHeadless p input response
+    shows_up : (p : Package) (response input more : Text) → input ≡ front ++ more → Lifts gate d here front input → ShowsResponse page
+        (IsBehindHead d here) Never p more response
+        → ShowsResponse page (Demands gate) IsHeadless p input response
     shows_up p response input more is lift (inl (e, rest, asked, shown)) = inl (e, rest, asked_up input more is lift e rest asked, shown)
     shows_up p response input more is lift (inr (never, bytes)) = absurd never
 
     responds_up : (p : Package) (bytes input more : Text) → input ≡ front ++ more → Lifts gate d here front input → IsResponse page
-        (IsBehind d here) Never p more bytes
+        (IsBehindHead d here) Never p more bytes
         → IsResponse page (Demands gate) IsHeadless p input bytes
     responds_up p bytes input more is lift (inl shows) = inl (shows_up p bytes input more is lift shows)
     responds_up p bytes input more is lift (inr (inl ((rest, asked), same))) = inr (inl ((rest, asked_up input more is lift End rest asked), same))
     responds_up p bytes input more is lift (inr (inr (body, waits, (n, rest, asked, fits, cut), same))) =
         inr (inr (body, waits, (n, rest, asked_up input more is lift (Records n waits) rest asked, fits, cut), same))
 
-    begun_up : HasBegun page (IsBehind d here) Never mid output output_now → HasBegun page (Demands gate) IsHeadless old output output_now
+    begun_up : HasBegun page (IsBehindHead d here) Never mid output output_now → HasBegun page (Demands gate) IsHeadless old output output_now
     begun_up (waits, text, told) = (
       waits,
       text,
@@ -307,9 +311,9 @@ module _ (gate : Gate) (d : Demand) (here front : Text) (old mid : Option Text) 
           (λ input more same lift it. (it.0, it.1, asked_up input more same lift (Records it.0 true) it.1 it.2)) (told is),
     )
 
-    pub answered_up : (result : Result Done PageFault) → IsAnswered page
-        (IsBehind d here) Never view apply moment mid reading before after output output_now result
-        → IsAnswered page (Demands gate) IsHeadless view apply moment old reading before after output output_now result
+    pub answered_up : (result : Result Done PageFault) → IsDeskAnswered page
+        (IsBehindHead d here) Never view apply moment mid reading before after output output_now result
+        → IsDeskAnswered page (Demands gate) IsHeadless view apply moment old reading before after output output_now result
     answered_up (Ok (dones.Ran run)) (body, waits, between, sends, written, runs) = (
       body,
       waits,
@@ -337,9 +341,9 @@ module _ (gate : Gate) (d : Demand) (here front : Text) (old mid : Option Text) 
           (λ input more same lift it. (it.0, it.1, asked_up input more same lift (Show it.0) it.1 it.2, it.3)) (looks is),
     )
       where
-        stops_up : IsStopped page (IsBehind d here) Never (view.has_failed before)
-            (On page (IsBehind d here) Never view apply moment mid reading before after output output_now) mid reading output output_now e.0
-            → IsStopped page (Demands gate) IsHeadless (view.has_failed before)
+        stops_up : IsCutAnswer page (IsBehindHead d here) Never (view.has_failed before)
+            (On page (IsBehindHead d here) Never view apply moment mid reading before after output output_now) mid reading output output_now e.0
+            → IsCutAnswer page (Demands gate) IsHeadless (view.has_failed before)
             (On page (Demands gate) IsHeadless view apply moment old reading before after output output_now) old reading output output_now e.0
         stops_up (inl (why, begun)) = inl (why, begun_up begun)
         stops_up (inr (is, failed, begun, text, front_of)) = inr (

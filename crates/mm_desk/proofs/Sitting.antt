@@ -1,5 +1,6 @@
 -- A sitting is one run of its lists.
-use Rattle.std.proofs.Common.{◌≡◌, inl, inr, ℕ, ◌+◌, List, [], ◌∷◌, ◌++◌, true, false, Result, Ok, Err, refl, sym, ap, subst, ◌∙◌, length, take, take_all, arith, suc}
+use Rattle.std.proofs.Common.{◌≡◌, inl, inr, ℕ, ◌+◌, List, [], ◌∷◌, ◌++◌, true, false, Result, Ok, Err, refl, sym, ap}
+use Rattle.std.proofs.Common.{subst, ◌∙◌, length, take, take_all, arith, suc}
 use Rattle.mm_definitions.specs.Package.{Package}
 use Rattle.mm_definitions.specs.Runs.{Call, run, accepted}
 use Rattle.mm_definitions.specs.declared.answers.RunFault.{RunFault}
@@ -11,8 +12,8 @@ use Rattle.mm_run.specs.Readings.{Reading, AreReadAs}
 use Rattle.mm_run.specs.Runs.{AreFirstParts}
 use Rattle.mm_run.specs.Sessions.{shown}
 use Rattle.mm_run.specs.declared.apply.Apply.{Ghosts}
-use Rattle.mm_desk.specs.Exchanges.{IsTurn}
-use Rattle.mm_desk.specs.Sittings.{AreReadOf, IsSitting, Runs, Sat, Stays, Visit, acknowledged_by}
+use Rattle.mm_desk.specs.Exchanges.{IsDeskTurn}
+use Rattle.mm_desk.specs.Sittings.{AreReadOf, IsSitting, RunsVisit, Sat, Stays, Visit, acknowledged_by}
 
 as_many : (rows : List (List (List ℕ))) (readings : List Reading) → AreReadAs rows readings → length readings ≡ length rows
 unfolding AreReadAs
@@ -33,7 +34,7 @@ module _ {A : Type 0} (apply : Ghosts A)
       × (apply.has_failed before ≡ false → apply.has_failed behind ≡ apply.has_failed before → IsSound (apply.settled behind)
       (run p (calls_of v.moment readings)))
 
-  came_by : (result : Result Tally RunFault) (p : Package) (v : Visit) (before behind : A) → v.result ≡ result → Runs apply v before behind
+  came_by : (result : Result Tally RunFault) (p : Package) (v : Visit) (before behind : A) → v.result ≡ result → RunsVisit apply v before behind
       → apply.is_clean behind → IsSound (apply.settled before) p → Came p v before behind
   came_by (Ok t) p v before behind is ran clean sound =
       let all = rw is at ran.settled.done clean p sound v.bytes refl in (
@@ -55,7 +56,7 @@ module _ {A : Type 0} (apply : Ghosts A)
         ],
       )
 
-  came : (p : Package) (v : Visit) (before behind : A) → Runs apply v before behind → apply.is_clean behind → IsSound (apply.settled before) p
+  came : (p : Package) (v : Visit) (before behind : A) → RunsVisit apply v before behind → apply.is_clean behind → IsSound (apply.settled before) p
       → Came p v before behind
   came p v before behind = came_by v.result p v before behind refl
 
@@ -124,7 +125,7 @@ module _ {A : Type 0} (apply : Ghosts A)
 
   -- one more list is run, where none has failed it
   pub grows : (visits : List Visit) (v : Visit) (old mid new : A) → Sat apply old visits mid → apply.has_failed mid ≡ apply.has_failed old
-      → Runs apply v mid new → Sat apply old (visits ++ v ∷ []) new
+      → RunsVisit apply v mid new → Sat apply old (visits ++ v ∷ []) new
   unfolding Sat
   grows [] v old mid new sat works run = (mid, new, sat, run, itself new)
   grows (u ∷ []) v old mid new (before, behind, first, ran, last) works run =
@@ -138,6 +139,6 @@ module _ {A : Type 0} (apply : Ghosts A)
 
   -- one more turn
   pub turns : (visits : List Visit) (old mid new : A) → apply.has_failed old ≡ false → Sat apply old visits mid → apply.has_failed mid ≡ false
-      → IsTurn apply mid new → (more : List Visit) × Sat apply old more new
+      → IsDeskTurn apply mid new → (more : List Visit) × Sat apply old more new
   turns visits old mid new works sat here (inl stays) = (visits, rests visits old mid new sat stays)
   turns visits old mid new works sat here (inr (v, run)) = (visits ++ v ∷ [], grows visits v old mid new sat (here ∙ sym works) run)

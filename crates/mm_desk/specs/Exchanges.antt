@@ -4,7 +4,7 @@ use Rattle.mm_definitions.specs.Streams.{Written}
 use Rattle.mm_definitions.specs.declared.answers.PageFault.{PageFault}
 use Rattle.mm_run.specs.declared.apply.Apply as applies
 use Rattle.mm_desk.specs.Bodies.{RunsBody}
-use Rattle.mm_desk.specs.Sittings.{Runs, Stays, Visit}
+use Rattle.mm_desk.specs.Sittings.{RunsVisit, Stays, Visit}
 use Rattle.mm_desk.specs.declared.desk.Done.{Done}
 use Rattle.mm_desk.specs.declared.desk.Done.TheVariants as dones
 
@@ -16,5 +16,5 @@ IsExchange apply moment old new after (Ok dones.Ended) = Stays apply old new
 IsExchange apply moment old new after (Err fault) = Stays apply old new
 
 -- the session is as it was but for reads, or it ran a list
-abbrev pub IsTurn : {A : Type 0} (apply : applies.Ghosts A) → A → A → Type 0
-IsTurn apply old new = Stays apply old new ⊎ ((v : Visit) × Runs apply v old new)
+abbrev pub IsDeskTurn : {A : Type 0} (apply : applies.Ghosts A) → A → A → Type 0
+IsDeskTurn apply old new = Stays apply old new ⊎ ((v : Visit) × RunsVisit apply v old new)

@@ -10,7 +10,7 @@ use Rattle.mm_definitions.specs.declared.answers.Fault.{Fault}
 use Rattle.mm_reads.specs.Shown.{shown_rows}
 use Rattle.mm_reads.specs.Viewers.{IsOn, IsViewFault, LeavesPackage, ShowsPart}
 use Rattle.mm_reads.specs.declared.viewer.Viewer as viewers
-use Rattle.mm_page.specs.Asked.{IsRouted, Contents, Media, Numbers, Related, Tile, Wanted, path_from}
+use Rattle.mm_page.specs.Asked.{IsRouted, Contents, Media, SpellsWithin, Related, Tile, Wanted, path_from}
 use Rattle.mm_page.specs.Page.{reply_of, where_found}
 use Rattle.mm_page.specs.Responses.{Found, NotFound, Reply, response_of}
 use Rattle.mm_desk.specs.Lists.{rows_text}
@@ -20,7 +20,7 @@ use Rattle.mm_desk.specs.Responses.{boxed_of}
 
 -- the path asks for the rows of this table from this id on
 abbrev pub AsksRows : Text → Text → ℤ → Type 0
-AsksRows path table first = (id : Text) × (path ≡ path_from (codes "rows" ∷ table ∷ id ∷ [])) × IsName table × Numbers (pos 1) (pos 9007199254740992) id first
+AsksRows path table first = (id : Text) × (path ≡ path_from (codes "rows" ∷ table ∷ id ∷ [])) × IsName table × SpellsWithin (pos 1) (pos 9007199254740992) id first
 
 -- the first rows of the table from this id on, as JSON; 404 where there is no attribute table of this name
 abbrev pub rows_reply_of : Package → Text → ℤ → Reply

@@ -7,14 +7,15 @@ use Rattle.mm_definitions.specs.declared.answers.Fault.{Fault}
 use Rattle.mm_definitions.specs.declared.answers.PageFault.{PageFault}
 
 -- they were written whole, and the output works on
-abbrev pub IsWritten : Written → Written → Text → Type 0
-IsWritten old new bytes = Appends old.contents new.contents bytes × (new.failed ≡ old.failed)
+abbrev pub IsSentWhole : Written → Written → Text → Type 0
+IsSentWhole old new bytes = Appends old.contents new.contents bytes × (new.failed ≡ old.failed)
 
 -- a front of them was, and the output has failed
 abbrev pub IsCut : Written → Written → Text → Fault → Type 0
-IsCut old new bytes fault = (fault.0 ≡ 97) × (new.failed ≡ true) × (begun : Text) × (more : Text) × (bytes ≡ begun ++ more) × Appends old.contents new.contents begun
+IsCut old new bytes fault = (fault.0 ≡ 97) × (new.failed ≡ true) × (begun : Text) × (more : Text)
+    × (bytes ≡ begun ++ more) × Appends old.contents new.contents begun
 
 -- they were sent whole, or cut
 abbrev pub IsSentOff : Written → Written → Text → Result (Unit {0}) PageFault → Type 0
-IsSentOff old new bytes (Ok done) = IsWritten old new bytes
+IsSentOff old new bytes (Ok done) = IsSentWhole old new bytes
 IsSentOff old new bytes (Err e) = IsCut old new bytes e.0

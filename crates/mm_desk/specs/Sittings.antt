@@ -28,15 +28,16 @@ pub record Stays {A : Type 0} (apply : applies.Ghosts A) (old new : A) : Type 0 
   pub left : apply.is_clean new → (db : apply.Database) → apply.may_leave new db → apply.may_leave old db
 
 -- it ran this list
-abbrev pub Runs : {A : Type 0} (apply : applies.Ghosts A) → Visit → A → A → Type 0
-Runs apply v old new = RunsBody apply v.moment old new v.bytes v.old v.new v.result
+abbrev pub RunsVisit : {A : Type 0} (apply : applies.Ghosts A) → Visit → A → A → Type 0
+RunsVisit apply v old new = RunsBody apply v.moment old new v.bytes v.old v.new v.result
 
 -- Each list was run on the session that the one before left, with reads between; only the last may have failed it.
 unfoldable pub Sat : {A : Type 0} (apply : applies.Ghosts A) → A → List Visit → A → Type 0
 Sat apply old [] new = Stays apply old new
-Sat {A} apply old (v ∷ []) new = (before behind : A) × Stays apply old before × Runs apply v before behind × Stays apply behind new
+Sat {A} apply old (v ∷ []) new = (before behind : A) × Stays apply old before × RunsVisit apply v before behind × Stays apply behind new
 Sat {A} apply old (v ∷ w ∷ vs) new =
-    (before behind : A) × Stays apply old before × Runs apply v before behind × (apply.has_failed behind ≡ apply.has_failed before) × Sat apply behind (w ∷ vs) new
+    (before behind : A) × Stays apply old before × RunsVisit apply v before behind
+    × (apply.has_failed behind ≡ apply.has_failed before) × Sat apply behind (w ∷ vs) new
 
 -- the first records of a list, read so
 abbrev pub AreReadOf : Visit → List Reading → Type 0

@@ -3,7 +3,7 @@
 ghost use Rattle.std.specs.Prelude.{◌≡◌, IfOk, IfErr};
 ghost use Rattle.mm_definitions.specs.Streams.{Written, written};
 ghost use Rattle.mm_desk.specs.Bodies.{RunsBody, answers_head};
-ghost use Rattle.mm_desk.specs.Sent.{IsCut, IsWritten};
+ghost use Rattle.mm_desk.specs.Sent.{IsCut, IsSentWhole};
 
 use crate::sending::sent;
 use mm_definitions::answers::{PageFault, RunFault, Tally};
@@ -27,7 +27,7 @@ pub fn run_body<A: Apply, W: Write>(
     at: Moment,
 ) -> Result<Result<Tally, RunFault>, PageFault>
     ensures ran { IfOk result (λ ran. (between : Written)
-        × IsWritten (written W.contents writer.old) between answers_head
+        × IsSentWhole (written W.contents writer.old) between answers_head
         × RunsBody A.Apply at session.old session.new body.now between
         (written W.contents writer.new) ran) }
     ensures stayed { IfErr result (λ e. session.new ≡ session.old) }

@@ -6,7 +6,7 @@ ghost use Rattle.httparse.specs.Spans.{IsRequestAt, IsRequestOf, IsRequestWithin
 ghost use Rattle.mm_definitions.specs.Streams.{has_failed, inside, written};
 ghost use Rattle.mm_gate.specs.Bodies.{IsReadFrugally};
 ghost use Rattle.mm_gate.specs.Demand.{IsDemand, demanded};
-ghost use Rattle.mm_desk.specs.Answered.{Demands, IsAnswered, IsBehind, IsHeadless, IsPathAnswered, IsReadOn, IsReadTo, IsRecordsRun, Never, page_of};
+ghost use Rattle.mm_desk.specs.Answered.{Demands, IsDeskAnswered, IsBehindHead, IsHeadless, IsPathAnswered, IsReadOn, IsReadTo, IsRecordsRun, Never, page_of};
 ghost use Rattle.mm_desk.specs.Exchanges.{IsExchange};
 ghost use Rattle.mm_desk.specs.Responses.{go_on};
 ghost use Rattle.mm_desk.specs.Sent.{IsSentOff};
@@ -118,7 +118,7 @@ fn answer_demand<D: Desk, R: Read, W: Write>(
     taken: Taken<'_>,
     here: &[u8],
 ) -> Result<Done, PageFault>
-    ensures answered { IsAnswered (page_of gate.entry) (IsBehind (demanded taken.entry) here.now) Never
+    ensures answered { IsDeskAnswered (page_of gate.entry) (IsBehindHead (demanded taken.entry) here.now) Never
         D.Viewer D.Apply at (R.remaining (inside reader.old)) (has_failed reader.new)
         desk.old desk.new (written W.contents writer.old) (written W.contents writer.new) result }
     ensures frugal { IsReadOn (demanded taken.entry) here.now
@@ -188,7 +188,7 @@ pub fn desk_one<D: Desk, R: Read, W: Write>(
 ) -> Result<Done, PageFault>
     ensures exchange { IsExchange D.Apply at desk.old desk.new (written W.contents writer.new)
         result }
-    ensures answered { IsAnswered (page_of gate.entry) (Demands gate.entry) IsHeadless
+    ensures answered { IsDeskAnswered (page_of gate.entry) (Demands gate.entry) IsHeadless
         D.Viewer D.Apply at (R.remaining (inside reader.old)) (has_failed reader.new)
         desk.old desk.new (written W.contents writer.old) (written W.contents writer.new) result }
     ensures frugal { OnOk result (IsReadTo gate.entry

@@ -133,7 +133,8 @@ module _ {D : Type 0} {g : Ghosts D} where
         ) in r);
   }
 
-module _ {D Done : Type 0} {g : Ghosts D} {tells : Trees → Written → Written → Done → Type 0} {leaves : Trees → Trees → Written → Written → Done → Type 0} {old new : Written} (before after : State) where
+module _ {D Done : Type 0} {g : Ghosts D} {tells : Trees → Written → Written → Done → Type 0}
+    {leaves : Trees → Trees → Written → Written → Done → Type 0} {old new : Written} (before after : State) where
   pub worked_on : (closes closed : Bool) (files : Files D) (done : Done) → closed ≡ closes → KeepsLeft g after closed files
       → (HasCleanDisk after → HasCleanDisk before)
       → (HasCleanDisk after → tells before.committed.trees old new done)

@@ -1,5 +1,6 @@
 -- Files that hold nothing, and what an open of them finds.
-use Rattle.std.proofs.Common.{◌≡◌, ℕ, ◌<◌, List, [], ◌∷◌, ◌++◌, length, take, slice_index, unwrap_or, false, true, Option, inl, inr, Some, sym, ap, ◌∙◌, get_or-take, length-take, arith}
+use Rattle.std.proofs.Common.{◌≡◌, ℕ, ◌<◌, List, [], ◌∷◌, ◌++◌, length, take, slice_index, unwrap_or, false, true}
+use Rattle.std.proofs.Common.{Option, inl, inr, Some, sym, ap, ◌∙◌, get_or-take, length-take, arith}
 use Rattle.std.specs.Prelude.{codes}
 use Rattle.std.proofs.Math.Logic.{∥∥₁_elim}
 use Rattle.sqlite_wal.specs.Recovery.{Image}
@@ -30,7 +31,9 @@ module _ (size : ℕ) (image : Image) (pages : PageMap) (found : Adopts size ima
       let some : 0 < size = omega (arith, long, most, more, last) in (
         some,
         omega (arith, long, most, more, last),
-        sym (get_or-take 16 (take 100 (take size page)) 0 0 (omega arith) ∙ get_or-take 100 (take size page) 0 0 (omega arith) ∙ get_or-take size page 0 0 some) ∙ ap (λ (b : List ℕ). slice_index b 0) front,
+        sym (get_or-take 16 (take 100 (take size page)) 0 0 (omega arith)
+            ∙ get_or-take 100 (take size page) 0 0 (omega arith) ∙ get_or-take size page 0 0 some)
+            ∙ ap (λ (b : List ℕ). slice_index b 0) front,
       )
 
   never_blank : (other : ℕ) → 0 < other → IsBlankFile other image → ⊥
@@ -39,7 +42,8 @@ module _ (size : ℕ) (image : Image) (pages : PageMap) (found : Adopts size ima
       let len = found.whole.sized 1 page is in
       let it = begins page is in
       let gate = first_byte other some in
-      begun_is_not_blank (sealed (first_page other)) page (stored_size size) image found.stored found.found is len (omega (arith, len, it.1)) (it.2 ∙ sym gate) (λ none. let never = sym gate ∙ none in omega arith) blank
+      begun_is_not_blank (sealed (first_page other)) page (stored_size size) image found.stored found.found is len
+      (omega (arith, len, it.1)) (it.2 ∙ sym gate) (λ none. let never = sym gate ∙ none in omega arith) blank
 
   never_nothing : IsNothing image → ⊥
   never_nothing (inl plain) = never_blank (used_size 4096 false) (omega arith) plain

@@ -11,13 +11,13 @@ abbrev pub IsStoreFault : Fault → Type 0
 IsStoreFault fault = (fault.0 ≡ 90) ⊎ (fault.0 ≡ 91)
 
 -- the files hold no byte
-abbrev pub IsBare : Image → Type 0
-IsBare image = (length image.log ≡ 0) × (length image.db ≡ 0)
+abbrev pub HoldNoByte : Image → Type 0
+HoldNoByte image = (length image.log ≡ 0) × (length image.db ≡ 0)
 
 -- whether they do
 abbrev pub TellsBare : Image → Bool → Type 0
-TellsBare image true = IsBare image
-TellsBare image false = IsBare image → ⊥
+TellsBare image true = HoldNoByte image
+TellsBare image false = HoldNoByte image → ⊥
 
 -- Bytes are told of files alone that are to be new, which are given no length; else it is a fault of the store.
 abbrev pub IsWhyNot : Option ℕ → NotDone → Type 0

@@ -16,7 +16,7 @@ use Rattle.sqlite_store.specs.Listing.{IsOurs, file_trees}
 use Rattle.sqlite_store.specs.declared.catalog.Wanted.{Wanted}
 use Rattle.mm_definitions.specs.Keys.{Text}
 use Rattle.mm_definitions.specs.Streams.{Written}
-use Rattle.mm_files.specs.Files.{IsBare}
+use Rattle.mm_files.specs.Files.{HoldNoByte}
 use Rattle.mm_files.specs.declared.left.NotDone.{NotDone}
 use Rattle.mm_files.specs.declared.left.NotDone.TheVariants as why
 use Rattle.sqlite.specs.declared.file.Leftover.{Leftover}
@@ -48,7 +48,7 @@ pub record HoldsAfter (closed : Bool) (image : Image) (db : Trees) : Type 0 wher
 
 -- The two files recover to pages of a sound file that read as the database, which obeys a schema: all that an open asks of them but
 -- the numbers under which the file lists its trees.
-pub record ReadsAs (image : Image) (db : Trees) : Type 0 where
+pub record FilesReadAs (image : Image) (db : Trees) : Type 0 where
   pub size : ℕ
   pub pages : PageMap
   pub wanted : List Wanted
@@ -59,7 +59,7 @@ pub record ReadsAs (image : Image) (db : Trees) : Type 0 where
 
 -- The two files read as the database; where the store was open still they hold it, so that the next open finds it.
 pub record HoldsStill (is_open : Bool) (image : Image) (db : Trees) : Type 0 where
-  pub reads : ∥ ReadsAs image db ∥₁
+  pub reads : ∥ FilesReadAs image db ∥₁
   pub holds : IsTrue is_open → ∥ HoldsDatabase image db ∥₁
 
 module _ {D : Type 0} (g : Ghosts D) where
@@ -151,10 +151,10 @@ module _ {D : Type 0} (g : Ghosts D) where
   IsUnclosed tells leaves closes old new image rest = ⊤
 
   -- bytes are told where they stand, and of files alone that were opened
-  abbrev pub TellsBytes : {S : Type 0} → Image → NotDone → Left D S g → Type 0
-  TellsBytes image why.NotEmpty (left.Refused rest) = IsCleanLeft rest → IsBare image → ⊥
-  TellsBytes image why.NotEmpty other = ⊥
-  TellsBytes image (why.Fault fault) rest = ⊤
+  abbrev pub TellsFileBytes : {S : Type 0} → Image → NotDone → Left D S g → Type 0
+  TellsFileBytes image why.NotEmpty (left.Refused rest) = IsCleanLeft rest → HoldNoByte image → ⊥
+  TellsFileBytes image why.NotEmpty other = ⊥
+  TellsFileBytes image (why.Fault fault) rest = ⊤
 
 -- ---- from one to the next
 

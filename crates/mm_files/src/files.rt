@@ -9,8 +9,8 @@ ghost use Rattle.sqlite.specs.State.{HasCleanDisk};
 ghost use Rattle.sqlite.specs.Start.{FindsIn};
 ghost use Rattle.sqlite.specs.WalFiles.{image_at};
 ghost use Rattle.sqlite.specs.WalReads.{AreClean, OnlyReads};
-ghost use Rattle.mm_files.specs.Files.{IsBare, IsStoreFault, IsUntold, IsUntoldFor, IsWhyNot, TellsBare};
-ghost use Rattle.mm_files.specs.Worked.{EndedOn, IsJustOpened, IsUnbegun, IsUnclosed, IsUnprinted, IsUnworked, KeepsLeft, KeepsStill, TellsBytes, WorkedFrom, WorkedOn};
+ghost use Rattle.mm_files.specs.Files.{HoldNoByte, IsStoreFault, IsUntold, IsUntoldFor, IsWhyNot, TellsBare};
+ghost use Rattle.mm_files.specs.Worked.{EndedOn, IsJustOpened, IsUnbegun, IsUnclosed, IsUnprinted, IsUnworked, KeepsLeft, KeepsStill, TellsFileBytes, WorkedFrom, WorkedOn};
 
 use crate::left::{Left, NotDone, Opened, Unclosed};
 use crate::works::Works;
@@ -111,11 +111,11 @@ fn files_to_use<D: Disk + Drop>(
     ensures log { IfOk result (λ now. OnlyReads D.Disk files.log now.log) }
     ensures db { IfOk result (λ now. OnlyReads D.Disk files.db now.db) }
     ensures bare { IfOk result (λ now. length ≡ None → AreClean D.Disk now.log now.db
-        → IsBare (image_of D.Disk files)) }
+        → HoldNoByte (image_of D.Disk files)) }
     ensures log_left { IfErr result (λ e. OnlyReads D.Disk files.log e.0.log) }
     ensures db_left { IfErr result (λ e. OnlyReads D.Disk files.db e.0.db) }
     ensures bytes { IfErr result (λ e. e.1 ≡ NotDone.NotEmpty → AreClean D.Disk e.0.log e.0.db
-        → IsBare (image_of D.Disk files) → ⊥) }
+        → HoldNoByte (image_of D.Disk files) → ⊥) }
     ensures why { IfErr result (λ e. IsWhyNot length e.1) }
 {
     if length.is_some() {
@@ -141,7 +141,7 @@ fn open_files<'a, S: Start>(
     ensures just { IfOk result
         (λ r. HasCleanDisk (file_state r.1) → IsJustOpened (file_state r.1)) }
     ensures bare { IfOk result (λ r. length ≡ None → HasCleanDisk (file_state r.1)
-        → IsBare (image_at S.Start)) }
+        → HoldNoByte (image_at S.Start)) }
     ensures path { IfOk result (λ r. r.0.now ≡ path.now) }
     ensures memory { path.now ≡ codes ":memory:" → IsErr result }
     ensures uri { IsTrue (starts_with nat_eq path.now (codes "file:")) → IsErr result }
@@ -149,7 +149,7 @@ fn open_files<'a, S: Start>(
         (λ e. IsUnworked ⟦<FileFrom<S> as Disk>⟧ (image_at S.Start) path.now e.0) }
     ensures begun { IfErr result (λ e. IsUnbegun ⟦<FileFrom<S> as Disk>⟧ e.0) }
     ensures bytes { IfErr result
-        (λ e. TellsBytes ⟦<FileFrom<S> as Disk>⟧ (image_at S.Start) e.1 e.0) }
+        (λ e. TellsFileBytes ⟦<FileFrom<S> as Disk>⟧ (image_at S.Start) e.1 e.0) }
     ensures why { IfErr result (λ e. IsWhyNot length e.1) }
 {
     let options = match options_for(rt, length) {
@@ -276,7 +276,7 @@ pub fn on_file<'a, S: Start, K: Works, W: Write>(
     ensures uri { IsTrue (starts_with nat_eq path.now (codes "file:")) → IsErr result }
     ensures bare { IfOk result (λ r. length ≡ None
         → AreClean ⟦<FileFrom<S> as Disk>⟧ r.0.files.log r.0.files.db
-        → IsBare (image_at S.Start)) }
+        → HoldNoByte (image_at S.Start)) }
     ensures worked { IfOk result (λ r. WorkedFrom ⟦<FileFrom<S> as Disk>⟧
         (K.tells work.old) (K.leaves work.old) (K.closes r.1)
         (written W.contents output.old) (written W.contents output.new)
@@ -284,7 +284,7 @@ pub fn on_file<'a, S: Start, K: Works, W: Write>(
     ensures left { IfErr result
         (λ e. IsUnworked ⟦<FileFrom<S> as Disk>⟧ (image_at S.Start) path.now e.0) }
     ensures bytes { IfErr result
-        (λ e. TellsBytes ⟦<FileFrom<S> as Disk>⟧ (image_at S.Start) e.1 e.0) }
+        (λ e. TellsFileBytes ⟦<FileFrom<S> as Disk>⟧ (image_at S.Start) e.1 e.0) }
     ensures why { IfErr result (λ e. IsWhyNot length e.1) }
     ensures unclosed { IfErr result (λ e. IsUnclosed ⟦<FileFrom<S> as Disk>⟧
         (K.tells work.old) (K.leaves work.old) K.closes (written W.contents output.old)

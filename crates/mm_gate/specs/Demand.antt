@@ -67,7 +67,9 @@ IsCsv v = v ≡ codes "text/csv"
 -- records of their type, by their length
 abbrev pub IsSent : List Header → ℕ → Demand → Type 0
 IsSent fields minor d =
-    (Once IsCsv (values_named (codes "content-type") fields) × (d ≡ measured (known_fields fields).content_length (known_fields fields).transfer_encoding ((known_fields fields).expect_continue && (minor == 1))))
+    (Once IsCsv (values_named (codes "content-type") fields)
+    × (d ≡ measured (known_fields fields).content_length (known_fields fields).transfer_encoding
+    ((known_fields fields).expect_continue && (minor == 1))))
     ⊎ (¬ (Once IsCsv (values_named (codes "content-type") fields)) × (d ≡ Refuse 415))
 
 -- what is taken behind the key

@@ -5,10 +5,10 @@ use Rattle.mm_gate.specs.declared.fields.FieldValue.{FieldValue}
 use Rattle.mm_gate.specs.declared.fields.FieldValue.TheVariants as values
 
 -- the values of a name: none, just this one, or more
-abbrev pub IsGiven : List Text → FieldValue → Type 0
-IsGiven vs values.Absent = vs ≡ []
-IsGiven vs (values.Once v) = vs ≡ v.now ∷ []
-IsGiven vs values.Often = 1 < length vs
+abbrev pub IsFieldValue : List Text → FieldValue → Type 0
+IsFieldValue vs values.Absent = vs ≡ []
+IsFieldValue vs (values.Once v) = vs ≡ v.now ∷ []
+IsFieldValue vs values.Often = 1 < length vs
 
 -- it stands once, and is the address
 abbrev pub IsHostField : ℕ → FieldValue → Type 0

@@ -4,7 +4,7 @@ ghost use Rattle.std.specs.Prelude.{◌≡◌, ◌↔◌, ◌≤◌, ◌++◌, �
 ghost use Rattle.mm_definitions.specs.Keys.{Text};
 ghost use Rattle.httparse.specs.Spans.{IsHeaderWithin, header_bytes};
 ghost use Rattle.http1.specs.Fields.{values_named};
-ghost use Rattle.mm_gate.specs.Fields.{IsGiven, IsHostField, IsOriginField, IsSiteField};
+ghost use Rattle.mm_gate.specs.Fields.{IsFieldValue, IsHostField, IsOriginField, IsSiteField};
 
 use arrayvec::ArrayVec;
 use http1::text::eq_ignore_case;
@@ -21,7 +21,7 @@ pub enum FieldValue<'b> {
 
 /// With one more value.
 fn with_value<'b>(found: FieldValue<'b>, value: &'b [u8]) -> FieldValue<'b>
-    ensures { (vs : List Text) → IsGiven vs found.entry → IsGiven (vs ++ value.now ∷ []) result }
+    ensures { (vs : List Text) → IsFieldValue vs found.entry → IsFieldValue (vs ++ value.now ∷ []) result }
 {
     match found {
         FieldValue::Absent => FieldValue::Once(value),
@@ -32,7 +32,7 @@ fn with_value<'b>(found: FieldValue<'b>, value: &'b [u8]) -> FieldValue<'b>
 /// The value of the field of this name, in any case.
 pub fn given<'b>(head: &'b [u8], headers: &[HeaderSpan], name: &[u8]) -> FieldValue<'b>
     requires { All (IsHeaderWithin (length head.now)) headers.now }
-    ensures { IsGiven (values_named name.now (map (header_bytes head.now) headers.now)) result }
+    ensures { IsFieldValue (values_named name.now (map (header_bytes head.now) headers.now)) result }
 {
     let mut found = FieldValue::Absent;
     for header in headers {

@@ -1,5 +1,6 @@
 -- A piece that is staged again changes nothing, and a piece is its command.
-use Rattle.std.proofs.Common.{◌≡◌, ◌↔◌, ℕ, ◌+◌, ℤ, pos, ◌≤ℤ◌, true, not, ◌&&◌, int_lt, int_le, [], Some, None, refl, sym, ap, ◌∙◌, arith, Bool, false, if◌then◌else◌, Option}
+use Rattle.std.proofs.Common.{◌≡◌, ◌↔◌, ℕ, ◌+◌, ℤ, pos, ◌≤ℤ◌, true, not, ◌&&◌, int_lt, int_le, [], Some, None, refl}
+use Rattle.std.proofs.Common.{sym, ap, ◌∙◌, arith, Bool, false, if◌then◌else◌, Option}
 use Rattle.std.proofs.lemmas.Int.{ints}
 use Rattle.std.specs.FinMap.{get, contains_key}
 use Rattle.mm_definitions.specs.Keys.{Text, piece}
@@ -69,7 +70,9 @@ stage_again p edition number q moment none low =
     let c = commands.Stage edition number q in
     let r = none_holds (reasons p c) (no_refusal (least (reasons p c)) (refused_piece (publishing p c [])) none) in
     let opened : is_open p edition ≡ true = stands_where (contains_key p.editions edition) (is_open p edition) r.1.1.1.0 (not_false (contains_key p.editions edition) r.0) in
-    let differs = (either_false (int_lt (pos (piece_count p edition + 1)) number) (int_le number (pos (piece_count p edition)) && not (has_equal_piece p edition number q)) (and_false (is_open p edition) _ r.1.0 opened)).1 in
+    let differs = (either_false (int_lt (pos (piece_count p edition + 1)) number)
+    (int_le number (pos (piece_count p edition)) && not (has_equal_piece p edition number q))
+    (and_false (is_open p edition) _ r.1.0 opened)).1 in
     let equal : has_equal_piece p edition number q ≡ true = not_false _ (and_false (int_le number (pos (piece_count p edition))) _ differs (le_holds number (pos (piece_count p edition)) low)) in
     let there = at_true (same_piece (piece_row q)) (get p.pieces (piece edition number)) equal in
     ap (λ v. unless_refused v (done p c (stamp moment)) p) none

@@ -35,7 +35,8 @@ pub clashes_unless_suits : (p : Package) (table : Text) (zoom : ℤ) (g : Grid) 
     → clashes p table zoom g ≡ false
 clashes_unless_suits p table zoom g all =
     no_such levels (λ k h. same_text k.table table && not (suits (has_kind p.kinds table Two) zoom g k.zoom h)) p.matrices
-    (λ k h e. false_of (same_text k.table table) (suits (has_kind p.kinds table Two) zoom g k.zoom h) (λ same. all k.zoom h (ap (λ t. get p.matrices (level t k.zoom)) (sym (are_same texts k.table table same)) ∙ e)))
+    (λ k h e. false_of (same_text k.table table) (suits (has_kind p.kinds table Two) zoom g k.zoom h)
+    (λ same. all k.zoom h (ap (λ t. get p.matrices (level t k.zoom)) (sym (are_same texts k.table table same)) ∙ e)))
 
 pub clash_by_nearest : (p : Package) (table : Text) (zoom : ℤ) (g : Grid) (below above : Option Zoomed)
     → HigherIsFiner p.matrices → NextIsHalved p.kinds p.matrices → contains_key p.matrices (level table zoom) ≡ false

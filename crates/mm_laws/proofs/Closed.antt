@@ -1,5 +1,6 @@
 -- What an accepted publishing gives.
-use Rattle.std.proofs.Common.{◌≡◌, ℕ, Bool, true, false, not, ◌&&◌, [], ◌∷◌, ◌++◌, Option, Some, None, Result, Ok, Err, refl, sym, ap, subst, ◌∙◌, is_err, List, is_some, unsigned_abs}
+use Rattle.std.proofs.Common.{◌≡◌, ℕ, Bool, true, false, not, ◌&&◌, [], ◌∷◌, ◌++◌, Option, Some, None, Result, Ok}
+use Rattle.std.proofs.Common.{Err, refl, sym, ap, subst, ◌∙◌, is_err, List, is_some, unsigned_abs}
 use Rattle.std.specs.FinMap.{contains_key, get}
 use Rattle.mm_definitions.specs.Keys.{Text, same_text, PieceKey}
 use Rattle.mm_definitions.specs.Parts.{Has, at_value}
@@ -19,7 +20,7 @@ use Rattle.mm_definitions.proofs.Parts.{at_put, after_retain, same_itself, not_n
 use Rattle.mm_definitions.proofs.KeyLaws.{texts, piece_keys}
 use Rattle.mm_laws.specs.Laws.{IsClosed, IsPublished, FirstRefused, IsNewEdition}
 use Rattle.mm_laws.proofs.Reasons.{none_holds, not_false, and_false, stands_where}
-use Rattle.mm_laws.proofs.Relations.{other_tells}
+use Rattle.mm_laws.proofs.Dropped.{other_tells}
 use Rattle.mm_laws.proofs.Published.{same_ok}
 use Rattle.mm_laws.proofs.AnyStamp.{any_stamp}
 

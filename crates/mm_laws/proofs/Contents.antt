@@ -1,5 +1,6 @@
 -- Tiles, rows, media and mapping rows that are put or removed keep the rules.
-use Rattle.std.proofs.Common.{◌≡◌, ◌≢◌, ℕ, ℤ, pos, ◌<ℤ◌, ◌≤ℤ◌, Bool, true, false, ◌&&◌, ◌||◌, List, Option, Some, None, int_le, refl, sym, ap, ◌∙◌, ◌⊎◌, inl, inr, is_some, arith}
+use Rattle.std.proofs.Common.{◌≡◌, ◌≢◌, ℕ, ℤ, pos, ◌<ℤ◌, ◌≤ℤ◌, Bool, true, false, ◌&&◌, ◌||◌, List, Option, Some}
+use Rattle.std.proofs.Common.{None, int_le, refl, sym, ap, ◌∙◌, ◌⊎◌, inl, inr, is_some, arith}
 use Rattle.std.proofs.lemmas.Int.{ints}
 use Rattle.std.specs.Bool.{⊤}
 use Rattle.std.specs.FinMap.{get, contains_key, insert, remove}
@@ -13,9 +14,10 @@ use Rattle.mm_definitions.specs.declared.commands.Piece.TheVariants as pieces
 use Rattle.mm_definitions.proofs.Parts.{each_put, each_remove, stands_after_put, beside_remove, no_entry, either_false, same_itself}
 use Rattle.mm_definitions.proofs.KeyLaws.{numbers, texts, tile_keys, items, pairing_keys}
 use Rattle.mm_laws.proofs.Kept.{PieceKeeps}
-use Rattle.mm_laws.proofs.Reasons.{none_holds, not_false, is_suited, stands_where}
+use Rattle.mm_laws.proofs.Reasons.{none_holds, not_false, is_suited, stands_where, both_hold}
 use Rattle.mm_laws.proofs.KindFacts.{has_kind_tells, has_kind_holds}
 use Rattle.mm_laws.proofs.Touch.{touch_keeps}
+use Rattle.mm_laws.proofs.OnePart.{with_media, with_pairings, with_rows, with_tiles}
 
 -- ---- tiles
 not_at_most : (a b : ℤ) → int_le a b ≡ false → b <ℤ a
@@ -36,74 +38,16 @@ tile_put table zoom column row bytes profile p moment stamp h within low is none
     let pyramid : is_pyramid p.kinds table ≡ true = is_suited (contains_key p.contents table) (is_pyramid p.kinds table) r.0 r.1.0 in
     let stands : contains_key p.matrices (level table (pos zoom)) ≡ true = stands_where (is_pyramid p.kinds table) (contains_key p.matrices (level table (pos zoom))) r.1.1.0 pyramid in
     let key = tile table (pos zoom) (pos column) (pos row) in
-    touch_keeps profile (record p { tiles = insert p.tiles key bytes }) table stamp moment low is (record {
-      q1 = h.q1;
-      q2 = h.q2;
-      q3 = h.q3;
-      q4 = h.q4;
-      q5 = h.q5;
-      q6 = h.q6;
-      q7 = h.q7;
-      q8 = h.q8;
-      q9 = h.q9;
-      q10 = each_put tile_keys p.tiles key bytes (λ k _. IsInside (get p.matrices (level k.table k.zoom)) k.column k.row) h.q10 (inside (get p.matrices (level table (pos zoom))) column row stands r.1.1.1.0);
-      q11 = h.q11;
-      q12 = h.q12;
-      q13 = h.q13;
-      q14 = h.q14;
-      q15 = h.q15;
-      q16 = (
-        h.q16.0,
-        h.q16.1,
-        h.q16.2,
-        h.q16.3,
-        h.q16.4,
-        h.q16.5,
-        each_put tile_keys p.tiles key bytes TileWithin h.q16.6 (record { table = within.0; zoom = within.1; column = within.2; row = within.3; bytes = within.4 }),
-        h.q16.7,
-        h.q16.8,
-        h.q16.9,
-        h.q16.10,
-        h.q16.11,
-        h.q16.12,
-      );
-    })
+    touch_keeps profile (record p { tiles = insert p.tiles key bytes }) table stamp moment low is (with_tiles profile p h _
+    (each_put tile_keys p.tiles key bytes (λ k _. IsInside (get p.matrices (level k.table k.zoom)) k.column k.row) h.q10 (inside (get p.matrices (level table (pos zoom))) column row stands r.1.1.1.0))
+    (each_put tile_keys p.tiles key bytes TileWithin h.q16.tiles (record { table = within.0; zoom = within.1; column = within.2; row = within.3; bytes = within.4 })))
 
 pub tile_drop : (table : Text) (zoom column row : ℕ) → PieceKeeps (pieces.TileDrop table zoom column row)
 tile_drop table zoom column row profile p moment stamp h within low is none =
     let key = tile table (pos zoom) (pos column) (pos row) in
-    touch_keeps profile (record p { tiles = remove p.tiles key }) table stamp moment low is (record {
-      q1 = h.q1;
-      q2 = h.q2;
-      q3 = h.q3;
-      q4 = h.q4;
-      q5 = h.q5;
-      q6 = h.q6;
-      q7 = h.q7;
-      q8 = h.q8;
-      q9 = h.q9;
-      q10 = each_remove tile_keys p.tiles key (λ k _. IsInside (get p.matrices (level k.table k.zoom)) k.column k.row) h.q10;
-      q11 = h.q11;
-      q12 = h.q12;
-      q13 = h.q13;
-      q14 = h.q14;
-      q15 = h.q15;
-      q16 = (
-        h.q16.0,
-        h.q16.1,
-        h.q16.2,
-        h.q16.3,
-        h.q16.4,
-        h.q16.5,
-        each_remove tile_keys p.tiles key TileWithin h.q16.6,
-        h.q16.7,
-        h.q16.8,
-        h.q16.9,
-        h.q16.10,
-        h.q16.11,
-        h.q16.12,
-      );
-    })
+    touch_keeps profile (record p { tiles = remove p.tiles key }) table stamp moment low is (with_tiles profile p h _
+    (each_remove tile_keys p.tiles key (λ k _. IsInside (get p.matrices (level k.table k.zoom)) k.column k.row) h.q10)
+    (each_remove tile_keys p.tiles key TileWithin h.q16.tiles))
 
 -- ---- rows and media
 -- a relation that joins two items joins them still, where the ends still stand
@@ -121,38 +65,11 @@ row_put table id title note amount profile p moment stamp h within low is none =
     let row : AttributeRow = record { title = title; note = note; amount = amount } in
     let more : (t : Text) (i : ℤ) → HasItem p.rows p.media t i → HasItem (insert p.rows (item table id) row) p.media t i =
     λ t i e. elim e as (λ _. HasItem (insert p.rows (item table id) row) p.media t i) [ inl a ↦ inl (stands_after_put items p.rows (item table id) row (item t i) a) | inr b ↦ inr b ] in
-    touch_keeps profile (record p { rows = insert p.rows (item table id) row }) table stamp moment low is (record {
-      q1 = h.q1;
-      q2 = h.q2;
-      q3 = h.q3;
-      q4 = h.q4;
-      q5 = h.q5;
-      q6 = h.q6;
-      q7 = h.q7;
-      q8 = h.q8;
-      q9 = h.q9;
-      q10 = h.q10;
-      q11 = record { of_rows = each_put items p.rows (item table id) row (λ k _. HasKind p.kinds k.table kinds.Attributes) h.q11.of_rows kind; of_media = h.q11.of_media };
-      q12 = h.q12;
-      q13 = λ k u e. joins_still p.rows (insert p.rows (item table id) row) p.media p.media (get p.relations k.mapping) k (λ s _ a. more s.base k.base_id a) (λ s _ a. more s.related k.related_id a) (h.q13 k u e);
-      q14 = h.q14;
-      q15 = h.q15;
-      q16 = (
-        h.q16.0,
-        h.q16.1,
-        h.q16.2,
-        h.q16.3,
-        h.q16.4,
-        h.q16.5,
-        h.q16.6,
-        each_put items p.rows (item table id) row RowWithin h.q16.7 (record { table = within.0; id = within.1; title = within.2; note = within.3; amount = within.4 }),
-        h.q16.8,
-        h.q16.9,
-        h.q16.10,
-        h.q16.11,
-        h.q16.12,
-      );
-    })
+    touch_keeps profile (record p { rows = insert p.rows (item table id) row }) table stamp moment low is (with_rows profile p h _
+    (each_put items p.rows (item table id) row (λ k _. HasKind p.kinds k.table kinds.Attributes) h.q11.of_rows kind)
+    (λ k u e. joins_still p.rows (insert p.rows (item table id) row) p.media p.media (get p.relations k.mapping) k
+    (λ s _ a. more s.base k.base_id a) (λ s _ a. more s.related k.related_id a) (h.q13 k u e))
+    (each_put items p.rows (item table id) row RowWithin h.q16.rows (record { table = within.0; id = within.1; title = within.2; note = within.3; amount = within.4 })))
 
 pub media_put : (table : Text) (id : ℤ) (content_type : Text) (bytes : List ℕ) → PieceKeeps (pieces.Media table id content_type bytes)
 media_put table id content_type bytes profile p moment stamp h within low is none =
@@ -161,44 +78,13 @@ media_put table id content_type bytes profile p moment stamp h within low is non
     let medium : Medium = record { bytes = bytes; content_type = content_type } in
     let more : (t : Text) (i : ℤ) → HasItem p.rows p.media t i → HasItem p.rows (insert p.media (item table id) medium) t i =
     λ t i e. elim e as (λ _. HasItem p.rows (insert p.media (item table id) medium) t i) [ inl a ↦ inl a | inr b ↦ inr (stands_after_put items p.media (item table id) medium (item t i) b) ] in
-    touch_keeps profile (record p { media = insert p.media (item table id) medium }) table stamp moment low is (record {
-      q1 = h.q1;
-      q2 = h.q2;
-      q3 = h.q3;
-      q4 = h.q4;
-      q5 = h.q5;
-      q6 = h.q6;
-      q7 = h.q7;
-      q8 = h.q8;
-      q9 = h.q9;
-      q10 = h.q10;
-      q11 = record { of_rows = h.q11.of_rows; of_media = each_put items p.media (item table id) medium (λ k _. HasKind p.kinds k.table kinds.Media) h.q11.of_media kind };
-      q12 = h.q12;
-      q13 = λ k u e. joins_still p.rows p.rows p.media (insert p.media (item table id) medium) (get p.relations k.mapping) k (λ s _ a. more s.base k.base_id a) (λ s _ a. more s.related k.related_id a) (h.q13 k u e);
-      q14 = h.q14;
-      q15 = h.q15;
-      q16 = (
-        h.q16.0,
-        h.q16.1,
-        h.q16.2,
-        h.q16.3,
-        h.q16.4,
-        h.q16.5,
-        h.q16.6,
-        h.q16.7,
-        each_put items p.media (item table id) medium MediumWithin h.q16.8 (record { table = within.0; id = within.1; content_type = within.2; bytes = within.3 }),
-        h.q16.9,
-        h.q16.10,
-        h.q16.11,
-        h.q16.12,
-      );
-    })
+    touch_keeps profile (record p { media = insert p.media (item table id) medium }) table stamp moment low is (with_media profile p h _
+    (each_put items p.media (item table id) medium (λ k _. HasKind p.kinds k.table kinds.Media) h.q11.of_media kind)
+    (λ k u e. joins_still p.rows p.rows p.media (insert p.media (item table id) medium) (get p.relations k.mapping) k
+    (λ s _ a. more s.base k.base_id a) (λ s _ a. more s.related k.related_id a) (h.q13 k u e))
+    (each_put items p.media (item table id) medium MediumWithin h.q16.media (record { table = within.0; id = within.1; content_type = within.2; bytes = within.3 })))
 
 -- an item that no mapping row names is no end of one
-and_of : (a b : Bool) → a ≡ true → b ≡ true → (a && b) ≡ true
-and_of true b e f = f
-and_of false b e f = e
-
 unmapped : (p : Package) (table : Text) (id : ℤ) → is_mapped p table id ≡ false → (k : Pairing) (u : ⊤) → Has p.pairings k u → (r : Relation)
     → Has p.relations k.mapping r
     → (item r.base k.base_id ≢ item table id) × (item r.related k.related_id ≢ item table id)
@@ -209,7 +95,7 @@ unmapped p table id none k u e r f =
     let one : (t : Text) (i : ℤ) → (same_text t table && same_number i id) ≡ false → item t i ≢ item table id = λ t i no same.
     let a : same_text t table ≡ true = ap (λ (q : Item). same_text t q.table) (sym same) ∙ same_itself texts t in
     let b : same_number i id ≡ true = ap (λ (q : Item). same_number i q.id) (sym same) ∙ same_itself numbers i in
-    let both : (same_text t table && same_number i id) ≡ true = and_of _ _ a b in
+    let both : (same_text t table && same_number i id) ≡ true = both_hold _ _ a b in
     let g : true ≡ false = sym both ∙ no in cc
     in
     (one r.base k.base_id parts.0, one r.related k.related_id parts.1)
@@ -220,39 +106,11 @@ row_drop table id profile p moment stamp h within low is none =
     let away = unmapped p table id r.1.1.1.0 in
     let still : (t : Text) (i : ℤ) → item t i ≢ item table id → HasItem p.rows p.media t i → HasItem (remove p.rows (item table id)) p.media t i =
     λ t i n e. elim e as (λ _. HasItem (remove p.rows (item table id)) p.media t i) [ inl a ↦ inl (ap is_some (beside_remove items p.rows (item table id) (item t i) n) ∙ a) | inr b ↦ inr b ] in
-    touch_keeps profile (record p { rows = remove p.rows (item table id) }) table stamp moment low is (record {
-      q1 = h.q1;
-      q2 = h.q2;
-      q3 = h.q3;
-      q4 = h.q4;
-      q5 = h.q5;
-      q6 = h.q6;
-      q7 = h.q7;
-      q8 = h.q8;
-      q9 = h.q9;
-      q10 = h.q10;
-      q11 = record { of_rows = each_remove items p.rows (item table id) (λ k _. HasKind p.kinds k.table kinds.Attributes) h.q11.of_rows; of_media = h.q11.of_media };
-      q12 = h.q12;
-      q13 = λ k u e. joins_still p.rows (remove p.rows (item table id)) p.media p.media (get p.relations k.mapping) k
-          (λ s f a. still s.base k.base_id (away k u e s f).0 a) (λ s f a. still s.related k.related_id (away k u e s f).1 a) (h.q13 k u e);
-      q14 = h.q14;
-      q15 = h.q15;
-      q16 = (
-        h.q16.0,
-        h.q16.1,
-        h.q16.2,
-        h.q16.3,
-        h.q16.4,
-        h.q16.5,
-        h.q16.6,
-        each_remove items p.rows (item table id) RowWithin h.q16.7,
-        h.q16.8,
-        h.q16.9,
-        h.q16.10,
-        h.q16.11,
-        h.q16.12,
-      );
-    })
+    touch_keeps profile (record p { rows = remove p.rows (item table id) }) table stamp moment low is (with_rows profile p h _
+    (each_remove items p.rows (item table id) (λ k _. HasKind p.kinds k.table kinds.Attributes) h.q11.of_rows)
+    (λ k u e. joins_still p.rows (remove p.rows (item table id)) p.media p.media (get p.relations k.mapping) k
+    (λ s f a. still s.base k.base_id (away k u e s f).0 a) (λ s f a. still s.related k.related_id (away k u e s f).1 a) (h.q13 k u e))
+    (each_remove items p.rows (item table id) RowWithin h.q16.rows))
 
 pub media_drop : (table : Text) (id : ℤ) → PieceKeeps (pieces.MediaDrop table id)
 media_drop table id profile p moment stamp h within low is none =
@@ -260,39 +118,11 @@ media_drop table id profile p moment stamp h within low is none =
     let away = unmapped p table id r.1.1.1.0 in
     let still : (t : Text) (i : ℤ) → item t i ≢ item table id → HasItem p.rows p.media t i → HasItem p.rows (remove p.media (item table id)) t i =
     λ t i n e. elim e as (λ _. HasItem p.rows (remove p.media (item table id)) t i) [ inl a ↦ inl a | inr b ↦ inr (ap is_some (beside_remove items p.media (item table id) (item t i) n) ∙ b) ] in
-    touch_keeps profile (record p { media = remove p.media (item table id) }) table stamp moment low is (record {
-      q1 = h.q1;
-      q2 = h.q2;
-      q3 = h.q3;
-      q4 = h.q4;
-      q5 = h.q5;
-      q6 = h.q6;
-      q7 = h.q7;
-      q8 = h.q8;
-      q9 = h.q9;
-      q10 = h.q10;
-      q11 = record { of_rows = h.q11.of_rows; of_media = each_remove items p.media (item table id) (λ k _. HasKind p.kinds k.table kinds.Media) h.q11.of_media };
-      q12 = h.q12;
-      q13 = λ k u e. joins_still p.rows p.rows p.media (remove p.media (item table id)) (get p.relations k.mapping) k
-          (λ s f a. still s.base k.base_id (away k u e s f).0 a) (λ s f a. still s.related k.related_id (away k u e s f).1 a) (h.q13 k u e);
-      q14 = h.q14;
-      q15 = h.q15;
-      q16 = (
-        h.q16.0,
-        h.q16.1,
-        h.q16.2,
-        h.q16.3,
-        h.q16.4,
-        h.q16.5,
-        h.q16.6,
-        h.q16.7,
-        each_remove items p.media (item table id) MediumWithin h.q16.8,
-        h.q16.9,
-        h.q16.10,
-        h.q16.11,
-        h.q16.12,
-      );
-    })
+    touch_keeps profile (record p { media = remove p.media (item table id) }) table stamp moment low is (with_media profile p h _
+    (each_remove items p.media (item table id) (λ k _. HasKind p.kinds k.table kinds.Media) h.q11.of_media)
+    (λ k u e. joins_still p.rows p.rows p.media (remove p.media (item table id)) (get p.relations k.mapping) k
+    (λ s f a. still s.base k.base_id (away k u e s f).0 a) (λ s f a. still s.related k.related_id (away k u e s f).1 a) (h.q13 k u e))
+    (each_remove items p.media (item table id) MediumWithin h.q16.media))
 
 -- ---- mapping rows
 -- an end of a suited relation that lacks no row and no medium is an item
@@ -320,72 +150,14 @@ map_put mapping base_id related_id profile p moment stamp h within low is none =
     let r = none_holds (piece_reasons p (pieces.Map mapping base_id related_id)) none in
     let key = pairing mapping base_id related_id in
     let stands : contains_key p.relations mapping ≡ true = not_false (contains_key p.relations mapping) r.1.1.0 in
-    record {
-      q1 = h.q1;
-      q2 = h.q2;
-      q3 = h.q3;
-      q4 = h.q4;
-      q5 = h.q5;
-      q6 = h.q6;
-      q7 = h.q7;
-      q8 = h.q8;
-      q9 = h.q9;
-      q10 = h.q10;
-      q11 = h.q11;
-      q12 = h.q12;
-      q13 = each_put pairing_keys p.pairings key tt (λ k _. Joins p.rows p.media (get p.relations k.mapping) k) h.q13
-          (joins_new p (get p.relations mapping) key (λ s e. h.q12 mapping s e) stands r.0 r.1.0);
-      q14 = h.q14;
-      q15 = h.q15;
-      q16 = (
-        h.q16.0,
-        h.q16.1,
-        h.q16.2,
-        h.q16.3,
-        h.q16.4,
-        h.q16.5,
-        h.q16.6,
-        h.q16.7,
-        h.q16.8,
-        h.q16.9,
-        each_put pairing_keys p.pairings key tt PairingWithin h.q16.10 (record { mapping = within.0; base_id = within.1; related_id = within.2 }),
-        h.q16.11,
-        h.q16.12,
-      );
-    }
+    with_pairings profile p h _
+    (each_put pairing_keys p.pairings key tt (λ k _. Joins p.rows p.media (get p.relations k.mapping) k) h.q13
+    (joins_new p (get p.relations mapping) key (λ s e. h.q12 mapping s e) stands r.0 r.1.0))
+    (each_put pairing_keys p.pairings key tt PairingWithin h.q16.pairings (record { mapping = within.0; base_id = within.1; related_id = within.2 }))
 
 pub map_drop : (mapping : Text) (base_id related_id : ℤ) → PieceKeeps (pieces.MapDrop mapping base_id related_id)
 map_drop mapping base_id related_id profile p moment stamp h within low is none =
     let key = pairing mapping base_id related_id in
-    record {
-      q1 = h.q1;
-      q2 = h.q2;
-      q3 = h.q3;
-      q4 = h.q4;
-      q5 = h.q5;
-      q6 = h.q6;
-      q7 = h.q7;
-      q8 = h.q8;
-      q9 = h.q9;
-      q10 = h.q10;
-      q11 = h.q11;
-      q12 = h.q12;
-      q13 = each_remove pairing_keys p.pairings key (λ k _. Joins p.rows p.media (get p.relations k.mapping) k) h.q13;
-      q14 = h.q14;
-      q15 = h.q15;
-      q16 = (
-        h.q16.0,
-        h.q16.1,
-        h.q16.2,
-        h.q16.3,
-        h.q16.4,
-        h.q16.5,
-        h.q16.6,
-        h.q16.7,
-        h.q16.8,
-        h.q16.9,
-        each_remove pairing_keys p.pairings key PairingWithin h.q16.10,
-        h.q16.11,
-        h.q16.12,
-      );
-    }
+    with_pairings profile p h _
+    (each_remove pairing_keys p.pairings key (λ k _. Joins p.rows p.media (get p.relations k.mapping) k) h.q13)
+    (each_remove pairing_keys p.pairings key PairingWithin h.q16.pairings)

@@ -1,5 +1,6 @@
 -- The fields of every record spell a command, or a number is against them.
-use Rattle.std.proofs.Common.{rules, ◌≡◌, ◌≤◌, ◌⊎◌, inl, inr, ℕ, ℤ, pos, neg_ℤ, ◌≤ℤ◌, ◌<ℤ◌, List, [], ◌∷◌, length, Bool, true, false, Result, Ok, Err, IsErr, refl, sym, ap, subst, arith}
+use Rattle.std.proofs.Common.{rules, ◌≡◌, ◌≤◌, ◌⊎◌, inl, inr, ℕ, ℤ, pos, neg_ℤ, ◌≤ℤ◌, ◌<ℤ◌, List, [], ◌∷◌, length}
+use Rattle.std.proofs.Common.{Bool, true, false, Result, Ok, Err, IsErr, refl, sym, ap, subst, arith}
 use Rattle.std.specs.Prelude.{codes, bytes_eq, nat_le, int_le, IsTrue, ◌&&◌, ◌||◌, ◌==◌, not, nat_eq, Decides, IsUtf8}
 use Rattle.std.specs.Str.{is_utf8}
 use Rattle.std.specs.List.{list_any, starts_with, before_first, after_first}
@@ -10,9 +11,12 @@ use Rattle.std.proofs.lemmas.Slice.Eq.{bytes_eq-Decides}
 use Rattle.hex.specs.Hex.{decode_of}
 use Rattle.hex.specs.declared.error.FromHexError.{FromHexError}
 use Rattle.mm_definitions.specs.Keys.{Text}
-use Rattle.mm_definitions.specs.Bounds.{IsLong, IsText, IsIdentifier, IsContentType, IsWord, IsName, begins_with_letter, is_letter_or_digit, has_zero, is_control, is_word_byte, is_slash}
+use Rattle.mm_definitions.specs.Bounds.{IsLong, IsText, IsIdentifier, IsContentType, IsWord, IsName}
+use Rattle.mm_definitions.specs.Bounds.{begins_with_letter, is_letter_or_digit, has_zero, is_control, is_word_byte}
+use Rattle.mm_definitions.specs.Bounds.{is_slash}
 use Rattle.mm_definitions.specs.Numbers.{SpellsNumber, IsDigit, AreDigits, LeadDigits, value_from}
-use Rattle.mm_definitions.specs.Fields.{Field, OneOf, NumberFrom, BytesTo, TextOf, AnIdentifier, AContentType, AName, Value, Whole, Plain, IsOneOf, HoldsValue, IsAgainst, AllHold, IsAgainstSome}
+use Rattle.mm_definitions.specs.Fields.{Field, OneOf, NumberFrom, BytesTo, TextOf, AnIdentifier, AContentType, AName}
+use Rattle.mm_definitions.specs.Fields.{Value, Whole, Plain, IsOneOf, HoldsValue, IsAgainst, AllHold, IsAgainstSome}
 use Rattle.mm_definitions.proofs.ReadingFacts.{first_holds, rest_holds, first_lower, rest_lower}
 use Rattle.mm_definitions.specs.Records.{Form, IsLeast}
 

@@ -5,13 +5,16 @@ use Rattle.mm_definitions.specs.Keys.{Text, same_text, level, item, Pairing, Ext
 use Rattle.mm_definitions.specs.Parts.{Has, Stands}
 use Rattle.mm_definitions.specs.Package.{Package, kind_text, HasKind, IsPyramid, Relation, general_extension, mapping_extension, zoom_extension}
 use Rattle.mm_definitions.specs.Bounds.{Profile, IsName}
-use Rattle.mm_definitions.specs.Rules.{Meets, MayName, IsOrdered, Suits, FitsIn, IsInside, IsSuited, HasItem, Joins, IsWanted, ContentsWithin, KindWithin, SetWithin, MatrixWithin, ExtensionWithin, TileWithin, RowWithin, MediumWithin}
+use Rattle.mm_definitions.specs.Rules.{Meets, MayName, IsOrdered, Suits, FitsIn, IsInside, IsSuited, HasItem, Joins}
+use Rattle.mm_definitions.specs.Rules.{IsWanted, ContentsWithin, KindWithin, SetWithin, MatrixWithin, ExtensionWithin}
+use Rattle.mm_definitions.specs.Rules.{TileWithin, RowWithin, MediumWithin}
 use Rattle.mm_definitions.specs.Conditions.{own_reasons, is_used}
 use Rattle.mm_definitions.specs.Effects.{is_other, without_table}
 use Rattle.mm_definitions.specs.declared.commands.Kind.{Kind}
 use Rattle.mm_definitions.specs.declared.commands.Kind.TheVariants as kinds
 use Rattle.mm_definitions.specs.declared.commands.Command.TheVariants as commands
-use Rattle.mm_definitions.proofs.Parts.{each_remove, each_retain, after_remove, after_retain, kept, beside_remove, absent_after_remove, no_entry, either_false, same_itself, apart}
+use Rattle.mm_definitions.proofs.Parts.{each_remove, each_retain, after_remove, after_retain, kept, beside_remove}
+use Rattle.mm_definitions.proofs.Parts.{absent_after_remove, no_entry, either_false, same_itself, apart}
 use Rattle.mm_definitions.proofs.KeyLaws.{levels, texts, tile_keys, items, extension_keys}
 use Rattle.mm_laws.proofs.Kept.{Keeps}
 use Rattle.mm_laws.proofs.Reasons.{none_holds}
@@ -19,10 +22,11 @@ use Rattle.mm_laws.proofs.KindFacts.{differ}
 use Rattle.mm_laws.proofs.Systems.{if_some_more}
 
 -- a name that the test calls another is another
-other_tells : (table name : Text) → is_other table name ≡ true → name ≢ table
-other_tells table name e same = let t : same_text name table ≡ true = ap (same_text name) (sym same) ∙ same_itself texts name in let f : not true ≡ true = sym (ap not t) ∙ e in let g : false ≡ true = f in cc
+pub other_tells : (table name : Text) → is_other table name ≡ true → name ≢ table
+other_tells table name e same = let t : same_text name table ≡ true = ap (same_text name) (sym same)
+    ∙ same_itself texts name in let f : not true ≡ true = sym (ap not t) ∙ e in let g : false ≡ true = f in cc
 
-other_holds : (table name : Text) → name ≢ table → is_other table name ≡ true
+pub other_holds : (table name : Text) → name ≢ table → is_other table name ≡ true
 other_holds table name n = ap not (apart texts name table n)
 
 module _ (p : Package) (table : Text) (unused : is_used p table ≡ false) where
@@ -66,10 +70,12 @@ module _ (p : Package) (table : Text) (unused : is_used p table ≡ false) where
       | inl a ↦ inl (kind_still r.base kinds.Attributes (ends mapping r e).0 a)
       | inr b ↦ inr (kind_still r.base kinds.Media (ends mapping r e).0 b)
     ];
-    related = elim s.related as (λ _. ((r.name ≡ codes "media") × HasKind (remove p.kinds table) r.related kinds.Media) ⊎ ((r.name ≡ codes "simple_attributes") × HasKind (remove p.kinds table) r.related kinds.Attributes)) [
-      | inl a ↦ inl (a.0, kind_still r.related kinds.Media (ends mapping r e).1 a.1)
-      | inr b ↦ inr (b.0, kind_still r.related kinds.Attributes (ends mapping r e).1 b.1)
-    ];
+    related = elim s.related as (λ _. ((r.name ≡ codes "media")
+        × HasKind (remove p.kinds table) r.related kinds.Media)
+        ⊎ ((r.name ≡ codes "simple_attributes") × HasKind (remove p.kinds table) r.related kinds.Attributes)) [
+          | inl a ↦ inl (a.0, kind_still r.related kinds.Media (ends mapping r e).1 a.1)
+          | inr b ↦ inr (b.0, kind_still r.related kinds.Attributes (ends mapping r e).1 b.1)
+        ];
     base_column = s.base_column;
     related_column = s.related_column;
   }
@@ -101,7 +107,9 @@ module _ (p : Package) (table : Text) (unused : is_used p table ≡ false) where
   keeps_without profile h = record {
     q1 = h.q1;
     q2 = record {
-      of_contents = λ t c e. if_some_more c.system (MayName p.systems p.kinds t) (MayName p.systems (remove p.kinds table) t) (may_still t) (h.q2.of_contents t c (after_remove texts p.contents table t c e).1);
+      of_contents = λ t c e. if_some_more c.system (MayName p.systems p.kinds t)
+          (MayName p.systems (remove p.kinds table) t) (may_still t)
+          (h.q2.of_contents t c (after_remove texts p.contents table t c e).1);
       of_sets = λ t s e. may_still t s.system (h.q2.of_sets t s (after_remove texts p.sets table t s e).1);
     };
     q3 = λ t c e u d f same. h.q3 t c (after_remove texts p.contents table t c e).1 u d (after_remove texts p.contents table u d f).1 same;
@@ -118,14 +126,22 @@ module _ (p : Package) (table : Text) (unused : is_used p table ≡ false) where
       of_kinds = λ t k e. let was = after_remove texts p.kinds table t k e in stands_still t was.0 (h.q5.of_kinds t k was.1);
       of_sets = λ t s e. let was = after_remove texts p.sets table t s e in stands_still t was.0 (h.q5.of_sets t s was.1);
     };
-    q6 = record { of_sets = each_remove texts p.sets table _ h.q6.of_sets; of_contents = each_remove texts p.contents table (λ _ c. IsOrdered c.min_x c.max_x × IsOrdered c.min_y c.max_y) h.q6.of_contents };
+    q6 = record {
+      of_sets = each_remove texts p.sets table _ h.q6.of_sets;
+      of_contents =
+          each_remove texts p.contents table (λ _ c. IsOrdered c.min_x c.max_x × IsOrdered c.min_y c.max_y) h.q6.of_contents;
+    };
     q7 = λ k g e.
         let was = after_retain levels p.matrices (λ k. is_other table k.table) k g e in
         let n = other_tells table k.table was.0 in
         let old = h.q7 k g was.1 in
         (pyramid_still k.table n old.0, subst (λ s. FitsIn s g) (sym (beside_remove texts p.sets table k.table n)) old.1);
-    q8 = λ t low high a b e f up. h.q8 t low high a b (after_retain levels p.matrices (λ k. is_other table k.table) (level t low) a e).1 (after_retain levels p.matrices (λ k. is_other table k.table) (level t high) b f).1 up;
-    q9 = λ t zoom a b two e f. h.q9 t zoom a b (kind_was t kinds.Two two).1 (after_retain levels p.matrices (λ k. is_other table k.table) (level t zoom) a e).1 (after_retain levels p.matrices (λ k. is_other table k.table) (level t (zoom +ℤ pos 1)) b f).1;
+    q8 = λ t low high a b e f up. h.q8 t low high a b
+        (after_retain levels p.matrices (λ k. is_other table k.table) (level t low) a e).1
+        (after_retain levels p.matrices (λ k. is_other table k.table) (level t high) b f).1 up;
+    q9 = λ t zoom a b two e f. h.q9 t zoom a b (kind_was t kinds.Two two).1
+        (after_retain levels p.matrices (λ k. is_other table k.table) (level t zoom) a e).1
+        (after_retain levels p.matrices (λ k. is_other table k.table) (level t (zoom +ℤ pos 1)) b f).1;
     q10 = λ k bytes e.
         let was = after_retain tile_keys p.tiles (λ k. is_other table k.table) k bytes e in
         subst (λ v. IsInside v k.column k.row) (sym (kept levels p.matrices (λ k. is_other table k.table) (level k.table k.zoom) was.0)) (h.q10 k bytes was.1);
@@ -140,21 +156,21 @@ module _ (p : Package) (table : Text) (unused : is_used p table ≡ false) where
       all = λ e w. let was = wanted_was e w in beside_remove extension_keys p.extensions (zoom_extension table) e was.0 ∙ h.q14.all e was.1;
     };
     q15 = h.q15;
-    q16 = (
-      h.q16.0,
-      each_remove texts p.contents table (ContentsWithin profile) h.q16.1,
-      each_remove texts p.kinds table KindWithin h.q16.2,
-      each_remove texts p.sets table (SetWithin profile) h.q16.3,
-      each_retain levels p.matrices (λ k. is_other table k.table) (MatrixWithin profile) h.q16.4,
-      each_remove extension_keys p.extensions (zoom_extension table) ExtensionWithin h.q16.5,
-      each_retain tile_keys p.tiles (λ k. is_other table k.table) TileWithin h.q16.6,
-      each_retain items p.rows (λ k. is_other table k.table) RowWithin h.q16.7,
-      each_retain items p.media (λ k. is_other table k.table) MediumWithin h.q16.8,
-      h.q16.9,
-      h.q16.10,
-      h.q16.11,
-      h.q16.12,
-    );
+    q16 = record {
+      systems = h.q16.systems;
+      contents = each_remove texts p.contents table (ContentsWithin profile) h.q16.contents;
+      kinds = each_remove texts p.kinds table KindWithin h.q16.kinds;
+      sets = each_remove texts p.sets table (SetWithin profile) h.q16.sets;
+      matrices = each_retain levels p.matrices (λ k. is_other table k.table) (MatrixWithin profile) h.q16.matrices;
+      extensions = each_remove extension_keys p.extensions (zoom_extension table) ExtensionWithin h.q16.extensions;
+      tiles = each_retain tile_keys p.tiles (λ k. is_other table k.table) TileWithin h.q16.tiles;
+      rows = each_retain items p.rows (λ k. is_other table k.table) RowWithin h.q16.rows;
+      media = each_retain items p.media (λ k. is_other table k.table) MediumWithin h.q16.media;
+      relations = h.q16.relations;
+      pairings = h.q16.pairings;
+      editions = h.q16.editions;
+      pieces = h.q16.pieces;
+    };
   }
 
 pub drop : (table : Text) → Keeps (commands.Drop table)

@@ -1,5 +1,6 @@
 -- The pieces of an open edition, in the list that publishing goes along, are numbered 1, 2, 3 and so on.
-use Rattle.std.proofs.Common.{◌≡◌, ◌≢◌, ◌⊎◌, inl, inr, ℕ, suc, ◌≤◌, ℤ, pos, ◌≤ℤ◌, ◌<ℤ◌, Bool, true, false, cond, ◌&&◌, List, [], ◌∷◌, Option, Some, None, is_some, refl, sym, ap, subst, ◌∙◌, arith}
+use Rattle.std.proofs.Common.{◌≡◌, ◌≢◌, ◌⊎◌, inl, inr, ℕ, suc, ◌≤◌, ℤ, pos, ◌≤ℤ◌, ◌<ℤ◌, Bool, true, false, cond}
+use Rattle.std.proofs.Common.{List, [], ◌∷◌, Option, Some, None, is_some, refl, sym, ap, subst, ◌∙◌, arith}
 use Rattle.std.proofs.lemmas.Int.{ints}
 use Rattle.std.specs.Prelude.{T}
 use Rattle.std.specs.declared.cmp.Ordering.{Ordering}
@@ -16,6 +17,7 @@ use Rattle.mm_definitions.specs.Conditions.{pieces_of}
 use Rattle.mm_definitions.proofs.Parts.{same_key, same_itself, kept, after_retain}
 use Rattle.mm_definitions.proofs.KeyLaws.{texts, piece_keys}
 use Rattle.mm_laws.proofs.KindFacts.{are_same}
+use Rattle.mm_definitions.proofs.Listed.{and_parts}
 
 -- The list goes on with the pieces from this number on, each in its place, as far as there are any.
 abbrev pub AreFrom : PiecesPart → Text → ℕ → List (PieceKey × PieceRow) → Type 0
@@ -23,10 +25,6 @@ AreFrom m edition i [] = get m (piece edition (pos i)) ≡ None
 AreFrom m edition i (e ∷ es) = (e.0 ≡ piece edition (pos i)) × (get m e.0 ≡ Some e.1) × AreFrom m edition (suc i) es
 
 -- ---- sorted lists
-
-and_parts : (a b : Bool) → T (a && b) → T a × T b
-and_parts true b h = (tt, h)
-and_parts false b h = absurd h
 
 at_first : (e : PieceKey × PieceRow) (es : List (PieceKey × PieceRow)) → find piece_cmp e.0 (e ∷ es) ≡ Some e.1
 at_first e es = ap (λ b. cond b (Some e.1) (find piece_cmp e.0 es)) (same_itself piece_keys e.0)

@@ -1,5 +1,6 @@
 -- Which commands set last_change, and of which table.
-use Rattle.std.proofs.Common.{◌≡◌, ℕ, ℤ, unsigned_abs, Bool, true, false, ◌||◌, List, [], ◌∷◌, Option, Some, None, Result, Ok, Err, refl, sym, ap, subst, ◌∙◌, inl, inr}
+use Rattle.std.proofs.Common.{◌≡◌, ℕ, ℤ, unsigned_abs, Bool, true, false, ◌||◌, List, [], ◌∷◌, Option, Some, None}
+use Rattle.std.proofs.Common.{Result, Ok, Err, refl, sym, ap, subst, ◌∙◌, inl, inr}
 use Rattle.std.specs.FinMap.{get, insert}
 use Rattle.mm_definitions.specs.Keys.{Text, same_text, PieceKey}
 use Rattle.mm_definitions.specs.Parts.{Has, at_value}
@@ -26,7 +27,8 @@ use Rattle.mm_laws.proofs.Closed.{publish_went}
 put_sets : (contents : ContentsPart) (table : Text) (new : Contents) (stamp t : Text) (row : Contents) → new.last_change ≡ stamp
     → Has (insert contents table new) t row → IsSetOrKept (same_text t table) stamp contents t row
 put_sets contents table new stamp t row is e = elim (same_key texts t table) as (λ _. IsSetOrKept (same_text t table) stamp contents t row) [
-  | inl s ↦ let same : new ≡ row = same_some (sym (at_put texts contents table new) ∙ ap (get (insert contents table new)) (sym s.0) ∙ e) in inl (s.1, ap (λ (c : Contents). c.last_change) (sym same) ∙ is)
+  | inl s ↦ let same : new ≡ row = same_some (sym (at_put texts contents table new)
+      ∙ ap (get (insert contents table new)) (sym s.0) ∙ e) in inl (s.1, ap (λ (c : Contents). c.last_change) (sym same) ∙ is)
   | inr n ↦ inr (n.1, sym (beside_put texts contents table new t n.0) ∙ e)
 ]
 
@@ -110,7 +112,8 @@ done_sets (commands.RelationDrop mapping) p moment t row none e = inr (refl, e)
 done_sets (commands.Edition name) p moment t row none e = inr (refl, e)
 done_sets (commands.Discard name) p moment t row none e = inr (refl, e)
 done_sets (commands.Stage edition number q) p moment t row none e = inr (refl, e)
-done_sets (commands.Publish edition) p moment t row none e = let went = publish_went p edition moment none in closed_sets p edition (stamp moment) t row (edition_trial p edition (stamp moment)) refl e went.0 went.1
+done_sets (commands.Publish edition) p moment t row none e = let went = publish_went p edition moment none in
+    closed_sets p edition (stamp moment) t row (edition_trial p edition (stamp moment)) refl e went.0 went.1
 done_sets (commands.Rehearse edition) p moment t row none e = inr (refl, e)
 done_sets (commands.Tile table zoom column row_at bytes) p moment t row none e = piece_sets (pieces.Tile table zoom column row_at bytes) p (stamp moment) t row e
 done_sets (commands.TileDrop table zoom column row_at) p moment t row none e = piece_sets (pieces.TileDrop table zoom column row_at) p (stamp moment) t row e

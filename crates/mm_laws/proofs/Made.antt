@@ -1,5 +1,6 @@
 -- The values that a record's form is met by are those of a command.
-use Rattle.std.proofs.Common.{◌≡◌, ◌∙◌, ◌⊎◌, inl, inr, ℕ, ℤ, pos, negsuc, ◌≤ℤ◌, List, [], ◌∷◌, ◌++◌, Option, None, Some, Bool, true, false, refl, sym, ap, subst, arith}
+use Rattle.std.proofs.Common.{◌≡◌, ◌∙◌, ◌⊎◌, inl, inr, ℕ, ℤ, pos, negsuc, ◌≤ℤ◌, List, [], ◌∷◌, ◌++◌, Option, None}
+use Rattle.std.proofs.Common.{Some, Bool, true, false, refl, sym, ap, subst, arith}
 use Rattle.std.specs.Prelude.{⊤, codes, bytes_eq, if◌then◌else◌, unsigned_abs, ◌^◌}
 use Rattle.std.proofs.lemmas.Int.{ints}
 use Rattle.std.proofs.lemmas.Slice.Eq.{bytes_eq-Decides}
@@ -9,7 +10,10 @@ use Rattle.mm_definitions.specs.Package.{kind_text}
 use Rattle.mm_definitions.specs.Effects.{step_kind, plain_kind}
 use Rattle.mm_definitions.specs.Conditions.{relation_text}
 use Rattle.mm_definitions.specs.Fields.{Field, OneOf, NumberFrom, BytesTo, TextOf, AnIdentifier, AContentType, AName, Value, Whole, Plain, HoldsValue, AllHold}
-use Rattle.mm_definitions.specs.Records.{Form, form_of, piece_forms, other_forms, record_form, stage_form, with_piece, id_field, step_words, kind_words, relation_words, IsLeast, IsMet, IsUnmet, Spells, HoldsAgainst, SpellsPiece, HoldsAgainstPiece, command_word, command_values, piece_word, piece_values}
+use Rattle.mm_definitions.specs.Records.{Form, form_of, piece_forms, other_forms, record_form, stage_form, with_piece}
+use Rattle.mm_definitions.specs.Records.{id_field, step_words, kind_words, relation_words, IsLeast, IsMet, IsUnmet}
+use Rattle.mm_definitions.specs.Records.{Spells, HoldsAgainst, SpellsPiece, HoldsAgainstPiece, command_word}
+use Rattle.mm_definitions.specs.Records.{command_values, piece_word, piece_values}
 use Rattle.mm_definitions.specs.Records as forms
 use Rattle.mm_definitions.specs.declared.commands.Piece.{Piece}
 use Rattle.mm_definitions.specs.declared.commands.Command.{Command}
@@ -121,13 +125,21 @@ shaped_as : {fs : Form} (s : HasShapes fs) (ts : List Text) (vs : List Value) �
 shaped_as {fs = fs} s ts vs h = all_shaped fs s.shapes s.are ts vs h
 
 abbrev tile_shapes : HasShapes forms.tile_form
-tile_shapes = record { shapes = plain_shape ∷ count_shape ∷ count_shape ∷ count_shape ∷ plain_shape ∷ []; are = (name_shape, (natural_shape _ _, (natural_shape _ _, (natural_shape _ _, (bytes_shape _, tt))))) }
+tile_shapes = record {
+  shapes = plain_shape ∷ count_shape ∷ count_shape ∷ count_shape ∷ plain_shape ∷ [];
+  are =
+      (name_shape, (natural_shape _ _, (natural_shape _ _, (natural_shape _ _, (bytes_shape _, tt)))));
+}
 
 abbrev tile_drop_shapes : HasShapes forms.tile_drop_form
 tile_drop_shapes = record { shapes = plain_shape ∷ count_shape ∷ count_shape ∷ count_shape ∷ []; are = (name_shape, (natural_shape _ _, (natural_shape _ _, (natural_shape _ _, tt)))) }
 
 abbrev row_shapes : HasShapes forms.row_form
-row_shapes = record { shapes = plain_shape ∷ whole_shape ∷ plain_shape ∷ plain_shape ∷ whole_shape ∷ []; are = (name_shape, (number_shape _ _, (text_shape _ _, (text_shape _ _, (number_shape _ _, tt))))) }
+row_shapes = record {
+  shapes = plain_shape ∷ whole_shape ∷ plain_shape ∷ plain_shape ∷ whole_shape ∷ [];
+  are =
+      (name_shape, (number_shape _ _, (text_shape _ _, (text_shape _ _, (number_shape _ _, tt)))));
+}
 
 abbrev item_shapes : HasShapes forms.item_form
 item_shapes = record { shapes = plain_shape ∷ whole_shape ∷ []; are = (name_shape, (number_shape _ _, tt)) }
@@ -139,13 +151,49 @@ abbrev map_shapes : HasShapes forms.map_form
 map_shapes = record { shapes = plain_shape ∷ whole_shape ∷ whole_shape ∷ []; are = (name_shape, (number_shape _ _, (number_shape _ _, tt))) }
 
 abbrev srs_shapes : HasShapes forms.srs_form
-srs_shapes = record { shapes = whole_shape ∷ plain_shape ∷ plain_shape ∷ whole_shape ∷ plain_shape ∷ plain_shape ∷ []; are = (number_shape _ _, (text_shape _ _, (text_shape _ _, (number_shape _ _, (text_shape _ _, (text_shape _ _, tt)))))) }
+srs_shapes = record {
+  shapes = whole_shape ∷ plain_shape ∷ plain_shape ∷ whole_shape ∷ plain_shape ∷ plain_shape
+      ∷ [];
+  are = (
+    number_shape _ _,
+    (
+      text_shape _ _,
+      (text_shape _ _, (number_shape _ _, (text_shape _ _, (text_shape _ _, tt)))),
+    ),
+  );
+}
 
 abbrev pyramid_shapes : (profile : Profile) → HasShapes (forms.pyramid_form profile)
-pyramid_shapes profile = record { shapes = plain_shape ∷ plain_shape ∷ whole_shape ∷ whole_shape ∷ whole_shape ∷ whole_shape ∷ whole_shape ∷ step_shape ∷ []; are = (name_shape, (identifier_shape, (number_shape _ _, (number_shape _ _, (number_shape _ _, (number_shape _ _, (number_shape _ _, (steps_shape, tt)))))))) }
+pyramid_shapes profile = record {
+  shapes = plain_shape ∷ plain_shape ∷ whole_shape ∷ whole_shape ∷ whole_shape
+      ∷ whole_shape ∷ whole_shape ∷ step_shape ∷ [];
+  are = (
+    name_shape,
+    (
+      identifier_shape,
+      (
+        number_shape _ _,
+        (number_shape _ _, (number_shape _ _, (number_shape _ _, (number_shape _ _, (steps_shape, tt))))),
+      ),
+    ),
+  );
+}
 
 abbrev matrix_shapes : (profile : Profile) → HasShapes (forms.matrix_form profile)
-matrix_shapes profile = record { shapes = plain_shape ∷ count_shape ∷ count_shape ∷ count_shape ∷ count_shape ∷ count_shape ∷ whole_shape ∷ whole_shape ∷ []; are = (name_shape, (natural_shape _ _, (natural_shape _ _, (natural_shape _ _, (natural_shape _ _, (natural_shape _ _, (number_shape _ _, (number_shape _ _, tt)))))))) }
+matrix_shapes profile = record {
+  shapes = plain_shape ∷ count_shape ∷ count_shape ∷ count_shape ∷ count_shape
+      ∷ count_shape ∷ whole_shape ∷ whole_shape ∷ [];
+  are = (
+    name_shape,
+    (
+      natural_shape _ _,
+      (
+        natural_shape _ _,
+        (natural_shape _ _, (natural_shape _ _, (natural_shape _ _, (number_shape _ _, (number_shape _ _, tt))))),
+      ),
+    ),
+  );
+}
 
 abbrev table_shapes : HasShapes forms.table_form
 table_shapes = record { shapes = plain_shape ∷ kind_shape ∷ plain_shape ∷ []; are = (name_shape, (kinds_shape, (identifier_shape, tt))) }

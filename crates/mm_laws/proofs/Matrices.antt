@@ -39,12 +39,18 @@ still_inside old new more k column row h = found (get old k) refl h where
 pub matrix : (table : Text) (zoom : ℕ) (m : Matrix) → Keeps (commands.Matrix table zoom m)
 matrix table zoom m profile p moment stamp h within low is none =
     let r = none_holds (own_reasons p (commands.Matrix table zoom m)) none in
-    let pyramid : is_pyramid p.kinds table ≡ true = not_false (is_pyramid p.kinds table) (and_false (contains_key p.contents table) (not (is_pyramid p.kinds table)) r.1.0 (not_false (contains_key p.contents table) r.0)) in
+    let pyramid : is_pyramid p.kinds table ≡ true = not_false (is_pyramid p.kinds table)
+    (and_false (contains_key p.contents table) (not (is_pyramid p.kinds table)) r.1.0
+    (not_false (contains_key p.contents table) r.0)) in
     let is_one : IsPyramid p.kinds table = is_pyramid_tells p.kinds table pyramid in
     let new : contains_key p.matrices (level table (pos zoom)) ≡ false = and_false (is_pyramid p.kinds table) (contains_key p.matrices (level table (pos zoom))) r.1.1.0 pyramid in
     let set = pyramid_set p.contents p.kinds p.sets h.q5 table is_one in
-    let fits : FitsIn (get p.sets table) (grid m) = fits_in (get p.sets table) (grid m) set.0 set.1 (and_false (is_pyramid p.kinds table) (at_value (λ s. not (is_product s.box (grid m))) (get p.sets table)) r.1.1.1.0 pyramid) in
-    let all : SuitsAll p.matrices table (pos zoom) (grid m) (has_kind p.kinds table Two) = suits_unless_clashes p table (pos zoom) (grid m) (and_false (is_pyramid p.kinds table) (clashes p table (pos zoom) (grid m)) r.1.1.1.1.0 pyramid) in
+    let fits : FitsIn (get p.sets table) (grid m) = fits_in (get p.sets table) (grid m) set.0 set.1
+    (and_false (is_pyramid p.kinds table) (at_value (λ s. not (is_product s.box (grid m))) (get p.sets table))
+    r.1.1.1.0 pyramid) in
+    let all : SuitsAll p.matrices table (pos zoom) (grid m) (has_kind p.kinds table Two) =
+    suits_unless_clashes p table (pos zoom) (grid m)
+    (and_false (is_pyramid p.kinds table) (clashes p table (pos zoom) (grid m)) r.1.1.1.1.0 pyramid) in
     let still = kept_by_new levels p.matrices (level table (pos zoom)) (grid m) new in
     touch_keeps profile (record p { matrices = insert p.matrices (level table (pos zoom)) (grid m) }) table stamp moment low is (record {
       q1 = h.q1;
@@ -62,12 +68,12 @@ matrix table zoom m profile p moment stamp h within low is none =
       q13 = h.q13;
       q14 = h.q14;
       q15 = h.q15;
-      q16 = (
-        h.q16.0,
-        h.q16.1,
-        h.q16.2,
-        h.q16.3,
-        each_put levels p.matrices (level table (pos zoom)) (grid m) (MatrixWithin profile) h.q16.4 (record {
+      q16 = record {
+        systems = h.q16.systems;
+        contents = h.q16.contents;
+        kinds = h.q16.kinds;
+        sets = h.q16.sets;
+        matrices = each_put levels p.matrices (level table (pos zoom)) (grid m) (MatrixWithin profile) h.q16.matrices (record {
           table = within.0;
           zoom = within.1;
           matrix_width = within.2.mw;
@@ -76,14 +82,14 @@ matrix table zoom m profile p moment stamp h within low is none =
           tile_height = within.2.th;
           pixel_x_size = within.2.px;
           pixel_y_size = within.2.py;
-        }),
-        h.q16.5,
-        h.q16.6,
-        h.q16.7,
-        h.q16.8,
-        h.q16.9,
-        h.q16.10,
-        h.q16.11,
-        h.q16.12,
-      );
+        });
+        extensions = h.q16.extensions;
+        tiles = h.q16.tiles;
+        rows = h.q16.rows;
+        media = h.q16.media;
+        relations = h.q16.relations;
+        pairings = h.q16.pairings;
+        editions = h.q16.editions;
+        pieces = h.q16.pieces;
+      };
     })

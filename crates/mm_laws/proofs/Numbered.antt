@@ -1,5 +1,7 @@
 -- The numbers with which commands are refused, and the piece that 53 names.
-use Rattle.std.proofs.Common.{◌≡◌, ℕ, Bool, true, false, not, ◌&&◌, ◌==◌, cond, min, [], ◌∷◌, ◌++◌, Option, Some, None, Result, Ok, Err, is_err, is_some, if◌then◌else◌, refl, sym, ap, subst, ◌∙◌, ◌⊎◌, inl, inr, arith}
+use Rattle.std.proofs.Common.{◌≡◌, ℕ, Bool, true, false, not, ◌&&◌, ◌==◌, cond, min, [], ◌∷◌, ◌++◌, Option, Some}
+use Rattle.std.proofs.Common.{None, Result, Ok, Err, is_err, is_some, if◌then◌else◌, refl, sym, ap, subst, ◌∙◌, ◌⊎◌}
+use Rattle.std.proofs.Common.{inl, inr, arith}
 use Rattle.mm_definitions.proofs.Parts.{same_some}
 use Rattle.mm_definitions.specs.Package.{Package}
 use Rattle.mm_definitions.specs.Conditions.{Reasons, least, smaller, own_reasons}
@@ -92,7 +94,9 @@ if_so false piece h = refl
 pub numbered : (p : Package) (c : Command) (r : Refusal) → refusal p c ≡ Some r → IsNumberedRefusal r
 numbered p c r e = by_least (least (reasons p c)) refl e where
   all : (p : Package) (c : Command) → AllNumbers is_reason_number (reasons p c) ≡ true
-  all p c = with_last is_reason_number (own_reasons p c) 53 (is_publishing p c && is_err (publishing p c [])) (weaker (λ n. is_reason_number n && not (n == 53)) is_reason_number (own_reasons p c) (λ n h. (both_true (is_reason_number n) (not (n == 53)) h).0) (own_numbers p c)) refl
+  all p c = with_last is_reason_number (own_reasons p c) 53 (is_publishing p c && is_err (publishing p c []))
+      (weaker (λ n. is_reason_number n && not (n == 53)) is_reason_number (own_reasons p c)
+      (λ n h. (both_true (is_reason_number n) (not (n == 53)) h).0) (own_numbers p c)) refl
 
   not_it : (p : Package) (c : Command) → AllNumbers (λ n. not (n == 53)) (own_reasons p c) ≡ true
   not_it p c = weaker (λ n. is_reason_number n && not (n == 53)) (λ n. not (n == 53)) (own_reasons p c) (λ n h. (both_true (is_reason_number n) (not (n == 53)) h).1) (own_numbers p c)
@@ -101,5 +105,7 @@ numbered p c r e = by_least (least (reasons p c)) refl e where
   by_least None l f = absurd (let g : ◌≡◌ {A = Option Refusal} None (Some r) = f in cc)
   by_least (Some n) l f = subst IsNumberedRefusal (same_some f) (record {
     known = least_passes is_reason_number (reasons p c) n (all p c) l;
-    names_a_piece = if_so (n == 53) (refused_piece (publishing p c [])) (λ same. named (is_publishing p c) (publishing p c []) (last_holds (own_reasons p c) (is_publishing p c && is_err (publishing p c [])) n (not_it p c) l same));
+    names_a_piece = if_so (n == 53) (refused_piece (publishing p c []))
+        (λ same. named (is_publishing p c) (publishing p c [])
+        (last_holds (own_reasons p c) (is_publishing p c && is_err (publishing p c [])) n (not_it p c) l same));
   })

@@ -8,6 +8,7 @@ use Rattle.mm_definitions.specs.Bounds.{IsMoment}
 use Rattle.mm_definitions.specs.Stamp.{IsStamp, stamp, year_in, pair_at}
 use Rattle.mm_definitions.proofs.StampBack.{text_of, shown_parts, same_day, day_of}
 use Rattle.mm_laws.proofs.StampFound.{stamp_is}
+use Rattle.mm_definitions.proofs.Dates.{same_pos}
 
 pub one_stamp : (moment : ℕ) (text other : Text) → IsStamp moment text → IsStamp moment other → text ≡ other
 one_stamp moment text other s t = s.spelled ∙ text_of s.date t.date (moment % 86400000) (epoch_day_injective s.date t.date (s.day ∙ sym t.day)) ∙ sym t.spelled
@@ -21,9 +22,6 @@ stamped_moment moment text s = within_days moment (epoch_day s.date) s.day (epoc
 
 pub stamp_only : (moment : ℕ) (text : Text) → IsStamp moment text → text ≡ stamp moment
 stamp_only moment text s = one_stamp moment text (stamp moment) s (stamp_is moment (stamped_moment moment text s))
-
-same_pos : (a b : ℕ) → pos a ≡ pos b → a ≡ b
-same_pos a b e = cc
 
 same_parts : (m n : ℕ) → m / 86400000 ≡ n / 86400000 → m % 86400000 ≡ n % 86400000 → m ≡ n
 same_parts m n e f = omega (arith, e, f)

@@ -1,14 +1,16 @@
 -- For which number a piece is not staged, from what stands in its edition.
-use Rattle.std.proofs.Common.{◌≡◌, ◌≢◌, ◌⊎◌, inl, inr, ℕ, ◌+◌, ◌≤◌, ℤ, pos, ◌≤ℤ◌, ◌<ℤ◌, ◌-ℤ◌, Bool, true, false, not, ◌&&◌, ◌||◌, ◌==◌, int_lt, int_le, [], ◌∷◌, Option, Some, None, is_some, refl, sym, ap, ◌∙◌, arith}
+use Rattle.std.proofs.Common.{◌≡◌, ◌≢◌, inl, inr, ℕ, ◌+◌, ◌≤◌, ℤ, pos, ◌≤ℤ◌, ◌<ℤ◌, ◌-ℤ◌, Bool, true, false, not}
+use Rattle.std.proofs.Common.{◌&&◌, ◌||◌, ◌==◌, int_lt, int_le, [], ◌∷◌, Option, Some, None, is_some, refl, sym, ap}
+use Rattle.std.proofs.Common.{◌∙◌, arith}
 use Rattle.std.proofs.lemmas.Int.{ints}
 use Rattle.std.proofs.lemmas.Bool.Decides.{nat_tests}
 use Rattle.std.specs.FinMap.{get, contains_key}
-use Rattle.mm_definitions.specs.Bounds.{Profile, IsId, MostPieces}
+use Rattle.mm_definitions.specs.Bounds.{IsId, MostPieces}
 use Rattle.mm_definitions.specs.Keys.{Text, same_text, same_number, piece}
 use Rattle.mm_definitions.specs.Parts.{Stands, at_value}
 use Rattle.mm_definitions.specs.Package.{Package, PieceRow, PiecesPart, open_state, published_state}
 use Rattle.mm_definitions.specs.Pieces.{piece_row, same_piece}
-use Rattle.mm_definitions.specs.Rules.{Meets, IsNumbered}
+use Rattle.mm_definitions.specs.Rules.{IsNumbered}
 use Rattle.mm_definitions.specs.Conditions.{least, own_reasons, piece_count, has_equal_piece}
 use Rattle.mm_definitions.specs.declared.commands.Command.TheVariants as commands
 use Rattle.mm_definitions.specs.declared.commands.Piece.{Piece}
@@ -39,7 +41,7 @@ is_within n z h = grind (arith, ints)
 next_not_within : (n : ℕ) (z : ℤ) → z ≡ pos (n + 1) → int_le z (pos n) ≡ false
 next_not_within n z h = grind (arith, ints)
 
-same_as : (a b : ℤ) → a ≡ b → same_number a b ≡ true
+pub same_as : (a b : ℤ) → a ≡ b → same_number a b ≡ true
 same_as a b e = elim (same_key numbers a b) as (λ _. same_number a b ≡ true) [ inl s ↦ s.1 | inr n ↦ absurd (n.0 e) ]
 
 other_than : (a b : ℤ) → a ≢ b → same_number a b ≡ false
@@ -177,4 +179,6 @@ pub again : (p : Package) (edition : Text) (number : ℤ) (q : Piece) (moment : 
     → get p.pieces (piece edition number) ≡ Some (piece_row q)
     → step p (commands.Stage edition number q) moment ≡ p
 again p edition number q moment free there =
-    ap (λ v. unless_refused v (done p (commands.Stage edition number q) (stamp moment)) p) free ∙ ap (λ (m : PiecesPart). record p { pieces = m }) (put_again piece_keys p.pieces (piece edition number) (piece_row q) there)
+    ap (λ v. unless_refused v (done p (commands.Stage edition number q) (stamp moment)) p) free
+    ∙ ap (λ (m : PiecesPart). record p { pieces = m })
+    (put_again piece_keys p.pieces (piece edition number) (piece_row q) there)

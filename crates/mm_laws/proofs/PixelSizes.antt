@@ -10,7 +10,7 @@ use Rattle.mm_definitions.specs.Conditions.{is_finer, is_double, suits_above, su
 use Rattle.mm_definitions.specs.declared.commands.Kind.TheVariants.{Two}
 use Rattle.mm_definitions.proofs.Parts.{no_entry, after_put, same_itself}
 use Rattle.mm_definitions.proofs.KeyLaws.{levels, texts, numbers}
-use Rattle.mm_laws.proofs.Reasons.{and_false}
+use Rattle.mm_laws.proofs.Reasons.{and_false, not_false}
 use Rattle.mm_laws.proofs.KindFacts.{are_same, both_true, has_kind_holds}
 
 pub below : (a b : ℤ) → int_lt a b ≡ true → a <ℤ b
@@ -25,10 +25,6 @@ above_itself a h = omega (arith, ints)
 or_not : (a b : Bool) → (not a || b) ≡ true → a ≡ true → b ≡ true
 or_not true b e t = e
 or_not false b e t = absurd (let f : false ≡ true = t in cc)
-
-not_true : (b : Bool) → not b ≡ false → b ≡ true
-not_true true e = refl
-not_true false e = absurd (let f : true ≡ false = e in cc)
 
 finer_tells : (g h : Grid) → is_finer g h ≡ true → IsFiner g h
 finer_tells g h e = let p = both_true _ _ e in record { across = below _ _ p.0; down = below _ _ p.1 }
@@ -52,7 +48,7 @@ pub suits_unless_clashes : (p : Package) (table : Text) (zoom : ℤ) (g : Grid) 
     → SuitsAll p.matrices table zoom g (has_kind p.kinds table Two)
 suits_unless_clashes p table zoom g none other h e =
     let test : Level → Grid → Bool = λ k d. same_text k.table table && not (suits (has_kind p.kinds table Two) zoom g k.zoom d) in
-    not_true _ (and_false _ _ (no_entry levels test p.matrices none (level table other) h e) (same_itself texts table))
+    not_false _ (and_false _ _ (no_entry levels test p.matrices none (level table other) h e) (same_itself texts table))
 
 module _ (matrices : FinMap level_cmp Grid) (table : Text) (zoom : ℤ) (g : Grid) (halved : Bool) (all : SuitsAll matrices table zoom g halved) where
   -- what the test says where the other zoom is higher, and where it is lower

@@ -1,5 +1,6 @@
 -- Publishing keeps the rules.
-use Rattle.std.proofs.Common.{◌≡◌, ℕ, ℤ, Bool, true, false, ◌&&◌, if◌then◌else◌, List, [], ◌∷◌, Option, Some, None, Result, Ok, Err, refl, sym, ap, subst, ◌∙◌, ◌⊎◌, inl, inr, ◌≤◌, unsigned_abs}
+use Rattle.std.proofs.Common.{◌≡◌, ℕ, ℤ, Bool, true, if◌then◌else◌, List, [], ◌∷◌, Option, Some, None}
+use Rattle.std.proofs.Common.{Result, Ok, Err, refl, sym, ap, subst, ◌∙◌, ◌⊎◌, inl, inr, ◌≤◌, unsigned_abs}
 use Rattle.std.specs.List.{AllByRecursion}
 use Rattle.std.specs.FinMap.{retain_keys}
 use Rattle.mm_definitions.specs.Keys.{Text, same_text, same_number, PieceKey}
@@ -23,7 +24,10 @@ use Rattle.mm_laws.proofs.Kept.{PieceKeeps}
 use Rattle.mm_laws.proofs.KindFacts.{differ}
 use Rattle.mm_laws.proofs.Matrices.{matrix}
 use Rattle.mm_laws.proofs.Contents as contents
-use Rattle.mm_laws.proofs.Relations.{other_tells, numbered_still}
+use Rattle.mm_laws.proofs.Dropped.{other_tells}
+use Rattle.mm_laws.proofs.Relations.{numbered_still}
+use Rattle.mm_laws.proofs.OnePart.{with_editions}
+use Rattle.mm_laws.proofs.Reasons.{both_hold}
 
 pub piece_keeps : (q : Piece) → PieceKeeps q
 piece_keeps (pieces.Tile table zoom column row bytes) = contents.tile_put table zoom column row bytes
@@ -37,15 +41,12 @@ piece_keeps (pieces.MapDrop mapping base_id related_id) = contents.map_drop mapp
 piece_keeps (pieces.Matrix table zoom m) = matrix table zoom m
 
 -- the row of a piece is read as that piece
-both : (a b : Bool) → a ≡ true → b ≡ true → (a && b) ≡ true
-both true b e f = f
-both false b e f = e
-
 pub row_itself : (r : PieceRow) → same_piece r r ≡ true
 row_itself r =
     let text : (t : Text) → same_text t t ≡ true = λ t. same_itself texts t in
     let number : (z : ℤ) → same_number z z ≡ true = λ z. same_itself numbers z in
-    both _ _ (both _ _ (both _ _ (both _ _ (both _ _ (both _ _ (both _ _ (both _ _ (both _ _ (both _ _ (both _ _ (text r.kind) (text r.name)) (number r.k1)) (number r.k2)) (number r.k3)) (number r.k4)) (number r.k5)) (number r.k6)) (number r.k7)) (text r.t1)) (text r.t2)) (text r.bytes)
+    both_hold _ _ (both_hold _ _ (both_hold _ _ (both_hold _ _ (both_hold _ _
+    (both_hold _ _ (both_hold _ _ (both_hold _ _ (both_hold _ _ (both_hold _ _ (both_hold _ _ (text r.kind) (text r.name)) (number r.k1)) (number r.k2)) (number r.k3)) (number r.k4)) (number r.k5)) (number r.k6)) (number r.k7)) (text r.t1)) (text r.t2)) (text r.bytes)
 
 pub by_kind : (q : Piece) → piece_by_kind (piece_row q) ≡ Some q
 by_kind (pieces.Tile table zoom column row bytes) = refl
@@ -91,52 +92,29 @@ module _ (profile : Profile) (moment : ℕ) (stamp : Text) (low : IsMoment momen
   closed_keeps : (edition : Text) → IsName edition → (p : Package) → Meets profile p → Meets profile (closed edition p)
   closed_keeps edition named p h =
       let test : PieceKey → Bool = λ k. is_other edition k.edition in
-      record {
-        q1 = h.q1;
-        q2 = h.q2;
-        q3 = h.q3;
-        q4 = record { of_tables = h.q4.of_tables; of_mappings = h.q4.of_mappings; of_editions = each_put texts p.editions edition published_state (λ e _. IsName e) h.q4.of_editions named };
-        q5 = h.q5;
-        q6 = h.q6;
-        q7 = h.q7;
-        q8 = h.q8;
-        q9 = h.q9;
-        q10 = h.q10;
-        q11 = h.q11;
-        q12 = h.q12;
-        q13 = h.q13;
-        q14 = h.q14;
-        q15 = record {
-          states = each_put texts p.editions edition published_state (λ _ s. (s ≡ open_state) ⊎ (s ≡ published_state)) h.q15.states (inr refl);
-          numbered = λ e f. elim (after_put texts p.editions edition published_state e open_state f) as (λ _. (n : ℕ) × (n ≤ MostPieces) × IsNumbered (retain_keys p.pieces test) e n) [
-            | inl s ↦ absurd (differ published_state open_state refl s.1)
-            | inr n ↦ let was = h.q15.numbered e n.1 in (was.0, was.1, numbered_still p edition e was.0 n.0 was.2)
-          ];
-          of_open = λ k r e. let was = after_retain piece_keys p.pieces test k r e in beside_put texts p.editions edition published_state k.edition (other_tells edition k.edition was.0) ∙ h.q15.of_open k r was.1;
-          spelled = each_retain piece_keys p.pieces test (λ _ r. IsSpelled profile r) h.q15.spelled;
-        };
-        q16 = (
-          h.q16.0,
-          h.q16.1,
-          h.q16.2,
-          h.q16.3,
-          h.q16.4,
-          h.q16.5,
-          h.q16.6,
-          h.q16.7,
-          h.q16.8,
-          h.q16.9,
-          h.q16.10,
-          each_put texts p.editions edition published_state EditionWithin h.q16.11 (named, ascii_is_clean published_state refl refl),
-          each_retain piece_keys p.pieces test PieceWithin h.q16.12,
-        );
-      }
+      with_editions profile p h _ _
+      (each_put texts p.editions edition published_state (λ e _. IsName e) h.q4.of_editions named)
+      (record {
+        states = each_put texts p.editions edition published_state (λ _ s. (s ≡ open_state) ⊎ (s ≡ published_state)) h.q15.states (inr refl);
+        numbered = λ e f. elim (after_put texts p.editions edition published_state e open_state f) as (λ _. (n : ℕ) × (n ≤ MostPieces) × IsNumbered (retain_keys p.pieces test) e n) [
+          | inl s ↦ absurd (differ published_state open_state refl s.1)
+          | inr n ↦ let was = h.q15.numbered e n.1 in (was.0, was.1, numbered_still p edition e was.0 n.0 was.2)
+        ];
+        of_open = λ k r e. let was = after_retain piece_keys p.pieces test k r e in
+            beside_put texts p.editions edition published_state k.edition (other_tells edition k.edition was.0)
+            ∙ h.q15.of_open k r was.1;
+        spelled = each_retain piece_keys p.pieces test (λ _ r. IsSpelled profile r) h.q15.spelled;
+      })
+      (each_put texts p.editions edition published_state EditionWithin h.q16.editions (named, ascii_is_clean published_state refl refl))
+      (each_retain piece_keys p.pieces test PieceWithin h.q16.pieces)
 
   closed_by_keeps : (edition : Text) → IsName edition → (p : Package) → Meets profile p → (v : Result Package PieceRefusal)
       → edition_trial p edition stamp ≡ v → Meets profile (closed_by edition v p)
   closed_by_keeps edition named p h (Ok next) e =
       closed_keeps edition named next (trial_keeps (pieces_of p edition)
-      (along_entries piece_keys (λ _ r. IsSpelled profile r) (retain_keys p.pieces (λ k. same_text k.edition edition)) (each_retain piece_keys p.pieces (λ k. same_text k.edition edition) (λ _ r. IsSpelled profile r) h.q15.spelled))
+      (along_entries piece_keys (λ _ r. IsSpelled profile r)
+      (retain_keys p.pieces (λ k. same_text k.edition edition))
+      (each_retain piece_keys p.pieces (λ k. same_text k.edition edition) (λ _ r. IsSpelled profile r) h.q15.spelled))
       next p h e)
   closed_by_keeps edition named p h (Err r) e = h
 

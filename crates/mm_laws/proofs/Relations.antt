@@ -1,10 +1,13 @@
 -- Relations and editions that are put or removed keep the rules.
-use Rattle.std.proofs.Common.{◌≡◌, ◌≢◌, ℕ, ◌≤◌, ℤ, pos, ◌≤ℤ◌, Bool, true, false, not, ◌&&◌, ◌||◌, [], Option, Some, None, codes, refl, sym, ap, subst, ◌∙◌, ◌⊎◌, inl, inr, is_some, arith, zero-le}
+use Rattle.std.proofs.Common.{◌≡◌, ◌≢◌, ℕ, ◌≤◌, ℤ, pos, ◌≤ℤ◌, Bool, true, false, not, ◌&&◌, ◌||◌, [], Option, Some}
+use Rattle.std.proofs.Common.{None, codes, refl, sym, ap, subst, ◌∙◌, ◌⊎◌, inl, inr, is_some, arith, zero-le}
 use Rattle.std.proofs.lemmas.Int.{ints}
 use Rattle.std.specs.FinMap.{get, contains_key, insert, remove, retain_keys}
-use Rattle.mm_definitions.specs.Keys.{Text, same_text, Pairing, PieceKey, piece, Extension}
+use Rattle.mm_definitions.specs.Keys.{Text, Pairing, PieceKey, piece, Extension}
 use Rattle.mm_definitions.specs.Parts.{Each, Has, Stands}
-use Rattle.mm_definitions.specs.Package.{Package, Kinds, RelationsPart, HasKind, has_kind, Relation, general_extension, mapping_extension, zoom_extension, open_state, published_state}
+use Rattle.mm_definitions.specs.Package.{Package, Kinds, RelationsPart, HasKind, has_kind, Relation}
+use Rattle.mm_definitions.specs.Package.{general_extension, mapping_extension, zoom_extension, open_state}
+use Rattle.mm_definitions.specs.Package.{published_state}
 use Rattle.mm_definitions.specs.Bounds.{IsName, IsClean, MostPieces}
 use Rattle.mm_definitions.specs.Rules.{IsSuited, Joins, IsWanted, IsNumbered, ExtensionWithin, RelationWithin, PairingWithin, EditionWithin, PieceWithin}
 use Rattle.mm_definitions.specs.Conditions.{own_reasons, is_plain, relation_text, related_kind}
@@ -13,20 +16,17 @@ use Rattle.mm_definitions.specs.declared.commands.Kind.TheVariants as kinds
 use Rattle.mm_definitions.specs.declared.commands.RelationName.{RelationName}
 use Rattle.mm_definitions.specs.declared.commands.RelationName.TheVariants as names
 use Rattle.mm_definitions.specs.declared.commands.Command.TheVariants as commands
-use Rattle.mm_definitions.proofs.Parts.{each_put, each_remove, each_retain, stands_after_put, after_put, after_remove, after_retain, kept, kept_by_new, at_put, beside_remove, either_false, same_itself, apart, not_none, none_of, some_of}
+use Rattle.mm_definitions.proofs.Parts.{each_put, each_remove, each_retain, stands_after_put, after_put, after_remove}
+use Rattle.mm_definitions.proofs.Parts.{after_retain, kept, kept_by_new, at_put, beside_remove, either_false}
+use Rattle.mm_definitions.proofs.Parts.{not_none, none_of, some_of}
 use Rattle.mm_definitions.proofs.CleanTexts.{ascii_is_clean, name_is_clean}
 use Rattle.mm_definitions.proofs.KeyLaws.{texts, pairing_keys, piece_keys, extension_keys}
 use Rattle.mm_laws.proofs.Kept.{Keeps}
 use Rattle.mm_laws.proofs.Reasons.{none_holds, not_false, stands_where}
 use Rattle.mm_laws.proofs.KindFacts.{differ, both_true, either_true, has_kind_tells}
 use Rattle.mm_laws.proofs.Tables.{put_once}
-
--- a name that the test calls another is another
-pub other_tells : (table name : Text) → is_other table name ≡ true → name ≢ table
-other_tells table name e same = let t : same_text name table ≡ true = ap (same_text name) (sym same) ∙ same_itself texts name in let f : not true ≡ true = sym (ap not t) ∙ e in let g : false ≡ true = f in cc
-
-pub other_holds : (table name : Text) → name ≢ table → is_other table name ≡ true
-other_holds table name n = ap not (apart texts name table n)
+use Rattle.mm_laws.proofs.OnePart.{with_editions, with_relations}
+use Rattle.mm_laws.proofs.Dropped.{other_tells, other_holds}
 
 name_of : Option Text → Text
 name_of None = []
@@ -78,53 +78,37 @@ relation_put mapping base related name profile p moment stamp h within low is no
     let relation : Relation = record { base = base; related = related; base_column = codes "id"; related_column = codes "id"; name = relation_text name } in
     let next = insert p.relations mapping relation in
     let still = kept_by_new texts p.relations mapping relation free.1 in
-    record {
-      q1 = h.q1;
-      q2 = h.q2;
-      q3 = h.q3;
-      q4 = record {
-        of_tables = h.q4.of_tables;
-        of_mappings = each_put texts p.relations mapping relation (λ m _. IsName m × (get p.contents m ≡ None)) h.q4.of_mappings (within.0, none_of (get p.contents mapping) free.0);
-        of_editions = h.q4.of_editions;
-      };
-      q5 = h.q5;
-      q6 = h.q6;
-      q7 = h.q7;
-      q8 = h.q8;
-      q9 = h.q9;
-      q10 = h.q10;
-      q11 = h.q11;
-      q12 = each_put texts p.relations mapping relation (λ _ s. IsSuited p.kinds s) h.q12 (suited_new p.kinds base related name kinds_suit.0 kinds_suit.1);
-      q13 = λ k u e. joins_still p next still (get p.relations k.mapping) k refl (h.q13 k u e);
-      q14 = record {
-        only = each_put extension_keys p.extensions (mapping_extension mapping) 1 (λ e count. IsWanted p.kinds next e × (count ≡ 1))
-            (λ e count f. (wanted_stays p next (stands_after_put texts p.relations mapping relation) e (h.q14.only e count f).0, (h.q14.only e count f).1))
-            (inr (inl (mapping, ap is_some (at_put texts p.relations mapping relation), refl)), refl);
-        all = λ e w. put_once p.extensions (mapping_extension mapping) e (elim (wanted_was p mapping relation e w) as (λ _. (e ≡ mapping_extension mapping) ⊎ Has p.extensions e 1) [ inl s ↦ inl s | inr b ↦ inr (h.q14.all e b) ]);
-      };
-      q15 = h.q15;
-      q16 = (
-        h.q16.0,
-        h.q16.1,
-        h.q16.2,
-        h.q16.3,
-        h.q16.4,
-        each_put extension_keys p.extensions (mapping_extension mapping) 1 ExtensionWithin h.q16.5 (record {
-          table = name_is_clean mapping within.0;
-          column = tt;
-          name = ascii_is_clean (mapping_extension mapping).name refl refl;
-          definition = ascii_is_clean (mapping_extension mapping).definition refl refl;
-          scope = ascii_is_clean (mapping_extension mapping).scope refl refl;
-        }),
-        h.q16.6,
-        h.q16.7,
-        h.q16.8,
-        each_put texts p.relations mapping relation RelationWithin h.q16.9 (record { mapping = within.0; base = within.1; related = within.2; base_column = ascii_is_clean (codes "id") refl refl; related_column = ascii_is_clean (codes "id") refl refl; name = relation_is_clean name }),
-        h.q16.10,
-        h.q16.11,
-        h.q16.12,
-      );
-    }
+    with_relations profile p h _ _ _
+    (each_put texts p.relations mapping relation (λ m _. IsName m × (get p.contents m ≡ None)) h.q4.of_mappings (within.0, none_of (get p.contents mapping) free.0))
+    (each_put texts p.relations mapping relation (λ _ s. IsSuited p.kinds s) h.q12 (suited_new p.kinds base related name kinds_suit.0 kinds_suit.1))
+    (λ k u e. joins_still p next still (get p.relations k.mapping) k refl (h.q13 k u e))
+    (record {
+      only = each_put extension_keys p.extensions (mapping_extension mapping) 1 (λ e count. IsWanted p.kinds next e × (count ≡ 1))
+          (λ e count f. (wanted_stays p next (stands_after_put texts p.relations mapping relation) e (h.q14.only e count f).0, (h.q14.only e count f).1))
+          (inr (inl (mapping, ap is_some (at_put texts p.relations mapping relation), refl)), refl);
+      all = λ e w. put_once p.extensions (mapping_extension mapping) e
+          (elim (wanted_was p mapping relation e w) as (λ _. (e ≡ mapping_extension mapping) ⊎ Has p.extensions e 1)
+          [ inl s ↦ inl s | inr b ↦ inr (h.q14.all e b) ]);
+    })
+    (each_put extension_keys p.extensions (mapping_extension mapping) 1 ExtensionWithin h.q16.extensions (record {
+      table = name_is_clean mapping within.0;
+      column = tt;
+      name = ascii_is_clean (mapping_extension mapping).name refl refl;
+      definition = ascii_is_clean (mapping_extension mapping).definition refl refl;
+      scope = ascii_is_clean (mapping_extension mapping).scope refl refl;
+    }))
+    (each_put texts p.relations mapping relation RelationWithin h.q16.relations
+    (record {
+      mapping = within.0;
+      base = within.1;
+      related = within.2;
+      base_column =
+          ascii_is_clean (codes "id") refl refl;
+      related_column = ascii_is_clean (codes "id") refl refl;
+      name =
+          relation_is_clean name;
+    }))
+    h.q16.pairings
   where
     both : (a b : Bool) → a ≡ true → b ≡ true → (a && b) ≡ true
     both true b e f = f
@@ -156,47 +140,19 @@ pub relation_drop : (mapping : Text) → Keeps (commands.RelationDrop mapping)
 relation_drop mapping profile p moment stamp h within low is none =
     let next = remove p.relations mapping in
     let test : Pairing → Bool = λ k. is_other mapping k.mapping in
-    record {
-      q1 = h.q1;
-      q2 = h.q2;
-      q3 = h.q3;
-      q4 = record {
-        of_tables = h.q4.of_tables;
-        of_mappings = each_remove texts p.relations mapping (λ m _. IsName m × (get p.contents m ≡ None)) h.q4.of_mappings;
-        of_editions = h.q4.of_editions;
-      };
-      q5 = h.q5;
-      q6 = h.q6;
-      q7 = h.q7;
-      q8 = h.q8;
-      q9 = h.q9;
-      q10 = h.q10;
-      q11 = h.q11;
-      q12 = each_remove texts p.relations mapping (λ _ s. IsSuited p.kinds s) h.q12;
-      q13 = λ k u e.
-          let was = after_retain pairing_keys p.pairings test k u e in
-          subst (λ v. Joins p.rows p.media v k) (sym (beside_remove texts p.relations mapping k.mapping (other_tells mapping k.mapping was.0))) (h.q13 k u was.1);
-      q14 = record {
-        only = λ e n f. let was = after_remove extension_keys p.extensions (mapping_extension mapping) e n f in (wanted_still p mapping e was.0 (h.q14.only e n was.1).0, (h.q14.only e n was.1).1);
-        all = λ e w. let was = wanted_was p mapping within e w in beside_remove extension_keys p.extensions (mapping_extension mapping) e was.0 ∙ h.q14.all e was.1;
-      };
-      q15 = h.q15;
-      q16 = (
-        h.q16.0,
-        h.q16.1,
-        h.q16.2,
-        h.q16.3,
-        h.q16.4,
-        each_remove extension_keys p.extensions (mapping_extension mapping) ExtensionWithin h.q16.5,
-        h.q16.6,
-        h.q16.7,
-        h.q16.8,
-        each_remove texts p.relations mapping RelationWithin h.q16.9,
-        each_retain pairing_keys p.pairings test PairingWithin h.q16.10,
-        h.q16.11,
-        h.q16.12,
-      );
-    }
+    with_relations profile p h _ _ _
+    (each_remove texts p.relations mapping (λ m _. IsName m × (get p.contents m ≡ None)) h.q4.of_mappings)
+    (each_remove texts p.relations mapping (λ _ s. IsSuited p.kinds s) h.q12)
+    (λ k u e.
+    let was = after_retain pairing_keys p.pairings test k u e in
+    subst (λ v. Joins p.rows p.media v k) (sym (beside_remove texts p.relations mapping k.mapping (other_tells mapping k.mapping was.0))) (h.q13 k u was.1))
+    (record {
+      only = λ e n f. let was = after_remove extension_keys p.extensions (mapping_extension mapping) e n f in (wanted_still p mapping e was.0 (h.q14.only e n was.1).0, (h.q14.only e n was.1).1);
+      all = λ e w. let was = wanted_was p mapping within e w in beside_remove extension_keys p.extensions (mapping_extension mapping) e was.0 ∙ h.q14.all e was.1;
+    })
+    (each_remove extension_keys p.extensions (mapping_extension mapping) ExtensionWithin h.q16.extensions)
+    (each_remove texts p.relations mapping RelationWithin h.q16.relations)
+    (each_retain pairing_keys p.pairings test PairingWithin h.q16.pairings)
   where
     wanted_still : (p : Package) (mapping : Text) (e : Extension) → e ≢ mapping_extension mapping → IsWanted p.kinds p.relations e
         → IsWanted p.kinds (remove p.relations mapping) e
@@ -218,46 +174,27 @@ pub edition_put : (name : Text) → Keeps (commands.Edition name)
 edition_put name profile p moment stamp h within low is none =
     let r = none_holds (own_reasons p (commands.Edition name)) none in
     let free = none_of (get p.editions name) r.0 in
-    record {
-      q1 = h.q1;
-      q2 = h.q2;
-      q3 = h.q3;
-      q4 = record { of_tables = h.q4.of_tables; of_mappings = h.q4.of_mappings; of_editions = each_put texts p.editions name open_state (λ e _. IsName e) h.q4.of_editions within };
-      q5 = h.q5;
-      q6 = h.q6;
-      q7 = h.q7;
-      q8 = h.q8;
-      q9 = h.q9;
-      q10 = h.q10;
-      q11 = h.q11;
-      q12 = h.q12;
-      q13 = h.q13;
-      q14 = h.q14;
-      q15 = record {
-        states = each_put texts p.editions name open_state (λ _ s. (s ≡ open_state) ⊎ (s ≡ published_state)) h.q15.states (inl refl);
-        numbered = λ e f. elim (after_put texts p.editions name open_state e open_state f) as (λ _. (n : ℕ) × (n ≤ MostPieces) × IsNumbered p.pieces e n) [
-          | inl s ↦ (0, zero-le, λ number. (λ there. absurd (no_pieces p name free h.q15.of_open number (subst (λ t. Stands p.pieces (piece t number)) s.0 there)), λ range. absurd (nothing_between number range.0 range.1)))
-          | inr n ↦ h.q15.numbered e n.1
-        ];
-        of_open = λ k r e. kept_by_new texts p.editions name open_state (missing p name free) k.edition open_state (h.q15.of_open k r e);
-        spelled = h.q15.spelled;
-      };
-      q16 = (
-        h.q16.0,
-        h.q16.1,
-        h.q16.2,
-        h.q16.3,
-        h.q16.4,
-        h.q16.5,
-        h.q16.6,
-        h.q16.7,
-        h.q16.8,
-        h.q16.9,
-        h.q16.10,
-        each_put texts p.editions name open_state EditionWithin h.q16.11 (within, ascii_is_clean open_state refl refl),
-        h.q16.12,
-      );
-    }
+    with_editions profile p h _ _
+    (each_put texts p.editions name open_state (λ e _. IsName e) h.q4.of_editions within)
+    (record {
+      states = each_put texts p.editions name open_state (λ _ s. (s ≡ open_state) ⊎ (s ≡ published_state)) h.q15.states (inl refl);
+      numbered = λ e f. elim (after_put texts p.editions name open_state e open_state f) as (λ _. (n : ℕ) × (n ≤ MostPieces) × IsNumbered p.pieces e n) [
+        | inl s ↦ (
+          0,
+          zero-le,
+          λ number. (
+            λ there. absurd
+                (no_pieces p name free h.q15.of_open number (subst (λ t. Stands p.pieces (piece t number)) s.0 there)),
+            λ range. absurd (nothing_between number range.0 range.1),
+          ),
+        )
+        | inr n ↦ h.q15.numbered e n.1
+      ];
+      of_open = λ k r e. kept_by_new texts p.editions name open_state (missing p name free) k.edition open_state (h.q15.of_open k r e);
+      spelled = h.q15.spelled;
+    })
+    (each_put texts p.editions name open_state EditionWithin h.q16.editions (within, ascii_is_clean open_state refl refl))
+    h.q16.pieces
   where
     missing : (p : Package) (name : Text) → get p.editions name ≡ None → contains_key p.editions name ≡ false
     missing p name e = ap is_some e
@@ -280,40 +217,13 @@ numbered_still p name edition n other h number =
 pub discard : (name : Text) → Keeps (commands.Discard name)
 discard name profile p moment stamp h within low is none =
     let test : PieceKey → Bool = λ k. is_other name k.edition in
-    record {
-      q1 = h.q1;
-      q2 = h.q2;
-      q3 = h.q3;
-      q4 = record { of_tables = h.q4.of_tables; of_mappings = h.q4.of_mappings; of_editions = each_remove texts p.editions name (λ e _. IsName e) h.q4.of_editions };
-      q5 = h.q5;
-      q6 = h.q6;
-      q7 = h.q7;
-      q8 = h.q8;
-      q9 = h.q9;
-      q10 = h.q10;
-      q11 = h.q11;
-      q12 = h.q12;
-      q13 = h.q13;
-      q14 = h.q14;
-      q15 = record {
-        states = each_remove texts p.editions name (λ _ s. (s ≡ open_state) ⊎ (s ≡ published_state)) h.q15.states;
-        numbered = λ e f. let was = after_remove texts p.editions name e open_state f in let n = h.q15.numbered e was.1 in (n.0, n.1, numbered_still p name e n.0 was.0 n.2);
-        of_open = λ k r e. let was = after_retain piece_keys p.pieces test k r e in beside_remove texts p.editions name k.edition (other_tells name k.edition was.0) ∙ h.q15.of_open k r was.1;
-        spelled = each_retain piece_keys p.pieces test _ h.q15.spelled;
-      };
-      q16 = (
-        h.q16.0,
-        h.q16.1,
-        h.q16.2,
-        h.q16.3,
-        h.q16.4,
-        h.q16.5,
-        h.q16.6,
-        h.q16.7,
-        h.q16.8,
-        h.q16.9,
-        h.q16.10,
-        each_remove texts p.editions name EditionWithin h.q16.11,
-        each_retain piece_keys p.pieces test PieceWithin h.q16.12,
-      );
-    }
+    with_editions profile p h _ _
+    (each_remove texts p.editions name (λ e _. IsName e) h.q4.of_editions)
+    (record {
+      states = each_remove texts p.editions name (λ _ s. (s ≡ open_state) ⊎ (s ≡ published_state)) h.q15.states;
+      numbered = λ e f. let was = after_remove texts p.editions name e open_state f in let n = h.q15.numbered e was.1 in (n.0, n.1, numbered_still p name e n.0 was.0 n.2);
+      of_open = λ k r e. let was = after_retain piece_keys p.pieces test k r e in beside_remove texts p.editions name k.edition (other_tells name k.edition was.0) ∙ h.q15.of_open k r was.1;
+      spelled = each_retain piece_keys p.pieces test _ h.q15.spelled;
+    })
+    (each_remove texts p.editions name EditionWithin h.q16.editions)
+    (each_retain piece_keys p.pieces test PieceWithin h.q16.pieces)

@@ -1,11 +1,11 @@
 -- A package of millimetres that meets the rules meets them in micrometres.
-use Rattle.std.proofs.Common.{◌≡◌, ℤ, pos, ◌*ℤ◌, ◌-ℤ◌, ◌<ℤ◌, List, Option, Some, None, IfSome, is_some, option_map, refl, sym, ap, ap₂, subst, ◌∙◌}
+use Rattle.std.proofs.Common.{◌≡◌, ℤ, ◌*ℤ◌, ◌<ℤ◌, Option, Some, None, IfSome, is_some, option_map, refl, sym, ap, subst, ◌∙◌}
 use Rattle.std.specs.FinMap.{get}
 use Rattle.mm_definitions.specs.Bounds.{IsCoordinate, millimetres, micrometres}
-use Rattle.mm_definitions.specs.Keys.{Text, Level, TileKey, level, text_cmp, level_cmp}
-use Rattle.mm_definitions.specs.Parts.{Each, Has}
+use Rattle.mm_definitions.specs.Keys.{Text, Level, level, text_cmp, level_cmp}
 use Rattle.mm_definitions.specs.Package.{Package, Contents, Box, MatrixSet, Grid}
-use Rattle.mm_definitions.specs.Rules.{Meets, Suits, IsUnplaced, IsPlaced, IsPlacedAt, IsOrdered, Fits, FitsIn, IsFiner, IsHalved, IsInside, ContentsWithin, SetWithin, MatrixWithin, MayName}
+use Rattle.mm_definitions.specs.Rules.{Meets, Suits, IsUnplaced, IsPlaced, IsOrdered, Fits, FitsIn}
+use Rattle.mm_definitions.specs.Rules.{IsFiner, IsHalved, IsInside, ContentsWithin, SetWithin, MatrixWithin, MayName}
 use Rattle.mm_definitions.specs.Within.{IsPieceWithin, IsMatrixWithin, Takes}
 use Rattle.mm_definitions.specs.declared.commands.Matrix.{Matrix}
 use Rattle.mm_definitions.specs.declared.commands.Piece.{Piece}
@@ -144,7 +144,9 @@ module _ (p : Package) where
   scaled h = record {
     q1 = h.q1;
     q2 = record {
-      of_contents = each_changed finer_contents p.contents (λ table c. IfSome c.system (MayName p.systems p.kinds table)) (λ table c. IfSome c.system (MayName p.systems p.kinds table)) (λ table c same. same) h.q2.of_contents;
+      of_contents = each_changed finer_contents p.contents
+          (λ table c. IfSome c.system (MayName p.systems p.kinds table))
+          (λ table c. IfSome c.system (MayName p.systems p.kinds table)) (λ table c same. same) h.q2.of_contents;
       of_sets = each_changed finer_set p.sets (λ table s. MayName p.systems p.kinds table s.system) (λ table s. MayName p.systems p.kinds table s.system) (λ table s same. same) h.q2.of_sets;
     };
     q3 = λ table c e other d f same.
@@ -165,8 +167,13 @@ module _ (p : Package) where
       of_sets = λ table s e. let one = from finer_set p.sets table s e in still_stands table ∙ h.q5.of_sets table one.0 one.1;
     };
     q6 = record {
-      of_sets = each_changed finer_set p.sets (λ _ s. (s.box.min_x <ℤ s.box.max_x) × (s.box.min_y <ℤ s.box.max_y)) (λ _ s. (s.box.min_x <ℤ s.box.max_x) × (s.box.min_y <ℤ s.box.max_y)) (λ _ s both. (units.less s.box.min_x s.box.max_x both.0, units.less s.box.min_y s.box.max_y both.1)) h.q6.of_sets;
-      of_contents = each_changed finer_contents p.contents (λ _ c. IsOrdered c.min_x c.max_x × IsOrdered c.min_y c.max_y) (λ _ c. IsOrdered c.min_x c.max_x × IsOrdered c.min_y c.max_y) (λ _ c both. (ordered c.min_x c.max_x both.0, ordered c.min_y c.max_y both.1)) h.q6.of_contents;
+      of_sets = each_changed finer_set p.sets (λ _ s. (s.box.min_x <ℤ s.box.max_x) × (s.box.min_y <ℤ s.box.max_y))
+          (λ _ s. (s.box.min_x <ℤ s.box.max_x) × (s.box.min_y <ℤ s.box.max_y))
+          (λ _ s both. (units.less s.box.min_x s.box.max_x both.0, units.less s.box.min_y s.box.max_y both.1)) h.q6.of_sets;
+      of_contents = each_changed finer_contents p.contents
+          (λ _ c. IsOrdered c.min_x c.max_x × IsOrdered c.min_y c.max_y)
+          (λ _ c. IsOrdered c.min_x c.max_x × IsOrdered c.min_y c.max_y)
+          (λ _ c both. (ordered c.min_x c.max_x both.0, ordered c.min_y c.max_y both.1)) h.q6.of_contents;
     };
     q7 = λ k g e.
         let one = from finer_grid p.matrices k g e in
@@ -199,19 +206,19 @@ module _ (p : Package) where
       of_open = h.q15.of_open;
       spelled = λ k r e. let was = h.q15.spelled k r e in (was.0, was.1, piece_within was.0 was.2, piece_taken was.0 was.3);
     };
-    q16 = (
-      h.q16.0,
-      each_changed finer_contents p.contents (ContentsWithin millimetres) (ContentsWithin micrometres) contents_within h.q16.1,
-      h.q16.2,
-      each_changed finer_set p.sets (SetWithin millimetres) (SetWithin micrometres) set_within h.q16.3,
-      each_changed finer_grid p.matrices (MatrixWithin millimetres) (MatrixWithin micrometres) matrix_within h.q16.4,
-      h.q16.5,
-      h.q16.6,
-      h.q16.7,
-      h.q16.8,
-      h.q16.9,
-      h.q16.10,
-      h.q16.11,
-      h.q16.12,
-    );
+    q16 = record {
+      systems = h.q16.systems;
+      contents = each_changed finer_contents p.contents (ContentsWithin millimetres) (ContentsWithin micrometres) contents_within h.q16.contents;
+      kinds = h.q16.kinds;
+      sets = each_changed finer_set p.sets (SetWithin millimetres) (SetWithin micrometres) set_within h.q16.sets;
+      matrices = each_changed finer_grid p.matrices (MatrixWithin millimetres) (MatrixWithin micrometres) matrix_within h.q16.matrices;
+      extensions = h.q16.extensions;
+      tiles = h.q16.tiles;
+      rows = h.q16.rows;
+      media = h.q16.media;
+      relations = h.q16.relations;
+      pairings = h.q16.pairings;
+      editions = h.q16.editions;
+      pieces = h.q16.pieces;
+    };
   }

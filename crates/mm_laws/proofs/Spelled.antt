@@ -1,12 +1,14 @@
 -- The fields of a record spell one command at most, and nothing is against fields that spell one.
-use Rattle.std.proofs.Common.{◌≡◌, ◌∙◌, inl, inr, ℕ, zero, suc, ℤ, pos, List, [], ◌∷◌, Option, None, Some, Result, Ok, refl, sym, ap, arith}
+use Rattle.std.proofs.Common.{◌≡◌, ◌∙◌, inl, inr, ℕ, zero, suc, ℤ, pos, List, [], ◌∷◌, Option, None, Some, refl, sym, ap, arith}
 use Rattle.std.specs.Prelude.{codes, bytes_eq, if◌then◌else◌, unsigned_abs}
 use Rattle.hex.specs.Hex.{decode_of}
-use Rattle.hex.specs.declared.error.FromHexError.{FromHexError}
 use Rattle.mm_definitions.specs.Keys.{Text}
 use Rattle.mm_definitions.specs.Bounds.{Profile}
-use Rattle.mm_definitions.specs.Fields.{Field, OneOf, NumberFrom, BytesTo, TextOf, AnIdentifier, AContentType, AName, Value, Whole, Plain, HoldsValue, IsAgainst, AllHold, IsAgainstSome}
-use Rattle.mm_definitions.specs.Records.{Form, IsLeast, IsMet, IsUnmet, Spells, HoldsAgainst, SpellsPiece, HoldsAgainstPiece, record_form, piece_form, command_word, command_values, piece_word, piece_values}
+use Rattle.mm_definitions.specs.Fields.{Field, OneOf, NumberFrom, BytesTo, TextOf, AnIdentifier, AContentType, AName}
+use Rattle.mm_definitions.specs.Fields.{Value, Whole, Plain, HoldsValue, IsAgainst, AllHold, IsAgainstSome}
+use Rattle.mm_definitions.specs.Records.{Form, IsLeast, IsMet, IsUnmet, Spells, HoldsAgainst, SpellsPiece}
+use Rattle.mm_definitions.specs.Records.{HoldsAgainstPiece, record_form, piece_form, command_word, command_values}
+use Rattle.mm_definitions.specs.Records.{piece_word, piece_values}
 use Rattle.mm_definitions.specs.Pieces.{piece_command}
 use Rattle.mm_definitions.specs.declared.commands.Step.{Step}
 use Rattle.mm_definitions.specs.declared.commands.Step.TheVariants as steps
@@ -20,13 +22,10 @@ use Rattle.mm_definitions.specs.declared.commands.Piece.TheVariants as pieces
 use Rattle.mm_definitions.specs.declared.commands.Piece.TheVariants.{Tile, TileDrop, Row, RowDrop, Media, MediaDrop, Map, MapDrop}
 use Rattle.mm_definitions.specs.declared.commands.Command.{Command}
 use Rattle.mm_definitions.specs.declared.commands.Command.TheVariants as commands
-use Rattle.mm_definitions.proofs.ReadingFacts.{spells_one, none_against}
+use Rattle.mm_definitions.proofs.ReadingFacts.{spells_one, none_against, one_value}
 use Rattle.mm_laws.specs.Laws.{IsReadingNumber}
 
 -- ---- a field holds one value
-bytes_one : (r : Result (List ℕ) FromHexError) (a b : List ℕ) → r ≡ Ok a → r ≡ Ok b → a ≡ b
-bytes_one r a b e f = cc
-
 holds_one : (f : Field) (t : Text) (v w : Value) → HoldsValue f t v → HoldsValue f t w → v ≡ w
 holds_one (OneOf words) t (Plain v) (Plain w) h k = ap Plain (h.0 ∙ sym k.0)
 holds_one (OneOf words) t (Plain v) (Whole z) h k = absurd k
@@ -34,7 +33,7 @@ holds_one (OneOf words) t (Whole y) w h k = absurd h
 holds_one (NumberFrom low high) t (Whole y) (Whole z) h k = ap Whole (spells_one t y z h.0 k.0)
 holds_one (NumberFrom low high) t (Whole y) (Plain w) h k = absurd k
 holds_one (NumberFrom low high) t (Plain v) w h k = absurd h
-holds_one (BytesTo most) t (Plain v) (Plain w) h k = ap Plain (bytes_one (decode_of t) v w h.0 k.0)
+holds_one (BytesTo most) t (Plain v) (Plain w) h k = ap Plain (one_value (decode_of t) v w h.0 k.0)
 holds_one (BytesTo most) t (Plain v) (Whole z) h k = absurd k
 holds_one (BytesTo most) t (Whole y) w h k = absurd h
 holds_one (TextOf least most) t (Plain v) (Plain w) h k = ap Plain (h.0 ∙ sym k.0)
@@ -121,7 +120,8 @@ piece_of word vs =
 abbrev pub command_of : Text → List Value → Command
 command_of word vs =
     if bytes_eq word (codes "srs") then commands.Srs (number_of vs 0) (text_of vs 1) (text_of vs 2) (number_of vs 3) (text_of vs 4) (text_of vs 5) else
-    (if bytes_eq word (codes "pyramid") then commands.Pyramid (text_of vs 0) (text_of vs 1) (number_of vs 2) (number_of vs 3) (number_of vs 4) (number_of vs 5) (number_of vs 6) (step_of (text_of vs 7)) else
+    (if bytes_eq word (codes "pyramid") then commands.Pyramid (text_of vs 0) (text_of vs 1) (number_of vs 2)
+    (number_of vs 3) (number_of vs 4) (number_of vs 5) (number_of vs 6) (step_of (text_of vs 7)) else
     (if bytes_eq word (codes "table") then commands.Table (text_of vs 0) (kind_of (text_of vs 1)) (text_of vs 2) else
     (if bytes_eq word (codes "drop") then commands.Drop (text_of vs 0) else
     (if bytes_eq word (codes "relation") then commands.Relation (text_of vs 0) (text_of vs 1) (text_of vs 2) (relation_of (text_of vs 3)) else

@@ -1,5 +1,6 @@
 -- A piece that is staged keeps the rules.
-use Rattle.std.proofs.Common.{◌≡◌, ◌≢◌, ℕ, ◌+◌, ◌≤◌, max, ℤ, pos, ◌≤ℤ◌, Bool, true, false, not, ◌&&◌, ◌==◌, int_lt, int_le, unsigned_abs, Some, refl, sym, ap, subst, ◌∙◌, inl, inr, is_some, arith}
+use Rattle.std.proofs.Common.{◌≡◌, ◌≢◌, ℕ, ◌+◌, ◌≤◌, max, ℤ, pos, ◌≤ℤ◌, Bool, true, false, not, ◌&&◌, ◌==◌, int_lt}
+use Rattle.std.proofs.Common.{int_le, unsigned_abs, Some, refl, sym, ap, subst, ◌∙◌, inl, inr, is_some, arith}
 use Rattle.std.proofs.lemmas.Int.{ints}
 use Rattle.std.proofs.lemmas.Bool.Decides.{nat_tests}
 use Rattle.std.specs.FinMap.{get, contains_key, insert}
@@ -18,6 +19,7 @@ use Rattle.mm_laws.proofs.Kept.{Keeps}
 use Rattle.mm_laws.proofs.Reasons.{none_holds, not_false, and_false, stands_where}
 use Rattle.mm_laws.proofs.KindFacts.{are_same, at_true}
 use Rattle.mm_laws.proofs.Counted.{piece_count-is}
+use Rattle.mm_laws.proofs.OnePart.{with_editions}
 
 within_more : (n u : ℕ) (z : ℤ) → z ≤ℤ pos n → z ≤ℤ pos (max n u)
 within_more n u z h = omega (arith, ints)
@@ -89,50 +91,25 @@ stage edition number q profile p moment stamp h within low is none =
     let n = h.q15.numbered edition has in
     let count : piece_count p edition ≡ n.0 = piece_count-is p edition n.0 n.2 in
     let next : number ≤ℤ pos (n.0 + 1) = at_most_next n.0 number (ap (λ c. int_lt (pos (c + 1)) number) (sym count)
-    ∙ (either_false (int_lt (pos (piece_count p edition + 1)) number) (int_le number (pos (piece_count p edition)) && not (has_equal_piece p edition number q)) (and_false (is_open p edition) _ r.1.0 opened)).0) in
+    ∙ (either_false (int_lt (pos (piece_count p edition + 1)) number)
+    (int_le number (pos (piece_count p edition)) && not (has_equal_piece p edition number q))
+    (and_false (is_open p edition) _ r.1.0 opened)).0) in
     let u = unsigned_abs number in
     let is_whole : number ≡ pos u = whole number within.1.0 in
     let room : max n.0 u ≤ MostPieces = still_room n.0 u number n.1 is_whole next (ap (λ c. same_number number (pos (c + 1)) && (c == MostPieces)) (sym count)
     ∙ and_assoc (is_open p edition) (same_number number (pos (piece_count p edition + 1))) (piece_count p edition == MostPieces) r.1.1.0 opened) in
     let key = piece edition number in
     let row = piece_row q in
-    record {
-      q1 = h.q1;
-      q2 = h.q2;
-      q3 = h.q3;
-      q4 = h.q4;
-      q5 = h.q5;
-      q6 = h.q6;
-      q7 = h.q7;
-      q8 = h.q8;
-      q9 = h.q9;
-      q10 = h.q10;
-      q11 = h.q11;
-      q12 = h.q12;
-      q13 = h.q13;
-      q14 = h.q14;
-      q15 = record {
-        states = h.q15.states;
-        numbered = λ e f. elim (same_key texts e edition) as (λ _. (m : ℕ) × (m ≤ MostPieces) × IsNumbered (insert p.pieces key row) e m) [
-          | inl s ↦ (max n.0 u, room, subst (λ t. IsNumbered (insert p.pieces key row) t (max n.0 u)) (sym s.0) (numbered_more p.pieces edition number u n.0 row is_whole within.1.0 next n.2))
-          | inr s ↦ let m = h.q15.numbered e f in (m.0, m.1, numbered_beside p.pieces edition e number m.0 row s.0 m.2)
-        ];
-        of_open = each_put piece_keys p.pieces key row (λ k _. Has p.editions k.edition open_state) h.q15.of_open has;
-        spelled = each_put piece_keys p.pieces key row (λ _ s. IsSpelled profile s) h.q15.spelled (q, refl, within.2, within.3);
-      };
-      q16 = (
-        h.q16.0,
-        h.q16.1,
-        h.q16.2,
-        h.q16.3,
-        h.q16.4,
-        h.q16.5,
-        h.q16.6,
-        h.q16.7,
-        h.q16.8,
-        h.q16.9,
-        h.q16.10,
-        h.q16.11,
-        each_put piece_keys p.pieces key row PieceWithin h.q16.12 (within.0, within.1),
-      );
-    }
+    with_editions profile p h _ _
+    h.q4.of_editions
+    (record {
+      states = h.q15.states;
+      numbered = λ e f. elim (same_key texts e edition) as (λ _. (m : ℕ) × (m ≤ MostPieces) × IsNumbered (insert p.pieces key row) e m) [
+        | inl s ↦ (max n.0 u, room, subst (λ t. IsNumbered (insert p.pieces key row) t (max n.0 u)) (sym s.0) (numbered_more p.pieces edition number u n.0 row is_whole within.1.0 next n.2))
+        | inr s ↦ let m = h.q15.numbered e f in (m.0, m.1, numbered_beside p.pieces edition e number m.0 row s.0 m.2)
+      ];
+      of_open = each_put piece_keys p.pieces key row (λ k _. Has p.editions k.edition open_state) h.q15.of_open has;
+      spelled = each_put piece_keys p.pieces key row (λ _ s. IsSpelled profile s) h.q15.spelled (q, refl, within.2, within.3);
+    })
+    h.q16.editions
+    (each_put piece_keys p.pieces key row PieceWithin h.q16.pieces (within.0, within.1))

@@ -45,19 +45,27 @@ srs id name organization organization_id definition description profile p moment
       q13 = h.q13;
       q14 = h.q14;
       q15 = h.q15;
-      q16 = (
-        each_put numbers p.systems id system SystemWithin h.q16.0 (record { numbers = inl (within.0, within.3); name = within.1; organization = within.2; definition = within.4; description = within.5 }),
-        h.q16.1,
-        h.q16.2,
-        h.q16.3,
-        h.q16.4,
-        h.q16.5,
-        h.q16.6,
-        h.q16.7,
-        h.q16.8,
-        h.q16.9,
-        h.q16.10,
-        h.q16.11,
-        h.q16.12,
-      );
+      q16 = record {
+        systems = each_put numbers p.systems id system SystemWithin h.q16.systems
+            (record {
+              numbers = inl (within.0, within.3);
+              name = within.1;
+              organization = within.2;
+              definition =
+                  within.4;
+              description = within.5;
+            });
+        contents = h.q16.contents;
+        kinds = h.q16.kinds;
+        sets = h.q16.sets;
+        matrices = h.q16.matrices;
+        extensions = h.q16.extensions;
+        tiles = h.q16.tiles;
+        rows = h.q16.rows;
+        media = h.q16.media;
+        relations = h.q16.relations;
+        pairings = h.q16.pairings;
+        editions = h.q16.editions;
+        pieces = h.q16.pieces;
+      };
     }

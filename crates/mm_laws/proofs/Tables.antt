@@ -1,12 +1,15 @@
 -- A pyramid or another table that is put keeps the rules.
-use Rattle.std.proofs.Common.{◌≡◌, ◌≢◌, ℕ, ℤ, pos, ◌<ℤ◌, true, false, [], Option, Some, None, IfSome, int_le, codes, refl, sym, ap, subst, ◌∙◌, ◌⊎◌, inl, inr, is_some, arith}
+use Rattle.std.proofs.Common.{◌≡◌, ◌≢◌, ℕ, ℤ, pos, ◌<ℤ◌, true, false, [], Option, Some, None, IfSome, int_le, codes}
+use Rattle.std.proofs.Common.{refl, sym, ap, subst, ◌∙◌, ◌⊎◌, inl, inr, is_some, arith}
 use Rattle.std.proofs.lemmas.Int.{ints}
 use Rattle.std.specs.FinMap.{FinMap, get, contains_key, insert}
 use Rattle.mm_definitions.specs.Keys.{Text, text_cmp, same_text, same_number, level, Extension, extension_cmp}
 use Rattle.mm_definitions.specs.Parts.{Each, Has, Stands}
 use Rattle.mm_definitions.specs.Package.{Package, Contents, Box, MatrixSet, Kinds, kind_text, HasKind, IsPyramid, Relation, zoom_extension}
 use Rattle.mm_definitions.specs.Bounds.{Profile, IsName}
-use Rattle.mm_definitions.specs.Rules.{Meets, MayName, IsHalved, IsUnplaced, IsPlaced, IsPlacedAt, IsOrdered, Suits, FitsIn, IsSuited, IsWanted, ExactExtensions, DistinctIdentifiers, ContentsWithin, KindWithin, SetWithin, ExtensionWithin}
+use Rattle.mm_definitions.specs.Rules.{Meets, MayName, IsHalved, IsUnplaced, IsPlaced, IsPlacedAt, IsOrdered, Suits}
+use Rattle.mm_definitions.specs.Rules.{FitsIn, IsSuited, IsWanted, ExactExtensions, DistinctIdentifiers}
+use Rattle.mm_definitions.specs.Rules.{ContentsWithin, KindWithin, SetWithin, ExtensionWithin}
 use Rattle.mm_definitions.specs.Conditions.{own_reasons, is_identified}
 use Rattle.mm_definitions.specs.Effects.{with_pyramid, with_zoom_row, step_kind, plain_kind}
 use Rattle.mm_definitions.specs.declared.commands.Kind.{Kind}
@@ -16,7 +19,8 @@ use Rattle.mm_definitions.specs.declared.commands.Step.TheVariants as steps
 use Rattle.mm_definitions.specs.declared.commands.PlainKind.{PlainKind}
 use Rattle.mm_definitions.specs.declared.commands.PlainKind.TheVariants as plain
 use Rattle.mm_definitions.specs.declared.commands.Command.TheVariants as commands
-use Rattle.mm_definitions.proofs.Parts.{each_put, stands_after_put, after_put, kept_by_new, at_put, beside_put, no_entry, either_false, same_itself, same_key, none_of}
+use Rattle.mm_definitions.proofs.Parts.{each_put, stands_after_put, after_put, kept_by_new, at_put, beside_put}
+use Rattle.mm_definitions.proofs.Parts.{no_entry, either_false, same_itself, same_key, none_of}
 use Rattle.mm_definitions.proofs.CleanTexts.{ascii_is_clean, name_is_clean}
 use Rattle.mm_definitions.proofs.KeyLaws.{numbers, texts, extension_keys}
 use Rattle.mm_laws.proofs.Kept.{Keeps}
@@ -65,7 +69,8 @@ module _ (profile : Profile) (p : Package) (h : Meets profile p) (table : Text) 
   kind_stays t k e = kept_by_new texts p.kinds table (kind_text kind) kind_free t (kind_text k) e
 
   kind_was : (t : Text) (k : Kind) → HasKind next_kinds t k → ((t ≡ table) × (kind_text kind ≡ kind_text k)) ⊎ HasKind p.kinds t k
-  kind_was t k e = elim (after_put texts p.kinds table (kind_text kind) t (kind_text k) e) as (λ _. ((t ≡ table) × (kind_text kind ≡ kind_text k)) ⊎ HasKind p.kinds t k) [ inl s ↦ inl s | inr n ↦ inr n.1 ]
+  kind_was t k e = elim (after_put texts p.kinds table (kind_text kind) t (kind_text k) e) as (λ _.
+      ((t ≡ table) × (kind_text kind ≡ kind_text k)) ⊎ HasKind p.kinds t k) [ inl s ↦ inl s | inr n ↦ inr n.1 ]
 
   pyramid_stays : (t : Text) → IsPyramid p.kinds t → IsPyramid next_kinds t
   pyramid_stays t e = elim e as (λ _. IsPyramid next_kinds t) [ inl a ↦ inl (kind_stays t kinds.Two a) | inr b ↦ inr (kind_stays t kinds.Other b) ]
@@ -93,10 +98,14 @@ module _ (profile : Profile) (p : Package) (h : Meets profile p) (table : Text) 
       elim (after_put texts p.contents table row t c e) as (λ _. t ≡ u) [
         | inl a ↦ elim (after_put texts p.contents table row u d f) as (λ _. t ≡ u) [
           | inl b ↦ a.0 ∙ sym b.0
-          | inr b ↦ absurd (differ d.identifier row.identifier (no_entry texts (λ _ x. same_text x.identifier row.identifier) p.contents named u d b.1) (sym (ap (λ (x : Contents). x.identifier) a.1 ∙ same)))
+          | inr b ↦ absurd (differ d.identifier row.identifier
+              (no_entry texts (λ _ x. same_text x.identifier row.identifier) p.contents named u d b.1)
+              (sym (ap (λ (x : Contents). x.identifier) a.1 ∙ same)))
         ]
         | inr a ↦ elim (after_put texts p.contents table row u d f) as (λ _. t ≡ u) [
-          | inl b ↦ absurd (differ c.identifier row.identifier (no_entry texts (λ _ x. same_text x.identifier row.identifier) p.contents named t c a.1) (same ∙ sym (ap (λ (x : Contents). x.identifier) b.1)))
+          | inl b ↦ absurd (differ c.identifier row.identifier
+              (no_entry texts (λ _ x. same_text x.identifier row.identifier) p.contents named t c a.1)
+              (same ∙ sym (ap (λ (x : Contents). x.identifier) b.1)))
           | inr b ↦ h.q3 t c a.1 u d b.1 same
         ]
       ]
@@ -209,21 +218,21 @@ module _ (profile : Profile) (p : Package) (h : Meets profile p) (table : Text) 
     q13 = h.q13;
     q14 = s.exact;
     q15 = h.q15;
-    q16 = (
-      h.q16.0,
-      each_put texts p.contents table row (ContentsWithin profile) h.q16.1 s.limits,
-      each_put texts p.kinds table (kind_text kind) KindWithin h.q16.2 (s.name, kind_is_clean kind),
-      s.set_limits,
-      h.q16.4,
-      s.extension_limits,
-      h.q16.6,
-      h.q16.7,
-      h.q16.8,
-      h.q16.9,
-      h.q16.10,
-      h.q16.11,
-      h.q16.12,
-    );
+    q16 = record {
+      systems = h.q16.systems;
+      contents = each_put texts p.contents table row (ContentsWithin profile) h.q16.contents s.limits;
+      kinds = each_put texts p.kinds table (kind_text kind) KindWithin h.q16.kinds (s.name, kind_is_clean kind);
+      sets = s.set_limits;
+      matrices = h.q16.matrices;
+      extensions = s.extension_limits;
+      tiles = h.q16.tiles;
+      rows = h.q16.rows;
+      media = h.q16.media;
+      relations = h.q16.relations;
+      pairings = h.q16.pairings;
+      editions = h.q16.editions;
+      pieces = h.q16.pieces;
+    };
   }
 
 -- ---- a pyramid
@@ -237,20 +246,43 @@ pub table_put : (table : Text) (kind : PlainKind) (identifier : Text) → Keeps 
 table_put table kind identifier profile p moment stamp h within low is none =
     let r = none_holds (own_reasons p (commands.Table table kind identifier)) none in
     let taken = either_false (contains_key p.contents table) (contains_key p.relations table) r.0 in
-    let row : Contents = record { data_type = codes "attributes"; identifier = identifier; description = []; last_change = stamp; min_x = None; min_y = None; max_x = None; max_y = None; system = None } in
+    let row : Contents = record {
+      data_type = codes "attributes";
+      identifier = identifier;
+      description = [];
+      last_change = stamp;
+      min_x = None;
+      min_y = None;
+      max_x = None;
+      max_y = None;
+      system = None;
+    } in
     let absent : get p.sets table ≡ None = none_of (get p.sets table) (set_free profile p h table row (plain_kind kind) taken.0 taken.1 r.1.0) in
     keeps_with profile p h table row (plain_kind kind) taken.0 taken.1 r.1.0 p.sets p.extensions (record {
       name = within.0;
       suits = unplaced kind row (get p.sets table) (refl, refl, refl, refl, refl, refl, absent);
       system = tt;
       ordered = (tt, tt);
-      limits = record { table = within.0; data_type = ascii_is_clean (codes "attributes") refl refl; identifier = within.1; description = refl; last_change = (moment, low, is); min_x = tt; min_y = tt; max_x = tt; max_y = tt; system = tt };
+      limits = record {
+        table = within.0;
+        data_type = ascii_is_clean (codes "attributes") refl refl;
+        identifier =
+            within.1;
+        description = refl;
+        last_change = (moment, low, is);
+        min_x = tt;
+        min_y = tt;
+        max_x = tt;
+        max_y =
+            tt;
+        system = tt;
+      };
       beside = λ t n. refl;
       set_systems = set_may_still profile p h table row (plain_kind kind) taken.0 taken.1 r.1.0;
       set_tables = λ t s e. stands_after_put texts p.contents table row t (h.q5.of_sets t s e);
       set_extents = h.q6.of_sets;
-      set_limits = h.q16.3;
-      extension_limits = h.q16.5;
+      set_limits = h.q16.sets;
+      extension_limits = h.q16.extensions;
       exact = plain_extensions profile p h table row (plain_kind kind) taken.0 taken.1 r.1.0 (not_other kind);
     })
   where
@@ -271,11 +303,25 @@ pyramid_put table identifier srs min_x min_y max_x max_y step profile p moment s
     let named = r.1.1.1.0 in
     let extent = either_false (int_le max_x min_x) (int_le max_y min_y) r.1.1.1.1.0 in
     let box : Box = record { min_x = min_x; min_y = min_y; max_x = max_x; max_y = max_y } in
-    let row : Contents = record { data_type = codes "tiles"; identifier = identifier; description = []; last_change = stamp; min_x = Some min_x; min_y = Some min_y; max_x = Some max_x; max_y = Some max_y; system = Some srs } in
+    let row : Contents = record {
+      data_type = codes "tiles";
+      identifier = identifier;
+      description = [];
+      last_change =
+          stamp;
+      min_x = Some min_x;
+      min_y = Some min_y;
+      max_x = Some max_x;
+      max_y = Some max_y;
+      system = Some srs;
+    } in
     let set : MatrixSet = record { system = srs; box = box } in
     let sets = insert p.sets table set in
-    let may : MayName p.systems (insert p.kinds table (kind_text (step_kind step))) table srs = (not_false (contains_key p.systems srs) r.0, λ _. (not_number srs (pos 0) plane.0, not_number srs (pos 4326) plane.1)) in
-    let suits : (kind : Step) → Suits (step_kind kind) row (get sets table) = placed row set (get sets table) (at_put texts p.sets table set) (record { data_type = refl; system = refl; min_x = refl; min_y = refl; max_x = refl; max_y = refl }) in
+    let may : MayName p.systems (insert p.kinds table (kind_text (step_kind step))) table srs =
+    (not_false (contains_key p.systems srs) r.0, λ _. (not_number srs (pos 0) plane.0, not_number srs (pos 4326) plane.1)) in
+    let suits : (kind : Step) → Suits (step_kind kind) row (get sets table) =
+    placed row set (get sets table) (at_put texts p.sets table set)
+    (record { data_type = refl; system = refl; min_x = refl; min_y = refl; max_x = refl; max_y = refl }) in
     let suited : (extensions : FinMap extension_cmp ℕ) → ExactExtensions (insert p.kinds table (kind_text (step_kind step))) p.relations extensions
     → Each extensions ExtensionWithin
     → Suited profile p h table row (step_kind step) taken.0 taken.1 named sets extensions = λ extensions exact limits. record {
@@ -283,21 +329,44 @@ pyramid_put table identifier srs min_x min_y max_x max_y step profile p moment s
       suits = suits step;
       system = may;
       ordered = (less min_x max_x extent.0, less min_y max_y extent.1);
-      limits = record { table = within.0; data_type = ascii_is_clean (codes "tiles") refl refl; identifier = within.1; description = refl; last_change = (moment, low, is); min_x = within.3; min_y = within.4; max_x = within.5; max_y = within.6; system = within.2 };
+      limits = record {
+        table = within.0;
+        data_type = ascii_is_clean (codes "tiles") refl refl;
+        identifier =
+            within.1;
+        description = refl;
+        last_change = (moment, low, is);
+        min_x = within.3;
+        min_y = within.4;
+        max_x =
+            within.5;
+        max_y = within.6;
+        system = within.2;
+      };
       beside = λ t n. beside_put texts p.sets table set t n;
       set_systems = each_put texts p.sets table set (λ t s. MayName p.systems (insert p.kinds table (kind_text (step_kind step))) t s.system)
           (set_may_still profile p h table row (step_kind step) taken.0 taken.1 named) may;
-      set_tables = each_put texts p.sets table set (λ t _. Stands (insert p.contents table row) t) (λ t s e. stands_after_put texts p.contents table row t (h.q5.of_sets t s e)) (ap is_some (at_put texts p.contents table row));
+      set_tables = each_put texts p.sets table set (λ t _. Stands (insert p.contents table row) t)
+          (λ t s e. stands_after_put texts p.contents table row t (h.q5.of_sets t s e))
+          (ap is_some (at_put texts p.contents table row));
       set_extents = each_put texts p.sets table set (λ _ s. (s.box.min_x <ℤ s.box.max_x) × (s.box.min_y <ℤ s.box.max_y)) h.q6.of_sets (less min_x max_x extent.0, less min_y max_y extent.1);
-      set_limits = each_put texts p.sets table set (SetWithin profile) h.q16.3 (record { table = within.0; system = within.2; box = record { min_x = within.3; min_y = within.4; max_x = within.5; max_y = within.6 } });
+      set_limits = each_put texts p.sets table set (SetWithin profile) h.q16.sets
+          (record {
+            table = within.0;
+            system = within.2;
+            box =
+                record { min_x = within.3; min_y = within.4; max_x = within.5; max_y = within.6 };
+          });
       extension_limits = limits;
       exact = exact;
     } in
     by_step step (λ s. Meets profile (with_zoom_row (with_pyramid p table identifier srs box step stamp) table s))
-    (λ e. keeps_with profile p h table row (step_kind step) taken.0 taken.1 named sets p.extensions (suited p.extensions (plain_extensions profile p h table row (step_kind step) taken.0 taken.1 named (is_two step e)) h.q16.5))
+    (λ e. keeps_with profile p h table row (step_kind step) taken.0 taken.1 named sets p.extensions
+    (suited p.extensions (plain_extensions profile p h table row (step_kind step) taken.0 taken.1 named
+    (is_two step e)) h.q16.extensions))
     (λ e. keeps_with profile p h table row (step_kind step) taken.0 taken.1 named sets (insert p.extensions (zoom_extension table) 1)
     (suited (insert p.extensions (zoom_extension table) 1) (other_extensions profile p h table row (step_kind step) taken.0 taken.1 named (is_other step e))
-    (each_put extension_keys p.extensions (zoom_extension table) 1 ExtensionWithin h.q16.5 (record {
+    (each_put extension_keys p.extensions (zoom_extension table) 1 ExtensionWithin h.q16.extensions (record {
       table = name_is_clean table within.0;
       column = ascii_is_clean (codes "tile_data") refl refl;
       name = ascii_is_clean (zoom_extension table).name refl refl;

@@ -82,9 +82,9 @@ touched_row_keeps profile p table stamp moment low is (Some row) was h =
       q13 = h.q13;
       q14 = h.q14;
       q15 = h.q15;
-      q16 = (
-        h.q16.0,
-        each (ContentsWithin profile) (λ _ b x. record {
+      q16 = record {
+        systems = h.q16.systems;
+        contents = each (ContentsWithin profile) (λ _ b x. record {
           table = x.table;
           data_type = x.data_type;
           identifier = x.identifier;
@@ -95,19 +95,19 @@ touched_row_keeps profile p table stamp moment low is (Some row) was h =
           max_x = x.max_x;
           max_y = x.max_y;
           system = x.system;
-        }) h.q16.1,
-        h.q16.2,
-        h.q16.3,
-        h.q16.4,
-        h.q16.5,
-        h.q16.6,
-        h.q16.7,
-        h.q16.8,
-        h.q16.9,
-        h.q16.10,
-        h.q16.11,
-        h.q16.12,
-      );
+        }) h.q16.contents;
+        kinds = h.q16.kinds;
+        sets = h.q16.sets;
+        matrices = h.q16.matrices;
+        extensions = h.q16.extensions;
+        tiles = h.q16.tiles;
+        rows = h.q16.rows;
+        media = h.q16.media;
+        relations = h.q16.relations;
+        pairings = h.q16.pairings;
+        editions = h.q16.editions;
+        pieces = h.q16.pieces;
+      };
     }
 
 -- a change of one table's last_change keeps all the rules

@@ -1,8 +1,9 @@
 -- Numbers in the smaller unit.
-use Rattle.std.proofs.Common.{◌≡◌, ◌≢◌, ◌⊎◌, inl, inr, ℕ, zero, suc, ◌*◌, ◌^◌, ℤ, pos, negsuc, neg_ℤ, ◌+ℤ◌, ◌-ℤ◌, ◌*ℤ◌, ◌≤ℤ◌, ◌<ℤ◌, Option, Some, None, option_map, refl, sym, ap, subst, ◌∙◌, arith}
+use Rattle.std.proofs.Common.{◌≡◌, zero, suc, ℤ, pos, negsuc, ◌+ℤ◌, ◌-ℤ◌}
+use Rattle.std.proofs.Common.{◌*ℤ◌, ◌<ℤ◌, sym, ap, ◌∙◌, arith}
 use Rattle.std.proofs.lemmas.Int.{ints}
 use Rattle.std.proofs.Math.IntN.{zero-*ℤ, suc_ℤ-*ℤ, pred_ℤ-*ℤ}
-use Rattle.mm_definitions.specs.Bounds.{IsFrom, IsCoordinate, IsPixelSize, millimetres, micrometres}
+use Rattle.mm_definitions.specs.Bounds.{IsCoordinate, IsPixelSize, millimetres, micrometres}
 use Rattle.mm_definitions.specs.Scale.{finer}
 
 pub coordinate : (z : ℤ) → IsCoordinate millimetres z → IsCoordinate micrometres (finer z)

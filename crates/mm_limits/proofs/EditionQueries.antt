@@ -39,8 +39,12 @@ pub quiet_pieces_numbered : IsQuiet text.pieces_numbered
 unfolding everything
 quiet_pieces_numbered = λ schema base. refl
 
-pub pieces_spelled : IsQuery schema text.pieces_spelled (inner 25 (left 27 (equals 2 0 1 14 ∷ []) end)) [] (col 1 3 ∷ col 1 4 ∷ col 1 5 ∷ col 1 6 ∷ col 1 7 ∷ col 1 8 ∷ col 1 9 ∷ col 1 10 ∷ col 1 11 ∷ col 1 12 ∷ col 1 13 ∷ col 2 3 ∷ [])
-    ((col 1 1, ascending Binary) ∷ (col 1 2, ascending Binary) ∷ []) (codes "kind" ∷ codes "name" ∷ codes "k1" ∷ codes "k2" ∷ codes "k3" ∷ codes "k4" ∷ codes "k5" ∷ codes "k6" ∷ codes "k7" ∷ codes "t1" ∷ codes "t2" ∷ codes "data" ∷ [])
+pub pieces_spelled : IsQuery schema text.pieces_spelled (inner 25 (left 27 (equals 2 0 1 14 ∷ []) end)) []
+    (col 1 3 ∷ col 1 4 ∷ col 1 5 ∷ col 1 6 ∷ col 1 7 ∷ col 1 8 ∷ col 1 9 ∷ col 1 10 ∷ col 1 11 ∷ col 1 12 ∷ col 1 13
+    ∷ col 2 3 ∷ [])
+    ((col 1 1, ascending Binary) ∷ (col 1 2, ascending Binary) ∷ [])
+    (codes "kind" ∷ codes "name" ∷ codes "k1" ∷ codes "k2" ∷ codes "k3" ∷ codes "k4" ∷ codes "k5" ∷ codes "k6"
+    ∷ codes "k7" ∷ codes "t1" ∷ codes "t2" ∷ codes "data" ∷ [])
 unfolding understood everything
 pieces_spelled = record { compiled = refl; plain = (refl, refl); unlisted = refl }
 

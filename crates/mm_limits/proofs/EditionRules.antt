@@ -1,5 +1,7 @@
 -- What the queries of editions and pieces show, and rule 15.
-use Rattle.std.proofs.Common.{codes, ◌≡◌, ◌≢◌, ◌↔◌, ◌⊎◌, inl, inr, Bool, true, false, ◌&&◌, ℕ, suc, zero, ℤ, pos, negsuc, ◌-ℤ◌, ◌≤ℤ◌, ◌≤◌, ◌<◌, ◌^◌, nat_lt, unsigned_abs, [], ◌∷◌, List, Option, Some, None, option_map, is_some, IsTrue, refl, sym, ap, ap₂, subst, ◌∙◌, arith}
+use Rattle.std.proofs.Common.{codes, ◌≡◌, ◌≢◌, ◌↔◌, ◌⊎◌, inl, inr, Bool, true, false, ◌&&◌, ℕ, suc, zero, ℤ, pos}
+use Rattle.std.proofs.Common.{negsuc, ◌-ℤ◌, ◌≤ℤ◌, ◌≤◌, ◌<◌, ◌^◌, nat_lt, unsigned_abs, [], ◌∷◌, List, Option, Some}
+use Rattle.std.proofs.Common.{None, option_map, is_some, IsTrue, refl, sym, ap, ap₂, subst, ◌∙◌, arith}
 use Rattle.std.proofs.lemmas.Bool.{and_parts, and_from}
 use Rattle.std.proofs.lemmas.Bool.Decides.{nat_tests}
 use Rattle.std.proofs.lemmas.Int.{ints}
@@ -15,7 +17,8 @@ use Rattle.sql_forms.specs.Numeral.{fits_i64}
 use Rattle.sql_forms.specs.Term.{col}
 use Rattle.sql_forms.specs.Query.{inner, left, end}
 use Rattle.sql_forms.specs.Rules.{equal}
-use Rattle.mm_definitions.specs.Bounds.{Profile, IsName, IsMatrixSide, IsTileSide, IsId, IsFrom, IsZoom, IsTilePlace, IsLong, IsTileBytes, IsMediaBytes, MostPieces}
+use Rattle.mm_definitions.specs.Bounds.{Profile, IsName, IsMatrixSide, IsTileSide, IsId, IsFrom, IsZoom, IsTilePlace}
+use Rattle.mm_definitions.specs.Bounds.{IsLong, IsTileBytes, IsMediaBytes, MostPieces}
 use Rattle.mm_definitions.specs.Keys.{Text, PieceKey, piece}
 use Rattle.mm_definitions.specs.Package.{Package, PieceRow, open_state}
 use Rattle.mm_definitions.specs.Pieces.{piece_row}
@@ -56,7 +59,9 @@ pub pieces_of_open : (profile : Profile)
 pieces_of_open profile version db p stands known =
     let h = stands.holds in
     each_named piece_id piece_with h.kept.shelf h.kept.pieces p.pieces h.keeps.pieces_told after_rowid staged_row (db 25) (covered (λ k i. (_, _, refl)) h.keeps.pieces) _ _
-    (λ k i x bytes at named. joined after_rowid edition_row (db 23) p.editions (covered (λ l s. (_, _, refl)) h.editions) _ k.edition (λ l s y. name_is l k.edition) _ (λ o. o ≡ Some open_state) same (λ s y. same))
+    (λ k i x bytes at named. joined after_rowid edition_row (db 23) p.editions
+    (covered (λ l s. (_, _, refl)) h.editions) _ k.edition (λ l s y. name_is l k.edition) _
+    (λ o. o ≡ Some open_state) same (λ s y. same))
 
 -- ---- numbers
 below_next : (n : ℕ) → pos (suc n) -ℤ pos 1 ≡ pos n
@@ -103,7 +108,7 @@ pieces_numbered profile version db p stands known =
     each_named piece_id piece_with h.kept.shelf h.kept.pieces p.pieces h.keeps.pieces_told after_rowid staged_row (db 25) here _ _
     (λ k i x bytes at named.
     let before = piece k.edition (k.number -ℤ pos 1) in
-    also (joined after_rowid staged_row (db 25) h.kept.pieces here _ before (λ l w y. before_is l k (known.12 k _ at).1) _
+    also (joined after_rowid staged_row (db 25) h.kept.pieces here _ before (λ l w y. before_is l k (known.pieces k _ at).1) _
     (λ o. IsFrom (pos 1) (pos MostPieces) k.number × ((k.number ≡ pos 1) ⊎ IsTrue (is_some o))) (first_is k.number _) (λ w y. first_is k.number _))
     (there_too (told_there piece_id piece_with h.kept.shelf h.kept.pieces p.pieces h.keeps.pieces_told before)))
 
@@ -146,7 +151,21 @@ natural z low = omega (arith, ints, low)
 same_row : (v : PieceRow) (kind : Text) (k1 k2 k3 : ℤ) (t1 t2 : Text) (bytes : List ℕ) → v.kind ≡ kind → v.k1 ≡ k1 → v.k2 ≡ k2 → v.k3 ≡ k3
     → v.k4 ≡ pos 0 → v.k5 ≡ pos 0 → v.k6 ≡ pos 0 → v.k7 ≡ pos 0 → v.t1 ≡ t1 → v.t2 ≡ t2 → v.bytes ≡ bytes
     → v ≡ record { kind = kind; name = v.name; k1 = k1; k2 = k2; k3 = k3; k4 = pos 0; k5 = pos 0; k6 = pos 0; k7 = pos 0; t1 = t1; t2 = t2; bytes = bytes }
-same_row v kind k1 k2 k3 t1 t2 bytes a b c d e f g h s t u = λ i. record { kind = a i; name = v.name; k1 = b i; k2 = c i; k3 = d i; k4 = e i; k5 = f i; k6 = g i; k7 = h i; t1 = s i; t2 = t i; bytes = u i }
+same_row v kind k1 k2 k3 t1 t2 bytes a b c d e f g h s t u =
+    λ i. record {
+      kind = a i;
+      name = v.name;
+      k1 = b i;
+      k2 = c i;
+      k3 = d i;
+      k4 = e i;
+      k5 = f i;
+      k6 = g i;
+      k7 = h i;
+      t1 = s i;
+      t2 = t i;
+      bytes = u i;
+    }
 
 to_content : (profile : Profile) (v : PieceRow) (d : Value) → IsDataOf v.bytes d → IsName v.name → IsContent (shown v d) → IsSpelled profile v
 to_content profile v d data_is named h = go h.1
@@ -168,17 +187,36 @@ to_content profile v d data_is named h = go h.1
 
     go : PutsEntry (shown v d) ⊎ IsDrop (shown v d) → IsSpelled profile v
     go (inl (inl (is, (zoom, column, row), (a, b), bytes))) =
-        let z = natural v.k1 zoom.0 in let c = natural v.k2 column.0 in let r = natural v.k3 row.0 in
-        (Tile v.name (unsigned_abs v.k1) (unsigned_abs v.k2) (unsigned_abs v.k3) v.bytes, same_row v _ _ _ _ _ _ _ (same_some is) z c r z4 z5 z6 z7 (same_some a) (same_some b) refl, (named, subst IsZoom z zoom, subst IsTilePlace c column, subst IsTilePlace r row, bytes_from v.bytes d data_is IsTileBytes bytes), tt)
+        let z = natural v.k1 zoom.0 in let c = natural v.k2 column.0 in let r = natural v.k3 row.0 in (
+          Tile v.name (unsigned_abs v.k1) (unsigned_abs v.k2) (unsigned_abs v.k3) v.bytes,
+          same_row v _ _ _ _ _ _ _ (same_some is) z c r z4 z5 z6 z7 (same_some a) (same_some b) refl,
+          (
+            named,
+            subst IsZoom z zoom,
+            subst IsTilePlace c column,
+            subst IsTilePlace r row,
+            bytes_from v.bytes d data_is IsTileBytes bytes,
+          ),
+          tt,
+        )
     go (inl (inr (inl (is, id, amount, zero_is, title, note, none)))) =
         (RowPiece v.name v.k1 v.t1 v.t2 v.k2, same_row v _ _ _ _ _ _ _ (same_some is) refl refl (number_inside zero_is) z4 z5 z6 z7 refl refl (no_bytes none), (named, id, title.1, note.1, amount), tt)
-    go (inl (inr (inr (inl (is, (id, a, b), content_type, c, bytes))))) =
-        (Media v.name v.k1 v.t1 v.bytes, same_row v _ _ _ _ _ _ _ (same_some is) refl (number_inside a) (number_inside b) z4 z5 z6 z7 refl (same_some c) refl, (named, id, content_type.1, bytes_from v.bytes d data_is IsMediaBytes bytes), tt)
+    go (inl (inr (inr (inl (is, (id, a, b), content_type, c, bytes))))) = (
+      Media v.name v.k1 v.t1 v.bytes,
+      same_row v _ _ _ _ _ _ _ (same_some is) refl (number_inside a)
+          (number_inside b) z4 z5 z6 z7 refl (same_some c) refl,
+      (named, id, content_type.1, bytes_from v.bytes d data_is IsMediaBytes bytes),
+      tt,
+    )
     go (inl (inr (inr (inr (is, (base, related, a), (b, c), none))))) =
         (Map v.name v.k1 v.k2, same_row v _ _ _ _ _ _ _ (same_some is) refl refl (number_inside a) z4 z5 z6 z7 (same_some b) (same_some c) (no_bytes none), (named, base, related), tt)
     go (inr (inl (is, (zoom, column, row), (a, b), none))) =
-        let z = natural v.k1 zoom.0 in let c = natural v.k2 column.0 in let r = natural v.k3 row.0 in
-        (TileDrop v.name (unsigned_abs v.k1) (unsigned_abs v.k2) (unsigned_abs v.k3), same_row v _ _ _ _ _ _ _ (same_some is) z c r z4 z5 z6 z7 (same_some a) (same_some b) (no_bytes none), (named, subst IsZoom z zoom, subst IsTilePlace c column, subst IsTilePlace r row), tt)
+        let z = natural v.k1 zoom.0 in let c = natural v.k2 column.0 in let r = natural v.k3 row.0 in (
+          TileDrop v.name (unsigned_abs v.k1) (unsigned_abs v.k2) (unsigned_abs v.k3),
+          same_row v _ _ _ _ _ _ _ (same_some is) z c r z4 z5 z6 z7 (same_some a) (same_some b) (no_bytes none),
+          (named, subst IsZoom z zoom, subst IsTilePlace c column, subst IsTilePlace r row),
+          tt,
+        )
     go (inr (inr (inl (is, (id, a, b), (c, d), none)))) =
         (RowDrop v.name v.k1, same_row v _ _ _ _ _ _ _ (same_some is) refl (number_inside a) (number_inside b) z4 z5 z6 z7 (same_some c) (same_some d) (no_bytes none), (named, id), tt)
     go (inr (inr (inr (inl (is, (id, a, b), (c, d), none))))) =
@@ -208,18 +246,84 @@ to_spelled profile v d data_is h = elim h.form [ inl content ↦ to_content prof
 
 of_piece : (profile : Profile) (q : Piece) (d : Value) → IsDataOf (piece_row q).bytes d → IsPieceWithin profile q → Takes profile q
     → IsSpelledRow profile (shown (piece_row q) d)
-of_piece profile (Tile table zoom column row bytes) d data_is w takes = record { name = (name_utf8 table w.0, w.0); form = inl ((refl, refl, refl, refl), inl (inl (refl, (w.1, w.2, w.3), (refl, refl), bytes_to bytes d data_is IsTileBytes (not_long 1048576) w.4))) }
-of_piece profile (TileDrop table zoom column row) d data_is w takes = record { name = (name_utf8 table w.0, w.0); form = inl ((refl, refl, refl, refl), inr (inl (refl, (w.1, w.2, w.3), (refl, refl), none_to [] d data_is refl))) }
-of_piece profile (RowPiece table id title note amount) d data_is w takes = record { name = (name_utf8 table w.0, w.0); form = inl ((refl, refl, refl, refl), inl (inr (inl (refl, w.1, w.4, refl, (w.2.clean.utf8, w.2), (w.3.clean.utf8, w.3), none_to [] d data_is refl)))) }
-of_piece profile (RowDrop table id) d data_is w takes = record { name = (name_utf8 table w.0, w.0); form = inl ((refl, refl, refl, refl), inr (inr (inl (refl, (w.1, refl, refl), (refl, refl), none_to [] d data_is refl)))) }
-of_piece profile (Media table id content_type bytes) d data_is w takes = record { name = (name_utf8 table w.0, w.0); form = inl ((refl, refl, refl, refl), inl (inr (inr (inl (refl, (w.1, refl, refl), (content_type_utf8 content_type w.2, w.2), refl, bytes_to bytes d data_is IsMediaBytes (not_long 4194304) w.3))))) }
-of_piece profile (MediaDrop table id) d data_is w takes = record { name = (name_utf8 table w.0, w.0); form = inl ((refl, refl, refl, refl), inr (inr (inr (inl (refl, (w.1, refl, refl), (refl, refl), none_to [] d data_is refl))))) }
-of_piece profile (Map mapping base_id related_id) d data_is w takes = record { name = (name_utf8 mapping w.0, w.0); form = inl ((refl, refl, refl, refl), inl (inr (inr (inr (refl, (w.1, w.2, refl), (refl, refl), none_to [] d data_is refl))))) }
-of_piece profile (MapDrop mapping base_id related_id) d data_is w takes = record { name = (name_utf8 mapping w.0, w.0); form = inl ((refl, refl, refl, refl), inr (inr (inr (inr (refl, (w.1, w.2, refl), (refl, refl), none_to [] d data_is refl))))) }
-of_piece profile (Matrix table zoom m) d data_is w takes = record { name = (name_utf8 table w.0, w.0); form = inr (takes, refl, w.1, (w.2.mw, w.2.mh, w.2.tw, w.2.th), w.2.px, w.2.py, (refl, refl), none_to [] d data_is refl) }
+of_piece profile (Tile table zoom column row bytes) d data_is w takes =
+    record {
+      name = (name_utf8 table w.0, w.0);
+      form = inl (
+        (refl, refl, refl, refl),
+        inl (inl (
+          refl,
+          (w.1, w.2, w.3),
+          (refl, refl),
+          bytes_to bytes d data_is IsTileBytes (not_long 1048576) w.4,
+        )),
+      );
+    }
+of_piece profile (TileDrop table zoom column row) d data_is w takes =
+    record {
+      name = (name_utf8 table w.0, w.0);
+      form = inl
+          ((refl, refl, refl, refl), inr (inl (refl, (w.1, w.2, w.3), (refl, refl), none_to [] d data_is refl)));
+    }
+of_piece profile (RowPiece table id title note amount) d data_is w takes =
+    record {
+      name = (name_utf8 table w.0, w.0);
+      form = inl (
+        (refl, refl, refl, refl),
+        inl (inr (inl
+            (refl, w.1, w.4, refl, (w.2.clean.utf8, w.2), (w.3.clean.utf8, w.3), none_to [] d data_is refl))),
+      );
+    }
+of_piece profile (RowDrop table id) d data_is w takes =
+    record {
+      name = (name_utf8 table w.0, w.0);
+      form = inl
+          ((refl, refl, refl, refl), inr (inr (inl (refl, (w.1, refl, refl), (refl, refl), none_to [] d data_is refl))));
+    }
+of_piece profile (Media table id content_type bytes) d data_is w takes =
+    record {
+      name = (name_utf8 table w.0, w.0);
+      form = inl (
+        (refl, refl, refl, refl),
+        inl (inr (inr
+            (inl (
+              refl,
+              (w.1, refl, refl),
+              (content_type_utf8 content_type w.2, w.2),
+              refl,
+              bytes_to bytes d data_is IsMediaBytes (not_long 4194304) w.3,
+            )))),
+      );
+    }
+of_piece profile (MediaDrop table id) d data_is w takes =
+    record {
+      name = (name_utf8 table w.0, w.0);
+      form = inl
+          ((refl, refl, refl, refl), inr (inr (inr (inl (refl, (w.1, refl, refl), (refl, refl), none_to [] d data_is refl)))));
+    }
+of_piece profile (Map mapping base_id related_id) d data_is w takes =
+    record {
+      name = (name_utf8 mapping w.0, w.0);
+      form = inl
+          ((refl, refl, refl, refl), inl (inr (inr (inr (refl, (w.1, w.2, refl), (refl, refl), none_to [] d data_is refl)))));
+    }
+of_piece profile (MapDrop mapping base_id related_id) d data_is w takes =
+    record {
+      name = (name_utf8 mapping w.0, w.0);
+      form = inl
+          ((refl, refl, refl, refl), inr (inr (inr (inr (refl, (w.1, w.2, refl), (refl, refl), none_to [] d data_is refl)))));
+    }
+of_piece profile (Matrix table zoom m) d data_is w takes =
+    record {
+      name = (name_utf8 table w.0, w.0);
+      form = inr
+          (takes, refl, w.1, (w.2.mw, w.2.mh, w.2.tw, w.2.th), w.2.px, w.2.py, (refl, refl), none_to [] d data_is refl);
+    }
 
 pub pieces_spelled : (profile : Profile)
-    → Says [] (inner 25 (left 27 (equals 2 0 1 14 ∷ []) end)) [] (col 1 3 ∷ col 1 4 ∷ col 1 5 ∷ col 1 6 ∷ col 1 7 ∷ col 1 8 ∷ col 1 9 ∷ col 1 10 ∷ col 1 11 ∷ col 1 12 ∷ col 1 13 ∷ col 2 3 ∷ []) (IsSpelledRow profile) (λ p. Limits profile p) (PiecesSpelled profile)
+    → Says [] (inner 25 (left 27 (equals 2 0 1 14 ∷ []) end)) []
+    (col 1 3 ∷ col 1 4 ∷ col 1 5 ∷ col 1 6 ∷ col 1 7 ∷ col 1 8 ∷ col 1 9 ∷ col 1 10 ∷ col 1 11 ∷ col 1 12 ∷ col 1 13
+    ∷ col 2 3 ∷ []) (IsSpelledRow profile) (λ p. Limits profile p) (PiecesSpelled profile)
 pieces_spelled profile version db p stands known =
     let h = stands.holds in
     each_named piece_id piece_with h.kept.shelf h.kept.pieces p.pieces h.keeps.pieces_told after_rowid staged_row (db 25) (covered (λ k i. (_, _, refl)) h.keeps.pieces) _ (λ _ r. IsSpelled profile r)

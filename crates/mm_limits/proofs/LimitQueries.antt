@@ -22,7 +22,8 @@ unfolding everything
 quiet_systems_within = λ schema base. refl
 
 pub contents_within : IsQuery schema text.contents_within (inner 1 end) [] (col 1 1 ∷ col 1 2 ∷ col 1 3 ∷ col 1 4 ∷ col 1 5 ∷ col 1 6 ∷ col 1 7 ∷ col 1 8 ∷ col 1 9 ∷ col 1 10 ∷ [])
-    ((col 1 1, ascending Binary) ∷ []) (codes "table_name" ∷ codes "data_type" ∷ codes "identifier" ∷ codes "description" ∷ codes "last_change" ∷ codes "min_x" ∷ codes "min_y" ∷ codes "max_x" ∷ codes "max_y" ∷ codes "srs_id" ∷ [])
+    ((col 1 1, ascending Binary) ∷ []) (codes "table_name" ∷ codes "data_type" ∷ codes "identifier" ∷ codes
+    "description" ∷ codes "last_change" ∷ codes "min_x" ∷ codes "min_y" ∷ codes "max_x" ∷ codes "max_y" ∷ codes "srs_id" ∷ [])
 unfolding understood everything
 contents_within = record { compiled = refl; plain = (refl, refl); unlisted = refl }
 
@@ -49,7 +50,9 @@ unfolding everything
 quiet_sets_within = λ schema base. refl
 
 pub matrices_within : IsQuery schema text.matrices_within (inner 6 end) [] (col 1 1 ∷ col 1 2 ∷ col 1 3 ∷ col 1 4 ∷ col 1 5 ∷ col 1 6 ∷ col 1 7 ∷ col 1 8 ∷ [])
-    ((col 1 1, ascending Binary) ∷ (col 1 2, ascending Binary) ∷ []) (codes "table_name" ∷ codes "zoom_level" ∷ codes "matrix_width" ∷ codes "matrix_height" ∷ codes "tile_width" ∷ codes "tile_height" ∷ codes "pixel_x_size" ∷ codes "pixel_y_size" ∷ [])
+    ((col 1 1, ascending Binary) ∷ (col 1 2, ascending Binary) ∷ [])
+    (codes "table_name" ∷ codes "zoom_level" ∷ codes "matrix_width" ∷ codes "matrix_height" ∷ codes "tile_width"
+    ∷ codes "tile_height" ∷ codes "pixel_x_size" ∷ codes "pixel_y_size" ∷ [])
 unfolding understood everything
 matrices_within = record { compiled = refl; plain = (refl, refl); unlisted = refl }
 
@@ -67,7 +70,9 @@ unfolding everything
 quiet_extensions_within = λ schema base. refl
 
 pub tiles_within : IsQuery schema text.tiles_within (inner 15 (left 27 (equals 2 0 1 5 ∷ []) end)) [] (col 1 1 ∷ col 1 2 ∷ col 1 3 ∷ col 1 4 ∷ col 2 3 ∷ [])
-    ((col 1 1, ascending Binary) ∷ (col 1 2, ascending Binary) ∷ (col 1 3, ascending Binary) ∷ (col 1 4, ascending Binary) ∷ []) (codes "table_name" ∷ codes "zoom_level" ∷ codes "tile_column" ∷ codes "tile_row" ∷ codes "data" ∷ [])
+    ((col 1 1, ascending Binary) ∷ (col 1 2, ascending Binary) ∷ (col 1 3, ascending Binary)
+    ∷ (col 1 4, ascending Binary) ∷ []) (codes "table_name" ∷ codes "zoom_level" ∷ codes "tile_column" ∷ codes
+    "tile_row" ∷ codes "data" ∷ [])
 unfolding understood everything
 tiles_within = record { compiled = refl; plain = (refl, refl); unlisted = refl }
 
@@ -94,7 +99,8 @@ unfolding everything
 quiet_media_within = λ schema base. refl
 
 pub relations_within : IsQuery schema text.relations_within (inner 10 end) [] (col 1 7 ∷ col 1 2 ∷ col 1 3 ∷ col 1 4 ∷ col 1 5 ∷ col 1 6 ∷ [])
-    ((col 1 7, ascending Binary) ∷ []) (codes "mapping_table_name" ∷ codes "base_table_name" ∷ codes "base_primary_column" ∷ codes "related_table_name" ∷ codes "related_primary_column" ∷ codes "relation_name" ∷ [])
+    ((col 1 7, ascending Binary) ∷ []) (codes "mapping_table_name" ∷ codes "base_table_name" ∷ codes
+    "base_primary_column" ∷ codes "related_table_name" ∷ codes "related_primary_column" ∷ codes "relation_name" ∷ [])
 unfolding understood everything
 relations_within = record { compiled = refl; plain = (refl, refl); unlisted = refl }
 

@@ -8,8 +8,16 @@ use Rattle.mm_definitions.specs.Keys.{Text}
 use Rattle.mm_definitions.specs.Bounds.{Profile, IsCoordinate, IsSystemNumber, IsClean}
 use Rattle.mm_definitions.specs.Rules.{TileWithin, MediumWithin, PieceWithin}
 use Rattle.mm_definitions.proofs.Parts.{same_some}
-use Rattle.mm_store.specs.Rows.{maybe, maybe_words, system_row, contents_row, kind_row, set_row, grid_row, extension_row, tile_row, attribute_row, medium_row, relation_row, pairing_row, edition_row, staged_row}
-use Rattle.mm_limits.specs.LimitRows.{number_if_any, text_if_any, IsSystemWithinRow, IsContentsWithinRow, IsKindWithinRow, IsSetWithinRow, IsMatrixWithinRow, IsExtensionWithinRow, IsTileWithinRow, IsAttributeWithinRow, IsMediumWithinRow, IsRelationWithinRow, IsPairingWithinRow, IsEditionWithinRow, IsPieceWithinRow, SystemsAreWithin, ContentsAreWithin, KindsAreWithin, SetsAreWithin, MatricesAreWithin, ExtensionsAreWithin, TilesAreWithin, RowsAreWithin, MediaAreWithin, RelationsAreWithin, PairingsAreWithin, EditionsAreWithin, PiecesAreWithin}
+use Rattle.mm_store.specs.Rows.{maybe, maybe_words, system_row, contents_row, kind_row, set_row, grid_row}
+use Rattle.mm_store.specs.Rows.{extension_row, tile_row, attribute_row, medium_row, relation_row, pairing_row}
+use Rattle.mm_store.specs.Rows.{edition_row, staged_row}
+use Rattle.mm_limits.specs.LimitRows.{number_if_any, text_if_any, IsSystemWithinRow, IsContentsWithinRow}
+use Rattle.mm_limits.specs.LimitRows.{IsKindWithinRow, IsSetWithinRow, IsMatrixWithinRow, IsExtensionWithinRow}
+use Rattle.mm_limits.specs.LimitRows.{IsTileWithinRow, IsAttributeWithinRow, IsMediumWithinRow, IsRelationWithinRow}
+use Rattle.mm_limits.specs.LimitRows.{IsPairingWithinRow, IsEditionWithinRow, IsPieceWithinRow, SystemsAreWithin}
+use Rattle.mm_limits.specs.LimitRows.{ContentsAreWithin, KindsAreWithin, SetsAreWithin, MatricesAreWithin}
+use Rattle.mm_limits.specs.LimitRows.{ExtensionsAreWithin, TilesAreWithin, RowsAreWithin, MediaAreWithin}
+use Rattle.mm_limits.specs.LimitRows.{RelationsAreWithin, PairingsAreWithin, EditionsAreWithin, PiecesAreWithin}
 use Rattle.mm_store.specs.Kept.{tile_id, tile_with, medium_id, medium_with, piece_id, piece_with}
 use Rattle.mm_walk.proofs.Joined.{as_whole, after_rowid, after_id, covered, covered_whole, covered_id, each_row}
 use Rattle.mm_walk.proofs.Counted.{counts_cover}
@@ -30,15 +38,58 @@ pub systems_within : Says [] (inner 0 end) [] (col 1 0 ∷ col 1 1 ∷ col 1 3 �
 systems_within version db p stands known =
     each_row as_whole system_row (db 0) p.systems (covered_whole stands.holds.systems) _ _ (λ k v x. (
       λ h. record { numbers = h.numbers; name = h.name.1; organization = h.organization.1; definition = h.definition.1; description = h.description.1 },
-      λ w. record { numbers = w.numbers; name = (w.name.clean.utf8, w.name); organization = (w.organization.clean.utf8, w.organization); definition = (w.definition.clean.utf8, w.definition); description = (w.description.clean.utf8, w.description) },
+      λ w. record {
+        numbers = w.numbers;
+        name = (w.name.clean.utf8, w.name);
+        organization =
+            (w.organization.clean.utf8, w.organization);
+        definition = (w.definition.clean.utf8, w.definition);
+        description = (w.description.clean.utf8, w.description);
+      },
     ))
 
 pub contents_within : (profile : Profile)
-    → Says [] (inner 1 end) [] (col 1 1 ∷ col 1 2 ∷ col 1 3 ∷ col 1 4 ∷ col 1 5 ∷ col 1 6 ∷ col 1 7 ∷ col 1 8 ∷ col 1 9 ∷ col 1 10 ∷ []) (IsContentsWithinRow profile) (λ _. ⊤) (ContentsAreWithin profile)
+    → Says [] (inner 1 end) [] (col 1 1 ∷ col 1 2 ∷ col 1 3 ∷ col 1 4 ∷ col 1 5 ∷ col 1 6 ∷ col 1 7 ∷ col 1 8 ∷ col 1
+    9 ∷ col 1 10 ∷ []) (IsContentsWithinRow profile) (λ _. ⊤) (ContentsAreWithin profile)
 contents_within profile version db p stands known =
     each_row after_rowid contents_row (db 1) p.contents (covered (λ k v. (_, _, refl)) stands.holds.contents) _ _ (λ k v x. (
-      λ h. record { table = h.table.1; data_type = h.data_type.1; identifier = h.identifier.1; description = same_some h.description; last_change = h.last_change.1; min_x = (number_is (IsCoordinate profile) v.min_x).0 h.min_x; min_y = (number_is (IsCoordinate profile) v.min_y).0 h.min_y; max_x = (number_is (IsCoordinate profile) v.max_x).0 h.max_x; max_y = (number_is (IsCoordinate profile) v.max_y).0 h.max_y; system = (number_is IsSystemNumber v.system).0 h.system },
-      λ w. record { table = (name_utf8 _ w.table, w.table); data_type = (w.data_type.utf8, w.data_type); identifier = (w.identifier.utf8, w.identifier); description = ap Some w.description; last_change = (stamp_is_utf8 _ w.last_change, w.last_change); min_x = (number_is (IsCoordinate profile) v.min_x).1 w.min_x; min_y = (number_is (IsCoordinate profile) v.min_y).1 w.min_y; max_x = (number_is (IsCoordinate profile) v.max_x).1 w.max_x; max_y = (number_is (IsCoordinate profile) v.max_y).1 w.max_y; system = (number_is IsSystemNumber v.system).1 w.system },
+      λ h. record {
+        table = h.table.1;
+        data_type = h.data_type.1;
+        identifier = h.identifier.1;
+        description =
+            same_some h.description;
+        last_change = h.last_change.1;
+        min_x =
+            (number_is (IsCoordinate profile) v.min_x).0 h.min_x;
+        min_y =
+            (number_is (IsCoordinate profile) v.min_y).0 h.min_y;
+        max_x =
+            (number_is (IsCoordinate profile) v.max_x).0 h.max_x;
+        max_y =
+            (number_is (IsCoordinate profile) v.max_y).0 h.max_y;
+        system =
+            (number_is IsSystemNumber v.system).0 h.system;
+      },
+      λ w. record {
+        table = (name_utf8 _ w.table, w.table);
+        data_type = (w.data_type.utf8, w.data_type);
+        identifier =
+            (w.identifier.utf8, w.identifier);
+        description = ap Some w.description;
+        last_change =
+            (stamp_is_utf8 _ w.last_change, w.last_change);
+        min_x =
+            (number_is (IsCoordinate profile) v.min_x).1 w.min_x;
+        min_y =
+            (number_is (IsCoordinate profile) v.min_y).1 w.min_y;
+        max_x =
+            (number_is (IsCoordinate profile) v.max_x).1 w.max_x;
+        max_y =
+            (number_is (IsCoordinate profile) v.max_y).1 w.max_y;
+        system =
+            (number_is IsSystemNumber v.system).1 w.system;
+      },
     ))
 
 pub kinds_within : Says [] (inner 13 end) [] (col 1 1 ∷ col 1 2 ∷ []) IsKindWithinRow (λ _. ⊤) KindsAreWithin
@@ -60,15 +111,41 @@ pub matrices_within : (profile : Profile)
     → Says [] (inner 6 end) [] (col 1 1 ∷ col 1 2 ∷ col 1 3 ∷ col 1 4 ∷ col 1 5 ∷ col 1 6 ∷ col 1 7 ∷ col 1 8 ∷ []) (IsMatrixWithinRow profile) (λ _. ⊤) (MatricesAreWithin profile)
 matrices_within profile version db p stands known =
     each_row after_rowid grid_row (db 6) p.matrices (covered (λ k v. (_, _, refl)) stands.holds.matrices) _ _ (λ k v x. (
-      λ h. record { table = h.table.1; zoom = h.zoom; matrix_width = h.matrix_width; matrix_height = h.matrix_height; tile_width = h.tile_width; tile_height = h.tile_height; pixel_x_size = h.pixel_x_size; pixel_y_size = h.pixel_y_size },
-      λ w. record { table = (name_utf8 _ w.table, w.table); zoom = w.zoom; matrix_width = w.matrix_width; matrix_height = w.matrix_height; tile_width = w.tile_width; tile_height = w.tile_height; pixel_x_size = w.pixel_x_size; pixel_y_size = w.pixel_y_size },
+      λ h. record {
+        table = h.table.1;
+        zoom = h.zoom;
+        matrix_width = h.matrix_width;
+        matrix_height = h.matrix_height;
+        tile_width = h.tile_width;
+        tile_height = h.tile_height;
+        pixel_x_size = h.pixel_x_size;
+        pixel_y_size = h.pixel_y_size;
+      },
+      λ w. record {
+        table = (name_utf8 _ w.table, w.table);
+        zoom = w.zoom;
+        matrix_width = w.matrix_width;
+        matrix_height = w.matrix_height;
+        tile_width = w.tile_width;
+        tile_height = w.tile_height;
+        pixel_x_size =
+            w.pixel_x_size;
+        pixel_y_size = w.pixel_y_size;
+      },
     ))
 
 pub extensions_within : Says [] (inner 8 end) [] (col 1 1 ∷ col 1 2 ∷ col 1 3 ∷ col 1 4 ∷ col 1 5 ∷ []) IsExtensionWithinRow (λ _. ⊤) ExtensionsAreWithin
 extensions_within version db p stands known =
     each_row after_rowid (λ e (n : ℕ). extension_row e) (db 8) p.extensions (counts_cover (db 8) p.extensions stands.holds.extensions) _ _ (λ k v x. (
       λ h. record { table = (clean_is k.table).0 h.table; column = (clean_is k.column).0 h.at_column; name = h.name.1; definition = h.definition.1; scope = h.scope.1 },
-      λ w. record { table = (clean_is k.table).1 w.table; at_column = (clean_is k.column).1 w.column; name = (w.name.utf8, w.name); definition = (w.definition.utf8, w.definition); scope = (w.scope.utf8, w.scope) },
+      λ w. record {
+        table = (clean_is k.table).1 w.table;
+        at_column = (clean_is k.column).1 w.column;
+        name =
+            (w.name.utf8, w.name);
+        definition = (w.definition.utf8, w.definition);
+        scope = (w.scope.utf8, w.scope);
+      },
     ))
 
 pub tiles_within : Says [] (inner 15 (left 27 (equals 2 0 1 5 ∷ []) end)) [] (col 1 1 ∷ col 1 2 ∷ col 1 3 ∷ col 1 4 ∷ col 2 3 ∷ []) IsTileWithinRow (λ _. ⊤) TilesAreWithin
@@ -100,7 +177,16 @@ pub relations_within : Says [] (inner 10 end) [] (col 1 7 ∷ col 1 2 ∷ col 1 
 relations_within version db p stands known =
     each_row after_id relation_row (db 10) p.relations (covered_id (λ k v. (_, _, refl)) stands.holds.relations) _ _ (λ k v x. (
       λ h. record { mapping = h.mapping.1; base = h.base.1; base_column = h.base_column.1; related = h.related.1; related_column = h.related_column.1; name = h.name.1 },
-      λ w. record { mapping = (name_utf8 _ w.mapping, w.mapping); base = (name_utf8 _ w.base, w.base); base_column = (w.base_column.utf8, w.base_column); related = (name_utf8 _ w.related, w.related); related_column = (w.related_column.utf8, w.related_column); name = (w.name.utf8, w.name) },
+      λ w. record {
+        mapping = (name_utf8 _ w.mapping, w.mapping);
+        base = (name_utf8 _ w.base, w.base);
+        base_column =
+            (w.base_column.utf8, w.base_column);
+        related = (name_utf8 _ w.related, w.related);
+        related_column =
+            (w.related_column.utf8, w.related_column);
+        name = (w.name.utf8, w.name);
+      },
     ))
 
 pub pairings_within : Says [] (inner 21 end) [] (col 1 1 ∷ col 1 2 ∷ col 1 3 ∷ []) IsPairingWithinRow (λ _. ⊤) PairingsAreWithin

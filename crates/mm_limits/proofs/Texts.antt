@@ -1,5 +1,6 @@
 -- Texts within a limit are UTF-8.
-use Rattle.std.proofs.Common.{◌≡◌, ℕ, suc, ◌+◌, ◌<◌, take, drop, Bool, true, false, not, ◌||◌, List, [], ◌∷◌, Option, Some, None, MatchOption, nat_lt, refl, sym, ap, subst, ◌∙◌, arith}
+use Rattle.std.proofs.Common.{◌≡◌, ℕ, suc, ◌+◌, ◌<◌, take, drop, Bool, true, false, not, ◌||◌, List, [], ◌∷◌, Option}
+use Rattle.std.proofs.Common.{Some, None, MatchOption, nat_lt, refl, sym, ap, subst, ◌∙◌, arith}
 use Rattle.std.specs.Str.{IsUtf8}
 use Rattle.std.specs.List.{list_any, before_first, after_first, position_or_len}
 use Rattle.std.proofs.lemmas.Bool.Decides.{nat_tests}
@@ -10,7 +11,7 @@ use Rattle.std.specs.List.{AllByRecursion}
 use Rattle.mm_definitions.specs.Keys.{Text}
 use Rattle.mm_definitions.specs.Bounds.{IsName, IsContentType, is_word_byte, is_slash}
 use Rattle.mm_definitions.specs.Stamp.{IsSomeStamp}
-use Rattle.mm_definitions.proofs.CleanTexts.{name_is_clean}
+use Rattle.mm_definitions.proofs.CleanTexts.{name_is_clean, not_true, none_of_fewer}
 use Rattle.mm_definitions.proofs.Parts.{either_false}
 use Rattle.mm_definitions.proofs.StampText.{stamp_utf8}
 use Rattle.mm_walk.specs.Columns.{Unread}
@@ -35,13 +36,6 @@ is_low c e = grind (arith, nat_tests)
 all_low : (text : Text) → list_any high text ≡ false → AllByRecursion (λ c. c < 128) text
 all_low [] e = tt
 all_low (c ∷ cs) e = let p = either_false (high c) (list_any high cs) e in (is_low c p.0, all_low cs p.1)
-
-none_of_fewer : (test fewer : ℕ → Bool) → ((c : ℕ) → test c ≡ false → fewer c ≡ false) → (text : Text) → list_any test text ≡ false
-    → list_any fewer text ≡ false
-none_of_fewer test fewer so [] e = refl
-none_of_fewer test fewer so (c ∷ cs) e =
-    let p = either_false (test c) (list_any test cs) e in
-    ap (λ b. b || list_any fewer cs) (so c p.0) ∙ none_of_fewer test fewer so cs p.1
 
 word_low : (c : ℕ) → not (is_word_byte c) ≡ false → high c ≡ false
 word_low c e = grind (arith, nat_tests)
@@ -70,11 +64,9 @@ low_round (c ∷ cs) a b = go (is_slash c) refl a b (low_round cs)
         let p = either_false (high c) (list_any high (before_first is_slash cs)) a_more in
         ap (λ x. x || list_any high cs) p.0 ∙ more p.1 b_more
 
-not_true : (b : Bool) → not b ≡ true → b ≡ false
-not_true true e = sym e
-not_true false e = refl
-
 pub content_type_utf8 : (text : Text) → IsContentType text → IsUtf8 text
 content_type_utf8 text t =
-    let low = low_round text (none_of_fewer (λ c. not (is_word_byte c)) high word_low (before_first is_slash text) (not_true _ t.kind.all)) (none_of_fewer (λ c. not (is_word_byte c)) high word_low (after_first is_slash text) (not_true _ t.form.all)) in
+    let low = low_round text (none_of_fewer (λ c. not (is_word_byte c)) high word_low (before_first is_slash text)
+    (not_true _ t.kind.all)) (none_of_fewer (λ c. not (is_word_byte c)) high word_low (after_first is_slash text)
+    (not_true _ t.form.all)) in
     IsUtf8-from_ascii text (IsAscii-from_all text (All-from_recursion (λ c. c < 128) text (all_low text low)))

@@ -20,4 +20,5 @@ PiecesSpelled profile p = Each p.pieces (λ _ r. IsSpelled profile r)
 
 -- each is the first or follows another
 abbrev pub PiecesNumbered : Package → Type 0
-PiecesNumbered p = Each p.pieces (λ k _. IsFrom (pos 1) (pos MostPieces) k.number × ((k.number ≡ pos 1) ⊎ Stands p.pieces (piece k.edition (k.number -ℤ pos 1))))
+PiecesNumbered p = Each p.pieces (λ k _. IsFrom (pos 1) (pos MostPieces) k.number
+    × ((k.number ≡ pos 1) ⊎ Stands p.pieces (piece k.edition (k.number -ℤ pos 1))))

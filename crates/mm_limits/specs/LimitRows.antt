@@ -3,10 +3,15 @@ use Rattle.std.specs.Prelude.{◌≡◌, ◌==◌, ℤ, List, [], ℕ, Option, S
 use Rattle.std.specs.Str.{IsUtf8}
 use Rattle.sqlite.specs.Order.{Row, column}
 use Rattle.sqlite.specs.declared.types.Value.{Value}
-use Rattle.mm_definitions.specs.Bounds.{Profile, IsCoordinate, IsPixelSize, IsZoom, IsMatrixSide, IsTileSide, IsTilePlace, IsId, IsSystemNumber, IsAmount, IsTileBytes, IsMediaBytes, IsName, IsClean, IsIdentifier, IsSystemName, IsDefinition, IsRemark, IsContentType}
+use Rattle.mm_definitions.specs.Bounds.{Profile, IsCoordinate, IsPixelSize, IsZoom, IsMatrixSide, IsTileSide}
+use Rattle.mm_definitions.specs.Bounds.{IsTilePlace, IsId, IsSystemNumber, IsAmount, IsTileBytes, IsMediaBytes}
+use Rattle.mm_definitions.specs.Bounds.{IsName, IsClean, IsIdentifier, IsSystemName, IsDefinition, IsRemark}
+use Rattle.mm_definitions.specs.Bounds.{IsContentType}
 use Rattle.mm_definitions.specs.Parts.{Each}
 use Rattle.mm_definitions.specs.Package.{Package}
-use Rattle.mm_definitions.specs.Rules.{AreSystemNumbers, SystemWithin, ContentsWithin, KindWithin, SetWithin, MatrixWithin, ExtensionWithin, TileWithin, RowWithin, MediumWithin, RelationWithin, PairingWithin, EditionWithin, PieceWithin}
+use Rattle.mm_definitions.specs.Rules.{AreSystemNumbers, SystemWithin, ContentsWithin, KindWithin, SetWithin}
+use Rattle.mm_definitions.specs.Rules.{MatrixWithin, ExtensionWithin, TileWithin, RowWithin, MediumWithin}
+use Rattle.mm_definitions.specs.Rules.{RelationWithin, PairingWithin, EditionWithin, PieceWithin}
 use Rattle.mm_definitions.specs.Stamp.{IsSomeStamp}
 use Rattle.mm_walk.specs.Columns.{number_of, text_bytes, bytes_of}
 use Rattle.mm_walk.specs.InTurn.{chosen}

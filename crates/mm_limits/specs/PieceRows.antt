@@ -1,7 +1,9 @@
 -- What the tests of rows of editions and of staged pieces ask.
 use Rattle.std.specs.Prelude.{◌≡◌, ◌⊎◌, ℕ, pos, false, List, [], codes, Some, IsTrue}
 use Rattle.sqlite.specs.Order.{Row, column}
-use Rattle.mm_definitions.specs.Bounds.{Profile, IsMatrixSide, IsTileSide, IsPixelSize, IsFrom, MostPieces, IsName, IsZoom, IsTilePlace, IsId, IsAmount, IsRemark, IsContentType, IsTileBytes, IsMediaBytes}
+use Rattle.mm_definitions.specs.Bounds.{Profile, IsMatrixSide, IsTileSide, IsPixelSize, IsFrom, MostPieces, IsName}
+use Rattle.mm_definitions.specs.Bounds.{IsZoom, IsTilePlace, IsId, IsAmount, IsRemark, IsContentType, IsTileBytes}
+use Rattle.mm_definitions.specs.Bounds.{IsMediaBytes}
 use Rattle.mm_walk.specs.Columns.{number_of, text_bytes, is_there}
 use Rattle.mm_limits.specs.LimitRows.{text_by, number_by, bytes_by}
 
@@ -60,7 +62,8 @@ IsTileDrop r = IsOfKind (codes "tile-drop") r × IsPlaceOfTile r × HasNoTexts r
 
 -- puts an attribute row: its number and amount, its title and note
 abbrev pub PutsRow : Row → Type 0
-PutsRow r = IsOfKind (codes "row") r × number_by IsId (column r 2) × number_by IsAmount (column r 3) × IsZero r 4 × text_by IsRemark (column r 9) × text_by IsRemark (column r 10) × HasNoBytes r
+PutsRow r = IsOfKind (codes "row") r × number_by IsId (column r 2) × number_by IsAmount (column r 3) × IsZero r 4
+    × text_by IsRemark (column r 9) × text_by IsRemark (column r 10) × HasNoBytes r
 
 -- removes an attribute row or a medium, as the kind says: its number
 abbrev pub IsItemDrop : List ℕ → Row → Type 0
@@ -68,7 +71,8 @@ IsItemDrop kind r = IsOfKind kind r × IsItem r × HasNoTexts r × HasNoBytes r
 
 -- puts a medium: its number, content type and bytes
 abbrev pub IsMedia : Row → Type 0
-IsMedia r = IsOfKind (codes "media") r × IsItem r × text_by IsContentType (column r 9) × (text_bytes (column r 10) ≡ Some []) × bytes_by IsMediaBytes (column r 11)
+IsMedia r = IsOfKind (codes "media") r × IsItem r × text_by IsContentType (column r 9)
+    × (text_bytes (column r 10) ≡ Some []) × bytes_by IsMediaBytes (column r 11)
 
 -- puts or removes a mapping row, as the kind says: its two ids
 abbrev pub IsMap : List ℕ → Row → Type 0

@@ -1,5 +1,6 @@
 -- What a path asks for, by the route that it takes.
-use Rattle.std.proofs.Common.{◌≡◌, ◌∙◌, ◌<◌, inl, inr, ℕ, ℤ, pos, zero, suc, List, [], ◌∷◌, ◌++◌, drop, get_or, Option, Some, None, true, false, ltb, ◌==◌, refl, sym, ap, subst, arith, codes, IsUtf8}
+use Rattle.std.proofs.Common.{◌≡◌, ◌∙◌, ◌<◌, inl, inr, ℕ, ℤ, pos, zero, suc, List, [], ◌∷◌, ◌++◌, drop, get_or}
+use Rattle.std.proofs.Common.{Option, Some, None, true, false, ltb, ◌==◌, refl, sym, ap, subst, arith, codes, IsUtf8}
 use Rattle.std.proofs.lemmas.Bool.{and_parts, eq-eqb, ltb-true}
 use Rattle.std.proofs.lemmas.Str.{IsAscii-append, IsUtf8-from_ascii}
 use Rattle.std.specs.List.{list_all}
@@ -11,8 +12,9 @@ use Rattle.matchit.specs.Params.{AllText, walk}
 use Rattle.matchit.proofs.RenameLemmas.{seek-rename}
 use Rattle.mm_definitions.specs.Keys.{Text}
 use Rattle.mm_definitions.specs.Bounds.{IsName}
-use Rattle.mm_page.specs.Asked.{IsRouted, Wanted, Tile, Media, Related, Contents, Numbers, path_from}
-use Rattle.mm_page.specs.Routes.{IsPart, IsRowPath, media_path, numbered_patterns, page_rows, related_path, route_of, row_pairs, tile_pairs, tile_path, tile_route, media_row, related_row}
+use Rattle.mm_page.specs.Asked.{IsRouted, Wanted, Tile, Media, Related, Contents, SpellsWithin, path_from}
+use Rattle.mm_page.specs.Routes.{IsPathPart, IsRowPath, media_path, numbered_patterns, page_rows, related_path, route_of}
+use Rattle.mm_page.specs.Routes.{row_pairs, tile_pairs, tile_path, tile_route, media_row, related_row}
 use Rattle.mm_page.specs.declared.routes.Route.{Route}
 use Rattle.mm_page.specs.declared.routes.Route.TheVariants as route
 use Rattle.mm_page.proofs.WalkFacts.{media_walk, related_walk, tile_walk}
@@ -42,9 +44,9 @@ same_front (x ∷ a) b (y ∷ c) d ha hc e =
 
 -- what a tile's path can ask for
 abbrev pub IsTile : Text → Text → Text → Text → Type 0
-IsTile t z c r = IsName t × ((n : ℤ) × Numbers (pos 0) (pos 30) z n) × ((n : ℤ) × Numbers (pos 0) (pos 1073741823) c n) × ((n : ℤ) × Numbers (pos 0) (pos 1073741823) r n)
+IsTile t z c r = IsName t × ((n : ℤ) × SpellsWithin (pos 0) (pos 30) z n) × ((n : ℤ) × SpellsWithin (pos 0) (pos 1073741823) c n) × ((n : ℤ) × SpellsWithin (pos 0) (pos 1073741823) r n)
 
-pub tile_only : (t z c r : Text) (w : Wanted) → IsPart t → IsPart z → IsPart c → IsRouted (tile_path t z c r) w → IsTile t z c r
+pub tile_only : (t z c r : Text) (w : Wanted) → IsPathPart t → IsPathPart z → IsPathPart c → IsRouted (tile_path t z c r) w → IsTile t z c r
 tile_only t z c r (Tile u n d e) pt pz pc (z2, c2, r2, is, name, nz, nc, nr) =
     let (a1, b1) = same_front t (z ++ 47 ∷ (c ++ 47 ∷ r)) u (z2 ++ 47 ∷ (c2 ++ 47 ∷ r2)) pt.0 (name_part u name).0 (ap (drop 7) is) in
     let (a2, b2) = same_front z (c ++ 47 ∷ r) z2 (c2 ++ 47 ∷ r2) pz.0 (spelled_part z2 n nz.0).0 b1 in
@@ -54,7 +56,7 @@ tile_only t z c r (Media u n) pt pz pc (i, is, n1, n2) = absurd (let q : 116 ≡
 tile_only t z c r (Related u n) pt pz pc (i, is, n1, n2) = absurd (let q : 116 ≡ 114 = ap second is in omega (arith, q))
 tile_only t z c r Contents pt pz pc is = absurd (let q : 116 ≡ 99 = ap second is in omega (arith, q))
 
-pub media_only : (t i : Text) (w : Wanted) → IsPart t → IsRouted (media_path t i) w → IsRowPath t i
+pub media_only : (t i : Text) (w : Wanted) → IsPathPart t → IsRouted (media_path t i) w → IsRowPath t i
 media_only t i (Media u n) pt (i2, is, name, ni) =
     let (a1, b1) = same_front t i u i2 pt.0 (name_part u name).0 (ap (drop 7) is) in
     (rw a1 name, n, rw b1 ni)
@@ -62,7 +64,7 @@ media_only t i (Tile u n d e) pt (z2, c2, r2, is, n1, n2, n3, n4) = absurd (let 
 media_only t i (Related u n) pt (i2, is, n1, n2) = absurd (let q : 109 ≡ 114 = ap second is in omega (arith, q))
 media_only t i Contents pt is = absurd (let q : 109 ≡ 99 = ap second is in omega (arith, q))
 
-pub related_only : (t i : Text) (w : Wanted) → IsPart t → IsRouted (related_path t i) w → IsRowPath t i
+pub related_only : (t i : Text) (w : Wanted) → IsPathPart t → IsRouted (related_path t i) w → IsRowPath t i
 related_only t i (Related u n) pt (i2, is, name, ni) =
     let (a1, b1) = same_front t i u i2 pt.0 (name_part u name).0 (ap (drop 9) is) in
     (rw a1 name, n, rw b1 ni)
@@ -102,8 +104,15 @@ pub tile_texts : (t z c r : Text) → IsAscii (tile_path t z c r) → AllText (t
 tile_texts t z c r h =
     let a = ascii_right (codes "/tiles/") (t ++ 47 ∷ (z ++ 47 ∷ (c ++ 47 ∷ r))) h in
     let b = ascii_next t (z ++ 47 ∷ (c ++ 47 ∷ r)) a in
-    let d = ascii_next z (c ++ 47 ∷ r) b in
-    (key (codes "table") refl, text t (ascii_left t _ a), (key (codes "z") refl, text z (ascii_left z _ b), (key (codes "c") refl, text c (ascii_left c _ d), (key (codes "r") refl, text r (ascii_next c r d), tt))))
+    let d = ascii_next z (c ++ 47 ∷ r) b in (
+      key (codes "table") refl,
+      text t (ascii_left t _ a),
+      (
+        key (codes "z") refl,
+        text z (ascii_left z _ b),
+        (key (codes "c") refl, text c (ascii_left c _ d), (key (codes "r") refl, text r (ascii_next c r d), tt)),
+      ),
+    )
 
 row_texts : (t i : Text) → IsAscii (t ++ 47 ∷ i) → AllText (row_pairs t i)
 row_texts t i a =
@@ -141,13 +150,13 @@ abbrev pub pairs_at : RouteOf Route → Text → List (Text × Text)
 pairs_at m path = walk m.pattern m.text path m.names 0 0
 
 abbrev pub IsTileMatch : Text → RouteOf Route → Type 0
-IsTileMatch path m = (t z c r : Text) × (path ≡ tile_path t z c r) × (pairs_at m path ≡ tile_pairs t z c r) × AllText (tile_pairs t z c r) × IsPart t × IsPart z × IsPart c × IsPart r
+IsTileMatch path m = (t z c r : Text) × (path ≡ tile_path t z c r) × (pairs_at m path ≡ tile_pairs t z c r) × AllText (tile_pairs t z c r) × IsPathPart t × IsPathPart z × IsPathPart c × IsPathPart r
 
 abbrev pub IsMediaMatch : Text → RouteOf Route → Type 0
-IsMediaMatch path m = (t i : Text) × (path ≡ media_path t i) × (pairs_at m path ≡ row_pairs t i) × AllText (row_pairs t i) × IsPart t
+IsMediaMatch path m = (t i : Text) × (path ≡ media_path t i) × (pairs_at m path ≡ row_pairs t i) × AllText (row_pairs t i) × IsPathPart t
 
 abbrev pub IsRelatedMatch : Text → RouteOf Route → Type 0
-IsRelatedMatch path m = (t i : Text) × (path ≡ related_path t i) × (pairs_at m path ≡ row_pairs t i) × AllText (row_pairs t i) × IsPart t
+IsRelatedMatch path m = (t i : Text) × (path ≡ related_path t i) × (pairs_at m path ≡ row_pairs t i) × AllText (row_pairs t i) × IsPathPart t
 
 -- what a match says, by its route
 abbrev pub IsMatch : Text → RouteOf Route → Route → Type 0
@@ -158,7 +167,20 @@ IsMatch path m route.Contents = path ≡ path_from (codes "contents" ∷ [])
 
 from_row : (path : Text) (k : ℕ) → IsAscii path → Formed k path → IsMatch path (route_of k) (route_of k).value
 from_row path k low (inl (n, t, z, c, r, is, pt, pz, pc, pr)) =
-    subst (λ j. IsMatch path (route_of j) (route_of j).value) (sym n) (t, z, c, r, is, ap (λ p. pairs_at tile_route p) is ∙ tile_walk t z c r pt pz pc pr, tile_texts t z c r (rw is at low), pt, pz, pc, pr)
+    subst (λ j. IsMatch path (route_of j) (route_of j).value) (sym n) (
+      t,
+      z,
+      c,
+      r,
+      is,
+      ap (λ p. pairs_at tile_route p) is
+          ∙ tile_walk t z c r pt pz pc pr,
+      tile_texts t z c r (rw is at low),
+      pt,
+      pz,
+      pc,
+      pr,
+    )
 from_row path k low (inr (inl (n, t, i, is, pt, pi))) =
     subst (λ j. IsMatch path (route_of j) (route_of j).value) (sym n) (t, i, is, ap (λ p. pairs_at media_row p) is ∙ media_walk t i pt pi, media_texts t i (rw is at low), pt)
 from_row path k low (inr (inr (inl (n, t, i, is, pt, pi)))) =

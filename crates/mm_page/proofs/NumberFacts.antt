@@ -1,5 +1,6 @@
 -- What the bytes of names and numbers are: no slash, and ASCII.
-use Rattle.std.proofs.Common.{nat_abs, ◌≡◌, ◌≢◌, ◌<◌, inl, inr, ℕ, zero, suc, ℤ, pos, negsuc, ◌≤ℤ◌, List, [], ◌∷◌, length, Bool, true, false, ◌==◌, All, IsTrue, not, refl, ap, arith}
+use Rattle.std.proofs.Common.{nat_abs, ◌≡◌, ◌≢◌, ◌<◌, inl, inr, ℕ, zero, suc, ℤ, pos, negsuc, ◌≤ℤ◌, List, [], ◌∷◌}
+use Rattle.std.proofs.Common.{length, Bool, true, false, ◌==◌, All, IsTrue, not, refl, ap, arith}
 use Rattle.std.specs.List.{list_any}
 use Rattle.std.proofs.lemmas.Int.{ints}
 use Rattle.std.proofs.lemmas.List.Elements.{All-head, All-tail}
@@ -9,7 +10,7 @@ use Rattle.std.specs.Str.{IsAscii}
 use Rattle.std.proofs.lemmas.Str.Ascii.{IsAscii-nil}
 use Rattle.matchit.specs.Seek.{has_slash}
 use Rattle.mm_definitions.specs.Bounds.{IsName, is_letter_or_digit}
-use Rattle.mm_page.specs.Routes.{IsPart}
+use Rattle.mm_page.specs.Routes.{IsPathPart}
 use Rattle.mm_definitions.specs.Numbers.{AreDigits, IsDigit, LeadDigits, SpellsNumber}
 
 -- what is no slash before what has none
@@ -43,18 +44,18 @@ name_clean (b ∷ rest) h =
     (name_clean rest p.1)
 
 -- a name is a part of a path, and so is a number's text
-pub name_part : (text : List ℕ) → IsName text → IsPart text
+pub name_part : (text : List ℕ) → IsName text → IsPathPart text
 name_part text h = (name_clean text h.all, (let l = h.long.0 in omega (arith, l)))
 
 digits_clean : (digits : List ℕ) → AreDigits digits → has_slash digits ≡ false
 digits_clean [] h = refl
 digits_clean (b ∷ rest) h = let d = All-head IsDigit b rest h in onward b rest (λ e. omega (arith, d.0, e)) (digits_clean rest (All-tail IsDigit b rest h))
 
-lead_part : (digits : List ℕ) → LeadDigits digits → IsPart digits
+lead_part : (digits : List ℕ) → LeadDigits digits → IsPathPart digits
 lead_part [] h = absurd h
 lead_part (b ∷ rest) h = (onward b rest (λ e. omega (arith, h.0, e)) (digits_clean rest h.2), omega arith)
 
-pub spelled_part : (text : List ℕ) (z : ℤ) → SpellsNumber text z → IsPart text
+pub spelled_part : (text : List ℕ) (z : ℤ) → SpellsNumber text z → IsPathPart text
 spelled_part text z (inl (e, f)) = rw e (refl, (let l : 0 < 1 = omega arith in l))
 spelled_part text z (inr (inl (h, f))) = lead_part text h
 spelled_part text z (inr (inr (d, e, h, f))) = rw e (onward 45 d (λ q. omega (arith, q)) (lead_part d h).0, (let l : 0 < length (45 ∷ d) = omega arith in l))

@@ -6,7 +6,7 @@ use Rattle.mm_definitions.specs.Keys.{Text}
 use Rattle.mm_definitions.proofs.ReadingFacts.{spells_one}
 use Rattle.mm_page.specs.Asked.{IsRouted, Contents, Media, Related, Tile, Wanted}
 use Rattle.mm_page.specs.Responses.{response_of}
-use Rattle.mm_page.specs.Routes.{IsPart}
+use Rattle.mm_page.specs.Routes.{IsPathPart}
 use Rattle.mm_page.proofs.NumberFacts.{name_part, spelled_part}
 use Rattle.mm_page.proofs.AskFacts.{same_front, second}
 use Rattle.mm_page.specs.Page.{Page, Writes, WritesTo, path_of, reply_of}
@@ -16,7 +16,7 @@ other path a b x y e f g h differ = absurd (differ (sym g ∙ ap second (sym e �
 
 -- the texts of a path that is written in two ways
 tiles_one : (path t z c r t2 z2 c2 r2 : Text) → path ≡ 47 ∷ (codes "tiles/" ++ (t ++ 47 ∷ (z ++ 47 ∷ (c ++ 47 ∷ r))))
-    → path ≡ 47 ∷ (codes "tiles/" ++ (t2 ++ 47 ∷ (z2 ++ 47 ∷ (c2 ++ 47 ∷ r2)))) → IsPart t → IsPart t2 → IsPart z → IsPart z2 → IsPart c → IsPart c2
+    → path ≡ 47 ∷ (codes "tiles/" ++ (t2 ++ 47 ∷ (z2 ++ 47 ∷ (c2 ++ 47 ∷ r2)))) → IsPathPart t → IsPathPart t2 → IsPathPart z → IsPathPart z2 → IsPathPart c → IsPathPart c2
     → (t ≡ t2) × (z ≡ z2) × (c ≡ c2) × (r ≡ r2)
 tiles_one path t z c r t2 z2 c2 r2 e f pt pt2 pz pz2 pc pc2 =
     let (a1, b1) = same_front t _ t2 _ pt.0 pt2.0 (ap (drop 7) (sym e ∙ f)) in
@@ -27,7 +27,8 @@ tiles_one path t z c r t2 z2 c2 r2 e f pt pt2 pz pz2 pc pc2 =
 -- a path asks for one thing
 pub asks_one : (path : Text) (w v : Wanted) → IsRouted path w → IsRouted path v → w ≡ v
 asks_one path (Tile t n d e) (Tile t2 n2 d2 e2) (z, c, r, is, name, nz, nc, nr) (z2, c2, r2, is2, name2, nz2, nc2, nr2) =
-    let (a1, a2, a3, a4) = tiles_one path t z c r t2 z2 c2 r2 is is2 (name_part t name) (name_part t2 name2) (spelled_part z n nz.0) (spelled_part z2 n2 nz2.0) (spelled_part c d nc.0) (spelled_part c2 d2 nc2.0) in
+    let (a1, a2, a3, a4) = tiles_one path t z c r t2 z2 c2 r2 is is2 (name_part t name) (name_part t2 name2)
+    (spelled_part z n nz.0) (spelled_part z2 n2 nz2.0) (spelled_part c d nc.0) (spelled_part c2 d2 nc2.0) in
     let q1 : n ≡ n2 = spells_one z2 n n2 (rw a2 at nz.0) nz2.0 in
     let q2 : d ≡ d2 = spells_one c2 d d2 (rw a3 at nc.0) nc2.0 in
     let q3 : e ≡ e2 = spells_one r2 e e2 (rw a4 at nr.0) nr2.0 in

@@ -1,5 +1,6 @@
 -- Which paths the routes of the page take.
-use Rattle.std.proofs.Common.{◌≡◌, ◌∙◌, ◌⊎◌, inl, inr, ℕ, List, [], ◌∷◌, ◌++◌, length, drop, Option, Some, None, Bool, true, false, nat_eq, ◌==◌, ltb, refl, sym, ap, subst, arith, codes}
+use Rattle.std.proofs.Common.{◌≡◌, ◌∙◌, ◌⊎◌, inl, inr, ℕ, List, [], ◌∷◌, ◌++◌, length, drop, Option, Some, None, Bool}
+use Rattle.std.proofs.Common.{true, false, nat_eq, ◌==◌, ltb, refl, sym, ap, subst, arith, codes}
 use Rattle.std.specs.List.{list_all, starts_with}
 use Rattle.std.proofs.lemmas.Bool.{cases_eq, and_parts, ltb-true, cases_Bool}
 use Rattle.std.proofs.lemmas.Bool.Decides.{nat_tests, Decides-eqb}
@@ -9,7 +10,7 @@ use Rattle.matchit.specs.Seek.{step, seek, first, has_slash}
 use Rattle.matchit.specs.Level.{IsText}
 use Rattle.matchit.proofs.SeekLemmas.{first-prefix, seek-empty}
 use Rattle.mm_definitions.specs.Keys.{Text}
-use Rattle.mm_page.specs.Routes.{IsPart, media_path, numbered_patterns, related_path, tile_path}
+use Rattle.mm_page.specs.Routes.{IsPathPart, media_path, numbered_patterns, related_path, tile_path}
 use Rattle.mm_page.proofs.SeekFacts.{byte_step, cut, last-goes, last-none-slash, mid-empty, mid-goes, mid-none}
 
 pub low_text : (w : List ℕ) → list_all (λ b. ltb b 256) w ≡ true → IsText w
@@ -22,7 +23,7 @@ text_parts (x ∷ a) b h = let p = text_parts a b h.1 in ((h.0, p.0), p.1)
 
 -- a path of a route's form leads to it
 
-pub tile_goes : (t z c r : Text) → IsText (tile_path t z c r) → IsPart t → IsPart z → IsPart c → IsPart r → first numbered_patterns (tile_path t z c r) ≡ Some 0
+pub tile_goes : (t z c r : Text) → IsText (tile_path t z c r) → IsPathPart t → IsPathPart z → IsPathPart c → IsPathPart r → first numbered_patterns (tile_path t z c r) ≡ Some 0
 tile_goes t z c r low pt pz pc pr =
     let lt = text_parts t (47 ∷ (z ++ 47 ∷ (c ++ 47 ∷ r))) (text_parts (codes "/tiles/") (t ++ 47 ∷ (z ++ 47 ∷ (c ++ 47 ∷ r))) low).1 in
     let lz = text_parts z (47 ∷ (c ++ 47 ∷ r)) lt.1.1 in
@@ -35,7 +36,7 @@ tile_goes t z c r low pt pz pc pr =
     ∙ mid-goes c r (256 ∷ []) 0 lc.0 pc.0 pc.1
     ∙ last-goes r 0 lc.1.1 pr.0 pr.1
 
-pub media_goes : (t i : Text) → IsText (media_path t i) → IsPart t → IsPart i → first numbered_patterns (media_path t i) ≡ Some 1
+pub media_goes : (t i : Text) → IsText (media_path t i) → IsPathPart t → IsPathPart i → first numbered_patterns (media_path t i) ≡ Some 1
 media_goes t i low pt pi =
     let lt = text_parts t (47 ∷ i) (text_parts (codes "/media/") (t ++ 47 ∷ i) low).1 in
     byte_step numbered_patterns 47 _ refl refl
@@ -44,7 +45,7 @@ media_goes t i low pt pi =
     ∙ mid-goes t i (256 ∷ []) 1 lt.0 pt.0 pt.1
     ∙ last-goes i 1 lt.1.1 pi.0 pi.1
 
-pub related_goes : (t i : Text) → IsText (related_path t i) → IsPart t → IsPart i → first numbered_patterns (related_path t i) ≡ Some 2
+pub related_goes : (t i : Text) → IsText (related_path t i) → IsPathPart t → IsPathPart i → first numbered_patterns (related_path t i) ≡ Some 2
 related_goes t i low pt pi =
     let lt = text_parts t (47 ∷ i) (text_parts (codes "/related/") (t ++ 47 ∷ i) low).1 in
     byte_step numbered_patterns 47 _ refl refl
@@ -73,7 +74,7 @@ abbrev pub Goes : Rows → Text → ℕ → Type 0
 Goes rs path k = seek 0 rs path ≡ Some k
 
 mid_back : (path t : Text) (key k : ℕ) → IsText path → Goes ((256 ∷ 47 ∷ t, key) ∷ []) path k
-    → (v rest : Text) × (path ≡ v ++ 47 ∷ rest) × IsPart v × IsText rest × Goes ((t, key) ∷ []) rest k
+    → (v rest : Text) × (path ≡ v ++ 47 ∷ rest) × IsPathPart v × IsText rest × Goes ((t, key) ∷ []) rest k
 mid_back path t key k low h = elim (cut path) [
   | inl none ↦ no_route k _ (mid-none path t key low none) h
   | inr ([], rest, none, e) ↦ no_route k _ (mid-empty rest t key) (rw e at h)
@@ -82,7 +83,7 @@ mid_back path t key k low h = elim (cut path) [
       (b ∷ v, rest, e, (none, omega arith), l.1.1, sym (mid-goes (b ∷ v) rest t key l.0 none (omega arith)) ∙ (rw e at h))
 ]
 
-last_back : (path : Text) (key k : ℕ) → IsText path → Goes ((256 ∷ [], key) ∷ []) path k → IsPart path × (k ≡ key)
+last_back : (path : Text) (key k : ℕ) → IsText path → Goes ((256 ∷ [], key) ∷ []) path k → IsPathPart path × (k ≡ key)
 unfolding seek
 last_back [] key k low h = no_route k None refl h
 last_back (b ∷ p) key k low h = elim (cases_Bool (has_slash (b ∷ p))) [
@@ -111,9 +112,9 @@ end_back (b ∷ p) key k h = no_route k _ (byte_step (([], key) ∷ []) b p refl
 -- the form of a path that leads to a route
 abbrev pub Formed : ℕ → Text → Type 0
 Formed k path =
-    ((k ≡ 0) × (t z c r : Text) × (path ≡ tile_path t z c r) × IsPart t × IsPart z × IsPart c × IsPart r)
-    ⊎ ((k ≡ 1) × (t i : Text) × (path ≡ media_path t i) × IsPart t × IsPart i)
-    ⊎ ((k ≡ 2) × (t i : Text) × (path ≡ related_path t i) × IsPart t × IsPart i)
+    ((k ≡ 0) × (t z c r : Text) × (path ≡ tile_path t z c r) × IsPathPart t × IsPathPart z × IsPathPart c × IsPathPart r)
+    ⊎ ((k ≡ 1) × (t i : Text) × (path ≡ media_path t i) × IsPathPart t × IsPathPart i)
+    ⊎ ((k ≡ 2) × (t i : Text) × (path ≡ related_path t i) × IsPathPart t × IsPathPart i)
     ⊎ ((k ≡ 3) × (path ≡ codes "/contents"))
 
 tile_back : (path : Text) (k : ℕ) → IsText path → Goes ((codes "iles/" ++ 256 ∷ 47 ∷ 256 ∷ 47 ∷ 256 ∷ 47 ∷ 256 ∷ [], 0) ∷ []) path k
@@ -128,7 +129,7 @@ tile_back path k low h =
     inl (n, t, z, c, p3, ap (λ x. 47 ∷ 116 ∷ x) is, pt, pz, pc, pr)
 
 pair_back : (w path : Text) (key k : ℕ) → IsText w → IsText path → Goes ((w ++ 256 ∷ 47 ∷ 256 ∷ [], key) ∷ []) path k
-    → (k ≡ key) × (t i : Text) × (path ≡ w ++ (t ++ 47 ∷ i)) × IsPart t × IsPart i
+    → (k ≡ key) × (t i : Text) × (path ≡ w ++ (t ++ 47 ∷ i)) × IsPathPart t × IsPathPart i
 pair_back w path key k lw low h =
     let (p0, e0, l0, h0) = word_back w (256 ∷ 47 ∷ 256 ∷ []) path key k lw low h in
     let (t, p1, e1, pt, l1, h1) = mid_back p0 _ key k l0 h0 in

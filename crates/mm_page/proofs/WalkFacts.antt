@@ -1,5 +1,6 @@
 -- What the parameters of a match are.
-use Rattle.std.proofs.Common.{◌≡◌, ◌∙◌, ◌<◌, ◌≤◌, ◌+◌, ◌-◌, ℕ, List, [], ◌∷◌, ◌++◌, length, drop, get_or, true, false, Bool, cond, ◌==◌, ltb, leb, ◌&&◌, min, refl, sym, ap, arith, codes}
+use Rattle.std.proofs.Common.{◌≡◌, ◌∙◌, ◌<◌, ◌≤◌, ◌+◌, ◌-◌, ℕ, List, [], ◌∷◌, ◌++◌, length, drop, get_or, true, false}
+use Rattle.std.proofs.Common.{Bool, cond, ◌==◌, ltb, leb, ◌&&◌, min, refl, sym, ap, arith, codes}
 use Rattle.std.proofs.lemmas.Bool.{le-ltb, lt-ltb, le-leb, eq-eqb}
 use Rattle.std.proofs.lemmas.List.{append-nil, drop-drop, length-append, length-drop}
 use Rattle.std.proofs.Math.Seq.{drop-append_seam, take-append_seam}
@@ -8,7 +9,7 @@ use Rattle.matchit.specs.Seek.{has_slash, segment}
 use Rattle.matchit.specs.Level.{IsText}
 use Rattle.matchit.specs.Params.{after_token, part_of, walk, wild_from, wild_stop}
 use Rattle.mm_definitions.specs.Keys.{Text}
-use Rattle.mm_page.specs.Routes.{IsPart, media_path, media_row, related_path, related_row, row_pairs, tile_pairs, tile_path, tile_route}
+use Rattle.mm_page.specs.Routes.{IsPathPart, media_path, media_row, related_path, related_row, row_pairs, tile_pairs, tile_path, tile_route}
 use Rattle.mm_page.proofs.SeekFacts.{segment-slashed}
 use Rattle.mm_page.proofs.RouteFacts.{low_text}
 
@@ -53,7 +54,8 @@ walk-mid pattern text path name names token next at lit more v rest pat low next
     let room : at + length lit ≤ length path = omega (arith, all, length-drop at path) in
     let start = at + length lit in
     let after : drop start path ≡ v ++ 47 ∷ rest = drop-add at (length lit) path ∙ ap (drop (length lit)) is ∙ drop-append_seam lit (v ++ 47 ∷ rest) in
-    let wf : wild_from (drop token pattern) (length path) token at ≡ (token + length lit, start) = ap (λ p. wild_from p (length path) token at) pat ∙ wild_from-lit lit (47 ∷ more) (length path) token at low room in
+    let wf : wild_from (drop token pattern) (length path) token at ≡ (token + length lit, start) =
+    ap (λ p. wild_from p (length path) token at) pat ∙ wild_from-lit lit (47 ∷ more) (length path) token at low room in
     let (part, fits, left) = part_is path v (47 ∷ rest) start after room in
     let nx : token + length lit + 1 ≡ next = sym nexts in
     let a : ltb (token + length lit) (length pattern) ≡ true = lt-ltb _ _ (omega arith) in
@@ -76,7 +78,8 @@ walk-last pattern text path name token at lit v pat low size is at_low =
     let room : at + length lit ≤ length path = omega (arith, all, length-drop at path) in
     let start = at + length lit in
     let after : drop start path ≡ v ++ [] = drop-add at (length lit) path ∙ ap (drop (length lit)) is ∙ drop-append_seam lit v ∙ sym (append-nil v) in
-    let wf : wild_from (drop token pattern) (length path) token at ≡ (token + length lit, start) = ap (λ p. wild_from p (length path) token at) pat ∙ wild_from-lit lit [] (length path) token at low room in
+    let wf : wild_from (drop token pattern) (length path) token at ≡ (token + length lit, start) =
+    ap (λ p. wild_from p (length path) token at) pat ∙ wild_from-lit lit [] (length path) token at low room in
     let (part, fits, left) = part_is path v [] start after room in
     let d : ltb (token + length lit + 1) (length pattern) ≡ false = le-ltb _ _ (omega arith) in
     let whole : length path ≡ start + length v = omega (arith, all, length-drop at path) in
@@ -91,11 +94,12 @@ walk-last pattern text path name token at lit v pat low size is at_low =
 
 -- the parameters of each route
 
-pub tile_walk : (t z c r : Text) → IsPart t → IsPart z → IsPart c → IsPart r
+pub tile_walk : (t z c r : Text) → IsPathPart t → IsPathPart z → IsPathPart c → IsPathPart r
     → walk tile_route.pattern tile_route.text (tile_path t z c r) tile_route.names 0 0 ≡ tile_pairs t z c r
 tile_walk t z c r pt pz pc pr =
     let path = tile_path t z c r in
-    let (e1, w1, d1, l1) = walk-mid tile_route.pattern tile_route.text path (8, 13) ((16, 17) ∷ (20, 21) ∷ (24, 25) ∷ []) 0 8 0 (codes "/tiles/") (256 ∷ 47 ∷ 256 ∷ 47 ∷ 256 ∷ []) t (z ++ 47 ∷ (c ++ 47 ∷ r))
+    let (e1, w1, d1, l1) = walk-mid tile_route.pattern tile_route.text path (8, 13)
+    ((16, 17) ∷ (20, 21) ∷ (24, 25) ∷ []) 0 8 0 (codes "/tiles/") (256 ∷ 47 ∷ 256 ∷ 47 ∷ 256 ∷ []) t (z ++ 47 ∷ (c ++ 47 ∷ r))
     refl (low_text (codes "/tiles/") refl) refl (omega arith) (omega arith) refl refl refl (omega arith) pt.0 in
     let (e2, w2, d2, l2) = walk-mid tile_route.pattern tile_route.text path (16, 17) ((20, 21) ∷ (24, 25) ∷ []) 8 10 e1 (47 ∷ []) (256 ∷ 47 ∷ 256 ∷ []) z (c ++ 47 ∷ r)
     refl (low_text (47 ∷ []) refl) refl (omega arith) (omega arith) refl refl d1 l1 pz.0 in
@@ -104,7 +108,7 @@ tile_walk t z c r pt pz pc pr =
     let w4 = walk-last tile_route.pattern tile_route.text path (24, 25) 12 e3 (47 ∷ []) r refl (low_text (47 ∷ []) refl) refl d3 l3 in
     w1 ∙ ap (λ l. (codes "table", t) ∷ l) (w2 ∙ ap (λ l. (codes "z", z) ∷ l) (w3 ∙ ap (λ l. (codes "c", c) ∷ l) w4))
 
-pub media_walk : (t i : Text) → IsPart t → IsPart i → walk media_row.pattern media_row.text (media_path t i) media_row.names 0 0 ≡ row_pairs t i
+pub media_walk : (t i : Text) → IsPathPart t → IsPathPart i → walk media_row.pattern media_row.text (media_path t i) media_row.names 0 0 ≡ row_pairs t i
 media_walk t i pt pi =
     let path = media_path t i in
     let (e1, w1, d1, l1) = walk-mid media_row.pattern media_row.text path (8, 13) ((16, 18) ∷ []) 0 8 0 (codes "/media/") (256 ∷ []) t i
@@ -112,7 +116,7 @@ media_walk t i pt pi =
     let w2 = walk-last media_row.pattern media_row.text path (16, 18) 8 e1 (47 ∷ []) i refl (low_text (47 ∷ []) refl) refl d1 l1 in
     w1 ∙ ap (λ l. (codes "table", t) ∷ l) w2
 
-pub related_walk : (t i : Text) → IsPart t → IsPart i → walk related_row.pattern related_row.text (related_path t i) related_row.names 0 0 ≡ row_pairs t i
+pub related_walk : (t i : Text) → IsPathPart t → IsPathPart i → walk related_row.pattern related_row.text (related_path t i) related_row.names 0 0 ≡ row_pairs t i
 related_walk t i pt pi =
     let path = related_path t i in
     let (e1, w1, d1, l1) = walk-mid related_row.pattern related_row.text path (10, 15) ((18, 20) ∷ []) 0 10 0 (codes "/related/") (256 ∷ []) t i

@@ -12,8 +12,8 @@ pub data Wanted : Type 0 where
   Contents : Wanted
 
 -- the text spells this number, which is within these limits
-abbrev pub Numbers : ℤ → ℤ → Text → ℤ → Type 0
-Numbers least most text z = SpellsNumber text z × (least ≤ℤ z) × (z ≤ℤ most)
+abbrev pub SpellsWithin : ℤ → ℤ → Text → ℤ → Type 0
+SpellsWithin least most text z = SpellsNumber text z × (least ≤ℤ z) × (z ≤ℤ most)
 
 -- a path of these parts, each after a slash
 abbrev pub path_from : List Text → Text
@@ -25,11 +25,11 @@ path_from (part ∷ next ∷ rest) = 47 ∷ (part ++ path_from (next ∷ rest))
 abbrev pub IsRouted : Text → Wanted → Type 0
 IsRouted path (Tile table z c r) = (zoom column row : Text)
     × (path ≡ path_from (codes "tiles" ∷ table ∷ zoom ∷ column ∷ row ∷ []))
-    × IsName table × Numbers (pos 0) (pos 30) zoom z × Numbers (pos 0) (pos 1073741823) column c × Numbers (pos 0) (pos 1073741823) row r
+    × IsName table × SpellsWithin (pos 0) (pos 30) zoom z × SpellsWithin (pos 0) (pos 1073741823) column c × SpellsWithin (pos 0) (pos 1073741823) row r
 IsRouted path (Media table i) = (id : Text)
     × (path ≡ path_from (codes "media" ∷ table ∷ id ∷ []))
-    × IsName table × Numbers (pos 1) (pos 9007199254740992) id i
+    × IsName table × SpellsWithin (pos 1) (pos 9007199254740992) id i
 IsRouted path (Related table i) = (id : Text)
     × (path ≡ path_from (codes "related" ∷ table ∷ id ∷ []))
-    × IsName table × Numbers (pos 1) (pos 9007199254740992) id i
+    × IsName table × SpellsWithin (pos 1) (pos 9007199254740992) id i
 IsRouted path Contents = path ≡ path_from (codes "contents" ∷ [])

@@ -33,7 +33,8 @@ table_data_at t None = object (member (codes "data_type") (string (codes "attrib
     (member (codes "last_change") (string t.last_change) (member (codes "table") (string t.table) no_members)))))
 table_data_at t (Some (system, extent)) = object (member (codes "data_type") (string (codes "tiles")) (member (codes "extent") (extent_data extent)
     (member (codes "identifier") (string t.identifier) (member (codes "kind") (words t.kind)
-    (member (codes "last_change") (string t.last_change) (member (codes "srs_id") (whole_number system) (member (codes "table") (string t.table) no_members)))))))
+    (member (codes "last_change") (string t.last_change)
+    (member (codes "srs_id") (whole_number system) (member (codes "table") (string t.table) no_members)))))))
 
 -- a table, with its system and its extent where it is a pyramid
 abbrev pub table_data : Listed → Data

@@ -17,10 +17,10 @@ use Rattle.mm_page.specs.Asked.{Wanted}
 use Rattle.mm_page.specs.Heads.{ReadsNoMore}
 use Rattle.mm_page.specs.Responses.{response_of}
 use Rattle.mm_page.specs.Page.{reply_of}
-use Rattle.mm_page.specs.Served.{AsksForPart, IsPageFault, Served, ServedTo, Stopped}
+use Rattle.mm_page.specs.Served.{AsksForPart, IsPageFault, Served, ServedTo, IsCutResponse}
 
 -- It reads the head of one request, and writes one response.
-pub record Serves {V R W : Type 0} (view : viewers.Ghosts V) (read : reads.Ghosts R) (write : writes.Ghosts W)
+pub record ServesRequest {V R W : Type 0} (view : viewers.Ghosts V) (read : reads.Ghosts R) (write : writes.Ghosts W)
     (old new : V) (input input_now : Io R) (output output_now : Io W) (result : Result (Unit {0}) PageFault) : Type 0 where
   -- The viewer has failed where it had, and nowhere else.
   pub same : view.has_failed new ≡ view.has_failed old
@@ -42,7 +42,7 @@ pub record Serves {V R W : Type 0} (view : viewers.Ghosts V) (read : reads.Ghost
   -- 92 is told only where a part of the package is asked for.
   pub needed : IfErr result (λ e. e.0.0 ≡ 92 → AsksForPart (read.remaining (inside input)))
   -- With a fault nothing was written; with 97, the output's, a front of the response.
-  pub stopped : IfErr result (λ e. Stopped (view.has_failed old) (IsOn (view.has_failed old) (view.store old) (view.store new))
+  pub stopped : IfErr result (λ e. IsCutResponse (view.has_failed old) (IsOn (view.has_failed old) (view.store old) (view.store new))
       (read.remaining (inside input)) (has_failed input_now) (write.contents (inside output)) (write.contents (inside output_now))
       (has_failed output_now) e.0)
 

@@ -75,8 +75,8 @@ abbrev pub page_rows : RowsOf (RouteOf Route)
 page_rows = rename route_of numbered_patterns
 
 -- a part of a path between slashes
-abbrev pub IsPart : Text → Type 0
-IsPart v = (has_slash v ≡ false) × (0 < length v)
+abbrev pub IsPathPart : Text → Type 0
+IsPathPart v = (has_slash v ≡ false) × (0 < length v)
 
 -- the paths of the routes with parameters
 abbrev pub tile_path : Text → Text → Text → Text → Text
@@ -107,12 +107,12 @@ abbrev pub pairs_of : Params → Pairs
 pairs_of p = walk p.pattern.now p.text.now p.path.now p.names.now 0 0
 
 -- a parameter took this text
-abbrev pub Took : Params → Text → Text → Type 0
-Took p key v = AllText (pairs_of p) × (named key (pairs_of p) ≡ Some v)
+abbrev pub TookText : Params → Text → Text → Type 0
+TookText p key v = AllText (pairs_of p) × (named key (pairs_of p) ≡ Some v)
 
 -- the parameters of a tile's path, and of a row's
 abbrev pub TookTile : Params → Text → Text → Text → Text → Type 0
-TookTile p t z c r = AllText (pairs_of p) × (pairs_of p ≡ tile_pairs t z c r) × IsPart t × IsPart z × IsPart c × IsPart r
+TookTile p t z c r = AllText (pairs_of p) × (pairs_of p ≡ tile_pairs t z c r) × IsPathPart t × IsPathPart z × IsPathPart c × IsPathPart r
 
 -- the parameters took this table and this id, in the path of a medium or of what an item is related to
 abbrev pub TookRow : Params → Text → Text → Type 0
@@ -120,7 +120,7 @@ TookRow p t i = AllText (pairs_of p) × (pairs_of p ≡ row_pairs t i)
 
 -- the texts name a row
 abbrev pub IsRowPath : Text → Text → Type 0
-IsRowPath t i = IsName t × (n : ℤ) × page.Numbers (pos 1) (pos 9007199254740992) i n
+IsRowPath t i = IsName t × (n : ℤ) × page.SpellsWithin (pos 1) (pos 9007199254740992) i n
 
 -- what the code's value asks for
 abbrev pub asked : Wanted → page.Wanted

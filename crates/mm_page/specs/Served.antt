@@ -27,8 +27,8 @@ IsPageFault failed fault = (fault.0 ≡ 90) ⊎ IsViewFault failed fault
 
 -- Why it wasn't written whole: 90, 91, 92, or 96 where the reader has failed, and then nothing was written; or 97 where the
 -- writer has, and then a front of it was.
-abbrev pub Stopped : Bool → (Package → Type 0) → Option Text → Bool → Option Text → Option Text → Bool → Fault → Type 0
-Stopped failed on source reading old new writing fault =
+abbrev pub IsCutResponse : Bool → (Package → Type 0) → Option Text → Bool → Option Text → Option Text → Bool → Fault → Type 0
+IsCutResponse failed on source reading old new writing fault =
     (IsPageFault failed fault × Keeps old new)
     ⊎ ((fault.0 ≡ 96) × (reading ≡ true) × Keeps old new)
     ⊎ ((fault.0 ≡ 97) × (writing ≡ true) × (response : Text) × Served on source response
@@ -38,4 +38,5 @@ Stopped failed on source reading old new writing fault =
 
 -- the input asks for a part of the package
 abbrev pub AsksForPart : Option Text → Type 0
-AsksForPart source = (input : Text) → source ≡ Some input → (h : RequestHead) × IsHead 8192 64 input h × (h.method ≡ codes "GET") × (w : Wanted) × IsRouted (path_of h.target) w
+AsksForPart source = (input : Text) → source ≡ Some input → (h : RequestHead) × IsHead 8192 64 input h
+    × (h.method ≡ codes "GET") × (w : Wanted) × IsRouted (path_of h.target) w

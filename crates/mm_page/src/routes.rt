@@ -4,9 +4,9 @@ ghost use Rattle.std.specs.Prelude.{◌≡◌, ℤ, pos, ◌≤ℤ◌, IfOk, IfE
 ghost use Rattle.std.specs.Str.{IsAscii};
 ghost use Rattle.mm_definitions.specs.Bounds.{IsName};
 ghost use Rattle.mm_definitions.specs.Keys.{Text};
-ghost use Rattle.mm_page.specs.Asked.{IsRouted, Numbers};
+ghost use Rattle.mm_page.specs.Asked.{IsRouted, SpellsWithin};
 ghost use Rattle.mm_page.specs.Asked as page;
-ghost use Rattle.mm_page.specs.Routes.{IsRowPath, Took, TookRow, TookTile, asked, page_rows, tile_path};
+ghost use Rattle.mm_page.specs.Routes.{IsRowPath, TookText, TookRow, TookTile, asked, page_rows, tile_path};
 
 use matchit::{InsertError, Params, Router};
 use mm_definitions::answers::Fault;
@@ -61,7 +61,7 @@ pub enum Wanted {
 }
 
 fn name_of(params: &Params<'_, '_>, key: &str) -> Option<Name>
-    ensures { (v : Text) → Took params.now key.now v
+    ensures { (v : Text) → TookText params.now key.now v
         → MatchOption result (¬ (IsName v)) (λ name. (name ≡ v) × IsName v) }
 {
     let text = params.get(key)?;
@@ -70,8 +70,8 @@ fn name_of(params: &Params<'_, '_>, key: &str) -> Option<Name>
 
 fn number_of(params: &Params<'_, '_>, key: &str, least: i64, most: i64) -> Option<i64>
     ensures bounds { IfSome result (λ z. (least ≤ℤ z) × (z ≤ℤ most)) }
-    ensures number { (v : Text) → Took params.now key.now v
-        → MatchOption result ((z : ℤ) → ¬ (Numbers least most v z)) (λ z. Numbers least most v z) }
+    ensures number { (v : Text) → TookText params.now key.now v
+        → MatchOption result ((z : ℤ) → ¬ (SpellsWithin least most v z)) (λ z. SpellsWithin least most v z) }
 {
     let text = params.get(key)?;
     match read_number(text, least, most) {
@@ -107,7 +107,7 @@ fn tile_wanted(params: &Params<'_, '_>) -> Option<Wanted>
 
 fn row_wanted(params: &Params<'_, '_>) -> Option<(Name, i64)>
     ensures { (t i : Text) → TookRow params.now t i → MatchOption result (¬ (IsRowPath t i))
-        (λ r. (r.0 ≡ t) × IsName t × Numbers (pos 1) (pos 9007199254740992) i r.1) }
+        (λ r. (r.0 ≡ t) × IsName t × SpellsWithin (pos 1) (pos 9007199254740992) i r.1) }
 {
     let Some(table) = name_of(params, "table") else {
         return None;

@@ -5,7 +5,7 @@ ghost use Rattle.mm_definitions.specs.Keys.{Text};
 ghost use Rattle.mm_definitions.specs.Package.{Package};
 ghost use Rattle.mm_page.specs.Page.{Page, WritesTo};
 ghost use Rattle.mm_page.specs.Page as page;
-ghost use Rattle.mm_page.specs.Promised.{MakesResponse, Responds, Serves};
+ghost use Rattle.mm_page.specs.Promised.{MakesResponse, Responds, ServesRequest};
 ghost use Rattle.mm_page.specs.Asked.{IsRouted, Wanted};
 
 use crate::replies::{printed, reply};
@@ -102,7 +102,7 @@ pub fn serve_one<V: Viewer, R: Read, W: Write>(
     reader: &mut Io<R>,
     writer: &mut Io<W>,
 ) -> Result<(), PageFault>
-    ensures { Serves V.Viewer R.Read W.Write viewer.old viewer.new reader.old reader.new
+    ensures { ServesRequest V.Viewer R.Read W.Write viewer.old viewer.new reader.old reader.new
         writer.old writer.new result }
 {
     let response = match respond(alloc, viewer, reader) {

@@ -34,7 +34,7 @@ use Rattle.mm_work.specs.declared.stop.Stop.TheVariants as stops
 use Rattle.mm_program.specs.Files.{OffClose, OnOpened, WereBare}
 use Rattle.mm_program.specs.Desks.{LeavesDesk}
 use Rattle.mm_program.specs.Left.{IsDeclinedFor, LeavesFine, LeavesImport, LeavesMade, LeavesRun, LeavesSame, RanTo, StaysFor, TellsChecked}
-use Rattle.mm_program.specs.Life.{AreMade, Deed, IsLife, IsPartOf, Leads, LeavesBy, LivesOn, Makes, MakesAttended, MakesBy, MakesImport, Ran, Use, Looks, Runs, Attends, Imports, Migrates}
+use Rattle.mm_program.specs.Life.{AreMade, Deed, IsLife, IsPartOf, Leads, LeavesBy, LivesOn, DeedMakes, MakesAttended, MakesBy, MakesImport, Ran, Use, Looks, Runs, Attends, Imports, Migrates}
 use Rattle.mm_program.specs.Worked.{closes_done}
 
 -- what is left of files that were worked on, by what they held
@@ -104,14 +104,14 @@ attends_makes (Ok status) db after p stands meets leaves =
 attends_makes (Err why) db after p stands meets same = (p, subst (λ t. StandsForCurrent t p) (sym same) stands, meets, refl)
 
 makes : (did : Deed) (db after : Trees) (p : Package) → StandsForCurrent db p → Meets current p → LeavesBy did db after
-    → (q : Package) × StandsForCurrent after q × Meets current q × Makes did p q
+    → (q : Package) × StandsForCurrent after q × Meets current q × DeedMakes did p q
 makes Looks db after p stands meets same = (p, subst (λ t. StandsForCurrent t p) (sym same) stands, meets, refl)
 makes (Runs r) db after p stands meets leaves = makes_by r r.done db after p stands meets leaves
 makes (Attends done) db after p stands meets leaves = attends_makes done db after p stands meets leaves
 makes (Imports i) db after p stands meets leaves = import_makes i.told i.name i.done db after p stands meets leaves
 makes (Migrates done) db after p stands meets leaves = (p, migration_makes done after p (leaves.0 p stands), meets, refl)
 
-lives_further : (next : Image) (used : Use) (uses : List Use) (p q : Package) → Makes used.did p q → Meets current q → LivesOn next q uses
+lives_further : (next : Image) (used : Use) (uses : List Use) (p q : Package) → DeedMakes used.did p q → Meets current q → LivesOn next q uses
     → LivesOn next p (used ∷ uses)
 unfolding AreMade
 lives_further next used uses p q made meets it = record {

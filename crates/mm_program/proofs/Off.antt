@@ -7,7 +7,7 @@ use Rattle.mm_definitions.specs.Keys.{Text}
 use Rattle.mm_definitions.specs.Streams.{Written}
 use Rattle.mm_definitions.specs.declared.answers.Fault.{Fault}
 use Rattle.mm_files.specs.Files.{IsStoreFault, IsWhyNot}
-use Rattle.mm_files.specs.Worked.{IsUnclosed, IsUnworked, TellsBytes}
+use Rattle.mm_files.specs.Worked.{IsUnclosed, IsUnworked, TellsFileBytes}
 use Rattle.mm_files.specs.declared.left.Left.{Left}
 use Rattle.mm_files.specs.declared.left.Left.TheVariants as left
 use Rattle.mm_files.specs.declared.left.NotDone.{NotDone}
@@ -46,7 +46,7 @@ stops_old n (stops.Fault fault) it = it
 module _ {D S Done : Type 0} (g : Ghosts D) (image : Image) (path : Text) (closes : Done → Bool) where
   module _ (tells : Trees → Written → Written → Done → Type 0) (leaves : Trees → Trees → Written → Written → Done → Type 0) (old new : Written) (length : Option ℕ) where
     -- what `on_file` says
-    pub off_file : (rest : Left D S g) (it : NotDone) → IsUnworked g image path rest → IsUnclosed g tells leaves closes old new image rest → TellsBytes g image it rest
+    pub off_file : (rest : Left D S g) (it : NotDone) → IsUnworked g image path rest → IsUnclosed g tells leaves closes old new image rest → TellsFileBytes g image it rest
         → IsWhyNot length it
         → OffFile g image path (StopsOn length) (λ found done. tells found old new done) (λ found after done. leaves found after old new done) closes (stop_for it) rest
     off_file (left.Untouched start) it un still bytes is = stops_on length it is

@@ -4,8 +4,8 @@ use Rattle.std.specs.Prelude.{unwrap_or}
 use Rattle.mm_definitions.specs.Streams.{Written}
 use Rattle.mm_work.specs.Told.{stop_status}
 use Rattle.mm_work.specs.declared.stop.Stop.{Stop}
-use Rattle.mm_program.specs.Rows.{IsShown}
-use Rattle.mm_program.specs.Worked.{IsListed, IsRun}
+use Rattle.mm_program.specs.Rows.{ShowingEnds}
+use Rattle.mm_program.specs.Worked.{ListingEnds, RunEnds}
 use Rattle.mm_program.specs.declared.clock.Now.{Now}
 use Rattle.mm_program.specs.declared.clock.Now.TheVariants as now
 
@@ -25,14 +25,14 @@ pub any_given : (at : Option ℕ) → IfSome at (λ given. unwrap_or at 0 ≡ gi
 any_given None = tt
 any_given (Some m) = refl
 
-pub run_untold : (old new : Written) (done : Result ℕ Stop) → IsRun old new done → IfErr done (λ why. (new ≡ old) ⊎ (stop_status why ≡ 3))
+pub run_untold : (old new : Written) (done : Result ℕ Stop) → RunEnds old new done → IfErr done (λ why. (new ≡ old) ⊎ (stop_status why ≡ 3))
 run_untold old new (Ok status) run = tt
 run_untold old new (Err why) run = run.1.1
 
-pub list_untold : (old new : Written) (done : Result (Unit {0}) Stop) → IsListed old new done → IfErr done (λ why. (new ≡ old) ⊎ (stop_status why ≡ 3))
+pub list_untold : (old new : Written) (done : Result (Unit {0}) Stop) → ListingEnds old new done → IfErr done (λ why. (new ≡ old) ⊎ (stop_status why ≡ 3))
 list_untold old new (Ok done) listed = tt
 list_untold old new (Err why) listed = listed.1
 
-pub show_untold : (old new : Written) (done : Result ℕ Stop) → IsShown old new done → IfErr done (λ why. (new ≡ old) ⊎ (stop_status why ≡ 3))
+pub show_untold : (old new : Written) (done : Result ℕ Stop) → ShowingEnds old new done → IfErr done (λ why. (new ≡ old) ⊎ (stop_status why ≡ 3))
 show_untold old new (Ok status) shown = tt
 show_untold old new (Err why) shown = shown.1

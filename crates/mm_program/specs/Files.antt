@@ -6,7 +6,7 @@ use Rattle.sqlite.specs.Recovery.{Image}
 use Rattle.sqlite.specs.WalReads.{AreClean}
 use Rattle.mm_definitions.specs.Keys.{Text}
 use Rattle.mm_definitions.specs.Streams.{Written}
-use Rattle.mm_files.specs.Files.{IsBare, IsStoreFault}
+use Rattle.mm_files.specs.Files.{HoldNoByte, IsStoreFault}
 use Rattle.mm_files.specs.Worked.{IsFoundIn, IsRefused, LeavesStill, LeavesTo}
 use Rattle.mm_files.specs.declared.left.NotDone.{NotDone}
 use Rattle.mm_files.specs.declared.left.NotDone.TheVariants as why
@@ -73,7 +73,7 @@ OnFile g image path IsCause tells leaves closes done rest =
 
 -- they held no byte
 abbrev pub WereBare : {D : Type 0} (g : Ghosts D) → Image → Opened D → Type 0
-WereBare g image opened = AreClean g opened.files.log opened.files.db → IsBare image
+WereBare g image opened = AreClean g opened.files.log opened.files.db → HoldNoByte image
 
 -- files that were worked on held no byte
 abbrev pub WasBare : {D S : Type 0} (g : Ghosts D) → Image → Left D S g → Type 0

@@ -94,14 +94,14 @@ RanTo p moment bytes after old new status =
     ⊎ ((e : RunFault) × RanSome p moment bytes (λ q. StandsForCurrent after q) ⊤ (shown_in after) old new e × (status ≡ 3))
 
 -- it stands for a package that meets the rules
-abbrev pub IsKept : Trees → Type 0
-IsKept after = (q : Package) × StandsForCurrent after q × Meets current q
+abbrev pub StandsKept : Trees → Type 0
+StandsKept after = (q : Package) × StandsForCurrent after q × Meets current q
 
 -- of each package of the rules that the database stood for, and by the bytes of the input, where it tells them; nothing where none was adopted
 abbrev pub LeavesRun : Option (List ℕ) → ℕ → Trees → Trees → Written → Written → Result ℕ Stop → Type 0
 LeavesRun source moment found after old new (Ok status) =
     (p : Package) → StandsForCurrent found p → Meets current p
-    → IsKept after × ((bytes : List ℕ) → source ≡ Some bytes → RanTo p moment bytes after old new status)
+    → StandsKept after × ((bytes : List ℕ) → source ≡ Some bytes → RanTo p moment bytes after old new status)
 LeavesRun source moment found after old new (Err why) = after ≡ found
 
 -- what was found, or why nothing was run

@@ -72,14 +72,14 @@ IsPartOf p moment bytes after old new status q (inl (t, all, is)) = IsFirstPart 
 IsPartOf p moment bytes after old new status q (inr (e, some, is)) = IsFirstPart p (calls_of moment some.readings) (acknowledged_of p moment some.readings e.tally) q
 
 -- the run read, printed and counted so, and the package after it is that of such a part
-pub record IsPart (r : Ran) (status : ℕ) (p q : Package) : Type 0 where
+pub record IsRunPart (r : Ran) (status : ℕ) (p q : Package) : Type 0 where
   pub after : Trees
   pub ran : RanTo p r.moment r.bytes after r.old r.new status
   pub part : IsPartOf p r.moment r.bytes after r.old r.new status q ran
 
 -- what a run makes of a package, by what it came to
 abbrev pub MakesBy : Ran → Result ℕ Stop → Package → Package → Type 0
-MakesBy r (Ok status) p q = IsPart r status p q
+MakesBy r (Ok status) p q = IsRunPart r status p q
 MakesBy r (Err why) p q = q ≡ p
 
 -- What a desk makes of it: the package after a first part of the accepted commands of all its lists, one behind another, with every one that was
@@ -94,17 +94,17 @@ MakesImport name (Ok import) p q = KeepsOthers name p q
 MakesImport name (Err why) p q = q ≡ p
 
 -- what a use makes of it; a migration finds it in micrometres
-abbrev pub Makes : Deed → Package → Package → Type 0
-Makes Looks p q = q ≡ p
-Makes (Runs r) p q = MakesBy r r.done p q
-Makes (Attends done) p q = MakesAttended done p q
-Makes (Imports i) p q = MakesImport i.name i.done p q
-Makes (Migrates done) p q = q ≡ p
+abbrev pub DeedMakes : Deed → Package → Package → Type 0
+DeedMakes Looks p q = q ≡ p
+DeedMakes (Runs r) p q = MakesBy r r.done p q
+DeedMakes (Attends done) p q = MakesAttended done p q
+DeedMakes (Imports i) p q = MakesImport i.name i.done p q
+DeedMakes (Migrates done) p q = q ≡ p
 
 -- Each use makes a package of the one that the use before made, and each of them meets the rules.
 unfoldable pub AreMade : Package → List Use → Package → Type 0
 AreMade p [] q = q ≡ p
-AreMade p (used ∷ uses) q = (between : Package) × Makes used.did p between × Meets current between × AreMade between uses q
+AreMade p (used ∷ uses) q = (between : Package) × DeedMakes used.did p between × Meets current between × AreMade between uses q
 
 -- what is left holds a package that these uses have made of another one, and it meets the rules
 pub record LivesOn (left : Image) (p : Package) (uses : List Use) : Type 0 where

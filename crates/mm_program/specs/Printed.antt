@@ -3,7 +3,7 @@ use Rattle.std.specs.Prelude.{◌≡◌, ◌⊎◌, ℕ, List, Option, None, Som
 use Rattle.clap.specs.Words.{HasKind, fault_of, kind_of}
 use Rattle.clap.specs.declared.error.Error.{Error}
 use Rattle.mm_arguments.specs.CommandLine.{command_line}
-use Rattle.mm_arguments.specs.Requests.{Asks, status_of}
+use Rattle.mm_arguments.specs.Requests.{WordsAsk, status_of}
 use Rattle.mm_arguments.specs.declared.requests.Request.{Request}
 use Rattle.mm_arguments.specs.declared.requests.Request.TheVariants as asked
 use Rattle.mm_definitions.specs.Bounds.{IsName}
@@ -76,5 +76,5 @@ PrintsRequest (asked.Explain answer) old new result = TellsExplained answer.now 
 -- What the words ask for is printed; or what is wrong with them, or that memory is wanted to read them.
 abbrev pub PrintsWords : List Text → Written → Written → ℕ → Type 0
 PrintsWords words old new result =
-    ((request : Request) × Asks words request × PrintsRequest request old new result)
+    ((request : Request) × WordsAsk words request × PrintsRequest request old new result)
     ⊎ ((error : Error) × HasKind (fault_of command_line words) error × TellsStatus (status_of (kind_of error)) old new result)

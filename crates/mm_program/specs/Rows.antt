@@ -17,8 +17,8 @@ use Rattle.mm_work.specs.declared.stop.Stop.TheVariants as stops
 use Rattle.mm_program.specs.Left.{IsDeclinedFor, WasFoundWell}
 
 -- The text was printed, with its status; or why it was not is a fault, or nothing was printed.
-abbrev pub IsShown : Written → Written → Result ℕ Stop → Type 0
-IsShown old new done =
+abbrev pub ShowingEnds : Written → Written → Result ℕ Stop → Type 0
+ShowingEnds old new done =
     IfOk done (λ status. (status ≤ 1) × (new.failed ≡ old.failed))
     × IfErr done (λ why. (new ≡ old) ⊎ (stop_status why ≡ 3))
 

@@ -13,7 +13,7 @@ use Rattle.mm_work.specs.declared.stop.Stop.{Stop}
 use Rattle.clap.specs.Words.{HasKind, fault_of, kind_of}
 use Rattle.clap.specs.declared.error.Error.{Error}
 use Rattle.mm_arguments.specs.CommandLine.{command_line}
-use Rattle.mm_arguments.specs.Requests.{Asks, status_of}
+use Rattle.mm_arguments.specs.Requests.{WordsAsk, status_of}
 use Rattle.mm_arguments.specs.declared.requests.Request.{Request}
 use Rattle.mm_arguments.specs.declared.requests.Request.TheVariants as asked
 use Rattle.mm_files.specs.declared.left.Left.{Left}
@@ -37,8 +37,8 @@ IsOutcome status old new (Ok it) result = (old ≡ new) × (result ≡ status it
 IsOutcome status old new (Err why) result = IsTold old new (stop_text why) (stop_status why) result
 
 -- The work printed so much, or nothing where it was not done for a reason that is no fault; then comes its outcome.
-abbrev pub IsEnded : {T : Type 0} → (T → ℕ) → Written → Written → Written → Result T Stop → ℕ → Type 0
-IsEnded status old between new outcome result =
+abbrev pub EndsInOutcome : {T : Type 0} → (T → ℕ) → Written → Written → Written → Result T Stop → ℕ → Type 0
+EndsInOutcome status old between new outcome result =
     IfErr outcome (λ why. (between ≡ old) ⊎ (stop_status why ≡ 3)) × IsOutcome status between new outcome result
 
 module _ {D S : Type 0} (g : Ghosts D) (image : Image) (path : Text) (old new : Written) (result : ℕ) (left : Left D S g) where
@@ -59,21 +59,21 @@ module _ {D S : Type 0} (g : Ghosts D) (image : Image) (path : Text) (old new : 
 
   -- `list` prints the listing of the package that was found, which is as it was
   abbrev pub TellsList : Type 0
-  TellsList = (between : Written) × (outcome : Result (Unit {0}) Stop) × IsEnded (λ done. 0) old between new outcome result × IsUnprinted g old between left
+  TellsList = (between : Written) × (outcome : Result (Unit {0}) Stop) × EndsInOutcome (λ done. 0) old between new outcome result × IsUnprinted g old between left
       × OnFile g image path StopsOld (λ found done. TellsListing found old between done) (λ found after done. LeavesSame found after) closes_done outcome left
 
   -- `show` prints the rows of a table of the package that was found, which is as it was; a table's name that is none opens no file
   abbrev pub TellsShow : Text → Option ℤ → Type 0
   TellsShow table id =
       (¬ (IsName table) × IsTold old new (codes "refused 12\n") 1 result × IsUntouched left)
-      ⊎ (IsName table × (between : Written) × (outcome : Result ℕ Stop) × IsEnded (λ status. status) old between new outcome result × IsUnprinted g old between left
+      ⊎ (IsName table × (between : Written) × (outcome : Result ℕ Stop) × EndsInOutcome (λ status. status) old between new outcome result × IsUnprinted g old between left
       × OnFile g image path StopsOld (λ found done. TellsShown table id found old between done) (λ found after done. LeavesSame found after) closes_run outcome left)
 
   -- `run` runs the records of the input, which has these bytes, at the moment that is given, or at that of the clock, or refuses the clock's
   abbrev pub TellsRan : Option (List ℕ) → Option ℕ → Type 0
   TellsRan source at =
       ((at ≡ None) × IsTold old new (codes "refused 11\n") 1 result × IsUntouched left)
-      ⊎ ((moment : ℕ) × IfSome at (λ given. moment ≡ given) × (between : Written) × (outcome : Result ℕ Stop) × IsEnded (λ status. status) old between new outcome result × IsUnprinted g old between left
+      ⊎ ((moment : ℕ) × IfSome at (λ given. moment ≡ given) × (between : Written) × (outcome : Result ℕ Stop) × EndsInOutcome (λ status. status) old between new outcome result × IsUnprinted g old between left
       × OnFile g image path StopsOld TellsRun (λ found after done. LeavesRun source moment found after old between done) closes_run outcome left)
 
   -- `kit` refuses an edition that is no name, and a moment of the clock outside the limits; else it tells what the import came to.
@@ -86,14 +86,14 @@ module _ {D S : Type 0} (g : Ghosts D) (image : Image) (path : Text) (old new : 
 
   -- `serve` serves the package that was found, which is as it was
   abbrev pub TellsService : Type 0
-  TellsService = (between : Written) × (outcome : Result ℕ Stop) × IsEnded (λ status. status) old between new outcome result × IsUnprinted g old between left
+  TellsService = (between : Written) × (outcome : Result ℕ Stop) × EndsInOutcome (λ status. status) old between new outcome result × IsUnprinted g old between left
       × OnFile g image path StopsOld TellsServed (λ found after done. LeavesSame found after) closes_run outcome left
 
   -- `desk` shows the package that was found and runs lists on it; a key or a table's name that is none opens no file
   abbrev pub TellsSitting : Type 0
   TellsSitting =
       ((IsTold old new (codes "refused 11\n") 1 result ⊎ IsTold old new (codes "refused 12\n") 1 result) × IsUntouched left)
-      ⊎ ((between : Written) × (outcome : Result ℕ Stop) × IsEnded (λ status. status) old between new outcome result × IsUnprinted g old between left
+      ⊎ ((between : Written) × (outcome : Result ℕ Stop) × EndsInOutcome (λ status. status) old between new outcome result × IsUnprinted g old between left
       × OnFile g image path StopsOld TellsSat (λ found after done. LeavesDesk found after done) closes_run outcome left)
 
 -- ---- the program
@@ -118,5 +118,5 @@ TellsRequest g image source (asked.Explain answer) old new result left = TellsEx
 -- What the words ask for is told and left; or what is wrong with them, or that memory is wanted to read them, and no file was opened.
 abbrev pub TellsWords : {D S : Type 0} (g : Ghosts D) → Image → Option (List ℕ) → List Text → Written → Written → ℕ → Left D S g → Type 0
 TellsWords g image source words old new result left =
-    ((request : Request) × Asks words request × TellsRequest g image source request old new result left)
+    ((request : Request) × WordsAsk words request × TellsRequest g image source request old new result left)
     ⊎ ((error : Error) × HasKind (fault_of command_line words) error × TellsStatus (status_of (kind_of error)) old new result × IsUntouched left)

@@ -28,12 +28,12 @@ closes_import (Err why) = false
 -- ---- what it comes to
 
 -- The listing was printed; or why it was not is a fault, or nothing was printed.
-abbrev pub IsListed : Written → Written → Result (Unit {0}) Stop → Type 0
-IsListed old new done = OnOk done (new.failed ≡ old.failed) × IfErr done (λ why. (new ≡ old) ⊎ (stop_status why ≡ 3))
+abbrev pub ListingEnds : Written → Written → Result (Unit {0}) Stop → Type 0
+ListingEnds old new done = OnOk done (new.failed ≡ old.failed) × IfErr done (λ why. (new ≡ old) ⊎ (stop_status why ≡ 3))
 
 -- The records were answered, with the status of a fault where the writer failed; or why they were not is a fault, or nothing was printed.
-abbrev pub IsRun : Written → Written → Result ℕ Stop → Type 0
-IsRun old new done =
+abbrev pub RunEnds : Written → Written → Result ℕ Stop → Type 0
+RunEnds old new done =
     IfOk done (λ status. (status ≤ 3) × ((status ≡ 3) ⊎ (new.failed ≡ old.failed)))
     × IfErr done (λ why. (new.failed ≡ old.failed) × ((new ≡ old) ⊎ (stop_status why ≡ 3)))
 

@@ -4,7 +4,7 @@ ghost use Rattle.std.specs.Prelude.{◌≡◌, ◌++◌, codes, string_bytes, No
 ghost use Rattle.sqlite.specs.WalFiles.{image_at};
 ghost use Rattle.sqlite.specs.WalReads.{AreClean};
 ghost use Rattle.mm_definitions.specs.Streams.{written};
-ghost use Rattle.mm_files.specs.Files.{IsBare};
+ghost use Rattle.mm_files.specs.Files.{HoldNoByte};
 ghost use Rattle.mm_files.specs.Worked.{IsUnprinted, WorkedFrom};
 ghost use Rattle.mm_program.specs.Files.{IsUndone, OffFile, StopsAny, StopsNew, StopsOld, StopsOn, stop_for};
 
@@ -81,7 +81,7 @@ fn on_length<'a, S: Start, K: Works, W: Write>(
     ensures path { IfOk result (λ r. r.0.path.now ≡ path.now) }
     ensures bare { IfOk result (λ r. length ≡ None
         → AreClean ⟦<FileFrom<S> as Disk>⟧ r.0.files.log r.0.files.db
-        → IsBare (image_at S.Start)) }
+        → HoldNoByte (image_at S.Start)) }
     ensures worked { IfOk result (λ r. WorkedFrom ⟦<FileFrom<S> as Disk>⟧
         (K.tells work.old) (K.leaves work.old) (K.closes r.1)
         (written W.contents output.old) (written W.contents output.new)
@@ -117,7 +117,7 @@ pub fn on_new<'a, S: Start, K: Works, W: Write>(
     ensures path { IfOk result (λ r. r.0.path.now ≡ path.now) }
     ensures bare { IfOk result
         (λ r. AreClean ⟦<FileFrom<S> as Disk>⟧ r.0.files.log r.0.files.db
-        → IsBare (image_at S.Start)) }
+        → HoldNoByte (image_at S.Start)) }
     ensures worked { IfOk result (λ r. WorkedFrom ⟦<FileFrom<S> as Disk>⟧
         (K.tells work.old) (K.leaves work.old) (K.closes r.1)
         (written W.contents output.old) (written W.contents output.new)

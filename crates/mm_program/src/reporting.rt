@@ -8,7 +8,7 @@ ghost use Rattle.mm_work.specs.Told.{TellsFailure};
 ghost use Rattle.mm_program.specs.Files.{OnFile, StopsOld};
 ghost use Rattle.mm_program.specs.Left.{LeavesSame, TellsChecked, TellsListing};
 ghost use Rattle.mm_program.specs.Told.{StopsCheck, TellsCheck, TellsDecline, TellsList};
-ghost use Rattle.mm_program.specs.Worked.{IsListed, closes_done};
+ghost use Rattle.mm_program.specs.Worked.{ListingEnds, closes_done};
 
 use crate::files::on_old;
 use mm_definitions::streams::Io;
@@ -92,7 +92,7 @@ struct Listing;
 impl Works for Listing {
     type Done = Result<(), Stop>;
 
-    ghost comes_to = { λ work. IsListed };
+    ghost comes_to = { λ work. ListingEnds };
 
     ghost tells = { λ work. TellsListing };
 
@@ -125,7 +125,7 @@ fn list_file<'a, S: Start, W: Write>(
     start: S,
     output: &mut Io<W>,
 ) -> (Result<(), Stop>, Left<'a, FileFrom<S>, S>)
-    ensures listed { IsListed (written W.contents output.old)
+    ensures listed { ListingEnds (written W.contents output.old)
         (written W.contents output.new) result.0 }
     ensures unprinted { IsUnprinted ⟦<FileFrom<S> as Disk>⟧ (written W.contents output.old)
         (written W.contents output.new) result.1 }

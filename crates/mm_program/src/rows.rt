@@ -7,7 +7,7 @@ ghost use Rattle.mm_files.specs.Worked.{IsUnprinted};
 ghost use Rattle.mm_work.specs.Told.{TellsFailure};
 ghost use Rattle.mm_program.specs.Files.{OnFile, StopsOld};
 ghost use Rattle.mm_program.specs.Left.{LeavesSame};
-ghost use Rattle.mm_program.specs.Rows.{IsShown, TellsShown};
+ghost use Rattle.mm_program.specs.Rows.{ShowingEnds, TellsShown};
 ghost use Rattle.mm_program.specs.Told.{TellsDecline, TellsShow};
 ghost use Rattle.mm_program.specs.Worked.{closes_run};
 
@@ -31,7 +31,7 @@ struct Showing<'a> {
 impl<'a> Works for Showing<'a> {
     type Done = Result<u8, Stop>;
 
-    ghost comes_to = { λ work. IsShown };
+    ghost comes_to = { λ work. ShowingEnds };
 
     ghost tells = { λ work. TellsShown work.table.now work.id };
 
@@ -71,7 +71,7 @@ fn show_file<'a, S: Start, W: Write>(
     id: Option<i64>,
     output: &mut Io<W>,
 ) -> (Result<u8, Stop>, Left<'a, FileFrom<S>, S>)
-    ensures shown { IsShown (written W.contents output.old)
+    ensures shown { ShowingEnds (written W.contents output.old)
         (written W.contents output.new) result.0 }
     ensures unprinted { IsUnprinted ⟦<FileFrom<S> as Disk>⟧ (written W.contents output.old)
         (written W.contents output.new) result.1 }

@@ -2,7 +2,7 @@
 
 ghost use Rattle.std.specs.Prelude.{◌≡◌, ◌⊎◌, List, false};
 ghost use Rattle.mm_definitions.specs.Streams.{written};
-ghost use Rattle.mm_desk.specs.Exchanges.{IsTurn};
+ghost use Rattle.mm_desk.specs.Exchanges.{IsDeskTurn};
 ghost use Rattle.mm_desk.specs.Sittings.{Sat, Visit};
 ghost use Rattle.mm_program.specs.Desks.{IsAttended, PrintsTurn};
 
@@ -56,7 +56,7 @@ fn answer_and_tell<D: Desk, C: Comes<D>, W: Write>(
     comes: &mut C,
     output: &mut Io<W>,
 ) -> Turn
-    ensures one { IsTurn D.Apply desk.old desk.new }
+    ensures one { IsDeskTurn D.Apply desk.old desk.new }
     ensures goes { result ≡ Turn.Next → D.Apply.has_failed desk.old ≡ false
         → D.Apply.has_failed desk.new ≡ false }
     ensures told { PrintsTurn (written W.contents output.old) (written W.contents output.new)

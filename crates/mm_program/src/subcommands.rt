@@ -11,7 +11,7 @@ ghost use Rattle.mm_program.specs.Files.{OnFile, StopsNew, StopsOld, WasBare};
 ghost use Rattle.mm_program.specs.Left.{LeavesMade, LeavesRun, TellsRun};
 ghost use Rattle.mm_program.specs.Printed.{PrintsWords};
 ghost use Rattle.mm_program.specs.Told.{TellsDecline, TellsInit, TellsRan, TellsStatus, TellsWords};
-ghost use Rattle.mm_program.specs.Worked.{IsRun, closes_done, closes_run};
+ghost use Rattle.mm_program.specs.Worked.{RunEnds, closes_done, closes_run};
 
 use crate::clock::{Now, moment_or_now};
 use crate::desks::desk_told;
@@ -96,7 +96,7 @@ struct Run<'a, R: Read> {
 impl<'a, R: Read> Works for Run<'a, R> {
     type Done = Result<u8, Stop>;
 
-    ghost comes_to = { λ work. IsRun };
+    ghost comes_to = { λ work. RunEnds };
 
     ghost tells = { λ work found old new done. TellsRun found done };
 
@@ -136,7 +136,7 @@ fn run_file<'a, S: Start, R: Read, W: Write>(
     output: &mut Io<W>,
     at: Moment,
 ) -> (Result<u8, Stop>, Left<'a, FileFrom<S>, S>)
-    ensures run { IsRun (written W.contents output.old) (written W.contents output.new) result.0 }
+    ensures run { RunEnds (written W.contents output.old) (written W.contents output.new) result.0 }
     ensures unprinted { IsUnprinted ⟦<FileFrom<S> as Disk>⟧ (written W.contents output.old)
         (written W.contents output.new) result.1 }
     ensures left { OnFile ⟦<FileFrom<S> as Disk>⟧ (image_at S.Start) path.now StopsOld TellsRun

@@ -19,7 +19,7 @@ use Rattle.sqlite.specs.Held.{Held, AreDatabases}
 use Rattle.sqlite.specs.Files.{file_state, IsOpened, Finds, image_of}
 use Rattle.sqlite.specs.State.{HasCleanDisk}
 use Rattle.sqlite.proofs.Theorems.{opens_again}
-use Rattle.mm_recovery.specs.Found.{AreClosed, AreLeftBy, FindsClosedIn, FindsLeftIn, IsFound, LeaveNoMore}
+use Rattle.mm_recovery.specs.Found.{AreClosed, AreLeftBy, FindsClosedIn, FindsLeftIn, IsFoundAlone, LeaveNoMore}
 use Rattle.mm_core.proofs.Opened.{IsFresh, nothing_less, opened_blank, opened_settles}
 
 module _ {D : Type 0} {g : Ghosts D} where
@@ -70,7 +70,7 @@ module _ {D : Type 0} {g : Ghosts D} where
 
   -- ---- what an open finds in them
 
-  pub is_found : (stays : SeenMayStay g) (new : Held (FileStore D g)) → IsOpened new → IsFound (file_state new)
+  pub is_found : (stays : SeenMayStay g) (new : Held (FileStore D g)) → IsOpened new → IsFoundAlone (file_state new)
   is_found stays new opened = record {
     is_open = opened.0.is_open;
     only = (is_fresh new stays opened).2;

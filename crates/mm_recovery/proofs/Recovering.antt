@@ -14,8 +14,8 @@ use Rattle.mm_walk.proofs.InTurn.{either_holds}
 use Rattle.mm_core.specs.Adopted.{IsAdopted, IsNotAdopted, Declines}
 use Rattle.mm_core.specs.Applied.{StandsForCurrent}
 use Rattle.mm_store.specs.Stands.{IsSettled}
-use Rattle.mm_recovery.specs.Found.{FindsCommitted, FindsLeft, IsFound}
-use Rattle.mm_recovery.specs.Recovered.{IsDeclined, IsFault, IsKeptOn, IsRecovered, IsRedeclined, IsReopened, IsSoundOn, LeavesPackages}
+use Rattle.mm_recovery.specs.Found.{FindsCommitted, FindsLeft, IsFoundAlone}
+use Rattle.mm_recovery.specs.Recovered.{IsHandedBack, IsFault, IsKeptOn, IsRecovered, IsRedeclined, IsReopened, IsSoundOn, LeavesPackages}
 
 -- a package that meets the rules breaks none
 rule_holds : (p : Package) (k : ℕ) → Meets current p → rule current k p
@@ -42,7 +42,7 @@ none_is_declined p opens.BadProfile m it other = it
 none_is_declined p opens.BadBlobs m it other = it
 
 -- a connection that is declined is as it was opened
-kept_on : (mid new : State) (why : Open) → IsFound mid → IsNotAdopted mid new why → HasCleanDisk new → IsKeptOn new mid.committed.trees why
+kept_on : (mid new : State) (why : Open) → IsFoundAlone mid → IsNotAdopted mid new why → HasCleanDisk new → IsKeptOn new mid.committed.trees why
 kept_on mid new why found declined clean = record {
   only = λ other may. elim (declined.survives.crash clean other may) [ inl before ↦ found.only other before | inr none ↦ absurd none ];
   settled = λ profile p stands. declined.settled clean profile p (found.settled profile p stands);
@@ -83,7 +83,7 @@ module _ (old mid new : State) (finds : FindsLeft old mid) where
   declines opens.BadProfile declined clean left = never opens.BadProfile declined refl clean left
   declines opens.BadBlobs declined clean left = never opens.BadBlobs declined refl clean left
 
-  pub declines_by : (why : Open) → new.in_transaction ≡ false → IsNotAdopted mid new why → IsDeclined old new why
+  pub declines_by : (why : Open) → new.in_transaction ≡ false → IsNotAdopted mid new why → IsHandedBack old new why
   declines_by why idle declined =
       let early : HasCleanDisk new → HasCleanDisk mid = λ clean. omega (arith, clean, declined.survives.clean) in
       record {

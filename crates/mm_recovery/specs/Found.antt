@@ -54,7 +54,7 @@ abbrev pub IsBlankByFound : State → Type 0
 IsBlankByFound new = HasNoTable new.committed.trees → IsBlank new
 
 -- The store is open, no other database may be left than the one that was found, and the connection is settled for what it stands for.
-pub record IsFound (new : State) : Type 0 where
+pub record IsFoundAlone (new : State) : Type 0 where
   pub is_open : IsTrue new.is_open
   pub only : (db : Trees) → new.may_leave db → db ≡ new.committed.trees
   pub settled : IsSettledInEach new
@@ -64,14 +64,14 @@ pub record IsFound (new : State) : Type 0 where
 pub record FindsLeft (old new : State) : Type 0 where
   pub clean : HasCleanDisk new → HasCleanDisk old
   pub found : HasCleanDisk new → ∥ old.may_leave new.committed.trees ∥₁
-  pub is : HasCleanDisk new → IsFound new
+  pub is : HasCleanDisk new → IsFoundAlone new
 
 -- It found the database that was committed last, of a store that was open.
 pub record FindsCommitted (old new : State) : Type 0 where
   pub clean : HasCleanDisk new → HasCleanDisk old
   pub was_open : HasCleanDisk new → IsTrue old.is_open
   pub found : HasCleanDisk new → new.committed.trees ≡ old.committed.trees
-  pub is : HasCleanDisk new → IsFound new
+  pub is : HasCleanDisk new → IsFoundAlone new
 
 module _ {D : Type 0} {g : Ghosts D} where
   -- of whichever connection the files hold what might be left

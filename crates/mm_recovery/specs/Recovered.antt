@@ -53,7 +53,7 @@ pub record IsRecovered (old new : State) : Type 0 where
   pub found : HasCleanDisk new → ∥ ((db : Trees) × old.may_leave db × ((p : Package) → StandsForCurrent db p → IsSoundOn new p)) ∥₁
 
 -- One of them was found, and the connection is handed back as it was opened. Where packages were left it is a fault.
-pub record IsDeclined (old new : State) (why : Open) : Type 0 where
+pub record IsHandedBack (old new : State) (why : Open) : Type 0 where
   pub mode : new.in_transaction ≡ false
   pub clean : HasCleanDisk new → HasCleanDisk old
   pub found : HasCleanDisk new → ∥ ((db : Trees) × old.may_leave db × IsKeptOn new db why) ∥₁
@@ -69,7 +69,7 @@ module _ {D : Type 0} {g : Ghosts D} where
   DeclinesLeft files (begun.Unopened stop) =
       IsNotOpened files stop × LeadsBack files stop
   DeclinesLeft files (begun.Declined conn why) =
-      (conn.in_transaction ≡ false) × ((old : Held (FileStore D g)) → AreLeftBy old files → IsDeclined (file_state old) (file_state conn) why)
+      (conn.in_transaction ≡ false) × ((old : Held (FileStore D g)) → AreLeftBy old files → IsHandedBack (file_state old) (file_state conn) why)
 
 -- ---- files that were closed
 

@@ -48,8 +48,13 @@ pub quiet_mapping_names : IsQuiet text.mapping_names
 unfolding everything
 quiet_mapping_names = λ schema base. refl
 
-pub registered : IsQuery schema text.registered (inner 1 (left 13 (equals 2 1 1 1 ∷ []) (left 4 (equals 3 1 1 1 ∷ []) end))) [] (col 2 2 ∷ col 1 2 ∷ col 1 6 ∷ col 1 7 ∷ col 1 8 ∷ col 1 9 ∷ col 1 10 ∷ col 3 3 ∷ col 3 4 ∷ col 3 5 ∷ col 3 6 ∷ col 3 2 ∷ [])
-    ((col 1 1, ascending Binary) ∷ []) (codes "kind" ∷ codes "data_type" ∷ codes "min_x" ∷ codes "min_y" ∷ codes "max_x" ∷ codes "max_y" ∷ codes "srs_id" ∷ codes "min_x" ∷ codes "min_y" ∷ codes "max_x" ∷ codes "max_y" ∷ codes "srs_id" ∷ [])
+pub registered : IsQuery schema text.registered (inner 1
+    (left 13 (equals 2 1 1 1 ∷ []) (left 4 (equals 3 1 1 1 ∷ []) end))) []
+    (col 2 2 ∷ col 1 2 ∷ col 1 6 ∷ col 1 7 ∷ col 1 8 ∷ col 1 9 ∷ col 1 10 ∷ col 3 3 ∷ col 3 4 ∷ col 3 5 ∷ col 3 6
+    ∷ col 3 2 ∷ [])
+    ((col 1 1, ascending Binary) ∷ []) (codes "kind" ∷ codes "data_type" ∷ codes "min_x" ∷ codes "min_y" ∷ codes
+    "max_x" ∷ codes "max_y" ∷ codes "srs_id" ∷ codes "min_x" ∷ codes "min_y" ∷ codes "max_x" ∷ codes "max_y"
+    ∷ codes "srs_id" ∷ [])
 unfolding understood everything
 registered = record { compiled = refl; plain = (refl, refl); unlisted = refl }
 

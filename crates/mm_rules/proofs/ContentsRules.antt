@@ -30,7 +30,8 @@ use Rattle.mm_walk.proofs.Checks.{Says}
 -- ---- rule 2
 module _ (version : ℤ) (db : Trees) (p : Package) (stands : StandsFor version db p) (table : Text) where
   abbrev Names : Value → Type 0
-  Names system = (r : Row) → lists.Has (or_nulls (filter (λ r. equal Binary (column r 0) system && true) (db 0))) r → (q : Row) → lists.Has (or_nulls (filter (λ q. equal Binary (column q 1) (Words table) && true) (db 13))) q
+  Names system = (r : Row) → lists.Has (or_nulls (filter (λ r. equal Binary (column r 0) system && true) (db 0))) r
+      → (q : Row) → lists.Has (or_nulls (filter (λ q. equal Binary (column q 1) (Words table) && true) (db 13))) q
       → MayNameRow (system ∷ column r 0 ∷ column q 2 ∷ [])
 
   with_kind : (z : ℤ) (v : Value)
@@ -40,7 +41,9 @@ module _ (version : ℤ) (db : Trees) (p : Package) (stands : StandsFor version 
       (λ o. IsTrue (is_there v) × ((o ≡ Some (codes "two")) ⊎ (o ≡ Some (codes "other")) → IsPlane z)) same (λ w y. same)
 
   names : (z : ℤ) → Names (Int z) ↔ MayName p.systems p.kinds table z
-  names z = joined as_whole system_row (db 0) p.systems (covered_whole stands.holds.systems) _ z (λ l s y. number_is l z) _ (λ o. IsTrue (is_some o) × (IsPyramid p.kinds table → IsPlane z)) (with_kind z Null) (λ s y. with_kind z (Int z))
+  names z = joined as_whole system_row (db 0) p.systems (covered_whole stands.holds.systems) _ z
+      (λ l s y. number_is l z) _ (λ o. IsTrue (is_some o) × (IsPyramid p.kinds table → IsPlane z)) (with_kind z Null)
+      (λ s y. with_kind z (Int z))
 
   maybe_names : (o : Option ℤ) → Names (maybe o) ↔ IfSome o (MayName p.systems p.kinds table)
   maybe_names None = (λ _. tt, λ _ r there q where_q. tt)
@@ -65,7 +68,9 @@ distinct_identifiers version db p stands known =
 pub mapping_names : Says [] (inner 10 (left 1 (equals 2 1 1 7 ∷ []) end)) [] (col 2 1 ∷ []) IsAbsentRow (λ _. ⊤) MappingNames
 mapping_names version db p stands known =
     each_row after_id relation_row (db 10) p.relations (covered_id (λ m r. (_, _, refl)) stands.holds.relations) _ _
-    (λ m r x. joined after_rowid contents_row (db 1) p.contents (covered (λ k c. (_, _, refl)) stands.holds.contents) _ m (λ k c y. name_is k m) _ (λ o. o ≡ None) (λ _. refl, λ _. refl) (λ c y. (λ e. absurd (true_not_false e), λ e. absurd (let f = e in cc))))
+    (λ m r x. joined after_rowid contents_row (db 1) p.contents
+    (covered (λ k c. (_, _, refl)) stands.holds.contents) _ m (λ k c y. name_is k m) _ (λ o. o ≡ None)
+    (λ _. refl, λ _. refl) (λ c y. (λ e. absurd (true_not_false e), λ e. absurd (let f = e in cc))))
   where
     true_not_false : true ≡ false → ⊥
     true_not_false e = cc
@@ -124,7 +129,15 @@ no_set v c (Some s) = (λ e. absurd (let f : true ≡ false = e in cc), λ e. ab
 
 unplaced_is : (v : Value) (c : Contents) (o : Option MatrixSet) → IsUnplacedRow (with_set v c o) ↔ IsUnplaced c o
 unplaced_is v c None = (
-  λ h. (same_some h.data_type, (absent_maybe c.min_x).0 h.min_x, (absent_maybe c.min_y).0 h.min_y, (absent_maybe c.max_x).0 h.max_x, (absent_maybe c.max_y).0 h.max_y, (absent_maybe c.system).0 h.system, (no_set v c None).0 h.set),
+  λ h. (
+    same_some h.data_type,
+    (absent_maybe c.min_x).0 h.min_x,
+    (absent_maybe c.min_y).0 h.min_y,
+    (absent_maybe c.max_x).0 h.max_x,
+    (absent_maybe c.max_y).0 h.max_y,
+    (absent_maybe c.system).0 h.system,
+    (no_set v c None).0 h.set,
+  ),
   λ (t, a, b, d, e, f, s). record {
     data_type = ap Some t;
     min_x = (absent_maybe c.min_x).1 a;
@@ -164,16 +177,23 @@ suits_is v c o = (to o, from o)
     from (Some s) (Attributes, is, h) = inr (inl is, (unplaced_is v c (Some s)).1 h)
     from (Some s) (Media, is, h) = inr (inr is, (unplaced_is v c (Some s)).1 h)
 
-pub registered : Says [] (inner 1 (left 13 (equals 2 1 1 1 ∷ []) (left 4 (equals 3 1 1 1 ∷ []) end))) [] (col 2 2 ∷ col 1 2 ∷ col 1 6 ∷ col 1 7 ∷ col 1 8 ∷ col 1 9 ∷ col 1 10 ∷ col 3 3 ∷ col 3 4 ∷ col 3 5 ∷ col 3 6 ∷ col 3 2 ∷ []) IsRegisteredRow (λ _. ⊤) Registered
+pub registered : Says [] (inner 1 (left 13 (equals 2 1 1 1 ∷ []) (left 4 (equals 3 1 1 1 ∷ []) end))) []
+    (col 2 2 ∷ col 1 2 ∷ col 1 6 ∷ col 1 7 ∷ col 1 8 ∷ col 1 9 ∷ col 1 10 ∷ col 3 3 ∷ col 3 4 ∷ col 3 5 ∷ col 3 6
+    ∷ col 3 2 ∷ []) IsRegisteredRow (λ _. ⊤) Registered
 registered version db p stands known =
     each_row after_rowid contents_row (db 1) p.contents (covered (λ k c. (_, _, refl)) stands.holds.contents) _ _
-    (λ k c x. joined after_rowid kind_row (db 13) p.kinds (covered (λ m v. (_, _, refl)) stands.holds.kinds) _ k (λ m v y. name_is m k) _ (λ o. (kind : Kind) × (o ≡ Some (kind_text kind)) × Suits kind c (get p.sets k))
+    (λ k c x. joined after_rowid kind_row (db 13) p.kinds (covered (λ m v. (_, _, refl)) stands.holds.kinds) _ k
+    (λ m v y. name_is m k) _ (λ o. (kind : Kind) × (o ≡ Some (kind_text kind)) × Suits kind c (get p.sets k))
     (with_its_set k c Null) (λ v y. with_its_set k c (Words v)))
   where
     with_its_set : (k : Text) (c : Contents) (v : Value)
-        → ((r : Row) → lists.Has (or_nulls (filter (λ r. equal Binary (column r 1) (Words k) && true) (db 4))) r → IsRegisteredRow (row_of v c (column r 3) (column r 4) (column r 5) (column r 6) (column r 2)))
+        → ((r : Row) → lists.Has (or_nulls (filter (λ r. equal Binary (column r 1) (Words k) && true) (db 4))) r
+        → IsRegisteredRow (row_of v c (column r 3) (column r 4) (column r 5) (column r 6) (column r 2)))
         ↔ ((kind : Kind) × (text_bytes v ≡ Some (kind_text kind)) × Suits kind c (get p.sets k))
-    with_its_set k c v = joined after_rowid set_row (db 4) p.sets (covered (λ m s. (_, _, refl)) stands.holds.sets) _ k (λ m s y. name_is m k) _ (λ o. (kind : Kind) × (text_bytes v ≡ Some (kind_text kind)) × Suits kind c o) (suits_is v c None) (λ s y. suits_is v c (Some s))
+    with_its_set k c v = joined after_rowid set_row (db 4) p.sets
+        (covered (λ m s. (_, _, refl)) stands.holds.sets) _ k (λ m s y. name_is m k) _
+        (λ o. (kind : Kind) × (text_bytes v ≡ Some (kind_text kind)) × Suits kind c o) (suits_is v c None)
+        (λ s y. suits_is v c (Some s))
 
 -- ---- rule 6
 pub set_extents : Says [] (inner 4 end) [] (col 1 3 ∷ col 1 4 ∷ col 1 5 ∷ col 1 6 ∷ []) IsOrderedRow (λ _. ⊤) SetExtents

@@ -1,5 +1,7 @@
 -- What the queries of extension rows show, and rule 14.
-use Rattle.std.proofs.Common.{◌≡◌, ◌≢◌, ◌↔◌, ◌⊎◌, inl, inr, Bool, true, false, ◌&&◌, ℕ, zero, suc, ◌≤◌, List, [], ◌∷◌, drop, length, filter, Option, Some, None, is_some, IsTrue, codes, refl, sym, ap, subst, ◌∙◌, arith, pos, ℤ}
+use Rattle.std.proofs.Common.{◌≡◌, ◌≢◌, ◌↔◌, ◌⊎◌, inl, inr, Bool, true, false, ◌&&◌, ℕ, zero, suc, ◌≤◌, List, [], ◌∷◌}
+use Rattle.std.proofs.Common.{drop, length, filter, Option, Some, None, is_some, IsTrue, codes, refl, sym, ap, subst}
+use Rattle.std.proofs.Common.{◌∙◌, arith, pos, ℤ}
 use Rattle.std.specs.Prelude.{⊤}
 use Rattle.std.specs.FinMap.{get}
 use Rattle.std.proofs.lemmas.Bool.{and_parts, and_from}
@@ -52,7 +54,11 @@ unfolding binary value_cmp lib.Ieee.is_nan lib.Ieee.lt
 maybe_are None None = (λ e. refl, λ e. refl)
 maybe_are None (Some b) = (λ e. absurd (let f : false ≡ true = e in cc), λ e. absurd (let f = e in cc))
 maybe_are (Some a) None = (λ e. absurd (let f : false ≡ true = e in cc), λ e. absurd (let f = e in cc))
-maybe_are (Some a) (Some b) = let t = tie texts a b in (λ e. ap Some (t.0 (ap is_eq (sym (value_cmp-Text a b)) ∙ sym (as_truth _) ∙ e)), λ e. as_truth _ ∙ ap is_eq (value_cmp-Text a b) ∙ t.1 (same_some e))
+maybe_are (Some a) (Some b) = let t = tie texts a b in (
+  λ e. ap Some (t.0 (ap is_eq (sym (value_cmp-Text a b)) ∙ sym (as_truth _) ∙ e)),
+  λ e. as_truth _
+      ∙ ap is_eq (value_cmp-Text a b) ∙ t.1 (same_some e),
+)
 
 -- `=`, of texts or NULL
 maybe_equal : (a b : Option Text) → (equal Binary (maybe_words a) (maybe_words b) ≡ true) ↔ ((t : Text) × (b ≡ Some t) × (a ≡ b))
@@ -108,7 +114,8 @@ both_named l k = (
 )
 
 both_unnamed : (l k : Extension)
-    → ((is (maybe_words k.table) Null && same_columns (is (maybe_words l.table) Null) l (maybe_words k.column) (Words k.name) (Words k.definition) (Words k.scope)) ≡ true) ↔ ((k.table ≡ None) × (l ≡ k))
+    → ((is (maybe_words k.table) Null && same_columns (is (maybe_words l.table) Null) l (maybe_words k.column)
+    (Words k.name) (Words k.definition) (Words k.scope)) ≡ true) ↔ ((k.table ≡ None) × (l ≡ k))
 both_unnamed l k =
     let t = maybe_are k.table None in
     let by : k.table ≡ None → (same_columns (is (maybe_words l.table) Null) l (maybe_words k.column) (Words k.name) (Words k.definition) (Words k.scope) ≡ true) ↔ (l ≡ k) =
@@ -118,21 +125,36 @@ both_unnamed l k =
     )
 
 -- ---- what is wanted stands
-pub mapping_extensions : Says [] (inner 10 (left 8 (equals 2 1 1 7 ∷ same_as 2 2 (lit Null) ∷ same_as 2 3 (lit (Words (codes "gpkg_related_tables"))) ∷ same_as 2 4 (lit (Words (codes "OGC 18-000"))) ∷ same_as 2 5 (lit (Words (codes "read-write"))) ∷ []) end)) [] (col 2 3 ∷ []) IsStandingRow (λ _. ⊤) MappingExtensions
+pub mapping_extensions : Says [] (inner 10 (left 8
+    (equals 2 1 1 7 ∷ same_as 2 2 (lit Null) ∷ same_as 2 3 (lit (Words (codes "gpkg_related_tables"))) ∷ same_as 2 4
+    (lit (Words (codes "OGC 18-000"))) ∷ same_as 2 5 (lit (Words (codes "read-write"))) ∷ []) end)) []
+    (col 2 3 ∷ []) IsStandingRow (λ _. ⊤) MappingExtensions
 mapping_extensions version db p stands known =
     each_row after_id relation_row (db 10) p.relations (covered_id (λ m r. (_, _, refl)) stands.holds.relations) _ _
-    (λ m r x. joined after_rowid (λ k (n : ℕ). extension_row k) (db 8) p.extensions (counts_cover (db 8) p.extensions stands.holds.extensions) _ (mapping_extension m) (λ l n y. named_is l (mapping_extension m) (m, refl)) _ (λ o. IsTrue (is_some o)) same (λ n y. same))
+    (λ m r x. joined after_rowid (λ k (n : ℕ). extension_row k) (db 8) p.extensions
+    (counts_cover (db 8) p.extensions stands.holds.extensions) _ (mapping_extension m)
+    (λ l n y. named_is l (mapping_extension m) (m, refl)) _ (λ o. IsTrue (is_some o)) same (λ n y. same))
 
-pub general_extension : Says [] (inner 12 (left 8 (same_as 2 1 (lit (Words (codes "gpkgext_relations"))) ∷ same_as 2 2 (lit Null) ∷ same_as 2 3 (lit (Words (codes "gpkg_related_tables"))) ∷ same_as 2 4 (lit (Words (codes "OGC 18-000"))) ∷ same_as 2 5 (lit (Words (codes "read-write"))) ∷ []) end)) [] (col 2 3 ∷ []) IsStandingRow (λ _. ⊤) GeneralExtension
+pub general_extension : Says [] (inner 12 (left 8
+    (same_as 2 1 (lit (Words (codes "gpkgext_relations"))) ∷ same_as 2 2 (lit Null) ∷ same_as 2 3
+    (lit (Words (codes "gpkg_related_tables"))) ∷ same_as 2 4 (lit (Words (codes "OGC 18-000"))) ∷ same_as 2 5
+    (lit (Words (codes "read-write"))) ∷ []) end)) [] (col 2 3 ∷ []) IsStandingRow (λ _. ⊤) GeneralExtension
 general_extension version db p stands known =
     let it = one_row (db 12) (profile_row version) _ stands.holds.profile in
-    let j = joined after_rowid (λ k (n : ℕ). extension_row k) (db 8) p.extensions (counts_cover (db 8) p.extensions stands.holds.extensions) _ general (λ l n y. extension_is l general) _ (λ o. IsTrue (is_some o)) same (λ n y. same) in
+    let j = joined after_rowid (λ k (n : ℕ). extension_row k) (db 8) p.extensions
+    (counts_cover (db 8) p.extensions stands.holds.extensions) _ general (λ l n y. extension_is l general) _
+    (λ o. IsTrue (is_some o)) same (λ n y. same) in
     (λ h. j.0 (it.0 h), λ g. it.1 (j.1 g))
 
-pub zoom_extensions : Says [] (inner 13 (left 8 (equals 2 1 1 1 ∷ same_as 2 2 (lit (Words (codes "tile_data"))) ∷ same_as 2 3 (lit (Words (codes "gpkg_zoom_other"))) ∷ same_as 2 4 (lit (Words (codes "OGC 12-128r17"))) ∷ same_as 2 5 (lit (Words (codes "read-write"))) ∷ []) end)) [] (col 1 2 ∷ col 2 3 ∷ []) IsMarkedRow (λ _. ⊤) ZoomExtensions
+pub zoom_extensions : Says [] (inner 13 (left 8
+    (equals 2 1 1 1 ∷ same_as 2 2 (lit (Words (codes "tile_data"))) ∷ same_as 2 3
+    (lit (Words (codes "gpkg_zoom_other"))) ∷ same_as 2 4 (lit (Words (codes "OGC 12-128r17"))) ∷ same_as 2 5
+    (lit (Words (codes "read-write"))) ∷ []) end)) [] (col 1 2 ∷ col 2 3 ∷ []) IsMarkedRow (λ _. ⊤) ZoomExtensions
 zoom_extensions version db p stands known =
     each_row after_rowid kind_row (db 13) p.kinds (covered (λ k v. (_, _, refl)) stands.holds.kinds) _ _
-    (λ k v x. let j = joined after_rowid (λ e (n : ℕ). extension_row e) (db 8) p.extensions (counts_cover (db 8) p.extensions stands.holds.extensions) _ (zoom_extension k) (λ l n y. named_is l (zoom_extension k) (k, refl)) _
+    (λ k v x. let j = joined after_rowid (λ e (n : ℕ). extension_row e) (db 8) p.extensions
+    (counts_cover (db 8) p.extensions stands.holds.extensions) _ (zoom_extension k)
+    (λ l n y. named_is l (zoom_extension k) (k, refl)) _
     (λ o. ◌≡◌ {A = Option Text} (Some v) (Some (codes "other")) → IsTrue (is_some o)) same (λ n y. same) in
     (λ h other. j.0 h (ap Some other), λ h. j.1 (λ other. h (same_some other))))
 
@@ -248,13 +270,18 @@ Shown db e v = (r : Row) → lists.Has (mappings db v) r → (q : Row) → lists
 with_table : (version : ℤ) (db : Trees) (p : Package) → StandsFor version db p → (e : Extension) (t : Text) → e.table ≡ Some t
     → Shown db e (Words t) ↔ Wants e t (Stands p.relations t) (get p.kinds t)
 with_table version db p stands e t at =
-    joined after_id relation_row (db 10) p.relations (covered_id (λ m r. (_, _, refl)) stands.holds.relations) _ t (λ m r y. name_is m t) _ (λ o. Wants e t (IsTrue (is_some o)) (get p.kinds t)) (with_kind Null) (λ r y. with_kind (Words t))
+    joined after_id relation_row (db 10) p.relations (covered_id (λ m r. (_, _, refl)) stands.holds.relations) _ t
+    (λ m r y. name_is m t) _ (λ o. Wants e t (IsTrue (is_some o)) (get p.kinds t)) (with_kind Null)
+    (λ r y. with_kind (Words t))
   where
     with_kind : (v : Value)
         → ((q : Row) → lists.Has (kinds db (Words t)) q → IsWantedRow (row_of e v (column q 2))) ↔ Wants e t (IsTrue (is_there v)) (get p.kinds t)
-    with_kind v = joined after_rowid kind_row (db 13) p.kinds (covered (λ m w. (_, _, refl)) stands.holds.kinds) _ t (λ m w y. name_is m t) _ (λ o. Wants e t (IsTrue (is_there v)) o) (wants_is e t v Null at) (λ w y. wants_is e t v (Words w) at)
+    with_kind v = joined after_rowid kind_row (db 13) p.kinds (covered (λ m w. (_, _, refl)) stands.holds.kinds) _ t
+        (λ m w y. name_is m t) _ (λ o. Wants e t (IsTrue (is_there v)) o) (wants_is e t v Null at)
+        (λ w y. wants_is e t v (Words w) at)
 
-pub extensions_wanted : Says [] (inner 8 (left 10 (equals 2 7 1 1 ∷ []) (left 13 (equals 3 1 1 1 ∷ []) end))) [] (col 1 1 ∷ col 1 2 ∷ col 1 3 ∷ col 1 4 ∷ col 1 5 ∷ col 2 7 ∷ col 3 2 ∷ []) IsWantedRow (λ _. ⊤) ExtensionsWanted
+pub extensions_wanted : Says [] (inner 8 (left 10 (equals 2 7 1 1 ∷ []) (left 13 (equals 3 1 1 1 ∷ []) end))) []
+    (col 1 1 ∷ col 1 2 ∷ col 1 3 ∷ col 1 4 ∷ col 1 5 ∷ col 2 7 ∷ col 3 2 ∷ []) IsWantedRow (λ _. ⊤) ExtensionsWanted
 extensions_wanted version db p stands known =
     each_row after_rowid (λ k (n : ℕ). extension_row k) (db 8) p.extensions (counts_cover (db 8) p.extensions stands.holds.extensions) _ _ (λ e n x. by_table e e.table refl)
   where
@@ -327,7 +354,10 @@ module _ (test : Row → Bool) where
       by_test : (b : Bool) → test x ≡ b → length (filter test rows) ≤ 1 → length (filter test (x ∷ rows)) ≤ 1
       by_test false is most = rw is most
       by_test true is most =
-          let none_else = no_more (filter test rows) (λ r there. let was = has_filtered test rows r there in none x r (inl refl) (inr was.0) is was.1 (all_has (λ r. value_cmp (rowid x) (rowid r) ≡ Less) rows r rise.0 was.0)) in
+          let none_else = no_more (filter test rows)
+          (λ r there. let was = has_filtered test rows r there in
+          none x r (inl refl) (inr was.0) is was.1
+          (all_has (λ r. value_cmp (rowid x) (rowid r) ≡ Less) rows r rise.0 was.0)) in
           rw is (omega (arith, none_else))
 
 -- what is compared of two rows, in the order of their rowids
@@ -345,7 +375,9 @@ unnamed_pair a b = in_order a b (is (column a 1) Null && (is (column b 1) Null &
 
 -- two rows, of which the first has the lower rowid, stand for one extension of these
 abbrev Finds : (Row → Row → Bool) → (Extension → Type 0) → Type 0
-Finds pair Q = (a b : Row) (k l : Extension) → drop 1 a ≡ extension_row k → drop 1 b ≡ extension_row l → IsTrue (is_int (rowid a)) → IsTrue (is_int (rowid b)) → (pair a b ≡ true) ↔ ((value_cmp (rowid a) (rowid b) ≡ Less) × (Q k × (l ≡ k)))
+Finds pair Q = (a b : Row) (k l : Extension) → drop 1 a ≡ extension_row k → drop 1 b ≡ extension_row l → IsTrue
+    (is_int (rowid a)) → IsTrue (is_int (rowid b)) → (pair a b ≡ true) ↔
+    ((value_cmp (rowid a) (rowid b) ≡ Less) × (Q k × (l ≡ k)))
 
 after_lower : (x y : Value) (columns : Bool) {C : Type 0} → IsTrue (is_int x) → IsTrue (is_int y) → (columns ≡ true) ↔ C
     → ((is_true (binary (Compare Lt Binary) x y) && columns) ≡ true) ↔ ((value_cmp x y ≡ Less) × C)
@@ -357,14 +389,17 @@ finds_named : Finds named_pair IsNamed
 finds_named [] b k l p q m n = absurd cc
 finds_named (x ∷ a) [] k l p q m n = absurd cc
 finds_named (x ∷ a) (y ∷ b) k l p q m n =
-    subst (λ u. (named_pair (x ∷ u) (y ∷ b) ≡ true) ↔ ((value_cmp x y ≡ Less) × (IsNamed k × (l ≡ k)))) (sym p) (subst (λ v. (named_pair (x ∷ extension_row k) (y ∷ v) ≡ true) ↔ ((value_cmp x y ≡ Less) × (IsNamed k × (l ≡ k)))) (sym q)
+    subst (λ u. (named_pair (x ∷ u) (y ∷ b) ≡ true) ↔ ((value_cmp x y ≡ Less) × (IsNamed k × (l ≡ k)))) (sym p)
+    (subst (λ v. (named_pair (x ∷ extension_row k) (y ∷ v) ≡ true) ↔ ((value_cmp x y ≡ Less) × (IsNamed k × (l ≡ k)))) (sym q)
     (after_lower x y _ m n (both_named l k)))
 
 finds_unnamed : Finds unnamed_pair (λ k. k.table ≡ None)
 finds_unnamed [] b k l p q m n = absurd cc
 finds_unnamed (x ∷ a) [] k l p q m n = absurd cc
 finds_unnamed (x ∷ a) (y ∷ b) k l p q m n =
-    subst (λ u. (unnamed_pair (x ∷ u) (y ∷ b) ≡ true) ↔ ((value_cmp x y ≡ Less) × ((k.table ≡ None) × (l ≡ k)))) (sym p) (subst (λ v. (unnamed_pair (x ∷ extension_row k) (y ∷ v) ≡ true) ↔ ((value_cmp x y ≡ Less) × ((k.table ≡ None) × (l ≡ k)))) (sym q)
+    subst (λ u. (unnamed_pair (x ∷ u) (y ∷ b) ≡ true) ↔ ((value_cmp x y ≡ Less) × ((k.table ≡ None) × (l ≡ k))))
+    (sym p) (subst (λ v. (unnamed_pair (x ∷ extension_row k) (y ∷ v) ≡ true) ↔
+    ((value_cmp x y ≡ Less) × ((k.table ≡ None) × (l ≡ k)))) (sym q)
     (after_lower x y _ m n (both_unnamed l k)))
 
 count_of : (l n : ℕ) → as_count l ≡ Some n → l ≡ n
@@ -396,22 +431,29 @@ module _ (version : ℤ) (db : Trees) (p : Package) (stands : StandsFor version 
             let is_n = count_of (length (filter (is_extension e) rows)) n (sym (h.counted e) ∙ at) in
             let most = only_once (is_extension e) rows (stands.rows 8).rise (λ a b here there p q less.
             let k = is_that e a p in let l = is_that e b q in
-            (on_true _ _ _ (finds a b (extension_of a) (extension_of b) (h.sound a here) (h.sound b there) (int a here) (int b there))).0 (shown a here b there) (less, (subst Q (sym k) of, l ∙ sym k))) in
+            (on_true _ _ _ (finds a b (extension_of a) (extension_of b) (h.sound a here) (h.sound b there)
+            (int a here) (int b there))).0 (shown a here b there) (less, (subst Q (sym k) of, l ∙ sym k))) in
             exactly n is_n most (at_least e n at),
         λ once a here b there.
             (on_true _ _ _ (finds a b (extension_of a) (extension_of b) (h.sound a here) (h.sound b there) (int a here) (int b there))).1 (λ it.
             let e = extension_of a in
             let n = counted_in rows p.extensions h a here in
             let one = once e (suc n.0) n.1 it.1.0 in
-            let two = two_kept (is_extension e) rows a b here there (same_itself extension_keys e) (subst (λ x. is_extension x b ≡ true) it.1.1 (same_itself extension_keys (extension_of b))) (λ s. never_less (rowid a) (subst (λ r. value_cmp (rowid a) (rowid r) ≡ Less) (sym s) it.0)) in
+            let two = two_kept (is_extension e) rows a b here there (same_itself extension_keys e)
+            (subst (λ x. is_extension x b ≡ true) it.1.1 (same_itself extension_keys (extension_of b)))
+            (λ s. never_less (rowid a) (subst (λ r. value_cmp (rowid a) (rowid r) ≡ Less) (sym s) it.0)) in
             let len = n.2 in
             absurd (omega (arith, two, one, len))),
       )
 
-pub named_once : Says [] (inner 8 (inner 8 end)) (below 1 0 2 0 ∷ equals 2 1 1 1 ∷ same_as 2 2 (col 1 2) ∷ same_as 2 3 (col 1 3) ∷ same_as 2 4 (col 1 4) ∷ same_as 2 5 (col 1 5) ∷ []) (lit (Int (pos 1)) ∷ []) NoRow (λ _. ⊤) NamedOnce
+pub named_once : Says [] (inner 8 (inner 8 end)) (below 1 0 2 0 ∷ equals 2 1 1 1 ∷ same_as 2 2
+    (col 1 2) ∷ same_as 2 3 (col 1 3) ∷ same_as 2 4 (col 1 4) ∷ same_as 2 5 (col 1 5) ∷ [])
+    (lit (Int (pos 1)) ∷ []) NoRow (λ _. ⊤) NamedOnce
 named_once version db p stands known = once_of version db p stands named_pair IsNamed finds_named
 
-pub unnamed_once : Says [] (inner 8 (inner 8 end)) (below 1 0 2 0 ∷ same_as 1 1 (lit Null) ∷ same_as 2 1 (lit Null) ∷ same_as 2 2 (col 1 2) ∷ same_as 2 3 (col 1 3) ∷ same_as 2 4 (col 1 4) ∷ same_as 2 5 (col 1 5) ∷ []) (lit (Int (pos 1)) ∷ []) NoRow (λ _. ⊤) UnnamedOnce
+pub unnamed_once : Says [] (inner 8 (inner 8 end))
+    (below 1 0 2 0 ∷ same_as 1 1 (lit Null) ∷ same_as 2 1 (lit Null) ∷ same_as 2 2 (col 1 2) ∷ same_as 2 3
+    (col 1 3) ∷ same_as 2 4 (col 1 4) ∷ same_as 2 5 (col 1 5) ∷ []) (lit (Int (pos 1)) ∷ []) NoRow (λ _. ⊤) UnnamedOnce
 unnamed_once version db p stands known = once_of version db p stands unnamed_pair (λ k. k.table ≡ None) finds_unnamed
 
 pub all_once : (p : Package) → (NamedOnce p × UnnamedOnce p) ↔ ExtensionsOnce p

@@ -39,7 +39,13 @@ pub quiet_relations_suited : IsQuiet text.relations_suited
 unfolding everything
 quiet_relations_suited = λ schema base. refl
 
-pub pairings_join : IsQuery schema text.pairings_join (inner 21 (left 10 (equals 2 7 1 1 ∷ []) (left 17 (equals 3 1 2 2 ∷ equals 3 2 1 2 ∷ []) (left 19 (equals 4 1 2 2 ∷ equals 4 2 1 2 ∷ []) (left 17 (equals 5 1 2 4 ∷ equals 5 2 1 3 ∷ []) (left 19 (equals 6 1 2 4 ∷ equals 6 2 1 3 ∷ []) end)))))) [] (col 2 7 ∷ col 3 2 ∷ col 4 2 ∷ col 5 2 ∷ col 6 2 ∷ [])
+pub pairings_join : IsQuery schema text.pairings_join
+    (inner 21 (left 10 (equals 2 7 1 1 ∷ [])
+    (left 17 (equals 3 1 2 2 ∷ equals 3 2 1 2 ∷ [])
+    (left 19 (equals 4 1 2 2 ∷ equals 4 2 1 2 ∷ [])
+    (left 17 (equals 5 1 2 4 ∷ equals 5 2 1 3 ∷ [])
+    (left 19 (equals 6 1 2 4 ∷ equals 6 2 1 3 ∷ []) end)))))) []
+    (col 2 7 ∷ col 3 2 ∷ col 4 2 ∷ col 5 2 ∷ col 6 2 ∷ [])
     ((col 1 1, ascending Binary) ∷ (col 1 2, ascending Binary) ∷ (col 1 3, ascending Binary) ∷ []) (codes "mapping_table_name" ∷ codes "id" ∷ codes "id" ∷ codes "id" ∷ codes "id" ∷ [])
 unfolding understood everything
 pairings_join = record { compiled = refl; plain = (refl, refl); unlisted = refl }

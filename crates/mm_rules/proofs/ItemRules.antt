@@ -1,5 +1,6 @@
 -- What the queries of items, relations and mapping rows show, and rules 11 to 13.
-use Rattle.std.proofs.Common.{◌≡◌, ◌↔◌, ◌⊎◌, inl, inr, Bool, true, false, ◌&&◌, ℕ, ℤ, [], ◌∷◌, List, Option, Some, None, is_some, IsTrue, codes, filter, refl, ap, subst}
+use Rattle.std.proofs.Common.{◌≡◌, ◌↔◌, ◌⊎◌, inl, inr, Bool, true, false, ◌&&◌, ℕ, ℤ, [], ◌∷◌, List, Option, Some}
+use Rattle.std.proofs.Common.{None, is_some, IsTrue, codes, filter, refl, ap, subst}
 use Rattle.std.specs.Prelude.{⊤}
 use Rattle.std.specs.FinMap.{get, contains_key}
 use Rattle.sqlite.specs.Order.{Row, column}
@@ -33,13 +34,16 @@ use Rattle.mm_walk.proofs.Checks.{Says}
 pub rows_in_tables : Says [] (inner 17 (left 13 (equals 2 1 1 1 ∷ []) end)) [] (col 2 2 ∷ []) IsAttributesRow (λ _. ⊤) RowsInTables
 rows_in_tables version db p stands known =
     each_row after_rowid attribute_row (db 17) p.rows (covered (λ k r. (_, _, refl)) stands.holds.rows) _ _
-    (λ k r x. joined after_rowid kind_row (db 13) p.kinds (covered (λ m v. (_, _, refl)) stands.holds.kinds) _ k.table (λ m v y. name_is m k.table) _ (λ o. o ≡ Some (codes "attributes")) same (λ v y. same))
+    (λ k r x. joined after_rowid kind_row (db 13) p.kinds (covered (λ m v. (_, _, refl)) stands.holds.kinds) _
+    k.table (λ m v y. name_is m k.table) _ (λ o. o ≡ Some (codes "attributes")) same (λ v y. same))
 
 pub media_in_tables : Says [] (inner 19 (left 13 (equals 2 1 1 1 ∷ []) end)) [] (col 2 2 ∷ []) IsMediaRow (λ _. ⊤) MediaInTables
 media_in_tables version db p stands known =
     let h = stands.holds in
     each_named medium_id medium_with h.kept.shelf h.kept.media p.media h.keeps.media_told after_rowid medium_row (db 19) (covered (λ k i. (_, _, refl)) h.keeps.media) _ _
-    (λ k i x bytes at named. joined after_rowid kind_row (db 13) p.kinds (covered (λ m v. (_, _, refl)) stands.holds.kinds) _ k.table (λ m v y. name_is m k.table) _ (λ o. o ≡ Some (codes "media")) same (λ v y. same))
+    (λ k i x bytes at named. joined after_rowid kind_row (db 13) p.kinds
+    (covered (λ m v. (_, _, refl)) stands.holds.kinds) _ k.table (λ m v y. name_is m k.table) _
+    (λ o. o ≡ Some (codes "media")) same (λ v y. same))
 
 -- ---- rule 12
 -- a relation whose ends have these kinds
@@ -67,9 +71,11 @@ suited_is r v w = (
 )
 
 abbrev Related : Trees → Relation → Value → Type 0
-Related db r v = (q : Row) → lists.Has (or_nulls (filter (λ q. equal Binary (column q 1) (Words r.related) && true) (db 13))) q → IsSuitedRow (v ∷ column q 2 ∷ Words r.base_column ∷ Words r.related_column ∷ Words r.name ∷ [])
+Related db r v = (q : Row) → lists.Has (or_nulls (filter (λ q. equal Binary (column q 1) (Words r.related) && true)
+    (db 13))) q → IsSuitedRow (v ∷ column q 2 ∷ Words r.base_column ∷ Words r.related_column ∷ Words r.name ∷ [])
 
-pub relations_suited : Says [] (inner 10 (left 13 (equals 2 1 1 2 ∷ []) (left 13 (equals 3 1 1 4 ∷ []) end))) [] (col 2 2 ∷ col 3 2 ∷ col 1 3 ∷ col 1 5 ∷ col 1 6 ∷ []) IsSuitedRow (λ _. ⊤) (λ p. RelationsSuited p.kinds p.relations)
+pub relations_suited : Says [] (inner 10 (left 13 (equals 2 1 1 2 ∷ []) (left 13 (equals 3 1 1 4 ∷ []) end))) []
+    (col 2 2 ∷ col 3 2 ∷ col 1 3 ∷ col 1 5 ∷ col 1 6 ∷ []) IsSuitedRow (λ _. ⊤) (λ p. RelationsSuited p.kinds p.relations)
 relations_suited version db p stands known =
     each_row after_id relation_row (db 10) p.relations (covered_id (λ m r. (_, _, refl)) stands.holds.relations) _ _
     (λ m r x. let it = with_base r in (
@@ -82,10 +88,12 @@ relations_suited version db p stands known =
     kinds_at Q P t none some = joined after_rowid kind_row (db 13) p.kinds (covered (λ m v. (_, _, refl)) stands.holds.kinds) _ t (λ m v y. name_is m t) Q P none some
 
     with_related : (r : Relation) (v : Value) → Related db r v ↔ IsSuitedBy (text_bytes v) (get p.kinds r.related) r
-    with_related r v = kinds_at (λ q. IsSuitedRow (v ∷ column q 2 ∷ Words r.base_column ∷ Words r.related_column ∷ Words r.name ∷ [])) (λ o. IsSuitedBy (text_bytes v) o r) r.related (suited_is r v Null) (λ w y. suited_is r v (Words w))
+    with_related r v = kinds_at (λ q. IsSuitedRow (v ∷ column q 2 ∷ Words r.base_column ∷ Words r.related_column
+        ∷ Words r.name ∷ [])) (λ o. IsSuitedBy (text_bytes v) o r) r.related (suited_is r v Null) (λ w y. suited_is r v (Words w))
 
     with_base : (r : Relation)
-        → ((q : Row) → lists.Has (or_nulls (filter (λ q. equal Binary (column q 1) (Words r.base) && true) (db 13))) q → Related db r (column q 2)) ↔ IsSuitedBy (get p.kinds r.base) (get p.kinds r.related) r
+        → ((q : Row) → lists.Has (or_nulls (filter (λ q. equal Binary (column q 1) (Words r.base) && true) (db 13)))
+        q → Related db r (column q 2)) ↔ IsSuitedBy (get p.kinds r.base) (get p.kinds r.related) r
     with_base r = kinds_at (λ q. Related db r (column q 2)) (λ o. IsSuitedBy o (get p.kinds r.related) r) r.base (with_related r Null) (λ v y. with_related r (Words v))
 
 -- ---- rule 13
@@ -114,21 +122,26 @@ module _ (version : ℤ) (db : Trees) (p : Package) (stands : StandsFor version 
       (joined after_rowid medium_row (db 19) h.kept.media (covered (λ k v. (_, _, refl)) h.keeps.media) _ (item t id) (λ l v y. item_is l t id) Q (λ o. P (is_some o)) none some)
 
   last : (a b c : Value)
-      → ((r : Row) → lists.Has (or_nulls (joining db 19 (Words related) related_id)) r → IsJoinedRow (w ∷ a ∷ b ∷ c ∷ column r 2 ∷ [])) ↔ Is (There a) (There b) (There c) (Stands p.media (item related related_id))
+      → ((r : Row) → lists.Has (or_nulls (joining db 19 (Words related) related_id)) r
+      → IsJoinedRow (w ∷ a ∷ b ∷ c ∷ column r 2 ∷ [])) ↔ Is (There a) (There b) (There c)
+      (Stands p.media (item related related_id))
   last a b c = at_medium _ (λ t. Is (There a) (There b) (There c) (IsTrue t)) related related_id same (λ v x. same)
 
   abbrev Third : Value → Value → Value → Type 0
   Third a b c = (r : Row) → lists.Has (or_nulls (joining db 19 (Words related) related_id)) r → IsJoinedRow (w ∷ a ∷ b ∷ c ∷ column r 2 ∷ [])
 
   third : (a b : Value)
-      → ((r : Row) → lists.Has (or_nulls (joining db 17 (Words related) related_id)) r → Third a b (column r 2)) ↔ Is (There a) (There b) (Stands p.rows (item related related_id)) (Stands p.media (item related related_id))
+      → ((r : Row) → lists.Has (or_nulls (joining db 17 (Words related) related_id)) r → Third a b (column r 2)) ↔ Is
+      (There a) (There b) (Stands p.rows (item related related_id)) (Stands p.media (item related related_id))
   third a b = at_row _ (λ o. Is (There a) (There b) (IsTrue (is_some o)) (Stands p.media (item related related_id))) related related_id (last a b Null) (λ v x. last a b (Int related_id))
 
   abbrev Second : Value → Value → Type 0
   Second a b = (r : Row) → lists.Has (or_nulls (joining db 17 (Words related) related_id)) r → Third a b (column r 2)
 
   second : (a : Value)
-      → ((r : Row) → lists.Has (or_nulls (joining db 19 (Words base) base_id)) r → Second a (column r 2)) ↔ Is (There a) (Stands p.media (item base base_id)) (Stands p.rows (item related related_id)) (Stands p.media (item related related_id))
+      → ((r : Row) → lists.Has (or_nulls (joining db 19 (Words base) base_id)) r → Second a (column r 2)) ↔ Is
+      (There a) (Stands p.media (item base base_id)) (Stands p.rows (item related related_id))
+      (Stands p.media (item related related_id))
   second a = at_medium _ (λ t. Is (There a) (IsTrue t) (Stands p.rows (item related related_id)) (Stands p.media (item related related_id))) base base_id (third a Null) (λ v x. third a (Int base_id))
 
   abbrev First : Value → Type 0
@@ -136,9 +149,16 @@ module _ (version : ℤ) (db : Trees) (p : Package) (stands : StandsFor version 
 
   both_ends : ((r : Row) → lists.Has (or_nulls (joining db 17 (Words base) base_id)) r → First (column r 2))
       ↔ Is (Stands p.rows (item base base_id)) (Stands p.media (item base base_id)) (Stands p.rows (item related related_id)) (Stands p.media (item related related_id))
-  both_ends = at_row _ (λ o. Is (IsTrue (is_some o)) (Stands p.media (item base base_id)) (Stands p.rows (item related related_id)) (Stands p.media (item related related_id))) base base_id (second Null) (λ v x. second (Int base_id))
+  both_ends = at_row _ (λ o. Is (IsTrue (is_some o)) (Stands p.media (item base base_id))
+      (Stands p.rows (item related related_id)) (Stands p.media (item related related_id))) base base_id
+      (second Null) (λ v x. second (Int base_id))
 
-pub pairings_join : Says [] (inner 21 (left 10 (equals 2 7 1 1 ∷ []) (left 17 (equals 3 1 2 2 ∷ equals 3 2 1 2 ∷ []) (left 19 (equals 4 1 2 2 ∷ equals 4 2 1 2 ∷ []) (left 17 (equals 5 1 2 4 ∷ equals 5 2 1 3 ∷ []) (left 19 (equals 6 1 2 4 ∷ equals 6 2 1 3 ∷ []) end)))))) [] (col 2 7 ∷ col 3 2 ∷ col 4 2 ∷ col 5 2 ∷ col 6 2 ∷ []) IsJoinedRow (λ _. ⊤) (λ p. PairingsJoin p.rows p.media p.relations p.pairings)
+pub pairings_join : Says [] (inner 21 (left 10 (equals 2 7 1 1 ∷ [])
+    (left 17 (equals 3 1 2 2 ∷ equals 3 2 1 2 ∷ [])
+    (left 19 (equals 4 1 2 2 ∷ equals 4 2 1 2 ∷ [])
+    (left 17 (equals 5 1 2 4 ∷ equals 5 2 1 3 ∷ []) (left 19 (equals 6 1 2 4 ∷ equals 6 2 1 3 ∷ []) end))))))
+    [] (col 2 7 ∷ col 3 2 ∷ col 4 2 ∷ col 5 2 ∷ col 6 2 ∷ []) IsJoinedRow (λ _. ⊤)
+    (λ p. PairingsJoin p.rows p.media p.relations p.pairings)
 pairings_join version db p stands known =
     each_row after_rowid pairing_row (db 21) p.pairings (covered (λ k v. (_, _, refl)) stands.holds.pairings) _ _
     (λ k v x. joined after_id relation_row (db 10) p.relations (covered_id (λ m r. (_, _, refl)) stands.holds.relations) _ k.mapping (λ m r y. name_is m k.mapping) _ (λ o. Joins p.rows p.media o k) (

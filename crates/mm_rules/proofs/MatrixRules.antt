@@ -29,14 +29,17 @@ use Rattle.mm_walk.proofs.Terms.{equals, below}
 use Rattle.mm_walk.proofs.Checks.{Says}
 
 -- ---- rule 7
-pub matrices_fit : Says [] (inner 6 (left 13 (equals 2 1 1 1 ∷ []) (left 4 (equals 3 1 1 1 ∷ []) end))) [] (col 2 2 ∷ col 3 3 ∷ col 3 4 ∷ col 3 5 ∷ col 3 6 ∷ col 1 3 ∷ col 1 4 ∷ col 1 5 ∷ col 1 6 ∷ col 1 7 ∷ col 1 8 ∷ []) IsFittingRow (λ _. ⊤) (λ p. MatricesFit p.kinds p.sets p.matrices)
+pub matrices_fit : Says [] (inner 6 (left 13 (equals 2 1 1 1 ∷ []) (left 4 (equals 3 1 1 1 ∷ []) end))) []
+    (col 2 2 ∷ col 3 3 ∷ col 3 4 ∷ col 3 5 ∷ col 3 6 ∷ col 1 3 ∷ col 1 4 ∷ col 1 5 ∷ col 1 6 ∷ col 1 7 ∷ col 1 8
+    ∷ []) IsFittingRow (λ _. ⊤) (λ p. MatricesFit p.kinds p.sets p.matrices)
 matrices_fit version db p stands known =
     each_row after_rowid grid_row (db 6) p.matrices (covered (λ k g. (_, _, refl)) stands.holds.matrices) _ _
     (λ k g x. joined after_rowid kind_row (db 13) p.kinds (covered (λ m v. (_, _, refl)) stands.holds.kinds) _ k.table (λ m v y. name_is m k.table) _
     (λ o. ((o ≡ Some (codes "two")) ⊎ (o ≡ Some (codes "other"))) × FitsIn (get p.sets k.table) g) (with_set k g Null) (λ v y. with_set k g (Words v)))
   where
     with_set : (k : Level) (g : Grid) (v : Value) → ((r : Row) → lists.Has (or_nulls (filter (λ r. equal Binary (column r 1) (Words k.table) && true) (db 4))) r
-        → IsFittingRow (v ∷ column r 3 ∷ column r 4 ∷ column r 5 ∷ column r 6 ∷ Int g.matrix_width ∷ Int g.matrix_height ∷ Int g.tile_width ∷ Int g.tile_height ∷ Int g.pixel_x_size ∷ Int g.pixel_y_size ∷ []))
+        → IsFittingRow (v ∷ column r 3 ∷ column r 4 ∷ column r 5 ∷ column r 6 ∷ Int g.matrix_width ∷ Int
+        g.matrix_height ∷ Int g.tile_width ∷ Int g.tile_height ∷ Int g.pixel_x_size ∷ Int g.pixel_y_size ∷ []))
         ↔ (IsPyramidKind v × FitsIn (get p.sets k.table) g)
     with_set k g v = joined after_rowid set_row (db 4) p.sets (covered (λ m s. (_, _, refl)) stands.holds.sets) _ k.table (λ m s y. name_is m k.table) _ (λ o. IsPyramidKind v × FitsIn o g)
         (λ h. absurd h.across, λ h. absurd h.1) (λ s y. (λ h. (h.kind, record { across = h.across; down = h.down }), λ h. record { kind = h.0; across = h.1.across; down = h.1.down }))
@@ -74,14 +77,18 @@ just_above zoom = omega (arith, ints)
 abbrev Halves : Level → Grid → Level → Grid → Option Text → Type 0
 Halves k g l h kind = OnTrue (later k l) (kind ≡ Some (codes "two") → l.zoom ≡ k.zoom +ℤ pos 1 → (g.pixel_x_size ≡ pos 2 *ℤ h.pixel_x_size) × (g.pixel_y_size ≡ pos 2 *ℤ h.pixel_y_size))
 
-pub next_is_halved : Says [] (inner 6 (inner 6 (left 13 (equals 3 1 1 1 ∷ []) end))) (equals 2 1 1 1 ∷ below 1 2 2 2 ∷ []) (col 3 2 ∷ col 1 2 ∷ col 2 2 ∷ col 1 7 ∷ col 1 8 ∷ col 2 7 ∷ col 2 8 ∷ []) IsHalvedRow (λ _. ⊤) (λ p. NextIsHalved p.kinds p.matrices)
+pub next_is_halved : Says [] (inner 6 (inner 6 (left 13 (equals 3 1 1 1 ∷ []) end)))
+    (equals 2 1 1 1 ∷ below 1 2 2 2 ∷ []) (col 3 2 ∷ col 1 2 ∷ col 2 2 ∷ col 1 7 ∷ col 1 8 ∷ col 2 7 ∷ col 2 8 ∷ [])
+    IsHalvedRow (λ _. ⊤) (λ p. NextIsHalved p.kinds p.matrices)
 next_is_halved version db p stands known =
     let here = covered (λ k g. (_, _, refl)) stands.holds.matrices in
     let pairs = each_row after_rowid grid_row (db 6) p.matrices here _ (λ k g. Each p.matrices (λ l h. Halves k g l h (get p.kinds k.table)))
     (λ k g x. each_row after_rowid grid_row (db 6) p.matrices here _ _
     (λ l h y. joined after_rowid kind_row (db 13) p.kinds (covered (λ m v. (_, _, refl)) stands.holds.kinds) _ k.table (λ m v z. name_is m k.table) _ (λ o. Halves k g l h o) same (λ v z. same))) in (
       λ shown table zoom g h kind lower higher.
-          let both = (on_true _ _ _ (above (level table zoom) (level table (zoom +ℤ pos 1)))).0 (pairs.0 shown (level table zoom) g lower (level table (zoom +ℤ pos 1)) h higher) (refl, just_above zoom) kind refl in
+          let both = (on_true _ _ _ (above (level table zoom) (level table (zoom +ℤ pos 1)))).0
+          (pairs.0 shown (level table zoom) g lower (level table (zoom +ℤ pos 1)) h higher)
+          (refl, just_above zoom) kind refl in
           record { across = both.0; down = both.1 },
       λ rule. pairs.1 (λ k g here l h there. (on_true _ _ _ (above k l)).1 (λ it kind next.
           let f = rule k.table k.zoom g h kind here (subst (λ (x : Level). Has p.matrices x h) (ap₂ level it.0 next) there) in

@@ -46,4 +46,6 @@ pub record IsUnplacedRow (r : Row) : Type 0 where
 
 -- a kind that suits the contents row: a pyramid is placed as its matrix set says, and other tables have no place
 abbrev pub IsRegisteredRow : Row → Type 0
-IsRegisteredRow r = (IsPyramidKind (column r 0) × IsPlacedRow r) ⊎ (((text_bytes (column r 0) ≡ Some (codes "attributes")) ⊎ (text_bytes (column r 0) ≡ Some (codes "media"))) × IsUnplacedRow r)
+IsRegisteredRow r = (IsPyramidKind (column r 0) × IsPlacedRow r)
+    ⊎ (((text_bytes (column r 0) ≡ Some (codes "attributes")) ⊎ (text_bytes (column r 0) ≡ Some (codes "media")))
+    × IsUnplacedRow r)

@@ -9,7 +9,9 @@ use Rattle.mm_walk.specs.Columns.{number_of, text_bytes}
 -- five columns show this system
 abbrev pub shows_by : System → Value → Value → Value → Value → Value → Type 0
 shows_by s name organization organization_id definition description =
-    (text_bytes name ≡ Some s.name) × (text_bytes organization ≡ Some s.organization) × (number_of organization_id ≡ Some s.organization_id) × (text_bytes definition ≡ Some s.definition) × (text_bytes description ≡ Some s.description)
+    (text_bytes name ≡ Some s.name) × (text_bytes organization ≡ Some s.organization)
+    × (number_of organization_id ≡ Some s.organization_id) × (text_bytes definition ≡ Some s.definition)
+    × (text_bytes description ≡ Some s.description)
 
 -- the three given systems, five columns each
 pub record IsGivenRow (r : Row) : Type 0 where

@@ -1,5 +1,6 @@
 -- The rows of a table from an id on, taken some at a time.
-use Rattle.std.proofs.Common.{◌≡◌, ◌∙◌, ℤ, pos, ◌+ℤ◌, ◌≤ℤ◌, ◌<ℤ◌, Bool, true, false, ◌&&◌, cond, List, [], ◌∷◌, ◌++◌, map, take, drop, length, ◌<◌, ◌≤◌, Option, Some, None, refl, sym, ap, subst, arith}
+use Rattle.std.proofs.Common.{◌≡◌, ◌∙◌, ℤ, pos, ◌+ℤ◌, ◌≤ℤ◌, ◌<ℤ◌, Bool, true, false, ◌&&◌, cond, List, [], ◌∷◌, ◌++◌}
+use Rattle.std.proofs.Common.{map, take, drop, length, ◌<◌, ◌≤◌, Option, Some, None, refl, sym, ap, subst, arith}
 use Rattle.std.specs.Prelude.{T, if◌then◌else◌}
 use Rattle.std.specs.declared.cmp.Ordering.{Ordering}
 use Rattle.std.specs.declared.cmp.Ordering.TheVariants.{Less, Equal, Greater}
@@ -262,7 +263,7 @@ module _ (p : Package) (table : Text) where
           (same_text q.table table) (get p.rows q) None
       go q None none = ap (cond_of (is_from_id table (pos 1) q)) none ∙ either (is_from_id table (pos 1) q) (same_text q.table table) ∙ ap
           (cond_of (same_text q.table table)) (sym none)
-      go q (Some row) is = ap (λ b. cond b (get p.rows q) None) (alike q (meets.q16.7 q row is).id.0 (same_text q.table table) refl)
+      go q (Some row) is = ap (λ b. cond b (get p.rows q) None) (alike q (meets.q16.rows q row is).id.0 (same_text q.table table) refl)
 
   -- ---- one of them
 

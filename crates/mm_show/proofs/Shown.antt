@@ -13,7 +13,7 @@ use Rattle.mm_definitions.specs.declared.refusals.TheConstants.{NO_ROW}
 use Rattle.mm_reads.specs.RowLists.{first_rows, lists_rows}
 use Rattle.mm_reads.specs.Writing.{IsBegun}
 use Rattle.mm_show.specs.Records.{row_records}
-use Rattle.mm_show.specs.Showing.{Shows, at_id, records_by, row_refusal, rows_of, table_refusal}
+use Rattle.mm_show.specs.Showing.{ShowsRecords, at_id, records_by, row_refusal, rows_of, table_refusal}
 use Rattle.mm_show.specs.Turns.{PrintsFrom, ShowsFirst, first_at}
 use Rattle.mm_show.proofs.Chunks.{all_rows, one_row}
 use Rattle.mm_show.proofs.Turning.{begun_none}
@@ -37,7 +37,7 @@ module _ (p : Package) (table : Text) (lists : lists_rows p table ≡ true) wher
     found : (b : Bool) → contains_key p.rows (item table id) ≡ b → row_refusal p table (Some id) ≡ (if b then None else Some NO_ROW)
     found b is = ap (λ x. if x then None else Some NO_ROW) is
 
-    pub one_shown : (r : Result (Option ℕ) Fault) → ShowsFirst table id rows old new r → Shows p table (Some id) old new r
+    pub one_shown : (r : Result (Option ℕ) Fault) → ShowsFirst table id rows old new r → ShowsRecords p table (Some id) old new r
     one_shown (Ok None) (row, first, appends, working) = (
       refuses (Some id) ∙ found true (at_some id row _ (sym same ∙ first)),
       subst (λ l. Appends old.contents new.contents (row_records table l)) same appends,
@@ -49,10 +49,10 @@ module _ (p : Package) (table : Text) (lists : lists_rows p table ≡ true) wher
         (subst (λ l. IsBegun old.contents new.contents (row_records table l)) same begun)
 
   module _ (meets : Meets current p) (old new : Written) where
-    pub all_shown : (done : Unit {0}) → PrintsFrom p table (pos 1) old new (Ok done) → Shows p table None old new (Ok None)
+    pub all_shown : (done : Unit {0}) → PrintsFrom p table (pos 1) old new (Ok done) → ShowsRecords p table None old new (Ok None)
     all_shown done printed = (refuses None, subst (λ l. Appends old.contents new.contents (row_records table l)) (all_rows p table meets) printed)
 
-    pub all_cut : (fault : Fault) → PrintsFrom p table (pos 1) old new (Err fault) → (r : Result (Option ℕ) Fault) → IsErr r → Shows p table None old new r
+    pub all_cut : (fault : Fault) → PrintsFrom p table (pos 1) old new (Err fault) → (r : Result (Option ℕ) Fault) → IsErr r → ShowsRecords p table None old new r
     all_cut fault begun (Ok it) stops = absurd (let f : false ≡ true = stops in cc)
     all_cut fault begun (Err other) stops =
         subst (λ (o : Option ℕ). IsBegun old.contents new.contents (records_by o (row_records table (rows_of p table)))) (sym (refuses None))
@@ -68,7 +68,7 @@ told_none true y is = absurd (let f : None ≡ Some y = is in cc)
 told_none false y is = refl
 
 pub none_shown : (p : Package) (table : Text) (id : Option ℤ) (held : Written) → lists_rows p table ≡ false → (r : Result (Option ℕ) Fault)
-    → IfOk r (λ why. why ≡ Some (table_refusal p table)) → Shows p table id held held r
+    → IfOk r (λ why. why ≡ Some (table_refusal p table)) → ShowsRecords p table id held held r
 none_shown p table id held off (Ok None) why = absurd (let f : None ≡ Some (table_refusal p table) = why in cc)
 none_shown p table id held off (Ok (Some number)) why = (ap (λ b. if b then row_refusal p table id else Some (table_refusal p table)) off ∙ sym why, refl)
 none_shown p table id held off (Err fault) why = begun_none held.contents _

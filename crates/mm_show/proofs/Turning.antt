@@ -1,5 +1,7 @@
 -- What is printed of the rows of a table, one read behind another.
-use Rattle.std.proofs.Common.{◌≡◌, ◌∙◌, ◌⊎◌, ◌<◌, ◌+ℤ◌, inl, inr, ℕ, ℤ, pos, Bool, true, false, List, [], ◌∷◌, ◌++◌, map, length, take, drop, option_map, Option, Some, None, Result, Ok, Err, Vec, Global, refl, sym, ap, subst, arith, append_assoc}
+use Rattle.std.proofs.Common.{◌≡◌, ◌∙◌, ◌⊎◌, ◌<◌, ◌+ℤ◌, inl, inr, ℕ, ℤ, pos, Bool, true, false, List, [], ◌∷◌, ◌++◌}
+use Rattle.std.proofs.Common.{map, length, take, drop, option_map, Option, Some, None, Result, Ok, Err, Vec, Global}
+use Rattle.std.proofs.Common.{refl, sym, ap, subst, arith, append_assoc}
 use Rattle.std.specs.Prelude.{IsErr, get_or, if◌then◌else◌}
 use Rattle.std.specs.Io.KnownBytes.{Appends}
 use Rattle.std.proofs.KnownBytes.{Appends-nil, Appends-trans}

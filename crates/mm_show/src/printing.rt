@@ -4,7 +4,7 @@ ghost use Rattle.std.specs.Prelude.{map};
 ghost use Rattle.mm_definitions.specs.Streams.{written};
 ghost use Rattle.mm_reads.specs.RowLists.{numbered_told};
 ghost use Rattle.mm_show.specs.Records.{row_records};
-ghost use Rattle.mm_show.specs.Showing.{IsPrinted};
+ghost use Rattle.mm_show.specs.Showing.{IsTextPrinted};
 
 use crate::records::records_text;
 use mm_definitions::answers::Fault;
@@ -22,7 +22,7 @@ pub(crate) fn print_rows<W: Write>(
     rows: &[(i64, Row)],
     output: &mut Io<W>,
 ) -> Result<(), Fault>
-    ensures { IsPrinted (written W.contents output.old) (written W.contents output.new)
+    ensures { IsTextPrinted (written W.contents output.old) (written W.contents output.new)
         (row_records table.now (map numbered_told rows.now)) result }
 {
     let Ok(text) = records_text(alloc, table.as_str(), rows) else {

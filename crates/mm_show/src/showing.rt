@@ -11,7 +11,7 @@ ghost use Rattle.mm_store.specs.Faults.{IsStoreFault};
 ghost use Rattle.mm_reads.specs.RowLists.{lists_rows, first_rows, numbered_told};
 ghost use Rattle.mm_reads.specs.Viewers.{IsOn, IsViewFault, LeavesPackage};
 ghost use Rattle.mm_reads.specs.Writing.{ListingTellsWriter};
-ghost use Rattle.mm_show.specs.Showing.{Shows, table_refusal};
+ghost use Rattle.mm_show.specs.Showing.{ShowsRecords, table_refusal};
 ghost use Rattle.mm_show.specs.Turns.{PrintsFrom, ShowsFirst, TellsNext, TurnsOn};
 
 use crate::printing::print_rows;
@@ -177,7 +177,7 @@ fn show_found<D: Desk, W: Write>(
         → IsOn (D.Viewer.has_failed desk.old) (D.store desk.old) (D.store desk.new) p
         → Meets current p → lists_rows p table.now ≡ true
         → map numbered_told rows.items ≡ first_rows p table.now (unwrap_or id (pos 1))
-        → Shows p table.now id (written W.contents output.old) (written W.contents output.new)
+        → ShowsRecords p table.now id (written W.contents output.old) (written W.contents output.new)
         result }
     ensures untold { IfOk result (λ why. IfSome why (λ number. output.new ≡ output.old)) }
     ensures working { OnOk result (has_failed output.new ≡ has_failed output.old) }
@@ -212,7 +212,7 @@ pub fn show_rows<D: Desk, W: Write>(
     ensures kept { LeavesPackage (D.store desk.old) (D.store desk.new) }
     ensures shown { (p : Package)
         → IsOn (D.Viewer.has_failed desk.old) (D.store desk.old) (D.store desk.new) p
-        → Shows p table.now id (written W.contents output.old) (written W.contents output.new)
+        → ShowsRecords p table.now id (written W.contents output.old) (written W.contents output.new)
         result }
     ensures untold { IfOk result (λ why. IfSome why (λ number. output.new ≡ output.old)) }
     ensures working { OnOk result (has_failed output.new ≡ has_failed output.old) }

@@ -23,7 +23,9 @@ use Rattle.std.proofs.Common.{ℤ}
 abbrev pub Says : Row → Join → List Term → List Term → (Row → Type 0) → (Known Rule : Package → Type 0) → Type 0
 Says params from terms project good Known Rule = (version : ℤ) (db : Trees) (p : Package) → StandsFor version db p → Known p → AllShown db params from terms project good ↔ Rule p
 
-module _ (sql : List ℕ) (params : Row) (good : Row → Type 0) (from : Join) (terms project : List Term) (order : List (Term × Key)) (names : List (List ℕ)) (it : IsQuery schema sql from terms project order names) (quiet : IsQuiet sql)
+module _ (sql : List ℕ) (params : Row) (good : Row → Type 0) (from : Join) (terms project : List Term)
+    (order : List (Term × Key)) (names : List (List ℕ)) (it : IsQuery schema sql from terms project order names)
+    (quiet : IsQuiet sql)
     (Known Rule : Package → Type 0) (says : Says params from terms project good Known Rule) (profile : Profile) (old new : State) where
   told : (result : Result Bool Fault) → TellsAll sql params good old new result → HasCleanDisk new → (p : Package) → IsSeenAs profile old p → Known p
       → IfOk result (λ b. IsTrue b ↔ Rule p)

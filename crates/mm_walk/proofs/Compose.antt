@@ -21,7 +21,16 @@ module _ (profile : Profile) where
     says = λ clean p s more. let t = h.says clean p s (knows p more) in let i = same p more in (λ e. i.0 (t.0 e), λ o. t.1 (i.1 o));
     faults = h.faults;
   }
-  same_rule old new Known More Rule Other knows same (Err fault) h = record { mode = h.mode; survives = h.survives; is_open = λ clean. tt; seen = h.seen; settled = h.settled; says = λ clean p s more. tt; faults = h.faults }
+  same_rule old new Known More Rule Other knows same (Err fault) h =
+      record {
+        mode = h.mode;
+        survives = h.survives;
+        is_open = λ clean. tt;
+        seen = h.seen;
+        settled = h.settled;
+        says = λ clean p s more. tt;
+        faults = h.faults;
+      }
 
   -- a check whose answer was matched
   pub as_told : (old new : State) (Known Rule : Package → Type 0) (r : Result Bool Fault) (b told : Bool) → r ≡ Ok b → b ≡ told
@@ -75,4 +84,13 @@ module _ (profile : Profile) where
 
   pub gives_up : (old new : State) (Known More A C : Package → Type 0) (r : Result Bool Fault) (fault : Fault) → r ≡ Err fault
       → IsCheck profile old new Known A r → IsCheck profile old new More C (Err fault)
-  gives_up old new Known More A C r fault is one = let h = subst (IsCheck profile old new Known A) is one in record { mode = h.mode; survives = h.survives; is_open = λ clean. tt; seen = h.seen; settled = h.settled; says = λ clean p s known. tt; faults = h.faults }
+  gives_up old new Known More A C r fault is one = let h = subst (IsCheck profile old new Known A) is one in
+      record {
+        mode = h.mode;
+        survives = h.survives;
+        is_open = λ clean. tt;
+        seen = h.seen;
+        settled = h.settled;
+        says = λ clean p s known. tt;
+        faults = h.faults;
+      }

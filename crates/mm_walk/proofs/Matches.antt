@@ -43,7 +43,9 @@ module _ (db : Trees) (terms : List Term) (P : Env → Type 0) where
   all_matches end env h = at_end env (list_all (holds env) terms) h
   all_matches (inner t more) env h = all_flat P (λ (r : Row). matches db terms more (env ++ r ∷ [])) (db t) (λ r there. all_matches more (env ++ r ∷ []) (h r there))
   all_matches (left t on more) env h =
-      all_flat P (λ (r : Row). matches db terms more (env ++ r ∷ [])) (or_nulls (filter (λ (r : Row). list_all (holds (env ++ r ∷ [])) on) (db t))) (λ r there. all_matches more (env ++ r ∷ []) (h r there))
+      all_flat P (λ (r : Row). matches db terms more (env ++ r ∷ []))
+      (or_nulls (filter (λ (r : Row). list_all (holds (env ++ r ∷ [])) on) (db t)))
+      (λ r there. all_matches more (env ++ r ∷ []) (h r there))
   all_matches (counted most from test more) env h = h
   all_matches (made m more) env h = h
   all_matches (folded from test all more) env h = h
@@ -53,14 +55,16 @@ module _ (db : Trees) (terms : List Term) (P : Env → Type 0) where
   each_match end env h = from_end env (list_all (holds env) terms) h
   each_match (inner t more) env h = λ r there. each_match more (env ++ r ∷ []) (flat_all P (λ (r : Row). matches db terms more (env ++ r ∷ [])) (db t) h r there)
   each_match (left t on more) env h =
-      λ r there. each_match more (env ++ r ∷ []) (flat_all P (λ (r : Row). matches db terms more (env ++ r ∷ [])) (or_nulls (filter (λ (r : Row). list_all (holds (env ++ r ∷ [])) on) (db t))) h r there)
+      λ r there. each_match more (env ++ r ∷ []) (flat_all P (λ (r : Row). matches db terms more (env ++ r ∷ []))
+      (or_nulls (filter (λ (r : Row). list_all (holds (env ++ r ∷ [])) on) (db t))) h r there)
   each_match (counted most from test more) env h = h
   each_match (made m more) env h = h
   each_match (folded from test all more) env h = h
   each_match (first from test order shown more) env h = h
 
 -- the rows of an answer are what the matches show
-module _ (from : Join) (terms project : List Term) (order : List (Term × Key)) (db : Trees) (params : Row) (rows : List Row) (a : IsAnswer (query from terms project order no_limit) db params rows) (good : Row → Type 0) where
+module _ (from : Join) (terms project : List Term) (order : List (Term × Key)) (db : Trees) (params : Row)
+    (rows : List Row) (a : IsAnswer (query from terms project order no_limit) db params rows) (good : Row → Type 0) where
   abbrev q : Query
   q = query from terms project order no_limit
 
@@ -74,10 +78,14 @@ module _ (from : Join) (terms project : List Term) (order : List (Term × Key)) 
   each_good h =
       let ordered = all_from_map good (λ (o : Output). o.1) a.ordered (subst (AllByRecursion good) a.shown h) in
       let placed = all-permutation (λ (o : Output). good o.1) a.ordered a.kept (IsPermutation-sym _ _ a.same) ordered in
-      each_match db terms shows from (params ∷ []) (all_from_map (λ (o : Output). good o.1) (output q) (matches db terms from (params ∷ [])) (subst (AllByRecursion (λ (o : Output). good o.1)) kept placed))
+      each_match db terms shows from (params ∷ [])
+      (all_from_map (λ (o : Output). good o.1) (output q) (matches db terms from (params ∷ []))
+      (subst (AllByRecursion (λ (o : Output). good o.1)) kept placed))
 
   pub all_good : EachMatch db terms from (params ∷ []) shows → AllByRecursion good rows
   all_good h =
-      let placed = subst (AllByRecursion (λ (o : Output). good o.1)) (sym kept) (all-map (λ (o : Output). good o.1) (output q) (matches db terms from (params ∷ [])) (all_matches db terms shows from (params ∷ []) h)) in
+      let placed = subst (AllByRecursion (λ (o : Output). good o.1)) (sym kept)
+      (all-map (λ (o : Output). good o.1) (output q) (matches db terms from (params ∷ []))
+      (all_matches db terms shows from (params ∷ []) h)) in
       let ordered = all-permutation (λ (o : Output). good o.1) a.kept a.ordered a.same placed in
       subst (AllByRecursion good) (sym a.shown) (all-map good (λ (o : Output). o.1) a.ordered ordered)

@@ -79,7 +79,9 @@ module _ (rows : List Row) (shelf : Shelf) (h : Holds whole blob_row rows shelf)
       → ((r : Row) → JoinsBlob rows (Int id) r → Q (column r 3)) ↔ Q (Bytes bytes)
   of_one id bytes stands None none = absurd (let e : None ≡ Some bytes = sym (ap (option_map (λ (b : Blob). b.bytes)) none) ∙ stands in cc)
   of_one id bytes stands (Some b) is =
-      let all = joined as_whole blob_row rows shelf (covered_whole h) (λ r. equal Binary (column r 0) (Int id) && true) id (λ l c x. number_is l id) (λ r. Q (column r 3)) (λ o. Q (data_in o)) same (λ c x. same) in
+      let all = joined as_whole blob_row rows shelf (covered_whole h)
+      (λ r. equal Binary (column r 0) (Int id) && true) id (λ l c x. number_is l id) (λ r. Q (column r 3))
+      (λ o. Q (data_in o)) same (λ c x. same) in
       let bytes_are : b.bytes ≡ bytes = same_some (sym (ap (option_map (λ (c : Blob). c.bytes)) is) ∙ stands) in
       subst (λ v. ((r : Row) → JoinsBlob rows (Int id) r → Q (column r 3)) ↔ Q v) (ap data_in is ∙ ap Bytes bytes_are) all
 

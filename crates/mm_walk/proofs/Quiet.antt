@@ -27,7 +27,9 @@ none_planned : (k : Checked Command) (formats : List Name) (make : List Name × 
     → r ≡ Ok None
     → and_then (and_then (and_then r (λ shown. and_then k (λ c. Ok (c, shown)))) (λ found. Ok (formats, found))) (λ plan. Ok (make plan)) ≡ Ok c
     → c.returning ≡ None
-none_planned k formats make keeps c r is h = by_command k (subst (λ x. and_then (and_then (and_then x (λ shown. and_then k (λ c. Ok (c, shown)))) (λ found. Ok (formats, found))) (λ plan. Ok (make plan)) ≡ Ok c) is h)
+none_planned k formats make keeps c r is h = by_command k
+    (subst (λ x. and_then (and_then (and_then x (λ shown. and_then k (λ c. Ok (c, shown))))
+    (λ found. Ok (formats, found))) (λ plan. Ok (make plan)) ≡ Ok c) is h)
   where
     by_command : (k : Checked Command)
         → and_then (and_then (and_then k (λ (c : Command). Ok (c, None))) (λ (found : Command × Option Returning). Ok (formats, found))) (λ plan. Ok (make plan)) ≡ Ok c → c.returning ≡ None

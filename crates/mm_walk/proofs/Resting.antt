@@ -23,7 +23,8 @@ seen_still profile old new p (inr undone) it = record {
 }
 
 -- however it ends, the connection rests
-pub ends_rest : {V : Type 0} (takes : V → Row → V → Result Bool Fault → Type 0) (sql : List ℕ) (params : Row) (old new : State) (v w : V) (result : Result Bool Fault) → Ends takes sql params old new v w result → Rests old new
+pub ends_rest : {V : Type 0} (takes : V → Row → V → Result Bool Fault → Type 0) (sql : List ℕ) (params : Row)
+    (old new : State) (v w : V) (result : Result Bool Fault) → Ends takes sql params old new v w result → Rests old new
 ends_rest takes sql params old new v w (Ok true) it = inl it.same
 ends_rest takes sql params old new v w (Ok false) it = inl it.same
 ends_rest takes sql params old new v w (Err fault) (inl it) = inl it.same

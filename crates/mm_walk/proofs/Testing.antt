@@ -1,5 +1,6 @@
 -- What a walk that tests each row tells.
-use Rattle.std.proofs.Common.{◌≡◌, ◌↔◌, ◌⊎◌, inl, inr, ℕ, Bool, true, false, List, [], ◌∷◌, ◌++◌, IsTrue, Result, Ok, Err, IfOk, IfErr, OnOk, refl, sym, subst, ◌∙◌}
+use Rattle.std.proofs.Common.{◌≡◌, ◌↔◌, ◌⊎◌, inl, inr, ℕ, Bool, true, false, List, [], ◌∷◌, ◌++◌, IsTrue, Result, Ok}
+use Rattle.std.proofs.Common.{Err, IfOk, IfErr, OnOk, refl, sym, subst, ◌∙◌}
 use Rattle.std.specs.List.{AllByRecursion}
 use Rattle.sql_forms.specs.Values.TheVariants.{Null}
 use Rattle.sql_forms.specs.Key.{Key}
@@ -22,7 +23,9 @@ use Rattle.mm_walk.proofs.Matches.{all_split, all_good, each_good}
 pub plain_asks : (schema : Schema) (sql : List ℕ) → IsPlain (understood schema sql) → OnlyAsks schema sql
 plain_asks schema sql plain c is = (subst IsPlain is plain).0
 
-module _ (sql : List ℕ) (params : Row) (good : Row → Type 0) (schema : Schema) (from : Join) (terms project : List Term) (order : List (Term × Key)) (names : List (List ℕ)) (it : IsQuery schema sql from terms project order names) (old : State) (has : old.now.schema ≡ schema) where
+module _ (sql : List ℕ) (params : Row) (good : Row → Type 0) (schema : Schema) (from : Join)
+    (terms project : List Term) (order : List (Term × Key)) (names : List (List ℕ))
+    (it : IsQuery schema sql from terms project order names) (old : State) (has : old.now.schema ≡ schema) where
   -- each row of an answer has passed
   tells_all : (new : State) (rows : List Row) → Shown sql params old new rows → AllByRecursion good rows
       → IsTrue true ↔ AllShown old.now.trees params from terms project good
@@ -43,7 +46,9 @@ module _ (sql : List ℕ) (params : Row) (good : Row → Type 0) (schema : Schem
             bad (all_split good rows (row ∷ []) front).1.0),
       )
 
-module _ {V : Type 0} (takes : V → Row → V → Result Bool Fault → Type 0) (good : V → Row → Type 0) (tests : (v w : V) (row : Row) (result : Result Bool Fault) → takes v row w result → (w ≡ v) × ((b : Bool) × (result ≡ Ok b) × (IsTrue b ↔ good v row))) where
+module _ {V : Type 0} (takes : V → Row → V → Result Bool Fault → Type 0) (good : V → Row → Type 0)
+    (tests : (v w : V) (row : Row) (result : Result Bool Fault) → takes v row w result → (w ≡ v)
+    × ((b : Bool) × (result ≡ Ok b) × (IsTrue b ↔ good v row))) where
   never_err : (v w : V) (row : Row) (fault : Fault) → takes v row w (Err fault) → ⊥
   never_err v w row fault h = let t = (tests v w row _ h).1 in let e = t.1 in cc
 
@@ -85,10 +90,13 @@ module _ {V : Type 0} (takes : V → Row → V → Result Bool Fault → Type 0)
     tells_of : (r : Result Bool Fault) → Ends takes sql params old new v w r → (schema : Schema) → old.now.schema ≡ schema
         → (from : Join) (terms project : List Term) (order : List (Term × Key)) (names : List (List ℕ))
         → IsQuery schema sql from terms project order names → IfOk r (λ all. IsTrue all ↔ AllShown old.now.trees params from terms project (good v))
-    tells_of (Ok true) h schema has from terms project order names it = tells_all sql params (good v) schema from terms project order names it old has new h.rows h.shown (all_taken v w h.rows h.taken).1
+    tells_of (Ok true) h schema has from terms project order names it =
+        tells_all sql params (good v) schema from terms project order names it old has new h.rows h.shown
+        (all_taken v w h.rows h.taken).1
     tells_of (Ok false) h schema has from terms project order names it =
         let early = all_taken v h.before h.rows h.taken in
-        tells_stop sql params (good v) schema from terms project order names it old has h.rows h.last h.begins (λ there. halts h.before w h.last h.ends (subst (λ x. good x h.last) (sym early.0) there))
+        tells_stop sql params (good v) schema from terms project order names it old has h.rows h.last h.begins
+        (λ there. halts h.before w h.last h.ends (subst (λ x. good x h.last) (sym early.0) there))
     tells_of (Err fault) h schema has from terms project order names it = tt
 
     pub tested : (r : Result Bool Fault) → IsWalk takes sql params old new v w r → TellsAll sql params (good v) old new r

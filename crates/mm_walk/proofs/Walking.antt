@@ -80,7 +80,14 @@ module _ {S V : Type 0} (g : Ghosts S) (takes : V → Row → V → Result Bool 
       cut_off e fault is kept = record {
         mode = all_mode;
         survives = all_quiet;
-        walked = λ clean asks. let it = far.given (was_clean clean) asks in inr (record { rests = rests it.2 (kept clean); rows = it.0; begins = fronts it.0 it.2 it.1; taken = it.3; told = told_fault e fault is });
+        walked = λ clean asks. let it = far.given (was_clean clean) asks in
+            inr (record {
+              rests = rests it.2 (kept clean);
+              rows = it.0;
+              begins = fronts it.0 it.2 it.1;
+              taken = it.3;
+              told = told_fault e fault is;
+            });
         visits = (far.visited.0, inl far.visited.1);
         faults = inl (told_fault e fault is);
       }
@@ -102,13 +109,22 @@ module _ {S V : Type 0} (g : Ghosts S) (takes : V → Row → V → Result Bool 
         all_same : (clean : HasCleanDisk (state g new)) (asks : OnlyAsks old.schema sql) → IsUnchanged (state g old) (state g new)
         all_same clean asks = unchanged_then (state g old) (state g now) (state g new) (far.given (was_clean clean) asks).2 (same clean)
 
-        pub ended : (HasCleanDisk (state g new) → (given : List Row) → HasGiven g sql params now given → Shown sql params (state g now) (state g new) given) → IsWalk takes sql params (state g old) (state g new) v w (Ok true)
+        pub ended : (HasCleanDisk (state g new) → (given : List Row) → HasGiven g sql params now given
+            → Shown sql params (state g now) (state g new) given)
+            → IsWalk takes sql params (state g old) (state g new) v w (Ok true)
         ended shows = record {
           mode = all_mode;
           survives = all_quiet;
           walked = λ clean asks.
               let it = far.given (was_clean clean) asks in
-              record { same = all_same clean asks; rows = it.0; shown = shown_before sql params (state g old) (state g now) (state g new) it.0 asks it.2 (same clean) (shows clean it.0 it.1); taken = it.3 };
+              record {
+                same = all_same clean asks;
+                rows = it.0;
+                shown =
+                    shown_before sql params (state g old) (state g now) (state g new) it.0 asks it.2 (same clean)
+                    (shows clean it.0 it.1);
+                taken = it.3;
+              };
           visits = (far.visited.0, inl far.visited.1);
           faults = tt;
         }
@@ -143,4 +159,12 @@ module _ {S V : Type 0} (g : Ghosts S) (takes : V → Row → V → Result Bool 
           stopped step = record { mode = all_mode; survives = all_quiet; walked = at_last (Ok false) step; visits = (far.visited.0, inr (w, row, far.visited.1, step)); faults = tt }
 
           pub gave_up : (fault : Fault) → takes w row u (Err fault) → IsWalk takes sql params (state g old) (state g new) v u (Err fault)
-          gave_up fault step = record { mode = all_mode; survives = all_quiet; walked = λ clean asks. inl (at_last (Err fault) step clean asks); visits = (far.visited.0, inr (w, row, far.visited.1, step)); faults = inr (w, row, step) }
+          gave_up fault step = record {
+            mode = all_mode;
+            survives = all_quiet;
+            walked =
+                λ clean asks. inl (at_last (Err fault) step clean asks);
+            visits =
+                (far.visited.0, inr (w, row, far.visited.1, step));
+            faults = inr (w, row, step);
+          }

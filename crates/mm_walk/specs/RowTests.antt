@@ -34,7 +34,8 @@ OnTrue false P = ⊤
 abbrev pub EachMatch : Trees → List Term → Join → Env → (Env → Type 0) → Type 0
 EachMatch db terms end env P = OnTrue (list_all (holds env) terms) (P env)
 EachMatch db terms (inner t more) env P = (r : Row) → Has (db t) r → EachMatch db terms more (env ++ r ∷ []) P
-EachMatch db terms (left t on more) env P = (r : Row) → Has (or_nulls (filter (λ r. list_all (holds (env ++ r ∷ [])) on) (db t))) r → EachMatch db terms more (env ++ r ∷ []) P
+EachMatch db terms (left t on more) env P = (r : Row) → Has
+    (or_nulls (filter (λ r. list_all (holds (env ++ r ∷ [])) on) (db t))) r → EachMatch db terms more (env ++ r ∷ []) P
 EachMatch db terms (counted most from test more) env P = AllByRecursion P (matches db terms (counted most from test more) env)
 EachMatch db terms (made m more) env P = AllByRecursion P (matches db terms (made m more) env)
 EachMatch db terms (folded from test all more) env P = AllByRecursion P (matches db terms (folded from test all more) env)

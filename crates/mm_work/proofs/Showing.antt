@@ -16,18 +16,18 @@ use Rattle.mm_core.specs.Adopted.{IsAdopted}
 use Rattle.mm_core.specs.Viewers.{IsOn, LeavesPackage}
 use Rattle.mm_core.specs.Writing.{IsBegun, ListingTellsWriter}
 use Rattle.mm_show.specs.Records.{row_records}
-use Rattle.mm_show.specs.Showing.{Shows, records_by, rows_shown, show_refusal}
+use Rattle.mm_show.specs.Showing.{ShowsRecords, records_by, rows_shown, show_refusal}
 use Rattle.mm_work.specs.Shown.{IsShowing, IsShowingCut, TellsReason, TellsRows, shown_text, status_by, text_by}
 
 -- ---- what is printed
 
-pub told_records : (p : Package) (table : Text) (id : Option ℤ) (old new : Written) → Shows p table id old new (Ok None) → TellsRows p table id old new (Ok 0)
+pub told_records : (p : Package) (table : Text) (id : Option ℤ) (old new : Written) → ShowsRecords p table id old new (Ok None) → TellsRows p table id old new (Ok 0)
 told_records p table id old new (none, printed) = (
   subst (λ (o : Option ℕ). Appends old.contents new.contents (text_by o (row_records table (rows_shown p table id)))) (sym none) printed,
   ap status_by (sym none),
 )
 
-pub told_reason : (p : Package) (table : Text) (id : Option ℤ) (old mid new : Written) (number : ℕ) (r : Result ℕ Fault) → Shows p table id old mid
+pub told_reason : (p : Package) (table : Text) (id : Option ℤ) (old mid new : Written) (number : ℕ) (r : Result ℕ Fault) → ShowsRecords p table id old mid
     (Ok (Some number))
     → TellsReason mid new number r → TellsRows p table id old new r
 told_reason p table id old mid new number (Ok status) (why, same) (printed, is) = (
@@ -45,7 +45,7 @@ begun_by (Some number) records old new ([], rest, is, appends) = ([], text_by (S
 begun_by (Some number) records old new (b ∷ front, rest, is, appends) = absurd cc
 
 pub told_begun : (p : Package) (table : Text) (id : Option ℤ) (old new : Written) (fault : Fault) (r : Result ℕ Fault) → IsErr r
-    → Shows p table id old new (Err fault)
+    → ShowsRecords p table id old new (Err fault)
     → TellsRows p table id old new r
 told_begun p table id old new fault (Ok status) stops begun = absurd (let f : false ≡ true = stops in cc)
 told_begun p table id old new fault (Err other) stops begun = begun_by (show_refusal p table id) _ old.contents new.contents begun

@@ -13,7 +13,7 @@ use Rattle.mm_store.specs.Statements.{CommitsNothing}
 use Rattle.mm_core.specs.Adopted.{WasAdopted}
 use Rattle.mm_core.specs.Writing.{IsBegun, ListingTellsWriter}
 use Rattle.mm_show.specs.Records.{row_records}
-use Rattle.mm_show.specs.Showing.{IsPrinted, rows_shown, show_refusal}
+use Rattle.mm_show.specs.Showing.{IsTextPrinted, rows_shown, show_refusal}
 use Rattle.mm_work.specs.Declined.{IsDeclined}
 use Rattle.mm_work.specs.declared.stop.Stop.{Stop}
 use Rattle.mm_work.specs.declared.stop.Stop.TheVariants as stops
@@ -38,8 +38,8 @@ shown_status p table id = status_by (show_refusal p table id)
 
 -- the line of a number was printed, with status 1; or a beginning of it was, and the output failed
 abbrev pub TellsReason : Written → Written → ℕ → Result ℕ Fault → Type 0
-TellsReason old new number (Ok status) = IsPrinted old new (text_by (Some number) (codes "")) (Ok tt) × (status ≡ 1)
-TellsReason old new number (Err fault) = IsPrinted old new (text_by (Some number) (codes "")) (Err fault)
+TellsReason old new number (Ok status) = IsTextPrinted old new (text_by (Some number) (codes "")) (Ok tt) × (status ≡ 1)
+TellsReason old new number (Err fault) = IsTextPrinted old new (text_by (Some number) (codes "")) (Err fault)
 
 -- the text was printed, and its status is told; or a beginning of it was
 abbrev pub TellsRows : Package → Text → Option ℤ → Written → Written → Result ℕ Fault → Type 0

@@ -1,5 +1,6 @@
 -- A DELETE with its actions takes away rows that are not kept, and no others.
-use Rattle.std.proofs.Common.{◌≡◌, ◌⊎◌, inl, inr, ℕ, zero, suc, ◌+◌, ℤ, Bool, true, false, not, ◌&&◌, cond, eqb, List, [], ◌∷◌, ◌++◌, map, filter, Option, Some, None, Ok, Err, refl, sym, ap, subst, ◌∙◌}
+use Rattle.std.proofs.Common.{◌≡◌, ◌⊎◌, inl, inr, ℕ, zero, suc, ◌+◌, ℤ, Bool, true, false, not, ◌&&◌, cond, eqb, List}
+use Rattle.std.proofs.Common.{[], ◌∷◌, ◌++◌, map, filter, Option, Some, None, Ok, Err, refl, sym, ap, subst, ◌∙◌}
 use Rattle.std.specs.Prelude.{nat_lt, MatchBool}
 use Rattle.std.specs.List.{list_any, filter_map}
 use Rattle.std.proofs.lemmas.Bool.{and_parts, cases_eq, eqb-true}
@@ -18,7 +19,8 @@ use Rattle.sqlite_rules.specs.declared.action.Deed.TheVariants.{Refuse, Delete, 
 use Rattle.sqlite_rules.specs.declared.error.Refusal.TheVariants.{TooDeep}
 use Rattle.sqlite_rules.specs.Lists.{Has}
 use Rattle.sqlite_rules.specs.Edit.{Edit, without_all, row_at, taken_by, Applies}
-use Rattle.sqlite_rules.specs.Action.{End, Work, pairs, loses, works, work_by, work_for, is_child_of, AreChildren, action_edit, Goes, Acts, ActsOn, Leads, Writes, max_depth, refuses}
+use Rattle.sqlite_rules.specs.Action.{End, Work, pairs, loses, works, work_by, work_for, is_child_of, AreChildren}
+use Rattle.sqlite_rules.specs.Action.{action_edit, Goes, Acts, ActsOn, Leads, Writes, max_depth, refuses}
 use Rattle.sqlite_rules.proofs.ListLemmas.{all_has, all_from, some_has, has_left, has_right, has_either, has_filtered}
 use Rattle.sqlite_rules.proofs.ProbeLemmas.{has_mapped}
 use Rattle.sqlite_rules.proofs.TableLemmas.{without_all_has}
@@ -49,7 +51,9 @@ rows_left ids rows up = record { rise = rise_left ids rows up.rise; keyed = all_
 -- none of the rowids is left
 pub left_lacks : (ids : List ℤ) (rows : List Row) (r : Row) (id : ℤ) → Has (without_all rows ids) r → Has ids id → has_rowid id r ≡ true → ⊥
 left_lacks [] rows r id there h is = h
-left_lacks (k ∷ ids) rows r id there (inl same) is = let out = (has_filtered _ rows r (without_all_has ids (without_rowid k rows) r there)).1 in let here : has_rowid k r ≡ true = rw (← same) is in absurd (cc)
+left_lacks (k ∷ ids) rows r id there (inl same) is = let out =
+    (has_filtered _ rows r (without_all_has ids (without_rowid k rows) r there)).1 in
+    let here : has_rowid k r ≡ true = rw (← same) is in absurd (cc)
 left_lacks (k ∷ ids) rows r id there (inr more) is = left_lacks ids (without_rowid k rows) r id there more is
 
 pub own_rowid : (r : Row) (id : ℤ) → rowid r ≡ Int id → has_rowid id r ≡ true
@@ -175,7 +179,8 @@ module _ (schema : Schema) (keys : Keys) (keep : Keep) (follows : Follows schema
       deletes w ids listed out found edit table gone none (inl refused) = absurd (let k = refused.2 in cc)
       deletes w ids listed out found edit table gone none (inr (inl big)) = absurd (let k = big.3 in cc)
       deletes w ids listed out found edit table gone none (inr (inr went)) =
-          let lost : (id : ℤ) (r : Row) → Has edit.gone id → Has (now edit.table.tree) r → has_rowid id r ≡ true → keep edit.table.tree r ≡ false = rw (table, gone) (out_of now w ids so found listed out) in
+          let lost : (id : ℤ) (r : Row) → Has edit.gone id → Has (now edit.table.tree) r → has_rowid id r ≡ true
+          → keep edit.table.tree r ≡ false = rw (table, gone) (out_of now w ids so found listed out) in
           let olds : (r : Row) → Has (taken_by now edit) r → keep edit.table.tree r ≡ false = rw (table, gone) (taken_out now w ids so found listed out) in
           on went.0 (below ++ works schema keys (w.depth + 1) edit.table.tree (taken_by now edit) edit.news)
           (shrinks_then schema keys keep db now went.0 so (applied schema keys keep now went.0 edit none lost (rw table listed) went.1))

@@ -1,5 +1,7 @@
 -- DELETE FROM t WHERE c = ?1, whose foreign keys carry the value of c to other tables: the rows that have it are gone there too, whatever the order of the actions.
-use Rattle.std.proofs.Common.{◌≡◌, inl, inr, ℕ, zero, suc, ◌+◌, Bool, true, false, not, ◌&&◌, ◌||◌, eqb, List, [], ◌∷◌, filter, slice_get, unwrap_or, option_map, Option, Some, None, Ok, Err, Result, OnOk, refl, sym, ap, subst, ◌∙◌, arith}
+use Rattle.std.proofs.Common.{◌≡◌, inl, inr, ℕ, zero, suc, ◌+◌, Bool, true, false, not, ◌&&◌, ◌||◌, eqb, List, []}
+use Rattle.std.proofs.Common.{◌∷◌, filter, slice_get, unwrap_or, option_map, Option, Some, None, Ok, Err, Result}
+use Rattle.std.proofs.Common.{OnOk, refl, sym, ap, subst, ◌∙◌, arith}
 use Rattle.std.specs.List.{AllByRecursion, list_any, list_all}
 use Rattle.std.proofs.lemmas.Bool.{or_cases, and_parts, and_from, eqb-true, both_ways, true_from_ne_false}
 use Rattle.sqlite.specs.declared.error.Error.{Error}
@@ -32,7 +34,8 @@ use Rattle.sqlite.specs.State.{State, ExecutesInside, Writes}
 use Rattle.sqlite.proofs.Callers.{IsPlain, command_of, statement_of, runs_as}
 use Rattle.sql_forms.specs.Forms.{equals, deletes}
 use Rattle.sql_forms.specs.Tables.{tables_of, IsReady, Leaves}
-use Rattle.sql_forms.specs.Cascade.{FollowsAt, Follows, has_at, keep_but, is_binary, heads_match, carries_at, carries, is_needed, left_without, leads_to, is_covered, covers_from, covers, cut}
+use Rattle.sql_forms.specs.Cascade.{FollowsAt, Follows, has_at, keep_but, is_binary, heads_match, carries_at, carries}
+use Rattle.sql_forms.specs.Cascade.{is_needed, left_without, leads_to, is_covered, covers_from, covers, cut}
 use Rattle.sql_forms.proofs.Lists.{filter_whole, not_true, not_false, not_not, and_true}
 use Rattle.sql_forms.proofs.Tables.{at_tables}
 use Rattle.sql_forms.proofs.Deletes.{deletes_kept, shrunk_rows}
@@ -198,10 +201,13 @@ cascaded schema sql at table p place it old new v given (Err e) ready same h = t
 cascaded schema sql at table p place it old new v given (Ok count) ready same h =
     let keep = keep_but place v in
     let terms = equals p 0 ∷ [] in
-    let w : Writes old new None (Delete at (deletes table.tree terms)) (statement_of sql (understood schema sql)) (v ∷ []) count = runs_as sql (v ∷ []) old new schema ready.schema_is _ it.compiled it.plain count (rw same at h).0 in
+    let w : Writes old new None (Delete at (deletes table.tree terms)) (statement_of sql (understood schema sql))
+    (v ∷ []) count = runs_as sql (v ∷ []) old new schema ready.schema_is _ it.compiled it.plain count (rw same at h).0 in
     let follows = carried schema Enforced place v it.carried in
     let on = it.on in
-    let made = deletes_kept schema at table it.placed keep follows terms old new ready (statement_of sql (understood schema sql)) (v ∷ []) count (λ r there. rw on (and_true (equal Binary (column r p) v) ∙ sym (not_not _))) w in
+    let made = deletes_kept schema at table it.placed keep follows terms old new ready
+    (statement_of sql (understood schema sql)) (v ∷ []) count
+    (λ r there. rw on (and_true (equal Binary (column r p) v) ∙ sym (not_not _))) w in
     let so = made.1 in
     let known : new.now.schema ≡ schema = made.0 in
     let clear = all_clear schema new.now.trees (subst (λ s. Obeys s new.now.trees) known w.sound.obeys) place v table.tree it.covered made.2 in

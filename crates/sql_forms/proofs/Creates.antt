@@ -45,7 +45,9 @@ module _ (old new : State) (before : Schema) (sql : List ℕ) (table : Table) (a
       all_from _ (old.now.schema.tables ++ (record (made.table) { tree = next_tree old.now.schema }) ∷ []) (λ t there. elim (has_either old.now.schema.tables _ t there) [
         | inl was ↦
             all_has (λ (x : Table). first.0.trees x.tree ≡ old.now.trees x.tree) old.now.schema.tables t made.others was
-            ∙ all_has (λ (x : Table). old.now.trees x.tree ≡ []) old.now.schema.tables t (subst (λ (s : Schema). AllByRecursion (λ (x : Table). old.now.trees x.tree ≡ []) s.tables) (sym has) bare.empty) was
+            ∙ all_has (λ (x : Table). old.now.trees x.tree ≡ []) old.now.schema.tables t
+            (subst (λ (s : Schema). AllByRecursion (λ (x : Table). old.now.trees x.tree ≡ []) s.tables)
+            (sym has) bare.empty) was
         | inr last ↦ elim last [
           | inl is ↦ ap (λ (x : Table). first.0.trees x.tree) is ∙ made.empty
           | inr none ↦ absurd none
@@ -53,7 +55,9 @@ module _ (old new : State) (before : Schema) (sql : List ℕ) (table : Table) (a
       ]) in (
         record {
           schema_is = ap (λ (d : Database). d.schema) now ∙ schema;
-          empty = subst (λ (d : Database). AllByRecursion (λ (t : Table). d.trees t.tree ≡ []) after.tables) (sym now) (subst (λ (s : Schema). AllByRecursion (λ (t : Table). first.0.trees t.tree ≡ []) s.tables) becomes bare_all);
+          empty = subst (λ (d : Database). AllByRecursion (λ (t : Table). d.trees t.tree ≡ []) after.tables)
+              (sym now) (subst (λ (s : Schema). AllByRecursion (λ (t : Table). first.0.trees t.tree ≡ []) s.tables)
+              becomes bare_all);
         },
         w.sound,
       )
@@ -69,7 +73,8 @@ pub record IsIndexing (before : Schema) (sql : List ℕ) (at : ℕ) (table : Tab
   pub defined : index_defined_by table sql ≡ Ok index
   pub becomes : indexed before table index ≡ after
 
-module _ (old new : State) (before : Schema) (sql : List ℕ) (at : ℕ) (table : Table) (index : Index) (after : Schema) (it : IsIndexing before sql at table index after) (same_tables : after.tables ≡ before.tables) (count : ℕ) where
+module _ (old new : State) (before : Schema) (sql : List ℕ) (at : ℕ) (table : Table) (index : Index) (after : Schema)
+    (it : IsIndexing before sql at table index after) (same_tables : after.tables ≡ before.tables) (count : ℕ) where
   -- one more index, and the tables as empty as before
   pub indexes : IsBare before old.now → Executes sql [] old new (Ok count) → IsBare after new.now × IsDatabase new.now
   indexes bare h =
@@ -88,7 +93,8 @@ module _ (old new : State) (before : Schema) (sql : List ℕ) (at : ℕ) (table 
       ∙ all_has (λ (x : Table). old.now.trees x.tree ≡ []) before.tables t bare.empty there) in (
         record {
           schema_is = ap (λ (d : Database). d.schema) now ∙ schema;
-          empty = subst (λ (d : Database). AllByRecursion (λ (t : Table). d.trees t.tree ≡ []) after.tables) (sym now) (subst (λ ts. AllByRecursion (λ (t : Table). all.0.trees t.tree ≡ []) ts) (sym same_tables) bare_all);
+          empty = subst (λ (d : Database). AllByRecursion (λ (t : Table). d.trees t.tree ≡ []) after.tables)
+              (sym now) (subst (λ ts. AllByRecursion (λ (t : Table). all.0.trees t.tree ≡ []) ts) (sym same_tables) bare_all);
         },
         w.sound,
       )

@@ -1,5 +1,6 @@
 -- DELETE FROM t WHERE .., with what its foreign keys take along, and one that takes nothing along.
-use Rattle.std.proofs.Common.{◌≡◌, ◌≢◌, ℕ, ℤ, true, false, not, eqb, List, [], ◌∷◌, slice_get, Option, Some, None, Ok, Err, Result, OnOk, refl, sym, ap, subst, ◌∙◌}
+use Rattle.std.proofs.Common.{◌≡◌, ◌≢◌, ℕ, ℤ, true, false, not, eqb, List, [], ◌∷◌, slice_get, Option, Some, None, Ok}
+use Rattle.std.proofs.Common.{Err, Result, OnOk, refl, sym, ap, subst, ◌∙◌}
 use Rattle.std.proofs.lemmas.Bool.{eq-eqb, ne_eqb, and_parts, true_from_ne_false}
 use Rattle.sqlite.specs.declared.error.Error.{Error}
 use Rattle.sqlite.specs.declared.types.Value.TheVariants.{Null, Int}
@@ -85,7 +86,8 @@ deletes_rows task keep terms db out follows tables listed where_is h =
     )
 
 -- The same of a statement that ran.
-module _ (schema : Schema) (at : ℕ) (table : Table) (placed : slice_get schema.tables at ≡ Some table) (keep : Keep) (follows : Follows schema Enforced keep) (terms : List Term) (old new : State) (ready : IsReady schema old) where
+module _ (schema : Schema) (at : ℕ) (table : Table) (placed : slice_get schema.tables at ≡ Some table) (keep : Keep)
+    (follows : Follows schema Enforced keep) (terms : List Term) (old new : State) (ready : IsReady schema old) where
   pub deletes_kept : (text : List ℕ) (params : Row) (count : ℕ)
       → ((r : Row) → Has (old.now.trees table.tree) r → passes terms params r ≡ not (keep table.tree r))
       → Writes old new None (Delete at (deletes table.tree terms)) text params count
@@ -95,7 +97,14 @@ module _ (schema : Schema) (at : ℕ) (table : Table) (placed : slice_get schema
       let ran : OnRows (record { limit = old.step_limit; keys = Enforced; schema = schema; table = table; params = params }) (mode_of old) None command old.now.trees (Ok (w.tally, new.now)) =
       rw placed at (done_by schema old new at table placed ready command text params count w) in
       let made = wrote schema old new at table placed ready params command w.tally ran in
-      let rows = deletes_rows (record { limit = old.step_limit; keys = Enforced; schema = schema; table = table; params = params }) keep terms old.now.trees made.0 follows ready.rows (has_got schema.tables at table placed) where_is made.1 in (
+      let rows = deletes_rows (record {
+        limit = old.step_limit;
+        keys = Enforced;
+        schema = schema;
+        table = table;
+        params = params;
+      }) keep terms old.now.trees made.0 follows ready.rows
+      (has_got schema.tables at table placed) where_is made.1 in (
         subst (λ d. d.schema ≡ schema) (sym made.2) refl,
         subst (λ d. Shrinks schema keep old.now.trees d.trees) (sym made.2) rows.0,
         λ r there. rows.1 r (subst (λ d. Has (d.trees table.tree) r) made.2 there),
@@ -130,7 +139,9 @@ spared schema keys tree terms params h =
     at t ref (Some Reset) key h = absurd (cc)
 
 -- `given` is what the call bound, and `params` as the caller writes it
-module _ (schema : Schema) (sql : List ℕ) (at : ℕ) (table : Table) (terms : List Term) (it : IsDelete schema sql at table terms) (old new : State) (ready : IsReady schema old) (params given : Row) (same : given ≡ params) where
+module _ (schema : Schema) (sql : List ℕ) (at : ℕ) (table : Table) (terms : List Term)
+    (it : IsDelete schema sql at table terms) (old new : State) (ready : IsReady schema old) (params given : Row)
+    (same : given ≡ params) where
   -- the rows that pass WHERE are gone
   pub has_deleted : (r : Result ℕ Error) → ExecutesInside 0 sql given old new r
       → OnOk r (Leaves schema old new (with_tree (tables_of schema old.now.trees) table.tree (without (passes terms params) (tables_of schema old.now.trees table.tree))))
@@ -139,7 +150,9 @@ module _ (schema : Schema) (sql : List ℕ) (at : ℕ) (table : Table) (terms : 
       let keep = keep_missed table.tree terms params in
       let listed = has_got schema.tables at table it.placed in
       let here : (r : Row) → keep table.tree r ≡ not (passes terms params r) = λ r. rw (eq-eqb table.tree table.tree refl) in
-      let w : Writes old new None (Delete at (deletes table.tree terms)) (statement_of sql (understood schema sql)) params count = runs_as sql params old new schema ready.schema_is _ it.compiled it.plain count (rw same at h).0 in
+      let w : Writes old new None (Delete at (deletes table.tree terms))
+      (statement_of sql (understood schema sql)) params count =
+      runs_as sql params old new schema ready.schema_is _ it.compiled it.plain count (rw same at h).0 in
       let follows = spared schema Enforced table.tree terms params it.childless in
       let made = deletes_kept schema at table it.placed keep follows terms old new ready (statement_of sql (understood schema sql)) params count (λ r there. sym (ap not (here r) ∙ not_not _)) w in
       let so = made.1 in

@@ -1,5 +1,6 @@
 -- An INSERT of one row of VALUES.
-use Rattle.std.proofs.Common.{◌≡◌, ℕ, ℤ, ◌/◌, Bool, true, false, cond, List, [], ◌∷◌, ◌++◌, length, append-nil, Some, None, Ok, Err, Result, OnOk, slice_get, refl, ap, subst, subst₂, ◌∙◌}
+use Rattle.std.proofs.Common.{◌≡◌, ℕ, ℤ, ◌/◌, Bool, true, false, cond, List, [], ◌∷◌, ◌++◌, length, append-nil, Some}
+use Rattle.std.proofs.Common.{None, Ok, Err, Result, OnOk, slice_get, refl, ap, subst, subst₂, ◌∙◌}
 use Rattle.std.specs.Prelude.{MatchBool}
 use Rattle.std.proofs.lemmas.Bool.{and_parts}
 use Rattle.sqlite.specs.declared.error.Error.{Error}

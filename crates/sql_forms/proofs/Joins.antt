@@ -18,7 +18,8 @@ use Rattle.sql_forms.proofs.Lists.{has_flat, flat_has, has_permuted, map_split, 
 
 -- ---- the rows of an answer
 
-module _ (from : Join) (terms project : List Term) (order : List (Term × Key)) (db : Trees) (params : Row) (rows : List Row) (a : IsAnswer (query from terms project order no_limit) db params rows) where
+module _ (from : Join) (terms project : List Term) (order : List (Term × Key)) (db : Trees) (params : Row)
+    (rows : List Row) (a : IsAnswer (query from terms project order no_limit) db params rows) where
   abbrev q : Query
   q = query from terms project order no_limit
 
@@ -32,7 +33,9 @@ module _ (from : Join) (terms project : List Term) (order : List (Term × Key)) 
   pub shows : (env : Env) → Has all env → Has rows (eval_all project env)
   shows env h =
       let there : Has a.kept (output q env) = subst (λ l. Has l (output q env)) (sym kept) (mapped_has (output q) all env h) in
-      subst (λ l. Has l (eval_all project env)) (sym a.shown) (mapped_has (λ (o : Output). o.1) a.ordered (output q env) (has_permuted a.ordered a.kept (output q env) (IsPermutation-sym _ _ a.same) there))
+      subst (λ l. Has l (eval_all project env)) (sym a.shown)
+      (mapped_has (λ (o : Output). o.1) a.ordered (output q env)
+      (has_permuted a.ordered a.kept (output q env) (IsPermutation-sym _ _ a.same) there))
 
   -- A row of the answer is a match, and the matches that are less by ORDER BY are shown before it.
   pub shown_at : (front tail : List Row) (row : Row) → rows ≡ front ++ row ∷ tail

@@ -109,7 +109,8 @@ module _ {K V : Type 0} {R : K → K → Ordering} (total : IsTotalOrder R) (sam
       }
 
     -- UPDATE by the key, which stays
-    module _ (test : Row → Bool) (decides : Decides test k) (change : Row → Row) (v w : V) (stands : get m k ≡ Some v) (changes_to : (r : Row) → part r ≡ row_of k v → part (change r) ≡ row_of k w) where
+    module _ (test : Row → Bool) (decides : Decides test k) (change : Row → Row) (v w : V)
+        (stands : get m k ≡ Some v) (changes_to : (r : Row) → part r ≡ row_of k v → part (change r) ≡ row_of k w) where
       abbrev step : Row → Row
       step r = cond (test r) (change r) r
 

@@ -1,5 +1,6 @@
 -- A SELECT over one table with ORDER BY one column.
-use Rattle.std.proofs.Common.{◌≡◌, inl, ℕ, ◌+◌, ◌<◌, pos, false, List, [], ◌∷◌, filter, map, take, get_or, slice_get, Option, refl, sym, ap, subst, subst₂, ◌∙◌, arith, Ordering}
+use Rattle.std.proofs.Common.{◌≡◌, inl, ℕ, ◌+◌, ◌<◌, pos, false, List, [], ◌∷◌, filter, map, take, get_or, slice_get}
+use Rattle.std.proofs.Common.{Option, refl, sym, ap, subst, subst₂, ◌∙◌, arith, Ordering}
 use Rattle.std.specs.Prelude.{IsSorted}
 use Rattle.std.specs.List.Sorted.{IsPermutation}
 use Rattle.std.specs.Ordering.{is_lt}
@@ -42,7 +43,8 @@ module _ (tree : ℕ) (terms project : List Term) (t : Term) (k : Key) (limit : 
   sorted_by : (xs : List Row) → IsSorted (output_cmp q) (map as_output xs) → IsSorted cmp xs
   sorted_by xs up n d low high =
       subst (λ o. is_lt o ≡ false) (then-Equal (cmp (get_or xs (n + 1) d) (get_or xs n d)))
-      (subst₂ (λ (a b : Output). is_lt (output_cmp q a b) ≡ false) (get_or-map as_output xs (n + 1) d) (get_or-map as_output xs n d) (up n (as_output d) low (subst (λ l. n + 1 < l) (sym (length-map xs as_output)) high)))
+      (subst₂ (λ (a b : Output). is_lt (output_cmp q a b) ≡ false) (get_or-map as_output xs (n + 1) d)
+      (get_or-map as_output xs n d) (up n (as_output d) low (subst (λ l. n + 1 < l) (sym (length-map xs as_output)) high)))
 
   -- the rows in order, of which the answer shows some
   listed : AnswersOver q rows shown params → (xs : List Row) × IsPermutation rows xs × IsSorted cmp xs × (shown ≡ page q params (map (shows project params) xs))
@@ -71,7 +73,8 @@ module _ (schema : Schema) (sql : List ℕ) (tree : ℕ) (terms project : List T
         was.0,
         was.1,
         refl,
-        λ y there yes_y. first_is_least tree terms project t k (lit (Int (pos 1))) table [] params x xs up y (has_permuted _ _ y (IsPermutation-sym _ _ here) (has_kept (passes terms params) table y there yes_y)),
+        λ y there yes_y. first_is_least tree terms project t k (lit (Int (pos 1))) table [] params x xs up y
+            (has_permuted _ _ y (IsPermutation-sym _ _ here) (has_kept (passes terms params) table y there yes_y)),
       )
 
   -- LIMIT 1

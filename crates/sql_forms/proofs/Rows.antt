@@ -1,5 +1,6 @@
 -- The rows of a table, as lists.
-use Rattle.std.proofs.Common.{◌≡◌, inl, inr, ℤ, Bool, true, false, not, ◌&&◌, ◌||◌, cond, List, [], ◌∷◌, filter, map, refl, sym, ap, subst, subst₂, ◌∙◌, IsTrue, Ordering, Less, Equal, Greater, is_eq}
+use Rattle.std.proofs.Common.{◌≡◌, inl, inr, ℤ, Bool, true, false, not, ◌&&◌, ◌||◌, cond, List, [], ◌∷◌, filter, map}
+use Rattle.std.proofs.Common.{refl, sym, ap, subst, subst₂, ◌∙◌, IsTrue, Ordering, Less, Equal, Greater, is_eq}
 use Rattle.std.specs.List.{list_any}
 use Rattle.std.specs.List.Sorted.{IsPermutation}
 use Rattle.std.specs.Ordering.{ordering_reverse}
@@ -76,7 +77,9 @@ its_own v keyed = subst (λ x. is_eq (value_cmp (rowid v) x) ≡ true) (int_is (
 -- the rowids of the rows that pass name those rows and no other
 pub picks : (test : Row → Bool) (rows : List Row) → AreRows rows → (r : Row) → Has rows r → has_one_of (ids_where test rows) r ≡ test r
 picks test rows are r h = elim (cases_Bool (test r)) [
-  | inl passes ↦ some_from (λ id. has_rowid id r) _ _ (mapped_has (λ (x : Row). id_in (rowid x)) (filter test rows) r (has_kept test rows r h passes)) (its_own r (all_has _ rows r are.keyed h)) ∙ sym passes
+  | inl passes ↦ some_from (λ id. has_rowid id r) _ _
+      (mapped_has (λ (x : Row). id_in (rowid x)) (filter test rows) r (has_kept test rows r h passes))
+      (its_own r (all_has _ rows r are.keyed h)) ∙ sym passes
   | inr fails ↦ false_from_ne_true _ (λ any.
       let found = some_has (λ id. has_rowid id r) _ any in
       let from = has_mapped (λ (x : Row). id_in (rowid x)) (filter test rows) found.0 found.1 in
@@ -132,7 +135,9 @@ module _ (test : Row → Bool) (change : Row → Row) (rows news : List Row) (ar
       rw from.2 (go from.0 from.1 (test from.0) refl)
     where
       go : (r : Row) → Has rows r → (b : Bool) → test r ≡ b → Has (put_all (without test rows) news) (cond b (change r) r)
-      go r h true is = put_all_adds news (without test rows) (change r) fresh (has_permuted _ _ (change r) (IsPermutation-sym _ _ put) (mapped_has change (filter test rows) r (has_kept test rows r h is)))
+      go r h true is = put_all_adds news (without test rows) (change r) fresh
+          (has_permuted _ _ (change r) (IsPermutation-sym _ _ put)
+          (mapped_has change (filter test rows) r (has_kept test rows r h is)))
       go r h false is = put_all_keeps news (without test rows) r fresh (has_kept (λ x. not (test x)) rows r h (ap not is))
 
   pub changed_are : AreRows (with_changed test change rows)

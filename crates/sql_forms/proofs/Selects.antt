@@ -1,5 +1,6 @@
 -- A SELECT over one table.
-use Rattle.std.proofs.Common.{◌≡◌, ℕ, Bool, true, false, List, [], ◌∷◌, filter, map, length, take, pos, slice_get, Option, Some, None, is_some, refl, sym, ap, subst, ◌∙◌, arith}
+use Rattle.std.proofs.Common.{◌≡◌, ℕ, Bool, true, false, List, [], ◌∷◌, filter, map, length, take, pos, slice_get}
+use Rattle.std.proofs.Common.{Option, Some, None, is_some, refl, sym, ap, subst, ◌∙◌, arith}
 use Rattle.std.specs.List.{list_any}
 use Rattle.std.specs.List.Sorted.{IsPermutation}
 use Rattle.std.proofs.lemmas.Bool.{false_from_ne_true}
@@ -95,7 +96,8 @@ module _ (schema : Schema) (sql : List ℕ) (tree : ℕ) (terms project : List T
         let read = selects schema sql tree terms project [] (lit (Int (pos 1))) names it old new has params given same shown.0 shown.1 in
         let all : List Row = map (λ (o : Output). o.1) read.0.ordered in
         let passing : IsPermutation (map (shows project params) (filter (passes terms params) table)) all =
-        subst (λ xs. IsPermutation xs all) (map-map (λ (o : Output). o.1) (λ r. output q (params ∷ r ∷ [])) (filter (passes terms params) table)) (IsPermutation-map (λ (o : Output). o.1) _ _ read.0.same) in
+        subst (λ xs. IsPermutation xs all) (map-map (λ (o : Output). o.1) (λ r. output q (params ∷ r ∷ []))
+        (filter (passes terms params) table)) (IsPermutation-map (λ (o : Output). o.1) _ _ read.0.same) in
         let first_is : first ≡ slice_get all 0 = shown.2 ∙ ap (λ xs. slice_get xs 0) read.0.shows ∙ first_taken all in
         (read.1, subst (Finds (passes terms params) (shows project params) table) (sym first_is) (finds (passes terms params) (shows project params) table all passing))
 

@@ -1,5 +1,6 @@
 -- An UPDATE that leaves each row at its rowid, and sets off no action of a foreign key.
-use Rattle.std.proofs.Common.{◌≡◌, ℕ, Bool, true, false, ◌==◌, not, List, [], ◌∷◌, filter, map, drop, length, Some, None, Ok, Err, Result, OnOk, slice_get, refl, ap, subst, subst₂, ◌∙◌, sym, arith}
+use Rattle.std.proofs.Common.{◌≡◌, ℕ, Bool, true, false, ◌==◌, not, List, [], ◌∷◌, filter, map, drop, length, Some}
+use Rattle.std.proofs.Common.{None, Ok, Err, Result, OnOk, slice_get, refl, ap, subst, subst₂, ◌∙◌, sym, arith}
 use Rattle.std.specs.List.{flat_map, filter_map}
 use Rattle.std.specs.List.Sorted.{IsPermutation}
 use Rattle.std.proofs.lemmas.Bool.Decides.{nat_tests}
@@ -113,7 +114,8 @@ module _ (schema : Schema) (sql : List ℕ) (at : ℕ) (table : Table) (terms se
 
     -- each row that passes WHERE is changed where it stands
     pub has_changed : (bound : Row) (r : Result ℕ Error) → bound ≡ params → ExecutesInside 0 sql bound old new r
-        → OnOk r (Leaves schema old new (with_tree (tables_of schema old.now.trees) table.tree (with_changed (passes terms params) (updated table sets params) (tables_of schema old.now.trees table.tree))))
+        → OnOk r (Leaves schema old new (with_tree (tables_of schema old.now.trees) table.tree
+        (with_changed (passes terms params) (updated table sets params) (tables_of schema old.now.trees table.tree))))
     has_changed bound (Err e) same h = tt
     has_changed bound (Ok count) same h =
         let w = runs_as sql params old new schema ready.schema_is _ it.compiled it.plain count (rw same at h).0 in

@@ -55,7 +55,9 @@ module _ (schema : Schema) (old new : State) (at : ℕ) (table : Table) (placed 
       (first.0, first.1, ap (λ (p : Tally × Database). p.1) (same_value (went (went first.2).2).2))
 
   -- the write leaves these rows in the table, and each other table as it was
-  pub leaves : (command : Command) (text : List ℕ) (params : Row) (count : ℕ) (w : Writes old new None command text params count) (next : Trees) (edit : Edit) → new.now ≡ database schema next → edit.table ≡ table
+  pub leaves : (command : Command) (text : List ℕ) (params : Row) (count : ℕ)
+      (w : Writes old new None command text params count) (next : Trees) (edit : Edit)
+      → new.now ≡ database schema next → edit.table ≡ table
       → Applies schema Enforced old.now.trees edit next → (rows : List Row) → edited old.now.trees edit ≡ rows → AreRows rows
       → Leaves schema old new (with_tree (tables_of schema old.now.trees) table.tree rows)
   leaves command text params count w next edit is own a rows has are =
@@ -63,7 +65,8 @@ module _ (schema : Schema) (old new : State) (at : ℕ) (table : Table) (placed 
       let tables : tables_of schema new.now.trees ≡ with_tree (tables_of schema old.now.trees) table.tree rows =
       ap (λ (d : Database). tables_of schema d.trees) is
       ∙ changed_one schema table rows old.now.trees next (has_got schema.tables at table placed) here
-      (λ t there other. all_has (λ (x : Table). x.tree ≢ edit.table.tree → next x.tree ≡ old.now.trees x.tree) schema.tables t a.tables there (subst (λ (x : Table). t.tree ≢ x.tree) (sym own) other)) in
+      (λ t there other. all_has (λ (x : Table). x.tree ≢ edit.table.tree → next x.tree ≡ old.now.trees x.tree)
+      schema.tables t a.tables there (subst (λ (x : Table). t.tree ≢ x.tree) (sym own) other)) in
       record {
         ready = record {
           schema_is = ap (λ (d : Database). d.schema) is;

@@ -1,5 +1,6 @@
 -- What is asked of a schema so that a DELETE with its actions takes away the rows that are not kept, and no others.
-use Rattle.std.specs.Prelude.{◌≡◌, ⊤, ℕ, zero, suc, Bool, true, false, not, ◌&&◌, ◌||◌, ◌==◌, List, [], ◌∷◌, filter, slice_get, option_map, unwrap_or, Option, Some, None}
+use Rattle.std.specs.Prelude.{◌≡◌, ⊤, ℕ, zero, suc, Bool, true, false, not, ◌&&◌, ◌||◌, ◌==◌, List, [], ◌∷◌, filter}
+use Rattle.std.specs.Prelude.{slice_get, option_map, unwrap_or, Option, Some, None}
 use Rattle.std.specs.List.{AllByRecursion, list_any, list_all}
 use Rattle.sqlite.specs.declared.types.Value.{Value}
 use Rattle.sqlite_value.specs.declared.keys.Collation.{Collation}
@@ -29,14 +30,16 @@ abbrev pub FollowsAt : Keep → ℕ → Reference → Option Deed → Option Par
 FollowsAt keep child ref None key = ⊤
 FollowsAt keep child ref (Some Refuse) key = ⊤
 FollowsAt keep child ref (Some Delete) None = ⊤
-FollowsAt keep child ref (Some Delete) (Some key) = (row old : Row) → agree key.2 ref.columns row key.1 old ≡ true → keep key.0 old ≡ false → keep child row ≡ false
+FollowsAt keep child ref (Some Delete) (Some key) = (row old : Row) → agree key.2 ref.columns row key.1 old ≡ true
+    → keep key.0 old ≡ false → keep child row ≡ false
 FollowsAt keep child ref (Some Follow) key = ⊥
 FollowsAt keep child ref (Some Clear) key = ⊥
 FollowsAt keep child ref (Some Reset) key = ⊥
 
 -- so it is of each reference whose action deletes, and no action does else than delete or refuse
 abbrev pub Follows : Schema → Keys → Keep → Type 0
-Follows schema keys keep = AllByRecursion (λ t. AllByRecursion (λ ref. FollowsAt keep t.tree ref (deed_for keys true ref) (parent_key schema.tables ref)) t.references) schema.tables
+Follows schema keys keep = AllByRecursion (λ t. AllByRecursion
+    (λ ref. FollowsAt keep t.tree ref (deed_for keys true ref) (parent_key schema.tables ref)) t.references) schema.tables
 
 -- of each table only rows went that are not kept
 pub record Shrinks (schema : Schema) (keep : Keep) (db now : Trees) : Type 0 where
@@ -81,7 +84,8 @@ carries_at place child ref (Some Reset) key = false
 
 -- so it is of each reference of the schema, where `place` says by which column the rows of a tree go, if by one
 abbrev pub carries : Schema → Keys → (ℕ → Option ℕ) → Bool
-carries schema keys place = list_all (λ t. list_all (λ ref. carries_at place t.tree ref (deed_for keys true ref) (parent_key schema.tables ref)) t.references) schema.tables
+carries schema keys place = list_all (λ t. list_all
+    (λ ref. carries_at place t.tree ref (deed_for keys true ref) (parent_key schema.tables ref)) t.references) schema.tables
 
 -- the place is that of a column that is never NULL
 abbrev pub is_needed : Table → ℕ → Bool
@@ -99,12 +103,14 @@ left_without (Some p) v rows = filter (λ r. not (has_at (Some p) v r)) rows
 abbrev pub leads_to : (ℕ → Option ℕ) → Table → List ℕ → Reference → Option ParentKey → Bool
 leads_to place child above ref None = false
 leads_to place child above ref (Some key) =
-    list_any (λ tree. tree == key.0) above && (list_all (is_needed child) ref.columns && (heads_match (place key.0) (place child.tree) key.1 ref.columns && is_binary (first_key key.2).collation))
+    list_any (λ tree. tree == key.0) above && (list_all (is_needed child) ref.columns
+    && (heads_match (place key.0) (place child.tree) key.1 ref.columns && is_binary (first_key key.2).collation))
 
 -- the table's rows go by no column, or it is among these trees, or it refers to one of them by the column that its rows go by
 abbrev pub is_covered : List Table → (ℕ → Option ℕ) → List ℕ → Table → Option ℕ → Bool
 is_covered tables place above child None = true
-is_covered tables place above child (Some p) = list_any (λ tree. tree == child.tree) above || list_any (λ ref. leads_to place child above ref (parent_key tables ref)) child.references
+is_covered tables place above child (Some p) = list_any (λ tree. tree == child.tree) above || list_any
+    (λ ref. leads_to place child above ref (parent_key tables ref)) child.references
 
 -- so it is of each of the tables in turn, with those before it among the trees
 abbrev pub covers_from : List Table → (ℕ → Option ℕ) → List ℕ → List Table → Bool

@@ -1,5 +1,6 @@
 -- What a statement sees of a database and leaves in it: the rows of the tables of a schema.
-use Rattle.std.specs.Prelude.{◌≡◌, ℕ, Bool, true, false, not, ◌&&◌, ◌==◌, if◌then◌else◌, List, [], ◌∷◌, filter, map, IsPermutation, IsSorted, Option, Some, None, slice_get, IsTrue}
+use Rattle.std.specs.Prelude.{◌≡◌, ℕ, Bool, true, false, not, ◌&&◌, ◌==◌, if◌then◌else◌, List, [], ◌∷◌, filter, map}
+use Rattle.std.specs.Prelude.{IsPermutation, IsSorted, Option, Some, None, slice_get, IsTrue}
 use Rattle.std.specs.List.{AllByRecursion, list_any, list_all}
 use Rattle.std.specs.declared.cmp.Ordering.{Ordering}
 use Rattle.std.specs.Ordering.{is_lt}
@@ -76,7 +77,8 @@ Finds test show rows (Some x) = (r : Row) × Has rows r × (test r ≡ true) × 
 -- what a query for the first row in an order gives
 abbrev pub FindsFirst : (Row → Bool) → (Row → Row → Ordering) → (Row → Row) → List Row → Option Row → Type 0
 FindsFirst test cmp show rows None = list_any test rows ≡ false
-FindsFirst test cmp show rows (Some x) = (r : Row) × Has rows r × (test r ≡ true) × (x ≡ show r) × ((y : Row) → Has rows y → test y ≡ true → is_lt (cmp y r) ≡ false)
+FindsFirst test cmp show rows (Some x) = (r : Row) × Has rows r × (test r ≡ true) × (x ≡ show r)
+    × ((y : Row) → Has rows y → test y ≡ true → is_lt (cmp y r) ≡ false)
 
 -- what a query for all rows in an order gives
 pub record Lists (rows : List Row) (cmp : Row → Row → Ordering) (show : Row → Row) (shown : List Row) : Type 0 where

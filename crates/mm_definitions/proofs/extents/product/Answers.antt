@@ -11,7 +11,9 @@ overflow_mul-result c =
     let tiles : c.args.tiles < 2 ^ 32 = omega arith in
     let pixels : c.args.pixels < 2 ^ 32 = omega arith in
     let small = below c.args.tiles c.args.pixels tiles pixels in
-    fits_signed_mul w128 (to_z w128 (c.args.tiles * c.args.pixels)) (to_z w128 (of_z w128 (to_z w64 (of_z w64 c.args.size)))) (2 ^ 64 - 1) (2 ^ 63) (omega (arith, ints, small)) (omega (arith, ints)) (omega arith)
+    fits_signed_mul w128 (to_z w128 (c.args.tiles * c.args.pixels))
+    (to_z w128 (of_z w128 (to_z w64 (of_z w64 c.args.size)))) (2 ^ 64 - 1) (2 ^ 63) (omega (arith, ints, small))
+    (omega (arith, ints)) (omega arith)
 
 pub returns : goal.returns
 returns c =

@@ -13,4 +13,5 @@ pub returns : goal.returns
 returns c =
     let day : c.args.day ≤ 2932896 = c.requires in
     let after = rw c.unwrap.ensures at c.checked_add.ensures.value in
-    day_is _ (to_z w64 c.args.day) _ c.args.day (after ∙ date_add-days c.date.result (to_z w64 c.args.day) c.days.result c.days.ensures) (start_is c.date.result c.date.ensures) (cast_is c.args.day day)
+    day_is _ (to_z w64 c.args.day) _ c.args.day (after ∙ date_add-days c.date.result (to_z w64 c.args.day)
+    c.days.result c.days.ensures) (start_is c.date.result c.date.ensures) (cast_is c.args.day day)

@@ -17,7 +17,8 @@ returns c =
     let d = c.in-Some.date in
     let text = c.args.text.now in
     let same = c.as_bytes-bytes.ensures.value in
-    let ymd : IsYmd (pos (year_in text)) (pos (pair_at text 5)) (pos (pair_at text 8)) d = subst (λ t. IsYmd (pos (year_in t)) (pos (pair_at t 5)) (pos (pair_at t 8)) d) same c.in-Some.ensures.value in
+    let ymd : IsYmd (pos (year_in text)) (pos (pair_at text 5)) (pos (pair_at text 8)) d =
+    subst (λ t. IsYmd (pos (year_in t)) (pos (pair_at t 5)) (pos (pair_at t 8)) d) same c.in-Some.ensures.value in
     let time : c.time_in-time.result ≡ time_in text = c.time_in-time.ensures ∙ ap time_in same in
     let low : time_in text < 86400000 = (let h = c.if-time-ge86400000.false in search rules) in
     let decides = bytes_eq-Decides c.as_bytes-bytes.result.now c.bytes_on-shown.result in

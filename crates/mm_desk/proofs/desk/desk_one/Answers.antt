@@ -22,7 +22,9 @@ returns-in-Ok-Some-clause-answered g c =
     let d = demanded c.taken_for-taken.result in
     let held : Consumes old mid front × IsNeeded 8192 front = rw c.in-Ok-Some.field-0-is at c.in-Ok-Some.ensures.holds in
     let lifts = some_weaker old _ (Lifts c.args.gate d here front)
-    (λ input it. subst (λ l. Lifts c.args.gate d l front input) (sym all) (head_lifts c.args.gate d front c.read_head.new.headers spans c.taken_for-taken.ensures input it.2 it.3 it.4)) (rw c.in-Ok-Some.field-0-is at c.in-Ok-Some.ensures.head) in
+    (λ input it. subst (λ l. Lifts c.args.gate d l front input) (sym all)
+    (head_lifts c.args.gate d front c.read_head.new.headers spans c.taken_for-taken.ensures input it.2 it.3
+    it.4)) (rw c.in-Ok-Some.field-0-is at c.in-Ok-Some.ensures.head) in
     answered_up c.args.gate d here front old mid held.0 lifts (page_of c.args.gate) g.D.Viewer g.D.Apply c.args.at (has_failed c.answer_demand.new.reader)
     c.args.desk.now c.answer_demand.new.desk (written g.W.Write.contents c.args.writer.now) (written g.W.Write.contents c.answer_demand.new.writer)
     c.answer_demand.result c.answer_demand.ensures.answered
@@ -38,7 +40,9 @@ returns-in-Ok-Some-clause-frugal g c =
     let d = demanded c.taken_for-taken.result in
     let held : Consumes old mid front × IsNeeded 8192 front = rw c.in-Ok-Some.field-0-is at c.in-Ok-Some.ensures.holds in
     let lifts = some_weaker old _ (Lifts c.args.gate d here front)
-    (λ input it. subst (λ l. Lifts c.args.gate d l front input) (sym all) (head_lifts c.args.gate d front c.read_head.new.headers spans c.taken_for-taken.ensures input it.2 it.3 it.4)) (rw c.in-Ok-Some.field-0-is at c.in-Ok-Some.ensures.head) in
+    (λ input it. subst (λ l. Lifts c.args.gate d l front input) (sym all)
+    (head_lifts c.args.gate d front c.read_head.new.headers spans c.taken_for-taken.ensures input it.2 it.3
+    it.4)) (rw c.in-Ok-Some.field-0-is at c.in-Ok-Some.ensures.head) in
     ok_so c.answer_demand.result (reads_to c.args.gate d here front old mid held.0 lifts (g.R.Read.remaining (inside c.answer_demand.new.reader)) held.1 c.answer_demand.ensures.frugal)
 
 pub returns-in-Ok-Some-clause-frugal_fault : goal.returns-in-Ok-Some-clause-frugal_fault
@@ -52,7 +56,9 @@ returns-in-Ok-Some-clause-frugal_fault g c =
     let d = demanded c.taken_for-taken.result in
     let held : Consumes old mid front × IsNeeded 8192 front = rw c.in-Ok-Some.field-0-is at c.in-Ok-Some.ensures.holds in
     let lifts = some_weaker old _ (Lifts c.args.gate d here front)
-    (λ input it. subst (λ l. Lifts c.args.gate d l front input) (sym all) (head_lifts c.args.gate d front c.read_head.new.headers spans c.taken_for-taken.ensures input it.2 it.3 it.4)) (rw c.in-Ok-Some.field-0-is at c.in-Ok-Some.ensures.head) in
+    (λ input it. subst (λ l. Lifts c.args.gate d l front input) (sym all)
+    (head_lifts c.args.gate d front c.read_head.new.headers spans c.taken_for-taken.ensures input it.2 it.3
+    it.4)) (rw c.in-Ok-Some.field-0-is at c.in-Ok-Some.ensures.head) in
     err_so _ c.answer_demand.result
     (λ e. inr (reads_to c.args.gate d here front old mid held.0 lifts (g.R.Read.remaining (inside c.answer_demand.new.reader)) held.1 c.answer_demand.ensures.frugal))
 

@@ -13,12 +13,14 @@ returns-in_default-at_slash c = λ table first a. c.in_default-at_slash.ensures 
 
 pub returns-then-ne : goal.returns-then-ne
 returns-then-ne c = λ table first a.
-    let w = word_is c.args.path.now c.in-Some.parts.now c.in-Some-at_slash.word.now c.in-Some-at_slash.rest.now c.in-Some.ensures c.in-Some-at_slash.ensures.0 c.in-Some-at_slash.ensures.1 table first a in
+    let w = word_is c.args.path.now c.in-Some.parts.now c.in-Some-at_slash.word.now c.in-Some-at_slash.rest.now
+    c.in-Some.ensures c.in-Some-at_slash.ensures.0 c.in-Some-at_slash.ensures.1 table first a in
     no_word c.in-Some-at_slash.word.now (codes "rows") c.ne.result c.ne.ensures c.if-ne.true w.0
 
 pub returns-in_default-read : goal.returns-in_default-read
 returns-in_default-read c = λ table first a.
-    let w = word_is c.args.path.now c.in-Some.parts.now c.in-Some-at_slash.word.now c.in-Some-at_slash.rest.now c.in-Some.ensures c.in-Some-at_slash.ensures.0 c.in-Some-at_slash.ensures.1 table first a in
+    let w = word_is c.args.path.now c.in-Some.parts.now c.in-Some-at_slash.word.now c.in-Some-at_slash.rest.now
+    c.in-Some.ensures c.in-Some-at_slash.ensures.0 c.in-Some-at_slash.ensures.1 table first a in
     let e = ends_are c.in-Some-at_slash.rest.now c.in-Some-at_slash-2.front.now c.in-Some-at_slash-2.back.now c.in-Some-at_slash-2.ensures.0 c.in-Some-at_slash-2.ensures.1 table a.0 w.1 a.2 in
     let named : IsName c.in-Some-at_slash-2.front.now = subst IsName (sym e.0) a.2 in
     let e : false ≡ true = c.in_default-read.ensures.named.1 named in cc
@@ -33,7 +35,8 @@ returns-in-Ok c =
 
 pub returns-in-Err : goal.returns-in-Err
 returns-in-Err c = λ table first a.
-    let w = word_is c.args.path.now c.in-Some.parts.now c.in-Some-at_slash.word.now c.in-Some-at_slash.rest.now c.in-Some.ensures c.in-Some-at_slash.ensures.0 c.in-Some-at_slash.ensures.1 table first a in
+    let w = word_is c.args.path.now c.in-Some.parts.now c.in-Some-at_slash.word.now c.in-Some-at_slash.rest.now
+    c.in-Some.ensures c.in-Some-at_slash.ensures.0 c.in-Some-at_slash.ensures.1 table first a in
     let e = ends_are c.in-Some-at_slash.rest.now c.in-Some-at_slash-2.front.now c.in-Some-at_slash-2.back.now c.in-Some-at_slash-2.ensures.0 c.in-Some-at_slash-2.ensures.1 table a.0 w.1 a.2 in
     let spelled : SpellsNumber c.in-Some-at_slash-2.back.now first = subst (λ t. SpellsNumber t first) (sym e.1) a.3.0 in
     elim c.in-Err.ensures.err [

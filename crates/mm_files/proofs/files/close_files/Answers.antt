@@ -51,7 +51,9 @@ returns-in-Err-clause-still g c =
     (λ none on.
     let clean : IsClean (view before) = omega (arith, q.clean) in
     let early : IsClean (view c.into_store-store.result) = omega (arith, c.rollback.ensures.quiet.clean) in
-    ap (λ (v : View). v.is_numbered) (c.checkpoint.ensures.same (open_by last _ (c.is_broken-is_open.ensures.shown none) on)) ∙ (c.rollback.ensures.undone.kept clean).numbered ∙ c.into_store-store.ensures.numbered early)
+    ap (λ (v : View). v.is_numbered) (c.checkpoint.ensures.same
+    (open_by last _ (c.is_broken-is_open.ensures.shown none) on))
+    ∙ (c.rollback.ensures.undone.kept clean).numbered ∙ c.into_store-store.ensures.numbered early)
     (λ none db may. c.into_store-store.ensures.sound (omega (arith, q.clean, c.rollback.ensures.quiet.clean)) db (c.rollback.ensures.quiet.outcomes db (q.outcomes db may)))
     (λ none. omega (arith, c.into_store-store.ensures.quiet.clean, c.rollback.ensures.quiet.clean, q.clean))
     (λ db may. c.into_store-store.ensures.quiet.outcomes db (c.rollback.ensures.quiet.outcomes db (q.outcomes db may)))

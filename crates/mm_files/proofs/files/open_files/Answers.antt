@@ -2,7 +2,7 @@ use Rattle.std.proofs.Common.{◌∙◌, refl, inl, ap₂, subst}
 use Rattle.sqlite_store.specs.Laws.{settled_at}
 use Rattle.sqlite.specs.Files.{file_state}
 use Rattle.sqlite.specs.Start.{FindsIn}
-use Rattle.mm_files.specs.Files.{IsBare}
+use Rattle.mm_files.specs.Files.{HoldNoByte}
 use Rattle.mm_files.proofs.Fresh.{image, only_held, seen}
 use Rattle.mm_files.proofs.files.open_files.Goals as goal
 
@@ -18,7 +18,7 @@ pub returns-in-Ok-open_files-clause-bare : goal.returns-in-Ok-open_files-clause-
 returns-in-Ok-open_files-clause-bare g c = rw c.set_clock.ensures λ none clean.
     let (log, db) = c.in-Ok-files_at.ensures.fresh in
     let same = ap₂ image (ap₂ (seen g.S.Start.log g.S.Start.db) log.0 log.1) (ap₂ (seen g.S.Start.log g.S.Start.db) db.0 db.1) in
-    subst IsBare same (c.in-Ok-files_to_use.ensures.bare none (c.in-Ok-open_files.ensures.found clean).honest)
+    subst HoldNoByte same (c.in-Ok-files_to_use.ensures.bare none (c.in-Ok-open_files.ensures.found clean).honest)
 
 pub returns-in-Ok-open_files-clause-just : goal.returns-in-Ok-open_files-clause-just
 returns-in-Ok-open_files-clause-just g c = rw c.set_clock.ensures λ clean.

@@ -5,7 +5,7 @@ use Rattle.httparse.specs.Spans.{header_bytes}
 use Rattle.httparse.specs.declared.spans.HeaderSpan.{HeaderSpan}
 use Rattle.http1.specs.Fields.{values_named, is_named}
 use Rattle.http1.specs.Text.{eq_ignore_case}
-use Rattle.mm_gate.specs.Fields.{IsGiven}
+use Rattle.mm_gate.specs.Fields.{IsFieldValue}
 use Rattle.mm_gate.proofs.FieldFacts.{named_yes, named_no}
 use Rattle.mm_gate.proofs.fields.given.Goals.{then-eq_ignore_case, else-eq_ignore_case}
 use Rattle.mm_gate.proofs.fields.given.Goals as goal
@@ -30,11 +30,11 @@ loop-header-preserved c =
           let all = named_yes name before here (tested ∙ w.if-eq_ignore_case.true) in
           let one = w.with_value-found.ensures (values_named name before) c.loop-header.invariant in
           let value : w.of-then-eq_ignore_case.result.now ≡ here.1 = w.of-then-eq_ignore_case.ensures in
-          subst (λ f. IsGiven (values_named name (map (header_bytes head) (take (i + 1) headers))) f) (sym w.found-is)
-          (subst (λ l. IsGiven (values_named name l) w.with_value-found.result) (sym more)
-          (subst (λ l. IsGiven l w.with_value-found.result) (sym all) (subst (λ v. IsGiven (values_named name before ++ v ∷ []) w.with_value-found.result) value one)))
+          subst (λ f. IsFieldValue (values_named name (map (header_bytes head) (take (i + 1) headers))) f) (sym w.found-is)
+          (subst (λ l. IsFieldValue (values_named name l) w.with_value-found.result) (sym more)
+          (subst (λ l. IsFieldValue l w.with_value-found.result) (sym all) (subst (λ v. IsFieldValue (values_named name before ++ v ∷ []) w.with_value-found.result) value one)))
       | else-eq_ignore_case w ↦
           let all = named_no name before here (tested ∙ w.if-eq_ignore_case.false) in
-          subst (λ f. IsGiven (values_named name (map (header_bytes head) (take (i + 1) headers))) f) (sym w.found-is)
-          (subst (λ l. IsGiven (values_named name l) c.loop-header.found) (sym more) (subst (λ l. IsGiven l c.loop-header.found) (sym all) c.loop-header.invariant))
+          subst (λ f. IsFieldValue (values_named name (map (header_bytes head) (take (i + 1) headers))) f) (sym w.found-is)
+          (subst (λ l. IsFieldValue (values_named name l) c.loop-header.found) (sym more) (subst (λ l. IsFieldValue l c.loop-header.found) (sym all) c.loop-header.invariant))
     ]

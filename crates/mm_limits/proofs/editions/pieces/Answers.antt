@@ -8,13 +8,28 @@ use Rattle.mm_limits.proofs.editions.pieces.Goals as goal
 
 pub returns-then-branch : goal.returns-then-branch
 returns-then-branch g c =
-    goes_on (profile_of c.args.unit) (state g.S.Store c.args.conn.now) (state g.S.Store c.pieces_of_open.new.conn) (state g.S.Store c.pieces_alone.new.conn) (λ p. Limits (profile_of c.args.unit) p) (λ p. PiecesOfOpen p) (λ p. PiecesSpelled (profile_of c.args.unit) p × PiecesNumbered p) (λ p. PiecesOfOpen p × (PiecesSpelled (profile_of c.args.unit) p × PiecesNumbered p)) (λ p. (λ a. a, λ a. a)) c.pieces_of_open.result c.pieces_alone.result c.in_ok-pieces_of_open.was c.if-branch.true (c.pieces_of_open.ensures (profile_of c.args.unit)) c.pieces_alone.ensures
+    goes_on (profile_of c.args.unit) (state g.S.Store c.args.conn.now) (state g.S.Store c.pieces_of_open.new.conn)
+    (state g.S.Store c.pieces_alone.new.conn) (λ p. Limits (profile_of c.args.unit) p) (λ p. PiecesOfOpen p)
+    (λ p. PiecesSpelled (profile_of c.args.unit) p × PiecesNumbered p)
+    (λ p. PiecesOfOpen p × (PiecesSpelled (profile_of c.args.unit) p × PiecesNumbered p))
+    (λ p. (λ a. a, λ a. a)) c.pieces_of_open.result c.pieces_alone.result c.in_ok-pieces_of_open.was
+    c.if-branch.true (c.pieces_of_open.ensures (profile_of c.args.unit)) c.pieces_alone.ensures
 
 pub returns-else-branch : goal.returns-else-branch
 returns-else-branch g c =
-    stops (profile_of c.args.unit) (state g.S.Store c.args.conn.now) (state g.S.Store c.pieces_of_open.new.conn) (λ p. Limits (profile_of c.args.unit) p) (λ p. PiecesOfOpen p) (λ p. PiecesSpelled (profile_of c.args.unit) p × PiecesNumbered p) (λ p. PiecesOfOpen p × (PiecesSpelled (profile_of c.args.unit) p × PiecesNumbered p)) (λ p. (λ a. a, λ a. a)) c.pieces_of_open.result c.in_ok-pieces_of_open.was c.if-branch.false (c.pieces_of_open.ensures (profile_of c.args.unit))
+    stops (profile_of c.args.unit) (state g.S.Store c.args.conn.now) (state g.S.Store c.pieces_of_open.new.conn)
+    (λ p. Limits (profile_of c.args.unit) p) (λ p. PiecesOfOpen p)
+    (λ p. PiecesSpelled (profile_of c.args.unit) p × PiecesNumbered p)
+    (λ p. PiecesOfOpen p × (PiecesSpelled (profile_of c.args.unit) p × PiecesNumbered p))
+    (λ p. (λ a. a, λ a. a)) c.pieces_of_open.result c.in_ok-pieces_of_open.was c.if-branch.false
+    (c.pieces_of_open.ensures (profile_of c.args.unit))
 
 pub returns-in_err-pieces_of_open : goal.returns-in_err-pieces_of_open
 returns-in_err-pieces_of_open g c =
     let p = err_from_is_err_and c.from_residual.result c.from_residual.ensures.1 in
-    rw (p.1, p.2) (gives_up (profile_of c.args.unit) (state g.S.Store c.args.conn.now) (state g.S.Store c.pieces_of_open.new.conn) (λ p. Limits (profile_of c.args.unit) p) (λ p. Limits (profile_of c.args.unit) p) (λ p. PiecesOfOpen p) (λ p. PiecesOfOpen p × (PiecesSpelled (profile_of c.args.unit) p × PiecesNumbered p)) c.pieces_of_open.result c.in_err-pieces_of_open.field-0.0 c.in_err-pieces_of_open.was (c.pieces_of_open.ensures (profile_of c.args.unit)))
+    rw (p.1, p.2) (gives_up (profile_of c.args.unit) (state g.S.Store c.args.conn.now)
+    (state g.S.Store c.pieces_of_open.new.conn) (λ p. Limits (profile_of c.args.unit) p)
+    (λ p. Limits (profile_of c.args.unit) p) (λ p. PiecesOfOpen p)
+    (λ p. PiecesOfOpen p × (PiecesSpelled (profile_of c.args.unit) p × PiecesNumbered p))
+    c.pieces_of_open.result c.in_err-pieces_of_open.field-0.0 c.in_err-pieces_of_open.was
+    (c.pieces_of_open.ensures (profile_of c.args.unit)))

@@ -12,5 +12,8 @@ use Rattle.mm_limits.proofs.editions.pieces_spelled.Goals as goal
 
 pub returns : goal.returns
 returns g c =
-    checks text.pieces_spelled [] (IsSpelledRow (profile_of c.args.unit)) _ _ _ _ _ query.pieces_spelled query.quiet_pieces_spelled (λ p. Limits (profile_of c.args.unit) p) (λ p. PiecesSpelled (profile_of c.args.unit) p) (rule.pieces_spelled (profile_of c.args.unit)) (profile_of c.args.unit)
+    checks text.pieces_spelled [] (IsSpelledRow (profile_of c.args.unit)) _ _ _ _ _ query.pieces_spelled
+    query.quiet_pieces_spelled (λ p. Limits (profile_of c.args.unit) p)
+    (λ p. PiecesSpelled (profile_of c.args.unit) p) (rule.pieces_spelled (profile_of c.args.unit))
+    (profile_of c.args.unit)
     (state g.S.Store c.args.conn.now) (state g.S.Store c.each_passes.new.conn) [] refl c.each_passes.result c.each_passes.ensures

@@ -10,16 +10,22 @@ parts-init g c = no_part (profile_of c.args.unit) (state g.S.Store c.args.conn.n
 
 pub parts-preserved : goal.parts-preserved
 parts-preserved g c =
-    part_passes (profile_of c.args.unit) (state g.S.Store c.args.conn.now) (state g.S.Store c.parts.conn) (state g.S.Store c.one_limit.new.conn) c.parts.k c.parts.invariant (Ok c.in_ok-one_limit.field-0) refl c.if-not-branch.false c.in_ok-one_limit.ensures
+    part_passes (profile_of c.args.unit) (state g.S.Store c.args.conn.now) (state g.S.Store c.parts.conn)
+    (state g.S.Store c.one_limit.new.conn) c.parts.k c.parts.invariant
+    (Ok c.in_ok-one_limit.field-0) refl c.if-not-branch.false c.in_ok-one_limit.ensures
 
 pub returns-then-not-branch : goal.returns-then-not-branch
 returns-then-not-branch g c =
-    part_stops (profile_of c.args.unit) (state g.S.Store c.args.conn.now) (state g.S.Store c.parts.conn) (state g.S.Store c.one_limit.new.conn) c.parts.k c.parts.invariant (Ok c.in_ok-one_limit.field-0) refl c.if-not-branch.true c.in_ok-one_limit.ensures
+    part_stops (profile_of c.args.unit) (state g.S.Store c.args.conn.now) (state g.S.Store c.parts.conn)
+    (state g.S.Store c.one_limit.new.conn) c.parts.k c.parts.invariant
+    (Ok c.in_ok-one_limit.field-0) refl c.if-not-branch.true c.in_ok-one_limit.ensures
 
 pub returns-in_err-one_limit : goal.returns-in_err-one_limit
 returns-in_err-one_limit g c =
     let p = err_from_is_err_and c.from_residual.result c.from_residual.ensures.1 in
-    rw (p.1, p.2) (part_fails (profile_of c.args.unit) (state g.S.Store c.args.conn.now) (state g.S.Store c.parts.conn) (state g.S.Store c.one_limit.new.conn) c.parts.k c.parts.invariant (Err c.in_err-one_limit.field-0.0) c.in_err-one_limit.field-0.0 refl c.in_err-one_limit.ensures)
+    rw (p.1, p.2) (part_fails (profile_of c.args.unit) (state g.S.Store c.args.conn.now)
+    (state g.S.Store c.parts.conn) (state g.S.Store c.one_limit.new.conn) c.parts.k c.parts.invariant
+    (Err c.in_err-one_limit.field-0.0) c.in_err-one_limit.field-0.0 refl c.in_err-one_limit.ensures)
 
 pub returns : goal.returns
 returns g c =

@@ -12,5 +12,7 @@ use Rattle.mm_limits.proofs.parts.matrices_within.Goals as goal
 
 pub returns : goal.returns
 returns g c =
-    checks text.matrices_within [] (IsMatrixWithinRow (profile_of c.args.unit)) _ _ _ _ _ query.matrices_within query.quiet_matrices_within (λ _. ⊤) (λ p. MatricesAreWithin (profile_of c.args.unit) p) (rule.matrices_within (profile_of c.args.unit)) (profile_of c.args.unit)
+    checks text.matrices_within [] (IsMatrixWithinRow (profile_of c.args.unit)) _ _ _ _ _ query.matrices_within
+    query.quiet_matrices_within (λ _. ⊤) (λ p. MatricesAreWithin (profile_of c.args.unit) p)
+    (rule.matrices_within (profile_of c.args.unit)) (profile_of c.args.unit)
     (state g.S.Store c.args.conn.now) (state g.S.Store c.each_passes.new.conn) [] refl c.each_passes.result c.each_passes.ensures

@@ -35,7 +35,16 @@ returns-in-Unflushed g c =
       frugal = tt;
       frugal_fault = inr c.in-Ok.ensures.frugal;
       needed = λ is. absurd (omega arith);
-      stopped = inr (inr (refl, failed, bytes, c.in-Ok.ensures.response, length bytes, omega arith, subst (λ l. Appends (g.W.Write.contents (inside c.args.writer.now)) (g.W.Write.contents (inside c.send.new.writer)) l) (sym whole) all));
+      stopped = inr (inr (
+        refl,
+        failed,
+        bytes,
+        c.in-Ok.ensures.response,
+        length bytes,
+        omega arith,
+        subst (λ l. Appends (g.W.Write.contents (inside c.args.writer.now))
+            (g.W.Write.contents (inside c.send.new.writer)) l) (sym whole) all,
+      ));
     }
 
 pub returns : goal.returns

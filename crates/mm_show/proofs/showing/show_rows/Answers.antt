@@ -6,7 +6,7 @@ use Rattle.std.proofs.lemmas.Result.{IfOk-weaker}
 use Rattle.mm_definitions.specs.Streams.{written}
 use Rattle.mm_reads.specs.RowLists.{first_rows, lists_rows}
 use Rattle.mm_reads.proofs.Leaving.{leaves_then}
-use Rattle.mm_show.specs.Showing.{Shows}
+use Rattle.mm_show.specs.Showing.{ShowsRecords}
 use Rattle.mm_show.proofs.Shown.{none_shown, told_none, told_some}
 use Rattle.mm_show.proofs.Turning.{on_first, on_then}
 use Rattle.mm_show.proofs.showing.show_rows.Goals as goal
@@ -21,7 +21,7 @@ pub returns-in-Some-clause-shown : goal.returns-in-Some-clause-shown
 returns-in-Some-clause-shown g c p on =
     let fits : SFits w64 c.unwrap_or.result = search rules in
     elim (cases_Bool (g.D.Viewer.has_failed c.args.desk.now)) as
-    (λ _. Shows p c.args.table.now c.args.id (written g.W.Write.contents c.args.output.now)
+    (λ _. ShowsRecords p c.args.table.now c.args.id (written g.W.Write.contents c.args.output.now)
     (written g.W.Write.contents c.show_found.new.output) c.show_found.result) [
       | inl failed ↦ absurd (let f : Ok c.in_ok-rows.field-0 ≡ Err (record { 0 = 92 }) = sym c.in_ok-rows.was ∙ c.rows.ensures.ended failed in cc)
       | inr works ↦

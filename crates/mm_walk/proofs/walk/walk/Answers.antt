@@ -13,7 +13,12 @@ returns-in-Err g c =
     rests.mode rests.survives rests.err
 
 pub rows-init : goal.rows-init
-rows-init g c = (refl, begun_so_far g.S.Store g.V.Visitor.takes c.args.sql.now (bound c.args.params.now) c.args.conn.now c.in-Ok.rows.conn.now c.args.visitor.now c.in-Ok.ensures.mode c.in-Ok.ensures.survives c.in-Ok.ensures.begun)
+rows-init g c = (
+  refl,
+  begun_so_far g.S.Store g.V.Visitor.takes c.args.sql.now
+      (bound c.args.params.now) c.args.conn.now c.in-Ok.rows.conn.now c.args.visitor.now c.in-Ok.ensures.mode
+      c.in-Ok.ensures.survives c.in-Ok.ensures.begun,
+)
 
 pub returns-then-not-branch : goal.returns-then-not-branch
 returns-then-not-branch g c =
@@ -23,7 +28,9 @@ returns-then-not-branch g c =
     let step : takes c.rows.visitor c.in-Ok-Some.row.now c.take.new.self (Ok false) = search rules in
     let it : IsWalk takes c.args.sql.now (bound c.args.params.now) (state g.S.Store c.args.conn.now) (state g.S.Store new) c.args.visitor.now c.take.new.self (Ok false) =
     stopped g.S.Store takes c.args.sql.now (bound c.args.params.now) c.args.conn.now c.rows.rows.conn.now c.args.visitor.now c.rows.visitor c.rows.invariant.1 new moved.mode moved.survives
-    (λ clean. rw c.in-Ok-Some.is at (moved.same clean)) c.in-Ok-Some.row.now (λ clean given has. (rw (c.in-Ok-Some.is, c.in-Ok-Some.field-0-is) at (moved.ok clean)) _ _ given has) c.take.new.self step in
+    (λ clean. rw c.in-Ok-Some.is at (moved.same clean)) c.in-Ok-Some.row.now
+    (λ clean given has. (rw (c.in-Ok-Some.is, c.in-Ok-Some.field-0-is) at (moved.ok clean)) _ _ given has)
+    c.take.new.self step in
     search rules
 
 pub returns-in_err-take-in-Ok-Some : goal.returns-in_err-take-in-Ok-Some
@@ -35,7 +42,9 @@ returns-in_err-take-in-Ok-Some g c =
     let step : takes c.rows.visitor c.in-Ok-Some.row.now c.take.new.self (Err c.in_err-take-in-Ok-Some.field-0.0) = search rules in
     let it : IsWalk takes c.args.sql.now (bound c.args.params.now) (state g.S.Store c.args.conn.now) (state g.S.Store new) c.args.visitor.now c.take.new.self (Err c.in_err-take-in-Ok-Some.field-0.0) =
     gave_up g.S.Store takes c.args.sql.now (bound c.args.params.now) c.args.conn.now c.rows.rows.conn.now c.args.visitor.now c.rows.visitor c.rows.invariant.1 new moved.mode moved.survives
-    (λ clean. rw c.in-Ok-Some.is at (moved.same clean)) c.in-Ok-Some.row.now (λ clean given has. (rw (c.in-Ok-Some.is, c.in-Ok-Some.field-0-is) at (moved.ok clean)) _ _ given has) c.take.new.self c.in_err-take-in-Ok-Some.field-0.0 step in
+    (λ clean. rw c.in-Ok-Some.is at (moved.same clean)) c.in-Ok-Some.row.now
+    (λ clean given has. (rw (c.in-Ok-Some.is, c.in-Ok-Some.field-0-is) at (moved.ok clean)) _ _ given has)
+    c.take.new.self c.in_err-take-in-Ok-Some.field-0.0 step in
     rw (p.1, p.2) (search rules)
 
 pub returns-in-Ok-None : goal.returns-in-Ok-None
@@ -66,11 +75,14 @@ rows-preserved g c =
     let step : takes c.rows.visitor c.in-Ok-Some.row.now c.take.new.self (Ok true) = search rules in (
       moved.same_reference ∙ c.rows.invariant.0,
       goes_on g.S.Store takes c.args.sql.now (bound c.args.params.now) c.args.conn.now c.rows.rows.conn.now c.args.visitor.now c.rows.visitor c.rows.invariant.1 new moved.mode moved.survives
-          (λ clean. rw c.in-Ok-Some.is at (moved.same clean)) c.in-Ok-Some.row.now (λ clean given has. (rw (c.in-Ok-Some.is, c.in-Ok-Some.field-0-is) at (moved.ok clean)) _ _ given has) c.take.new.self step,
+          (λ clean. rw c.in-Ok-Some.is at (moved.same clean)) c.in-Ok-Some.row.now
+          (λ clean given has. (rw (c.in-Ok-Some.is, c.in-Ok-Some.field-0-is) at (moved.ok clean)) _ _ given has)
+          c.take.new.self step,
     )
 
 pub returns : goal.returns
 returns g c =
     let takes = g.V.Visitor.takes in
-    let it = endless g.S.Store takes c.args.sql.now (bound c.args.params.now) c.args.conn.now c.rows.rows.conn.now c.args.visitor.now c.rows.visitor c.rows.invariant.1 (record { 0 = 91 }) (inr refl) in
+    let it = endless g.S.Store takes c.args.sql.now (bound c.args.params.now) c.args.conn.now c.rows.rows.conn.now
+    c.args.visitor.now c.rows.visitor c.rows.invariant.1 (record { 0 = 91 }) (inr refl) in
     search rules

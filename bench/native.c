@@ -150,7 +150,7 @@ static void leave_piece(void) {
     sqlite3_reset(piece_bytes);
 }
 
-// The piece of a number, if the edition has one: its place and its bytes, which last until the piece is left.
+// The piece of a number, if the edition has one: its place, and its bytes where they are asked for. All last until the piece is left.
 static int piece_at(const char *edition, sqlite3_int64 number, Place *at, Bytes *bytes) {
     const char *row = "SELECT kind, name, k1, k2, k3, k4, k5, k6, k7, t1, t2, blob FROM mm_pieces WHERE edition = ?1 AND piece_no = ?2 LIMIT 1";
     if (!ask(&piece_row, row, "ti", edition, number))
@@ -160,6 +160,8 @@ static int piece_at(const char *edition, sqlite3_int64 number, Place *at, Bytes 
     at->zoom = sqlite3_column_int64(piece_row, 2);
     at->column = sqlite3_column_int64(piece_row, 3);
     at->row = sqlite3_column_int64(piece_row, 4);
+    if (bytes == NULL)
+        return 1;
     sqlite3_int64 blob = sqlite3_column_int64(piece_row, 11);
     want(ask(&piece_bytes, "SELECT data FROM mm_blobs WHERE id = ?1 LIMIT 1", "i", blob), "no such blob");
     *bytes = (Bytes){sqlite3_column_blob(piece_bytes, 0), sqlite3_column_bytes(piece_bytes, 0)};
@@ -224,10 +226,9 @@ static void remove_pieces(const char *edition, sqlite3_int64 count) {
 
 static void publish(const char *edition) {
     Place at;
-    Bytes bytes;
     sqlite3_int64 number = 1;
     want_open(edition);
-    for (; piece_at(edition, number, &at, &bytes); number++) {
+    for (; piece_at(edition, number, &at, NULL); number++) {
         publish_piece(edition, number, at);
         leave_piece();
     }

@@ -1,28 +1,35 @@
 -- How far the publishing of an edition has come, piece by piece.
-use Rattle.std.proofs.Common.{◌≡◌, inl, inr, arith, le_refl, ℕ, suc, ◌+◌, pos, unsigned_abs, List, [], ◌∷◌, Option, Some, None, Ok, Err, refl, sym, ap, subst, ◌∙◌}
+use Rattle.std.proofs.Common.{◌≡◌, inl, arith, le_refl, ℕ, suc, ◌+◌, pos, unsigned_abs, refl, sym, ap, subst, ◌∙◌}
+use Rattle.std.proofs.Common.{List, [], ◌∷◌, Option, Some, None, Result, Ok, Err}
+use Rattle.std.specs.Prelude.{⊤, IsErrAnd, IsTrue}
 use Rattle.std.specs.FinMap.{get}
-use Rattle.sqlite.specs.State.{State, HasCleanDisk}
+use Rattle.sqlite.specs.Held.{state}
+use Rattle.sqlite.specs.State.{State}
+use Rattle.sqlite.specs.Store.{Ghosts}
+use Rattle.sqlite.specs.declared.transaction.Transaction.{Transaction}
 use Rattle.mm_definitions.specs.Bounds.{Profile}
 use Rattle.mm_definitions.specs.Keys.{Text, PieceKey, piece}
-use Rattle.mm_definitions.specs.Package.{Package, Contents, PieceRow, open_state}
-use Rattle.mm_definitions.specs.Pieces.{piece_row, row_piece}
-use Rattle.mm_definitions.specs.Stamp.{stamp}
+use Rattle.mm_definitions.specs.Package.{Package, Contents, PieceRow}
+use Rattle.mm_definitions.specs.Pieces.{piece_row, piece_by_kind, row_piece}
+use Rattle.mm_definitions.specs.Rules.{Meets, IsSpelled}
+use Rattle.mm_definitions.specs.Stamp.{IsStamp}
+use Rattle.mm_definitions.specs.Within.{IsPieceWithin}
 use Rattle.mm_definitions.specs.Conditions.{least, piece_reasons, pieces_of}
 use Rattle.mm_definitions.specs.Effects.{piece_effect, touched_row}
 use Rattle.mm_definitions.specs.Editions.{decided, piece_trial, after_trial, trial, edition_trial}
+use Rattle.mm_definitions.specs.declared.answers.Fault.{Fault}
 use Rattle.mm_definitions.specs.declared.commands.Piece.{Piece}
 use Rattle.mm_definitions.specs.declared.commands.Piece.TheVariants as pieces
 use Rattle.mm_definitions.proofs.Parts.{same_some, not_none}
-use Rattle.mm_laws.proofs.Published.{read_back}
-use Rattle.mm_definitions.specs.declared.answers.Fault.{Fault}
-use Rattle.mm_store.specs.Stands.{Ground, StandsOn}
-use Rattle.mm_store.specs.Statements.{CommitsNothing}
+use Rattle.mm_laws.proofs.InOrder.{AreFrom, pieces_in_order}
+use Rattle.mm_laws.proofs.OneStamp.{stamped_moment}
+use Rattle.mm_laws.proofs.Published.{by_kind, piece_keeps, read_back}
 use Rattle.mm_store.specs.Faults.{store}
-use Rattle.mm_store.proofs.Shapes.{quiet_then}
-use Rattle.mm_edition.specs.Turns.{StandsReady, TakesTurn, IsTurn, TellsTrial, IsTrial}
+use Rattle.mm_store.specs.Stands.{Ground, StandsInside}
+use Rattle.mm_edition.specs.Turns.{IsOpened, row_given, piece_given, after_turn, TellsTurn, TakesTurn, TellsTrial, Attempts, TriesPieces}
 use Rattle.mm_edition.specs.declared.running.Turn.{Turn}
 use Rattle.mm_edition.specs.declared.running.Turn.TheVariants.{Done, End, Refused}
-use Rattle.mm_laws.proofs.InOrder.{AreFrom, pieces_in_order}
+use Rattle.mm_edition.proofs.Attempting.{attempts, attempts_then, attempts_failed, attempts_fault}
 
 -- ---- a piece leaves the editions and what is staged
 
@@ -45,8 +52,9 @@ piece_apart p (pieces.Matrix table zoom m) at = touched_apart _ table at (get p.
 one_after : (n : ℕ) → suc n ≡ n + 1
 one_after n = omega arith
 
-pub commits_nothing : (s : State) → CommitsNothing s s
-commits_nothing s = record { clean = le_refl _; shield = λ is. is; counts = le_refl _; limit = refl; closes = λ clean is_open. inl is_open; crash = λ clean db may. inl may }
+-- a piece that stands in a package of the rules is within the limits
+stands_within : (profile : Profile) (q : Piece) → IsSpelled profile (piece_row q) → IsPieceWithin profile q
+stands_within profile q is = subst (IsPieceWithin profile) (same_some (sym (by_kind is.0) ∙ ap piece_by_kind (sym is.1) ∙ by_kind q)) is.2
 
 -- ---- one piece of the list
 
@@ -58,112 +66,136 @@ module _ (q : Package) (e : PieceKey × PieceRow) (es : List (PieceKey × PieceR
       → trial (e ∷ es) q at ≡ after_trial (decided q (unsigned_abs e.0.number) x at v) (λ next. trial es next at)
   trial_is v is = ap (λ o. after_trial (piece_trial q (unsigned_abs e.0.number) at o) (λ next. trial es next at)) spelled_is ∙ ap (λ o. after_trial (decided q (unsigned_abs e.0.number) x at o) (λ next. trial es next at)) is
 
-module _ (profile : Profile) (edition : Text) (moment : ℕ) where
-  -- The pieces before this number were done in turn, the transaction stands for what they gave, and the rest goes on from it.
-  pub record IsOn (number : ℕ) (s : State) (ground : Ground) (p : Package) : Type 0 where
-    pub edited : Package
-    pub ready : StandsReady profile s ground edited
-    pub editions : edited.editions ≡ p.editions
-    pub pieces : edited.pieces ≡ p.pieces
-    pub rest : List (PieceKey × PieceRow)
-    pub are : AreFrom p.pieces edition number rest
-    pub goes_on : trial rest edited (stamp moment) ≡ edition_trial p edition (stamp moment)
+-- ---- how far it has come
 
-  pub begins : (s : State) (ground : Ground) (p : Package) → StandsReady profile s ground p → get p.editions edition ≡ Some open_state → IsOn 1 s ground p
-  begins s ground p ready open_is = record {
-    edited = p;
-    ready = ready;
-    editions = refl;
-    pieces = refl;
-    rest = pieces_of p edition;
-    are = let n = ready.meets.q15.numbered edition open_is in pieces_in_order p edition n.0 n.2;
-    goes_on = refl;
-  }
+-- The pieces before this number were done in turn, the transaction stands for what they gave, and the rest goes on from it.
+pub record IsOn (edition at : Text) (number : ℕ) (profile : Profile) (s : State) (ground : Ground) (p : Package) : Type 0 where
+  pub edited : Package
+  pub meets : Meets profile edited
+  pub inside : StandsInside profile s ground edited
+  pub editions : edited.editions ≡ p.editions
+  pub pieces : edited.pieces ≡ p.pieces
+  pub rest : List (PieceKey × PieceRow)
+  pub are : AreFrom p.pieces edition number rest
+  pub goes_on : trial rest edited at ≡ edition_trial p edition at
 
-  module _ (number : ℕ) (mid new : State) (ground : Ground) (p : Package) where
-    pub one_more_done : (on : IsOn number mid ground p) → TakesTurn profile edition number moment new ground on.edited Done → IsOn (suc number) new ground p
-    one_more_done on (x, there, none, ready) = by on.rest on.are on.goes_on
-      where
-        by : (rest : List (PieceKey × PieceRow)) → AreFrom p.pieces edition number rest
-            → trial rest on.edited (stamp moment) ≡ edition_trial p edition (stamp moment) → IsOn (suc number) new ground p
-        by [] are goes_on = absurd (not_none (ap (λ m. get m (piece edition (pos number))) (sym on.pieces) ∙ there) are)
-        by (e ∷ es) are goes_on =
-            let row_is : e.1 ≡ piece_row x = same_some (sym are.1 ∙ (ap (get p.pieces) are.0 ∙ (ap (λ m. get m (piece edition (pos number))) (sym on.pieces) ∙ there))) in
-            record {
-              edited = piece_effect on.edited x (stamp moment);
-              ready = ready;
-              editions = (piece_apart on.edited x (stamp moment)).0 ∙ on.editions;
-              pieces = (piece_apart on.edited x (stamp moment)).1 ∙ on.pieces;
-              rest = es;
-              are = are.2;
-              goes_on = sym (trial_is on.edited e es x row_is (stamp moment) None none) ∙ goes_on;
-            }
+module _ (edition at : Text) (number : ℕ) (profile : Profile) (s : State) (ground : Ground) (p : Package) (on : IsOn edition at number profile s ground p) where
+  abbrev key : PieceKey
+  key = piece edition (pos number)
 
-    pub all_done : (on : IsOn number mid ground p) → TakesTurn profile edition number moment new ground on.edited End
-        → TellsTrial profile edition moment new ground p None
-    all_done on (none, up, ready) = (on.edited, sym on.goes_on ∙ by on.rest on.are, on.editions, up, ready)
-      where
-        by : (rest : List (PieceKey × PieceRow)) → AreFrom p.pieces edition number rest → trial rest on.edited (stamp moment) ≡ Ok on.edited
-        by [] are = refl
-        by (e ∷ es) are = absurd (not_none are.1 (ap (get p.pieces) are.0 ∙ (ap (λ m. get m (piece edition (pos number))) (sym on.pieces) ∙ none)))
+  none_is : get on.edited.pieces key ≡ None → get p.pieces key ≡ None
+  none_is none = ap (λ m. get m key) (sym on.pieces) ∙ none
 
-    pub first_refused : (on : IsOn number mid ground p) (why : ℕ) → TakesTurn profile edition number moment new ground on.edited (Refused why)
-        → TellsTrial profile edition moment new ground p (Some (number, why))
-    first_refused on why (x, there, reason) = sym on.goes_on ∙ by on.rest on.are
-      where
-        by : (rest : List (PieceKey × PieceRow)) → AreFrom p.pieces edition number rest → trial rest on.edited (stamp moment) ≡ Err (number, why)
-        by [] are = absurd (not_none (ap (λ m. get m (piece edition (pos number))) (sym on.pieces) ∙ there) are)
-        by (e ∷ es) are =
-            let row_is : e.1 ≡ piece_row x = same_some (sym are.1 ∙ (ap (get p.pieces) are.0 ∙ (ap (λ m. get m (piece edition (pos number))) (sym on.pieces) ∙ there))) in
-            trial_is on.edited e es x row_is (stamp moment) (Some why) reason ∙ ap (λ (k : PieceKey). Err (unsigned_abs k.number, why)) are.0
+  row_is : (x : Piece) → get on.edited.pieces key ≡ Some (piece_row x) → (e : PieceKey × PieceRow) → e.0 ≡ key → get p.pieces e.0 ≡ Some e.1 → e.1 ≡ piece_row x
+  row_is x there e key_is stands = same_some (sym stands ∙ (ap (get p.pieces) key_is ∙ (ap (λ m. get m key) (sym on.pieces) ∙ there)))
 
-  -- ---- the loop: what is done before this number, and then one turn
-  module _ (number : ℕ) (old mid : State) (quiet : CommitsNothing old mid)
-      (so_far : HasCleanDisk mid → (ground : Ground) (p : Package) → StandsReady profile old ground p → get p.editions edition ≡ Some open_state → IsOn number mid ground p) where
-    pub trial_endless : IsTrial profile edition moment old mid (Err store)
-    trial_endless = record {
-      survives = quiet;
-      on = λ clean ground p ready open_is. (so_far clean ground p ready open_is).ready.inside.back;
-      tells = λ clean ground p ready open_is. tt;
-      faults = inr refl;
-    }
-
-    module _ (new : State) where
-      pub trial_gave_up : (fault : Fault) → IsTurn profile edition number moment mid new (Err fault) → IsTrial profile edition moment old new (Err fault)
-      trial_gave_up fault turn = record {
-        survives = quiet_then old mid new quiet turn.survives;
-        on = λ clean ground p ready open_is. let on = so_far (omega (arith, turn.survives.clean)) ground p ready open_is in turn.on clean ground on.edited on.ready;
-        tells = λ clean ground p ready open_is. tt;
-        faults = turn.faults;
+  -- one more is done
+  pub one_more : (s' : State) (moment : ℕ) → IsStamp moment at → StandsInside profile s' ground (after_turn edition number at on.edited Done)
+      → TellsTurn edition number on.edited Done
+      → IsOn edition at (number + 1) profile s' ground p
+  one_more s' moment stamped inside (x, there, none) = subst (λ n. IsOn edition at n profile s' ground p) (one_after number) (by on.rest on.are on.goes_on)
+    where
+      by : (rest : List (PieceKey × PieceRow)) → AreFrom p.pieces edition number rest → trial rest on.edited at ≡ edition_trial p edition at
+          → IsOn edition at (suc number) profile s' ground p
+      by [] are goes_on = absurd (not_none (ap (λ m. get m key) (sym on.pieces) ∙ there) are)
+      by (e ∷ es) are goes_on = record {
+        edited = piece_effect on.edited x at;
+        meets =
+            let within = stands_within profile x (on.meets.q15.spelled key (piece_row x) there) in
+            piece_keeps x profile on.edited moment at on.meets within (stamped_moment moment at stamped) stamped none;
+        inside = subst (StandsInside profile s' ground) (ap (row_given on.edited at) there ∙ ap (piece_given on.edited at) (read_back x)) inside;
+        editions = (piece_apart on.edited x at).0 ∙ on.editions;
+        pieces = (piece_apart on.edited x at).1 ∙ on.pieces;
+        rest = es;
+        are = are.2;
+        goes_on = sym (trial_is on.edited e es x (row_is x there e are.0 are.1) at None none) ∙ goes_on;
       }
 
-      module _ (it : Turn) (turn : IsTurn profile edition number moment mid new (Ok it)) where
-        stands_on : HasCleanDisk new → (ground : Ground) (p : Package) → StandsReady profile old ground p → get p.editions edition ≡ Some open_state
-            → StandsOn new ground
-        stands_on clean ground p ready open_is = let on = so_far (omega (arith, turn.survives.clean)) ground p ready open_is in turn.on clean ground on.edited on.ready
+  -- all are done
+  pub all_done : (s' : State) → IsTrue s'.is_open → StandsInside profile s' ground on.edited → TellsTurn edition number on.edited End
+      → TellsTrial edition at profile s' ground p None
+  all_done s' up inside none = (on.edited, sym on.goes_on ∙ by on.rest on.are, on.editions, up, inside)
+    where
+      by : (rest : List (PieceKey × PieceRow)) → AreFrom p.pieces edition number rest → trial rest on.edited at ≡ Ok on.edited
+      by [] are = refl
+      by (e ∷ es) are = absurd (not_none are.1 (ap (get p.pieces) are.0 ∙ none_is none))
 
-        pub trial_ended : it ≡ End → IsTrial profile edition moment old new (Ok None)
-        trial_ended is = record {
-          survives = quiet_then old mid new quiet turn.survives;
-          on = stands_on;
-          tells = λ clean ground p ready open_is.
-              let on = so_far (omega (arith, turn.survives.clean)) ground p ready open_is in
-              all_done number mid new ground p on (subst (TakesTurn profile edition number moment new ground on.edited) is (turn.takes clean ground on.edited on.ready));
-          faults = tt;
-        }
+  -- this one is refused
+  pub one_refused : (s' : State) (why : ℕ) → TellsTurn edition number on.edited (Refused why) → TellsTrial edition at profile s' ground p (Some (number, why))
+  one_refused s' why (x, there, reason) = sym on.goes_on ∙ by on.rest on.are
+    where
+      by : (rest : List (PieceKey × PieceRow)) → AreFrom p.pieces edition number rest → trial rest on.edited at ≡ Err (number, why)
+      by [] are = absurd (not_none (ap (λ m. get m key) (sym on.pieces) ∙ there) are)
+      by (e ∷ es) are =
+          trial_is on.edited e es x (row_is x there e are.0 are.1) at (Some why) reason
+          ∙ ap (λ (k : PieceKey). Err (unsigned_abs k.number, why)) are.0
 
-        pub trial_refused : (why : ℕ) → it ≡ Refused why → IsTrial profile edition moment old new (Ok (Some (number, why)))
-        trial_refused why is = record {
-          survives = quiet_then old mid new quiet turn.survives;
-          on = stands_on;
-          tells = λ clean ground p ready open_is.
-              let on = so_far (omega (arith, turn.survives.clean)) ground p ready open_is in
-              first_refused number mid new ground p on why (subst (TakesTurn profile edition number moment new ground on.edited) is (turn.takes clean ground on.edited on.ready));
-          faults = tt;
-        }
+-- ---- the loop: what is done before this number, and then one turn
 
-        pub goes_on_after : it ≡ Done → HasCleanDisk new → (ground : Ground) (p : Package) → StandsReady profile old ground p
-            → get p.editions edition ≡ Some open_state → IsOn (number + 1) new ground p
-        goes_on_after is clean ground p ready open_is =
-            let on = so_far (omega (arith, turn.survives.clean)) ground p ready open_is in
-            subst (λ n. IsOn n new ground p) (one_after number) (one_more_done number mid new ground p on (subst (TakesTurn profile edition number moment new ground on.edited) is (turn.takes clean ground on.edited on.ready)))
+abbrev pub HasDone : {S : Type 0} (g : Ghosts S) (old new : Transaction S) (edition at : Text) (number : ℕ) → Type 0
+HasDone g old new edition at number =
+    Attempts g old new {T = ⊤} (IsOpened edition at) (λ profile s ground p it. IsOn edition at number profile s ground p) (Ok tt)
+
+module _ {S : Type 0} {g : Ghosts S} where
+  pub begins : {a : Transaction S} {edition at : Text} → HasDone g a a edition at 1
+  begins {edition = edition} = record {
+    same = refl;
+    survives = record {
+      clean = le_refl _;
+      shield = λ is. is;
+      counts = le_refl _;
+      limit = refl;
+      closes = λ clean is_open. inl is_open;
+      crash = λ clean db may. inl may;
+    };
+    on = λ clean profile ground p it when. it.back;
+    tells = λ clean profile ground p it when. record {
+      edited = p;
+      meets = when.0;
+      inside = it;
+      editions = refl;
+      pieces = refl;
+      rest = pieces_of p edition;
+      are = let n = when.0.q15.numbered edition when.1 in pieces_in_order p edition n.0 n.2;
+      goes_on = refl;
+    };
+    faults = tt;
+  }
+
+  module _ {a b : Transaction S} {edition at : Text} {number : ℕ} (done : HasDone g a b edition at number) where
+    pub trial_endless : TriesPieces g a b edition at (Err store)
+    trial_endless = record { attempt = attempts_fault done }
+
+    module _ {c : Transaction S} where
+      pub goes_on_after : {it : Turn} → TakesTurn g b c edition number at (Ok it) → it ≡ Done → HasDone g a c edition at (number + 1)
+      goes_on_after turn is = attempts_then done (attempts (rw is at turn.goes)) (λ profile ground p when on. (
+        on.edited,
+        on.inside,
+        on.meets,
+        λ end. one_more edition at number profile (state g b.conn.now) ground p on (state g c.conn.now) when.2 when.3 end.1 end.2,
+      ))
+
+      pub trial_ended : {it : Turn} → TakesTurn g b c edition number at (Ok it) → it ≡ End → TriesPieces g a c edition at (Ok None)
+      trial_ended turn is = record {
+        attempt = attempts_then done (attempts (rw is at turn.goes)) (λ profile ground p when on. (
+          on.edited,
+          on.inside,
+          on.meets,
+          λ end. all_done edition at number profile (state g b.conn.now) ground p on (state g c.conn.now) end.0 end.1 end.2,
+        ));
+      }
+
+      pub trial_refused : {it : Turn} {why : ℕ} → TakesTurn g b c edition number at (Ok it) → it ≡ Refused why
+          → TriesPieces g a c edition at (Ok (Some (number, why)))
+      trial_refused {why = why} turn is = record {
+        attempt = attempts_then done (attempts (rw is at turn.goes)) (λ profile ground p when on. (
+          on.edited,
+          on.inside,
+          on.meets,
+          λ end. one_refused edition at number profile (state g b.conn.now) ground p on (state g c.conn.now) why end.2,
+        ));
+      }
+
+      pub trial_gave_up : {e : Fault} {r : Result (Option (ℕ × ℕ)) Fault} → TakesTurn g b c edition number at (Err e) → IsErrAnd r (λ f. f ≡ e)
+          → TriesPieces g a c edition at r
+      trial_gave_up turn is = record { attempt = attempts_failed done (attempts turn.goes) is (λ profile ground p when on. (on.edited, on.inside, on.meets)) }

@@ -1,26 +1,35 @@
 -- How a look at the edition, the trial of its pieces and its closing make one publishing.
-use Rattle.std.proofs.Common.{◌≡◌, inl, inr, ℕ, true, not, ◌&&◌, is_err, [], ◌∷◌, Option, Some, None, is_some, Result, Ok, Err, refl, sym, ap, subst, ◌∙◌, arith}
+use Rattle.std.proofs.Common.{◌≡◌, inl, inr, ℕ, true, not, ◌&&◌, is_err, [], ◌∷◌, Option, Some, None, is_some, Result, Ok, Err, IfOk, refl, sym, ap, subst, ◌∙◌}
+use Rattle.std.specs.Prelude.{⊤, IsErrAnd}
 use Rattle.std.specs.FinMap.{get, contains_key}
-use Rattle.sqlite.specs.State.{State, HasCleanDisk}
+use Rattle.sqlite.specs.Held.{state}
+use Rattle.sqlite.specs.State.{State}
+use Rattle.sqlite.specs.Store.{Ghosts}
+use Rattle.sqlite.specs.declared.transaction.Transaction.{Transaction}
 use Rattle.mm_definitions.specs.Bounds.{Profile}
 use Rattle.mm_definitions.specs.Keys.{Text, same_text}
 use Rattle.mm_definitions.specs.Parts.{at_value}
 use Rattle.mm_definitions.specs.Package.{Package, open_state, published_state}
 use Rattle.mm_definitions.specs.Rules.{Meets}
-use Rattle.mm_definitions.specs.Stamp.{stamp}
+use Rattle.mm_definitions.specs.Stamp.{IsStamp}
 use Rattle.mm_definitions.specs.Conditions.{least, own_reasons}
 use Rattle.mm_definitions.specs.Editions.{PieceRefusal, edition_trial, closed}
-use Rattle.mm_definitions.specs.Step.{refusal, refusal_of, refused_piece, step, done, unless_refused, closed_by}
+use Rattle.mm_definitions.specs.Step.{refusal, refusal_of, refused_piece, done, unless_refused, closed_by}
 use Rattle.mm_definitions.specs.declared.answers.Fault.{Fault}
 use Rattle.mm_definitions.specs.Refusals.{Refusal}
+use Rattle.mm_definitions.specs.declared.answers.Outcome.{Outcome}
 use Rattle.mm_definitions.specs.declared.answers.Outcome.TheVariants as outcome
 use Rattle.mm_definitions.specs.declared.commands.Command.TheVariants as commands
 use Rattle.mm_definitions.proofs.Parts.{same_some}
 use Rattle.mm_laws.proofs.AnyStamp.{any_stamp}
+use Rattle.mm_laws.proofs.OneStamp.{stamp_only}
 use Rattle.mm_store.specs.Stands.{Ground, StandsInside}
-use Rattle.mm_store.specs.Shapes.{IsLook, IsChange, ComesTo, IsTried}
-use Rattle.mm_store.proofs.Shapes.{quiet_then}
-use Rattle.mm_edition.specs.Turns.{StandsReady, IsTrial}
+use Rattle.mm_store.specs.Shapes.{Tries, IsTried}
+use Rattle.mm_store.specs.Handed.{Tells, ChangesWhere}
+use Rattle.mm_layout.specs.Stamped.{step_at}
+use Rattle.mm_edition.specs.Quiet.{IsQuiet}
+use Rattle.mm_edition.specs.Turns.{IsStamped, TellsPublish, Attempts, TriesPieces, Publishes}
+use Rattle.mm_edition.proofs.Attempting.{attempts, attempts_then, attempts_failed, attempts_as, attempts_not}
 
 -- the refusal as a function of how the edition stands and what the trial gives
 abbrev of_publish : Option Text → Result Package PieceRefusal → Option Refusal
@@ -39,8 +48,8 @@ an_error : (t : Result Package PieceRefusal) (r : PieceRefusal) → refused_piec
 an_error (Ok q) r e = absurd (let f : ◌≡◌ {A = Option PieceRefusal} None (Some r) = e in cc)
 an_error (Err s) r e = ap (λ x. Some (record { number = 53; piece = Some x })) (same_some e)
 
-module _ (profile : Profile) (edition : Text) where
-  module _ (p : Package) (meets : Meets profile p) where
+module _ (edition : Text) where
+  module _ (profile : Profile) (p : Package) (meets : Meets profile p) where
     refusal_is : (v : Option Text) → get p.editions edition ≡ v → refusal p (commands.Publish edition) ≡ of_publish v (edition_trial p edition [])
     refusal_is v is = ap (λ x. of_publish x (edition_trial p edition [])) is
 
@@ -67,90 +76,116 @@ module _ (profile : Profile) (edition : Text) where
           | inr e ↦ refusal_is (Some published_state) (is ∙ ap Some e) ∙ ap (λ x. Some (record { number = x; piece = None })) (sym (same_some (why ∙ (ap of_closed is ∙ ap (λ x. of_closed (Some x)) e))))
         ]
 
-    module _ (moment : ℕ) (open_is : get p.editions edition ≡ Some open_state) where
-      accepted : (q : Package) → edition_trial p edition (stamp moment) ≡ Ok q → refusal p (commands.Publish edition) ≡ None
-      accepted q is = refusal_is (Some open_state) open_is ∙ no_error (edition_trial p edition []) (any_stamp p edition [] (stamp moment) ∙ ap refused_piece is)
+    module _ (at : Text) (open_is : get p.editions edition ≡ Some open_state) where
+      accepted : (q : Package) → edition_trial p edition at ≡ Ok q → refusal p (commands.Publish edition) ≡ None
+      accepted q is = refusal_is (Some open_state) open_is ∙ no_error (edition_trial p edition []) (any_stamp p edition [] at ∙ ap refused_piece is)
 
-      refused_at : (r : PieceRefusal) → edition_trial p edition (stamp moment) ≡ Err r
+      refused_at : (r : PieceRefusal) → edition_trial p edition at ≡ Err r
           → refusal p (commands.Publish edition) ≡ Some (record { number = 53; piece = Some r })
-      refused_at r is = refusal_is (Some open_state) open_is ∙ an_error (edition_trial p edition []) r (any_stamp p edition [] (stamp moment) ∙ ap refused_piece is)
+      refused_at r is = refusal_is (Some open_state) open_is ∙ an_error (edition_trial p edition []) r (any_stamp p edition [] at ∙ ap refused_piece is)
 
-      step_is : (q : Package) → edition_trial p edition (stamp moment) ≡ Ok q → step p (commands.Publish edition) moment ≡ closed edition q
-      step_is q is = ap (λ r. unless_refused r (done p (commands.Publish edition) (stamp moment)) p) (accepted q is) ∙ ap (λ t. closed_by edition t p) is
+      step_is : (q : Package) → edition_trial p edition at ≡ Ok q → step_at p (commands.Publish edition) at ≡ closed edition q
+      step_is q is = ap (λ r. unless_refused r (done p (commands.Publish edition) at) p) (accepted q is) ∙ ap (λ t. closed_by edition t p) is
 
-  abbrev Why : Package → Option ℕ → Type 0
-  Why p why = why ≡ least (own_reasons p (commands.Discard edition))
+-- the look whether the edition is open
+abbrev Looked : {S : Type 0} (g : Ghosts S) (old new : Transaction S) (edition : Text) → Result (Option ℕ) Fault → Type 0
+Looked g old new edition = Tells g old new (λ p. least (own_reasons p (commands.Discard edition)))
 
-  module _ (moment : ℕ) (old mid : State) where
-    pub closed_tried : (why : Option ℕ) (n : ℕ) → why ≡ Some n → IsLook profile old mid Why (Ok why)
-        → IsTried profile (commands.Publish edition) moment old mid (Ok (outcome.Refused (record { number = n; piece = None })))
-    closed_tried why n is look = record {
-      survives = look.survives;
-      on = λ clean ground p it. look.on clean ground p it.inside;
-      tries = λ clean ground p it. refused_closed p it.meets n (sym is ∙ (look.looked clean ground p it.inside).2);
-      faults = tt;
-    }
+module _ {S : Type 0} {g : Ghosts S} {a b : Transaction S} {edition at : Text} where
+  pub closed_already : {why : Option ℕ} {n : ℕ} → Looked g a b edition (Ok why) → why ≡ Some n
+      → Publishes g a b edition at (Ok (outcome.Refused (record { number = n; piece = None })))
+  closed_already {n = n} look is = record {
+    attempt = attempts_as (attempts look) (λ profile p when. tt) (λ profile ground p when end. refused_closed edition profile p when.0 n (sym is ∙ end.2));
+  }
 
-    pub look_tried_in_vain : (fault : Fault) → IsLook profile {T = Option ℕ} old mid Why (Err fault)
-        → IsTried profile (commands.Publish edition) moment old mid (Err fault)
-    look_tried_in_vain fault look = record { survives = look.survives; on = λ clean ground p it. look.on clean ground p it.inside; tries = λ clean ground p it. tt; faults = look.faults }
+  pub looked_in_vain : {e : Fault} {r : Result Outcome Fault} → Looked g a b edition (Err e) → IsErrAnd r (λ f. f ≡ e) → Publishes g a b edition at r
+  looked_in_vain look is = record { attempt = attempts_not (attempts look) is (λ profile p when. tt) }
 
-    module _ (why : Option ℕ) (none : why ≡ None) (look : IsLook profile old mid Why (Ok why)) (new : State) where
-      -- the trial begins on the same package, whose edition is open
-      ready : HasCleanDisk mid → (ground : Ground) (p : Package) → ComesTo profile old ground p
-          → StandsReady profile mid ground p × (get p.editions edition ≡ Some open_state)
-      ready clean ground p it =
-          let found = look.looked clean ground p it.inside in
-          (record { meets = it.meets; inside = found.1 }, stands_open p it.meets (sym none ∙ found.2))
+-- the trial begins on the same package, whose edition is open
+abbrev Opened : {S : Type 0} (g : Ghosts S) (old new : Transaction S) (edition at : Text) → Type 0
+Opened g old new edition at =
+    Attempts g old new {T = ⊤} (IsStamped at) (λ profile s ground p it. StandsInside profile s ground p × (get p.editions edition ≡ Some open_state)) (Ok tt)
 
-      module _ (piece : Option PieceRefusal) where
-        pub publish_53 : (r : PieceRefusal) → piece ≡ Some r → IsTrial profile edition moment mid new (Ok piece)
-            → IsTried profile (commands.Publish edition) moment old new (Ok (outcome.Refused (record { number = 53; piece = Some r })))
-        publish_53 r is trial = record {
-          survives = quiet_then old mid new look.survives trial.survives;
-          on = λ clean ground p it. let at = ready (omega (arith, trial.survives.clean)) ground p it in trial.on clean ground p at.0 at.1;
-          tries = λ clean ground p it.
-              let at = ready (omega (arith, trial.survives.clean)) ground p it in
-              refused_at p it.meets moment at.1 r ((rw is at trial.tells) clean ground p at.0 at.1);
-          faults = tt;
-        }
+opened : {S : Type 0} {g : Ghosts S} {a b : Transaction S} (edition at : Text) {why : Option ℕ} → Looked g a b edition (Ok why) → why ≡ None
+    → Opened g a b edition at
+opened edition at look none =
+    attempts_as (attempts look) (λ profile p when. tt) (λ profile ground p when end. (end.1, stands_open edition profile p when.0 (sym none ∙ end.2)))
 
-      pub publish_gave_up : (fault : Fault) → IsTrial profile edition moment mid new (Err fault)
-          → IsTried profile (commands.Publish edition) moment old new (Err fault)
-      publish_gave_up fault trial = record {
-        survives = quiet_then old mid new look.survives trial.survives;
-        on = λ clean ground p it. let at = ready (omega (arith, trial.survives.clean)) ground p it in trial.on clean ground p at.0 at.1;
-        tries = λ clean ground p it. tt;
-        faults = trial.faults;
-      }
+-- the pieces were done, and the edition stands
+abbrev Edited : {S : Type 0} (g : Ghosts S) (old new : Transaction S) (edition at : Text) → Type 0
+Edited g old new edition at = Attempts g old new {T = ⊤} (IsStamped at)
+    (λ profile s ground p it. (q : Package) × (edition_trial p edition at ≡ Ok q) × StandsInside profile s ground q × (contains_key q.editions edition ≡ true)
+    × (get p.editions edition ≡ Some open_state)) (Ok tt)
 
-      -- the edition is closed behind the trial
-      module _ (piece : Option PieceRefusal) (went : piece ≡ None) (trial : IsTrial profile edition moment mid new (Ok piece)) (end : State) where
-        edited : HasCleanDisk new → (ground : Ground) (p : Package) → ComesTo profile old ground p
-            → (q : Package) × (edition_trial p edition (stamp moment) ≡ Ok q) × StandsInside profile new ground q × (contains_key q.editions edition ≡ true) × (get p.editions edition ≡ Some open_state)
-        edited clean ground p it =
-            let at = ready (omega (arith, trial.survives.clean)) ground p it in
-            let told = (rw went at trial.tells) clean ground p at.0 at.1 in
-            (told.0, told.1, told.4.inside, ap is_some (ap (λ m. get m edition) told.2 ∙ at.1), at.1)
+module _ {S : Type 0} {g : Ghosts S} {a b c : Transaction S} {edition at : Text} {why : Option ℕ} where
+  pub piece_refused : {piece : Option PieceRefusal} {r : PieceRefusal} → Looked g a b edition (Ok why) → why ≡ None → TriesPieces g b c edition at (Ok piece)
+      → piece ≡ Some r → Publishes g a c edition at (Ok (outcome.Refused (record { number = 53; piece = Some r })))
+  piece_refused {r = r} look none trial is = record {
+    attempt = attempts_then (opened edition at look none) (rw is at trial.attempt) (λ profile ground p when it. (
+      p,
+      it.0,
+      (when.0, it.1, when.1, when.2),
+      λ told. refused_at edition profile p when.0 at it.1 r told,
+    ));
+  }
 
-        pub publish_done : (u : Unit {0}) → IsChange profile new end (λ p. contains_key p.editions edition ≡ true) (closed edition) (Ok u)
-            → IsTried profile (commands.Publish edition) moment old end (Ok outcome.Done)
-        publish_done u change = record {
-          survives = quiet_then old new end (quiet_then old mid new look.survives trial.survives) change.survives;
-          on = λ clean ground p it. let at = edited (omega (arith, change.survives.clean)) ground p it in change.on clean ground at.0 at.2 at.3;
-          tries = λ clean ground p it.
-              let at = edited (omega (arith, change.survives.clean)) ground p it in
-              let made = change.made clean ground at.0 at.2 at.3 in
-              (accepted p it.meets moment at.4 at.0 at.1, made.0, subst (StandsInside profile end ground) (sym (step_is p it.meets moment at.4 at.0 at.1)) made.1);
-          faults = tt;
-        }
+  pub pieces_in_vain : {e : Fault} {r : Result Outcome Fault} → Looked g a b edition (Ok why) → why ≡ None → TriesPieces g b c edition at (Err e)
+      → IsErrAnd r (λ f. f ≡ e) → Publishes g a c edition at r
+  pieces_in_vain look none trial is = record {
+    attempt = attempts_failed (opened edition at look none) trial.attempt is (λ profile ground p when it. (p, it.0, (when.0, it.1, when.1, when.2)));
+  }
 
-        pub publish_half_closed : (fault : Fault)
-            → IsChange profile {T = Unit {0}} new end (λ p. contains_key p.editions edition ≡ true) (closed edition) (Err fault)
-            → IsTried profile (commands.Publish edition) moment old end (Err fault)
-        publish_half_closed fault change = record {
-          survives = quiet_then old new end (quiet_then old mid new look.survives trial.survives) change.survives;
-          on = λ clean ground p it. let at = edited (omega (arith, change.survives.clean)) ground p it in change.on clean ground at.0 at.2 at.3;
-          tries = λ clean ground p it. tt;
-          faults = change.faults;
-        }
+  pub edited : {piece : Option PieceRefusal} → Looked g a b edition (Ok why) → why ≡ None → TriesPieces g b c edition at (Ok piece) → piece ≡ None
+      → Edited g a c edition at
+  edited look none trial went = attempts_then (opened edition at look none) (rw went at trial.attempt) (λ profile ground p when it. (
+    p,
+    it.0,
+    (when.0, it.1, when.1, when.2),
+    λ told. (told.0, told.1, told.4, ap is_some (ap (λ m. get m edition) told.2 ∙ it.1), it.1),
+  ))
+
+-- the edition is closed behind the trial
+module _ {S : Type 0} {g : Ghosts S} {a b c : Transaction S} {edition at : Text} (it : Edited g a b edition at) where
+  pub closes : {T : Type 0} {u : T} → ChangesWhere g b c (λ p. contains_key p.editions edition ≡ true) (closed edition) (Ok u)
+      → Publishes g a c edition at (Ok outcome.Done)
+  closes change = record {
+    attempt = attempts_then it (attempts change) (λ profile ground p when end. (
+      end.0,
+      end.2,
+      end.3,
+      λ made. (
+        accepted edition profile p when.0 at end.4 end.0 end.1,
+        made.0,
+        subst (StandsInside profile (state g c.conn.now) ground) (sym (step_is edition profile p when.0 at end.4 end.0 end.1)) made.1,
+      ),
+    ));
+  }
+
+  pub closes_not : {T : Type 0} {e : Fault} {r : Result Outcome Fault}
+      → ChangesWhere g b c {T = T} (λ p. contains_key p.editions edition ≡ true) (closed edition) (Err e)
+      → IsErrAnd r (λ f. f ≡ e) → Publishes g a c edition at r
+  closes_not change is = record { attempt = attempts_failed it (attempts change) is (λ profile ground p when end. (end.0, end.2, end.3)) }
+
+-- ---- told of states
+
+tries_at : (profile : Profile) (s : State) (ground : Ground) (p : Package) (edition at : Text) (r : Result Outcome Fault)
+    → IfOk r (TellsPublish edition at profile s ground p)
+    → Tries profile s ground p (refusal p (commands.Publish edition)) (step_at p (commands.Publish edition) at) r
+tries_at profile s ground p edition at (Ok it) h = h
+tries_at profile s ground p edition at (Err e) h = tt
+
+module _ {S : Type 0} {g : Ghosts S} {a b : Transaction S} {edition at : Text} {r : Result Outcome Fault} (h : Publishes g a b edition at r) where
+  pub publish_tried : (profile : Profile) (moment : ℕ) → IsStamp moment at
+      → IsTried profile (commands.Publish edition) moment (state g a.conn.now) (state g b.conn.now) r
+  publish_tried profile moment stamped = record {
+    survives = h.attempt.survives;
+    on = λ clean ground p it. h.attempt.on clean profile ground p it.inside (it.meets, moment, stamped);
+    tries = λ clean ground p it.
+        let c = commands.Publish edition in
+        subst (λ text. Tries profile (state g b.conn.now) ground p (refusal p c) (step_at p c text) r) (stamp_only moment at stamped)
+        (tries_at profile (state g b.conn.now) ground p edition at r (h.attempt.tells clean profile ground p it.inside (it.meets, moment, stamped)));
+    faults = h.attempt.faults;
+  }
+
+  pub publish_quiet : IsQuiet (state g a.conn.now) (state g b.conn.now) r
+  publish_quiet = record { survives = h.attempt.survives; faults = h.attempt.faults }

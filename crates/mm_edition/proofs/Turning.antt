@@ -1,15 +1,13 @@
 -- How the look for a piece and the call that it is taken as make one turn of publishing.
-use Rattle.std.proofs.Common.{◌≡◌, ℕ, ℤ, pos, List, Option, Some, None, option_map, Result, Ok, Err, refl, sym, ap, subst, ◌∙◌, arith}
-use Rattle.std.specs.Prelude.{⊤}
+use Rattle.std.proofs.Common.{◌≡◌, ℕ, pos, [], Option, Some, None, option_map, Result, Ok, Err, refl, sym, ap, subst, ◌∙◌}
+use Rattle.std.specs.Prelude.{IsErrAnd}
 use Rattle.std.specs.FinMap.{get}
-use Rattle.sqlite.specs.State.{State}
-use Rattle.mm_definitions.specs.Bounds.{Profile}
+use Rattle.sqlite.specs.Store.{Ghosts}
+use Rattle.sqlite.specs.declared.transaction.Transaction.{Transaction}
 use Rattle.mm_definitions.specs.Keys.{Text, piece}
 use Rattle.mm_definitions.specs.Package.{Package}
-use Rattle.mm_definitions.specs.Pieces.{piece_row, piece_by_kind, piece_command}
-use Rattle.mm_definitions.specs.Rules.{Meets, IsSpelled}
-use Rattle.mm_definitions.specs.Stamp.{IsStamp, stamp}
-use Rattle.mm_definitions.specs.Within.{IsPieceWithin}
+use Rattle.mm_definitions.specs.Pieces.{piece_row, piece_command}
+use Rattle.mm_definitions.specs.Rules.{Meets}
 use Rattle.mm_definitions.specs.Conditions.{least, piece_reasons}
 use Rattle.mm_definitions.specs.Effects.{piece_effect}
 use Rattle.mm_definitions.specs.Step.{refusal, refusal_of, done, unless_refused}
@@ -18,20 +16,20 @@ use Rattle.mm_definitions.specs.declared.answers.Outcome.{Outcome}
 use Rattle.mm_definitions.specs.declared.answers.Outcome.TheVariants as outcome
 use Rattle.mm_definitions.specs.Refusals.{Refusal, reason_of}
 use Rattle.mm_definitions.proofs.RefusalFacts.{its_reason}
-use Rattle.mm_definitions.specs.declared.commands.Command.{Command}
 use Rattle.mm_definitions.specs.declared.commands.Piece.{Piece}
 use Rattle.mm_definitions.specs.declared.commands.Piece.TheVariants as pieces
-use Rattle.mm_definitions.proofs.Parts.{same_some}
-use Rattle.mm_laws.proofs.Published.{by_kind, piece_keeps}
-use Rattle.mm_laws.proofs.OneStamp.{stamped_moment, stamp_only}
-use Rattle.mm_laws.proofs.StampFound.{stamp_is}
-use Rattle.mm_store.specs.Stands.{Ground, StandsInside}
-use Rattle.mm_store.specs.Shapes.{IsLook, ComesTo}
-use Rattle.mm_layout.specs.Stamped.{step_at, IsLentAt, IsLentWhere}
-use Rattle.mm_items.specs.Staged.{HasBytes}
-use Rattle.mm_store.proofs.Shapes.{quiet_then}
-use Rattle.mm_edition.specs.Turns.{HoldsPiece, StandsReady, IsTurn}
+use Rattle.mm_laws.proofs.Published.{read_back}
+use Rattle.mm_store.specs.Shapes.{refused_as}
+use Rattle.mm_store.specs.Handed.{Goes, LooksByRules}
+use Rattle.mm_store.proofs.Going.{goes_as, goes_given, failed, failed_where}
+use Rattle.mm_layout.specs.Stamped.{step_at}
+use Rattle.mm_layout.specs.Handed.{LendsFor}
+use Rattle.mm_staging.specs.Outlines.{with_bytes, IsOutlined}
+use Rattle.mm_staging.specs.declared.outlines.Outline.{Outline}
+use Rattle.mm_edition.specs.Turns.{HoldsPiece, piece_given, row_given, after_turn, TellsTurn, TakesTurn}
+use Rattle.mm_edition.specs.declared.running.Turn.{Turn}
 use Rattle.mm_edition.specs.declared.running.Turn.TheVariants.{Done, End, Refused}
+use Rattle.mm_edition.proofs.Lending.{goes_for}
 
 -- ---- a piece as its command
 
@@ -62,111 +60,67 @@ no_reason : (v : Option ℕ) → refusal_of v None ≡ None → v ≡ None
 no_reason None e = refl
 no_reason (Some n) e = absurd (let f : ◌≡◌ {A = Option Refusal} (Some _) None = e in cc)
 
--- a piece that stands in a package of the rules is within the limits
-stands_within : (profile : Profile) (q : Piece) → IsSpelled profile (piece_row q) → IsPieceWithin profile q
-stands_within profile q is = subst (IsPieceWithin profile) (same_some (sym (by_kind is.0) ∙ ap piece_by_kind (sym is.1) ∙ by_kind q)) is.2
+-- ---- a turn
 
--- a call that is known to do so where more holds
-pub where_more : (When More : Package → Type 0) (profile : Profile) (c : Command) (at : Text) (old new : State) (result : Result Outcome Fault)
-    → ((p : Package) → More p → When p) → IsLentWhere When profile c at old new result
-    → IsLentWhere More profile c at old new result
-where_more When More profile c at old new result so lent = record {
-  survives = lent.survives;
-  on = λ clean ground p it more. lent.on clean ground p it (so p more);
-  answers = λ clean ground p it more. lent.answers clean ground p it (so p more);
-  faults = lent.faults;
-}
+-- the turn that the command of the piece comes to
+abbrev pub as_turn : Outcome → Turn
+as_turn outcome.Done = Done
+as_turn (outcome.Refused why) = Refused (reason_of why)
 
--- a call that does the same whether this holds or not
-pub anywhere : (More : Package → Type 0) (profile : Profile) (c : Command) (at : Text) (old new : State) (result : Result Outcome Fault)
-    → IsLentAt profile c at old new result → IsLentWhere More profile c at old new result
-anywhere More profile c at old new result lent = where_more (λ p. ⊤) More profile c at old new result (λ p more. tt) lent
+module _ (edition : Text) (number : ℕ) (at : Text) where
+  -- the command of the piece that stands gives what its turn gives
+  command_turn : (p : Package) (q : Piece) (it : Outcome) → get p.pieces (piece edition (pos number)) ≡ Some (piece_row q)
+      → refusal p (piece_command q) ≡ refused_as it
+      → (after_turn edition number at p (as_turn it) ≡ step_at p (piece_command q) at) × TellsTurn edition number p (as_turn it)
+  command_turn p q outcome.Done there accepted = (
+    ap (row_given p at) there ∙ ap (piece_given p at) (read_back q)
+        ∙ sym (ap (λ r. unless_refused r (done p (piece_command q) at) p) accepted ∙ piece_done p q at),
+    (q, there, no_reason (least (piece_reasons p q)) (sym (piece_refusal p q) ∙ accepted)),
+  )
+  command_turn p q (outcome.Refused why) there refused = (
+    sym (ap (λ r. unless_refused r (done p (piece_command q) at) p) refused),
+    (q, there, its_reason (least (piece_reasons p q)) why (sym (piece_refusal p q) ∙ refused)),
+  )
 
--- the bytes of a piece that is a tile or a medium
-pub tile_bytes : (edition : Text) (number : ℕ) (table : Text) (zoom column row : ℕ) (bytes : List ℕ) (p : Package)
-    → HoldsPiece edition number (pieces.Tile table zoom column row bytes) p → HasBytes edition number bytes p
-tile_bytes edition number table zoom column row bytes p holds = (piece_row (pieces.Tile table zoom column row bytes), holds, refl)
+module _ {S : Type 0} (g : Ghosts S) (old new : Transaction S) (edition : Text) (number : ℕ) where
+  -- the look for the piece
+  abbrev Found : Result (Option Outline) Fault → Type 0
+  Found = LooksByRules g old new (λ p found. IsOutlined (get p.pieces (piece edition (pos number))) found)
 
-pub medium_bytes : (edition : Text) (number : ℕ) (table : Text) (id : ℤ) (content_type : Text) (bytes : List ℕ) (p : Package)
-    → HoldsPiece edition number (pieces.Media table id content_type bytes) p → HasBytes edition number bytes p
-medium_bytes edition number table id content_type bytes p holds = (piece_row (pieces.Media table id content_type bytes), holds, refl)
+  -- the command that it is taken as
+  abbrev Taken : Outline → Text → Result Outcome Fault → Type 0
+  Taken outline at = LendsFor g old new (HoldsPiece edition number outline) (λ bytes. piece_command (with_bytes bytes outline)) at
 
-module _ (profile : Profile) (edition : Text) (number moment : ℕ) where
-  abbrev Found : Package → Option Piece → Type 0
-  Found p found = Meets profile p → get p.pieces (piece edition (pos number)) ≡ option_map piece_row found
-
-  pub turn_ends : (old new : State) (found : Option Piece) → found ≡ None → IsLook profile old new Found (Ok found)
-      → IsTurn profile edition number moment old new (Ok End)
-  turn_ends old new found none look = record {
-    survives = look.survives;
-    on = λ clean ground p it. look.on clean ground p it.inside;
-    takes = λ clean ground p it.
-        let at = look.looked clean ground p it.inside in
-        (at.2 it.meets ∙ ap (option_map piece_row) none, at.0, record { meets = it.meets; inside = at.1 });
-    faults = tt;
+module _ {S : Type 0} {g : Ghosts S} {a b : Transaction S} {edition : Text} {number : ℕ} {at : Text} where
+  pub turn_ends : {found : Option Outline} → Found g a b edition number (Ok found) → found ≡ None → TakesTurn g a b edition number at (Ok End)
+  turn_ends look none = record {
+    goes = goes_as (goes_given look (λ profile p meets. tt))
+        (λ profile p meets says. let told = says meets in (refl, told.1 ∙ ap (option_map (λ (it : Outline). piece_row (with_bytes told.0 it))) none));
   }
 
-  pub turn_looked_in_vain : (old new : State) (fault : Fault) → IsLook profile {T = Option Piece} old new Found (Err fault)
-      → IsTurn profile edition number moment old new (Err fault)
-  turn_looked_in_vain old new fault look = record { survives = look.survives; on = λ clean ground p it. look.on clean ground p it.inside; takes = λ clean ground p it. tt; faults = look.faults }
+  pub turn_looked_in_vain : {e : Fault} {r : Result Turn Fault} → Found g a b edition number (Err e) → IsErrAnd r (λ f. f ≡ e)
+      → TakesTurn g a b edition number at r
+  turn_looked_in_vain look is = record { goes = failed look is }
 
-  module _ (old mid new : State) (found : Option Piece) (q : Piece) (is : found ≡ Some q) (look : IsLook profile old mid Found (Ok found)) where
-    -- the piece's command comes to the transaction behind the look
-    put : (at : State) (ground : Ground) (p : Package) → StandsReady profile old ground p → StandsInside profile mid ground p → Found p found
-        → ComesTo profile mid ground p
-    put at ground p it inside says =
-        let there = says it.meets ∙ ap (option_map piece_row) is in
-        record { meets = it.meets; inside = inside }
+-- ---- the piece is taken as its command
 
-    found_there : (ground : Ground) (p : Package) → StandsReady profile old ground p → Found p found → HoldsPiece edition number q p
-    found_there ground p it says = says it.meets ∙ ap (option_map piece_row) is
+module _ {S : Type 0} {g : Ghosts S} {a b c : Transaction S} {found : Option Outline} {outline : Outline} where
+  took : (edition : Text) (number : ℕ) (at : Text) {r : Result Outcome Fault} → Found g a b edition number (Ok found) → found ≡ Some outline
+      → Taken g b c edition number outline at r
+      → Goes g a c Meets (λ p it. after_turn edition number at p (as_turn it)) (λ profile p it. TellsTurn edition number p (as_turn it)) r
+  took edition number at look is taken = goes_for (goes_given look (λ profile p meets. tt)) [] taken.goes (λ profile p meets says.
+      let told = says meets in
+      let there = told.1 ∙ ap (option_map (λ (it : Outline). piece_row (with_bytes told.0 it))) is in
+      (told.0, (meets, there), λ it more. command_turn edition number at p (with_bytes told.0 outline) it there more))
 
-    module _ (at : Text) (result : Result Outcome Fault) (lent : IsLentWhere (HoldsPiece edition number q) profile (piece_command q) at mid new result) where
-      pub turn_done : IsStamp moment at → result ≡ Ok outcome.Done → IsTurn profile edition number moment old new (Ok Done)
-      turn_done stamped done_is = record {
-        survives = quiet_then old mid new look.survives lent.survives;
-        on = λ clean ground p it.
-            let seen = look.looked (omega (arith, lent.survives.clean)) ground p it.inside in
-            lent.on clean ground p (put mid ground p it seen.1 seen.2) (found_there ground p it seen.2);
-        takes = λ clean ground p it.
-            let seen = look.looked (omega (arith, lent.survives.clean)) ground p it.inside in
-            let there = seen.2 it.meets ∙ ap (option_map piece_row) is in
-            let within = stands_within profile q (it.meets.q15.spelled _ _ there) in
-            let end = (rw done_is at lent.answers) clean ground p (put mid ground p it seen.1 seen.2) there in
-            let none = no_reason (least (piece_reasons p q)) (sym (piece_refusal p q) ∙ end.0) in
-            let next : step_at p (piece_command q) at ≡ piece_effect p q (stamp moment) = ap (λ r. unless_refused r (done p (piece_command q) at) p) end.0 ∙ piece_done p q at ∙ ap (piece_effect p q) (stamp_only moment at stamped) in
-            let low = stamped_moment moment at stamped in (
-              q,
-              there,
-              none,
-              record {
-                meets = piece_keeps q profile p moment (stamp moment) it.meets within low (stamp_is moment low) none;
-                inside = subst (StandsInside profile new ground) next end.2;
-              },
-            );
-        faults = tt;
-      }
+  module _ {edition : Text} {number : ℕ} {at : Text} where
+    pub turn_taken : {it : Outcome} {turn : Turn} → Found g a b edition number (Ok found) → found ≡ Some outline → Taken g b c edition number outline at (Ok it)
+        → turn ≡ as_turn it → TakesTurn g a c edition number at (Ok turn)
+    turn_taken look is taken same = record {
+      goes = goes_as (took edition number at look is taken)
+          (λ profile p meets says. (ap (after_turn edition number at p) same, subst (TellsTurn edition number p) (sym same) says));
+    }
 
-      pub turn_refused : (why : Refusal) → result ≡ Ok (outcome.Refused why) → IsTurn profile edition number moment old new (Ok (Refused (reason_of why)))
-      turn_refused why refused_is = record {
-        survives = quiet_then old mid new look.survives lent.survives;
-        on = λ clean ground p it.
-            let seen = look.looked (omega (arith, lent.survives.clean)) ground p it.inside in
-            lent.on clean ground p (put mid ground p it seen.1 seen.2) (found_there ground p it seen.2);
-        takes = λ clean ground p it.
-            let seen = look.looked (omega (arith, lent.survives.clean)) ground p it.inside in
-            let there = seen.2 it.meets ∙ ap (option_map piece_row) is in
-            let end = (rw refused_is at lent.answers) clean ground p (put mid ground p it seen.1 seen.2) there in
-            (q, there, its_reason (least (piece_reasons p q)) why (sym (piece_refusal p q) ∙ end.0));
-        faults = tt;
-      }
-
-      pub turn_gave_up : (fault : Fault) → result ≡ Err fault → IsTurn profile edition number moment old new (Err fault)
-      turn_gave_up fault fault_is = record {
-        survives = quiet_then old mid new look.survives lent.survives;
-        on = λ clean ground p it.
-            let seen = look.looked (omega (arith, lent.survives.clean)) ground p it.inside in
-            lent.on clean ground p (put mid ground p it seen.1 seen.2) (found_there ground p it seen.2);
-        takes = λ clean ground p it. tt;
-        faults = rw fault_is at lent.faults;
-      }
+    pub turn_gave_up : {e : Fault} {r : Result Turn Fault} → Found g a b edition number (Ok found) → found ≡ Some outline
+        → Taken g b c edition number outline at (Err e) → IsErrAnd r (λ f. f ≡ e) → TakesTurn g a c edition number at r
+    turn_gave_up look is taken gave_up = record { goes = failed_where (took edition number at look is taken) gave_up (λ profile p meets. meets) }

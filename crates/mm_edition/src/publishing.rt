@@ -1,19 +1,13 @@
 //! Publishing an edition.
 
-ghost use Rattle.std.specs.Prelude.{◌≡◌, ℕ, true};
+ghost use Rattle.std.specs.Prelude.{◌≡◌, true};
 ghost use Rattle.std.specs.FinMap.{contains_key, insert, retain_keys};
-ghost use Rattle.sqlite.specs.Held.{state};
-ghost use Rattle.mm_definitions.specs.Bounds.{Profile};
 ghost use Rattle.mm_definitions.specs.Editions.{closed};
 ghost use Rattle.mm_definitions.specs.Effects.{is_other};
 ghost use Rattle.mm_definitions.specs.Package.{published_state};
-ghost use Rattle.mm_definitions.specs.Stamp.{IsStamp};
-ghost use Rattle.mm_definitions.specs.declared.commands.Command.TheVariants as commands;
-ghost use Rattle.mm_store.specs.Shapes.{IsTried};
-ghost use Rattle.mm_edition.specs.Quiet.{IsQuiet};
-ghost use Rattle.mm_edition.specs.Turns.{IsTrial};
+ghost use Rattle.mm_edition.specs.Turns.{TriesPieces, Publishes};
 ghost use Rattle.mm_store.specs.Removals.{FreedByEdition};
-ghost use Rattle.mm_store.specs.Handed.{IsSame, Changes, ChangesWhere};
+ghost use Rattle.mm_store.specs.Handed.{Changes, ChangesWhere};
 ghost use Rattle.mm_blobs.specs.Handed.{Frees};
 
 use crate::running::{Turn, try_piece};
@@ -36,12 +30,7 @@ pub(crate) fn try_pieces<S: Alter>(
     edition: &Name,
     last_change: &str,
 ) -> Result<Option<(u32, Reason)>, Fault>
-    ensures same_reference { IsSame tx.old tx.new }
-    ensures any_text { IsQuiet
-        (state S.Store tx.old.conn.now) (state S.Store tx.new.conn.now) result }
-    ensures trial { (profile : Profile) (moment : ℕ) → IsStamp moment last_change.now
-        → IsTrial profile edition.now moment
-        (state S.Store tx.old.conn.now) (state S.Store tx.new.conn.now) result }
+    ensures { TriesPieces S.Store tx.old tx.new edition.now last_change.now result }
 {
     for number in 1..PAST_THE_LAST + 1 {
         match try_piece(tx, edition, number, last_change)? {
@@ -108,12 +97,7 @@ pub fn publish<S: Alter>(
     edition: &Name,
     last_change: &str,
 ) -> Result<Outcome, Fault>
-    ensures same_reference { IsSame tx.old tx.new }
-    ensures any_text { IsQuiet
-        (state S.Store tx.old.conn.now) (state S.Store tx.new.conn.now) result }
-    ensures tried { (profile : Profile) (moment : ℕ) → IsStamp moment last_change.now →
-        IsTried profile (commands.Publish edition.now) moment (state S.Store tx.old.conn.now)
-        (state S.Store tx.new.conn.now) result }
+    ensures { Publishes S.Store tx.old tx.new edition.now last_change.now result }
 {
     let name = edition.as_str();
     if let Some(number) = closed_refusal(tx, name)? {

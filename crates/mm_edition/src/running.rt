@@ -1,25 +1,19 @@
 //! One staged piece taken as its command.
 
-ghost use Rattle.std.specs.Prelude.{◌≡◌, ℕ, true};
-ghost use Rattle.sqlite.specs.Held.{state};
-ghost use Rattle.mm_definitions.specs.Bounds.{Profile};
+ghost use Rattle.std.specs.Prelude.{◌≡◌, ℕ, List, [], true};
 ghost use Rattle.mm_definitions.specs.PieceGroups.{changes_tile, changes_item, changes_mapping, puts_matrix};
 ghost use Rattle.mm_definitions.specs.Pieces.{piece_command};
-ghost use Rattle.mm_definitions.specs.Stamp.{IsStamp};
-ghost use Rattle.mm_edition.specs.Quiet.{IsQuiet};
-ghost use Rattle.mm_edition.specs.Turns.{HoldsPiece, IsTurn};
-ghost use Rattle.mm_store.specs.Handed.{IsSame};
-ghost use Rattle.mm_layout.specs.Handed.{Lends, LendsWhere, LendsUnstamped};
+ghost use Rattle.mm_staging.specs.Outlines.{with_bytes};
+ghost use Rattle.mm_layout.specs.Handed.{Lends, LendsFor, LendsUnstamped};
+ghost use Rattle.mm_edition.specs.Turns.{HoldsPiece, TakesTurn};
 
 use mm_definitions::answers::{Fault, Outcome};
-use mm_definitions::commands::Piece;
 use mm_definitions::names::Name;
-use mm_definitions::places::TilePlace;
 use mm_definitions::refusals::Reason;
 use mm_items::{drop_media, drop_row, drop_tile, put_media_of_piece, put_row, put_tile_of_piece};
 use mm_meta::add_matrix;
 use mm_relations::{add_map, drop_map};
-use mm_staging::piece;
+use mm_staging::{Outline, outline_of};
 use sqlite::{Alter, Transaction};
 
 /// What became of the piece of a number.
@@ -36,47 +30,23 @@ fn run_tile<S: Alter>(
     tx: &mut Transaction<'_, S>,
     edition: &Name,
     number: u32,
-    piece: &Piece,
+    outline: &Outline,
     last_change: &str,
 ) -> Result<Outcome, Fault>
-    requires { changes_tile piece.now ≡ true }
-    ensures { LendsWhere S.Store tx.old tx.new (HoldsPiece edition.now number piece.now)
-        (piece_command piece.now) last_change.now result }
+    requires { changes_tile (with_bytes [] outline.now) ≡ true }
+    ensures { LendsFor S.Store tx.old tx.new (HoldsPiece edition.now number outline.now)
+        (λ bytes. piece_command (with_bytes bytes outline.now)) last_change.now result }
 {
-    match piece {
-        Piece::Tile {
-            table,
-            zoom,
-            column,
-            row,
-            bytes: _,
-        } => put_tile_of_piece(
+    match outline {
+        Outline::Tile { table, place } => put_tile_of_piece(
             tx,
             table,
-            TilePlace {
-                zoom: zoom.get(),
-                column: column.get(),
-                row: row.get(),
-            },
+            *place,
             edition,
             number,
             last_change,
         ),
-        Piece::TileDrop {
-            table,
-            zoom,
-            column,
-            row,
-        } => drop_tile(
-            tx,
-            table,
-            TilePlace {
-                zoom: zoom.get(),
-                column: column.get(),
-                row: row.get(),
-            },
-            last_change,
-        ),
+        Outline::TileDrop { table, place } => drop_tile(tx, table, *place, last_change),
         _ => unreachable!(),
     }
 }
@@ -87,15 +57,15 @@ fn run_item<S: Alter>(
     tx: &mut Transaction<'_, S>,
     edition: &Name,
     number: u32,
-    piece: &Piece,
+    outline: &Outline,
     last_change: &str,
 ) -> Result<Outcome, Fault>
-    requires { changes_item piece.now ≡ true }
-    ensures { LendsWhere S.Store tx.old tx.new (HoldsPiece edition.now number piece.now)
-        (piece_command piece.now) last_change.now result }
+    requires { changes_item (with_bytes [] outline.now) ≡ true }
+    ensures { LendsFor S.Store tx.old tx.new (HoldsPiece edition.now number outline.now)
+        (λ bytes. piece_command (with_bytes bytes outline.now)) last_change.now result }
 {
-    match piece {
-        Piece::Row {
+    match outline {
+        Outline::Row {
             table,
             id,
             title,
@@ -110,12 +80,11 @@ fn run_item<S: Alter>(
             amount.get(),
             last_change,
         ),
-        Piece::RowDrop { table, id } => drop_row(tx, table, id.get(), last_change),
-        Piece::Media {
+        Outline::RowDrop { table, id } => drop_row(tx, table, id.get(), last_change),
+        Outline::Media {
             table,
             id,
             content_type,
-            bytes: _,
         } => put_media_of_piece(
             tx,
             table,
@@ -125,23 +94,24 @@ fn run_item<S: Alter>(
             number,
             last_change,
         ),
-        Piece::MediaDrop { table, id } => drop_media(tx, table, id.get(), last_change),
+        Outline::MediaDrop { table, id } => drop_media(tx, table, id.get(), last_change),
         _ => unreachable!(),
     }
 }
 
 /// Puts or removes the mapping row of a piece.
-fn run_mapping<S: Alter>(tx: &mut Transaction<'_, S>, piece: &Piece) -> Result<Outcome, Fault>
-    requires { changes_mapping piece.now ≡ true }
-    ensures { LendsUnstamped S.Store tx.old tx.new (piece_command piece.now) result }
+fn run_mapping<S: Alter>(tx: &mut Transaction<'_, S>, outline: &Outline) -> Result<Outcome, Fault>
+    requires { changes_mapping (with_bytes [] outline.now) ≡ true }
+    ensures { (bytes : List ℕ) → LendsUnstamped S.Store tx.old tx.new
+        (piece_command (with_bytes bytes outline.now)) result }
 {
-    match piece {
-        Piece::Map {
+    match outline {
+        Outline::Map {
             mapping,
             base_id,
             related_id,
         } => add_map(tx, mapping, base_id.get(), related_id.get()),
-        Piece::MapDrop {
+        Outline::MapDrop {
             mapping,
             base_id,
             related_id,
@@ -153,14 +123,15 @@ fn run_mapping<S: Alter>(tx: &mut Transaction<'_, S>, piece: &Piece) -> Result<O
 /// Puts the matrix of a piece. `last_change` is the stamp of the moment.
 fn run_matrix<S: Alter>(
     tx: &mut Transaction<'_, S>,
-    piece: &Piece,
+    outline: &Outline,
     last_change: &str,
 ) -> Result<Outcome, Fault>
-    requires { puts_matrix piece.now ≡ true }
-    ensures { Lends S.Store tx.old tx.new (piece_command piece.now) last_change.now result }
+    requires { puts_matrix (with_bytes [] outline.now) ≡ true }
+    ensures { (bytes : List ℕ) → Lends S.Store tx.old tx.new
+        (piece_command (with_bytes bytes outline.now)) last_change.now result }
 {
-    match piece {
-        Piece::Matrix {
+    match outline {
+        Outline::Matrix {
             table,
             zoom,
             matrix,
@@ -174,24 +145,26 @@ fn run_piece<S: Alter>(
     tx: &mut Transaction<'_, S>,
     edition: &Name,
     number: u32,
-    piece: &Piece,
+    outline: &Outline,
     last_change: &str,
 ) -> Result<Outcome, Fault>
-    ensures { LendsWhere S.Store tx.old tx.new (HoldsPiece edition.now number piece.now)
-        (piece_command piece.now) last_change.now result }
+    ensures { LendsFor S.Store tx.old tx.new (HoldsPiece edition.now number outline.now)
+        (λ bytes. piece_command (with_bytes bytes outline.now)) last_change.now result }
 {
-    match piece {
-        Piece::Tile { .. } | Piece::TileDrop { .. } => run_tile(
+    match outline {
+        Outline::Tile { .. } | Outline::TileDrop { .. } => run_tile(
             tx,
             edition,
             number,
-            piece,
+            outline,
             last_change,
         ),
-        Piece::Row { .. } | Piece::RowDrop { .. } | Piece::Media { .. } | Piece::MediaDrop { .. } =>
-            run_item(tx, edition, number, piece, last_change),
-        Piece::Map { .. } | Piece::MapDrop { .. } => run_mapping(tx, piece),
-        Piece::Matrix { .. } => run_matrix(tx, piece, last_change),
+        Outline::Row { .. }
+        | Outline::RowDrop { .. }
+        | Outline::Media { .. }
+        | Outline::MediaDrop { .. } => run_item(tx, edition, number, outline, last_change),
+        Outline::Map { .. } | Outline::MapDrop { .. } => run_mapping(tx, outline),
+        Outline::Matrix { .. } => run_matrix(tx, outline, last_change),
     }
 }
 
@@ -202,17 +175,12 @@ pub(crate) fn try_piece<S: Alter>(
     number: u32,
     last_change: &str,
 ) -> Result<Turn, Fault>
-    ensures same_reference { IsSame tx.old tx.new }
-    ensures any_text { IsQuiet
-        (state S.Store tx.old.conn.now) (state S.Store tx.new.conn.now) result }
-    ensures turn { (profile : Profile) (moment : ℕ) → IsStamp moment last_change.now
-        → IsTurn profile edition.now number moment
-        (state S.Store tx.old.conn.now) (state S.Store tx.new.conn.now) result }
+    ensures { TakesTurn S.Store tx.old tx.new edition.now number last_change.now result }
 {
-    let Some(found) = piece(tx, edition, number)? else {
+    let Some(outline) = outline_of(tx, edition, number)? else {
         return Ok(Turn::End);
     };
-    match run_piece(tx, edition, number, &found, last_change)? {
+    match run_piece(tx, edition, number, &outline, last_change)? {
         Outcome::Done => Ok(Turn::Done),
         Outcome::Refused(why) => Ok(Turn::Refused(why.reason())),
     }

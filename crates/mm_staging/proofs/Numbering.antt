@@ -1,25 +1,13 @@
 -- For which number a piece is not staged, from what was looked up.
-use Rattle.std.proofs.Common.{◌≡◌, ◌≢◌, ◌⊎◌, inl, inr, ℕ, ◌+◌, ◌≤◌, ℤ, pos, ◌≤ℤ◌, ◌<ℤ◌, ◌-ℤ◌, Bool, true, false, not, ◌&&◌, ◌||◌, ◌==◌, int_lt, int_le, [], ◌∷◌, Option, Some, None, is_some, refl, sym, ap, ◌∙◌, arith}
+use Rattle.std.proofs.Common.{◌≡◌, ◌⊎◌, inl, inr, ℕ, ◌≤◌, ℤ, pos, ◌≤ℤ◌, ◌<ℤ◌, ◌-ℤ◌, Bool, true, false, int_le, Some, None, refl, sym, ap, ◌∙◌, arith}
 use Rattle.std.proofs.lemmas.Int.{ints}
-use Rattle.std.proofs.lemmas.Bool.Decides.{nat_tests}
 use Rattle.std.specs.FinMap.{get, contains_key}
 use Rattle.mm_definitions.specs.Bounds.{Profile, IsId, MostPieces}
-use Rattle.mm_definitions.specs.Keys.{Text, same_text, same_number, piece}
-use Rattle.mm_definitions.specs.Parts.{Stands, at_value}
-use Rattle.mm_definitions.specs.Package.{Package, PieceRow, PiecesPart, open_state, published_state}
-use Rattle.mm_definitions.specs.Pieces.{piece_row, same_piece}
+use Rattle.mm_definitions.specs.Keys.{Text, piece}
+use Rattle.mm_definitions.specs.Package.{Package, PieceRow, open_state}
+use Rattle.mm_definitions.specs.Pieces.{piece_row}
 use Rattle.mm_definitions.specs.Rules.{Meets, IsNumbered}
-use Rattle.mm_definitions.specs.Conditions.{least, own_reasons, piece_count, has_equal_piece}
-use Rattle.mm_definitions.specs.declared.commands.Command.TheVariants as commands
 use Rattle.mm_definitions.specs.declared.commands.Piece.{Piece}
-use Rattle.mm_definitions.specs.Stamp.{stamp}
-use Rattle.mm_definitions.specs.Step.{refusal, done, step, unless_refused}
-use Rattle.mm_definitions.proofs.Parts.{same_key, put_again}
-use Rattle.mm_definitions.proofs.KeyLaws.{numbers, piece_keys}
-use Rattle.mm_laws.proofs.Again.{same_row}
-use Rattle.mm_laws.proofs.Published.{row_itself}
-use Rattle.mm_laws.proofs.Counted.{piece_count-is}
-use Rattle.mm_definitions.proofs.FirstReason.{first_of}
 use Rattle.mm_staging.specs.Places.{IsPlace, IsPlaceAt, IsPlaceBehind, IsRoom, TellsBehind}
 use Rattle.mm_staging.specs.declared.staging.Place.{Place}
 use Rattle.mm_staging.specs.declared.staging.Place.TheVariants.{Equal, Next, Refused}

@@ -62,8 +62,9 @@ one_piece shown a b s t bytes =
     λ i. record { kind = kind i; name = name i; k1 = k1 i; k2 = k2 i; k3 = k3 i; k4 = k4 i; k5 = k5 i; k6 = k6 i; k7 = k7 i; t1 = t1 i; t2 = t2 i; bytes = bytes i }
 
 -- a row shows a piece whatever its bytes are
-with_bytes : (shown : Row) (r : StagedRow) (bytes : List ℕ) → Shows shown (piece_with r []) → Shows shown (piece_with r bytes)
-with_bytes shown r bytes s = record { kind = s.kind; name = s.name; k1 = s.k1; k2 = s.k2; k3 = s.k3; k4 = s.k4; k5 = s.k5; k6 = s.k6; k7 = s.k7; t1 = s.t1; t2 = s.t2 }
+shown_with : (shown : Row) (r : PieceRow) (bytes : List ℕ) → Shows shown r → Shows shown (record r { bytes = bytes })
+shown_with shown r bytes s =
+    record { kind = s.kind; name = s.name; k1 = s.k1; k2 = s.k2; k3 = s.k3; k4 = s.k4; k5 = s.k5; k6 = s.k6; k7 = s.k7; t1 = s.t1; t2 = s.t2 }
 
 one_bytes : (shelf : Shelf) (id : Option ℤ) (a b : List ℕ) → StandsAt shelf id a → StandsAt shelf id b → a ≡ b
 one_bytes shelf None a b p q = p ∙ sym q
@@ -74,7 +75,19 @@ pub row_tells : (shelf : Shelf) (o : Option StagedRow) (entry : Option PieceRow)
     → Told piece_id piece_with shelf o entry → Shows shown a
     → ((blob : Option ℤ) → column shown 11 ≡ maybe blob → StandsAt shelf blob a.bytes) → entry ≡ Some a
 row_tells shelf None entry shown a is told s stands = absurd is
-row_tells shelf (Some r) entry shown a is told s stands = told.2 ∙ ap Some (one_piece shown (piece_with r told.0) a (with_bytes shown r told.0 is.0) s (one_bytes shelf r.blob told.0 a.bytes told.1 (stands r.blob is.1)))
+row_tells shelf (Some r) entry shown a is told s stands =
+    let row = shown_with shown (piece_with r []) told.0 is.0 in
+    told.2 ∙ ap Some (one_piece shown (piece_with r told.0) a row s (one_bytes shelf r.blob told.0 a.bytes told.1 (stands r.blob is.1)))
+
+-- whatever its bytes are
+pub row_keeps : (shelf : Shelf) (o : Option StagedRow) (entry : Option PieceRow) (shown : Row) (a : PieceRow) → IsPieceRow o (Some shown)
+    → Told piece_id piece_with shelf o entry → Shows shown a → (bytes : List ℕ) × (entry ≡ Some (record a { bytes = bytes }))
+row_keeps shelf None entry shown a is told s = absurd is
+row_keeps shelf (Some r) entry shown a is told s = (
+  told.0,
+  told.2 ∙ ap Some
+      (one_piece shown (piece_with r told.0) (record a { bytes = told.0 }) (shown_with shown (piece_with r []) told.0 is.0) (shown_with shown a told.0 s) refl),
+)
 
 pub no_row_tells : (shelf : Shelf) (o : Option StagedRow) (entry : Option PieceRow) → IsPieceRow o None → Told piece_id piece_with shelf o entry → entry ≡ None
 no_row_tells shelf None entry is told = told

@@ -1,5 +1,5 @@
 -- A staged piece as its row holds it, and what a row shows of it.
-use Rattle.std.specs.Prelude.{◌≡◌, ℕ, ℤ, List, [], string_bytes, Option, Some, None, ⊤}
+use Rattle.std.specs.Prelude.{◌≡◌, ℕ, ℤ, List, [], string_bytes, Option, Some, None, option_map, ⊤}
 use Rattle.std.specs.declared.vec.Vec.{Vec}
 use Rattle.sqlite.specs.declared.types.Value.TheVariants.{Int, Text as Words}
 use Rattle.sqlite.specs.Order.{Row, column}
@@ -16,9 +16,9 @@ abbrev pub bytes_or_none : {A : Type 0} → Option (Vec ℕ A) → List ℕ
 bytes_or_none None = []
 bytes_or_none (Some bytes) = bytes.items
 
--- the row of a piece that was read, with the bytes of its blob
-abbrev pub kept_row : Kept → PieceRow
-kept_row k = record {
+-- the row of a piece that was read, with these bytes
+abbrev pub kept_with : List ℕ → Kept → PieceRow
+kept_with bytes k = record {
   kind = string_bytes k.kind;
   name = string_bytes k.name;
   k1 = k.numbers.k1;
@@ -30,8 +30,16 @@ kept_row k = record {
   k7 = k.numbers.k7;
   t1 = string_bytes k.t1;
   t2 = string_bytes k.t2;
-  bytes = bytes_or_none k.bytes;
+  bytes = bytes;
 }
+
+-- with those that were read with it
+abbrev pub kept_row : Kept → PieceRow
+kept_row k = kept_with (bytes_or_none k.bytes) k
+
+-- the entry is the row that was read, with the bytes that it has; where none was read there is no entry
+abbrev pub IsKept : Option PieceRow → Option Kept → Type 0
+IsKept entry kept = (bytes : List ℕ) × (entry ≡ option_map (kept_with bytes) kept)
 
 -- the row that is to be written
 abbrev pub written_row : Written → PieceRow

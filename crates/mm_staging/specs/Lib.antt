@@ -1,5 +1,6 @@
 pub mod Standings
 pub mod Kept
+pub mod Outlines
 pub mod Places
 pub mod States
 pub mod Handed

@@ -20,7 +20,7 @@ pub(crate) struct Numbers {
     pub(crate) k7: i64,
 }
 
-/// A piece as a row holds it, with the bytes of the blob that it names, if it names one.
+/// A piece as a row holds it, with the bytes of the blob that it names, if it names one and they were read.
 #[derive(Drop)]
 pub(crate) struct Kept {
     pub(crate) kind: String,

@@ -2,20 +2,23 @@
 //!
 //! - `editions`: how an edition stands, `open_edition` and `discard`.
 //! - `kept`: a staged piece as its row holds it.
+//! - `outlines`: a staged piece but for its bytes.
 //! - `pieces`: one piece by its number, and the blobs of all.
-//! - `spelling`: the piece that a kept row spells.
+//! - `spelling`: what a kept row spells.
 //! - `staging`: `stage`.
 //! - `states`: the read `edition`.
 #![tactic(auto)]
 
 mod editions;
 mod kept;
+mod outlines;
 mod pieces;
 mod spelling;
 mod staging;
 mod states;
 
 pub use editions::{closed_refusal, discard, open_edition};
-pub use pieces::{blobs_of_pieces, piece};
+pub use outlines::Outline;
+pub use pieces::{blobs_of_pieces, outline_of};
 pub use staging::stage;
 pub use states::edition;

@@ -3,7 +3,6 @@
 ghost use Rattle.std.specs.Prelude.{◌≡◌, None, option_map, pos, IfOk, IfErr};
 ghost use Rattle.std.specs.FinMap.{get, contains_key, insert};
 ghost use Rattle.mm_definitions.specs.Keys as keys;
-ghost use Rattle.mm_definitions.specs.Pieces.{piece_row};
 ghost use Rattle.sqlite.specs.Order.{column};
 ghost use Rattle.mm_store.specs.Blobs.{Told};
 ghost use Rattle.mm_store.specs.Faults.{IsStoreFault};
@@ -11,16 +10,17 @@ ghost use Rattle.mm_store.specs.Kept.{piece_id, piece_with};
 ghost use Rattle.mm_store.specs.Removals.{FreedByEdition};
 ghost use Rattle.mm_store.specs.Rows.{maybe};
 ghost use Rattle.mm_blobs.specs.Views.{ListsEach};
-ghost use Rattle.mm_staging.specs.Kept.{kept_row, written_row, bytes_or_none, IsPieceRow};
+ghost use Rattle.mm_staging.specs.Kept.{kept_row, written_row, bytes_or_none, IsKept, IsPieceRow};
+ghost use Rattle.mm_staging.specs.Outlines.{IsOutlined};
 ghost use Rattle.mm_store.specs.Handed.{Looks, Tells, ChangesWhere, LooksByRules};
 ghost use Rattle.mm_blobs.specs.Handed.{Finds};
 ghost use Rattle.mm_staging.specs.Handed.{PutsPiece, TellsBytesOf};
 
 use crate::kept::{Kept, Written, kept_in};
+use crate::outlines::Outline;
 use crate::spelling::spelled;
 use mm_blobs::blobs::{bytes_of, keep};
 use mm_definitions::answers::Fault;
-use mm_definitions::commands::Piece;
 use mm_definitions::names::Name;
 use mm_store::faults::fault_of;
 use mm_store::statements::{all, exists, first, run};
@@ -97,19 +97,38 @@ pub(crate) fn kept_piece<S: Alter>(
     }
 }
 
-/// The piece of a number, if the edition has one. A row that spells none is a fault, 91.
-pub fn piece<S: Alter>(
+/// A piece by its number as its row holds it, if the edition has one. Its bytes are not read.
+fn kept_but_bytes<S: Alter>(
+    tx: &mut Transaction<'_, S>,
+    edition: &str,
+    number: i64,
+) -> Result<Option<Kept>, Fault>
+    ensures { Looks S.Store tx.old tx.new (λ p kept. IsKept
+        (get p.pieces (keys.piece edition.now number)) kept) result }
+{
+    let Some(row) = row_of_piece(tx, edition, number)? else {
+        return Ok(None);
+    };
+    match kept_in(&row, None) {
+        Ok(kept) => Ok(Some(kept)),
+        Err(error) => Err(fault_of(error)),
+    }
+}
+
+/// The piece of a number but for its bytes, which are not read, if the edition has one. A row that spells none is a
+/// fault, 91.
+pub fn outline_of<S: Alter>(
     tx: &mut Transaction<'_, S>,
     edition: &Name,
     number: u32,
-) -> Result<Option<Piece>, Fault>
-    ensures { LooksByRules S.Store tx.old tx.new (λ p found.
-        get p.pieces (keys.piece edition.now (pos number)) ≡ option_map piece_row found) result }
+) -> Result<Option<Outline>, Fault>
+    ensures { LooksByRules S.Store tx.old tx.new (λ p found. IsOutlined
+        (get p.pieces (keys.piece edition.now (pos number))) found) result }
 {
     let edition = edition.as_str();
-    match kept_piece(tx, edition, i64::from(number))? {
+    match kept_but_bytes(tx, edition, i64::from(number))? {
         Some(kept) => match spelled(kept) {
-            Some(piece) => Ok(Some(piece)),
+            Some(outline) => Ok(Some(outline)),
             None => Err(Fault::STORE),
         },
         None => Ok(None),

@@ -1,71 +1,45 @@
-//! The piece that a kept row spells.
+//! What a kept row spells.
 
-ghost use Rattle.std.specs.Prelude.{◌≡◌, IfSome, Some, string_bytes, unsigned_abs};
+ghost use Rattle.std.specs.Prelude.{◌≡◌, ℕ, List, IfSome, Some, string_bytes, unsigned_abs};
 ghost use Rattle.mm_definitions.specs.Pieces.{piece_by_kind};
-ghost use Rattle.mm_definitions.specs.declared.commands.Piece.TheVariants as pieces;
-ghost use Rattle.mm_staging.specs.Kept.{kept_row, bytes_or_none};
+ghost use Rattle.mm_staging.specs.Kept.{kept_with};
+ghost use Rattle.mm_staging.specs.Outlines.{with_bytes};
+ghost use Rattle.mm_staging.specs.declared.outlines.Outline.TheVariants as outlines;
 
 use crate::kept::{Kept, Numbers};
+use crate::outlines::Outline;
 use mm_definitions::bounded::{Amount, Id, MatrixSide, PixelSize, Place, TileSide, Zoom};
-use mm_definitions::bytes::Bytes;
-use mm_definitions::commands::{Matrix, Piece};
+use mm_definitions::commands::Matrix;
 use mm_definitions::content_types::ContentType;
 use mm_definitions::names::Name;
+use mm_definitions::places::TilePlace;
 use mm_definitions::texts::Text;
 
-/// A zoom, a column and a row, where the first three numbers are such.
-fn place_in(numbers: Numbers) -> Option<(Zoom, Place, Place)>
-    ensures { IfSome result (λ place. (unsigned_abs numbers.k1 ≡ place.0)
-        × (unsigned_abs numbers.k2 ≡ place.1) × (unsigned_abs numbers.k3 ≡ place.2)) }
+/// The place of a tile, where the first three numbers are one.
+fn place_in(numbers: Numbers) -> Option<TilePlace>
+    ensures { IfSome result (λ place. place ≡ record {
+      zoom = unsigned_abs numbers.k1;
+      column = unsigned_abs numbers.k2;
+      row = unsigned_abs numbers.k3;
+    }) }
 {
-    Some((
-        Zoom::new(numbers.k1)?,
-        Place::new(numbers.k2)?,
-        Place::new(numbers.k3)?,
-    ))
-}
-
-/// The tile that a row of the kind `tile` spells.
-fn tile_in(table: Name, kept: Kept) -> Option<Piece>
-    ensures { IfSome result (λ piece. piece ≡ pieces.Tile table (unsigned_abs kept.numbers.k1)
-        (unsigned_abs kept.numbers.k2) (unsigned_abs kept.numbers.k3) (bytes_or_none kept.bytes)) }
-{
-    let (zoom, column, row) = place_in(kept.numbers)?;
-    let bytes = Bytes::new(kept.bytes?)?;
-    Some(Piece::Tile {
-        table,
-        zoom,
-        column,
-        row,
-        bytes,
-    })
-}
-
-/// The removal of a tile that a row of the kind `tile-drop` spells.
-fn tile_drop_in(table: Name, kept: Kept) -> Option<Piece>
-    ensures { IfSome result (λ piece. piece ≡ pieces.TileDrop table (unsigned_abs kept.numbers.k1)
-        (unsigned_abs kept.numbers.k2) (unsigned_abs kept.numbers.k3)) }
-{
-    let (zoom, column, row) = place_in(kept.numbers)?;
-    Some(Piece::TileDrop {
-        table,
-        zoom,
-        column,
-        row,
+    Some(TilePlace {
+        zoom: Zoom::new(numbers.k1)?.get(),
+        column: Place::new(numbers.k2)?.get(),
+        row: Place::new(numbers.k3)?.get(),
     })
 }
 
 /// The attribute row that a row of the kind `row` spells.
-fn row_in(table: Name, kept: Kept) -> Option<Piece>
-    ensures { IfSome result
-        (λ piece. piece ≡ pieces.Row table kept.numbers.k1 (string_bytes kept.t1)
-        (string_bytes kept.t2) kept.numbers.k2) }
+fn row_in(table: Name, kept: Kept) -> Option<Outline>
+    ensures { IfSome result (λ outline. outline ≡ outlines.Row table kept.numbers.k1
+        (string_bytes kept.t1) (string_bytes kept.t2) kept.numbers.k2) }
 {
     let id = Id::new(kept.numbers.k1)?;
     let amount = Amount::new(kept.numbers.k2)?;
     let title = Text::new(kept.t1)?;
     let note = Text::new(kept.t2)?;
-    Some(Piece::Row {
+    Some(Outline::Row {
         table,
         id,
         title,
@@ -75,19 +49,16 @@ fn row_in(table: Name, kept: Kept) -> Option<Piece>
 }
 
 /// The media item that a row of the kind `media` spells.
-fn media_in(table: Name, kept: Kept) -> Option<Piece>
-    ensures { IfSome result
-        (λ piece. piece ≡ pieces.Media table kept.numbers.k1 (string_bytes kept.t1)
-        (bytes_or_none kept.bytes)) }
+fn media_in(table: Name, kept: Kept) -> Option<Outline>
+    ensures { IfSome result (λ outline. outline ≡ outlines.Media table kept.numbers.k1
+        (string_bytes kept.t1)) }
 {
     let id = Id::new(kept.numbers.k1)?;
     let content_type = ContentType::new(kept.t1)?;
-    let bytes = Bytes::new(kept.bytes?)?;
-    Some(Piece::Media {
+    Some(Outline::Media {
         table,
         id,
         content_type,
-        bytes,
     })
 }
 
@@ -106,8 +77,8 @@ fn sides_in(numbers: Numbers) -> Option<(MatrixSide, MatrixSide, TileSide, TileS
 }
 
 /// The matrix that a row of the kind `matrix` spells.
-fn matrix_in(table: Name, kept: Kept) -> Option<Piece>
-    ensures { IfSome result (λ piece. piece ≡ pieces.Matrix table (unsigned_abs kept.numbers.k1)
+fn matrix_in(table: Name, kept: Kept) -> Option<Outline>
+    ensures { IfSome result (λ outline. outline ≡ outlines.Matrix table (unsigned_abs kept.numbers.k1)
         (record {
           mw = unsigned_abs kept.numbers.k2;
           mh = unsigned_abs kept.numbers.k3;
@@ -122,7 +93,7 @@ fn matrix_in(table: Name, kept: Kept) -> Option<Piece>
     let (mw, mh, tw, th) = sides_in(kept.numbers)?;
     let px = PixelSize::new(kept.numbers.k6)?;
     let py = PixelSize::new(kept.numbers.k7)?;
-    Some(Piece::Matrix {
+    Some(Outline::Matrix {
         table,
         zoom,
         matrix: Matrix {
@@ -136,33 +107,40 @@ fn matrix_in(table: Name, kept: Kept) -> Option<Piece>
     })
 }
 
-/// The piece that a row spells, by its kind.
-pub(crate) fn spelled(kept: Kept) -> Option<Piece>
-    ensures { IfSome result (λ piece. piece_by_kind (kept_row kept) ≡ Some piece) }
+/// What a row spells by its kind, whatever its bytes are.
+pub(crate) fn spelled(kept: Kept) -> Option<Outline>
+    ensures { IfSome result (λ outline. (bytes : List ℕ)
+        → piece_by_kind (kept_with bytes kept) ≡ Some (with_bytes bytes outline)) }
 {
     let name = match Name::read(kept.name.as_str()) {
         Some(name) => name,
         None => return None,
     };
     match kept.kind.as_str() {
-        "tile" => tile_in(name, kept),
-        "tile-drop" => tile_drop_in(name, kept),
+        "tile" => Some(Outline::Tile {
+            table: name,
+            place: place_in(kept.numbers)?,
+        }),
+        "tile-drop" => Some(Outline::TileDrop {
+            table: name,
+            place: place_in(kept.numbers)?,
+        }),
         "row" => row_in(name, kept),
-        "row-drop" => Some(Piece::RowDrop {
+        "row-drop" => Some(Outline::RowDrop {
             table: name,
             id: Id::new(kept.numbers.k1)?,
         }),
         "media" => media_in(name, kept),
-        "media-drop" => Some(Piece::MediaDrop {
+        "media-drop" => Some(Outline::MediaDrop {
             table: name,
             id: Id::new(kept.numbers.k1)?,
         }),
-        "map" => Some(Piece::Map {
+        "map" => Some(Outline::Map {
             mapping: name,
             base_id: Id::new(kept.numbers.k1)?,
             related_id: Id::new(kept.numbers.k2)?,
         }),
-        "map-drop" => Some(Piece::MapDrop {
+        "map-drop" => Some(Outline::MapDrop {
             mapping: name,
             base_id: Id::new(kept.numbers.k1)?,
             related_id: Id::new(kept.numbers.k2)?,

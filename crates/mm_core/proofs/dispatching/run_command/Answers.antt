@@ -1,6 +1,7 @@
 use Rattle.std.proofs.Common.{rules}
 use Rattle.mm_definitions.specs.Bounds.{current}
 use Rattle.mm_store.proofs.Shapes.{lent_tried}
+use Rattle.mm_edition.proofs.Tries.{publish_tried}
 use Rattle.mm_layout.proofs.Stamping.{at_moment}
 use Rattle.mm_store.proofs.Applying.{applied_at}
 use Rattle.mm_layout.proofs.Lending.{lent_at}
@@ -25,4 +26,7 @@ pub returns-in-Edition : goal.returns-in-Edition
 returns-in-Edition g c = record { same = (c.prepare_edition.ensures.goes 0).same; tried = λ moment stamped. lent_tried current _ _ _ _ _ (applied_at c.prepare_edition.ensures current moment) }
 
 pub returns-in-Publish : goal.returns-in-Publish
-returns-in-Publish g c = record { same = search rules; tried = λ moment stamped. rw c.in-Publish.is (c.publish.ensures.tried current moment stamped) }
+returns-in-Publish g c = record {
+  same = c.publish.ensures.attempt.same;
+  tried = λ moment stamped. rw c.in-Publish.is (publish_tried c.publish.ensures current moment stamped);
+}

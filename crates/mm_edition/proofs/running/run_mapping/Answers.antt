@@ -5,14 +5,14 @@ use Rattle.mm_layout.proofs.Lending.{unstamped}
 use Rattle.mm_edition.proofs.running.run_mapping.Goals as goal
 
 pub returns-in-Map : goal.returns-in-Map
-returns-in-Map g c =
+returns-in-Map g c bytes =
     let base_fits : SFits w64 c.get.result = search rules in
     let related_fits : SFits w64 c.get-in-Map.result = search rules in
     let lent = rw (c.get.ensures.number, c.get-in-Map.ensures.number) at (simp to_z-of_z at c.add_map.ensures) in
     rw c.in-Map.is (unstamped lent (λ text p. refl))
 
 pub returns-in-MapDrop : goal.returns-in-MapDrop
-returns-in-MapDrop g c =
+returns-in-MapDrop g c bytes =
     let base_fits : SFits w64 c.get-in-MapDrop.result = search rules in
     let related_fits : SFits w64 c.get-in-MapDrop-2.result = search rules in
     let lent = rw (c.get-in-MapDrop.ensures.number, c.get-in-MapDrop-2.ensures.number) at (simp to_z-of_z at c.drop_map.ensures) in

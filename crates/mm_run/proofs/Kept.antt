@@ -1,5 +1,5 @@
 -- What a session keeps of the rules, whatever the reader tells.
-use Rattle.std.proofs.Common.{◌≡◌, ◌∙◌, inl, inr, ℕ, Bool, sym}
+use Rattle.std.proofs.Common.{◌∙◌, inl, inr, ℕ, Bool, sym}
 use Rattle.mm_definitions.specs.Bounds.{current}
 use Rattle.mm_definitions.specs.Package.{Package}
 use Rattle.mm_definitions.specs.Rules.{Meets}
@@ -9,7 +9,7 @@ use Rattle.mm_definitions.specs.declared.answers.Answer.TheVariants as answers
 use Rattle.mm_io.specs.Records.{Record}
 use Rattle.mm_run.specs.Answers.{after}
 use Rattle.mm_run.specs.Applied.{IsSound, LeavesOnly, TellsReopening}
-use Rattle.mm_run.specs.Runs.{IsAnswered, IsKept, OnSound}
+use Rattle.mm_run.specs.Runs.{IsAnswered, IsKept}
 use Rattle.mm_run.specs.Shown.{Shown}
 
 module _ {D : Type 0} (shows : Shown D) (law : (q : Package) → shows.settled q → LeavesOnly shows q) where
@@ -28,12 +28,3 @@ module _ {D : Type 0} (shows : Shown D) (law : (q : Package) → shows.settled q
     λ db may. elim (doubt.4 db may) [ inl was ↦ (p, was, meets) | inr next ↦ (step p doubt.1 moment, next.1, doubt.3) ],
     λ still. (p, (back (tells.3 (sym still ∙ doubt.0)), meets)),
   )
-
--- one turn more
-pub kept-more : {D : Type 0} (clean clean2 : Type 0) (start now next : Shown D) → (clean2 → clean) → now.failed ≡ start.failed
-    → OnSound clean start.settled (IsKept start.failed now)
-    → OnSound clean2 now.settled (IsKept now.failed next) → OnSound clean2 start.settled (IsKept start.failed next)
-kept-more clean clean2 start now next early so_far kept turn is p sound =
-    let (q, stands) = (kept (early is) p sound).1 so_far in
-    let more = turn is q stands in
-    (more.0, λ still. more.1 (still ∙ sym so_far))

@@ -1,5 +1,5 @@
 pub mod Keeps
-pub mod Starts
+pub mod Since
 pub mod Answered
 pub mod Lists
 pub mod Loops

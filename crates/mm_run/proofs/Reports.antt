@@ -1,5 +1,5 @@
 -- What a run reports of all the records of its bytes.
-use Rattle.std.proofs.Common.{◌≡◌, ◌∙◌, ◌+◌, ℕ, Bool, true, List, length, take, Some, None, Result, Ok, Err, OnOk, inl, inr, sym, ap, subst, arith, option_map}
+use Rattle.std.proofs.Common.{◌≡◌, ◌∙◌, ◌+◌, ℕ, Bool, true, List, length, take, Result, Ok, Err, OnOk, inl, inr, sym, ap, subst, arith, option_map}
 use Rattle.std.specs.Io.KnownBytes.{IsAtEnd}
 use Rattle.std.specs.declared.io.traits.Read as reads
 use Rattle.std.specs.declared.io.traits.Write as writes
@@ -14,7 +14,7 @@ use Rattle.mm_io.specs.Records.{records_of}
 use Rattle.mm_io.proofs.RecordsFacts.{records-all, records-first}
 use Rattle.mm_run.specs.Readings.{Reading, AreReadAs}
 use Rattle.mm_run.specs.Answers.{answers_to, calls_of, accepted_of, refused_of}
-use Rattle.mm_run.specs.Applied.{IsSound, LeavesOnly}
+use Rattle.mm_run.specs.Applied.{LeavesOnly}
 use Rattle.mm_run.specs.Shown.{Shown}
 use Rattle.mm_run.specs.Told.{AreTold}
 use Rattle.mm_run.specs.Runs.{AreFirstParts, IsAll, IsSome, IsStopped, RanAll, RanSome, StopsBehind, WorksOn, given_of}
@@ -23,10 +23,9 @@ use Rattle.mm_run.proofs.Lists.{as_many, counted-answers, length-answers}
 use Rattle.mm_definitions.specs.Streams.{Written, has_failed, inside}
 use Rattle.mm_definitions.specs.declared.streams.Io.{Io}
 use Rattle.mm_run.specs.Promised.{RunsList, RunsSource}
-use Rattle.mm_run.specs.Sessions.{settled_from, shown, shown_since}
+use Rattle.mm_run.specs.Sessions.{shown_since}
 use Rattle.mm_run.specs.declared.apply.Apply as applies
 use Rattle.mm_run.proofs.Ended.{ran-ended}
-use Rattle.mm_run.proofs.Starts.{leaves_from}
 
 pub ran-all : {D : Type 0} (p : Package) (moment : ℕ) (bytes : List ℕ) (shows : Shown D) (old new : Written) (t : Tally) (given : List Answer)
     → ((q : Package) → shows.settled q → LeavesOnly shows q)
@@ -104,63 +103,50 @@ ran-some p moment bytes before shows old new e given stopped some =
       left = subst (λ n. AreFirstParts shows p (calls_of moment readings) n) (ap (λ l. accepted_of (take e.tally.written l)) (sym same)) some.left;
     }
 
--- at the start of a run on a session that only reads as a package
-begins : {A : Type 0} (apply : applies.Ghosts A) (s : A) (p : Package) → IsSound (apply.seen s) p → IsSound (settled_from apply (Some s) s) p
-begins apply s p sound = ((sound.0, λ db may. inl (may, sound.0)), sound.1)
-
 -- from the records of a reader's bytes to the list of all of them
 pub lists : {A R W : Type 0} (apply : applies.Ghosts A) (read : reads.Ghosts R) (write : writes.Ghosts W) (moment : ℕ) (old new : A) (input input_now : Io R) (output output_now : Io W) (result : Result Tally RunFault)
-    → ((s : A) (q : Package) → apply.settled s q → (db : apply.Database) → apply.may_leave s db → apply.stands_for db q)
     → RunsSource apply write moment old new (option_map strip_bom (read.remaining (inside input))) states.StartRecord (has_failed input) (has_failed input_now) output output_now result
     → OnOk result (IsAtEnd (read.remaining (inside input_now)))
     → RunsList apply read write moment old new input input_now output output_now result
-lists apply read write moment old new input input_now output output_now (Ok t) law it at_end = record {
+lists apply read write moment old new input input_now output output_now (Ok t) it at_end = record {
   clean = it.clean;
-  done = λ clean p sound bytes here.
-      let (given, told, all) = it.done in
-      ran-all p moment bytes (shown apply new) _ _ t given (leaves_from apply law None new) told (all None clean p sound (strip_bom bytes) (ap (option_map strip_bom) here));
+  seen = record {
+    done = λ clean p sound bytes here.
+        let (given, told, all) = it.done in
+        ran-all p moment bytes (shown_since apply old p new) _ _ t given (λ q settled. settled.1) told
+        (all clean p sound (strip_bom bytes) (ap (option_map strip_bom) here));
+    stopped = tt;
+    kept = it.kept;
+  };
   end = at_end;
   working = it.working;
   told = (it.done.0, it.done.1, it.small.0);
   flushed = it.flushed;
-  stopped = tt;
   near = tt;
   session = it.session;
   writer = tt;
   why = tt;
   reader = it.reader;
-  kept = it.kept None;
-  seen = record {
-    done = λ clean p sound bytes here.
-        let (given, told, all) = it.done in
-        ran-all p moment bytes (shown_since apply old new) _ _ t given (leaves_from apply law (Some old) new) told (all (Some old) clean p (begins apply old p sound) (strip_bom bytes) (ap (option_map strip_bom) here));
-    stopped = tt;
-    kept = λ clean p sound. it.kept (Some old) clean p (begins apply old p sound);
-  };
   ended = λ was bytes here. ran-ended bytes _ _ (Ok t) (it.ended was (strip_bom bytes) (ap (option_map strip_bom) here));
 }
-lists apply read write moment old new input input_now output output_now (Err e) law it at_end = record {
+lists apply read write moment old new input input_now output output_now (Err e) it at_end = record {
   clean = it.clean;
-  done = tt;
+  seen = record {
+    done = tt;
+    stopped = λ clean p sound bytes here.
+        let (given, stopped, some) = it.stopped in
+        ran-some p moment bytes (apply.has_failed old) (shown_since apply old p new) _ _ e given stopped
+        (some clean p sound (strip_bom bytes) (ap (option_map strip_bom) here));
+    kept = it.kept;
+  };
   end = tt;
   working = tt;
   told = (it.stopped.0, it.stopped.1);
   flushed = it.flushed;
-  stopped = λ clean p sound bytes here.
-      let (given, stopped, some) = it.stopped in
-      ran-some p moment bytes (apply.has_failed old) (shown apply new) _ _ e given stopped (some None clean p sound (strip_bom bytes) (ap (option_map strip_bom) here));
   near = it.near;
   session = it.session;
   writer = it.stopped.1.writer;
   why = it.why;
   reader = it.reader;
-  kept = it.kept None;
-  seen = record {
-    done = tt;
-    stopped = λ clean p sound bytes here.
-        let (given, stopped, some) = it.stopped in
-        ran-some p moment bytes (apply.has_failed old) (shown_since apply old new) _ _ e given stopped (some (Some old) clean p (begins apply old p sound) (strip_bom bytes) (ap (option_map strip_bom) here));
-    kept = λ clean p sound. it.kept (Some old) clean p (begins apply old p sound);
-  };
   ended = λ was bytes here. ran-ended bytes _ _ (Err e) (it.ended was (strip_bom bytes) (ap (option_map strip_bom) here));
 }

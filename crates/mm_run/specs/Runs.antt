@@ -58,9 +58,9 @@ WorksOn before shows p = (shows.failed ≡ before) × IsSound shows.settled p
 abbrev pub OnRun : Type 0 → (Package → Type 0) → Option (List ℕ) → (Package → List ℕ → Type 0) → Type 0
 OnRun clean settled source P = clean → (p : Package) → IsSound settled p → (bytes : List ℕ) → source ≡ Some bytes → P p bytes
 
--- What holds for a session that was settled for a package of the rules, where the store was clean, whatever the reader tells.
-abbrev pub OnSound : Type 0 → (Package → Type 0) → Type 0 → Type 0
-OnSound clean settled P = clean → (p : Package) → IsSound settled p → P
+-- What holds for a package of the rules that the session was settled for, where the store was clean, whatever the reader tells.
+abbrev pub OnSound : Type 0 → (Package → Type 0) → (Package → Type 0) → Type 0
+OnSound clean settled P = clean → (p : Package) → IsSound settled p → P p
 
 -- Each database that may be left stands for a package that meets the rules; and a session that has not failed in between is
 -- settled for one.

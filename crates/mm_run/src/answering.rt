@@ -8,7 +8,7 @@ ghost use Rattle.mm_run.specs.Applied.{IsAnswer, IsApplyFault, IsSound, OnFault,
 ghost use Rattle.mm_run.specs.Ended.{IsEndedTurn, answer_unread, ended_answer};
 ghost use Rattle.mm_run.specs.Readings.{IsCommandRead};
 ghost use Rattle.mm_run.specs.Runs.{IsAnswered, IsKept, IsRunFault, OnSound, TellsTurn, Turns};
-ghost use Rattle.mm_run.specs.Sessions.{Start, settled_from, shown_from};
+ghost use Rattle.mm_run.specs.Sessions.{shown_since};
 
 use crate::apply::Apply;
 use crate::reading::read_row;
@@ -37,14 +37,13 @@ fn answer_row<A: Apply>(session: &mut A, read: Result<Command, ReadFault>, at: M
     ensures session { TellsReopening (A.has_failed session.old) (A.has_failed session.new)
         (session.new ≡ session.old) result }
     ensures clean { A.is_clean session.new → A.is_clean session.old }
-    ensures answered { (start : Start A.Apply) → A.is_clean session.new → (p : Package)
-        → IsSound (settled_from A.Apply start session.old) p
+    ensures answered { A.is_clean session.new → (p : Package) → IsSound (A.seen session.old) p
         → (fields : Record) → IsCommandRead fields read
         → IsAnswered fields p at (A.has_failed session.old) result
-        (shown_from A.Apply start session.new) }
-    ensures kept { (start : Start A.Apply) → (fields : Record) → IsCommandRead fields read
-        → OnSound (A.is_clean session.new) (settled_from A.Apply start session.old)
-        (IsKept (A.has_failed session.old) (shown_from A.Apply start session.new)) }
+        (shown_since A.Apply session.old p session.new) }
+    ensures kept { (fields : Record) → IsCommandRead fields read
+        → OnSound (A.is_clean session.new) (A.seen session.old)
+        (λ p. IsKept (A.has_failed session.old) (shown_since A.Apply session.old p session.new)) }
     ensures ended { A.has_failed session.old ≡ true → result ≡ ended_answer read }
 {
     // The proof reads from this that the moment is within its limits.
@@ -73,13 +72,11 @@ pub(crate) fn turn<A: Apply, T: Read + Tells>(
         (session.new ≡ session.old)) }
     ensures still { IfNone result (session.new ≡ session.old) }
     ensures clean { A.is_clean session.new → A.is_clean session.old }
-    ensures turns { (start : Start A.Apply) → A.is_clean session.new → (p : Package)
-        → IsSound (settled_from A.Apply start session.old) p
+    ensures turns { A.is_clean session.new → (p : Package) → IsSound (A.seen session.old) p
         → Turns T.remaining rows.old rows.new p at (A.has_failed session.old) result
-        (shown_from A.Apply start session.new) }
-    ensures kept { (start : Start A.Apply)
-        → OnSound (A.is_clean session.new) (settled_from A.Apply start session.old)
-        (IsKept (A.has_failed session.old) (shown_from A.Apply start session.new)) }
+        (shown_since A.Apply session.old p session.new) }
+    ensures kept { OnSound (A.is_clean session.new) (A.seen session.old)
+        (λ p. IsKept (A.has_failed session.old) (shown_since A.Apply session.old p session.new)) }
     ensures ended { A.has_failed session.old ≡ true
         → IsEndedTurn T.remaining rows.old rows.new result }
 {

@@ -1,12 +1,12 @@
 //! What commands are applied to.
 
-ghost use Rattle.std.specs.Prelude.{◌≡◌, ◌≢◌, Bool, true, false};
+ghost use Rattle.std.specs.Prelude.{◌≡◌, ◌≢◌, ◌↔◌, Bool, true, false};
 ghost use Rattle.mm_definitions.specs.Bounds.{current};
 ghost use Rattle.mm_definitions.specs.Package.{Package};
 ghost use Rattle.mm_definitions.specs.Rules.{Meets};
 ghost use Rattle.mm_run.specs.Answers.{is_fault};
 ghost use Rattle.mm_run.specs.Applied.{IsApplied, IsApplyFault, OnFault};
-ghost use Rattle.mm_run.specs.Shown.{seen_since, settled_since, shown_by};
+ghost use Rattle.mm_run.specs.Shown.{seen_since};
 
 use mm_definitions::answers::{Answer, Fault};
 use mm_definitions::commands::Command;
@@ -43,13 +43,10 @@ pub trait Apply {
         ensures working { has_failed self.old ≡ false → OnFault result (λ fault. fault ≢ 92) }
         ensures fails { has_failed self.old ≡ false → has_failed self.new ≡ is_fault result }
         ensures clean { is_clean self.new → is_clean self.old }
-        ensures applied { is_clean self.new → (p : Package) → settled self.old p → Meets current p
+        ensures applied { is_clean self.new → (p : Package) → seen self.old p → Meets current p
             → IsApplied p command.now at result
-            (shown_by has_failed settled may_leave stands_for self.new) }
-        ensures seen { is_clean self.new → (first : Self) → (p : Package)
-            → settled_since seen may_leave stands_for first self.old p → Meets current p
-            → IsApplied p command.now at result
-            (seen_since has_failed seen may_leave stands_for first self.new) };
+            (seen_since has_failed seen may_leave stands_for self.old p self.new) };
 
-    ghost leaves_settled: { (s : Self) (p : Package) → settled s p → (db : Database) → may_leave s db → stands_for db p };
+    ghost settled_is: { (s : Self) (p : Package) → settled s p
+        ↔ (seen s p × ((db : Database) → may_leave s db → stands_for db p)) };
 }

@@ -22,16 +22,10 @@ pub trait Editor: Apply {
             → IfErr result (λ fault. (fault.0 ≡ 90) ⊎ (fault.0 ≡ 91)) }
         ensures same { Self.has_failed self.new ≡ Self.has_failed self.old }
         ensures clean { Self.is_clean self.new → Self.is_clean self.old }
-        ensures settled { Self.is_clean self.new → (p : Package) → Self.settled self.old p
-            → Meets current p → Self.settled self.new p }
-        ensures seen { Self.is_clean self.new → (first : Self) → (p : Package)
-            → settled_since Self.seen Self.may_leave Self.stands_for first self.old p
+        ensures settled { Self.is_clean self.new → (p : Package) → Self.seen self.old p
             → Meets current p
-            → settled_since Self.seen Self.may_leave Self.stands_for first self.new p }
+            → settled_since Self.seen Self.may_leave Self.stands_for self.old p self.new p }
         ensures tells { IfOk result
-            (λ found. Self.is_clean self.new → (p : Package) → Self.settled self.old p
-            → Meets current p → TellsState p name.now found) }
-        ensures tells_seen { IfOk result
             (λ found. Self.is_clean self.new → (p : Package) → Self.seen self.old p
             → Meets current p → TellsState p name.now found) };
 }

@@ -5,7 +5,7 @@ use Rattle.mm_definitions.specs.declared.answers.Answer.{Answer}
 use Rattle.mm_io.specs.Records.{IsSetUp, WorksStill}
 use Rattle.mm_run.specs.Told.{AreTold}
 use Rattle.mm_run.specs.Ended.{AreRefusedSoFar, OnEnded}
-use Rattle.mm_run.specs.Sessions.{Start, settled_from, shown_from}
+use Rattle.mm_run.specs.Sessions.{shown_since}
 use Rattle.mm_run.specs.Runs.{IsKept, IsSoFar, OnRun, OnSound}
 use Rattle.mm_run.proofs.run.run_rows.Given as goal
 
@@ -21,10 +21,11 @@ invariant-loop-n g l = record {
   ended : g.A.Apply.has_failed l.fn.session ≡ true → (l.session ≡ l.fn.session) × (l.tally.accepted ≡ 0);
   reading : WorksStill (g.T.Tells.has_failed (reader_source l.fn.rows)) (g.T.Tells.has_failed (reader_source l.rows));
   given : (given : List Answer) × AreTold given l.tally (g.W.Write.contents (inside l.fn.writer)) (g.W.Write.contents (inside l.writer))
-      × ((start : Start g.A.Apply) → OnRun (g.A.Apply.is_clean l.session) (settled_from g.A.Apply start l.fn.session) (source_of g.T.Read.remaining l.fn.rows)
-      (λ p xs. IsSoFar p l.at xs l.fn.rows.state (source_of g.T.Read.remaining l.rows) l.rows.state (settled_from g.A.Apply start l.session) given));
-  kept : (start : Start g.A.Apply)
-      → OnSound (g.A.Apply.is_clean l.session) (settled_from g.A.Apply start l.fn.session) (IsKept (g.A.Apply.has_failed l.fn.session) (shown_from g.A.Apply start l.session));
+      × OnRun (g.A.Apply.is_clean l.session) (g.A.Apply.seen l.fn.session) (source_of g.T.Read.remaining l.fn.rows)
+      (λ p xs. IsSoFar p l.at xs l.fn.rows.state (source_of g.T.Read.remaining l.rows) l.rows.state
+      (shown_since g.A.Apply l.fn.session p l.session).settled given);
+  kept : OnSound (g.A.Apply.is_clean l.session) (g.A.Apply.seen l.fn.session)
+      (λ p. IsKept (g.A.Apply.has_failed l.fn.session) (shown_since g.A.Apply l.fn.session p l.session));
   refused : OnEnded (g.A.Apply.has_failed l.fn.session) (source_of g.T.Read.remaining l.fn.rows)
       (λ xs. AreRefusedSoFar xs l.fn.rows.state (source_of g.T.Read.remaining l.rows) l.rows.state l.tally (g.W.Write.contents (inside l.fn.writer)) (g.W.Write.contents (inside l.writer)));
 }

@@ -4,12 +4,11 @@ use Rattle.csv.specs.declared.parser.State.TheVariants as states
 use Rattle.mm_definitions.specs.Streams.{has_failed, inside}
 use Rattle.mm_definitions.specs.declared.answers.Answer.TheVariants as answers
 use Rattle.mm_run.specs.Runs.{IsRunFault, IsSome, OnRun, TellsReader}
-use Rattle.mm_run.specs.Sessions.{Start, settled_from, shown_from}
+use Rattle.mm_run.specs.Sessions.{shown_since}
 use Rattle.mm_run.proofs.Loops.{read-line, stopped-fault}
 use Rattle.mm_run.proofs.Ended.{ended-behind, read_not_92}
 use Rattle.mm_run.proofs.Failing.{read-tells, read-why, stops-failing, stops-reader, stops-why}
 use Rattle.mm_run.proofs.Left.{some-all}
-use Rattle.mm_run.proofs.Starts.{leaves_from}
 use Rattle.mm_run.proofs.run.run_to_end.Goals as goal
 
 pub returns-in-Err-tell-clause-runs : goal.returns-in-Err-tell-clause-runs
@@ -34,11 +33,12 @@ returns-in-Err-tell-clause-runs g c =
       flushed = c.in-Err-tell.ensures.told;
       stopped =
           stopped-fault
-          (λ told w. (start : Start g.A.Apply) → OnRun (g.A.Apply.is_clean new) (settled_from g.A.Apply start c.args.session.now) (option_map strip_bom (g.R.Read.remaining (inside c.args.reader.now)))
-          (λ p xs. IsSome p c.args.at xs states.StartRecord first (shown_from g.A.Apply start new) told w))
+          (λ told w. OnRun (g.A.Apply.is_clean new) (g.A.Apply.seen c.args.session.now) (option_map strip_bom (g.R.Read.remaining (inside c.args.reader.now)))
+          (λ p xs. IsSome p c.args.at xs states.StartRecord first (shown_since g.A.Apply c.args.session.now p new) told w))
           given (t.written + 1) t c.in-Err-tell.e _ _ _ _ _ _ at (ran.small.0 ∙ told.1) told ran.working fault (read-line fault.0 _ c.in-Err-drain.ensures.fault) stops
-          (λ w enough start clean p sound xs here.
-          some-all p c.args.at (shown_from g.A.Apply start new) xs states.StartRecord first given (leaves_from g.A.Apply g.met.A.Apply.leaves_settled start new) same (all start clean p sound xs here) w enough);
+          (λ w enough clean p sound xs here.
+          some-all p c.args.at (shown_since g.A.Apply c.args.session.now p new) xs states.StartRecord first given
+          (λ q settled. settled.1) same (all clean p sound xs here) w enough);
       small = tt;
       near = c.in-Err-tell.ensures.near;
       session =

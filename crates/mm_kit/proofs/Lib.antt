@@ -9,4 +9,4 @@ pub mod MemoryFolderFacts
 pub mod OneList
 pub mod KeptFacts
 pub mod FolderFacts
-pub mod Starts
+pub mod Since

@@ -9,7 +9,7 @@ ghost use Rattle.mm_definitions.specs.declared.answers.Answer.TheVariants as ans
 ghost use Rattle.mm_definitions.specs.declared.commands.Command.TheVariants as commands;
 ghost use Rattle.mm_run.specs.Answers.{is_fault};
 ghost use Rattle.mm_run.specs.Applied.{IsApplied, IsApplyFault, IsSound, OnFault};
-ghost use Rattle.mm_run.specs.Sessions.{Start, settled_from, shown_from};
+ghost use Rattle.mm_run.specs.Sessions.{shown_since};
 ghost use Rattle.mm_kit.specs.Folders.{fault_number};
 ghost use Rattle.mm_kit.specs.Imports.{IsEntryStaged, IsKitFault, is_of_folder};
 ghost use Rattle.mm_kit.specs.Lists.{AreFew};
@@ -76,10 +76,9 @@ fn stage_piece<A: Apply>(
     ensures working { A.has_failed editor.old ≡ false → OnFault result (λ fault. fault ≢ 92) }
     ensures fails { A.has_failed editor.old ≡ false → A.has_failed editor.new ≡ is_fault result }
     ensures clean { A.is_clean editor.new → A.is_clean editor.old }
-    ensures applied { (start : Start A.Apply) → A.is_clean editor.new → (p : Package)
-        → settled_from A.Apply start editor.old p → Meets current p
+    ensures applied { A.is_clean editor.new → (p : Package) → A.seen editor.old p → Meets current p
         → IsApplied p (commands.Stage edition.now (pos number) piece) at result
-        (shown_from A.Apply start editor.new) }
+        (shown_since A.Apply editor.old p editor.new) }
 {
     // The proof reads from these that the moment and the command are within their limits.
     let _milliseconds = at.milliseconds();
@@ -106,10 +105,9 @@ fn stage_entry<A: Editor, F: Folder>(
     requires number { 0 < number }
     requires working { A.has_failed editor.old ≡ false }
     ensures clean { A.is_clean editor.new → A.is_clean editor.old }
-    ensures staged { (start : Start A.Apply) → A.is_clean editor.new → (p : Package)
-        → IsSound (settled_from A.Apply start editor.old) p
+    ensures staged { A.is_clean editor.new → (p : Package) → IsSound (A.seen editor.old) p
         → IsEntryStaged (F.files folder.old) entry edition.now number p at
-        (shown_from A.Apply start editor.new) result }
+        (shown_since A.Apply editor.old p editor.new) result }
     ensures works { OnOk result (A.has_failed editor.new ≡ false) }
     ensures fault { IfErr result
         (λ fault. (fault.0 ≢ 92) × (fault.0 ≡ 96 → A.has_failed editor.new ≡ false)) }

@@ -3,7 +3,7 @@ use Rattle.std.specs.Vec.Iter.{into_iter_items, into_iter_len}
 use Rattle.mm_definitions.specs.Package.{Package}
 use Rattle.mm_definitions.specs.declared.commands.Piece.{Piece}
 use Rattle.mm_run.specs.Applied.{IsSound}
-use Rattle.mm_run.specs.Sessions.{Start, settled_from}
+use Rattle.mm_run.specs.Sessions.{shown_since}
 use Rattle.mm_kit.specs.Editions.{HasPieces}
 use Rattle.mm_kit.specs.Folders.{Files}
 use Rattle.mm_kit.specs.Imports.{IsPassedBy, IsImportedSoFar}
@@ -20,9 +20,11 @@ invariant-loop-entry g l = record {
   working : g.A.Apply.has_failed l.editor ≡ false;
   folder : g.F.Folder.has_failed l.folder ≡ g.F.Folder.has_failed l.fn.folder;
   files : g.F.Folder.files l.folder ≡ g.F.Folder.files l.fn.folder;
-  kept : (start : Start g.A.Apply) → g.A.Apply.is_clean l.editor → (p : Package) → IsSound (settled_from g.A.Apply start l.fn.editor) p → (old : List Piece) → HasPieces p l.fn.edition old
-      → (q : Package) × IsSound (settled_from g.A.Apply start l.editor) q × IsPassedBy (length l.yielded) l.fn.edition p old q;
-  so_far : (start : Start g.A.Apply) → g.A.Apply.is_clean l.editor → (p : Package) → IsSound (settled_from g.A.Apply start l.fn.editor) p → (these : Files) → g.F.Folder.files l.fn.folder ≡ Some these
+  kept : g.A.Apply.is_clean l.editor → (p : Package) → IsSound (g.A.Apply.seen l.fn.editor) p → (old : List Piece) → HasPieces p l.fn.edition old
+      → (q : Package) × IsSound (shown_since g.A.Apply l.fn.editor p l.editor).settled q × IsPassedBy (length l.yielded) l.fn.edition p old q;
+  so_far : g.A.Apply.is_clean l.editor → (p : Package) → IsSound (g.A.Apply.seen l.fn.editor) p
+      → (these : Files) → g.F.Folder.files l.fn.folder ≡ Some these
       → (old : List Piece) → HasPieces p l.fn.edition old
-      → (q : Package) × IsSound (settled_from g.A.Apply start l.editor) q × IsImportedSoFar these l.fn.edition l.fn.entries.items (into_iter_items l.entry-iterator) p old (length l.yielded) q;
+      → (q : Package) × IsSound (shown_since g.A.Apply l.fn.editor p l.editor).settled q
+      × IsImportedSoFar these l.fn.edition l.fn.entries.items (into_iter_items l.entry-iterator) p old (length l.yielded) q;
 }

@@ -1,6 +1,6 @@
 -- A sitting is one run of its lists.
-use Rattle.std.proofs.Common.{◌≡◌, inl, inr, ℕ, ◌+◌, List, [], ◌∷◌, ◌++◌, true, false, Result, Ok, Err, refl, sym, ap}
-use Rattle.std.proofs.Common.{subst, ◌∙◌, length, take, take_all, arith, suc}
+use Rattle.std.proofs.Common.{◌≡◌, inl, inr, ℕ, ◌+◌, List, [], ◌∷◌, ◌++◌, true, false, Result, Ok, Err, refl, sym, ap, subst, ◌∙◌, length, take, take_all, arith, suc}
+use Rattle.std.specs.Prelude.{Some}
 use Rattle.mm_definitions.specs.Package.{Package}
 use Rattle.mm_definitions.specs.Runs.{Call, run, accepted}
 use Rattle.mm_definitions.specs.declared.answers.RunFault.{RunFault}
@@ -9,9 +9,11 @@ use Rattle.mm_laws.proofs.FirstParts.{first_part_after}
 use Rattle.mm_run.specs.Answers.{calls_of}
 use Rattle.mm_run.specs.Applied.{IsSound}
 use Rattle.mm_run.specs.Readings.{Reading, AreReadAs}
+use Rattle.mm_run.specs.Promised.{Runs as RunsFor}
 use Rattle.mm_run.specs.Runs.{AreFirstParts}
 use Rattle.mm_run.specs.Sessions.{shown}
 use Rattle.mm_run.specs.declared.apply.Apply.{Ghosts}
+use Rattle.mm_run.proofs.Since.{SettledIs, settled_runs}
 use Rattle.mm_desk.specs.Exchanges.{IsDeskTurn}
 use Rattle.mm_desk.specs.Sittings.{AreReadOf, IsSitting, RunsVisit, Sat, Stays, Visit, acknowledged_by}
 
@@ -25,41 +27,7 @@ as_many (x ∷ xs) (r ∷ rs) it = ap (λ n. suc n) (as_many xs rs it.1)
 whole : (rows : List (List (List ℕ))) (readings : List Reading) → AreReadAs rows readings → AreReadAs (take (length readings) rows) readings
 whole rows readings it = let n = as_many rows readings it in subst (λ l. AreReadAs l readings) (sym (take_all (length readings) rows (omega (arith, n)))) it
 
-module _ {A : Type 0} (apply : Ghosts A)
-    (leaves_settled : (s : A) (p : Package) → apply.settled s p → (db : apply.Database) → apply.may_leave s db → apply.stands_for db p) where
-  -- what one list comes to: its readings, what may be left, and, where it did not fail the session, what that is settled for
-  abbrev Came : Package → Visit → A → A → Type 0
-  Came p v before behind = (readings : List Reading) × AreReadOf v readings
-      × AreFirstParts (shown apply behind) p (calls_of v.moment readings) (acknowledged_by p v.moment readings v.result)
-      × (apply.has_failed before ≡ false → apply.has_failed behind ≡ apply.has_failed before → IsSound (apply.settled behind)
-      (run p (calls_of v.moment readings)))
-
-  came_by : (result : Result Tally RunFault) (p : Package) (v : Visit) (before behind : A) → v.result ≡ result → RunsVisit apply v before behind
-      → apply.is_clean behind → IsSound (apply.settled before) p → Came p v before behind
-  came_by (Ok t) p v before behind is ran clean sound =
-      let all = rw is at ran.settled.done clean p sound v.bytes refl in (
-        all.readings,
-        whole _ _ all.read,
-        subst
-            (λ r. AreFirstParts (shown apply behind) p (calls_of v.moment all.readings) (acknowledged_by p v.moment all.readings r))
-            (sym is) all.left,
-        λ works same. all.stands,
-      )
-  came_by (Err e) p v before behind is ran clean sound =
-      let some = rw is at ran.settled.stopped clean p sound v.bytes refl in (
-        some.readings,
-        some.read,
-        subst (λ r. AreFirstParts (shown apply behind) p (calls_of v.moment some.readings) (acknowledged_by p v.moment some.readings r)) (sym is) some.left,
-        λ works same. elim some.session [
-          | inl it ↦ it.1.1
-          | inr it ↦ absurd (let e : true ≡ false = sym it.0 ∙ same ∙ works in cc)
-        ],
-      )
-
-  came : (p : Package) (v : Visit) (before behind : A) → RunsVisit apply v before behind → apply.is_clean behind → IsSound (apply.settled before) p
-      → Came p v before behind
-  came p v before behind = came_by v.result p v before behind refl
-
+module _ {A : Type 0} (apply : Ghosts A) where
   kept_left : (p : Package) (calls : List Call) (kept : ℕ) (old new : A) → Stays apply old new → apply.is_clean new → AreFirstParts
       (shown apply old) p calls kept → AreFirstParts (shown apply new) p calls kept
   kept_left p calls kept old new stays clean parts db may = parts db (stays.left clean db may)
@@ -72,36 +40,6 @@ module _ {A : Type 0} (apply : Ghosts A)
   clean_before [] old new sat clean = sat.clean clean
   clean_before (v ∷ []) old new (before, behind, first, ran, last) clean = first.clean (ran.clean (last.clean clean))
   clean_before (v ∷ w ∷ vs) old new (before, behind, first, ran, same, more) clean = first.clean (ran.clean (clean_before (w ∷ vs) behind new more clean))
-
-  pub one_run : (visits : List Visit) (p : Package) (old new : A) → Sat apply old visits new → apply.is_clean new → IsSound (apply.settled old) p
-      → apply.has_failed old ≡ false
-      → (calls : List Call) × (kept : ℕ) × IsSitting p visits calls kept × AreFirstParts (shown apply new) p calls kept
-  unfolding Sat IsSitting
-  one_run [] p old new sat clean sound works = (
-    [],
-    0,
-    (refl, refl),
-    λ db may. (
-      p,
-      leaves_settled new p (sat.settled clean p sound.0) db may,
-      record { count = 0; at_least = omega arith; at_most = omega arith; there = omega arith; is = refl },
-      sound.1,
-    ),
-  )
-  one_run (v ∷ []) p old new (before, behind, first, ran, last) clean sound works =
-      let end = last.clean clean in
-      let (readings, read, parts, goes) = came p v before behind ran end (kept_sound p old before first (ran.clean end) sound) in
-      (calls_of v.moment readings, acknowledged_by p v.moment readings v.result, (readings, read, refl, refl), kept_left p _ _ behind new last clean parts)
-  one_run (v ∷ w ∷ vs) p old new (before, behind, first, ran, same, more) clean sound works =
-      let end = clean_before (w ∷ vs) behind new more clean in
-      let (readings, read, parts, goes) = came p v before behind ran end (kept_sound p old before first (ran.clean end) sound) in
-      let start : apply.has_failed before ≡ false = first.same ∙ works in
-      let (rest, count, is, left) = one_run (w ∷ vs) (run p (calls_of v.moment readings)) behind new more clean (goes start same) (same ∙ start) in (
-        calls_of v.moment readings ++ rest,
-        length (accepted p (calls_of v.moment readings)) + count,
-        (readings, read, rest, count, is, refl, refl),
-        λ db may. let (q, stands, part, meets) = left db may in (q, stands, first_part_after p q (calls_of v.moment readings) rest count part, meets),
-      )
 
   -- ---- a sitting that goes on
 
@@ -142,3 +80,75 @@ module _ {A : Type 0} (apply : Ghosts A)
       → IsDeskTurn apply mid new → (more : List Visit) × Sat apply old more new
   turns visits old mid new works sat here (inl stays) = (visits, rests visits old mid new sat stays)
   turns visits old mid new works sat here (inr (v, run)) = (visits ++ v ∷ [], grows visits v old mid new sat (here ∙ sym works) run)
+
+  -- ---- as one run
+
+  module _ (law : SettledIs apply) where
+    -- what one list comes to: its readings, what may be left, and, where it did not fail the session, what that is settled for
+    abbrev Came : Package → Visit → A → A → Type 0
+    Came p v before behind = (readings : List Reading) × AreReadOf v readings
+        × AreFirstParts (shown apply behind) p (calls_of v.moment readings) (acknowledged_by p v.moment readings v.result)
+        × (apply.has_failed before ≡ false → apply.has_failed behind ≡ apply.has_failed before → IsSound (apply.settled behind)
+        (run p (calls_of v.moment readings)))
+
+    as_settled : (v : Visit) (before behind : A) → RunsVisit apply v before behind
+        → RunsFor v.moment (apply.is_clean behind) (apply.settled before) (Some v.bytes) (apply.has_failed before) (λ p. shown apply behind) v.old v.new
+        v.result
+    as_settled v before behind ran =
+        settled_runs apply law v.moment (apply.is_clean behind) before behind (Some v.bytes) v.old v.new v.result ran.seen
+
+    came_by : (result : Result Tally RunFault) (p : Package) (v : Visit) (before behind : A) → v.result ≡ result → RunsVisit apply v before behind
+        → apply.is_clean behind → IsSound (apply.settled before) p → Came p v before behind
+    came_by (Ok t) p v before behind is ran clean sound =
+        let all = rw is at (as_settled v before behind ran).done clean p sound v.bytes refl in (
+          all.readings,
+          whole _ _ all.read,
+          subst
+              (λ r. AreFirstParts (shown apply behind) p (calls_of v.moment all.readings) (acknowledged_by p v.moment all.readings r))
+              (sym is) all.left,
+          λ works same. all.stands,
+        )
+    came_by (Err e) p v before behind is ran clean sound =
+        let some = rw is at (as_settled v before behind ran).stopped clean p sound v.bytes refl in (
+          some.readings,
+          some.read,
+          subst (λ r. AreFirstParts (shown apply behind) p (calls_of v.moment some.readings) (acknowledged_by p v.moment some.readings r)) (sym is) some.left,
+          λ works same. elim some.session [
+            | inl it ↦ it.1.1
+            | inr it ↦ absurd (let e : true ≡ false = sym it.0 ∙ same ∙ works in cc)
+          ],
+        )
+
+    came : (p : Package) (v : Visit) (before behind : A) → RunsVisit apply v before behind → apply.is_clean behind → IsSound (apply.settled before) p
+        → Came p v before behind
+    came p v before behind = came_by v.result p v before behind refl
+
+    pub one_run : (visits : List Visit) (p : Package) (old new : A) → Sat apply old visits new → apply.is_clean new → IsSound (apply.settled old) p
+        → apply.has_failed old ≡ false
+        → (calls : List Call) × (kept : ℕ) × IsSitting p visits calls kept × AreFirstParts (shown apply new) p calls kept
+    unfolding Sat IsSitting
+    one_run [] p old new sat clean sound works = (
+      [],
+      0,
+      (refl, refl),
+      λ db may. (
+        p,
+        ((law new p).0 (sat.settled clean p sound.0)).1 db may,
+        record { count = 0; at_least = omega arith; at_most = omega arith; there = omega arith; is = refl },
+        sound.1,
+      ),
+    )
+    one_run (v ∷ []) p old new (before, behind, first, ran, last) clean sound works =
+        let end = last.clean clean in
+        let (readings, read, parts, goes) = came p v before behind ran end (kept_sound p old before first (ran.clean end) sound) in
+        (calls_of v.moment readings, acknowledged_by p v.moment readings v.result, (readings, read, refl, refl), kept_left p _ _ behind new last clean parts)
+    one_run (v ∷ w ∷ vs) p old new (before, behind, first, ran, same, more) clean sound works =
+        let end = clean_before (w ∷ vs) behind new more clean in
+        let (readings, read, parts, goes) = came p v before behind ran end (kept_sound p old before first (ran.clean end) sound) in
+        let start : apply.has_failed before ≡ false = first.same ∙ works in
+        let (rest, count, is, left) = one_run (w ∷ vs) (run p (calls_of v.moment readings)) behind new more clean (goes start same) (same ∙ start) in (
+          calls_of v.moment readings ++ rest,
+          length (accepted p (calls_of v.moment readings)) + count,
+          (readings, read, rest, count, is, refl, refl),
+          λ db may. let (q, stands, part, meets) = left db may in (q, stands, first_part_after p q (calls_of v.moment readings) rest count part, meets),
+        )

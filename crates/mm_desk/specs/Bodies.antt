@@ -5,7 +5,7 @@ use Rattle.mm_definitions.specs.declared.answers.RunFault.{RunFault}
 use Rattle.mm_definitions.specs.declared.answers.Tally.{Tally}
 use Rattle.mm_run.specs.Promised.{Runs}
 use Rattle.mm_run.specs.Runs.{IsToldOf, RunTellsReopening, TellsWriter}
-use Rattle.mm_run.specs.Sessions.{shown, shown_since}
+use Rattle.mm_run.specs.Sessions.{shown_since}
 use Rattle.mm_run.specs.declared.apply.Apply as applies
 
 -- the head of the answers to records
@@ -16,10 +16,9 @@ answers_head = codes "HTTP/1.1 200 OK\r\nContent-Type: text/plain\r\nX-Content-T
 pub record RunsBody {A : Type 0} (apply : applies.Ghosts A) (moment : ℕ) (old new : A) (bytes : List ℕ)
     (output output_now : Written) (result : Result Tally RunFault) : Type 0 where
   pub clean : apply.is_clean new → apply.is_clean old
-  -- of a session that was settled for a package
-  pub settled : Runs moment (apply.is_clean new) (apply.settled old) (Some bytes) (apply.has_failed old) (shown apply new) output output_now result
-  -- of one that only read as a package
-  pub seen : Runs moment (apply.is_clean new) (apply.seen old) (Some bytes) (apply.has_failed old) (shown_since apply old new) output output_now result
+  -- of a session that read as a package, and so of one that was settled for it (`settled_runs`)
+  pub seen : Runs moment (apply.is_clean new) (apply.seen old) (Some bytes) (apply.has_failed old) (λ p. shown_since apply old p new)
+      output output_now result
   pub told : IsToldOf output output_now result
   pub session : RunTellsReopening (apply.has_failed old) (apply.has_failed new) (new ≡ old) result
   pub writer : IfErr result (TellsWriter output.failed output_now.failed)

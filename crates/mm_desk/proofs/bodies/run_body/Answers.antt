@@ -1,7 +1,7 @@
 use Rattle.std.proofs.Common.{Some, ap, subst}
 use Rattle.mm_definitions.specs.Streams.{written}
 use Rattle.mm_run.specs.Promised.{Runs}
-use Rattle.mm_run.specs.Sessions.{shown, shown_since}
+use Rattle.mm_run.specs.Sessions.{shown_since}
 use Rattle.mm_desk.proofs.bodies.run_body.Goals as goal
 
 pub returns-clause-ran : goal.returns-clause-ran
@@ -17,9 +17,8 @@ returns-clause-ran g c =
       sent,
       record {
         clean = it.clean;
-        settled = subst (λ told. Runs c.args.at (A.is_clean new) (A.settled old) told (A.has_failed old) (shown A new) between after c.run_list.result)
-            (ap (λ r. Some r.now) c.new-records.ensures.inside) (record { done = it.done; stopped = it.stopped; kept = it.kept });
-        seen = subst (λ told. Runs c.args.at (A.is_clean new) (A.seen old) told (A.has_failed old) (shown_since A old new) between after c.run_list.result)
+        seen = subst
+            (λ told. Runs c.args.at (A.is_clean new) (A.seen old) told (A.has_failed old) (λ p. shown_since A old p new) between after c.run_list.result)
             (ap (λ r. Some r.now) c.new-records.ensures.inside) it.seen;
         told = it.told;
         session = it.session;

@@ -37,5 +37,8 @@ impl<S: Alter> Apply for Session<S> {
         self.apply(command, at)
     }
 
-    ghost leaves_settled = { λ s p settled db may. settled.left db may };
+    ghost settled_is = { λ s p. (
+      λ it. (record { mode = it.mode; back = it.back; reads = it.reads }, it.left),
+      λ it. record { mode = it.0.mode; back = it.0.back; reads = it.0.reads; left = it.1 },
+    ) };
 }

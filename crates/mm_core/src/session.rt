@@ -186,7 +186,13 @@ impl<S: Alter> Session<S> {
 }
 
 impl<S: Alter> Session<S> {
-    ghost use Rattle.mm_run.specs.Promised.{RunsList};
+    ghost use Rattle.sqlite.specs.Held.{state};
+    ghost use Rattle.sqlite.specs.State.{HasCleanDisk};
+    ghost use Rattle.mm_definitions.specs.Bounds.{current};
+    ghost use Rattle.mm_definitions.specs.Streams.{inside, written};
+    ghost use Rattle.mm_run.specs.Promised.{Runs, RunsList};
+    ghost use Rattle.mm_store.specs.Stands.{IsSettled};
+    ghost use Rattle.mm_core.specs.Parts.{connection, must_reopen, shown};
 
     /// Reads records to the end and answers each with a line, which is written and flushed before the next record is
     /// answered. Each command is applied at the moment that is handed in. At each exit every database that may be left is
@@ -205,8 +211,12 @@ impl<S: Alter> Session<S> {
         writer: &mut Io<W>,
         at: Moment,
     ) -> Result<Tally, RunFault>
-        ensures { RunsList ⟦<Session<S> as Apply>⟧ R.Read W.Write at self.old self.new
+        ensures runs { RunsList ⟦<Session<S> as Apply>⟧ R.Read W.Write at self.old self.new
             reader.old reader.new writer.old writer.new result }
+        ensures settled { Runs at (HasCleanDisk (state S.Store (connection self.new)))
+            (λ p. IsSettled current (state S.Store (connection self.old)) p)
+            (R.remaining (inside reader.old)) (must_reopen self.old) (λ p. shown S.Store self.new)
+            (written W.contents writer.old) (written W.contents writer.new) result }
     {
         let alloc = self.alloc;
         run_list(alloc, self, reader, writer, at)

@@ -2,6 +2,7 @@ pub mod DigestFacts
 pub mod Moving
 pub mod Keeping
 pub mod Opening
+pub mod Viewing
 pub mod Releasing
 pub mod Listing
 pub mod Naming

@@ -1,6 +1,5 @@
 -- From a package that a transaction sees to how it is kept, and back.
-use Rattle.std.proofs.Common.{◌≡◌, ◌⊎◌, inl, inr, ℤ, Some, true, refl, IsTrue, Result, Ok, Err, IfOk, OnOk, ap, subst}
-use Rattle.std.specs.Prelude.{⊤}
+use Rattle.std.proofs.Common.{◌≡◌, ◌⊎◌, inl, inr, ℤ, Some, true, refl}
 use Rattle.std.specs.FinMap.{empty, get}
 use Rattle.std.proofs.lemmas.Bool.{both_ways}
 use Rattle.sqlite.specs.State.{State}
@@ -11,12 +10,9 @@ use Rattle.mm_store.specs.Blobs.{Blob}
 use Rattle.mm_store.specs.Kept.{Kept, Spare, IsNamed}
 use Rattle.mm_store.specs.Stands.{Ground, IsInsideBut}
 use Rattle.sqlite.specs.Tree.{Trees}
-use Rattle.mm_definitions.specs.declared.answers.Fault.{Fault}
-use Rattle.mm_store.specs.Kept.{Keeps, no_spare}
-use Rattle.mm_store.specs.Shapes.{IsChange, IsLook}
+use Rattle.mm_store.specs.Kept.{Keeps}
 use Rattle.mm_blobs.specs.Views.{View, IsSeen}
-use Rattle.mm_blobs.specs.Moves.{IsMove}
-use Rattle.mm_blobs.proofs.Moving.{inside_looser, moves_less}
+use Rattle.mm_blobs.proofs.Moving.{inside_looser}
 use Rattle.mm_blobs.proofs.Keeping.{kept_in, holds_still}
 
 -- it is kept somehow; where the store is not open, nothing is said
@@ -67,74 +63,3 @@ seen_named spare more profile s ground x named it =
     inside_looser profile spare more s ground x
     (λ tables h. let k = kept_in spare spare profile.version tables x h in
     holds_still spare more profile.version tables x h (record { tiles = k.tiles; media = k.media; pieces = k.pieces; blobs = k.blobs; tiles_told = k.tiles_told; media_told = k.media_told; pieces_told = k.pieces_told; are = k.are; named = named })) it
-
--- ---- a call that sees all bytes kept once, before and after
-
-module _ (profile : Profile) {T : Type 0} (old new : State) (result : Result T Fault) where
-  -- it changes the package so
-  pub tidy_change : {Last : Ground → View → T → View → Type 0} (When : Package → Type 0) (next : Package → Package)
-      → IsMove old new (λ ground x. IsSeen no_spare profile old ground x × When x.content) Last result
-      → ((ground : Ground) (x y : View) (t : T) → Last ground x t y → (y.content ≡ next x.content) × IsSeen no_spare profile new ground y)
-      → IsChange profile old new When next result
-  tidy_change {Last} When next one tells = record {
-    survives = one.survives;
-    on = λ clean ground p it when. let o = opens no_spare profile old ground p it in one.on clean ground (record { content = p; kept = o.0 }) (o.1, when);
-    made = λ clean ground p it when. let o = opens no_spare profile old ground p it in go ground p o.0 result (one.moved clean ground (record { content = p; kept = o.0 }) (o.1, when));
-    faults = one.faults;
-  }
-    where
-      go : (ground : Ground) (p : Package) (kept : Kept) (r : Result T Fault)
-          → IfOk r (λ t. IsTrue new.is_open × (y : View) × Last ground (record { content = p; kept = kept }) t y)
-          → OnOk r (IsTrue new.is_open × IsInsideBut no_spare profile new ground (next p))
-      go ground p kept (Err e) h = tt
-      go ground p kept (Ok t) h =
-          let last = tells ground (record { content = p; kept = kept }) h.1 t h.2 in
-          (h.0, subst (IsInsideBut no_spare profile new ground) last.0 (closes no_spare profile new ground h.1 last.1))
-
-  -- it does so wherever it is called
-  pub tidies : {Last : Ground → View → T → View → Type 0} (next : Package → Package) → IsMove old new (IsSeen no_spare profile old) Last result
-      → ((ground : Ground) (x y : View) (t : T) → Last ground x t y → (y.content ≡ next x.content) × IsSeen no_spare profile new ground y)
-      → IsChange profile old new (λ p. ⊤) next result
-  tidies {Last} next one tells = tidy_change (λ p. ⊤) next (moves_less Last old new result one (λ ground x it. it.0) (λ ground x y t it last. last)) tells
-
-  -- it tells so of the package
-  pub tidy_look : {Last : Ground → View → T → View → Type 0} (Says : Package → T → Type 0) → IsMove old new (IsSeen no_spare profile old) Last result
-      → ((ground : Ground) (x y : View) (t : T) → Last ground x t y → (y.content ≡ x.content) × IsSeen no_spare profile new ground y × Says x.content t) → IsLook profile old new Says result
-  tidy_look {Last} Says one tells = record {
-    survives = one.survives;
-    on = λ clean ground p it. let o = opens no_spare profile old ground p it in one.on clean ground (record { content = p; kept = o.0 }) o.1;
-    looked = λ clean ground p it. let o = opens no_spare profile old ground p it in go ground p o.0 result (one.moved clean ground (record { content = p; kept = o.0 }) o.1);
-    faults = one.faults;
-  }
-    where
-      go : (ground : Ground) (p : Package) (kept : Kept) (r : Result T Fault)
-          → IfOk r (λ t. IsTrue new.is_open × (y : View) × Last ground (record { content = p; kept = kept }) t y)
-          → IfOk r (λ t. IsTrue new.is_open × IsInsideBut no_spare profile new ground p × Says p t)
-      go ground p kept (Err e) h = tt
-      go ground p kept (Ok t) h =
-          let last = tells ground (record { content = p; kept = kept }) h.1 t h.2 in
-          (h.0, subst (IsInsideBut no_spare profile new ground) last.0 (closes no_spare profile new ground h.1 last.1), last.2)
-
--- a call that failed, whatever it was to do
-pub tidy_failed : (profile : Profile) {T U : Type 0} {Last : Ground → View → T → View → Type 0} (old new : State) (When : Package → Type 0) (next : Package → Package) (e : Fault) → IsMove old new (IsSeen no_spare profile old) Last (Err e) → IsChange profile {T = U} old new When next (Err e)
-tidy_failed profile old new When next e one = record {
-  survives = one.survives;
-  on = λ clean ground p it when. let o = opens no_spare profile old ground p it in one.on clean ground (record { content = p; kept = o.0 }) o.1;
-  made = λ clean ground p it when. tt;
-  faults = one.faults;
-}
-
-pub tidy_untold : (profile : Profile) {T U : Type 0} {Last : Ground → View → T → View → Type 0} (old new : State) (Says : Package → U → Type 0) (e : Fault) → IsMove old new (IsSeen no_spare profile old) Last (Err e) → IsLook profile {T = U} old new Says (Err e)
-tidy_untold profile old new Says e one = record {
-  survives = one.survives;
-  on = λ clean ground p it. let o = opens no_spare profile old ground p it in one.on clean ground (record { content = p; kept = o.0 }) o.1;
-  looked = λ clean ground p it. tt;
-  faults = one.faults;
-}
-
--- what is told of the package after a move that leaves it as it was
-pub tells_of : {T : Type 0} (profile : Profile) (old new : State) (result : Result T Fault) (Says : Package → T → Type 0)
-    → IsMove old new (IsSeen no_spare profile old) (λ base x t y. (y ≡ x) × IsSeen no_spare profile new base y × Says y.content t) result
-    → IsLook profile old new Says result
-tells_of profile old new result Says one =
-    tidy_look profile old new result Says one (λ base x y t last. (ap (λ (v : View). v.content) last.0, last.1, subst (λ (v : View). Says v.content t) last.0 last.2))

@@ -9,7 +9,7 @@ use Rattle.sqlite.specs.State.{State, HasCleanDisk, IsUnchanged}
 use Rattle.mm_definitions.specs.declared.answers.Fault.{Fault}
 use Rattle.mm_store.specs.Kept.{Kept}
 use Rattle.mm_store.proofs.Seen.{settled_still}
-use Rattle.mm_store.proofs.Shapes.{quiet_then}
+use Rattle.mm_store.proofs.Quiet.{quiet_then}
 use Rattle.mm_walk.specs.RowTests.{IsQuery, AllShown, TellsAll}
 use Rattle.mm_walk.proofs.Quiet.{IsQuiet, only_asks}
 use Rattle.mm_walk.proofs.Resting.{seen_still}

@@ -10,7 +10,7 @@ use Rattle.mm_store.specs.Stands.{ReadsAs, IsSettled}
 use Rattle.mm_store.proofs.Asking.{told_fault}
 use Rattle.mm_store.specs.Seen.{IsSeenAs}
 use Rattle.mm_store.proofs.Seen.{settled_still}
-use Rattle.mm_store.proofs.Shapes.{quiet_then}
+use Rattle.mm_store.proofs.Quiet.{quiet_then}
 use Rattle.mm_meta.specs.Opening.{IsBlank}
 use Rattle.mm_store.specs.Statements.{CommitsNothing}
 use Rattle.mm_meta.specs.Look.{AnswersLook, FindsNone, IsLooked, Agrees, ShowsProfile}

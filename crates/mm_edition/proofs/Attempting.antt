@@ -10,7 +10,7 @@ use Rattle.mm_definitions.specs.declared.answers.Fault.{Fault}
 use Rattle.mm_store.specs.Stands.{Ground, StandsInside}
 use Rattle.mm_store.specs.Faults.{IsStoreFault, store}
 use Rattle.mm_store.specs.Handed.{Goes}
-use Rattle.mm_store.proofs.Shapes.{quiet_then}
+use Rattle.mm_store.proofs.Quiet.{quiet_then}
 use Rattle.mm_edition.specs.Turns.{Known, Said, Attempts}
 
 told : {T : Type 0} (A : T → Type 0) (r : Result T Fault) (e : Fault) → IsErrAnd r (λ f. f ≡ e) → IsStoreFault e → IfOk r A × IfErr r IsStoreFault

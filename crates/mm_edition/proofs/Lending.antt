@@ -12,7 +12,7 @@ use Rattle.mm_definitions.specs.declared.commands.Command.{Command}
 use Rattle.mm_store.specs.Handed.{Goes}
 use Rattle.mm_store.specs.Stands.{StandsInside}
 use Rattle.mm_store.proofs.Going.{goes_given}
-use Rattle.mm_store.proofs.Shapes.{quiet_then}
+use Rattle.mm_store.proofs.Quiet.{quiet_then}
 use Rattle.mm_edition.specs.Turns.{Known}
 use Rattle.mm_layout.specs.Handed.{Lends, LendsFor, LendsUnstamped}
 

@@ -24,7 +24,7 @@ use sqlite::{Alter, Transaction, params};
 const PAST_THE_LAST: u32 = MOST_PIECES + 1;
 
 /// Does what the pieces of an edition say, in rising number, to the first that is refused, which is told with its
-/// number and its refusal. One piece is held at a time. `last_change` is the stamp of the moment.
+/// number and its refusal. One piece is held at a time, and no bytes. `last_change` is the stamp of the moment.
 pub(crate) fn try_pieces<S: Alter>(
     tx: &mut Transaction<'_, S>,
     edition: &Name,

@@ -1,8 +1,6 @@
 -- Commands on the bytes of a staged piece: what is lent for each bytes that the piece may have.
-use Rattle.std.proofs.Common.{refl, ◌≡◌, Option, Some, None, Result, Ok, Err, IfOk, IfErr, sym, ap, subst, ◌∙◌}
+use Rattle.std.proofs.Common.{refl, ◌≡◌, Some, None, Result, Ok, Err, ap, ◌∙◌}
 use Rattle.std.specs.Prelude.{⊤, IsErrAnd}
-use Rattle.sqlite.specs.State.{State}
-use Rattle.sqlite.specs.Held.{state}
 use Rattle.sqlite.specs.Store.{Ghosts}
 use Rattle.sqlite.specs.declared.transaction.Transaction.{Transaction}
 use Rattle.mm_definitions.specs.Bounds.{Profile}
@@ -15,18 +13,17 @@ use Rattle.mm_definitions.specs.declared.answers.Outcome.{Outcome}
 use Rattle.mm_definitions.specs.declared.answers.Outcome.TheVariants.{Done, Refused}
 use Rattle.mm_definitions.specs.Refusals.{Refusal}
 use Rattle.mm_definitions.specs.declared.commands.Command.{Command}
-use Rattle.mm_store.specs.Stands.{Ground, StandsInside}
-use Rattle.mm_store.specs.Faults.{IsStoreFault}
-use Rattle.mm_store.specs.Shapes.{Answers}
 use Rattle.mm_store.specs.Handed.{ChangesFor}
 use Rattle.mm_layout.specs.Handed.{LendsFor}
-use Rattle.mm_store.proofs.Going.{goes_then, goes_given, goes_less, change_by, goes_as, failed_where}
+use Rattle.mm_store.proofs.Going.{goes_then, goes_given, goes_less, goes_as, failed_where}
 use Rattle.mm_store.specs.Handed.{Goes}
 
 module _ {S : Type 0} {g : Ghosts S} where
   pub change_for : {X T U : Type 0} {a b c : Transaction S} {Says : Profile → Package → T → Type 0} {When : X → Package → Type 0} {next : X → Package → Package} {y : T} {r : Result U Fault}
       → Goes g a b (λ profile p. ⊤) (λ p it. p) Says (Ok y) → ChangesFor g b c When next r → (x : X) → Goes g a c (λ profile. When x) (λ p it. next x p) (λ profile p it. Says profile p y) r
-  change_for {When = When} h k x = goes_less (goes_then (goes_given {When = λ profile. When x} h (λ profile p it. tt)) (change_by k.same (λ profile. k.change profile x)) (λ profile p has says. has)) (λ profile p it has says. (refl, says.0))
+  change_for {When = When} h k x = goes_less
+      (goes_then (goes_given {When = λ profile. When x} h (λ profile p it. tt)) (k.goes x) (λ profile p has says. has))
+      (λ profile p it has says. (refl, says.0))
 
   pub does_for : {X T : Type 0} {a b : Transaction S} {When : X → Package → Type 0} {one : X → Package → T → Package} {Says : X → Profile → Package → T → Type 0} {command : X → Command} {at : Text} {y : T}
       → ((x : X) → Goes g a b (λ profile. When x) (one x) (Says x) (Ok y))

@@ -17,17 +17,15 @@ use Rattle.mm_definitions.specs.declared.answers.Fault.{Fault}
 use Rattle.mm_definitions.proofs.Parts.{same_some}
 use Rattle.mm_store.specs.Blobs.{Shelf, StandsAt, Told, bytes_at}
 use Rattle.mm_store.specs.Faults.{IsStoreFault}
-use Rattle.mm_store.specs.Kept.{Spare, no_spare, piece_id, piece_with}
+use Rattle.mm_store.specs.Kept.{Spare, piece_id, piece_with}
 use Rattle.mm_store.specs.Rows.{past_rowid, maybe, StagedRow, staged_row}
 use Rattle.mm_store.specs.Stands.{Ground}
-use Rattle.mm_store.specs.Shapes.{IsChange}
 use Rattle.mm_store.specs.Statements.{IsAsked}
 use Rattle.mm_store.proofs.Keys as parts
 use Rattle.mm_store.proofs.Keys.{by_piece}
 use Rattle.mm_store.proofs.Parts.{finds_some}
 use Rattle.mm_blobs.specs.Moves.{GivesNumber, IsMove}
 use Rattle.mm_blobs.specs.Views.{View, IsSeen}
-use Rattle.mm_blobs.proofs.Opening.{opens}
 use Rattle.mm_items.specs.Staged.{HasBytes}
 
 maybe_some : (id : ℤ) (o : Option ℤ) → maybe o ≡ Int id → o ≡ Some id
@@ -57,16 +55,6 @@ module _ (rows : List Row) (ids : FinMap piece_cmp StagedRow) (h : Holds past_ro
       let at = finds_some parts.pieces rows ids h key (shows (col 1 14 ∷ []) params) gives.0 (subst (Finds (by_piece key) (shows (col 1 14 ∷ []) params) rows) gives.1 found) in
       let shown : maybe at.0.blob ≡ Int id = sym (columns_are at.2 (staged_row key at.0) 13 at.3) ∙ sym (ap (λ (r : Row). column r 0) at.4) ∙ gives.2 in
       stands_at shelf at.0 has.0 id bytes (subst (λ o. Told piece_id piece_with shelf (Some at.0) o) has.1 (subst (λ o. Told piece_id piece_with shelf o (get p.pieces key)) at.1 told)) (maybe_some id at.0.blob shown) has.2
-
--- a move that failed where this held
-pub failed_where : (profile : Profile) {T U : Type 0} {Last : Ground → View → T → View → Type 0} (old new : State) (When : Package → Type 0) (next : Package → Package) (e : Fault)
-    → IsMove old new (λ ground x. IsSeen no_spare profile old ground x × When x.content) Last (Err e) → IsChange profile {T = U} old new When next (Err e)
-failed_where profile old new When next e one = record {
-  survives = one.survives;
-  on = λ clean ground p it when. let o = opens no_spare profile old ground p it in one.on clean ground (record { content = p; kept = o.0 }) (o.1, when);
-  made = λ clean ground p it when. tt;
-  faults = one.faults;
-}
 
 -- a query whose answer is no blob, or a fault
 pub asked_in_vain : (profile : Profile) (spare : Spare) {T U : Type 0} {Gives : T → Option Row → Type 0} {After : Ground → View → U → View → Type 0} (When : Package → Type 0) (old new : State) (sql : List ℕ) (given : Row) (result : Result T Fault)

@@ -9,9 +9,6 @@ use Rattle.sql_forms.specs.Rules.{equal}
 use Rattle.sql_forms.specs.Forms.{equals}
 use Rattle.sql_forms.specs.Tables.{passes}
 use Rattle.sql_forms.proofs.Keys.{equal_text, columns_are}
-use Rattle.sqlite.specs.State.{State}
-use Rattle.mm_definitions.specs.Bounds.{Profile}
-use Rattle.mm_store.specs.Stands.{Ground}
 use Rattle.mm_definitions.specs.Effects.{is_other}
 use Rattle.mm_definitions.specs.Keys.{Text, same_text}
 use Rattle.sqlite.specs.Tree.{Trees}
@@ -21,7 +18,7 @@ use Rattle.mm_store.specs.Kept.{Kept, Spare, no_spare, tile_id, medium_id}
 use Rattle.mm_store.specs.Removals.{without_table_rows, kept_without_table, Freed, FreedByTable}
 use Rattle.mm_store.specs.Rows.{past_rowid}
 use Rattle.mm_store.proofs.Removals.{drops_table, drops_table_keeps}
-use Rattle.mm_blobs.specs.Views.{View, IsSeen, HoldsAs, ListsEach, spare_each}
+use Rattle.mm_blobs.specs.Views.{View, HoldsAs, ListsEach, spare_each}
 use Rattle.mm_blobs.proofs.Keeping.{at_id}
 
 not_false : (b : Bool) → not b ≡ false → b ≡ true
@@ -48,12 +45,3 @@ pub covers : (table : Text) (kept : Kept) (tiles media : List Row) → ListsEach
     → (z : ℤ) → FreedByTable table kept z → spare_each tiles (spare_each media no_spare) z ≡ true
 covers table kept tiles media first second z (inl tile) = or_right (spare_each media no_spare z) (list_any (at_id 0 z) tiles) (first z tile)
 covers table kept tiles media first second z (inr medium) = or_left (spare_each media no_spare z) (list_any (at_id 0 z) tiles) (or_right false (list_any (at_id 0 z) media) (second z medium))
-
--- the blobs of the tiles and of the media are listed, and nothing is changed
-abbrev pub Listed : Profile → Text → List Row → List Row → State → {T : Type 0} → Ground → View → T → View → Type 0
-Listed profile table tiles media now base x t y =
-    (y ≡ x) × IsSeen no_spare profile now base y × ListsEach tiles (Freed tile_id y.kept.tiles (λ k. is_other table k.table)) × ListsEach media (Freed medium_id y.kept.media (λ k. is_other table k.table))
-
--- the table is gone, and these blobs may stand though nothing names them
-abbrev pub Cleared : Profile → Text → Spare → State → {T : Type 0} → Ground → View → T → View → Type 0
-Cleared profile table spare now base x t y = (y.content ≡ without_table_rows table x.content) × IsSeen spare profile now base y

@@ -1,8 +1,6 @@
 -- How calls that are lent a transaction make a command that writes a text as last_change. Each lemma speaks of words.
-use Rattle.std.proofs.Common.{◌≡◌, Some, None, Result, Ok, Err, IfOk, IsTrue, ap, subst, ◌∙◌}
+use Rattle.std.proofs.Common.{◌≡◌, Some, None, Result, Ok, Err, ap, ◌∙◌}
 use Rattle.std.specs.Prelude.{⊤, IsErrAnd}
-use Rattle.sqlite.specs.State.{State}
-use Rattle.sqlite.specs.Held.{state}
 use Rattle.sqlite.specs.Store.{Ghosts}
 use Rattle.sqlite.specs.declared.transaction.Transaction.{Transaction}
 use Rattle.mm_definitions.specs.Bounds.{Profile}
@@ -15,18 +13,10 @@ use Rattle.mm_definitions.specs.declared.answers.Outcome.{Outcome}
 use Rattle.mm_definitions.specs.declared.answers.Outcome.TheVariants.{Done, Refused}
 use Rattle.mm_definitions.specs.Refusals.{Refusal}
 use Rattle.mm_definitions.specs.declared.commands.Command.{Command}
-use Rattle.mm_store.specs.Stands.{Ground, StandsInside}
-use Rattle.mm_store.specs.Shapes.{Answers, refused_as}
-use Rattle.mm_store.specs.Handed.{IsSame, Goes, ChangesWhere, Applies}
-use Rattle.mm_store.proofs.Going.{goes_then, goes_given, goes_less, goes_as, failed, failed_where, any_profile}
-use Rattle.mm_layout.specs.Stamped.{step_at, IsLentAt, IsLentWhere}
+use Rattle.mm_store.specs.Handed.{Goes, ChangesWhere, Applies}
+use Rattle.mm_store.proofs.Going.{goes_then, goes_given, goes_less, goes_as, failed, failed_where}
+use Rattle.mm_layout.specs.Stamped.{step_at}
 use Rattle.mm_layout.specs.Handed.{Lends, LendsWhere, LendsFor, LendsUnstamped}
-
-answered : (profile : Profile) (s : State) (ground : Ground) (p : Package) (c : Command) (at : Text) (r : Result Outcome Fault)
-    → IfOk r (λ it. IsTrue s.is_open × StandsInside profile s ground (step_at p c at) × (refusal p c ≡ refused_as it)) → Answers profile s ground p (refusal p c) (step_at p c at) r
-answered profile s ground p c at (Ok Done) h = (h.2, h.0, h.1)
-answered profile s ground p c at (Ok (Refused why)) h = (h.2, subst (StandsInside profile s ground) (ap (λ r. unless_refused r (done p c at) p) h.2) h.1)
-answered profile s ground p c at (Err e) h = tt
 
 module _ {S : Type 0} {g : Ghosts S} where
   -- what was asked finds no refusal, and the changes make the command
@@ -73,45 +63,3 @@ module _ {S : Type 0} {g : Ghosts S} where
 
   pub unstamped : {a b : Transaction S} {c : Command} {r : Result Outcome Fault} → Applies g a b c r → ((text : Text) (p : Package) → step_at p c text ≡ step p c 0) → LendsUnstamped g a b c r
   unstamped h same = record { goes = λ text. goes_less (h.goes 0) (λ profile p it meets says. (same text p, says)) }
-
-  -- at a profile
-  pub lent_where : {a b : Transaction S} {When : Package → Type 0} {c : Command} {at : Text} {r : Result Outcome Fault} → LendsWhere g a b When c at r
-      → (profile : Profile) → IsLentWhere When profile c at (state g a.conn.now) (state g b.conn.now) r
-  lent_where {b = b} {c = c} {at = at} {r = r} h profile = record {
-    survives = h.goes.survives;
-    on = λ clean ground p it when. h.goes.on clean profile ground p it.inside (it.meets, when);
-    answers = λ clean ground p it when. answered profile (state g b.conn.now) ground p c at r (h.goes.comes clean profile ground p it.inside (it.meets, when));
-    faults = h.goes.faults;
-  }
-
-  pub lent_at : {a b : Transaction S} {c : Command} {at : Text} {r : Result Outcome Fault} → Lends g a b c at r
-      → (profile : Profile) → IsLentAt profile c at (state g a.conn.now) (state g b.conn.now) r
-  lent_at {b = b} {c = c} {at = at} {r = r} h profile = record {
-    survives = h.goes.survives;
-    on = λ clean ground p it any. h.goes.on clean profile ground p it.inside it.meets;
-    answers = λ clean ground p it any. answered profile (state g b.conn.now) ground p c at r (h.goes.comes clean profile ground p it.inside it.meets);
-    faults = h.goes.faults;
-  }
-
-  -- from the lent calls at all profiles, where it is done or failed
-  pub lend_done : {a b : Transaction S} {c : Command} {at : Text} → IsSame a b → ((profile : Profile) → IsLentAt profile c at (state g a.conn.now) (state g b.conn.now) (Ok Done)) → Lends g a b c at (Ok Done)
-  lend_done same lent = record {
-    goes = record {
-      same = same;
-      survives = (lent any_profile).survives;
-      on = λ clean profile ground p it meets. (lent profile).on clean ground p (record { meets = meets; inside = it }) tt;
-      comes = λ clean profile ground p it meets. let end = (lent profile).answers clean ground p (record { meets = meets; inside = it }) tt in (end.1, end.2, end.0);
-      faults = tt;
-    };
-  }
-
-  pub lend_failed : {a b : Transaction S} {c : Command} {at : Text} {e : Fault} → IsSame a b → ((profile : Profile) → IsLentAt profile c at (state g a.conn.now) (state g b.conn.now) (Err e)) → Lends g a b c at (Err e)
-  lend_failed same lent = record {
-    goes = record {
-      same = same;
-      survives = (lent any_profile).survives;
-      on = λ clean profile ground p it meets. (lent profile).on clean ground p (record { meets = meets; inside = it }) tt;
-      comes = λ clean profile ground p it meets. tt;
-      faults = (lent any_profile).faults;
-    };
-  }

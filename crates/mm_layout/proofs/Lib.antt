@@ -1,9 +1,6 @@
 pub mod Refusing
 pub mod Registered
 pub mod Touching
-pub mod Looking
-pub mod Stamping
-pub mod Touched
 pub mod Freeing
 pub mod Joined
 pub mod Lending

@@ -1,6 +1,5 @@
 -- What a call does with the transaction that it is handed, where it writes a last_change. Each leaves it the transaction on the same connection (`same`).
-use Rattle.std.specs.Prelude.{◌≡◌, Result}
-use Rattle.sqlite.specs.Held.{state}
+use Rattle.std.specs.Prelude.{◌≡◌, ⊤, Result}
 use Rattle.sqlite.specs.Store.{Ghosts}
 use Rattle.sqlite.specs.declared.transaction.Transaction.{Transaction}
 use Rattle.mm_definitions.specs.Bounds.{Profile}
@@ -12,9 +11,9 @@ use Rattle.mm_definitions.specs.declared.commands.Command.{Command}
 use Rattle.mm_definitions.specs.Rules.{Meets}
 use Rattle.mm_definitions.specs.Step.{refusal}
 use Rattle.mm_store.specs.Shapes.{refused_as}
-use Rattle.mm_store.specs.Handed.{IsSame, Goes}
+use Rattle.mm_store.specs.Handed.{Goes}
 use Rattle.mm_layout.specs.Stamped.{step_at}
-use Rattle.mm_layout.specs.Touched.{IsTouched}
+use Rattle.mm_layout.specs.Touched.{touched, IsTouched}
 
 module _ {S : Type 0} (g : Ghosts S) (old new : Transaction S) where
   -- it does the command, and writes this text as last_change
@@ -35,5 +34,4 @@ module _ {S : Type 0} (g : Ghosts S) (old new : Transaction S) where
 
   -- it writes this text as last_change of a table that stands
   pub record Touches (table last_change : Text) (result : Result Outcome Fault) : Type 0 where
-    pub same : IsSame old new
-    pub touched : (profile : Profile) → IsTouched profile table last_change (state g old.conn.now) (state g new.conn.now) result
+    pub goes : Goes g old new (λ profile p. ⊤) (touched table last_change) (λ profile. IsTouched table) result

@@ -12,7 +12,7 @@ use Rattle.sql_forms.proofs.Creates.{IsCreate, creates, IsIndexing, indexes}
 use Rattle.mm_definitions.specs.declared.answers.Fault.{Fault}
 use Rattle.mm_store.specs.Stands.{Ground}
 use Rattle.mm_store.specs.Statements.{CommitsNothing, IsRun}
-use Rattle.mm_store.proofs.Shapes.{quiet_then}
+use Rattle.mm_store.proofs.Quiet.{quiet_then}
 use Rattle.mm_store.specs.Creates.{create_gpkg_spatial_ref_sys}
 use Rattle.mm_store.specs.Tables.{schema}
 use Rattle.mm_meta.specs.Opening.{IsBareAt, IsCreating, MakesNoneAgain}

@@ -1,5 +1,5 @@
 -- From tables without a row to the opening package.
-use Rattle.std.proofs.Common.{◌≡◌, ◌≢◌, true≢false, negsuc, ℕ, ℤ, pos, true, false, List, Option, Some, None, Result, Ok, Err, OnOk, IsTrue, refl, sym, ap, subst, subst₂, ◌∙◌, arith, []}
+use Rattle.std.proofs.Common.{◌≡◌, ◌≢◌, true≢false, negsuc, ℕ, ℤ, pos, true, false, List, Option, Some, None, Result, Ok, Err, OnOk, IsTrue, refl, sym, ap, subst, subst₂, ◌∙◌, arith, [], IfOk}
 use Rattle.std.specs.declared.cmp.Ordering.{Ordering}
 use Rattle.std.specs.Ordering.{eq_by_cmp, int_cmp}
 use Rattle.std.specs.FinMap.{FinMap, get, insert, empty, get-empty}
@@ -23,11 +23,15 @@ use Rattle.mm_store.specs.Blobs.{Shelf, Told, Tells}
 use Rattle.mm_store.specs.Kept.{Kept, tile_id, tile_with, medium_id, medium_with, piece_id, piece_with}
 use Rattle.mm_store.specs.Stands.{Holding, Ground, StandsInside, profile_row}
 use Rattle.mm_store.specs.Statements.{IsRun}
-use Rattle.mm_store.specs.Shapes.{IsChange}
+use Rattle.mm_store.specs.Handed.{ChangesWhere}
+use Rattle.sqlite.specs.Held.{state}
+use Rattle.sqlite.specs.Store.{Ghosts}
+use Rattle.sqlite.specs.declared.transaction.Transaction.{Transaction}
 use Rattle.mm_store.proofs.Parts.{holds_none}
 use Rattle.mm_store.proofs.Keys as parts
-use Rattle.mm_store.proofs.Shapes.{quiet_then}
+use Rattle.mm_store.proofs.Quiet.{quiet_then}
 use Rattle.mm_meta.specs.Opening.{nothing, IsBareAt, IsCreating, IsMaking}
+use Rattle.std.specs.Prelude.{⊤}
 
 -- ---- the profile's row alone
 
@@ -112,13 +116,20 @@ module _ (profile : Profile) (from : Schema) where
       → IsMaking {T = U} from a b profile p (Err e)
   creating_gave_up a b mid p e one = record { survives = one.survives; made = λ clean ground bare. tt; faults = one.faults }
 
-  pub making_then : {T U : Type 0} {When : Package → Type 0} {next : Package → Package} (old mid new : State) (p : Package) (t : T) (result : Result U Fault) → IsMaking from old mid profile p (Ok t)
-      → IsChange profile mid new When next result → When p → IsMaking from old new profile (next p) result
-  making_then old mid new p t result one two when = record {
-    survives = quiet_then old mid new one.survives two.survives;
-    made = λ clean ground it. two.made clean ground p (one.made (omega (arith, two.survives.clean)) ground it).1 when;
+  pub making_then : {S T U : Type 0} {g : Ghosts S} {a b : Transaction S} {When : Package → Type 0} {next : Package
+      → Package} {old : State} {p : Package} {t : T} {result : Result U Fault}
+      → IsMaking from old (state g a.conn.now) profile p (Ok t) → ChangesWhere g a b When next result → When p
+      → IsMaking from old (state g b.conn.now) profile (next p) result
+  making_then {U = U} {g = g} {a = a} {b = b} {next = next} {old = old} {p = p} {result = result} one two when = record {
+    survives = quiet_then old (state g a.conn.now) (state g b.conn.now) one.survives two.survives;
+    made = λ clean ground it. less _ _ result
+        (two.comes clean profile ground p (one.made (omega (arith, two.survives.clean)) ground it).1 when);
     faults = two.faults;
   }
+    where
+      less : (A B : Type 0) (r : Result U Fault) → IfOk r (λ _. A × B × ⊤) → OnOk r (A × B)
+      less A B (Ok u) h = (h.0, h.1)
+      less A B (Err e) h = tt
 
   pub making_failed : {T U : Type 0} (old new : State) (p q : Package) (e : Fault) → IsMaking {T = T} from old new profile p (Err e)
       → IsMaking {T = U} from old new profile q (Err e)

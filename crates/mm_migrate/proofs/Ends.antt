@@ -15,7 +15,7 @@ use Rattle.mm_store.specs.Statements.{CommitsNothing}
 use Rattle.mm_store.proofs.Asking.{told_fault}
 use Rattle.mm_store.specs.Seen.{IsSeenAs}
 use Rattle.mm_store.proofs.Seen.{seen_of, settled_still}
-use Rattle.mm_store.proofs.Shapes.{quiet_then}
+use Rattle.mm_store.proofs.Quiet.{quiet_then}
 use Rattle.mm_meta.specs.Look.{AnswersLook, IsLooked, Agrees, ShowsProfile}
 use Rattle.mm_meta.proofs.Looking.{asked_still}
 use Rattle.mm_check.specs.Verdict.{IsVerified}

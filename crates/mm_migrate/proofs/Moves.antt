@@ -1,6 +1,9 @@
 -- From one profile to another within a transaction.
-use Rattle.std.specs.Prelude.{⊤}
-use Rattle.std.proofs.Common.{ℕ, List, Result, Ok, Err, OnOk, IsTrue, sym, subst, ◌∙◌, arith}
+use Rattle.std.specs.Prelude.{IsErrAnd}
+use Rattle.std.proofs.lemmas.Result.{err_from_is_err_and}
+use Rattle.sqlite.specs.Store.{Ghosts}
+use Rattle.sqlite.specs.declared.transaction.Transaction.{Transaction}
+use Rattle.std.proofs.Common.{◌≡◌, ℕ, List, Result, Ok, Err, OnOk, IsTrue, sym, subst, ◌∙◌, arith}
 use Rattle.sqlite.specs.Order.{Row}
 use Rattle.sqlite.specs.Tree.{Trees}
 use Rattle.sqlite.specs.State.{State, ExecutesInside}
@@ -12,10 +15,11 @@ use Rattle.mm_definitions.specs.Package.{Package}
 use Rattle.mm_definitions.specs.declared.answers.Fault.{Fault}
 use Rattle.mm_store.specs.Stands.{Holding, Ground, StandsInside}
 use Rattle.mm_store.specs.Statements.{IsRun}
-use Rattle.mm_store.specs.Shapes.{IsChange}
+use Rattle.mm_store.specs.Handed.{ChangesWhere}
 use Rattle.mm_store.proofs.Steps.{ready_inside, seen}
-use Rattle.mm_store.proofs.Shapes.{quiet_then}
+use Rattle.mm_store.proofs.Quiet.{quiet_then}
 use Rattle.mm_migrate.specs.Moves.{IsScaling}
+use Rattle.mm_migrate.specs.Handed.{Scales, Renumbers}
 
 module _ (from to : Profile) (old new : State) (sql : List ℕ) (given : Row) (tables : Trees → Trees) (When : Package → Type 0) (next : Package → Package) (result : Result (Unit {0}) Fault) (run : IsRun old new sql given result)
     (leaves : (count : ℕ) → IsReady schema old → ExecutesInside 0 sql given old new (Ok count) → Leaves schema old new (tables (seen old)))
@@ -52,17 +56,33 @@ module _ (from to : Profile) (old new : State) (sql : List ℕ) (given : Row) (t
     faults = run.faults;
   }
 
-module _ (from to : Profile) where
-  pub change_then_move : {T U : Type 0} {When : Package → Type 0} {first second : Package → Package} (a b c : State) (x : T) (r : Result U Fault)
-      → IsChange from a b When first (Ok x)
-      → IsScaling from to b c (λ p. ⊤) second r → IsScaling from to a c When (λ p. second (first p)) r
-  change_then_move a b c x r one two = record {
-    survives = quiet_then a b c one.survives two.survives;
-    on = λ clean ground p it when. two.on clean ground _ (one.made (omega (arith, two.survives.clean)) ground p it when).1 tt;
-    made = λ clean ground p it when. two.made clean ground _ (one.made (omega (arith, two.survives.clean)) ground p it when).1 tt;
-    faults = two.faults;
+module _ {S T U : Type 0} {g : Ghosts S} {from to : Profile} {a b : Transaction S} {When : Package
+    → Type 0} {first : Package → Package} {r : Result U Fault} where
+  -- a change of the package, and then of its profile
+  pub scales_then : {c : Transaction S} {x : T} → ChangesWhere g a b When first (Ok x) → Renumbers g b c to r
+      → Scales g a c from to When first r
+  scales_then h k = record {
+    same = k.same ∙ h.same;
+    moved = record {
+      survives = quiet_then _ _ _ h.survives (k.moved from).survives;
+      on = λ clean ground p it when. (k.moved from).on clean ground (first p)
+          (h.comes (omega (arith, (k.moved from).survives.clean)) from ground p it when).1 tt;
+      made = λ clean ground p it when. (k.moved from).made clean ground (first p)
+          (h.comes (omega (arith, (k.moved from).survives.clean)) from ground p it when).1 tt;
+      faults = (k.moved from).faults;
+    };
   }
 
-  pub change_gave_up : {T U : Type 0} {When : Package → Type 0} {first next : Package → Package} (a b : State) (e : Fault)
-      → IsChange from {T = T} a b When first (Err e) → IsScaling from to a b When next {T = U} (Err e)
-  change_gave_up a b e one = record { survives = one.survives; on = one.on; made = λ clean ground p it when. tt; faults = one.faults }
+  pub scales_not : {next : Package → Package} {e : Fault} → ChangesWhere g a b {T = T} When first (Err e) → IsErrAnd r
+      (λ f. f ≡ e) → Scales g a b from to When next r
+  scales_not h is =
+      let p = err_from_is_err_and r is in
+      rw (p.1, p.2) (record {
+        same = h.same;
+        moved = record {
+          survives = h.survives;
+          on = λ clean ground p it when. h.on clean from ground p it when;
+          made = λ clean ground p it when. tt;
+          faults = h.faults;
+        };
+      })

@@ -15,7 +15,7 @@ use Rattle.mm_definitions.specs.Streams.{Written, written_as}
 use Rattle.mm_core.specs.Adopted.{IsAdopted}
 use Rattle.mm_core.specs.Applied.{StandsForCurrent}
 use Rattle.mm_core.specs.Viewers.{LeavesPackage}
-use Rattle.mm_store.proofs.Shapes.{quiet_then}
+use Rattle.mm_store.proofs.Quiet.{quiet_then}
 use Rattle.mm_core.proofs.Adopting.{was_adopted}
 use Rattle.mm_core.proofs.Opened.{nothing_less, opened_settles}
 use Rattle.mm_desk.specs.Sittings.{IsSitting}

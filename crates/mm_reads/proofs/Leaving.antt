@@ -5,7 +5,7 @@ use Rattle.mm_definitions.specs.Bounds.{current}
 use Rattle.mm_definitions.specs.Package.{Package}
 use Rattle.mm_definitions.specs.declared.answers.Fault.{Fault}
 use Rattle.mm_store.specs.Seen.{IsRead}
-use Rattle.mm_store.proofs.Shapes.{quiet_then}
+use Rattle.mm_store.proofs.Quiet.{quiet_then}
 use Rattle.mm_reads.specs.Viewers.{LeavesPackage}
 
 -- where nothing is asked, all is as it was

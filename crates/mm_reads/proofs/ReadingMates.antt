@@ -14,7 +14,7 @@ use Rattle.mm_definitions.specs.Package.{Package}
 use Rattle.mm_definitions.specs.declared.answers.Fault.{Fault}
 use Rattle.mm_definitions.specs.declared.entries.Related.{Related}
 use Rattle.mm_store.specs.Seen.{IsSeenAs, IsRead}
-use Rattle.mm_store.proofs.Shapes.{quiet_then}
+use Rattle.mm_store.proofs.Quiet.{quiet_then}
 use Rattle.mm_walk.specs.Walk.{TakesRows, Ends, IsWalk}
 use Rattle.mm_reads.specs.Related.{GathersMates, ListsMates}
 use Rattle.mm_reads.proofs.Asked as asked

@@ -9,7 +9,7 @@ use Rattle.mm_definitions.specs.declared.answers.Fault.{Fault}
 use Rattle.mm_store.specs.Faults.{IsStoreFault}
 use Rattle.mm_store.specs.Seen.{IsSeenAs}
 use Rattle.mm_store.proofs.Seen.{settled_still}
-use Rattle.mm_store.proofs.Shapes.{quiet_then}
+use Rattle.mm_store.proofs.Quiet.{quiet_then}
 use Rattle.mm_walk.specs.Walk.{OnlyAsks, TakesRows, Ends, IsWalk}
 use Rattle.mm_walk.proofs.Resting.{seen_still, ends_rest}
 use Rattle.mm_reads.specs.Writing.{IsBegun, SendsLine, TakesLine, IsWritten, ListingTellsWriter, IsListed}

@@ -6,7 +6,7 @@ use Rattle.sqlite_disk.specs.declared.Files.{Files}
 use Rattle.sqlite.specs.State.{State, HasCleanDisk, Survives}
 use Rattle.sqlite.proofs.StateLemmas.{survives_then, survives_weaker}
 use Rattle.mm_store.proofs.Seen.{seen_of}
-use Rattle.mm_store.proofs.Shapes.{quiet_then}
+use Rattle.mm_store.proofs.Quiet.{quiet_then}
 use Rattle.mm_definitions.specs.Bounds.{Profile, current}
 use Rattle.mm_definitions.specs.Opening.{opening}
 use Rattle.mm_definitions.specs.Package.{Package}

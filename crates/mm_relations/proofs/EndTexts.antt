@@ -1,30 +1,27 @@
 -- What the row of a relation tells of its two ends.
-use Rattle.std.proofs.Common.{◌≡◌, refl, Ok, Err, List, [], ◌∷◌, Option, Some, None, option_map, Result, sym, ap, subst, ◌∙◌}
+use Rattle.std.proofs.Common.{◌≡◌, List, [], ◌∷◌, Option, Some, None, option_map, Result, sym, ap, subst, ◌∙◌}
 use Rattle.std.specs.FinMap.{get}
-use Rattle.sqlite.specs.declared.error.Error.{Error}
 use Rattle.sqlite.specs.declared.types.Value.TheVariants.{Text as Words}
 use Rattle.sqlite.specs.Order.{Row, column}
-use Rattle.sqlite.specs.State.{State}
 use Rattle.sqlite.specs.Term.{col}
 use Rattle.sql_forms.specs.Maps.{Holds}
 use Rattle.sql_forms.specs.Tables.{Finds}
 use Rattle.sql_forms.proofs.Selects.{selects_one, shows}
 use Rattle.mm_store.specs.Compiled as text
 use Rattle.mm_store.proofs.Selecting as statement
-use Rattle.mm_definitions.specs.Bounds.{Profile}
 use Rattle.mm_definitions.specs.Keys.{Text}
 use Rattle.mm_definitions.specs.Package.{Package, Relation}
 use Rattle.mm_definitions.specs.declared.answers.Fault.{Fault}
 use Rattle.mm_store.specs.Rows.{past_id, relation_row}
-use Rattle.mm_store.specs.Statements.{IsAsked}
-use Rattle.mm_store.specs.Faults.{told_as}
-use Rattle.mm_store.specs.Shapes.{IsLook}
-use Rattle.mm_store.proofs.Asking.{told_fault}
 use Rattle.mm_store.proofs.Keys as parts
 use Rattle.mm_store.proofs.Keys.{by_mapping, columns_after}
 use Rattle.mm_store.proofs.Parts.{finds_none, finds_some}
-use Rattle.mm_store.proofs.Steps.{looks, seen}
+use Rattle.mm_store.proofs.Steps.{looks_first, seen}
 use Rattle.mm_relations.specs.Relations.{ends}
+use Rattle.sqlite.specs.Held.{state}
+use Rattle.sqlite.specs.Store.{Ghosts}
+use Rattle.sqlite.specs.declared.transaction.Transaction.{Transaction}
+use Rattle.mm_store.specs.Handed.{AsksFirst, Looks}
 
 -- the first row shows the two ends of the relation, if it stands
 abbrev pub EndsShown : Option Relation → Option Row → Type 0
@@ -45,14 +42,17 @@ ends_found p mapping rows h (Some x) found =
       ap (λ (r : Row). column r 1) at.4 ∙ columns_after at.2 (relation_row mapping at.0) 2 at.3,
     )
 
-pub ends_look : (profile : Profile) (old new : State) (mapping : Text) (given : Row) → given ≡ Words mapping ∷ []
-    → (result : Result (Option Row) Fault) → IsAsked old new text.ends_of_relation given (λ (it : Option Row) first. it ≡ first) result
-    → IsLook profile old new (λ p found. EndsShown (get p.relations mapping) found) result
-ends_look profile old new mapping given same result asked = looks profile old new text.ends_of_relation given _ (λ p found. EndsShown (get p.relations mapping) found) result asked (λ x first ready shown gives.
-    let read = selects_one _ _ _ _ _ _ statement.ends_of_relation old new ready.schema_is (Words mapping ∷ []) given same first shown in
-    (read.0, λ p h. subst (EndsShown (get p.relations mapping)) (sym gives) (ends_found p mapping (seen old 10) h.relations first read.1)))
+pub ends_look : {S : Type 0} {g : Ghosts S} {a b : Transaction S} (mapping : Text) {given : Row}
+    → given ≡ Words mapping ∷ [] → {result : Result (Option Row) Fault}
+    → AsksFirst g a b text.ends_of_relation given (λ (it : Option Row) first. it ≡ first) result
+    → Looks g a b (λ p found. EndsShown (get p.relations mapping) found) result
+ends_look {g = g} {a = a} mapping {given = given} same h = looks_first h (λ x first ready shown gives.
+    let read = selects_one _ _ _ _ _ _ statement.ends_of_relation _ _ ready.schema_is (Words mapping ∷ []) given same first shown in (
+      read.0,
+      λ version p h. subst (EndsShown (get p.relations mapping)) (sym gives)
+          (ends_found p mapping (seen (state g a.conn.now) 10) h.relations first read.1),
+    ))
 
--- the two texts that were read are the relation's ends
 pub ends_told : (v : Option Relation) (x : Row) → EndsShown v (Some x) → (one two : Text) → column x 0 ≡ Words one → column x 1 ≡ Words two
     → option_map ends v ≡ Some (one, two)
 ends_told v x shown one two a b =
@@ -63,6 +63,3 @@ ends_told v x shown one two a b =
     ap (option_map ends) shown.1 ∙ (λ i. Some (f i, g i))
 
 -- an error after a look is told as it is
-pub look_told : (profile : Profile) {T U : Type 0} {Says : Package → T → Type 0} {Less : Package → U → Type 0} (old new : State) (x : T) (e : Error)
-    → IsLook profile old new Says (Ok x) → IsLook profile old new Less (Err (told_as e))
-look_told profile old new x e look = record { survives = look.survives; on = look.on; looked = λ clean ground p it. tt; faults = told_fault e (told_as e) refl }

@@ -1,5 +1,5 @@
 -- The first piece by falling number is the last one, and its number is that of the pieces.
-use Rattle.std.proofs.Common.{◌≡◌, ℕ, zero, suc, ℤ, pos, ◌<ℤ◌, ◌≤ℤ◌, true, false, ◌&&◌, List, [], ◌∷◌, Option, Some, None, Result, Ok, Err, IfOk, is_some, refl, sym, ap, subst, ◌∙◌, arith}
+use Rattle.std.proofs.Common.{◌≡◌, ℕ, zero, suc, ℤ, pos, ◌<ℤ◌, ◌≤ℤ◌, true, false, ◌&&◌, List, [], ◌∷◌, Option, Some, None, is_some, refl, sym, ap, subst, ◌∙◌, arith}
 use Rattle.std.proofs.lemmas.Int.{ints}
 use Rattle.std.specs.declared.cmp.Ordering.{Ordering}
 use Rattle.std.specs.declared.cmp.Ordering.TheVariants.{Less, Equal, Greater}
@@ -8,7 +8,6 @@ use Rattle.std.specs.Cmp.{int_ranks}
 use Rattle.std.specs.FinMap.{FinMap, get, contains_key}
 use Rattle.std.proofs.lemmas.Bool.{both_ways}
 use Rattle.sqlite.specs.declared.types.Value.TheVariants.{Int, Text as Words}
-use Rattle.sqlite.specs.State.{State}
 use Rattle.sql_forms.specs.Collation.TheVariants.{Binary}
 use Rattle.sql_forms.specs.Key.{Key}
 use Rattle.sql_forms.specs.Order.{value_cmp}
@@ -31,13 +30,11 @@ use Rattle.mm_definitions.specs.Keys.{Text, same_text, PieceKey, piece, piece_cm
 use Rattle.mm_definitions.specs.Package.{Package, PiecesPart, open_state}
 use Rattle.mm_definitions.specs.Parts.{Stands}
 use Rattle.mm_definitions.specs.Rules.{Meets, IsNumbered}
-use Rattle.mm_definitions.specs.declared.answers.Fault.{Fault}
 use Rattle.mm_definitions.proofs.Parts.{some_of, same_itself}
 use Rattle.mm_definitions.proofs.KeyLaws.{texts}
 use Rattle.mm_laws.proofs.Counted.{piece_count-is}
 use Rattle.mm_laws.proofs.KindFacts.{are_same}
 use Rattle.mm_store.specs.Rows.{past_rowid, StagedRow, staged_row}
-use Rattle.mm_store.specs.Seen.{IsRead}
 use Rattle.mm_staging.specs.States.{GivesPieceNumber, IsLast}
 
 not_less : (a b : ℤ) → is_lt (int_cmp a b) ≡ false → b ≤ℤ a
@@ -128,19 +125,3 @@ module _ (profile : Profile) (p : Package) (edition : Text) (meets : Meets profi
 
   pub none_is : IsLast p.pieces edition None → piece_count p edition ≡ 0
   none_is is = let it = meets.q15.numbered edition open_is in piece_count-is p edition it.0 it.2 ∙ counts_none p.pieces edition it.0 it.2 is
-
--- ---- a read of a package that meets the rules
-
-under : {T : Type 0} (A : Type 0) (B : T → Type 0) (r : Result T Fault) → IfOk r (λ x. A → B x) → A → IfOk r B
-under A B (Ok x) h a = h a
-under A B (Err e) h a = tt
-
-pub read_of_rules : {T : Type 0} (profile : Profile) (old new : State) (Says : Package → T → Type 0) (r : Result T Fault)
-    → IsRead profile old new (λ p x. Meets profile p → Says p x) r → IsRead profile old new Says r
-read_of_rules profile old new Says r it = record {
-  survives = it.survives;
-  seen = it.seen;
-  settled = it.settled;
-  says = λ clean p meets was. under (Meets profile p) (Says p) r (it.says clean p meets was) meets;
-  faults = it.faults;
-}

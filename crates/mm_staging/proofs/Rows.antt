@@ -1,5 +1,5 @@
 -- What the row of a staged piece shows.
-use Rattle.std.proofs.Common.{◌≡◌, ℕ, ℤ, Bool, true, false, not, ◌&&◌, [], ◌∷◌, List, Option, Some, None, refl, sym, ap, subst, ◌∙◌}
+use Rattle.std.proofs.Common.{◌≡◌, ℕ, ℤ, Bool, true, false, not, ◌&&◌, [], ◌∷◌, List, Option, Some, None, refl, sym, ap, subst, ◌∙◌, Result, Ok}
 use Rattle.sqlite.specs.declared.types.Value.TheVariants.{Int, Text as Words}
 use Rattle.sqlite.specs.Order.{Row, column}
 use Rattle.sqlite.specs.Term.{Term, col}
@@ -21,6 +21,14 @@ use Rattle.mm_store.proofs.Parts.{finds_none, finds_some}
 use Rattle.mm_store.proofs.Keys as parts
 use Rattle.mm_store.proofs.Keys.{by_piece, by_text}
 use Rattle.mm_staging.specs.Kept.{Shows, IsPieceRow}
+use Rattle.sqlite.specs.Held.{state}
+use Rattle.sqlite.specs.Store.{Ghosts}
+use Rattle.sqlite.specs.declared.transaction.Transaction.{Transaction}
+use Rattle.mm_definitions.specs.declared.answers.Fault.{Fault}
+use Rattle.mm_blobs.specs.Handed as handed
+use Rattle.mm_blobs.specs.Views.{View, IsSeen}
+use Rattle.mm_blobs.proofs.Moving.{then_moves_open}
+use Rattle.mm_staging.specs.Handed.{TellsBytesOf}
 
 abbrev pub piece_terms : List Term
 piece_terms = col 1 3 ∷ col 1 4 ∷ col 1 5 ∷ col 1 6 ∷ col 1 7 ∷ col 1 8 ∷ col 1 9 ∷ col 1 10 ∷ col 1 11 ∷ col 1 12 ∷ col 1 13 ∷ col 1 14 ∷ []
@@ -111,3 +119,17 @@ and_true false = refl
 
 pub of_other : (edition : Text) (r : Row) (k : PieceKey) (v : StagedRow) → past_rowid r ≡ staged_row k v → not (by_text edition r) ≡ is_other edition k.edition
 of_other edition r k v is = ap not (and_true _ ∙ ap (λ x. equal Binary x (Words edition)) (columns_are r (staged_row k v) 0 is) ∙ equal_text k.edition edition)
+
+-- a look at a row, and then at the bytes of the blob that it names
+pub finds_bytes : {S T U : Type 0} {g : Ghosts S} {a b c : Transaction S} {Says : View → T → Type 0} {x : T}
+    {row : Row} {bytes_of : U → List ℕ}
+    {r : Result U Fault} → handed.Finds g a b Says (Ok x) → TellsBytesOf g b c row bytes_of r
+    → handed.Finds g a c (λ v it. Says v x × ((blob : Option ℤ) → column row 11 ≡ maybe blob → StandsAt v.kept.shelf blob (bytes_of it))) r
+finds_bytes {g = g} {c = c} {Says = Says} {x = x} {row = row} {bytes_of = bytes_of} {r = r} h k = record {
+  same = k.same ∙ h.same;
+  found = λ profile spare.
+      then_moves_open (λ base v it w. (w ≡ v) × IsSeen spare profile (state g c.conn.now) base w
+      × (Says w x × ((blob : Option ℤ) → column row 11 ≡ maybe blob → StandsAt w.kept.shelf blob (bytes_of it))))
+      _ _ _ x r (h.found profile spare) (k.told profile spare) (λ base v w up it mid. (up, mid.1))
+      (λ base v w z it o mid last. (last.0 ∙ mid.0, last.1, (subst (λ u. Says u x) (sym last.0) mid.2, last.2)));
+}

@@ -1,30 +1,20 @@
 -- How calls that are lent a transaction make a command. Each lemma speaks of words.
-use Rattle.std.proofs.Common.{◌≡◌, ℕ, Some, None, Result, Ok, Err, IfOk, IsTrue, ap, subst, ◌∙◌}
+use Rattle.std.proofs.Common.{◌≡◌, ℕ, Some, None, Result, Ok, Err, ap, ◌∙◌}
 use Rattle.std.specs.Prelude.{⊤, IsErrAnd}
-use Rattle.sqlite.specs.State.{State}
-use Rattle.sqlite.specs.Held.{state}
 use Rattle.sqlite.specs.Store.{Ghosts}
 use Rattle.sqlite.specs.declared.transaction.Transaction.{Transaction}
 use Rattle.mm_definitions.specs.Bounds.{Profile}
 use Rattle.mm_definitions.specs.Package.{Package}
 use Rattle.mm_definitions.specs.Rules.{Meets}
 use Rattle.mm_definitions.specs.Stamp.{stamp}
-use Rattle.mm_definitions.specs.Step.{refusal, done, step, unless_refused}
+use Rattle.mm_definitions.specs.Step.{refusal, done, unless_refused}
 use Rattle.mm_definitions.specs.declared.answers.Fault.{Fault}
 use Rattle.mm_definitions.specs.declared.answers.Outcome.{Outcome}
 use Rattle.mm_definitions.specs.declared.answers.Outcome.TheVariants.{Done, Refused}
 use Rattle.mm_definitions.specs.Refusals.{Refusal}
 use Rattle.mm_definitions.specs.declared.commands.Command.{Command}
-use Rattle.mm_store.specs.Stands.{Ground, StandsInside}
-use Rattle.mm_store.specs.Shapes.{Answers, IsLent, refused_as}
 use Rattle.mm_store.specs.Handed.{Goes, ChangesWhere, Applies}
 use Rattle.mm_store.proofs.Going.{goes_then, goes_given, goes_as, failed, failed_where}
-
-answered : (profile : Profile) (s : State) (ground : Ground) (p : Package) (c : Command) (moment : ℕ) (r : Result Outcome Fault)
-    → IfOk r (λ it. IsTrue s.is_open × StandsInside profile s ground (step p c moment) × (refusal p c ≡ refused_as it)) → Answers profile s ground p (refusal p c) (step p c moment) r
-answered profile s ground p c moment (Ok Done) h = (h.2, h.0, h.1)
-answered profile s ground p c moment (Ok (Refused why)) h = (h.2, subst (StandsInside profile s ground) (ap (λ r. unless_refused r (done p c (stamp moment)) p) h.2) h.1)
-answered profile s ground p c moment (Err e) h = tt
 
 module _ {S : Type 0} {g : Ghosts S} {c : Command} where
   -- what was asked finds the refusal
@@ -51,13 +41,3 @@ module _ {S : Type 0} {g : Ghosts S} {c : Command} where
     pub applies_not : {e : Fault} {r : Result Outcome Fault} → Goes g a b (λ profile p. ⊤) (λ p it. p) Says (Ok x) → ChangesWhere g b d {T = U} When change (Err e)
         → ((profile : Profile) (p : Package) → Meets profile p → Says profile p x → When p) → IsErrAnd r (λ f. f ≡ e) → Applies g a d c r
     applies_not h k finds is = record { goes = λ moment. failed_where (goes_then (goes_given {When = Meets} h (λ profile p meets. tt)) k finds) is (λ profile p meets. meets) }
-
--- at a profile and a moment
-pub applied_at : {S : Type 0} {g : Ghosts S} {a b : Transaction S} {c : Command} {r : Result Outcome Fault} → Applies g a b c r
-    → (profile : Profile) (moment : ℕ) → IsLent profile c moment (state g a.conn.now) (state g b.conn.now) r
-applied_at {g = g} {b = b} {c = c} {r = r} h profile moment = record {
-  survives = (h.goes moment).survives;
-  on = λ clean ground p it. (h.goes moment).on clean profile ground p it.inside it.meets;
-  answers = λ clean ground p it. answered profile (state g b.conn.now) ground p c moment r ((h.goes moment).comes clean profile ground p it.inside it.meets);
-  faults = (h.goes moment).faults;
-}

@@ -1,5 +1,5 @@
 -- How calls that are lent a transaction on a package make one call. Each lemma speaks of words: of all profiles, and of the transaction itself.
-use Rattle.std.proofs.Common.{◌≡◌, pos, false, Result, Ok, Err, IfOk, OnOk, IfErr, refl, sym, subst, ◌∙◌, arith}
+use Rattle.std.proofs.Common.{◌≡◌, pos, false, Result, Ok, Err, IfOk, IfErr, refl, sym, subst, ◌∙◌, arith}
 use Rattle.std.specs.Prelude.{⊤, IsErrAnd}
 use Rattle.sqlite.specs.Held.{state}
 use Rattle.sqlite.specs.Store.{Ghosts}
@@ -9,9 +9,8 @@ use Rattle.mm_definitions.specs.Package.{Package}
 use Rattle.mm_definitions.specs.declared.answers.Fault.{Fault}
 use Rattle.mm_store.specs.Stands.{StandsInside}
 use Rattle.mm_store.specs.Faults.{IsStoreFault}
-use Rattle.mm_store.specs.Shapes.{IsLook, IsChange}
-use Rattle.mm_store.specs.Handed.{IsSame, Goes, ChangesWhere, Changes}
-use Rattle.mm_store.proofs.Shapes.{quiet_then}
+use Rattle.mm_store.specs.Handed.{Goes, ChangesWhere, Changes}
+use Rattle.mm_store.proofs.Quiet.{quiet_then}
 
 parts : {U : Type 0} (A : Type 0) (B C D E : U → Type 0) (r : Result U Fault) → IfOk r (λ y. A × B y × C y) → ((y : U) → C y → (B y → D y) × E y) → IfOk r (λ y. A × D y × E y)
 parts A B C D E (Ok y) h f = let k = f y h.2 in (h.0, k.0 h.1, k.1)
@@ -20,14 +19,6 @@ parts A B C D E (Err e) h f = tt
 told : {U : Type 0} (A : U → Type 0) (r : Result U Fault) (e : Fault) → IsErrAnd r (λ f. f ≡ e) → IsStoreFault e → IfOk r A × IfErr r IsStoreFault
 told A (Ok y) e h k = absurd h
 told A (Err f) e h k = (tt, subst IsStoreFault (sym h) k)
-
-made : {T : Type 0} (A B : Type 0) (r : Result T Fault) → OnOk r (A × B) → IfOk r (λ _. A × B × ⊤)
-made A B (Ok x) h = (h.0, h.1, tt)
-made A B (Err e) h = tt
-
-unmade : {T : Type 0} (A B : Type 0) (r : Result T Fault) → IfOk r (λ _. A × B × ⊤) → OnOk r (A × B)
-unmade A B (Ok x) h = (h.0, h.1)
-unmade A B (Err e) h = tt
 
 pub any_profile : Profile
 any_profile = record { version = pos 0; coordinate = 0; pixel_size = 0; matrix_pieces = false }
@@ -146,42 +137,14 @@ module _ {S : Type 0} {g : Ghosts S} where
       → Goes g a b (λ profile p. ⊤) one Says (Err e) → IsErrAnd r (λ f. f ≡ e) → Goes g a b Where two Less r
   failed h is = failed_where h is (λ profile p it. tt)
 
-  -- ---- at a profile
-
-  pub look_at : {T : Type 0} {a b : Transaction S} {Says : Profile → Package → T → Type 0} {r : Result T Fault} → Goes g a b (λ profile p. ⊤) (λ p it. p) Says r
-      → (profile : Profile) → IsLook profile (state g a.conn.now) (state g b.conn.now) (Says profile) r
-  look_at h profile = record {
+  -- what the call answered is told as a fault
+  pub denied : {T U : Type 0} {a b : Transaction S} {Where : Profile → Package → Type 0} {one : Package → T → Package}
+      {two : Package → U → Package} {Says : Profile → Package → T → Type 0} {Less : Profile → Package → U → Type 0} {x : T} {e : Fault}
+      → Goes g a b (λ profile p. ⊤) one Says (Ok x) → IsStoreFault e → Goes g a b Where two Less (Err e)
+  denied h is = record {
+    same = h.same;
     survives = h.survives;
-    on = λ clean ground p it. h.on clean profile ground p it tt;
-    looked = λ clean ground p it. h.comes clean profile ground p it tt;
-    faults = h.faults;
-  }
-
-  pub look_by : {T : Type 0} {a b : Transaction S} {Says : Profile → Package → T → Type 0} {r : Result T Fault} → IsSame a b
-      → ((profile : Profile) → IsLook profile (state g a.conn.now) (state g b.conn.now) (Says profile) r) → Goes g a b (λ profile p. ⊤) (λ p it. p) Says r
-  look_by same look = record {
-    same = same;
-    survives = (look any_profile).survives;
-    on = λ clean profile ground p it when. (look profile).on clean ground p it;
-    comes = λ clean profile ground p it when. (look profile).looked clean ground p it;
-    faults = (look any_profile).faults;
-  }
-
-  pub change_at : {T : Type 0} {a b : Transaction S} {When : Package → Type 0} {one : Package → Package} {r : Result T Fault} → ChangesWhere g a b When one r
-      → (profile : Profile) → IsChange profile (state g a.conn.now) (state g b.conn.now) When one r
-  change_at {r = r} h profile = record {
-    survives = h.survives;
-    on = λ clean ground p it when. h.on clean profile ground p it when;
-    made = λ clean ground p it when. unmade _ _ r (h.comes clean profile ground p it when);
-    faults = h.faults;
-  }
-
-  pub change_by : {T : Type 0} {a b : Transaction S} {When : Package → Type 0} {one : Package → Package} {r : Result T Fault} → IsSame a b
-      → ((profile : Profile) → IsChange profile (state g a.conn.now) (state g b.conn.now) When one r) → ChangesWhere g a b When one r
-  change_by {r = r} same change = record {
-    same = same;
-    survives = (change any_profile).survives;
-    on = λ clean profile ground p it when. (change profile).on clean ground p it when;
-    comes = λ clean profile ground p it when. made _ _ r ((change profile).made clean ground p it when);
-    faults = (change any_profile).faults;
+    on = λ clean profile ground p it when. h.on clean profile ground p it tt;
+    comes = λ clean profile ground p it when. tt;
+    faults = is;
   }

@@ -3,8 +3,8 @@ pub mod Keys
 pub mod Puts
 pub mod Single
 pub mod Asking
+pub mod Quiet
 pub mod Steps
-pub mod Shapes
 pub mod Transactions
 pub mod Extensions
 pub mod Entries

@@ -1,5 +1,5 @@
 -- What a row that was looked up tells of its part.
-use Rattle.std.proofs.Common.{◌≡◌, ℕ, Bool, ℤ, List, Option, Some, None, option_map, string_bytes, String, sym, ap, subst, ◌∙◌}
+use Rattle.std.proofs.Common.{◌≡◌, ℕ, Bool, ℤ, List, Option, Some, None, option_map, string_bytes, String, refl, sym, ap, subst, ◌∙◌}
 use Rattle.std.specs.declared.cmp.Ordering.{Ordering}
 use Rattle.std.specs.FinMap.{FinMap, get}
 use Rattle.sqlite.specs.declared.types.Value.TheVariants.{Int, Text as Words}
@@ -8,6 +8,10 @@ use Rattle.sql_forms.specs.Tables.{Finds}
 use Rattle.sql_forms.specs.Maps.{Holds}
 use Rattle.mm_store.specs.Statements.{GivesText, GivesPair}
 use Rattle.mm_store.proofs.Parts.{IsPart, finds_none, finds_some}
+
+pub mapped_same : {X : Type 0} (o : Option X) → o ≡ option_map (λ x. x) o
+mapped_same None = refl
+mapped_same (Some x) = refl
 
 module _ {K V : Type 0} {R : K → K → Ordering} {part : Row → Row} {row_of : K → V → Row} {test : K → Row → Bool} (it : IsPart R part row_of test) (rows : List Row) (m : FinMap R V) (h : Holds part row_of rows m) (k : K) where
   -- a text of the entry, where the row shows it in its first column

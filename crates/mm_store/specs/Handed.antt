@@ -15,7 +15,7 @@ use Rattle.mm_definitions.specs.declared.answers.Fault.{Fault}
 use Rattle.mm_definitions.specs.declared.answers.Outcome.{Outcome}
 use Rattle.mm_definitions.specs.declared.commands.Command.{Command}
 use Rattle.mm_store.specs.Stands.{Ground, StandsOn, StandsInside}
-use Rattle.mm_store.specs.Shapes.{IsChange, refused_as}
+use Rattle.mm_store.specs.Shapes.{refused_as}
 use Rattle.mm_store.specs.Faults.{IsStoreFault, told_as}
 use Rattle.mm_store.specs.Statements.{CommitsNothing, AreGiven, IsAsked, IsRun}
 
@@ -85,7 +85,7 @@ module _ {S : Type 0} (g : Ghosts S) (old new : Transaction S) where
     -- it makes the change for which this holds
     pub record ChangesFor {X : Type 0} (When : X → Package → Type 0) (next : X → Package → Package) (result : Result T Fault) : Type 0 where
       pub same : IsSame old new
-      pub change : (profile : Profile) (x : X) → IsChange profile (state g old.conn.now) (state g new.conn.now) (When x) (next x) result
+      pub goes : (x : X) → ChangesWhere (When x) (next x) result
 
   -- ---- a command
 

@@ -1,5 +1,5 @@
--- What a call does that is lent a transaction on a package.
-use Rattle.std.specs.Prelude.{◌≡◌, ℕ, ⊤, Option, Some, None, Result, Ok, Err, OnOk, IfOk, IfErr, IsTrue}
+-- What a command comes to that is lent a transaction, and how it is tried by one that rolls back after a refusal.
+use Rattle.std.specs.Prelude.{◌≡◌, ℕ, ⊤, Option, Some, None, Result, Ok, Err, IfErr, IsTrue}
 use Rattle.sqlite.specs.State.{State, HasCleanDisk}
 use Rattle.mm_definitions.specs.Bounds.{Profile}
 use Rattle.mm_definitions.specs.Package.{Package}
@@ -14,45 +14,16 @@ use Rattle.mm_store.specs.Stands.{Ground, StandsOn, StandsInside}
 use Rattle.mm_store.specs.Faults.{IsStoreFault}
 use Rattle.mm_store.specs.Statements.{CommitsNothing}
 
--- In each shape `on` says that a rollback goes back to where it did, after a fault too, and `faults` which faults there are.
-
--- ---- one statement, of any package
-
-module _ (profile : Profile) {T : Type 0} (old new : State) where
-  -- a call that only looks, and answers so of the package
-  pub record IsLook (Says : Package → T → Type 0) (result : Result T Fault) : Type 0 where
-    pub survives : CommitsNothing old new
-    pub on : HasCleanDisk new → (ground : Ground) (p : Package) → StandsInside profile old ground p → StandsOn new ground
-    pub looked : HasCleanDisk new → (ground : Ground) (p : Package) → StandsInside profile old ground p
-        → IfOk result (λ it. IsTrue new.is_open × StandsInside profile new ground p × Says p it)
-    pub faults : IfErr result IsStoreFault
-
-  -- a call that makes one change where it may
-  pub record IsChange (When : Package → Type 0) (next : Package → Package) (result : Result T Fault) : Type 0 where
-    pub survives : CommitsNothing old new
-    pub on : HasCleanDisk new → (ground : Ground) (p : Package) → StandsInside profile old ground p → When p → StandsOn new ground
-    pub made : HasCleanDisk new → (ground : Ground) (p : Package) → StandsInside profile old ground p → When p
-        → OnOk result (IsTrue new.is_open × StandsInside profile new ground (next p))
-    pub faults : IfErr result IsStoreFault
-
--- ---- a command
-
 -- done only where it is not refused, and then the transaction stands for the package after it
 abbrev pub IsDone : Profile → State → Ground → Option Refusal → Package → Type 0
 IsDone profile new ground refusal next = (refusal ≡ None) × IsTrue new.is_open × StandsInside profile new ground next
-
--- `Done` as above; `Refused` only with this refusal, and then the transaction stands for the package as before; a fault says nothing
-abbrev pub Answers : Profile → State → Ground → Package → Option Refusal → Package → Result Outcome Fault → Type 0
-Answers profile new ground p refusal next (Ok Done) = IsDone profile new ground refusal next
-Answers profile new ground p refusal next (Ok (Refused why)) = (refusal ≡ Some why) × StandsInside profile new ground p
-Answers profile new ground p refusal next (Err fault) = ⊤
 
 -- why the command was refused, if it was
 abbrev pub refused_as : Outcome → Option Refusal
 refused_as Done = None
 refused_as (Refused why) = Some why
 
--- the same with nothing said of the transaction after a refusal
+-- `Done` as above; `Refused` only with this refusal, and a fault says nothing
 abbrev pub Tries : Profile → State → Ground → Package → Option Refusal → Package → Result Outcome Fault → Type 0
 Tries profile new ground p refusal next (Ok Done) = IsDone profile new ground refusal next
 Tries profile new ground p refusal next (Ok (Refused why)) = refusal ≡ Some why
@@ -64,15 +35,7 @@ pub record ComesTo (profile : Profile) (s : State) (ground : Ground) (p : Packag
   pub inside : StandsInside profile s ground p
 
 module _ (profile : Profile) (c : Command) (moment : ℕ) (old new : State) (result : Result Outcome Fault) where
-  -- The shape of each command that is lent a transaction.
-  pub record IsLent : Type 0 where
-    pub survives : CommitsNothing old new
-    pub on : HasCleanDisk new → (ground : Ground) (p : Package) → ComesTo profile old ground p → StandsOn new ground
-    pub answers : HasCleanDisk new → (ground : Ground) (p : Package) → ComesTo profile old ground p
-        → Answers profile new ground p (refusal p c) (step p c moment) result
-    pub faults : IfErr result IsStoreFault
-
-  -- The weaker shape of a command of many steps, whose transaction is rolled back after a refusal.
+  -- a command whose transaction is rolled back after a refusal: `on` says that a rollback goes back to where it did, after a fault too
   pub record IsTried : Type 0 where
     pub survives : CommitsNothing old new
     pub on : HasCleanDisk new → (ground : Ground) (p : Package) → ComesTo profile old ground p → StandsOn new ground

@@ -8,7 +8,7 @@ use Rattle.mm_definitions.specs.Bounds.{Profile}
 use Rattle.mm_definitions.specs.Package.{Package}
 use Rattle.mm_definitions.specs.declared.answers.Fault.{Fault}
 use Rattle.mm_blobs.proofs.Releasing.{commits_nothing}
-use Rattle.mm_store.proofs.Shapes.{quiet_then}
+use Rattle.mm_store.proofs.Quiet.{quiet_then}
 use Rattle.mm_store.specs.Seen.{IsSeenAs}
 use Rattle.mm_walk.specs.Check.{IsCheck}
 use Rattle.mm_walk.proofs.Compose.{as_told}

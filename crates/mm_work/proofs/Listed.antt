@@ -3,7 +3,7 @@ use Rattle.std.proofs.Common.{ℕ, Bool, List, Option, Ok, Err, arith}
 use Rattle.sqlite.specs.State.{State, HasCleanDisk}
 use Rattle.mm_definitions.specs.Bounds.{current}
 use Rattle.mm_store.proofs.Seen.{seen_of}
-use Rattle.mm_store.proofs.Shapes.{quiet_then}
+use Rattle.mm_store.proofs.Quiet.{quiet_then}
 use Rattle.mm_core.proofs.Adopting.{was_adopted}
 use Rattle.mm_core.specs.Adopted.{IsAdopted}
 use Rattle.mm_core.specs.Listing.{listing}

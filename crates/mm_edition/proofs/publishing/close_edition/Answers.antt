@@ -1,11 +1,9 @@
-use Rattle.std.proofs.Common.{rules}
-use Rattle.mm_store.proofs.Shapes.{changes_then}
 use Rattle.mm_store.proofs.Going.{failed_where}
-use Rattle.mm_store.proofs.Going.{change_at, change_by}
+use Rattle.mm_store.proofs.Going.{changes_then}
 use Rattle.mm_edition.proofs.publishing.close_edition.Goals as goal
 
 pub returns : goal.returns
-returns g c = change_by (search rules) (λ profile. changes_then profile _ _ _ _ _ (change_at c.in_ok-mark_published.ensures profile) (change_at c.delete_pieces.ensures profile) (λ p any. tt))
+returns g c = changes_then c.in_ok-mark_published.ensures c.delete_pieces.ensures (λ p any. tt)
 
 pub returns-in_err-mark_published : goal.returns-in_err-mark_published
 returns-in_err-mark_published g c =

@@ -1,9 +1,10 @@
 use Rattle.std.proofs.Common.{refl}
-use Rattle.mm_items.proofs.Giving.{removes, removes_not, changes_unasked}
+use Rattle.mm_items.proofs.Giving.{removes, removes_not}
+use Rattle.mm_blobs.proofs.Viewing.{finds_failed}
 use Rattle.mm_items.proofs.tiles.delete_tile.Goals as goal
 
 pub returns-in_err-stands : goal.returns-in_err-stands
-returns-in_err-stands g c = changes_unasked c.in_err-stands.ensures c.from_residual.ensures.1
+returns-in_err-stands g c = finds_failed c.in_err-stands.ensures c.from_residual.ensures.1
 
 pub returns : goal.returns
 returns g c =

@@ -1,23 +1,18 @@
-use Rattle.std.proofs.Common.{◌≡◌, [], ◌∷◌, ◌∙◌, rules}
-use Rattle.std.specs.FinMap.{contains_key}
+use Rattle.std.proofs.Common.{[], ◌∷◌, ◌∙◌, rules}
 use Rattle.sqlite.specs.declared.types.Value.TheVariants.{Int, Text as Words}
-use Rattle.sqlite.specs.Held.{state}
-use Rattle.sql_forms.proofs.Selects.{selects_any}
 use Rattle.mm_definitions.specs.Keys.{item}
 use Rattle.mm_store.proofs.Selecting as statement
 use Rattle.mm_store.specs.Kept.{medium_id, medium_with}
 use Rattle.mm_store.proofs.Parts.{found}
 use Rattle.mm_blobs.proofs.Naming.{told_there}
 use Rattle.mm_store.proofs.Keys as parts
-use Rattle.mm_store.proofs.Steps.{looks, seen}
-use Rattle.mm_store.proofs.Going.{look_by}
+use Rattle.mm_store.proofs.Steps.{asks_any}
 use Rattle.mm_layout.proofs.items.has_medium.Goals as goal
 
 pub returns : goal.returns
-returns g c = look_by (search rules) (λ profile.
-    let old = state g.S.Store c.args.tx.now.conn.now in
-    let new = state g.S.Store c.exists.new.tx.conn.now in
+returns g c =
     let key = item c.args.table.now c.args.id in
-    looks profile old new _ _ _ (λ p found. found ≡ contains_key p.media key) c.exists.result c.exists.ensures.asked (λ x first ready shown gives.
-    let read = selects_any _ _ _ _ _ _ statement.has_medium old new ready.schema_is (Words key.table ∷ Int key.id ∷ []) _ (search rules) first shown in
-    (read.0, λ p h. gives ∙ read.1 ∙ found parts.media (seen old 19) h.kept.media h.keeps.media key ∙ told_there medium_id medium_with h.kept.shelf h.kept.media p.media h.keeps.media_told key)))
+    asks_any statement.has_medium c.exists.ensures (Words key.table ∷ Int key.id ∷ []) (search rules)
+    (λ version p db h.
+    found parts.media (db 19) h.kept.media h.keeps.media key
+    ∙ told_there medium_id medium_with h.kept.shelf h.kept.media p.media h.keeps.media_told key)

@@ -1,19 +1,12 @@
-use Rattle.std.proofs.Common.{◌≡◌, [], ◌∷◌, ◌∙◌, rules}
-use Rattle.std.specs.FinMap.{contains_key}
+use Rattle.std.proofs.Common.{[], ◌∷◌, rules}
 use Rattle.mm_store.proofs.Parts.{found}
 use Rattle.mm_store.proofs.Keys as parts
 use Rattle.sqlite.specs.declared.types.Value.TheVariants.{Text as Words}
-use Rattle.sqlite.specs.Held.{state}
-use Rattle.sql_forms.proofs.Selects.{selects_any}
 use Rattle.mm_store.proofs.Selecting as statement
-use Rattle.mm_store.proofs.Steps.{looks, seen}
-use Rattle.mm_store.proofs.Going.{look_by}
+use Rattle.mm_store.proofs.Steps.{asks_any}
 use Rattle.mm_layout.proofs.relations.has_relation.Goals as goal
 
 pub returns : goal.returns
-returns g c = look_by (search rules) (λ profile.
-    let old = state g.S.Store c.args.tx.now.conn.now in
-    let new = state g.S.Store c.exists.new.tx.conn.now in
-    looks profile old new _ _ _ (λ p found. found ≡ contains_key p.relations c.args.mapping.now) c.exists.result c.exists.ensures.asked (λ x first ready shown gives.
-    let read = selects_any _ _ _ _ _ _ statement.has_relation old new ready.schema_is (Words c.args.mapping.now ∷ []) _ (search rules) first shown in
-    (read.0, λ p h. gives ∙ read.1 ∙ found parts.relations (seen old 10) p.relations h.relations c.args.mapping.now)))
+returns g c =
+    asks_any statement.has_relation c.exists.ensures (Words c.args.mapping.now ∷ []) (search rules)
+    (λ version p db h. found parts.relations (db 10) p.relations h.relations c.args.mapping.now)

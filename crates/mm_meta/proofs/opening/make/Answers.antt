@@ -4,8 +4,7 @@ use Rattle.std.proofs.lemmas.Result.{err_from_is_err_and}
 use Rattle.mm_definitions.specs.Bounds.{current}
 use Rattle.mm_definitions.specs.Opening.{opening}
 use Rattle.mm_meta.proofs.Making.{creating_makes, creating_gave_up, making_then, making_failed, general_free}
-use Rattle.mm_store.proofs.Shapes.{quiet_then}
-use Rattle.mm_store.proofs.Going.{change_at}
+use Rattle.mm_store.proofs.Quiet.{quiet_then}
 use Rattle.mm_meta.proofs.Creating.{none_again_then}
 use Rattle.mm_meta.proofs.opening.make.Goals as goal
 
@@ -30,7 +29,7 @@ returns-clause-makes g c = record {
   same = search rules;
   made =
       let made = creating_makes current _ _ _ _ _ _ _ _ c.in_ok-create_tables.ensures.makes.made c.in_ok-put_systems.ensures.made in
-      making_then current _ _ _ _ _ _ _ made (change_at c.insert_related_row.ensures current) general_free;
+      making_then current _ made c.insert_related_row.ensures general_free;
 }
 
 pub returns-in_err-create_tables-clause-again : goal.returns-in_err-create_tables-clause-again
@@ -41,5 +40,5 @@ returns-in_err-put_systems-clause-again g c clean inside has = let p = err_from_
 
 pub returns-clause-again : goal.returns-clause-again
 returns-clause-again g c =
-    let rest = quiet_then _ _ _ c.in_ok-put_systems.ensures.made.survives (change_at c.insert_related_row.ensures current).survives in
+    let rest = quiet_then _ _ _ c.in_ok-put_systems.ensures.made.survives c.insert_related_row.ensures.survives in
     none_again_then (state g.S.Store c.args.tx.now.conn.now) _ _ _ c.in_ok-create_tables.ensures.again rest

@@ -1,6 +1,6 @@
 use Rattle.std.proofs.Common.{rules}
 use Rattle.sqlite.specs.Held.{state}
-use Rattle.mm_store.proofs.Shapes.{quiet_then}
+use Rattle.mm_store.proofs.Quiet.{quiet_then}
 use Rattle.mm_store.proofs.Creating as statement
 use Rattle.mm_meta.proofs.Creating.{creates_one, creating_then, none_again, none_again_then}
 use Rattle.mm_meta.proofs.schema.create_pyramid_tables.Goals as goal

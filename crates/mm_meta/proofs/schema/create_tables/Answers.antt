@@ -1,6 +1,6 @@
 use Rattle.std.proofs.Common.{rules}
 use Rattle.sqlite.specs.Held.{state}
-use Rattle.mm_store.proofs.Shapes.{quiet_then}
+use Rattle.mm_store.proofs.Quiet.{quiet_then}
 use Rattle.mm_meta.proofs.Creating.{creating_then, none_again_then}
 use Rattle.mm_meta.proofs.schema.create_tables.Goals as goal
 

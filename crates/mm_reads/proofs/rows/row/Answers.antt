@@ -6,7 +6,6 @@ use Rattle.mm_definitions.specs.Keys.{item}
 use Rattle.mm_store.specs.Seen.{IsRead}
 use Rattle.mm_store.proofs.Seen.{reads}
 use Rattle.mm_reads.specs.Told.{shown_row}
-use Rattle.mm_store.proofs.Going.{look_at}
 use Rattle.mm_reads.proofs.rows.row.Goals as goal
 
 pub returns-clause-read : goal.returns-clause-read
@@ -14,8 +13,7 @@ returns-clause-read g c profile =
     let end = c.rollback.new.self.0 in
     let same : end ≡ c.conn-1.given.0 = search rules in
     let a = c.args in
-    let looked = c.row_at-found.new.tx.conn.now in
-    let look = look_at (rw (c.as_str.ensures.text, to_z-of_z c.ranges.id) at c.row_at-found.ensures) profile in
     let it : IsRead profile (state g.S.Store a.conn.now) (state g.S.Store end) (λ p found. get p.rows (item a.table.now a.id) ≡ option_map shown_row found) c.row_at-found.result =
-    reads g.S.Store a.conn.now c.transaction-tx.result.conn.now c.transaction-tx.ensures.begun (state g.S.Store looked) (state g.S.Store end) look.survives c.rollback.ensures.survives profile _ c.row_at-found.result look c.rollback.ensures.undone in
+    reads c.transaction-tx.ensures.begun
+    (rw (c.as_str.ensures.text, to_z-of_z c.ranges.id) at c.row_at-found.ensures) c.rollback.ensures.survives c.rollback.ensures.undone profile in
     rw same at it

@@ -1,9 +1,7 @@
-use Rattle.std.proofs.Common.{Some, option_map, ap, ◌∙◌, rules}
-use Rattle.mm_store.proofs.Shapes.{look_as}
+use Rattle.std.proofs.Common.{Some, option_map, ap, ◌∙◌}
 use Rattle.mm_staging.specs.Standings.{standing_text}
 use Rattle.mm_staging.proofs.Refusing.{closed_51, closed_55, closed_not}
 use Rattle.mm_store.proofs.Going.{tells, failed}
-use Rattle.mm_store.proofs.Going.{look_at, look_by}
 use Rattle.mm_staging.proofs.editions.closed_refusal.Goals as goal
 
 pub returns-in-Some-Open : goal.returns-in-Some-Open
@@ -17,7 +15,8 @@ returns-in-Some-Published g c =
     (λ profile p says. closed_55 p c.args.edition.now (says ∙ ap (option_map standing_text) (c.in-Some-Published.is ∙ ap Some c.in-Some-Published.field-0-is)))
 
 pub returns-in-None : goal.returns-in-None
-returns-in-None g c = look_by (search rules) (λ profile. look_as profile _ _ _ _ (look_at c.in_ok-standing_of.ensures profile) (λ p says. closed_51 p c.args.edition.now (says ∙ ap (option_map standing_text) c.in-None.is)))
+returns-in-None g c = tells c.in_ok-standing_of.ensures
+    (λ profile p says. closed_51 p c.args.edition.now (says ∙ ap (option_map standing_text) c.in-None.is))
 
 pub returns-in_err-standing_of : goal.returns-in_err-standing_of
 returns-in_err-standing_of g c =

@@ -1,23 +1,18 @@
-use Rattle.std.proofs.Common.{◌≡◌, [], ◌∷◌, ◌∙◌, rules}
-use Rattle.std.specs.FinMap.{contains_key}
+use Rattle.std.proofs.Common.{[], ◌∷◌, ◌∙◌, rules}
 use Rattle.sqlite.specs.declared.types.Value.TheVariants.{Int, Text as Words}
-use Rattle.sqlite.specs.Held.{state}
-use Rattle.sql_forms.proofs.Selects.{selects_any}
 use Rattle.mm_definitions.specs.Keys.{piece}
 use Rattle.mm_staging.proofs.Selecting as statement
 use Rattle.mm_store.specs.Kept.{piece_id, piece_with}
 use Rattle.mm_store.proofs.Parts.{found}
 use Rattle.mm_store.proofs.Keys as parts
-use Rattle.mm_store.proofs.Steps.{looks, seen}
+use Rattle.mm_store.proofs.Steps.{asks_any}
 use Rattle.mm_blobs.proofs.Naming.{told_there}
-use Rattle.mm_store.proofs.Going.{look_by}
 use Rattle.mm_staging.proofs.pieces.has_piece.Goals as goal
 
 pub returns : goal.returns
-returns g c = look_by (search rules) (λ profile.
-    let old = state g.S.Store c.args.tx.now.conn.now in
-    let new = state g.S.Store c.exists.new.tx.conn.now in
+returns g c =
     let key = piece c.args.edition.now c.args.number in
-    looks profile old new _ _ _ (λ p found. found ≡ contains_key p.pieces key) c.exists.result c.exists.ensures.asked (λ x first ready shown gives.
-    let read = selects_any _ _ _ _ _ _ statement.has_piece old new ready.schema_is (Words key.edition ∷ Int key.number ∷ []) _ (search rules) first shown in
-    (read.0, λ p h. gives ∙ read.1 ∙ found parts.pieces (seen old 25) h.kept.pieces h.keeps.pieces key ∙ told_there piece_id piece_with h.kept.shelf h.kept.pieces p.pieces h.keeps.pieces_told key)))
+    asks_any statement.has_piece c.exists.ensures (Words key.edition ∷ Int key.number ∷ []) (search rules)
+    (λ version p db h.
+    found parts.pieces (db 25) h.kept.pieces h.keeps.pieces key
+    ∙ told_there piece_id piece_with h.kept.shelf h.kept.pieces p.pieces h.keeps.pieces_told key)

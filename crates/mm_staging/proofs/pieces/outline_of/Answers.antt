@@ -1,12 +1,10 @@
-use Rattle.std.proofs.Common.{◌≡◌, Some, option_map, pos, rules, ap, ◌∙◌, w64}
+use Rattle.std.proofs.Common.{◌≡◌, Some, option_map, pos, rules, ap, ◌∙◌, w64, inr, refl}
 use Rattle.std.proofs.Math.Facts.{to_z-of_z}
 use mir.Val.{SFits}
-use Rattle.mm_layout.proofs.Looking.{look_denied}
 use Rattle.mm_staging.specs.Kept.{kept_with}
 use Rattle.mm_staging.specs.Outlines.{with_bytes}
 use Rattle.mm_staging.proofs.Spelled.{spelled_row}
-use Rattle.mm_store.proofs.Going.{failed, tells}
-use Rattle.mm_store.proofs.Going.{look_at, look_by}
+use Rattle.mm_store.proofs.Going.{failed, tells, denied}
 use Rattle.mm_staging.proofs.pieces.outline_of.Goals as goal
 
 pub returns-in-Some-spelled : goal.returns-in-Some-spelled
@@ -23,7 +21,7 @@ returns-in-Some-spelled g c =
     )))
 
 pub returns-in-None-spelled : goal.returns-in-None-spelled
-returns-in-None-spelled g c = look_by (search rules) (λ profile. rw (← c.as_str-edition.ensures.text) (look_denied profile _ _ _ (look_at c.in_ok-kept.ensures profile)))
+returns-in-None-spelled g c = rw (← c.as_str-edition.ensures.text) (denied c.in_ok-kept.ensures (inr refl))
 
 pub returns-in-None : goal.returns-in-None
 returns-in-None g c =

@@ -1,10 +1,8 @@
-use Rattle.std.proofs.Common.{Some, option_map, ap, subst, ◌∙◌, rules}
-use Rattle.mm_store.proofs.Shapes.{look_as}
+use Rattle.std.proofs.Common.{Some, option_map, ap, subst, ◌∙◌}
 use Rattle.mm_staging.specs.Standings.{standing_text}
 use Rattle.mm_staging.specs.States.{IsLast}
 use Rattle.mm_staging.proofs.LastPiece.{count_is, none_is}
 use Rattle.mm_store.proofs.Going.{goes_on, tells, failed}
-use Rattle.mm_store.proofs.Going.{look_at, look_by}
 use Rattle.mm_staging.proofs.states.state_of.Goals as goal
 
 pub returns-in-Some : goal.returns-in-Some
@@ -13,7 +11,7 @@ returns-in-Some g c =
     (λ profile p says meets. let open_is = says.0 ∙ ap (option_map standing_text) (c.in-Some-Open.is ∙ ap Some c.in-Some-Open.field-0-is) in (open_is, count_is profile p c.args.edition.now meets open_is _ (subst (IsLast p.pieces c.args.edition.now) c.in-Some.is says.1)))
 
 pub returns-in-None : goal.returns-in-None
-returns-in-None g c = look_by (search rules) (λ profile. look_as profile _ _ _ _ (look_at c.in_ok-standing_of.ensures profile) (λ p says meets. says ∙ ap (option_map standing_text) c.in-None.is))
+returns-in-None g c = tells c.in_ok-standing_of.ensures (λ profile p says meets. says ∙ ap (option_map standing_text) c.in-None.is)
 
 pub returns-in-None-2 : goal.returns-in-None-2
 returns-in-None-2 g c =

@@ -5,14 +5,14 @@ use Rattle.mm_program.proofs.sittings.attend.Goals as goal
 
 pub loop-answered-init : goal.loop-answered-init
 loop-answered-init g c = record {
-  sat = λ works. ([], begins g.D.Apply g.met.D.Apply.leaves_settled _, works);
+  sat = λ works. ([], begins g.D.Apply _, works);
   told = attended_none _ _;
 }
 
 pub returns-in-Last-clause-sat : goal.returns-in-Last-clause-sat
 returns-in-Last-clause-sat g c works =
     let (visits, sat, here) = c.loop-answered.invariant.sat works in
-    turns g.D.Apply g.met.D.Apply.leaves_settled visits _ _ _ works sat here c.answer_and_tell.ensures.one
+    turns g.D.Apply visits _ _ _ works sat here c.answer_and_tell.ensures.one
 
 pub returns-in-Last-clause-told : goal.returns-in-Last-clause-told
 returns-in-Last-clause-told g c =
@@ -22,7 +22,7 @@ pub loop-answered-preserved : goal.loop-answered-preserved
 loop-answered-preserved g c = record {
   sat = λ works.
       let (visits, sat, here) = c.loop-answered.invariant.sat works in
-      let more = turns g.D.Apply g.met.D.Apply.leaves_settled visits _ _ _ works sat here c.answer_and_tell.ensures.one in
+      let more = turns g.D.Apply visits _ _ _ works sat here c.answer_and_tell.ensures.one in
       (more.0, more.1, c.answer_and_tell.ensures.goes c.in-Next.is here);
   told = turn_next _ _ _ _ _ _ _ c.loop-answered.invariant.told (rw c.in-Next.is at c.answer_and_tell.ensures.told);
 }

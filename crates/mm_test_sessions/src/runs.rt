@@ -93,7 +93,7 @@ impl Apply for Systems {
         answer
     }
 
-    ghost leaves_settled = { λ s p none db may. tt };
+    ghost settled_is = { λ s p. (λ none. absurd none, λ it. absurd it.0) };
 }
 
 const TWO_EQUAL: &[u8] = b"srs,5001,A,NONE,1,undefined,\nsrs,5001,A,NONE,1,undefined,\n";

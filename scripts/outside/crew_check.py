@@ -248,7 +248,7 @@ def check_one_opening():
         told.chmod(0o755)
         kept = folder / "cache" / "mmpkg" / "seconds_a_gb"
         how = {"MMPKG": str(told), "XDG_CACHE_HOME": str(folder / "cache")}
-        for day, (words, runs) in enumerate(((".", ["check", "run", "kit", "run", "desk"]), (" (24 MB: about 24 s).", ["desk"]))):
+        for day, (words, runs) in enumerate(((".", ["check", "check", "run", "kit", "run", "desk"]), (" (24 MB: about 24 s).", ["desk"]))):
             started = Started(file, **how)
             expect(started.until("is opened"), f"{file} is opened: first it is checked as a whole{words}", f"the words of day {day}")
             started.until("Ctrl-C")

@@ -142,7 +142,7 @@ async function ran({ records }) {
   return { status: 200, lines: text.split("\n").slice(0, -1) };
 }
 
-/** What an answer comes to: done, refused and why and at which word, or to be sent again and why. */
+/** What an answer comes to: done, refused and why, or to be sent again and why. */
 function judged({ records }, { status, lines }) {
   if (status === 413) return { refused: STATUSES[413] };
   if (status !== 200) return { again: STATUSES[status] ?? `the program answers ${status}` };
@@ -150,7 +150,7 @@ function judged({ records }, { status, lines }) {
     const [, word, number] = line.split(" "), [name] = records[at] ?? [];
     if (word === "fault") return { again: FAULTS[number] ?? `the program tells fault ${number}` };
     if (word === "refused" && !STANDS[name]?.includes(Number(number))) {
-      return { refused: `${OF[name] ?? name}: ${REFUSALS[number] ?? "it is refused"} (${number})`, word: name };
+      return { refused: `${OF[name] ?? name}: ${REFUSALS[number] ?? "it is refused"} (${number})` };
     }
   }
   return lines.length < records.length ? { again: "the answer was cut short" } : {};
@@ -167,23 +167,17 @@ async function removalOf(act) {
   return full;
 }
 
-/** What puts back what a removal took off its row before that was refused: the row keeps its photos. */
-function putBack({ at, table, what, records }) {
-  const taken = records.filter(([word]) => word === "map-drop").map(([, ...row]) => ["map", ...row]);
-  return taken.length ? [{ at, table, what: `put back what belongs to it (${what})`, records: taken }] : [];
-}
-
 /** Sends one act, and keeps what becomes of it. */
 async function sendOne(kept) {
   const act = kept.records.length ? kept : await removalOf(kept);
-  const { again, refused, word } = judged(act, await ran(act));
+  const { again, refused } = judged(act, await ran(act));
   if (again) throw new Error(again);
   if (!refused) {
     stands(act);
     tabs.postMessage(act);
   }
   const { number, at, table, what, then } = act;
-  if (refused) await keep(it => [{ ...act, refused }, ...word === "row-drop" ? putBack(act) : []].forEach(one => it.put(one)));
+  if (refused) await keep(it => it.put({ ...act, refused }));
   else if (then?.length) await keep(it => it.put({ number, at, table, what, records: then }));
   else await drop(act);
 }

@@ -9,7 +9,8 @@ use Rattle.mm_definitions.specs.Package.{Package, Kinds, RelationsPart, HasKind,
 use Rattle.mm_definitions.specs.Package.{general_extension, mapping_extension, zoom_extension, open_state}
 use Rattle.mm_definitions.specs.Package.{published_state}
 use Rattle.mm_definitions.specs.Bounds.{IsName, IsClean, MostPieces}
-use Rattle.mm_definitions.specs.Rules.{IsSuited, Joins, IsWanted, IsNumbered, ExtensionWithin, RelationWithin, PairingWithin, EditionWithin, PieceWithin}
+use Rattle.mm_definitions.specs.Rules.{IsSuited, Joins, IsWanted, IsNumbered, ExtensionWithin, RelationWithin}
+use Rattle.mm_definitions.specs.Rules.{PairingWithin, EditionWithin, PieceWithin}
 use Rattle.mm_definitions.specs.Conditions.{own_reasons, is_plain, relation_text, related_kind}
 use Rattle.mm_definitions.specs.Effects.{is_other}
 use Rattle.mm_definitions.specs.declared.commands.Kind.TheVariants as kinds
@@ -52,16 +53,18 @@ suited_new : (kinds_of : Kinds) (base related : Text) (name : RelationName)
     → has_kind kinds_of base kinds.Attributes || has_kind kinds_of base kinds.Media ≡ true → has_kind kinds_of related (related_kind name) ≡ true
     → IsSuited kinds_of (record { base = base; related = related; base_column = codes "id"; related_column = codes "id"; name = relation_text name })
 suited_new kinds_of base related name e f = record {
-  base = elim (either_true (has_kind kinds_of base kinds.Attributes) (has_kind kinds_of base kinds.Media) e) as (λ _. HasKind kinds_of base kinds.Attributes ⊎ HasKind kinds_of base kinds.Media) [
-    | inl a ↦ inl (has_kind_tells kinds_of base kinds.Attributes a)
-    | inr b ↦ inr (has_kind_tells kinds_of base kinds.Media b)
-  ];
+  base = elim (either_true (has_kind kinds_of base kinds.Attributes) (has_kind kinds_of base kinds.Media) e) as (λ _.
+      HasKind kinds_of base kinds.Attributes ⊎ HasKind kinds_of base kinds.Media) [
+        | inl a ↦ inl (has_kind_tells kinds_of base kinds.Attributes a)
+        | inr b ↦ inr (has_kind_tells kinds_of base kinds.Media b)
+      ];
   related = named name f;
   base_column = refl;
   related_column = refl;
 } where
   named : (n : RelationName) → has_kind kinds_of related (related_kind n) ≡ true
-      → ((relation_text n ≡ codes "media") × HasKind kinds_of related kinds.Media) ⊎ ((relation_text n ≡ codes "simple_attributes") × HasKind kinds_of related kinds.Attributes)
+      → ((relation_text n ≡ codes "media") × HasKind kinds_of related kinds.Media)
+      ⊎ ((relation_text n ≡ codes "simple_attributes") × HasKind kinds_of related kinds.Attributes)
   named names.Media e = inl (refl, has_kind_tells kinds_of related kinds.Media e)
   named names.SimpleAttributes e = inr (refl, has_kind_tells kinds_of related kinds.Attributes e)
 
@@ -73,18 +76,31 @@ relation_put mapping base related name profile p moment stamp h within low is no
     let related_there = not_false (contains_key p.contents related) ends.1 in
     let free = either_false (contains_key p.contents mapping) (contains_key p.relations mapping) r.1.0 in
     let kinds_suit = both_true (is_plain p base) (has_kind p.kinds related (related_kind name))
-    (stands_where (contains_key p.contents base && contains_key p.contents related) (is_plain p base && has_kind p.kinds related (related_kind name)) r.1.1.0
+    (stands_where (contains_key p.contents base && contains_key p.contents related)
+    (is_plain p base && has_kind p.kinds related (related_kind name)) r.1.1.0
     (both (contains_key p.contents base) (contains_key p.contents related) base_there related_there)) in
-    let relation : Relation = record { base = base; related = related; base_column = codes "id"; related_column = codes "id"; name = relation_text name } in
+    let relation : Relation = record {
+      base = base;
+      related = related;
+      base_column = codes "id";
+      related_column =
+          codes "id";
+      name = relation_text name;
+    } in
     let next = insert p.relations mapping relation in
     let still = kept_by_new texts p.relations mapping relation free.1 in
     with_relations profile p h _ _ _
-    (each_put texts p.relations mapping relation (λ m _. IsName m × (get p.contents m ≡ None)) h.q4.of_mappings (within.0, none_of (get p.contents mapping) free.0))
+    (each_put texts p.relations mapping relation (λ m _. IsName m × (get p.contents m ≡ None)) h.q4.of_mappings
+    (within.0, none_of (get p.contents mapping) free.0))
     (each_put texts p.relations mapping relation (λ _ s. IsSuited p.kinds s) h.q12 (suited_new p.kinds base related name kinds_suit.0 kinds_suit.1))
     (λ k u e. joins_still p next still (get p.relations k.mapping) k refl (h.q13 k u e))
     (record {
       only = each_put extension_keys p.extensions (mapping_extension mapping) 1 (λ e count. IsWanted p.kinds next e × (count ≡ 1))
-          (λ e count f. (wanted_stays p next (stands_after_put texts p.relations mapping relation) e (h.q14.only e count f).0, (h.q14.only e count f).1))
+          (λ e count f. (
+            wanted_stays p next (stands_after_put texts p.relations mapping relation) e
+                (h.q14.only e count f).0,
+            (h.q14.only e count f).1,
+          ))
           (inr (inl (mapping, ap is_some (at_put texts p.relations mapping relation), refl)), refl);
       all = λ e w. put_once p.extensions (mapping_extension mapping) e
           (elim (wanted_was p mapping relation e w) as (λ _. (e ≡ mapping_extension mapping) ⊎ Has p.extensions e 1)
@@ -145,10 +161,16 @@ relation_drop mapping profile p moment stamp h within low is none =
     (each_remove texts p.relations mapping (λ _ s. IsSuited p.kinds s) h.q12)
     (λ k u e.
     let was = after_retain pairing_keys p.pairings test k u e in
-    subst (λ v. Joins p.rows p.media v k) (sym (beside_remove texts p.relations mapping k.mapping (other_tells mapping k.mapping was.0))) (h.q13 k u was.1))
+    subst (λ v. Joins p.rows p.media v k) (sym
+    (beside_remove texts p.relations mapping k.mapping (other_tells mapping k.mapping was.0))) (h.q13 k u was.1))
     (record {
-      only = λ e n f. let was = after_remove extension_keys p.extensions (mapping_extension mapping) e n f in (wanted_still p mapping e was.0 (h.q14.only e n was.1).0, (h.q14.only e n was.1).1);
-      all = λ e w. let was = wanted_was p mapping within e w in beside_remove extension_keys p.extensions (mapping_extension mapping) e was.0 ∙ h.q14.all e was.1;
+      only = λ e n f. let was = after_remove extension_keys p.extensions
+          (mapping_extension mapping) e n f in (
+            wanted_still p mapping e was.0 (h.q14.only e n was.1).0,
+            (h.q14.only e n was.1).1,
+          );
+      all = λ e w. let was = wanted_was p mapping within e w in beside_remove extension_keys p.extensions
+          (mapping_extension mapping) e was.0 ∙ h.q14.all e was.1;
     })
     (each_remove extension_keys p.extensions (mapping_extension mapping) ExtensionWithin h.q16.extensions)
     (each_remove texts p.relations mapping RelationWithin h.q16.relations)
@@ -157,7 +179,8 @@ relation_drop mapping profile p moment stamp h within low is none =
     wanted_still : (p : Package) (mapping : Text) (e : Extension) → e ≢ mapping_extension mapping → IsWanted p.kinds p.relations e
         → IsWanted p.kinds (remove p.relations mapping) e
     wanted_still p mapping e n (inl a) = inl a
-    wanted_still p mapping e n (inr (inl m)) = inr (inl (m.0, ap is_some (beside_remove texts p.relations mapping m.0 (λ s. n (m.2 ∙ ap mapping_extension s))) ∙ m.1, m.2))
+    wanted_still p mapping e n (inr (inl m)) = inr
+        (inl (m.0, ap is_some (beside_remove texts p.relations mapping m.0 (λ s. n (m.2 ∙ ap mapping_extension s))) ∙ m.1, m.2))
     wanted_still p mapping e n (inr (inr t)) = inr (inr t)
 
     wanted_was : (p : Package) (mapping : Text) → IsName mapping → (e : Extension) → IsWanted p.kinds (remove p.relations mapping) e
@@ -167,7 +190,11 @@ relation_drop mapping profile p moment stamp h within low is none =
         let s = some_of (get (remove p.relations mapping) m.0) m.1 in
         let was = after_remove texts p.relations mapping m.0 s.0 s.1 in
         (λ same. was.0 (same_mapping m.0 mapping (sym m.2 ∙ same)), inr (inl (m.0, ap is_some was.1, m.2)))
-    wanted_was p mapping named e (inr (inr t)) = (λ s. differ (zoom_extension t.0).name (mapping_extension mapping).name refl (ap (λ (x : Extension). x.name) (sym t.2 ∙ s)), inr (inr t))
+    wanted_was p mapping named e (inr (inr t)) = (
+      λ s. differ (zoom_extension t.0).name
+          (mapping_extension mapping).name refl (ap (λ (x : Extension). x.name) (sym t.2 ∙ s)),
+      inr (inr t),
+    )
 
 -- ---- editions
 pub edition_put : (name : Text) → Keeps (commands.Edition name)
@@ -178,18 +205,19 @@ edition_put name profile p moment stamp h within low is none =
     (each_put texts p.editions name open_state (λ e _. IsName e) h.q4.of_editions within)
     (record {
       states = each_put texts p.editions name open_state (λ _ s. (s ≡ open_state) ⊎ (s ≡ published_state)) h.q15.states (inl refl);
-      numbered = λ e f. elim (after_put texts p.editions name open_state e open_state f) as (λ _. (n : ℕ) × (n ≤ MostPieces) × IsNumbered p.pieces e n) [
-        | inl s ↦ (
-          0,
-          zero-le,
-          λ number. (
-            λ there. absurd
-                (no_pieces p name free h.q15.of_open number (subst (λ t. Stands p.pieces (piece t number)) s.0 there)),
-            λ range. absurd (nothing_between number range.0 range.1),
-          ),
-        )
-        | inr n ↦ h.q15.numbered e n.1
-      ];
+      numbered = λ e f. elim (after_put texts p.editions name open_state e open_state f) as (λ _. (n : ℕ)
+          × (n ≤ MostPieces) × IsNumbered p.pieces e n) [
+            | inl s ↦ (
+              0,
+              zero-le,
+              λ number. (
+                λ there. absurd
+                    (no_pieces p name free h.q15.of_open number (subst (λ t. Stands p.pieces (piece t number)) s.0 there)),
+                λ range. absurd (nothing_between number range.0 range.1),
+              ),
+            )
+            | inr n ↦ h.q15.numbered e n.1
+          ];
       of_open = λ k r e. kept_by_new texts p.editions name open_state (missing p name free) k.edition open_state (h.q15.of_open k r e);
       spelled = h.q15.spelled;
     })
@@ -201,7 +229,8 @@ edition_put name profile p moment stamp h within low is none =
 
     no_pieces : (p : Package) (name : Text) → get p.editions name ≡ None → Each p.pieces (λ k _. Has p.editions k.edition open_state) → (number : ℤ)
         → Stands p.pieces (piece name number) → ⊥
-    no_pieces p name free opened number there = let r = some_of (get p.pieces (piece name number)) there in not_none (opened (piece name number) r.0 r.1) free
+    no_pieces p name free opened number there = let r = some_of (get p.pieces (piece name number)) there in not_none
+        (opened (piece name number) r.0 r.1) free
 
     nothing_between : (n : ℤ) → pos 1 ≤ℤ n → n ≤ℤ pos 0 → ⊥
     nothing_between n a b = omega (arith, ints)
@@ -221,8 +250,10 @@ discard name profile p moment stamp h within low is none =
     (each_remove texts p.editions name (λ e _. IsName e) h.q4.of_editions)
     (record {
       states = each_remove texts p.editions name (λ _ s. (s ≡ open_state) ⊎ (s ≡ published_state)) h.q15.states;
-      numbered = λ e f. let was = after_remove texts p.editions name e open_state f in let n = h.q15.numbered e was.1 in (n.0, n.1, numbered_still p name e n.0 was.0 n.2);
-      of_open = λ k r e. let was = after_retain piece_keys p.pieces test k r e in beside_remove texts p.editions name k.edition (other_tells name k.edition was.0) ∙ h.q15.of_open k r was.1;
+      numbered = λ e f. let was = after_remove texts p.editions name e open_state f in let n =
+          h.q15.numbered e was.1 in (n.0, n.1, numbered_still p name e n.0 was.0 n.2);
+      of_open = λ k r e. let was = after_retain piece_keys p.pieces test k r e in beside_remove texts p.editions name
+          k.edition (other_tells name k.edition was.0) ∙ h.q15.of_open k r was.1;
       spelled = each_retain piece_keys p.pieces test _ h.q15.spelled;
     })
     (each_remove texts p.editions name EditionWithin h.q16.editions)

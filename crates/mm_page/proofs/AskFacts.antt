@@ -44,7 +44,8 @@ same_front (x ∷ a) b (y ∷ c) d ha hc e =
 
 -- what a tile's path can ask for
 abbrev pub IsTile : Text → Text → Text → Text → Type 0
-IsTile t z c r = IsName t × ((n : ℤ) × SpellsWithin (pos 0) (pos 30) z n) × ((n : ℤ) × SpellsWithin (pos 0) (pos 1073741823) c n) × ((n : ℤ) × SpellsWithin (pos 0) (pos 1073741823) r n)
+IsTile t z c r = IsName t × ((n : ℤ) × SpellsWithin (pos 0) (pos 30) z n)
+    × ((n : ℤ) × SpellsWithin (pos 0) (pos 1073741823) c n) × ((n : ℤ) × SpellsWithin (pos 0) (pos 1073741823) r n)
 
 pub tile_only : (t z c r : Text) (w : Wanted) → IsPathPart t → IsPathPart z → IsPathPart c → IsRouted (tile_path t z c r) w → IsTile t z c r
 tile_only t z c r (Tile u n d e) pt pz pc (z2, c2, r2, is, name, nz, nc, nr) =
@@ -140,9 +141,11 @@ goes_on path k e h = let f : Some (route_of k) ≡ None = sym (ap (map_key route
 
 pub untaken : (path : Text) → IsText path → first page_rows path ≡ None → (w : Wanted) → ¬ (IsRouted path w)
 untaken path low h (Tile t n d e) (z, c, r, is, name, nz, nc, nr) =
-    goes_on path 0 (rw is (tile_goes t z c r (rw is at low) (name_part t name) (spelled_part z n nz.0) (spelled_part c d nc.0) (spelled_part r e nr.0))) h
+    goes_on path 0 (rw is (tile_goes t z c r (rw is at low) (name_part t name) (spelled_part z n nz.0)
+    (spelled_part c d nc.0) (spelled_part r e nr.0))) h
 untaken path low h (Media t n) (i, is, name, ni) = goes_on path 1 (rw is (media_goes t i (rw is at low) (name_part t name) (spelled_part i n ni.0))) h
-untaken path low h (Related t n) (i, is, name, ni) = goes_on path 2 (rw is (related_goes t i (rw is at low) (name_part t name) (spelled_part i n ni.0))) h
+untaken path low h (Related t n) (i, is, name, ni) = goes_on path 2
+    (rw is (related_goes t i (rw is at low) (name_part t name) (spelled_part i n ni.0))) h
 untaken path low h Contents is = goes_on path 3 (rw is contents_goes) h
 
 -- the parameters that a match took
@@ -150,7 +153,8 @@ abbrev pub pairs_at : RouteOf Route → Text → List (Text × Text)
 pairs_at m path = walk m.pattern m.text path m.names 0 0
 
 abbrev pub IsTileMatch : Text → RouteOf Route → Type 0
-IsTileMatch path m = (t z c r : Text) × (path ≡ tile_path t z c r) × (pairs_at m path ≡ tile_pairs t z c r) × AllText (tile_pairs t z c r) × IsPathPart t × IsPathPart z × IsPathPart c × IsPathPart r
+IsTileMatch path m = (t z c r : Text) × (path ≡ tile_path t z c r) × (pairs_at m path ≡ tile_pairs t z c r)
+    × AllText (tile_pairs t z c r) × IsPathPart t × IsPathPart z × IsPathPart c × IsPathPart r
 
 abbrev pub IsMediaMatch : Text → RouteOf Route → Type 0
 IsMediaMatch path m = (t i : Text) × (path ≡ media_path t i) × (pairs_at m path ≡ row_pairs t i) × AllText (row_pairs t i) × IsPathPart t
@@ -182,9 +186,11 @@ from_row path k low (inl (n, t, z, c, r, is, pt, pz, pc, pr)) =
       pr,
     )
 from_row path k low (inr (inl (n, t, i, is, pt, pi))) =
-    subst (λ j. IsMatch path (route_of j) (route_of j).value) (sym n) (t, i, is, ap (λ p. pairs_at media_row p) is ∙ media_walk t i pt pi, media_texts t i (rw is at low), pt)
+    subst (λ j. IsMatch path (route_of j) (route_of j).value) (sym n)
+    (t, i, is, ap (λ p. pairs_at media_row p) is ∙ media_walk t i pt pi, media_texts t i (rw is at low), pt)
 from_row path k low (inr (inr (inl (n, t, i, is, pt, pi)))) =
-    subst (λ j. IsMatch path (route_of j) (route_of j).value) (sym n) (t, i, is, ap (λ p. pairs_at related_row p) is ∙ related_walk t i pt pi, related_texts t i (rw is at low), pt)
+    subst (λ j. IsMatch path (route_of j) (route_of j).value) (sym n)
+    (t, i, is, ap (λ p. pairs_at related_row p) is ∙ related_walk t i pt pi, related_texts t i (rw is at low), pt)
 from_row path k low (inr (inr (inr (n, is)))) = subst (λ j. IsMatch path (route_of j) (route_of j).value) (sym n) is
 
 pub matched : (path : Text) (m : RouteOf Route) → IsAscii path → first page_rows path ≡ Some m → IsMatch path m m.value

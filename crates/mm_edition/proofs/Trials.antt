@@ -64,7 +64,8 @@ module _ (q : Package) (e : PieceKey × PieceRow) (es : List (PieceKey × PieceR
 
   trial_is : (v : Option ℕ) → least (piece_reasons q x) ≡ v
       → trial (e ∷ es) q at ≡ after_trial (decided q (unsigned_abs e.0.number) x at v) (λ next. trial es next at)
-  trial_is v is = ap (λ o. after_trial (piece_trial q (unsigned_abs e.0.number) at o) (λ next. trial es next at)) spelled_is ∙ ap (λ o. after_trial (decided q (unsigned_abs e.0.number) x at o) (λ next. trial es next at)) is
+  trial_is v is = ap (λ o. after_trial (piece_trial q (unsigned_abs e.0.number) at o) (λ next. trial es next at))
+      spelled_is ∙ ap (λ o. after_trial (decided q (unsigned_abs e.0.number) x at o) (λ next. trial es next at)) is
 
 -- ---- how far it has come
 
@@ -79,21 +80,24 @@ pub record IsOn (edition at : Text) (number : ℕ) (profile : Profile) (s : Stat
   pub are : AreFrom p.pieces edition number rest
   pub goes_on : trial rest edited at ≡ edition_trial p edition at
 
-module _ (edition at : Text) (number : ℕ) (profile : Profile) (s : State) (ground : Ground) (p : Package) (on : IsOn edition at number profile s ground p) where
+module _ (edition at : Text) (number : ℕ) (profile : Profile) (s : State) (ground : Ground) (p : Package)
+    (on : IsOn edition at number profile s ground p) where
   abbrev key : PieceKey
   key = piece edition (pos number)
 
   none_is : get on.edited.pieces key ≡ None → get p.pieces key ≡ None
   none_is none = ap (λ m. get m key) (sym on.pieces) ∙ none
 
-  row_is : (x : Piece) → get on.edited.pieces key ≡ Some (piece_row x) → (e : PieceKey × PieceRow) → e.0 ≡ key → get p.pieces e.0 ≡ Some e.1 → e.1 ≡ piece_row x
+  row_is : (x : Piece) → get on.edited.pieces key ≡ Some (piece_row x) → (e : PieceKey × PieceRow) → e.0 ≡ key
+      → get p.pieces e.0 ≡ Some e.1 → e.1 ≡ piece_row x
   row_is x there e key_is stands = same_some (sym stands ∙ (ap (get p.pieces) key_is ∙ (ap (λ m. get m key) (sym on.pieces) ∙ there)))
 
   -- one more is done
   pub one_more : (s' : State) (moment : ℕ) → IsStamp moment at → StandsInside profile s' ground (after_turn edition number at on.edited Done)
       → TellsTurn edition number on.edited Done
       → IsOn edition at (number + 1) profile s' ground p
-  one_more s' moment stamped inside (x, there, none) = subst (λ n. IsOn edition at n profile s' ground p) (one_after number) (by on.rest on.are on.goes_on)
+  one_more s' moment stamped inside (x, there, none) = subst (λ n. IsOn edition at n profile s' ground p)
+      (one_after number) (by on.rest on.are on.goes_on)
     where
       by : (rest : List (PieceKey × PieceRow)) → AreFrom p.pieces edition number rest → trial rest on.edited at ≡ edition_trial p edition at
           → IsOn edition at (suc number) profile s' ground p
@@ -121,7 +125,8 @@ module _ (edition at : Text) (number : ℕ) (profile : Profile) (s : State) (gro
       by (e ∷ es) are = absurd (not_none are.1 (ap (get p.pieces) are.0 ∙ none_is none))
 
   -- this one is refused
-  pub one_refused : (s' : State) (why : ℕ) → TellsTurn edition number on.edited (Refused why) → TellsTrial edition at profile s' ground p (Some (number, why))
+  pub one_refused : (s' : State) (why : ℕ) → TellsTurn edition number on.edited (Refused why)
+      → TellsTrial edition at profile s' ground p (Some (number, why))
   one_refused s' why (x, there, reason) = sym on.goes_on ∙ by on.rest on.are
     where
       by : (rest : List (PieceKey × PieceRow)) → AreFrom p.pieces edition number rest → trial rest on.edited at ≡ Err (number, why)
@@ -198,4 +203,7 @@ module _ {S : Type 0} {g : Ghosts S} where
 
       pub trial_gave_up : {e : Fault} {r : Result (Option (ℕ × ℕ)) Fault} → TakesTurn g b c edition number at (Err e) → IsErrAnd r (λ f. f ≡ e)
           → TriesPieces g a c edition at r
-      trial_gave_up turn is = record { attempt = attempts_failed done (attempts turn.goes) is (λ profile ground p when on. (on.edited, on.inside, on.meets)) }
+      trial_gave_up turn is = record {
+        attempt = attempts_failed done (attempts turn.goes) is
+            (λ profile ground p when on. (on.edited, on.inside, on.meets));
+      }

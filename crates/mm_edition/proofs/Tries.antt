@@ -1,5 +1,6 @@
 -- How a look at the edition, the trial of its pieces and its closing make one publishing.
-use Rattle.std.proofs.Common.{◌≡◌, inl, inr, ℕ, true, not, ◌&&◌, is_err, [], ◌∷◌, Option, Some, None, is_some, Result, Ok, Err, IfOk, refl, sym, ap, subst, ◌∙◌}
+use Rattle.std.proofs.Common.{◌≡◌, inl, inr, ℕ, true, not, ◌&&◌, is_err, [], ◌∷◌, Option, Some, None, is_some, Result}
+use Rattle.std.proofs.Common.{Ok, Err, IfOk, refl, sym, ap, subst, ◌∙◌}
 use Rattle.std.specs.Prelude.{⊤, IsErrAnd}
 use Rattle.std.specs.FinMap.{get, contains_key}
 use Rattle.sqlite.specs.Held.{state}
@@ -34,7 +35,8 @@ use Rattle.mm_edition.proofs.Attempting.{attempts, attempts_then, attempts_faile
 -- the refusal as a function of how the edition stands and what the trial gives
 abbrev of_publish : Option Text → Result Package PieceRefusal → Option Refusal
 of_publish v t =
-    refusal_of (least ((51, not (is_some v)) ∷ (55, is_some v && not (at_value (same_text open_state) v)) ∷ (53, at_value (same_text open_state) v && is_err t) ∷ [])) (refused_piece t)
+    refusal_of (least ((51, not (is_some v)) ∷ (55, is_some v && not (at_value (same_text open_state) v))
+    ∷ (53, at_value (same_text open_state) v && is_err t) ∷ [])) (refused_piece t)
 
 abbrev of_closed : Option Text → Option ℕ
 of_closed v = least ((51, not (is_some v)) ∷ (55, is_some v && not (at_value (same_text open_state) v)) ∷ [])
@@ -71,10 +73,13 @@ module _ (edition : Text) where
       where
         by : (v : Option Text) → get p.editions edition ≡ v → refusal p (commands.Publish edition) ≡ Some (record { number = n; piece = None })
         by None is = refusal_is None is ∙ ap (λ x. Some (record { number = x; piece = None })) (sym (same_some (why ∙ ap of_closed is)))
-        by (Some s) is = elim (meets.q15.states edition s is) as (λ _. refusal p (commands.Publish edition) ≡ Some (record { number = n; piece = None })) [
-          | inl e ↦ absurd (let f : ◌≡◌ {A = Option ℕ} (Some n) None = why ∙ (ap of_closed is ∙ ap (λ x. of_closed (Some x)) e) in cc)
-          | inr e ↦ refusal_is (Some published_state) (is ∙ ap Some e) ∙ ap (λ x. Some (record { number = x; piece = None })) (sym (same_some (why ∙ (ap of_closed is ∙ ap (λ x. of_closed (Some x)) e))))
-        ]
+        by (Some s) is = elim (meets.q15.states edition s is) as (λ _.
+            refusal p (commands.Publish edition) ≡ Some (record { number = n; piece = None })) [
+              | inl e ↦ absurd (let f : ◌≡◌ {A = Option ℕ} (Some n) None = why ∙ (ap of_closed is ∙ ap (λ x. of_closed (Some x)) e) in cc)
+              | inr e ↦ refusal_is (Some published_state) (is ∙ ap Some e)
+                  ∙ ap (λ x. Some (record { number = x; piece = None }))
+                  (sym (same_some (why ∙ (ap of_closed is ∙ ap (λ x. of_closed (Some x)) e))))
+            ]
 
     module _ (at : Text) (open_is : get p.editions edition ≡ Some open_state) where
       accepted : (q : Package) → edition_trial p edition at ≡ Ok q → refusal p (commands.Publish edition) ≡ None
@@ -82,7 +87,8 @@ module _ (edition : Text) where
 
       refused_at : (r : PieceRefusal) → edition_trial p edition at ≡ Err r
           → refusal p (commands.Publish edition) ≡ Some (record { number = 53; piece = Some r })
-      refused_at r is = refusal_is (Some open_state) open_is ∙ an_error (edition_trial p edition []) r (any_stamp p edition [] at ∙ ap refused_piece is)
+      refused_at r is = refusal_is (Some open_state) open_is
+          ∙ an_error (edition_trial p edition []) r (any_stamp p edition [] at ∙ ap refused_piece is)
 
       step_is : (q : Package) → edition_trial p edition at ≡ Ok q → step_at p (commands.Publish edition) at ≡ closed edition q
       step_is q is = ap (λ r. unless_refused r (done p (commands.Publish edition) at) p) (accepted q is) ∙ ap (λ t. closed_by edition t p) is
@@ -95,7 +101,8 @@ module _ {S : Type 0} {g : Ghosts S} {a b : Transaction S} {edition at : Text} w
   pub closed_already : {why : Option ℕ} {n : ℕ} → Looked g a b edition (Ok why) → why ≡ Some n
       → Publishes g a b edition at (Ok (outcome.Refused (record { number = n; piece = None })))
   closed_already {n = n} look is = record {
-    attempt = attempts_as (attempts look) (λ profile p when. tt) (λ profile ground p when end. refused_closed edition profile p when.0 n (sym is ∙ end.2));
+    attempt = attempts_as (attempts look) (λ profile p when. tt)
+        (λ profile ground p when end. refused_closed edition profile p when.0 n (sym is ∙ end.2));
   }
 
   pub looked_in_vain : {e : Fault} {r : Result Outcome Fault} → Looked g a b edition (Err e) → IsErrAnd r (λ f. f ≡ e) → Publishes g a b edition at r
@@ -104,7 +111,8 @@ module _ {S : Type 0} {g : Ghosts S} {a b : Transaction S} {edition at : Text} w
 -- the trial begins on the same package, whose edition is open
 abbrev Opened : {S : Type 0} (g : Ghosts S) (old new : Transaction S) (edition at : Text) → Type 0
 Opened g old new edition at =
-    Attempts g old new {T = ⊤} (IsStamped at) (λ profile s ground p it. StandsInside profile s ground p × (get p.editions edition ≡ Some open_state)) (Ok tt)
+    Attempts g old new {T = ⊤} (IsStamped at) (λ profile s ground p it. StandsInside profile s ground p
+    × (get p.editions edition ≡ Some open_state)) (Ok tt)
 
 opened : {S : Type 0} {g : Ghosts S} {a b : Transaction S} (edition at : Text) {why : Option ℕ} → Looked g a b edition (Ok why) → why ≡ None
     → Opened g a b edition at
@@ -114,11 +122,13 @@ opened edition at look none =
 -- the pieces were done, and the edition stands
 abbrev Edited : {S : Type 0} (g : Ghosts S) (old new : Transaction S) (edition at : Text) → Type 0
 Edited g old new edition at = Attempts g old new {T = ⊤} (IsStamped at)
-    (λ profile s ground p it. (q : Package) × (edition_trial p edition at ≡ Ok q) × StandsInside profile s ground q × (contains_key q.editions edition ≡ true)
+    (λ profile s ground p it. (q : Package) × (edition_trial p edition at ≡ Ok q) × StandsInside profile s ground q
+    × (contains_key q.editions edition ≡ true)
     × (get p.editions edition ≡ Some open_state)) (Ok tt)
 
 module _ {S : Type 0} {g : Ghosts S} {a b c : Transaction S} {edition at : Text} {why : Option ℕ} where
-  pub piece_refused : {piece : Option PieceRefusal} {r : PieceRefusal} → Looked g a b edition (Ok why) → why ≡ None → TriesPieces g b c edition at (Ok piece)
+  pub piece_refused : {piece : Option PieceRefusal} {r : PieceRefusal} → Looked g a b edition (Ok why) → why ≡ None
+      → TriesPieces g b c edition at (Ok piece)
       → piece ≡ Some r → Publishes g a c edition at (Ok (outcome.Refused (record { number = 53; piece = Some r })))
   piece_refused {r = r} look none trial is = record {
     attempt = attempts_then (opened edition at look none) (rw is at trial.attempt) (λ profile ground p when it. (

@@ -129,8 +129,9 @@ impl Fault {
 
 impl From<AllocError> for Fault {
     ghost use Rattle.std.specs.Prelude.{◌≡◌};
+    ghost use Rattle.mm_definitions.specs.Faults.{memory};
 
-    ghost from_gives = { λ _ fault. fault ≡ record { 0 = 90 } };
+    ghost from_gives = { λ _ fault. fault ≡ memory };
 
     fn from(_error: AllocError) -> Fault {
         Fault::MEMORY

@@ -24,7 +24,7 @@ use Rattle.mm_definitions.proofs.Parts.{same_some, not_none}
 use Rattle.mm_laws.proofs.InOrder.{AreFrom, pieces_in_order}
 use Rattle.mm_laws.proofs.OneStamp.{stamped_moment}
 use Rattle.mm_laws.proofs.Published.{by_kind, piece_keeps, read_back}
-use Rattle.mm_store.specs.Faults.{store}
+use Rattle.mm_definitions.specs.Faults.{store}
 use Rattle.mm_store.specs.Stands.{Ground, StandsInside}
 use Rattle.mm_edition.specs.Turns.{IsOpened, row_given, piece_given, after_turn, TellsTurn, TakesTurn, TellsTrial, Attempts, TriesPieces}
 use Rattle.mm_edition.specs.declared.running.Turn.{Turn}

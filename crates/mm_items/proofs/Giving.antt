@@ -8,7 +8,7 @@ use Rattle.sqlite.specs.declared.transaction.Transaction.{Transaction}
 use Rattle.mm_definitions.specs.Package.{Package}
 use Rattle.mm_definitions.specs.declared.answers.Fault.{Fault}
 use Rattle.mm_store.specs.Blobs.{bytes_at}
-use Rattle.mm_store.specs.Faults.{store}
+use Rattle.mm_definitions.specs.Faults.{store}
 use Rattle.mm_store.specs.Handed.{Changes, ChangesFor}
 use Rattle.mm_store.specs.Kept.{no_spare}
 use Rattle.mm_blobs.specs.Entries.{spare_freed}

@@ -11,7 +11,8 @@ use Rattle.mm_definitions.specs.Package.{Package}
 use Rattle.mm_definitions.specs.declared.answers.Open.{Open}
 use Rattle.mm_definitions.specs.declared.answers.Open.TheVariants as opens
 use Rattle.mm_store.specs.Compiled.{profile_rows}
-use Rattle.mm_store.specs.Faults.{memory, told_as}
+use Rattle.mm_definitions.specs.Faults.{memory}
+use Rattle.mm_store.specs.Faults.{told_as}
 use Rattle.mm_store.specs.Stands.{ReadsAs}
 use Rattle.mm_store.specs.Statements.{CommitsNothing}
 use Rattle.mm_meta.specs.Opening.{IsBlank}

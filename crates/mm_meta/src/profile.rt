@@ -5,7 +5,7 @@ ghost use Rattle.sqlite.specs.Held.{state};
 ghost use Rattle.sqlite.specs.Order.{column};
 ghost use Rattle.sqlite.specs.declared.types.Value.TheVariants.{Int};
 ghost use Rattle.mm_store.specs.Tables.{schema};
-ghost use Rattle.mm_store.specs.Faults.{memory};
+ghost use Rattle.mm_definitions.specs.Faults.{memory};
 ghost use Rattle.mm_meta.specs.Opening.{nothing};
 ghost use Rattle.mm_meta.specs.Look.{Judges, TellsError, IsLooked, stops};
 ghost use Rattle.mm_meta.specs.Handed.{MakesOfVersion};

@@ -20,7 +20,8 @@ use Rattle.sqlite.specs.declared.error.Error.{Error}
 use Rattle.sqlite.specs.declared.file.Leftover.{Leftover}
 use Rattle.sqlite.specs.declared.file.Leftover.TheVariants as left
 use Rattle.mm_definitions.specs.declared.answers.Fault.{Fault}
-use Rattle.mm_store.specs.Faults.{memory, store, told_as}
+use Rattle.mm_definitions.specs.Faults.{memory, store}
+use Rattle.mm_store.specs.Faults.{told_as}
 use Rattle.mm_recovery.specs.Found.{HoldOneOf}
 use Rattle.mm_recovery.specs.Stops.{HasCause, IsNotClosed, IsNotOpened, LeadsBack, LeadsTo, TellsNoLie}
 use Rattle.mm_recovery.specs.declared.stops.Stopped.{Stopped}

@@ -13,7 +13,8 @@ use Rattle.sqlite.specs.Files.{file_state, faults_left, faults_of, image_of, Hol
 use Rattle.sqlite.specs.declared.file.Leftover.{Leftover}
 use Rattle.sqlite.specs.declared.file.Leftover.TheVariants as left
 use Rattle.mm_definitions.specs.declared.answers.Fault.{Fault}
-use Rattle.mm_store.specs.Faults.{IsStoreFault, store}
+use Rattle.mm_definitions.specs.Faults.{store}
+use Rattle.mm_store.specs.Faults.{IsStoreFault}
 use Rattle.mm_recovery.specs.Found.{AreLeftBy, HoldOneOf}
 use Rattle.mm_recovery.specs.declared.stops.Stopped.{Stopped}
 

@@ -4,6 +4,7 @@ use Rattle.sqlite.specs.Tree.{Trees}
 use Rattle.sqlite.specs.Held.{Held, state}
 use Rattle.sqlite.specs.Store.{Ghosts}
 use Rattle.mm_definitions.specs.declared.answers.Fault.{Fault}
+use Rattle.mm_definitions.specs.Faults.{reopen}
 use Rattle.mm_run.specs.Shown.{Shown}
 use Rattle.mm_core.specs.Applied.{shown_on}
 use Rattle.mm_core.specs.declared.session.Session.{Session}
@@ -18,7 +19,7 @@ must_reopen session = session.failed
 
 -- what stands against a read: 92 where the session has to be opened again
 abbrev pub readiness : Bool → Result ⊤ Fault
-readiness true = Err (record { 0 = 92 })
+readiness true = Err reopen
 readiness false = Ok tt
 
 -- what it shows

@@ -7,6 +7,7 @@ ghost use Rattle.mm_run.specs.Applied.{OnFault};
 ghost use Rattle.mm_definitions.specs.declared.commands.Command.TheVariants as commands;
 ghost use Rattle.mm_core.specs.Applied.{IsAppliedTo};
 ghost use Rattle.mm_definitions.specs.CommandGroups.{rehearses};
+ghost use Rattle.mm_definitions.specs.Faults.{memory, store};
 
 use crate::dispatching::run_command;
 use mm_definitions::answers::{Answer, Fault, Outcome};
@@ -30,7 +31,7 @@ fn run_transaction<S: Alter>(
     requires lasting { rehearses command.now ≡ false }
     requires stamped { IsStamp moment last_change.now }
     ensures mode { conn.new.in_transaction ≡ false }
-    ensures faults { OnFault result (λ fault. (fault ≡ 90) ⊎ (fault ≡ 91)) }
+    ensures faults { OnFault result (λ fault. (fault ≡ memory.0) ⊎ (fault ≡ store.0)) }
     ensures applied { IsAppliedTo command.now moment
         (state S.Store conn.old) (state S.Store conn.new) result }
 {
@@ -63,7 +64,7 @@ fn rehearse_once<S: Alter>(
     requires idle { conn.old.in_transaction ≡ false }
     requires stamped { IsStamp moment last_change.now }
     ensures mode { conn.new.in_transaction ≡ false }
-    ensures faults { OnFault result (λ fault. (fault ≡ 90) ⊎ (fault ≡ 91)) }
+    ensures faults { OnFault result (λ fault. (fault ≡ memory.0) ⊎ (fault ≡ store.0)) }
     ensures applied { IsAppliedTo (commands.Rehearse edition.now) moment
         (state S.Store conn.old) (state S.Store conn.new) result }
 {
@@ -86,7 +87,7 @@ pub(crate) fn apply_once<S: Alter>(
 ) -> Answer
     requires idle { conn.old.in_transaction ≡ false }
     ensures mode { conn.new.in_transaction ≡ false }
-    ensures faults { OnFault result (λ fault. (fault ≡ 90) ⊎ (fault ≡ 91)) }
+    ensures faults { OnFault result (λ fault. (fault ≡ memory.0) ⊎ (fault ≡ store.0)) }
     ensures applied { IsAppliedTo command.now moment
         (state S.Store conn.old) (state S.Store conn.new) result }
 {

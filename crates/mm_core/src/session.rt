@@ -29,6 +29,7 @@ pub struct Session<S: Alter> {
 impl<S: Alter> Session<S> {
     ghost use Rattle.std.specs.Prelude.{◌≡◌, ◌⊎◌, Ok, Err, IfOk, IfErr, false, true};
     ghost use Rattle.sqlite.specs.Held.{state};
+    ghost use Rattle.mm_definitions.specs.Faults.{memory, store};
     ghost use Rattle.mm_core.specs.Adopted.{IsAdopted, IsNotAdopted};
     ghost use Rattle.mm_core.specs.Sessions.{IsCreated, IsNotCreated};
     ghost use Rattle.mm_migrate.specs.Migrations.{IsMigration};
@@ -41,7 +42,7 @@ impl<S: Alter> Session<S> {
         ensures working { IfOk result (λ session. must_reopen session ≡ false) }
         ensures created { IfOk result
             (λ session. IsCreated (state S.Store conn) (state S.Store (connection session))) }
-        ensures faults { IfErr result (λ e. (e.1.0 ≡ 90) ⊎ (e.1.0 ≡ 91)) }
+        ensures faults { IfErr result (λ e. (e.1.0 ≡ memory.0) ⊎ (e.1.0 ≡ store.0)) }
         ensures handed_back { IfErr result (λ e. e.0.in_transaction ≡ false) }
         ensures not_created { IfErr result
             (λ e. IsNotCreated (state S.Store conn) (state S.Store e.0)) }
@@ -149,6 +150,7 @@ impl<S: Alter> Session<S> {
     ghost use Rattle.std.specs.Prelude.{◌≡◌, ◌⊎◌, None, false, true};
     ghost use Rattle.sqlite.specs.Held.{state};
     ghost use Rattle.mm_definitions.specs.Bounds.{current};
+    ghost use Rattle.mm_definitions.specs.Faults.{memory, store, reopen};
     ghost use Rattle.mm_definitions.specs.Package.{Package};
     ghost use Rattle.mm_definitions.specs.Rules.{Meets};
     ghost use Rattle.mm_definitions.specs.Step.{step};
@@ -163,10 +165,10 @@ impl<S: Alter> Session<S> {
     /// 92 and makes no call of the store. The fields of each command are within their limits, by their types, so that the
     /// package after it keeps the rules.
     pub fn apply(&mut self, command: &Command, at: Moment) -> Answer
-        ensures ended { must_reopen self.old ≡ true → (result ≡ Answer.Fault (record { 0 = 92 }))
+        ensures ended { must_reopen self.old ≡ true → (result ≡ Answer.Fault reopen)
             × (self.new ≡ self.old) }
         ensures working { must_reopen self.old ≡ false
-            → OnFault result (λ fault. (fault ≡ 90) ⊎ (fault ≡ 91)) }
+            → OnFault result (λ fault. (fault ≡ memory.0) ⊎ (fault ≡ store.0)) }
         ensures fails { must_reopen self.old ≡ false → must_reopen self.new ≡ is_fault result }
         ensures applied { must_reopen self.old ≡ false
             → IsAppliedTo command.now at

@@ -4,6 +4,7 @@ use Rattle.csv.specs.Reading.{ReadRecord, Ready, default_config, has_failed, rec
 use Rattle.csv.specs.Records.{Row, fields_of}
 use Rattle.csv.specs.declared.reader.Reader.{Reader}
 use Rattle.csv.specs.declared.reader.Trim.TheVariants as trim
+use Rattle.mm_definitions.specs.Faults.{memory, input}
 
 -- a record's fields, in order
 abbrev pub Record : Type 0
@@ -28,12 +29,12 @@ NextRow remaining old new (Some row) = ReadRecord remaining old new true (fields
 
 -- why bytes weren't read: 90 want of memory, or 96 the reader, which tells it
 abbrev pub IsReadFault : ℕ → Bool → Type 0
-IsReadFault fault failed = (fault ≡ 90) ⊎ ((fault ≡ 96) × (failed ≡ true))
+IsReadFault fault failed = (fault ≡ memory.0) ⊎ ((fault ≡ input.0) × (failed ≡ true))
 
 -- which of the two it is: the reader's where it tells that it has failed
 abbrev pub read_fault : Bool → ℕ
-read_fault true = 96
-read_fault false = 90
+read_fault true = input.0
+read_fault false = memory.0
 
 -- where the reader had not failed before it has not failed since
 abbrev pub WorksStill : Bool → Bool → Type 0
@@ -41,7 +42,7 @@ WorksStill before now = before ≡ false → now ≡ false
 
 -- where the reader has failed since the fault is 96
 abbrev pub TellsFailing : Bool → Bool → ℕ → Type 0
-TellsFailing before now fault = before ≡ false → now ≡ true → fault ≡ 96
+TellsFailing before now fault = before ≡ false → now ≡ true → fault ≡ input.0
 
 -- at least so many of the known bytes were read
 abbrev pub ReadAtLeast : ℕ → Option (List ℕ) → Option (List ℕ) → Type 0

@@ -2,6 +2,7 @@
 
 ghost use Rattle.std.specs.Prelude.{◌≡◌, ◌-◌, ◌^◌, OnOk, IfErr};
 ghost use Rattle.std.specs.Io.KnownBytes.{IsAtEnd};
+ghost use Rattle.mm_definitions.specs.Faults.{memory};
 ghost use Rattle.mm_definitions.specs.Streams.{has_failed, inside};
 ghost use Rattle.mm_io.specs.Records.{IsReadFault, ReadAtLeast, TellsFailing};
 
@@ -21,7 +22,7 @@ pub fn drain<R: Read>(reader: &mut Io<R>) -> Result<(), Fault>
     ensures failing { IfErr result
         (λ f. TellsFailing (has_failed reader.old) (has_failed reader.new) f.0) }
     ensures endless { IfErr result
-        (λ f. f.0 ≡ 90 → ReadAtLeast (2 ^ 64 - 1) (R.remaining (inside reader.old))
+        (λ f. f.0 ≡ memory.0 → ReadAtLeast (2 ^ 64 - 1) (R.remaining (inside reader.old))
         (R.remaining (inside reader.new))) }
 {
     let mut one = [0u8];

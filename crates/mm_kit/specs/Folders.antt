@@ -1,5 +1,6 @@
 -- The files of a folder that tells them.
 use Rattle.std.specs.Prelude.{◌≡◌, ◌≤◌, ◌<◌, ℕ, length, List, Bool, true, false, Option, Some, None, Result, Ok, Err}
+use Rattle.mm_definitions.specs.Faults.{memory, input}
 use Rattle.mm_definitions.specs.Keys.{Text}
 use Rattle.mm_kit.specs.declared.folders.Found.{Found}
 use Rattle.mm_kit.specs.declared.folders.Found.TheVariants.{Bytes, TooLong, Missing}
@@ -28,5 +29,5 @@ is_failure (Err fault) = is_own fault
 
 -- the fault that an import tells of it: 90 want of memory, 96 the folder
 abbrev pub fault_number : FolderFault → ℕ
-fault_number Memory = 90
-fault_number Failed = 96
+fault_number Memory = memory.0
+fault_number Failed = input.0

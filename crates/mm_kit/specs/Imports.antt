@@ -2,6 +2,7 @@
 use Rattle.std.specs.Prelude.{◌≡◌, ◌≢◌, ◌≤◌, ◌⊎◌, ◌+◌, ◌==◌, ◌||◌, ℕ, pos, max, length, Bool, true, false, List, [], ◌∷◌, ◌++◌, Option, Some, None, Result, Ok, Err, IfSome, ⊤}
 use Rattle.std.specs.FinMap.{get}
 use Rattle.mm_definitions.specs.declared.refusals.TheConstants.{OUT_OF_LIMITS, NO_FILE}
+use Rattle.mm_definitions.specs.Faults.{memory, store, reopen, input}
 use Rattle.mm_definitions.specs.Keys.{Text, PieceKey}
 use Rattle.mm_definitions.specs.Package.{Package}
 use Rattle.mm_definitions.specs.Rules.{Meets}
@@ -109,12 +110,12 @@ OnKit clean settled told P = clean → (p : Package) → IsSound settled p → (
 
 -- a fault of an import: 90 want of memory, 91 the store, 92 open again, or 96 the folder
 abbrev pub IsKitFault : ℕ → Type 0
-IsKitFault fault = (fault ≡ 90) ⊎ (fault ≡ 91) ⊎ (fault ≡ 92) ⊎ (fault ≡ 96)
+IsKitFault fault = (fault ≡ memory.0) ⊎ (fault ≡ store.0) ⊎ (fault ≡ reopen.0) ⊎ (fault ≡ input.0)
 
 -- an import told that the folder failed
 abbrev pub is_folders : Result Staged KitFault → Bool
 is_folders (Ok a) = false
-is_folders (Err e) = e.fault.0 == 96
+is_folders (Err e) = e.fault.0 == input.0
 
 -- the folder has failed where it had before, or where 96 is told, and nowhere else
 abbrev pub TellsFolder : Bool → Bool → Result Staged KitFault → Type 0
@@ -150,14 +151,17 @@ AsksForPackage told = (files : Files) → told ≡ Some files → (entries : Lis
 -- What an import tells of a session that has to be opened again: it is as it was, nothing is staged, and 92 comes only there.
 abbrev pub ImportTellsReopening : Bool → Bool → Type 0 → Result Staged KitFault → Type 0
 ImportTellsReopening before failed same (Ok a) = (failed ≡ before) × (before ≡ true → same)
-ImportTellsReopening before failed same (Err e) = (e.fault.0 ≡ 92 → before ≡ true) × (e.fault.0 ≡ 96 → failed ≡ before) × (before ≡ true → same × (e.staged ≡ 0))
+ImportTellsReopening before failed same (Err e) =
+    (e.fault.0 ≡ reopen.0 → before ≡ true) × (e.fault.0 ≡ input.0 → failed ≡ before)
+    × (before ≡ true → same × (e.staged ≡ 0))
 
 -- What is told on a session that has to be opened again: 92 where the list is a kit's. Before that there may be no memory for the
 -- list (90), or the folder fails (96). Only a list that is refused is answered.
 abbrev pub ImportEnded : Option Files → Result Staged KitFault → Type 0
 ImportEnded told (Ok (Complete n)) = ⊥
 ImportEnded told (Ok (Refused place number)) = IfSome told (λ files. IsKitList files (Err (place, number)))
-ImportEnded told (Err e) = (e.staged ≡ 0) × ((e.fault.0 ≡ 90) ⊎ (e.fault.0 ≡ 96) ⊎ ((e.fault.0 ≡ 92) × AsksForPackage told))
+ImportEnded told (Err e) = (e.staged ≡ 0)
+    × ((e.fault.0 ≡ memory.0) ⊎ (e.fault.0 ≡ input.0) ⊎ ((e.fault.0 ≡ reopen.0) × AsksForPackage told))
 
 -- ---- inside the import
 
@@ -190,7 +194,7 @@ IsEntryStaged told e name n p moment shows (Err fault) =
 -- the staging of an entry told that the folder failed
 abbrev pub is_of_folder : {T : Type 0} → Result T Fault → Bool
 is_of_folder (Ok a) = false
-is_of_folder (Err fault) = fault.0 == 96
+is_of_folder (Err fault) = fault.0 == input.0
 
 -- After k entries, where these are left: what is still to be staged, and the answer, are those of the entries left.
 pub record IsImportedSoFar (files : Files) (name : Text) (entries left : List Entry) (p : Package) (old : List Piece) (k : ℕ) (q : Package) : Type 0 where

@@ -1,5 +1,6 @@
 -- What the import of a kit promises, by what commands are applied to, and by a folder.
 use Rattle.std.specs.Prelude.{◌≡◌, ◌≢◌, ◌≤◌, Bool, false, true, length, List, Option, Result, Err, IfOk, IfErr}
+use Rattle.mm_definitions.specs.Faults.{reopen, input}
 use Rattle.mm_definitions.specs.Keys.{Text}
 use Rattle.mm_definitions.specs.Package.{Package}
 use Rattle.mm_definitions.specs.declared.answers.KitFault.{KitFault}
@@ -48,7 +49,7 @@ pub record ImportsKit {A F : Type 0} (apply : applies.Ghosts A) (shelf : folders
   -- It is told 92 at the first need of the package, which is the edition's state, behind the list; there is no want of memory there.
   pub ended : apply.has_failed old ≡ true → ImportEnded (shelf.files kit) result
   -- The package is asked only where the list is a kit's.
-  pub needed : IfErr result (λ e. e.fault.0 ≡ 92 → AsksForPackage (shelf.files kit))
+  pub needed : IfErr result (λ e. e.fault.0 ≡ reopen.0 → AsksForPackage (shelf.files kit))
   -- 96 is the folder's, and the folder tells it.
   pub folder : TellsFolder (shelf.has_failed kit) (shelf.has_failed kit_now) result
   -- The other faults are 90, 91 and 92.
@@ -73,7 +74,7 @@ pub record ImportsEntries {A F : Type 0} (apply : applies.Ghosts A) (shelf : fol
   pub still_kept : IfErr result (λ e. OnAnyFolder (apply.is_clean new) (apply.seen old)
       (λ p. apply.has_failed new ≡ apply.has_failed old → IsStillKept name p (shown_since apply old p new).settled))
   -- The edition's state is asked before anything else, so an editor that has failed is answered 92 and nothing else.
-  pub ended : apply.has_failed old ≡ true → result ≡ Err (record { fault = record { 0 = 92 }; staged = 0 })
+  pub ended : apply.has_failed old ≡ true → result ≡ Err (record { fault = reopen; staged = 0 })
   pub folder : TellsFolder (shelf.has_failed kit) (shelf.has_failed kit_now) result
   pub why : IfErr result (λ e. IsKitFault e.fault.0)
 
@@ -92,7 +93,7 @@ pub record StagesEntries {A F : Type 0} (apply : applies.Ghosts A) (shelf : fold
       → AreStagedOn files name entries p (shown_since apply old p new).settled e.staged))
   -- An answer leaves the editor working, and so does a fault of the folder. 92 is not answered.
   pub session : IfOk result (λ a. apply.has_failed new ≡ false)
-  pub fault : IfErr result (λ e. (e.fault.0 ≢ 92) × (e.fault.0 ≡ 96 → apply.has_failed new ≡ false))
+  pub fault : IfErr result (λ e. (e.fault.0 ≢ reopen.0) × (e.fault.0 ≡ input.0 → apply.has_failed new ≡ false))
   pub kept : OnAnyFolder (apply.is_clean new) (apply.seen old)
       (λ p. (pieces : List Piece) → HasPieces p name pieces
       → IsImportKept name p (shown_since apply old p new).settled (apply.may_leave new) (shown_since apply old p new).stands_for result)

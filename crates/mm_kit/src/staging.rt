@@ -2,6 +2,7 @@
 
 ghost use Rattle.std.specs.Prelude.{◌≡◌, ◌≢◌, ◌<◌, ◌||◌, pos, IfErr, OnOk, false, true};
 ghost use Rattle.mm_definitions.specs.Bounds.{IsName, current};
+ghost use Rattle.mm_definitions.specs.Faults.{reopen, input};
 ghost use Rattle.mm_definitions.specs.Package.{Package};
 ghost use Rattle.mm_definitions.specs.Rules.{Meets};
 ghost use Rattle.mm_definitions.specs.Step.{step};
@@ -71,9 +72,9 @@ fn stage_piece<A: Apply>(
     ensures keeps { (p : Package) → Meets current p
         → Meets current (step p (commands.Stage edition.now (pos number) piece) at) }
     ensures faults { OnFault result IsApplyFault }
-    ensures ended { A.has_failed editor.old ≡ true → (result ≡ answers.Fault (record { 0 = 92 }))
+    ensures ended { A.has_failed editor.old ≡ true → (result ≡ answers.Fault reopen)
         × (editor.new ≡ editor.old) }
-    ensures working { A.has_failed editor.old ≡ false → OnFault result (λ fault. fault ≢ 92) }
+    ensures working { A.has_failed editor.old ≡ false → OnFault result (λ fault. fault ≢ reopen.0) }
     ensures fails { A.has_failed editor.old ≡ false → A.has_failed editor.new ≡ is_fault result }
     ensures clean { A.is_clean editor.new → A.is_clean editor.old }
     ensures applied { A.is_clean editor.new → (p : Package) → A.seen editor.old p → Meets current p
@@ -110,7 +111,7 @@ fn stage_entry<A: Editor, F: Folder>(
         (shown_since A.Apply editor.old p editor.new) result }
     ensures works { OnOk result (A.has_failed editor.new ≡ false) }
     ensures fault { IfErr result
-        (λ fault. (fault.0 ≢ 92) × (fault.0 ≡ 96 → A.has_failed editor.new ≡ false)) }
+        (λ fault. (fault.0 ≢ reopen.0) × (fault.0 ≡ input.0 → A.has_failed editor.new ≡ false)) }
     ensures stays { F.files folder.new ≡ F.files folder.old }
     ensures folder { F.has_failed folder.new ≡ (F.has_failed folder.old || is_of_folder result) }
     ensures why { IfErr result (λ fault. IsKitFault fault.0) }

@@ -4,6 +4,7 @@ use Rattle.std.specs.declared.io.traits.Read as reads
 use Rattle.std.specs.declared.io.traits.Write as writes
 use Rattle.std.specs.declared.alloc.Global.{Global}
 use Rattle.std.specs.declared.vec.Vec.{Vec}
+use Rattle.mm_definitions.specs.Faults as faults
 use Rattle.mm_definitions.specs.Keys.{Text}
 use Rattle.mm_definitions.specs.Package.{Package}
 use Rattle.mm_definitions.specs.Streams.{has_failed, inside}
@@ -38,9 +39,10 @@ pub record ServesRequest {V R W : Type 0} (view : viewers.Ghosts V) (read : read
   -- No more is read than the head needs.
   pub frugal : OnOk result (ReadsNoMore 8192 (read.remaining (inside input)) (read.remaining (inside input_now)))
   -- With a fault too, unless it is the input's.
-  pub frugal_fault : IfErr result (λ e. (e.0.0 ≡ 96) ⊎ ReadsNoMore 8192 (read.remaining (inside input)) (read.remaining (inside input_now)))
+  pub frugal_fault : IfErr result (λ e.
+      (e.0.0 ≡ faults.input.0) ⊎ ReadsNoMore 8192 (read.remaining (inside input)) (read.remaining (inside input_now)))
   -- 92 is told only where a part of the package is asked for.
-  pub needed : IfErr result (λ e. e.0.0 ≡ 92 → AsksForPart (read.remaining (inside input)))
+  pub needed : IfErr result (λ e. e.0.0 ≡ faults.reopen.0 → AsksForPart (read.remaining (inside input)))
   -- With a fault nothing was written; with 97, the output's, a front of the response.
   pub stopped : IfErr result (λ e. IsCutResponse (view.has_failed old) (IsOn (view.has_failed old) (view.store old) (view.store new))
       (read.remaining (inside input)) (has_failed input_now) (write.contents (inside output)) (write.contents (inside output_now))
@@ -57,9 +59,11 @@ pub record Responds {V R : Type 0} (view : viewers.Ghosts V) (read : reads.Ghost
   pub reading : OnOk result (has_failed input_now ≡ has_failed input)
   pub failing : IfErr result (λ fault. TellsFailing (has_failed input) (has_failed input_now) fault.0)
   pub frugal : OnOk result (ReadsNoMore 8192 (read.remaining (inside input)) (read.remaining (inside input_now)))
-  pub frugal_fault : IfErr result (λ fault. (fault.0 ≡ 96) ⊎ ReadsNoMore 8192 (read.remaining (inside input)) (read.remaining (inside input_now)))
-  pub needed : IfErr result (λ fault. fault.0 ≡ 92 → AsksForPart (read.remaining (inside input)))
-  pub fault : IfErr result (λ fault. IsPageFault (view.has_failed old) fault ⊎ ((fault.0 ≡ 96) × (has_failed input_now ≡ true)))
+  pub frugal_fault : IfErr result (λ fault.
+      (fault.0 ≡ faults.input.0) ⊎ ReadsNoMore 8192 (read.remaining (inside input)) (read.remaining (inside input_now)))
+  pub needed : IfErr result (λ fault. fault.0 ≡ faults.reopen.0 → AsksForPart (read.remaining (inside input)))
+  pub fault : IfErr result (λ fault.
+      IsPageFault (view.has_failed old) fault ⊎ ((fault.0 ≡ faults.input.0) × (has_failed input_now ≡ true)))
 
 module _ {V : Type 0} (view : viewers.Ghosts V) (old new : V) (result : Result (Vec ℕ Global) Fault) where
   -- It makes the response that is so written of a package; 92 is told only where this is asked of it.
@@ -67,7 +71,7 @@ module _ {V : Type 0} (view : viewers.Ghosts V) (old new : V) (result : Result (
     pub same : view.has_failed new ≡ view.has_failed old
     pub kept : LeavesPackage (view.store old) (view.store new)
     pub response : (p : Package) → IsOn (view.has_failed old) (view.store old) (view.store new) p → IfOk result (λ v. Written p v.items)
-    pub needed : IfErr result (λ fault. fault.0 ≡ 92 → Asked)
+    pub needed : IfErr result (λ fault. fault.0 ≡ faults.reopen.0 → Asked)
     pub fault : IfErr result (IsPageFault (view.has_failed old))
 
   -- It makes the response to what is asked of a package. That is asked before anything else, so that a viewer that has failed is
@@ -75,6 +79,6 @@ module _ {V : Type 0} (view : viewers.Ghosts V) (old new : V) (result : Result (
   pub record Replies (wanted : Wanted) : Type 0 where
     pub same : view.has_failed new ≡ view.has_failed old
     pub kept : LeavesPackage (view.store old) (view.store new)
-    pub ended : view.has_failed old ≡ true → result ≡ Err (record { 0 = 92 })
+    pub ended : view.has_failed old ≡ true → result ≡ Err faults.reopen
     pub reply : ShowsPart (IsOn (view.has_failed old) (view.store old) (view.store new)) (λ v. v.items) (λ p. response_of (reply_of p wanted)) result
     pub fault : IfErr result (IsViewFault (view.has_failed old))

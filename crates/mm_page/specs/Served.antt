@@ -1,6 +1,7 @@
 -- What serving a request does to a reader and a writer.
 use Rattle.std.specs.Prelude.{◌≡◌, ◌⊎◌, ◌≤◌, ℕ, Bool, true, Option, Some, codes, length, take}
 use Rattle.std.specs.Io.KnownBytes.{Appends, Keeps}
+use Rattle.mm_definitions.specs.Faults as faults
 use Rattle.mm_definitions.specs.Keys.{Text}
 use Rattle.mm_definitions.specs.Package.{Package}
 use Rattle.mm_definitions.specs.declared.answers.Fault.{Fault}
@@ -23,15 +24,15 @@ ServedTo on source old new = (response : Text) × Served on source response × A
 -- Why no response was made: 90 where there was no memory for it, or for reading the path before anything is asked for; or what the
 -- viewer tells.
 abbrev pub IsPageFault : Bool → Fault → Type 0
-IsPageFault failed fault = (fault.0 ≡ 90) ⊎ IsViewFault failed fault
+IsPageFault failed fault = (fault.0 ≡ faults.memory.0) ⊎ IsViewFault failed fault
 
 -- Why it wasn't written whole: 90, 91, 92, or 96 where the reader has failed, and then nothing was written; or 97 where the
 -- writer has, and then a front of it was.
 abbrev pub IsCutResponse : Bool → (Package → Type 0) → Option Text → Bool → Option Text → Option Text → Bool → Fault → Type 0
 IsCutResponse failed on source reading old new writing fault =
     (IsPageFault failed fault × Keeps old new)
-    ⊎ ((fault.0 ≡ 96) × (reading ≡ true) × Keeps old new)
-    ⊎ ((fault.0 ≡ 97) × (writing ≡ true) × (response : Text) × Served on source response
+    ⊎ ((fault.0 ≡ faults.input.0) × (reading ≡ true) × Keeps old new)
+    ⊎ ((fault.0 ≡ faults.output.0) × (writing ≡ true) × (response : Text) × Served on source response
     × (k : ℕ) × (k ≤ length response) × Appends old new (take k response))
 
 -- ---- what is asked for

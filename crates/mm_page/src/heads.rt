@@ -2,6 +2,7 @@
 
 ghost use Rattle.std.specs.Prelude.{◌≡◌, ℕ, List, IfOk, IfErr, IfSome, OnOk, length, true};
 ghost use Rattle.httparse.specs.Grammar.{RequestHead};
+ghost use Rattle.mm_definitions.specs.Faults as faults;
 ghost use Rattle.mm_definitions.specs.Streams.{has_failed, inside};
 ghost use Rattle.mm_page.specs.Heads.{Heads, HoldsRead, IsHead, Lies, ReadsNoMore};
 
@@ -30,7 +31,7 @@ pub fn read_head<R: Read>(
         (ReadsNoMore (length buf.old) (R.remaining (inside reader.old))
         (R.remaining (inside reader.new))) }
     ensures working { OnOk result (has_failed reader.new ≡ has_failed reader.old) }
-    ensures fault { IfErr result (λ f. (f.0 ≡ 96) × (has_failed reader.new ≡ true)) }
+    ensures fault { IfErr result (λ f. (f.0 ≡ faults.input.0) × (has_failed reader.new ≡ true)) }
 {
     let mut len = 0;
     'pieces: loop {

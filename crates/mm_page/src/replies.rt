@@ -1,6 +1,7 @@
 //! What is answered to what is asked for.
 
 ghost use Rattle.std.specs.Prelude.{◌≡◌, pos, IfErr, IfOk, Ok};
+ghost use Rattle.mm_definitions.specs.Faults.{memory};
 ghost use Rattle.mm_page.specs.Asked as page;
 ghost use Rattle.mm_page.specs.Routes.{asked};
 ghost use Rattle.mm_page.specs.Promised.{Replies};
@@ -16,7 +17,7 @@ use std::alloc::{AllocError, Global};
 /// Want of memory is fault 90.
 pub fn printed(made: Result<Vec<u8>, AllocError>) -> Result<Vec<u8>, Fault>
     ensures ok { IfOk result (λ v. made ≡ Ok v) }
-    ensures err { IfErr result (λ f. f.0 ≡ 90) }
+    ensures err { IfErr result (λ f. f.0 ≡ memory.0) }
     ensures made { IfOk made (λ v. result ≡ Ok v) }
 {
     match made {

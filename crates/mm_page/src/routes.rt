@@ -3,6 +3,7 @@
 ghost use Rattle.std.specs.Prelude.{◌≡◌, ℤ, pos, ◌≤ℤ◌, IfOk, IfErr, IfSome, MatchOption};
 ghost use Rattle.std.specs.Str.{IsAscii};
 ghost use Rattle.mm_definitions.specs.Bounds.{IsName};
+ghost use Rattle.mm_definitions.specs.Faults.{memory};
 ghost use Rattle.mm_definitions.specs.Keys.{Text};
 ghost use Rattle.mm_page.specs.Asked.{IsRouted, SpellsWithin};
 ghost use Rattle.mm_page.specs.Asked as page;
@@ -148,7 +149,7 @@ pub fn read_path(alloc: Global, path: &str) -> Result<Option<Wanted>, Fault>
     ensures wanted { IfOk result
         (λ wanted. MatchOption wanted ((w : page.Wanted) → ¬ (IsRouted path.now w))
         (λ w. IsRouted path.now (asked w))) }
-    ensures fault { IfErr result (λ f. f.0 ≡ 90) }
+    ensures fault { IfErr result (λ f. f.0 ≡ memory.0) }
 {
     if !path.is_ascii() {
         return Ok(None);

@@ -2,6 +2,7 @@
 use Rattle.std.specs.Prelude.{◌≡◌, ◌⊎◌, Bool, true, false, Result, Ok, Err, ⊤}
 use Rattle.sqlite.specs.State.{State, HasCleanDisk}
 use Rattle.mm_definitions.specs.Bounds.{current}
+use Rattle.mm_definitions.specs.Faults.{memory, store, reopen}
 use Rattle.mm_definitions.specs.Package.{Package}
 use Rattle.mm_definitions.specs.Rules.{Meets}
 use Rattle.mm_definitions.specs.declared.answers.Fault.{Fault}
@@ -31,4 +32,5 @@ ShowsPart on shown part result = (p : Package) → on p → ShowsValue shown (pa
 -- A viewer that has failed answers 92 and nothing else, as a session that has to be opened again does; another 90 for want of
 -- memory, or 91 where the store fails.
 abbrev pub IsViewFault : Bool → Fault → Type 0
-IsViewFault failed fault = ((failed ≡ false) × ((fault.0 ≡ 90) ⊎ (fault.0 ≡ 91))) ⊎ ((failed ≡ true) × (fault.0 ≡ 92))
+IsViewFault failed fault = ((failed ≡ false) × ((fault.0 ≡ memory.0) ⊎ (fault.0 ≡ store.0)))
+    ⊎ ((failed ≡ true) × (fault.0 ≡ reopen.0))

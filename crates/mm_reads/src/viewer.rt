@@ -3,6 +3,7 @@
 ghost use Rattle.std.specs.Prelude.{◌≡◌, Bool, Err, IfErr, map, option_map, true};
 ghost use Rattle.std.specs.FinMap.{get};
 ghost use Rattle.sqlite.specs.State.{State};
+ghost use Rattle.mm_definitions.specs.Faults.{reopen};
 ghost use Rattle.mm_definitions.specs.Keys.{item};
 ghost use Rattle.mm_definitions.specs.Places.{tile_at};
 ghost use Rattle.mm_reads.specs.Told.{shown_medium};
@@ -31,7 +32,7 @@ pub trait Viewer {
         ensures value { ShowsPart
             (IsOn (Self.has_failed self.old) (Self.store self.old) (Self.store self.new))
             (option_map (λ v. v.items)) (λ p. get p.tiles (tile_at table.now place)) result }
-        ensures ended { Self.has_failed self.old ≡ true → result ≡ Err (record { 0 = 92 }) }
+        ensures ended { Self.has_failed self.old ≡ true → result ≡ Err reopen }
         ensures fault { IfErr result (IsViewFault (Self.has_failed self.old)) };
 
     /// A medium, or None where none has the id.
@@ -41,7 +42,7 @@ pub trait Viewer {
         ensures value { ShowsPart
             (IsOn (Self.has_failed self.old) (Self.store self.old) (Self.store self.new))
             (option_map shown_medium) (λ p. get p.media (item table.now id)) result }
-        ensures ended { Self.has_failed self.old ≡ true → result ≡ Err (record { 0 = 92 }) }
+        ensures ended { Self.has_failed self.old ≡ true → result ≡ Err reopen }
         ensures fault { IfErr result (IsViewFault (Self.has_failed self.old)) };
 
     /// What an attribute row or medium is related to, where it stands.
@@ -51,7 +52,7 @@ pub trait Viewer {
         ensures value { ShowsPart
             (IsOn (Self.has_failed self.old) (Self.store self.old) (Self.store self.new))
             (option_map (λ v. map mate_told v.items)) (λ p. mates p table.now id) result }
-        ensures ended { Self.has_failed self.old ≡ true → result ≡ Err (record { 0 = 92 }) }
+        ensures ended { Self.has_failed self.old ≡ true → result ≡ Err reopen }
         ensures fault { IfErr result (IsViewFault (Self.has_failed self.old)) };
 
     /// The tables by rising name.
@@ -61,6 +62,6 @@ pub trait Viewer {
         ensures value { ShowsPart
             (IsOn (Self.has_failed self.old) (Self.store self.old) (Self.store self.new))
             (λ v. map listing.table_told v.items) shown_tables result }
-        ensures ended { Self.has_failed self.old ≡ true → result ≡ Err (record { 0 = 92 }) }
+        ensures ended { Self.has_failed self.old ≡ true → result ≡ Err reopen }
         ensures fault { IfErr result (IsViewFault (Self.has_failed self.old)) };
 }

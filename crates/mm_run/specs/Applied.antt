@@ -1,6 +1,7 @@
 -- What a command that is applied does.
 use Rattle.std.specs.Prelude.{◌≡◌, ◌⊎◌, ℕ, Bool, true, false, Some, None, ⊤}
 use Rattle.mm_definitions.specs.Bounds.{current}
+use Rattle.mm_definitions.specs.Faults.{memory, store, reopen, input}
 use Rattle.mm_definitions.specs.Package.{Package}
 use Rattle.mm_definitions.specs.Rules.{Meets}
 use Rattle.mm_definitions.specs.Step.{refusal, step}
@@ -30,7 +31,7 @@ IsApplied p command moment (answers.Fault fault) shows = LeavesEither shows p co
 
 -- a fault of a command: 90 want of memory, 91 the store, 92 open again
 abbrev pub IsApplyFault : ℕ → Type 0
-IsApplyFault fault = (fault ≡ 90) ⊎ (fault ≡ 91) ⊎ (fault ≡ 92)
+IsApplyFault fault = (fault ≡ memory.0) ⊎ (fault ≡ store.0) ⊎ (fault ≡ reopen.0)
 
 -- what holds of the number where the answer is a fault
 abbrev pub OnFault : Answer → (ℕ → Type 0) → Type 0
@@ -50,4 +51,5 @@ abbrev pub TellsReopening : Bool → Bool → Type 0 → Answer → Type 0
 TellsReopening before failed same answers.Ok = (before ≡ false) × (failed ≡ false)
 TellsReopening before failed same (answers.Refused why) = (failed ≡ before) × (before ≡ true → same)
 TellsReopening before failed same (answers.Fault fault) =
-    (fault.0 ≡ 92 → before ≡ true) × (fault.0 ≡ 91 → (before ≡ false) × (failed ≡ true)) × (fault.0 ≡ 96 → failed ≡ before) × (before ≡ true → same)
+    (fault.0 ≡ reopen.0 → before ≡ true) × (fault.0 ≡ store.0 → (before ≡ false) × (failed ≡ true))
+    × (fault.0 ≡ input.0 → failed ≡ before) × (before ≡ true → same)

@@ -17,6 +17,7 @@ use Rattle.mm_io.specs.Records.{Record, records_of}
 use Rattle.mm_run.specs.Readings.{IsReadAs}
 use Rattle.mm_run.specs.Answers.{plain}
 use Rattle.mm_run.specs.Told.{AreCounted, AreTold, IsStoppedText}
+use Rattle.mm_definitions.specs.Faults.{memory, reopen}
 use Rattle.mm_definitions.specs.Streams.{Written}
 
 -- the refusals with these numbers, as answers
@@ -51,7 +52,7 @@ pub record EndedSome (bytes : List ℕ) (old new : Written) (e : RunFault) : Typ
   pub text : IsStoppedText (refusals numbers) e old.contents new.contents
   pub accepted : e.tally.accepted ≡ 0
   pub refused : e.tally.refused ≡ length numbers
-  pub next : e.fault.0 ≡ 92 → SpellsNext bytes (length numbers)
+  pub next : e.fault.0 ≡ reopen.0 → SpellsNext bytes (length numbers)
 
 -- by the writer before and after
 abbrev pub RanEnded : List ℕ → Written → Written → Result Tally RunFault → Type 0
@@ -66,18 +67,18 @@ OnEnded before source P = before ≡ true → (bytes : List ℕ) → source ≡ 
 -- the answer to a record that was not read as a command: its refusal, or 90 where there was no memory to read it
 abbrev pub answer_unread : ReadFault → Answer
 answer_unread (faults.Refused why) = answers.Refused why
-answer_unread faults.Memory = answers.Fault (record { 0 = 90 })
+answer_unread faults.Memory = answers.Fault memory
 
 -- the answer to what was read of a record: 92 to a command
 abbrev pub ended_answer : Result Command ReadFault → Answer
-ended_answer (Ok command) = answers.Fault (record { 0 = 92 })
+ended_answer (Ok command) = answers.Fault reopen
 ended_answer (Err fault) = answer_unread fault
 
 -- the answer to a record: its refusal where it spells no command, and 92 only where it spells one
 abbrev pub IsEnded : Record → Answer → Type 0
 IsEnded fields answers.Ok = ⊥
 IsEnded fields (answers.Refused why) = (number : ℕ) × (why ≡ plain number) × IsReadAs fields (Err number)
-IsEnded fields (answers.Fault fault) = fault.0 ≡ 92 → (command : Command) × IsReadAs fields (Ok command)
+IsEnded fields (answers.Fault fault) = fault.0 ≡ reopen.0 → (command : Command) × IsReadAs fields (Ok command)
 
 -- a record was read and answered so, or couldn't be read, or the end was reached
 abbrev pub IsEndedTurn : {T : Type 0} → (T → Option (List ℕ)) → Reader T → Reader T → Option Answer → Type 0
@@ -85,7 +86,8 @@ IsEndedTurn remaining old new None = (fields : Record) × ReadRecord remaining o
 IsEndedTurn remaining old new (Some answers.Ok) = ⊥
 IsEndedTurn remaining old new (Some (answers.Refused why)) = (fields : Record) × ReadRecord remaining old new true fields × IsEnded fields (answers.Refused why)
 IsEndedTurn remaining old new (Some (answers.Fault fault)) =
-    fault.0 ≡ 92 → (fields : Record) × ReadRecord remaining old new true fields × (command : Command) × IsReadAs fields (Ok command)
+    fault.0 ≡ reopen.0 → (fields : Record) × ReadRecord remaining old new true fields
+    × (command : Command) × IsReadAs fields (Ok command)
 
 -- the record behind these spells a command
 abbrev pub IsReadNext : List ℕ → State → List Record → Type 0
@@ -119,7 +121,7 @@ pub record IsEndedAt (xs : List ℕ) (s : State) (e : RunFault) (old new : Optio
   pub read : AreRefused rows numbers
   pub counted : AreCounted e.tally (refusals numbers)
   pub text : IsStoppedText (refusals numbers) e old new
-  pub next : e.fault.0 ≡ 92 → IsReadNext xs s rows
+  pub next : e.fault.0 ≡ reopen.0 → IsReadNext xs s rows
 
 -- the records of these bytes, from a state of the reader
 abbrev pub IsEndedRun : List ℕ → State → Written → Written → Result Tally RunFault → Type 0

@@ -4,6 +4,7 @@ use Rattle.std.specs.Io.KnownBytes.{IsAtEnd}
 use Rattle.std.specs.declared.io.traits.Read as reads
 use Rattle.std.specs.declared.io.traits.Write as writes
 use Rattle.csv.specs.declared.parser.State.{State}
+use Rattle.mm_definitions.specs.Faults as faults
 use Rattle.mm_definitions.specs.Package.{Package}
 use Rattle.mm_definitions.specs.Streams.{Written, has_failed, inside, is_flushed, written}
 use Rattle.mm_definitions.specs.declared.answers.Answer.{Answer}
@@ -56,7 +57,7 @@ pub record RunsList {A R W : Type 0} (apply : applies.Ghosts A) (read : reads.Gh
   -- 97 is the output's, and told wherever it fails.
   pub writer : IfErr result (TellsWriter (has_failed output) (has_failed output_now))
   -- 96 is the input's, which tells it; the others are faults of commands and of reading.
-  pub why : IfErr result (λ e. (e.fault.0 ≡ 97) ⊎ IsRunFault e.fault.0 (has_failed input_now))
+  pub why : IfErr result (λ e. (e.fault.0 ≡ faults.output.0) ⊎ IsRunFault e.fault.0 (has_failed input_now))
   -- And told wherever it fails, unless the output does then.
   pub reader : TellsReader (has_failed input) (has_failed input_now) result
   -- A session that has to be opened again answers the records that spell no command, and 92 for the first that spells one.
@@ -84,7 +85,7 @@ pub record RunsSource {A W : Type 0} (apply : applies.Ghosts A) (write : writes.
   pub small : IfOk result (λ t. (t.accepted + t.refused ≡ t.written) × (t.written + 1 < 2 ^ 64))
   pub near : IfErr result (λ e. IsNear e.tally)
   pub session : RunTellsReopening (apply.has_failed old) (apply.has_failed new) (new ≡ old) result
-  pub why : IfErr result (λ e. (e.fault.0 ≡ 97) ⊎ IsRunFault e.fault.0 reading)
+  pub why : IfErr result (λ e. (e.fault.0 ≡ faults.output.0) ⊎ IsRunFault e.fault.0 reading)
   pub reader : TellsReader read_before reading result
   pub kept : OnSound (apply.is_clean new) (apply.seen old) (λ p. IsKept (apply.has_failed old) (shown_since apply old p new))
   pub ended : OnEnded (apply.has_failed old) source

@@ -6,6 +6,7 @@ use Rattle.csv.specs.Reading.{AreRecords, Reached, ReadRecord, default_config}
 use Rattle.csv.specs.declared.parser.State.{State}
 use Rattle.csv.specs.declared.reader.Reader.{Reader}
 use Rattle.mm_definitions.specs.Bounds.{current}
+use Rattle.mm_definitions.specs.Faults.{store, reopen, input, output}
 use Rattle.mm_definitions.specs.Package.{Package}
 use Rattle.mm_definitions.specs.Rules.{Meets}
 use Rattle.mm_definitions.specs.Runs.{Call, run, IsFirstPart}
@@ -26,7 +27,7 @@ use Rattle.mm_definitions.specs.Streams.{Written}
 
 -- a fault that has a line of its own: of a command, or of the reader, which tells it
 abbrev pub IsRunFault : ℕ → Bool → Type 0
-IsRunFault fault failed = IsApplyFault fault ⊎ ((fault ≡ 96) × (failed ≡ true))
+IsRunFault fault failed = IsApplyFault fault ⊎ ((fault ≡ input.0) × (failed ≡ true))
 
 -- Each database that may be left stands for a first part of these calls, of which so many were acknowledged; and that
 -- package meets the rules.
@@ -95,18 +96,18 @@ pub record RanSome {D : Type 0} (p : Package) (moment : ℕ) (bytes : List ℕ) 
 abbrev pub RunTellsReopening : Bool → Bool → Type 0 → Result Tally RunFault → Type 0
 RunTellsReopening before failed same (Ok t) = (failed ≡ before) × (before ≡ true → same × (t.accepted ≡ 0))
 RunTellsReopening before failed same (Err e) =
-    (e.fault.0 ≡ 92 → before ≡ true) × (e.fault.0 ≡ 91 → (before ≡ false) × (failed ≡ true)) × (e.fault.0 ≡ 96 → failed ≡ before)
-    × (before ≡ true → same × (e.tally.accepted ≡ 0))
+    (e.fault.0 ≡ reopen.0 → before ≡ true) × (e.fault.0 ≡ store.0 → (before ≡ false) × (failed ≡ true))
+    × (e.fault.0 ≡ input.0 → failed ≡ before) × (before ≡ true → same × (e.tally.accepted ≡ 0))
 
 -- 97 is told where the writer has failed, and any other fault only where it has not failed in this run.
 abbrev pub TellsWriter : Bool → Bool → RunFault → Type 0
-TellsWriter before failed e = (e.fault.0 ≡ 97 → failed ≡ true) × (e.fault.0 ≢ 97 → failed ≡ before)
+TellsWriter before failed e = (e.fault.0 ≡ output.0 → failed ≡ true) × (e.fault.0 ≢ output.0 → failed ≡ before)
 
 -- What a run tells of a reader that had not failed before: without a fault it has not failed since, and where it has the fault is
 -- 96, or 97 where the writer failed too.
 abbrev pub TellsReader : Bool → Bool → Result Tally RunFault → Type 0
 TellsReader before failed (Ok t) = WorksStill before failed
-TellsReader before failed (Err e) = before ≡ false → failed ≡ true → (e.fault.0 ≡ 96) ⊎ (e.fault.0 ≡ 97)
+TellsReader before failed (Err e) = before ≡ false → failed ≡ true → (e.fault.0 ≡ input.0) ⊎ (e.fault.0 ≡ output.0)
 
 -- Where a fault stopped a run: each of these answers was counted and told, with the line of the fault behind them; at 97 up to the
 -- line that was cut.
@@ -125,7 +126,7 @@ IsToldOf old new (Err e) = (given : List Answer) × IsStopped given e old new
 -- All that was written was flushed, where it was before; after a fault, where that is not the writer's.
 abbrev pub TellsFlush : Bool → Bool → Result Tally RunFault → Type 0
 TellsFlush before flushed (Ok t) = before ≡ true → flushed ≡ true
-TellsFlush before flushed (Err e) = e.fault.0 ≢ 97 → flushed ≡ true
+TellsFlush before flushed (Err e) = e.fault.0 ≢ output.0 → flushed ≡ true
 
 -- ---- inside a run
 -- the answer to a record, and what then is settled or may be left

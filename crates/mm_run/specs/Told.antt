@@ -10,6 +10,7 @@ use Rattle.mm_definitions.specs.declared.answers.RunFault.{RunFault}
 use Rattle.mm_io.specs.Lines.{line, lines}
 use Rattle.mm_run.specs.Applied.{IsAnswer, IsApplyFault}
 use Rattle.mm_run.specs.Answers.{accepted_of, refused_of}
+use Rattle.mm_definitions.specs.Faults.{input, output}
 use Rattle.mm_definitions.specs.Streams.{Written}
 
 -- a tally with one more answer
@@ -34,8 +35,10 @@ Goes old new n a t t2 = IsAnswer a × (t2 ≡ with_line (with_answer a t)) × Ap
 abbrev pub Stops : Written → Written → ℕ → Answer → Tally → RunFault → Type 0
 Stops old new n a t e =
     ((a ≡ answers.Fault e.fault) × (new.failed ≡ old.failed) × (e.tally ≡ with_line (with_answer a t)) × Appends old.contents new.contents (line n a))
-    ⊎ ((e.fault.0 ≡ 97) × (new.failed ≡ true) × (e.tally ≡ with_line (with_answer a t)) × Appends old.contents new.contents (line n a))
-    ⊎ ((e.fault.0 ≡ 97) × (new.failed ≡ true) × (e.tally ≡ with_answer a t) × (taken : ℕ) × (taken < length (line n a)) × Appends old.contents new.contents (take taken (line n a)))
+    ⊎ ((e.fault.0 ≡ output.0) × (new.failed ≡ true) × (e.tally ≡ with_line (with_answer a t))
+    × Appends old.contents new.contents (line n a))
+    ⊎ ((e.fault.0 ≡ output.0) × (new.failed ≡ true) × (e.tally ≡ with_answer a t) × (taken : ℕ)
+    × (taken < length (line n a)) × Appends old.contents new.contents (take taken (line n a)))
 
 -- the lines of these answers were written, and all were counted
 abbrev pub AreTold : List Answer → Tally → Option (List ℕ) → Option (List ℕ) → Type 0
@@ -48,7 +51,7 @@ IsCutAt ls whole bytes = ((whole ≡ length ls) × (bytes ≡ concat ls))
 
 -- a fault that has a line of its own: of a command, or 96 of the reader
 abbrev pub HasLine : ℕ → Type 0
-HasLine fault = IsApplyFault fault ⊎ (fault ≡ 96)
+HasLine fault = IsApplyFault fault ⊎ (fault ≡ input.0)
 
 -- these answers, and it may be such a fault behind them
 abbrev pub IsBehind : List Answer → List Answer → Type 0
@@ -58,8 +61,10 @@ IsBehind given told = (told ≡ given) ⊎ ((fault : Fault) × HasLine fault.0 �
 -- fault. At 97 it is a beginning of such a text, in which so many lines are whole as are counted.
 abbrev pub IsStoppedText : List Answer → RunFault → Option (List ℕ) → Option (List ℕ) → Type 0
 IsStoppedText given e old new =
-    ((e.fault.0 ≢ 97) × (e.tally.written ≡ length given + 1) × Appends old new (concat (lines (given ++ answers.Fault e.fault ∷ []))))
-    ⊎ ((e.fault.0 ≡ 97) × (told : List Answer) × IsBehind given told × (bytes : List ℕ) × Appends old new bytes × IsCutAt (lines told) e.tally.written bytes)
+    ((e.fault.0 ≢ output.0) × (e.tally.written ≡ length given + 1)
+    × Appends old new (concat (lines (given ++ answers.Fault e.fault ∷ []))))
+    ⊎ ((e.fault.0 ≡ output.0) × (told : List Answer) × IsBehind given told × (bytes : List ℕ) × Appends old new bytes
+    × IsCutAt (lines told) e.tally.written bytes)
 
 -- no more records were answered than lines written whole and one more
 abbrev pub IsNear : Tally → Type 0

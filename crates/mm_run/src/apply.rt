@@ -2,6 +2,7 @@
 
 ghost use Rattle.std.specs.Prelude.{◌≡◌, ◌≢◌, ◌↔◌, Bool, true, false};
 ghost use Rattle.mm_definitions.specs.Bounds.{current};
+ghost use Rattle.mm_definitions.specs.Faults.{reopen};
 ghost use Rattle.mm_definitions.specs.Package.{Package};
 ghost use Rattle.mm_definitions.specs.Rules.{Meets};
 ghost use Rattle.mm_run.specs.Answers.{is_fault};
@@ -38,9 +39,9 @@ pub trait Apply {
     /// 90 or 91, where it may be done or not. After such a fault each call is answered 92 and changes nothing.
     fn apply(&mut self, command: &Command, at: Moment) -> Answer
         ensures faults { OnFault result IsApplyFault }
-        ensures ended { has_failed self.old ≡ true → (result ≡ Answer.Fault (record { 0 = 92 }))
+        ensures ended { has_failed self.old ≡ true → (result ≡ Answer.Fault reopen)
             × (self.new ≡ self.old) }
-        ensures working { has_failed self.old ≡ false → OnFault result (λ fault. fault ≢ 92) }
+        ensures working { has_failed self.old ≡ false → OnFault result (λ fault. fault ≢ reopen.0) }
         ensures fails { has_failed self.old ≡ false → has_failed self.new ≡ is_fault result }
         ensures clean { is_clean self.new → is_clean self.old }
         ensures applied { is_clean self.new → (p : Package) → seen self.old p → Meets current p

@@ -4,6 +4,7 @@ ghost use Rattle.std.specs.Prelude.{◌≡◌, ◌≢◌, ◌+◌, ◌-◌, ◌^
 ghost use Rattle.std.specs.Io.KnownBytes.{IsAtEnd};
 ghost use Rattle.csv.specs.Reading.{reader_source, reader_state, source_of, strip_bom};
 ghost use Rattle.csv.specs.declared.parser.State.TheVariants as states;
+ghost use Rattle.mm_definitions.specs.Faults.{memory, output};
 ghost use Rattle.mm_definitions.specs.Streams.{has_failed, inside, is_flushed, written};
 ghost use Rattle.mm_definitions.specs.declared.answers.Answer.TheVariants as answers;
 ghost use Rattle.mm_io.specs.Records.{IsSetUp};
@@ -28,8 +29,8 @@ fn tell_endless<W: Write>(writer: &mut Io<W>, tally: Tally) -> RunFault
         × (tally.written + 1 ≡ 2 ^ 64 - 1) }
     ensures near { IsNear result.tally }
     ensures stops { Stops (written W.contents writer.old) (written W.contents writer.new)
-        (2 ^ 64 - 1) (answers.Fault (record { 0 = 90 })) tally result }
-    ensures told { result.fault.0 ≢ 97 → is_flushed writer.new ≡ true }
+        (2 ^ 64 - 1) (answers.Fault memory) tally result }
+    ensures told { result.fault.0 ≢ output.0 → is_flushed writer.new ≡ true }
 {
     match tell(u64::MAX, Answer::Fault(Fault::MEMORY), writer, tally) {
         Ok(_) => unreachable!(),

@@ -1,6 +1,7 @@
 //! Telling an answer: its line is written and counted.
 
 ghost use Rattle.std.specs.Prelude.{◌≡◌, ◌≢◌, ◌+◌, ◌<◌, ◌^◌, IfOk, IfErr, true};
+ghost use Rattle.mm_definitions.specs.Faults.{output};
 ghost use Rattle.mm_definitions.specs.Streams.{is_flushed, written};
 ghost use Rattle.mm_run.specs.Told.{Goes, IsNear, Stops, with_answer};
 
@@ -44,7 +45,7 @@ pub(crate) fn tell<W: Write>(
         (λ e. Stops (written W.contents writer.old) (written W.contents writer.new) n
         answer tally e) }
     ensures flushed { IfOk result (λ t. is_flushed writer.new ≡ true) }
-    ensures told { IfErr result (λ e. e.fault.0 ≢ 97 → is_flushed writer.new ≡ true) }
+    ensures told { IfErr result (λ e. e.fault.0 ≢ output.0 → is_flushed writer.new ≡ true) }
 {
     let mut tally = count_answer(tally, &answer);
     match send(writer, answer_line(n, &answer).as_slice()) {

@@ -7,6 +7,7 @@ use Rattle.clap.specs.declared.builder.arg.Arg.{Arg}
 use Rattle.clap.specs.declared.builder.command.Command.{Command}
 use Rattle.clap.specs.declared.builder.command.Command.TheViews.{out-Command as fields_of}
 use Rattle.clap.specs.declared.builder.value_parser.ValueParser.TheVariants.{Signed}
+use Rattle.mm_definitions.specs.Bounds.{LastId}
 
 -- a word that has to stand
 abbrev pub word : Text → Rule
@@ -67,7 +68,7 @@ answer = record (word (codes "ANSWER")) { range = Some (record { start_inclusive
 
 -- ID: the number of a row; it need not stand
 abbrev pub id : Rule
-id = record (new_rule (codes "ID")) { parser = Some (Signed (pos 1) (pos 9007199254740992)) }
+id = record (new_rule (codes "ID")) { parser = Some (Signed (pos 1) (pos LastId)) }
 
 -- ---- the subcommands
 

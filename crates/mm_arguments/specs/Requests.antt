@@ -1,24 +1,25 @@
 -- What words ask for, and what a request is limited to.
-use Rattle.std.specs.Prelude.{◌≡◌, ◌≤◌, ◌≤ℤ◌, ◌-◌, ⊤, ℕ, ℤ, Bool, true, false}
+use Rattle.std.specs.Prelude.{◌≡◌, ◌≤◌, ◌-◌, ⊤, ℕ, ℤ, Bool, true, false}
 use Rattle.std.specs.Prelude.{List, Option, Some, None, IfSome, codes, length, pos, slice_get}
 use Rattle.std.specs.Borrow.{Bor}
 use Rattle.std.specs.Str.Parse.{IsNumeral, digits_value, signed_digits_value, without_leading_plus, without_leading_sign}
 use Rattle.clap.specs.Words.{Row, Text, all_of, first_of, one_of, subcommand_of}
 use Rattle.clap.specs.declared.error.kind.ErrorKind.{ErrorKind}
 use Rattle.clap.specs.declared.error.kind.ErrorKind.TheVariants as kind
+use Rattle.mm_definitions.specs.Bounds.{IsId}
 use Rattle.mm_arguments.specs.CommandLine.{command_line}
 use Rattle.mm_arguments.specs.declared.requests.Request.{Request}
 use Rattle.mm_arguments.specs.declared.requests.Request.TheVariants.{Init, Run, Kit, Check, List as Tables, Show, Serve, Desk, Migrate, Explain}
 use Rattle.mm_arguments.specs.declared.requests.Aids.{Aids}
 
--- a port is at least 1, and so many connections are served: 1 to 1,000,000; the number of a row is from 1 to 2^53
+-- a port is at least 1, and so many connections are served: 1 to 1,000,000; the number of a row is one
 abbrev pub IsRequestWithin : Request → Type 0
 IsRequestWithin (Init file) = ⊤
 IsRequestWithin (Run file at) = ⊤
 IsRequestWithin (Kit file edition folder at) = ⊤
 IsRequestWithin (Check file) = ⊤
 IsRequestWithin (Tables file) = ⊤
-IsRequestWithin (Show file table id) = IfSome id (λ number. (pos 1 ≤ℤ number) × (number ≤ℤ pos 9007199254740992))
+IsRequestWithin (Show file table id) = IfSome id IsId
 IsRequestWithin (Migrate file) = ⊤
 IsRequestWithin (Explain answer) = ⊤
 IsRequestWithin (Serve file port count) = (1 ≤ port) × (1 ≤ count) × (count ≤ 1000000)

@@ -6,6 +6,7 @@ ghost use Rattle.mm_arguments.specs.CommandLine.{IsArgument, IsCommand};
 
 use crate::texts;
 use clap::{Arg, ArgAction, Command, value_parser};
+use mm_definitions::limits::LAST_ID;
 use std::alloc::{AllocError, Global};
 
 fn file_argument<'a>(alloc: Global) -> Arg<'a>
@@ -57,7 +58,7 @@ fn id_argument<'a>(alloc: Global) -> Arg<'a>
 {
     Arg::new(alloc, "ID")
         .help("The number of one row, from 1 to 9007199254740992 [default: all rows]")
-        .value_parser(value_parser!(i64).range(1..=9007199254740992))
+        .value_parser(value_parser!(i64).range(1..=LAST_ID as i64))
 }
 
 fn port_argument<'a>(alloc: Global) -> Arg<'a>

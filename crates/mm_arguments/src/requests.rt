@@ -1,7 +1,8 @@
 //! What the words ask for.
 
-ghost use Rattle.std.specs.Prelude.{◌≡◌, ◌⊎◌, ◌≤ℤ◌, pos, IfOk, IfSome, codes, map};
+ghost use Rattle.std.specs.Prelude.{◌≡◌, ◌⊎◌, IfOk, IfSome, codes, map};
 ghost use Rattle.clap.specs.Words.{FailsBy, fault_of, found_of, kind_of, rows_of};
+ghost use Rattle.mm_definitions.specs.Bounds.{IsId};
 ghost use Rattle.mm_arguments.specs.CommandLine.{command_line};
 ghost use Rattle.mm_arguments.specs.Requests.{WordsAsk, AsksFor, IsGivenId, IsGivenMoment, IsRequestWithin, IsGivenWord, IsLastWord, IsMaybeWord, Wants};
 ghost use Rattle.mm_arguments.specs.Requests as spec;
@@ -9,6 +10,7 @@ ghost use Rattle.mm_arguments.specs.Requests as spec;
 use crate::commands::command;
 use clap::error::ErrorKind;
 use clap::{ArgMatches, Error};
+use mm_definitions::limits::LAST_ID;
 use mm_definitions::moments::Moment;
 use std::alloc::{AllocError, Global};
 
@@ -168,8 +170,7 @@ fn last_word<'a>(matches: &ArgMatches<'a>, id: &str) -> Option<&'a str>
 
 // `clap` has tested the range, for the message that it prints. The clause rests on this test.
 fn id_of(matches: &ArgMatches) -> Result<Option<i64>, Unfit>
-    ensures within { IfOk result (λ id. IfSome id
-        (λ number. (pos 1 ≤ℤ number) × (number ≤ℤ pos 9007199254740992))) }
+    ensures within { IfOk result (λ id. IfSome id IsId) }
     ensures given { IfOk result (IsGivenId (rows_of (found_of matches.now))) }
 {
     if !matches.contains_id("ID") {
@@ -178,7 +179,7 @@ fn id_of(matches: &ArgMatches) -> Result<Option<i64>, Unfit>
     let Some(id) = matches.get_one::<i64>("ID") else {
         return Err(Unfit);
     };
-    if id < 1 || id > 9007199254740992 {
+    if id < 1 || id > LAST_ID as i64 {
         return Err(Unfit);
     }
     Ok(Some(id))

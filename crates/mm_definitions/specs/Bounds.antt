@@ -24,6 +24,56 @@ micrometres = record { version = pos 2; coordinate = 10 ^ 14; pixel_size = 10 ^ 
 abbrev pub current : Profile
 current = micrometres
 
+-- ---- the limits, which stand nowhere else
+-- the highest zoom level
+abbrev pub LastZoom : ℕ
+LastZoom = 30
+
+-- the most tiles of a matrix, in a row or column
+abbrev pub MostTiles : ℕ
+MostTiles = 2 ^ 30
+
+-- the most pixels of a tile, in a row or column
+abbrev pub MostPixels : ℕ
+MostPixels = 4096
+
+-- the largest number of a row, a medium, a piece or a reference system
+abbrev pub LastId : ℕ
+LastId = 2 ^ 53
+
+-- the largest amount of an attribute row, either way
+abbrev pub MostAmount : ℕ
+MostAmount = 10 ^ 15
+
+-- the most pieces of an edition
+abbrev pub MostPieces : ℕ
+MostPieces = 4096
+
+-- the most bytes of a tile, 2^20
+abbrev pub MostTileBytes : ℕ
+MostTileBytes = 1048576
+
+-- the most bytes of a medium, 2^22
+abbrev pub MostMediaBytes : ℕ
+MostMediaBytes = 4194304
+
+-- the most bytes of a name
+abbrev pub MostNameBytes : ℕ
+MostNameBytes = 60
+
+-- the most bytes of one of the two words of a content type
+abbrev pub MostWordBytes : ℕ
+MostWordBytes = 64
+
+-- the most bytes of an identifier, of a system's name, organization or description, and of a row's title or note
+abbrev pub MostTextBytes : ℕ
+MostTextBytes = 1000
+
+-- the most bytes of the definition of a reference system
+abbrev pub MostDefinitionBytes : ℕ
+MostDefinitionBytes = 8192
+
+-- ---- what is within them
 -- from low to high, both included
 abbrev pub IsFrom : ℤ → ℤ → ℤ → Type 0
 IsFrom low high z = (low ≤ℤ z) × (z ≤ℤ high)
@@ -38,31 +88,31 @@ IsPixelSize profile = IsFrom (pos 1) (pos profile.pixel_size)
 
 -- a zoom level
 abbrev pub IsZoom : ℤ → Type 0
-IsZoom = IsFrom (pos 0) (pos 30)
+IsZoom = IsFrom (pos 0) (pos LastZoom)
 
 -- the width or height of a matrix, in tiles
 abbrev pub IsMatrixSide : ℤ → Type 0
-IsMatrixSide = IsFrom (pos 1) (pos (2 ^ 30))
+IsMatrixSide = IsFrom (pos 1) (pos MostTiles)
 
 -- the width or height of a tile, in pixels
 abbrev pub IsTileSide : ℤ → Type 0
-IsTileSide = IsFrom (pos 1) (pos 4096)
+IsTileSide = IsFrom (pos 1) (pos MostPixels)
 
 -- a column or row of tiles
 abbrev pub IsTilePlace : ℤ → Type 0
-IsTilePlace = IsFrom (pos 0) (pos (2 ^ 30 - 1))
+IsTilePlace = IsFrom (pos 0) (pos (MostTiles - 1))
 
 -- the number of a row, a medium, a piece, or a reference system that is not given
 abbrev pub IsId : ℤ → Type 0
-IsId = IsFrom (pos 1) (pos (2 ^ 53))
+IsId = IsFrom (pos 1) (pos LastId)
 
 -- the number of any reference system, one of the three given among them
 abbrev pub IsSystemNumber : ℤ → Type 0
-IsSystemNumber = IsFrom (negsuc 0) (pos (2 ^ 53))
+IsSystemNumber = IsFrom (negsuc 0) (pos LastId)
 
 -- the amount of an attribute row
 abbrev pub IsAmount : ℤ → Type 0
-IsAmount = IsFrom (neg_ℤ (pos (10 ^ 15))) (pos (10 ^ 15))
+IsAmount = IsFrom (neg_ℤ (pos MostAmount)) (pos MostAmount)
 
 -- milliseconds since 1970-01-01T00:00:00Z, up to the end of the year 9999
 abbrev pub IsMoment : ℕ → Type 0
@@ -72,13 +122,13 @@ IsMoment m = m ≤ 253402300799999
 abbrev pub IsLong : ℕ → ℕ → List ℕ → Type 0
 IsLong least most bytes = (least ≤ length bytes) × (length bytes ≤ most)
 
--- the bytes of a tile, from 1 to 2^20 of them
+-- the bytes of a tile, from 1 to the most of them
 abbrev pub IsTileBytes : List ℕ → Type 0
-IsTileBytes = IsLong 1 1048576
+IsTileBytes = IsLong 1 MostTileBytes
 
--- the bytes of a medium, from 1 to 2^22 of them
+-- the bytes of a medium, from 1 to the most of them
 abbrev pub IsMediaBytes : List ℕ → Type 0
-IsMediaBytes = IsLong 1 4194304
+IsMediaBytes = IsLong 1 MostMediaBytes
 
 -- a letter of a name: a-z or _
 abbrev pub is_letter : ℕ → Bool
@@ -95,7 +145,7 @@ begins_with_letter (c ∷ cs) = is_letter c
 
 -- A name of a table, a mapping or an edition is 1 to 60 of a-z, 0-9 and _, begins with no digit, and not with gpkg, sqlite or mm_.
 pub record IsName (text : List ℕ) : Type 0 where
-  pub long : IsLong 1 60 text
+  pub long : IsLong 1 MostNameBytes text
   pub first : IsTrue (begins_with_letter text)
   pub all : IsTrue (not (list_any (λ c. not (is_letter_or_digit c)) text))
   pub own : IsTrue (not (starts_with nat_eq text (codes "gpkg") || starts_with nat_eq text (codes "sqlite") || starts_with nat_eq text (codes "mm_")))
@@ -121,20 +171,20 @@ is_control c = nat_le c 31 || (nat_le 127 c && nat_le c 127)
 -- the identifier of a table
 pub record IsIdentifier (text : List ℕ) : Type 0 where
   pub utf8 : IsUtf8 text
-  pub long : IsLong 1 1000 text
+  pub long : IsLong 1 MostTextBytes text
   pub printable : IsTrue (not (list_any is_control text))
 
 -- the name of a reference system, or its organization
 abbrev pub IsSystemName : List ℕ → Type 0
-IsSystemName = IsText 1 1000
+IsSystemName = IsText 1 MostTextBytes
 
 -- the definition of a reference system
 abbrev pub IsDefinition : List ℕ → Type 0
-IsDefinition = IsText 1 8192
+IsDefinition = IsText 1 MostDefinitionBytes
 
 -- a system's description, a row's title, a row's note
 abbrev pub IsRemark : List ℕ → Type 0
-IsRemark = IsText 0 1000
+IsRemark = IsText 0 MostTextBytes
 
 -- a mark that a word of a content type can hold
 abbrev pub is_mark : ℕ → Bool
@@ -147,7 +197,7 @@ is_word_byte c = (nat_le 48 c && nat_le c 57) || (nat_le 65 c && nat_le c 90) ||
 
 -- one of the two words of a content type
 pub record IsWord (text : List ℕ) : Type 0 where
-  pub long : IsLong 1 64 text
+  pub long : IsLong 1 MostWordBytes text
   pub all : IsTrue (not (list_any (λ c. not (is_word_byte c)) text))
 
 -- the byte between the two words
@@ -158,7 +208,3 @@ is_slash c = c == 47
 pub record IsContentType (text : List ℕ) : Type 0 where
   pub kind : IsWord (before_first is_slash text)
   pub form : IsWord (after_first is_slash text)
-
--- the most pieces of an edition
-abbrev pub MostPieces : ℕ
-MostPieces = 4096

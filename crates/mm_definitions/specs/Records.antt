@@ -1,8 +1,10 @@
 -- The text of a record: which fields spell which command, and which numbers hold against fields that spell none.
-use Rattle.std.specs.Prelude.{◌≡◌, ℕ, ◌-◌, ◌≤◌, ◌^◌, pos, negsuc, neg_ℤ, List, [], ◌∷◌, ◌++◌, Option, Some, None, if◌then◌else◌, bytes_eq, codes}
+use Rattle.std.specs.Prelude.{◌≡◌, ℕ, ◌-◌, ◌≤◌, pos, negsuc, neg_ℤ, List, [], ◌∷◌, ◌++◌, Option, Some, None}
+use Rattle.std.specs.Prelude.{if◌then◌else◌, bytes_eq, codes}
 use Rattle.mm_definitions.specs.declared.refusals.TheConstants.{NO_SUCH_RECORD}
 use Rattle.mm_definitions.specs.Keys.{Text}
-use Rattle.mm_definitions.specs.Bounds.{Profile}
+use Rattle.mm_definitions.specs.Bounds.{Profile, LastZoom, MostTiles, MostPixels, LastId, MostAmount, MostTileBytes}
+use Rattle.mm_definitions.specs.Bounds.{MostMediaBytes, MostTextBytes, MostDefinitionBytes}
 use Rattle.mm_definitions.specs.Fields.{Field, OneOf, NumberFrom, BytesTo, TextOf, AnIdentifier, AContentType, AName}
 use Rattle.mm_definitions.specs.Fields.{Value, Whole, Plain, AllHold, IsAgainstSome}
 use Rattle.mm_definitions.specs.Package.{kind_text}
@@ -18,23 +20,23 @@ use Rattle.mm_definitions.specs.declared.commands.Command.TheVariants as command
 -- ---- the records of pieces, without the word that they begin with
 -- the number of a row, a medium or a piece
 abbrev pub id_field : Field
-id_field = NumberFrom (pos 1) (pos (2 ^ 53))
+id_field = NumberFrom (pos 1) (pos LastId)
 
 -- a zoom level
 abbrev pub zoom_field : Field
-zoom_field = NumberFrom (pos 0) (pos 30)
+zoom_field = NumberFrom (pos 0) (pos LastZoom)
 
 -- a column or row of tiles
 abbrev pub place_field : Field
-place_field = NumberFrom (pos 0) (pos (2 ^ 30 - 1))
+place_field = NumberFrom (pos 0) (pos (MostTiles - 1))
 
 -- the amount of an attribute row
 abbrev pub amount_field : Field
-amount_field = NumberFrom (neg_ℤ (pos (10 ^ 15))) (pos (10 ^ 15))
+amount_field = NumberFrom (neg_ℤ (pos MostAmount)) (pos MostAmount)
 
 -- a system's description, a row's title, a row's note
 abbrev pub remark_field : Field
-remark_field = TextOf 0 1000
+remark_field = TextOf 0 MostTextBytes
 
 -- what the fields of a record hold, one after another
 abbrev pub Form : Type 0
@@ -42,7 +44,7 @@ Form = List Field
 
 -- a tile: pyramid, zoom, column, row and bytes
 abbrev pub tile_form : Form
-tile_form = AName ∷ zoom_field ∷ place_field ∷ place_field ∷ BytesTo 1048576 ∷ []
+tile_form = AName ∷ zoom_field ∷ place_field ∷ place_field ∷ BytesTo MostTileBytes ∷ []
 
 -- a tile to be removed: pyramid, zoom, column and row
 abbrev pub tile_drop_form : Form
@@ -58,7 +60,7 @@ item_form = AName ∷ id_field ∷ []
 
 -- a medium: table, number, content type and bytes
 abbrev pub media_form : Form
-media_form = AName ∷ id_field ∷ AContentType ∷ BytesTo 4194304 ∷ []
+media_form = AName ∷ id_field ∷ AContentType ∷ BytesTo MostMediaBytes ∷ []
 
 -- a mapping row: mapping, and the numbers of the base and the related item
 abbrev pub map_form : Form
@@ -70,11 +72,11 @@ pixel_size profile = NumberFrom (pos 1) (pos profile.pixel_size)
 
 -- the width or height of a matrix, in tiles
 abbrev pub matrix_side : Field
-matrix_side = NumberFrom (pos 1) (pos (2 ^ 30))
+matrix_side = NumberFrom (pos 1) (pos MostTiles)
 
 -- the width or height of a tile, in pixels
 abbrev pub tile_side : Field
-tile_side = NumberFrom (pos 1) (pos 4096)
+tile_side = NumberFrom (pos 1) (pos MostPixels)
 
 -- the width and height of a matrix in tiles, of a tile in pixels, and of a pixel
 abbrev pub grid_form : Profile → Form
@@ -110,15 +112,15 @@ relation_words = OneOf (codes "media" ∷ codes "simple_attributes" ∷ [])
 
 -- the name of a reference system, or its organization
 abbrev pub system_name : Field
-system_name = TextOf 1 1000
+system_name = TextOf 1 MostTextBytes
 
 -- the definition of a reference system
 abbrev pub definition_field : Field
-definition_field = TextOf 1 8192
+definition_field = TextOf 1 MostDefinitionBytes
 
 -- a system as a pyramid names it: the given ones too
 abbrev pub named_system : Field
-named_system = NumberFrom (negsuc 0) (pos (2 ^ 53))
+named_system = NumberFrom (negsuc 0) (pos LastId)
 
 -- a reference system: number, name, organization, number at the organization, definition and description
 abbrev pub srs_form : Form

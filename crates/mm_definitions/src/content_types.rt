@@ -7,6 +7,7 @@ ghost use Rattle.mm_definitions.specs.Bounds as bounds;
 ghost use Rattle.mm_definitions.specs.Reading.{ReadsTo, reads_text, refuses_unless};
 
 use crate::answers::ReadFault;
+use crate::limits::MOST_WORD_BYTES;
 use crate::refusals::{OUT_OF_LIMITS, Reason};
 use std::alloc::Global;
 use std::marker::Model;
@@ -55,7 +56,7 @@ fn is_word(text: &str) -> bool
     if text.is_empty() {
         return false;
     }
-    if text.len() > 64 {
+    if text.len() > MOST_WORD_BYTES {
         return false;
     }
     !has_other_byte(text)

@@ -7,6 +7,7 @@ ghost use Rattle.mm_definitions.specs.Bounds as bounds;
 ghost use Rattle.mm_definitions.specs.Reading.{ReadsTo, reads_text, refuses_unless};
 
 use crate::answers::ReadFault;
+use crate::limits::MOST_TEXT_BYTES;
 use crate::refusals::{OUT_OF_LIMITS, Reason};
 use std::alloc::Global;
 use std::marker::Model;
@@ -47,7 +48,7 @@ pub fn is_identifier(text: &str) -> bool
     if text.is_empty() {
         return false;
     }
-    if text.len() > 1000 {
+    if text.len() > MOST_TEXT_BYTES {
         return false;
     }
     !has_control(text)

@@ -33,6 +33,18 @@ pub const MOST_AMOUNT: u64 = 1_000_000_000_000_000;
 /// The most pieces that an edition has.
 pub const MOST_PIECES: u32 = 4096;
 
+/// The most bytes of a name.
+pub const MOST_NAME_BYTES: usize = 60;
+
+/// The most bytes of one of the two words of a content type.
+pub const MOST_WORD_BYTES: usize = 64;
+
+/// The most bytes of an identifier, of a system's name, organization or description, and of a row's title or note.
+pub const MOST_TEXT_BYTES: usize = 1000;
+
+/// The most bytes of the definition of a reference system.
+pub const MOST_DEFINITION_BYTES: usize = 8192;
+
 /// The most bytes of a tile.
 pub const MOST_TILE_BYTES: usize = 1_048_576;
 

@@ -5,6 +5,7 @@ ghost use Rattle.std.specs.List.{list_any, starts_with};
 ghost use Rattle.mm_definitions.specs.Bounds.{IsName};
 ghost use Rattle.mm_definitions.specs.Bounds as bounds;
 
+use crate::limits::MOST_NAME_BYTES;
 use arrayvec::ArrayString;
 use std::marker::Model;
 
@@ -12,7 +13,7 @@ use std::marker::Model;
 /// first is no digit, and which do not begin with `gpkg`, `sqlite` or `mm_`. It is held in place.
 #[derive(Drop)]
 pub struct Name {
-    text: ArrayString<60>,
+    text: ArrayString<MOST_NAME_BYTES>,
 }
 
 impl Model for Name {
@@ -70,7 +71,7 @@ pub fn is_name(text: &str) -> bool
     ensures { IsTrue result ↔ IsName text.now }
 {
     let bytes = text.as_bytes();
-    if bytes.len() > 60 {
+    if bytes.len() > MOST_NAME_BYTES {
         return false;
     }
     if !begins_with_letter(bytes) {

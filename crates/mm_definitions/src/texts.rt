@@ -6,6 +6,7 @@ ghost use Rattle.mm_definitions.specs.Bounds as bounds;
 ghost use Rattle.mm_definitions.specs.Reading.{ReadsTo, reads_text, refuses_unless};
 
 use crate::answers::ReadFault;
+use crate::limits::{MOST_DEFINITION_BYTES, MOST_TEXT_BYTES};
 use crate::refusals::{OUT_OF_LIMITS, Reason};
 use std::alloc::Global;
 use std::marker::Model;
@@ -28,13 +29,13 @@ impl<const LEAST: usize, const MOST: usize> Model for Text<LEAST, MOST> {
 }
 
 /// The name of a reference system, or the organization that defines it.
-pub type SystemName = Text<1, 1000>;
+pub type SystemName = Text<1, MOST_TEXT_BYTES>;
 
 /// The definition of a reference system, which is opaque.
-pub type Definition = Text<1, 8192>;
+pub type Definition = Text<1, MOST_DEFINITION_BYTES>;
 
 /// A reference system's description, or the title or note of an attribute row.
-pub type Remark = Text<0, 1000>;
+pub type Remark = Text<0, MOST_TEXT_BYTES>;
 
 fn has_zero(text: &str) -> bool
     ensures { result ≡ bounds.has_zero text.now }

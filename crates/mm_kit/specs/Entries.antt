@@ -1,7 +1,7 @@
 -- A record of a kit's list: its number, and the record of a piece, in which the last field of a tile or a media item is the
 -- name of the file that holds the bytes.
 use Rattle.mm_definitions.specs.declared.refusals.TheConstants.{NO_SUCH_RECORD, TOO_MANY_PIECES, NOT_THE_PLACE, NO_FILE}
-use Rattle.mm_definitions.specs.Bounds.{current}
+use Rattle.mm_definitions.specs.Bounds.{current, MostPieces}
 use Rattle.std.specs.Prelude.{◌≡◌, ◌≢◌, ◌⊎◌, ◌≤◌, ◌<◌, ◌-◌, ℕ, ℤ, pos, Bool, false, ◌||◌, length, take, get_or, if◌then◌else◌, [], ◌∷◌, ◌++◌, Option, Some, None, Result, Ok, Err, codes, bytes_eq, nat_lt, ⊤}
 use Rattle.std.specs.Borrow.{Bor}
 use Rattle.csv.specs.Records.{AllText}
@@ -46,14 +46,17 @@ IsInForm (Some name) = IsFileName name
 -- the record at this place of the list is this entry
 abbrev pub IsEntry : ℕ → Record → Entry → Type 0
 IsEntry place [] e = ⊥
-IsEntry place (number ∷ r) e = SpellsNumber number (pos place) × (place ≤ 4096) × IsInForm (file_of r) × (q : Piece) × SpellsPiece current (without_file r) q × (e ≡ entry_of q (file_of r))
+IsEntry place (number ∷ r) e = SpellsNumber number (pos place) × (place ≤ MostPieces) × IsInForm (file_of r)
+    × (q : Piece) × SpellsPiece current (without_file r) q × (e ≡ entry_of q (file_of r))
 
 -- The numbers against the record at this place: 10 to 12 as against every record of a piece, 54 where there are too many
 -- records, 56 where its number isn't its place, 57 where the file's name is out of form.
 abbrev pub HoldsAgainstEntry : ℕ → Record → ℕ → Type 0
 HoldsAgainstEntry place [] n = n ≡ NO_SUCH_RECORD
 HoldsAgainstEntry place (number ∷ r) n =
-    IsAgainst id_field number n ⊎ HoldsAgainstPiece current (without_file r) n ⊎ ((n ≡ TOO_MANY_PIECES) × (4096 < place)) ⊎ ((n ≡ NOT_THE_PLACE) × ¬ (SpellsNumber number (pos place))) ⊎ ((n ≡ NO_FILE) × ¬ (IsInForm (file_of r)))
+    IsAgainst id_field number n ⊎ HoldsAgainstPiece current (without_file r) n
+    ⊎ ((n ≡ TOO_MANY_PIECES) × (MostPieces < place)) ⊎ ((n ≡ NOT_THE_PLACE) × ¬ (SpellsNumber number (pos place)))
+    ⊎ ((n ≡ NO_FILE) × ¬ (IsInForm (file_of r)))
 
 -- The entry, or the least number that is against the record. One with a field that isn't text is refused 10.
 abbrev pub IsEntryReadAs : ℕ → Record → Result Entry ℕ → Type 0
@@ -73,9 +76,12 @@ file_read field (Err n) = (n ≡ NO_FILE) × ¬ (IsInForm field)
 
 -- what is left to be asked of a record whose number and piece were read
 abbrev pub IsLeftToAsk : ℕ → ℤ → Option Text → Result (Option Text) ℕ → Type 0
-IsLeftToAsk place number field (Ok file) = (place ≤ 4096) × (number ≡ pos place) × (file ≡ field) × IsInForm field
+IsLeftToAsk place number field (Ok file) =
+    (place ≤ MostPieces) × (number ≡ pos place) × (file ≡ field) × IsInForm field
 IsLeftToAsk place number field (Err n) =
-    ((n ≡ TOO_MANY_PIECES) × (4096 < place)) ⊎ ((n ≡ NOT_THE_PLACE) × (place ≤ 4096) × (number ≢ pos place)) ⊎ ((n ≡ NO_FILE) × (place ≤ 4096) × (number ≡ pos place) × ¬ (IsInForm field))
+    ((n ≡ TOO_MANY_PIECES) × (MostPieces < place))
+    ⊎ ((n ≡ NOT_THE_PLACE) × (place ≤ MostPieces) × (number ≢ pos place))
+    ⊎ ((n ≡ NO_FILE) × (place ≤ MostPieces) × (number ≡ pos place) × ¬ (IsInForm field))
 
 -- the least number that is against a record whose number is refused; want of memory goes before all
 abbrev pub least_fault : ℕ → Result Piece ReadFault → ReadFault

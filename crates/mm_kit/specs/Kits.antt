@@ -1,6 +1,7 @@
 -- A kit: the pieces of a list and a folder, and the answer to its import.
 use Rattle.std.specs.Prelude.{◌≡◌, ◌+◌, ℕ, nat_le, nat_lt, ◌&&◌, length, if◌then◌else◌, List, [], ◌∷◌, Option, Some, None, Result, Ok, Err}
 use Rattle.mm_definitions.specs.declared.refusals.TheConstants.{OUT_OF_LIMITS, NO_EDITION, NOT_THE_NEXT_PIECE, PUBLISHED_ALREADY, NO_FILE}
+use Rattle.mm_definitions.specs.Bounds.{MostTileBytes, MostMediaBytes}
 use Rattle.mm_definitions.specs.Pieces.{piece_row, same_piece}
 use Rattle.mm_definitions.specs.declared.commands.Piece.{Piece}
 use Rattle.mm_definitions.specs.declared.commands.Piece.TheVariants as pieces
@@ -18,11 +19,13 @@ abbrev pub with_file : ℕ → (List ℕ → Piece) → Option (List ℕ) → Re
 with_file most make None = Err NO_FILE
 with_file most make (Some bytes) = if nat_le 1 (length bytes) && nat_le (length bytes) most then Ok (make bytes) else Err OUT_OF_LIMITS
 
--- the piece of an entry, with its file's bytes where it names one: at most 1,048,576 of a tile, 4,194,304 of a medium
+-- the piece of an entry, with its file's bytes where it names one: no more than a tile or a medium has
 abbrev pub filled : Files → Entry → Result Piece ℕ
 filled files (Ready q) = Ok q
-filled files (Tile table zoom column row file) = with_file 1048576 (λ bytes. pieces.Tile table zoom column row bytes) (files file)
-filled files (Media table id content_type file) = with_file 4194304 (λ bytes. pieces.Media table id content_type bytes) (files file)
+filled files (Tile table zoom column row file) =
+    with_file MostTileBytes (λ bytes. pieces.Tile table zoom column row bytes) (files file)
+filled files (Media table id content_type file) =
+    with_file MostMediaBytes (λ bytes. pieces.Media table id content_type bytes) (files file)
 
 -- a piece with the later ones behind it; a file that is refused ends them
 abbrev pub or_end : Result Piece ℕ → List Piece → List Piece

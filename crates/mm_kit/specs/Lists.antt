@@ -3,6 +3,7 @@ use Rattle.std.specs.Prelude.{◌≡◌, ◌⊎◌, ◌≤◌, ◌<◌, ◌+◌,
 use Rattle.csv.specs.Reading.{Reached, default_config}
 use Rattle.csv.specs.declared.parser.State.{State}
 use Rattle.csv.specs.declared.parser.State.TheVariants as states
+use Rattle.mm_definitions.specs.Bounds.{MostPieces}
 use Rattle.mm_definitions.specs.declared.refusals.TheConstants.{OUT_OF_LIMITS, NO_FILE}
 use Rattle.mm_definitions.specs.declared.answers.ReadFault.{ReadFault}
 use Rattle.mm_definitions.specs.declared.answers.ReadFault.TheVariants as faults
@@ -56,11 +57,11 @@ IsEntryRead place r (Ok e) = IsEntryReadAs place r (Ok e)
 IsEntryRead place r (Err (faults.Refused why)) = (why.piece ≡ None) × IsEntryReadAs place r (Err why.number)
 IsEntryRead place r (Err faults.Memory) = ⊤
 
--- not too many entries
+-- at most as many entries as an edition has pieces
 abbrev pub AreFew : List Entry → Type 0
-AreFew entries = length entries ≤ 4096
+AreFew entries = length entries ≤ MostPieces
 
--- a list that is read as entries has at most 4,096
+-- a list that is read as entries has not too many
 abbrev pub AreSound : Listed → Type 0
 AreSound (Entries entries) = AreFew entries.items
 AreSound (Refused place number) = ⊤

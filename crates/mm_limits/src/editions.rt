@@ -13,7 +13,7 @@ use crate::column_tests::{
 use mm_definitions::answers::Fault;
 use mm_definitions::limits::{
     LAST_ID, LAST_PLACE, LAST_ZOOM, MOST_AMOUNT, MOST_MEDIA_BYTES, MOST_PIECES, MOST_PIXELS,
-    MOST_TILE_BYTES, MOST_TILES,
+    MOST_TEXT_BYTES, MOST_TILE_BYTES, MOST_TILES,
 };
 use mm_definitions::units::Unit;
 use mm_walk::columns::{number_is, stands, text_is};
@@ -174,8 +174,8 @@ fn is_row(row: &Row) -> bool
         && is_within(row, Spelled::K1, 1, LAST_ID as i64)
         && is_within(row, Spelled::K2, -(MOST_AMOUNT as i64), MOST_AMOUNT as i64)
         && number_is(row, Spelled::K3, 0)
-        && is_text_at(row, Spelled::FIRST_TEXT, 0, 1000)
-        && is_text_at(row, Spelled::SECOND_TEXT, 0, 1000)
+        && is_text_at(row, Spelled::FIRST_TEXT, 0, MOST_TEXT_BYTES)
+        && is_text_at(row, Spelled::SECOND_TEXT, 0, MOST_TEXT_BYTES)
         && has_no_bytes(row)
 }
 

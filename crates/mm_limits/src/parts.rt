@@ -15,8 +15,8 @@ use crate::column_tests::{
 };
 use mm_definitions::answers::Fault;
 use mm_definitions::limits::{
-    LAST_ID, LAST_PLACE, LAST_ZOOM, MOST_AMOUNT, MOST_MEDIA_BYTES, MOST_PIXELS, MOST_TILE_BYTES,
-    MOST_TILES,
+    LAST_ID, LAST_PLACE, LAST_ZOOM, MOST_AMOUNT, MOST_DEFINITION_BYTES, MOST_MEDIA_BYTES,
+    MOST_PIXELS, MOST_TEXT_BYTES, MOST_TILE_BYTES, MOST_TILES,
 };
 use mm_definitions::units::Unit;
 use mm_walk::columns::{number, text_is};
@@ -68,10 +68,10 @@ impl RowTest for System {
 
     fn passes(&self, row: &Row) -> bool {
         are_system_numbers(row)
-            && is_text_at(row, Self::NAME, 1, 1000)
-            && is_text_at(row, Self::ORGANIZATION, 1, 1000)
-            && is_text_at(row, Self::DEFINITION, 1, 8192)
-            && is_text_at(row, Self::DESCRIPTION, 0, 1000)
+            && is_text_at(row, Self::NAME, 1, MOST_TEXT_BYTES)
+            && is_text_at(row, Self::ORGANIZATION, 1, MOST_TEXT_BYTES)
+            && is_text_at(row, Self::DEFINITION, 1, MOST_DEFINITION_BYTES)
+            && is_text_at(row, Self::DESCRIPTION, 0, MOST_TEXT_BYTES)
     }
 }
 
@@ -371,8 +371,8 @@ impl RowTest for Item {
     fn passes(&self, row: &Row) -> bool {
         is_name_at(row, Self::TABLE)
             && is_within(row, Self::ID, 1, LAST_ID as i64)
-            && is_text_at(row, Self::TITLE, 0, 1000)
-            && is_text_at(row, Self::NOTE, 0, 1000)
+            && is_text_at(row, Self::TITLE, 0, MOST_TEXT_BYTES)
+            && is_text_at(row, Self::NOTE, 0, MOST_TEXT_BYTES)
             && is_within(row, Self::AMOUNT, -(MOST_AMOUNT as i64), MOST_AMOUNT as i64)
     }
 }

@@ -1,5 +1,5 @@
 -- What a path asks for, by the route that it takes.
-use Rattle.std.proofs.Common.{◌≡◌, ◌∙◌, ◌<◌, inl, inr, ℕ, ℤ, pos, zero, suc, List, [], ◌∷◌, ◌++◌, drop, get_or}
+use Rattle.std.proofs.Common.{◌≡◌, ◌∙◌, ◌<◌, ◌-◌, inl, inr, ℕ, ℤ, pos, zero, suc, List, [], ◌∷◌, ◌++◌, drop, get_or}
 use Rattle.std.proofs.Common.{Option, Some, None, true, false, ltb, ◌==◌, refl, sym, ap, subst, arith, codes, IsUtf8}
 use Rattle.std.proofs.lemmas.Bool.{and_parts, eq-eqb, ltb-true}
 use Rattle.std.proofs.lemmas.Str.{IsAscii-append, IsUtf8-from_ascii}
@@ -11,7 +11,7 @@ use Rattle.matchit.specs.Level.{IsText}
 use Rattle.matchit.specs.Params.{AllText, walk}
 use Rattle.matchit.proofs.RenameLemmas.{seek-rename}
 use Rattle.mm_definitions.specs.Keys.{Text}
-use Rattle.mm_definitions.specs.Bounds.{IsName}
+use Rattle.mm_definitions.specs.Bounds.{IsName, LastZoom, MostTiles}
 use Rattle.mm_page.specs.Asked.{IsRouted, Wanted, Tile, Media, Related, Contents, SpellsWithin, path_from}
 use Rattle.mm_page.specs.Routes.{IsPathPart, IsRowPath, media_path, numbered_patterns, page_rows, related_path, route_of}
 use Rattle.mm_page.specs.Routes.{row_pairs, tile_pairs, tile_path, tile_route, media_row, related_row}
@@ -44,8 +44,9 @@ same_front (x ∷ a) b (y ∷ c) d ha hc e =
 
 -- what a tile's path can ask for
 abbrev pub IsTile : Text → Text → Text → Text → Type 0
-IsTile t z c r = IsName t × ((n : ℤ) × SpellsWithin (pos 0) (pos 30) z n)
-    × ((n : ℤ) × SpellsWithin (pos 0) (pos 1073741823) c n) × ((n : ℤ) × SpellsWithin (pos 0) (pos 1073741823) r n)
+IsTile t z c r = IsName t × ((n : ℤ) × SpellsWithin (pos 0) (pos LastZoom) z n)
+    × ((n : ℤ) × SpellsWithin (pos 0) (pos (MostTiles - 1)) c n)
+    × ((n : ℤ) × SpellsWithin (pos 0) (pos (MostTiles - 1)) r n)
 
 pub tile_only : (t z c r : Text) (w : Wanted) → IsPathPart t → IsPathPart z → IsPathPart c → IsRouted (tile_path t z c r) w → IsTile t z c r
 tile_only t z c r (Tile u n d e) pt pz pc (z2, c2, r2, is, name, nz, nc, nr) =

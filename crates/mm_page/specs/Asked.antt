@@ -1,6 +1,6 @@
 -- What the path of a request asks for.
-use Rattle.std.specs.Prelude.{◌≡◌, ℤ, pos, ◌≤ℤ◌, [], ◌∷◌, ◌++◌, List, codes}
-use Rattle.mm_definitions.specs.Bounds.{IsName}
+use Rattle.std.specs.Prelude.{◌≡◌, ◌-◌, ℤ, pos, ◌≤ℤ◌, [], ◌∷◌, ◌++◌, List, codes}
+use Rattle.mm_definitions.specs.Bounds.{IsName, LastZoom, MostTiles, LastId}
 use Rattle.mm_definitions.specs.Keys.{Text}
 use Rattle.mm_definitions.specs.Numbers.{SpellsNumber}
 
@@ -25,11 +25,12 @@ path_from (part ∷ next ∷ rest) = 47 ∷ (part ++ path_from (next ∷ rest))
 abbrev pub IsRouted : Text → Wanted → Type 0
 IsRouted path (Tile table z c r) = (zoom column row : Text)
     × (path ≡ path_from (codes "tiles" ∷ table ∷ zoom ∷ column ∷ row ∷ []))
-    × IsName table × SpellsWithin (pos 0) (pos 30) zoom z × SpellsWithin (pos 0) (pos 1073741823) column c × SpellsWithin (pos 0) (pos 1073741823) row r
+    × IsName table × SpellsWithin (pos 0) (pos LastZoom) zoom z
+    × SpellsWithin (pos 0) (pos (MostTiles - 1)) column c × SpellsWithin (pos 0) (pos (MostTiles - 1)) row r
 IsRouted path (Media table i) = (id : Text)
     × (path ≡ path_from (codes "media" ∷ table ∷ id ∷ []))
-    × IsName table × SpellsWithin (pos 1) (pos 9007199254740992) id i
+    × IsName table × SpellsWithin (pos 1) (pos LastId) id i
 IsRouted path (Related table i) = (id : Text)
     × (path ≡ path_from (codes "related" ∷ table ∷ id ∷ []))
-    × IsName table × SpellsWithin (pos 1) (pos 9007199254740992) id i
+    × IsName table × SpellsWithin (pos 1) (pos LastId) id i
 IsRouted path Contents = path ≡ path_from (codes "contents" ∷ [])

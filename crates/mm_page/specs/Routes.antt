@@ -3,7 +3,7 @@ use Rattle.std.specs.Prelude.{ℕ, ℤ, pos, List, [], ◌∷◌, ◌++◌, ◌�
 use Rattle.matchit.specs.Seek.{has_slash}
 use Rattle.matchit.specs.Params.{AllText, named, walk}
 use Rattle.mm_definitions.specs.Keys.{Text}
-use Rattle.mm_definitions.specs.Bounds.{IsName}
+use Rattle.mm_definitions.specs.Bounds.{IsName, LastId}
 use Rattle.mm_page.specs.Asked.{path_from}
 use Rattle.mm_page.specs.Asked as page
 use Rattle.matchit.specs.Rows.{Rows, RowsOf}
@@ -120,7 +120,7 @@ TookRow p t i = AllText (pairs_of p) × (pairs_of p ≡ row_pairs t i)
 
 -- the texts name a row
 abbrev pub IsRowPath : Text → Text → Type 0
-IsRowPath t i = IsName t × (n : ℤ) × page.SpellsWithin (pos 1) (pos 9007199254740992) i n
+IsRowPath t i = IsName t × (n : ℤ) × page.SpellsWithin (pos 1) (pos LastId) i n
 
 -- what the code's value asks for
 abbrev pub asked : Wanted → page.Wanted

@@ -2,7 +2,7 @@
 
 ghost use Rattle.std.specs.Prelude.{◌≡◌, ℤ, pos, ◌≤ℤ◌, IfOk, IfErr, IfSome, MatchOption};
 ghost use Rattle.std.specs.Str.{IsAscii};
-ghost use Rattle.mm_definitions.specs.Bounds.{IsName};
+ghost use Rattle.mm_definitions.specs.Bounds.{IsName, LastId};
 ghost use Rattle.mm_definitions.specs.Faults.{memory};
 ghost use Rattle.mm_definitions.specs.Keys.{Text};
 ghost use Rattle.mm_page.specs.Asked.{IsRouted, SpellsWithin};
@@ -108,7 +108,7 @@ fn tile_wanted(params: &Params<'_, '_>) -> Option<Wanted>
 
 fn row_wanted(params: &Params<'_, '_>) -> Option<(Name, i64)>
     ensures { (t i : Text) → TookRow params.now t i → MatchOption result (¬ (IsRowPath t i))
-        (λ r. (r.0 ≡ t) × IsName t × SpellsWithin (pos 1) (pos 9007199254740992) i r.1) }
+        (λ r. (r.0 ≡ t) × IsName t × SpellsWithin (pos 1) (pos LastId) i r.1) }
 {
     let Some(table) = name_of(params, "table") else {
         return None;

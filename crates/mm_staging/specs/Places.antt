@@ -2,6 +2,7 @@
 use Rattle.std.specs.Prelude.{◌≡◌, ◌≢◌, ◌≤ℤ◌, ◌<ℤ◌, ◌⊎◌, ℤ, pos, ◌-ℤ◌, Some, None, Bool, true, false}
 use Rattle.std.specs.FinMap.{get, contains_key}
 use Rattle.mm_definitions.specs.declared.refusals.TheConstants.{NOT_THE_NEXT_PIECE, TOO_MANY_PIECES}
+use Rattle.mm_definitions.specs.Bounds.{MostPieces}
 use Rattle.mm_definitions.specs.Keys.{Text, piece}
 use Rattle.mm_definitions.specs.Package.{Package, PieceRow}
 use Rattle.mm_definitions.specs.Pieces.{piece_row}
@@ -32,13 +33,13 @@ pub record TellsBehind (p : Package) (edition : Text) (number : ℤ) (behind : B
 -- whether a number is one of those that an edition has room for
 abbrev pub IsRoom : ℤ → Place → Type 0
 IsRoom number Equal = ⊥
-IsRoom number Next = number ≤ℤ pos 4096
-IsRoom number (Refused why) = (why ≡ TOO_MANY_PIECES) × (pos 4096 <ℤ number)
+IsRoom number Next = number ≤ℤ pos MostPieces
+IsRoom number (Refused why) = (why ≡ TOO_MANY_PIECES) × (pos MostPieces <ℤ number)
 
 -- of a number at which no piece stands
 abbrev pub IsPlaceBehind : Package → Text → ℤ → Place → Type 0
 IsPlaceBehind p edition number Equal = ⊥
-IsPlaceBehind p edition number Next = IsNextNumber p edition number × (number ≤ℤ pos 4096)
+IsPlaceBehind p edition number Next = IsNextNumber p edition number × (number ≤ℤ pos MostPieces)
 IsPlaceBehind p edition number (Refused why) =
-    ((why ≡ TOO_MANY_PIECES) × IsNextNumber p edition number × (pos 4096 <ℤ number))
+    ((why ≡ TOO_MANY_PIECES) × IsNextNumber p edition number × (pos MostPieces <ℤ number))
     ⊎ ((why ≡ NOT_THE_NEXT_PIECE) × (pos 1 <ℤ number) × (contains_key p.pieces (piece edition (number -ℤ pos 1)) ≡ false))

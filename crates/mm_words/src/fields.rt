@@ -4,8 +4,8 @@ use arrayvec::ArrayVec;
 use mm_definitions::content_types::is_content_type;
 use mm_definitions::identifiers::is_identifier;
 use mm_definitions::limits::{
-    FARTHEST, LARGEST_PIXEL, LAST_ID, LAST_PLACE, LAST_ZOOM, MOST_AMOUNT, MOST_MEDIA_BYTES,
-    MOST_PIXELS, MOST_TILE_BYTES, MOST_TILES,
+    FARTHEST, LARGEST_PIXEL, LAST_ID, LAST_PLACE, LAST_ZOOM, MOST_AMOUNT, MOST_DEFINITION_BYTES,
+    MOST_MEDIA_BYTES, MOST_PIXELS, MOST_TEXT_BYTES, MOST_TILE_BYTES, MOST_TILES,
 };
 use mm_definitions::names::is_name;
 use mm_definitions::numbers::read_number;
@@ -70,11 +70,11 @@ const AMOUNT: Sort = Sort::Number(-(MOST_AMOUNT as i64), MOST_AMOUNT as i64);
 
 const SRS: [Field; 6] = [
     ID,
-    ("NAME", Sort::Text(1, 1000)),
-    ("ORGANIZATION", Sort::Text(1, 1000)),
+    ("NAME", Sort::Text(1, MOST_TEXT_BYTES)),
+    ("ORGANIZATION", Sort::Text(1, MOST_TEXT_BYTES)),
     ("ORGANIZATION_ID", Sort::Number(1, LAST_ID as i64)),
-    ("DEFINITION", Sort::Text(1, 8192)),
-    ("DESCRIPTION", Sort::Text(0, 1000)),
+    ("DEFINITION", Sort::Text(1, MOST_DEFINITION_BYTES)),
+    ("DESCRIPTION", Sort::Text(0, MOST_TEXT_BYTES)),
 ];
 
 const PYRAMID: [Field; 8] = [
@@ -122,8 +122,8 @@ const TILE_DROP: [Field; 4] = [TABLE, ZOOM, COLUMN, PLACE_ROW];
 const ROW: [Field; 5] = [
     TABLE,
     ID,
-    ("TITLE", Sort::Text(0, 1000)),
-    ("NOTE", Sort::Text(0, 1000)),
+    ("TITLE", Sort::Text(0, MOST_TEXT_BYTES)),
+    ("NOTE", Sort::Text(0, MOST_TEXT_BYTES)),
     ("AMOUNT", AMOUNT),
 ];
 

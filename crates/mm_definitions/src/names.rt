@@ -7,6 +7,7 @@ ghost use Rattle.mm_definitions.specs.Bounds as bounds;
 
 use crate::limits::MOST_NAME_BYTES;
 use arrayvec::ArrayString;
+use std::alloc::AllocError;
 use std::marker::Model;
 
 /// The name of a table, a mapping or an edition: 1 to 60 of the letters `a` to `z`, digits and `_`, of which the
@@ -25,6 +26,18 @@ impl Model for Name {
     ghost view = { λ name. name.text.bytes };
 
     ghost invariant = { λ name. IsName name.text.bytes };
+}
+
+impl Clone for Name {
+    ghost use Rattle.std.specs.Prelude.{◌≡◌, ⊤};
+
+    ghost is_clone = { λ name same. same ≡ name };
+
+    ghost is_infallible = { λ _. ⊤ };
+
+    fn clone(&self) -> Result<Name, AllocError> {
+        Ok(Name { text: self.text })
+    }
 }
 
 /// Whether a byte is a letter from `a` to `z`, or `_`.

@@ -1,7 +1,7 @@
 //! The staging of a kit's pieces, one after another.
 
 ghost use Rattle.std.specs.Prelude.{◌≡◌, ◌≢◌, ◌<◌, ◌||◌, pos, IfErr, OnOk, false, true};
-ghost use Rattle.mm_definitions.specs.Bounds.{IsName, current};
+ghost use Rattle.mm_definitions.specs.Bounds.{current};
 ghost use Rattle.mm_definitions.specs.Faults.{reopen, input};
 ghost use Rattle.mm_definitions.specs.Package.{Package};
 ghost use Rattle.mm_definitions.specs.Rules.{Meets};
@@ -27,17 +27,6 @@ use mm_definitions::names::Name;
 use mm_definitions::refusals::Reason;
 use mm_run::{Apply, Editor};
 use std::alloc::Global;
-
-/// The same name again.
-fn same_name(name: &Name) -> Name
-    ensures same { result ≡ name.now }
-    ensures named { IsName name.now }
-{
-    match Name::read(name.as_str()) {
-        Some(same) => same,
-        None => unreachable!(),
-    }
-}
 
 /// A folder's fault as one of the import.
 pub(crate) fn folder_fault(fault: FolderFault) -> Fault
@@ -83,8 +72,11 @@ fn stage_piece<A: Apply>(
 {
     // The proof reads from these that the moment and the command are within their limits.
     let _milliseconds = at.milliseconds();
+    let Ok(edition) = edition.clone() else {
+        unreachable!()
+    };
     let command = Command::Stage {
-        edition: same_name(edition),
+        edition,
         number: id_of(number),
         piece,
     };

@@ -47,6 +47,12 @@ impl<T> Io<T> {
     }
 }
 
+/// Ends the loan of a reader or writer that a struct held. It does nothing when it runs: from this use the proof reads
+/// what was read or written through it.
+pub fn lent_back<T>(lent: &mut Io<T>)
+    ensures { lent.new ≡ lent.old }
+{}
+
 impl<R: Read> Read for Io<R> {
     ghost remaining = { λ io. R.remaining (inside io) };
 

@@ -7,7 +7,7 @@ ghost use Rattle.mm_reads.specs.Writing.{Lists, SendsLine};
 
 use crate::shown::{edition_in, table_in};
 use mm_definitions::answers::Fault;
-use mm_definitions::streams::Io;
+use mm_definitions::streams::{Io, lent_back};
 use mm_io::{Sent, send};
 use mm_walk::walk::{Visitor, walk};
 use sqlite::{Alter, Connection, Row};
@@ -98,8 +98,7 @@ fn list_tables<S: Alter, W: Write>(
     let mut lines = TableLines { output };
     let shown = show_tables(conn, &mut lines);
     let TableLines { output: inner } = lines;
-    // No effect at run time: the proof reads what `output` holds from this use.
-    let _ = &*inner;
+    lent_back(inner);
     shown
 }
 
@@ -136,8 +135,7 @@ fn list_editions<S: Alter, W: Write>(
     let mut lines = EditionLines { output };
     let shown = show_editions(conn, &mut lines);
     let EditionLines { output: inner } = lines;
-    // No effect at run time: the proof reads what `output` holds from this use.
-    let _ = &*inner;
+    lent_back(inner);
     shown
 }
 

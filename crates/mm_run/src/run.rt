@@ -17,7 +17,7 @@ use crate::telling::tell;
 use csv::Reader;
 use mm_definitions::answers::{Answer, Fault, RunFault, Tally};
 use mm_definitions::moments::Moment;
-use mm_definitions::streams::Io;
+use mm_definitions::streams::{Io, lent_back};
 use mm_io::{Held, Lender, Source, Tells, drain, open_rows};
 use std::alloc::Global;
 use std::io::{Read, Write};
@@ -112,8 +112,7 @@ fn run_to_end<A: Apply, R: Read, W: Write>(
     let tally = match outcome {
         Ok(tally) => tally,
         Err(e) => {
-            // No effect at run time: the proof reads what `reader` holds from this use.
-            let _ = &*inner;
+            lent_back(inner);
             return Err(e);
         }
     };

@@ -48,6 +48,22 @@ pub(crate) struct Written<'a> {
     pub(crate) bytes: &'a [u8],
 }
 
+/// What is written in the columns that a kind of piece does not use.
+const NONE: Written<'static> = Written {
+    kind: "",
+    name: "",
+    k1: 0,
+    k2: 0,
+    k3: 0,
+    k4: 0,
+    k5: 0,
+    k6: 0,
+    k7: 0,
+    t1: "",
+    t2: "",
+    bytes: b"",
+};
+
 /// The numbers in the columns from the third on.
 fn numbers_in(row: &Row) -> Result<Numbers, Error>
     ensures { IfOk result (HasNumbers row.now) }
@@ -122,14 +138,7 @@ fn numbered<'a>(kind: &'a str, name: &'a str, k1: i64, k2: i64) -> Written<'a>
         name,
         k1,
         k2,
-        k3: 0,
-        k4: 0,
-        k5: 0,
-        k6: 0,
-        k7: 0,
-        t1: "",
-        t2: "",
-        bytes: b"",
+        ..NONE
     }
 }
 
@@ -151,13 +160,8 @@ fn written_tile(piece: &Piece) -> Written<'_>
             k1: i64::from(zoom.get()),
             k2: i64::from(column.get()),
             k3: i64::from(row.get()),
-            k4: 0,
-            k5: 0,
-            k6: 0,
-            k7: 0,
-            t1: "",
-            t2: "",
             bytes: bytes.as_slice(),
+            ..NONE
         },
         Piece::TileDrop {
             table,
@@ -170,13 +174,7 @@ fn written_tile(piece: &Piece) -> Written<'_>
             k1: i64::from(zoom.get()),
             k2: i64::from(column.get()),
             k3: i64::from(row.get()),
-            k4: 0,
-            k5: 0,
-            k6: 0,
-            k7: 0,
-            t1: "",
-            t2: "",
-            bytes: b"",
+            ..NONE
         },
         _ => unreachable!(),
     }
@@ -199,14 +197,9 @@ fn written_item(piece: &Piece) -> Written<'_>
             name: table.as_str(),
             k1: id.get(),
             k2: amount.get(),
-            k3: 0,
-            k4: 0,
-            k5: 0,
-            k6: 0,
-            k7: 0,
             t1: title.as_str(),
             t2: note.as_str(),
-            bytes: b"",
+            ..NONE
         },
         Piece::RowDrop { table, id } => numbered("row-drop", table.as_str(), id.get(), 0),
         Piece::Media {
@@ -218,15 +211,9 @@ fn written_item(piece: &Piece) -> Written<'_>
             kind: "media",
             name: table.as_str(),
             k1: id.get(),
-            k2: 0,
-            k3: 0,
-            k4: 0,
-            k5: 0,
-            k6: 0,
-            k7: 0,
             t1: content_type.as_str(),
-            t2: "",
             bytes: bytes.as_slice(),
+            ..NONE
         },
         Piece::MediaDrop { table, id } => numbered("media-drop", table.as_str(), id.get(), 0),
         _ => unreachable!(),
@@ -278,9 +265,7 @@ fn written_matrix(piece: &Piece) -> Written<'_>
             k5: i64::from(matrix.th.get()),
             k6: matrix.px.get(),
             k7: matrix.py.get(),
-            t1: "",
-            t2: "",
-            bytes: b"",
+            ..NONE
         },
         _ => unreachable!(),
     }

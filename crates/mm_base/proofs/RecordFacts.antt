@@ -32,7 +32,7 @@ use Rattle.mm_definitions.proofs.ReadingFacts.{AreFields, texts_of, text_at, one
 abbrev pub rest_of : List (Bor Text) → List (Bor Text)
 rest_of xs = take (length xs - 1) (drop 1 xs)
 
-first_and_rest : (xs : List (Bor Text)) → 1 ≤ length xs → texts_of xs ≡ text_at xs 0 ∷ texts_of (rest_of xs)
+pub first_and_rest : (xs : List (Bor Text)) → 1 ≤ length xs → texts_of xs ≡ text_at xs 0 ∷ texts_of (rest_of xs)
 first_and_rest xs some = one_more xs 0 some ∙ ap (λ l. text_at xs 0 ∷ texts_of l) (sym (take_all (length xs - 1) (drop 1 xs) (omega (arith, length-drop 1 xs))))
 
 begins : (xs : List (Bor Text)) (word : Text) → 1 ≤ length xs → text_at xs 0 ≡ word → texts_of xs ≡ word ∷ texts_of (rest_of xs)

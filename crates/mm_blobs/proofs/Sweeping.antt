@@ -71,7 +71,7 @@ left_out : (b : Bool) (e : Env) → b ≡ false → (if b then e ∷ [] else [])
 left_out true e h = absurd (let f : true ≡ false = h in cc)
 left_out false e h = refl
 
-there_if : (b : Bool) (e : Env) → b ≡ true → Has (if b then e ∷ [] else []) e
+pub there_if : (b : Bool) (e : Env) → b ≡ true → Has (if b then e ∷ [] else []) e
 there_if true e h = inl refl
 there_if false e h = absurd (let f : false ≡ true = h in cc)
 

@@ -1,10 +1,11 @@
 -- Names and other ASCII texts are UTF-8 without byte 0.
-use Rattle.std.proofs.Common.{◌≡◌, ℕ, zero, suc, ◌<◌, Bool, true, false, not, ◌||◌, [], ◌∷◌, nat_le, nat_lt, refl, sym, ap, ◌∙◌, arith}
+use Rattle.std.proofs.Common.{◌≡◌, ℕ, zero, suc, ◌<◌, Bool, true, false, not, ◌||◌, [], ◌∷◌, nat_le, nat_lt, refl, ap, ◌∙◌, arith}
 use Rattle.std.proofs.lemmas.Bool.Decides.{nat_tests}
 use Rattle.std.proofs.lemmas.List.Elements.{All-from_recursion}
 use Rattle.std.proofs.lemmas.Str.{IsUtf8-from_ascii}
 use Rattle.std.proofs.lemmas.Str.Ascii.{IsAscii-from_all}
 use Rattle.std.specs.List.{list_any, AllByRecursion}
+use Rattle.std.proofs.lemmas.Bool.{not-true}
 use Rattle.mm_definitions.specs.Keys.{Text}
 use Rattle.mm_definitions.specs.Bounds.{IsName, IsClean, is_letter_or_digit, has_zero}
 use Rattle.mm_definitions.proofs.Parts.{either_false}
@@ -40,13 +41,9 @@ not_zero (suc n) e = grind (arith, nat_tests)
 not_beyond : (c : ℕ) → not (is_letter_or_digit c) ≡ false → is_beyond_ascii c ≡ false
 not_beyond c e = grind (arith, nat_tests)
 
-pub not_true : (b : Bool) → not b ≡ true → b ≡ false
-not_true true e = sym e
-not_true false e = refl
-
 pub name_is_clean : (text : Text) → IsName text → IsClean text
 name_is_clean text n =
-    let all = not_true (list_any (λ c. not (is_letter_or_digit c)) text) n.all in
+    let all = not-true (list_any (λ c. not (is_letter_or_digit c)) text) n.all in
     ascii_is_clean text
     (none_of_fewer (λ c. not (is_letter_or_digit c)) is_beyond_ascii not_beyond text all)
     (none_of_fewer (λ c. not (is_letter_or_digit c)) (λ c. nat_le c 0) not_zero text all)

@@ -31,6 +31,7 @@ use Rattle.mm_definitions.proofs.Parts.{same_key, same_itself, no_entry}
 use Rattle.mm_definitions.proofs.KeyLaws.{texts, pairing_keys}
 use Rattle.mm_definitions.proofs.Listed.{along_entries}
 use Rattle.mm_store.specs.Rows.{past_rowid, past_id, relation_row, pairing_row}
+use Rattle.mm_blobs.proofs.Sweeping.{there_if}
 
 -- ---- a join of two tables
 
@@ -46,10 +47,6 @@ JoinFinds test rows others (Some x) = Pair test rows others
 if_there : (b : Bool) (e x : Env) → Has (if b then e ∷ [] else []) x → b ≡ true
 if_there true e x h = refl
 if_there false e x h = absurd h
-
-there_if : (b : Bool) (e : Env) → b ≡ true → Has (if b then e ∷ [] else []) e
-there_if true e h = inl refl
-there_if false e h = absurd (let f : false ≡ true = h in cc)
 
 module _ (schema : Schema) (sql : List ℕ) (s t : ℕ) (terms project : List Term) (names : List (List ℕ))
     (it : IsSelect schema sql s (query (inner s (inner t end)) terms project [] (lit (Int (pos 1)))) names) (other : is_table schema t ≡ true)

@@ -16,15 +16,13 @@ use Rattle.std.proofs.lemmas.Bool.{ltb-true, ltb-false}
 use Rattle.mm_definitions.specs.Reading.{ReadsTo, refused}
 use Rattle.mm_definitions.specs.declared.answers.ReadFault.{ReadFault}
 use Rattle.mm_definitions.specs.declared.answers.ReadFault.TheVariants as faults
+use Rattle.mm_base.proofs.RecordFacts.{first_and_rest}
 use Rattle.mm_kit.specs.declared.entries.Entry.{Entry}
 use Rattle.mm_kit.specs.Entries.{HoldsAgainstEntry, IsEntry, IsLeftToAsk, entry_of, file_of, least_fault, without_file}
 
 -- the fields behind the first, as a slice pattern gives them
 abbrev pub rest_of : List (Bor Text) → List (Bor Text)
 rest_of xs = take (length xs - 1) (drop 1 xs)
-
-pub first_and_rest : (xs : List (Bor Text)) → 1 ≤ length xs → texts_of xs ≡ text_at xs 0 ∷ texts_of (rest_of xs)
-first_and_rest xs some = one_more xs 0 some ∙ ap (λ l. text_at xs 0 ∷ texts_of l) (sym (take_all (length xs - 1) (drop 1 xs) (omega (arith, length-drop 1 xs))))
 
 low_number : (word : Text) (n : ℕ) → IsAgainst id_field word n → n ≤ 11
 low_number word n (inl h) = omega (arith, h.0)

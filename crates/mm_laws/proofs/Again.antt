@@ -3,6 +3,7 @@ use Rattle.std.proofs.Common.{◌≡◌, ◌↔◌, ℕ, ◌+◌, ℤ, pos, ◌�
 use Rattle.std.proofs.Common.{sym, ap, ◌∙◌, arith, Bool, false, if◌then◌else◌, Option}
 use Rattle.std.proofs.lemmas.Int.{ints}
 use Rattle.std.specs.FinMap.{get, contains_key}
+use Rattle.std.proofs.lemmas.Bool.{not-false}
 use Rattle.mm_definitions.specs.Keys.{Text, piece}
 use Rattle.mm_definitions.specs.Package.{Package, PieceRow, PiecesPart}
 use Rattle.mm_definitions.specs.Bounds.{Profile}
@@ -17,7 +18,7 @@ use Rattle.mm_definitions.specs.declared.commands.Piece.TheVariants as pieces
 use Rattle.mm_definitions.specs.declared.commands.Command.TheVariants as commands
 use Rattle.mm_definitions.proofs.Parts.{either_false, put_again, same_some}
 use Rattle.mm_definitions.proofs.KeyLaws.{texts, numbers, piece_keys}
-use Rattle.mm_laws.proofs.Reasons.{none_holds, not_false, and_false, stands_where}
+use Rattle.mm_laws.proofs.Reasons.{none_holds, and_false, stands_where}
 use Rattle.mm_laws.proofs.KindFacts.{are_same, both_true, at_true}
 use Rattle.mm_laws.proofs.Closed.{no_refusal}
 use Rattle.mm_laws.proofs.Published.{read_back}
@@ -69,11 +70,11 @@ pub stage_again : (p : Package) (edition : Text) (number : ℤ) (q : Piece) (mom
 stage_again p edition number q moment none low =
     let c = commands.Stage edition number q in
     let r = none_holds (reasons p c) (no_refusal (least (reasons p c)) (refused_piece (publishing p c [])) none) in
-    let opened : is_open p edition ≡ true = stands_where (contains_key p.editions edition) (is_open p edition) r.1.1.1.0 (not_false (contains_key p.editions edition) r.0) in
+    let opened : is_open p edition ≡ true = stands_where (contains_key p.editions edition) (is_open p edition) r.1.1.1.0 (not-false (contains_key p.editions edition) r.0) in
     let differs = (either_false (int_lt (pos (piece_count p edition + 1)) number)
     (int_le number (pos (piece_count p edition)) && not (has_equal_piece p edition number q))
     (and_false (is_open p edition) _ r.1.0 opened)).1 in
-    let equal : has_equal_piece p edition number q ≡ true = not_false _ (and_false (int_le number (pos (piece_count p edition))) _ differs (le_holds number (pos (piece_count p edition)) low)) in
+    let equal : has_equal_piece p edition number q ≡ true = not-false _ (and_false (int_le number (pos (piece_count p edition))) _ differs (le_holds number (pos (piece_count p edition)) low)) in
     let there = at_true (same_piece (piece_row q)) (get p.pieces (piece edition number)) equal in
     ap (λ v. unless_refused v (done p c (stamp moment)) p) none
     ∙ ap (λ (m : PiecesPart). record p { pieces = m }) (put_again piece_keys p.pieces (piece edition number) (piece_row q) (there.1 ∙ ap Some (sym (same_row (piece_row q) there.0 there.2))))

@@ -2,6 +2,7 @@
 use Rattle.std.proofs.Common.{◌≡◌, ℕ, Bool, true, false, not, ◌&&◌, [], ◌∷◌, ◌++◌, Option, Some, None, Result, Ok}
 use Rattle.std.proofs.Common.{Err, refl, sym, ap, subst, ◌∙◌, is_err, List, is_some, unsigned_abs}
 use Rattle.std.specs.FinMap.{contains_key, get}
+use Rattle.std.proofs.lemmas.Bool.{not-false}
 use Rattle.mm_definitions.specs.Keys.{Text, same_text, PieceKey}
 use Rattle.mm_definitions.specs.Parts.{Has, at_value}
 use Rattle.mm_definitions.specs.Package.{Package, PieceRow, open_state, published_state}
@@ -19,7 +20,7 @@ use Rattle.mm_definitions.specs.declared.commands.Command.TheVariants as command
 use Rattle.mm_definitions.proofs.Parts.{at_put, after_retain, same_itself, not_none, none_of}
 use Rattle.mm_definitions.proofs.KeyLaws.{texts, piece_keys}
 use Rattle.mm_laws.specs.Laws.{IsClosed, IsPublished, FirstRefused, IsNewEdition}
-use Rattle.mm_laws.proofs.Reasons.{none_holds, not_false, and_false, stands_where}
+use Rattle.mm_laws.proofs.Reasons.{none_holds, and_false, stands_where}
 use Rattle.mm_laws.proofs.Dropped.{other_tells}
 use Rattle.mm_laws.proofs.Published.{same_ok}
 use Rattle.mm_laws.proofs.AnyStamp.{any_stamp}
@@ -47,7 +48,7 @@ pub publish_went : (p : Package) (edition : Text) (moment : ℕ) → refusal p (
     → (q : Package) × (edition_trial p edition (stamp moment) ≡ Ok q)
 publish_went p edition moment none =
     let r = none_holds (reasons p (commands.Publish edition)) (no_refusal (least (reasons p (commands.Publish edition))) (refused_piece (edition_trial p edition [])) none) in
-    let opened : is_open p edition ≡ true = stands_where (contains_key p.editions edition) (is_open p edition) r.1.0 (not_false (contains_key p.editions edition) r.0) in
+    let opened : is_open p edition ≡ true = stands_where (contains_key p.editions edition) (is_open p edition) r.1.0 (not-false (contains_key p.editions edition) r.0) in
     let first : refused_piece (edition_trial p edition []) ≡ None = unrefused (edition_trial p edition []) (and_false (is_open p edition) (is_err (edition_trial p edition [])) r.1.1.0 opened) in
     went_through (edition_trial p edition (stamp moment)) (any_stamp p edition (stamp moment) [] ∙ first)
 

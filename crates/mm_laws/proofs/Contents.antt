@@ -4,6 +4,7 @@ use Rattle.std.proofs.Common.{None, int_le, refl, sym, ap, ◌∙◌, ◌⊎◌,
 use Rattle.std.proofs.lemmas.Int.{ints}
 use Rattle.std.specs.Bool.{⊤}
 use Rattle.std.specs.FinMap.{get, contains_key, insert, remove}
+use Rattle.std.proofs.lemmas.Bool.{not-false}
 use Rattle.mm_definitions.specs.Keys.{Text, same_text, same_number, level, tile, Item, item, Pairing, pairing}
 use Rattle.mm_definitions.specs.Parts.{Has, at_value}
 use Rattle.mm_definitions.specs.Package.{Package, Grid, Kinds, HasKind, has_kind, is_pyramid, AttributeRow, Medium, Relation, RowsPart, MediaPart}
@@ -14,7 +15,7 @@ use Rattle.mm_definitions.specs.declared.commands.Piece.TheVariants as pieces
 use Rattle.mm_definitions.proofs.Parts.{each_put, each_remove, stands_after_put, beside_remove, no_entry, either_false, same_itself}
 use Rattle.mm_definitions.proofs.KeyLaws.{numbers, texts, tile_keys, items, pairing_keys}
 use Rattle.mm_laws.proofs.Kept.{PieceKeeps}
-use Rattle.mm_laws.proofs.Reasons.{none_holds, not_false, is_suited, stands_where, both_hold}
+use Rattle.mm_laws.proofs.Reasons.{none_holds, is_suited, stands_where, both_hold}
 use Rattle.mm_laws.proofs.KindFacts.{has_kind_tells, has_kind_holds}
 use Rattle.mm_laws.proofs.Touch.{touch_keeps}
 use Rattle.mm_laws.proofs.OnePart.{with_media, with_pairings, with_rows, with_tiles}
@@ -166,7 +167,7 @@ pub map_put : (mapping : Text) (base_id related_id : ℤ) → PieceKeeps (pieces
 map_put mapping base_id related_id profile p moment stamp h within low is none =
     let r = none_holds (piece_reasons p (pieces.Map mapping base_id related_id)) none in
     let key = pairing mapping base_id related_id in
-    let stands : contains_key p.relations mapping ≡ true = not_false (contains_key p.relations mapping) r.1.1.0 in
+    let stands : contains_key p.relations mapping ≡ true = not-false (contains_key p.relations mapping) r.1.1.0 in
     with_pairings profile p h _
     (each_put pairing_keys p.pairings key tt (λ k _. Joins p.rows p.media (get p.relations k.mapping) k) h.q13
     (joins_new p (get p.relations mapping) key (λ s e. h.q12 mapping s e) stands r.0 r.1.0))

@@ -12,7 +12,7 @@ run_append : (before after : List Call) (p : Package) → run p (before ++ after
 run_append [] after p = refl
 run_append (c ∷ cs) after p = run_append cs after (step p c.command c.moment)
 
-if_ok_append : (v : Option Refusal) (c : Call) (xs ys : List Call) → if_ok v c (xs ++ ys) ≡ if_ok v c xs ++ ys
+pub if_ok_append : (v : Option Refusal) (c : Call) (xs ys : List Call) → if_ok v c (xs ++ ys) ≡ if_ok v c xs ++ ys
 if_ok_append None c xs ys = refl
 if_ok_append (Some r) c xs ys = refl
 

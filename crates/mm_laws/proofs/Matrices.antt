@@ -1,6 +1,7 @@
 -- A matrix that is put keeps the rules.
 use Rattle.std.proofs.Common.{◌≡◌, ℕ, pos, ◌*ℤ◌, ◌-ℤ◌, true, false, not, Option, Some, None, refl, sym, ap, subst, ◌∙◌}
 use Rattle.std.specs.FinMap.{FinMap, get, contains_key, insert}
+use Rattle.std.proofs.lemmas.Bool.{not-false}
 use Rattle.mm_definitions.specs.Keys.{Text, Level, level, level_cmp}
 use Rattle.mm_definitions.specs.Parts.{Has, at_value}
 use Rattle.mm_definitions.specs.Package.{Grid, Box, MatrixSet, IsPyramid, is_pyramid, has_kind}
@@ -12,12 +13,12 @@ use Rattle.mm_definitions.specs.declared.commands.Command.TheVariants as command
 use Rattle.mm_definitions.proofs.Parts.{each_put, kept_by_new}
 use Rattle.mm_definitions.proofs.KeyLaws.{levels, numbers}
 use Rattle.mm_laws.proofs.Kept.{Keeps}
-use Rattle.mm_laws.proofs.Reasons.{none_holds, not_false, and_false}
+use Rattle.mm_laws.proofs.Reasons.{none_holds, and_false}
 use Rattle.mm_laws.proofs.KindFacts.{are_same, both_true, is_pyramid_tells, pyramid_set}
 use Rattle.mm_laws.proofs.Touch.{touch_keeps}
 use Rattle.mm_laws.proofs.PixelSizes.{SuitsAll, suits_unless_clashes, still_finer, still_halved}
 
-product_tells : (b : Box) (g : Grid) → is_product b g ≡ true → Fits b g
+pub product_tells : (b : Box) (g : Grid) → is_product b g ≡ true → Fits b g
 product_tells b g e =
     let p = both_true _ _ e in
     record {
@@ -26,7 +27,7 @@ product_tells b g e =
     }
 
 fits_in : (s : Option MatrixSet) (g : Grid) → (r : MatrixSet) → s ≡ Some r → at_value (λ s. not (is_product s.box g)) s ≡ false → FitsIn s g
-fits_in s g r e h = subst (λ v. FitsIn v g) (sym e) (product_tells r.box g (not_false _ (ap (at_value (λ s. not (is_product s.box g))) (sym e) ∙ h)))
+fits_in s g r e h = subst (λ v. FitsIn v g) (sym e) (product_tells r.box g (not-false _ (ap (at_value (λ s. not (is_product s.box g))) (sym e) ∙ h)))
 
 -- a tile that lies in a matrix still does, where matrices are added
 pub still_inside : (old new : FinMap level_cmp Grid) → ((k : Level) (g : Grid) → Has old k g → Has new k g) → (k : Level) (column row : _)
@@ -39,9 +40,9 @@ still_inside old new more k column row h = found (get old k) refl h where
 pub matrix : (table : Text) (zoom : ℕ) (m : Matrix) → Keeps (commands.Matrix table zoom m)
 matrix table zoom m profile p moment stamp h within low is none =
     let r = none_holds (own_reasons p (commands.Matrix table zoom m)) none in
-    let pyramid : is_pyramid p.kinds table ≡ true = not_false (is_pyramid p.kinds table)
+    let pyramid : is_pyramid p.kinds table ≡ true = not-false (is_pyramid p.kinds table)
     (and_false (contains_key p.contents table) (not (is_pyramid p.kinds table)) r.1.0
-    (not_false (contains_key p.contents table) r.0)) in
+    (not-false (contains_key p.contents table) r.0)) in
     let is_one : IsPyramid p.kinds table = is_pyramid_tells p.kinds table pyramid in
     let new : contains_key p.matrices (level table (pos zoom)) ≡ false = and_false (is_pyramid p.kinds table) (contains_key p.matrices (level table (pos zoom))) r.1.1.0 pyramid in
     let set = pyramid_set p.contents p.kinds p.sets h.q5 table is_one in

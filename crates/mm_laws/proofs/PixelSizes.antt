@@ -2,6 +2,7 @@
 use Rattle.std.proofs.Common.{◌≡◌, ℤ, pos, ◌+ℤ◌, ◌*ℤ◌, ◌<ℤ◌, Bool, true, false, not, ◌&&◌, ◌||◌, int_lt, refl, sym, ap, subst, ◌∙◌, inl, inr, arith}
 use Rattle.std.proofs.lemmas.Int.{ints}
 use Rattle.std.specs.FinMap.{FinMap, get, insert}
+use Rattle.std.proofs.lemmas.Bool.{not-false}
 use Rattle.mm_definitions.specs.Keys.{Text, same_text, same_number, Level, level, level_cmp}
 use Rattle.mm_definitions.specs.Parts.{Has}
 use Rattle.mm_definitions.specs.Package.{Package, Grid, Kinds, HasKind, has_kind}
@@ -10,7 +11,7 @@ use Rattle.mm_definitions.specs.Conditions.{is_finer, is_double, suits_above, su
 use Rattle.mm_definitions.specs.declared.commands.Kind.TheVariants.{Two}
 use Rattle.mm_definitions.proofs.Parts.{no_entry, after_put, same_itself}
 use Rattle.mm_definitions.proofs.KeyLaws.{levels, texts, numbers}
-use Rattle.mm_laws.proofs.Reasons.{and_false, not_false}
+use Rattle.mm_laws.proofs.Reasons.{and_false}
 use Rattle.mm_laws.proofs.KindFacts.{are_same, both_true, has_kind_holds}
 
 pub below : (a b : ℤ) → int_lt a b ≡ true → a <ℤ b
@@ -48,7 +49,7 @@ pub suits_unless_clashes : (p : Package) (table : Text) (zoom : ℤ) (g : Grid) 
     → SuitsAll p.matrices table zoom g (has_kind p.kinds table Two)
 suits_unless_clashes p table zoom g none other h e =
     let test : Level → Grid → Bool = λ k d. same_text k.table table && not (suits (has_kind p.kinds table Two) zoom g k.zoom d) in
-    not_false _ (and_false _ _ (no_entry levels test p.matrices none (level table other) h e) (same_itself texts table))
+    not-false _ (and_false _ _ (no_entry levels test p.matrices none (level table other) h e) (same_itself texts table))
 
 module _ (matrices : FinMap level_cmp Grid) (table : Text) (zoom : ℤ) (g : Grid) (halved : Bool) (all : SuitsAll matrices table zoom g halved) where
   -- what the test says where the other zoom is higher, and where it is lower

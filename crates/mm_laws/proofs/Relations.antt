@@ -3,6 +3,7 @@ use Rattle.std.proofs.Common.{◌≡◌, ◌≢◌, ℕ, ◌≤◌, ℤ, pos, �
 use Rattle.std.proofs.Common.{None, codes, refl, sym, ap, subst, ◌∙◌, ◌⊎◌, inl, inr, is_some, arith, zero-le}
 use Rattle.std.proofs.lemmas.Int.{ints}
 use Rattle.std.specs.FinMap.{get, contains_key, insert, remove, retain_keys}
+use Rattle.std.proofs.lemmas.Bool.{not-false}
 use Rattle.mm_definitions.specs.Keys.{Text, Pairing, PieceKey, piece, Extension}
 use Rattle.mm_definitions.specs.Parts.{Each, Has, Stands}
 use Rattle.mm_definitions.specs.Package.{Package, Kinds, RelationsPart, HasKind, has_kind, Relation}
@@ -23,7 +24,7 @@ use Rattle.mm_definitions.proofs.Parts.{not_none, none_of, some_of}
 use Rattle.mm_definitions.proofs.CleanTexts.{ascii_is_clean, name_is_clean}
 use Rattle.mm_definitions.proofs.KeyLaws.{texts, pairing_keys, piece_keys, extension_keys}
 use Rattle.mm_laws.proofs.Kept.{Keeps}
-use Rattle.mm_laws.proofs.Reasons.{none_holds, not_false, stands_where}
+use Rattle.mm_laws.proofs.Reasons.{none_holds, stands_where}
 use Rattle.mm_laws.proofs.KindFacts.{differ, both_true, either_true, has_kind_tells}
 use Rattle.mm_laws.proofs.Tables.{put_once}
 use Rattle.mm_laws.proofs.OnePart.{with_editions, with_relations}
@@ -37,7 +38,7 @@ same_mapping : (a b : Text) → mapping_extension a ≡ mapping_extension b → 
 unfolding name_of
 same_mapping a b e = ap (λ (x : Extension). name_of x.table) e
 
-own_name : IsName (codes "gpkgext_relations") → ⊥
+pub own_name : IsName (codes "gpkgext_relations") → ⊥
 own_name n = let f : false ≡ true = n.own in cc
 
 not_general : (mapping : Text) → IsName mapping → general_extension ≡ mapping_extension mapping → ⊥
@@ -72,8 +73,8 @@ pub relation_put : (mapping base related : Text) (name : RelationName) → Keeps
 relation_put mapping base related name profile p moment stamp h within low is none =
     let r = none_holds (own_reasons p (commands.Relation mapping base related name)) none in
     let ends = either_false (not (contains_key p.contents base)) (not (contains_key p.contents related)) r.0 in
-    let base_there = not_false (contains_key p.contents base) ends.0 in
-    let related_there = not_false (contains_key p.contents related) ends.1 in
+    let base_there = not-false (contains_key p.contents base) ends.0 in
+    let related_there = not-false (contains_key p.contents related) ends.1 in
     let free = either_false (contains_key p.contents mapping) (contains_key p.relations mapping) r.1.0 in
     let kinds_suit = both_true (is_plain p base) (has_kind p.kinds related (related_kind name))
     (stands_where (contains_key p.contents base && contains_key p.contents related)

@@ -4,6 +4,7 @@ use Rattle.std.proofs.Common.{int_le, unsigned_abs, Some, refl, sym, ap, subst, 
 use Rattle.std.proofs.lemmas.Int.{ints}
 use Rattle.std.proofs.lemmas.Bool.Decides.{nat_tests}
 use Rattle.std.specs.FinMap.{get, contains_key, insert}
+use Rattle.std.proofs.lemmas.Bool.{not-false}
 use Rattle.mm_definitions.specs.Keys.{Text, same_text, same_number, PieceKey, piece}
 use Rattle.mm_definitions.specs.Parts.{Has, Stands}
 use Rattle.mm_definitions.specs.Package.{PieceRow, PiecesPart, open_state}
@@ -16,7 +17,7 @@ use Rattle.mm_definitions.specs.declared.commands.Command.TheVariants as command
 use Rattle.mm_definitions.proofs.Parts.{each_put, stands_after_put, after_put, at_put, beside_put, some_of, either_false, same_key}
 use Rattle.mm_definitions.proofs.KeyLaws.{piece_keys, texts, numbers}
 use Rattle.mm_laws.proofs.Kept.{Keeps}
-use Rattle.mm_laws.proofs.Reasons.{none_holds, not_false, and_false, stands_where}
+use Rattle.mm_laws.proofs.Reasons.{none_holds, and_false, stands_where}
 use Rattle.mm_laws.proofs.KindFacts.{are_same, at_true}
 use Rattle.mm_laws.proofs.Counted.{piece_count-is}
 use Rattle.mm_laws.proofs.OnePart.{with_editions}
@@ -84,7 +85,7 @@ whole number h = omega (arith, ints, h)
 pub stage : (edition : Text) (number : ℤ) (q : Piece) → Keeps (commands.Stage edition number q)
 stage edition number q profile p moment stamp h within low is none =
     let r = none_holds (own_reasons p (commands.Stage edition number q)) none in
-    let there = not_false (contains_key p.editions edition) r.0 in
+    let there = not-false (contains_key p.editions edition) r.0 in
     let opened : is_open p edition ≡ true = stands_where (contains_key p.editions edition) (is_open p edition) r.1.1.1.0 there in
     let state = at_true (same_text open_state) (get p.editions edition) opened in
     let has : Has p.editions edition open_state = state.1 ∙ ap Some (sym (are_same texts open_state state.0 state.2)) in

@@ -3,6 +3,7 @@ use Rattle.std.proofs.Common.{◌≡◌, ◌≢◌, ℕ, ℤ, pos, ◌<ℤ◌, t
 use Rattle.std.proofs.Common.{refl, sym, ap, subst, ◌∙◌, ◌⊎◌, inl, inr, is_some, arith}
 use Rattle.std.proofs.lemmas.Int.{ints}
 use Rattle.std.specs.FinMap.{FinMap, get, contains_key, insert}
+use Rattle.std.proofs.lemmas.Bool.{not-false}
 use Rattle.mm_definitions.specs.Keys.{Text, text_cmp, same_text, same_number, level, Extension, extension_cmp}
 use Rattle.mm_definitions.specs.Parts.{Each, Has, Stands}
 use Rattle.mm_definitions.specs.Package.{Package, Contents, Box, MatrixSet, Kinds, kind_text, HasKind, IsPyramid, Relation, zoom_extension}
@@ -24,7 +25,7 @@ use Rattle.mm_definitions.proofs.Parts.{no_entry, either_false, same_itself, sam
 use Rattle.mm_definitions.proofs.CleanTexts.{ascii_is_clean, name_is_clean}
 use Rattle.mm_definitions.proofs.KeyLaws.{numbers, texts, extension_keys}
 use Rattle.mm_laws.proofs.Kept.{Keeps}
-use Rattle.mm_laws.proofs.Reasons.{none_holds, not_false}
+use Rattle.mm_laws.proofs.Reasons.{none_holds}
 use Rattle.mm_laws.proofs.KindFacts.{differ, kind_is_clean}
 use Rattle.mm_laws.proofs.Systems.{if_some_more}
 
@@ -318,7 +319,7 @@ pyramid_put table identifier srs min_x min_y max_x max_y step profile p moment s
     let set : MatrixSet = record { system = srs; box = box } in
     let sets = insert p.sets table set in
     let may : MayName p.systems (insert p.kinds table (kind_text (step_kind step))) table srs =
-    (not_false (contains_key p.systems srs) r.0, λ _. (not_number srs (pos 0) plane.0, not_number srs (pos 4326) plane.1)) in
+    (not-false (contains_key p.systems srs) r.0, λ _. (not_number srs (pos 0) plane.0, not_number srs (pos 4326) plane.1)) in
     let suits : (kind : Step) → Suits (step_kind kind) row (get sets table) =
     placed row set (get sets table) (at_put texts p.sets table set)
     (record { data_type = refl; system = refl; min_x = refl; min_y = refl; max_x = refl; max_y = refl }) in

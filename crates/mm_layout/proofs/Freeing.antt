@@ -1,7 +1,7 @@
 -- The rows that go with a table.
 use Rattle.std.proofs.Common.{◌≡◌, inl, inr, ℤ, List, Bool, true, false, not, ◌&&◌, ◌∷◌, [], ap, sym, subst, ◌∙◌, refl}
 use Rattle.std.specs.List.{list_any}
-use Rattle.std.proofs.lemmas.Bool.{or_left, or_right}
+use Rattle.std.proofs.lemmas.Bool.{or_left, or_right, not-false}
 use Rattle.sqlite.specs.declared.types.Value.TheVariants.{Text as Words}
 use Rattle.sql_forms.specs.Collation.TheVariants.{Binary}
 use Rattle.sqlite.specs.Order.{Row}
@@ -21,15 +21,11 @@ use Rattle.mm_store.proofs.Removals.{drops_table, drops_table_keeps}
 use Rattle.mm_blobs.specs.Views.{View, HoldsAs, ListsEach, spare_each}
 use Rattle.mm_blobs.proofs.Keeping.{at_id}
 
-not_false : (b : Bool) → not b ≡ false → b ≡ true
-not_false true is = refl
-not_false false is = cc
-
 -- a row whose name is not another one is found by the name
 pub hits_name : (table : Text) (r : Row) (name : Text) (rest : Row) → past_rowid r ≡ Words name ∷ rest → is_other table name ≡ false
     → passes (equals 1 0 ∷ []) (Words table ∷ []) r ≡ true
 hits_name table r name rest is gone =
-    ap (λ v. equal Binary v (Words table) && true) (columns_are r (Words name ∷ rest) 0 is) ∙ ap (λ b. b && true) (equal_text name table ∙ not_false (same_text name table) gone)
+    ap (λ v. equal Binary v (Words table) && true) (columns_are r (Words name ∷ rest) 0 is) ∙ ap (λ b. b && true) (equal_text name table ∙ not-false (same_text name table) gone)
 
 pub holds_without : (table : Text) (more : Spare) (version : ℤ) (db : Trees) (x : View) → HoldsAs no_spare version db x
     → ((z : ℤ) → FreedByTable table x.kept z → more z ≡ true)

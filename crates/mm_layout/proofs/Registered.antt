@@ -11,7 +11,7 @@ use Rattle.mm_definitions.proofs.Parts.{none_of, not_none, same_some}
 use Rattle.mm_laws.proofs.KindFacts.{differ}
 use Rattle.mm_layout.specs.Rows.{IsUnregistered}
 
-absent : {K X : Type 0} {R : K → K → Ordering} (m : FinMap R X) (k : K) → ((x : X) → get m k ≡ Some x → ⊥) → get m k ≡ None
+pub absent : {K X : Type 0} {R : K → K → Ordering} (m : FinMap R X) (k : K) → ((x : X) → get m k ≡ Some x → ⊥) → get m k ≡ None
 absent m k none = elim (get m k) as (λ v. get m k ≡ v → v ≡ None) [ None ↦ λ e. refl | Some x ↦ λ e. absurd (none x e) ] refl
 
 module _ (profile : Profile) (p : Package) (meets : Meets profile p) (table : Text) (free : contains_key p.contents table ≡ false) where

@@ -44,9 +44,6 @@ use Rattle.mm_walk.proofs.Terms.{equals, follows}
 use Rattle.mm_limits.proofs.Texts.{name_utf8, content_type_utf8}
 use Rattle.mm_walk.proofs.Checks.{Says}
 
-number_inside : {x y : ℤ} → ◌≡◌ {A = Option ℤ} (Some x) (Some y) → x ≡ y
-number_inside e = cc
-
 pub edition_states : (profile : Profile) → Says [] (inner 23 end) [] (col 1 2 ∷ []) IsStateRow (λ p. Limits profile p) EditionStates
 edition_states profile version db p stands known =
     each_row after_rowid edition_row (db 23) p.editions (covered (λ k v. (_, _, refl)) stands.holds.editions) _ _ (λ k v x. (
@@ -93,7 +90,7 @@ before_is l k id =
 first_is : (z : ℤ) (A : Type 0)
     → (IsFrom (pos 1) (pos MostPieces) z × ((◌≡◌ {A = Option ℤ} (Some z) (Some (pos 1))) ⊎ A)) ↔ (IsFrom (pos 1) (pos MostPieces) z × ((z ≡ pos 1) ⊎ A))
 first_is z A = (
-  λ h. (h.0, elim h.1 [ inl is ↦ inl (number_inside is) | inr a ↦ inr a ]),
+  λ h. (h.0, elim h.1 [ inl is ↦ inl (same_some is) | inr a ↦ inr a ]),
   λ h. (h.0, elim h.1 [ inl is ↦ inl (ap Some is) | inr a ↦ inr a ]),
 )
 
@@ -171,16 +168,16 @@ to_content : (profile : Profile) (v : PieceRow) (d : Value) → IsDataOf v.bytes
 to_content profile v d data_is named h = go h.1
   where
     z4 : v.k4 ≡ pos 0
-    z4 = number_inside h.0.0
+    z4 = same_some h.0.0
 
     z5 : v.k5 ≡ pos 0
-    z5 = number_inside h.0.1
+    z5 = same_some h.0.1
 
     z6 : v.k6 ≡ pos 0
-    z6 = number_inside h.0.2
+    z6 = same_some h.0.2
 
     z7 : v.k7 ≡ pos 0
-    z7 = number_inside h.0.3
+    z7 = same_some h.0.3
 
     no_bytes : is_there d ≡ false → v.bytes ≡ []
     no_bytes = none_from v.bytes d data_is
@@ -200,16 +197,16 @@ to_content profile v d data_is named h = go h.1
           tt,
         )
     go (inl (inr (inl (is, id, amount, zero_is, title, note, none)))) =
-        (RowPiece v.name v.k1 v.t1 v.t2 v.k2, same_row v _ _ _ _ _ _ _ (same_some is) refl refl (number_inside zero_is) z4 z5 z6 z7 refl refl (no_bytes none), (named, id, title.1, note.1, amount), tt)
+        (RowPiece v.name v.k1 v.t1 v.t2 v.k2, same_row v _ _ _ _ _ _ _ (same_some is) refl refl (same_some zero_is) z4 z5 z6 z7 refl refl (no_bytes none), (named, id, title.1, note.1, amount), tt)
     go (inl (inr (inr (inl (is, (id, a, b), content_type, c, bytes))))) = (
       Media v.name v.k1 v.t1 v.bytes,
-      same_row v _ _ _ _ _ _ _ (same_some is) refl (number_inside a)
-          (number_inside b) z4 z5 z6 z7 refl (same_some c) refl,
+      same_row v _ _ _ _ _ _ _ (same_some is) refl (same_some a)
+          (same_some b) z4 z5 z6 z7 refl (same_some c) refl,
       (named, id, content_type.1, bytes_from v.bytes d data_is IsMediaBytes bytes),
       tt,
     )
     go (inl (inr (inr (inr (is, (base, related, a), (b, c), none))))) =
-        (Map v.name v.k1 v.k2, same_row v _ _ _ _ _ _ _ (same_some is) refl refl (number_inside a) z4 z5 z6 z7 (same_some b) (same_some c) (no_bytes none), (named, base, related), tt)
+        (Map v.name v.k1 v.k2, same_row v _ _ _ _ _ _ _ (same_some is) refl refl (same_some a) z4 z5 z6 z7 (same_some b) (same_some c) (no_bytes none), (named, base, related), tt)
     go (inr (inl (is, (zoom, column, row), (a, b), none))) =
         let z = natural v.k1 zoom.0 in let c = natural v.k2 column.0 in let r = natural v.k3 row.0 in (
           TileDrop v.name (unsigned_abs v.k1) (unsigned_abs v.k2) (unsigned_abs v.k3),
@@ -218,11 +215,11 @@ to_content profile v d data_is named h = go h.1
           tt,
         )
     go (inr (inr (inl (is, (id, a, b), (c, d), none)))) =
-        (RowDrop v.name v.k1, same_row v _ _ _ _ _ _ _ (same_some is) refl (number_inside a) (number_inside b) z4 z5 z6 z7 (same_some c) (same_some d) (no_bytes none), (named, id), tt)
+        (RowDrop v.name v.k1, same_row v _ _ _ _ _ _ _ (same_some is) refl (same_some a) (same_some b) z4 z5 z6 z7 (same_some c) (same_some d) (no_bytes none), (named, id), tt)
     go (inr (inr (inr (inl (is, (id, a, b), (c, d), none))))) =
-        (MediaDrop v.name v.k1, same_row v _ _ _ _ _ _ _ (same_some is) refl (number_inside a) (number_inside b) z4 z5 z6 z7 (same_some c) (same_some d) (no_bytes none), (named, id), tt)
+        (MediaDrop v.name v.k1, same_row v _ _ _ _ _ _ _ (same_some is) refl (same_some a) (same_some b) z4 z5 z6 z7 (same_some c) (same_some d) (no_bytes none), (named, id), tt)
     go (inr (inr (inr (inr (is, (base, related, a), (b, c), none))))) =
-        (MapDrop v.name v.k1 v.k2, same_row v _ _ _ _ _ _ _ (same_some is) refl refl (number_inside a) z4 z5 z6 z7 (same_some b) (same_some c) (no_bytes none), (named, base, related), tt)
+        (MapDrop v.name v.k1 v.k2, same_row v _ _ _ _ _ _ _ (same_some is) refl refl (same_some a) z4 z5 z6 z7 (same_some b) (same_some c) (no_bytes none), (named, base, related), tt)
 
 matrix_row : (v : PieceRow) (k1 k2 k3 k4 k5 : ℤ) → v.kind ≡ codes "matrix" → v.k1 ≡ k1 → v.k2 ≡ k2 → v.k3 ≡ k3 → v.k4 ≡ k4 → v.k5 ≡ k5 → v.t1 ≡ []
     → v.t2 ≡ [] → v.bytes ≡ []

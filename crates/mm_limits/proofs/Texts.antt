@@ -8,10 +8,11 @@ use Rattle.std.proofs.lemmas.List.Elements.{All-from_recursion}
 use Rattle.std.proofs.lemmas.Str.{IsUtf8-from_ascii}
 use Rattle.std.proofs.lemmas.Str.Ascii.{IsAscii-from_all}
 use Rattle.std.specs.List.{AllByRecursion}
+use Rattle.std.proofs.lemmas.Bool.{not-true}
 use Rattle.mm_definitions.specs.Keys.{Text}
 use Rattle.mm_definitions.specs.Bounds.{IsName, IsContentType, is_word_byte, is_slash}
 use Rattle.mm_definitions.specs.Stamp.{IsSomeStamp}
-use Rattle.mm_definitions.proofs.CleanTexts.{name_is_clean, not_true, none_of_fewer}
+use Rattle.mm_definitions.proofs.CleanTexts.{name_is_clean, none_of_fewer}
 use Rattle.mm_definitions.proofs.Parts.{either_false}
 use Rattle.mm_definitions.proofs.StampText.{stamp_utf8}
 use Rattle.mm_walk.specs.Columns.{Unread}
@@ -67,6 +68,6 @@ low_round (c ∷ cs) a b = go (is_slash c) refl a b (low_round cs)
 pub content_type_utf8 : (text : Text) → IsContentType text → IsUtf8 text
 content_type_utf8 text t =
     let low = low_round text (none_of_fewer (λ c. not (is_word_byte c)) high word_low (before_first is_slash text)
-    (not_true _ t.kind.all)) (none_of_fewer (λ c. not (is_word_byte c)) high word_low (after_first is_slash text)
-    (not_true _ t.form.all)) in
+    (not-true _ t.kind.all)) (none_of_fewer (λ c. not (is_word_byte c)) high word_low (after_first is_slash text)
+    (not-true _ t.form.all)) in
     IsUtf8-from_ascii text (IsAscii-from_all text (All-from_recursion (λ c. c < 128) text (all_low text low)))

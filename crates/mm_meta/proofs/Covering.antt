@@ -17,32 +17,23 @@ use Rattle.mm_definitions.specs.Rules.{Fits}
 use Rattle.mm_definitions.proofs.Parts.{same_itself, same_some}
 use Rattle.mm_definitions.proofs.KeyLaws.{numbers}
 use Rattle.mm_laws.proofs.KindFacts.{are_same, both_true}
+use Rattle.mm_laws.proofs.Reasons.{both_hold}
+use Rattle.mm_laws.proofs.PieceReasons.{same_as}
+use Rattle.mm_laws.proofs.Matrices.{product_tells}
 use Rattle.mm_store.specs.Rows.{past_rowid, set_row}
 use Rattle.mm_store.proofs.Keys as parts
-use Rattle.mm_store.proofs.Keys.{by_text}
+use Rattle.mm_store.proofs.Keys.{by_text, same_int}
 use Rattle.mm_store.proofs.Parts.{finds_none, finds_some}
 use Rattle.mm_meta.specs.Shown.{GivesExtent}
 
-both_hold : (a b : Bool) → a ≡ true → b ≡ true → (a && b) ≡ true
-both_hold true b e f = f
-both_hold false b e f = e
-
-same_is : (a b : ℤ) → a ≡ b → same_number a b ≡ true
-same_is a b e = ap (same_number a) (sym e) ∙ same_itself numbers a
-
-product_fits : (b : Box) (g : Grid) → is_product b g ≡ true → Fits b g
-product_fits b g is =
-    let both = both_true (same_number (b.max_x -ℤ b.min_x) ((g.matrix_width *ℤ g.tile_width) *ℤ g.pixel_x_size)) _ is in
-    record { across = are_same numbers _ _ both.0; down = are_same numbers _ _ both.1 }
-
 fits_product : (b : Box) (g : Grid) → Fits b g → is_product b g ≡ true
 fits_product b g fits =
-    both_hold _ _ (same_is (b.max_x -ℤ b.min_x) ((g.matrix_width *ℤ g.tile_width) *ℤ g.pixel_x_size) fits.across) (same_is (b.max_y -ℤ b.min_y) ((g.matrix_height *ℤ g.tile_height) *ℤ g.pixel_y_size) fits.down)
+    both_hold _ _ (same_as (b.max_x -ℤ b.min_x) ((g.matrix_width *ℤ g.tile_width) *ℤ g.pixel_x_size) fits.across) (same_as (b.max_y -ℤ b.min_y) ((g.matrix_height *ℤ g.tile_height) *ℤ g.pixel_y_size) fits.down)
 
 -- what is told as fitting is the test
 pub fits_is : (b : Box) (g : Grid) (told : Bool) → IsTrue told ↔ Fits b g → told ≡ is_product b g
 fits_is b g true so = sym (fits_product b g (so.0 refl))
-fits_is b g false so = sym (false_from_ne_true _ (λ is. let e : false ≡ true = so.1 (product_fits b g is) in cc))
+fits_is b g false so = sym (false_from_ne_true _ (λ is. let e : false ≡ true = so.1 (product_tells b g is) in cc))
 
 -- the matrix set whose extent was read
 pub set_of : (o : Option MatrixSet) (b : Box) → option_map (λ (s : MatrixSet). s.box) o ≡ Some b → (s : MatrixSet) × (o ≡ Some s) × (s.box ≡ b)
@@ -51,9 +42,6 @@ set_of (Some s) b is = (s, refl, same_some is)
 
 abbrev pub extent_columns : List Term
 extent_columns = col 1 3 ∷ col 1 4 ∷ col 1 5 ∷ col 1 6 ∷ []
-
-same_int : {a b : ℤ} → Int a ≡ Int b → a ≡ b
-same_int e = cc
 
 pub extent_found : (rows : List Row) (m : FinMap text_cmp MatrixSet) (h : Holds past_rowid set_row rows m) (table : Text) (x : Option Box) (first : Option Row) → GivesExtent x first
     → Finds (by_text table) (shows extent_columns (Words table ∷ [])) rows first → option_map (λ (s : MatrixSet). s.box) (get m table) ≡ x

@@ -40,12 +40,10 @@ use Rattle.mm_definitions.proofs.Parts.{some_of, same_itself}
 use Rattle.mm_definitions.proofs.KeyLaws.{texts}
 use Rattle.mm_laws.proofs.KindFacts.{are_same, both_true}
 use Rattle.mm_store.specs.Rows.{past_rowid, grid_row}
+use Rattle.mm_store.proofs.Keys.{same_int}
 use Rattle.mm_meta.specs.Shown.{ShowsZoomed, GivesZoomed}
 
 -- ---- comparisons of numbers
-
-same_int : {a b : ℤ} → Int a ≡ Int b → a ≡ b
-same_int e = cc
 
 absurd_less : {A : Type 0} → false ≡ true → A
 absurd_less h = absurd (let f : false ≡ true = h in cc)

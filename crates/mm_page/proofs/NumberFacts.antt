@@ -8,6 +8,7 @@ use Rattle.std.proofs.lemmas.Bool.Decides.{nat_tests}
 use Rattle.mm_definitions.proofs.Parts.{either_false}
 use Rattle.std.specs.Str.{IsAscii}
 use Rattle.std.proofs.lemmas.Str.Ascii.{IsAscii-nil}
+use Rattle.std.proofs.lemmas.Bool.{not-false, not-true}
 use Rattle.matchit.specs.Seek.{has_slash}
 use Rattle.mm_definitions.specs.Bounds.{IsName, is_letter_or_digit}
 use Rattle.mm_page.specs.Routes.{IsPathPart}
@@ -21,19 +22,11 @@ onward b rest other none = let q : (b == 47) ≡ false = grind (arith, nat_tests
 abbrev pub AreLettersOrDigits : List ℕ → Type 0
 AreLettersOrDigits text = IsTrue (not (list_any (λ c. not (is_letter_or_digit c)) text))
 
-not_false : (b : Bool) → not b ≡ false → b ≡ true
-not_false true e = refl
-not_false false e = absurd (let f : true ≡ false = e in cc)
-
-not_true : (b : Bool) → not b ≡ true → b ≡ false
-not_true true e = absurd (let f : false ≡ true = e in cc)
-not_true false e = refl
-
 letter_first : (b : ℕ) (rest : List ℕ) → AreLettersOrDigits (b ∷ rest) → IsTrue (is_letter_or_digit b) × AreLettersOrDigits rest
 letter_first b rest h =
-    let none = not_true (list_any (λ c. not (is_letter_or_digit c)) (b ∷ rest)) h in
+    let none = not-true (list_any (λ c. not (is_letter_or_digit c)) (b ∷ rest)) h in
     let p = either_false (not (is_letter_or_digit b)) (list_any (λ c. not (is_letter_or_digit c)) rest) none in
-    (not_false (is_letter_or_digit b) p.0, ap not p.1)
+    (not-false (is_letter_or_digit b) p.0, ap not p.1)
 
 name_clean : (text : List ℕ) → AreLettersOrDigits text → has_slash text ≡ false
 name_clean [] h = refl

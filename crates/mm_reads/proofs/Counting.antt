@@ -17,7 +17,7 @@ use Rattle.sql_forms.specs.Maps.{Holds}
 use Rattle.sql_forms.proofs.Lists.{not_not}
 use Rattle.mm_definitions.proofs.Parts.{IsKeyOrder, same_key, same_itself, none_of, true_or_false, at_remove, after_remove, beside_remove, kept, let_go}
 use Rattle.mm_store.proofs.Parts.{IsPart, retains}
-use Rattle.mm_reads.proofs.InOrder.{never_same}
+use Rattle.mm_reads.proofs.Distinct.{never_same}
 
 all_kept : (P : Row → Type 0) (keep : Row → Bool) (xs : List Row) → AllByRecursion P xs → AllByRecursion P (filter keep xs)
 all_kept P keep [] all = tt

@@ -27,9 +27,8 @@ use Rattle.mm_store.specs.Rows.{past_rowid, edition_row}
 use Rattle.mm_store.specs.Kept.{piece_id, piece_with}
 use Rattle.mm_store.specs.Stands.{Holding}
 use Rattle.mm_store.proofs.Keys as parts
-use Rattle.mm_store.proofs.Keys.{by_text}
+use Rattle.mm_store.proofs.Keys.{by_text, same_words}
 use Rattle.mm_blobs.proofs.Naming.{told_there}
-use Rattle.mm_reads.proofs.Found.{same_words}
 use Rattle.mm_reads.proofs.InOrder.{all_entered, entries_are}
 use Rattle.mm_reads.proofs.Listed.{joins, flat_single, in_order, InOrder}
 use Rattle.mm_reads.specs.Lines.{open_text, published_text}

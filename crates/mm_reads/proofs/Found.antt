@@ -18,15 +18,9 @@ use Rattle.mm_store.specs.Blobs.{Shelf, Told, bytes_at}
 use Rattle.mm_store.specs.Kept.{tile_id, tile_with, medium_id, medium_with}
 use Rattle.mm_store.specs.Rows.{past_rowid, attribute_row, MediumRow, medium_row}
 use Rattle.mm_store.proofs.Keys as parts
-use Rattle.mm_store.proofs.Keys.{by_item}
+use Rattle.mm_store.proofs.Keys.{by_item, same_words, same_int}
 use Rattle.mm_store.proofs.Parts.{IsPart, finds_none, finds_some}
 use Rattle.mm_reads.specs.Told.{TellsBytes, Gives, ShowsMedium, IsMediumRow, ShowsRow, shown_medium, shown_row}
-
-pub same_words : {a b : Text} → Words a ≡ Words b → a ≡ b
-same_words e = cc
-
-pub same_int : {a b : ℤ} → Int a ≡ Int b → a ≡ b
-same_int e = cc
 
 -- what is told of the row that the query shows is the entry
 module _ {K V T : Type 0} {R : K → K → Ordering} {part : Row → Row} {shown : K → V → Row} {test : K → Row → Bool} (it : IsPart R part shown test) (rows : List Row) (m : FinMap R V) (h : Holds part shown rows m) (k : K)

@@ -24,27 +24,17 @@ use Rattle.sql_forms.specs.Maps.{Holds}
 use Rattle.sql_forms.proofs.Lists.{has_permuted}
 use Rattle.mm_definitions.proofs.Parts.{same_key, same_itself, not_none}
 use Rattle.mm_store.proofs.Parts.{IsPart}
+use Rattle.mm_reads.proofs.Distinct.{never_same, distinct_rows, has_same_id}
 
 -- ---- rows whose rowids rise are apart
 
-abbrev pub has_same_id : Row → Row → Bool
-has_same_id a b = is_eq (value_cmp (rowid a) (rowid b))
-
-turned : (o : Ordering) → is_eq (ordering_reverse o) ≡ is_eq o
+pub turned : (o : Ordering) → is_eq (ordering_reverse o) ≡ is_eq o
 turned Less = refl
 turned Equal = refl
 turned Greater = refl
 
 flips : (a b : Row) → has_same_id a b ≡ has_same_id b a
 flips a b = ap is_eq (value_cmp_total.antisymm (rowid a) (rowid b)) ∙ turned (value_cmp (rowid b) (rowid a))
-
-pub never_same : (a b : Row) → has_same_id a b ≡ false → a ≡ b → ⊥
-never_same a b off same = both_ways (has_same_id a b) off (sym (ap (has_same_id a) same) ∙ ap is_eq (tied_itself value_cmp_total (rowid a)))
-
-pub distinct : (rows : List Row) → IsTable rows → IsDistinct has_same_id rows
-unfolding IsDistinct
-distinct [] up = tt
-distinct (x ∷ rows) up = (all_weaker _ (λ y. has_same_id x y ≡ false) (λ y less. ap is_eq less) rows up.0, distinct rows up.1)
 
 -- ---- of rows that are apart one passes a test at most
 
@@ -159,5 +149,5 @@ module _ {K V : Type 0} {R : K → K → Ordering} {part : Row → Row} {row_of 
       -- The rows are all of the table's, in order.
       pub entries_are : IsAscending order xs → entries m ≡ entered xs all_entered
       entries_are low =
-          same_entries R it.order.total it.order.exact (entries m) (entered xs all_entered) (entries_sorted m) (rises xs all_entered within low (IsDistinct-IsPermutation has_same_id flips rows xs same (distinct rows up)))
+          same_entries R it.order.total it.order.exact (entries m) (entered xs all_entered) (entries_sorted m) (rises xs all_entered within low (IsDistinct-IsPermutation has_same_id flips rows xs same (distinct_rows rows up)))
           (λ q. sym (get-entries m q) ∙ sym (find_entered q xs all_entered (λ v is. let r = h.complete q v is in (r.0, has_permuted xs rows r.0 (IsPermutation-sym rows xs same) r.1, r.2))))

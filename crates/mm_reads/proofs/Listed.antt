@@ -39,9 +39,8 @@ use Rattle.mm_definitions.specs.declared.commands.Kind.TheVariants.{Two, Other, 
 use Rattle.mm_definitions.specs.declared.entries.Entry.{Entry}
 use Rattle.mm_store.specs.Rows.{past_rowid, contents_row, kind_row, maybe}
 use Rattle.mm_store.proofs.Keys as parts
-use Rattle.mm_store.proofs.Keys.{by_text}
+use Rattle.mm_store.proofs.Keys.{by_text, same_words}
 use Rattle.mm_reads.specs.Contents.{placed, entry_told, table_told, ListsTables, IsShown, ShowsPlaceOf, ShowsEntry}
-use Rattle.mm_reads.proofs.Found.{same_words}
 use Rattle.mm_reads.proofs.InOrder.{Picks, picked, Enters, entered, all_entered, entries_are}
 
 -- ---- the answer of a query whose matches are those of some rows, one each

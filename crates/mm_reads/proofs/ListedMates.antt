@@ -32,22 +32,13 @@ use Rattle.mm_definitions.proofs.Parts.{same_key, same_itself, after_retain}
 use Rattle.mm_definitions.proofs.KeyLaws.{texts, numbers, pairing_keys}
 use Rattle.mm_laws.proofs.KindFacts.{at_true, are_same}
 use Rattle.mm_store.specs.Rows.{past_rowid, past_id, relation_row, pairing_row}
+use Rattle.mm_store.proofs.Keys.{same_words, same_int}
 use Rattle.mm_layout.proofs.Joined.{base_tells}
 use Rattle.mm_reads.specs.Related.{is_from, mapping_rows, mate, mate_told, ListsMates, ShowsRelated}
 use Rattle.mm_reads.proofs.Asked.{terms, asked}
 use Rattle.mm_reads.proofs.Distinct.{distinct_map}
 use Rattle.mm_reads.proofs.Mates.{IsMatch, IsMate, out, ties, env, passing, mate_of, mate_key, cmp_is, one_key, match_of, beside, beside_has, has_beside, all_apart}
-
-same_words : {a b : Text} → Words a ≡ Words b → a ≡ b
-same_words e = cc
-
-same_int : {a b : ℤ} → Int a ≡ Int b → a ≡ b
-same_int e = cc
-
-turned : (o : Ordering) → is_eq (ordering_reverse o) ≡ is_eq o
-turned Less = refl
-turned Equal = refl
-turned Greater = refl
+use Rattle.mm_reads.proofs.InOrder.{turned}
 
 flips : (a b : Output) → ties a b ≡ ties b a
 flips a b = ap is_eq ((output_cmp_total asked).antisymm a b) ∙ turned (output_cmp asked b a)

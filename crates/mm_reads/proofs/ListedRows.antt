@@ -45,10 +45,10 @@ use Rattle.mm_laws.proofs.KindFacts.{are_same}
 use Rattle.mm_store.specs.Rows.{past_rowid, attribute_row}
 use Rattle.mm_store.proofs.Keys as parts
 use Rattle.mm_store.proofs.Parts.{retains}
+use Rattle.mm_store.proofs.Keys.{same_words, same_int}
 use Rattle.mm_walk.specs.Walk.{OnlyAsks}
 use Rattle.mm_walk.proofs.Quiet.{IsQuiet, only_asks}
 use Rattle.mm_reads.specs.RowLists.{is_from_id, rows_on, numbered, numbered_told, ShowsNumbered}
-use Rattle.mm_reads.proofs.Found.{same_words, same_int}
 use Rattle.mm_reads.proofs.InOrder.{Enters, entered, all_entered, entries_are}
 use Rattle.mm_reads.proofs.Listed.{in_order}
 

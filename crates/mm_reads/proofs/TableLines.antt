@@ -33,9 +33,8 @@ use Rattle.mm_store.specs.Rows.{past_rowid, contents_row}
 use Rattle.mm_store.specs.Kept.{tile_id, tile_with, medium_id, medium_with}
 use Rattle.mm_store.specs.Stands.{Holding}
 use Rattle.mm_store.proofs.Keys as parts
-use Rattle.mm_store.proofs.Keys.{by_text}
+use Rattle.mm_store.proofs.Keys.{by_text, same_words}
 use Rattle.mm_blobs.proofs.Naming.{told_there}
-use Rattle.mm_reads.proofs.Found.{same_words}
 use Rattle.mm_reads.proofs.InOrder.{Picks, picked, all_entered, entries_are}
 use Rattle.mm_reads.proofs.Listed as reads
 use Rattle.mm_reads.proofs.Listed.{joins, kind_at, flat_single, in_order, InOrder}

@@ -12,16 +12,12 @@ use Rattle.mm_definitions.specs.declared.commands.Command.TheVariants as command
 use Rattle.mm_definitions.proofs.Parts.{none_of, same_some, either_false}
 use Rattle.mm_laws.proofs.KindFacts.{differ}
 use Rattle.mm_laws.proofs.Reasons.{none_holds}
+use Rattle.mm_laws.proofs.Relations.{own_name}
+use Rattle.mm_layout.proofs.Registered.{absent}
 
 -- no relation has the name, nor has it an extension row
 abbrev pub IsNew : Text → Package → Type 0
 IsNew mapping p = (get p.relations mapping ≡ None) × (get p.extensions (mapping_extension mapping) ≡ None)
-
-absent : {K X : Type 0} {R : K → K → Ordering} (m : FinMap R X) (k : K) → ((x : X) → get m k ≡ Some x → ⊥) → get m k ≡ None
-absent m k none = elim (get m k) as (λ v. get m k ≡ v → v ≡ None) [ None ↦ λ e. refl | Some x ↦ λ e. absurd (none x e) ] refl
-
-own_name : IsName (codes "gpkgext_relations") → ⊥
-own_name n = let f : false ≡ true = n.own in cc
 
 module _ (profile : Profile) (p : Package) (meets : Meets profile p) (mapping base related : Text) (name : RelationName) (named : IsName mapping) (none : None ≡ least (own_reasons p (commands.Relation mapping base related name))) where
   free : contains_key p.relations mapping ≡ false

@@ -21,14 +21,11 @@ use Rattle.mm_walk.proofs.Keys.{number_is}
 use Rattle.mm_walk.proofs.Terms.{equals}
 use Rattle.mm_walk.proofs.Checks.{Says}
 
-number_inside : {x y : ℤ} → ◌≡◌ {A = Option ℤ} (Some x) (Some y) → x ≡ y
-number_inside e = cc
-
 -- five columns show a system exactly where it is that one
 system_is : (wanted s : System)
     → shows_by wanted (Words s.name) (Words s.organization) (Int s.organization_id) (Words s.definition) (Words s.description) ↔ (◌≡◌ {A = Option System} (Some s) (Some wanted))
 system_is wanted s = (
-  λ (a, b, c, d, e). ap Some (together (same_some a) (same_some b) (number_inside c) (same_some d) (same_some e)),
+  λ (a, b, c, d, e). ap Some (together (same_some a) (same_some b) (same_some c) (same_some d) (same_some e)),
   λ e. let it = same_some e in (
     ap (λ (x : System). Some x.name) it,
     ap (λ (x : System). Some x.organization) it,

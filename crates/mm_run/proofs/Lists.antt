@@ -15,6 +15,7 @@ use Rattle.mm_io.specs.Records.{Record}
 use Rattle.mm_run.specs.Readings.{Reading, IsReadAs, AreReadAs}
 use Rattle.mm_run.specs.Answers.{answer_of, answer_to, after, answers_to, calls_of, is_accepted, is_refused, accepted_of, refused_of}
 use Rattle.mm_laws.proofs.RunFacts.{run_accepted}
+use Rattle.mm_laws.proofs.FirstParts.{if_ok_append}
 
 -- ---- readings
 pub read_more : (rows : List Record) (readings : List Reading) (fields : Record) (reading : Reading) → AreReadAs rows readings → IsReadAs fields reading
@@ -127,14 +128,11 @@ text-more given a n e =
     ap concat whole ∙ concat-append (lines given) (line n a ∷ []) ∙ ap (λ l. concat (lines given) ++ l) (append-nil (line n a))
 
 -- ---- first parts
-if_ok-append : (r : Option Refusal) (c : Call) (xs ys : List Call) → if_ok r c (xs ++ ys) ≡ if_ok r c xs ++ ys
-if_ok-append None c xs ys = refl
-if_ok-append (Some why) c xs ys = refl
 
 pub accepted-append : (p : Package) (xs ys : List Call) → accepted p (xs ++ ys) ≡ accepted p xs ++ accepted (run p xs) ys
 accepted-append p [] ys = refl
 accepted-append p (x ∷ xs) ys =
-    ap (if_ok (refusal p x.command) x) (accepted-append (step p x.command x.moment) xs ys) ∙ if_ok-append (refusal p x.command) x _ _
+    ap (if_ok (refusal p x.command) x) (accepted-append (step p x.command x.moment) xs ys) ∙ if_ok_append (refusal p x.command) x _ _
 
 pub accepted-one : (p : Package) (c : Call) → refusal p c.command ≡ None → accepted p (c ∷ []) ≡ c ∷ []
 accepted-one p c e = ap (λ r. if_ok r c []) e

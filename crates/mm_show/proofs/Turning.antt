@@ -15,6 +15,7 @@ use Rattle.mm_definitions.specs.declared.answers.Fault.{Fault}
 use Rattle.mm_definitions.specs.declared.entries.Row.{Row as RowTold}
 use Rattle.mm_definitions.proofs.Parts.{same_some}
 use Rattle.mm_store.specs.Faults.{IsStoreFault}
+use Rattle.mm_store.proofs.Asking.{store_fault}
 use Rattle.mm_reads.specs.RowLists.{MostRows, first_rows, lists_rows, numbered, numbered_told, rows_on}
 use Rattle.mm_reads.specs.Shown.{shown_rows}
 use Rattle.mm_reads.specs.Viewers.{IsOn, IsViewFault, LeavesPackage, ShowsValue}
@@ -94,10 +95,6 @@ module _ (p : Package) (table : Text) (first : ℤ) (rows : Numbered) (read : ro
     turned next it lists (Err fault) value = begun_by old.contents mid.contents _ _ _ rows_begin printed
 
 -- ---- the fault of a read
-
-store_fault : (fault : Fault) → (fault.0 ≡ 90) ⊎ (fault.0 ≡ 91) → IsStoreFault fault
-store_fault fault (inl is) = inl (λ i. record { 0 = is i })
-store_fault fault (inr is) = inr (λ i. record { 0 = is i })
 
 -- a turn that met a fault
 pub turn_stops : {A : Type 0} (p : Package) (table : Text) (first : ℤ) (old new : Written) (r : Result (Option (Vec (ℤ × RowTold) A)) Fault) → IsErr r

@@ -2,7 +2,7 @@
 use Rattle.std.proofs.Common.{◌≡◌, inl, inr, ℤ, Bool, true, false, not, ◌&&◌, List, ◌∷◌, [], Some, ap, sym, subst, ◌∙◌, refl}
 use Rattle.std.specs.List.{list_any}
 use Rattle.std.specs.FinMap.{retain_keys}
-use Rattle.std.proofs.lemmas.Bool.{or_right}
+use Rattle.std.proofs.lemmas.Bool.{or_right, not-false}
 use Rattle.sqlite.specs.declared.types.Value.TheVariants.{Null, Int, Text as Words}
 use Rattle.sql_forms.specs.Collation.TheVariants.{Binary}
 use Rattle.sql_forms.specs.Order.{value_cmp}
@@ -33,10 +33,6 @@ use Rattle.mm_blobs.proofs.Keeping.{kept_in, at_id}
 use Rattle.mm_blobs.proofs.Naming.{holds_pieces}
 use Rattle.mm_staging.proofs.Rows.{of_other}
 
-not_false : (b : Bool) → not b ≡ false → b ≡ true
-not_false true is = refl
-not_false false is = cc
-
 present : (z : ℤ) → is_true (unary Not (binary (Is Binary) (Int z) Null)) ≡ true
 unfolding unary binary value_cmp
 present z = refl
@@ -45,7 +41,7 @@ present z = refl
 pub hits_piece : (edition : Text) (r : Row) (k : PieceKey) (i : StagedRow) (z : ℤ) → past_rowid r ≡ staged_row k i
     → is_other edition k.edition ≡ false → piece_id i ≡ Some z → passes (equals 1 0 ∷ op1 Not (is_absent 14) ∷ []) (Words edition ∷ []) r ≡ true
 hits_piece edition r k i z is gone named =
-    let first : equal Binary (column r 1) (Words edition) ≡ true = ap (λ v. equal Binary v (Words edition)) (columns_are r (staged_row k i) 0 is) ∙ equal_text k.edition edition ∙ not_false (same_text k.edition edition) gone in
+    let first : equal Binary (column r 1) (Words edition) ≡ true = ap (λ v. equal Binary v (Words edition)) (columns_are r (staged_row k i) 0 is) ∙ equal_text k.edition edition ∙ not-false (same_text k.edition edition) gone in
     let second : is_true (unary Not (binary (Is Binary) (column r 14) Null)) ≡ true = ap (λ v. is_true (unary Not (binary (Is Binary) v Null))) (columns_are r (staged_row k i) 13 is ∙ ap maybe named) ∙ present z in
     ap (λ b. b && (is_true (unary Not (binary (Is Binary) (column r 14) Null)) && true)) first ∙ ap (λ b. b && true) second
 

@@ -32,9 +32,10 @@ use Rattle.mm_definitions.specs.Parts.{Stands}
 use Rattle.mm_definitions.specs.Rules.{Meets, IsNumbered}
 use Rattle.mm_definitions.proofs.Parts.{some_of, same_itself}
 use Rattle.mm_definitions.proofs.KeyLaws.{texts}
-use Rattle.mm_laws.proofs.Counted.{piece_count-is}
+use Rattle.mm_laws.proofs.Counted.{piece_count-is, one_at_least}
 use Rattle.mm_laws.proofs.KindFacts.{are_same}
 use Rattle.mm_store.specs.Rows.{past_rowid, StagedRow, staged_row}
+use Rattle.mm_store.proofs.Keys.{same_int}
 use Rattle.mm_staging.specs.States.{GivesPieceNumber, IsLast}
 
 not_less : (a b : ℤ) → is_lt (int_cmp a b) ≡ false → b ≤ℤ a
@@ -44,9 +45,6 @@ not_less a b h = go (int_cmp a b) (int_ranks a b) h
     go Less m t = absurd (let f : true ≡ false = t in cc)
     go Equal m t = omega (arith, ints)
     go Greater m t = omega (arith, ints)
-
-same_int : {a b : ℤ} → Int a ≡ Int b → a ≡ b
-same_int e = cc
 
 abbrev pub last_terms : List Term
 last_terms = equals 1 0 ∷ []
@@ -98,9 +96,6 @@ module _ (rows : List Row) (ids : FinMap piece_cmp StagedRow) (m : PiecesPart) (
 
 -- ---- the last piece's number is that of the pieces
 
-low_one : (n : ℕ) → pos 1 ≤ℤ pos (suc n)
-low_one n = omega (arith, ints)
-
 itself : (n : ℕ) → pos n ≤ℤ pos n
 itself n = omega (arith, ints)
 
@@ -113,11 +108,11 @@ none_below last h i = omega (arith, ints)
 module _ (m : PiecesPart) (edition : Text) where
   counts : (n last : ℕ) → IsNumbered m edition n → IsLast m edition (Some last) → n ≡ last
   counts zero last numbered is = absurd (none_below last ((numbered (pos last)).0 is.0).0 ((numbered (pos last)).0 is.0).1)
-  counts (suc n) last numbered is = both_bounds last (suc n) ((numbered (pos last)).0 is.0).1 (is.1 (pos (suc n)) ((numbered (pos (suc n))).1 (low_one n, itself (suc n))))
+  counts (suc n) last numbered is = both_bounds last (suc n) ((numbered (pos last)).0 is.0).1 (is.1 (pos (suc n)) ((numbered (pos (suc n))).1 (one_at_least n, itself (suc n))))
 
   counts_none : (n : ℕ) → IsNumbered m edition n → IsLast m edition None → n ≡ 0
   counts_none zero numbered is = refl
-  counts_none (suc n) numbered is = absurd (is (pos (suc n)) ((numbered (pos (suc n))).1 (low_one n, itself (suc n))))
+  counts_none (suc n) numbered is = absurd (is (pos (suc n)) ((numbered (pos (suc n))).1 (one_at_least n, itself (suc n))))
 
 module _ (profile : Profile) (p : Package) (edition : Text) (meets : Meets profile p) (open_is : get p.editions edition ≡ Some open_state) where
   pub count_is : (last : ℕ) → IsLast p.pieces edition (Some last) → piece_count p edition ≡ last

@@ -9,6 +9,7 @@ use Rattle.mm_definitions.proofs.Parts.{not_none}
 use Rattle.mm_store.specs.Blobs.{Shelf, Told}
 use Rattle.mm_store.specs.Kept.{Spare, piece_id, piece_with}
 use Rattle.mm_store.specs.Rows.{maybe, StagedRow}
+use Rattle.mm_store.proofs.Keys.{maybe_is}
 use Rattle.mm_blobs.proofs.Keeping.{but_other}
 use Rattle.mm_staging.specs.Kept.{spare_named}
 
@@ -34,10 +35,3 @@ no_piece_named o i none some = absurd (not_none some none)
 pub untold : (shelf : Shelf) (o : Option StagedRow) (entry : Option PieceRow) → Told piece_id piece_with shelf o entry → entry ≡ None → o ≡ None
 untold shelf None entry told none = refl
 untold shelf (Some i) entry told none = absurd (not_none told.2 none)
-
--- a column shows one blob, or none
-pub one_blob : (a b : Option ℤ) → maybe a ≡ maybe b → a ≡ b
-one_blob None None e = refl
-one_blob None (Some z) e = absurd cc
-one_blob (Some z) None e = absurd cc
-one_blob (Some z) (Some w) e = let same : z ≡ w = cc in ap Some same

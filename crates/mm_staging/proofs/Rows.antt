@@ -24,7 +24,9 @@ use Rattle.mm_staging.specs.Kept.{Shows, IsPieceRow}
 use Rattle.sqlite.specs.Held.{state}
 use Rattle.sqlite.specs.Store.{Ghosts}
 use Rattle.sqlite.specs.declared.transaction.Transaction.{Transaction}
+use Rattle.sql_forms.proofs.Lists.{and_true}
 use Rattle.mm_definitions.specs.declared.answers.Fault.{Fault}
+use Rattle.mm_store.proofs.Single.{one_bytes}
 use Rattle.mm_blobs.specs.Handed as handed
 use Rattle.mm_blobs.specs.Views.{View, IsSeen}
 use Rattle.mm_blobs.proofs.Moving.{then_moves_open}
@@ -74,10 +76,6 @@ shown_with : (shown : Row) (r : PieceRow) (bytes : List ℕ) → Shows shown r �
 shown_with shown r bytes s =
     record { kind = s.kind; name = s.name; k1 = s.k1; k2 = s.k2; k3 = s.k3; k4 = s.k4; k5 = s.k5; k6 = s.k6; k7 = s.k7; t1 = s.t1; t2 = s.t2 }
 
-one_bytes : (shelf : Shelf) (id : Option ℤ) (a b : List ℕ) → StandsAt shelf id a → StandsAt shelf id b → a ≡ b
-one_bytes shelf None a b p q = p ∙ sym q
-one_bytes shelf (Some id) a b p q = same_some (sym p ∙ q)
-
 -- the entry of the package is the piece of the row, with the bytes of the blob that the row names
 pub row_tells : (shelf : Shelf) (o : Option StagedRow) (entry : Option PieceRow) (shown : Row) (a : PieceRow) → IsPieceRow o (Some shown)
     → Told piece_id piece_with shelf o entry → Shows shown a
@@ -113,10 +111,6 @@ module _ (rows : List Row) (ids : FinMap piece_cmp StagedRow) (h : Holds past_ro
   found_row x first gives found = subst (IsPieceRow (get ids k)) (sym gives) (by_row first found)
 
 -- whether a row is of another edition
-and_true : (b : Bool) → (b && true) ≡ b
-and_true true = refl
-and_true false = refl
-
 pub of_other : (edition : Text) (r : Row) (k : PieceKey) (v : StagedRow) → past_rowid r ≡ staged_row k v → not (by_text edition r) ≡ is_other edition k.edition
 of_other edition r k v is = ap not (and_true _ ∙ ap (λ x. equal Binary x (Words edition)) (columns_are r (staged_row k v) 0 is) ∙ equal_text k.edition edition)
 

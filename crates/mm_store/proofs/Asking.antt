@@ -1,5 +1,5 @@
 -- What a statement inside a transaction leaves of the ground, and queries whose answers are made of others'.
-use Rattle.std.proofs.Common.{◌≡◌, inl, inr, ℕ, List, Bool, Option, Ok, Err, is_some, ap, ◌∙◌, cond, true, false}
+use Rattle.std.proofs.Common.{◌≡◌, ◌⊎◌, inl, inr, ℕ, List, Bool, Option, Ok, Err, is_some, ap, ◌∙◌, cond, true, false}
 use Rattle.sqlite.specs.declared.error.Error.{Error}
 use Rattle.sqlite.specs.Order.{Row}
 use Rattle.sqlite.specs.State.{State, KeepsCommit}
@@ -11,6 +11,11 @@ use Rattle.mm_store.specs.Statements.{IsAsked}
 
 pub kept_on : (old new : State) → KeepsCommit old new → (ground : Ground) → StandsOn old ground → StandsOn new ground
 kept_on old new keeps ground on now = let it = on (keeps.was_open now) in (keeps.committed now ∙ it.0, it.1)
+
+-- a fault of one of the two numbers is one of the store
+pub store_fault : (fault : Fault) → (fault.0 ≡ memory.0) ⊎ (fault.0 ≡ store.0) → IsStoreFault fault
+store_fault fault (inl is) = inl (λ i. record { 0 = is i })
+store_fault fault (inr is) = inr (λ i. record { 0 = is i })
 
 pub told_fault : (e : Error) (fault : Fault) → fault ≡ told_as e → IsStoreFault fault
 told_fault e fault is = elim (wants_memory e) as (λ b. fault ≡ cond b memory store → IsStoreFault fault) [ true ↦ λ same. inl same | false ↦ λ same. inr same ] is

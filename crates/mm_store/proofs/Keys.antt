@@ -31,7 +31,14 @@ is_eq_then Less b = refl
 is_eq_then Equal b = refl
 is_eq_then Greater b = refl
 
-maybe_is : (a b : Option ℤ) → maybe a ≡ maybe b → a ≡ b
+-- a column shows one text, one number, or none
+pub same_words : {a b : Text} → Words a ≡ Words b → a ≡ b
+same_words e = cc
+
+pub same_int : {a b : ℤ} → Int a ≡ Int b → a ≡ b
+same_int e = cc
+
+pub maybe_is : (a b : Option ℤ) → maybe a ≡ maybe b → a ≡ b
 maybe_is None None e = refl
 maybe_is None (Some y) e = absurd cc
 maybe_is (Some x) None e = absurd cc

@@ -17,7 +17,7 @@ use Rattle.mm_store.proofs.Parts.{one_map}
 use Rattle.mm_store.proofs.Keys as parts
 
 -- an id stands for one list of bytes
-one_bytes : (shelf : Shelf) (id : Option ℤ) (a b : List ℕ) → StandsAt shelf id a → StandsAt shelf id b → a ≡ b
+pub one_bytes : (shelf : Shelf) (id : Option ℤ) (a b : List ℕ) → StandsAt shelf id a → StandsAt shelf id b → a ≡ b
 one_bytes shelf None a b p q = p ∙ sym q
 one_bytes shelf (Some id) a b p q = same_some (sym p ∙ q)
 

@@ -15,15 +15,11 @@ use Rattle.sql_forms.specs.BinaryOp.TheVariants.{Compare}
 use Rattle.sql_forms.specs.CompareOp.TheVariants.{Lt}
 use Rattle.sql_forms.specs.Rules.{equal}
 use Rattle.sql_forms.proofs.Keys.{equal_text, equal_int, as_truth}
+use Rattle.sql_forms.proofs.Rows.{equal_is}
 use Rattle.mm_definitions.specs.Keys.{Text, level, Level, Item, item}
 use Rattle.mm_definitions.proofs.Parts.{IsKeyOrder}
 use Rattle.mm_definitions.proofs.KeyLaws.{texts, numbers}
 use Rattle.mm_walk.specs.RowTests.{OnTrue}
-
-equal_is : (r : Ordering) → is_eq r ≡ true → r ≡ Equal
-equal_is Less e = absurd (let f : false ≡ true = e in cc)
-equal_is Equal e = refl
-equal_is Greater e = absurd (let f : false ≡ true = e in cc)
 
 pub tie : {K : Type 0} {R : K → K → Ordering} → IsKeyOrder R → (a b : K) → (is_eq (R a b) ≡ true) ↔ (a ≡ b)
 tie {K} {R} o a b = (λ e. o.exact a b (equal_is (R a b) e), λ e. ap is_eq (ap (λ x. R x b) e ∙ tied_itself o.total b))

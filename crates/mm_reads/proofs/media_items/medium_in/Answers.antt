@@ -4,11 +4,11 @@ use Rattle.std.proofs.lemmas.Result.{err_from_is_err_and}
 use Rattle.sqlite.specs.Held.{state}
 use Rattle.mm_store.specs.Blobs.{bytes_at}
 use Rattle.mm_store.specs.Rows.{MediumRow}
+use Rattle.mm_store.proofs.Keys.{same_words, same_int}
 use Rattle.mm_blobs.specs.Views.{IsSeen}
 use Rattle.mm_blobs.proofs.Moving.{move_made, move_failed}
 use Rattle.mm_blobs.proofs.Releasing.{commits_nothing}
 use Rattle.mm_reads.specs.Told.{ShowsMedium}
-use Rattle.mm_reads.proofs.Found.{same_words, same_int}
 use Rattle.mm_reads.proofs.media_items.medium_in.Goals as goal
 
 pub returns-in_err-blob : goal.returns-in_err-blob

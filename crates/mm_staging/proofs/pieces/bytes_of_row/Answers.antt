@@ -4,11 +4,11 @@ use Rattle.sqlite.specs.Held.{state}
 use Rattle.sqlite.specs.Order.{column}
 use Rattle.mm_store.specs.Blobs.{StandsAt}
 use Rattle.mm_store.specs.Rows.{maybe}
+use Rattle.mm_store.proofs.Keys.{maybe_is}
 use Rattle.mm_blobs.specs.Views.{IsSeen}
 use Rattle.mm_blobs.proofs.Moving.{moves_as, move_failed}
 use Rattle.mm_blobs.proofs.Releasing.{commits_nothing}
 use Rattle.mm_staging.specs.Kept.{bytes_or_none}
-use Rattle.mm_staging.proofs.Naming.{one_blob}
 use Rattle.mm_staging.proofs.pieces.bytes_of_row.Goals as goal
 
 pub returns-in_ok-bytes_of-in-Some : goal.returns-in_ok-bytes_of-in-Some
@@ -23,7 +23,7 @@ returns-in_ok-bytes_of-in-Some g c = record {
       let back : to_z w64 (of_z w64 blob) ≡ blob = search (rules, to_z-of_z) in
       let named : column row 11 ≡ maybe (Some blob) = c.in_ok-blob.ensures.shown ∙ ap maybe c.in-Some.is in
       moves_as {Less = λ base x it y. (y ≡ x) × IsSeen spare profile s1 base y × ((o : Option ℤ) → column row 11 ≡ maybe o → StandsAt y.kept.shelf o (bytes_or_none it))} s0 s1 bytes (Some bytes) ((rw back at c.in_ok-bytes_of-in-Some.ensures.found) profile spare) (λ base x it. it.1)
-      (λ base x y it last. (last.0, last.1, λ o is. subst (λ (q : Option ℤ). StandsAt y.kept.shelf q (bytes_or_none (Some bytes))) (one_blob (Some blob) o (sym named ∙ is)) last.2));
+      (λ base x y it last. (last.0, last.1, λ o is. subst (λ (q : Option ℤ). StandsAt y.kept.shelf q (bytes_or_none (Some bytes))) (maybe_is (Some blob) o (sym named ∙ is)) last.2));
 }
 
 pub returns-in_err-bytes_of-in-Some : goal.returns-in_err-bytes_of-in-Some
@@ -42,7 +42,7 @@ returns-in-None g c = record {
       record {
         survives = commits_nothing _;
         on = λ clean base x it. it.1.back;
-        moved = λ clean base x it. (it.0, x, (refl, it.1, λ o is. subst (λ (q : Option ℤ). StandsAt x.kept.shelf q []) (one_blob None o (sym named ∙ is)) refl));
+        moved = λ clean base x it. (it.0, x, (refl, it.1, λ o is. subst (λ (q : Option ℤ). StandsAt x.kept.shelf q []) (maybe_is None o (sym named ∙ is)) refl));
         faults = tt;
       };
 }

@@ -3,6 +3,7 @@ use Rattle.std.specs.Prelude.{◌≡◌, ◌⊎◌, ◌≤◌, ◌<◌, ◌+◌,
 use Rattle.std.specs.Io.KnownBytes.{Appends, Consumes}
 use Rattle.httparse.specs.Grammar.{RequestHead}
 use Rattle.httparse.specs.Spans.{name_and_value}
+use Rattle.mm_definitions.specs.Faults as faults
 use Rattle.mm_definitions.specs.Keys.{Text}
 use Rattle.mm_definitions.specs.Package.{Package}
 use Rattle.mm_definitions.specs.Streams.{Written}
@@ -86,8 +87,9 @@ module _ (page : Option Text) (Asked : Text → Demand → Text → Type 0) (Hea
   -- Why it was not answered whole: 90, 91, 92, or 96 where the reader has failed; or 97 where the writer has, behind a front of the response.
   abbrev pub IsCutAnswer : Bool → (Package → Type 0) → Option Text → Bool → Written → Written → Fault → Type 0
   IsCutAnswer failed on source reading old new fault =
-      ((IsPageFault failed fault ⊎ ((fault.0 ≡ 96) × (reading ≡ true))) × HasBegun source old new)
-      ⊎ ((fault.0 ≡ 97) × (new.failed ≡ true) × (begun : Text) × Appends old.contents new.contents begun × IsBegunAnswer on source begun)
+      ((IsPageFault failed fault ⊎ ((fault.0 ≡ faults.input.0) × (reading ≡ true))) × HasBegun source old new)
+      ⊎ ((fault.0 ≡ faults.output.0) × (new.failed ≡ true) × (begun : Text) × Appends old.contents new.contents begun
+      × IsBegunAnswer on source begun)
 
   module _ {D : Type 0} (view : viewers.Ghosts D) (apply : applies.Ghosts D) (moment : ℕ) (source : Option Text) (reading : Bool)
       (old new : D) (output output_now : Written) where
@@ -104,7 +106,7 @@ module _ (page : Option Text) (Asked : Text → Demand → Text → Type 0) (Hea
         × ((p : Package) → On p → IfSome source (λ input. ShowsResponse p input response))
     IsDeskAnswered (Ok dones.Ended) = Stays apply old new × IsSentWhole output output_now ended × IfSome source AsksToEnd
     IsDeskAnswered (Err e) = Stays apply old new × IsCutAnswer (view.has_failed old) On source reading output output_now e.0
-        × (e.0.0 ≡ 92 → IfSome source AsksToLook)
+        × (e.0.0 ≡ faults.reopen.0 → IfSome source AsksToLook)
 
 -- ---- a path behind the key
 
@@ -118,7 +120,7 @@ module _ (page : Option Text) (path : Text) {D : Type 0} (view : viewers.Ghosts 
   IsPathAnswered (Ok (dones.Ran run)) = ⊥
   IsPathAnswered (Ok dones.Shown) = Stays apply old new × (response : Text) × IsSentWhole output output_now response × IsShownTo response
   IsPathAnswered (Ok dones.Ended) = ⊥
-  IsPathAnswered (Err e) = Stays apply old new × (e.0.0 ≡ 92 → AsksPart path)
+  IsPathAnswered (Err e) = Stays apply old new × (e.0.0 ≡ faults.reopen.0 → AsksPart path)
       × ((IsPageFault (view.has_failed old) e.0 × (output_now ≡ output))
       ⊎ ((response : Text) × IsShownTo response × IsCut output output_now response e.0))
 
@@ -140,7 +142,7 @@ module _ (n : ℕ) (here : Text) {D : Type 0} (apply : applies.Ghosts D) (moment
   IsRecordsRun (Ok dones.Shown) = Stays apply old new × IsSentWhole output output_now (refusal_of 400) × IfSome source AreShort
   IsRecordsRun (Ok dones.Ended) = ⊥
   IsRecordsRun (Err e) = Stays apply old new
-      × ((((e.0.0 ≡ 90) ⊎ ((e.0.0 ≡ 96) × (reading ≡ true))) × (output_now ≡ output))
+      × ((((e.0.0 ≡ faults.memory.0) ⊎ ((e.0.0 ≡ faults.input.0) × (reading ≡ true))) × (output_now ≡ output))
       ⊎ (IsCut output output_now answers_head e.0 × IfSome source AreWhole)
       ⊎ (IsCut output output_now (refusal_of 400) e.0 × IfSome source AreShort))
 

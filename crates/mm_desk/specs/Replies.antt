@@ -3,7 +3,8 @@ use Rattle.std.specs.Prelude.{◌≡◌, ◌⊎◌, ℕ, ℤ, pos, true, false, 
 use Rattle.std.specs.FinMap.{get}
 use Rattle.std.specs.declared.alloc.Global.{Global}
 use Rattle.std.specs.declared.vec.Vec.{Vec}
-use Rattle.mm_definitions.specs.Bounds.{IsName}
+use Rattle.mm_definitions.specs.Bounds.{IsName, LastId}
+use Rattle.mm_definitions.specs.Faults.{reopen}
 use Rattle.mm_definitions.specs.Keys.{Text, item}
 use Rattle.mm_definitions.specs.Package.{Medium, Package}
 use Rattle.mm_definitions.specs.declared.answers.Fault.{Fault}
@@ -67,6 +68,6 @@ ShowsTo page path p bytes =
 pub record IsReply {V : Type 0} (view : viewers.Ghosts V) (old new : V) (result : Result (Vec ℕ Global) Fault) (told : Package → Text) : Type 0 where
   pub same : view.has_failed new ≡ view.has_failed old
   pub kept : LeavesPackage (view.store old) (view.store new)
-  pub ended : view.has_failed old ≡ true → result ≡ Err (record { 0 = 92 })
+  pub ended : view.has_failed old ≡ true → result ≡ Err reopen
   pub reply : ShowsPart (IsOn (view.has_failed old) (view.store old) (view.store new)) (λ v. v.items) told result
   pub fault : IfErr result (IsViewFault (view.has_failed old))

@@ -1,6 +1,7 @@
 -- What became of bytes that were sent.
 use Rattle.std.specs.Prelude.{◌≡◌, true, ◌++◌, Result, Ok, Err}
 use Rattle.std.specs.Io.KnownBytes.{Appends}
+use Rattle.mm_definitions.specs.Faults.{output}
 use Rattle.mm_definitions.specs.Keys.{Text}
 use Rattle.mm_definitions.specs.Streams.{Written}
 use Rattle.mm_definitions.specs.declared.answers.Fault.{Fault}
@@ -12,7 +13,7 @@ IsSentWhole old new bytes = Appends old.contents new.contents bytes × (new.fail
 
 -- a front of them was, and the output has failed
 abbrev pub IsCut : Written → Written → Text → Fault → Type 0
-IsCut old new bytes fault = (fault.0 ≡ 97) × (new.failed ≡ true) × (begun : Text) × (more : Text)
+IsCut old new bytes fault = (fault.0 ≡ output.0) × (new.failed ≡ true) × (begun : Text) × (more : Text)
     × (bytes ≡ begun ++ more) × Appends old.contents new.contents begun
 
 -- they were sent whole, or cut

@@ -3,6 +3,7 @@
 ghost use Rattle.std.specs.Prelude.{◌≡◌, ◌⊎◌, map, option_map, IfErr, OnOk};
 ghost use Rattle.httparse.specs.Grammar.{RequestHead};
 ghost use Rattle.httparse.specs.Spans.{IsRequestAt, IsRequestOf, IsRequestWithin, name_and_value};
+ghost use Rattle.mm_definitions.specs.Faults as faults;
 ghost use Rattle.mm_definitions.specs.Streams.{has_failed, inside, written};
 ghost use Rattle.mm_gate.specs.Bodies.{IsReadFrugally};
 ghost use Rattle.mm_gate.specs.Demand.{IsDemand, demanded};
@@ -193,7 +194,7 @@ pub fn desk_one<D: Desk, R: Read, W: Write>(
         desk.old desk.new (written W.contents writer.old) (written W.contents writer.new) result }
     ensures frugal { OnOk result (IsReadTo gate.entry
         (R.remaining (inside reader.old)) (R.remaining (inside reader.new))) }
-    ensures frugal_fault { IfErr result (λ e. (e.0.0 ≡ 96) ⊎ IsReadTo gate.entry
+    ensures frugal_fault { IfErr result (λ e. (e.0.0 ≡ faults.input.0) ⊎ IsReadTo gate.entry
         (R.remaining (inside reader.old)) (R.remaining (inside reader.new))) }
 {
     let mut buf = [0; 8192];

@@ -1,6 +1,7 @@
 //! What a desk works on.
 
 ghost use Rattle.std.specs.Prelude.{◌≡◌, Err, IfErr, map, option_map, true};
+ghost use Rattle.mm_definitions.specs.Faults.{reopen};
 ghost use Rattle.mm_reads.specs.RowLists.{numbered_told};
 ghost use Rattle.mm_reads.specs.Shown.{shown_rows};
 ghost use Rattle.mm_reads.specs.Viewers.{ShowsPart, IsOn, IsViewFault, LeavesPackage};
@@ -28,7 +29,7 @@ pub trait Desk: Viewer + Apply {
             (option_map (λ v. map numbered_told v.items)) (λ p. shown_rows p table.now first)
             result }
         ensures ended { Self.Viewer.has_failed self.old ≡ true
-            → result ≡ Err (record { 0 = 92 }) }
+            → result ≡ Err reopen }
         ensures fault { IfErr result (IsViewFault (Self.Viewer.has_failed self.old)) };
 
     // What leaves the package as it is leaves the session as it is.

@@ -1,6 +1,7 @@
 //! What a desk shows of a package to a path behind the key.
 
 ghost use Rattle.std.specs.Prelude.{◌≡◌, option_map, IfErr, IfOk};
+ghost use Rattle.mm_definitions.specs.Faults.{memory};
 ghost use Rattle.mm_page.specs.Asked.{Media};
 ghost use Rattle.mm_page.specs.Promised.{MakesResponse};
 ghost use Rattle.mm_page.specs.Responses.{NotFound, response_of};
@@ -97,7 +98,7 @@ fn desk_reply<D: Desk>(
 /// 404, where nothing is asked for.
 fn nothing_found(alloc: Global) -> Result<Vec<u8>, Fault>
     ensures bytes { IfOk result (λ v. v.items ≡ response_of NotFound) }
-    ensures memory { IfErr result (λ f. f.0 ≡ 90) }
+    ensures memory { IfErr result (λ f. f.0 ≡ memory.0) }
 {
     printed(not_found(alloc))
 }

@@ -21,7 +21,8 @@ use Rattle.mm_desk.specs.Responses.{boxed_of}
 
 -- the path asks for the rows of this table from this id on
 abbrev pub AsksRows : Text → Text → ℤ → Type 0
-AsksRows path table first = (id : Text) × (path ≡ path_from (codes "rows" ∷ table ∷ id ∷ [])) × IsName table × SpellsWithin (pos 1) (pos 9007199254740992) id first
+AsksRows path table first = (id : Text) × (path ≡ path_from (codes "rows" ∷ table ∷ id ∷ []))
+    × IsName table × SpellsWithin (pos 1) (pos LastId) id first
 
 -- the first rows of the table from this id on, as JSON; 404 where there is no attribute table of this name
 abbrev pub rows_reply_of : Package → Text → ℤ → Reply

@@ -21,9 +21,11 @@ use Rattle.mm_page.specs.Heads.{IsHead, IsNeeded, ReadsNoMore}
 use Rattle.mm_page.specs.Served.{IsPageFault}
 use Rattle.mm_reads.specs.declared.viewer.Viewer as viewers
 use Rattle.mm_run.specs.declared.apply.Apply as applies
-use Rattle.mm_desk.specs.Answered.{AreShort, AreWhole, Demands, AsksToEnd, HasBegun, IsDeskAnswered, IsBehindHead, IsBegunAnswer}
+use Rattle.mm_desk.specs.Answered.{AreShort, AreWhole, Demands, AsksToEnd, HasBegun, IsDeskAnswered, IsBehindHead}
+use Rattle.mm_desk.specs.Answered.{IsBegunAnswer}
 use Rattle.mm_desk.specs.Answered.{IsHeadless, IsPathAnswered, IsReadOn, IsReadTo, IsRecordsRun, IsResponse}
-use Rattle.mm_desk.specs.Answered.{IsCutAnswer, IsWithinRecords, AsksToLook, Never, On, SendsRecords, ShowsResponse, Waits}
+use Rattle.mm_desk.specs.Answered.{IsCutAnswer, IsWithinRecords, AsksToLook, Never, On, SendsRecords, ShowsResponse}
+use Rattle.mm_desk.specs.Answered.{Waits}
 use Rattle.mm_desk.specs.Bodies.{answers_head}
 use Rattle.mm_desk.specs.Exchanges.{IsExchange}
 use Rattle.mm_desk.specs.Replies.{AsksPart, ShowsTo}
@@ -53,9 +55,10 @@ lifted (Some input) (Some more) front F P Q consumed facts go p = go input more 
 
 -- ---- what is sent
 
-pub written_on : (old between new : Written) (first second : Text) → IsSentWhole old between first → IsSentWhole between new second → IsSentWhole old new
-    (first ++ second)
-written_on old between new first second one two = (Appends-trans old.contents between.contents new.contents first second one.0 two.0, two.1 ∙ one.1)
+pub written_on : (old between new : Written) (first second : Text) → IsSentWhole old between first
+    → IsSentWhole between new second → IsSentWhole old new (first ++ second)
+written_on old between new first second one two =
+    (Appends-trans old.contents between.contents new.contents first second one.0 two.0, two.1 ∙ one.1)
 
 -- ---- a session that is as it was
 
@@ -66,17 +69,22 @@ module _ (page : Option Text) (Asked : Text → Demand → Text → Type 0) (Hea
   pub begun_nothing : (source : Option Text) (old : Written) → HasBegun page Asked Headless source old old
   begun_nothing source old = (false, Appends-nil old.contents, λ e. absurd (let f : false ≡ true = e in cc))
 
-  module _ {D : Type 0} (view : viewers.Ghosts D) (apply : applies.Ghosts D) (moment : ℕ) (source : Option Text) (reading : Bool) where
+  module _ {D : Type 0} (view : viewers.Ghosts D) (apply : applies.Ghosts D) (moment : ℕ) (source : Option Text)
+      (reading : Bool) where
     -- a response of one kind was sent
-    pub shown_whole : (old new : D) (output output_now : Written) (response : Text) → Stays apply old new → IsSentWhole output output_now response
-        → ((p : Package) → On page Asked Headless view apply moment source reading old new output output_now p → IfSome source
+    pub shown_whole : (old new : D) (output output_now : Written) (response : Text) → Stays apply old new
+        → IsSentWhole output output_now response
+        → ((p : Package) → On page Asked Headless view apply moment source reading old new output output_now p
+        → IfSome source
         (λ input. ShowsResponse page Asked Headless p input response))
         → IsDeskAnswered page Asked Headless view apply moment source reading old new output output_now (Ok dones.Shown)
     shown_whole old new output output_now response stays written shows = (stays, response, written, shows)
 
     -- a front of it was
-    pub cut_short : (old new : D) (output output_now : Written) (response : Text) (e : PageFault) → Stays apply old new → IsCut output output_now response e.0
-        → ((p : Package) → On page Asked Headless view apply moment source reading old new output output_now p → IfSome source
+    pub cut_short : (old new : D) (output output_now : Written) (response : Text) (e : PageFault) → Stays apply old new
+        → IsCut output output_now response e.0
+        → ((p : Package) → On page Asked Headless view apply moment source reading old new output output_now p
+        → IfSome source
         (λ input. IsResponse page Asked Headless p input response))
         → IsDeskAnswered page Asked Headless view apply moment source reading old new output output_now (Err e)
     cut_short old new output output_now response e stays (is, failed, begun, more, whole, front) shows = (
@@ -94,62 +102,78 @@ module _ (page : Option Text) (Asked : Text → Demand → Text → Type 0) (Hea
 
     -- nothing was
     pub unanswered : (old new : D) (output : Written) (e : PageFault) → Stays apply old new
-        → (IsPageFault (view.has_failed old) e.0 ⊎ ((e.0.0 ≡ 96) × (reading ≡ true))) → (e.0.0 ≡ 92 → IfSome source (AsksToLook page Asked Headless))
+        → (IsPageFault (view.has_failed old) e.0 ⊎ ((e.0.0 ≡ 96) × (reading ≡ true)))
+        → (e.0.0 ≡ 92 → IfSome source (AsksToLook page Asked Headless))
         → IsDeskAnswered page Asked Headless view apply moment source reading old new output output (Err e)
     unanswered old new output e stays why looks = (stays, inl (why, begun_nothing source output), looks)
 
     -- what was done to the session
     pub exchanged : (old new : D) (output output_now : Written) (result : Result Done PageFault)
-        → IsDeskAnswered page Asked Headless view apply moment source reading old new output output_now result → IsExchange apply moment old new output_now result
-    exchanged old new output output_now (Ok (dones.Ran run)) (body, waits, between, sends, written, runs) = (body, between, runs)
+        → IsDeskAnswered page Asked Headless view apply moment source reading old new output output_now result
+        → IsExchange apply moment old new output_now result
+    exchanged old new output output_now (Ok (dones.Ran run)) (body, waits, between, sends, written, runs) =
+        (body, between, runs)
     exchanged old new output output_now (Ok dones.Shown) it = it.0
     exchanged old new output output_now (Ok dones.Ended) it = it.0
     exchanged old new output output_now (Err e) it = it.0
 
 -- ---- behind a head: what its demand is answered
 
-module _ (page : Option Text) (d : Demand) (here : Text) {D : Type 0} (view : viewers.Ghosts D) (apply : applies.Ghosts D) (moment : ℕ)
-    (source : Option Text) (reading : Bool)
+module _ (page : Option Text) (d : Demand) (here : Text) {D : Type 0} (view : viewers.Ghosts D)
+    (apply : applies.Ghosts D) (moment : ℕ) (source : Option Text) (reading : Bool)
     (desk : D) (output output_now : Written) where
   pub refused_whole : (status : ℕ) → d ≡ Refuse status → IsSentWhole output output_now (refusal_of status)
-      → IsDeskAnswered page (IsBehindHead d here) Never view apply moment source reading desk desk output output_now (Ok dones.Shown)
+      → IsDeskAnswered page (IsBehindHead d here) Never view apply moment source reading desk desk output output_now
+      (Ok dones.Shown)
   refused_whole status is written =
-      shown_whole page (IsBehindHead d here) Never view apply moment source reading desk desk output output_now (refusal_of status) (stays_same apply desk) written
+      shown_whole page (IsBehindHead d here) Never view apply moment source reading desk desk output output_now
+      (refusal_of status) (stays_same apply desk) written
       (λ p on. some_all source _ (λ more. inl (Refuse status, here ++ more, (sym is, refl), refl)))
 
   pub refused_cut : (status : ℕ) (e : PageFault) → d ≡ Refuse status → IsCut output output_now (refusal_of status) e.0
-      → IsDeskAnswered page (IsBehindHead d here) Never view apply moment source reading desk desk output output_now (Err e)
+      → IsDeskAnswered page (IsBehindHead d here) Never view apply moment source reading desk desk output output_now
+      (Err e)
   refused_cut status e is cut =
-      cut_short page (IsBehindHead d here) Never view apply moment source reading desk desk output output_now (refusal_of status) e (stays_same apply desk) cut
+      cut_short page (IsBehindHead d here) Never view apply moment source reading desk desk output output_now
+      (refusal_of status) e (stays_same apply desk) cut
       (λ p on. some_all source _ (λ more. inl (inl (Refuse status, here ++ more, (sym is, refl), refl))))
 
   pub ended_whole : d ≡ End → IsSentWhole output output_now ended
-      → IsDeskAnswered page (IsBehindHead d here) Never view apply moment source reading desk desk output output_now (Ok dones.Ended)
+      → IsDeskAnswered page (IsBehindHead d here) Never view apply moment source reading desk desk output output_now
+      (Ok dones.Ended)
   ended_whole is written = (stays_same apply desk, written, some_all source _ (λ more. (here ++ more, (sym is, refl))))
 
   pub ended_cut : (e : PageFault) → d ≡ End → IsCut output output_now ended e.0
-      → IsDeskAnswered page (IsBehindHead d here) Never view apply moment source reading desk desk output output_now (Err e)
+      → IsDeskAnswered page (IsBehindHead d here) Never view apply moment source reading desk desk output output_now
+      (Err e)
   ended_cut e is cut =
-      cut_short page (IsBehindHead d here) Never view apply moment source reading desk desk output output_now ended e (stays_same apply desk) cut
+      cut_short page (IsBehindHead d here) Never view apply moment source reading desk desk output output_now ended e
+      (stays_same apply desk) cut
       (λ p on. some_all source _ (λ more. inr (inl ((here ++ more, (sym is, refl)), refl))))
 
 -- a part of the package
-module _ (page : Option Text) (path here : Text) {D : Type 0} (view : viewers.Ghosts D) (apply : applies.Ghosts D) (moment : ℕ) (source : Option Text)
-    (reading : Bool)
+module _ (page : Option Text) (path here : Text) {D : Type 0} (view : viewers.Ghosts D) (apply : applies.Ghosts D)
+    (moment : ℕ) (source : Option Text) (reading : Bool)
     (old new : D) (output output_now : Written) where
-  pub path_answered : (result : Result Done PageFault) → IsPathAnswered page path view apply old new output output_now result
-      → IsDeskAnswered page (IsBehindHead (Show path) here) Never view apply moment source reading old new output output_now result
+  pub path_answered : (result : Result Done PageFault)
+      → IsPathAnswered page path view apply old new output output_now result
+      → IsDeskAnswered page (IsBehindHead (Show path) here) Never view apply moment source reading old new output
+      output_now result
   path_answered (Ok (dones.Ran run)) it = absurd it
   path_answered (Ok dones.Ended) it = absurd it
   path_answered (Ok dones.Shown) (stays, response, written, shown) =
-      shown_whole page (IsBehindHead (Show path) here) Never view apply moment source reading old new output output_now response stays written
+      shown_whole page (IsBehindHead (Show path) here) Never view apply moment source reading old new output output_now
+      response stays written
       (λ p on. some_all source _ (λ more. inl (Show path, here ++ more, (refl, refl), shown p on)))
   path_answered (Err e) (stays, asks, inl (fault, same)) =
-      subst (λ now. IsDeskAnswered page (IsBehindHead (Show path) here) Never view apply moment source reading old new output now (Err e)) (sym same)
-      (unanswered page (IsBehindHead (Show path) here) Never view apply moment source reading old new output e stays (inl fault)
+      subst (λ now. IsDeskAnswered page (IsBehindHead (Show path) here) Never view apply moment source reading old new
+      output now (Err e)) (sym same)
+      (unanswered page (IsBehindHead (Show path) here) Never view apply moment source reading old new output e stays
+      (inl fault)
       (λ is. some_all source _ (λ more. (path, here ++ more, (refl, refl), asks is))))
   path_answered (Err e) (stays, asks, inr (response, shown, cut)) =
-      cut_short page (IsBehindHead (Show path) here) Never view apply moment source reading old new output output_now response e stays cut
+      cut_short page (IsBehindHead (Show path) here) Never view apply moment source reading old new output output_now
+      response e stays cut
       (λ p on. some_all source _ (λ more. inl (inl (Show path, here ++ more, (refl, refl), shown p on))))
 
 -- ---- records
@@ -160,11 +184,13 @@ came n here more = elim (leb_tells n (length (here ++ more))) [
   | inr (is, less) ↦ inr less
 ]
 
-module _ (page : Option Text) (n : ℕ) (waits : Bool) (here : Text) {D : Type 0} (view : viewers.Ghosts D) (apply : applies.Ghosts D) (moment : ℕ)
-    (source : Option Text)
+module _ (page : Option Text) (n : ℕ) (waits : Bool) (here : Text) {D : Type 0} (view : viewers.Ghosts D)
+    (apply : applies.Ghosts D) (moment : ℕ) (source : Option Text)
     (reading : Bool) (old new : D) (output : Written) where
   abbrev Answered : Written → Result Done PageFault → Type 0
-  Answered now result = IsDeskAnswered page (IsBehindHead (Records n waits) here) Never view apply moment source reading old new output now result
+  Answered now result =
+      IsDeskAnswered page (IsBehindHead (Records n waits) here) Never view apply moment source reading old new output
+      now result
 
   abbrev Response : Package → Text → Text → Type 0
   Response = IsResponse page (IsBehindHead (Records n waits) here) Never
@@ -176,7 +202,8 @@ module _ (page : Option Text) (n : ℕ) (waits : Bool) (here : Text) {D : Type 0
   short p more less = inl (inl (Records n waits, here ++ more, (refl, refl), (less, refl)))
 
   -- of what the sender is told behind that it may go on
-  cut_on : (between now : Written) (rest : Text) (fault : Fault) → IsSentWhole output between (go_on waits) → IsCut between now rest fault
+  cut_on : (between now : Written) (rest : Text) (fault : Fault) → IsSentWhole output between (go_on waits)
+      → IsCut between now rest fault
       → IsCut output now (go_on waits ++ rest) fault
   cut_on between now rest fault on (is, failed, begun, more, whole, front) = (
     is,
@@ -187,7 +214,8 @@ module _ (page : Option Text) (n : ℕ) (waits : Bool) (here : Text) {D : Type 0
     Appends-trans output.contents between.contents now.contents (go_on waits) begun on.0 front,
   )
 
-  pub records_answered : (between now : Written) (result : Result Done PageFault) → IsSentWhole output between (go_on waits)
+  pub records_answered : (between now : Written) (result : Result Done PageFault)
+      → IsSentWhole output between (go_on waits)
       → IsRecordsRun n here apply moment source reading old new between now result → Answered now result
   records_answered between now (Ok (dones.Ran run)) on (body, head, whole, written, runs) = (
     body,
@@ -223,14 +251,17 @@ module _ (page : Option Text) (n : ℕ) (waits : Bool) (here : Text) {D : Type 0
     ]),
   )
   records_answered between now (Err e) on (stays, inr (inl (cut, whole))) =
-      cut_short page (IsBehindHead (Records n waits) here) Never view apply moment source reading old new output now (go_on waits ++ answers_head) e stays
+      cut_short page (IsBehindHead (Records n waits) here) Never view apply moment source reading old new output now
+      (go_on waits ++ answers_head) e stays
       (cut_on between now answers_head e.0 on cut) (λ p is. some_weaker source _ _ (ran p) whole)
   records_answered between now (Err e) on (stays, inr (inr (cut, less))) =
-      cut_short page (IsBehindHead (Records n waits) here) Never view apply moment source reading old new output now (go_on waits ++ refusal_of 400) e stays
+      cut_short page (IsBehindHead (Records n waits) here) Never view apply moment source reading old new output now
+      (go_on waits ++ refusal_of 400) e stays
       (cut_on between now (refusal_of 400) e.0 on cut) (λ p is. some_weaker source _ _ (short p) less)
 
   -- it could not be told to go on
-  pub waits_cut : (now : Written) (e : PageFault) → Stays apply old new → IsCut output now (go_on waits) e.0 → Answered now (Err e)
+  pub waits_cut : (now : Written) (e : PageFault) → Stays apply old new → IsCut output now (go_on waits) e.0
+      → Answered now (Err e)
   waits_cut now e stays (is, failed, begun, more, whole, front) = (
     stays,
     inr (
@@ -254,9 +285,11 @@ module _ (page : Option Text) (n : ℕ) (waits : Bool) (here : Text) {D : Type 0
 pub reads_nothing : (d : Demand) (here : Text) (now : Option Text) → IsReadOn d here now now
 reads_nothing d here now = ([], Consumes-nil now, inl refl)
 
-pub reads_on : (n : ℕ) (waits : Bool) (here : Text) (old now : Option Text) → IsReadFrugally here n old now → IsReadOn (Records n waits) here old now
+pub reads_on : (n : ℕ) (waits : Bool) (here : Text) (old now : Option Text) → IsReadFrugally here n old now
+    → IsReadOn (Records n waits) here old now
 reads_on n waits here old now ([], consumed, less) = ([], consumed, inl refl)
-reads_on n waits here old now (b ∷ more, consumed, less) = (b ∷ more, consumed, inr (n, waits, refl, omega (arith, less, length-take n here)))
+reads_on n waits here old now (b ∷ more, consumed, less) =
+    (b ∷ more, consumed, inr (n, waits, refl, omega (arith, less, length-take n here)))
 
 -- ---- from the bytes behind a head to the whole input
 
@@ -266,60 +299,77 @@ Lifts gate d here front input = (more : Text) → input ≡ front ++ more → De
 
 -- so of a head that was read
 pub head_lifts : (gate : Gate) (d : Demand) (front : Text) (headers : List HeaderSpan) (spans : RequestSpans)
-    → ((h : RequestHead) → IsRequestAt front headers spans h → IsDemand gate.port gate.front.now h.method h.target (map name_and_value h.fields) h.minor d)
-    → (input : Text) (h : RequestHead) → IsHead 8192 64 input h → IsRequestAt front headers spans h → Lifts gate d (drop spans.len front) front input
+    → ((h : RequestHead) → IsRequestAt front headers spans h
+    → IsDemand gate.port gate.front.now h.method h.target (map name_and_value h.fields) h.minor d)
+    → (input : Text) (h : RequestHead) → IsHead 8192 64 input h → IsRequestAt front headers spans h
+    → Lifts gate d (drop spans.len front) front input
 head_lifts gate d front headers spans demand input h head at more is = (
   h,
   head,
   demand h at,
   append_cancel_left (print_request h) (drop spans.len front ++ more) head.rest
-      (sym (append_assoc (print_request h) (drop spans.len front) more) ∙ ap (λ l. l ++ more) (sym at.reads.1) ∙ sym is ∙ head.reads.1),
+      (sym (append_assoc (print_request h) (drop spans.len front) more) ∙ ap (λ l. l ++ more) (sym at.reads.1) ∙ sym is
+      ∙ head.reads.1),
 )
 
 -- what was read with no head
 pub reads_head : (gate : Gate) (old now : Option Text) → ReadsNoMore 8192 old now → IsReadTo gate old now
-reads_head gate old now (front, consumed, needed) = (front, [], subst (λ l. Consumes old now l) (sym (append-nil front)) consumed, needed, inl refl)
+reads_head gate old now (front, consumed, needed) =
+    (front, [], subst (λ l. Consumes old now l) (sym (append-nil front)) consumed, needed, inl refl)
 
 module _ (gate : Gate) (d : Demand) (here front : Text) (old mid : Option Text) (consumed : Consumes old mid front)
     (lifts : IfSome old (Lifts gate d here front)) where
-  asked_up : (input more : Text) → input ≡ front ++ more → Lifts gate d here front input → (e : Demand) (rest : Text) → IsBehindHead d here more e rest
+  asked_up : (input more : Text) → input ≡ front ++ more → Lifts gate d here front input → (e : Demand) (rest : Text)
+      → IsBehindHead d here more e rest
       → Demands gate input e rest
   asked_up input more is lift e rest (same, behind) =
-      subst (λ r. Demands gate input e r) (sym behind) (subst (λ x. Demands gate input x (here ++ more)) (sym same) (lift more is))
+      subst (λ r. Demands gate input e r) (sym behind)
+      (subst (λ x. Demands gate input x (here ++ more)) (sym same) (lift more is))
 
-  module _ (page : Option Text) {D : Type 0} (view : viewers.Ghosts D) (apply : applies.Ghosts D) (moment : ℕ) (reading : Bool) (before after : D)
-      (output output_now : Written) where
-    shows_up : (p : Package) (response input more : Text) → input ≡ front ++ more → Lifts gate d here front input → ShowsResponse page
-        (IsBehindHead d here) Never p more response
+  module _ (page : Option Text) {D : Type 0} (view : viewers.Ghosts D) (apply : applies.Ghosts D) (moment : ℕ)
+      (reading : Bool) (before after : D) (output output_now : Written) where
+    shows_up : (p : Package) (response input more : Text) → input ≡ front ++ more → Lifts gate d here front input
+        → ShowsResponse page (IsBehindHead d here) Never p more response
         → ShowsResponse page (Demands gate) IsHeadless p input response
-    shows_up p response input more is lift (inl (e, rest, asked, shown)) = inl (e, rest, asked_up input more is lift e rest asked, shown)
+    shows_up p response input more is lift (inl (e, rest, asked, shown)) =
+        inl (e, rest, asked_up input more is lift e rest asked, shown)
     shows_up p response input more is lift (inr (never, bytes)) = absurd never
 
-    responds_up : (p : Package) (bytes input more : Text) → input ≡ front ++ more → Lifts gate d here front input → IsResponse page
-        (IsBehindHead d here) Never p more bytes
+    responds_up : (p : Package) (bytes input more : Text) → input ≡ front ++ more → Lifts gate d here front input
+        → IsResponse page (IsBehindHead d here) Never p more bytes
         → IsResponse page (Demands gate) IsHeadless p input bytes
     responds_up p bytes input more is lift (inl shows) = inl (shows_up p bytes input more is lift shows)
-    responds_up p bytes input more is lift (inr (inl ((rest, asked), same))) = inr (inl ((rest, asked_up input more is lift End rest asked), same))
+    responds_up p bytes input more is lift (inr (inl ((rest, asked), same))) =
+        inr (inl ((rest, asked_up input more is lift End rest asked), same))
     responds_up p bytes input more is lift (inr (inr (body, waits, (n, rest, asked, fits, cut), same))) =
         inr (inr (body, waits, (n, rest, asked_up input more is lift (Records n waits) rest asked, fits, cut), same))
 
-    begun_up : HasBegun page (IsBehindHead d here) Never mid output output_now → HasBegun page (Demands gate) IsHeadless old output output_now
+    begun_up : HasBegun page (IsBehindHead d here) Never mid output output_now
+        → HasBegun page (Demands gate) IsHeadless old output output_now
     begun_up (waits, text, told) = (
       waits,
       text,
       λ is. lifted old mid front _ _ _ consumed lifts
-          (λ input more same lift it. (it.0, it.1, asked_up input more same lift (Records it.0 true) it.1 it.2)) (told is),
+          (λ input more same lift it. (it.0, it.1, asked_up input more same lift (Records it.0 true) it.1 it.2))
+          (told is),
     )
 
     pub answered_up : (result : Result Done PageFault) → IsDeskAnswered page
         (IsBehindHead d here) Never view apply moment mid reading before after output output_now result
-        → IsDeskAnswered page (Demands gate) IsHeadless view apply moment old reading before after output output_now result
+        → IsDeskAnswered page (Demands gate) IsHeadless view apply moment old reading before after output output_now
+        result
     answered_up (Ok (dones.Ran run)) (body, waits, between, sends, written, runs) = (
       body,
       waits,
       between,
       lifted old mid front _ _ _ consumed lifts
-          (λ input more is lift it. (it.0, it.1, asked_up input more is lift (Records it.0 waits) it.1 it.2, it.3, it.4)) sends,
+          (λ input more is lift it. (
+            it.0,
+            it.1,
+            asked_up input more is lift (Records it.0 waits) it.1 it.2,
+            it.3,
+            it.4,
+          )) sends,
       written,
       runs,
     )
@@ -332,19 +382,23 @@ module _ (gate : Gate) (d : Demand) (here front : Text) (old mid : Option Text) 
     answered_up (Ok dones.Ended) (stays, written, ends) = (
       stays,
       written,
-      lifted old mid front _ _ _ consumed lifts (λ input more is lift it. (it.0, asked_up input more is lift End it.0 it.1)) ends,
+      lifted old mid front _ _ _ consumed lifts
+          (λ input more is lift it. (it.0, asked_up input more is lift End it.0 it.1)) ends,
     )
     answered_up (Err e) (stays, stopped, looks) = (
       stays,
       stops_up stopped,
       λ is. lifted old mid front _ _ _ consumed lifts
-          (λ input more same lift it. (it.0, it.1, asked_up input more same lift (Show it.0) it.1 it.2, it.3)) (looks is),
+          (λ input more same lift it. (it.0, it.1, asked_up input more same lift (Show it.0) it.1 it.2, it.3))
+          (looks is),
     )
       where
         stops_up : IsCutAnswer page (IsBehindHead d here) Never (view.has_failed before)
-            (On page (IsBehindHead d here) Never view apply moment mid reading before after output output_now) mid reading output output_now e.0
+            (On page (IsBehindHead d here) Never view apply moment mid reading before after output output_now) mid
+            reading output output_now e.0
             → IsCutAnswer page (Demands gate) IsHeadless (view.has_failed before)
-            (On page (Demands gate) IsHeadless view apply moment old reading before after output output_now) old reading output output_now e.0
+            (On page (Demands gate) IsHeadless view apply moment old reading before after output output_now) old reading
+            output output_now e.0
         stops_up (inl (why, begun)) = inl (why, begun_up begun)
         stops_up (inr (is, failed, begun, text, front_of)) = inr (
           is,
@@ -352,12 +406,14 @@ module _ (gate : Gate) (d : Demand) (here front : Text) (old mid : Option Text) 
           begun,
           text,
           λ p on. lifted old mid front _ _ _ consumed lifts
-              (λ input more same lift it. (it.0, responds_up p (begun ++ it.0) input more same lift it.1)) (front_of p on),
+              (λ input more same lift it. (it.0, responds_up p (begun ++ it.0) input more same lift it.1))
+              (front_of p on),
         )
 
   -- how much was read of the whole input
   pub reads_to : (now : Option Text) → IsNeeded 8192 front → IsReadOn d here mid now → IsReadTo gate old now
-  reads_to now needed (more, rest, inl none) = (front, more, Consumes-trans old mid now front more consumed rest, needed, inl none)
+  reads_to now needed (more, rest, inl none) =
+      (front, more, Consumes-trans old mid now front more consumed rest, needed, inl none)
   reads_to now needed (more, rest, inr (n, waits, is, less)) = (
     front,
     more,

@@ -1,5 +1,6 @@
 -- A package that was adopted and then shown, to the end of the text or to a fault.
-use Rattle.std.proofs.Common.{◌≡◌, ◌∙◌, ℕ, ℤ, false, true, List, [], ◌∷◌, Option, Some, None, Result, Ok, Err, refl, sym, ap, subst, arith}
+use Rattle.std.proofs.Common.{◌≡◌, ◌∙◌, ℕ, ℤ, false, true, List, [], ◌∷◌, Option, Some, None, Result, Ok, Err, refl}
+use Rattle.std.proofs.Common.{sym, ap, subst, arith}
 use Rattle.std.specs.Prelude.{IsErr}
 use Rattle.std.specs.Io.KnownBytes.{Appends}
 use Rattle.sqlite.specs.State.{State, HasCleanDisk}
@@ -21,38 +22,48 @@ use Rattle.mm_work.specs.Shown.{IsShowing, IsShowingCut, TellsReason, TellsRows,
 
 -- ---- what is printed
 
-pub told_records : (p : Package) (table : Text) (id : Option ℤ) (old new : Written) → ShowsRecords p table id old new (Ok None) → TellsRows p table id old new (Ok 0)
+pub told_records : (p : Package) (table : Text) (id : Option ℤ) (old new : Written)
+    → ShowsRecords p table id old new (Ok None) → TellsRows p table id old new (Ok 0)
 told_records p table id old new (none, printed) = (
-  subst (λ (o : Option ℕ). Appends old.contents new.contents (text_by o (row_records table (rows_shown p table id)))) (sym none) printed,
+  subst (λ (o : Option ℕ). Appends old.contents new.contents (text_by o (row_records table (rows_shown p table id))))
+      (sym none) printed,
   ap status_by (sym none),
 )
 
-pub told_reason : (p : Package) (table : Text) (id : Option ℤ) (old mid new : Written) (number : ℕ) (r : Result ℕ Fault) → ShowsRecords p table id old mid
-    (Ok (Some number))
+pub told_reason : (p : Package) (table : Text) (id : Option ℤ) (old mid new : Written) (number : ℕ) (r : Result ℕ Fault)
+    → ShowsRecords p table id old mid (Ok (Some number))
     → TellsReason mid new number r → TellsRows p table id old new r
 told_reason p table id old mid new number (Ok status) (why, same) (printed, is) = (
-  subst (λ (o : Option ℕ). Appends old.contents new.contents (text_by o (row_records table (rows_shown p table id)))) (sym why)
-      (subst (λ (w : Written). Appends w.contents new.contents (text_by (Some number) (row_records table (rows_shown p table id)))) same printed.0),
+  subst (λ (o : Option ℕ). Appends old.contents new.contents (text_by o (row_records table (rows_shown p table id))))
+      (sym why)
+      (subst (λ (w : Written). Appends w.contents new.contents
+      (text_by (Some number) (row_records table (rows_shown p table id)))) same printed.0),
   is ∙ ap status_by (sym why),
 )
 told_reason p table id old mid new number (Err fault) (why, same) printed =
-    subst (λ (o : Option ℕ). IsBegun old.contents new.contents (text_by o (row_records table (rows_shown p table id)))) (sym why)
-    (subst (λ (w : Written). IsBegun w.contents new.contents (text_by (Some number) (row_records table (rows_shown p table id)))) same printed.0)
+    subst (λ (o : Option ℕ). IsBegun old.contents new.contents (text_by o (row_records table (rows_shown p table id))))
+    (sym why)
+    (subst (λ (w : Written). IsBegun w.contents new.contents
+    (text_by (Some number) (row_records table (rows_shown p table id)))) same printed.0)
 
-begun_by : (o : Option ℕ) (records : Text) (old new : Option (List ℕ)) → IsBegun old new (records_by o records) → IsBegun old new (text_by o records)
+begun_by : (o : Option ℕ) (records : Text) (old new : Option (List ℕ)) → IsBegun old new (records_by o records)
+    → IsBegun old new (text_by o records)
 begun_by None records old new begun = begun
 begun_by (Some number) records old new ([], rest, is, appends) = ([], text_by (Some number) records, refl, appends)
 begun_by (Some number) records old new (b ∷ front, rest, is, appends) = absurd cc
 
-pub told_begun : (p : Package) (table : Text) (id : Option ℤ) (old new : Written) (fault : Fault) (r : Result ℕ Fault) → IsErr r
+pub told_begun : (p : Package) (table : Text) (id : Option ℤ) (old new : Written) (fault : Fault) (r : Result ℕ Fault)
+    → IsErr r
     → ShowsRecords p table id old new (Err fault)
     → TellsRows p table id old new r
 told_begun p table id old new fault (Ok status) stops begun = absurd (let f : false ≡ true = stops in cc)
-told_begun p table id old new fault (Err other) stops begun = begun_by (show_refusal p table id) _ old.contents new.contents begun
+told_begun p table id old new fault (Err other) stops begun =
+    begun_by (show_refusal p table id) _ old.contents new.contents begun
 
 -- ---- the connection
 
-module _ (table : Text) (id : Option ℤ) (old mid new : State) (adopted : IsAdopted old mid) (kept : LeavesPackage mid new) where
+module _ (table : Text) (id : Option ℤ) (old mid new : State) (adopted : IsAdopted old mid)
+    (kept : LeavesPackage mid new) where
   early : HasCleanDisk new → HasCleanDisk mid
   early clean = omega (arith, clean, kept.survives.clean)
 
@@ -60,10 +71,14 @@ module _ (table : Text) (id : Option ℤ) (old mid new : State) (adopted : IsAdo
   Tells before after r = (p : Package) → IsOn false mid new p → TellsRows p table id before after r
 
   on : (clean : HasCleanDisk new) (p : Package) → IsSettled current old p → IsOn false mid new p
-  on clean p settled works =
-      (clean, adopted.meets (early clean) p (seen_of current _ p settled), seen_of current mid p (adopted.settled (early clean) p settled))
+  on clean p settled works = (
+    clean,
+    adopted.meets (early clean) p (seen_of current _ p settled),
+    seen_of current mid p (adopted.settled (early clean) p settled),
+  )
 
-  pub shows : (held holds : Written) (status : ℕ) → Tells held holds (Ok status) → IsShowing table id old new held.contents holds.contents status
+  pub shows : (held holds : Written) (status : ℕ) → Tells held holds (Ok status)
+      → IsShowing table id old new held.contents holds.contents status
   shows held holds status told = record {
     survives = quiet_then old mid new adopted.survives kept.survives;
     adopted = was_adopted old mid new adopted early;
@@ -73,7 +88,8 @@ module _ (table : Text) (id : Option ℤ) (old mid new : State) (adopted : IsAdo
     told = λ clean p s. (told p (on clean p s)).1;
   }
 
-  pub cuts : (held holds : Written) (fault : Fault) → Tells held holds (Err fault) → ListingTellsWriter held.failed holds.failed (Err fault)
+  pub cuts : (held holds : Written) (fault : Fault) → Tells held holds (Err fault)
+      → ListingTellsWriter held.failed holds.failed (Err fault)
       → IsShowingCut table id old new held holds fault
   cuts held holds fault told writer = record {
     survives = quiet_then old mid new adopted.survives kept.survives;

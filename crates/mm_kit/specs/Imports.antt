@@ -123,10 +123,6 @@ TellsFolder before failed result = failed ≡ (before || is_folders result)
 
 -- ---- what is promised of every folder, one that tells nothing too
 
--- of a session that is settled for a package of the rules, where the store was clean
-abbrev pub OnAnyFolder : Type 0 → (Package → Type 0) → (Package → Type 0) → Type 0
-OnAnyFolder clean settled P = clean → (p : Package) → IsSound settled p → P p
-
 -- the edition has no fewer pieces than it had: these come first
 abbrev pub KeepsPieces : Text → Package → Package → Type 0
 KeepsPieces name p q = (old : List Piece) → HasPieces p name old → (new : List Piece) × HasPieces q name new × IsFirstOf old new

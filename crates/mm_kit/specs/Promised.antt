@@ -6,11 +6,12 @@ use Rattle.mm_definitions.specs.Package.{Package}
 use Rattle.mm_definitions.specs.declared.answers.KitFault.{KitFault}
 use Rattle.mm_definitions.specs.declared.answers.Staged.{Staged}
 use Rattle.mm_definitions.specs.declared.commands.Piece.{Piece}
+use Rattle.mm_run.specs.Runs.{OnSound}
 use Rattle.mm_run.specs.Sessions.{shown_since}
 use Rattle.mm_run.specs.Shown.{Shown}
 use Rattle.mm_run.specs.declared.apply.Apply as applies
 use Rattle.mm_kit.specs.Editions.{HasPieces}
-use Rattle.mm_kit.specs.Imports.{AreImported, AreStaged, AreStagedOn, AsksForPackage, ImportEnded, ImportTellsReopening, ImportWorksOn, IsImportAnswered, IsImportKept, IsImportStopped, IsKitFault, IsStillKept, MayBeStaged, OnAnyFolder, OnKit, TellsFolder}
+use Rattle.mm_kit.specs.Imports.{AreImported, AreStaged, AreStagedOn, AsksForPackage, ImportEnded, ImportTellsReopening, ImportWorksOn, IsImportAnswered, IsImportKept, IsImportStopped, IsKitFault, IsStillKept, MayBeStaged, OnKit, TellsFolder}
 use Rattle.mm_kit.specs.Folders.{Files}
 use Rattle.mm_kit.specs.declared.entries.Entry.{Entry}
 use Rattle.mm_kit.specs.declared.folders.Folder as folders
@@ -30,9 +31,9 @@ pub record Imports {D : Type 0} (name : Text) (clean : Type 0) (settled : Packag
       (λ files p. (shows p).failed ≡ before → ImportWorksOn files name p (shows p).settled e.staged))
   -- Of every folder, one that tells nothing too: the rules hold, and nothing but the edition's pieces has changed, of which none is
   -- lost.
-  pub kept : OnAnyFolder clean settled (λ p. IsImportKept name p (shows p).settled (shows p).may_leave (shows p).stands_for result)
+  pub kept : OnSound clean settled (λ p. IsImportKept name p (shows p).settled (shows p).may_leave (shows p).stands_for result)
   -- Where the editor works on after a fault, it is settled for such a package.
-  pub still_kept : IfErr result (λ e. OnAnyFolder clean settled (λ p. (shows p).failed ≡ before → IsStillKept name p (shows p).settled))
+  pub still_kept : IfErr result (λ e. OnSound clean settled (λ p. (shows p).failed ≡ before → IsStillKept name p (shows p).settled))
 
 -- It imports the kit of a folder into an edition.
 pub record ImportsKit {A F : Type 0} (apply : applies.Ghosts A) (shelf : folders.Ghosts F) (name : Text)
@@ -69,9 +70,9 @@ pub record ImportsEntries {A F : Type 0} (apply : applies.Ghosts A) (shelf : fol
       (λ files p. apply.has_failed new ≡ apply.has_failed old
       → AreStagedOn files name entries p (shown_since apply old p new).settled e.staged))
   pub session : ImportTellsReopening (apply.has_failed old) (apply.has_failed new) (new ≡ old) result
-  pub kept : OnAnyFolder (apply.is_clean new) (apply.seen old)
+  pub kept : OnSound (apply.is_clean new) (apply.seen old)
       (λ p. IsImportKept name p (shown_since apply old p new).settled (apply.may_leave new) (shown_since apply old p new).stands_for result)
-  pub still_kept : IfErr result (λ e. OnAnyFolder (apply.is_clean new) (apply.seen old)
+  pub still_kept : IfErr result (λ e. OnSound (apply.is_clean new) (apply.seen old)
       (λ p. apply.has_failed new ≡ apply.has_failed old → IsStillKept name p (shown_since apply old p new).settled))
   -- The edition's state is asked before anything else, so an editor that has failed is answered 92 and nothing else.
   pub ended : apply.has_failed old ≡ true → result ≡ Err (record { fault = reopen; staged = 0 })
@@ -94,10 +95,10 @@ pub record StagesEntries {A F : Type 0} (apply : applies.Ghosts A) (shelf : fold
   -- An answer leaves the editor working, and so does a fault of the folder. 92 is not answered.
   pub session : IfOk result (λ a. apply.has_failed new ≡ false)
   pub fault : IfErr result (λ e. (e.fault.0 ≢ reopen.0) × (e.fault.0 ≡ input.0 → apply.has_failed new ≡ false))
-  pub kept : OnAnyFolder (apply.is_clean new) (apply.seen old)
+  pub kept : OnSound (apply.is_clean new) (apply.seen old)
       (λ p. (pieces : List Piece) → HasPieces p name pieces
       → IsImportKept name p (shown_since apply old p new).settled (apply.may_leave new) (shown_since apply old p new).stands_for result)
-  pub still_kept : IfErr result (λ e. OnAnyFolder (apply.is_clean new) (apply.seen old)
+  pub still_kept : IfErr result (λ e. OnSound (apply.is_clean new) (apply.seen old)
       (λ p. (pieces : List Piece) → HasPieces p name pieces → apply.has_failed new ≡ apply.has_failed old
       → IsStillKept name p (shown_since apply old p new).settled))
   pub folder : TellsFolder (shelf.has_failed kit) (shelf.has_failed kit_now) result

@@ -18,13 +18,13 @@ use Rattle.mm_core.proofs.Adopting.{was_adopted}
 use Rattle.mm_core.specs.Adopted.{IsAdopted, WasAdopted}
 use Rattle.mm_core.specs.Applied.{StandsForCurrent}
 use Rattle.mm_core.specs.Sessions.{IsCreated, IsNotCreated}
+use Rattle.mm_run.specs.Runs.{OnSound}
+use Rattle.mm_run.proofs.Reports.{stops-behind}
 use Rattle.mm_kit.specs.Folders.{Files}
-use Rattle.mm_kit.specs.Imports.{IsImportKept, OnAnyFolder, OnKit}
+use Rattle.mm_kit.specs.Imports.{IsImportKept, OnKit}
 use Rattle.mm_core.specs.Migrations.{Adopts, IsMigration, Migrates}
 use Rattle.mm_core.specs.Opening.{HasNoTable, IsBlank}
 use Rattle.mm_core.specs.Viewers.{LeavesPackage}
-use Rattle.mm_core.specs.Readings.{Reading}
-use Rattle.mm_core.specs.Runs.{StopsBehind}
 use Rattle.mm_work.specs.Declined.{IsDeclined}
 use Rattle.mm_work.specs.Imports.{IsImport}
 use Rattle.mm_work.specs.Looked.{IsListing, IsUnlisted}
@@ -34,16 +34,12 @@ use Rattle.mm_work.specs.Ran.{IsListRun}
 use Rattle.mm_work.specs.declared.stop.Stop.{Stop}
 use Rattle.mm_work.specs.declared.stop.Stop.TheVariants as stops
 use Rattle.mm_files.specs.Worked.{IsJustOpened}
-use Rattle.mm_program.specs.Left.{IsImportOf, LeavesImport, LeavesMade, LeavesMigrated, LeavesSame, RanTo, StaysFor, StaysIn, TellsDeclined, TellsListing, TellsMigrated, TellsServed, WasFoundWell}
+use Rattle.mm_program.specs.Left.{IsImportOf, LeavesImport, LeavesMade, LeavesMigrated, LeavesSame, RanTo, StaysFor}
+use Rattle.mm_program.specs.Left.{StaysIn, TellsDeclined, TellsListing, TellsMigrated, TellsServed, WasFoundWell}
 use Rattle.mm_program.specs.Rows.{TellsShown}
 use Rattle.mm_core.proofs.Opened.{nothing_less, opened_blank, opened_settles}
 
 -- ---- a run
-
-stops-behind : (p : Package) (moment : ℕ) (readings : List Reading) (n : ℕ) (works works' : Package → Type 0) (failed failed' : Type 0)
-    → ((q : Package) → works q → works' q) → (failed → failed') → StopsBehind works failed p moment readings n → StopsBehind works' failed' p moment readings n
-stops-behind p moment readings n works works' failed failed' w f (inl it) = inl (it.0, w _ it.1)
-stops-behind p moment readings n works works' failed failed' w f (inr it) = inr (f it.0, it.1, it.2, it.3, it.4)
 
 pub ran_to : (p : Package) (moment : ℕ) (bytes : List ℕ) (end : State) (old new : Written) (status : ℕ) (after : Trees)
     → end.may_leave after → IsListRun p moment bytes end old new status → RanTo p moment bytes after old new status
@@ -68,7 +64,8 @@ ran_to p moment bytes end old new status after may (inr (e, it, is)) = inr (
     read = it.read;
     text = it.text;
     counted = it.counted;
-    session = stops-behind p moment it.readings (e.tally.accepted + e.tally.refused) _ _ _ _ (λ (q : Package) (works : IsSettled current end q). works.left after may) (λ _. tt) it.session;
+    session = stops-behind p moment it.readings (e.tally.accepted + e.tally.refused) _ _ _ _
+        (λ (q : Package) (works : IsSettled current end q). works.left after may) (λ _. tt) it.session;
     left = λ db same. it.left db (subst end.may_leave (sym same) may);
   },
   is,
@@ -76,7 +73,8 @@ ran_to p moment bytes end old new status after may (inr (e, it, is)) = inr (
 
 -- ---- a migration
 
-stays_for : (p : Package) (new : State) (after : Trees) → new.may_leave after → (cause : Open) → Adopts p new (Err cause) → StaysFor p after cause
+stays_for : (p : Package) (new : State) (after : Trees) → new.may_leave after → (cause : Open)
+    → Adopts p new (Err cause) → StaysFor p after cause
 stays_for p new after may (opens.Rule rule) it = (it.0.left after may, it.1)
 stays_for p new after may (opens.Fault fault) it = it after may
 stays_for p new after may (opens.Version version) it = it
@@ -84,7 +82,8 @@ stays_for p new after may opens.NoProfile it = it
 stays_for p new after may opens.BadProfile it = it
 stays_for p new after may opens.BadBlobs it = it
 
-stays_in : (p : Package) (new : State) (after : Trees) → new.may_leave after → (cause : Open) → Migrates p new (Err cause) → StaysIn p after cause
+stays_in : (p : Package) (new : State) (after : Trees) → new.may_leave after → (cause : Open)
+    → Migrates p new (Err cause) → StaysIn p after cause
 stays_in p new after may (opens.Rule rule) it = (it.0.left after may, it.1)
 stays_in p new after may (opens.Fault fault) it = it after may
 stays_in p new after may (opens.Version version) it = it
@@ -95,7 +94,8 @@ stays_in p new after may opens.BadBlobs it = it
 -- ---- each, of a connection that was just opened where it was clean, and is clean
 
 module _ (old new : State) (fresh : HasCleanDisk old → IsJustOpened old) (clean : HasCleanDisk new) where
-  settles : (HasCleanDisk new → HasCleanDisk old) → (p : Package) → StandsForCurrent old.committed.trees p → IsSettled current old p
+  settles : (HasCleanDisk new → HasCleanDisk old) → (p : Package) → StandsForCurrent old.committed.trees p
+      → IsSettled current old p
   settles was p stands = opened_settles old (fresh (was clean)) current p stands
 
   was_clean : CommitsNothing old new → HasCleanDisk old
@@ -106,19 +106,25 @@ module _ (old new : State) (fresh : HasCleanDisk old → IsJustOpened old) (clea
   same_by after was (inr none) = absurd none
 
   -- where nothing was committed all is as it was
-  pub leaves_same : CommitsNothing old new → (after : Trees) → new.may_leave after → LeavesSame old.committed.trees after
+  pub leaves_same : CommitsNothing old new → (after : Trees) → new.may_leave after
+      → LeavesSame old.committed.trees after
   leaves_same quiet after may = same_by after (was_clean quiet) (quiet.crash clean after may)
 
   -- why a package is not adopted
   pub tells_declined : (why : Stop) → IsDeclined old new why → TellsDeclined old.committed.trees why
-  tells_declined why declined p stands =
-      (declined.0, declined.1.declines clean p (seen_of current _ p (settles (λ c. nothing_less _ _ declined.1.survives.clean c) p stands)), declined.2)
+  tells_declined why declined p stands = (
+    declined.0,
+    declined.1.declines clean p
+        (seen_of current _ p (settles (λ c. nothing_less _ _ declined.1.survives.clean c) p stands)),
+    declined.2,
+  )
 
   -- one that was adopted
   pub found_well : (HasCleanDisk new → HasCleanDisk old) → WasAdopted old new → WasFoundWell old.committed.trees
   found_well was it = record {
     some = λ none. it.some clean (opened_blank old (fresh (was clean)) none);
-    profile = λ version p stands. it.profile clean version p (opened_settles old (fresh (was clean)) (record current { version = version }) p stands).reads;
+    profile = λ version p stands. it.profile clean version p
+        (opened_settles old (fresh (was clean)) (record current { version = version }) p stands).reads;
     meets = λ p stands. it.meets clean p (seen_of current _ p (settles was p stands));
   }
 
@@ -132,30 +138,40 @@ module _ (old new : State) (fresh : HasCleanDisk old → IsJustOpened old) (clea
       let was : HasCleanDisk new → HasCleanDisk old = λ is. nothing_less _ _ it.survives.clean is in
       (found_well was it.adopted, λ p stands. it.printed clean p (settles was p stands))
 
-  pub tells_unlisted : (held holds : Written) (why : Stop) → IsUnlisted old new held holds why → TellsListing old.committed.trees held holds (Err why)
+  pub tells_unlisted : (held holds : Written) (why : Stop) → IsUnlisted old new held holds why
+      → TellsListing old.committed.trees held holds (Err why)
   tells_unlisted held holds why (inl (declined, same)) p stands = inl (tells_declined why declined p stands, same)
   tells_unlisted held holds why (inr (fault, cut, is)) p stands =
-      let settled = settles (λ c. nothing_less _ _ cut.survives.clean c) p stands in inr (cut.meets clean p settled, cut.begun clean p settled, (fault, is))
+      let settled = settles (λ c. nothing_less _ _ cut.survives.clean c) p stands in
+      inr (cut.meets clean p settled, cut.begun clean p settled, (fault, is))
 
-  pub leaves_unlisted : (held holds : Written) (why : Stop) → IsUnlisted old new held holds why → (after : Trees) → new.may_leave after
+  pub leaves_unlisted : (held holds : Written) (why : Stop) → IsUnlisted old new held holds why → (after : Trees)
+      → new.may_leave after
       → LeavesSame old.committed.trees after
   leaves_unlisted held holds why (inl (declined, same)) after may = leaves_same declined.1.survives after may
   leaves_unlisted held holds why (inr (fault, cut, is)) after may = leaves_same cut.survives after may
 
   -- ---- rows
-  pub tells_shown : (table : Text) (id : Option ℤ) (held holds : Written) (status : ℕ) → IsShowing table id old new held.contents holds.contents status
+  pub tells_shown : (table : Text) (id : Option ℤ) (held holds : Written) (status : ℕ)
+      → IsShowing table id old new held.contents holds.contents status
       → TellsShown table id old.committed.trees held holds (Ok status)
   tells_shown table id held holds status it =
-      let was : HasCleanDisk new → HasCleanDisk old = λ is. nothing_less _ _ it.survives.clean is in
-      (found_well was it.adopted, λ p stands. (it.printed clean p (settles was p stands), it.told clean p (settles was p stands)))
+      let was : HasCleanDisk new → HasCleanDisk old = λ is. nothing_less _ _ it.survives.clean is in (
+        found_well was it.adopted,
+        λ p stands. (it.printed clean p (settles was p stands), it.told clean p (settles was p stands)),
+      )
 
-  pub tells_unshown : (table : Text) (id : Option ℤ) (held holds : Written) (why : Stop) → IsUnshown table id old new held holds why
+  pub tells_unshown : (table : Text) (id : Option ℤ) (held holds : Written) (why : Stop)
+      → IsUnshown table id old new held holds why
       → TellsShown table id old.committed.trees held holds (Err why)
-  tells_unshown table id held holds why (inl (declined, same)) p stands = inl (tells_declined why declined p stands, same)
+  tells_unshown table id held holds why (inl (declined, same)) p stands =
+      inl (tells_declined why declined p stands, same)
   tells_unshown table id held holds why (inr (fault, cut, is)) p stands =
-      let settled = settles (λ c. nothing_less _ _ cut.survives.clean c) p stands in inr (cut.meets clean p settled, cut.begun clean p settled, (fault, is))
+      let settled = settles (λ c. nothing_less _ _ cut.survives.clean c) p stands in
+      inr (cut.meets clean p settled, cut.begun clean p settled, (fault, is))
 
-  pub leaves_unshown : (table : Text) (id : Option ℤ) (held holds : Written) (why : Stop) → IsUnshown table id old new held holds why → (after : Trees) → new.may_leave after
+  pub leaves_unshown : (table : Text) (id : Option ℤ) (held holds : Written) (why : Stop)
+      → IsUnshown table id old new held holds why → (after : Trees) → new.may_leave after
       → LeavesSame old.committed.trees after
   leaves_unshown table id held holds why (inl (declined, same)) after may = leaves_same declined.1.survives after may
   leaves_unshown table id held holds why (inr (fault, cut, is)) after may = leaves_same cut.survives after may
@@ -164,10 +180,13 @@ module _ (old new : State) (fresh : HasCleanDisk old → IsJustOpened old) (clea
   blank : HasCleanDisk old → HasNoTable old.committed.trees → IsBlank old
   blank was none = opened_blank old (fresh was) none
 
-  pub leaves_made : (done : Unit {0}) → IsCreated old new → (after : Trees) → new.may_leave after → LeavesMade old.committed.trees after (Ok done)
-  leaves_made done it after may none = (it.settled clean (blank (nothing_less _ _ it.survives.clean clean) none)).left after may
+  pub leaves_made : (done : Unit {0}) → IsCreated old new → (after : Trees) → new.may_leave after
+      → LeavesMade old.committed.trees after (Ok done)
+  leaves_made done it after may none =
+      (it.settled clean (blank (nothing_less _ _ it.survives.clean clean) none)).left after may
 
-  pub leaves_unmade : (why : Stop) → IsNotCreated old new → (after : Trees) → new.may_leave after → LeavesMade old.committed.trees after (Err why)
+  pub leaves_unmade : (why : Stop) → IsNotCreated old new → (after : Trees) → new.may_leave after
+      → LeavesMade old.committed.trees after (Err why)
   leaves_unmade why it after may none = it.left clean (blank (nothing_less _ _ it.survives.clean clean) none) after may
 
   -- ---- a migration
@@ -175,32 +194,46 @@ module _ (old new : State) (fresh : HasCleanDisk old → IsJustOpened old) (clea
   tells_migrated done it =
       let opened = fresh (nothing_less _ _ it.survives.clean clean) in (
         λ none. it.some clean (opened_blank old opened none),
-        λ version p stands. it.profile clean version p (opened_settles old opened (record current { version = version }) p stands).reads,
+        λ version p stands. it.profile clean version p
+            (opened_settles old opened (record current { version = version }) p stands).reads,
       )
 
   pub leaves_migrated : (done : Unit {0}) → IsMigration old new (Ok tt) → (after : Trees) → new.may_leave after
       → LeavesMigrated old.committed.trees after (Ok done)
   leaves_migrated done it after may =
       let opened = fresh (nothing_less _ _ it.survives.clean clean) in (
-        λ p stands. let adopted = it.adopts clean p (opened_settles old opened micrometres p stands) in (adopted.0.left after may, adopted.1),
-        λ p stands. let scaled = it.migrates clean p (opened_settles old opened millimetres p stands) in (scaled.0.left after may, scaled.1),
+        λ p stands. let adopted = it.adopts clean p (opened_settles old opened micrometres p stands) in
+            (adopted.0.left after may, adopted.1),
+        λ p stands. let scaled = it.migrates clean p (opened_settles old opened millimetres p stands) in
+            (scaled.0.left after may, scaled.1),
       )
 
-  pub leaves_unmigrated : (why : Stop) → IsUnmigrated old new why → (after : Trees) → new.may_leave after → LeavesMigrated old.committed.trees after (Err why)
+  pub leaves_unmigrated : (why : Stop) → IsUnmigrated old new why → (after : Trees) → new.may_leave after
+      → LeavesMigrated old.committed.trees after (Err why)
   leaves_unmigrated why (cause, it, is) after may =
       let opened = fresh (nothing_less _ _ it.survives.clean clean) in (
-        λ p stands. (cause, stays_for p new after may cause (it.adopts clean p (opened_settles old opened micrometres p stands)), is),
-        λ p stands. (cause, stays_in p new after may cause (it.migrates clean p (opened_settles old opened millimetres p stands)), is),
+        λ p stands. (
+          cause,
+          stays_for p new after may cause (it.adopts clean p (opened_settles old opened micrometres p stands)),
+          is,
+        ),
+        λ p stands. (
+          cause,
+          stays_in p new after may cause (it.migrates clean p (opened_settles old opened millimetres p stands)),
+          is,
+        ),
       )
 
   -- ---- an import
   module _ (name : Text) (p : Package) (after : Trees) (may : new.may_leave after) where
-    kept_left : (import : Result Staged KitFault) → IsImportKept name p (λ q. IsSettled current new q) (λ db. new.may_leave db) StandsForCurrent import
+    kept_left : (import : Result Staged KitFault)
+        → IsImportKept name p (λ q. IsSettled current new q) (λ db. new.may_leave db) StandsForCurrent import
         → IsImportKept name p (λ q. StandsForCurrent after q) (λ db. db ≡ after) StandsForCurrent import
     kept_left (Ok answer) (q, sound, keeps) = (q, (sound.0.left after may, sound.1), keeps)
     kept_left (Err stopped) it = λ db same. it db (subst new.may_leave (sym same) may)
 
-    imported_left : (files : Files) (import : Result Staged KitFault) → IsImport files name p new import → IsImportOf files name p after import
+    imported_left : (files : Files) (import : Result Staged KitFault) → IsImport files name p new import
+        → IsImportOf files name p after import
     imported_left files (Ok answer) it = record {
       list = it.list;
       read = it.read;
@@ -214,14 +247,16 @@ module _ (old new : State) (fresh : HasCleanDisk old → IsJustOpened old) (clea
     }
     imported_left files (Err stopped) it = λ db same. it db (subst new.may_leave (sym same) may)
 
-  pub leaves_import : (told : Option Files) (name : Text) (import : Result Staged KitFault) → (HasCleanDisk new → HasCleanDisk old)
+  pub leaves_import : (told : Option Files) (name : Text) (import : Result Staged KitFault)
+      → (HasCleanDisk new → HasCleanDisk old)
       → OnKit (HasCleanDisk new) (λ p. IsSettled current old p) told (λ files p. IsImport files name p new import)
-      → OnAnyFolder (HasCleanDisk new) (λ p. IsSettled current old p)
+      → OnSound (HasCleanDisk new) (λ p. IsSettled current old p)
       (λ p. IsImportKept name p (λ q. IsSettled current new q) (λ db. new.may_leave db) StandsForCurrent import)
       → (after : Trees) → new.may_leave after → LeavesImport told name old.committed.trees after (Ok import)
   leaves_import told name import was imported kept after may p stands meets = record {
     kept = kept_left name p after may import (kept clean p (settles was p stands, meets));
-    imported = λ files is. imported_left name p after may files import (imported clean p (settles was p stands, meets) files is);
+    imported = λ files is. imported_left name p after may files import
+        (imported clean p (settles was p stands, meets) files is);
   }
 
 -- ---- a service
@@ -231,13 +266,16 @@ tells_served : (found : Trees) (served : Result ℕ Stop) → WasFoundWell found
 tells_served found (Ok status) well unbound = well
 tells_served found (Err why) well unbound = λ p stands. inr (well.meets p stands, unbound)
 
-module _ (old mid new : State) (fresh : HasCleanDisk old → IsJustOpened old) (clean : HasCleanDisk new) (adopted : IsAdopted old mid) (kept : LeavesPackage mid new) where
+module _ (old mid new : State) (fresh : HasCleanDisk old → IsJustOpened old) (clean : HasCleanDisk new)
+    (adopted : IsAdopted old mid) (kept : LeavesPackage mid new) where
   early : HasCleanDisk mid
   early = nothing_less _ _ kept.survives.clean clean
 
-  pub tells_service : (served : Result ℕ Stop) → IfErr served (λ why. why ≡ stops.Fault (record { 0 = 96 })) → TellsServed old.committed.trees served
+  pub tells_service : (served : Result ℕ Stop) → IfErr served (λ why. why ≡ stops.Fault (record { 0 = 96 }))
+      → TellsServed old.committed.trees served
   tells_service served unbound = tells_served _ served
-      (found_well old new fresh clean (λ _. nothing_less _ _ adopted.survives.clean early) (was_adopted old mid new adopted (λ _. early))) unbound
+      (found_well old new fresh clean (λ _. nothing_less _ _ adopted.survives.clean early)
+      (was_adopted old mid new adopted (λ _. early))) unbound
 
   pub leaves_service : (after : Trees) → new.may_leave after → LeavesSame old.committed.trees after
   leaves_service = leaves_same old new fresh clean (quiet_then old mid new adopted.survives kept.survives)

@@ -8,7 +8,8 @@ ghost use Rattle.mm_definitions.specs.Streams.{written};
 ghost use Rattle.mm_store.specs.Stands.{IsSettled};
 ghost use Rattle.mm_core.specs.Adopted.{WasAdopted};
 ghost use Rattle.mm_core.specs.Applied.{StandsForCurrent};
-ghost use Rattle.mm_kit.specs.Imports.{IsImportKept, OnAnyFolder, OnKit, TellsFolder};
+ghost use Rattle.mm_kit.specs.Imports.{IsImportKept, OnKit, TellsFolder};
+ghost use Rattle.mm_run.specs.Runs.{OnSound};
 ghost use Rattle.mm_work.specs.Declined.{IsDeclined};
 ghost use Rattle.mm_work.specs.Imports.{IsImport, kit_status, kit_text, staged_status, staged_text};
 ghost use Rattle.mm_work.specs.Told.{IsTold};
@@ -31,8 +32,8 @@ use std::io::Write;
 /// What an import came to.
 pub type Import = Result<Staged, KitFault>;
 
-/// Imports the kit of a folder into an edition of the package of a connection, and hands the connection back. Where it is not
-/// adopted, with why not, and then the folder was not asked.
+/// Imports the kit of a folder into an edition of the package of a connection, and hands the connection back. Where it
+/// is not adopted, with why not, and then the folder was not asked.
 pub fn import_package<S: Alter + Drop, F: Folder>(
     alloc: Global,
     conn: Connection<S>,
@@ -47,7 +48,7 @@ pub fn import_package<S: Alter + Drop, F: Folder>(
         (λ p. IsSettled current (state S.Store conn) p) (F.files folder.old)
         (λ files p. IsImport files name.now p (state S.Store done.0) done.1)) }
     ensures kept { IfOk result
-        (λ done. OnAnyFolder (HasCleanDisk (state S.Store done.0))
+        (λ done. OnSound (HasCleanDisk (state S.Store done.0))
         (λ p. IsSettled current (state S.Store conn) p)
         (λ p. IsImportKept name.now p (λ q. IsSettled current (state S.Store done.0) q)
         (λ db. (state S.Store done.0).may_leave db) StandsForCurrent done.1)) }

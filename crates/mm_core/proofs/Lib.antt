@@ -5,3 +5,4 @@ mod Trying
 pub mod Applies
 mod Ready
 pub mod Opened
+pub mod Failing

@@ -1,5 +1,6 @@
 -- From one run of the program to the next.
-use Rattle.std.proofs.Common.{arith, ◌≡◌, ◌==◌, ℕ, List, [], ◌∷◌, Option, Some, Result, Ok, Err, Bool, IfErr, inl, inr, refl, sym, subst}
+use Rattle.std.proofs.Common.{arith, ◌≡◌, ℕ, List, [], ◌∷◌, Option, Some, Result, Ok, Err, Bool, IfErr, inl, inr}
+use Rattle.std.proofs.Common.{refl, sym, subst}
 use Rattle.std.specs.Prelude.{⊤, IsTrue, true}
 use Rattle.std.proofs.Math.Logic.{∥∥₁_elim, ∥∥₁_map}
 use Rattle.sqlite_disk.specs.declared.Disk.{Ghosts}
@@ -18,8 +19,7 @@ use Rattle.mm_definitions.specs.Streams.{Written}
 use Rattle.mm_definitions.specs.declared.answers.Open.{Open}
 use Rattle.mm_definitions.specs.declared.answers.Open.TheVariants as opens
 use Rattle.mm_laws.proofs.Opened.{opened}
-use Rattle.mm_walk.proofs.InTurn.{either_holds}
-use Rattle.mm_core.specs.Verdict.{rule, IsFailing}
+use Rattle.mm_core.proofs.Failing.{none_fails}
 use Rattle.mm_core.specs.Adopted.{Declines}
 use Rattle.mm_core.specs.Applied.{StandsForCurrent}
 use Rattle.mm_definitions.specs.declared.answers.KitFault.{KitFault}
@@ -33,24 +33,31 @@ use Rattle.mm_work.specs.declared.stop.Stop.{Stop}
 use Rattle.mm_work.specs.declared.stop.Stop.TheVariants as stops
 use Rattle.mm_program.specs.Files.{OffClose, OnOpened, WereBare}
 use Rattle.mm_program.specs.Desks.{LeavesDesk}
-use Rattle.mm_program.specs.Left.{IsDeclinedFor, LeavesFine, LeavesImport, LeavesMade, LeavesRun, LeavesSame, RanTo, StaysFor, TellsChecked}
-use Rattle.mm_program.specs.Life.{AreMade, Deed, IsLife, IsPartOf, Leads, LeavesBy, LivesOn, DeedMakes, MakesAttended, MakesBy, MakesImport, Ran, Use, Looks, Runs, Attends, Imports, Migrates}
+use Rattle.mm_program.specs.Left.{IsDeclinedFor, LeavesFine, LeavesImport, LeavesMade, LeavesRun, LeavesSame, RanTo}
+use Rattle.mm_program.specs.Left.{StaysFor, TellsChecked}
+use Rattle.mm_program.specs.Life.{AreMade, Deed, IsLife, IsPartOf, Leads, LeavesBy, LivesOn, DeedMakes, MakesAttended}
+use Rattle.mm_program.specs.Life.{MakesBy, MakesImport, Ran, Use, Looks, Runs, Attends, Imports, Migrates}
 use Rattle.mm_program.specs.Worked.{closes_done}
 
 -- what is left of files that were worked on, by what they held
-module _ {D T : Type 0} (g : Ghosts D) (image : Image) (path : Text) (tells : Trees → Result T Stop → Type 0) (leaves : Trees → Trees → Result T Stop → Type 0)
+module _ {D T : Type 0} (g : Ghosts D) (image : Image) (path : Text) (tells : Trees → Result T Stop → Type 0)
+    (leaves : Trees → Trees → Result T Stop → Type 0)
     (closes : Result T Stop → Bool) (done : Result T Stop) (opened : Opened D) where
   pub leads_on : OnOpened g image path tells leaves closes done opened → AreClean g opened.files.log opened.files.db
-      → (next : Image) → outcomes g opened.files.log opened.files.db next → Leads (λ found after. leaves found after done) image next
+      → (next : Image) → outcomes g opened.files.log opened.files.db next
+      → Leads (λ found after. leaves found after done) image next
   leads_on on clean next may db holds =
       let (found, is, told, left) = on.1 clean in
       ∥∥₁_map (left next may) (λ it.
-      let r : (after : Trees) × leaves db after done × HoldsDatabase next after = (it.0, subst (λ t. leaves t it.0 done) (is.holds db holds) it.1, it.2.both) in r)
+      let r : (after : Trees) × leaves db after done × HoldsDatabase next after =
+      (it.0, subst (λ t. leaves t it.0 done) (is.holds db holds) it.1, it.2.both) in r)
 
 -- what is left of files that could not be closed behind work that came to its end, where the store was open still
-module _ {D T : Type 0} (g : Ghosts D) (image : Image) (path : Text) (tells : Trees → Result T Stop → Type 0) (leaves : Trees → Trees → Result T Stop → Type 0)
+module _ {D T : Type 0} (g : Ghosts D) (image : Image) (path : Text) (tells : Trees → Result T Stop → Type 0)
+    (leaves : Trees → Trees → Result T Stop → Type 0)
     (closes : Result T Stop → Bool) (why : Stop) (it : Unclosed D) where
-  pub leads_unclosed : OffClose g image path tells leaves closes why it → IsTrue it.is_open → AreClean g it.files.log it.files.db
+  pub leads_unclosed : OffClose g image path tells leaves closes why it → IsTrue it.is_open
+      → AreClean g it.files.log it.files.db
       → (next : Image) → outcomes g it.files.log it.files.db next
       → (done : Result T Stop) × (closes done ≡ true) × Leads (λ found after. leaves found after done) image next
   leads_unclosed off up clean next may =
@@ -59,31 +66,41 @@ module _ {D T : Type 0} (g : Ghosts D) (image : Image) (path : Text) (tells : Tr
         done,
         ended,
         λ db holds. ∥∥₁_elim (left next may) squash₁ (λ x. ∥∥₁_map (x.2.holds up) (λ held.
-            let r : (after : Trees) × leaves db after done × HoldsDatabase next after = (x.0, subst (λ t. leaves t x.0 done) (is.holds db holds) x.1, held) in r)),
+            let r : (after : Trees) × leaves db after done × HoldsDatabase next after =
+            (x.0, subst (λ t. leaves t x.0 done) (is.holds db holds) x.1, held) in r)),
       )
 
 -- ---- a life
 
 -- the package that a run has left, and that it is the one of a first part
-part_by : (p : Package) (moment : ℕ) (bytes : List ℕ) (after : Trees) (old new : Written) (status : ℕ) (ran : RanTo p moment bytes after old new status)
+part_by : (p : Package) (moment : ℕ) (bytes : List ℕ) (after : Trees) (old new : Written) (status : ℕ)
+    (ran : RanTo p moment bytes after old new status)
     → (q : Package) × StandsForCurrent after q × Meets current q × IsPartOf p moment bytes after old new status q ran
-part_by p moment bytes after old new status (inl (t, all, is)) = let (q, stands, part, meets) = all.left after refl in (q, stands, meets, part)
-part_by p moment bytes after old new status (inr (e, some, is)) = let (q, stands, part, meets) = some.left after refl in (q, stands, meets, part)
+part_by p moment bytes after old new status (inl (t, all, is)) =
+    let (q, stands, part, meets) = all.left after refl in (q, stands, meets, part)
+part_by p moment bytes after old new status (inr (e, some, is)) =
+    let (q, stands, part, meets) = some.left after refl in (q, stands, meets, part)
 
 makes_by : (r : Ran) (done : Result ℕ Stop) (db after : Trees) (p : Package) → StandsForCurrent db p → Meets current p
-    → LeavesRun (Some r.bytes) r.moment db after r.old r.new done → (q : Package) × StandsForCurrent after q × Meets current q × MakesBy r done p q
+    → LeavesRun (Some r.bytes) r.moment db after r.old r.new done
+    → (q : Package) × StandsForCurrent after q × Meets current q × MakesBy r done p q
 makes_by r (Ok status) db after p stands meets leaves =
     let ran = (leaves p stands meets).1 r.bytes refl in
-    let (q, now, still, part) = part_by p r.moment r.bytes after r.old r.new status ran in (q, now, still, record { after = after; ran = ran; part = part })
-makes_by r (Err why) db after p stands meets same = (p, subst (λ t. StandsForCurrent t p) (sym same) stands, meets, refl)
+    let (q, now, still, part) = part_by p r.moment r.bytes after r.old r.new status ran in
+    (q, now, still, record { after = after; ran = ran; part = part })
+makes_by r (Err why) db after p stands meets same =
+    (p, subst (λ t. StandsForCurrent t p) (sym same) stands, meets, refl)
 
-import_makes : (told : Option Files) (name : Text) (done : Result (Result Staged KitFault) Stop) (db after : Trees) (p : Package) → StandsForCurrent db p
-    → Meets current p → LeavesImport told name db after done → (q : Package) × StandsForCurrent after q × Meets current q × MakesImport name done p q
+import_makes : (told : Option Files) (name : Text) (done : Result (Result Staged KitFault) Stop) (db after : Trees)
+    (p : Package) → StandsForCurrent db p
+    → Meets current p → LeavesImport told name db after done
+    → (q : Package) × StandsForCurrent after q × Meets current q × MakesImport name done p q
 import_makes told name (Ok (Ok answer)) db after p stands meets leaves =
     let (q, sound, keeps) = (leaves p stands meets).kept in (q, sound.0, sound.1, keeps)
 import_makes told name (Ok (Err stopped)) db after p stands meets leaves =
     let (q, now, still, keeps) = (leaves p stands meets).kept after refl in (q, now, still, keeps)
-import_makes told name (Err why) db after p stands meets same = (p, subst (λ t. StandsForCurrent t p) (sym same) stands, meets, refl)
+import_makes told name (Err why) db after p stands meets same =
+    (p, subst (λ t. StandsForCurrent t p) (sym same) stands, meets, refl)
 
 still_there : (p : Package) (after : Trees) (cause : Open) → StaysFor p after cause → StandsForCurrent after p
 still_there p after (opens.Rule rule) it = it.0
@@ -93,15 +110,19 @@ still_there p after opens.NoProfile it = absurd it
 still_there p after opens.BadProfile it = absurd it
 still_there p after opens.BadBlobs it = absurd it
 
-migration_makes : (done : Result (Unit {0}) Stop) (after : Trees) (p : Package) → LeavesFine p after done → StandsForCurrent after p
+migration_makes : (done : Result (Unit {0}) Stop) (after : Trees) (p : Package) → LeavesFine p after done
+    → StandsForCurrent after p
 migration_makes (Ok done) after p it = it.0
 migration_makes (Err why) after p it = still_there p after it.0 it.1
 
-attends_makes : (done : Result ℕ Stop) (db after : Trees) (p : Package) → StandsForCurrent db p → Meets current p → LeavesDesk db after done
+attends_makes : (done : Result ℕ Stop) (db after : Trees) (p : Package) → StandsForCurrent db p → Meets current p
+    → LeavesDesk db after done
     → (q : Package) × StandsForCurrent after q × Meets current q × MakesAttended done p q
 attends_makes (Ok status) db after p stands meets leaves =
-    let it = leaves p stands meets in (it.last, it.stands, it.meets, (it.visits, it.calls, it.kept, it.sitting, it.part))
-attends_makes (Err why) db after p stands meets same = (p, subst (λ t. StandsForCurrent t p) (sym same) stands, meets, refl)
+    let it = leaves p stands meets in
+    (it.last, it.stands, it.meets, (it.visits, it.calls, it.kept, it.sitting, it.part))
+attends_makes (Err why) db after p stands meets same =
+    (p, subst (λ t. StandsForCurrent t p) (sym same) stands, meets, refl)
 
 makes : (did : Deed) (db after : Trees) (p : Package) → StandsForCurrent db p → Meets current p → LeavesBy did db after
     → (q : Package) × StandsForCurrent after q × Meets current q × DeedMakes did p q
@@ -109,9 +130,11 @@ makes Looks db after p stands meets same = (p, subst (λ t. StandsForCurrent t p
 makes (Runs r) db after p stands meets leaves = makes_by r r.done db after p stands meets leaves
 makes (Attends done) db after p stands meets leaves = attends_makes done db after p stands meets leaves
 makes (Imports i) db after p stands meets leaves = import_makes i.told i.name i.done db after p stands meets leaves
-makes (Migrates done) db after p stands meets leaves = (p, migration_makes done after p (leaves.0 p stands), meets, refl)
+makes (Migrates done) db after p stands meets leaves =
+    (p, migration_makes done after p (leaves.0 p stands), meets, refl)
 
-lives_further : (next : Image) (used : Use) (uses : List Use) (p q : Package) → DeedMakes used.did p q → Meets current q → LivesOn next q uses
+lives_further : (next : Image) (used : Use) (uses : List Use) (p q : Package) → DeedMakes used.did p q → Meets current q
+    → LivesOn next q uses
     → LivesOn next p (used ∷ uses)
 unfolding AreMade
 lives_further next used uses p q made meets it = record {
@@ -123,43 +146,45 @@ lives_further next used uses p q made meets it = record {
   made = (q, made, meets, it.made);
 }
 
-pub lives_on : (uses : List Use) (image next : Image) → IsLife image uses next → (db : Trees) (p : Package) → HoldsDatabase image db
+pub lives_on : (uses : List Use) (image next : Image) → IsLife image uses next → (db : Trees) (p : Package)
+    → HoldsDatabase image db
     → StandsForCurrent db p → Meets current p
     → ∥ LivesOn next p uses ∥₁
 unfolding IsLife AreMade
 lives_on [] image next same db p holds stands meets =
-    ∣ record { database = db; kept = p; holds = subst (λ i. HoldsDatabase i db) (sym same) holds; stands = stands; meets = meets; made = refl } ∣₁
+    ∣ record {
+      database = db;
+      kept = p;
+      holds = subst (λ i. HoldsDatabase i db) (sym same) holds;
+      stands = stands;
+      meets = meets;
+      made = refl;
+    } ∣₁
 lives_on (used ∷ uses) image next (leads, life) db p holds stands meets = ∥∥₁_elim (leads db holds) squash₁ (λ it.
     let (q, now, still, made) = makes used.did db it.0 p stands meets it.1 in
     ∥∥₁_map (lives_on uses used.left next life it.0 q it.2 now still) (lives_further next used uses p q made still))
 
 -- ---- how it begins
 
-module _ {D : Type 0} (g : Ghosts D) (image : Image) (path : Text) (opened_at : Opened D) (none : WereBare g image opened_at)
-    (on : OnOpened g image path (λ found done. ⊤) LeavesMade closes_done (Ok tt) opened_at) (clean : AreClean g opened_at.files.log opened_at.files.db) where
+module _ {D : Type 0} (g : Ghosts D) (image : Image) (path : Text) (opened_at : Opened D)
+    (none : WereBare g image opened_at)
+    (on : OnOpened g image path (λ found done. ⊤) LeavesMade closes_done (Ok tt) opened_at)
+    (clean : AreClean g opened_at.files.log opened_at.files.db) where
   begins : (next : Image) → outcomes g opened_at.files.log opened_at.files.db next
       → ∥ ((after : Trees) × StandsForCurrent after opening × HoldsDatabase next after) ∥₁
   begins next may =
       let (found, is, told, left) = on.1 clean in
       ∥∥₁_map (left next may) (λ it.
-      let r : (after : Trees) × StandsForCurrent after opening × HoldsDatabase next after = (it.0, it.1 ∣ empty_is_sound found (is.nothing (inl (inl (none clean).1))) ∣₁, it.2.both) in r)
+      let r : (after : Trees) × StandsForCurrent after opening × HoldsDatabase next after =
+      (it.0, it.1 ∣ empty_is_sound found (is.nothing (inl (inl (none clean).1))) ∣₁, it.2.both) in r)
 
-  pub begins_life : (first : Image) → outcomes g opened_at.files.log opened_at.files.db first → (uses : List Use) (next : Image)
+  pub begins_life : (first : Image) → outcomes g opened_at.files.log opened_at.files.db first
+      → (uses : List Use) (next : Image)
       → IsLife first uses next → ∥ LivesOn next opening uses ∥₁
-  begins_life first may uses next life = ∥∥₁_elim (begins first may) squash₁ (λ it. lives_on uses first next life it.0 opening it.2 it.1 (opened current))
+  begins_life first may uses next life =
+      ∥∥₁_elim (begins first may) squash₁ (λ it. lives_on uses first next life it.0 opening it.2 it.1 (opened current))
 
 -- ---- how it is checked
-
-rule_holds : (p : Package) (k : ℕ) → Meets current p → rule current k p
-unfolding rule
-rule_holds p k m =
-    either_holds (k == 1) _ _ m.q1 (either_holds (k == 2) _ _ m.q2 (either_holds (k == 3) _ _ m.q3 (either_holds (k == 4) _ _ m.q4 (either_holds (k == 5) _ _ m.q5
-    (either_holds (k == 6) _ _ m.q6 (either_holds (k == 7) _ _ m.q7 (either_holds (k == 8) _ _ m.q8 (either_holds (k == 9) _ _ m.q9 (either_holds (k == 10) _ _ m.q10
-    (either_holds (k == 11) _ _ m.q11 (either_holds (k == 12) _ _ m.q12 (either_holds (k == 13) _ _ m.q13 (either_holds (k == 14) _ _ m.q14 (either_holds (k == 15) _ _ m.q15 m.q16))))))))))))))
-
-none_fails : (p : Package) (k : ℕ) → Meets current p → IsFailing current p k → ⊥
-none_fails p k m (inl it) = it.1 (rule_holds p 16 m)
-none_fails p k m (inr it) = it.3 (rule_holds p k m)
 
 fault_alone : (p : Package) (cause : Open) → Meets current p → Declines p cause → stop_status (stop_of cause) ≡ 3
 fault_alone p (opens.Rule k) m it = absurd (none_fails p k m it)
@@ -170,7 +195,8 @@ fault_alone p opens.BadProfile m it = absurd it
 fault_alone p opens.BadBlobs m it = absurd it
 
 declined_by_fault : (p : Package) (why : Stop) → Meets current p → IsDeclinedFor p why → stop_status why ≡ 3
-declined_by_fault p why meets (cause, declines, is) = subst (λ w. stop_status w ≡ 3) (sym is) (fault_alone p cause meets declines)
+declined_by_fault p why meets (cause, declines, is) =
+    subst (λ w. stop_status w ≡ 3) (sym is) (fault_alone p cause meets declines)
 
 four : ◌≡◌ {A = ℕ} 4 3 → ⊥
 four same = omega (arith, same)
@@ -181,10 +207,15 @@ only_fault stops.NotEmpty some = absurd (∥∥₁_elim some (λ a b. absurd a) 
 only_fault (stops.NotPackage number) some = absurd (∥∥₁_elim some (λ a b. absurd a) four)
 only_fault (stops.Rule number) some = absurd (∥∥₁_elim some (λ a b. absurd a) four)
 
-pub checked : {D : Type 0} (g : Ghosts D) (image : Image) (path : Text) (opened_at : Opened D) (p : Package) (uses : List Use) (done : Result (Unit {0}) Stop)
-    → ∥ LivesOn image p uses ∥₁ → OnOpened g image path TellsChecked (λ found after it. LeavesSame found after) closes_done done opened_at
+pub checked : {D : Type 0} (g : Ghosts D) (image : Image) (path : Text) (opened_at : Opened D) (p : Package)
+    (uses : List Use) (done : Result (Unit {0}) Stop)
+    → ∥ LivesOn image p uses ∥₁
+    → OnOpened g image path TellsChecked (λ found after it. LeavesSame found after) closes_done done opened_at
     → AreClean g opened_at.files.log opened_at.files.db → IfErr done (λ why. stop_status why ≡ 3)
 checked g image path opened_at p uses (Ok done) lives on clean = tt
 checked g image path opened_at p uses (Err why) lives on clean =
     let (found, is, told, left) = on.1 clean in
-    only_fault why (∥∥₁_map lives (λ it. declined_by_fault it.kept why it.meets (told it.kept (subst (λ t. StandsForCurrent t it.kept) (sym (is.holds it.database it.holds)) it.stands))))
+    only_fault why
+    (∥∥₁_map lives
+    (λ it. declined_by_fault it.kept why it.meets
+    (told it.kept (subst (λ t. StandsForCurrent t it.kept) (sym (is.holds it.database it.holds)) it.stands))))

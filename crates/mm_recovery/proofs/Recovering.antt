@@ -1,5 +1,5 @@
 -- What an adopted session is settled for, and why a package that was left is never declined.
-use Rattle.std.proofs.Common.{◌≡◌, ◌==◌, ℕ, Bool, true, false, inl, inr, refl, sym, subst, arith}
+use Rattle.std.proofs.Common.{◌≡◌, Bool, true, false, inl, inr, refl, sym, subst, arith}
 use Rattle.std.proofs.lemmas.Bool.{both_ways}
 use Rattle.std.proofs.Math.Logic.{∥∥₁_elim, ∥∥₁_map}
 use Rattle.sqlite.specs.State.{State, HasCleanDisk}
@@ -9,25 +9,13 @@ use Rattle.mm_definitions.specs.Package.{Package}
 use Rattle.mm_definitions.specs.Rules.{Meets}
 use Rattle.mm_definitions.specs.declared.answers.Open.{Open}
 use Rattle.mm_definitions.specs.declared.answers.Open.TheVariants as opens
-use Rattle.mm_core.specs.Verdict.{rule, IsFailing}
-use Rattle.mm_walk.proofs.InTurn.{either_holds}
+use Rattle.mm_core.proofs.Failing.{none_fails}
 use Rattle.mm_core.specs.Adopted.{IsAdopted, IsNotAdopted, Declines}
 use Rattle.mm_core.specs.Applied.{StandsForCurrent}
 use Rattle.mm_store.specs.Stands.{IsSettled}
 use Rattle.mm_recovery.specs.Found.{FindsCommitted, FindsLeft, IsFoundAlone}
-use Rattle.mm_recovery.specs.Recovered.{IsHandedBack, IsFault, IsKeptOn, IsRecovered, IsRedeclined, IsReopened, IsSoundOn, LeavesPackages}
-
--- a package that meets the rules breaks none
-rule_holds : (p : Package) (k : ℕ) → Meets current p → rule current k p
-unfolding rule
-rule_holds p k m =
-    either_holds (k == 1) _ _ m.q1 (either_holds (k == 2) _ _ m.q2 (either_holds (k == 3) _ _ m.q3 (either_holds (k == 4) _ _ m.q4 (either_holds (k == 5) _ _ m.q5
-    (either_holds (k == 6) _ _ m.q6 (either_holds (k == 7) _ _ m.q7 (either_holds (k == 8) _ _ m.q8 (either_holds (k == 9) _ _ m.q9 (either_holds (k == 10) _ _ m.q10
-    (either_holds (k == 11) _ _ m.q11 (either_holds (k == 12) _ _ m.q12 (either_holds (k == 13) _ _ m.q13 (either_holds (k == 14) _ _ m.q14 (either_holds (k == 15) _ _ m.q15 m.q16))))))))))))))
-
-none_fails : (p : Package) (k : ℕ) → Meets current p → IsFailing current p k → ⊥
-none_fails p k m (inl it) = it.1 (rule_holds p 16 m)
-none_fails p k m (inr it) = it.3 (rule_holds p k m)
+use Rattle.mm_recovery.specs.Recovered.{IsHandedBack, IsFault, IsKeptOn, IsRecovered, IsRedeclined, IsReopened}
+use Rattle.mm_recovery.specs.Recovered.{IsSoundOn, LeavesPackages}
 
 abbrev pub is_fault : Open → Bool
 is_fault (opens.Fault fault) = true
@@ -42,9 +30,11 @@ none_is_declined p opens.BadProfile m it other = it
 none_is_declined p opens.BadBlobs m it other = it
 
 -- a connection that is declined is as it was opened
-kept_on : (mid new : State) (why : Open) → IsFoundAlone mid → IsNotAdopted mid new why → HasCleanDisk new → IsKeptOn new mid.committed.trees why
+kept_on : (mid new : State) (why : Open) → IsFoundAlone mid → IsNotAdopted mid new why → HasCleanDisk new
+    → IsKeptOn new mid.committed.trees why
 kept_on mid new why found declined clean = record {
-  only = λ other may. elim (declined.survives.crash clean other may) [ inl before ↦ found.only other before | inr none ↦ absurd none ];
+  only = λ other may. elim (declined.survives.crash clean other may)
+      [ inl before ↦ found.only other before | inr none ↦ absurd none ];
   settled = λ profile p stands. declined.settled clean profile p (found.settled profile p stands);
   declines = λ p stands. declined.declines clean p (seen_of current _ p (found.settled current p stands));
   none = λ empty. declined.none clean (found.blank empty);
@@ -62,7 +52,8 @@ recovers_by old mid new finds adopted =
         mid.committed.trees,
         may,
         λ (p : Package) (stands : StandsForCurrent mid.committed.trees p).
-            let was = (finds.is (early clean)).settled current p stands in (adopted.settled clean p was, adopted.meets clean p (seen_of current _ p was)),
+            let was = (finds.is (early clean)).settled current p stands in
+            (adopted.settled clean p was, adopted.meets clean p (seen_of current _ p was)),
       ));
     }
 
@@ -73,7 +64,8 @@ module _ (old mid new : State) (finds : FindsLeft old mid) where
       let early : HasCleanDisk mid = omega (arith, clean, declined.survives.clean) in
       ∥∥₁_elim (finds.found early) (λ a b. absurd a) (λ may.
       let it = left mid.committed.trees may in
-      none_is_declined it.0 why it.2 (declined.declines clean it.0 (seen_of current _ it.0 ((finds.is early).settled current it.0 it.1))) other)
+      none_is_declined it.0 why it.2
+      (declined.declines clean it.0 (seen_of current _ it.0 ((finds.is early).settled current it.0 it.1))) other)
 
   declines : (why : Open) → IsNotAdopted mid new why → HasCleanDisk new → LeavesPackages old → IsFault why
   declines (opens.Fault fault) declined clean left = declined.profile clean
@@ -89,7 +81,8 @@ module _ (old mid new : State) (finds : FindsLeft old mid) where
       record {
         mode = idle;
         clean = λ clean. finds.clean (early clean);
-        found = λ clean. ∥∥₁_map (finds.found (early clean)) (λ may. (mid.committed.trees, may, kept_on mid new why (finds.is (early clean)) declined clean));
+        found = λ clean. ∥∥₁_map (finds.found (early clean))
+            (λ may. (mid.committed.trees, may, kept_on mid new why (finds.is (early clean)) declined clean));
         faults = declines why declined;
       }
 
@@ -100,7 +93,9 @@ reopens_by old mid new finds adopted =
     let early : HasCleanDisk new → HasCleanDisk mid = λ clean. omega (arith, clean, adopted.survives.clean) in
     let again : HasCleanDisk new → (p : Package) → StandsForCurrent old.committed.trees p → IsSoundOn new p =
     λ clean p stands.
-    let was = (finds.is (early clean)).settled current p (subst (λ db. StandsForCurrent db p) (sym (finds.found (early clean))) stands) in (adopted.settled clean p was, adopted.meets clean p (seen_of current _ p was)) in
+    let was = (finds.is (early clean)).settled current p
+    (subst (λ db. StandsForCurrent db p) (sym (finds.found (early clean))) stands) in
+    (adopted.settled clean p was, adopted.meets clean p (seen_of current _ p was)) in
     record {
       clean = λ clean. finds.clean (early clean);
       is_open = adopted.is_open;
@@ -109,20 +104,25 @@ reopens_by old mid new finds adopted =
     }
 
 module _ (old mid new : State) (finds : FindsCommitted old mid) where
-  refuses : (why : Open) → IsNotAdopted mid new why → is_fault why ≡ false → HasCleanDisk new → (p : Package) → StandsForCurrent old.committed.trees p
+  refuses : (why : Open) → IsNotAdopted mid new why → is_fault why ≡ false → HasCleanDisk new → (p : Package)
+      → StandsForCurrent old.committed.trees p
       → Meets current p → ⊥
   refuses why declined other clean p stands meets =
       let early : HasCleanDisk mid = omega (arith, clean, declined.survives.clean) in
-      let was = (finds.is early).settled current p (subst (λ db. StandsForCurrent db p) (sym (finds.found early)) stands) in
+      let was = (finds.is early).settled current p
+      (subst (λ db. StandsForCurrent db p) (sym (finds.found early)) stands) in
       none_is_declined p why meets (declined.declines clean p (seen_of current _ p was)) other
 
-  refused_for : (why : Open) → IsNotAdopted mid new why → HasCleanDisk new → (p : Package) → StandsForCurrent old.committed.trees p → Meets current p
+  refused_for : (why : Open) → IsNotAdopted mid new why → HasCleanDisk new → (p : Package)
+      → StandsForCurrent old.committed.trees p → Meets current p
       → IsFault why
   refused_for (opens.Fault fault) declined clean p stands meets = declined.profile clean
   refused_for (opens.Rule k) declined clean p stands meets = refuses (opens.Rule k) declined refl clean p stands meets
-  refused_for (opens.Version version) declined clean p stands meets = refuses (opens.Version version) declined refl clean p stands meets
+  refused_for (opens.Version version) declined clean p stands meets =
+      refuses (opens.Version version) declined refl clean p stands meets
   refused_for opens.NoProfile declined clean p stands meets = refuses opens.NoProfile declined refl clean p stands meets
-  refused_for opens.BadProfile declined clean p stands meets = refuses opens.BadProfile declined refl clean p stands meets
+  refused_for opens.BadProfile declined clean p stands meets =
+      refuses opens.BadProfile declined refl clean p stands meets
   refused_for opens.BadBlobs declined clean p stands meets = refuses opens.BadBlobs declined refl clean p stands meets
 
   pub redeclines_by : (why : Open) → new.in_transaction ≡ false → IsNotAdopted mid new why → IsRedeclined old new why
@@ -132,6 +132,7 @@ module _ (old mid new : State) (finds : FindsCommitted old mid) where
         mode = idle;
         clean = λ clean. finds.clean (early clean);
         was_open = λ clean. finds.was_open (early clean);
-        found = λ clean. subst (λ db. IsKeptOn new db why) (finds.found (early clean)) (kept_on mid new why (finds.is (early clean)) declined clean);
+        found = λ clean. subst (λ db. IsKeptOn new db why) (finds.found (early clean))
+            (kept_on mid new why (finds.is (early clean)) declined clean);
         faults = refused_for why declined;
       }

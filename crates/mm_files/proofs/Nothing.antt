@@ -18,12 +18,16 @@ use Rattle.sqlite_trees.specs.Objects.{catalog_tree}
 use Rattle.sqlite.specs.Files.{IsNothing, AreFoundIn}
 
 -- files that hold a database are not blank: its first page begins with the S of SQLite
-module _ (size : ℕ) (image : Image) (pages : PageMap) (found : Adopts size image pages) (sound : IsSoundFile size pages) where
+module _ (size : ℕ) (image : Image) (pages : PageMap) (found : Adopts size image pages)
+    (sound : IsSoundFile size pages) where
   begins : (page : List ℕ) → found.stored 1 ≡ Some page → (0 < size) × (1 < length page) × (slice_index page 0 ≡ 83)
   begins page is =
-      let used : pages 1 ≡ Some (take size page) = ap (λ (p : PageMap). p 1) (sym found.shows) ∙ trimmed_some size _ 1 page is in
-      let head : header_in pages ≡ take 100 (take size page) = ap (λ (o : Option (List ℕ)). take 100 (unwrap_or o [])) used in
-      let front : take 16 (take 100 (take size page)) ≡ codes "SQLite format 3" ++ 0 ∷ [] = sym (ap (take 16) head) ∙ sound.header.0.magic in
+      let used : pages 1 ≡ Some (take size page) =
+      ap (λ (p : PageMap). p 1) (sym found.shows) ∙ trimmed_some size _ 1 page is in
+      let head : header_in pages ≡ take 100 (take size page) =
+      ap (λ (o : Option (List ℕ)). take 100 (unwrap_or o [])) used in
+      let front : take 16 (take 100 (take size page)) ≡ codes "SQLite format 3" ++ 0 ∷ [] =
+      sym (ap (take 16) head) ∙ sound.header.0.magic in
       let long : length (take 16 (take 100 (take size page))) ≡ 16 = ap length front in
       let most = length-take 16 (take 100 (take size page)) in
       let more = length-take 100 (take size page) in
@@ -50,5 +54,6 @@ module _ (size : ℕ) (image : Image) (pages : PageMap) (found : Adopts size ima
   never_nothing (inr summed) = never_blank (used_size 4096 true) (omega arith) summed
 
 pub nothing_found : (image : Image) (db : Trees) → IsNothing image → AreFoundIn image db → db catalog_tree ≡ []
-nothing_found image db nothing (inl it) = absurd (∥∥₁_elim it.4 (λ a b. absurd a) (λ ours. never_nothing it.0 image it.1 it.3 ours.file.sound nothing))
+nothing_found image db nothing (inl it) =
+    absurd (∥∥₁_elim it.4 (λ a b. absurd a) (λ ours. never_nothing it.0 image it.1 it.3 ours.file.sound nothing))
 nothing_found image db nothing (inr it) = it.1.1

@@ -24,11 +24,13 @@ abbrev pub IsWhyNot : Option ℕ → NotDone → Type 0
 IsWhyNot bytes why.NotEmpty = bytes ≡ None
 IsWhyNot bytes (why.Fault fault) = IsStoreFault fault
 
--- The file was not opened, and nothing was printed; or the work was done to its end, and the files could not be closed behind it.
+-- The file was not opened, and nothing was printed; or the work was done to its end, and the files could not be closed
+-- behind it.
 abbrev pub IsUntold : {Done : Type 0} → (Written → Written → Done → Type 0) → (Done → Bool) → Written → Written → Type 0
 IsUntold {Done} comes_to closes old new = (new ≡ old) ⊎ ((done : Done) × comes_to old new done × (closes done ≡ true))
 
 -- Where bytes stand nothing was printed.
-abbrev pub IsUntoldFor : {Done : Type 0} → (Written → Written → Done → Type 0) → (Done → Bool) → Written → Written → NotDone → Type 0
+abbrev pub IsUntoldFor : {Done : Type 0} → (Written → Written → Done → Type 0) → (Done → Bool) → Written → Written
+    → NotDone → Type 0
 IsUntoldFor comes_to closes old new why.NotEmpty = new ≡ old
 IsUntoldFor comes_to closes old new (why.Fault fault) = IsUntold comes_to closes old new

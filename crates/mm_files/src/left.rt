@@ -26,7 +26,8 @@ pub struct Unclosed<'a, D: Disk> {
     /// The path that the system was given.
     pub path: &'a str,
     pub files: Files<D>,
-    /// The fault left the store open, as one does that comes while pages are copied; one that comes as the journal is begun anew shuts it.
+    /// The fault left the store open, as one does that comes while pages are copied; one that comes as the journal is
+    /// begun anew shuts it.
     pub is_open: bool,
 }
 

@@ -1,5 +1,6 @@
-//! Work on a file of the system: a connection to it is opened, the work is done on that, and it is closed. A function that names the
-//! store of a file is dear to check, so the few that have to stand here, and work is stated over any store.
+//! Work on a file of the system: a connection to it is opened, the work is done on that, and it is closed. A function
+//! that names the store of a file is dear to check, so the few that have to stand here, and work is stated over any
+//! store.
 //!
 //! - `works`: what work on a connection is.
 //! - `files`: the file and its journal, opened and closed.

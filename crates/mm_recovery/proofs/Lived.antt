@@ -18,12 +18,17 @@ use Rattle.mm_recovery.specs.Lived.{HasLived}
 use Rattle.mm_recovery.specs.Made.{IsMadeOn}
 use Rattle.mm_recovery.specs.Recovered.{IsReopened}
 
-module _ {D : Type 0} (g : Ghosts D) (files : Files D) (made ran again ended : State) (moment : ℕ) (source source2 : Option (List ℕ)) (old mid new : Written) (failed failed2 : Bool) (t t2 : Tally) where
+module _ {D : Type 0} (g : Ghosts D) (files : Files D) (made ran again ended : State) (moment : ℕ)
+    (source source2 : Option (List ℕ)) (old mid new : Written) (failed failed2 : Bool) (t t2 : Tally) where
   abbrev RunTellsAll : State → State → Bool → Option (List ℕ) → Written → Written → Tally → Type 0
-  RunTellsAll before after flag from w v tally = OnRun (HasCleanDisk after) (λ p. IsSettled current before p) from (λ p bytes. RanAll p moment bytes (shown_on flag after) w v tally)
+  RunTellsAll before after flag from w v tally =
+      OnRun (HasCleanDisk after) (λ p. IsSettled current before p) from
+      (λ p bytes. RanAll p moment bytes (shown_on flag after) w v tally)
 
-  pub has_lived : IsMadeOn g files made → (HasCleanDisk ran → HasCleanDisk made) → RunTellsAll made ran failed source old mid t → IsReopened ran again
-      → (HasCleanDisk ended → HasCleanDisk again) → RunTellsAll again ended failed2 source2 mid new t2 → HasLived g files moment source source2 old new ended
+  pub has_lived : IsMadeOn g files made → (HasCleanDisk ran → HasCleanDisk made)
+      → RunTellsAll made ran failed source old mid t → IsReopened ran again
+      → (HasCleanDisk ended → HasCleanDisk again) → RunTellsAll again ended failed2 source2 mid new t2
+      → HasLived g files moment source source2 old new ended
   has_lived is_made calm first reopened calm2 second clean are bytes is bytes2 is2 =
       let clean_again = calm2 clean in
       let clean_ran = reopened.clean clean_again in

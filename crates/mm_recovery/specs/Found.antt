@@ -24,16 +24,18 @@ module _ {D : Type 0} (g : Ghosts D) where
 
   -- whatever a crash leaves of the files, they hold one of these databases
   abbrev pub HoldOneOf : (Trees → Type 0) → Files D → Type 0
-  HoldOneOf P files = (image : Image) → outcomes g files.log files.db image → ∥ ((db : Trees) × P db × HoldsDatabase image db) ∥₁
+  HoldOneOf P files =
+      (image : Image) → outcomes g files.log files.db image → ∥ ((db : Trees) × P db × HoldsDatabase image db) ∥₁
 
 module _ {D : Type 0} {g : Ghosts D} where
-  -- Whatever a crash leaves of the files, they hold a database that this connection told might be left. So what it leaves of the
-  -- connection's own files may be handed in, each time that they are lost.
+  -- Whatever a crash leaves of the files, they hold a database that this connection told might be left. So what it
+  -- leaves of the connection's own files may be handed in, each time that they are lost.
   pub record AreLeftBy (old : Held (FileStore D g)) (files : Files D) : Type 0 where
     pub clean : AreClean g files.log files.db → HasCleanDisk (file_state old)
     pub hold : AreClean g files.log files.db → HoldOneOf g (file_state old).may_leave files
 
-  -- The connection's files were closed: its store was open, and whatever a crash leaves of them, they hold its last commit.
+  -- The connection's files were closed: its store was open, and whatever a crash leaves of them, they hold its last
+  -- commit.
   pub record AreClosed (old : Held (FileStore D g)) (files : Files D) : Type 0 where
     pub was_open : AreClean g files.log files.db → IsTrue (file_state old).is_open
     pub hold : AreClean g files.log files.db → HoldOneOf g (λ db. db ≡ (file_state old).committed.trees) files
@@ -47,13 +49,15 @@ IsSettledByFound new = (p : Package) → StandsFor current.version new.committed
 
 -- the same of a package in whatever profile
 abbrev pub IsSettledInEach : State → Type 0
-IsSettledInEach new = (profile : Profile) (p : Package) → StandsFor profile.version new.committed.trees p → IsSettled profile new p
+IsSettledInEach new =
+    (profile : Profile) (p : Package) → StandsFor profile.version new.committed.trees p → IsSettled profile new p
 
 -- where the database that it found has no table, a package can be made on it
 abbrev pub IsBlankByFound : State → Type 0
 IsBlankByFound new = HasNoTable new.committed.trees → IsBlank new
 
--- The store is open, no other database may be left than the one that was found, and the connection is settled for what it stands for.
+-- The store is open, no other database may be left than the one that was found, and the connection is settled for what
+-- it stands for.
 pub record IsFoundAlone (new : State) : Type 0 where
   pub is_open : IsTrue new.is_open
   pub only : (db : Trees) → new.may_leave db → db ≡ new.committed.trees
@@ -76,8 +80,10 @@ pub record FindsCommitted (old new : State) : Type 0 where
 module _ {D : Type 0} {g : Ghosts D} where
   -- of whichever connection the files hold what might be left
   abbrev pub FindsLeftIn : Files D → Held (FileStore D g) → Type 0
-  FindsLeftIn files new = (old : Held (FileStore D g)) → AreLeftBy old files → FindsLeft (file_state old) (file_state new)
+  FindsLeftIn files new =
+      (old : Held (FileStore D g)) → AreLeftBy old files → FindsLeft (file_state old) (file_state new)
 
   -- of whichever connection they were closed
   abbrev pub FindsClosedIn : Files D → Held (FileStore D g) → Type 0
-  FindsClosedIn files new = (old : Held (FileStore D g)) → AreClosed old files → FindsCommitted (file_state old) (file_state new)
+  FindsClosedIn files new =
+      (old : Held (FileStore D g)) → AreClosed old files → FindsCommitted (file_state old) (file_state new)

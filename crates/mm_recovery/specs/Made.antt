@@ -28,7 +28,8 @@ use Rattle.mm_recovery.specs.declared.stops.NotBegun.TheVariants as begun
 -- ---- new files
 
 module _ {D : Type 0} (g : Ghosts D) where
-  -- The files are blank: empty, or as an open left them that was stopped before there was a database. Or none that is found in them has a table.
+  -- The files are blank: empty, or as an open left them that was stopped before there was a database. Or none that is
+  -- found in them has a table.
   abbrev pub AreNew : Files D → Type 0
   AreNew files = IsNothing (image_of g files) ⊎ ((db : Trees) → AreFound g files db → HasNoTable db)
 
@@ -47,16 +48,18 @@ abbrev pub LeavesNoMore : State → Type 0
 LeavesNoMore s = (db : Trees) → s.may_leave db → HasNoTable db ⊎ StandsFor current.version db opening
 
 module _ {D : Type 0} {g : Ghosts D} where
-  -- The files could not be opened, and no more is left of them than before; or they were, and then no more than a new package.
+  -- The files could not be opened, and no more is left of them than before; or they were, and then no more than a new
+  -- package.
   abbrev pub IsLeftOn : Files D → NotBegun D g → Type 0
   IsLeftOn files (begun.Unopened stop) = IsNotOpened files stop
   IsLeftOn files (begun.Declined conn why) =
-      (conn.in_transaction ≡ false) × IsFault why × (HasCleanDisk (file_state conn) → AreNew g files → LeavesNoMore (file_state conn))
+      (conn.in_transaction ≡ false) × IsFault why
+      × (HasCleanDisk (file_state conn) → AreNew g files → LeavesNoMore (file_state conn))
 
 -- ---- a connection that a making may have left
 
--- The store is open. It is settled for a new package where there was no table, and else for the package that it was settled for. Where
--- it read as a package, of whatever profile, nothing was committed.
+-- The store is open. It is settled for a new package where there was no table, and else for the package that it was
+-- settled for. Where it read as a package, of whatever profile, nothing was committed.
 pub record IsMadeOrFound (old new : State) : Type 0 where
   pub survives : Survives old new (MayMake old)
   pub is_open : HasCleanDisk new → IsTrue new.is_open
@@ -69,8 +72,8 @@ abbrev pub OnlyStoreFault : Open → Type 0
 OnlyStoreFault (opens.Fault fault) = IsStoreFault fault
 OnlyStoreFault _ = ⊤
 
--- Where there was no table it is a fault, and no more is left than a new package. A package is left as it was, and declined for a cause.
--- Where it read as a package, of whatever profile, nothing was committed.
+-- Where there was no table it is a fault, and no more is left than a new package. A package is left as it was, and
+-- declined for a cause. Where it read as a package, of whatever profile, nothing was committed.
 pub record IsNeither (old new : State) (why : Open) : Type 0 where
   pub survives : Survives old new (MayMake old)
   pub faults : HasCleanDisk new → OnlyStoreFault why
@@ -96,10 +99,12 @@ pub record IsStoppedAgain (old new : State) (why : Open) : Type 0 where
 module _ {D : Type 0} {g : Ghosts D} where
   -- of whichever connection the files hold what might be left
   abbrev pub MakesAgain : Files D → Held (FileStore D g) → Type 0
-  MakesAgain files new = (old : Held (FileStore D g)) → AreLeftBy old files → IsMadeAgain (file_state old) (file_state new)
+  MakesAgain files new =
+      (old : Held (FileStore D g)) → AreLeftBy old files → IsMadeAgain (file_state old) (file_state new)
 
   -- The files could not be opened, and no more is left of them than before; or they were.
   abbrev pub IsNotMadeAgain : Files D → NotBegun D g → Type 0
   IsNotMadeAgain files (begun.Unopened stop) = IsNotOpened files stop × LeadsBack files stop
   IsNotMadeAgain files (begun.Declined conn why) =
-      (conn.in_transaction ≡ false) × ((old : Held (FileStore D g)) → AreLeftBy old files → IsStoppedAgain (file_state old) (file_state conn) why)
+      (conn.in_transaction ≡ false)
+      × ((old : Held (FileStore D g)) → AreLeftBy old files → IsStoppedAgain (file_state old) (file_state conn) why)

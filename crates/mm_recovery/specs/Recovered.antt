@@ -35,9 +35,10 @@ abbrev pub IsFault : Open → Type 0
 IsFault (opens.Fault fault) = IsStoreFault fault
 IsFault _ = ⊥
 
--- What comes back of a connection that found this database, and is declined: no other may be left, and it is settled for each package,
--- in whatever profile, that the database stands for. It is told why as `adopt` tells it: a package of this profile breaks the rule
--- that is told, or it is a fault; and without a table there is no profile, or it is a fault.
+-- What comes back of a connection that found this database, and is declined: no other may be left, and it is settled
+-- for each package, in whatever profile, that the database stands for. It is told why as `adopt` tells it: a package of
+-- this profile breaks the rule that is told, or it is a fault; and without a table there is no profile, or it is a
+-- fault.
 pub record IsKeptOn (s : State) (db : Trees) (why : Open) : Type 0 where
   pub only : (other : Trees) → s.may_leave other → other ≡ db
   pub settled : (profile : Profile) (p : Package) → StandsFor profile.version db p → IsSettled profile s p
@@ -50,7 +51,8 @@ pub record IsKeptOn (s : State) (db : Trees) (why : Open) : Type 0 where
 pub record IsRecovered (old new : State) : Type 0 where
   pub clean : HasCleanDisk new → HasCleanDisk old
   pub is_open : HasCleanDisk new → IsTrue new.is_open
-  pub found : HasCleanDisk new → ∥ ((db : Trees) × old.may_leave db × ((p : Package) → StandsForCurrent db p → IsSoundOn new p)) ∥₁
+  pub found : HasCleanDisk new
+      → ∥ ((db : Trees) × old.may_leave db × ((p : Package) → StandsForCurrent db p → IsSoundOn new p)) ∥₁
 
 -- One of them was found, and the connection is handed back as it was opened. Where packages were left it is a fault.
 pub record IsHandedBack (old new : State) (why : Open) : Type 0 where
@@ -62,26 +64,29 @@ pub record IsHandedBack (old new : State) (why : Open) : Type 0 where
 module _ {D : Type 0} {g : Ghosts D} where
   -- of whichever connection the files hold what might be left
   abbrev pub AdoptsLeft : Files D → Held (FileStore D g) → Type 0
-  AdoptsLeft files new = (old : Held (FileStore D g)) → AreLeftBy old files → IsRecovered (file_state old) (file_state new)
+  AdoptsLeft files new =
+      (old : Held (FileStore D g)) → AreLeftBy old files → IsRecovered (file_state old) (file_state new)
 
   -- They could not be opened, and no more is left of them than before; or they were, and the package is declined.
   abbrev pub DeclinesLeft : Files D → NotBegun D g → Type 0
   DeclinesLeft files (begun.Unopened stop) =
       IsNotOpened files stop × LeadsBack files stop
   DeclinesLeft files (begun.Declined conn why) =
-      (conn.in_transaction ≡ false) × ((old : Held (FileStore D g)) → AreLeftBy old files → IsHandedBack (file_state old) (file_state conn) why)
+      (conn.in_transaction ≡ false)
+      × ((old : Held (FileStore D g)) → AreLeftBy old files → IsHandedBack (file_state old) (file_state conn) why)
 
 -- ---- files that were closed
 
--- The database of the last commit was found, of a store that was open; the session is open, and settled for what that stands for, and so
--- for the package that the closed one was settled for.
+-- The database of the last commit was found, of a store that was open; the session is open, and settled for what that
+-- stands for, and so for the package that the closed one was settled for.
 pub record IsReopened (old new : State) : Type 0 where
   pub clean : HasCleanDisk new → HasCleanDisk old
   pub is_open : HasCleanDisk new → IsTrue new.is_open
   pub settled : HasCleanDisk new → (p : Package) → StandsForCurrent old.committed.trees p → IsSoundOn new p
   pub kept : HasCleanDisk new → (p : Package) → IsSettled current old p → IsSoundOn new p
 
--- It was found, and the connection is handed back as it was opened. Where it stands for a package that meets the rules it is a fault.
+-- It was found, and the connection is handed back as it was opened. Where it stands for a package that meets the rules
+-- it is a fault.
 pub record IsRedeclined (old new : State) (why : Open) : Type 0 where
   pub mode : new.in_transaction ≡ false
   pub clean : HasCleanDisk new → HasCleanDisk old
@@ -92,14 +97,17 @@ pub record IsRedeclined (old new : State) (why : Open) : Type 0 where
 module _ {D : Type 0} {g : Ghosts D} where
   -- of whichever connection they were closed
   abbrev pub AdoptsClosed : Files D → Held (FileStore D g) → Type 0
-  AdoptsClosed files new = (old : Held (FileStore D g)) → AreClosed old files → IsReopened (file_state old) (file_state new)
+  AdoptsClosed files new =
+      (old : Held (FileStore D g)) → AreClosed old files → IsReopened (file_state old) (file_state new)
 
   abbrev pub DeclinesClosed : Files D → NotBegun D g → Type 0
   DeclinesClosed files (begun.Unopened stop) = ⊤
-  DeclinesClosed files (begun.Declined conn why) = (old : Held (FileStore D g)) → AreClosed old files → IsRedeclined (file_state old) (file_state conn) why
+  DeclinesClosed files (begun.Declined conn why) =
+      (old : Held (FileStore D g)) → AreClosed old files → IsRedeclined (file_state old) (file_state conn) why
 
-  -- The files could not be closed or opened: a fault, and on a disk that tells no lie no more is left of them than before. Or they
-  -- were, and the package is declined.
+  -- The files could not be closed or opened: a fault, and on a disk that tells no lie no more is left of them than
+  -- before. Or they were, and the package is declined.
   abbrev pub IsNotReopened : Held (FileStore D g) → NotBegun D g → Type 0
-  IsNotReopened old (begun.Unopened stop) = IsStoreFault (fault_in stop) × (TellsNoLie g → LeadsTo (file_state old).may_leave (rest_of stop))
+  IsNotReopened old (begun.Unopened stop) =
+      IsStoreFault (fault_in stop) × (TellsNoLie g → LeadsTo (file_state old).may_leave (rest_of stop))
   IsNotReopened old (begun.Declined conn why) = IsRedeclined (file_state old) (file_state conn) why

@@ -12,8 +12,10 @@ use Rattle.mm_work.specs.Looked.{IsListing, IsListingCut}
 use Rattle.mm_definitions.specs.Streams.{Written, written_as}
 use Rattle.mm_definitions.specs.declared.answers.Fault.{Fault}
 
-pub lists : (old mid new : State) (held holds : Option (List ℕ)) (before failed : Bool) (done : Unit {0}) → IsAdopted old mid
-    → IsListed current listing mid new (written_as held before) (written_as holds failed) (Ok done) → IsListing old new held holds
+pub lists : (old mid new : State) (held holds : Option (List ℕ)) (before failed : Bool) (done : Unit {0})
+    → IsAdopted old mid
+    → IsListed current listing mid new (written_as held before) (written_as holds failed) (Ok done)
+    → IsListing old new held holds
 lists old mid new held holds before failed done adopted listed =
     let early : HasCleanDisk new → HasCleanDisk mid = λ clean. omega (arith, clean, listed.survives.clean) in
     record {
@@ -24,7 +26,8 @@ lists old mid new held holds before failed done adopted listed =
       printed = λ clean p s. listed.written clean p (seen_of current mid p (adopted.settled (early clean) p s));
     }
 
-pub cuts : (old mid new : State) (held holds : Written) (fault : Fault) → IsAdopted old mid → IsListed current listing mid new held holds (Err fault)
+pub cuts : (old mid new : State) (held holds : Written) (fault : Fault) → IsAdopted old mid
+    → IsListed current listing mid new held holds (Err fault)
     → IsListingCut old new held holds fault
 cuts old mid new held holds fault adopted listed =
     let early : HasCleanDisk new → HasCleanDisk mid = λ clean. omega (arith, clean, listed.survives.clean) in

@@ -17,6 +17,7 @@ stop_of opens.BadBlobs = stops.NotPackage causes.BadBlobs
 stop_of (opens.Rule rule) = stops.Rule rule
 stop_of (opens.Fault fault) = stops.Fault fault
 
--- It wrote nothing to the package, and why it was not adopted is told: the rule that fails of a package that it is settled for, or a fault.
+-- It wrote nothing to the package, and why it was not adopted is told: the rule that fails of a package that it is
+-- settled for, or a fault.
 abbrev pub IsDeclined : State → State → Stop → Type 0
 IsDeclined old new why = (cause : Open) × IsNotAdopted old new cause × (why ≡ stop_of cause)

@@ -15,12 +15,14 @@ use Rattle.mm_kit.specs.Imports.{IsImportAnswered, IsImportStopped}
 -- answered, and the connection is settled for the package after it; or stopped by a fault, and so much may be left
 abbrev pub IsImport : Files → Text → Package → State → Result Staged KitFault → Type 0
 IsImport files name p new (Ok answer) = IsImportAnswered files name p (λ q. IsSettled current new q) answer
-IsImport files name p new (Err stopped) = IsImportStopped files name p (λ db. new.may_leave db) StandsForCurrent stopped.staged
+IsImport files name p new (Err stopped) =
+    IsImportStopped files name p (λ db. new.may_leave db) StandsForCurrent stopped.staged
 
 -- the line of an import that was answered: the number of pieces, or the piece that was refused and its number
 abbrev pub staged_text : Staged → List ℕ
 staged_text (answers.Complete count) = codes "kit complete " ++ decimal count ++ codes "\n"
-staged_text (answers.Refused piece number) = codes "kit refused " ++ decimal piece ++ codes " " ++ decimal number ++ codes "\n"
+staged_text (answers.Refused piece number) =
+    codes "kit refused " ++ decimal piece ++ codes " " ++ decimal number ++ codes "\n"
 
 -- the exit status of an import that was answered: 0 where it is complete, 1 where it was refused
 abbrev pub staged_status : Staged → ℕ

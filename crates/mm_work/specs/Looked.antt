@@ -35,16 +35,19 @@ pub record IsListing (old new : State) (held holds : Option (List ℕ)) : Type 0
   pub meets : HasCleanDisk new → (p : Package) → IsSettled current old p → Meets current p
   pub printed : HasCleanDisk new → (p : Package) → IsSettled current old p → Appends held holds (listing p)
 
--- It was adopted, and wrote nothing to the package, which meets the rules, and a beginning of its listing was printed. The fault is 97 exactly where the writer failed, and else 90 or 91.
+-- It was adopted, and wrote nothing to the package, which meets the rules, and a beginning of its listing was printed.
+-- The fault is 97 exactly where the writer failed, and else 90 or 91.
 pub record IsListingCut (old new : State) (held holds : Written) (fault : Fault) : Type 0 where
   pub survives : CommitsNothing old new
   pub adopted : WasAdopted old new
   pub settled : HasCleanDisk new → (p : Package) → IsSettled current old p → IsSettled current new p
   pub meets : HasCleanDisk new → (p : Package) → IsSettled current old p → Meets current p
-  pub begun : HasCleanDisk new → (p : Package) → IsSettled current old p → IsBegun held.contents holds.contents (listing p)
+  pub begun : HasCleanDisk new → (p : Package) → IsSettled current old p
+      → IsBegun held.contents holds.contents (listing p)
   pub writer : ListingTellsWriter held.failed holds.failed (Err fault)
 
 -- The package was not adopted, and nothing was printed; or it was, and a fault cut its listing short.
 abbrev pub IsUnlisted : State → State → Written → Written → Stop → Type 0
 IsUnlisted old new held holds why =
-    (IsDeclined old new why × (holds ≡ held)) ⊎ ((fault : Fault) × IsListingCut old new held holds fault × (why ≡ stops.Fault fault))
+    (IsDeclined old new why × (holds ≡ held))
+    ⊎ ((fault : Fault) × IsListingCut old new held holds fault × (why ≡ stops.Fault fault))

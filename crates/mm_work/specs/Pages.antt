@@ -1,5 +1,6 @@
 -- What is printed while the page is served.
-use Rattle.std.specs.Prelude.{◌≡◌, ◌≤◌, ◌⊎◌, ℕ, List, [], ◌∷◌, ◌++◌, map, option_map, take, length, Option, Result, Ok, Err, Bool, true, false, codes, decimal, All}
+use Rattle.std.specs.Prelude.{◌≡◌, ◌≤◌, ◌⊎◌, ℕ, List, [], ◌∷◌, ◌++◌, map, option_map, take, length, Option, Result, Ok}
+use Rattle.std.specs.Prelude.{Err, Bool, true, false, codes, decimal, All}
 use Rattle.std.specs.List.{concat}
 use Rattle.std.specs.Io.KnownBytes.{Appends}
 use Rattle.mm_definitions.specs.declared.answers.Fault.{Fault}
@@ -21,7 +22,8 @@ list_fault_text fault = codes "list fault " ++ decimal fault.0 ++ codes "\n"
 -- The bytes were printed whole; or the writer has failed, behind a front of them.
 abbrev pub IsPrinted : Written → Written → List ℕ → Bool → Type 0
 IsPrinted old new bytes true = Appends old.contents new.contents bytes × (new.failed ≡ old.failed)
-IsPrinted old new bytes false = (new.failed ≡ true) × (taken : ℕ) × (taken ≤ length bytes) × Appends old.contents new.contents (take taken bytes)
+IsPrinted old new bytes false =
+    (new.failed ≡ true) × (taken : ℕ) × (taken ≤ length bytes) × Appends old.contents new.contents (take taken bytes)
 
 -- 90, 91, 92, 96 or 97
 abbrev pub IsServiceFault : Fault → Type 0
@@ -50,10 +52,13 @@ abbrev pub service_status : List Fault → ℕ
 service_status [] = 0
 service_status (fault ∷ rest) = 3
 
--- As many connections were served as were to be, and what was printed is a line for each that met a fault; or the line of the last
--- that was served couldn't be printed whole, and 3 is answered.
+-- As many connections were served as were to be, and what was printed is a line for each that met a fault; or the line
+-- of the last that was served couldn't be printed whole, and 3 is answered.
 abbrev pub IsServed : ℕ → List Outcome → Written → Written → ℕ → Type 0
 IsServed count outcomes old new status = All IsServiceFault (faults_of outcomes)
-    × (((length outcomes ≡ count) × Appends old.contents new.contents (fault_lines outcomes) × (new.failed ≡ old.failed) × (status ≡ service_status (faults_of outcomes)))
-    ⊎ ((length outcomes ≤ count) × (new.failed ≡ true) × (status ≡ 3) × (first : List Outcome) × (why : PageFault) × (outcomes ≡ first ++ Err why ∷ [])
-    × (taken : ℕ) × (taken ≤ length (page_fault_text why.0)) × Appends old.contents new.contents (fault_lines first ++ take taken (page_fault_text why.0))))
+    × (((length outcomes ≡ count) × Appends old.contents new.contents (fault_lines outcomes) × (new.failed ≡ old.failed)
+    × (status ≡ service_status (faults_of outcomes)))
+    ⊎ ((length outcomes ≤ count) × (new.failed ≡ true) × (status ≡ 3) × (first : List Outcome) × (why : PageFault)
+    × (outcomes ≡ first ++ Err why ∷ [])
+    × (taken : ℕ) × (taken ≤ length (page_fault_text why.0))
+    × Appends old.contents new.contents (fault_lines first ++ take taken (page_fault_text why.0))))

@@ -16,15 +16,15 @@ use Rattle.mm_core.specs.Applied.{StandsForCurrent, shown_on}
 abbrev pub IsStatusOf : ℕ → ℕ → Type 0
 IsStatusOf refused status = ((refused ≡ 0) × (status ≡ 0)) ⊎ ((refused ≢ 0) × (status ≡ 1))
 
--- All records were answered, with status 0 or 1; or a fault ended the run, with status 3. It is told by what a new session on the
--- connection shows.
+-- All records were answered, with status 0 or 1; or a fault ended the run, with status 3. It is told by what a new
+-- session on the connection shows.
 abbrev pub IsListRun : Package → ℕ → List ℕ → State → Written → Written → ℕ → Type 0
 IsListRun p moment bytes end old new status =
     ((t : Tally) × RanAll p moment bytes (shown_on false end) old new t × IsStatusOf t.refused status)
     ⊎ ((e : RunFault) × RanSome p moment bytes (IsSettled current end) ⊤ (shown_on false end) old new e × (status ≡ 3))
 
--- Whatever the input tells: where the connection was settled for a package that meets the rules, each database that may be left stands
--- for such a one.
+-- Whatever the input tells: where the connection was settled for a package that meets the rules, each database that may
+-- be left stands for such a one.
 abbrev pub KeepsRules : State → State → Type 0
 KeepsRules old new = HasCleanDisk new → (p : Package) → IsSettled current old p → Meets current p
     → (db : Trees) → new.may_leave db → (q : Package) × StandsForCurrent db q × Meets current q

@@ -43,11 +43,13 @@ TellsReason old new number (Err fault) = IsTextPrinted old new (text_by (Some nu
 
 -- the text was printed, and its status is told; or a beginning of it was
 abbrev pub TellsRows : Package → Text → Option ℤ → Written → Written → Result ℕ Fault → Type 0
-TellsRows p table id old new (Ok status) = Appends old.contents new.contents (shown_text p table id) × (status ≡ shown_status p table id)
+TellsRows p table id old new (Ok status) =
+    Appends old.contents new.contents (shown_text p table id) × (status ≡ shown_status p table id)
 TellsRows p table id old new (Err fault) = IsBegun old.contents new.contents (shown_text p table id)
 
 -- It was adopted, and wrote nothing to the package, which meets the rules, and the text was printed, with its status.
-pub record IsShowing (table : Text) (id : Option ℤ) (old new : State) (held holds : Option (List ℕ)) (status : ℕ) : Type 0 where
+pub record IsShowing (table : Text) (id : Option ℤ) (old new : State) (held holds : Option (List ℕ))
+    (status : ℕ) : Type 0 where
   pub survives : CommitsNothing old new
   pub adopted : WasAdopted old new
   pub settled : HasCleanDisk new → (p : Package) → IsSettled current old p → IsSettled current new p
@@ -55,17 +57,20 @@ pub record IsShowing (table : Text) (id : Option ℤ) (old new : State) (held ho
   pub printed : HasCleanDisk new → (p : Package) → IsSettled current old p → Appends held holds (shown_text p table id)
   pub told : HasCleanDisk new → (p : Package) → IsSettled current old p → status ≡ shown_status p table id
 
--- It was adopted, and wrote nothing to the package, which meets the rules, and a beginning of the text was printed. The fault is 97 exactly
--- where the writer failed, and else 90 or 91.
-pub record IsShowingCut (table : Text) (id : Option ℤ) (old new : State) (held holds : Written) (fault : Fault) : Type 0 where
+-- It was adopted, and wrote nothing to the package, which meets the rules, and a beginning of the text was printed. The
+-- fault is 97 exactly where the writer failed, and else 90 or 91.
+pub record IsShowingCut (table : Text) (id : Option ℤ) (old new : State) (held holds : Written)
+    (fault : Fault) : Type 0 where
   pub survives : CommitsNothing old new
   pub adopted : WasAdopted old new
   pub settled : HasCleanDisk new → (p : Package) → IsSettled current old p → IsSettled current new p
   pub meets : HasCleanDisk new → (p : Package) → IsSettled current old p → Meets current p
-  pub begun : HasCleanDisk new → (p : Package) → IsSettled current old p → IsBegun held.contents holds.contents (shown_text p table id)
+  pub begun : HasCleanDisk new → (p : Package) → IsSettled current old p
+      → IsBegun held.contents holds.contents (shown_text p table id)
   pub writer : ListingTellsWriter held.failed holds.failed (Err fault)
 
 -- The package was not adopted, and nothing was printed; or it was, and a fault cut the text short.
 abbrev pub IsUnshown : Text → Option ℤ → State → State → Written → Written → Stop → Type 0
 IsUnshown table id old new held holds why =
-    (IsDeclined old new why × (holds ≡ held)) ⊎ ((fault : Fault) × IsShowingCut table id old new held holds fault × (why ≡ stops.Fault fault))
+    (IsDeclined old new why × (holds ≡ held))
+    ⊎ ((fault : Fault) × IsShowingCut table id old new held holds fault × (why ≡ stops.Fault fault))

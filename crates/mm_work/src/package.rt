@@ -26,8 +26,8 @@ use sqlite::{Alter, Connection};
 use std::alloc::Global;
 use std::io::{Read, Write};
 
-/// Makes a package in a database with no table, and hands the connection back. At a fault, 90 or 91, each database that may be left
-/// has no table or stands for the new package.
+/// Makes a package in a database with no table, and hands the connection back. At a fault, 90 or 91, each database that
+/// may be left has no table or stands for the new package.
 pub fn make_package<S: Alter + Drop>(
     alloc: Global,
     conn: Connection<S>,
@@ -59,7 +59,8 @@ pub(crate) fn stop_of(cause: Open) -> Stop
     }
 }
 
-/// A session on a package that is there and meets all rules. Else the connection is handed back, with why it is not adopted.
+/// A session on a package that is there and meets all rules. Else the connection is handed back, with why it is not
+/// adopted.
 pub fn adopt_package<S: Alter + Drop>(
     alloc: Global,
     conn: Connection<S>,
@@ -104,8 +105,8 @@ fn run_session<S: Alter, R: Read, W: Write>(
 }
 
 /// Runs the records of the input on a connection to a package, and hands it back with the exit status. What is then
-/// left of the package is stated for a connection that was settled for one. Where it is not adopted, it is handed back with
-/// why not, and then nothing was read or printed.
+/// left of the package is stated for a connection that was settled for one. Where it is not adopted, it is handed back
+/// with why not, and then nothing was read or printed.
 pub fn run_package<S: Alter + Drop, R: Read, W: Write>(
     alloc: Global,
     conn: Connection<S>,

@@ -32,8 +32,8 @@ pub fn check_package<S: Alter + Drop>(
     Ok(session.close())
 }
 
-/// Writes the listing of the package, and hands the connection back. Where it is not adopted, with why not, and then nothing was
-/// written; at a fault behind that a beginning of the listing was.
+/// Writes the listing of the package, and hands the connection back. Where it is not adopted, with why not, and then
+/// nothing was written; at a fault behind that a beginning of the listing was.
 pub fn list_package<S: Alter + Drop, W: Write>(
     alloc: Global,
     conn: Connection<S>,

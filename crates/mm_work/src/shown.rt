@@ -60,9 +60,9 @@ fn rows_told<D: Desk, W: Write>(
     }
 }
 
-/// Prints all rows of an attribute table, or the one of an id, as the records that write them, or why there are none, and hands the
-/// connection back with the exit status. Where the package is not adopted, with why not, and then nothing was printed; at a fault
-/// behind that a beginning was.
+/// Prints all rows of an attribute table, or the one of an id, as the records that write them, or why there are none,
+/// and hands the connection back with the exit status. Where the package is not adopted, with why not, and then nothing
+/// was printed; at a fault behind that a beginning was.
 pub fn show_package<S: Alter + Drop, W: Write>(
     alloc: Global,
     conn: Connection<S>,

@@ -28,8 +28,10 @@ returns-in-Ok-clause-kept g c = kept_by_copy c.args.conn c.close.result g.met.D.
     let first = c.into_store-store.ensures.undone.kept early in
     let on = c.in-Ok.ensures.open none in
     let same = c.checkpoint.ensures.same on in
-    let numbered : IsTrue (view last).is_numbered = ap (λ (v : View). v.is_numbered) same ∙ second.numbered ∙ c.into_store-store.ensures.numbered early in
-    let committed : (view last).committed ≡ (view c.args.conn.store).committed = ap (λ (v : View). v.committed) same ∙ second.committed h ∙ first.committed (second.was_open h) in
+    let numbered : IsTrue (view last).is_numbered =
+    ap (λ (v : View). v.is_numbered) same ∙ second.numbered ∙ c.into_store-store.ensures.numbered early in
+    let committed : (view last).committed ≡ (view c.args.conn.store).committed =
+    ap (λ (v : View). v.committed) same ∙ second.committed h ∙ first.committed (second.was_open h) in
     let each = λ (image : Image) (may : outcomes g.D.Disk c.close.result.log c.close.result.db image).
     subst (HoldsAlone image) committed (copied last stays on numbered
     (λ db found. c.into_store-store.ensures.sound early db (c.rollback.ensures.quiet.outcomes db (q.outcomes db found)))
@@ -54,6 +56,7 @@ returns-in-Err-clause-still g c =
     ap (λ (v : View). v.is_numbered) (c.checkpoint.ensures.same
     (open_by last _ (c.is_broken-is_open.ensures.shown none) on))
     ∙ (c.rollback.ensures.undone.kept clean).numbered ∙ c.into_store-store.ensures.numbered early)
-    (λ none db may. c.into_store-store.ensures.sound (omega (arith, q.clean, c.rollback.ensures.quiet.clean)) db (c.rollback.ensures.quiet.outcomes db (q.outcomes db may)))
+    (λ none db may. c.into_store-store.ensures.sound (omega (arith, q.clean, c.rollback.ensures.quiet.clean)) db
+    (c.rollback.ensures.quiet.outcomes db (q.outcomes db may)))
     (λ none. omega (arith, c.into_store-store.ensures.quiet.clean, c.rollback.ensures.quiet.clean, q.clean))
     (λ db may. c.into_store-store.ensures.quiet.outcomes db (c.rollback.ensures.quiet.outcomes db (q.outcomes db may)))

@@ -11,13 +11,16 @@ returns-in-Ok-open_files-clause-found g c = rw c.set_clock.ensures λ clean.
     let (log, db) = c.in-Ok-files_at.ensures.fresh in
     let found = c.in-Ok-open_files.ensures.found clean in
     let read = ap₂ image c.in-Ok-files_to_use.ensures.log.seen c.in-Ok-files_to_use.ensures.db.seen in
-    let same = ap₂ image (ap₂ (seen g.S.Start.log g.S.Start.db) log.0 log.1) (ap₂ (seen g.S.Start.log g.S.Start.db) db.0 db.1) in
-    subst (λ i. FindsIn i (file_state c.in-Ok-open_files.conn)) (read ∙ same) (record { holds = found.holds; reads = found.reads })
+    let same = ap₂ image (ap₂ (seen g.S.Start.log g.S.Start.db) log.0 log.1)
+    (ap₂ (seen g.S.Start.log g.S.Start.db) db.0 db.1) in
+    subst (λ i. FindsIn i (file_state c.in-Ok-open_files.conn)) (read ∙ same)
+    (record { holds = found.holds; reads = found.reads })
 
 pub returns-in-Ok-open_files-clause-bare : goal.returns-in-Ok-open_files-clause-bare
 returns-in-Ok-open_files-clause-bare g c = rw c.set_clock.ensures λ none clean.
     let (log, db) = c.in-Ok-files_at.ensures.fresh in
-    let same = ap₂ image (ap₂ (seen g.S.Start.log g.S.Start.db) log.0 log.1) (ap₂ (seen g.S.Start.log g.S.Start.db) db.0 db.1) in
+    let same = ap₂ image (ap₂ (seen g.S.Start.log g.S.Start.db) log.0 log.1)
+    (ap₂ (seen g.S.Start.log g.S.Start.db) db.0 db.1) in
     subst HoldNoByte same (c.in-Ok-files_to_use.ensures.bare none (c.in-Ok-open_files.ensures.found clean).honest)
 
 pub returns-in-Ok-open_files-clause-just : goal.returns-in-Ok-open_files-clause-just
@@ -31,10 +34,14 @@ returns-in-Err-open_files-clause-left g c clean =
     let reads = c.in-Ok-files_to_use.ensures in (
       c.in-Ok-files_to_use.files,
       record {
-        seen = ap₂ image reads.log.seen reads.db.seen ∙ ap₂ image (ap₂ (seen g.S.Start.log g.S.Start.db) log.0 log.1) (ap₂ (seen g.S.Start.log g.S.Start.db) db.0 db.1);
+        seen = ap₂ image reads.log.seen reads.db.seen
+            ∙ ap₂ image (ap₂ (seen g.S.Start.log g.S.Start.db) log.0 log.1)
+            (ap₂ (seen g.S.Start.log g.S.Start.db) db.0 db.1);
         only = λ left may. ap₂ image
-            (only_held g.S.Start.is_mixing left.log g.S.Start.log g.S.Start.db _ _ _ _ log.0 log.1 (reads.log.crash _ may.0))
-            (only_held g.S.Start.is_mixing left.db g.S.Start.log g.S.Start.db _ _ _ _ db.0 db.1 (reads.db.crash _ may.1));
+            (only_held g.S.Start.is_mixing left.log g.S.Start.log g.S.Start.db _ _ _ _ log.0 log.1
+            (reads.log.crash _ may.0))
+            (only_held g.S.Start.is_mixing left.db g.S.Start.log g.S.Start.db _ _ _ _ db.0 db.1
+            (reads.db.crash _ may.1));
       },
       c.in-Err-open_files.ensures.unharmed clean,
     )
@@ -45,7 +52,8 @@ returns-in-Err-files_to_use-clause-left g c clean =
     let reads = c.in-Err-files_to_use.ensures in (
       c.in-Ok-files_at.opened.files,
       record {
-        seen = ap₂ image (ap₂ (seen g.S.Start.log g.S.Start.db) log.0 log.1) (ap₂ (seen g.S.Start.log g.S.Start.db) db.0 db.1);
+        seen = ap₂ image (ap₂ (seen g.S.Start.log g.S.Start.db) log.0 log.1)
+            (ap₂ (seen g.S.Start.log g.S.Start.db) db.0 db.1);
         only = λ left may. ap₂ image
             (only_held g.S.Start.is_mixing left.log g.S.Start.log g.S.Start.db _ _ _ _ log.0 log.1 may.0)
             (only_held g.S.Start.is_mixing left.db g.S.Start.log g.S.Start.db _ _ _ _ db.0 db.1 may.1);

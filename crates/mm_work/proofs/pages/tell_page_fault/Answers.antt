@@ -1,4 +1,5 @@
 use Rattle.mm_work.proofs.pages.tell_page_fault.Goals as goal
 
 pub returns : goal.returns
-returns g c = rw (c.as_slice.ensures.value, c.numbered_line-line.ensures, c.number.ensures.number) at c.is_printed.ensures
+returns g c =
+    rw (c.as_slice.ensures.value, c.numbered_line-line.ensures, c.number.ensures.number) at c.is_printed.ensures

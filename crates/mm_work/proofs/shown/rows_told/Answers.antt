@@ -14,12 +14,15 @@ pub returns-in-Some-clause-told : goal.returns-in-Some-clause-told
 returns-in-Some-clause-told g c p on =
     let old = written g.W.Write.contents c.args.output.now in
     let mid = written g.W.Write.contents c.show_rows.new.output in
-    told_reason p c.args.table.now c.args.id old mid (written g.W.Write.contents c.tell_reason.new.output) c.in-Some.reason c.tell_reason.result
-    (subst (λ (o : Option ℕ). ShowsRecords p c.args.table.now c.args.id old mid (Ok o)) c.in-Some.is (c.in_ok-reason.ensures.shown p on)) c.tell_reason.ensures
+    told_reason p c.args.table.now c.args.id old mid (written g.W.Write.contents c.tell_reason.new.output)
+    c.in-Some.reason c.tell_reason.result
+    (subst (λ (o : Option ℕ). ShowsRecords p c.args.table.now c.args.id old mid (Ok o)) c.in-Some.is
+    (c.in_ok-reason.ensures.shown p on)) c.tell_reason.ensures
 
 pub returns-in-None-clause-told : goal.returns-in-None-clause-told
 returns-in-None-clause-told g c p on =
     let old = written g.W.Write.contents c.args.output.now in
     let new = written g.W.Write.contents c.show_rows.new.output in
     told_records p c.args.table.now c.args.id old new
-    (subst (λ (o : Option ℕ). ShowsRecords p c.args.table.now c.args.id old new (Ok o)) c.in-None.is (c.in_ok-reason.ensures.shown p on))
+    (subst (λ (o : Option ℕ). ShowsRecords p c.args.table.now c.args.id old new (Ok o)) c.in-None.is
+    (c.in_ok-reason.ensures.shown p on))

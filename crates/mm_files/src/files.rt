@@ -3,6 +3,7 @@
 ghost use Rattle.std.specs.Prelude.{◌≡◌, true, false, codes, nat_eq, None, IsTrue, IsErr, IfOk, IfErr, OnErr};
 ghost use Rattle.std.specs.List.{starts_with};
 ghost use Rattle.sqlite_std_file.specs.File.{IsFresh, file_is_usable};
+ghost use Rattle.mm_definitions.specs.Faults as faults;
 ghost use Rattle.mm_definitions.specs.Streams.{written};
 ghost use Rattle.sqlite.specs.Files.{file_state, image_of};
 ghost use Rattle.sqlite.specs.State.{HasCleanDisk};
@@ -42,7 +43,7 @@ fn pages_for(length: Option<u64>) -> usize {
 
 /// How a file of this length is opened: as the store opens files, but for the pages that it keeps. 91 where the system gives no seed.
 fn options_for(rt: &HostRuntime, length: Option<u64>) -> Result<Options, Fault>
-    ensures { IfErr result (λ fault. fault.0 ≡ 91) }
+    ensures { IfErr result (λ fault. fault.0 ≡ faults.store.0) }
 {
     let seed = match RandomState::new(rt) {
         Ok(state) => state.hash_one(&0u8),

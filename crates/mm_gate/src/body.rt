@@ -1,6 +1,7 @@
 //! A body of a known length, read whole.
 
 ghost use Rattle.std.specs.Prelude.{◌≡◌, ◌⊎◌, IfOk, IfErr, true};
+ghost use Rattle.mm_definitions.specs.Faults as faults;
 ghost use Rattle.mm_definitions.specs.Streams.{has_failed, inside};
 ghost use Rattle.mm_gate.specs.Bodies.{IsBody, IsReadFrugally};
 
@@ -24,7 +25,7 @@ pub fn read_body<R: Read>(
     ensures frugal { IsReadFrugally here.now length
         (R.remaining (inside reader.old)) (R.remaining (inside reader.new)) }
     ensures fault { IfErr result
-        (λ f. (f.0 ≡ 90) ⊎ ((f.0 ≡ 96) × (has_failed reader.new ≡ true))) }
+        (λ f. (f.0 ≡ faults.memory.0) ⊎ ((f.0 ≡ faults.input.0) × (has_failed reader.new ≡ true))) }
 {
     let mut body = Vec::new(alloc);
     let front = &here[..here.len().min(length)];

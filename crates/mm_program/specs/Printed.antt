@@ -6,6 +6,7 @@ use Rattle.mm_arguments.specs.CommandLine.{command_line}
 use Rattle.mm_arguments.specs.Requests.{WordsAsk, status_of}
 use Rattle.mm_arguments.specs.declared.requests.Request.{Request}
 use Rattle.mm_arguments.specs.declared.requests.Request.TheVariants as asked
+use Rattle.mm_definitions.specs.Faults as faults
 use Rattle.mm_definitions.specs.Bounds.{IsName}
 use Rattle.mm_definitions.specs.Keys.{Text}
 use Rattle.mm_definitions.specs.Streams.{Written}
@@ -38,7 +39,7 @@ TellsDecline old new result = result ≡ 4 → (why : Stop) × IsTold old new (s
 
 -- Want of memory is a fault. Help and usage are printed as `clap` has them, with their status, or with 3 where the writer failed.
 abbrev pub TellsStatus : Option ℕ → Written → Written → ℕ → Type 0
-TellsStatus None old new result = IsTold old new (stop_text (stops.Fault (record { 0 = 90 }))) 3 result
+TellsStatus None old new result = IsTold old new (stop_text (stops.Fault faults.memory)) 3 result
 TellsStatus (Some status) old new result = (result ≡ status) ⊎ (result ≡ 3)
 
 -- `init` prints one of its outcomes and nothing else

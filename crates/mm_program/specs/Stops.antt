@@ -1,5 +1,6 @@
 -- Why a file is not opened, or not adopted.
 use Rattle.std.specs.Prelude.{◌≡◌, ◌⊎◌, ⊤, ℕ, Option, None}
+use Rattle.mm_definitions.specs.Faults as faults
 use Rattle.mm_definitions.specs.declared.answers.Fault.{Fault}
 use Rattle.mm_work.specs.declared.stop.NoPackage.TheVariants as causes
 use Rattle.mm_work.specs.declared.stop.Stop.{Stop}
@@ -7,7 +8,7 @@ use Rattle.mm_work.specs.declared.stop.Stop.TheVariants as stops
 
 -- 90 want of memory, 91 the store, 96 the system
 abbrev pub IsFileFault : Fault → Type 0
-IsFileFault fault = (fault.0 ≡ 90) ⊎ (fault.0 ≡ 91) ⊎ (fault.0 ≡ 96)
+IsFileFault fault = (fault.0 ≡ faults.memory.0) ⊎ (fault.0 ≡ faults.store.0) ⊎ (fault.0 ≡ faults.input.0)
 
 -- of any file
 abbrev pub StopsAny : Stop → Type 0

@@ -1,6 +1,7 @@
 //! The page served over sockets.
 
 ghost use Rattle.std.specs.Prelude.{◌≡◌, ◌≤◌, ◌⊎◌, IfErr, IfOk, None};
+ghost use Rattle.mm_definitions.specs.Faults as faults;
 ghost use Rattle.mm_definitions.specs.Streams.{written};
 ghost use Rattle.mm_definitions.specs.Streams as streams;
 ghost use Rattle.mm_files.specs.Worked.{IsUnprinted};
@@ -99,7 +100,7 @@ fn serve_port<S: Alter, W: Write>(
     ensures served { IfOk result
         (IsServing port count (written W.contents output.old) (written W.contents output.new)) }
     ensures unused { IfErr result (λ why. output.new ≡ output.old) }
-    ensures unbound { IfErr result (λ why. why ≡ Stop.Fault (record { 0 = 96 })) }
+    ensures unbound { IfErr result (λ why. why ≡ Stop.Fault faults.input) }
     ensures kept { LeavesPackage
         (state S.Store (connection session.old)) (state S.Store (connection session.new)) }
 {

@@ -6,6 +6,7 @@ use Rattle.sqlite.specs.Held.{Held}
 use Rattle.sqlite.specs.Files.{file_state}
 use Rattle.sqlite.specs.State.{State, HasCleanDisk}
 use Rattle.sqlite.specs.declared.file.Leftover.{Leftover}
+use Rattle.mm_definitions.specs.Faults as faults
 use Rattle.mm_definitions.specs.Bounds.{current}
 use Rattle.mm_definitions.specs.Package.{Package}
 use Rattle.mm_definitions.specs.Streams.{Written}
@@ -41,8 +42,8 @@ module _ (before : Bool) (p : Package) (moment : ℕ) (bytes : List ℕ) (old ne
   abbrev pub RanAndFound : Result Tally RunFault → State → Type 0
   RanAndFound (Ok tally) again = RanAll p moment bytes (shown_again again) old new tally
   RanAndFound (Err stopped) again =
-      RanSome p moment bytes (λ q. IsSettled current again q × (stopped.fault.0 ≢ 91))
-      (stopped.fault.0 ≡ 96 → before ≡ true) (shown_again again) old new stopped
+      RanSome p moment bytes (λ q. IsSettled current again q × (stopped.fault.0 ≢ faults.store.0))
+      (stopped.fault.0 ≡ faults.input.0 → before ≡ true) (shown_again again) old new stopped
 
   -- the same with what the session shows where it ended
   abbrev pub RanThen : {D : Type 0} → Shown D → Result Tally RunFault → Type 0

@@ -2,6 +2,7 @@
 
 ghost use Rattle.std.specs.Prelude.{◌≡◌, ◌+ℤ◌, ℤ, pos, false, true, Err, Some, bytes_eq, IfErr, IfOk, IfSome, IsSome, OnOk, map, unwrap_or};
 ghost use Rattle.std.specs.List.{list_any};
+ghost use Rattle.mm_definitions.specs.Faults as faults;
 ghost use Rattle.mm_definitions.specs.Bounds.{current};
 ghost use Rattle.mm_definitions.specs.Keys.{same_number};
 ghost use Rattle.mm_definitions.specs.Package.{Package};
@@ -219,7 +220,7 @@ pub fn show_rows<D: Desk, W: Write>(
     ensures writer { IfErr result (λ fault. D.Viewer.has_failed desk.old ≡ false
         → ListingTellsWriter (has_failed output.old) (has_failed output.new) (Err fault)) }
     ensures ended { D.Viewer.has_failed desk.old ≡ true
-        → (result ≡ Err (record { 0 = 92 })) × (output.new ≡ output.old) }
+        → (result ≡ Err faults.reopen) × (output.new ≡ output.old) }
 {
     match desk.rows(table, id.unwrap_or(1))? {
         Some(rows) => show_found(alloc, desk, table, id, rows, output),

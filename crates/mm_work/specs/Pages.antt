@@ -3,6 +3,7 @@ use Rattle.std.specs.Prelude.{◌≡◌, ◌≤◌, ◌⊎◌, ℕ, List, [], �
 use Rattle.std.specs.Prelude.{Err, Bool, true, false, codes, decimal, All}
 use Rattle.std.specs.List.{concat}
 use Rattle.std.specs.Io.KnownBytes.{Appends}
+use Rattle.mm_definitions.specs.Faults as faults
 use Rattle.mm_definitions.specs.declared.answers.Fault.{Fault}
 use Rattle.mm_definitions.specs.declared.answers.PageFault.{PageFault}
 use Rattle.mm_definitions.specs.Streams.{Written}
@@ -27,7 +28,9 @@ IsPrinted old new bytes false =
 
 -- 90, 91, 92, 96 or 97
 abbrev pub IsServiceFault : Fault → Type 0
-IsServiceFault fault = (fault.0 ≡ 90) ⊎ (fault.0 ≡ 91) ⊎ (fault.0 ≡ 92) ⊎ (fault.0 ≡ 96) ⊎ (fault.0 ≡ 97)
+IsServiceFault fault =
+    (fault.0 ≡ faults.memory.0) ⊎ (fault.0 ≡ faults.store.0) ⊎ (fault.0 ≡ faults.reopen.0)
+    ⊎ (fault.0 ≡ faults.input.0) ⊎ (fault.0 ≡ faults.output.0)
 
 -- what became of a connection
 abbrev pub Outcome : Type 0

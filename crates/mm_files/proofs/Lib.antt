@@ -1,3 +1,4 @@
 pub mod Fresh
 pub mod Kept
 pub mod Nothing
+pub mod Unbegun

@@ -1,5 +1,5 @@
 -- What work on a file found, and what it leaves.
-use Rattle.std.specs.Prelude.{◌≡◌, ⊤, ℕ, Bool, true, false, List, [], IsTrue}
+use Rattle.std.specs.Prelude.{◌≡◌, ⊤, ℕ, Bool, true, false, List, [], Option, None, IsTrue}
 use Rattle.sqlite_disk.specs.declared.Disk.{Ghosts}
 use Rattle.sqlite_disk.specs.declared.Files.{Files}
 use Rattle.sqlite.specs.Tree.{Trees}
@@ -16,12 +16,13 @@ use Rattle.sqlite_store.specs.Listing.{IsOurs, file_trees}
 use Rattle.sqlite_store.specs.declared.catalog.Wanted.{Wanted}
 use Rattle.mm_definitions.specs.Keys.{Text}
 use Rattle.mm_definitions.specs.Streams.{Written}
-use Rattle.mm_files.specs.Files.{HoldNoByte}
+use Rattle.mm_files.specs.Files.{HoldNoByte, IsUntoldFor, IsWhyNot}
 use Rattle.mm_files.specs.declared.left.NotDone.{NotDone}
 use Rattle.mm_files.specs.declared.left.NotDone.TheVariants as why
 use Rattle.sqlite.specs.declared.file.Leftover.{Leftover}
 use Rattle.mm_files.specs.declared.left.Left.{Left}
 use Rattle.mm_files.specs.declared.left.Left.TheVariants as left
+use Rattle.mm_files.specs.declared.left.Opened.{Opened}
 
 -- ---- a connection
 
@@ -46,8 +47,8 @@ pub record HoldsAfter (closed : Bool) (image : Image) (db : Trees) : Type 0 wher
   pub both : HoldsDatabase image db
   pub alone : IsTrue closed → ∥ HoldsDatabase (record image { log = [] }) db ∥₁
 
--- The two files recover to pages of a sound file that read as the database, which obeys a schema: all that an open asks of them but
--- the numbers under which the file lists its trees.
+-- The two files recover to pages of a sound file that read as the database, which obeys a schema: all that an open asks
+-- of them but the numbers under which the file lists its trees.
 pub record FilesReadAs (image : Image) (db : Trees) : Type 0 where
   pub size : ℕ
   pub pages : PageMap
@@ -70,11 +71,15 @@ module _ {D : Type 0} (g : Ghosts D) where
 
   -- each thing that a crash, or none, may leave of the files holds such a database
   abbrev pub LeavesTo : (Trees → Type 0) → Bool → Files D → Type 0
-  LeavesTo is closed files = (image : Image) → outcomes g files.log files.db image → ∥ ((after : Trees) × is after × HoldsAfter closed image after) ∥₁
+  LeavesTo is closed files =
+      (image : Image) → outcomes g files.log files.db image
+      → ∥ ((after : Trees) × is after × HoldsAfter closed image after) ∥₁
 
   -- so of files that could not be closed
   abbrev pub LeavesStill : (Trees → Type 0) → Bool → Files D → Type 0
-  LeavesStill is is_open files = (image : Image) → outcomes g files.log files.db image → ∥ ((after : Trees) × is after × HoldsStill is_open image after) ∥₁
+  LeavesStill is is_open files =
+      (image : Image) → outcomes g files.log files.db image
+      → ∥ ((after : Trees) × is after × HoldsStill is_open image after) ∥₁
 
   -- Where the files are clean the disk was, and they hold a database that might be left, also after a crash.
   pub record KeepsLeft (s : State) (closed : Bool) (files : Files D) : Type 0 where
@@ -86,7 +91,8 @@ module _ {D : Type 0} (g : Ghosts D) where
     pub was_clean : AreClean g files.log files.db → HasCleanDisk s
     pub left : AreClean g files.log files.db → LeavesStill s.may_leave is_open files
 
-  module _ {Done : Type 0} (tells : Trees → Written → Written → Done → Type 0) (leaves : Trees → Trees → Written → Written → Done → Type 0)
+  module _ {Done : Type 0} (tells : Trees → Written → Written → Done → Type 0)
+      (leaves : Trees → Trees → Written → Written → Done → Type 0)
       (closed : Bool) (old new : Written) (files : Files D) (done : Done) where
     -- each thing that a crash may leave of the files holds what the work leaves of this database
     abbrev pub LeavesOf : Trees → Type 0
@@ -100,11 +106,14 @@ module _ {D : Type 0} (g : Ghosts D) where
 
     -- of what was found in the files, by what they held as they were opened
     abbrev pub WorkedFrom : Image → Type 0
-    WorkedFrom image = AreClean g files.log files.db → (found : Trees) × IsFoundIn image found × tells found old new done × LeavesOf found
+    WorkedFrom image =
+        AreClean g files.log files.db
+        → (found : Trees) × IsFoundIn image found × tells found old new done × LeavesOf found
 
-  -- Work that came to its end, behind which the files could not be closed: what was found is told of, and each thing that a crash, or none,
-  -- may leave of them reads as a database that the work leaves.
-  module _ {Done : Type 0} (tells : Trees → Written → Written → Done → Type 0) (leaves : Trees → Trees → Written → Written → Done → Type 0)
+  -- Work that came to its end, behind which the files could not be closed: what was found is told of, and each thing
+  -- that a crash, or none, may leave of them reads as a database that the work leaves.
+  module _ {Done : Type 0} (tells : Trees → Written → Written → Done → Type 0)
+      (leaves : Trees → Trees → Written → Written → Done → Type 0)
       (closes : Done → Bool) (old new : Written) (is_open : Bool) (files : Files D) where
     -- of the database that a connection found
     pub record EndedOn (s : State) : Type 0 where
@@ -112,19 +121,21 @@ module _ {D : Type 0} (g : Ghosts D) where
       pub ended : closes done ≡ true
       pub was_clean : AreClean g files.log files.db → HasCleanDisk s
       pub told : AreClean g files.log files.db → tells s.committed.trees old new done
-      pub left : AreClean g files.log files.db → LeavesStill (λ after. leaves s.committed.trees after old new done) is_open files
+      pub left : AreClean g files.log files.db
+          → LeavesStill (λ after. leaves s.committed.trees after old new done) is_open files
 
     -- of what was found in the files, by what they held as they were opened
     abbrev pub EndedFrom : Image → Type 0
     EndedFrom image = (done : Done) × (closes done ≡ true) × (AreClean g files.log files.db
-        → (found : Trees) × IsFoundIn image found × tells found old new done × LeavesStill (λ after. leaves found after old new done) is_open files)
+        → (found : Trees) × IsFoundIn image found × tells found old new done
+        × LeavesStill (λ after. leaves found after old new done) is_open files)
 
   -- an open of files that held this failed, and what it leaves is said of them
   abbrev pub IsRefused : Image → Leftover D g → Type 0
   IsRefused image rest = IsCleanLeft rest → (files : Files D) × AreHeld image files × LeavesFiles files rest
 
-  -- Of files that held this: none was opened; or an open failed, and what it leaves is said of them; or they were opened at this path, and
-  -- could not be closed.
+  -- Of files that held this: none was opened; or an open failed, and what it leaves is said of them; or they were
+  -- opened at this path, and could not be closed.
   abbrev pub IsUnworked : {S : Type 0} → Image → Text → Left D S g → Type 0
   IsUnworked image path (left.Untouched start) = ⊤
   IsUnworked image path left.Unopened = ⊤
@@ -145,9 +156,11 @@ module _ {D : Type 0} (g : Ghosts D) where
   IsUnprinted old new rest = new ≡ old
 
   -- files that could not be closed are left as the work leaves them
-  abbrev pub IsUnclosed : {S Done : Type 0} → (Trees → Written → Written → Done → Type 0) → (Trees → Trees → Written → Written → Done → Type 0)
+  abbrev pub IsUnclosed : {S Done : Type 0} → (Trees → Written → Written → Done → Type 0)
+      → (Trees → Trees → Written → Written → Done → Type 0)
       → (Done → Bool) → Written → Written → Image → Left D S g → Type 0
-  IsUnclosed tells leaves closes old new image (left.Unclosed it) = EndedFrom tells leaves closes old new it.is_open it.files image
+  IsUnclosed tells leaves closes old new image (left.Unclosed it) =
+      EndedFrom tells leaves closes old new it.is_open it.files image
   IsUnclosed tells leaves closes old new image rest = ⊤
 
   -- bytes are told where they stand, and of files alone that were opened
@@ -156,15 +169,49 @@ module _ {D : Type 0} (g : Ghosts D) where
   TellsFileBytes image why.NotEmpty other = ⊥
   TellsFileBytes image (why.Fault fault) rest = ⊤
 
+-- ---- work on a file
+
+-- Work on the files at a path, of so many bytes, or new ones, by what they held as they were opened, by what the work
+-- comes to, tells and leaves, and behind what it closes them, and by what was printed before and then is.
+module _ {D Done : Type 0} (g : Ghosts D) (image : Image) (path : Text) (bytes : Option ℕ)
+    (comes_to : Written → Written → Done → Type 0) (tells : Trees → Written → Written → Done → Type 0)
+    (leaves : Trees → Trees → Written → Written → Done → Type 0) (closes : Done → Bool) (old new : Written) where
+  -- it was done
+  pub record HasWorked (opened : Opened D) (done : Done) : Type 0 where
+    -- it came to this
+    pub came : comes_to old new done
+    -- on the files at that path
+    pub there : opened.path.now ≡ path
+    -- new files held no byte
+    pub bare : bytes ≡ None → AreClean g opened.files.log opened.files.db → HoldNoByte image
+    -- it is told of the database that was found, and what is left of the files is as the work leaves it
+    pub worked : WorkedFrom g tells leaves (closes done) old new opened.files done image
+
+  -- it was not done, or could not be told, for this cause
+  pub record HasNotWorked {S : Type 0} (rest : Left D S g) (cause : NotDone) : Type 0 where
+    -- bytes that stand in new files, or a fault of the store
+    pub why : IsWhyNot bytes cause
+    -- bytes are told where they stand
+    pub stand : TellsFileBytes g image cause rest
+    -- what an open that failed leaves is said of the files
+    pub left : IsUnworked g image path rest
+    -- files that could not be closed are left as the work leaves them
+    pub unclosed : IsUnclosed g tells leaves closes old new image rest
+    -- where no work was begun nothing was printed
+    pub unprinted : IsUnprinted g old new rest
+    -- nothing was printed, or the work was done to its end
+    pub untold : IsUntoldFor comes_to closes old new cause
+
 -- ---- from one to the next
 
 -- what one thing leaves of what the other leaves
 abbrev pub Both : (Trees → Trees → Type 0) → (Trees → Trees → Type 0) → Trees → Trees → Type 0
 Both first second db after = ∥ ((between : Trees) × first db between × second between after) ∥₁
 
--- Work on files that held an image, a crash or none that left of them another, and work on files that held that: of the database that
--- the first files held, each thing that a crash may now leave holds what both leave.
-abbrev pub IsNextRun : {D E : Type 0} → Ghosts D → Ghosts E → Image → Image → Bool → Bool → (Trees → Trees → Type 0) → (Trees → Trees → Type 0)
+-- Work on files that held an image, a crash or none that left of them another, and work on files that held that: of the
+-- database that the first files held, each thing that a crash may now leave holds what both leave.
+abbrev pub IsNextRun : {D E : Type 0} → Ghosts D → Ghosts E → Image → Image → Bool → Bool → (Trees → Trees → Type 0)
+    → (Trees → Trees → Type 0)
     → Files D → Files E → Type 0
 IsNextRun g h image next closed ended first second files left =
     ((db : Trees) → HoldsDatabase image db → LeavesTo g (first db) closed files) → outcomes g files.log files.db next

@@ -10,8 +10,9 @@ ghost use Rattle.sqlite.specs.State.{HasCleanDisk};
 ghost use Rattle.sqlite.specs.Start.{FindsIn};
 ghost use Rattle.sqlite.specs.WalFiles.{image_at};
 ghost use Rattle.sqlite.specs.WalReads.{AreClean, OnlyReads};
-ghost use Rattle.mm_files.specs.Files.{HoldNoByte, IsStoreFault, IsUntold, IsUntoldFor, IsWhyNot, TellsBare};
-ghost use Rattle.mm_files.specs.Worked.{EndedOn, IsJustOpened, IsUnbegun, IsUnclosed, IsUnprinted, IsUnworked, KeepsLeft, KeepsStill, TellsFileBytes, WorkedFrom, WorkedOn};
+ghost use Rattle.mm_files.specs.Files.{HoldNoByte, IsStoreFault, IsUntold, IsWhyNot, TellsBare};
+ghost use Rattle.mm_files.specs.Worked.{EndedOn, HasNotWorked, HasWorked, IsJustOpened, IsUnbegun, IsUnworked};
+ghost use Rattle.mm_files.specs.Worked.{KeepsLeft, KeepsStill, TellsFileBytes, WorkedOn};
 
 use crate::left::{Left, NotDone, Opened, Unclosed};
 use crate::works::Works;
@@ -30,7 +31,8 @@ use std::io::Write;
 /// How many bytes a page has.
 const PAGE: u64 = 4096;
 
-/// How many pages are kept at the least: to make room for as many as the store would takes longer than all else of opening a small package.
+/// How many pages are kept at the least: to make room for as many as the store would takes longer than all else of
+/// opening a small package.
 const FEWEST_PAGES: u64 = 512;
 
 /// How many pages are kept at the most, which is as many as the store would.
@@ -41,7 +43,8 @@ fn pages_for(length: Option<u64>) -> usize {
     (length.unwrap_or(0) / PAGE).clamp(FEWEST_PAGES, MOST_PAGES) as usize
 }
 
-/// How a file of this length is opened: as the store opens files, but for the pages that it keeps. 91 where the system gives no seed.
+/// How a file of this length is opened: as the store opens files, but for the pages that it keeps. 91 where the system
+/// gives no seed.
 fn options_for(rt: &HostRuntime, length: Option<u64>) -> Result<Options, Fault>
     ensures { IfErr result (λ fault. fault.0 ≡ faults.store.0) }
 {
@@ -54,7 +57,8 @@ fn options_for(rt: &HostRuntime, length: Option<u64>) -> Result<Options, Fault>
     Ok(options)
 }
 
-/// The file at a path with its journal. What SQLite means by another thing than a file is refused, and what stands for them handed back.
+/// The file at a path with its journal. What SQLite means by another thing than a file is refused, and what stands for
+/// them handed back.
 fn files_at<'a, S: Start>(
     rt: &HostRuntime,
     path: &'a str,
@@ -102,7 +106,8 @@ fn are_bare<D: Disk>(files: &mut Files<D>) -> Result<bool, Fault>
     Ok(log == 0 && db == 0)
 }
 
-/// The files as they are, where they may be worked on: of those that are to be new, which are given no length, neither holds a byte.
+/// The files as they are, where they may be worked on: of those that are to be new, which are given no length, neither
+/// holds a byte.
 fn files_to_use<D: Disk + Drop>(
     mut files: Files<D>,
     length: Option<u64>,
@@ -207,8 +212,8 @@ fn told_as(error: StoreError) -> Fault
     }
 }
 
-/// Closes the files, which copies the journal back, and gives them back. Where that fails they are given back as they are, with whether
-/// the store was open still.
+/// Closes the files, which copies the journal back, and gives them back. Where that fails they are given back as they
+/// are, with whether the store was open still.
 fn close_files<D: Disk + Drop>(
     conn: Connection<FileStore<D>>,
 ) -> Result<Files<D>, (Files<D>, bool, Fault)>
@@ -228,7 +233,8 @@ fn close_files<D: Disk + Drop>(
     }
 }
 
-/// Does work on a connection to files, and gives the files back: closed where the work came to its end, and else as they are.
+/// Does work on a connection to files, and gives the files back: closed where the work came to its end, and else as
+/// they are.
 fn work_and_close<D: Disk + Drop, K: Works, W: Write>(
     alloc: Global,
     conn: Connection<FileStore<D>>,
@@ -259,9 +265,9 @@ fn work_and_close<D: Disk + Drop, K: Works, W: Write>(
     }
 }
 
-/// Does work on the file at a path, which has so many bytes, or neither it nor its journal one where none are given; `start` stands for
-/// what they held. 90 where memory was refused and 91 where the store failed, as the file was opened, or as it was closed behind work that
-/// came to its end; else what the work came to.
+/// Does work on the file at a path, which has so many bytes, or neither it nor its journal one where none are given;
+/// `start` stands for what they held. 90 where memory was refused and 91 where the store failed, as the file was
+/// opened, or as it was closed behind work that came to its end; else what the work came to.
 pub fn on_file<'a, S: Start, K: Works, W: Write>(
     rt: &HostRuntime,
     path: &'a str,
@@ -270,30 +276,14 @@ pub fn on_file<'a, S: Start, K: Works, W: Write>(
     work: &mut K,
     output: &mut Io<W>,
 ) -> Result<(Opened<'a, FileFrom<S>>, K::Done), (Left<'a, FileFrom<S>, S>, NotDone)>
-    ensures done { IfOk result (λ r. K.comes_to work.old
-        (written W.contents output.old) (written W.contents output.new) r.1) }
-    ensures path { IfOk result (λ r. r.0.path.now ≡ path.now) }
     ensures memory { path.now ≡ codes ":memory:" → IsErr result }
     ensures uri { IsTrue (starts_with nat_eq path.now (codes "file:")) → IsErr result }
-    ensures bare { IfOk result (λ r. length ≡ None
-        → AreClean ⟦<FileFrom<S> as Disk>⟧ r.0.files.log r.0.files.db
-        → HoldNoByte (image_at S.Start)) }
-    ensures worked { IfOk result (λ r. WorkedFrom ⟦<FileFrom<S> as Disk>⟧
-        (K.tells work.old) (K.leaves work.old) (K.closes r.1)
-        (written W.contents output.old) (written W.contents output.new)
-        r.0.files r.1 (image_at S.Start)) }
-    ensures left { IfErr result
-        (λ e. IsUnworked ⟦<FileFrom<S> as Disk>⟧ (image_at S.Start) path.now e.0) }
-    ensures bytes { IfErr result
-        (λ e. TellsFileBytes ⟦<FileFrom<S> as Disk>⟧ (image_at S.Start) e.1 e.0) }
-    ensures why { IfErr result (λ e. IsWhyNot length e.1) }
-    ensures unclosed { IfErr result (λ e. IsUnclosed ⟦<FileFrom<S> as Disk>⟧
-        (K.tells work.old) (K.leaves work.old) K.closes (written W.contents output.old)
-        (written W.contents output.new) (image_at S.Start) e.0) }
-    ensures unprinted { IfErr result (λ e. IsUnprinted ⟦<FileFrom<S> as Disk>⟧
-        (written W.contents output.old) (written W.contents output.new) e.0) }
-    ensures untold { IfErr result (λ e. IsUntoldFor (K.comes_to work.old) K.closes
-        (written W.contents output.old) (written W.contents output.new) e.1) }
+    ensures worked { IfOk result (λ r. HasWorked ⟦<FileFrom<S> as Disk>⟧ (image_at S.Start) path.now
+        length (K.comes_to work.old) (K.tells work.old) (K.leaves work.old) K.closes
+        (written W.contents output.old) (written W.contents output.new) r.0 r.1) }
+    ensures unworked { IfErr result (λ e. HasNotWorked ⟦<FileFrom<S> as Disk>⟧ (image_at S.Start)
+        path.now length (K.comes_to work.old) (K.tells work.old) (K.leaves work.old) K.closes
+        (written W.contents output.old) (written W.contents output.new) e.0 e.1) }
 {
     let (path, conn) = match open_files(rt, path, length, start) {
         Ok(opened) => opened,

@@ -1,6 +1,8 @@
 -- The lines of a desk, one request behind another, and what it leaves.
-use Rattle.std.proofs.Common.{◌≡◌, ◌==◌, ◌∙◌, ◌+◌, ◌<◌, ◌⊎◌, ℕ, List, [], ◌∷◌, ◌++◌, length, Option, Ok, Err, Result, IfErr, IfOk, refl, sym, ap, subst, inl, inr, Bool, true, false, All, arith, length-append, append-nil}
-use Rattle.std.specs.Prelude.{◌≤◌, ◌≢◌, not}
+use Rattle.std.proofs.Common.{◌≡◌, ◌∙◌, ◌+◌, ◌<◌, ◌⊎◌, ℕ, List, [], ◌∷◌, ◌++◌, length, Option, Ok, Err, Result, IfErr}
+use Rattle.std.proofs.Common.{IfOk, refl, sym, ap, subst, inl, inr, Bool, true, false, All, arith, length-append}
+use Rattle.std.proofs.Common.{append-nil}
+use Rattle.std.specs.Prelude.{◌≤◌}
 use Rattle.std.specs.List.{concat}
 use Rattle.std.specs.Io.KnownBytes.{Appends}
 use Rattle.std.proofs.KnownBytes.{Appends-nil, Appends-trans}
@@ -21,10 +23,7 @@ use Rattle.mm_core.proofs.Opened.{nothing_less, opened_settles}
 use Rattle.mm_desk.specs.Sittings.{IsSitting}
 use Rattle.mm_files.specs.Worked.{IsJustOpened}
 use Rattle.mm_work.specs.declared.stop.Stop.{Stop}
-use Rattle.mm_program.specs.Files.{IsUndone}
-use Rattle.mm_program.specs.Worked.{closes_run}
-use Rattle.mm_definitions.specs.Keys.{Text}
-use Rattle.mm_program.specs.Desks.{HasSat, IsAttended, IsDeskDone, IsDeskLine, LeavesDesk, PrintsLine, PrintsTurn, Sits, TellsSat, WasSeated}
+use Rattle.mm_program.specs.Desks.{HasSat, IsAttended, IsDeskLine, LeavesDesk, PrintsLine, PrintsTurn, Sits, TellsSat}
 use Rattle.mm_program.specs.Served.{PrintsNothing}
 use Rattle.mm_program.specs.Stops.{StopsAny}
 use Rattle.mm_program.specs.declared.sittings.Turn.{Turn}
@@ -46,9 +45,11 @@ none_of : All IsDeskLine []
 none_of k d lt = absurd (omega arith)
 
 pub attended_none : (held : Option (List ℕ)) (working : Bool) → Attended 0 held held working working
-attended_none held working = record { lines = []; all = none_of; few = omega arith; text = Appends-nil held; working = refl }
+attended_none held working =
+    record { lines = []; all = none_of; few = omega arith; text = Appends-nil held; working = refl }
 
-module _ (count : ℕ) (old held new : Option (List ℕ)) (before between failed : Bool) (it : Attended count old held before between) where
+module _ (count : ℕ) (old held new : Option (List ℕ)) (before between failed : Bool)
+    (it : Attended count old held before between) where
   on : new ≡ held → failed ≡ between → Attended (count + 1) old new before failed
   on same still = record {
     lines = it.lines;
@@ -85,23 +86,30 @@ module _ (count : ℕ) (old held new : Option (List ℕ)) (before between failed
     inr (broken.0, refl, it.lines, line, refl, broken.1, broken.2, Appends-trans _ _ _ _ _ it.text broken.3),
   )
 
-  pub turn_next : PrintsTurn (written_as held between) (written_as new failed) turns.Next → Attended (count + 1) old new before failed
+  pub turn_next : PrintsTurn (written_as held between) (written_as new failed) turns.Next
+      → Attended (count + 1) old new before failed
   turn_next (inl (same, still)) = on same still
   turn_next (inr line) = more line
 
-pub attended : (count most : ℕ) (old new : Option (List ℕ)) (before failed : Bool) (status : ℕ) → Attended count old new before failed → count ≤ most
+pub attended : (count most : ℕ) (old new : Option (List ℕ)) (before failed : Bool) (status : ℕ)
+    → Attended count old new before failed → count ≤ most
     → (status ≡ 0) ⊎ (status ≡ 3) → IsAttended most (written_as old before) (written_as new failed) status
-attended count most old new before failed status it room is = (it.lines, it.all, omega (arith, room, it.few), inl (it.text, it.working, is))
+attended count most old new before failed status it room is =
+    (it.lines, it.all, omega (arith, room, it.few), inl (it.text, it.working, is))
 
-pub turn_last : (count most : ℕ) (old held new : Option (List ℕ)) (before between failed : Bool) (status : ℕ) → Attended count old held before between → count < most
+pub turn_last : (count most : ℕ) (old held new : Option (List ℕ)) (before between failed : Bool) (status : ℕ)
+    → Attended count old held before between → count < most
     → PrintsTurn (written_as held between) (written_as new failed) (turns.Last status)
     → IsAttended most (written_as old before) (written_as new failed) status
 turn_last count most old held new before between failed status it room (inl (nothing, is)) =
-    attended (count + 1) most old new before failed status (on count old held new before between failed it nothing.0 nothing.1) (omega (arith, room)) is
+    attended (count + 1) most old new before failed status
+    (on count old held new before between failed it nothing.0 nothing.1) (omega (arith, room)) is
 turn_last count most old held new before between failed status it room (inr (inl (line, is))) =
-    attended (count + 1) most old new before failed status (more count old held new before between failed it line) (omega (arith, room)) (inr is)
+    attended (count + 1) most old new before failed status (more count old held new before between failed it line)
+    (omega (arith, room)) (inr is)
 turn_last count most old held new before between failed status it room (inr (inr (line, is))) =
-    subst (λ s. IsAttended most (written_as old before) (written_as new failed) s) (sym is) (cut count old held new before between failed it most room line)
+    subst (λ s. IsAttended most (written_as old before) (written_as new failed) s) (sym is)
+    (cut count old held new before between failed it most room line)
 
 -- ---- what is left
 
@@ -122,57 +130,55 @@ still_sits s = record {
   };
 }
 
-module _ (old mid new : State) (fresh : HasCleanDisk old → IsJustOpened old) (clean : HasCleanDisk new) (adopted : IsAdopted old mid) (sits : Sits mid new) where
+module _ (old mid new : State) (fresh : HasCleanDisk old → IsJustOpened old) (clean : HasCleanDisk new)
+    (adopted : IsAdopted old mid) (sits : Sits mid new) where
   was_clean : HasCleanDisk old
   was_clean = nothing_less _ _ adopted.survives.clean (sits.clean clean)
 
-  settled : (p : Package) → StandsForCurrent old.committed.trees p → Meets current p → (after : Trees) → new.may_leave after → HasSat p after
-  settled p stands meets = sits.sat clean p (adopted.settled (sits.clean clean) p (opened_settles old (fresh was_clean) current p stands)) meets
+  settled : (p : Package) → StandsForCurrent old.committed.trees p → Meets current p → (after : Trees)
+      → new.may_leave after → HasSat p after
+  settled p stands meets =
+      sits.sat clean p (adopted.settled (sits.clean clean) p (opened_settles old (fresh was_clean) current p stands))
+      meets
 
-  pub leaves_desk : (status : ℕ) (after : Trees) → new.may_leave after → LeavesDesk old.committed.trees after (Ok status)
+  pub leaves_desk : (status : ℕ) (after : Trees) → new.may_leave after
+      → LeavesDesk old.committed.trees after (Ok status)
   leaves_desk status after may p stands meets = settled p stands meets after may
 
   pub tells_desk : (status : ℕ) → TellsSat old.committed.trees (Ok status)
-  tells_desk status = found_well old new fresh clean (λ _. was_clean) (was_adopted old mid new adopted (λ _. sits.clean clean))
+  tells_desk status =
+      found_well old new fresh clean (λ _. was_clean) (was_adopted old mid new adopted (λ _. sits.clean clean))
 
 -- whatever it came to
-module _ (old mid new : State) (fresh : HasCleanDisk old → IsJustOpened old) (clean : HasCleanDisk new) (adopted : IsAdopted old mid) where
+module _ (old mid new : State) (fresh : HasCleanDisk old → IsJustOpened old) (clean : HasCleanDisk new)
+    (adopted : IsAdopted old mid) where
   well : LeavesPackage mid new → WasFoundWell old.committed.trees
   well kept =
       let early = nothing_less _ _ kept.survives.clean clean in
-      found_well old new fresh clean (λ _. nothing_less _ _ adopted.survives.clean early) (was_adopted old mid new adopted (λ _. early))
+      found_well old new fresh clean (λ _. nothing_less _ _ adopted.survives.clean early)
+      (was_adopted old mid new adopted (λ _. early))
 
-  pub tells_done : (done : Result ℕ Stop) → IfOk done (λ status. Sits mid new) → IfErr done (λ why. LeavesPackage mid new) → IfErr done StopsAny
+  pub tells_done : (done : Result ℕ Stop) → IfOk done (λ status. Sits mid new)
+      → IfErr done (λ why. LeavesPackage mid new) → IfErr done StopsAny
       → TellsSat old.committed.trees done
   tells_done (Ok status) sits kept stops = tells_desk old mid new fresh clean adopted sits status
   tells_done (Err why) sits kept stops = λ p stands. inr ((well kept).meets p stands, stops)
 
-  pub leaves_done : (done : Result ℕ Stop) → IfOk done (λ status. Sits mid new) → IfErr done (λ why. LeavesPackage mid new)
+  pub leaves_done : (done : Result ℕ Stop) → IfOk done (λ status. Sits mid new)
+      → IfErr done (λ why. LeavesPackage mid new)
       → (after : Trees) → new.may_leave after → LeavesDesk old.committed.trees after done
   leaves_done (Ok status) sits kept after may = leaves_desk old mid new fresh clean adopted sits status after may
-  leaves_done (Err why) sits kept after may = leaves_same old new fresh clean (quiet_then old mid new adopted.survives kept.survives) after may
+  leaves_done (Err why) sits kept after may =
+      leaves_same old new fresh clean (quiet_then old mid new adopted.survives kept.survives) after may
 
 -- ---- a turn
 
-pub quiet_turn : (old new : Written) (turn : Turn) → PrintsNothing old new → (turn ≡ turns.Next) ⊎ (turn ≡ turns.Last 3) → PrintsTurn old new turn
+pub quiet_turn : (old new : Written) (turn : Turn) → PrintsNothing old new → (turn ≡ turns.Next) ⊎ (turn ≡ turns.Last 3)
+    → PrintsTurn old new turn
 quiet_turn old new turn nothing (inl is) = subst (λ t. PrintsTurn old new t) (sym is) (inl nothing)
 quiet_turn old new turn nothing (inr is) = subst (λ t. PrintsTurn old new t) (sym is) (inl (nothing, inr refl))
 
-pub line_turn : (old new : Written) (turn : Turn) → PrintsLine old new true → (turn ≡ turns.Next) ⊎ (turn ≡ turns.Last 3) → PrintsTurn old new turn
+pub line_turn : (old new : Written) (turn : Turn) → PrintsLine old new true → (turn ≡ turns.Next)
+    ⊎ (turn ≡ turns.Last 3) → PrintsTurn old new turn
 line_turn old new turn line (inl is) = subst (λ t. PrintsTurn old new t) (sym is) (inr line)
 line_turn old new turn line (inr is) = subst (λ t. PrintsTurn old new t) (sym is) (inr (inl (line, refl)))
-
--- ---- what was printed where it is not told
-
-not_three : (n : ℕ) → not (n == 3) ≡ true → n ≢ 3
-not_three n is same = let e : not (3 == 3) ≡ true = subst (λ k. not (k == 3) ≡ true) same is in cc
-
-was_seated : (port count : ℕ) (key : Text) (table : Option Text) (old new : Written) (done : Result ℕ Stop) → IsDeskDone port count key table old new done
-    → closes_run done ≡ true → WasSeated port count key table old new
-was_seated port count key table old new (Ok status) it closed = (status, not_three status closed, it.0.2)
-was_seated port count key table old new (Err why) it closed = cc
-
-pub undone_seated : (port count : ℕ) (key : Text) (table : Option Text) (old new : Written) (stop : Stop)
-    → IsUndone (IsDeskDone port count key table) closes_run old new stop → PrintsNothing old new ⊎ WasSeated port count key table old new
-undone_seated port count key table old new stop (inl same) = inl (ap (λ (w : Written). w.contents) same, ap (λ (w : Written). w.failed) same)
-undone_seated port count key table old new stop (inr (stops, done, came, closed)) = inr (was_seated port count key table old new done came closed)

@@ -5,3 +5,4 @@ pub mod ServiceFacts
 pub mod Printed
 pub mod Attending
 pub mod Off
+pub mod Ended

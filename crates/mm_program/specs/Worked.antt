@@ -5,7 +5,7 @@ use Rattle.mm_definitions.specs.declared.answers.KitFault.{KitFault}
 use Rattle.mm_definitions.specs.declared.answers.Staged.{Staged}
 use Rattle.mm_work.specs.Told.{stop_status}
 use Rattle.mm_work.specs.declared.stop.Stop.{Stop}
-use Rattle.mm_program.specs.Served.{IsServing}
+use Rattle.mm_program.specs.Served.{IsServing, ServiceEnds}
 
 -- ---- behind what the files are closed
 
@@ -31,14 +31,13 @@ closes_import (Err why) = false
 abbrev pub ListingEnds : Written → Written → Result (Unit {0}) Stop → Type 0
 ListingEnds old new done = OnOk done (new.failed ≡ old.failed) × IfErr done (λ why. (new ≡ old) ⊎ (stop_status why ≡ 3))
 
--- The records were answered, with the status of a fault where the writer failed; or why they were not is a fault, or nothing was printed.
+-- The records were answered, with the status of a fault where the writer failed; or why they were not is a fault, or
+-- nothing was printed.
 abbrev pub RunEnds : Written → Written → Result ℕ Stop → Type 0
 RunEnds old new done =
     IfOk done (λ status. (status ≤ 3) × ((status ≡ 3) ⊎ (new.failed ≡ old.failed)))
     × IfErr done (λ why. (new.failed ≡ old.failed) × ((new ≡ old) ⊎ (stop_status why ≡ 3)))
 
--- The page was served, with the status of a fault where the writer failed; or nothing was printed.
+-- the page was served to so many connections, or was not
 abbrev pub IsPageServed : ℕ → ℕ → Written → Written → Result ℕ Stop → Type 0
-IsPageServed port count old new done =
-    IfOk done (λ status. (status ≤ 3) × ((status ≡ 3) ⊎ (new.failed ≡ old.failed)) × IsServing port count old new status)
-    × IfErr done (λ why. new ≡ old)
+IsPageServed port count = ServiceEnds (IsServing port count)

@@ -9,7 +9,8 @@ ghost use Rattle.mm_core.specs.Parts.{connection, must_reopen};
 ghost use Rattle.mm_core.specs.Viewers.{LeavesPackage};
 ghost use Rattle.mm_desk.specs.Sittings.{Sat, Visit};
 ghost use Rattle.mm_files.specs.Worked.{IsUnprinted};
-ghost use Rattle.mm_program.specs.Desks.{IsAttended, IsDeskDone, IsKey, IsSeated, LeavesDesk, NamesNone, Sits, TellsDesk, TellsSat, WasSeated, address_text, table_of};
+ghost use Rattle.mm_program.specs.Desks.{IsAttended, IsDeskDone, IsKey, IsSeated, LeavesDesk, NamesNone, Sits};
+ghost use Rattle.mm_program.specs.Desks.{TellsDesk, TellsSat, WasSeated, address_text, table_of};
 ghost use Rattle.mm_program.specs.Files.{OnFile, StopsOld};
 ghost use Rattle.mm_program.specs.Served.{PrintsNothing};
 ghost use Rattle.mm_program.specs.Stops.{StopsAny};
@@ -18,7 +19,7 @@ ghost use Rattle.mm_program.specs.Worked.{closes_run};
 ghost use Rattle.mm_work.specs.Told.{TellsFailure, stop_status};
 
 use crate::clock::{Now, moment_or_now};
-use crate::files::on_old;
+use crate::files::{Worked, ends_well, on_old};
 use crate::keys::key_of;
 use crate::sittings::attend;
 use mm_core::Session;
@@ -40,7 +41,8 @@ use std::time::{Duration, Instant};
 /// How many seconds a request may take to come whole, and each write of a response.
 const PATIENCE: u64 = 20;
 
-/// How many seconds its first byte may be waited for: a browser opens a connection to spare, and the next one waits behind it.
+/// How many seconds its first byte may be waited for: a browser opens a connection to spare, and the next one waits
+/// behind it.
 const FIRST_PATIENCE: u64 = 1;
 
 /// How many times the rest of a request is read off behind a response, and how many bytes each time.
@@ -81,8 +83,8 @@ fn next_stream(listener: &TcpListener) -> io::Result<TcpStream> {
     Ok(stream)
 }
 
-/// Ends the response, and reads off what is left of the request, up to 1 MiB: with bytes unread the system would reset the
-/// connection, and the client could lose the response.
+/// Ends the response, and reads off what is left of the request, up to 1 MiB: with bytes unread the system would reset
+/// the connection, and the client could lose the response.
 fn read_off(stream: &TcpStream) -> io::Result<()> {
     stream.shutdown(Shutdown::Write)?;
     stream.set_read_timeout(Some(Duration::from_secs(FIRST_PATIENCE)))?;
@@ -105,7 +107,8 @@ struct Doors<'a> {
 }
 
 impl<'a, S: Alter> Comes<Session<S>> for Doors<'a> {
-    /// Answers the next connection. 96 where there is none to be had, where nothing came on it, and where the clock tells no moment.
+    /// Answers the next connection. 96 where there is none to be had, where nothing came on it, and where the clock
+    /// tells no moment.
     fn answer_next(&mut self, alloc: Global, session: &mut Session<S>) -> Result<Done, PageFault> {
         let Ok(stream) = next_stream(self.listener) else {
             return Err(PageFault(Fault::INPUT));
@@ -189,8 +192,8 @@ fn attend_doors<S: Alter, W: Write>(
     attend(work.rt.alloc(), session, &mut doors, work.count, output)
 }
 
-/// Binds the port on the loopback address, tells where the desk is, and answers so many connections. 96 where the port can't be bound, 90
-/// for want of memory: then nothing was printed, and the session is as it was.
+/// Binds the port on the loopback address, tells where the desk is, and answers so many connections. 96 where the port
+/// can't be bound, 90 for want of memory: then nothing was printed, and the session is as it was.
 fn desk_port<S: Alter, W: Write>(
     work: &DeskWork<'_>,
     session: &mut Session<S>,
@@ -247,21 +250,17 @@ impl<'a> Works for DeskWork<'a> {
     fn closes(done: Result<u8, Stop>) -> bool
         ensures { result ≡ closes_run done }
     {
-        match done {
-            Ok(status) => status != FAULT,
-            Err(_) => false,
-        }
+        ends_well(done)
     }
 }
 
 /// Opens a desk on the package of a file, by a key.
-#[tactic(auto, using(crate::proofs::Off::on_err))]
 fn desk_file<'a, S: Start, W: Write>(
     path: &'a str,
     start: S,
     work: &mut DeskWork<'_>,
     output: &mut Io<W>,
-) -> (Result<u8, Stop>, Left<'a, FileFrom<S>, S>)
+) -> Worked<'a, S, u8>
     ensures status { IfOk result.0 (λ status. status ≤ 3) }
     ensures working { IfOk result.0
         (λ status. (status ≡ 3) ⊎ (streams.has_failed output.new ≡ streams.has_failed output.old)) }
@@ -282,10 +281,7 @@ fn desk_file<'a, S: Start, W: Write>(
     ensures left { OnFile ⟦<FileFrom<S> as Disk>⟧ (image_at S.Start) path.now StopsOld TellsSat
         (λ found after done. LeavesDesk found after done) closes_run result.0 result.1 }
 {
-    match on_old(work.rt, path, start, work, output) {
-        Ok((opened, done)) => (done, Left::Worked(opened)),
-        Err((left, why)) => (Err(why), left),
-    }
+    on_old(work.rt, path, start, work, output)
 }
 
 /// Whether no table is named, or one by a name.
@@ -321,7 +317,8 @@ fn desk_keyed<'a, S: Start, W: Write>(
     }
 }
 
-/// The subcommand `desk`. `refused 12` where the page's table is no name, `refused 11` where the environment's key is none.
+/// The subcommand `desk`. `refused 12` where the page's table is no name, `refused 11` where the environment's key is
+/// none.
 pub(crate) fn desk_told<'a, S: Start, W: Write>(
     rt: &HostRuntime,
     path: &'a str,

@@ -10,7 +10,7 @@ ghost use Rattle.mm_program.specs.Told.{TellsKit};
 ghost use Rattle.mm_program.specs.Worked.{closes_import};
 
 use crate::clock::{Now, moment_or_now};
-use crate::files::on_old;
+use crate::files::{Worked, on_old};
 use mm_arguments::read_aids;
 use mm_definitions::answers::Fault;
 use mm_definitions::moments::Moment;
@@ -26,8 +26,8 @@ use std::alloc::Global;
 use std::io::{Read, Write};
 use std::{fs, io};
 
-/// A folder of the system. It opens names of one file alone, so that nothing outside the folder is read but what a link in
-/// it leads to.
+/// A folder of the system. It opens names of one file alone, so that nothing outside the folder is read but what a link
+/// in it leads to.
 #[derive(Drop)]
 pub(crate) struct SystemFolder<'a> {
     rt: &'a HostRuntime,
@@ -176,7 +176,6 @@ impl<'a, F: Folder> Works for Importing<'a, F> {
 }
 
 /// Imports the kit of a folder into an edition of the package of a file.
-#[tactic(auto, using(crate::proofs::Off::on_err))]
 fn import_file<'a, S: Start>(
     rt: &HostRuntime,
     path: &'a str,
@@ -184,7 +183,7 @@ fn import_file<'a, S: Start>(
     edition: &Name,
     folder: SystemFolder<'_>,
     at: Moment,
-) -> (Result<Import, Stop>, Left<'a, FileFrom<S>, S>)
+) -> Worked<'a, S, Import>
     ensures { OnFile ⟦<FileFrom<S> as Disk>⟧ (image_at S.Start) path.now StopsOld TellsImport
         (LeavesImport None edition.now) closes_import result.0 result.1 }
 {
@@ -195,10 +194,7 @@ fn import_file<'a, S: Start>(
     };
     let done = on_old(rt, path, start, &mut importing, &mut Io::new(io::sink()));
     tell_end(&mut importing.folder.pieces);
-    match done {
-        Ok((opened, done)) => (done, Left::Worked(opened)),
-        Err((left, why)) => (Err(why), left),
-    }
+    done
 }
 
 /// The subcommand `kit`. An edition that is no name is refused before the clock is asked or the file opened.

@@ -9,7 +9,7 @@ ghost use Rattle.mm_program.specs.Left.{LeavesMigrated, TellsMigrated};
 ghost use Rattle.mm_program.specs.Told.{StopsCheck, TellsMigrate};
 ghost use Rattle.mm_program.specs.Worked.{closes_done};
 
-use crate::files::on_old;
+use crate::files::{Worked, on_old};
 use mm_definitions::streams::Io;
 use mm_files::{Left, Works};
 use mm_work::{Stop, migrate_package, tell_migration};
@@ -52,20 +52,12 @@ impl Works for Migration {
 }
 
 /// Migrates the package of a file.
-#[tactic(auto, using(crate::proofs::Off::on_err))]
-fn migrate_file<'a, S: Start>(
-    rt: &HostRuntime,
-    path: &'a str,
-    start: S,
-) -> (Result<(), Stop>, Left<'a, FileFrom<S>, S>)
+fn migrate_file<'a, S: Start>(rt: &HostRuntime, path: &'a str, start: S) -> Worked<'a, S, ()>
     ensures stopped { IfErr result.0 StopsCheck }
     ensures left { OnFile ⟦<FileFrom<S> as Disk>⟧ (image_at S.Start) path.now StopsOld TellsMigrated
         LeavesMigrated closes_done result.0 result.1 }
 {
-    match on_old(rt, path, start, &mut Migration, &mut Io::new(io::sink())) {
-        Ok((opened, done)) => (done, Left::Worked(opened)),
-        Err((left, why)) => (Err(why), left),
-    }
+    on_old(rt, path, start, &mut Migration, &mut Io::new(io::sink()))
 }
 
 /// The subcommand `migrate`.

@@ -10,7 +10,7 @@ ghost use Rattle.mm_program.specs.Left.{LeavesSame, TellsChecked, TellsListing};
 ghost use Rattle.mm_program.specs.Told.{StopsCheck, TellsCheck, TellsDecline, TellsList};
 ghost use Rattle.mm_program.specs.Worked.{ListingEnds, closes_done};
 
-use crate::files::on_old;
+use crate::files::{Worked, on_old};
 use mm_definitions::streams::Io;
 use mm_files::{Left, Works};
 use mm_work::{DONE, Stop, check_package, list_package, tell_check, tell_stop};
@@ -53,20 +53,12 @@ impl Works for Check {
 }
 
 /// Checks the package of a file.
-#[tactic(auto, using(crate::proofs::Off::on_err))]
-fn check_file<'a, S: Start>(
-    rt: &HostRuntime,
-    path: &'a str,
-    start: S,
-) -> (Result<(), Stop>, Left<'a, FileFrom<S>, S>)
+fn check_file<'a, S: Start>(rt: &HostRuntime, path: &'a str, start: S) -> Worked<'a, S, ()>
     ensures stopped { IfErr result.0 StopsCheck }
     ensures left { OnFile ⟦<FileFrom<S> as Disk>⟧ (image_at S.Start) path.now StopsOld TellsChecked
         (λ found after done. LeavesSame found after) closes_done result.0 result.1 }
 {
-    match on_old(rt, path, start, &mut Check, &mut Io::new(io::sink())) {
-        Ok((opened, done)) => (done, Left::Worked(opened)),
-        Err((left, why)) => (Err(why), left),
-    }
+    on_old(rt, path, start, &mut Check, &mut Io::new(io::sink()))
 }
 
 /// The subcommand `check`.
@@ -118,13 +110,12 @@ impl Works for Listing {
 }
 
 /// Writes the listing of the package of a file.
-#[tactic(auto, using(crate::proofs::Off::on_err))]
 fn list_file<'a, S: Start, W: Write>(
     rt: &HostRuntime,
     path: &'a str,
     start: S,
     output: &mut Io<W>,
-) -> (Result<(), Stop>, Left<'a, FileFrom<S>, S>)
+) -> Worked<'a, S, ()>
     ensures listed { ListingEnds (written W.contents output.old)
         (written W.contents output.new) result.0 }
     ensures unprinted { IsUnprinted ⟦<FileFrom<S> as Disk>⟧ (written W.contents output.old)
@@ -134,10 +125,7 @@ fn list_file<'a, S: Start, W: Write>(
         (written W.contents output.new) done)
         (λ found after done. LeavesSame found after) closes_done result.0 result.1 }
 {
-    match on_old(rt, path, start, &mut Listing, output) {
-        Ok((opened, done)) => (done, Left::Worked(opened)),
-        Err((left, why)) => (Err(why), left),
-    }
+    on_old(rt, path, start, &mut Listing, output)
 }
 
 /// The subcommand `list`.

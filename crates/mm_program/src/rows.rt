@@ -11,11 +11,11 @@ ghost use Rattle.mm_program.specs.Rows.{ShowingEnds, TellsShown};
 ghost use Rattle.mm_program.specs.Told.{TellsDecline, TellsShow};
 ghost use Rattle.mm_program.specs.Worked.{closes_run};
 
-use crate::files::on_old;
+use crate::files::{Worked, ends_well, on_old};
 use mm_definitions::names::Name;
 use mm_definitions::streams::Io;
 use mm_files::{Left, Works};
-use mm_work::{FAULT, REFUSED, Stop, show_package, tell_bytes, tell_stop};
+use mm_work::{REFUSED, Stop, show_package, tell_bytes, tell_stop};
 use sqlite::{Alter, Connection, FileFrom, Start};
 use sqlite_disk::Disk;
 use std::alloc::Global;
@@ -54,15 +54,11 @@ impl<'a> Works for Showing<'a> {
     fn closes(done: Result<u8, Stop>) -> bool
         ensures { result ≡ closes_run done }
     {
-        match done {
-            Ok(status) => status != FAULT,
-            Err(_) => false,
-        }
+        ends_well(done)
     }
 }
 
 /// Prints rows of the package of a file.
-#[tactic(auto, using(crate::proofs::Off::on_err))]
 fn show_file<'a, S: Start, W: Write>(
     rt: &HostRuntime,
     path: &'a str,
@@ -70,7 +66,7 @@ fn show_file<'a, S: Start, W: Write>(
     table: &Name,
     id: Option<i64>,
     output: &mut Io<W>,
-) -> (Result<u8, Stop>, Left<'a, FileFrom<S>, S>)
+) -> Worked<'a, S, u8>
     ensures shown { ShowingEnds (written W.contents output.old)
         (written W.contents output.new) result.0 }
     ensures unprinted { IsUnprinted ⟦<FileFrom<S> as Disk>⟧ (written W.contents output.old)
@@ -80,10 +76,7 @@ fn show_file<'a, S: Start, W: Write>(
         (written W.contents output.new) done)
         (λ found after done. LeavesSame found after) closes_run result.0 result.1 }
 {
-    match on_old(rt, path, start, &mut Showing { table, id }, output) {
-        Ok((opened, done)) => (done, Left::Worked(opened)),
-        Err((left, why)) => (Err(why), left),
-    }
+    on_old(rt, path, start, &mut Showing { table, id }, output)
 }
 
 /// The subcommand `show`. `refused 12` where the table is no name, and then no file is opened.

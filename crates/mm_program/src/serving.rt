@@ -17,7 +17,7 @@ ghost use Rattle.mm_program.specs.Told.{TellsService};
 ghost use Rattle.mm_program.specs.Worked.{IsPageServed, closes_run};
 
 use crate::connections::{Serves, serve_on};
-use crate::files::on_old;
+use crate::files::{Worked, ends_well, on_old};
 use mm_core::Session;
 use mm_definitions::answers::{Fault, PageFault};
 use mm_definitions::streams::Io;
@@ -35,7 +35,8 @@ use std::time::Duration;
 /// How many seconds a read or write of a connection may wait, so that a client that stops can't stop the page.
 const PATIENCE: u64 = 10;
 
-/// How many seconds the first byte of a request may be waited for: a browser opens a connection to spare, and the next one waits behind it.
+/// How many seconds the first byte of a request may be waited for: a browser opens a connection to spare, and the next
+/// one waits behind it.
 const FIRST_PATIENCE: u64 = 1;
 
 /// How many times the rest of a request is read off behind a response, and how many bytes each time.
@@ -43,7 +44,8 @@ const LAST_READS: usize = 16;
 
 const LAST_BYTES: usize = 65_536;
 
-/// The next connection, once its first byte is there, or its end. Its later reads and its writes wait for ten seconds at most.
+/// The next connection, once its first byte is there, or its end. Its later reads and its writes wait for ten seconds
+/// at most.
 fn next_stream(listener: &TcpListener) -> io::Result<TcpStream> {
     let (stream, _address) = listener.accept()?;
     stream.set_read_timeout(Some(Duration::from_secs(FIRST_PATIENCE)))?;
@@ -54,8 +56,8 @@ fn next_stream(listener: &TcpListener) -> io::Result<TcpStream> {
     Ok(stream)
 }
 
-/// Ends the response, and reads off what is left of the request, up to 1 MiB: with bytes unread the system would reset the
-/// connection, and the client could lose the response.
+/// Ends the response, and reads off what is left of the request, up to 1 MiB: with bytes unread the system would reset
+/// the connection, and the client could lose the response.
 fn read_off(stream: &TcpStream) -> io::Result<()> {
     stream.shutdown(Shutdown::Write)?;
     stream.set_read_timeout(Some(Duration::from_secs(FIRST_PATIENCE)))?;
@@ -150,15 +152,11 @@ impl<'a> Works for Page<'a> {
     fn closes(done: Result<u8, Stop>) -> bool
         ensures { result ≡ closes_run done }
     {
-        match done {
-            Ok(status) => status != FAULT,
-            Err(_) => false,
-        }
+        ends_well(done)
     }
 }
 
 /// Serves the package of a file.
-#[tactic(auto, using(crate::proofs::Off::on_err))]
 fn serve_file<'a, S: Start, W: Write>(
     rt: &HostRuntime,
     path: &'a str,
@@ -166,7 +164,7 @@ fn serve_file<'a, S: Start, W: Write>(
     port: u16,
     count: u32,
     output: &mut Io<W>,
-) -> (Result<u8, Stop>, Left<'a, FileFrom<S>, S>)
+) -> Worked<'a, S, u8>
     ensures status { IfOk result.0 (λ status. status ≤ 3) }
     ensures working { IfOk result.0
         (λ status. (status ≡ 3) ⊎ (streams.has_failed output.new ≡ streams.has_failed output.old)) }
@@ -185,10 +183,7 @@ fn serve_file<'a, S: Start, W: Write>(
     ensures left { OnFile ⟦<FileFrom<S> as Disk>⟧ (image_at S.Start) path.now StopsOld TellsServed
         (λ found after done. LeavesSame found after) closes_run result.0 result.1 }
 {
-    match on_old(rt, path, start, &mut Page { rt, port, count }, output) {
-        Ok((opened, done)) => (done, Left::Worked(opened)),
-        Err((left, why)) => (Err(why), left),
-    }
+    on_old(rt, path, start, &mut Page { rt, port, count }, output)
 }
 
 /// The subcommand `serve`.

@@ -16,7 +16,7 @@ ghost use Rattle.mm_program.specs.Worked.{RunEnds, closes_done, closes_run};
 use crate::clock::{Now, moment_or_now};
 use crate::desks::desk_told;
 use crate::explaining::explain_told;
-use crate::files::{on_new, on_old};
+use crate::files::{Worked, ends_well, on_new, on_old};
 use crate::kits::{SystemFolder, import_and_tell, pieces_wanted};
 use crate::migrating::migrate_told;
 use crate::reporting::{check_told, list_told};
@@ -28,7 +28,7 @@ use mm_definitions::moments::Moment;
 use mm_definitions::streams::Io;
 use mm_files::{Left, Works};
 use mm_work::{
-    FAULT, REFUSED, Stop, make_package, run_package, tell_bytes, tell_init, tell_stop, tell_text,
+    REFUSED, Stop, make_package, run_package, tell_bytes, tell_init, tell_stop, tell_text,
 };
 use sqlite::{Alter, Connection, FileFrom, Start, Wary};
 use sqlite_disk::Disk;
@@ -69,21 +69,13 @@ impl Works for Making {
 }
 
 /// Makes a package in a new file.
-#[tactic(auto, using(crate::proofs::Off::on_err))]
-fn init_file<'a, S: Start>(
-    rt: &HostRuntime,
-    path: &'a str,
-    start: S,
-) -> (Result<(), Stop>, Left<'a, FileFrom<S>, S>)
+fn init_file<'a, S: Start>(rt: &HostRuntime, path: &'a str, start: S) -> Worked<'a, S, ()>
     ensures stopped { IfErr result.0 StopsNew }
     ensures left { OnFile ⟦<FileFrom<S> as Disk>⟧ (image_at S.Start) path.now StopsNew (λ found done. ⊤)
         LeavesMade closes_done result.0 result.1 }
     ensures bare { WasBare ⟦<FileFrom<S> as Disk>⟧ (image_at S.Start) result.1 }
 {
-    match on_new(rt, path, start, &mut Making, &mut Io::new(io::sink())) {
-        Ok((opened, done)) => (done, Left::Worked(opened)),
-        Err((left, why)) => (Err(why), left),
-    }
+    on_new(rt, path, start, &mut Making, &mut Io::new(io::sink()))
 }
 
 /// The run of the records of an input.
@@ -119,15 +111,11 @@ impl<'a, R: Read> Works for Run<'a, R> {
     fn closes(done: Result<u8, Stop>) -> bool
         ensures { result ≡ closes_run done }
     {
-        match done {
-            Ok(status) => status != FAULT,
-            Err(_) => false,
-        }
+        ends_well(done)
     }
 }
 
 /// Runs the records of the input on the package of a file.
-#[tactic(auto, using(crate::proofs::Off::on_err))]
 fn run_file<'a, S: Start, R: Read, W: Write>(
     rt: &HostRuntime,
     path: &'a str,
@@ -135,7 +123,7 @@ fn run_file<'a, S: Start, R: Read, W: Write>(
     input: &mut Io<R>,
     output: &mut Io<W>,
     at: Moment,
-) -> (Result<u8, Stop>, Left<'a, FileFrom<S>, S>)
+) -> Worked<'a, S, u8>
     ensures run { RunEnds (written W.contents output.old) (written W.contents output.new) result.0 }
     ensures unprinted { IsUnprinted ⟦<FileFrom<S> as Disk>⟧ (written W.contents output.old)
         (written W.contents output.new) result.1 }
@@ -144,10 +132,7 @@ fn run_file<'a, S: Start, R: Read, W: Write>(
         (written W.contents output.old) (written W.contents output.new) done)
         closes_run result.0 result.1 }
 {
-    match on_old(rt, path, start, &mut Run { input, at }, output) {
-        Ok((opened, done)) => (done, Left::Worked(opened)),
-        Err((left, why)) => (Err(why), left),
-    }
+    on_old(rt, path, start, &mut Run { input, at }, output)
 }
 
 /// The subcommand `init`.
@@ -218,9 +203,9 @@ fn tell_words<W: Write>(output: &mut Io<W>, error: clap::Error) -> u8
     }
 }
 
-/// The whole program, of which the first word is its name, where `start` stands for what the files held that the words name. It answers
-/// the exit status, with what is left of the files: 0 where all was accepted, 1 where something was refused, 2 for wrong words, 3 for a
-/// fault, 4 where the file is no package. A print that fails ends with 3.
+/// The whole program, of which the first word is its name, where `start` stands for what the files held that the words
+/// name. It answers the exit status, with what is left of the files: 0 where all was accepted, 1 where something was
+/// refused, 2 for wrong words, 3 for a fault, 4 where the file is no package. A print that fails ends with 3.
 pub fn program_on<'a, S: Start, R: Read, W: Write>(
     rt: &HostRuntime,
     words: &'a [&'a str],
@@ -288,8 +273,8 @@ fn status_on<S: Start, R: Read, W: Write>(
     status
 }
 
-/// The whole program, on files that the system opens; what is left of them `program_on` says, which it calls. Of how a crash mixes old
-/// bytes and new ones nothing is supposed: each commit is synced twice.
+/// The whole program, on files that the system opens; what is left of them `program_on` says, which it calls. Of how a
+/// crash mixes old bytes and new ones nothing is supposed: each commit is synced twice.
 pub fn program<R: Read, W: Write>(
     rt: &HostRuntime,
     words: &[&str],

@@ -1,10 +1,16 @@
-use Rattle.mm_definitions.specs.Streams.{written}
-use Rattle.mm_program.proofs.Off.{off_file}
+use Rattle.mm_program.proofs.Off.{not_bare, not_done}
 use Rattle.mm_program.proofs.files.on_length.Goals as goal
 
-pub returns-in-Err-clause-left : goal.returns-in-Err-clause-left
-returns-in-Err-clause-left g c =
-    let old = written g.W.Write.contents c.args.output.now in
-    let new = written g.W.Write.contents c.on_file.new.output in
-    let e = c.in-Err.ensures in
-    rw c.stop_of.ensures (off_file _ _ _ g.K.Works.closes (g.K.Works.tells c.args.work.now) (g.K.Works.leaves c.args.work.now) old new _ _ _ e.left e.unclosed e.bytes e.why)
+pub returns-in-Ok-clause-worked : goal.returns-in-Ok-clause-worked
+returns-in-Ok-clause-worked g c =
+    let it = c.in-Ok.ensures.worked in record { ended = it.came; files = (it.there, it.worked); unprinted = tt }
+
+pub returns-in-Ok-clause-bare : goal.returns-in-Ok-clause-bare
+returns-in-Ok-clause-bare g c = c.in-Ok.ensures.worked.bare
+
+pub returns-in-Err-clause-worked : goal.returns-in-Err-clause-worked
+returns-in-Err-clause-worked g c =
+    rw c.stop_of.ensures (not_done _ _ _ _ _ _ _ _ _ _ _ _ c.in-Err.ensures.unworked)
+
+pub returns-in-Err-clause-bare : goal.returns-in-Err-clause-bare
+returns-in-Err-clause-bare g c none = not_bare _ _ _ _ c.in-Err.ensures.unworked.left

@@ -1,6 +1,7 @@
 -- What a subcommand prints, and the exit status that goes with it.
-use Rattle.std.specs.Prelude.{◌≡◌, ◌⊎◌, ⊤, ℕ, ℤ, List, Option, None, Result, Ok, Err, IfErr, IfSome, codes}
+use Rattle.std.specs.Prelude.{◌≡◌, ◌⊎◌, ⊤, ℕ, ℤ, Bool, List, Option, None, Result, Ok, Err, IfErr, IfSome, codes}
 use Rattle.sqlite_disk.specs.declared.Disk.{Ghosts}
+use Rattle.sqlite.specs.Tree.{Trees}
 use Rattle.sqlite.specs.Recovery.{Image}
 use Rattle.mm_definitions.specs.Bounds.{IsName}
 use Rattle.mm_definitions.specs.Keys.{Text}
@@ -21,7 +22,8 @@ use Rattle.mm_files.specs.Worked.{IsUnprinted}
 use Rattle.mm_program.specs.Desks.{LeavesDesk, TellsDesk, TellsSat, table_of}
 use Rattle.mm_program.specs.Explained.{TellsExplained}
 use Rattle.mm_program.specs.Files.{IsUntouched, OnFile, StopsNew, StopsOld, WasBare}
-use Rattle.mm_program.specs.Left.{LeavesImport, LeavesMade, LeavesMigrated, LeavesRun, LeavesSame, TellsChecked, TellsImport, TellsListing, TellsMigrated, TellsRun, TellsServed}
+use Rattle.mm_program.specs.Left.{LeavesImport, LeavesMade, LeavesMigrated, LeavesRun, LeavesSame}
+use Rattle.mm_program.specs.Left.{TellsChecked, TellsImport, TellsListing, TellsMigrated, TellsRun, TellsServed}
 use Rattle.mm_program.specs.Rows.{TellsShown}
 use Rattle.mm_program.specs.Served.{TellsServe}
 pub use Rattle.mm_program.specs.Stops.{StopsCheck}
@@ -29,7 +31,8 @@ pub use Rattle.mm_program.specs.Printed.{TellsDecline, TellsStatus, import_statu
 use Rattle.mm_program.specs.Worked.{closes_done, closes_import, closes_run}
 use Rattle.mm_definitions.specs.Streams.{Written}
 
--- ---- what a subcommand prints, and what it leaves of the files that were opened: by what they held and by the path that the words name
+-- ---- what a subcommand prints, and what it leaves of the files that were opened: by what they held and by the path
+-- that the words name
 
 -- its status is answered, and nothing more is printed; or why it was not done is told
 abbrev pub IsOutcome : {T : Type 0} → (T → ℕ) → Written → Written → Result T Stop → ℕ → Type 0
@@ -41,71 +44,95 @@ abbrev pub EndsInOutcome : {T : Type 0} → (T → ℕ) → Written → Written 
 EndsInOutcome status old between new outcome result =
     IfErr outcome (λ why. (between ≡ old) ⊎ (stop_status why ≡ 3)) × IsOutcome status between new outcome result
 
-module _ {D S : Type 0} (g : Ghosts D) (image : Image) (path : Text) (old new : Written) (result : ℕ) (left : Left D S g) where
-  -- `init` tells one of its outcomes and nothing else; files that it works on hold no byte, and then the new package where it tells so
+module _ {D S : Type 0} (g : Ghosts D) (image : Image) (path : Text) (old new : Written) (result : ℕ)
+    (left : Left D S g) where
+  -- Work on the file that is there was done, or not, and then told as its outcome; it printed nothing where it was not
+  -- begun; and it tells of the database that was found, and leaves of the files, this, by what it printed.
+  abbrev pub TellsWork : {T : Type 0} → (T → ℕ) → (Trees → Written → Result T Stop → Type 0)
+      → (Trees → Trees → Written → Result T Stop → Type 0) → (Result T Stop → Bool) → Type 0
+  TellsWork {T} status tells leaves closes =
+      (between : Written) × (outcome : Result T Stop) × EndsInOutcome status old between new outcome result
+      × IsUnprinted g old between left × OnFile g image path StopsOld (λ found done. tells found between done)
+      (λ found after done. leaves found after between done) closes outcome left
+
+  -- `init` tells one of its outcomes and nothing else; files that it works on hold no byte, and then the new package
+  -- where it tells so
   abbrev pub TellsInit : Type 0
-  TellsInit = (outcome : Result (Unit {0}) Stop) × IfErr outcome StopsNew × IsTold old new (init_text outcome) (init_status outcome) result
+  TellsInit = (outcome : Result (Unit {0}) Stop) × IfErr outcome StopsNew
+      × IsTold old new (init_text outcome) (init_status outcome) result
       × OnFile g image path StopsNew (λ found done. ⊤) LeavesMade closes_done outcome left × WasBare g image left
 
   -- so does `check`, of the package that was found, which is as it was
   abbrev pub TellsCheck : Type 0
-  TellsCheck = (outcome : Result (Unit {0}) Stop) × IfErr outcome StopsCheck × IsTold old new (check_text outcome) (check_status outcome) result
-      × OnFile g image path StopsOld TellsChecked (λ found after done. LeavesSame found after) closes_done outcome left
+  TellsCheck = (outcome : Result (Unit {0}) Stop) × IfErr outcome StopsCheck
+      × IsTold old new (check_text outcome) (check_status outcome) result × OnFile g image path StopsOld TellsChecked
+      (λ found after done. LeavesSame found after) closes_done outcome left
 
   -- so does `migrate`, which tells the package in micrometres
   abbrev pub TellsMigrate : Type 0
-  TellsMigrate = (outcome : Result (Unit {0}) Stop) × IfErr outcome StopsCheck × IsTold old new (migrate_text outcome) (migrate_status outcome) result
+  TellsMigrate = (outcome : Result (Unit {0}) Stop) × IfErr outcome StopsCheck
+      × IsTold old new (migrate_text outcome) (migrate_status outcome) result
       × OnFile g image path StopsOld TellsMigrated LeavesMigrated closes_done outcome left
 
   -- `list` prints the listing of the package that was found, which is as it was
   abbrev pub TellsList : Type 0
-  TellsList = (between : Written) × (outcome : Result (Unit {0}) Stop) × EndsInOutcome (λ done. 0) old between new outcome result × IsUnprinted g old between left
-      × OnFile g image path StopsOld (λ found done. TellsListing found old between done) (λ found after done. LeavesSame found after) closes_done outcome left
+  TellsList = TellsWork (λ done. 0) (λ found between done. TellsListing found old between done)
+      (λ found after between done. LeavesSame found after) closes_done
 
-  -- `show` prints the rows of a table of the package that was found, which is as it was; a table's name that is none opens no file
+  -- `show` prints the rows of a table of the package that was found, which is as it was; a table's name that is none
+  -- opens no file
   abbrev pub TellsShow : Text → Option ℤ → Type 0
   TellsShow table id =
       (¬ (IsName table) × IsTold old new (codes "refused 12\n") 1 result × IsUntouched left)
-      ⊎ (IsName table × (between : Written) × (outcome : Result ℕ Stop) × EndsInOutcome (λ status. status) old between new outcome result × IsUnprinted g old between left
-      × OnFile g image path StopsOld (λ found done. TellsShown table id found old between done) (λ found after done. LeavesSame found after) closes_run outcome left)
+      ⊎ (IsName table × TellsWork (λ status. status)
+      (λ found between done. TellsShown table id found old between done)
+      (λ found after between done. LeavesSame found after) closes_run)
 
-  -- `run` runs the records of the input, which has these bytes, at the moment that is given, or at that of the clock, or refuses the clock's
+  -- `run` runs the records of the input, which has these bytes, at the moment that is given, or at that of the clock,
+  -- or refuses the clock's
   abbrev pub TellsRan : Option (List ℕ) → Option ℕ → Type 0
   TellsRan source at =
       ((at ≡ None) × IsTold old new (codes "refused 11\n") 1 result × IsUntouched left)
-      ⊎ ((moment : ℕ) × IfSome at (λ given. moment ≡ given) × (between : Written) × (outcome : Result ℕ Stop) × EndsInOutcome (λ status. status) old between new outcome result × IsUnprinted g old between left
-      × OnFile g image path StopsOld TellsRun (λ found after done. LeavesRun source moment found after old between done) closes_run outcome left)
+      ⊎ ((moment : ℕ) × IfSome at (λ given. moment ≡ given) × TellsWork (λ status. status)
+      (λ found between done. TellsRun found done)
+      (λ found after between done. LeavesRun source moment found after old between done) closes_run)
 
-  -- `kit` refuses an edition that is no name, and a moment of the clock outside the limits; else it tells what the import came to.
+  -- `kit` refuses an edition that is no name, and a moment of the clock outside the limits; else it tells what the
+  -- import came to.
   abbrev pub TellsKit : Text → Option ℕ → Type 0
   TellsKit edition at =
       (¬ (IsName edition) × IsTold old new (codes "kit refused 0 12\n") 1 result × IsUntouched left)
       ⊎ (IsName edition × (at ≡ None) × IsTold old new (codes "refused 11\n") 1 result × IsUntouched left)
-      ⊎ (IsName edition × (outcome : Result (Result Staged KitFault) Stop) × IsTold old new (import_text outcome) (import_status outcome) result
+      ⊎ (IsName edition × (outcome : Result (Result Staged KitFault) Stop)
+      × IsTold old new (import_text outcome) (import_status outcome) result
       × OnFile g image path StopsOld TellsImport (LeavesImport None edition) closes_import outcome left)
 
   -- `serve` serves the package that was found, which is as it was
   abbrev pub TellsService : Type 0
-  TellsService = (between : Written) × (outcome : Result ℕ Stop) × EndsInOutcome (λ status. status) old between new outcome result × IsUnprinted g old between left
-      × OnFile g image path StopsOld TellsServed (λ found after done. LeavesSame found after) closes_run outcome left
+  TellsService = TellsWork (λ status. status) (λ found between done. TellsServed found done)
+      (λ found after between done. LeavesSame found after) closes_run
 
   -- `desk` shows the package that was found and runs lists on it; a key or a table's name that is none opens no file
   abbrev pub TellsSitting : Type 0
   TellsSitting =
-      ((IsTold old new (codes "refused 11\n") 1 result ⊎ IsTold old new (codes "refused 12\n") 1 result) × IsUntouched left)
-      ⊎ ((between : Written) × (outcome : Result ℕ Stop) × EndsInOutcome (λ status. status) old between new outcome result × IsUnprinted g old between left
-      × OnFile g image path StopsOld TellsSat (λ found after done. LeavesDesk found after done) closes_run outcome left)
+      ((IsTold old new (codes "refused 11\n") 1 result ⊎ IsTold old new (codes "refused 12\n") 1 result)
+      × IsUntouched left)
+      ⊎ TellsWork (λ status. status) (λ found between done. TellsSat found done)
+      (λ found after between done. LeavesDesk found after done) closes_run
 
 -- ---- the program
 
 -- what is told of what was asked for, and left of the file that the words name
-abbrev pub TellsRequest : {D S : Type 0} (g : Ghosts D) → Image → Option (List ℕ) → Request → Written → Written → ℕ → Left D S g → Type 0
+abbrev pub TellsRequest : {D S : Type 0} (g : Ghosts D) → Image → Option (List ℕ) → Request → Written → Written → ℕ
+    → Left D S g → Type 0
 TellsRequest g image source (asked.Init file) old new result left = TellsInit g image file.now old new result left
 TellsRequest g image source (asked.Run file at) old new result left =
     TellsDecline old new result × TellsRan g image file.now old new result left source at
-TellsRequest g image source (asked.Kit file edition folder at) old new result left = TellsKit g image file.now old new result left edition.now at
+TellsRequest g image source (asked.Kit file edition folder at) old new result left =
+    TellsKit g image file.now old new result left edition.now at
 TellsRequest g image source (asked.Check file) old new result left = TellsCheck g image file.now old new result left
-TellsRequest g image source (asked.List file) old new result left = TellsDecline old new result × TellsList g image file.now old new result left
+TellsRequest g image source (asked.List file) old new result left =
+    TellsDecline old new result × TellsList g image file.now old new result left
 TellsRequest g image source (asked.Show file table id) old new result left =
     TellsDecline old new result × TellsShow g image file.now old new result left table.now id
 TellsRequest g image source (asked.Migrate file) old new result left = TellsMigrate g image file.now old new result left
@@ -113,10 +140,14 @@ TellsRequest g image source (asked.Serve file port count) old new result left =
     TellsServe port count old new result × TellsService g image file.now old new result left
 TellsRequest g image source (asked.Desk file port count page) old new result left =
     TellsDesk port count (table_of page) old new result × TellsSitting g image file.now old new result left
-TellsRequest g image source (asked.Explain answer) old new result left = TellsExplained answer.now old new result × IsUntouched left
+TellsRequest g image source (asked.Explain answer) old new result left =
+    TellsExplained answer.now old new result × IsUntouched left
 
--- What the words ask for is told and left; or what is wrong with them, or that memory is wanted to read them, and no file was opened.
-abbrev pub TellsWords : {D S : Type 0} (g : Ghosts D) → Image → Option (List ℕ) → List Text → Written → Written → ℕ → Left D S g → Type 0
+-- What the words ask for is told and left; or what is wrong with them, or that memory is wanted to read them, and no
+-- file was opened.
+abbrev pub TellsWords : {D S : Type 0} (g : Ghosts D) → Image → Option (List ℕ) → List Text → Written → Written → ℕ
+    → Left D S g → Type 0
 TellsWords g image source words old new result left =
     ((request : Request) × WordsAsk words request × TellsRequest g image source request old new result left)
-    ⊎ ((error : Error) × HasKind (fault_of command_line words) error × TellsStatus (status_of (kind_of error)) old new result × IsUntouched left)
+    ⊎ ((error : Error) × HasKind (fault_of command_line words) error
+    × TellsStatus (status_of (kind_of error)) old new result × IsUntouched left)

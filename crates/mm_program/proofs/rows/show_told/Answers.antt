@@ -11,11 +11,16 @@ returns-in-Ok-clause-shown g c =
     let new = written g.W.Write.contents c.show_file-done.new.output in
     inr (
       named,
-      new,
-      c.show_file-done.result.0,
-      (show_untold _ _ _ c.show_file-done.ensures.shown, subst (λ o. IsOutcome (λ (status : ℕ). status) new new o c.in-Ok.status) (sym c.in-Ok.is) (refl, refl)),
-      c.show_file-done.ensures.unprinted,
-      rw (← c.in-Some.ensures.value) c.show_file-done.ensures.left,
+      (
+        new,
+        c.show_file-done.result.0,
+        (
+          show_untold _ _ _ c.show_file-done.ensures.shown,
+          subst (λ o. IsOutcome (λ (status : ℕ). status) new new o c.in-Ok.status) (sym c.in-Ok.is) (refl, refl),
+        ),
+        c.show_file-done.ensures.unprinted,
+        rw (← c.in-Some.ensures.value) c.show_file-done.ensures.left,
+      ),
     )
 
 pub returns-in-Err-clause-shown : goal.returns-in-Err-clause-shown
@@ -25,12 +30,15 @@ returns-in-Err-clause-shown g c =
     let new = written g.W.Write.contents c.tell_stop.new.output in
     inr (
       named,
-      between,
-      c.show_file-done.result.0,
       (
-        show_untold _ _ _ c.show_file-done.ensures.shown,
-        subst (λ o. IsOutcome (λ (status : ℕ). status) between new o c.tell_stop.result) (sym c.in-Err.is) c.tell_stop.ensures,
+        between,
+        c.show_file-done.result.0,
+        (
+          show_untold _ _ _ c.show_file-done.ensures.shown,
+          subst (λ o. IsOutcome (λ (status : ℕ). status) between new o c.tell_stop.result) (sym c.in-Err.is)
+              c.tell_stop.ensures,
+        ),
+        c.show_file-done.ensures.unprinted,
+        rw (← c.in-Some.ensures.value) c.show_file-done.ensures.left,
       ),
-      c.show_file-done.ensures.unprinted,
-      rw (← c.in-Some.ensures.value) c.show_file-done.ensures.left,
     )

@@ -10,11 +10,13 @@ pub returns-in-Unread-clause-ran : goal.returns-in-Unread-clause-ran
 returns-in-Unread-clause-ran g c = inr (
   unwrap_or c.args.at 0,
   any_given c.args.at,
-  written g.W.Write.contents c.args.output.now,
-  Err (stops.Fault (record { 0 = 96 })),
-  (inl refl, c.tell_stop.ensures),
-  refl,
-  (stops.Fault (record { 0 = 96 }), refl, inr (inr refl)),
+  (
+    written g.W.Write.contents c.args.output.now,
+    Err (stops.Fault (record { 0 = 96 })),
+    (inl refl, c.tell_stop.ensures),
+    refl,
+    (stops.Fault (record { 0 = 96 }), refl, inr (inr refl)),
+  ),
 )
 
 pub returns-in-Ok-clause-ran : goal.returns-in-Ok-clause-ran
@@ -23,11 +25,16 @@ returns-in-Ok-clause-ran g c =
     inr (
       c.in-At.moment,
       at_given _ _ _ c.moment_or_now.ensures.given c.in-At.is,
-      new,
-      c.run_file-done.result.0,
-      (run_untold _ _ _ c.run_file-done.ensures.run, subst (λ o. IsOutcome (λ status. status) new new o c.in-Ok.status) (sym c.in-Ok.is) (refl, refl)),
-      c.run_file-done.ensures.unprinted,
-      c.run_file-done.ensures.left,
+      (
+        new,
+        c.run_file-done.result.0,
+        (
+          run_untold _ _ _ c.run_file-done.ensures.run,
+          subst (λ o. IsOutcome (λ status. status) new new o c.in-Ok.status) (sym c.in-Ok.is) (refl, refl),
+        ),
+        c.run_file-done.ensures.unprinted,
+        c.run_file-done.ensures.left,
+      ),
     )
 
 pub returns-in-Err-clause-ran : goal.returns-in-Err-clause-ran
@@ -37,12 +44,15 @@ returns-in-Err-clause-ran g c =
     inr (
       c.in-At.moment,
       at_given _ _ _ c.moment_or_now.ensures.given c.in-At.is,
-      between,
-      c.run_file-done.result.0,
       (
-        run_untold _ _ _ c.run_file-done.ensures.run,
-        subst (λ o. IsOutcome (λ (status : ℕ). status) between new o c.tell_stop-in-Err.result) (sym c.in-Err.is) c.tell_stop-in-Err.ensures,
+        between,
+        c.run_file-done.result.0,
+        (
+          run_untold _ _ _ c.run_file-done.ensures.run,
+          subst (λ o. IsOutcome (λ (status : ℕ). status) between new o c.tell_stop-in-Err.result) (sym c.in-Err.is)
+              c.tell_stop-in-Err.ensures,
+        ),
+        c.run_file-done.ensures.unprinted,
+        c.run_file-done.ensures.left,
       ),
-      c.run_file-done.ensures.unprinted,
-      c.run_file-done.ensures.left,
     )

@@ -15,7 +15,8 @@ moment_of now.Outside = 0
 moment_of now.Unread = 0
 
 -- the moment that is taken is the one that is given
-pub at_given : (at : Option ℕ) (it : Now) (moment : ℕ) → IfSome at (λ given. it ≡ now.At given) → it ≡ now.At moment → IfSome at (λ given. moment ≡ given)
+pub at_given : (at : Option ℕ) (it : Now) (moment : ℕ) → IfSome at (λ given. it ≡ now.At given) → it ≡ now.At moment
+    → IfSome at (λ given. moment ≡ given)
 unfolding moment_of
 at_given None it moment given is = tt
 at_given (Some m) it moment given is = ap moment_of (sym is ∙ given)
@@ -25,14 +26,17 @@ pub any_given : (at : Option ℕ) → IfSome at (λ given. unwrap_or at 0 ≡ gi
 any_given None = tt
 any_given (Some m) = refl
 
-pub run_untold : (old new : Written) (done : Result ℕ Stop) → RunEnds old new done → IfErr done (λ why. (new ≡ old) ⊎ (stop_status why ≡ 3))
+pub run_untold : (old new : Written) (done : Result ℕ Stop) → RunEnds old new done
+    → IfErr done (λ why. (new ≡ old) ⊎ (stop_status why ≡ 3))
 run_untold old new (Ok status) run = tt
 run_untold old new (Err why) run = run.1.1
 
-pub list_untold : (old new : Written) (done : Result (Unit {0}) Stop) → ListingEnds old new done → IfErr done (λ why. (new ≡ old) ⊎ (stop_status why ≡ 3))
+pub list_untold : (old new : Written) (done : Result (Unit {0}) Stop) → ListingEnds old new done
+    → IfErr done (λ why. (new ≡ old) ⊎ (stop_status why ≡ 3))
 list_untold old new (Ok done) listed = tt
 list_untold old new (Err why) listed = listed.1
 
-pub show_untold : (old new : Written) (done : Result ℕ Stop) → ShowingEnds old new done → IfErr done (λ why. (new ≡ old) ⊎ (stop_status why ≡ 3))
+pub show_untold : (old new : Written) (done : Result ℕ Stop) → ShowingEnds old new done
+    → IfErr done (λ why. (new ≡ old) ⊎ (stop_status why ≡ 3))
 show_untold old new (Ok status) shown = tt
 show_untold old new (Err why) shown = shown.1

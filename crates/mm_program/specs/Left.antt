@@ -58,7 +58,8 @@ abbrev pub TellsChecked : Trees → Result (Unit {0}) Stop → Type 0
 TellsChecked found (Ok done) = WasFoundWell found
 TellsChecked found (Err why) = TellsDeclined found why
 
--- the package is declined, and nothing was printed; or it meets the rules, and a fault ended its listing behind a beginning
+-- the package is declined, and nothing was printed; or it meets the rules, and a fault ended its listing behind a
+-- beginning
 abbrev pub IsListingEnded : Package → Written → Written → Stop → Type 0
 IsListingEnded p old new why =
     (IsDeclinedFor p why × (new ≡ old))
@@ -66,13 +67,16 @@ IsListingEnded p old new why =
 
 -- `list`: the listing that is printed is that of the package, which meets the rules
 abbrev pub TellsListing : Trees → Written → Written → Result (Unit {0}) Stop → Type 0
-TellsListing found old new (Ok done) = WasFoundWell found × ((p : Package) → StandsForCurrent found p → Appends old.contents new.contents (listing p))
+TellsListing found old new (Ok done) =
+    WasFoundWell found × ((p : Package) → StandsForCurrent found p → Appends old.contents new.contents (listing p))
 TellsListing found old new (Err why) = (p : Package) → StandsForCurrent found p → IsListingEnded p old new why
 
 -- `serve`: the package meets the rules, or is declined; or the port could not be bound
 abbrev pub TellsServed : Trees → Result ℕ Stop → Type 0
 TellsServed found (Ok status) = WasFoundWell found
-TellsServed found (Err why) = (p : Package) → StandsForCurrent found p → IsDeclinedFor p why ⊎ (Meets current p × (why ≡ stops.Fault (record { 0 = 96 })))
+TellsServed found (Err why) =
+    (p : Package) → StandsForCurrent found p → IsDeclinedFor p why
+    ⊎ (Meets current p × (why ≡ stops.Fault (record { 0 = 96 })))
 
 -- ---- `init`
 
@@ -85,19 +89,28 @@ LeavesMade found after (Err why) = HasNoTable found → HasNoTable after ⊎ Sta
 
 -- what is shown by one database that a crash, or none, has left
 abbrev pub shown_in : Trees → Shown Trees
-shown_in after = record { failed = false; settled = λ p. StandsForCurrent after p; may_leave = λ db. db ≡ after; stands_for = StandsForCurrent }
+shown_in after =
+    record {
+      failed = false;
+      settled = λ p. StandsForCurrent after p;
+      may_leave = λ db. db ≡ after;
+      stands_for = StandsForCurrent;
+    }
 
--- It stands for the package of a first part of the accepted commands, with every one that was acknowledged; of all where no fault ended the run.
+-- It stands for the package of a first part of the accepted commands, with every one that was acknowledged; of all
+-- where no fault ended the run.
 abbrev pub RanTo : Package → ℕ → List ℕ → Trees → Written → Written → ℕ → Type 0
 RanTo p moment bytes after old new status =
     ((t : Tally) × RanAll p moment bytes (shown_in after) old new t × IsStatusOf t.refused status)
-    ⊎ ((e : RunFault) × RanSome p moment bytes (λ q. StandsForCurrent after q) ⊤ (shown_in after) old new e × (status ≡ 3))
+    ⊎ ((e : RunFault) × RanSome p moment bytes (λ q. StandsForCurrent after q) ⊤ (shown_in after) old new e
+    × (status ≡ 3))
 
 -- it stands for a package that meets the rules
 abbrev pub StandsKept : Trees → Type 0
 StandsKept after = (q : Package) × StandsForCurrent after q × Meets current q
 
--- of each package of the rules that the database stood for, and by the bytes of the input, where it tells them; nothing where none was adopted
+-- of each package of the rules that the database stood for, and by the bytes of the input, where it tells them; nothing
+-- where none was adopted
 abbrev pub LeavesRun : Option (List ℕ) → ℕ → Trees → Trees → Written → Written → Result ℕ Stop → Type 0
 LeavesRun source moment found after old new (Ok status) =
     (p : Package) → StandsForCurrent found p → Meets current p
@@ -114,16 +127,20 @@ TellsRun found (Err why) = TellsDeclined found why
 -- what an import is to a folder that tells its files
 abbrev pub IsImportOf : Files → Text → Package → Trees → Result Staged KitFault → Type 0
 IsImportOf files name p after (Ok answer) = IsImportAnswered files name p (λ q. StandsForCurrent after q) answer
-IsImportOf files name p after (Err stopped) = IsImportStopped files name p (λ db. db ≡ after) StandsForCurrent stopped.staged
+IsImportOf files name p after (Err stopped) =
+    IsImportStopped files name p (λ db. db ≡ after) StandsForCurrent stopped.staged
 
--- Nothing but the pieces of the edition differs, and those that stood stand; of a folder that tells its files they have grown along its kit.
-pub record HasImported (told : Option Files) (name : Text) (p : Package) (after : Trees) (import : Result Staged KitFault) : Type 0 where
+-- Nothing but the pieces of the edition differs, and those that stood stand; of a folder that tells its files they have
+-- grown along its kit.
+pub record HasImported (told : Option Files) (name : Text) (p : Package) (after : Trees)
+    (import : Result Staged KitFault) : Type 0 where
   pub kept : IsImportKept name p (λ q. StandsForCurrent after q) (λ db. db ≡ after) StandsForCurrent import
   pub imported : (files : Files) → told ≡ Some files → IsImportOf files name p after import
 
 -- of each package of the rules that the database stood for; nothing where none was adopted
 abbrev pub LeavesImport : Option Files → Text → Trees → Trees → Result (Result Staged KitFault) Stop → Type 0
-LeavesImport told name found after (Ok import) = (p : Package) → StandsForCurrent found p → Meets current p → HasImported told name p after import
+LeavesImport told name found after (Ok import) =
+    (p : Package) → StandsForCurrent found p → Meets current p → HasImported told name p after import
 LeavesImport told name found after (Err why) = after ≡ found
 
 -- what was found, or why nothing was imported
@@ -137,7 +154,8 @@ TellsImport found (Err why) = TellsDeclined found why
 abbrev pub TellsMigrated : Trees → Result (Unit {0}) Stop → Type 0
 TellsMigrated found (Ok done) =
     (HasNoTable found → ⊥)
-    × ((version : ℤ) (p : Package) → StandsFor version found p → (version ≡ micrometres.version) ⊎ (version ≡ millimetres.version))
+    × ((version : ℤ) (p : Package) → StandsFor version found p → (version ≡ micrometres.version)
+    ⊎ (version ≡ millimetres.version))
 TellsMigrated found (Err why) = ⊤
 
 -- a package in micrometres is as it was, and breaks the rule that is told, or there was a fault
@@ -146,7 +164,8 @@ StaysFor p after (opens.Rule rule) = StandsFor micrometres.version after p × Is
 StaysFor p after (opens.Fault fault) = StandsFor micrometres.version after p
 StaysFor p after _ = ⊥
 
--- one in millimetres is as it was, and breaks the rule that is told; or there was a fault, and it stands wholly in the one unit or in the other
+-- one in millimetres is as it was, and breaks the rule that is told; or there was a fault, and it stands wholly in the
+-- one unit or in the other
 abbrev pub StaysIn : Package → Trees → Open → Type 0
 StaysIn p after (opens.Rule rule) = StandsFor millimetres.version after p × IsFailing millimetres p rule
 StaysIn p after (opens.Fault fault) = StandsForEither after p

@@ -24,7 +24,8 @@ use Rattle.mm_program.specs.Left.{LeavesImport, LeavesMigrated, LeavesRun, Leave
 
 -- of each database that files held, what was left of them holds such a one
 abbrev pub Leads : (Trees → Trees → Type 0) → Image → Image → Type 0
-Leads leaves image left = (db : Trees) → HoldsDatabase image db → ∥ ((after : Trees) × leaves db after × HoldsDatabase left after) ∥₁
+Leads leaves image left =
+    (db : Trees) → HoldsDatabase image db → ∥ ((after : Trees) × leaves db after × HoldsDatabase left after) ∥₁
 
 -- a run of a list: the bytes of its input, its moment, what was printed before and behind it, and what it came to
 pub record Ran : Type 0 where
@@ -40,7 +41,8 @@ pub record Imported : Type 0 where
   pub name : Text
   pub done : Result (Result Staged KitFault) Stop
 
--- What was done: a subcommand that changes nothing, a run, a desk and what it came to, an import of a kit, or a migration and what it came to.
+-- What was done: a subcommand that changes nothing, a run, a desk and what it came to, an import of a kit, or a
+-- migration and what it came to.
 pub data Deed : Type 0 where
   Looks : Deed
   Runs : Ran → Deed
@@ -67,9 +69,12 @@ IsLife image [] left = left ≡ image
 IsLife image (used ∷ uses) left = Leads (LeavesBy used.did) image used.left × IsLife used.left uses left
 
 -- the package after a first part of the accepted commands of those that were read, with every one that was acknowledged
-abbrev pub IsPartOf : (p : Package) (moment : ℕ) (bytes : List ℕ) (after : Trees) (old new : Written) (status : ℕ) (q : Package) → RanTo p moment bytes after old new status → Type 0
-IsPartOf p moment bytes after old new status q (inl (t, all, is)) = IsFirstPart p (calls_of moment all.readings) t.accepted q
-IsPartOf p moment bytes after old new status q (inr (e, some, is)) = IsFirstPart p (calls_of moment some.readings) (acknowledged_of p moment some.readings e.tally) q
+abbrev pub IsPartOf : (p : Package) (moment : ℕ) (bytes : List ℕ) (after : Trees) (old new : Written) (status : ℕ)
+    (q : Package) → RanTo p moment bytes after old new status → Type 0
+IsPartOf p moment bytes after old new status q (inl (t, all, is)) =
+    IsFirstPart p (calls_of moment all.readings) t.accepted q
+IsPartOf p moment bytes after old new status q (inr (e, some, is)) =
+    IsFirstPart p (calls_of moment some.readings) (acknowledged_of p moment some.readings e.tally) q
 
 -- the run read, printed and counted so, and the package after it is that of such a part
 pub record IsRunPart (r : Ran) (status : ℕ) (p q : Package) : Type 0 where
@@ -82,13 +87,16 @@ abbrev pub MakesBy : Ran → Result ℕ Stop → Package → Package → Type 0
 MakesBy r (Ok status) p q = IsRunPart r status p q
 MakesBy r (Err why) p q = q ≡ p
 
--- What a desk makes of it: the package after a first part of the accepted commands of all its lists, one behind another, with every one that was
--- acknowledged; or it had none.
+-- What a desk makes of it: the package after a first part of the accepted commands of all its lists, one behind
+-- another, with every one that was acknowledged; or it had none.
 abbrev pub MakesAttended : Result ℕ Stop → Package → Package → Type 0
-MakesAttended (Ok status) p q = (visits : List Visit) × (calls : List Call) × (kept : ℕ) × IsSitting p visits calls kept × IsFirstPart p calls kept q
+MakesAttended (Ok status) p q =
+    (visits : List Visit) × (calls : List Call) × (kept : ℕ) × IsSitting p visits calls kept
+    × IsFirstPart p calls kept q
 MakesAttended (Err why) p q = q ≡ p
 
--- what an import makes of it: nothing but the pieces of its edition differs, and those that stood stand; or nothing was imported
+-- what an import makes of it: nothing but the pieces of its edition differs, and those that stood stand; or nothing was
+-- imported
 abbrev pub MakesImport : Text → Result (Result Staged KitFault) Stop → Package → Package → Type 0
 MakesImport name (Ok import) p q = KeepsOthers name p q
 MakesImport name (Err why) p q = q ≡ p
@@ -104,7 +112,8 @@ DeedMakes (Migrates done) p q = q ≡ p
 -- Each use makes a package of the one that the use before made, and each of them meets the rules.
 unfoldable pub AreMade : Package → List Use → Package → Type 0
 AreMade p [] q = q ≡ p
-AreMade p (used ∷ uses) q = (between : Package) × DeedMakes used.did p between × Meets current between × AreMade between uses q
+AreMade p (used ∷ uses) q =
+    (between : Package) × DeedMakes used.did p between × Meets current between × AreMade between uses q
 
 -- what is left holds a package that these uses have made of another one, and it meets the rules
 pub record LivesOn (left : Image) (p : Package) (uses : List Use) : Type 0 where

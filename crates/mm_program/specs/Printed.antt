@@ -37,29 +37,38 @@ import_status (Err why) = stop_status why
 abbrev pub TellsDecline : Written → Written → ℕ → Type 0
 TellsDecline old new result = result ≡ 4 → (why : Stop) × IsTold old new (stop_text why) 4 result
 
--- Want of memory is a fault. Help and usage are printed as `clap` has them, with their status, or with 3 where the writer failed.
+-- Want of memory is a fault. Help and usage are printed as `clap` has them, with their status, or with 3 where the
+-- writer failed.
 abbrev pub TellsStatus : Option ℕ → Written → Written → ℕ → Type 0
 TellsStatus None old new result = IsTold old new (stop_text (stops.Fault faults.memory)) 3 result
 TellsStatus (Some status) old new result = (result ≡ status) ⊎ (result ≡ 3)
 
 -- `init` prints one of its outcomes and nothing else
 abbrev pub PrintsInit : Written → Written → ℕ → Type 0
-PrintsInit old new result = (outcome : Result (Unit {0}) Stop) × IfErr outcome StopsNew × IsTold old new (init_text outcome) (init_status outcome) result
+PrintsInit old new result =
+    (outcome : Result (Unit {0}) Stop) × IfErr outcome StopsNew
+    × IsTold old new (init_text outcome) (init_status outcome) result
 
 -- so does `check`
 abbrev pub PrintsCheck : Written → Written → ℕ → Type 0
-PrintsCheck old new result = (outcome : Result (Unit {0}) Stop) × IfErr outcome StopsCheck × IsTold old new (check_text outcome) (check_status outcome) result
+PrintsCheck old new result =
+    (outcome : Result (Unit {0}) Stop) × IfErr outcome StopsCheck
+    × IsTold old new (check_text outcome) (check_status outcome) result
 
 -- so does `migrate`
 abbrev pub PrintsMigrate : Written → Written → ℕ → Type 0
-PrintsMigrate old new result = (outcome : Result (Unit {0}) Stop) × IfErr outcome StopsCheck × IsTold old new (migrate_text outcome) (migrate_status outcome) result
+PrintsMigrate old new result =
+    (outcome : Result (Unit {0}) Stop) × IfErr outcome StopsCheck
+    × IsTold old new (migrate_text outcome) (migrate_status outcome) result
 
--- `kit` refuses an edition that is no name, and a moment of the clock outside the limits; else it prints what the import came to.
+-- `kit` refuses an edition that is no name, and a moment of the clock outside the limits; else it prints what the
+-- import came to.
 abbrev pub PrintsKit : Text → Option ℕ → Written → Written → ℕ → Type 0
 PrintsKit edition at old new result =
     (¬ (IsName edition) × IsTold old new (codes "kit refused 0 12\n") 1 result)
     ⊎ (IsName edition × (at ≡ None) × IsTold old new (codes "refused 11\n") 1 result)
-    ⊎ (IsName edition × (outcome : Result (Result Staged KitFault) Stop) × IsTold old new (import_text outcome) (import_status outcome) result)
+    ⊎ (IsName edition × (outcome : Result (Result Staged KitFault) Stop)
+    × IsTold old new (import_text outcome) (import_status outcome) result)
 
 -- what is printed of what was asked for
 abbrev pub PrintsRequest : Request → Written → Written → ℕ → Type 0
@@ -78,4 +87,5 @@ PrintsRequest (asked.Explain answer) old new result = TellsExplained answer.now 
 abbrev pub PrintsWords : List Text → Written → Written → ℕ → Type 0
 PrintsWords words old new result =
     ((request : Request) × WordsAsk words request × PrintsRequest request old new result)
-    ⊎ ((error : Error) × HasKind (fault_of command_line words) error × TellsStatus (status_of (kind_of error)) old new result)
+    ⊎ ((error : Error) × HasKind (fault_of command_line words) error
+    × TellsStatus (status_of (kind_of error)) old new result)

@@ -22,14 +22,18 @@ ShowingEnds old new done =
     IfOk done (λ status. (status ≤ 1) × (new.failed ≡ old.failed))
     × IfErr done (λ why. (new ≡ old) ⊎ (stop_status why ≡ 3))
 
--- the package is declined, and nothing was printed; or it meets the rules, and a fault ended the text behind a beginning
+-- the package is declined, and nothing was printed; or it meets the rules, and a fault ended the text behind a
+-- beginning
 abbrev pub IsShowEnded : Text → Option ℤ → Package → Written → Written → Stop → Type 0
 IsShowEnded table id p old new why =
     (IsDeclinedFor p why × (new ≡ old))
-    ⊎ (Meets current p × IsBegun old.contents new.contents (shown_text p table id) × ((fault : Fault) × (why ≡ stops.Fault fault)))
+    ⊎ (Meets current p × IsBegun old.contents new.contents (shown_text p table id)
+    × ((fault : Fault) × (why ≡ stops.Fault fault)))
 
 -- `show`: what is printed is the text of the package, which meets the rules, and the status is its own
 abbrev pub TellsShown : Text → Option ℤ → Trees → Written → Written → Result ℕ Stop → Type 0
 TellsShown table id found old new (Ok status) = WasFoundWell found
-    × ((p : Package) → StandsForCurrent found p → Appends old.contents new.contents (shown_text p table id) × (status ≡ shown_status p table id))
-TellsShown table id found old new (Err why) = (p : Package) → StandsForCurrent found p → IsShowEnded table id p old new why
+    × ((p : Package) → StandsForCurrent found p
+    → Appends old.contents new.contents (shown_text p table id) × (status ≡ shown_status p table id))
+TellsShown table id found old new (Err why) =
+    (p : Package) → StandsForCurrent found p → IsShowEnded table id p old new why

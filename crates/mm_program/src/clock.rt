@@ -34,7 +34,8 @@ fn moment_at(time: SystemTime) -> Now
     }
 }
 
-/// The moment of the clock, asked once; one before 1970 is invalid data to the library. What a clock shows is no matter of a contract.
+/// The moment of the clock, asked once; one before 1970 is invalid data to the library. What a clock shows is no matter
+/// of a contract.
 fn time_now(rt: &HostRuntime) -> Now {
     match SystemTime::now(rt) {
         Ok(time) => moment_at(time),

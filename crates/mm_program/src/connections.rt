@@ -30,9 +30,9 @@ pub trait Serves<S: Alter> {
         ensures told { TellsMore (outcomes self.old) (outcomes self.new) (result ∷ []) };
 }
 
-/// Serves so many connections, one after another. The fault of a connection is printed as `page fault NUMBER`, and the next is
-/// served. It answers the exit status: 0, or 3 where a connection met a fault, or where a fault couldn't be printed, which ends it.
-/// The session stays as it is.
+/// Serves so many connections, one after another. The fault of a connection is printed as `page fault NUMBER`, and the
+/// next is served. It answers the exit status: 0, or 3 where a connection met a fault, or where a fault couldn't be
+/// printed, which ends it. The session stays as it is.
 pub fn serve_on<S: Alter, L: Serves<S>, W: Write>(
     alloc: Global,
     session: &mut Session<S>,

@@ -75,8 +75,8 @@ fn random_key(rt: &HostRuntime) -> Result<String, Fault>
     }
 }
 
-/// The key of the environment's `MMPKG_KEY`, None where that is none, or else a new one. 90 where memory is wanted, 96 where the system has
-/// no random bytes to give.
+/// The key of the environment's `MMPKG_KEY`, None where that is none, or else a new one. 90 where memory is wanted, 96
+/// where the system has no random bytes to give.
 pub(crate) fn key_of(rt: &HostRuntime) -> Result<Option<String>, Fault>
     ensures key { IfOk result (λ found. IfSome found (λ key. IsKey (string_bytes key))) }
     ensures fault { IfErr result IsFileFault }

@@ -20,7 +20,8 @@ ghost use Rattle.mm_work.specs.Told.{stop_status};
 ghost use Rattle.mm_work.specs.declared.stop.Stop.{Stop as Why};
 ghost use Rattle.mm_program.specs.Desks.{LeavesDesk, TellsSat};
 ghost use Rattle.mm_program.specs.Files.{OffClose, OnOpened, WereBare};
-ghost use Rattle.mm_program.specs.Left.{LeavesImport, LeavesMade, LeavesMigrated, LeavesRun, LeavesSame, TellsChecked, TellsImport, TellsListing, TellsMigrated, TellsRun, TellsServed};
+ghost use Rattle.mm_program.specs.Left.{LeavesImport, LeavesMade, LeavesMigrated, LeavesRun, LeavesSame, TellsChecked};
+ghost use Rattle.mm_program.specs.Left.{TellsImport, TellsListing, TellsMigrated, TellsRun, TellsServed};
 ghost use Rattle.mm_program.specs.Life.{IsLife, Leads, LivesOn, Use};
 ghost use Rattle.mm_program.specs.Rows.{TellsShown};
 ghost use Rattle.mm_program.specs.Worked.{closes_done, closes_import, closes_run};
@@ -95,8 +96,8 @@ pub fn an_import_leads_on<'a, D: Disk>(_opened: &Opened<'a, D>)
         → Leads (λ found after. LeavesMigrated found after done) image next }
 {}
 
-/// So of files that could not be closed behind work that came to its end, where the fault left the store open, as one does that comes
-/// while the journal is copied into FILE.
+/// So of files that could not be closed behind work that came to its end, where the fault left the store open, as one
+/// does that comes while the journal is copied into FILE.
 pub fn what_is_not_closed_leads_on<'a, D: Disk>(_left: &Unclosed<'a, D>)
     ensures run { (image next : Image) (path : Text) (source : Option (List ℕ)) (moment : ℕ)
         (old new : Written) (why : Why)
@@ -121,7 +122,8 @@ pub fn what_is_not_closed_leads_on<'a, D: Disk>(_left: &Unclosed<'a, D>)
         × Leads (λ found after. LeavesMigrated found after done) image next }
 {}
 
-/// Where a package was made in files that held no byte, each thing that a crash, or none, may leave of them holds the new package.
+/// Where a package was made in files that held no byte, each thing that a crash, or none, may leave of them holds the
+/// new package.
 pub fn a_making_leads_on<'a, D: Disk>(_opened: &Opened<'a, D>)
     ensures { (image next : Image) (path : Text)
         → WereBare D.Disk image _opened.now
@@ -132,9 +134,10 @@ pub fn a_making_leads_on<'a, D: Disk>(_opened: &Opened<'a, D>)
         → ∥ LivesOn next opening [] ∥₁ }
 {}
 
-/// The headline over the life of a file: where it held a package that meets the rules, then behind any number of uses and crashes it holds
-/// the one that is made of it by a first part of the accepted commands of each list, in turn, with every command that was acknowledged, and of all the lists of a desk;
-/// an import changes the pieces of its edition alone, and drops none, and a migration changes nothing.
+/// The headline over the life of a file: where it held a package that meets the rules, then behind any number of uses
+/// and crashes it holds the one that is made of it by a first part of the accepted commands of each list, in turn, with
+/// every command that was acknowledged, and of all the lists of a desk; an import changes the pieces of its edition
+/// alone, and drops none, and a migration changes nothing.
 pub fn a_life_keeps_what_was_acknowledged()
     ensures { (image next : Image) (uses : List Use) → IsLife image uses next
         → (db : Trees) (p : Package) → HoldsDatabase image db → StandsForCurrent db p
@@ -152,7 +155,8 @@ pub fn a_life_begins_with_the_new_package<'a, D: Disk>(_opened: &Opened<'a, D>)
         → IsLife first uses next → ∥ LivesOn next opening uses ∥₁ }
 {}
 
-/// A file that has lived on is told `package ok` by the check, or a fault, and never that it is no package or breaks a rule.
+/// A file that has lived on is told `package ok` by the check, or a fault, and never that it is no package or breaks a
+/// rule.
 pub fn what_lives_on_is_told_ok<'a, D: Disk>(_opened: &Opened<'a, D>)
     ensures { (image : Image) (path : Text) (p : Package) (uses : List Use)
         (done : Result (Unit {0}) Why) → ∥ LivesOn image p uses ∥₁

@@ -32,7 +32,8 @@ fn next_of<D: Desk>(desk: &D) -> Turn
     Turn::Next
 }
 
-/// Prints the fault of a list that was ended, if one was. The desk ends behind a command that failed, or a line that could not be printed.
+/// Prints the fault of a list that was ended, if one was. The desk ends behind a command that failed, or a line that
+/// could not be printed.
 fn tell_list<D: Desk, W: Write>(desk: &D, output: &mut Io<W>, run: Result<Tally, RunFault>) -> Turn
     ensures told { PrintsTurn (written W.contents output.old) (written W.contents output.new)
         result }
@@ -78,9 +79,10 @@ fn answer_and_tell<D: Desk, C: Comes<D>, W: Write>(
     }
 }
 
-/// Answers so many requests, one after another, or until one ends the desk. A fault of a request is printed as `page fault NUMBER`: no
-/// record of it was run. One that ended a list is printed as `list fault NUMBER`. It answers the exit status: 0, or 3 where a command
-/// failed, so that the desk has to be opened again, or where a line couldn't be printed, which ends it.
+/// Answers so many requests, one after another, or until one ends the desk. A fault of a request is printed as
+/// `page fault NUMBER`: no record of it was run. One that ended a list is printed as `list fault NUMBER`. It answers
+/// the exit status: 0, or 3 where a command failed, so that the desk has to be opened again, or where a line couldn't
+/// be printed, which ends it.
 pub fn attend<D: Desk, C: Comes<D>, W: Write>(
     alloc: Global,
     desk: &mut D,

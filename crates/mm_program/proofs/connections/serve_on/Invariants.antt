@@ -11,5 +11,7 @@ abbrev pub invariant-loop-served : goal.invariant-loop-served
 invariant-loop-served g l = record {
   same : must_reopen l.session ≡ must_reopen l.fn.session;
   kept : LeavesPackage (state g.S.Store (connection l.fn.session)) (state g.S.Store (connection l.session));
-  told : Told l.served (g.L.Serves.outcomes l.fn.listener) (g.L.Serves.outcomes l.listener) (g.W.Write.contents (inside l.fn.output)) (g.W.Write.contents (inside l.output)) (streams.has_failed l.fn.output) (streams.has_failed l.output) l.status;
+  told : Told l.served (g.L.Serves.outcomes l.fn.listener) (g.L.Serves.outcomes l.listener)
+      (g.W.Write.contents (inside l.fn.output)) (g.W.Write.contents (inside l.output)) (streams.has_failed l.fn.output)
+      (streams.has_failed l.output) l.status;
 }

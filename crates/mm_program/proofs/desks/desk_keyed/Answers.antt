@@ -8,7 +8,10 @@ returns-in-Ok-clause-sitting g c =
     let new = written g.W.Write.contents c.desk_file-done.new.output in inr (
       new,
       c.desk_file-done.result.0,
-      (c.desk_file-done.ensures.told, subst (λ o. IsOutcome (λ (status : ℕ). status) new new o c.in-Ok.status) (sym c.in-Ok.is) (refl, refl)),
+      (
+        c.desk_file-done.ensures.told,
+        subst (λ o. IsOutcome (λ (status : ℕ). status) new new o c.in-Ok.status) (sym c.in-Ok.is) (refl, refl),
+      ),
       c.desk_file-done.ensures.unprinted,
       c.desk_file-done.ensures.left,
     )
@@ -21,7 +24,8 @@ returns-in-Err-clause-sitting g c =
       c.desk_file-done.result.0,
       (
         c.desk_file-done.ensures.told,
-        subst (λ o. IsOutcome (λ (status : ℕ). status) between new o c.tell_stop.result) (sym c.in-Err.is) c.tell_stop.ensures,
+        subst (λ o. IsOutcome (λ (status : ℕ). status) between new o c.tell_stop.result) (sym c.in-Err.is)
+            c.tell_stop.ensures,
       ),
       c.desk_file-done.ensures.unprinted,
       c.desk_file-done.ensures.left,

@@ -11,7 +11,17 @@ returns-clause-sat g c works =
     let (visits, sat) = c.attend_doors.ensures.sat works in record {
       clean = clean_before _ visits _ _ sat;
       sat = λ clean p settled meets after may.
-          let (calls, kept, sitting, parts) = one_run _ (session_settled g.S.Store) visits p _ _ sat clean (settled, meets) works in
+          let (calls, kept, sitting, parts) = one_run _ (session_settled g.S.Store) visits p _ _ sat clean
+          (settled, meets) works in
           let (q, stands, part, sound) = parts after may in
-          record { visits = visits; calls = calls; kept = kept; sitting = sitting; last = q; stands = stands; part = part; meets = sound };
+          record {
+            visits = visits;
+            calls = calls;
+            kept = kept;
+            sitting = sitting;
+            last = q;
+            stands = stands;
+            part = part;
+            meets = sound;
+          };
     }

@@ -5,7 +5,12 @@ use Rattle.mm_program.proofs.desks.desk_told.Goals as goal
 
 pub returns-in-Err-clause-told : goal.returns-in-Err-clause-told
 returns-in-Err-clause-told g c =
-    inr (inr (inr (stops.Fault c.in-Err.fault, written g.W.Write.contents c.args.output.now, inl (refl, refl), c.tell_stop.ensures)))
+    inr (inr (inr (
+      stops.Fault c.in-Err.fault,
+      written g.W.Write.contents c.args.output.now,
+      inl (refl, refl),
+      c.tell_stop.ensures,
+    )))
 
 pub returns-in-Err-clause-sitting : goal.returns-in-Err-clause-sitting
 returns-in-Err-clause-sitting g c = inr (

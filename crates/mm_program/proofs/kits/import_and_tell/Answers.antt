@@ -9,7 +9,12 @@ use Rattle.mm_program.proofs.kits.import_and_tell.Goals as goal
 pub returns-in-Unread-clause-told : goal.returns-in-Unread-clause-told
 returns-in-Unread-clause-told g c =
     let named : IsName c.args.edition.now = search rules in
-    inr (inr (named, Err (stops.Fault (record { 0 = 96 })), c.tell_stop.ensures, (stops.Fault (record { 0 = 96 }), refl, inr (inr refl))))
+    inr (inr (
+      named,
+      Err (stops.Fault (record { 0 = 96 })),
+      c.tell_stop.ensures,
+      (stops.Fault (record { 0 = 96 }), refl, inr (inr refl)),
+    ))
 
 pub returns-in-Ok-clause-told : goal.returns-in-Ok-clause-told
 returns-in-Ok-clause-told g c =
@@ -19,7 +24,8 @@ returns-in-Ok-clause-told g c =
     inr (inr (
       named,
       c.import_file-done.result.0,
-      subst (λ o. IsTold old new (import_text o) (import_status o) c.tell_import.result) (sym c.in-Ok.is) c.tell_import.ensures,
+      subst (λ o. IsTold old new (import_text o) (import_status o) c.tell_import.result) (sym c.in-Ok.is)
+          c.tell_import.ensures,
       rw (← c.in-Some.ensures.value) c.import_file-done.ensures,
     ))
 
@@ -31,6 +37,7 @@ returns-in-Err-clause-told g c =
     inr (inr (
       named,
       c.import_file-done.result.0,
-      subst (λ o. IsTold old new (import_text o) (import_status o) c.tell_stop-in-Err.result) (sym c.in-Err.is) c.tell_stop-in-Err.ensures,
+      subst (λ o. IsTold old new (import_text o) (import_status o) c.tell_stop-in-Err.result) (sym c.in-Err.is)
+          c.tell_stop-in-Err.ensures,
       rw (← c.in-Some.ensures.value) c.import_file-done.ensures,
     ))

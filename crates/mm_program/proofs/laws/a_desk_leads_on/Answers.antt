@@ -5,4 +5,5 @@ use Rattle.mm_program.proofs.laws.a_desk_leads_on.Goals as goal
 
 pub returns : goal.returns
 returns g c image next path done on clean =
-    leads_on g.D.Disk image path TellsSat (λ found after it. LeavesDesk found after it) closes_run done c.args._opened.now on clean next
+    leads_on g.D.Disk image path TellsSat (λ found after it. LeavesDesk found after it) closes_run done
+    c.args._opened.now on clean next

@@ -5,4 +5,5 @@ use Rattle.mm_program.proofs.laws.a_making_leads_on.Goals as goal
 
 pub returns : goal.returns
 unfolding life.IsLife
-returns g c image next path none on clean may = begins_life g.D.Disk image path c.args._opened.now none on clean next may [] next refl
+returns g c image next path none on clean may =
+    begins_life g.D.Disk image path c.args._opened.now none on clean next may [] next refl

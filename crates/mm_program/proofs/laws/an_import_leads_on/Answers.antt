@@ -5,7 +5,8 @@ use Rattle.mm_program.proofs.laws.an_import_leads_on.Goals as goal
 
 pub returns-clause-import : goal.returns-clause-import
 returns-clause-import g c image next path name told done on clean =
-    leads_on g.D.Disk image path TellsImport (LeavesImport told name) closes_import done c.args._opened.now on clean next
+    leads_on g.D.Disk image path TellsImport (LeavesImport told name) closes_import done c.args._opened.now on clean
+    next
 
 pub returns-clause-migration : goal.returns-clause-migration
 returns-clause-migration g c image next path done on clean =

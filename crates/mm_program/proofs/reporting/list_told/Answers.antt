@@ -9,7 +9,10 @@ returns-in-Ok-clause-listed g c =
     let new = written g.W.Write.contents c.list_file-done.new.output in (
       new,
       c.list_file-done.result.0,
-      (list_untold _ _ _ c.list_file-done.ensures.listed, subst (λ o. IsOutcome (λ (done : Unit {0}). 0) new new o 0) (sym c.in-Ok.is) (refl, refl)),
+      (
+        list_untold _ _ _ c.list_file-done.ensures.listed,
+        subst (λ o. IsOutcome (λ (done : Unit {0}). 0) new new o 0) (sym c.in-Ok.is) (refl, refl),
+      ),
       c.list_file-done.ensures.unprinted,
       c.list_file-done.ensures.left,
     )
@@ -22,7 +25,8 @@ returns-in-Err-clause-listed g c =
       c.list_file-done.result.0,
       (
         list_untold _ _ _ c.list_file-done.ensures.listed,
-        subst (λ o. IsOutcome (λ (done : Unit {0}). 0) between new o c.tell_stop.result) (sym c.in-Err.is) c.tell_stop.ensures,
+        subst (λ o. IsOutcome (λ (done : Unit {0}). 0) between new o c.tell_stop.result) (sym c.in-Err.is)
+            c.tell_stop.ensures,
       ),
       c.list_file-done.ensures.unprinted,
       c.list_file-done.ensures.left,

@@ -8,7 +8,10 @@ returns-in-Ok-clause-served g c =
     let new = written g.W.Write.contents c.serve_file-done.new.output in (
       new,
       c.serve_file-done.result.0,
-      (c.serve_file-done.ensures.told, subst (λ o. IsOutcome (λ (status : ℕ). status) new new o c.in-Ok.status) (sym c.in-Ok.is) (refl, refl)),
+      (
+        c.serve_file-done.ensures.told,
+        subst (λ o. IsOutcome (λ (status : ℕ). status) new new o c.in-Ok.status) (sym c.in-Ok.is) (refl, refl),
+      ),
       c.serve_file-done.ensures.unprinted,
       c.serve_file-done.ensures.left,
     )
@@ -21,7 +24,8 @@ returns-in-Err-clause-served g c =
       c.serve_file-done.result.0,
       (
         c.serve_file-done.ensures.told,
-        subst (λ o. IsOutcome (λ (status : ℕ). status) between new o c.tell_stop.result) (sym c.in-Err.is) c.tell_stop.ensures,
+        subst (λ o. IsOutcome (λ (status : ℕ). status) between new o c.tell_stop.result) (sym c.in-Err.is)
+            c.tell_stop.ensures,
       ),
       c.serve_file-done.ensures.unprinted,
       c.serve_file-done.ensures.left,

@@ -16,7 +16,8 @@ returns-in-Last-clause-sat g c works =
 
 pub returns-in-Last-clause-told : goal.returns-in-Last-clause-told
 returns-in-Last-clause-told g c =
-    turn_last _ _ _ _ _ _ _ _ _ c.loop-answered.invariant.told c.loop-answered-test.true (rw c.in-Last.is at c.answer_and_tell.ensures.told)
+    turn_last _ _ _ _ _ _ _ _ _ c.loop-answered.invariant.told c.loop-answered-test.true
+    (rw c.in-Last.is at c.answer_and_tell.ensures.told)
 
 pub loop-answered-preserved : goal.loop-answered-preserved
 loop-answered-preserved g c = record {
@@ -31,4 +32,5 @@ pub returns-clause-sat : goal.returns-clause-sat
 returns-clause-sat g c works = let (visits, sat, here) = c.loop-answered.invariant.sat works in (visits, sat)
 
 pub returns-clause-told : goal.returns-clause-told
-returns-clause-told g c = attended _ _ _ _ _ _ _ c.loop-answered.invariant.told (omega (arith, c.loop-answered-test.false)) (inl refl)
+returns-clause-told g c =
+    attended _ _ _ _ _ _ _ c.loop-answered.invariant.told (omega (arith, c.loop-answered-test.false)) (inl refl)

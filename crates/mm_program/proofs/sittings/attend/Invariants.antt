@@ -6,6 +6,8 @@ use Rattle.mm_program.proofs.sittings.attend.Given as goal
 
 abbrev pub invariant-loop-answered : goal.invariant-loop-answered
 invariant-loop-answered g l = record {
-  sat : g.D.Apply.has_failed l.fn.desk ≡ false → (visits : List Visit) × Sat g.D.Apply l.fn.desk visits l.desk × (g.D.Apply.has_failed l.desk ≡ false);
-  told : Attended l.answered (g.W.Write.contents (inside l.fn.output)) (g.W.Write.contents (inside l.output)) (has_failed l.fn.output) (has_failed l.output);
+  sat : g.D.Apply.has_failed l.fn.desk ≡ false
+      → (visits : List Visit) × Sat g.D.Apply l.fn.desk visits l.desk × (g.D.Apply.has_failed l.desk ≡ false);
+  told : Attended l.answered (g.W.Write.contents (inside l.fn.output)) (g.W.Write.contents (inside l.output))
+      (has_failed l.fn.output) (has_failed l.output);
 }

@@ -3,7 +3,9 @@ use Rattle.mm_program.proofs.Left.{leaves_same, leaves_unlisted, tells_listing, 
 use Rattle.mm_program.proofs.reporting.ListingWorks.work.Goals as goal
 
 pub returns-in-Ok-clause-found : goal.returns-in-Ok-clause-found
-returns-in-Ok-clause-found g c clean = tells_listing _ _ c.requires.fresh clean (written g.W.Write.contents c.args.output.now) (written g.W.Write.contents c.list_package.new.output) tt c.in-Ok.ensures.listed
+returns-in-Ok-clause-found g c clean =
+    tells_listing _ _ c.requires.fresh clean (written g.W.Write.contents c.args.output.now)
+    (written g.W.Write.contents c.list_package.new.output) tt c.in-Ok.ensures.listed
 
 pub returns-in-Err-clause-found : goal.returns-in-Err-clause-found
 returns-in-Err-clause-found g c clean = tells_unlisted _ _ c.requires.fresh clean _ _ _ c.in-Err.ensures.unlisted

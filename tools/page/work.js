@@ -1,7 +1,6 @@
-// The crew's work: rows as a list and on the map, and their form.
+// The crew's work: rows as a list, and how the day begins and ends.
 
 const ROWS_AT_ONCE = 1000, SHOWN_ROWS = 100;
-const MOST_TEXT = 1000, MOST_AMOUNT = 10n ** 15n;
 const WORDS = new Intl.Collator(undefined, { numeric: true });
 // By its name, what a row is ordered by, and how two of these are.
 const ORDERS = {
@@ -17,7 +16,6 @@ let stood = new Map();    // the rows of the table that is shown, as the package
 let showing = "";         // the table whose rows are shown
 let turn = 0;             // how often rows were asked for: only the last answer is shown
 let most = SHOWN_ROWS;    // how many rows the list has
-let form = null;          // what the form is about: { table, row, fresh, act, place, photos, before }
 
 const tables = () => contents.filter(it => it.kind === "attributes");
 
@@ -113,199 +111,6 @@ function showRows() {
   byId("more").hidden = part.length === found.length;
 }
 
-/** Whether what is typed in the form would be lost; then that is said. */
-function isHeld() {
-  const held = form !== null && (typed() !== form.before || form.photos.length !== photosIn(form.act).length);
-  if (held) byId("told").textContent = "Save or close this row first.";
-  if (held) byId("edit").scrollIntoView({ block: "end" });
-  return held;
-}
-
-/** Opens the form on a row that stands or waits. */
-function open(row) {
-  if (isHeld()) return;
-  const act = row.waits === "refused" ? waiting.find(it => it.refused && it.row?.id === row.id && it.table === showing) : null;
-  if (act) change(act);
-  else openForm({ table: showing, row, fresh: !stood.has(row.id) && !row.waits });
-}
-
-/** Opens the form on an act that was refused, so that it is changed and sent again. */
-async function change(act) {
-  if (isHeld()) return;
-  const photos = await Promise.all(photosIn(act).map(async id => ({ id, bytes: await photoOf(id) })));
-  openForm({ table: act.table, row: act.row, fresh: true, act, photos });
-}
-
-function openForm({ table, row, fresh, act = null, photos = [] }) {
-  const place = placeIn(row.note);
-  form = { table, row, fresh, act, photos, place, before: null };
-  byId("which").textContent = act ? `Refused: ${act.refused}` : fresh ? "A new row" : `Row ${row.id}`;
-  byId("other").hidden = !fresh || tables().length < 2;
-  byId("into").value = table;
-  [byId("title").value, byId("note").value, byId("amount").value] = [row.title, place ? place.rest : row.note, row.amount];
-  [byId("east").value, byId("north").value, byId("told").textContent] = [place?.east ?? "", place?.north ?? "", ""];
-  form.before = typed();
-  byId("remove").hidden = fresh;
-  byId("edit").hidden = false;
-  tap(fresh && !place && !act && Boolean(map));
-  showPhotos();
-  showPlace();
-  byId("edit").scrollIntoView({ block: "nearest" });
-  // Under fingers a field that has the focus brings up the keys, which cover the map.
-  (fresh && matchMedia("(pointer: fine)").matches ? byId("title") : byId("which")).focus({ preventScroll: true });
-}
-
-const FIELDS = ["into", "title", "note", "amount", "east", "north"];
-const typed = () => JSON.stringify(FIELDS.map(it => byId(it).value));
-const drafts = () => store.transaction("drafts", "readwrite").objectStore("drafts");
-
-/** Keeps what is typed, but for photos, so that it is there when the page is loaded again. */
-function keepDraft() {
-  if (!form || form.act) return;
-  const { table, row, fresh, place } = form;
-  drafts().put({ table, row, fresh, place, values: FIELDS.map(it => byId(it).value) }, 0);
-}
-
-/** Opens the form as it was typed in when the page went. */
-async function openDraft() {
-  const { table, row, fresh, place, values } = await done(drafts().get(0)) ?? {};
-  if (!row || form || !tables().some(it => it.table === table)) return;
-  openForm({ table, row, fresh });
-  for (const [at, it] of FIELDS.entries()) byId(it).value = values[at];
-  form.place = place;
-  showPlace();
-  byId("told").textContent = "This wasn't saved yet.";
-}
-
-function closeForm() {
-  form = null;
-  drafts().delete(0);
-  byId("edit").hidden = true;
-  tap(false);
-  showDraft();
-}
-
-/** The place in the form's fields; null where they are empty, undefined where they are none. */
-function placeOfForm() {
-  const [east, north] = ["east", "north"].map(it => byId(it).value.trim());
-  if (!east && !north) return null;
-  if (!METRES.test(east) || !METRES.test(north)) return undefined;
-  return { system: form.place?.system ?? shown?.srs_id ?? onlySystem, east: east.replace(",", "."), north: north.replace(",", ".") };
-}
-
-/** Tells the system of the form's place, and draws it. */
-function showPlace() {
-  const system = form.place?.system ?? shown?.srs_id ?? onlySystem;
-  byId("system").textContent = system === null ? "" : `in metres of system ${system}`;
-  showDraft();
-}
-
-/** Puts a place of the map's system into the form. */
-function setPlace(east, north, digits) {
-  if (!form) return;
-  [byId("east").value, byId("north").value] = [east.toFixed(digits), north.toFixed(digits)];
-  form.place = { system: shown.srs_id };
-  showPlace();
-  keepDraft();
-}
-
-const isTapping = () => byId("tap").getAttribute("aria-pressed") === "true";
-
-/** Whether the next tap on the map sets the place. */
-function tap(on) {
-  byId("tap").setAttribute("aria-pressed", String(on));
-  byId("map").classList.toggle("taps", on);
-}
-
-/** Sets the place by a tap: where it was, also where it hit a mark. */
-function tapped({ originalEvent, latlng }) {
-  if (!isTapping()) return;
-  const { lng, lat } = originalEvent ? map.mouseEventToLatLng(originalEvent) : latlng;
-  setPlace(lng, lat, digitsHere());
-  tap(false);
-}
-
-async function placeByDevice() {
-  byId("told").textContent = "asking the device ..";
-  try {
-    const place = await deviceAt();
-    setPlace(place.east, place.north, 2);
-    showDevice(place);
-    byId("told").textContent = `The device tells this place within ${Math.ceil(place.accuracy)} m.`;
-  } catch (error) {
-    byId("told").textContent = whyNoDevice(error);
-  }
-}
-
-const nameOf = ({ title, id }) => title || String(id);
-
-/** Why the form's fields are no row, in words; empty where they are one. */
-function whyNoRow(title, note, place, amount) {
-  const long = text => new TextEncoder().encode(text).length > MOST_TEXT;
-  if (place === undefined) return "East and north are two numbers of metres, with at most six decimals; or leave both empty.";
-  if (place && place.system === null) return "A place wants a map that is shown, whose system it is in.";
-  if (!/^(0|-?[1-9][0-9]{0,15})$/.test(amount) || BigInt(amount) > MOST_AMOUNT || BigInt(amount) < -MOST_AMOUNT) {
-    return "The amount is a whole number of at most 10^15, without leading zeros.";
-  }
-  if (long(title)) return "The title has more than 1,000 bytes.";
-  if (long(note)) return "The note, with the place in it, has more than 1,000 bytes.";
-  return "";
-}
-
-/** The row that the form's fields tell; what wasn't changed stays letter by letter. */
-function rowOfForm(place) {
-  const [title, rest, amount] = [byId("title").value, byId("note").value.trim(), byId("amount").value.trim() || "0"];
-  const was = placeIn(form.row.note), wordOf = it => it && noteOf(it, "");
-  const isSame = (was ? was.rest : form.row.note.trim()) === rest && wordOf(place) === wordOf(was);
-  const note = isSame ? form.row.note : noteOf(place, rest);
-  return { row: { id: form.row.id, title, note, amount: Number(amount) }, why: whyNoRow(title, note, place, amount) };
-}
-
-/** The acts that save a row and photos: the first photo with the row, and each other one by itself, since a list has 16 MiB. */
-function actsOf(table, row, photos) {
-  const relation = photosOf(table), base = { table, of: row.id };
-  const photo = ({ id }) => [["media", relation.related, id, "image/jpeg"], ["map", relation.mapping, row.id, id]];
-  const isSame = !form.act && !form.fresh && ["title", "note", "amount"].every(it => row[it] === form.row[it]);
-  const first = isSame ? [] : [["row", table, row.id, row.title, row.note, row.amount]];
-  const [one, ...rest] = photos;
-  const made = [
-    { ...base, row: isSame ? undefined : row, what: nameOf(row) + (one ? ", with a photo" : ""), records: [...first, ...one ? photo(one) : []] },
-    ...rest.map(it => ({ ...base, what: `${nameOf(row)}: one more photo`, records: photo(it) })),
-  ];
-  if (form.act) made[0].number = form.act.number;
-  return made.filter(it => it.records.length > 0);
-}
-
-/** Saves the form: its acts are in the outbox, on this browser's disk, before it closes. */
-async function save() {
-  const place = placeOfForm(), { row, why } = rowOfForm(place);
-  byId("told").textContent = why;
-  if (why) return;
-  const table = form.fresh ? byId("into").value : form.table;
-  if (form.photos.length && !photosOf(table)) return void (byId("told").textContent = "The package relates no photos to this table.");
-  await keepAndClose(actsOf(table, row, form.photos), form.photos, photosIn(form.act));
-}
-
-/** Puts acts and photos into the outbox, and closes the form once they are on the disk. */
-async function keepAndClose(made, photos = [], gone = []) {
-  byId("save").disabled = byId("remove").disabled = true;
-  try {
-    if (made.length) await post(made, photos, gone, true);
-    closeForm();
-    byId("fresh").focus({ preventScroll: true });
-  } catch (error) {
-    byId("told").textContent = `This browser could not keep it (${error?.message ?? error}): it isn't saved yet.`;
-  } finally {
-    byId("save").disabled = byId("remove").disabled = false;
-  }
-}
-
-/** Removes the form's row, with what leads from it; its photos go where nothing else is related to them. */
-function removeRow() {
-  const { table, row } = form;
-  return keepAndClose([{ table, of: row.id, dropped: row.id, what: `remove ${nameOf(row)}`, records: [] }]);
-}
-
 /** Ends the day: the program closes the package, whose file alone holds all then. */
 async function endDay() {
   const response = await fetch(`${ROOT}end`, { method: "POST" }).catch(() => null);
@@ -314,22 +119,6 @@ async function endDay() {
   tellState("the day is ended: the package is closed, and its file may be copied", "gone");
   say("ended", waiting.length ? `The package is closed. ${waiting.length} saved here isn't in it yet: start the program again to send it.`
     : "The package is closed. This page may be closed too.");
-}
-
-function listenToForm() {
-  const fresh = () => ({ table: showing, row: { id: freshId(), title: "", note: "", amount: 0 }, fresh: true });
-  byId("fresh").addEventListener("click", () => isHeld() || openForm(fresh()));
-  byId("tap").addEventListener("click", () => tap(!isTapping()));
-  byId("middle").addEventListener("click", () => map && setPlace(map.getCenter().lng, map.getCenter().lat, digitsHere()));
-  byId("here").addEventListener("click", placeByDevice);
-  for (const it of ["east", "north"]) byId(it).addEventListener("input", showDraft);
-  for (const it of ["camera", "pictures"]) byId(it).addEventListener("change", choose);
-  twice(byId("leave"), closeForm, isHeld);
-  twice(byId("remove"), removeRow);
-  byId("edit").addEventListener("submit", event => { event.preventDefault(); save(); });
-  byId("edit").addEventListener("keydown", event => event.key === "Escape" && (isHeld() || closeForm()));
-  byId("edit").addEventListener("input", keepDraft);
-  addEventListener("beforeunload", event => form && form.photos.length > photosIn(form.act).length && event.preventDefault());
 }
 
 function listenToList() {

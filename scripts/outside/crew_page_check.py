@@ -25,6 +25,7 @@ import time
 import devtools
 from checks import end, expect, mmpkg, run_checks
 from crew_page import KEY, MIDDLE, STANDS, Crew, Seat, free_port
+from devtools import WAIT_SECONDS
 from viewer_package import PYRAMIDS, Pyramid, picture, new_package, record, take_in
 
 UTM = ('PROJCS["ETRS89 / UTM zone 32N",GEOGCS["ETRS89",DATUM["European_Terrestrial_Reference_System_1989",'
@@ -294,11 +295,24 @@ def check_where_the_device_is(scene):
     expect_quiet(crew)
 
 
+class Late:
+    """Answers to requests that have a word: they come when they are let go."""
+
+    def __init__(self, word):
+        self.word, self.came, self.may_go = word, threading.Event(), threading.Event()
+
+    def wait(self):
+        assert self.came.wait(WAIT_SECONDS), f"nobody asked for {self.word}"
+
+    def go(self):
+        self.may_go.set()
+
+
 class Cutter:
     """Stands between a browser and a desk, and cuts one answer or one body off; what goes through has the desk's port for its own."""
 
     def __init__(self, seat):
-        self.seat, self.cut, self.renames = seat, None, True
+        self.seat, self.cut, self.renames, self.late = seat, None, True, None
         self.listener = socket.create_server(("127.0.0.1", 0), backlog=128)
         self.port = self.listener.getsockname()[1]
         threading.Thread(target=self.listen, daemon=True).start()
@@ -340,8 +354,18 @@ class Cutter:
             return self.done()
         with socket.create_connection(("127.0.0.1", self.seat.port)) as desk:
             desk.sendall(head + body)
-            self.answer(connection, desk, cut)
+            if self.late and self.late.word in head + body:
+                self.answer_late(connection, desk, self.late)
+            else:
+                self.answer(connection, desk, cut)
         return None
+
+    def answer_late(self, connection, desk, late):
+        """Hands the answer on when it is let go; the desk is free for others meanwhile."""
+        told = b"".join(iter(lambda: desk.recv(65536), b""))
+        late.came.set()
+        late.may_go.wait(WAIT_SECONDS)
+        connection.sendall(told)
 
     def answer(self, connection, desk, cut):
         """Hands the answer on, up to so many lines and the half of one more."""
@@ -408,6 +432,29 @@ def cut_at_second(cutter, cut):
         return real(connection, head, body)
 
     cutter.hand_on = counted
+
+
+def check_rows_that_come_late(scene):
+    """What was saved, changed and removed while the rows were being read is shown when they come at last, though they are of before it."""
+    seat = scene.seat()
+    cutter = Cutter(seat)
+    crew = scene.crew(cutter.address)
+    cutter.late = late = Late(b"/rows/spots/")
+    crew.value("window.areRead = false; readRows().then(() => { window.areRead = true; }); 0")
+    late.wait()
+    crew.new(title="Meanwhile", place=(500_400, 5_600_500))
+    crew.change("Stone 2", amount=99)
+    crew.remove("Stone 3")
+    crew.wait_until_it_stands()
+    crew.write("search", "")
+    shown = crew.rows()
+    expect((shown[0], "Stone 3" in shown, len(shown)), ("Meanwhile", False, STONES), "what is shown before")
+    late.go()
+    crew.page.wait("window.areRead")
+    expect(crew.rows(), shown, "what is shown behind that")
+    expect(crew.value("rowsNow().find(it => it.id === 2).amount"), 99, "the row that was changed")
+    expect_quiet(crew)
+    by_title(rows_of(seat), "Meanwhile")
 
 
 def check_kills_of_browser_and_program(scene):

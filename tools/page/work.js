@@ -15,6 +15,7 @@ let relations = [];       // of item 4: mapping, base, related, name
 let stood = new Map();    // the rows of the table that is shown, as the package has them, by id
 let showing = "";         // the table whose rows are shown
 let turn = 0;             // how often rows were asked for: only the last answer is shown
+let meanwhile = [];       // the acts that were done since then, which that answer may not tell
 let most = SHOWN_ROWS;    // how many rows the list has
 
 const tables = () => contents.filter(it => it.kind === "attributes");
@@ -36,16 +37,21 @@ function rowsNow() {
 }
 
 /** Takes over what an act that was done has changed. */
-function stands({ table, row, dropped, of }) {
-  if (form && of === form.row.id) showPhotos();
-  if (table !== showing) return;
-  if (row) stood.set(row.id, row);
-  if (dropped) stood.delete(dropped);
+function stands(act) {
+  meanwhile.push(act);
+  if (form && act.of === form.row.id) showPhotos();
+  if (act.table === showing) takeOver(stood, act);
 }
 
-/** Asks for all rows of the table that is chosen, as many at once as the package tells. */
+function takeOver(rows, { row, dropped }) {
+  if (row) rows.set(row.id, row);
+  if (dropped) rows.delete(dropped);
+}
+
+/** Asks for all rows of the table that is chosen, as many at once as the package tells. What was done before they came is theirs too. */
 async function readRows() {
   const table = byId("book").value, now = ++turn, rows = new Map();
+  meanwhile = [];
   for (let first = 1, more = Boolean(table); more;) {
     const told = await ask(`${ROOT}rows/${table}/${first}`, "json");
     if (turn !== now) return;
@@ -55,6 +61,7 @@ async function readRows() {
     more = told.length === ROWS_AT_ONCE;
     first = more ? told.at(-1).id + 1 : first;
   }
+  for (const act of meanwhile.filter(it => it.table === table)) takeOver(rows, act);
   [stood, showing, most] = [rows, table, SHOWN_ROWS];
   showRows();
   showMarks();

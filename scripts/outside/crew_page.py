@@ -121,6 +121,7 @@ class Crew:
     def new(self, **what):
         self.page.ask("Page.bringToFront")
         self.press("fresh")
+        self.page.wait("form !== null && form.fresh")
         self.fill(**what)
         self.save()
 

@@ -521,7 +521,7 @@ def check_the_outbox_of_another_package(scene):
         crew = Crew(browser, seat.address, kept=True)
         crew.page.wait("waiting.length === 1")
         assert "was saved under another key" in crew.waiting()[0], crew.waiting()
-        crew.press("([...byId('outbox').querySelectorAll('button')].find(it => it.innerText === 'Send it here'))")
+        press_of_outbox(crew, "Send it here")
         crew.wait_until_it_stands()
     by_title(rows_of(seat), "Of the first")
 
@@ -544,7 +544,7 @@ def check_what_the_desk_refuses(scene):
     crew.page.wait("waiting.length === 1 && waiting[0].refused")
     assert "too large for the package" in crew.waiting()[0], crew.waiting()
     for _ in range(2):
-        crew.press("([...byId('outbox').querySelectorAll('button')].find(it => it.innerText.startsWith('Throw away')))")
+        press_of_outbox(crew, "Throw away")
     crew.wait_until_it_stands()
     crew.remove("Stone 9")
     crew.page.wait("waiting.length === 1 && waiting[0].refused")
@@ -552,29 +552,65 @@ def check_what_the_desk_refuses(scene):
     expect(crew.text("state"), "1 refused", "the state")
     scene.screenshot(crew, "refused")
     for _ in range(2):
-        crew.press("([...byId('outbox').querySelectorAll('button')].find(it => it.innerText.startsWith('Throw away')))")
+        press_of_outbox(crew, "Throw away")
     crew.wait_until_it_stands()
     expect_quiet(crew, "403", "404", "ERR_")
     by_title(rows_of(seat), "Waits")
 
 
-def check_what_is_refused_is_changed(scene):
-    """A row for a table that is gone is refused, put into another table by the form, and stands."""
-    seat, crew = scene.begin()
-    body = json.dumps("relation-drop,owners_spots\ndrop,owners\n")
-    sent = f"fetch(ROOT + 'records', {{ method: 'POST', headers: {{ 'Content-Type': 'text/csv' }}, body: {body} }})"
-    expect(crew.value(f"{sent}.then(it => it.text())"), "1 ok\n2 ok\n", "the office's records")
+def send(crew, records):
+    """What the desk answers to records that the page doesn't know of."""
+    how = f"{{ method: 'POST', headers: {{ 'Content-Type': 'text/csv' }}, body: {json.dumps(records)} }}"
+    return crew.value(f"fetch(ROOT + 'records', {how}).then(it => it.text())")
+
+
+def press_of_outbox(crew, words):
+    """Presses the first button of the outbox whose text begins with words."""
+    crew.press(f"([...byId('outbox').querySelectorAll('button')].find(it => it.innerText.startsWith('{words}')))")
+
+
+def change_a_refused_row(crew):
+    """Opens the form on a row that was refused, since its table is gone."""
+    expect(send(crew, "relation-drop,owners_spots\ndrop,owners\n"), "1 ok\n2 ok\n", "the office's records")
     crew.press("fresh")
     crew.fill(title="Ben", note="a word")
     crew.value("byId('into').value = 'owners'; 0")
     crew.save()
     crew.page.wait("waiting.length === 1 && waiting[0].refused")
     assert "refused: the row: there is no such table (25)" in crew.waiting()[0], crew.waiting()
-    crew.press("([...byId('outbox').querySelectorAll('button')].find(it => it.innerText === 'Change'))")
+    press_of_outbox(crew, "Change")
+    crew.page.wait("form !== null")
     expect(crew.value("byId('title').value"), "Ben", "the form")
+
+
+def save_as_bench(crew):
+    """Saves the form's row in the table that is there, under another title."""
     crew.value("byId('into').value = 'spots'; 0")
     crew.write("title", "Bench")
     crew.save()
+
+
+def check_what_is_refused_is_changed(scene):
+    """A row for a table that is gone is refused, put into another table by the form, and stands."""
+    seat, crew = scene.begin()
+    change_a_refused_row(crew)
+    save_as_bench(crew)
+    crew.wait_until_it_stands()
+    expect_quiet(crew)
+    expect(by_title(rows_of(seat), "Bench")[1], ("a word", 0), "the row")
+
+
+def check_a_row_saved_anew_while_it_is_sent(scene):
+    """A refused row that is sent again, and is changed and saved before the answer comes, stands as it was saved last."""
+    seat = scene.seat()
+    cutter = Cutter(seat)
+    crew = scene.crew(cutter.address)
+    change_a_refused_row(crew)
+    cutter.late = late = Late(b"row,owners,")
+    press_of_outbox(crew, "Send again")
+    late.wait()
+    save_as_bench(crew)
+    late.go()
     crew.wait_until_it_stands()
     expect_quiet(crew)
     expect(by_title(rows_of(seat), "Bench")[1], ("a word", 0), "the row")

@@ -1,10 +1,11 @@
 // The outbox: what was saved waits in this browser, on its disk, until the package has it, wholly and once. It is the package's own, by the word
 // of item 4, so that nothing goes to another package at the same address.
 //
-// An act is one list of records: { number, at, table, what, records, row or dropped, then, refused }. A record is its fields; the bytes of a
-// photo stand by its number in a store beside. A list that was cut is sent again whole: a row or a photo that stands is written again, and what
+// An act is one list of records: { number, at, saved, table, what, records, row or dropped, then, refused }. A record is its fields; the bytes of
+// a photo stand by its number in a store beside. A list that was cut is sent again whole: a row or a photo that stands is written again, and what
 // is refused since it stands already, or is gone already, is as it should be. 'then' is a list that is sent behind it, once it is done. 'at' is
-// the key it was saved under. A removal gets its records when it is sent: only the package tells what leads from the row.
+// the key it was saved under, and 'saved' another number each time that it is saved. A removal gets its records when it is sent: only the package
+// tells what leads from the row.
 
 const REFUSALS = { 10: "it is no record", 11: "a number or a text is outside its limits", 12: "a name is none", 25: "there is no such table",
   26: "the table is of another kind", 40: "there is no such row", 41: "there is no such photo", 42: "something is still related to it",
@@ -59,11 +60,17 @@ const photosIn = act => (act?.records ?? []).filter(([word]) => word === "media"
 /** The bytes of a photo of the outbox. */
 const photoOf = id => done(store.transaction("photos").objectStore("photos").get(id));
 
-/** Changes the outbox; once the promise is kept the disk has it. */
+/** Changes the outbox, wholly or not at all; once the promise is kept the disk has it. */
 async function keep(work) {
   const change = store.transaction(["acts", "photos", "drafts"], "readwrite", { durability: "strict" });
-  const end = new Promise((good, bad) => { change.oncomplete = good; change.onabort = change.onerror = () => bad(change.error); });
-  work(...["acts", "photos", "drafts"].map(it => change.objectStore(it)));
+  let failed = null;
+  const end = new Promise((good, bad) => { change.oncomplete = good; change.onabort = () => bad(failed ?? change.error); });
+  try {
+    work(...["acts", "photos", "drafts"].map(it => change.objectStore(it)));
+  } catch (error) {
+    failed = error;
+    change.abort();
+  }
   await end;
   await recount();
   tabs.postMessage(null);
@@ -76,17 +83,23 @@ async function keep(work) {
 async function post(list, photos = [], gone = [], closes = false) {
   await keep((acts, bytes, drafts) => {
     if (closes) drafts.delete(0);
-    for (const act of list) acts.put({ ...act, at: KEY });
+    for (const act of list) acts.put({ ...act, at: KEY, saved: freshId() });
     for (const id of gone) bytes.delete(id);
     for (const photo of photos) bytes.put(photo.bytes, photo.id);
   });
   send();
 }
 
-/** Takes an act out of the outbox, with its photos. */
-const drop = act => keep((acts, bytes) => {
-  acts.delete(act.number);
-  for (const id of photosIn(act)) bytes.delete(id);
+/** Puts what comes of an act in its place; where nothing does, it goes with its photos. What was saved meanwhile under its number stays. */
+const become = (act, ...next) => keep((acts, bytes) => {
+  const there = acts.get(act.number);
+  there.onsuccess = () => {
+    if (!there.result || there.result.saved !== act.saved) return;
+    for (const it of next) acts.put(it);
+    if (next.length) return;
+    acts.delete(act.number);
+    for (const id of photosIn(act)) bytes.delete(id);
+  };
 });
 
 /** What other tabs tell: that the outbox has changed, and which act has been done. What they may leave behind is sent from here. */
@@ -163,7 +176,7 @@ async function removalOf(act) {
   const related = await response.json(), photos = related.filter(it => it.name === "media");
   const records = [...related.map(it => ["map-drop", it.mapping, act.dropped, it.id]), last];
   const full = { ...act, records, then: [...act.then ?? [], ...photos.map(it => ["media-drop", it.table, it.id])] };
-  await keep(it => it.put(full));
+  await become(act, full);
   return full;
 }
 
@@ -176,10 +189,10 @@ async function sendOne(kept) {
     stands(act);
     tabs.postMessage(act);
   }
-  const { number, at, table, what, then } = act;
-  if (refused) await keep(it => it.put({ ...act, refused }));
-  else if (then?.length) await keep(it => it.put({ number, at, table, what, records: then }));
-  else await drop(act);
+  const { number, at, saved, table, what, then } = act;
+  if (refused) await become(act, { ...act, refused });
+  else if (then?.length) await become(act, { number, at, saved, table, what, records: then });
+  else await become(act);
 }
 
 /** Whether an act is sent as it is: it wasn't refused, and was saved under the key of this address. */
@@ -240,7 +253,7 @@ function waitingItem(act) {
   if (act.refused && act.row) button("Change", () => change(act));
   const anew = { ...act, refused: undefined, records: act.dropped ? [] : act.records };
   if (!isOpen(act)) button(act.refused ? "Send again" : "Send it here", () => post([anew]));
-  if (!isOpen(act)) twice(button("Throw away"), () => drop(act));
+  if (!isOpen(act)) twice(button("Throw away"), () => become(act));
   return item;
 }
 

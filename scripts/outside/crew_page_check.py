@@ -527,7 +527,7 @@ def check_the_outbox_of_another_package(scene):
 
 
 def check_what_the_desk_refuses(scene):
-    """403, 404 and 413 in words; a record that is refused in words, changed, and sent again."""
+    """403, 404 and 413 in words; a removal that is refused in words, and what it took off the row stands again."""
     seat = scene.seat()
     cutter = Cutter(seat)
     crew = scene.crew(cutter.address)
@@ -546,10 +546,13 @@ def check_what_the_desk_refuses(scene):
     for _ in range(2):
         press_of_outbox(crew, "Throw away")
     crew.wait_until_it_stands()
+    expect(send(crew, "map,spots_photos,9,7\n"), "1 ok\n", "a photo of the row")
     crew.remove("Stone 9")
     crew.page.wait("waiting.length === 1 && waiting[0].refused")
     assert "something is still related to it (42)" in crew.waiting()[0], crew.waiting()
     expect(crew.text("state"), "1 refused", "the state")
+    related = "fetch(ROOT + 'related/spots/9').then(it => it.json()).then(all => all.map(it => it.table + it.id).join())"
+    expect(crew.value(related), "photos7", "the photo of a row that wasn't removed")
     scene.screenshot(crew, "refused")
     for _ in range(2):
         press_of_outbox(crew, "Throw away")

@@ -180,17 +180,25 @@ async function removalOf(act) {
   return full;
 }
 
+/** The act that puts back what a removal took off its row, where the row stays (42): its photos. */
+function putBack({ at, table, dropped, what, records }, lines) {
+  const isRefused = (place, but) => new RegExp(` refused (?!${but}$)`).test(lines[place]);
+  const stays = records.some(([word], place) => word === "row-drop" && isRefused(place, 40));
+  const taken = records.filter(([word], place) => stays && word === "map-drop" && !isRefused(place, 46));
+  const back = taken.map(([, ...row]) => ["map", ...row]);
+  return back.length ? [{ at, saved: freshId(), table, of: dropped, what: `put back what belongs to it (${what})`, records: back }] : [];
+}
+
 /** Sends one act, and keeps what becomes of it. */
 async function sendOne(kept) {
-  const act = kept.records.length ? kept : await removalOf(kept);
-  const { again, refused } = judged(act, await ran(act));
+  const act = kept.records.length ? kept : await removalOf(kept), answer = await ran(act), { again, refused } = judged(act, answer);
   if (again) throw new Error(again);
   if (!refused) {
     stands(act);
     tabs.postMessage(act);
   }
   const { number, at, saved, table, what, then } = act;
-  if (refused) await become(act, { ...act, refused });
+  if (refused) await become(act, { ...act, refused }, ...putBack(act, answer.lines));
   else if (then?.length) await become(act, { number, at, saved, table, what, records: then });
   else await become(act);
 }

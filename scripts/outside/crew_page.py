@@ -111,7 +111,9 @@ class Crew:
             self.tap(*place)
         if photos:
             self.page.choose_files("byId('pictures')", photos)
-            self.page.wait(f"form !== null && form.photos.length >= {len(photos)} && byId('pictures').files.length === 0")
+            there = f"form !== null && form.photos.length >= {len(photos)} && byId('pictures').files.length === 0"
+            # Photos that come move what is below them.
+            self.page.wait(f"{there} && byId('thumbnails').ariaBusy === 'false'")
 
     def save(self):
         """Saves the form; it closes when the act is in the outbox."""

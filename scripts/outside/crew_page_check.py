@@ -175,6 +175,47 @@ def check_changes(scene):
     expect(count_of(seat, "mm_media WHERE table_name = 'photos'"), 2, "photos in the package")
 
 
+def check_a_photo_on_its_way(scene):
+    """A row that is saved while its photos are still being made smaller has them; of what is no picture that is told, and the form stays."""
+    seat, crew = scene.begin()
+    slowly = "async file => { await new Promise(good => setTimeout(good, 500)); return atOnce(file); }"
+    crew.value(f"window.atOnce = createImageBitmap; window.createImageBitmap = {slowly}; 0")
+    crew.press("fresh")
+    crew.fill(title="Quick", place=(500_400, 5_600_500))
+    crew.page.choose_files("byId('pictures')", [scene.photo, scene.photo])
+    crew.press("save")
+    expect(crew.text("told"), "Waiting for the photo ..", "what is said")
+    crew.page.wait("byId('edit').hidden")
+    crew.open("Stone 4")
+    crew.page.choose_files("byId('pictures')", [scene.folder / "page" / "kit.csv"])
+    crew.press("save")
+    crew.page.wait("byId('told').innerText === 'kit.csv is no picture that this browser draws.'")
+    expect(crew.value("form.row.title"), "Stone 4", "the form")
+    crew.wait_until_it_stands()
+    expect_quiet(crew)
+    number, _ = by_title(rows_of(seat), "Quick")
+    expect([it[0] for it in related_of(seat, number)], ["image/jpeg"] * 2, "its photos")
+
+
+def check_a_form_that_opens_while_another_is_kept(scene):
+    """A slow disk keeps an act behind the next form's opening: that form stays open, and both are kept."""
+    seat, crew = scene.begin()
+    crew.value("window.atOnce = keep; keep = async work => { await atOnce(work); await new Promise(good => setTimeout(good, 1000)); }; 0")
+    crew.open("Stone 4")
+    for _ in range(2):
+        crew.press("remove")
+    crew.press("fresh")
+    crew.write("title", "The next")
+    time.sleep(2)
+    expect((crew.value("form?.fresh"), crew.value("byId('title').value")), (True, "The next"), "the form")
+    crew.save()
+    crew.wait_until_it_stands()
+    expect_quiet(crew)
+    rows = rows_of(seat)
+    by_title(rows, "The next")
+    expect(4 in rows, False, "the row that was removed stands")
+
+
 def check_a_row_is_removed(scene):
     """A row goes with its mapping rows and its photo; it is asked twice."""
     seat, crew = scene.begin()

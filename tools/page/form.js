@@ -2,11 +2,12 @@
 
 const MOST_TEXT = 1000, MOST_AMOUNT = 10n ** 15n;
 
-let form = null;          // what the form is about: { table, row, fresh, act, place, photos, before }
+let form = null;          // what the form is about: { table, row, fresh, act, place, photos, before }, and of
+                          // photos on their way how many, the promise that they are there, and what failed of them: coming, taken, failed
 
-/** Whether what is typed in the form would be lost; then that is said. */
+/** Whether what is typed or taken in the form would be lost; then that is said. */
 function isHeld() {
-  const held = form !== null && (typed() !== form.before || form.photos.length !== photosIn(form.act).length);
+  const held = form !== null && (typed() !== form.before || form.coming > 0);
   if (held) byId("told").textContent = "Save or close this row first.";
   if (held) byId("edit").scrollIntoView({ block: "end" });
   return held;
@@ -29,7 +30,8 @@ async function change(act) {
 
 function openForm({ table, row, fresh, act = null, photos = [] }) {
   const place = placeIn(row.note);
-  form = { table, row, fresh, act, photos, place, before: null };
+  form = { table, row, fresh, act, photos, place, coming: 0, taken: Promise.resolve(), before: null };
+  hold(false);
   byId("which").textContent = act ? `Refused: ${act.refused}` : fresh ? "A new row" : `Row ${row.id}`;
   byId("other").hidden = !fresh || tables().length < 2;
   byId("into").value = table;
@@ -47,7 +49,7 @@ function openForm({ table, row, fresh, act = null, photos = [] }) {
 }
 
 const FIELDS = ["into", "title", "note", "amount", "east", "north"];
-const typed = () => JSON.stringify(FIELDS.map(it => byId(it).value));
+const typed = () => JSON.stringify([...FIELDS.map(it => byId(it).value), ...form.photos.map(it => it.id)]);
 const drafts = () => store.transaction("drafts", "readwrite").objectStore("drafts");
 
 /** Keeps what is typed, but for photos, so that it is there when the page is loaded again. */
@@ -169,6 +171,7 @@ function actsOf(table, row, photos) {
 
 /** Saves the form: its acts are in the outbox, on this browser's disk, before it closes. */
 async function save() {
+  if (!await photosAreTaken()) return;
   const place = placeOfForm(), { row, why } = rowOfForm(place);
   byId("told").textContent = why;
   if (why) return;
@@ -177,17 +180,38 @@ async function save() {
   await keepAndClose(actsOf(table, row, form.photos), form.photos, photosIn(form.act));
 }
 
+/** Waits for the photos that are on their way into the form, and answers whether each of them came. */
+async function photosAreTaken() {
+  const now = form;
+  if (!now.coming) return true;
+  now.failed = "";
+  byId("told").textContent = "Waiting for the photo ..";
+  hold(true);
+  await now.taken;
+  hold(false);
+  byId("told").textContent = now.failed;
+  return !now.failed;
+}
+
+/** Keeps fingers and keys off the form, as long as it is being saved: what is typed then would be lost. */
+function hold(on) {
+  byId("edit").inert = byId("save").disabled = byId("remove").disabled = on;
+  if (!on && form) byId("save").focus({ preventScroll: true });
+}
+
 /** Puts acts and photos into the outbox, and closes the form once they are on the disk. */
 async function keepAndClose(made, photos = [], gone = []) {
-  byId("save").disabled = byId("remove").disabled = true;
+  const now = form;
+  hold(true);
   try {
     if (made.length) await post(made, photos, gone, true);
+    if (form !== now) return;
     closeForm();
     byId("fresh").focus({ preventScroll: true });
   } catch (error) {
     byId("told").textContent = `This browser could not keep it (${error?.message ?? error}): it isn't saved yet.`;
   } finally {
-    byId("save").disabled = byId("remove").disabled = false;
+    if (!form || form === now) hold(false);
   }
 }
 
@@ -210,5 +234,5 @@ function listenToForm() {
   byId("edit").addEventListener("submit", event => { event.preventDefault(); save(); });
   byId("edit").addEventListener("keydown", event => event.key === "Escape" && (isHeld() || closeForm()));
   byId("edit").addEventListener("input", keepDraft);
-  addEventListener("beforeunload", event => form && form.photos.length > photosIn(form.act).length && event.preventDefault());
+  addEventListener("beforeunload", event => form && (form.coming || form.photos.length > photosIn(form.act).length) && event.preventDefault());
 }

@@ -5,9 +5,9 @@ const PHOTO_SIDE = 2048, PHOTO_BYTES = 4194304;
 /** The relation that leads from a table to photos, if any. */
 const photosOf = table => relations.find(it => it.base === table && it.name === "media");
 
-/** The photos of the form's row: those that stand, those that wait, and those that were chosen. */
+/** The photos of the form's row: those that stand, those that wait, those that were chosen, and room for those on their way. */
 async function showPhotos() {
-  const now = form, { table, row, photos } = form, relation = photosOf(table);
+  const now = form, { table, row, photos, coming } = form, relation = photosOf(table), turn = form.turn = (form.turn ?? 0) + 1;
   byId("camera").disabled = byId("pictures").disabled = !relation;
   byId("thumbnails").ariaBusy = "true";
   const none = relation ? [] : [element("li", "The package relates no photos to this table.")];
@@ -25,8 +25,9 @@ async function showPhotos() {
     const body = await ask(`${ROOT}media/${it.table}/${it.id}`, "blob");
     return body && thumbnail(body, `${it.table} ${it.id}`, "Take off", () => takeOff(it), `${ROOT}media/${it.table}/${it.id}`);
   }));
-  if (form !== now || form.photos !== photos) return;
-  byId("thumbnails").replaceChildren(...[...none, ...there, ...wait, ...chosen].filter(it => it));
+  if (form !== now || now.turn !== turn) return;
+  const more = Array.from({ length: coming }, () => Object.assign(element("li", "a photo comes .."), { className: "comes" }));
+  byId("thumbnails").replaceChildren(...[...none, ...there, ...wait, ...chosen, ...more].filter(it => it));
   byId("thumbnails").ariaBusy = "false";
 }
 
@@ -49,20 +50,29 @@ function takeOff({ mapping, table, id }) {
   return post([{ table: form.table, of: form.row.id, what: `take photo ${id} off ${nameOf(form.row)}`, records }]);
 }
 
-/** Takes pictures that were chosen into the form. */
+/** Takes pictures that were chosen into the form, one behind another. */
 async function choose(event) {
-  const now = form, input = event.target;
+  const now = form, input = event.target, files = [...input.files];
+  if (!now) return;
   byId("told").textContent = "";
-  for (const file of input.files) {
-    try {
-      const bytes = await (await shrunk(file)).arrayBuffer();
-      if (form === now) form.photos = [...form.photos, { id: freshId(), bytes }];
-    } catch {
-      byId("told").textContent = `${file.name} is no picture that this browser draws.`;
-    }
-  }
+  now.coming += files.length;
+  for (const file of files) now.taken = now.taken.then(() => take(now, file));
+  showPhotos();
+  await now.taken;
   input.value = "";
-  if (form) showPhotos();
+}
+
+/** Takes a picture into a form, which may be closed meanwhile. */
+async function take(now, file) {
+  try {
+    const bytes = await (await shrunk(file)).arrayBuffer();
+    now.photos = [...now.photos, { id: freshId(), bytes }];
+  } catch {
+    now.failed = `${file.name} is no picture that this browser draws.`;
+    if (form === now) byId("told").textContent = now.failed;
+  }
+  now.coming -= 1;
+  if (form === now) showPhotos();
 }
 
 /** A picture as JPEG, drawn smaller until the package takes it. */
@@ -74,6 +84,8 @@ async function shrunk(file) {
     const canvas = Object.assign(document.createElement("canvas"), size);
     canvas.getContext("2d").drawImage(image, 0, 0, canvas.width, canvas.height);
     const blob = await new Promise(good => canvas.toBlob(good, "image/jpeg", 0.85));
-    if (blob.size <= PHOTO_BYTES) return blob;
+    if (blob.size > PHOTO_BYTES) continue;
+    image.close();
+    return blob;
   }
 }

@@ -686,10 +686,10 @@ def check_5000_rows(scene):
 
 
 def check_what_is_typed(scene):
-    """What is typed and not saved stays where another row is tapped, and when the page is loaded again, until it is saved or closed."""
+    """What is typed or taken and not saved stays where another row is tapped, and when the page is loaded again, until it is saved or closed."""
     seat, crew = scene.begin()
     crew.press("fresh")
-    crew.fill(title="Half", note="a word", place=(500_400, 5_600_500))
+    crew.fill(title="Half", note="a word", place=(500_400, 5_600_500), photos=[scene.photo])
     number = crew.value("form.row.id")
     crew.tap(500_350, 5_600_300)
     expect((crew.text("told"), crew.value("form.row.id")), ("Save or close this row first.", number), "the form behind a tap on another row")
@@ -699,12 +699,21 @@ def check_what_is_typed(scene):
         found = [crew.value(f"byId('{it}').value") for it in ("title", "note", "east", "north")]
         expect((found, crew.value("form.row.id")), (["Half", "a word", "500400.0", "5600500.0"], number), "the form")
         expect(crew.text("told"), "This wasn't saved yet.", "what is said")
+        crew.page.wait("byId('thumbnails').querySelector('img')?.naturalWidth === 300")
+    crew.save()
+    crew.wait_until_it_stands()
+    crew.open("Stone 3")
+    crew.write("title", "Stone three")
+    crew.reload()
+    crew.page.wait("form !== null && byId('thumbnails').ariaBusy === 'false'")
+    expect(crew.value("[byId('title').value, form.photos.length]"), ["Stone three", 0], "the form of another row")
     crew.save()
     crew.wait_until_it_stands()
     crew.reload()
     expect(crew.value("form"), None, "the form behind that")
     expect_quiet(crew)
     expect(by_title(rows_of(seat), "Half")[0], number, "the row's number")
+    expect([it[0] for it in related_of(seat, number)], ["image/jpeg"], "its photo")
 
 
 def check_a_mark_opens_its_row(scene):

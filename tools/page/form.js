@@ -50,29 +50,39 @@ function openForm({ table, row, fresh, act = null, photos = [] }) {
 
 const FIELDS = ["into", "title", "note", "amount", "east", "north"];
 const typed = () => JSON.stringify([...FIELDS.map(it => byId(it).value), ...form.photos.map(it => it.id)]);
-const drafts = () => store.transaction("drafts", "readwrite").objectStore("drafts");
+const drafts = durability => store.transaction("drafts", "readwrite", { durability }).objectStore("drafts");
 
-/** Keeps what is typed, but for photos, so that it is there when the page is loaded again. */
-function keepDraft() {
+/** Keeps what is typed, so that it is there when the page is loaded again; "strict" has it on the disk at once. */
+function keepDraft(durability = "relaxed") {
   if (!form || form.act) return;
   const { table, row, fresh, place } = form;
-  drafts().put({ table, row, fresh, place, values: FIELDS.map(it => byId(it).value) }, 0);
+  drafts(durability).put({ table, row, fresh, place, values: FIELDS.map(it => byId(it).value) }, 0);
 }
 
-/** Opens the form as it was typed in when the page went. */
+/** Keeps the photos that aren't saved yet, with the number of their row. */
+function keepPhotos() {
+  if (!form || form.act) return;
+  keepDraft();
+  drafts("strict").put({ of: form.row.id, photos: form.photos }, 1);
+}
+
+/** Opens the form as it was typed in when the page went, with its photos. */
 async function openDraft() {
-  const { table, row, fresh, place, values } = await done(drafts().get(0)) ?? {};
+  const [draft, taken] = await Promise.all([0, 1].map(it => done(drafts("relaxed").get(it))));
+  const { table, row, fresh, place, values } = draft ?? {};
   if (!row || form || !tables().some(it => it.table === table)) return;
   openForm({ table, row, fresh });
   for (const [at, it] of FIELDS.entries()) byId(it).value = values[at];
   form.place = place;
   showPlace();
+  if (taken?.of === row.id) form.photos = taken.photos;
+  showPhotos();
   byId("told").textContent = "This wasn't saved yet.";
 }
 
 function closeForm() {
   form = null;
-  drafts().delete(0);
+  drafts("relaxed").clear();
   byId("edit").hidden = true;
   tap(false);
   showDraft();
@@ -99,7 +109,7 @@ function setPlace(east, north, digits) {
   [byId("east").value, byId("north").value] = [east.toFixed(digits), north.toFixed(digits)];
   form.place = { system: shown.srs_id };
   showPlace();
-  keepDraft();
+  keepDraft("strict");
 }
 
 const isTapping = () => byId("tap").getAttribute("aria-pressed") === "true";
@@ -233,6 +243,8 @@ function listenToForm() {
   twice(byId("remove"), removeRow);
   byId("edit").addEventListener("submit", event => { event.preventDefault(); save(); });
   byId("edit").addEventListener("keydown", event => event.key === "Escape" && (isHeld() || closeForm()));
-  byId("edit").addEventListener("input", keepDraft);
-  addEventListener("beforeunload", event => form && (form.coming || form.photos.length > photosIn(form.act).length) && event.preventDefault());
+  byId("edit").addEventListener("input", () => keepDraft());
+  byId("edit").addEventListener("change", () => keepDraft("strict"));
+  // Of a row that was refused what is changed isn't kept until it is saved, nor is a photo that is on its way.
+  addEventListener("beforeunload", event => form && (form.coming || (form.act && typed() !== form.before)) && event.preventDefault());
 }

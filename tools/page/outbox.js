@@ -82,7 +82,7 @@ async function keep(work) {
  */
 async function post(list, photos = [], gone = [], closes = false) {
   await keep((acts, bytes, drafts) => {
-    if (closes) drafts.delete(0);
+    if (closes) drafts.clear();
     for (const act of list) acts.put({ ...act, at: KEY, saved: freshId() });
     for (const id of gone) bytes.delete(id);
     for (const photo of photos) bytes.put(photo.bytes, photo.id);

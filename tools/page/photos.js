@@ -13,6 +13,7 @@ async function showPhotos() {
   const none = relation ? [] : [element("li", "The package relates no photos to this table.")];
   const chosen = photos.map(photo => thumbnail(new Blob([photo.bytes]), "not saved yet", "Leave out", () => {
     form.photos = form.photos.filter(it => it !== photo);
+    keepPhotos();
     showPhotos();
   }));
   const open = waiting.filter(it => it.number !== form.act?.number && it.table === table && it.of === row.id);
@@ -72,7 +73,9 @@ async function take(now, file) {
     if (form === now) byId("told").textContent = now.failed;
   }
   now.coming -= 1;
-  if (form === now) showPhotos();
+  if (form !== now) return;
+  keepPhotos();
+  showPhotos();
 }
 
 /** A picture as JPEG, drawn smaller until the package takes it. */

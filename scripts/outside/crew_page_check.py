@@ -685,6 +685,19 @@ def check_5000_rows(scene):
     expect_quiet(crew)
 
 
+def check_numbers_where_the_clock_is_wrong(scene):
+    """Numbers of rows all differ, and are those of no other clock, also where a tablet whose battery was empty tells a day of 1970 or 2080."""
+    _, crew = scene.begin()
+
+    def numbers(day):
+        return crew.value(f"Date.now = () => Date.parse('{day}'), Array.from({{ length: 2000 }}, freshId)")
+
+    wrong = [it for day in ("1970-01-02", "2020-01-01", "2080-01-01") for it in numbers(day)]
+    right = numbers("2049-12-31")
+    expect(len(set(wrong)), 6000, "numbers that differ")
+    assert max(right) < 2**52 <= min(wrong) and max(wrong) < 2**53, (max(right), min(wrong), max(wrong))
+
+
 def check_what_is_typed(scene):
     """What is typed or taken and not saved stays where another row is tapped, and when the page is loaded again, until it is saved or closed."""
     seat, crew = scene.begin()

@@ -1,6 +1,7 @@
 // The crew's work: rows as a list, and how the day begins and ends.
 
 const ROWS_AT_ONCE = 1000, SHOWN_ROWS = 100;
+const LEAST_CLOCK = Date.UTC(2026, 0, 1), MOST_CLOCK = Date.UTC(2050, 0, 1);
 const WORDS = new Intl.Collator(undefined, { numeric: true });
 // By its name, what a row is ordered by, and how two of these are.
 const ORDERS = {
@@ -20,10 +21,14 @@ let most = SHOWN_ROWS;    // how many rows the list has
 
 const tables = () => contents.filter(it => it.kind === "attributes");
 
-/** A number that no other crew makes: milliseconds since 2020, and 12 bits by chance. Those of an office are far smaller. */
+/**
+ * A number that no other crew makes: milliseconds since 2020, and 12 bits by chance. Those of an office are far smaller. Where the clock can't be
+ * right, as on a tablet whose battery was empty, it is 2^52 and 52 bits by chance, which no clock tells before 2054.
+ */
 function freshId() {
-  const since = Math.max(Date.now() - Date.UTC(2020, 0, 1), 1), [chance] = crypto.getRandomValues(new Uint16Array(1));
-  return since * 4096 + (chance & 4095);
+  const [high, low] = crypto.getRandomValues(new Uint32Array(2)), now = Date.now();
+  const since = now < LEAST_CLOCK || now > MOST_CLOCK ? 2 ** 40 + high * 256 + (low >>> 24) : now - Date.UTC(2020, 0, 1);
+  return since * 4096 + (low & 4095);
 }
 
 /** The rows of the table that is shown, with what waits over them. */

@@ -108,6 +108,8 @@ def work(name, file, terrain, seed, out):
                 browser, crew = start(folder, address)
         crew.wait_until_it_stands(60)
         rows = crew.value("rowsNow().map(it => [it.id, it.title, it.note, it.amount])")
+        stand = crew.value("ask(`${ROOT}rows/spots/1`, 'json').then(all => all.map(it => [it.id, it.title, it.note, it.amount]))")
+        assert sorted(rows) == sorted(stand), f"the page shows {sorted(rows)}, and the package has {stand}"
         related = {row[1]: crew.value(f"ask(`${{ROOT}}related/spots/{row[0]}`, 'json').then(it => it.length)") for row in rows}
         for _ in range(2):
             crew.press("end")

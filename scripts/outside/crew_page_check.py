@@ -807,10 +807,17 @@ CONTRAST = """(() => {
 
 
 def check_small_screens_and_sunlight(scene):
-    """On a phone nothing is cut off at the side, what is pressed is 44 pixels high, and each text stands out from its ground by 4.5 to 1."""
-    for wide, high in ((360, 740), (740, 360), (800, 1280)):
+    """On a phone nothing is cut off at the side, map, form and state are to be seen, what is pressed is 44 pixels high, and each text stands out
+    from its ground by 4.5 to 1."""
+    for wide, high in ((320, 568), (360, 740), (740, 360), (800, 1280)):
         _, crew = scene.begin(width=wide, height=high, touch=True)
         crew.value("byId('fresh').click(); 0")
+        expect(crew.value("byId('state').scrollWidth <= byId('state').clientWidth"), True, f"the state is told whole at {wide} pixels")
+        sizes = crew.value("['map', 'panel', 'edit', 'save'].map(it => byId(it).getBoundingClientRect()).map(it => [it.left, it.top, it.right, it.bottom])")
+        of_map, panel, edit, save = ([max(left, 0), max(top, 0), min(right, wide), min(bottom, high)] for left, top, right, bottom in sizes)
+        seen = [(it[2] - it[0], it[3] - it[1]) for it in (of_map, [*map(max, panel[:2], edit[:2]), *map(min, panel[2:], edit[2:])], save)]
+        assert all(across >= 290 and down >= 150 for across, down in seen[:2]), f"map and form at {wide} pixels: {seen}"
+        assert seen[2][1] >= 44, f"the button at {wide} pixels: {seen}"
         expect(crew.value("document.documentElement.scrollWidth <= innerWidth"), True, f"the page fits {wide} pixels")
         expect(crew.value("byId('panel').scrollWidth <= byId('panel').clientWidth"), True, f"the panel fits {wide} pixels")
         pressed = "[...document.querySelectorAll('button, input, select')].filter(it => it.offsetParent)"

@@ -2,7 +2,7 @@
 
 const MOST_TEXT = 1000, MOST_AMOUNT = 10n ** 15n;
 
-let form = null;          // what the form is about: { table, row, fresh, act, place, photos, before }, and of
+let form = null;          // what the form is about: { table, row, fresh, act, place, photos, before, from }, and of
                           // photos on their way how many, the promise that they are there, and what failed of them: coming, taken, failed
 
 /** Whether what is typed or taken in the form would be lost; then that is said. */
@@ -29,8 +29,8 @@ async function change(act) {
 }
 
 function openForm({ table, row, fresh, act = null, photos = [] }) {
-  const place = placeIn(row.note);
-  form = { table, row, fresh, act, photos, place, coming: 0, taken: Promise.resolve(), before: null };
+  const place = placeIn(row.note), from = form?.from ?? byId("panel").scrollTop;
+  form = { table, row, fresh, act, photos, place, from, coming: 0, taken: Promise.resolve(), before: null };
   hold(false);
   byId("which").textContent = act ? `Refused: ${act.refused}` : fresh ? "A new row" : `Row ${row.id}`;
   byId("other").hidden = !fresh || tables().length < 2;
@@ -80,10 +80,13 @@ async function openDraft() {
   byId("told").textContent = "This wasn't saved yet.";
 }
 
+/** Closes the form; the panel shows what it showed before. */
 function closeForm() {
+  const from = form?.from;
   form = null;
   drafts("relaxed").clear();
   byId("edit").hidden = true;
+  if (from !== undefined) byId("panel").scrollTop = from;
   tap(false);
   showDraft();
 }

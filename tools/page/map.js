@@ -9,7 +9,7 @@ const AGAIN = 4000;       // milliseconds until a program that doesn't answer is
 const ROOT = new URL("../..", location.href).pathname;
 const WORKS = ROOT !== "/";
 const GONE = WORKS
-  ? "The package doesn't answer: 'mmpkg desk' has ended, or isn't to be reached. What isn't in the package yet is kept in this browser until it is."
+  ? "The package doesn't answer. What is saved here is kept in this browser, and is sent when it does. If that takes long, open the package again."
   : "The package doesn't answer: 'mmpkg serve' has ended, or isn't to be reached. Start it again.";
 const NO_KEY = "This address isn't the package's any more: its key has changed. Open the address that 'mmpkg desk' printed last; " +
   "what isn't in the package yet is kept in this browser.";
@@ -262,7 +262,7 @@ function tell() {
   const beyond = larger > 1.5 ? `, ${Math.round(larger)} times larger` : larger < 0.7 ? `, ${Math.round(1 / larger)} times smaller` : "";
   byId("map").classList.toggle("centre", !pointed);
   byId("position").replaceChildren(`E ${place.lng.toFixed(digits)} m, N ${place.lat.toFixed(digits)} m (${pointed ? pointed.by : "centre"})`,
-    element("br", ""), `zoom ${zoom_level}, ${sides} m a pixel${beyond}`);
+    element("br", ""), element("small", `zoom ${zoom_level}, ${sides} m a pixel${beyond}`));
 }
 
 /** A table of the package with its last change, and a pyramid's zooms. */

@@ -1,6 +1,6 @@
 // Rows on the map, and the place that the form has.
 
-const NAMED_MARKS = 24;  // up to how many rows each has its name beside it
+const NAMED_MARKS = 24, NAME_ROOM = 20000;  // up to how many rows have names beside them, and how many pixels of the map each wants for that
 
 let marks = null, draft = null;  // the layers of the rows, and of the place in the form
 let marked = new Map();          // by a row's id, its mark and what that shows
@@ -9,7 +9,8 @@ let marked = new Map();          // by a row's id, its mark and what that shows
 function showMarks() {
   if (!map || !showing) return;
   const placed = rowsNow().map(row => [row, placeIn(row.note)]).filter(([, place]) => place?.system === shown.srs_id);
-  const named = placed.length <= NAMED_MARKS, isNew = marks?._map !== map, before = isNew ? new Map() : marked;
+  const { x, y } = map.getSize(), named = placed.length <= Math.min(NAMED_MARKS, x * y / NAME_ROOM);
+  const isNew = marks?._map !== map, before = isNew ? new Map() : marked;
   if (isNew) marks = Object.assign(L.layerGroup().addTo(map), { canvas: L.canvas({ tolerance: 8 }) });
   marked = new Map();
   for (const [row, place] of placed) {

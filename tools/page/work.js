@@ -149,7 +149,7 @@ async function startWork(known) {
   relations = known.relations ?? [];
   const maps = new Set(contents.filter(it => it.extent).map(it => it.srs_id));
   onlySystem = maps.size === 1 ? [...maps][0] : null;
-  byId("toggle").textContent = "Work and tables";
+  byId("toggle").replaceChildren("Work", element("span", " and tables"));
   document.querySelector("main").classList.add("works");
   byId("state").hidden = byId("work").hidden = false;
   for (const it of ["book", "into"]) byId(it).replaceChildren(...tables().map(option));

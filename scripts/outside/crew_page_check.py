@@ -743,17 +743,31 @@ def check_a_mark_opens_its_row(scene):
 
 
 def check_the_end_of_the_day(scene):
-    """'End the day' closes the package well, and says so."""
-    seat, crew = scene.begin()
-    crew.new(title="The last")
-    crew.wait_until_it_stands()
+    """'End the day' closes the package well, behind what waits, and says so; not while a form has what isn't saved."""
+    seat = scene.seat()
+    cutter = Cutter(seat)
+    crew = scene.crew(cutter.address)
+    crew.open("Stone 4")
+    crew.write("title", "Stone four")
     for _ in range(2):
         crew.press("end")
+    expect((crew.text("told"), crew.value("ended")), ("Save or close this row first.", False), "the end with an open form")
+    cutter.late = late = Late(b"Stone four")
+    crew.save()
+    late.wait()
+    crew.new(title="The last")
+    for _ in range(2):
+        crew.press("end")
+    expect(crew.value("[ended, waiting.length]"), [False, 2], "the end while two wait")
+    late.go()
     crew.page.wait("byId('state').innerText.startsWith('the day is ended')")
+    expect(crew.text("messages"), "The package is closed. This page may be closed too.", "what is said")
     expect(seat.program.wait(10), 0, "the desk's status")
     journal = pathlib.Path(f"{seat.file}-wal")
     assert not journal.exists() or journal.stat().st_size < 100, "the journal holds commits"
-    by_title(rows_of(seat), "The last")
+    rows = rows_of(seat)
+    by_title(rows, "The last")
+    by_title(rows, "Stone four")
 
 
 def check_a_frame_of_another_site(scene):

@@ -123,13 +123,19 @@ function showRows() {
   byId("more").hidden = part.length === found.length;
 }
 
-/** Ends the day: the program closes the package, whose file alone holds all then. */
+/** Ends the day, behind what waits: the program closes the package, whose file alone holds all then. */
 async function endDay() {
-  const response = await fetch(`${ROOT}end`, { method: "POST" }).catch(() => null);
-  if (!response?.ok) return tellState("the package doesn't answer", "gone");
-  ended = true;
+  if (isHeld()) return;
+  if (waiting.some(isOpen)) say("ended", "What waits is sent first, and then the day ends.");
+  await send();
+  await navigator.locks.request(store.name, async () => {
+    const response = await fetch(`${ROOT}end`, { method: "POST" }).catch(() => null);
+    ended = Boolean(response?.ok);
+  });
+  say("ended", null);
+  if (!ended) return tellState("the package doesn't answer: the day isn't ended", "gone");
   tellState("the day is ended: the package is closed, and its file may be copied", "gone");
-  say("ended", waiting.length ? `The package is closed. ${waiting.length} saved here isn't in it yet: start the program again to send it.`
+  say("ended", waiting.length ? "The package is closed, and what 'Not in the package yet' lists isn't in it: open it again to send that."
     : "The package is closed. This page may be closed too.");
 }
 

@@ -826,7 +826,8 @@ def check_small_screens_and_sunlight(scene):
     for wide, high in ((320, 568), (360, 740), (740, 360), (800, 1280)):
         _, crew = scene.begin(width=wide, height=high, touch=True)
         crew.value("byId('fresh').click(); 0")
-        expect(crew.value("byId('state').scrollWidth <= byId('state').clientWidth"), True, f"the state is told whole at {wide} pixels")
+        whole = "(it => it.scrollWidth <= it.clientWidth && it.scrollHeight <= it.clientHeight)(byId('state'))"
+        expect(crew.value(f"tellState('the package doesn\\'t answer', 'gone'), {whole}"), True, f"the state is told whole at {wide} pixels")
         sizes = crew.value("['map', 'panel', 'edit', 'save'].map(it => byId(it).getBoundingClientRect()).map(it => [it.left, it.top, it.right, it.bottom])")
         of_map, panel, edit, save = ([max(left, 0), max(top, 0), min(right, wide), min(bottom, high)] for left, top, right, bottom in sizes)
         seen = [(it[2] - it[0], it[3] - it[1]) for it in (of_map, [*map(max, panel[:2], edit[:2]), *map(min, panel[2:], edit[2:])], save)]
@@ -841,6 +842,19 @@ def check_small_screens_and_sunlight(scene):
         crew.value("tellState('the package does not answer', 'gone'); byId('told').textContent = 'No'; 0")
         expect(crew.value(CONTRAST), [], "texts that don't stand out")
         scene.screenshot(crew, f"screen-{wide}")
+
+
+def check_the_way_to_what_waits(scene):
+    """A tap on the state shows what isn't in the package yet, on a phone behind all rows, also where the panel was hidden."""
+    seat, crew = scene.begin(width=360, height=740, touch=True)
+    seat.kill()
+    crew.new(title="Waits")
+    crew.page.wait("waiting.length === 1")
+    touch(crew, "toggle")
+    touch(crew, "state")
+    top, bottom = crew.value("(it => [it.top, it.bottom])(byId('outbox').firstChild.getBoundingClientRect())")
+    assert 0 <= top and bottom <= 740, f"what waits is at {top} to {bottom}"
+    expect_quiet(crew, "ERR_")
 
 
 def check_by_finger(scene):

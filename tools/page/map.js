@@ -261,8 +261,8 @@ function tell() {
   const larger = Math.min(pixel_x_size, pixel_y_size) / MICROMETRES / metresAt(shown, map.getZoom());
   const beyond = larger > 1.5 ? `, ${Math.round(larger)} times larger` : larger < 0.7 ? `, ${Math.round(1 / larger)} times smaller` : "";
   byId("map").classList.toggle("centre", !pointed);
-  byId("position").replaceChildren(`E ${place.lng.toFixed(digits)} m, N ${place.lat.toFixed(digits)} m (${pointed ? pointed.by : "centre"})`,
-    element("br", ""), element("small", `zoom ${zoom_level}, ${sides} m a pixel${beyond}`));
+  byId("position").replaceChildren(element("span", `E ${place.lng.toFixed(digits)} m,`), " ", element("span", `N ${place.lat.toFixed(digits)} m`), " ",
+    element("small", `(${pointed ? pointed.by : "centre"})`), element("br", ""), element("small", `zoom ${zoom_level}, ${sides} m a pixel${beyond}`));
 }
 
 /** A table of the package with its last change, and a pyramid's zooms. */

@@ -147,6 +147,11 @@ function listenToList() {
   });
   byId("search").addEventListener("input", () => { most = SHOWN_ROWS; showRows(); });
   byId("order").addEventListener("change", showRows);
+  byId("state").addEventListener("click", () => {
+    if (byId("panel").hidden) byId("toggle").click();
+    byId("waits").scrollIntoView();
+    byId("waits").focus({ preventScroll: true });
+  });
   byId("more").addEventListener("click", () => { most += SHOWN_ROWS; showRows(); });
   twice(byId("end"), endDay);
 }

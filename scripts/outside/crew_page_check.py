@@ -644,6 +644,20 @@ def check_what_is_refused_is_changed(scene):
     expect(by_title(rows_of(seat), "Bench")[1], ("a word", 0), "the row")
 
 
+def check_a_list_that_is_refused_in_part(scene):
+    """A row that stands while its photo was refused is shown, also when what was refused is thrown away."""
+    seat, crew = scene.begin()
+    row = "{ id: 900, title: 'Half', note: '', amount: 0 }"
+    crew.value(f"post([{{ table: 'spots', row: {row}, what: 'Half', records: [['row', 'spots', 900, 'Half', '', 0], ['row', 'none', 1, '', '', 0]] }}])")
+    crew.page.wait("waiting.length === 1 && waiting[0].refused")
+    for _ in range(2):
+        press_of_outbox(crew, "Throw away")
+    crew.page.wait("waiting.length === 0 && stood.has(900)")
+    expect("Half" in crew.rows(), True, "the row that stands is shown")
+    expect_quiet(crew)
+    by_title(rows_of(seat), "Half")
+
+
 def check_a_row_saved_anew_while_it_is_sent(scene):
     """A refused row that is sent again, and is changed and saved before the answer comes, stands as it was saved last."""
     seat = scene.seat()

@@ -198,6 +198,7 @@ async function sendOne(kept) {
     tabs.postMessage(act);
   }
   const { number, at, saved, table, what, then } = act;
+  if (refused) readRows();  // other records of its list may have been done
   if (refused) await become(act, { ...act, refused }, ...putBack(act, answer.lines));
   else if (then?.length) await become(act, { number, at, saved, table, what, records: then });
   else await become(act);

@@ -284,6 +284,7 @@ def check_by_keys_alone(scene):
     page.press("Enter")
     focus(page, "save")
     page.press("Enter")
+    page.wait("byId('edit').hidden")
     crew.wait_until_it_stands()
     focus(page, "search")
     page.type("Keys")

@@ -24,7 +24,7 @@ fi
 
 folder=$(mktemp -d)
 trap 'rm -rf "$folder"' EXIT
-if with_browser timeout 400 "$top/examples/field_day/by_page.sh" "$folder/day" >"$folder/said.txt" 2>"$folder/told.txt" &&
+if with_browser timeout 900 "$top/examples/field_day/by_page.sh" "$folder/day" >"$folder/said.txt" 2>"$folder/told.txt" &&
     diff "$top/examples/field_day/by_page.txt" "$folder/said.txt"; then
     echo "1 passed, 0 failed"
 else

@@ -8,7 +8,7 @@ use Rattle.sqlite.specs.declared.transaction.Transaction.{Transaction}
 use Rattle.mm_definitions.specs.Bounds.{Profile}
 use Rattle.mm_definitions.specs.Package.{Package}
 use Rattle.mm_definitions.specs.declared.answers.Fault.{Fault}
-use Rattle.mm_store.specs.Faults.{IsStoreFault}
+use Rattle.mm_definitions.specs.Faults.{IsStoreFault}
 use Rattle.mm_store.specs.Handed.{IsSame, Goes, Looks, ChangesWhere, Changes}
 use Rattle.mm_store.specs.Kept.{no_spare, Kept, Spare}
 use Rattle.mm_store.specs.Stands.{Ground, StandsInside}

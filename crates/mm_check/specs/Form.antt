@@ -21,7 +21,7 @@ use Rattle.mm_store.specs.Rows.{tile_row, attribute_row, medium_row, relation_ro
 use Rattle.mm_store.specs.Rows.{staged_row, Counts}
 use Rattle.mm_store.specs.Blobs.{Blob, AreBlobs, blob_row, digest_of, Tells}
 use Rattle.mm_store.specs.Kept.{Kept, IsNamed, tile_id, tile_with, medium_id, medium_with, piece_id, piece_with}
-use Rattle.mm_store.specs.Faults.{IsStoreFault}
+use Rattle.mm_definitions.specs.Faults.{IsStoreFault}
 use Rattle.mm_store.specs.Seen.{IsSeenAs}
 use Rattle.mm_store.specs.Stands.{IsSettled, ReadsAs, profile_row}
 use Rattle.mm_store.specs.Statements.{CommitsNothing}

@@ -7,7 +7,7 @@ use Rattle.mm_definitions.specs.Rules.{Meets, GivenSystems, NamedSystems, Distin
 use Rattle.mm_definitions.specs.Rules.{Extents, MatricesFit, HigherIsFiner, NextIsHalved, TilesInside, Items}
 use Rattle.mm_definitions.specs.Rules.{RelationsSuited, PairingsJoin, ExactExtensions, Editions, Limits}
 use Rattle.mm_definitions.specs.declared.answers.Fault.{Fault}
-use Rattle.mm_store.specs.Faults.{IsStoreFault}
+use Rattle.mm_definitions.specs.Faults.{IsStoreFault}
 use Rattle.mm_store.specs.Seen.{IsSeenAs}
 use Rattle.mm_store.specs.Stands.{IsSettled}
 use Rattle.mm_store.specs.Statements.{CommitsNothing}

@@ -21,7 +21,7 @@ use Rattle.mm_definitions.specs.declared.commands.Command.TheVariants as command
 use Rattle.mm_laws.proofs.Closed.{rehearse_same}
 use Rattle.mm_store.specs.Seen.{IsSeenAs}
 use Rattle.mm_store.specs.Stands.{ground_of, StandsInside, IsSettled}
-use Rattle.mm_store.specs.Faults.{IsStoreFault}
+use Rattle.mm_definitions.specs.Faults.{IsStoreFault}
 use Rattle.mm_store.specs.Statements.{CommitsNothing}
 use Rattle.mm_store.specs.Shapes.{ComesTo, IsTried}
 use Rattle.mm_store.proofs.Seen.{seen_back, seen_of, settled_still}

@@ -9,7 +9,7 @@ use Rattle.mm_definitions.specs.declared.answers.Open.TheVariants as opens
 use Rattle.mm_store.specs.Seen.{IsSeenAs}
 use Rattle.mm_store.specs.Stands.{ReadsAs, IsSettled}
 use Rattle.mm_store.specs.Statements.{CommitsNothing}
-use Rattle.mm_store.specs.Faults.{IsStoreFault}
+use Rattle.mm_definitions.specs.Faults.{IsStoreFault}
 use Rattle.mm_meta.specs.Opening.{IsBlank}
 use Rattle.mm_meta.specs.Look.{ShowsProfile, AnswersLook}
 use Rattle.mm_check.specs.Verdict.{IsFailing}

@@ -1,4 +1,5 @@
 -- The faults by name, each with the number that is told of it (docs/FORMATS.md). There is no other.
+use Rattle.std.specs.Prelude.{◌≡◌, ◌⊎◌}
 use Rattle.mm_definitions.specs.declared.answers.Fault.{Fault}
 
 -- memory was refused, or the store answered want of memory
@@ -20,3 +21,7 @@ input = record { 0 = 96 }
 -- the output failed
 abbrev pub output : Fault
 output = record { 0 = 97 }
+
+-- those of a call that asks the store, and no other
+abbrev pub IsStoreFault : Fault → Type 0
+IsStoreFault fault = (fault ≡ memory) ⊎ (fault ≡ store)

@@ -17,7 +17,7 @@ use Rattle.mm_definitions.specs.declared.answers.Fault.{Fault}
 use Rattle.mm_definitions.specs.declared.answers.PageFault.{PageFault}
 use Rattle.mm_gate.specs.Bodies.{IsReadFrugally}
 use Rattle.mm_gate.specs.Demand.{Demand, End, IsDemand, Records, Refuse, Show}
-use Rattle.mm_page.specs.Heads.{IsHead, IsNeeded, ReadsNoMore}
+use Rattle.mm_page.specs.Heads.{IsHead, IsNeeded, ReadsNoMore, MostHeadBytes, MostHeadLines}
 use Rattle.mm_page.specs.Served.{IsPageFault}
 use Rattle.mm_reads.specs.declared.viewer.Viewer as viewers
 use Rattle.mm_run.specs.declared.apply.Apply as applies
@@ -301,7 +301,7 @@ Lifts gate d here front input = (more : Text) → input ≡ front ++ more → De
 pub head_lifts : (gate : Gate) (d : Demand) (front : Text) (headers : List HeaderSpan) (spans : RequestSpans)
     → ((h : RequestHead) → IsRequestAt front headers spans h
     → IsDemand gate.port gate.front.now h.method h.target (map name_and_value h.fields) h.minor d)
-    → (input : Text) (h : RequestHead) → IsHead 8192 64 input h → IsRequestAt front headers spans h
+    → (input : Text) (h : RequestHead) → IsHead MostHeadBytes MostHeadLines input h → IsRequestAt front headers spans h
     → Lifts gate d (drop spans.len front) front input
 head_lifts gate d front headers spans demand input h head at more is = (
   h,
@@ -313,7 +313,7 @@ head_lifts gate d front headers spans demand input h head at more is = (
 )
 
 -- what was read with no head
-pub reads_head : (gate : Gate) (old now : Option Text) → ReadsNoMore 8192 old now → IsReadTo gate old now
+pub reads_head : (gate : Gate) (old now : Option Text) → ReadsNoMore MostHeadBytes old now → IsReadTo gate old now
 reads_head gate old now (front, consumed, needed) =
     (front, [], subst (λ l. Consumes old now l) (sym (append-nil front)) consumed, needed, inl refl)
 
@@ -411,7 +411,7 @@ module _ (gate : Gate) (d : Demand) (here front : Text) (old mid : Option Text) 
         )
 
   -- how much was read of the whole input
-  pub reads_to : (now : Option Text) → IsNeeded 8192 front → IsReadOn d here mid now → IsReadTo gate old now
+  pub reads_to : (now : Option Text) → IsNeeded MostHeadBytes front → IsReadOn d here mid now → IsReadTo gate old now
   reads_to now needed (more, rest, inl none) =
       (front, more, Consumes-trans old mid now front more consumed rest, needed, inl none)
   reads_to now needed (more, rest, inr (n, waits, is, less)) = (

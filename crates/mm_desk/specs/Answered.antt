@@ -10,7 +10,7 @@ use Rattle.mm_definitions.specs.Streams.{Written}
 use Rattle.mm_definitions.specs.declared.answers.Fault.{Fault}
 use Rattle.mm_definitions.specs.declared.answers.PageFault.{PageFault}
 use Rattle.mm_gate.specs.Demand.{Demand, End, IsDemand, Records, Refuse, Show}
-use Rattle.mm_page.specs.Heads.{IsHead, IsNeeded}
+use Rattle.mm_page.specs.Heads.{IsHead, IsNeeded, MostHeadBytes, MostHeadLines}
 use Rattle.mm_page.specs.Served.{IsPageFault}
 use Rattle.mm_reads.specs.Viewers.{IsOn}
 use Rattle.mm_reads.specs.declared.viewer.Viewer as viewers
@@ -32,12 +32,12 @@ page_of gate = option_map (λ name. name.now) gate.page
 
 -- The head of the input asks for this, and this stands behind it.
 abbrev pub Demands : Gate → Text → Demand → Text → Type 0
-Demands gate input d rest = (h : RequestHead) × (head : IsHead 8192 64 input h)
+Demands gate input d rest = (h : RequestHead) × (head : IsHead MostHeadBytes MostHeadLines input h)
     × IsDemand gate.port gate.front.now h.method h.target (map name_and_value h.fields) h.minor d × (rest ≡ head.rest)
 
 -- the input has no head
 abbrev pub IsHeadless : Text → Type 0
-IsHeadless input = (h : RequestHead) → ¬ (IsHead 8192 64 input h)
+IsHeadless input = (h : RequestHead) → ¬ (IsHead MostHeadBytes MostHeadLines input h)
 
 -- what is answered where no records are run, by what is asked for and what stands behind the head: records that did not come whole are not run
 abbrev pub IsShownFor : Option Text → Package → Demand → Text → Text → Type 0
@@ -168,5 +168,5 @@ IsWithinRecords gate count input = (n : ℕ) × (waits : Bool) × (rest : Text)
 
 -- No more was read than the head needs, and of records that are sent no more than their length.
 abbrev pub IsReadTo : Gate → Option Text → Option Text → Type 0
-IsReadTo gate old now = (front more : Text) × Consumes old now (front ++ more) × IsNeeded 8192 front
+IsReadTo gate old now = (front more : Text) × Consumes old now (front ++ more) × IsNeeded MostHeadBytes front
     × ((more ≡ []) ⊎ IfSome old (IsWithinRecords gate (length front + length more)))

@@ -23,7 +23,7 @@ use mm_definitions::moments::Moment;
 use mm_definitions::names::Name;
 use mm_definitions::streams::Io;
 use mm_gate::{Taken, read_body, take_request};
-use mm_page::read_head;
+use mm_page::{MOST_HEAD_BYTES, MOST_HEAD_LINES, read_head};
 use std::alloc::Global;
 use std::io::{Read, Write};
 use std::str::from_utf8;
@@ -197,8 +197,8 @@ pub fn desk_one<D: Desk, R: Read, W: Write>(
     ensures frugal_fault { IfErr result (λ e. (e.0.0 ≡ faults.input.0) ⊎ IsReadTo gate.entry
         (R.remaining (inside reader.old)) (R.remaining (inside reader.new))) }
 {
-    let mut buf = [0; 8192];
-    let mut headers = [EMPTY_HEADER_SPAN; 64];
+    let mut buf = [0; MOST_HEAD_BYTES];
+    let mut headers = [EMPTY_HEADER_SPAN; MOST_HEAD_LINES];
     match read_head(reader, &mut buf, &mut headers) {
         Ok(Some((n, spans))) => {
             let read = &buf[..n];

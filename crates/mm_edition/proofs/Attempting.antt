@@ -8,8 +8,7 @@ use Rattle.mm_definitions.specs.Bounds.{Profile}
 use Rattle.mm_definitions.specs.Package.{Package}
 use Rattle.mm_definitions.specs.declared.answers.Fault.{Fault}
 use Rattle.mm_store.specs.Stands.{Ground, StandsInside}
-use Rattle.mm_definitions.specs.Faults.{store}
-use Rattle.mm_store.specs.Faults.{IsStoreFault}
+use Rattle.mm_definitions.specs.Faults.{store, IsStoreFault}
 use Rattle.mm_store.specs.Handed.{Goes}
 use Rattle.mm_store.proofs.Quiet.{quiet_then}
 use Rattle.mm_edition.specs.Turns.{Known, Said, Attempts}

@@ -2,7 +2,7 @@
 use Rattle.std.specs.Prelude.{Result, IfErr}
 use Rattle.sqlite.specs.State.{State}
 use Rattle.mm_definitions.specs.declared.answers.Fault.{Fault}
-use Rattle.mm_store.specs.Faults.{IsStoreFault}
+use Rattle.mm_definitions.specs.Faults.{IsStoreFault}
 use Rattle.mm_store.specs.Statements.{CommitsNothing}
 
 -- the call commits nothing, and its faults are 90 and 91

@@ -12,7 +12,7 @@ use Rattle.mm_definitions.specs.declared.answers.Outcome.TheVariants.{Done, Refu
 use Rattle.mm_definitions.specs.declared.commands.Command.TheVariants as commands
 use Rattle.mm_store.specs.Seen.{IsSeenAs}
 use Rattle.mm_store.specs.Stands.{IsSettled}
-use Rattle.mm_store.specs.Faults.{IsStoreFault}
+use Rattle.mm_definitions.specs.Faults.{IsStoreFault}
 use Rattle.mm_store.specs.Statements.{CommitsNothing}
 
 -- the answer is the refusal of the rehearsal, which is that of the publishing

@@ -22,7 +22,7 @@ use Rattle.mm_definitions.specs.declared.answers.Fault.{Fault}
 use Rattle.mm_definitions.specs.declared.commands.Piece.{Piece}
 use Rattle.mm_store.specs.Stands.{Ground, StandsOn, StandsInside}
 use Rattle.mm_store.specs.Shapes.{Tries}
-use Rattle.mm_store.specs.Faults.{IsStoreFault}
+use Rattle.mm_definitions.specs.Faults.{IsStoreFault}
 use Rattle.mm_store.specs.Handed.{IsSame, Goes}
 use Rattle.mm_store.specs.Statements.{CommitsNothing}
 use Rattle.mm_staging.specs.Outlines.{with_bytes}

@@ -1,15 +1,10 @@
 -- Why work on a file is not told.
 use Rattle.std.specs.Prelude.{◌≡◌, ◌⊎◌, ℕ, Bool, true, false, length, Option, None}
 use Rattle.sqlite.specs.Recovery.{Image}
-use Rattle.mm_definitions.specs.Faults as faults
-use Rattle.mm_definitions.specs.declared.answers.Fault.{Fault}
+use Rattle.mm_definitions.specs.Faults.{IsStoreFault}
 use Rattle.mm_files.specs.declared.left.NotDone.{NotDone}
 use Rattle.mm_files.specs.declared.left.NotDone.TheVariants as why
 use Rattle.mm_definitions.specs.Streams.{Written}
-
--- 90 want of memory, 91 the store
-abbrev pub IsStoreFault : Fault → Type 0
-IsStoreFault fault = (fault.0 ≡ faults.memory.0) ⊎ (fault.0 ≡ faults.store.0)
 
 -- the files hold no byte
 abbrev pub HoldNoByte : Image → Type 0

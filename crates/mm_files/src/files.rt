@@ -3,14 +3,14 @@
 ghost use Rattle.std.specs.Prelude.{◌≡◌, true, false, codes, nat_eq, None, IsTrue, IsErr, IfOk, IfErr, OnErr};
 ghost use Rattle.std.specs.List.{starts_with};
 ghost use Rattle.sqlite_std_file.specs.File.{IsFresh, file_is_usable};
-ghost use Rattle.mm_definitions.specs.Faults as faults;
+ghost use Rattle.mm_definitions.specs.Faults.{IsStoreFault, store};
 ghost use Rattle.mm_definitions.specs.Streams.{written};
 ghost use Rattle.sqlite.specs.Files.{file_state, image_of};
 ghost use Rattle.sqlite.specs.State.{HasCleanDisk};
 ghost use Rattle.sqlite.specs.Start.{FindsIn};
 ghost use Rattle.sqlite.specs.WalFiles.{image_at};
 ghost use Rattle.sqlite.specs.WalReads.{AreClean, OnlyReads};
-ghost use Rattle.mm_files.specs.Files.{HoldNoByte, IsStoreFault, IsUntold, IsWhyNot, TellsBare};
+ghost use Rattle.mm_files.specs.Files.{HoldNoByte, IsUntold, IsWhyNot, TellsBare};
 ghost use Rattle.mm_files.specs.Worked.{EndedOn, HasNotWorked, HasWorked, IsJustOpened, IsUnbegun, IsUnworked};
 ghost use Rattle.mm_files.specs.Worked.{KeepsLeft, KeepsStill, TellsFileBytes, WorkedOn};
 
@@ -18,7 +18,8 @@ use crate::left::{Left, NotDone, Opened, Unclosed};
 use crate::works::Works;
 use mm_definitions::answers::Fault;
 use mm_definitions::streams::Io;
-use sqlite::{Connection, Error, ErrorCode, FileFrom, FileStore, Files, Leftover, Options, Start};
+use mm_store::faults::fault_of;
+use sqlite::{Connection, FileFrom, FileStore, Files, Leftover, Options, Start};
 use sqlite_disk::Disk;
 use sqlite_std_file::OpenError;
 use sqlite_trees::error::StoreError;
@@ -46,7 +47,7 @@ fn pages_for(length: Option<u64>) -> usize {
 /// How a file of this length is opened: as the store opens files, but for the pages that it keeps. 91 where the system
 /// gives no seed.
 fn options_for(rt: &HostRuntime, length: Option<u64>) -> Result<Options, Fault>
-    ensures { IfErr result (λ fault. fault.0 ≡ faults.store.0) }
+    ensures { IfErr result (λ fault. fault ≡ store) }
 {
     let seed = match RandomState::new(rt) {
         Ok(state) => state.hash_one(&0u8),
@@ -185,18 +186,9 @@ fn open_files<'a, S: Start>(
     }
 }
 
-/// 90 where memory was refused, and 91 for every other error of the store.
-fn fault_of(error: Error) -> Fault
-    ensures { IsStoreFault result }
-{
-    match error {
-        Error::SqliteFailure(ErrorCode::OutOfMemory) => Fault::MEMORY,
-        _ => Fault::STORE,
-    }
-}
-
-/// Gives the files back as they are, which copies no journal.
-fn let_go<D: Disk + Drop>(conn: Connection<FileStore<D>>) -> Files<D>
+/// Gives the files of a connection back as they are, which copies no journal, with no more than the rollback of what is
+/// not committed: whatever a crash leaves of them, they hold a database that the connection told might be left.
+pub fn let_go<D: Disk + Drop>(conn: Connection<FileStore<D>>) -> Files<D>
     ensures { KeepsLeft D.Disk (file_state conn) false result }
 {
     conn.into_store().close()

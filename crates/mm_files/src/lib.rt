@@ -13,7 +13,7 @@ mod left;
 mod next;
 mod works;
 
-pub use files::on_file;
+pub use files::{let_go, on_file};
 pub use left::{Left, NotDone, Opened, Unclosed};
 pub use next::next_run;
 pub use works::Works;

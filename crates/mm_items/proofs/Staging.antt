@@ -16,7 +16,7 @@ use Rattle.mm_definitions.specs.Package.{Package, PieceRow}
 use Rattle.mm_definitions.specs.declared.answers.Fault.{Fault}
 use Rattle.mm_definitions.proofs.Parts.{same_some}
 use Rattle.mm_store.specs.Blobs.{Shelf, StandsAt, Told, bytes_at}
-use Rattle.mm_store.specs.Faults.{IsStoreFault}
+use Rattle.mm_definitions.specs.Faults.{IsStoreFault}
 use Rattle.mm_store.specs.Kept.{Spare, piece_id, piece_with}
 use Rattle.mm_store.specs.Rows.{past_rowid, maybe, StagedRow, staged_row}
 use Rattle.mm_store.specs.Stands.{Ground}

@@ -8,11 +8,14 @@ ghost use Rattle.mm_kit.specs.FileNames as names;
 use arrayvec::ArrayString;
 use std::marker::Model;
 
+/// The most bytes of a file's name.
+const MOST_FILE_NAME_BYTES: usize = 100;
+
 /// The name of a file of a kit: 1 to 100 letters, digits and `_`, `-`, `.`, of which the first is no dot. So it names no
 /// file outside the folder. It is held in place.
 #[derive(Drop)]
 pub struct FileName {
-    text: ArrayString<100>,
+    text: ArrayString<MOST_FILE_NAME_BYTES>,
 }
 
 impl Model for FileName {
@@ -60,7 +63,7 @@ fn is_file_name(text: &str) -> bool
     ensures { IsTrue result ↔ IsFileName text.now }
 {
     let bytes = text.as_bytes();
-    if bytes.len() > 100 {
+    if bytes.len() > MOST_FILE_NAME_BYTES {
         return false;
     }
     if !begins_well(bytes) {

@@ -7,7 +7,7 @@ ghost use Rattle.mm_definitions.specs.Conditions.{is_product, grid};
 ghost use Rattle.mm_definitions.specs.Package.{MatrixSet};
 ghost use Rattle.mm_definitions.specs.Parts.{Has};
 ghost use Rattle.mm_meta.specs.Shown.{ShowsExtent, GivesExtent};
-ghost use Rattle.mm_store.specs.Faults.{IsStoreFault};
+ghost use Rattle.mm_definitions.specs.Faults.{IsStoreFault};
 ghost use Rattle.mm_store.specs.Handed.{Asks, Looks};
 
 use mm_definitions::answers::Fault;

@@ -5,7 +5,7 @@ ghost use Rattle.sqlite.specs.Held.{state};
 ghost use Rattle.sqlite.specs.Steps.{over_memory};
 ghost use Rattle.mm_definitions.specs.Bounds.{current};
 ghost use Rattle.mm_definitions.specs.Opening.{opening};
-ghost use Rattle.mm_store.specs.Faults.{IsStoreFault};
+ghost use Rattle.mm_definitions.specs.Faults.{IsStoreFault};
 ghost use Rattle.mm_store.specs.Stands.{IsSettled};
 ghost use Rattle.mm_meta.specs.Opening.{IsBlank};
 

@@ -7,7 +7,7 @@ ghost use Rattle.sqlite.specs.declared.types.Value.TheVariants.{Int};
 ghost use Rattle.mm_definitions.specs.Conditions.{grid};
 ghost use Rattle.mm_definitions.specs.Neighbours.{Zoomed, IsNearestBelow, IsNearestAbove, zoomed, is_halved};
 ghost use Rattle.mm_definitions.specs.Neighbours as spec;
-ghost use Rattle.mm_store.specs.Faults.{IsStoreFault};
+ghost use Rattle.mm_definitions.specs.Faults.{IsStoreFault};
 ghost use Rattle.mm_meta.specs.Shown.{ShowsMatrix, ShowsZoomed, GivesZoomed};
 ghost use Rattle.mm_store.specs.Handed.{Asks, Looks};
 

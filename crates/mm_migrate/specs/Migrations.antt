@@ -10,7 +10,7 @@ use Rattle.mm_definitions.specs.declared.answers.Open.TheVariants as opens
 use Rattle.mm_definitions.specs.Scale.{scale}
 use Rattle.mm_store.specs.Seen.{IsSeenAs}
 use Rattle.mm_store.specs.Stands.{StandsFor, ReadsAs, IsSettled}
-use Rattle.mm_store.specs.Faults.{IsStoreFault}
+use Rattle.mm_definitions.specs.Faults.{IsStoreFault}
 use Rattle.mm_store.specs.Statements.{CommitsNothing}
 use Rattle.mm_meta.specs.Look.{AnswersLook, ShowsProfile}
 use Rattle.mm_meta.specs.Opening.{IsBlank}

@@ -9,7 +9,7 @@ use Rattle.mm_definitions.specs.declared.answers.Fault.{Fault}
 use Rattle.mm_definitions.specs.Scale.{scale}
 use Rattle.mm_store.specs.Seen.{IsSeenAs}
 use Rattle.mm_store.specs.Stands.{StandsFor, Ground, StandsOn, StandsInside, IsSettled}
-use Rattle.mm_store.specs.Faults.{IsStoreFault}
+use Rattle.mm_definitions.specs.Faults.{IsStoreFault}
 use Rattle.mm_store.specs.Statements.{CommitsNothing}
 
 -- a call that makes of a package under one profile a package under another, where it may

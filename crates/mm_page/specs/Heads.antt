@@ -6,6 +6,14 @@ use Rattle.httparse.specs.Spans.{IsRequestAt, IsRequestOf, IsRequestWithin}
 use Rattle.httparse.specs.declared.spans.HeaderSpan.{HeaderSpan}
 use Rattle.httparse.specs.declared.spans.RequestSpans.{RequestSpans}
 
+-- the most bytes of a head
+abbrev pub MostHeadBytes : ℕ
+MostHeadBytes = 8192
+
+-- the most header lines of one
+abbrev pub MostHeadLines : ℕ
+MostHeadLines = 64
+
 -- the head at the front of the input, of at most so many bytes and header lines
 pub record IsHead (limit room : ℕ) (input : List ℕ) (h : RequestHead) : Type 0 where
   pub rest : List ℕ

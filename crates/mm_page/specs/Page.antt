@@ -7,7 +7,7 @@ use Rattle.mm_definitions.specs.Keys.{Text, item}
 use Rattle.mm_definitions.specs.Keys as keys
 use Rattle.mm_definitions.specs.Package.{Package}
 use Rattle.mm_page.specs.Asked.{IsRouted, Contents, Media, Related, Tile, Wanted}
-use Rattle.mm_page.specs.Heads.{IsHead}
+use Rattle.mm_page.specs.Heads.{IsHead, MostHeadBytes, MostHeadLines}
 use Rattle.mm_page.specs.Responses.{BadRequest, Found, NotAllowed, NotFound, Reply, response_of}
 use Rattle.mm_page.specs.Lists.{mates_text, tables_text}
 use Rattle.mm_reads.specs.Shown.{mates, shown_tables}
@@ -40,9 +40,8 @@ Writes p method target bytes =
     ((method ≢ codes "GET") × (bytes ≡ response_of NotAllowed))
     ⊎ ((method ≡ codes "GET") × WritesTo p (path_of target) bytes)
 
--- The page of a package and an input: the response to the head at its front, of at most 8,192 bytes and 64 header lines, or 400 where
--- it has none.
+-- The page of a package and an input: the response to the head at its front, within the limits of one, or 400 where it has none.
 abbrev pub Page : Package → Text → Text → Type 0
 Page p input response =
-    ((h : RequestHead) × IsHead 8192 64 input h × Writes p h.method h.target response)
-    ⊎ (((h : RequestHead) → ¬ (IsHead 8192 64 input h)) × (response ≡ response_of BadRequest))
+    ((h : RequestHead) × IsHead MostHeadBytes MostHeadLines input h × Writes p h.method h.target response)
+    ⊎ (((h : RequestHead) → ¬ (IsHead MostHeadBytes MostHeadLines input h)) × (response ≡ response_of BadRequest))

@@ -15,7 +15,7 @@ use Rattle.mm_io.specs.Records.{TellsFailing}
 use Rattle.mm_reads.specs.Viewers.{IsOn, IsViewFault, LeavesPackage, ShowsPart}
 use Rattle.mm_reads.specs.declared.viewer.Viewer as viewers
 use Rattle.mm_page.specs.Asked.{Wanted}
-use Rattle.mm_page.specs.Heads.{ReadsNoMore}
+use Rattle.mm_page.specs.Heads.{ReadsNoMore, MostHeadBytes}
 use Rattle.mm_page.specs.Responses.{response_of}
 use Rattle.mm_page.specs.Page.{reply_of}
 use Rattle.mm_page.specs.Served.{AsksForPart, IsPageFault, Served, ServedTo, IsCutResponse}
@@ -37,10 +37,10 @@ pub record ServesRequest {V R W : Type 0} (view : viewers.Ghosts V) (read : read
   -- An input that has failed since is told: by 96.
   pub failing : IfErr result (λ e. TellsFailing (has_failed input) (has_failed input_now) e.0.0)
   -- No more is read than the head needs.
-  pub frugal : OnOk result (ReadsNoMore 8192 (read.remaining (inside input)) (read.remaining (inside input_now)))
+  pub frugal : OnOk result (ReadsNoMore MostHeadBytes (read.remaining (inside input)) (read.remaining (inside input_now)))
   -- With a fault too, unless it is the input's.
   pub frugal_fault : IfErr result (λ e.
-      (e.0.0 ≡ faults.input.0) ⊎ ReadsNoMore 8192 (read.remaining (inside input)) (read.remaining (inside input_now)))
+      (e.0.0 ≡ faults.input.0) ⊎ ReadsNoMore MostHeadBytes (read.remaining (inside input)) (read.remaining (inside input_now)))
   -- 92 is told only where a part of the package is asked for.
   pub needed : IfErr result (λ e. e.0.0 ≡ faults.reopen.0 → AsksForPart (read.remaining (inside input)))
   -- With a fault nothing was written; with 97, the output's, a front of the response.
@@ -58,9 +58,9 @@ pub record Responds {V R : Type 0} (view : viewers.Ghosts V) (read : reads.Ghost
   pub response : IfOk result (λ v. Served (IsOn (view.has_failed old) (view.store old) (view.store new)) (read.remaining (inside input)) v.items)
   pub reading : OnOk result (has_failed input_now ≡ has_failed input)
   pub failing : IfErr result (λ fault. TellsFailing (has_failed input) (has_failed input_now) fault.0)
-  pub frugal : OnOk result (ReadsNoMore 8192 (read.remaining (inside input)) (read.remaining (inside input_now)))
+  pub frugal : OnOk result (ReadsNoMore MostHeadBytes (read.remaining (inside input)) (read.remaining (inside input_now)))
   pub frugal_fault : IfErr result (λ fault.
-      (fault.0 ≡ faults.input.0) ⊎ ReadsNoMore 8192 (read.remaining (inside input)) (read.remaining (inside input_now)))
+      (fault.0 ≡ faults.input.0) ⊎ ReadsNoMore MostHeadBytes (read.remaining (inside input)) (read.remaining (inside input_now)))
   pub needed : IfErr result (λ fault. fault.0 ≡ faults.reopen.0 → AsksForPart (read.remaining (inside input)))
   pub fault : IfErr result (λ fault.
       IsPageFault (view.has_failed old) fault ⊎ ((fault.0 ≡ faults.input.0) × (has_failed input_now ≡ true)))

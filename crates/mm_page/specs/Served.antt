@@ -8,7 +8,7 @@ use Rattle.mm_definitions.specs.declared.answers.Fault.{Fault}
 use Rattle.mm_reads.specs.Viewers.{IsViewFault}
 use Rattle.httparse.specs.Grammar.{RequestHead}
 use Rattle.mm_page.specs.Asked.{IsRouted, Wanted}
-use Rattle.mm_page.specs.Heads.{IsHead}
+use Rattle.mm_page.specs.Heads.{IsHead, MostHeadBytes, MostHeadLines}
 use Rattle.mm_page.specs.Page.{Page, path_of}
 
 -- ---- what is written
@@ -39,5 +39,5 @@ IsCutResponse failed on source reading old new writing fault =
 
 -- the input asks for a part of the package
 abbrev pub AsksForPart : Option Text → Type 0
-AsksForPart source = (input : Text) → source ≡ Some input → (h : RequestHead) × IsHead 8192 64 input h
+AsksForPart source = (input : Text) → source ≡ Some input → (h : RequestHead) × IsHead MostHeadBytes MostHeadLines input h
     × (h.method ≡ codes "GET") × (w : Wanted) × IsRouted (path_of h.target) w

@@ -12,6 +12,12 @@ use mm_definitions::answers::Fault;
 use mm_definitions::streams::Io;
 use std::io::Read;
 
+/// The most bytes of a request's head.
+pub const MOST_HEAD_BYTES: usize = 8192;
+
+/// The most header lines of one.
+pub const MOST_HEAD_LINES: usize = 64;
+
 /// Reads until a head stands at the front of what was read, or none can, or the buffer is full, or
 /// the input ends. The head is that of the whole input, however the reader cuts it; it is answered with how many
 /// bytes of the buffer it lies in. None where the input has no head that fits into the buffer and the header lines.

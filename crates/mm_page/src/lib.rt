@@ -28,7 +28,7 @@ mod responses;
 mod routes;
 mod serving;
 
-pub use heads::{one_head, read_head};
+pub use heads::{MOST_HEAD_BYTES, MOST_HEAD_LINES, one_head, read_head};
 pub use replies::{printed, reply};
 pub use responses::{bad_request, found, not_allowed, not_found};
 pub use routes::{Wanted, read_path};

@@ -9,7 +9,9 @@ ghost use Rattle.mm_page.specs.Promised.{MakesResponse, Responds, ServesRequest}
 ghost use Rattle.mm_page.specs.Asked.{IsRouted, Wanted};
 
 use crate::replies::{printed, reply};
-use crate::{bad_request, not_allowed, not_found, read_head, read_path};
+use crate::{
+    MOST_HEAD_BYTES, MOST_HEAD_LINES, bad_request, not_allowed, not_found, read_head, read_path,
+};
 use http::Method;
 use httparse::spans::EMPTY_HEADER_SPAN;
 use mm_definitions::answers::{Fault, PageFault};
@@ -76,8 +78,8 @@ fn respond<V: Viewer, R: Read>(
 ) -> Result<Vec<u8>, Fault>
     ensures { Responds V.Viewer R.Read viewer.old viewer.new reader.old reader.new result }
 {
-    let mut buf = [0; 8192];
-    let mut headers = [EMPTY_HEADER_SPAN; 64];
+    let mut buf = [0; MOST_HEAD_BYTES];
+    let mut headers = [EMPTY_HEADER_SPAN; MOST_HEAD_LINES];
     match read_head(reader, &mut buf, &mut headers)? {
         Some((n, spans)) => {
             let head = &buf[..n];

@@ -1,12 +1,13 @@
 -- Why work on a file is not told, and what is left of it.
-use Rattle.std.proofs.Common.{◌≡◌, ℕ, Bool, Option, Some, None, Result, Err, inl, inr, refl}
+use Rattle.std.proofs.Common.{◌≡◌, ℕ, Bool, Option, Some, None, Result, Err, inl, inr, refl, ap}
 use Rattle.sqlite_disk.specs.declared.Disk.{Ghosts}
 use Rattle.sqlite.specs.Tree.{Trees}
 use Rattle.sqlite.specs.Recovery.{Image}
 use Rattle.mm_definitions.specs.Keys.{Text}
 use Rattle.mm_definitions.specs.Streams.{Written}
 use Rattle.mm_definitions.specs.declared.answers.Fault.{Fault}
-use Rattle.mm_files.specs.Files.{IsStoreFault, IsUntoldFor, IsWhyNot}
+use Rattle.mm_definitions.specs.Faults.{IsStoreFault}
+use Rattle.mm_files.specs.Files.{IsUntoldFor, IsWhyNot}
 use Rattle.mm_files.specs.Worked.{HasNotWorked, IsUnclosed, IsUnworked, TellsFileBytes}
 use Rattle.mm_files.specs.declared.left.Left.{Left}
 use Rattle.mm_files.specs.declared.left.Left.TheVariants as left
@@ -23,8 +24,8 @@ some_is : (n : ℕ) → Some n ≡ None → ⊥
 some_is n same = cc
 
 file_fault : (fault : Fault) → IsStoreFault fault → IsFileFault fault
-file_fault fault (inl memory) = inl memory
-file_fault fault (inr store) = inr (inl store)
+file_fault fault (inl memory) = inl (ap (λ (it : Fault). it.0) memory)
+file_fault fault (inr store) = inr (inl (ap (λ (it : Fault). it.0) store))
 
 -- of one of so many bytes
 stops_on : (length : Option ℕ) (it : NotDone) → IsWhyNot length it → StopsOn length (stop_for it)

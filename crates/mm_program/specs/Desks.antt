@@ -33,9 +33,16 @@ is_key_byte c =
     (nat_le 97 c && nat_le c 122) || (nat_le 65 c && nat_le c 90) || (nat_le 48 c && nat_le c 57)
     || nat_eq c 45 || nat_eq c 95
 
--- 16 to 64 of them
+-- how many of them a key has, at the least and at the most
+abbrev pub ShortestKey : ℕ
+ShortestKey = 16
+
+abbrev pub LongestKey : ℕ
+LongestKey = 64
+
+-- so many of them
 abbrev pub IsKey : Text → Type 0
-IsKey key = (16 ≤ length key) × (length key ≤ 64) × (list_any (λ c. not (is_key_byte c)) key ≡ false)
+IsKey key = (ShortestKey ≤ length key) × (length key ≤ LongestKey) × (list_any (λ c. not (is_key_byte c)) key ≡ false)
 
 -- ---- what is printed
 

@@ -6,7 +6,8 @@ use Rattle.sqlite.specs.Recovery.{Image}
 use Rattle.sqlite.specs.WalReads.{AreClean}
 use Rattle.mm_definitions.specs.Keys.{Text}
 use Rattle.mm_definitions.specs.Streams.{Written}
-use Rattle.mm_files.specs.Files.{HoldNoByte, IsStoreFault}
+use Rattle.mm_definitions.specs.Faults.{IsStoreFault}
+use Rattle.mm_files.specs.Files.{HoldNoByte}
 use Rattle.mm_files.specs.Worked.{IsFoundIn, IsRefused, IsUnprinted, LeavesStill, LeavesTo}
 use Rattle.mm_files.specs.declared.left.NotDone.{NotDone}
 use Rattle.mm_files.specs.declared.left.NotDone.TheVariants as why

@@ -9,7 +9,7 @@ use Rattle.mm_definitions.specs.Parts.{at_value}
 use Rattle.mm_definitions.specs.Package.{Package, Relation}
 use Rattle.mm_definitions.specs.declared.answers.Fault.{Fault}
 use Rattle.mm_definitions.specs.declared.entries.Related.{Related}
-use Rattle.mm_store.specs.Faults.{IsStoreFault}
+use Rattle.mm_definitions.specs.Faults.{IsStoreFault}
 
 -- the table has an attribute row or a medium of this id
 abbrev pub is_item : Package → Text → ℤ → Bool

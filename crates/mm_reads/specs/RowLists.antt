@@ -10,7 +10,7 @@ use Rattle.mm_definitions.specs.Package.{Package, AttributeRow, has_kind}
 use Rattle.mm_definitions.specs.declared.answers.Fault.{Fault}
 use Rattle.mm_definitions.specs.declared.commands.Kind.TheVariants.{Attributes}
 use Rattle.mm_definitions.specs.declared.entries.Row.{Row as RowTold}
-use Rattle.mm_store.specs.Faults.{IsStoreFault}
+use Rattle.mm_definitions.specs.Faults.{IsStoreFault}
 use Rattle.mm_reads.specs.Told.{shown_row}
 
 -- ---- the list

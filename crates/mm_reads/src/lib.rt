@@ -31,7 +31,7 @@ mod viewer;
 pub use listing::list;
 pub use media_items::media;
 pub use relations::related;
-pub use row_lists::rows_from;
+pub use row_lists::{MOST_ROWS, rows_from};
 pub use rows::row;
 pub use tables::contents;
 pub use tiles::tile;

@@ -1,7 +1,7 @@
 //! The line of a table or an edition. It is built in place and takes no memory.
 
 ghost use Rattle.std.specs.Prelude.{◌≡◌, ◌++◌, codes, decimal, drop, length, IfOk, IfErr, OnOk};
-ghost use Rattle.mm_store.specs.Faults.{IsStoreFault};
+ghost use Rattle.mm_definitions.specs.Faults.{IsStoreFault};
 ghost use Rattle.mm_reads.specs.Lines.{left_in, right_in, open_text, published_text, table_text};
 
 use arrayvec::ArrayVec;

@@ -4,7 +4,7 @@ ghost use Rattle.std.specs.Prelude.{◌≡◌, Some, false, option_map, string_b
 ghost use Rattle.std.specs.FinMap.{get};
 ghost use Rattle.mm_definitions.specs.Keys.{item};
 ghost use Rattle.mm_store.specs.Blobs.{Told, bytes_at};
-ghost use Rattle.mm_store.specs.Faults.{IsStoreFault};
+ghost use Rattle.mm_definitions.specs.Faults.{IsStoreFault};
 ghost use Rattle.mm_store.specs.Kept.{medium_id, medium_with};
 ghost use Rattle.mm_store.specs.Rows.{MediumRow};
 ghost use Rattle.mm_reads.specs.Told.{ShowsMedium, IsMediumRow, shown_medium};

@@ -1,7 +1,7 @@
 //! The mapping rows of an item, from a relation's base to its related table.
 
 ghost use Rattle.std.specs.Prelude.{◌≡◌, false, IfOk, IfErr};
-ghost use Rattle.mm_store.specs.Faults.{IsStoreFault};
+ghost use Rattle.mm_definitions.specs.Faults.{IsStoreFault};
 ghost use Rattle.mm_reads.specs.Related.{ShowsRelated, GathersMates, ListsMates, TellsMates};
 ghost use Rattle.mm_store.specs.Seen.{ReadsOn};
 

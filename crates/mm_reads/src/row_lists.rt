@@ -4,7 +4,7 @@ ghost use Rattle.std.specs.Prelude.{◌≡◌, false, IfOk, IfErr};
 ghost use Rattle.mm_definitions.specs.Keys.{same_text};
 ghost use Rattle.mm_definitions.specs.Package.{kind_text};
 ghost use Rattle.mm_definitions.specs.declared.commands.Kind.TheVariants.{Attributes};
-ghost use Rattle.mm_store.specs.Faults.{IsStoreFault};
+ghost use Rattle.mm_definitions.specs.Faults.{IsStoreFault};
 ghost use Rattle.mm_store.specs.Handed.{Tells};
 ghost use Rattle.mm_store.specs.Seen.{ReadsOn};
 ghost use Rattle.mm_reads.specs.RowLists.{ShowsNumbered, GathersRows, ListsRows, TellsRows, lists_rows};
@@ -19,8 +19,8 @@ use mm_walk::walk::{Visitor, walk};
 use sqlite::{Alter, Connection, Transaction, params};
 use std::alloc::Global;
 
-/// How many rows are listed at most.
-const MOST_ROWS: usize = 1000;
+/// How many rows one read lists at most.
+pub const MOST_ROWS: usize = 1000;
 
 /// Whether a kind is that of attribute tables.
 fn is_attributes(kind: Kind) -> bool

@@ -4,7 +4,7 @@ ghost use Rattle.std.specs.Prelude.{◌≡◌, false, option_map, IfOk, IfErr};
 ghost use Rattle.std.specs.FinMap.{get};
 ghost use Rattle.sqlite.specs.Values.{bound};
 ghost use Rattle.mm_definitions.specs.Keys.{item};
-ghost use Rattle.mm_store.specs.Faults.{IsStoreFault};
+ghost use Rattle.mm_definitions.specs.Faults.{IsStoreFault};
 ghost use Rattle.mm_reads.specs.Told.{Gives, ShowsRow, shown_row};
 ghost use Rattle.mm_store.specs.Handed.{Asks, Looks};
 ghost use Rattle.mm_store.specs.Seen.{ReadsOn};

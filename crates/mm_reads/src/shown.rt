@@ -3,7 +3,7 @@
 ghost use Rattle.std.specs.Prelude.{◌≡◌, Some, IfOk, IfErr};
 ghost use Rattle.sqlite.specs.Order.{column};
 ghost use Rattle.sqlite.specs.declared.types.Value.TheVariants.{Text as Words};
-ghost use Rattle.mm_store.specs.Faults.{IsStoreFault};
+ghost use Rattle.mm_definitions.specs.Faults.{IsStoreFault};
 ghost use Rattle.mm_reads.specs.Listing.{by_kind};
 ghost use Rattle.mm_reads.specs.ShownLines.{IsCount, ShowsEdition, ShowsTable};
 

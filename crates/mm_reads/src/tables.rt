@@ -4,7 +4,7 @@ ghost use Rattle.std.specs.Prelude.{◌≡◌, false, IfOk, IfErr};
 ghost use Rattle.sqlite.specs.Order.{column};
 ghost use Rattle.sqlite.specs.declared.types.Value.TheVariants.{Text as Words};
 ghost use Rattle.mm_definitions.specs.Package.{kind_text};
-ghost use Rattle.mm_store.specs.Faults.{IsStoreFault};
+ghost use Rattle.mm_definitions.specs.Faults.{IsStoreFault};
 ghost use Rattle.mm_reads.specs.Contents.{ShowsPlace, ShowsPlaceOf, ShowsEntry, GathersTables, ListsTables};
 ghost use Rattle.mm_store.specs.Seen.{ReadsOn};
 

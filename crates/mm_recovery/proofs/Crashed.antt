@@ -15,7 +15,7 @@ use Rattle.sqlite.specs.Held.{Held, AreDatabases}
 use Rattle.sqlite.specs.Files.{file_state, IsOpened, Finds, image_of}
 use Rattle.sqlite.specs.State.{HasCleanDisk}
 use Rattle.mm_files.specs.Worked.{KeepsLeft}
-use Rattle.mm_files.proofs.Kept.{kept_as_it_is, kept_by_copy}
+use Rattle.mm_files.proofs.Kept.{kept_by_copy}
 use Rattle.mm_recovery.specs.Found.{AreClosed, AreLeftBy, FindsClosedIn, FindsLeftIn, IsFoundAlone, LeaveNoMore}
 use Rattle.mm_core.proofs.Opened.{IsFresh, opened_blank, opened_settles}
 
@@ -27,20 +27,13 @@ module _ {D : Type 0} {g : Ghosts D} where
   -- ---- files that are let go or closed
 
   -- what is kept of files that were let go
-  keeps_left : (old : Held (FileStore D g)) (closed : Bool) (files : Files D)
+  pub keeps_left : (old : Held (FileStore D g)) (closed : Bool) (files : Files D)
       → KeepsLeft g (file_state old) closed files
       → AreLeftBy old files
   keeps_left old closed files kept = record {
     clean = kept.was_clean;
     hold = λ clean image may. ∥∥₁_map (kept.left clean image may) (λ found. (found.0, found.1, found.2.both));
   }
-
-  pub are_left : (old : Held (FileStore D g)) (last : FileStore D g) (files : Files D)
-      → (files.log, files.db) ≡ file.files last → (IsClean (file.view last) → IsTrue (file.view last).is_numbered)
-      → (IsClean (file.view last) → AreDatabases (file.recovers last))
-      → IsQuiet file.view file.faults file.recovers file.is_shielded old.store last → AreLeftBy old files
-  are_left old last files are numbered sound quiet =
-      keeps_left old false files (kept_as_it_is old last files are numbered sound quiet)
 
   pub are_closed : (stays : SeenMayStay g) (old : Held (FileStore D g)) (files : Files D)
       → (AreClean g files.log files.db → IsCopied old files) → AreClosed old files

@@ -12,7 +12,7 @@ use Rattle.mm_definitions.specs.Package.{Package}
 use Rattle.mm_definitions.specs.Rules.{Meets}
 use Rattle.mm_definitions.specs.declared.answers.Open.{Open}
 use Rattle.mm_definitions.specs.declared.answers.Open.TheVariants as opens
-use Rattle.mm_store.specs.Faults.{IsStoreFault}
+use Rattle.mm_definitions.specs.Faults.{IsStoreFault}
 use Rattle.mm_store.specs.Stands.{StandsFor, IsSettled}
 use Rattle.mm_core.specs.Opening.{HasNoTable}
 use Rattle.mm_core.specs.Adopted.{Declines, DeclinesNone}

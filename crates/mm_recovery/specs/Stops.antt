@@ -14,8 +14,7 @@ use Rattle.sqlite.specs.Files.{IsNothing, LeavesFiles}
 use Rattle.sqlite.specs.declared.file.Leftover.{Leftover}
 use Rattle.sqlite.specs.declared.file.Leftover.TheVariants as left
 use Rattle.mm_definitions.specs.declared.answers.Fault.{Fault}
-use Rattle.mm_definitions.specs.Faults.{store}
-use Rattle.mm_store.specs.Faults.{IsStoreFault}
+use Rattle.mm_definitions.specs.Faults.{store, IsStoreFault}
 use Rattle.mm_recovery.specs.Found.{AreLeftBy, HoldOneOf}
 use Rattle.mm_recovery.specs.declared.stops.Stopped.{Stopped}
 

@@ -45,7 +45,7 @@ pub fn open_files<D: Disk + Drop>(
 pub fn let_go<D: Disk + Drop>(conn: Connection<FileStore<D>>) -> Files<D>
     ensures { AreLeftBy conn result }
 {
-    conn.into_store().close()
+    mm_files::let_go(conn)
 }
 
 /// Closes both files of a connection: whatever a crash leaves of them, they hold the database of its last commit.

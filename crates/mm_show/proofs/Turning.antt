@@ -14,7 +14,7 @@ use Rattle.mm_definitions.specs.Streams.{Written}
 use Rattle.mm_definitions.specs.declared.answers.Fault.{Fault}
 use Rattle.mm_definitions.specs.declared.entries.Row.{Row as RowTold}
 use Rattle.mm_definitions.proofs.Parts.{same_some}
-use Rattle.mm_store.specs.Faults.{IsStoreFault}
+use Rattle.mm_definitions.specs.Faults.{IsStoreFault}
 use Rattle.mm_store.proofs.Asking.{store_fault}
 use Rattle.mm_reads.specs.RowLists.{MostRows, first_rows, lists_rows, numbered, numbered_told, rows_on}
 use Rattle.mm_reads.specs.Shown.{shown_rows}

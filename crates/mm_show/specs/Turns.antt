@@ -8,7 +8,7 @@ use Rattle.mm_definitions.specs.Streams.{Written}
 use Rattle.mm_definitions.specs.declared.answers.Fault.{Fault}
 use Rattle.mm_definitions.specs.declared.entries.Row.{Row as RowTold}
 use Rattle.mm_definitions.specs.declared.refusals.TheConstants.{NO_ROW}
-use Rattle.mm_store.specs.Faults.{IsStoreFault}
+use Rattle.mm_definitions.specs.Faults.{IsStoreFault}
 use Rattle.mm_reads.specs.RowLists.{MostRows, first_rows, numbered, numbered_told, rows_on}
 use Rattle.mm_reads.specs.Writing.{IsBegun, ListingTellsWriter}
 use Rattle.mm_show.specs.Records.{row_records}

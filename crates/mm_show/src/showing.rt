@@ -8,7 +8,7 @@ ghost use Rattle.mm_definitions.specs.Keys.{same_number};
 ghost use Rattle.mm_definitions.specs.Package.{Package};
 ghost use Rattle.mm_definitions.specs.Rules.{Meets};
 ghost use Rattle.mm_definitions.specs.Streams.{has_failed, written};
-ghost use Rattle.mm_store.specs.Faults.{IsStoreFault};
+ghost use Rattle.mm_definitions.specs.Faults.{IsStoreFault};
 ghost use Rattle.mm_reads.specs.RowLists.{lists_rows, first_rows, numbered_told};
 ghost use Rattle.mm_reads.specs.Viewers.{IsOn, IsViewFault, LeavesPackage};
 ghost use Rattle.mm_reads.specs.Writing.{ListingTellsWriter};
@@ -22,11 +22,9 @@ use mm_definitions::names::Name;
 use mm_definitions::refusals::Reason;
 use mm_definitions::streams::Io;
 use mm_desk::Desk;
+use mm_reads::MOST_ROWS;
 use std::alloc::Global;
 use std::io::Write;
-
-/// How many rows one read tells at most.
-const MOST_ROWS: usize = 1000;
 
 /// What comes behind the id of a row. (An id that has none behind it is of no package.)
 fn id_behind(row: &(i64, Row)) -> Result<i64, Fault>

@@ -5,7 +5,7 @@ ghost use Rattle.std.specs.FinMap.{get, contains_key, insert};
 ghost use Rattle.mm_definitions.specs.Keys as keys;
 ghost use Rattle.sqlite.specs.Order.{column};
 ghost use Rattle.mm_store.specs.Blobs.{Told};
-ghost use Rattle.mm_store.specs.Faults.{IsStoreFault};
+ghost use Rattle.mm_definitions.specs.Faults.{IsStoreFault};
 ghost use Rattle.mm_store.specs.Kept.{piece_id, piece_with};
 ghost use Rattle.mm_store.specs.Removals.{FreedByEdition};
 ghost use Rattle.mm_store.specs.Rows.{maybe};

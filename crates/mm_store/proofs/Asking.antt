@@ -5,8 +5,8 @@ use Rattle.sqlite.specs.Order.{Row}
 use Rattle.sqlite.specs.State.{State, KeepsCommit}
 use Rattle.mm_definitions.specs.declared.answers.Fault.{Fault}
 use Rattle.mm_store.specs.Stands.{Ground, StandsOn}
-use Rattle.mm_definitions.specs.Faults.{memory, store}
-use Rattle.mm_store.specs.Faults.{wants_memory, told_as, IsStoreFault}
+use Rattle.mm_definitions.specs.Faults.{memory, store, IsStoreFault}
+use Rattle.mm_store.specs.Faults.{wants_memory, told_as}
 use Rattle.mm_store.specs.Statements.{IsAsked}
 
 pub kept_on : (old new : State) → KeepsCommit old new → (ground : Ground) → StandsOn old ground → StandsOn new ground

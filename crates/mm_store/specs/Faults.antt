@@ -1,5 +1,5 @@
--- What faults a call answers that asks the store.
-use Rattle.std.specs.Prelude.{◌≡◌, ◌⊎◌, Bool, true, false, if◌then◌else◌}
+-- How an error of the store is told.
+use Rattle.std.specs.Prelude.{Bool, true, false, if◌then◌else◌}
 use Rattle.sqlite.specs.declared.error.Error.{Error}
 use Rattle.sqlite.specs.declared.error.Error.TheVariants.{SqliteFailure}
 use Rattle.sqlite.specs.declared.error.ErrorCode.TheVariants.{OutOfMemory}
@@ -14,7 +14,3 @@ wants_memory _ = false
 -- how an error of the store is told: want of memory, or any other failure
 abbrev pub told_as : Error → Fault
 told_as e = if wants_memory e then memory else store
-
--- the faults of a call that asks the store, and no other
-abbrev pub IsStoreFault : Fault → Type 0
-IsStoreFault fault = (fault ≡ memory) ⊎ (fault ≡ store)

@@ -16,7 +16,8 @@ use Rattle.mm_definitions.specs.declared.answers.Outcome.{Outcome}
 use Rattle.mm_definitions.specs.declared.commands.Command.{Command}
 use Rattle.mm_store.specs.Stands.{Ground, StandsOn, StandsInside}
 use Rattle.mm_store.specs.Shapes.{refused_as}
-use Rattle.mm_store.specs.Faults.{IsStoreFault, told_as}
+use Rattle.mm_definitions.specs.Faults.{IsStoreFault}
+use Rattle.mm_store.specs.Faults.{told_as}
 use Rattle.mm_store.specs.Statements.{CommitsNothing, AreGiven, IsAsked, IsRun}
 
 -- both are the transaction on one connection

@@ -11,7 +11,7 @@ use Rattle.mm_definitions.specs.declared.answers.Outcome.TheVariants.{Done, Refu
 use Rattle.mm_definitions.specs.Refusals.{Refusal}
 use Rattle.mm_definitions.specs.declared.commands.Command.{Command}
 use Rattle.mm_store.specs.Stands.{Ground, StandsOn, StandsInside}
-use Rattle.mm_store.specs.Faults.{IsStoreFault}
+use Rattle.mm_definitions.specs.Faults.{IsStoreFault}
 use Rattle.mm_store.specs.Statements.{CommitsNothing}
 
 -- done only where it is not refused, and then the transaction stands for the package after it

@@ -7,7 +7,8 @@ use Rattle.sqlite.specs.State.{State, HasCleanDisk, Survives, Shown, ExecutesIns
 use Rattle.sql_forms.specs.Tables.{IsFirstShown}
 use Rattle.mm_definitions.specs.declared.answers.Fault.{Fault}
 use Rattle.mm_store.specs.Stands.{Ground, StandsOn}
-use Rattle.mm_store.specs.Faults.{IsStoreFault, told_as}
+use Rattle.mm_definitions.specs.Faults.{IsStoreFault}
+use Rattle.mm_store.specs.Faults.{told_as}
 
 -- It commits nothing: a crash leaves what it left before.
 abbrev pub CommitsNothing : State → State → Type 0

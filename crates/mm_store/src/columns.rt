@@ -3,7 +3,7 @@
 ghost use Rattle.std.specs.Prelude.{◌≡◌, string_bytes, IfOk, IfErr};
 ghost use Rattle.sqlite.specs.Order.{column};
 ghost use Rattle.sqlite.specs.declared.types.Value.TheVariants.{Int, Text as Words};
-ghost use Rattle.mm_store.specs.Faults.{IsStoreFault};
+ghost use Rattle.mm_definitions.specs.Faults.{IsStoreFault};
 
 use crate::faults::fault_of;
 use mm_definitions::answers::Fault;

@@ -15,7 +15,7 @@ use Rattle.sqlite.specs.State.{State, IsUnchanged, Shown, Begins}
 use Rattle.sqlite.proofs.Callers.{IsPlain, reads_as, begins_as}
 use Rattle.sql_forms.specs.Forms.{query, no_limit, alone}
 use Rattle.mm_definitions.specs.declared.answers.Fault.{Fault}
-use Rattle.mm_store.specs.Faults.{IsStoreFault}
+use Rattle.mm_definitions.specs.Faults.{IsStoreFault}
 use Rattle.mm_walk.specs.Walk.{OnlyAsks, Rests, TakesRows, Ends, IsWalk}
 use Rattle.mm_walk.specs.RowTests.{IsQuery, AllShown, TellsAll}
 use Rattle.mm_walk.proofs.Matches.{all_split, all_good, each_good}

@@ -9,7 +9,8 @@ use Rattle.sql_forms.specs.Store.{Ghosts}
 use Rattle.sqlite.specs.Held.{Held, state}
 use Rattle.sqlite.specs.Given.{HasGiven, HasBegun}
 use Rattle.mm_definitions.specs.declared.answers.Fault.{Fault}
-use Rattle.mm_store.specs.Faults.{told_as, IsStoreFault}
+use Rattle.mm_definitions.specs.Faults.{IsStoreFault}
+use Rattle.mm_store.specs.Faults.{told_as}
 use Rattle.mm_store.proofs.Asking.{told_fault}
 use Rattle.mm_walk.specs.Walk.{OnlyAsks, Rests, IsFront, TakesRows, IsEndedWalk, IsWalk}
 use Rattle.mm_walk.proofs.Given.{begun_asking, commits_nothing, begins_before, shown_before, refused_rests, takes_one_more}

@@ -3,7 +3,7 @@ use Rattle.std.proofs.lemmas.List.{length-drop, take_all}
 use Rattle.std.specs.Io.KnownBytes.{Consumes}
 use Rattle.mm_definitions.specs.Streams.{has_failed, inside, written}
 use Rattle.mm_gate.specs.Demand.{demanded}
-use Rattle.mm_page.specs.Heads.{Heads, IsNeeded}
+use Rattle.mm_page.specs.Heads.{Heads, IsNeeded, MostHeadBytes}
 use Rattle.mm_page.proofs.ServeFacts.{err_so, ok_so}
 use Rattle.mm_desk.specs.Answered.{Demands, IsHeadless, IsReadTo, page_of}
 use Rattle.mm_desk.specs.Responses.{refusal_of}
@@ -20,7 +20,7 @@ returns-in-Ok-Some-clause-answered g c =
     let here = take (length front - spans.len) (drop spans.len front) in
     let all : here ≡ drop spans.len front = take_all (length front - spans.len) (drop spans.len front) (omega (arith, length-drop spans.len front)) in
     let d = demanded c.taken_for-taken.result in
-    let held : Consumes old mid front × IsNeeded 8192 front = rw c.in-Ok-Some.field-0-is at c.in-Ok-Some.ensures.holds in
+    let held : Consumes old mid front × IsNeeded MostHeadBytes front = rw c.in-Ok-Some.field-0-is at c.in-Ok-Some.ensures.holds in
     let lifts = some_weaker old _ (Lifts c.args.gate d here front)
     (λ input it. subst (λ l. Lifts c.args.gate d l front input) (sym all)
     (head_lifts c.args.gate d front c.read_head.new.headers spans c.taken_for-taken.ensures input it.2 it.3
@@ -38,7 +38,7 @@ returns-in-Ok-Some-clause-frugal g c =
     let here = take (length front - spans.len) (drop spans.len front) in
     let all : here ≡ drop spans.len front = take_all (length front - spans.len) (drop spans.len front) (omega (arith, length-drop spans.len front)) in
     let d = demanded c.taken_for-taken.result in
-    let held : Consumes old mid front × IsNeeded 8192 front = rw c.in-Ok-Some.field-0-is at c.in-Ok-Some.ensures.holds in
+    let held : Consumes old mid front × IsNeeded MostHeadBytes front = rw c.in-Ok-Some.field-0-is at c.in-Ok-Some.ensures.holds in
     let lifts = some_weaker old _ (Lifts c.args.gate d here front)
     (λ input it. subst (λ l. Lifts c.args.gate d l front input) (sym all)
     (head_lifts c.args.gate d front c.read_head.new.headers spans c.taken_for-taken.ensures input it.2 it.3
@@ -54,7 +54,7 @@ returns-in-Ok-Some-clause-frugal_fault g c =
     let here = take (length front - spans.len) (drop spans.len front) in
     let all : here ≡ drop spans.len front = take_all (length front - spans.len) (drop spans.len front) (omega (arith, length-drop spans.len front)) in
     let d = demanded c.taken_for-taken.result in
-    let held : Consumes old mid front × IsNeeded 8192 front = rw c.in-Ok-Some.field-0-is at c.in-Ok-Some.ensures.holds in
+    let held : Consumes old mid front × IsNeeded MostHeadBytes front = rw c.in-Ok-Some.field-0-is at c.in-Ok-Some.ensures.holds in
     let lifts = some_weaker old _ (Lifts c.args.gate d here front)
     (λ input it. subst (λ l. Lifts c.args.gate d l front input) (sym all)
     (head_lifts c.args.gate d front c.read_head.new.headers spans c.taken_for-taken.ensures input it.2 it.3

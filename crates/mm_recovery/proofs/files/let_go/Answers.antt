@@ -1,7 +1,6 @@
-use Rattle.mm_recovery.proofs.Crashed.{are_left}
+use Rattle.std.proofs.Common.{false}
+use Rattle.mm_recovery.proofs.Crashed.{keeps_left}
 use Rattle.mm_recovery.proofs.files.let_go.Goals as goal
 
 pub returns : goal.returns
-returns g c =
-    are_left c.args.conn c.into_store.result c.close.result c.close.ensures c.into_store.ensures.numbered
-    c.into_store.ensures.sound c.into_store.ensures.quiet
+returns g c = keeps_left c.args.conn false c.let_go.result c.let_go.ensures

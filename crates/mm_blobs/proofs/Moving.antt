@@ -224,20 +224,3 @@ module _ {X : Type 0} where
   -- a move whose answer could not be told
   pub move_untold : {T U : Type 0} {First : Ground → X → Type 0} {Last : Ground → X → T → X → Type 0} {Less : Ground → X → U → X → Type 0} (a b : State) (t : T) (e : Fault) → IsMove a b First Last (Ok t) → IsStoreFault e → IsMove a b First Less (Err e)
   move_untold a b t e one fault = record { survives = one.survives; on = one.on; moved = λ clean ground x it. tt; faults = fault }
-
--- ---- from tiles with their blobs to tiles alone
-
-pub seen_as : {X Y T : Type 0} {First : Ground → X → Type 0} {Last : Ground → X → T → X → Type 0} (Where : Ground → Y → Type 0) (Less : Ground → Y → T → Y → Type 0) (a b : State) (r : Result T Fault) → IsMove a b First Last r
-    → ((ground : Ground) (y : Y) → Where ground y → (x : X) × First ground x × ((z : X) (t : T) → Last ground x t z → (w : Y) × Less ground y t w))
-    → IsMove a b Where Less r
-seen_as {X} {Y} {T} {First} {Last} Where Less a b r one so = record {
-  survives = one.survives;
-  on = λ clean ground y it. let s = so ground y it in one.on clean ground s.0 s.1;
-  moved = λ clean ground y it. let s = so ground y it in go ground y s r (one.moved clean ground s.0 s.1);
-  faults = one.faults;
-}
-  where
-    go : (ground : Ground) (y : Y) (s : (x : X) × First ground x × ((z : X) (t : T) → Last ground x t z → (w : Y) × Less ground y t w)) (q : Result T Fault) → IfOk q (λ t. IsTrue b.is_open × (z : X) × Last ground s.0 t z)
-        → IfOk q (λ t. IsTrue b.is_open × (w : Y) × Less ground y t w)
-    go ground y s (Ok t) h = let last = s.2 h.1 t h.2 in (h.0, last.0, last.1)
-    go ground y s (Err e) h = tt

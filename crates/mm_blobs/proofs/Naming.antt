@@ -2,7 +2,6 @@
 use Rattle.std.proofs.Common.{◌≡◌, ◌≢◌, ◌⊎◌, inl, inr, ℕ, ℤ, Bool, true, false, not, ◌&&◌, ◌||◌, List, Option, Some, None, option_map, is_some, refl, sym, ap, subst, subst₂, ◌∙◌}
 use Rattle.std.specs.declared.cmp.Ordering.{Ordering}
 use Rattle.std.specs.FinMap.{FinMap, get, contains_key, insert, remove}
-use Rattle.std.proofs.lemmas.Bool.{or_cases, or_left, or_right}
 use Rattle.sqlite.specs.declared.types.Value.TheVariants.{Int}
 use Rattle.sqlite.specs.Order.{Row, column}
 use Rattle.sqlite.specs.Tree.{Trees, with_tree}
@@ -100,11 +99,6 @@ named_again spare id z h = drops (spare z) (same_number z id) h
     drops true b h = refl
     drops false true h = h
     drops false false h = h
-
-pub freed_looser : (o : Option ℤ) (spare more : Spare) → ((z : ℤ) → spare z ≡ true → more z ≡ true) → (z : ℤ) → spare_freed o spare z ≡ true
-    → spare_freed o more z ≡ true
-freed_looser None spare more still z h = still z h
-freed_looser (Some id) spare more still z h = elim (or_cases _ _ h) [ inl before ↦ or_left _ _ (still z before) | inr same ↦ or_right _ _ same ]
 
 pub freed_before : (o : Option ℤ) (spare : Spare) (z : ℤ) → spare z ≡ true → spare_freed o spare z ≡ true
 freed_before None spare z h = h

@@ -1,11 +1,11 @@
 -- What is read of the fields of a record, one field at a time.
-use Rattle.std.proofs.Common.{◌≡◌, ◌≢◌, ◌∙◌, ◌≤◌, ◌<◌, ◌+◌, ◌⊎◌, inl, inr, ℕ, zero, suc, ℤ, pos, neg_ℤ, List, []}
+use Rattle.std.proofs.Common.{◌≡◌, ◌∙◌, ◌≤◌, ◌<◌, ◌+◌, ◌⊎◌, inl, inr, ℕ, zero, suc, ℤ, pos, neg_ℤ, List, []}
 use Rattle.std.proofs.Common.{◌∷◌, length, drop, map, None, Bool, true, false, Result, Ok, Err, IsErr, refl, sym, ap}
 use Rattle.std.proofs.Common.{subst, arith, ◌<ℤ◌, ◌≤ℤ◌}
 use Rattle.std.specs.Prelude.{get_or, nat_le, if◌then◌else◌, ⊤}
 use Rattle.std.specs.Borrow.{Bor}
 use Rattle.std.proofs.lemmas.Int.{ints}
-use Rattle.std.proofs.lemmas.List.{drop_more, drop_all, length-map}
+use Rattle.std.proofs.lemmas.List.{drop_more, drop_all}
 use Rattle.std.proofs.lemmas.Bool.Decides.{nat_tests}
 use Rattle.hex.specs.Hex.{decode_of}
 use Rattle.hex.specs.declared.error.FromHexError.{FromHexError}
@@ -181,13 +181,6 @@ and_then {a = a} {b = b} {fs = fs} {ts = ts} f t h e k = record {
   reads = subst (Reads h.value k.values f fs t ts) (sym e) (read_both h.value k.values f fs t ts a b h.reads k.reads);
 }
 
--- a record of another number of fields
-wrong_number : (fs : List Field) (ts : List Text) → length fs ≢ length ts → IsAgainstSome fs ts 10
-wrong_number [] [] h = absurd (h refl)
-wrong_number [] (t ∷ ts) h = refl
-wrong_number (f ∷ fs) [] h = refl
-wrong_number (f ∷ fs) (t ∷ ts) h = inr (wrong_number fs ts (λ e. h (ap suc e)))
-
 -- no number is below 10
 at_least_ten : (f : Field) (t : Text) (n : ℕ) → IsAgainst f t n → 10 ≤ n
 at_least_ten (OneOf words) t n a = omega (arith, a.0)
@@ -243,13 +236,6 @@ pub refuses : {A : Type 0} {fs : List Field} {r : Result A ReadFault} {fault : R
 refuses {fs = fs} {fault = fault} xs n low high e h =
     subst (λ ts. ReadsTo {A = ⊤} (λ _. ⊤) (IsLeast (IsAgainstSome fs ts)) (Err fault)) (sym (texts_are xs n low high))
     (subst (ReadsTo (λ x. AllHold fs (listed xs 0 n) (h.values x)) (IsLeast (IsAgainstSome fs (listed xs 0 n)))) e h.reads)
-
--- the fields are fewer or more than the form asks
-pub is_ten : (fs : List Field) (xs : List (Bor Text)) → length fs ≢ length xs → IsLeast (IsAgainstSome fs (texts_of xs)) 10
-is_ten fs xs h = record {
-  is_held = wrong_number fs (texts_of xs) (λ e. h (e ∙ length-map xs (λ (f : Bor Text). f.now)));
-  is_least = λ m a. all_at_least_ten fs (texts_of xs) m a;
-}
 
 -- the fields are those that the form asks
 pub holds : {A : Type 0} {fs : List Field} {ts : List Text} {r : Result A ReadFault} {v : A} → r ≡ Ok v → (h : AreFields fs ts r) → AllHold fs ts (h.values v)

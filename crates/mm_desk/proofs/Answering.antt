@@ -2,7 +2,7 @@
 use Rattle.std.proofs.Common.{◌≡◌, ◌∙◌, ◌≤◌, ◌<◌, ◌+◌, ◌⊎◌, inl, inr, ℕ, Bool, true, false, List, [], ◌∷◌, ◌++◌}
 use Rattle.std.proofs.Common.{Option, Some, None, IfSome, Result, Ok, Err, refl, sym, ap, subst, arith, length}
 use Rattle.std.proofs.Common.{length-append, map, take, drop, append_assoc, append-nil}
-use Rattle.std.proofs.KnownBytes.{Appends-nil, Appends-trans, Consumes-nil, Consumes-trans}
+use Rattle.std.proofs.KnownBytes.{Appends-nil, Appends-trans, Consumes-trans}
 use Rattle.std.proofs.lemmas.Bool.Decides.{leb_tells}
 use Rattle.std.proofs.lemmas.List.{append_cancel_left, length-take}
 use Rattle.std.specs.Io.KnownBytes.{Appends, Consumes}
@@ -122,14 +122,6 @@ module _ (page : Option Text) (Asked : Text → Demand → Text → Type 0) (Hea
 module _ (page : Option Text) (d : Demand) (here : Text) {D : Type 0} (view : viewers.Ghosts D)
     (apply : applies.Ghosts D) (moment : ℕ) (source : Option Text) (reading : Bool)
     (desk : D) (output output_now : Written) where
-  pub refused_whole : (status : ℕ) → d ≡ Refuse status → IsSentWhole output output_now (refusal_of status)
-      → IsDeskAnswered page (IsBehindHead d here) Never view apply moment source reading desk desk output output_now
-      (Ok dones.Shown)
-  refused_whole status is written =
-      shown_whole page (IsBehindHead d here) Never view apply moment source reading desk desk output output_now
-      (refusal_of status) (stays_same apply desk) written
-      (λ p on. some_all source _ (λ more. inl (Refuse status, here ++ more, (sym is, refl), refl)))
-
   pub refused_cut : (status : ℕ) (e : PageFault) → d ≡ Refuse status → IsCut output output_now (refusal_of status) e.0
       → IsDeskAnswered page (IsBehindHead d here) Never view apply moment source reading desk desk output output_now
       (Err e)
@@ -137,11 +129,6 @@ module _ (page : Option Text) (d : Demand) (here : Text) {D : Type 0} (view : vi
       cut_short page (IsBehindHead d here) Never view apply moment source reading desk desk output output_now
       (refusal_of status) e (stays_same apply desk) cut
       (λ p on. some_all source _ (λ more. inl (inl (Refuse status, here ++ more, (sym is, refl), refl))))
-
-  pub ended_whole : d ≡ End → IsSentWhole output output_now ended
-      → IsDeskAnswered page (IsBehindHead d here) Never view apply moment source reading desk desk output output_now
-      (Ok dones.Ended)
-  ended_whole is written = (stays_same apply desk, written, some_all source _ (λ more. (here ++ more, (sym is, refl))))
 
   pub ended_cut : (e : PageFault) → d ≡ End → IsCut output output_now ended e.0
       → IsDeskAnswered page (IsBehindHead d here) Never view apply moment source reading desk desk output output_now
@@ -281,9 +268,6 @@ module _ (page : Option Text) (n : ℕ) (waits : Bool) (here : Text) {D : Type 0
       joined tail = ap (λ l. l ++ tail) whole ∙ append_assoc begun more tail
 
 -- ---- how much is read
-
-pub reads_nothing : (d : Demand) (here : Text) (now : Option Text) → IsReadOn d here now now
-reads_nothing d here now = ([], Consumes-nil now, inl refl)
 
 pub reads_on : (n : ℕ) (waits : Bool) (here : Text) (old now : Option Text) → IsReadFrugally here n old now
     → IsReadOn (Records n waits) here old now

@@ -6,11 +6,6 @@ use Rattle.mm_gate.specs.declared.fields.FieldValue.TheVariants as fields
 use Rattle.mm_gate.specs.Fields.{IsFieldValue, IsHostField, IsOriginField, IsSiteField}
 use Rattle.mm_gate.specs.Demand.{Once, Lone, IsHost, IsOrigin, IsOwnSite}
 
-not_once : (P : Text → Type 0) (vs : List Text) → 1 < length vs → Once P vs → ⊥
-not_once P [] more h = h
-not_once P (v ∷ []) more h = absurd (omega (arith, more))
-not_once P (v ∷ w ∷ vs) more h = h
-
 not_lone : (P : Text → Type 0) (vs : List Text) → 1 < length vs → Lone P vs → ⊥
 not_lone P [] more h = absurd (omega (arith, more))
 not_lone P (v ∷ []) more h = absurd (omega (arith, more))
@@ -21,20 +16,10 @@ host_once port vs (fields.Once v) is h = subst (Once (IsHost port)) (sym is) h
 host_once port vs fields.Absent is h = absurd h
 host_once port vs fields.Often is h = absurd h
 
-pub once_host : (port : ℕ) (vs : List Text) (f : FieldValue) → IsFieldValue vs f → Once (IsHost port) vs → IsHostField port f
-once_host port vs (fields.Once v) is h = subst (Once (IsHost port)) is h
-once_host port vs fields.Absent is h = subst (Once (IsHost port)) is h
-once_host port vs fields.Often more h = not_once (IsHost port) vs more h
-
 pub origin_lone : (port : ℕ) (vs : List Text) (f : FieldValue) → IsFieldValue vs f → IsOriginField port f → Lone (IsOrigin port) vs
 origin_lone port vs (fields.Once v) is h = subst (Lone (IsOrigin port)) (sym is) h
 origin_lone port vs fields.Absent is h = subst (Lone (IsOrigin port)) (sym is) h
 origin_lone port vs fields.Often is h = absurd h
-
-pub lone_origin : (port : ℕ) (vs : List Text) (f : FieldValue) → IsFieldValue vs f → Lone (IsOrigin port) vs → IsOriginField port f
-lone_origin port vs (fields.Once v) is h = subst (Lone (IsOrigin port)) is h
-lone_origin port vs fields.Absent is h = tt
-lone_origin port vs fields.Often more h = not_lone (IsOrigin port) vs more h
 
 pub site_lone : (vs : List Text) (f : FieldValue) → IsFieldValue vs f → IsSiteField f → Lone IsOwnSite vs
 site_lone vs (fields.Once v) is h = subst (Lone IsOwnSite) (sym is) h

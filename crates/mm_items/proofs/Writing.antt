@@ -1,22 +1,14 @@
 -- From the bytes of an entry to the blob that it names.
-use Rattle.std.proofs.Common.{◌≡◌, ℕ, ℤ, List, Option, Some, None, option_map, refl}
+use Rattle.std.proofs.Common.{◌≡◌, ℤ, Option, Some, None, option_map, refl}
 use Rattle.sqlite.specs.State.{State}
 use Rattle.mm_definitions.specs.Bounds.{Profile}
 use Rattle.mm_definitions.specs.Package.{Package}
 use Rattle.mm_store.specs.Kept.{no_spare}
 use Rattle.mm_store.specs.Stands.{Ground}
-use Rattle.mm_store.specs.Blobs.{bytes_at}
 use Rattle.mm_store.specs.Rows.{MediumRow}
 use Rattle.mm_definitions.proofs.Parts.{same_some}
 use Rattle.mm_blobs.specs.Entries.{spare_freed}
-use Rattle.mm_blobs.specs.Views.{View, IsSeen, spare_too, spare_but}
-use Rattle.mm_blobs.proofs.Keeping.{reshelved}
-use Rattle.mm_blobs.proofs.Naming.{named_again, freed_looser}
-use Rattle.mm_blobs.proofs.Opening.{seen_looser}
-
--- only the shelf is other, and it has the bytes at the id
-abbrev pub HasKept : Profile → State → List ℕ → Ground → View → ℤ → View → Type 0
-HasKept profile now bytes base x id y = (y ≡ reshelved x y.kept.shelf) × IsSeen (spare_too id no_spare) profile now base y × (bytes_at y.kept.shelf id ≡ Some bytes)
+use Rattle.mm_blobs.specs.Views.{View, IsSeen}
 
 -- the package is so, and the blob that went may be spared
 abbrev pub HasNamed : Profile → State → (Package → Package) → Option ℤ → {T : Type 0} → Ground → View → T → View → Type 0
@@ -24,12 +16,6 @@ HasNamed profile now next stands base x t y = (y.content ≡ next x.content) × 
 
 abbrev pub HasDone : Profile → State → (Package → Package) → {T : Type 0} → Ground → View → T → View → Type 0
 HasDone profile now next base x t y = (y.content ≡ next x.content) × IsSeen no_spare profile now base y
-
--- once the entry names the blob that was kept, only the one that it named before may be spared
-pub named_seen : (profile : Profile) (now : State) (base : Ground) (x : View) (stands : Option ℤ) (id : ℤ)
-    → IsSeen (spare_freed stands (spare_but id (spare_too id no_spare))) profile now base x → IsSeen (spare_freed stands no_spare) profile now base x
-named_seen profile now base x stands id =
-    seen_looser (spare_freed stands (spare_but id (spare_too id no_spare))) (spare_freed stands no_spare) profile now base x (freed_looser stands (spare_but id (spare_too id no_spare)) no_spare (named_again no_spare id))
 
 -- an entry that stands, from the blob that it names
 pub stands_at : (o : Option MediumRow) (id : ℤ) → option_map (λ (m : MediumRow). m.blob) o ≡ Some id → (i : MediumRow) × (o ≡ Some i) × (i.blob ≡ id)

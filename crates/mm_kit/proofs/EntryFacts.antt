@@ -133,9 +133,6 @@ module _ (place : ℕ) (word : Text) (r : Record) where
     piece_refused faults.Memory reads = tt
     piece_refused (faults.Refused why) reads = (reads.0, piece_alone z spells low high why.number reads.1)
 
-pub empty_ten : (place : ℕ) → IsLeast (HoldsAgainstEntry place []) 10
-empty_ten place = record { is_held = refl; is_least = λ m e. omega (arith, e) }
-
 -- the fields behind the first are the record of the piece
 pub entry_whole : (place : ℕ) (xs items : List (Bor Text)) (r : Result Entry ReadFault) → 1 ≤ length xs → items ≡ rest_of xs
     → ReadsTo (IsEntry place (text_at xs 0 ∷ texts_of items)) (IsLeast (HoldsAgainstEntry place (text_at xs 0 ∷ texts_of items))) r

@@ -42,16 +42,6 @@ desk_fault n (inl is) = inl is
 desk_fault n (inr (inl is)) = inr (inl is)
 desk_fault n (inr (inr is)) = inr (inr (inl is))
 
--- a fault of a command on an editor that has not failed is neither 92 nor 96, and one of the folder is not 92
-pub staging_other : {W : Type 0} (n : ℕ) → IsApplyFault n → n ≢ 92 → (n ≢ 92) × (n ≡ 96 → W)
-staging_other n (inl is) other = (other, λ e. absurd (omega arith))
-staging_other n (inr (inl is)) other = (other, λ e. absurd (omega arith))
-staging_other n (inr (inr is)) other = (other, λ e. absurd (omega arith))
-
-pub folder_other : {W : Type 0} (fault : FolderFault) (n : ℕ) → n ≡ fault_number fault → W → (n ≢ 92) × (n ≡ 96 → W)
-folder_other Memory n is works = (λ e. absurd (omega (arith, is)), λ e. works)
-folder_other Failed n is works = (λ e. absurd (omega (arith, is)), λ e. works)
-
 pub folder_no_92 : (fault : FolderFault) (n : ℕ) → n ≡ fault_number fault → n ≡ 92 → ⊥
 folder_no_92 Memory n is e = absurd (omega (arith, is))
 folder_no_92 Failed n is e = absurd (omega (arith, is))

@@ -252,10 +252,6 @@ module _ (p : Package) (name : Text) (list : List Piece) (meets : Meets current 
 
 -- ---- a turn
 
--- whether another piece stands at a number
-none_beside : (y x : Piece) → x ≡ y → beside (Some y) x ≡ None
-none_beside y x e = ap (λ b. if b then None else Some 52) (ap (λ q. same_piece (piece_row x) (piece_row q)) (sym e) ∙ row_itself (piece_row x))
-
 -- a piece is the one that stands, or another
 pub same_or_other : (x y : Piece) → ((x ≡ y) × (beside (Some y) x ≡ None)) ⊎ ((piece_row x ≢ piece_row y) × (beside (Some y) x ≡ Some 52))
 same_or_other x y = by (same_piece (piece_row x) (piece_row y)) refl

@@ -16,7 +16,7 @@ use Rattle.mm_definitions.specs.declared.commands.Command.{Command}
 use Rattle.mm_store.specs.Handed.{Goes, ChangesWhere, Applies}
 use Rattle.mm_store.proofs.Going.{goes_then, goes_given, goes_less, goes_as, failed, failed_where}
 use Rattle.mm_layout.specs.Stamped.{step_at}
-use Rattle.mm_layout.specs.Handed.{Lends, LendsWhere, LendsFor, LendsUnstamped}
+use Rattle.mm_layout.specs.Handed.{Lends, LendsWhere, LendsUnstamped}
 
 module _ {S : Type 0} {g : Ghosts S} where
   -- what was asked finds no refusal, and the changes make the command
@@ -47,15 +47,8 @@ module _ {S : Type 0} {g : Ghosts S} where
 
   -- ---- the same command, told in other words
 
-  pub anywhere : {a b : Transaction S} {When : Package → Type 0} {c : Command} {at : Text} {r : Result Outcome Fault} → Lends g a b c at r → LendsWhere g a b When c at r
-  anywhere h = record { goes = goes_given h.goes (λ profile p it. it.0) }
-
   pub unstamped_anywhere : {a b : Transaction S} {When : Package → Type 0} {c : Command} {at : Text} {r : Result Outcome Fault} → LendsUnstamped g a b c r → LendsWhere g a b When c at r
   unstamped_anywhere {at = at} h = record { goes = goes_given (h.goes at) (λ profile p it. it.0) }
-
-  pub for_one : {X : Type 0} {a b : Transaction S} {When : X → Package → Type 0} {More : Package → Type 0} {command : X → Command} {at : Text} {r : Result Outcome Fault} → LendsFor g a b When command at r → (x : X)
-      → ((p : Package) → More p → When x p) → LendsWhere g a b More (command x) at r
-  for_one h x so = record { goes = goes_given (h.goes x) (λ profile p it. (it.0, so p it.1)) }
 
   -- a command that writes no last_change does at any text what it does at a moment
   pub at_any : {a b : Transaction S} {c : Command} {at : Text} {r : Result Outcome Fault} → Applies g a b c r → ((p : Package) → step_at p c at ≡ step p c 0) → Lends g a b c at r

@@ -13,7 +13,6 @@ use Rattle.mm_definitions.specs.Faults.{IsStoreFault}
 use Rattle.mm_store.specs.Stands.{StandsFor, ground_of, StandsInside, IsSettled}
 use Rattle.mm_store.specs.Statements.{CommitsNothing}
 use Rattle.mm_store.proofs.Transactions.{OnlyCommitted, settles}
-use Rattle.mm_store.proofs.Quiet.{quiet_then}
 use Rattle.mm_meta.specs.Opening.{HasTables, IsBlank, IsBareAt, IsMaking, MakesNoneAgain, IsInit}
 
 module _ (profile : Profile) {S : Type 0} (g : Ghosts S) (was now : Held S) (begun : now ≡ record was { in_transaction = true }) (ended last : State) where
@@ -36,13 +35,6 @@ module _ (profile : Profile) {S : Type 0} (g : Ghosts S) (was now : Held S) (beg
     stays = stays;
     faults = faults;
   }
-
-  -- the transaction was rolled back
-  pub init_undone : {T : Type 0} (fault : Fault) → IsMaking {T = T} (first_tables 0) (state g now) ended profile opening (Err fault)
-      → CommitsNothing ended last → IsInit profile old last (Err fault)
-  init_undone fault making h =
-      whole (Err fault) (survives_begin g was last _ (rw begun at (survives_then (state g now) ended last _ _ (λ db. IsBlank old → StandsFor profile.version db opening) (λ _ db none. absurd none) (λ _ db none. absurd none) making.survives h)))
-      (λ clean. tt) (λ clean it. tt) (λ _. survives_begin g was last (λ _. ⊥) (rw begun at (quiet_then (state g now) ended last making.survives h))) making.faults
 
   module _ {T : Type 0} (t : T) (making : IsMaking (first_tables 0) (state g now) ended profile opening (Ok t)) (h : Survives ended last (λ db. db ≡ ended.now.trees))
       (again : MakesNoneAgain (state g now) ended (Ok t)) where

@@ -60,10 +60,6 @@ creating_then a b c from mid to t result one two = record {
   faults = two.faults;
 }
 
-pub creating_failed : {T U : Type 0} (a b : State) (from mid to : Schema) (e : Fault) → IsCreating {T = T} from a b mid (Err e)
-    → IsCreating {T = U} from a b to (Err e)
-creating_failed a b from mid to e one = record { survives = one.survives; made = λ clean ground bare. tt; faults = one.faults }
-
 -- ---- where the tables stand already
 
 abbrev first_text : List ℕ

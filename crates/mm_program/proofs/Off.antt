@@ -1,5 +1,5 @@
 -- Why work on a file is not told, and what is left of it.
-use Rattle.std.proofs.Common.{◌≡◌, ℕ, Bool, Option, Some, None, Result, Err, inl, inr, refl, ap}
+use Rattle.std.proofs.Common.{ℕ, Bool, Option, None, Result, Err, inl, inr, refl, ap}
 use Rattle.sqlite_disk.specs.declared.Disk.{Ghosts}
 use Rattle.sqlite.specs.Tree.{Trees}
 use Rattle.sqlite.specs.Recovery.{Image}
@@ -16,12 +16,9 @@ use Rattle.mm_files.specs.declared.left.NotDone.TheVariants as why
 use Rattle.mm_work.specs.declared.stop.Stop.{Stop}
 use Rattle.mm_work.specs.declared.stop.Stop.TheVariants as stops
 use Rattle.mm_program.specs.Files.{IsUndone, OffFile, OnFile, WasBare, WorkEnds, WorksOnFile, stop_for}
-use Rattle.mm_program.specs.Stops.{IsFileFault, StopsAny, StopsNew, StopsOld, StopsOn}
+use Rattle.mm_program.specs.Stops.{IsFileFault, StopsAny, StopsNew, StopsOn}
 
 -- ---- why it was not done
-
-some_is : (n : ℕ) → Some n ≡ None → ⊥
-some_is n same = cc
 
 file_fault : (fault : Fault) → IsStoreFault fault → IsFileFault fault
 file_fault fault (inl memory) = inl (ap (λ (it : Fault). it.0) memory)
@@ -39,25 +36,12 @@ stops_new (stops.NotPackage n) it = it
 stops_new (stops.Rule n) it = it
 stops_new (stops.Fault fault) it = it
 
--- of one that is there
-pub stops_old : (n : ℕ) (s : Stop) → StopsOn (Some n) s → StopsOld s
-stops_old n stops.NotEmpty it = absurd (some_is n it)
-stops_old n (stops.NotPackage number) it = absurd it
-stops_old n (stops.Rule rule) it = it
-stops_old n (stops.Fault fault) it = it
-
 -- what may be told of any file
 pub any_new : (s : Stop) → StopsAny s → StopsNew s
 any_new stops.NotEmpty it = tt
 any_new (stops.NotPackage cause) it = it
 any_new (stops.Rule rule) it = it
 any_new (stops.Fault fault) it = it
-
-pub any_old : (s : Stop) → StopsAny s → StopsOld s
-any_old stops.NotEmpty it = it
-any_old (stops.NotPackage cause) it = absurd it
-any_old (stops.Rule rule) it = it
-any_old (stops.Fault fault) it = it
 
 -- ---- what is left
 

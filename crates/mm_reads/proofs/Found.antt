@@ -1,5 +1,5 @@
 -- What a row that was read tells of its part.
-use Rattle.std.proofs.Common.{◌≡◌, ℕ, ℤ, Bool, List, [], ◌∷◌, Option, Some, None, option_map, Vec, sym, ap, subst, ◌∙◌}
+use Rattle.std.proofs.Common.{◌≡◌, ℕ, ℤ, Bool, List, [], ◌∷◌, Option, Some, None, option_map, sym, ap, subst, ◌∙◌}
 use Rattle.std.specs.declared.cmp.Ordering.{Ordering}
 use Rattle.std.specs.FinMap.{FinMap, get}
 use Rattle.sqlite.specs.declared.types.Value.TheVariants.{Int, Text as Words}
@@ -20,7 +20,7 @@ use Rattle.mm_store.specs.Rows.{past_rowid, attribute_row, MediumRow, medium_row
 use Rattle.mm_store.proofs.Keys as parts
 use Rattle.mm_store.proofs.Keys.{by_item, same_words, same_int}
 use Rattle.mm_store.proofs.Parts.{IsPart, finds_none, finds_some}
-use Rattle.mm_reads.specs.Told.{TellsBytes, Gives, ShowsMedium, IsMediumRow, ShowsRow, shown_medium, shown_row}
+use Rattle.mm_reads.specs.Told.{Gives, ShowsMedium, IsMediumRow, ShowsRow, shown_medium, shown_row}
 
 -- what is told of the row that the query shows is the entry
 module _ {K V T : Type 0} {R : K → K → Ordering} {part : Row → Row} {shown : K → V → Row} {test : K → Row → Bool} (it : IsPart R part shown test) (rows : List Row) (m : FinMap R V) (h : Holds part shown rows m) (k : K)
@@ -32,11 +32,6 @@ module _ {K V T : Type 0} {R : K → K → Ordering} {part : Row → Row} {shown
       at.1 ∙ ap Some (tells at.2 at.0 x at.3 (subst (λ (r : Row). Shows r x) at.4 gives.2))
 
 -- ---- the three parts
-
-pub tells_bytes : {A : Type 0} (entry : Option (List ℕ)) (found : Option (Vec ℕ A)) → entry ≡ option_map (λ (v : Vec ℕ A). v.items) found
-    → TellsBytes entry found
-tells_bytes entry None h = h
-tells_bytes entry (Some x) h = h
 
 -- the row of a medium that was looked up by its key
 module _ (rows : List Row) (ids : FinMap item_cmp MediumRow) (h : Holds past_rowid medium_row rows ids) (k : Item) (params : Row) where

@@ -44,19 +44,6 @@ module _ {D : Type 0} {g : Ghosts D} where
       λ db may. ∥∥₁_map (hold (image_of g files) (stays files.log, stays files.db))
       (λ held. subst P (sym ((leaves db may).1 held.0 held.2)) held.1)
 
-  -- the same of fewer databases
-  pub leads_wider : (P Q : Trees → Type 0) (rest : Leftover D g) → ((db : Trees) → P db → Q db) → LeadsTo P rest
-      → LeadsTo Q rest
-  leads_wider P Q (left.Files now) so it =
-      λ image may. ∥∥₁_map (it image may) (λ held. (held.0, so held.0 held.1, held.2))
-  leads_wider P Q (left.Unopened now) so it =
-      ∥∥₁_map it (λ left. (
-        left.0,
-        (λ image may. ∥∥₁_map (left.1 image may) (λ held. (held.0, so held.0 held.1, held.2))),
-        left.2,
-      ))
-  leads_wider P Q (left.Store now) so it = λ db may. ∥∥₁_map (it db may) (so db)
-
   -- the kit's error, told as 91, is not want of memory
   pub caused : (files : Files D) (rest : Leftover D g) (kind : StoreError) (error : Error) → told_as error ≡ store
       → FailsToOpenAs kind files rest error → HasCause files rest

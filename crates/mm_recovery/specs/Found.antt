@@ -10,7 +10,7 @@ use Rattle.sqlite.specs.Tree.{Trees}
 use Rattle.sqlite.specs.Held.{Held}
 use Rattle.sqlite.specs.Files.{file_state, HoldsDatabase}
 use Rattle.sqlite.specs.State.{State, HasCleanDisk}
-use Rattle.mm_definitions.specs.Bounds.{Profile, current}
+use Rattle.mm_definitions.specs.Bounds.{Profile}
 use Rattle.mm_definitions.specs.Package.{Package}
 use Rattle.mm_store.specs.Stands.{StandsFor, IsSettled}
 use Rattle.mm_core.specs.Opening.{HasNoTable, IsBlank}
@@ -43,11 +43,7 @@ module _ {D : Type 0} {g : Ghosts D} where
 
 -- ---- a connection that is opened on them
 
--- settled for each package that the database stands for which it found; there is one at most
-abbrev pub IsSettledByFound : State → Type 0
-IsSettledByFound new = (p : Package) → StandsFor current.version new.committed.trees p → IsSettled current new p
-
--- the same of a package in whatever profile
+-- settled for each package that the database stands for which it found, in whatever profile
 abbrev pub IsSettledInEach : State → Type 0
 IsSettledInEach new =
     (profile : Profile) (p : Package) → StandsFor profile.version new.committed.trees p → IsSettled profile new p

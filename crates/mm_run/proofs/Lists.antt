@@ -134,9 +134,6 @@ accepted-append p [] ys = refl
 accepted-append p (x ∷ xs) ys =
     ap (if_ok (refusal p x.command) x) (accepted-append (step p x.command x.moment) xs ys) ∙ if_ok_append (refusal p x.command) x _ _
 
-pub accepted-one : (p : Package) (c : Call) → refusal p c.command ≡ None → accepted p (c ∷ []) ≡ c ∷ []
-accepted-one p c e = ap (λ r. if_ok r c []) e
-
 pub length-accepted : (p : Package) (moment : ℕ) (readings : List Reading)
     → length (accepted p (calls_of moment readings)) ≡ accepted_of (answers_to p moment readings)
 unfolding answers_to accepted_of calls_of

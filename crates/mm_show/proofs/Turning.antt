@@ -1,5 +1,5 @@
 -- What is printed of the rows of a table, one read behind another.
-use Rattle.std.proofs.Common.{◌≡◌, ◌∙◌, ◌⊎◌, ◌<◌, ◌+ℤ◌, inl, inr, ℕ, ℤ, pos, Bool, true, false, List, [], ◌∷◌, ◌++◌}
+use Rattle.std.proofs.Common.{◌≡◌, ◌∙◌, ◌⊎◌, ◌<◌, ◌+ℤ◌, ℕ, ℤ, pos, Bool, true, false, List, [], ◌∷◌, ◌++◌}
 use Rattle.std.proofs.Common.{map, length, take, drop, option_map, Option, Some, None, Result, Ok, Err, Vec, Global}
 use Rattle.std.proofs.Common.{refl, sym, ap, subst, arith, append_assoc}
 use Rattle.std.specs.Prelude.{IsErr, get_or, if◌then◌else◌}
@@ -15,10 +15,9 @@ use Rattle.mm_definitions.specs.declared.answers.Fault.{Fault}
 use Rattle.mm_definitions.specs.declared.entries.Row.{Row as RowTold}
 use Rattle.mm_definitions.proofs.Parts.{same_some}
 use Rattle.mm_definitions.specs.Faults.{IsStoreFault}
-use Rattle.mm_store.proofs.Asking.{store_fault}
 use Rattle.mm_reads.specs.RowLists.{MostRows, first_rows, lists_rows, numbered, numbered_told, rows_on}
 use Rattle.mm_reads.specs.Shown.{shown_rows}
-use Rattle.mm_reads.specs.Viewers.{IsOn, IsViewFault, LeavesPackage, ShowsValue}
+use Rattle.mm_reads.specs.Viewers.{IsOn, LeavesPackage, ShowsValue}
 use Rattle.mm_reads.specs.Writing.{IsBegun, ListingTellsWriter}
 use Rattle.mm_show.specs.Records.{row_record, row_records}
 use Rattle.mm_show.specs.Turns.{PrintsFrom, ShowsFirst, TellsNext, TurnsOn, first_at, records_from}
@@ -102,11 +101,6 @@ pub turn_stops : {A : Type 0} (p : Package) (table : Text) (first : ℤ) (old ne
 turn_stops p table first old new (Ok it) stops begun = absurd (let f : false ≡ true = stops in cc)
 turn_stops p table first old new (Err fault) stops begun = begun
 
-pub view_fault : (failed before now : Bool) (fault : Fault) → IsViewFault failed fault → now ≡ before → failed ≡ false → ListingTellsWriter before now
-    (Err fault)
-view_fault failed before now fault (inl it) same works = inl (store_fault fault it.1, same)
-view_fault failed before now fault (inr it) same works = absurd (let f : true ≡ false = sym it.0 ∙ works in cc)
-
 -- ---- one read behind another
 
 -- so much was printed of what is from an id on, and these rows are the next to be
@@ -152,15 +146,6 @@ print_stops p table first old new (Err fault) stops begun = begun
 -- ---- the first of some rows
 
 module _ (id : ℤ) where
-  pub first_none : (rows : List (ℤ × RowTold)) → length rows ≡ 0 → first_at id (map numbered_told rows) ≡ []
-  first_none [] none = refl
-  first_none (x ∷ rows) none = absurd (omega (arith, none))
-
-  pub first_other : (rows : List (ℤ × RowTold)) (row : ℤ × RowTold) → row ≡ get_or rows 0 row → same_number row.0 id ≡ false → first_at id
-      (map numbered_told rows) ≡ []
-  first_other [] row is off = refl
-  first_other (x ∷ rows) row is off = ap (λ b. if b then numbered_told x ∷ [] else []) (ap (λ (r : ℤ × RowTold). same_number r.0 id) (sym is) ∙ off)
-
   pub first_same : (rows : List (ℤ × RowTold)) (row : ℤ × RowTold) → 0 < length rows → row ≡ get_or rows 0 row → same_number row.0 id ≡ true
       → (first_at id (map numbered_told rows) ≡ numbered_told row ∷ []) × (map numbered_told (take 1 rows) ≡ numbered_told row ∷ [])
   first_same [] row some is on = absurd (omega (arith, some))

@@ -1,14 +1,14 @@
 -- From the beginning of a transaction to its end.
-use Rattle.std.proofs.Common.{◌≡◌, inl, inr, false, true, IsTrue, refl, sym, subst, ◌∙◌}
+use Rattle.std.proofs.Common.{◌≡◌, false, true, IsTrue, refl, sym, subst}
 use Rattle.sqlite.specs.Tree.{Trees}
-use Rattle.sqlite.specs.State.{State, HasCleanDisk, Shows, IsRolledBack}
+use Rattle.sqlite.specs.State.{State, Shows}
 use Rattle.sqlite.specs.Held.{Held, state}
 use Rattle.sqlite.specs.Store.{Ghosts}
 use Rattle.sqlite.proofs.StateLemmas.{survives_then}
 use Rattle.sqlite.proofs.Callers.{survives_begin}
 use Rattle.mm_definitions.specs.Bounds.{Profile}
 use Rattle.mm_definitions.specs.Package.{Package}
-use Rattle.mm_store.specs.Stands.{StandsFor, ReadsAs, Ground, ground_of, StandsOn, StandsInside, IsSettled}
+use Rattle.mm_store.specs.Stands.{StandsFor, ReadsAs, Ground, ground_of, StandsInside, IsSettled}
 use Rattle.mm_store.specs.Statements.{CommitsNothing}
 
 -- what is committed is all that a crash leaves, while the store is open
@@ -33,12 +33,3 @@ module _ {S : Type 0} (g : Ghosts S) (was now : Held S) (begun : now ≡ record 
 
   pub rolled_quiet : CommitsNothing (state g was) last
   rolled_quiet = survives_begin g was last (λ _. ⊥) (rw begun at (survives_then (state g now) ended last _ _ (λ _. ⊥) (λ _ db none. none) (λ _ db none. none) one two))
-
-  pub rolled_back : (profile : Profile) (p : Package) → IsSettled profile (state g was) p → HasCleanDisk last → IsRolledBack ended last
-      → StandsOn ended (ground_of (state g was)) → IsSettled profile last p
-  rolled_back profile p it clean back stands = record {
-    mode = back.autocommit;
-    back = λ up. let on = stands (back.was_open up) in subst (λ d. ReadsAs profile.version d p) (sym ((back.undone up).1 ∙ on.0)) (it.back on.1);
-    reads = λ up. let on = stands (back.was_open up) in subst (λ d. ReadsAs profile.version d p) (sym ((back.undone up).0 ∙ on.0)) (it.back on.1);
-    left = λ db may. elim (rolled_quiet.crash clean db may) [ inl before ↦ it.left db before | inr none ↦ absurd none ];
-  }

@@ -102,14 +102,6 @@ module _ {X K V : Type 0} {R : K → K → Ordering} (full : X → Row → Row) 
     (λ each r there. let e = h.sound r there in subst Q (sym e.4) ((same e.0 e.1 e.2).1 (each e.0 e.1 e.3))),
   )
 
-  -- the same, where it is known that the entry stands
-  pub each_row_in : (Q : Row → Type 0) (P : K → V → Type 0) → ((k : K) (v : V) (x : X) → get m k ≡ Some v → Q (full x (row_of k v)) ↔ P k v)
-      → ((r : Row) → Has rows r → Q r) ↔ Each m P
-  each_row_in Q P same = (
-    (λ all k v is. let e = h.complete k v is in (same k v e.0 is).0 (all (full e.0 (row_of k v)) e.1)),
-    (λ each r there. let e = h.sound r there in subst Q (sym e.4) ((same e.0 e.1 e.2 e.3).1 (each e.0 e.1 e.3))),
-  )
-
   -- the condition of a LEFT JOIN finds the rows of this key
   abbrev pub Finds : (Row → Bool) → K → Type 0
   Finds test k = (l : K) (v : V) (x : X) → (test (full x (row_of l v)) ≡ true) ↔ (l ≡ k)

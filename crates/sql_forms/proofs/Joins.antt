@@ -7,14 +7,14 @@ use Rattle.sqlite_value.specs.declared.keys.Key.{Key}
 use Rattle.sqlite_value.specs.Order.{Row}
 use Rattle.sqlite_trees.specs.Tree.{Trees, IsAscending}
 use Rattle.sqlite_sql.specs.Term.{Term, Env, eval_all, holds}
-use Rattle.sqlite_sql.specs.Query.{Query, Join, end, inner, left, matches, or_nulls, Output, output, output_cmp, IsAnswer}
+use Rattle.sqlite_sql.specs.Query.{Query, Join, matches, Output, output, output_cmp, IsAnswer}
 use Rattle.sqlite_sql.proofs.QueryLemmas.{output_cmp_total}
 use Rattle.sqlite_exec.proofs.PartitionLemmas.{ascending_from_sorted}
 use Rattle.sqlite_rules.specs.Lists.{Has}
 use Rattle.sqlite_rules.proofs.ListLemmas.{has_right, has_either}
 use Rattle.sqlite_rules.proofs.ProbeLemmas.{has_mapped, mapped_has}
 use Rattle.sql_forms.specs.Forms.{query, no_limit}
-use Rattle.sql_forms.proofs.Lists.{has_flat, flat_has, has_permuted, map_split, ascends_past}
+use Rattle.sql_forms.proofs.Lists.{has_permuted, map_split, ascends_past}
 
 -- ---- the rows of an answer
 
@@ -72,16 +72,3 @@ module _ (from : Join) (terms project : List Term) (order : List (Term × Key)) 
 -- the rows that join the row of the first table
 abbrev pub joining : Trees → ℕ → List Term → Row → Row → List Row
 joining db t on params row = filter (λ r. list_all (holds (params ∷ row ∷ r ∷ [])) on) (db t)
-
-pub join_has : (db : Trees) (s t : ℕ) (on : List Term) (params row other : Row) → Has (db s) row → Has (or_nulls (joining db t on params row)) other
-    → Has (matches db [] (inner s (left t on end)) (params ∷ [])) (params ∷ row ∷ other ∷ [])
-join_has db s t on params row other h k =
-    flat_has (λ (r : Row). matches db [] (left t on end) (params ∷ r ∷ [])) (db s) row _ h
-    (flat_has (λ (r : Row). matches db [] end (params ∷ row ∷ r ∷ [])) (or_nulls (joining db t on params row)) other _ k (inl refl))
-
-pub has_join : (db : Trees) (s t : ℕ) (on : List Term) (params : Row) (env : Env) → Has (matches db [] (inner s (left t on end)) (params ∷ [])) env
-    → (row : Row) × (other : Row) × Has (db s) row × Has (or_nulls (joining db t on params row)) other × (env ≡ params ∷ row ∷ other ∷ [])
-has_join db s t on params env h =
-    let r = has_flat (λ (r : Row). matches db [] (left t on end) (params ∷ r ∷ [])) (db s) env h in
-    let o = has_flat (λ (o : Row). matches db [] end (params ∷ r.0 ∷ o ∷ [])) (or_nulls (joining db t on params r.0)) env r.2 in
-    elim o.2 [ inl same ↦ (r.0, o.0, r.1, o.1, same) | inr none ↦ absurd none ]

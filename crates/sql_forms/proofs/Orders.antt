@@ -19,9 +19,9 @@ use Rattle.sqlite.specs.Schema.{Schema}
 use Rattle.sqlite_trees.proofs.ListLemmas.{pull_back, map-map}
 use Rattle.sqlite_rules.specs.Lists.{Has}
 use Rattle.sqlite_rules.proofs.ListLemmas.{has_filtered, has_kept}
-use Rattle.sqlite.specs.State.{State, Shown, IsUnchanged}
-use Rattle.sql_forms.specs.Forms.{over, no_limit}
-use Rattle.sql_forms.specs.Tables.{tables_of, passes, FindsFirst, Lists, IsFirstShown}
+use Rattle.sqlite.specs.State.{State, IsUnchanged}
+use Rattle.sql_forms.specs.Forms.{over}
+use Rattle.sql_forms.specs.Tables.{tables_of, passes, FindsFirst, IsFirstShown}
 use Rattle.sql_forms.proofs.Lists.{has_place, has_permuted}
 use Rattle.sql_forms.proofs.Queries.{AnswersOver, outputs}
 use Rattle.sql_forms.proofs.Selects.{IsSelect, selects, shows, nothing_left}
@@ -86,11 +86,3 @@ module _ (schema : Schema) (sql : List ℕ) (tree : ℕ) (terms project : List T
       let read = selects schema sql tree terms project ((t, k) ∷ []) (lit (Int (pos 1))) names it old new has params given same shown.0 shown.1 in
       let all = listed tree terms project t k (lit (Int (pos 1))) (filter (passes terms params) table) shown.0 params read.0 in
       (read.1, subst (FindsFirst (passes terms params) (by_column t k params) (shows project params) table) (sym (shown.2 ∙ ap (λ xs. slice_get xs 0) all.3)) (first_among table all.0 all.1 all.2))
-
-  -- all of them
-  pub selects_in_order : IsSelect schema sql tree (over tree terms project ((t, k) ∷ []) no_limit) names → (rows : List Row) → Shown sql given old new rows
-      → IsUnchanged old new × Lists (filter (passes terms params) (tables_of schema old.now.trees tree)) (by_column t k params) (shows project params) rows
-  selects_in_order it rows shown =
-      let read = selects schema sql tree terms project ((t, k) ∷ []) no_limit names it old new has params given same rows shown in
-      let all = listed tree terms project t k no_limit (filter (passes terms params) (tables_of schema old.now.trees tree)) rows params read.0 in
-      (read.1, record { in_order = all.0; same = all.1; sorted = all.2; shows = all.3 })

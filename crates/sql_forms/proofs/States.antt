@@ -7,11 +7,10 @@ use Rattle.sqlite.specs.Command.{Command}
 use Rattle.sqlite.specs.Clock.{timed}
 use Rattle.sqlite_resolve.specs.declared.compiled.Compiled.{Compiled}
 use Rattle.sqlite_schema.specs.declared.command.Returning.{Returning}
-use Rattle.sqlite.specs.Effect.{Database, Reads}
+use Rattle.sqlite.specs.Effect.{Reads}
 use Rattle.sqlite.specs.Listing.{understood, reads_listing}
 use Rattle.sqlite.specs.State.{State, IsUnchanged, IsRolledBack, KeepsCommit, IsNotRun, FailsToQuery, FailsToShow, ShowsRows, Shown, ExecutesInside, IsTooLate}
 use Rattle.sqlite.proofs.Callers.{IsPlain, command_of, reads_as}
-use Rattle.sql_forms.specs.Tables.{AreRows, tables_of, IsReady}
 
 module _ (old new : State) where
   pub unchanged_keeps : IsUnchanged old new → KeepsCommit old new
@@ -55,13 +54,6 @@ module _ (old new : State) where
   unfolding Shown
   query_all_keeps rows inside sql params (Ok a) ok err = shows_keeps inside sql ok.0 _ (rows a) ok.0.returning ok.2
   query_all_keeps rows inside sql params (Err e) ok err = query_keeps sql params e err
-
-  pub ready_still : (schema : Schema) → IsReady schema old → IsUnchanged old new → IsReady schema new
-  ready_still schema ready h = record {
-    schema_is = ap (λ (d : Database). d.schema) h.0.now_is ∙ ready.schema_is;
-    inside = h.0.mode ∙ ready.inside;
-    rows = subst (λ (d : Database). (t : ℕ) → AreRows (tables_of schema d.trees t)) (sym h.0.now_is) ready.rows;
-  }
 
   -- a plain query of a schema that is known
   module _ (sql : List ℕ) (params : Row) (schema : Schema) (has : old.now.schema ≡ schema) (command : Command) (is : command_of (understood schema sql) ≡ command)

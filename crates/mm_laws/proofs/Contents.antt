@@ -4,7 +4,7 @@ use Rattle.std.proofs.Common.{None, int_le, refl, sym, ap, ◌∙◌, ◌⊎◌,
 use Rattle.std.proofs.lemmas.Int.{ints}
 use Rattle.std.specs.Bool.{⊤}
 use Rattle.std.specs.FinMap.{get, contains_key, insert, remove}
-use Rattle.std.proofs.lemmas.Bool.{not-false}
+use Rattle.std.proofs.lemmas.Bool.{and_from, not-false}
 use Rattle.mm_definitions.specs.Keys.{Text, same_text, same_number, level, tile, Item, item, Pairing, pairing}
 use Rattle.mm_definitions.specs.Parts.{Has, at_value}
 use Rattle.mm_definitions.specs.Package.{Package, Grid, Kinds, HasKind, has_kind, is_pyramid, AttributeRow, Medium, Relation, RowsPart, MediaPart}
@@ -15,7 +15,7 @@ use Rattle.mm_definitions.specs.declared.commands.Piece.TheVariants as pieces
 use Rattle.mm_definitions.proofs.Parts.{each_put, each_remove, stands_after_put, beside_remove, no_entry, either_false, same_itself}
 use Rattle.mm_definitions.proofs.KeyLaws.{numbers, texts, tile_keys, items, pairing_keys}
 use Rattle.mm_laws.proofs.Kept.{PieceKeeps}
-use Rattle.mm_laws.proofs.Reasons.{none_holds, is_suited, stands_where, both_hold}
+use Rattle.mm_laws.proofs.Reasons.{none_holds, is_suited, stands_where}
 use Rattle.mm_laws.proofs.KindFacts.{has_kind_tells, has_kind_holds}
 use Rattle.mm_laws.proofs.Touch.{touch_keeps}
 use Rattle.mm_laws.proofs.OnePart.{with_media, with_pairings, with_rows, with_tiles}
@@ -107,7 +107,7 @@ unmapped p table id none k u e r f =
     let one : (t : Text) (i : ℤ) → (same_text t table && same_number i id) ≡ false → item t i ≢ item table id = λ t i no same.
     let a : same_text t table ≡ true = ap (λ (q : Item). same_text t q.table) (sym same) ∙ same_itself texts t in
     let b : same_number i id ≡ true = ap (λ (q : Item). same_number i q.id) (sym same) ∙ same_itself numbers i in
-    let both : (same_text t table && same_number i id) ≡ true = both_hold _ _ a b in
+    let both : (same_text t table && same_number i id) ≡ true = and_from _ _ a b in
     let g : true ≡ false = sym both ∙ no in cc
     in
     (one r.base k.base_id parts.0, one r.related k.related_id parts.1)

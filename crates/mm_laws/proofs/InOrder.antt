@@ -7,6 +7,7 @@ use Rattle.std.specs.declared.cmp.Ordering.{Ordering}
 use Rattle.std.specs.declared.cmp.Ordering.TheVariants.{Less, Equal, Greater}
 use Rattle.std.specs.Ordering.{is_eq, is_lt, int_cmp, ordering_then}
 use Rattle.std.specs.Cmp.{int_cmp_is}
+use Rattle.std.specs.Int.Signed.{≤ℤ_refl}
 use Rattle.std.specs.FinMap.{get, entries, entries_sorted, find, is_sorted, get-entries, retain_keys}
 use Rattle.std.specs.FinMap.Entries.{below_all}
 use Rattle.mm_definitions.specs.Keys.{Text, text_cmp, same_text, PieceKey, piece, piece_cmp}
@@ -87,10 +88,7 @@ module _ (m : PiecesPart) (edition : Text) (n : ℕ) (numbered : IsNumbered m ed
     where
       none : (v : Option PieceRow) → get m (piece edition (pos i)) ≡ v → v ≡ None
       none None e = refl
-      none (Some x) e = absurd (let f : false ≡ true = all (pos i) (same_is i) (ap is_some e) in cc)
-        where
-          same_is : (i : ℕ) → pos i ≤ℤ pos i
-          same_is i = omega (arith, ints)
+      none (Some x) e = absurd (let f : false ≡ true = all (pos i) (≤ℤ_refl (pos i)) (ap is_some e) in cc)
   in_order i low (e ∷ es) sorted sound all =
       let parts = and_parts (below_all piece_cmp e.0 es) (is_sorted piece_cmp es) sorted in
       let first = sound e.0 e.1 (at_first e es) in
@@ -99,7 +97,7 @@ module _ (m : PiecesPart) (edition : Text) (n : ℕ) (numbered : IsNumbered m ed
         | inl s ↦ s
         | inr less ↦
             let ranged = ((numbered e.0.number).0 (ap is_some (ap (get m) (sym named) ∙ first.0))).1 in
-            let there = all (pos i) (same_is i) ((numbered (pos i)).1 (one_or_more i low, at_most i n e.0.number less ranged)) in
+            let there = all (pos i) (≤ℤ_refl (pos i)) ((numbered (pos i)).1 (one_or_more i low, at_most i n e.0.number less ranged)) in
             let apart : piece edition (pos i) ≢ e.0 = λ s. differ i e.0.number less (sym (ap (λ (k : PieceKey). k.number) s)) in
             let behind = ap is_some (sym (past_first e es (piece edition (pos i)) apart)) ∙ there in
             absurd (higher_not_below edition (pos i) e.0.number less (subst (λ k. T (is_lt (piece_cmp k (piece edition (pos i))))) named (found_below e.0 (piece edition (pos i)) es parts.0 behind)))
@@ -115,9 +113,6 @@ module _ (m : PiecesPart) (edition : Text) (n : ℕ) (numbered : IsNumbered m ed
             (λ z high stands. ap is_some (sym (past_first e es (piece edition z) (λ s. not_lower i z high (ap (λ (k : PieceKey). k.number) (s ∙ key))))) ∙ all z (looser i z high) stands),
       )
     where
-      same_is : (i : ℕ) → pos i ≤ℤ pos i
-      same_is i = omega (arith, ints)
-
       differ : (i : ℕ) (k : ℤ) → pos i <ℤ k → k ≡ pos i → ⊥
       differ i k h e = omega (arith, ints)
 

@@ -2,6 +2,7 @@
 use Rattle.std.proofs.Common.{◌≡◌, ℤ, pos, ◌+ℤ◌, ◌*ℤ◌, ◌<ℤ◌, ◌≤ℤ◌, Bool, true, false, not, ◌&&◌, ◌||◌, Option, Some}
 use Rattle.std.proofs.Common.{None, int_lt, refl, sym, ap, ◌∙◌, ◌⊎◌, inl, inr, is_some, arith, ◌↔◌}
 use Rattle.std.proofs.lemmas.Int.{ints}
+use Rattle.std.proofs.lemmas.Bool.{and_from}
 use Rattle.std.specs.FinMap.{FinMap, get, contains_key, insert}
 use Rattle.mm_definitions.specs.Keys.{Text, same_number, level, level_cmp}
 use Rattle.mm_definitions.specs.Parts.{Has}
@@ -14,7 +15,6 @@ use Rattle.mm_definitions.proofs.Parts.{at_put, kept_by_new, same_some, true_or_
 use Rattle.mm_definitions.proofs.KeyLaws.{levels, numbers}
 use Rattle.mm_laws.proofs.KindFacts.{are_same, both_true, has_kind_tells}
 use Rattle.mm_laws.proofs.PixelSizes.{SuitsAll, below as is_lower, is_below, finer_above, still_finer, still_halved}
-use Rattle.mm_laws.proofs.Reasons.{both_hold}
 use Rattle.mm_laws.proofs.PieceReasons.{same_as}
 
 either_way : (a b c : Bool) → (a ≡ true → b ≡ true → c ≡ true) → (not (a && b) || c) ≡ true
@@ -30,10 +30,10 @@ unless false b f = refl
 pub above_holds : (halved : Bool) (low high : ℤ) (g h : Grid) → IsFiner g h → (halved ≡ true → high ≡ low +ℤ pos 1 → IsHalved g h)
     → suits_above halved low g high h ≡ true
 above_holds halved low high g h finer half =
-    both_hold (is_finer g h) _ (both_hold _ _ (is_below _ _ finer.across) (is_below _ _ finer.down))
+    and_from (is_finer g h) _ (and_from _ _ (is_below _ _ finer.across) (is_below _ _ finer.down))
     (either_way halved (same_number high (low +ℤ pos 1)) (is_double g h) (λ two next.
     let d = half two (are_same numbers high (low +ℤ pos 1) next) in
-    both_hold _ _ (same_as g.pixel_x_size (pos 2 *ℤ h.pixel_x_size) d.across) (same_as g.pixel_y_size (pos 2 *ℤ h.pixel_y_size) d.down)))
+    and_from _ _ (same_as g.pixel_x_size (pos 2 *ℤ h.pixel_x_size) d.across) (same_as g.pixel_y_size (pos 2 *ℤ h.pixel_y_size) d.down)))
 
 smaller_still : (a b c : ℤ) → b <ℤ a → c <ℤ b → c <ℤ a
 smaller_still a b c f g = omega (arith, ints)
@@ -82,7 +82,7 @@ module _ (matrices : FinMap level_cmp Grid) (table : Text) (zoom : ℤ) (g : Gri
       → neighbours below zoom g above halved ≡ true → SuitsAll matrices table zoom g halved
   suits_all below above low high t other h e =
       let p = both_true (suits_below halved below zoom g) (suits_over halved zoom g above) t in
-      both_hold _ _
+      and_from _ _
       (unless (int_lt zoom other) _ (λ up. over_all above high p.1 other h e (is_lower zoom other up)))
       (unless (int_lt other zoom) _ (λ down. under_all below low p.0 other h e (is_lower other zoom down)))
 
@@ -115,5 +115,5 @@ pub nearest : (kinds : Kinds) (matrices : FinMap level_cmp Grid) (table : Text) 
 nearest kinds matrices table zoom g below above finer half new low high = (
   λ t. let all = suits_all matrices table zoom g (has_kind kinds table Two) finer below above low high t in
       (still_finer matrices table zoom g (has_kind kinds table Two) all finer, still_halved kinds matrices table zoom g all half),
-  λ both. both_hold _ _ (under_holds kinds matrices table zoom g new both.0 both.1 below low) (over_holds kinds matrices table zoom g new both.0 both.1 above high),
+  λ both. and_from _ _ (under_holds kinds matrices table zoom g new both.0 both.1 below low) (over_holds kinds matrices table zoom g new both.0 both.1 above high),
 )

@@ -2,6 +2,7 @@
 use Rattle.std.proofs.Common.{◌≡◌, ℕ, Bool, true, false, not, ◌&&◌, ◌==◌, cond, min, [], ◌∷◌, ◌++◌, Option, Some}
 use Rattle.std.proofs.Common.{None, Result, Ok, Err, is_err, is_some, if◌then◌else◌, refl, sym, ap, subst, ◌∙◌, ◌⊎◌}
 use Rattle.std.proofs.Common.{inl, inr, arith}
+use Rattle.std.proofs.Math.Bool.{and-false}
 use Rattle.mm_definitions.proofs.Parts.{same_some}
 use Rattle.mm_definitions.specs.Package.{Package}
 use Rattle.mm_definitions.specs.Conditions.{Reasons, least, smaller, own_reasons}
@@ -81,10 +82,7 @@ last_holds rs false n all e same =
     absurd (let f : false ≡ true = sym (ap not same) ∙ other in cc)
 
 named : (b : Bool) (v : Result Package PieceRefusal) → (b && is_err v) ≡ true → is_some (refused_piece v) ≡ true
-named b (Ok q) e = absurd (let f : false ≡ true = sym (and_no b) ∙ e in cc) where
-  and_no : (b : Bool) → (b && false) ≡ false
-  and_no true = refl
-  and_no false = refl
+named b (Ok q) e = absurd (let f : false ≡ true = sym (and-false b) ∙ e in cc)
 named b (Err r) e = refl
 
 if_so : (t : Bool) (piece : Option PieceRefusal) → (t ≡ true → is_some piece ≡ true) → is_some (if t then piece else None) ≡ t

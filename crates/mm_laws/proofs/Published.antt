@@ -1,6 +1,7 @@
 -- Publishing keeps the rules.
 use Rattle.std.proofs.Common.{◌≡◌, ℕ, ℤ, Bool, true, if◌then◌else◌, List, [], ◌∷◌, Option, Some, None}
 use Rattle.std.proofs.Common.{Result, Ok, Err, refl, sym, ap, subst, ◌∙◌, ◌⊎◌, inl, inr, ◌≤◌, unsigned_abs}
+use Rattle.std.proofs.lemmas.Bool.{and_from}
 use Rattle.std.specs.List.{AllByRecursion}
 use Rattle.std.specs.FinMap.{retain_keys}
 use Rattle.mm_definitions.specs.Keys.{Text, same_text, same_number, PieceKey}
@@ -27,7 +28,6 @@ use Rattle.mm_laws.proofs.Contents as contents
 use Rattle.mm_laws.proofs.Dropped.{other_tells}
 use Rattle.mm_laws.proofs.Relations.{numbered_still}
 use Rattle.mm_laws.proofs.OnePart.{with_editions}
-use Rattle.mm_laws.proofs.Reasons.{both_hold}
 
 pub piece_keeps : (q : Piece) → PieceKeeps q
 piece_keeps (pieces.Tile table zoom column row bytes) = contents.tile_put table zoom column row bytes
@@ -45,8 +45,8 @@ pub row_itself : (r : PieceRow) → same_piece r r ≡ true
 row_itself r =
     let text : (t : Text) → same_text t t ≡ true = λ t. same_itself texts t in
     let number : (z : ℤ) → same_number z z ≡ true = λ z. same_itself numbers z in
-    both_hold _ _ (both_hold _ _ (both_hold _ _ (both_hold _ _ (both_hold _ _
-    (both_hold _ _ (both_hold _ _ (both_hold _ _ (both_hold _ _ (both_hold _ _ (both_hold _ _ (text r.kind) (text r.name)) (number r.k1)) (number r.k2)) (number r.k3)) (number r.k4)) (number r.k5)) (number r.k6)) (number r.k7)) (text r.t1)) (text r.t2)) (text r.bytes)
+    and_from _ _ (and_from _ _ (and_from _ _ (and_from _ _ (and_from _ _
+    (and_from _ _ (and_from _ _ (and_from _ _ (and_from _ _ (and_from _ _ (and_from _ _ (text r.kind) (text r.name)) (number r.k1)) (number r.k2)) (number r.k3)) (number r.k4)) (number r.k5)) (number r.k6)) (number r.k7)) (text r.t1)) (text r.t2)) (text r.bytes)
 
 pub by_kind : (q : Piece) → piece_by_kind (piece_row q) ≡ Some q
 by_kind (pieces.Tile table zoom column row bytes) = refl

@@ -1,9 +1,8 @@
 -- Relations and editions that are put or removed keep the rules.
-use Rattle.std.proofs.Common.{◌≡◌, ◌≢◌, ℕ, ◌≤◌, ℤ, pos, ◌≤ℤ◌, Bool, true, false, not, ◌&&◌, ◌||◌, [], Option, Some}
-use Rattle.std.proofs.Common.{None, codes, refl, sym, ap, subst, ◌∙◌, ◌⊎◌, inl, inr, is_some, arith, zero-le}
-use Rattle.std.proofs.lemmas.Int.{ints}
+use Rattle.std.proofs.Common.{◌≡◌, ◌≢◌, ℕ, ◌≤◌, ℤ, Bool, true, false, not, ◌&&◌, ◌||◌, [], Option, Some}
+use Rattle.std.proofs.Common.{None, codes, refl, sym, ap, subst, ◌∙◌, ◌⊎◌, inl, inr, is_some, zero-le}
 use Rattle.std.specs.FinMap.{get, contains_key, insert, remove, retain_keys}
-use Rattle.std.proofs.lemmas.Bool.{not-false}
+use Rattle.std.proofs.lemmas.Bool.{and_from, not-false}
 use Rattle.mm_definitions.specs.Keys.{Text, Pairing, PieceKey, piece, Extension}
 use Rattle.mm_definitions.specs.Parts.{Each, Has, Stands}
 use Rattle.mm_definitions.specs.Package.{Package, Kinds, RelationsPart, HasKind, has_kind, Relation}
@@ -28,6 +27,7 @@ use Rattle.mm_laws.proofs.Reasons.{none_holds, stands_where}
 use Rattle.mm_laws.proofs.KindFacts.{differ, both_true, either_true, has_kind_tells}
 use Rattle.mm_laws.proofs.Tables.{put_once}
 use Rattle.mm_laws.proofs.OnePart.{with_editions, with_relations}
+use Rattle.mm_laws.proofs.Counted.{no_number}
 use Rattle.mm_laws.proofs.Dropped.{other_tells, other_holds}
 
 name_of : Option Text → Text
@@ -79,7 +79,7 @@ relation_put mapping base related name profile p moment stamp h within low is no
     let kinds_suit = both_true (is_plain p base) (has_kind p.kinds related (related_kind name))
     (stands_where (contains_key p.contents base && contains_key p.contents related)
     (is_plain p base && has_kind p.kinds related (related_kind name)) r.1.1.0
-    (both (contains_key p.contents base) (contains_key p.contents related) base_there related_there)) in
+    (and_from (contains_key p.contents base) (contains_key p.contents related) base_there related_there)) in
     let relation : Relation = record {
       base = base;
       related = related;
@@ -127,10 +127,6 @@ relation_put mapping base related name profile p moment stamp h within low is no
     }))
     h.q16.pairings
   where
-    both : (a b : Bool) → a ≡ true → b ≡ true → (a && b) ≡ true
-    both true b e f = f
-    both false b e f = e
-
     joins_still : (p : Package) (next : RelationsPart) → ((m : Text) (s : Relation) → Has p.relations m s → Has next m s)
         → (v : Option Relation) (k : Pairing) → get p.relations k.mapping ≡ v → Joins p.rows p.media v k → Joins p.rows p.media (get next k.mapping) k
     joins_still p next still None k e j = absurd j
@@ -214,7 +210,7 @@ edition_put name profile p moment stamp h within low is none =
               λ number. (
                 λ there. absurd
                     (no_pieces p name free h.q15.of_open number (subst (λ t. Stands p.pieces (piece t number)) s.0 there)),
-                λ range. absurd (nothing_between number range.0 range.1),
+                λ range. absurd (no_number number range.0 range.1),
               ),
             )
             | inr n ↦ h.q15.numbered e n.1
@@ -232,9 +228,6 @@ edition_put name profile p moment stamp h within low is none =
         → Stands p.pieces (piece name number) → ⊥
     no_pieces p name free opened number there = let r = some_of (get p.pieces (piece name number)) there in not_none
         (opened (piece name number) r.0 r.1) free
-
-    nothing_between : (n : ℤ) → pos 1 ≤ℤ n → n ≤ℤ pos 0 → ⊥
-    nothing_between n a b = omega (arith, ints)
 
 -- another edition's pieces are numbered as before
 pub numbered_still : (p : Package) (name edition : Text) (n : ℕ) → edition ≢ name → IsNumbered p.pieces edition n

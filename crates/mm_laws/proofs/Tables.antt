@@ -237,7 +237,7 @@ module _ (profile : Profile) (p : Package) (h : Meets profile p) (table : Text) 
   }
 
 -- ---- a pyramid
-less : (a b : ℤ) → int_le b a ≡ false → a <ℤ b
+pub less : (a b : ℤ) → int_le b a ≡ false → a <ℤ b
 less a b e = grind (arith, ints)
 
 not_number : (a b : ℤ) → same_number a b ≡ false → a ≢ b

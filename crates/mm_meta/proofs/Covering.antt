@@ -2,7 +2,7 @@
 use Rattle.std.proofs.Common.{◌≡◌, ◌↔◌, ℤ, Bool, true, false, ◌&&◌, List, [], ◌∷◌, subst, Option, Some, None, option_map, refl, sym, ap, ◌∙◌}
 use Rattle.std.specs.Prelude.{◌-ℤ◌, ◌*ℤ◌, IsTrue}
 use Rattle.std.specs.FinMap.{FinMap, get}
-use Rattle.std.proofs.lemmas.Bool.{false_from_ne_true}
+use Rattle.std.proofs.lemmas.Bool.{and_from, false_from_ne_true}
 use Rattle.sqlite.specs.declared.types.Value.TheVariants.{Int, Text as Words}
 use Rattle.sqlite.specs.Order.{Row, column}
 use Rattle.sqlite.specs.Term.{Term, col}
@@ -17,7 +17,6 @@ use Rattle.mm_definitions.specs.Rules.{Fits}
 use Rattle.mm_definitions.proofs.Parts.{same_itself, same_some}
 use Rattle.mm_definitions.proofs.KeyLaws.{numbers}
 use Rattle.mm_laws.proofs.KindFacts.{are_same, both_true}
-use Rattle.mm_laws.proofs.Reasons.{both_hold}
 use Rattle.mm_laws.proofs.PieceReasons.{same_as}
 use Rattle.mm_laws.proofs.Matrices.{product_tells}
 use Rattle.mm_store.specs.Rows.{past_rowid, set_row}
@@ -28,7 +27,7 @@ use Rattle.mm_meta.specs.Shown.{GivesExtent}
 
 fits_product : (b : Box) (g : Grid) → Fits b g → is_product b g ≡ true
 fits_product b g fits =
-    both_hold _ _ (same_as (b.max_x -ℤ b.min_x) ((g.matrix_width *ℤ g.tile_width) *ℤ g.pixel_x_size) fits.across) (same_as (b.max_y -ℤ b.min_y) ((g.matrix_height *ℤ g.tile_height) *ℤ g.pixel_y_size) fits.down)
+    and_from _ _ (same_as (b.max_x -ℤ b.min_x) ((g.matrix_width *ℤ g.tile_width) *ℤ g.pixel_x_size) fits.across) (same_as (b.max_y -ℤ b.min_y) ((g.matrix_height *ℤ g.tile_height) *ℤ g.pixel_y_size) fits.down)
 
 -- what is told as fitting is the test
 pub fits_is : (b : Box) (g : Grid) (told : Bool) → IsTrue told ↔ Fits b g → told ≡ is_product b g

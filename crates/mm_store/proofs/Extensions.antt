@@ -55,11 +55,8 @@ maybe_back None = refl
 maybe_back (Some t) = refl
 
 no_count : (n : ℕ) → None ≡ as_count n → n ≡ 0
-no_count n h = go n h
-  where
-    go : (n : ℕ) → None ≡ as_count n → n ≡ 0
-    go zero h = refl
-    go (suc n) h = absurd (let f : ◌≡◌ {A = Option ℕ} None (Some (suc n)) = h in cc)
+no_count zero h = refl
+no_count (suc n) h = absurd (let f : ◌≡◌ {A = Option ℕ} None (Some (suc n)) = h in cc)
 
 module _ (rows : List Row) (m : FinMap extension_cmp ℕ) (h : Counts rows m) (z : Extension) (free : get m z ≡ None) (id : ℤ) (fresh : is_taken rows (Int id ∷ extension_row z) ≡ false) where
   abbrev new : Row

@@ -29,6 +29,10 @@ fault-fails before failed (answers.Refused why) ended fails = tt
 fault-fails true failed (answers.Fault f) ended fails = ended refl
 fault-fails false failed (answers.Fault f) ended fails = fails refl
 
+-- a refusal that names no piece is its number
+pub whole : (why : Refusal) → why.piece ≡ None → why ≡ plain why.number
+whole why none = ap (λ o. let r : Refusal = record { number = why.number; piece = o } in r) none
+
 module _ {D : Type 0} (fields : Record) (p : Package) (moment : ℕ) (before : Bool) (shows : Shown D) where
   -- a command was applied
   pub answered_command : (c : Command) (a : Answer) → IsReadAs fields (Ok c) → IsMoment moment → Meets current p → OnFault a (λ _. shows.failed ≡ true)
@@ -43,9 +47,6 @@ module _ {D : Type 0} (fields : Record) (p : Package) (moment : ℕ) (before : B
   pub answered_refusal : (why : Refusal) → why.piece ≡ None → IsReadAs fields (Err why.number) → IsSound shows.settled p
       → IsAnswered fields p moment before (answers.Refused why) shows
   answered_refusal why none read sound = (Err why.number, read, ap answers.Refused (whole why none), sound)
-    where
-      whole : (why : Refusal) → why.piece ≡ None → why ≡ plain why.number
-      whole why none = ap (λ o. let r : Refusal = record { number = why.number; piece = o } in r) none
 
   -- the same, as it was read
   pub answered_unread : (fault : ReadFault) → IsCommandRead fields (Err fault) → shows.failed ≡ before → IsSound shows.settled p

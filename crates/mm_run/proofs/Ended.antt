@@ -23,6 +23,7 @@ use Rattle.mm_run.specs.Applied.{IsAnswer, OnFault}
 use Rattle.mm_run.specs.Told.{AreTold, AreCounted, Goes, HasLine, IsStoppedText, Stops}
 use Rattle.mm_run.specs.Runs.{IsStopped}
 use Rattle.mm_run.specs.Ended.{AreAllRefused, ended_answer, AreRefused, AreRefusedSoFar, IsEndedAt, IsEndedRun, IsEndedTurn, IsReadNext, RanEnded, SpellsNext, refusals}
+use Rattle.mm_run.proofs.Answered.{whole}
 use Rattle.mm_run.proofs.Loops.{stopped-fault, stopped-with, told-more}
 use Rattle.mm_definitions.specs.Streams.{Written, written_as}
 
@@ -209,9 +210,6 @@ pub ended_turn : {T : Type 0} (remaining : T → Option (List ℕ)) (a b : Reade
     → IsEndedTurn remaining a b (Some x)
 ended_turn remaining a b fields (Ok command) x record_read is e = rw e (λ told. (fields, record_read, command, is))
 ended_turn remaining a b fields (Err (faults.Refused why)) x record_read is e = rw e (fields, record_read, (why.number, whole why is.0, is.1))
-  where
-    whole : (why : Refusal) → why.piece ≡ None → why ≡ plain why.number
-    whole why none = ap (λ o. let r : Refusal = record { number = why.number; piece = o } in r) none
 ended_turn remaining a b fields (Err faults.Memory) x record_read is e = rw e (λ told. absurd (omega arith))
 
 -- a fault of reading is not 92

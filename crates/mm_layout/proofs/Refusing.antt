@@ -11,6 +11,7 @@ use Rattle.mm_definitions.specs.declared.commands.Step.{Step}
 use Rattle.mm_definitions.specs.declared.commands.Command.TheVariants as commands
 use Rattle.mm_definitions.proofs.Parts.{either_false}
 use Rattle.mm_laws.proofs.Reasons.{none_holds}
+use Rattle.mm_laws.proofs.Tables.{less}
 use Rattle.mm_definitions.proofs.FirstReason.{first_of}
 
 -- ---- table
@@ -40,9 +41,6 @@ module _ (p : Package) (table identifier : Text) (kind : PlainKind) where
 low : (a b : ℤ) → a <ℤ b → int_le b a ≡ false
 low a b h = grind (arith, ints)
 
-high : (a b : ℤ) → int_le b a ≡ false → a <ℤ b
-high a b e = grind (arith, ints)
-
 neither : (a b : Bool) → a ≡ false → b ≡ false → (a || b) ≡ false
 neither true b e f = e
 neither false b e f = f
@@ -61,7 +59,7 @@ module _ (min_x max_x min_y max_y : ℤ) (extent : Option Box) where
 
   pub empty_between : IsSome extent ↔ (min_x <ℤ max_x) × (min_y <ℤ max_y) → extent ≡ None → (int_le max_x min_x || int_le max_y min_y) ≡ true
   empty_between within is =
-      either (int_le max_x min_x) (int_le max_y min_y) (λ p. let none : false ≡ true = subst IsSome is (within.1 (high min_x max_x p.0, high min_y max_y p.1)) in cc)
+      either (int_le max_x min_x) (int_le max_y min_y) (λ p. let none : false ≡ true = subst IsSome is (within.1 (less min_x max_x p.0, less min_y max_y p.1)) in cc)
 
 module _ (p : Package) (table identifier : Text) (srs min_x min_y max_x max_y : ℤ) (step : Step) where
   abbrev of_pyramid : Bool → Bool → Bool → Bool → Bool → Option ℕ

@@ -1,5 +1,5 @@
 -- How one attempt follows another, and what is one. Each lemma speaks of words.
-use Rattle.std.proofs.Common.{◌≡◌, Result, Ok, Err, IfOk, IfErr, inr, refl, ◌∙◌, arith}
+use Rattle.std.proofs.Common.{◌≡◌, Result, Ok, Err, inr, refl, ◌∙◌, arith}
 use Rattle.std.specs.Prelude.{⊤, IsErrAnd, IsTrue}
 use Rattle.sqlite.specs.Held.{state}
 use Rattle.sqlite.specs.Store.{Ghosts}
@@ -8,14 +8,11 @@ use Rattle.mm_definitions.specs.Bounds.{Profile}
 use Rattle.mm_definitions.specs.Package.{Package}
 use Rattle.mm_definitions.specs.declared.answers.Fault.{Fault}
 use Rattle.mm_store.specs.Stands.{Ground, StandsInside}
-use Rattle.mm_definitions.specs.Faults.{store, IsStoreFault}
+use Rattle.mm_definitions.specs.Faults.{store}
 use Rattle.mm_store.specs.Handed.{Goes}
+use Rattle.mm_store.proofs.Going.{told}
 use Rattle.mm_store.proofs.Quiet.{quiet_then}
 use Rattle.mm_edition.specs.Turns.{Known, Said, Attempts}
-
-told : {T : Type 0} (A : T → Type 0) (r : Result T Fault) (e : Fault) → IsErrAnd r (λ f. f ≡ e) → IsStoreFault e → IfOk r A × IfErr r IsStoreFault
-told A (Ok y) e h k = absurd h
-told A (Err f) e h k = (tt, rw h k)
 
 module _ {S : Type 0} {g : Ghosts S} where
   pub attempts : {T : Type 0} {a b : Transaction S} {When : Known} {one : Package → T → Package} {Says : Profile → Package → T → Type 0} {r : Result T Fault}

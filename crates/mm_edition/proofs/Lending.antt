@@ -1,5 +1,5 @@
 -- What is lent for each bytes that a piece may have. Each lemma speaks of words.
-use Rattle.std.proofs.Common.{◌≡◌, Result, Ok, Err, IfOk, sym, subst, ◌∙◌, arith}
+use Rattle.std.proofs.Common.{◌≡◌, Result, Ok, sym, subst, ◌∙◌, arith}
 use Rattle.sqlite.specs.Held.{state}
 use Rattle.sqlite.specs.Store.{Ghosts}
 use Rattle.sqlite.specs.declared.transaction.Transaction.{Transaction}
@@ -11,15 +11,10 @@ use Rattle.mm_definitions.specs.declared.answers.Outcome.{Outcome}
 use Rattle.mm_definitions.specs.declared.commands.Command.{Command}
 use Rattle.mm_store.specs.Handed.{Goes}
 use Rattle.mm_store.specs.Stands.{StandsInside}
-use Rattle.mm_store.proofs.Going.{goes_given}
+use Rattle.mm_store.proofs.Going.{goes_given, parts}
 use Rattle.mm_store.proofs.Quiet.{quiet_then}
 use Rattle.mm_edition.specs.Turns.{Known}
 use Rattle.mm_layout.specs.Handed.{Lends, LendsFor, LendsUnstamped}
-
-answered : {U : Type 0} (A : Type 0) (B C D E : U → Type 0) (r : Result U Fault) → IfOk r (λ y. A × B y × C y)
-    → ((y : U) → C y → (B y → D y) × E y) → IfOk r (λ y. A × D y × E y)
-answered A B C D E (Ok y) h f = let k = f y h.2 in (h.0, k.0 h.1, k.1)
-answered A B C D E (Err e) h f = tt
 
 module _ {S : Type 0} {g : Ghosts S} where
   -- ---- a command for each of what it is done for
@@ -55,7 +50,7 @@ module _ {S : Type 0} {g : Ghosts S} where
         comes = λ clean profile ground p it when.
             let mid = h.comes (omega (arith, (k any).survives.clean)) profile ground p it when in
             let told = tells profile p when mid.2 in
-            answered _ _ _ _ _ r ((k told.0).comes clean profile ground p mid.1 told.1)
+            parts _ _ _ _ _ r ((k told.0).comes clean profile ground p mid.1 told.1)
             (λ y more. let t = told.2 y more in (λ in_it. subst (StandsInside profile (state g c.conn.now) ground) (sym t.0) in_it, t.1));
         faults = (k any).faults;
       }

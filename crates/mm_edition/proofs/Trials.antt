@@ -1,7 +1,8 @@
 -- How far the publishing of an edition has come, piece by piece.
-use Rattle.std.proofs.Common.{◌≡◌, inl, arith, le_refl, ℕ, suc, ◌+◌, pos, unsigned_abs, refl, sym, ap, subst, ◌∙◌}
+use Rattle.std.proofs.Common.{◌≡◌, inl, le_refl, ℕ, suc, ◌+◌, pos, unsigned_abs, refl, sym, ap, subst, ◌∙◌}
 use Rattle.std.proofs.Common.{List, [], ◌∷◌, Option, Some, None, Result, Ok, Err}
 use Rattle.std.specs.Prelude.{⊤, IsErrAnd, IsTrue}
+use Rattle.std.proofs.Math.Numerals.{add-one}
 use Rattle.std.specs.FinMap.{get}
 use Rattle.sqlite.specs.Held.{state}
 use Rattle.sqlite.specs.State.{State}
@@ -49,9 +50,6 @@ piece_apart p (pieces.Map mapping base_id related_id) at = (refl, refl)
 piece_apart p (pieces.MapDrop mapping base_id related_id) at = (refl, refl)
 piece_apart p (pieces.Matrix table zoom m) at = touched_apart _ table at (get p.contents table)
 
-one_after : (n : ℕ) → suc n ≡ n + 1
-one_after n = omega arith
-
 -- a piece that stands in a package of the rules is within the limits
 stands_within : (profile : Profile) (q : Piece) → IsSpelled profile (piece_row q) → IsPieceWithin profile q
 stands_within profile q is = subst (IsPieceWithin profile) (same_some (sym (by_kind is.0) ∙ ap piece_by_kind (sym is.1) ∙ by_kind q)) is.2
@@ -97,7 +95,7 @@ module _ (edition at : Text) (number : ℕ) (profile : Profile) (s : State) (gro
       → TellsTurn edition number on.edited Done
       → IsOn edition at (number + 1) profile s' ground p
   one_more s' moment stamped inside (x, there, none) = subst (λ n. IsOn edition at n profile s' ground p)
-      (one_after number) (by on.rest on.are on.goes_on)
+      (sym (add-one number)) (by on.rest on.are on.goes_on)
     where
       by : (rest : List (PieceKey × PieceRow)) → AreFrom p.pieces edition number rest → trial rest on.edited at ≡ edition_trial p edition at
           → IsOn edition at (suc number) profile s' ground p

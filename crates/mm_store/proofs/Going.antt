@@ -12,11 +12,11 @@ use Rattle.mm_definitions.specs.Faults.{IsStoreFault}
 use Rattle.mm_store.specs.Handed.{Goes, ChangesWhere, Changes}
 use Rattle.mm_store.proofs.Quiet.{quiet_then}
 
-parts : {U : Type 0} (A : Type 0) (B C D E : U → Type 0) (r : Result U Fault) → IfOk r (λ y. A × B y × C y) → ((y : U) → C y → (B y → D y) × E y) → IfOk r (λ y. A × D y × E y)
+pub parts : {U : Type 0} (A : Type 0) (B C D E : U → Type 0) (r : Result U Fault) → IfOk r (λ y. A × B y × C y) → ((y : U) → C y → (B y → D y) × E y) → IfOk r (λ y. A × D y × E y)
 parts A B C D E (Ok y) h f = let k = f y h.2 in (h.0, k.0 h.1, k.1)
 parts A B C D E (Err e) h f = tt
 
-told : {U : Type 0} (A : U → Type 0) (r : Result U Fault) (e : Fault) → IsErrAnd r (λ f. f ≡ e) → IsStoreFault e → IfOk r A × IfErr r IsStoreFault
+pub told : {U : Type 0} (A : U → Type 0) (r : Result U Fault) (e : Fault) → IsErrAnd r (λ f. f ≡ e) → IsStoreFault e → IfOk r A × IfErr r IsStoreFault
 told A (Ok y) e h k = absurd h
 told A (Err f) e h k = (tt, subst IsStoreFault (sym h) k)
 

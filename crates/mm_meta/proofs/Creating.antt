@@ -8,6 +8,7 @@ use Rattle.sqlite.specs.State.{State, ExecutesIn, Executes, ExecutesInside}
 use Rattle.sql_forms.specs.Compute.{everything}
 use Rattle.sql_forms.specs.Compiled.{Compiled}
 use Rattle.sql_forms.specs.CompileError.{CompileError}
+use Rattle.sql_forms.specs.Tables.{IsBare}
 use Rattle.sql_forms.proofs.Creates.{IsCreate, creates, IsIndexing, indexes}
 use Rattle.mm_definitions.specs.declared.answers.Fault.{Fault}
 use Rattle.mm_store.specs.Stands.{Ground}
@@ -17,9 +18,10 @@ use Rattle.mm_store.specs.Creates.{create_gpkg_spatial_ref_sys}
 use Rattle.mm_store.specs.Tables.{schema}
 use Rattle.mm_meta.specs.Opening.{IsBareAt, IsCreating, MakesNoneAgain}
 
-pub creates_one : (old new : State) (sql : List ℕ) (table : Table) (from to : Schema) → IsCreate from sql table to
+-- a statement that was run, where each run of it makes one schema of the other
+creating_by : (old new : State) (sql : List ℕ) (from to : Schema) → ((count : ℕ) → IsBare from old.now → Executes sql [] old new (Ok count) → IsBare to new.now)
     → (result : Result (Unit {0}) Fault) → IsRun old new sql [] result → IsCreating from old new to result
-creates_one old new sql table from to it result run = record { survives = run.survives; made = λ clean ground bare. go ground bare result (run.ran clean bare.mode); faults = run.faults }
+creating_by old new sql from to makes result run = record { survives = run.survives; made = λ clean ground bare. go ground bare result (run.ran clean bare.mode); faults = run.faults }
   where
     go : (ground : Ground) → IsBareAt from old ground → (r : Result (Unit {0}) Fault)
         → OnOk r ((count : ℕ) × ExecutesInside 0 sql [] old new (Ok count)) → OnOk r (IsTrue new.is_open × IsBareAt to new ground)
@@ -30,27 +32,18 @@ creates_one old new sql table from to it result run = record { survives = run.su
           record {
             mode = ran.1.1.mode;
             back = λ _. let on = bare.back up in (ran.1.1.committed_is ∙ on.0, on.1);
-            bare = λ _. (creates old new from sql table to it ran.0 (bare.bare up) ran.1.0).0;
+            bare = λ _. makes ran.0 (bare.bare up) ran.1.0;
           },
         )
+
+pub creates_one : (old new : State) (sql : List ℕ) (table : Table) (from to : Schema) → IsCreate from sql table to
+    → (result : Result (Unit {0}) Fault) → IsRun old new sql [] result → IsCreating from old new to result
+creates_one old new sql table from to it = creating_by old new sql from to (λ count bare ran. (creates old new from sql table to it count bare ran).0)
 
 pub indexes_one : (old new : State) (sql : List ℕ) (at : ℕ) (table : Table) (index : Index) (from to : Schema) → IsIndexing from sql at table index to
     → to.tables ≡ from.tables → (result : Result (Unit {0}) Fault) → IsRun old new sql [] result
     → IsCreating from old new to result
-indexes_one old new sql at table index from to it same result run = record { survives = run.survives; made = λ clean ground bare. go ground bare result (run.ran clean bare.mode); faults = run.faults }
-  where
-    go : (ground : Ground) → IsBareAt from old ground → (r : Result (Unit {0}) Fault)
-        → OnOk r ((count : ℕ) × ExecutesInside 0 sql [] old new (Ok count)) → OnOk r (IsTrue new.is_open × IsBareAt to new ground)
-    go ground bare (Err e) ran = tt
-    go ground bare (Ok u) ran =
-        let up = ran.1.1.was_open in (
-          ran.1.1.is_open,
-          record {
-            mode = ran.1.1.mode;
-            back = λ _. let on = bare.back up in (ran.1.1.committed_is ∙ on.0, on.1);
-            bare = λ _. (indexes old new from sql at table index to it same ran.0 (bare.bare up) ran.1.0).0;
-          },
-        )
+indexes_one old new sql at table index from to it same = creating_by old new sql from to (λ count bare ran. (indexes old new from sql at table index to it same count bare ran).0)
 
 pub creating_then : {T U : Type 0} (a b c : State) (from mid to : Schema) (t : T) (result : Result U Fault) → IsCreating from a b mid (Ok t)
     → IsCreating mid b c to result → IsCreating from a c to result
@@ -65,7 +58,7 @@ creating_then a b c from mid to t result one two = record {
 abbrev first_text : List ℕ
 first_text = create_gpkg_spatial_ref_sys
 
-abbrev compiles : Result Compiled CompileError → Bool
+abbrev pub compiles : Result Compiled CompileError → Bool
 compiles (Ok c) = true
 compiles (Err e) = false
 

@@ -1,5 +1,5 @@
 -- What the query of the profile's table tells.
-use Rattle.std.proofs.Common.{◌≡◌, ◌≢◌, ◌⊎◌, inl, inr, ℤ, pos, Bool, true, false, true≢false, List, [], ◌∷◌, Option, Some, None, Result, Ok, Err, IsTrue, refl, sym, ap, subst, ◌∙◌, arith}
+use Rattle.std.proofs.Common.{◌≡◌, ◌≢◌, ◌⊎◌, inl, inr, ℤ, pos, true, false, true≢false, List, [], ◌∷◌, Option, Some, None, Result, Ok, Err, IsTrue, refl, sym, ap, subst, ◌∙◌, arith}
 use Rattle.std.specs.Prelude.{if◌then◌else◌, IsSome}
 use Rattle.std.specs.List.Sorted.{IsPermutation}
 use Rattle.std.proofs.lemmas.List.Sorted.{length_permutation}
@@ -31,6 +31,7 @@ use Rattle.mm_definitions.specs.declared.answers.Open.{Open}
 use Rattle.mm_definitions.specs.declared.answers.Open.TheVariants as opens
 use Rattle.mm_store.specs.Stands.{ReadsAs}
 use Rattle.mm_store.specs.Statements.{CommitsNothing}
+use Rattle.mm_meta.proofs.Creating.{compiles}
 use Rattle.mm_meta.proofs.Refusing.{stopped, never_refused}
 use Rattle.mm_store.specs.Made.{no_schema}
 use Rattle.mm_meta.specs.Opening.{IsBlank}
@@ -142,11 +143,7 @@ refused_as_was old new e goes (inr h) =
 
 -- ---- a database that has no table
 
-abbrev is_compiled : Result Compiled CompileError → Bool
-is_compiled (Ok c) = true
-is_compiled (Err e) = false
-
-unread : is_compiled (understood no_schema profile_rows) ≡ false
+unread : compiles (understood no_schema profile_rows) ≡ false
 unfolding understood everything listing_schema
 unread = refl
 
@@ -156,7 +153,7 @@ module _ (old new : State) (it : IsBlank old) where
   none_shown rows h = by_schema (it.schema_is (unchanged old new rows h).0.was_open) h
     where
       by_schema : old.now.schema ≡ no_schema → Shown profile_rows [] old new rows → ⊥
-      by_schema is h = true≢false (sym (ap is_compiled (sym (ap (λ s. understood s profile_rows) is) ∙ h.1.is)) ∙ unread)
+      by_schema is h = true≢false (sym (ap compiles (sym (ap (λ s. understood s profile_rows) is) ∙ h.1.is)) ∙ unread)
 
   none_told : (result : Result (Unit {0}) Open) → AnswersLook old new result → FindsNone old new result
   none_told result (inl h) = absurd (none_shown h.0 h.1)

@@ -1,18 +1,16 @@
 -- What is shown to a path.
-use Rattle.std.proofs.Common.{◌≡◌, ◌∙◌, inl, inr, ℕ, zero, suc, true, ltb, ◌++◌, ◌∷◌, [], Option, Result, IfOk, IfErr, refl, sym, arith, codes}
+use Rattle.std.proofs.Common.{◌≡◌, ◌∙◌, inl, inr, ℕ, ◌++◌, ◌∷◌, [], Option, Result, IfOk, IfErr, refl, sym, arith, codes}
 use Rattle.std.specs.declared.alloc.Global.{Global}
 use Rattle.std.specs.declared.vec.Vec.{Vec}
 use Rattle.std.proofs.lemmas.Result.{IfErr-weaker, IfOk-weaker}
-use Rattle.std.proofs.lemmas.Bool.{and_parts, ltb-true}
 use Rattle.std.proofs.lemmas.Str.{IsAscii-append}
-use Rattle.std.specs.List.{list_all}
 use Rattle.std.specs.Str.{IsAscii}
 use Rattle.mm_definitions.specs.Keys.{Text}
 use Rattle.mm_definitions.specs.Package.{Package}
 use Rattle.mm_definitions.specs.declared.answers.Fault.{Fault}
 use Rattle.mm_page.specs.Promised.{MakesResponse}
 use Rattle.mm_page.specs.Responses.{NotFound, response_of}
-use Rattle.mm_page.proofs.AskFacts.{asks_ascii}
+use Rattle.mm_page.proofs.AskFacts.{ascii_word, asks_ascii}
 use Rattle.mm_page.proofs.NumberFacts.{name_ascii, spelled_ascii}
 use Rattle.mm_page.proofs.ServeFacts.{given}
 use Rattle.mm_reads.specs.declared.viewer.Viewer as viewers
@@ -21,15 +19,10 @@ use Rattle.mm_desk.specs.Replies.{AsksPart, IsReply, ShowsTo}
 
 -- ---- a path that asks for a part is ASCII
 
-word_ascii : (w : Text) → list_all (λ b. ltb b 128) w ≡ true → IsAscii w
-word_ascii [] h i = omega arith
-word_ascii (b ∷ w) h zero = ltb-true b 128 (and_parts (ltb b 128) (list_all (λ b. ltb b 128) w) h).0
-word_ascii (b ∷ w) h (suc i) = word_ascii w (and_parts (ltb b 128) (list_all (λ b. ltb b 128) w) h).1 i
-
 pub part_ascii : (path : Text) → AsksPart path → IsAscii path
 part_ascii path (inl (table, first, (id, is, name, number))) =
-    rw is (IsAscii-append (codes "/rows/") (table ++ 47 ∷ id) (word_ascii (codes "/rows/") refl)
-    (IsAscii-append table (47 ∷ id) (name_ascii table name) (IsAscii-append (47 ∷ []) id (word_ascii (47 ∷ []) refl) (spelled_ascii id first number.0))))
+    rw is (IsAscii-append (codes "/rows/") (table ++ 47 ∷ id) (ascii_word (codes "/rows/") refl)
+    (IsAscii-append table (47 ∷ id) (name_ascii table name) (IsAscii-append (47 ∷ []) id (ascii_word (47 ∷ []) refl) (spelled_ascii id first number.0))))
 part_ascii path (inr (w, routed)) = asks_ascii path w routed
 
 -- ---- the response

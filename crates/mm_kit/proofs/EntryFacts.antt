@@ -1,14 +1,13 @@
 -- The entry of a record, and the least number that is against it.
 use Rattle.mm_definitions.specs.Bounds.{current}
-use Rattle.std.proofs.Common.{◌≡◌, ◌∙◌, ◌⊎◌, inl, inr, ◌<◌, ◌≤◌, ◌-◌, ℕ, ℤ, pos, ◌≤ℤ◌, List, [], ◌∷◌, length, take, drop, Option, Result, Ok, Err, Bool, true, false, refl, sym, ap, subst, arith, length-drop}
+use Rattle.std.proofs.Common.{◌≡◌, ◌∙◌, ◌⊎◌, inl, inr, ◌<◌, ◌≤◌, ℕ, ℤ, pos, ◌≤ℤ◌, List, [], ◌∷◌, length, Option, Result, Ok, Err, Bool, true, false, refl, sym, ap, subst, arith}
 use Rattle.std.specs.Borrow.{Bor}
-use Rattle.std.proofs.lemmas.List.{take_all}
 use Rattle.mm_definitions.specs.Fields.{IsAgainst, Whole}
 use Rattle.mm_definitions.specs.Keys.{Text}
 use Rattle.mm_definitions.specs.Numbers.{SpellsNumber}
 use Rattle.mm_definitions.specs.Records.{SpellsPiece, HoldsAgainstPiece, IsLeast, id_field}
 use Rattle.mm_definitions.specs.declared.commands.Piece.{Piece}
-use Rattle.mm_definitions.proofs.ReadingFacts.{not_against, one_against, one_more, spells_one, texts_of, text_at}
+use Rattle.mm_definitions.proofs.ReadingFacts.{not_against, one_against, spells_one, texts_of, text_at}
 use Rattle.mm_laws.proofs.Spelled.{none_against_piece, piece_number}
 use Rattle.mm_io.specs.Records.{Record}
 use Rattle.std.specs.Prelude.{nat_lt, if◌then◌else◌}
@@ -16,13 +15,9 @@ use Rattle.std.proofs.lemmas.Bool.{ltb-true, ltb-false}
 use Rattle.mm_definitions.specs.Reading.{ReadsTo, refused}
 use Rattle.mm_definitions.specs.declared.answers.ReadFault.{ReadFault}
 use Rattle.mm_definitions.specs.declared.answers.ReadFault.TheVariants as faults
-use Rattle.mm_base.proofs.RecordFacts.{first_and_rest}
+use Rattle.mm_base.proofs.RecordFacts.{first_and_rest, rest_of}
 use Rattle.mm_kit.specs.declared.entries.Entry.{Entry}
 use Rattle.mm_kit.specs.Entries.{HoldsAgainstEntry, IsEntry, IsLeftToAsk, entry_of, file_of, least_fault, without_file}
-
--- the fields behind the first, as a slice pattern gives them
-abbrev pub rest_of : List (Bor Text) → List (Bor Text)
-rest_of xs = take (length xs - 1) (drop 1 xs)
 
 low_number : (word : Text) (n : ℕ) → IsAgainst id_field word n → n ≤ 11
 low_number word n (inl h) = omega (arith, h.0)

@@ -20,6 +20,7 @@ use Rattle.mm_definitions.specs.declared.commands.Command.{Command}
 use Rattle.mm_definitions.specs.declared.commands.Command.TheVariants as commands
 use Rattle.mm_definitions.specs.declared.commands.Piece.{Piece}
 use Rattle.mm_definitions.proofs.Parts.{same_key, at_put, beside_put, same_some}
+use Rattle.mm_definitions.proofs.Dates.{same_pos}
 use Rattle.mm_definitions.proofs.KeyLaws.{piece_keys}
 use Rattle.mm_laws.proofs.Again.{same_row}
 use Rattle.mm_laws.proofs.Counted.{piece_count-is}
@@ -186,10 +187,7 @@ module _ (p : Package) (name : Text) (list : List Piece) (meets : Meets current 
   length_more = length-append list (x ∷ [])
 
   number_is : (i : ℕ) (k : ℕ) → piece name (pos i) ≡ piece name (pos k) → i ≡ k
-  number_is i k e = pos_one i k (ap (λ (c : PieceKey). c.number) e)
-    where
-      pos_one : (i k : ℕ) → pos i ≡ pos k → i ≡ k
-      pos_one i k e = omega (arith, ints, e)
+  number_is i k e = same_pos i k (ap (λ (c : PieceKey). c.number) e)
 
   still_low : (n : ℕ) (z : ℤ) → z ≤ℤ pos n → z ≤ℤ pos (n + 1)
   still_low n z a = omega (arith, ints, a)

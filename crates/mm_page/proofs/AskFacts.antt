@@ -91,7 +91,7 @@ ascii_right (x ∷ a) b h = ascii_right a b (λ j. h (suc j))
 ascii_next : (a b : Text) → IsAscii (a ++ 47 ∷ b) → IsAscii b
 ascii_next a b h = ascii_right (47 ∷ []) b (ascii_right a (47 ∷ b) h)
 
-ascii_word : (w : Text) → list_all (λ b. ltb b 128) w ≡ true → IsAscii w
+pub ascii_word : (w : Text) → list_all (λ b. ltb b 128) w ≡ true → IsAscii w
 ascii_word [] h i = omega arith
 ascii_word (b ∷ w) h zero = ltb-true b 128 (and_parts (ltb b 128) (list_all (λ b. ltb b 128) w) h).0
 ascii_word (b ∷ w) h (suc i) = ascii_word w (and_parts (ltb b 128) (list_all (λ b. ltb b 128) w) h).1 i

@@ -1,6 +1,6 @@
 -- What the bytes of names and numbers are: no slash, and ASCII.
 use Rattle.std.proofs.Common.{nat_abs, ◌≡◌, ◌≢◌, ◌<◌, inl, inr, ℕ, zero, suc, ℤ, pos, negsuc, ◌≤ℤ◌, List, [], ◌∷◌}
-use Rattle.std.proofs.Common.{length, Bool, true, false, ◌==◌, All, IsTrue, not, refl, ap, arith}
+use Rattle.std.proofs.Common.{length, true, false, ◌==◌, All, IsTrue, not, refl, ap, arith}
 use Rattle.std.specs.List.{list_any}
 use Rattle.std.proofs.lemmas.Int.{ints}
 use Rattle.std.proofs.lemmas.List.Elements.{All-head, All-tail}

@@ -5,6 +5,7 @@ use Rattle.std.specs.declared.cmp.Ordering.{Ordering}
 use Rattle.std.specs.declared.cmp.Ordering.TheVariants.{Less, Equal, Greater}
 use Rattle.std.specs.Ordering.{MatchOrdering, is_lt, int_cmp}
 use Rattle.std.specs.Cmp.{int_ranks}
+use Rattle.std.specs.Int.Signed.{≤ℤ_refl}
 use Rattle.std.specs.FinMap.{FinMap, get, contains_key}
 use Rattle.std.proofs.lemmas.Bool.{both_ways}
 use Rattle.sqlite.specs.declared.types.Value.TheVariants.{Int, Text as Words}
@@ -96,9 +97,6 @@ module _ (rows : List Row) (ids : FinMap piece_cmp StagedRow) (m : PiecesPart) (
 
 -- ---- the last piece's number is that of the pieces
 
-itself : (n : ℕ) → pos n ≤ℤ pos n
-itself n = omega (arith, ints)
-
 both_bounds : (a b : ℕ) → pos a ≤ℤ pos b → pos b ≤ℤ pos a → b ≡ a
 both_bounds a b h i = omega (arith, ints)
 
@@ -108,11 +106,11 @@ none_below last h i = omega (arith, ints)
 module _ (m : PiecesPart) (edition : Text) where
   counts : (n last : ℕ) → IsNumbered m edition n → IsLast m edition (Some last) → n ≡ last
   counts zero last numbered is = absurd (none_below last ((numbered (pos last)).0 is.0).0 ((numbered (pos last)).0 is.0).1)
-  counts (suc n) last numbered is = both_bounds last (suc n) ((numbered (pos last)).0 is.0).1 (is.1 (pos (suc n)) ((numbered (pos (suc n))).1 (one_at_least n, itself (suc n))))
+  counts (suc n) last numbered is = both_bounds last (suc n) ((numbered (pos last)).0 is.0).1 (is.1 (pos (suc n)) ((numbered (pos (suc n))).1 (one_at_least n, ≤ℤ_refl (pos (suc n)))))
 
   counts_none : (n : ℕ) → IsNumbered m edition n → IsLast m edition None → n ≡ 0
   counts_none zero numbered is = refl
-  counts_none (suc n) numbered is = absurd (is (pos (suc n)) ((numbered (pos (suc n))).1 (one_at_least n, itself (suc n))))
+  counts_none (suc n) numbered is = absurd (is (pos (suc n)) ((numbered (pos (suc n))).1 (one_at_least n, ≤ℤ_refl (pos (suc n)))))
 
 module _ (profile : Profile) (p : Package) (edition : Text) (meets : Meets profile p) (open_is : get p.editions edition ≡ Some open_state) where
   pub count_is : (last : ℕ) → IsLast p.pieces edition (Some last) → piece_count p edition ≡ last

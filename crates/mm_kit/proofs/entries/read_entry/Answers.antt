@@ -1,5 +1,6 @@
 use Rattle.std.proofs.Common.{◌≡◌, rules}
-use Rattle.mm_kit.proofs.EntryFacts.{entry_whole, rest_of}
+use Rattle.mm_base.proofs.RecordFacts.{rest_of}
+use Rattle.mm_kit.proofs.EntryFacts.{entry_whole}
 use Rattle.mm_kit.proofs.entries.read_entry.Goals as goal
 
 pub returns : goal.returns

@@ -1,16 +1,15 @@
 -- What the queries of the form show.
-use Rattle.std.proofs.Common.{◌≡◌, ◌↔◌, ◌⊎◌, inl, inr, ℕ, suc, ℤ, pos, Bool, true, false, cond, not, ◌&&◌, ◌||◌, ◌++◌}
+use Rattle.std.proofs.Common.{◌≡◌, ◌↔◌, ◌⊎◌, inl, inr, ℕ, suc, ℤ, pos, Bool, true, false, not, ◌&&◌, ◌||◌}
 use Rattle.std.proofs.Common.{List, [], ◌∷◌, length, filter, if◌then◌else◌, Some, refl, sym, ap, subst, ◌∙◌, arith}
 use Rattle.std.specs.Prelude.{◌<ℤ◌, min}
 use Rattle.std.specs.declared.cmp.Ordering.{Ordering}
 use Rattle.std.specs.declared.cmp.Ordering.TheVariants.{Less, Equal, Greater}
 use Rattle.std.specs.Ordering.{int_cmp}
-use Rattle.std.specs.List.{AllByRecursion, list_any, list_all, flat_map}
+use Rattle.std.specs.List.{AllByRecursion, list_any, list_all}
 use Rattle.std.specs.FinMap.{get}
 use Rattle.std.proofs.lemmas.Bool.{cases_Bool, and_parts, and_from}
 use Rattle.std.proofs.lemmas.Cmp.{int_ranked}
 use Rattle.std.proofs.lemmas.Int.{ints}
-use Rattle.std.proofs.lemmas.List.{length-map}
 use Rattle.sqlite.specs.Ops.{binary, is_true}
 use Rattle.sql_forms.specs.Ops.{unary}
 use Rattle.sqlite.specs.declared.types.Value.{Value}
@@ -18,7 +17,7 @@ use Rattle.sqlite.specs.declared.types.Value.TheVariants.{Int, Text as Words, Bl
 use Rattle.sql_forms.specs.Collation.TheVariants.{Binary}
 use Rattle.sql_forms.specs.BinaryOp.TheVariants.{Compare}
 use Rattle.sql_forms.specs.CompareOp.TheVariants.{Lt}
-use Rattle.sqlite.specs.Order.{Row, column}
+use Rattle.sqlite.specs.Order.{Row}
 use Rattle.sqlite.specs.Term.{Env, col, holds}
 use Rattle.sqlite.specs.Query.{inner, end, matches}
 use Rattle.sqlite.specs.Program.{overlay}
@@ -27,7 +26,7 @@ use Rattle.sqlite.specs.Tree.{Trees}
 use Rattle.sql_forms.specs.Compute.{everything}
 use Rattle.sql_forms.specs.Rules.{equal}
 use Rattle.sql_forms.proofs.Keys.{columns_are}
-use Rattle.sql_forms.proofs.Lists.{flat_filtered}
+use Rattle.sql_forms.proofs.Lists.{flat_counted}
 use Rattle.mm_definitions.proofs.KeyLaws.{texts}
 use Rattle.mm_store.specs.Rows.{tile_row, medium_row, staged_row}
 use Rattle.mm_store.specs.Blobs.{Blob, blob_row, digest_of}
@@ -71,9 +70,6 @@ apart db kept h =
     (λ i b x. each_row as_whole blob_row (db.trees 27) kept.shelf here _ _ (λ j c y. on_true _ ((c.digest ≡ b.digest) × (i <ℤ j) × (c.bytes ≡ b.bytes)) ⊥ (equal_is i j b c)))
 
 -- ---- those that nothing names
-
-passed : (p : Row → Bool) (f : Row → Env) (rows : List Row) → length (flat_map (λ s. cond (p s) (f s ∷ []) []) rows) ≡ length (filter p rows)
-passed p f rows = ap length (flat_filtered p f rows) ∙ length-map (filter p rows) f
 
 -- what EXISTS shows
 abbrev exists_value : Bool → Value
@@ -140,10 +136,10 @@ module _ (db : Database) (kept : Kept) (h : KeepsAs db kept) (id : ℤ) (b : Blo
 
   all_counted : matches trees no_names by_tiles ([] ∷ row ∷ []) ≡ (if not (in_tiles || (in_media || in_pieces)) then last_env (exists_value in_pieces) ∷ [] else [])
   all_counted =
-      ap (λ n. after_tiles (Int (pos (min 1 n)))) (passed (at_id 5 id) (λ s. [] ∷ row ∷ s ∷ []) (db.trees 15)) ∙ ap after_tiles (counted_is (at_id 5 id) (db.trees 15))
-      ∙ ap (λ n. after_media (Int (pos (min 1 n)))) (passed (at_id 3 id) (λ s. [] ∷ row ∷ (exists_value in_tiles ∷ []) ∷ s ∷ []) (db.trees 19)) ∙ ap after_media (counted_is (at_id 3 id) (db.trees 19))
+      ap (λ n. after_tiles (Int (pos (min 1 n)))) (flat_counted (at_id 5 id) (λ s. [] ∷ row ∷ s ∷ []) (db.trees 15)) ∙ ap after_tiles (counted_is (at_id 5 id) (db.trees 15))
+      ∙ ap (λ n. after_media (Int (pos (min 1 n)))) (flat_counted (at_id 3 id) (λ s. [] ∷ row ∷ (exists_value in_tiles ∷ []) ∷ s ∷ []) (db.trees 19)) ∙ ap after_media (counted_is (at_id 3 id) (db.trees 19))
       ∙ ap (λ n. after_pieces (Int (pos (min 1 n))))
-      (passed (at_id 14 id) (λ s. [] ∷ row ∷ (exists_value in_tiles ∷ []) ∷ (exists_value in_media ∷ []) ∷ s
+      (flat_counted (at_id 14 id) (λ s. [] ∷ row ∷ (exists_value in_tiles ∷ []) ∷ (exists_value in_media ∷ []) ∷ s
       ∷ []) (db.trees 25)) ∙ ap after_pieces (counted_is (at_id 14 id) (db.trees 25))
       ∙ ap (λ t. if t then last_env (exists_value in_pieces) ∷ [] else []) (shown_where row in_tiles in_media in_pieces)
 

@@ -14,6 +14,10 @@ pub and_parts : (a b : Bool) → T (a && b) → T a × T b
 and_parts true b h = (tt, h)
 and_parts false b h = absurd h
 
+pub and_both : (a b : Bool) → T a → T b → T (a && b)
+and_both true b p q = q
+and_both false b p q = p
+
 not_tied : (r : Ordering) → T (is_lt r) → is_eq r ≡ false
 not_tied Less h = refl
 not_tied Equal h = absurd h

@@ -1,5 +1,5 @@
 -- How many rows of a table have a key that is kept.
-use Rattle.std.proofs.Common.{◌≡◌, inl, inr, ℕ, zero, suc, ◌-◌, ◌<◌, Bool, true, false, cond, not, List, [], ◌∷◌, length, filter, Option, Some, None, is_some, refl, sym, ap, subst, ◌∙◌, arith}
+use Rattle.std.proofs.Common.{◌≡◌, inl, inr, ℕ, zero, suc, ◌-◌, Bool, true, cond, not, List, [], ◌∷◌, length, filter, Option, Some, None, is_some, refl, sym, ap, subst, ◌∙◌, arith}
 use Rattle.std.specs.declared.cmp.Ordering.{Ordering}
 use Rattle.std.specs.declared.cmp.Ordering.TheVariants.{Less}
 use Rattle.std.specs.Ordering.{is_eq, eq_by_cmp}
@@ -16,6 +16,7 @@ use Rattle.sql_forms.specs.Tables.{without}
 use Rattle.sql_forms.specs.Maps.{Holds}
 use Rattle.sql_forms.proofs.Lists.{not_not}
 use Rattle.mm_definitions.proofs.Parts.{IsKeyOrder, same_key, same_itself, none_of, true_or_false, at_remove, after_remove, beside_remove, kept, let_go}
+use Rattle.mm_laws.proofs.Counted.{one_more, some_there}
 use Rattle.mm_store.proofs.Parts.{IsPart, retains}
 use Rattle.mm_reads.proofs.Distinct.{never_same}
 
@@ -26,15 +27,6 @@ all_kept P keep (x ∷ xs) all = elim (cases_Bool (keep x)) as (λ _. AllByRecur
 rises_kept : (keep : Row → Bool) (xs : List Row) → IsTable xs → IsTable (filter keep xs)
 rises_kept keep [] up = tt
 rises_kept keep (x ∷ xs) up = elim (cases_Bool (keep x)) as (λ _. IsTable (filter keep (x ∷ xs))) [ inl hit ↦ rw hit (all_kept _ keep xs up.0, rises_kept keep xs up.1) | inr off ↦ rw off (rises_kept keep xs up.1) ]
-
-one_more : (l n : ℕ) → l - 1 ≡ n → 0 < l → suc n ≡ l
-one_more l n e h = omega arith
-
-some_there : {K V : Type 0} {R : K → K → Ordering} (m : FinMap R V) (k : K) → contains_key m k ≡ true → 0 < len m
-some_there {R = R} m k e = by_length (len m) refl where
-  by_length : (l : ℕ) → len m ≡ l → 0 < l
-  by_length zero f = absurd (let g : false ≡ true = sym (ap is_some (ap (λ x. get x k) (empty_of_len m f) ∙ get-empty R k)) ∙ e in cc)
-  by_length (suc l) f = omega arith
 
 -- ---- maps with the same keys
 
@@ -66,7 +58,7 @@ module _ {K V W : Type 0} {R : K → K → Ordering} (o : IsKeyOrder R) where
       let less_b : len b - 1 ≡ len (remove b at.0) = ap (λ t. cond t (len b - 1) (len b)) (sym in_b) ∙ sym (len-remove o.total b at.0) in
       let fewer : len (remove a at.0) ≡ n = omega (arith, less_a, e) in
       let rest = same_len n (remove a at.0) (remove b at.0) fewer (same_keys_removed a b same at.0) in
-      sym (one_more (len a) (len (remove a at.0)) less_a (some_there a at.0 at.1)) ∙ ap suc rest ∙ one_more (len b) (len (remove b at.0)) less_b (some_there b at.0 in_b)
+      one_more (len a) (len (remove a at.0)) less_a (some_there a at.0 at.1) ∙ ap suc rest ∙ sym (one_more (len b) (len (remove b at.0)) less_b (some_there b at.0 in_b))
 
   same_keys_kept : (a : FinMap R V) (b : FinMap R W) → HaveSameKeys a b → (keep : K → Bool) → HaveSameKeys (retain_keys a keep) (retain_keys b keep)
   same_keys_kept a b same keep q = elim (true_or_false (keep q)) [
@@ -107,7 +99,7 @@ module _ {K V : Type 0} {R : K → K → Ordering} {part : Row → Row} {row_of 
       } in
       let there : contains_key m at.0 ≡ true = ap is_some at.2 in
       let fewer : len m - 1 ≡ length xs = ap (λ b. cond b (len m - 1) (len m)) (sym there) ∙ sym (len-remove it.order.total m at.0) ∙ sym (counted xs up.1 (remove m at.0) rest) in
-      one_more (len m) (length xs) fewer (some_there m at.0 there)
+      sym (one_more (len m) (length xs) fewer (some_there m at.0 there))
 
   pub count_is : (rows : List Row) (m : FinMap R V) → Holds part row_of rows m → IsTable rows → (keep : K → Bool) (tells : Row → Bool)
       → ((r : Row) (l : K) (v : V) → part r ≡ row_of l v → tells r ≡ keep l)

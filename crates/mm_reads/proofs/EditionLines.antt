@@ -34,9 +34,10 @@ use Rattle.mm_reads.proofs.Listed.{joins, flat_single, in_order, InOrder}
 use Rattle.mm_reads.specs.Lines.{open_text, published_text}
 use Rattle.mm_reads.specs.Listing.{edition_line, editions}
 use Rattle.mm_reads.specs.ShownLines.{MostCounted, ShowsEdition}
+use Rattle.sql_forms.proofs.Lists.{flat_counted}
 use Rattle.mm_reads.proofs.Counting.{count_is, same_count}
 use Rattle.mm_reads.proofs.Fronts.{ShowsEach, Fronts, fronts}
-use Rattle.mm_reads.proofs.TableLines.{of_name, by_name, uncapped, passed, first_is}
+use Rattle.mm_reads.proofs.TableLines.{of_name, by_name, uncapped, first_is}
 
 abbrev pub editions_text : List ℕ
 editions_text = codes "SELECT e.name, e.state, (SELECT count(*) FROM mm_pieces AS p WHERE p.edition = e.name) FROM mm_editions AS e ORDER BY e.name"
@@ -66,7 +67,7 @@ module _ (version : ℤ) (p : Package) (trees : Trees) (h : Holding version tree
 
   pieces_are : (r : Row) (k state : Text) → past_rowid r ≡ edition_row k state → length (matches db (of_name 2) (inner 25 end) (of_edition r)) ≡ piece_count p k
   pieces_are r k state is =
-      passed (joins r) (λ s. of_edition r ++ s ∷ []) (db 25) ∙ ap (λ rows. length (filter (joins r) rows)) at_25
+      flat_counted (joins r) (λ s. of_edition r ++ s ∷ []) (db 25) ∙ ap (λ rows. length (filter (joins r) rows)) at_25
       ∙ ap (λ v. length (filter (λ s. equal Binary (column s 1) v && true) (trees 25))) (columns_are r (edition_row k state) 0 is)
       ∙ count_is parts.pieces (trees 25) h.kept.pieces h.keeps.pieces (up 25) (λ q. same_text q.edition k) (by_text k) (λ s l v it. first_is k s l.edition _ it)
       ∙ same_count parts.pieces.order h.kept.pieces p.pieces (told_there piece_id piece_with h.kept.shelf h.kept.pieces p.pieces h.keeps.pieces_told) (λ q. same_text q.edition k) ∙ len-entries (retain_keys p.pieces (λ q. same_text q.edition k))

@@ -2,14 +2,13 @@
 use Rattle.std.proofs.Common.{◌≡◌, ℕ, ℤ, Bool, List, [], ◌∷◌, Option, Some, None, option_map, sym, ap, subst, ◌∙◌}
 use Rattle.std.specs.declared.cmp.Ordering.{Ordering}
 use Rattle.std.specs.FinMap.{FinMap, get}
-use Rattle.sqlite.specs.declared.types.Value.TheVariants.{Int, Text as Words}
 use Rattle.sqlite.specs.Order.{Row}
 use Rattle.sqlite.specs.Term.{col}
 use Rattle.sql_forms.specs.Tables.{Finds}
 use Rattle.sql_forms.specs.Maps.{Holds}
 use Rattle.sql_forms.proofs.Keys.{columns_are}
 use Rattle.sql_forms.proofs.Selects.{shows}
-use Rattle.mm_definitions.specs.Keys.{Text, Item, item_cmp}
+use Rattle.mm_definitions.specs.Keys.{Item, item_cmp}
 use Rattle.mm_definitions.specs.Package.{AttributeRow, Medium}
 use Rattle.mm_definitions.specs.declared.entries.Media.{Media}
 use Rattle.mm_definitions.specs.declared.entries.Row.{Row as RowTold}

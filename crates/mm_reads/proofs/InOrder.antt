@@ -1,10 +1,9 @@
 -- The rows of a table in the order of its key are the entries of its part, by rising key.
-use Rattle.std.proofs.Common.{◌≡◌, ◌≢◌, inl, inr, Bool, true, false, cond, ◌&&◌, List, [], ◌∷◌, filter, Option, Some, None, refl, sym, ap, subst, ◌∙◌}
+use Rattle.std.proofs.Common.{◌≡◌, ◌≢◌, inl, inr, Bool, true, false, cond, List, [], ◌∷◌, filter, Option, Some, None, refl, sym, ap, subst, ◌∙◌}
 use Rattle.std.specs.Prelude.{T}
 use Rattle.std.specs.declared.cmp.Ordering.{Ordering}
 use Rattle.std.specs.declared.cmp.Ordering.TheVariants.{Less, Equal, Greater}
 use Rattle.std.specs.Ordering.{is_lt, is_eq, is_gt, ordering_reverse}
-use Rattle.std.specs.Cmp.{tied_itself}
 use Rattle.std.specs.List.{AllByRecursion, IsDistinct}
 use Rattle.std.specs.List.Sorted.{IsPermutation}
 use Rattle.std.specs.FinMap.{FinMap, get, entries, entries_sorted, get-entries, find, is_sorted}
@@ -15,13 +14,13 @@ use Rattle.std.proofs.lemmas.Map.Keys.{IsDistinct-IsPermutation}
 use Rattle.sqlite.specs.Order.{Row}
 use Rattle.sqlite.specs.Tree.{rowid, IsTable}
 use Rattle.sql_forms.specs.Tree.{IsAscending}
-use Rattle.sql_forms.proofs.TreeLists.{all_weaker}
 use Rattle.sql_forms.specs.Order.{value_cmp}
 use Rattle.sql_forms.proofs.OrderLemmas.{value_cmp_total}
 use Rattle.sql_forms.specs.Lists.{Has}
 use Rattle.sql_forms.proofs.ListLemmas.{all_has, all_from}
 use Rattle.sql_forms.specs.Maps.{Holds}
 use Rattle.sql_forms.proofs.Lists.{has_permuted}
+use Rattle.mm_definitions.proofs.Listed.{and_both}
 use Rattle.mm_definitions.proofs.Parts.{same_key, same_itself, not_none}
 use Rattle.mm_store.proofs.Parts.{IsPart}
 use Rattle.mm_reads.proofs.Distinct.{never_same, distinct_rows, has_same_id}
@@ -96,10 +95,6 @@ module _ {K V : Type 0} {R : K → K → Ordering} {part : Row → Row} {row_of 
   entered [] all = []
   entered (x ∷ xs) all = (all.0.0, all.0.1) ∷ entered xs all.1
 
-  both : (a b : Bool) → T a → T b → T (a && b)
-  both true b p q = q
-  both false b p q = p
-
   -- an order of the rows that tells the order of their keys
   module _ (order : Row → Row → Type 0) (tells : (r s : Row) (k l : K) (v w : V) → part r ≡ row_of k v → part s ≡ row_of l w → order r s → is_gt (R k l) ≡ false) where
     less : (r s : Row) → Has rows r → Has rows s → has_same_id r s ≡ false → (a : Enters r) (b : Enters s) → order r s → T (is_lt (R a.0 b.0))
@@ -114,14 +109,14 @@ module _ {K V : Type 0} {R : K → K → Ordering} {part : Row → Row} {row_of 
         → AllByRecursion (order x) xs → AllByRecursion (λ y. has_same_id x y ≡ false) xs → T (below_all R a.0 (entered xs all))
     below x a there [] all within low off = tt
     below x a there (y ∷ xs) all within low off =
-        both _ _ (less x y there (within y (inl refl)) off.0 a all.0 low.0) (below x a there xs all.1 (λ r later. within r (inr later)) low.1 off.1)
+        and_both _ _ (less x y there (within y (inl refl)) off.0 a all.0 low.0) (below x a there xs all.1 (λ r later. within r (inr later)) low.1 off.1)
 
     rises : (xs : List Row) (all : AllByRecursion Enters xs) → ((r : Row) → Has xs r → Has rows r) → IsAscending order xs → IsDistinct has_same_id xs
         → T (is_sorted R (entered xs all))
     unfolding IsDistinct
     rises [] all within low off = tt
     rises (x ∷ xs) all within low off =
-        both _ _ (below x all.0 (within x (inl refl)) xs all.1 (λ r later. within r (inr later)) low.0 off.0) (rises xs all.1 (λ r later. within r (inr later)) low.1 off.1)
+        and_both _ _ (below x all.0 (within x (inl refl)) xs all.1 (λ r later. within r (inr later)) low.0 off.0) (rises xs all.1 (λ r later. within r (inr later)) low.1 off.1)
 
     find_entered : (q : K) (xs : List Row) (all : AllByRecursion Enters xs)
         → ((v : V) → get m q ≡ Some v → (r : Row) × Has xs r × (part r ≡ row_of q v)) → find R q (entered xs all) ≡ get m q

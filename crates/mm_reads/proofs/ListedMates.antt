@@ -1,9 +1,9 @@
 -- The list of an item's mapping rows, from the rows that the query shows.
-use Rattle.std.proofs.Common.{◌≡◌, ◌≢◌, inl, inr, ℤ, Bool, true, false, cond, ◌&&◌, List, [], ◌∷◌, map, Option, Some, None, option_map, refl, sym, ap, subst, ◌∙◌}
+use Rattle.std.proofs.Common.{◌≡◌, ◌≢◌, inl, inr, ℤ, true, false, cond, ◌&&◌, List, [], ◌∷◌, map, Option, Some, None, option_map, refl, sym, ap, subst, ◌∙◌}
 use Rattle.std.specs.Prelude.{T, ⊤}
 use Rattle.std.specs.declared.cmp.Ordering.{Ordering}
 use Rattle.std.specs.declared.cmp.Ordering.TheVariants.{Less, Equal, Greater}
-use Rattle.std.specs.Ordering.{is_lt, is_eq, is_gt, ordering_reverse}
+use Rattle.std.specs.Ordering.{is_lt, is_eq, is_gt}
 use Rattle.std.specs.Cmp.{tied_itself}
 use Rattle.std.specs.List.{AllByRecursion, IsDistinct, flat_map}
 use Rattle.std.specs.List.Sorted.{IsPermutation}
@@ -28,6 +28,7 @@ use Rattle.sql_forms.proofs.Lists.{has_flat, flat_has, has_permuted}
 use Rattle.mm_definitions.specs.Keys.{Text, same_text, same_number, Pairing, pairing_cmp}
 use Rattle.mm_definitions.specs.Package.{Package, Relation}
 use Rattle.mm_definitions.specs.declared.entries.Related.{Related}
+use Rattle.mm_definitions.proofs.Listed.{and_both}
 use Rattle.mm_definitions.proofs.Parts.{same_key, same_itself, after_retain}
 use Rattle.mm_definitions.proofs.KeyLaws.{texts, numbers, pairing_keys}
 use Rattle.mm_laws.proofs.KindFacts.{at_true, are_same}
@@ -42,10 +43,6 @@ use Rattle.mm_reads.proofs.InOrder.{turned}
 
 flips : (a b : Output) → ties a b ≡ ties b a
 flips a b = ap is_eq ((output_cmp_total asked).antisymm a b) ∙ turned (output_cmp asked b a)
-
-both : (a b : Bool) → T a → T b → T (a && b)
-both true b p q = q
-both false b p q = p
 
 -- each row shows the entry that is told of it
 abbrev pub ShowsAll : List Row → List Related → Type 0
@@ -77,12 +74,12 @@ module _ (p : Package) (table : Text) (id : ℤ) where
   below : (o : Output) (a : Is o) (xs : List Output) (all : AllByRecursion Is xs) → AllByRecursion (AtMost o) xs
       → AllByRecursion (λ u. ties o u ≡ false) xs → T (below_all pairing_cmp a.key (entered xs all))
   below o a [] all low off = tt
-  below o a (x ∷ xs) all low off = both _ _ (less o x a all.0 low.0 off.0) (below o a xs all.1 low.1 off.1)
+  below o a (x ∷ xs) all low off = and_both _ _ (less o x a all.0 low.0 off.0) (below o a xs all.1 low.1 off.1)
 
   rises : (xs : List Output) (all : AllByRecursion Is xs) → IsAscending AtMost xs → IsDistinct ties xs → T (is_sorted pairing_cmp (entered xs all))
   unfolding IsDistinct
   rises [] all low off = tt
-  rises (x ∷ xs) all low off = both _ _ (below x all.0 xs all.1 low.0 off.0) (rises xs all.1 low.1 off.1)
+  rises (x ∷ xs) all low off = and_both _ _ (below x all.0 xs all.1 low.0 off.0) (rises xs all.1 low.1 off.1)
 
   -- ---- all are among them
 

@@ -1,10 +1,9 @@
 -- The lines of the tables, from the rows that the query shows.
-use Rattle.std.proofs.Common.{◌≡◌, ℕ, pos, Bool, true, false, cond, ◌&&◌, List, [], ◌∷◌, ◌++◌, map, filter, length, Some, None, codes, refl, sym, ap, subst, ◌∙◌, arith}
+use Rattle.std.proofs.Common.{◌≡◌, ℕ, pos, Bool, true, false, ◌&&◌, List, [], ◌∷◌, ◌++◌, map, filter, length, Some, None, codes, refl, sym, ap, subst, ◌∙◌, arith}
 use Rattle.std.specs.Prelude.{ℤ, if◌then◌else◌, ◌||◌, unwrap_or, min}
 use Rattle.std.specs.Ordering.{is_gt}
 use Rattle.std.specs.List.{flat_map}
 use Rattle.std.specs.FinMap.{get}
-use Rattle.std.proofs.lemmas.List.{length-map}
 use Rattle.sqlite.specs.declared.types.Value.{Value}
 use Rattle.sqlite.specs.declared.types.Value.TheVariants.{Int, Text as Words}
 use Rattle.sql_forms.specs.Collation.TheVariants.{Binary}
@@ -23,7 +22,7 @@ use Rattle.sql_forms.specs.Compute.{everything}
 use Rattle.sql_forms.specs.Rules.{equal}
 use Rattle.sql_forms.specs.Forms.{query, no_limit}
 use Rattle.sql_forms.proofs.Keys.{equal_text, columns_are}
-use Rattle.sql_forms.proofs.Lists.{and_true, flat_filtered}
+use Rattle.sql_forms.proofs.Lists.{and_true, flat_counted}
 use Rattle.sql_forms.proofs.Selects.{IsSelect}
 use Rattle.mm_store.specs.Tables.{schema}
 use Rattle.mm_definitions.specs.Keys.{Text, text_cmp, same_text}
@@ -77,9 +76,6 @@ uncapped a n v is counts =
     let low = counts.below in
     omega (arith, same, low)
 
-pub passed : (p : Row → Bool) (f : Row → Env) (rows : List Row) → length (flat_map (λ s. cond (p s) (f s ∷ []) []) rows) ≡ length (filter p rows)
-passed p f rows = ap length (flat_filtered p f rows) ∙ length-map (filter p rows) f
-
 -- a first column that is a text
 pub first_is : (k : Text) (r : Row) (l : Text) (rest : Row) → past_rowid r ≡ Words l ∷ rest → by_text k r ≡ same_text l k
 first_is k r l rest is = ap (λ x. equal Binary x (Words k) && true) (columns_are r (Words l ∷ rest) 0 is) ∙ ap (λ b. b && true) (equal_text l k) ∙ and_true _
@@ -127,20 +123,20 @@ module _ (version : ℤ) (p : Package) (trees : Trees) (h : Holding version tree
   tiles_are : (r : Row) (k : Text) (c : Contents) → past_rowid r ≡ contents_row k c
       → length (matches db (of_name 3) (inner 15 end) (with_kind kinds r)) ≡ tile_count p k
   tiles_are r k c is =
-      passed (joins r) (λ s. with_kind kinds r ++ s ∷ []) (db 15) ∙ ap (λ rows. length (filter (joins r) rows)) at_15 ∙ ap length (same_filter (trees 15) r k c is)
+      flat_counted (joins r) (λ s. with_kind kinds r ++ s ∷ []) (db 15) ∙ ap (λ rows. length (filter (joins r) rows)) at_15 ∙ ap length (same_filter (trees 15) r k c is)
       ∙ count_is parts.tiles (trees 15) h.kept.tiles h.keeps.tiles (up 15) (λ q. same_text q.table k) (by_text k) (λ s l v it. first_is k s l.table _ it)
       ∙ same_count parts.tiles.order h.kept.tiles p.tiles (told_there tile_id tile_with h.kept.shelf h.kept.tiles p.tiles h.keeps.tiles_told) (λ q. same_text q.table k)
 
   rows_are : (r : Row) (k : Text) (c : Contents) → past_rowid r ≡ contents_row k c
       → length (matches db (of_name 4) (inner 17 end) (with_tiles db kinds r)) ≡ row_count p k
   rows_are r k c is =
-      passed (joins r) (λ s. with_tiles db kinds r ++ s ∷ []) (db 17) ∙ ap (λ rows. length (filter (joins r) rows)) at_17 ∙ ap length (same_filter (trees 17) r k c is)
+      flat_counted (joins r) (λ s. with_tiles db kinds r ++ s ∷ []) (db 17) ∙ ap (λ rows. length (filter (joins r) rows)) at_17 ∙ ap length (same_filter (trees 17) r k c is)
       ∙ count_is parts.rows (trees 17) p.rows h.rows (up 17) (λ q. same_text q.table k) (by_text k) (λ s l v it. first_is k s l.table _ it)
 
   media_are : (r : Row) (k : Text) (c : Contents) → past_rowid r ≡ contents_row k c
       → length (matches db (of_name 5) (inner 19 end) (with_rows db kinds r)) ≡ medium_count p k
   media_are r k c is =
-      passed (joins r) (λ s. with_rows db kinds r ++ s ∷ []) (db 19) ∙ ap (λ rows. length (filter (joins r) rows)) at_19 ∙ ap length (same_filter (trees 19) r k c is)
+      flat_counted (joins r) (λ s. with_rows db kinds r ++ s ∷ []) (db 19) ∙ ap (λ rows. length (filter (joins r) rows)) at_19 ∙ ap length (same_filter (trees 19) r k c is)
       ∙ count_is parts.media (trees 19) h.kept.media h.keeps.media (up 19) (λ q. same_text q.table k) (by_text k) (λ s l v it. first_is k s l.table _ it)
       ∙ same_count parts.media.order h.kept.media p.media (told_there medium_id medium_with h.kept.shelf h.kept.media p.media h.keeps.media_told) (λ q. same_text q.table k)
 

@@ -13,6 +13,7 @@ use Rattle.std.proofs.lemmas.Int.{ints}
 use Rattle.std.proofs.lemmas.List.{length-take, take_all, take-append-drop}
 use Rattle.mm_definitions.specs.Keys.{Text, Item, item, item_cmp, same_text, text_cmp}
 use Rattle.mm_definitions.specs.Package.{AttributeRow, Package}
+use Rattle.mm_definitions.proofs.Listed.{and_both}
 use Rattle.mm_definitions.proofs.KeyLaws.{items, numbers, texts}
 use Rattle.mm_definitions.proofs.Parts.{after_retain, at_retain}
 use Rattle.mm_definitions.specs.Bounds.{current}
@@ -104,14 +105,10 @@ not_beyond e rest q up at_most = find_none q rest (under rest (first_of _ _ up))
     step x less Equal is off = items.total.congr q e.0 x is ∙ less
     step x less Greater is off = absurd (let f : true ≡ false = off in cc)
 
-    both : (a b : Bool) → T a → T b → T (a && b)
-    both true b p r = r
-    both false b p r = p
-
     under : (xs : List Entry) → T (below_all item_cmp e.0 xs) → T (below_all item_cmp q xs)
     under [] low = tt
     under (x ∷ xs) low =
-        both _ _ (subst (λ o. T (is_lt o)) (sym (step x.0 (less_of _ (first_of _ _ low)) (item_cmp q e.0) refl at_most)) tt) (under xs (second_of _ _ low))
+        and_both _ _ (subst (λ o. T (is_lt o)) (sym (step x.0 (less_of _ (first_of _ _ low)) (item_cmp q e.0) refl at_most)) tt) (under xs (second_of _ _ low))
 
 -- an entry is found by its key
 found_at : (front : List Entry) (e : Entry) (rest : List Entry) → T (is_sorted item_cmp (front ++ e ∷ rest)) → find item_cmp e.0 (front ++ e ∷ rest) ≡ Some e.1

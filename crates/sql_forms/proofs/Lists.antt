@@ -5,6 +5,7 @@ use Rattle.std.proofs.Common.{ap, ap₂, sym, ◌∙◌, arith}
 use Rattle.std.specs.List.{AllByRecursion, list_any, flat_map, filter_map, cons_option}
 use Rattle.std.specs.List.Sorted.{IsPermutation}
 use Rattle.std.proofs.lemmas.Bool.{cases_Bool}
+use Rattle.std.proofs.lemmas.List.{length-map}
 use Rattle.sqlite_trees.specs.Tree.{IsAscending}
 use Rattle.sqlite_trees.proofs.ListLemmas.{all-permutation}
 use Rattle.sqlite_rules.specs.Lists.{Has}
@@ -72,6 +73,9 @@ flat_filtered p f [] = refl
 flat_filtered p f (x ∷ xs) =
     elim (p x) as (λ b. cond b (f x ∷ []) [] ++ flat_map (λ y. cond (p y) (f y ∷ []) []) xs ≡ map f (cond b (x ∷ filter p xs) (filter p xs)))
     [ true ↦ ap (λ l. f x ∷ l) (flat_filtered p f xs) | false ↦ flat_filtered p f xs ]
+
+pub flat_counted : {A B : Type 0} (p : A → Bool) (f : A → B) (xs : List A) → length (flat_map (λ x. cond (p x) (f x ∷ []) []) xs) ≡ length (filter p xs)
+flat_counted p f xs = ap length (flat_filtered p f xs) ∙ length-map (filter p xs) f
 
 -- ---- a place in a list
 

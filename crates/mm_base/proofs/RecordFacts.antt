@@ -11,7 +11,7 @@ use Rattle.mm_definitions.specs.Bounds.{IsFrom, IsLong, IsText, IsIdentifier, Is
 use Rattle.mm_definitions.specs.Reading.{ReadsTo}
 use Rattle.mm_definitions.specs.Fields.{Field, OneOf, NumberFrom, BytesTo, TextOf, AnIdentifier, AContentType, AName}
 use Rattle.mm_definitions.specs.Fields.{Value, Whole, Plain, HoldsValue, AllHold, IsAgainstSome}
-use Rattle.mm_definitions.specs.Records.{Form, form_of, piece_forms, piece_form, other_forms, record_form, stage_form}
+use Rattle.mm_definitions.specs.Records.{Form, form_of, piece_forms, other_forms, record_form, stage_form}
 use Rattle.mm_definitions.specs.Records.{with_piece, id_field, IsLeast, IsMet, IsUnmet, SpellsPiece}
 use Rattle.mm_definitions.specs.Records.{HoldsAgainstPiece, Spells, HoldsAgainst, piece_word, piece_values}
 use Rattle.mm_definitions.specs.Records.{command_word, command_values}

@@ -1,12 +1,12 @@
 -- A database whose blobs have their form reads as the package that it holds otherwise, and no other does.
-use Rattle.std.proofs.Common.{◌≡◌, ◌↔◌, ◌⊎◌, inl, inr, ℤ, Bool, true, false, IsTrue, Result, Ok, Err, IfOk, refl, sym, subst}
+use Rattle.std.proofs.Common.{◌≡◌, ◌⊎◌, inl, inr, ℤ, Bool, true, false, IsTrue, Result, Ok, Err, refl, sym, subst}
 use Rattle.sqlite.specs.Effect.{Database}
 use Rattle.sqlite.specs.State.{State, HasCleanDisk, IsUnchanged}
 use Rattle.mm_definitions.specs.Package.{Package}
 use Rattle.mm_definitions.specs.declared.answers.Fault.{Fault}
 use Rattle.mm_definitions.specs.declared.answers.Open.{Open}
 use Rattle.mm_definitions.specs.declared.answers.Open.TheVariants as opens
-use Rattle.mm_store.specs.Kept.{Kept, IsNamed}
+use Rattle.mm_store.specs.Kept.{Kept}
 use Rattle.mm_store.specs.Stands.{ReadsAs}
 use Rattle.mm_check.specs.Form.{KeepsAs, AreInForm, ReadsLoosely, IsFormCheck, DecidesReading, BlobsStand, BlobsFail, TellsForm}
 

@@ -21,14 +21,11 @@ use Rattle.mm_page.specs.Heads.{IsHead, IsNeeded, ReadsNoMore, MostHeadBytes, Mo
 use Rattle.mm_page.specs.Served.{IsPageFault}
 use Rattle.mm_reads.specs.declared.viewer.Viewer as viewers
 use Rattle.mm_run.specs.declared.apply.Apply as applies
-use Rattle.mm_desk.specs.Answered.{AreShort, AreWhole, Demands, AsksToEnd, HasBegun, IsDeskAnswered, IsBehindHead}
-use Rattle.mm_desk.specs.Answered.{IsBegunAnswer}
+use Rattle.mm_desk.specs.Answered.{Demands, HasBegun, IsDeskAnswered, IsBehindHead}
 use Rattle.mm_desk.specs.Answered.{IsHeadless, IsPathAnswered, IsReadOn, IsReadTo, IsRecordsRun, IsResponse}
-use Rattle.mm_desk.specs.Answered.{IsCutAnswer, IsWithinRecords, AsksToLook, Never, On, SendsRecords, ShowsResponse}
-use Rattle.mm_desk.specs.Answered.{Waits}
+use Rattle.mm_desk.specs.Answered.{IsCutAnswer, AsksToLook, Never, On, ShowsResponse}
 use Rattle.mm_desk.specs.Bodies.{answers_head}
 use Rattle.mm_desk.specs.Exchanges.{IsExchange}
-use Rattle.mm_desk.specs.Replies.{AsksPart, ShowsTo}
 use Rattle.mm_desk.specs.Responses.{ended, go_on, refusal_of}
 use Rattle.mm_desk.specs.Sent.{IsCut, IsSentWhole}
 use Rattle.mm_desk.specs.Sittings.{Stays}

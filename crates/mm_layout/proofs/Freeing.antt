@@ -1,5 +1,5 @@
 -- The rows that go with a table.
-use Rattle.std.proofs.Common.{◌≡◌, inl, inr, ℤ, List, Bool, true, false, not, ◌&&◌, ◌∷◌, [], ap, sym, subst, ◌∙◌, refl}
+use Rattle.std.proofs.Common.{◌≡◌, inl, inr, ℤ, List, true, false, ◌&&◌, ◌∷◌, [], ap, sym, subst, ◌∙◌}
 use Rattle.std.specs.List.{list_any}
 use Rattle.std.proofs.lemmas.Bool.{or_left, or_right, not-false}
 use Rattle.sqlite.specs.declared.types.Value.TheVariants.{Text as Words}

@@ -1,22 +1,20 @@
 -- Whether a matrix covers the extent of its pyramid, as a test.
-use Rattle.std.proofs.Common.{◌≡◌, ◌↔◌, ℤ, Bool, true, false, ◌&&◌, List, [], ◌∷◌, subst, Option, Some, None, option_map, refl, sym, ap, ◌∙◌}
+use Rattle.std.proofs.Common.{◌≡◌, ◌↔◌, Bool, true, false, List, [], ◌∷◌, subst, Option, Some, None, option_map, refl, sym, ap, ◌∙◌}
 use Rattle.std.specs.Prelude.{◌-ℤ◌, ◌*ℤ◌, IsTrue}
 use Rattle.std.specs.FinMap.{FinMap, get}
 use Rattle.std.proofs.lemmas.Bool.{and_from, false_from_ne_true}
-use Rattle.sqlite.specs.declared.types.Value.TheVariants.{Int, Text as Words}
+use Rattle.sqlite.specs.declared.types.Value.TheVariants.{Text as Words}
 use Rattle.sqlite.specs.Order.{Row, column}
 use Rattle.sqlite.specs.Term.{Term, col}
 use Rattle.sql_forms.specs.Tables.{Finds}
 use Rattle.sql_forms.specs.Maps.{Holds}
 use Rattle.sql_forms.proofs.Keys.{columns_are}
 use Rattle.sql_forms.proofs.Selects.{shows}
-use Rattle.mm_definitions.specs.Keys.{Text, text_cmp, same_number}
+use Rattle.mm_definitions.specs.Keys.{Text, text_cmp}
 use Rattle.mm_definitions.specs.Conditions.{is_product}
 use Rattle.mm_definitions.specs.Package.{Box, Grid, MatrixSet}
 use Rattle.mm_definitions.specs.Rules.{Fits}
-use Rattle.mm_definitions.proofs.Parts.{same_itself, same_some}
-use Rattle.mm_definitions.proofs.KeyLaws.{numbers}
-use Rattle.mm_laws.proofs.KindFacts.{are_same, both_true}
+use Rattle.mm_definitions.proofs.Parts.{same_some}
 use Rattle.mm_laws.proofs.PieceReasons.{same_as}
 use Rattle.mm_laws.proofs.Matrices.{product_tells}
 use Rattle.mm_store.specs.Rows.{past_rowid, set_row}

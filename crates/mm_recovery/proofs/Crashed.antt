@@ -1,5 +1,5 @@
 -- What a store's files hold, and what the next open finds in them.
-use Rattle.std.proofs.Common.{◌≡◌, ◌∙◌, Bool, true, false, IsTrue, refl, subst, sym}
+use Rattle.std.proofs.Common.{◌∙◌, Bool, true, refl, subst, sym}
 use Rattle.std.proofs.Math.Logic.{∥∥₁_elim, ∥∥₁_map}
 use Rattle.sqlite_disk.specs.declared.Disk.{Ghosts}
 use Rattle.sqlite_disk.specs.declared.Files.{Files}
@@ -9,9 +9,8 @@ use Rattle.sqlite_store.specs.declared.store.FileStore.{FileStore}
 use Rattle.sqlite_store.specs.FileStore as file
 use Rattle.sqlite_store.specs.Laws.{settled_at}
 use Rattle.sql_forms.specs.Props.{Trees-set}
-use Rattle.sql_forms.specs.View.{IsClean, IsQuiet}
 use Rattle.sqlite.specs.Closing.{IsCopied}
-use Rattle.sqlite.specs.Held.{Held, AreDatabases}
+use Rattle.sqlite.specs.Held.{Held}
 use Rattle.sqlite.specs.Files.{file_state, IsOpened, Finds, image_of}
 use Rattle.sqlite.specs.State.{HasCleanDisk}
 use Rattle.mm_files.specs.Worked.{KeepsLeft}

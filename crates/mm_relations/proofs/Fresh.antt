@@ -1,7 +1,6 @@
 -- A name that no table and no relation has is that of no extension row of a mapping.
-use Rattle.std.proofs.Common.{◌≡◌, inl, inr, true, false, Some, None, codes, refl, sym, ap, subst, ◌∙◌}
-use Rattle.std.specs.declared.cmp.Ordering.{Ordering}
-use Rattle.std.specs.FinMap.{FinMap, get, contains_key}
+use Rattle.std.proofs.Common.{◌≡◌, inl, inr, true, false, None, refl, sym, ap, subst, ◌∙◌}
+use Rattle.std.specs.FinMap.{get, contains_key}
 use Rattle.mm_definitions.specs.Bounds.{Profile, IsName}
 use Rattle.mm_definitions.specs.Conditions.{least, own_reasons}
 use Rattle.mm_definitions.specs.Keys.{Text, Extension}

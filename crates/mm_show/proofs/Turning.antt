@@ -1,5 +1,5 @@
 -- What is printed of the rows of a table, one read behind another.
-use Rattle.std.proofs.Common.{◌≡◌, ◌∙◌, ◌⊎◌, ◌<◌, ◌+ℤ◌, ℕ, ℤ, pos, Bool, true, false, List, [], ◌∷◌, ◌++◌}
+use Rattle.std.proofs.Common.{◌≡◌, ◌∙◌, ◌<◌, ◌+ℤ◌, ℕ, ℤ, pos, Bool, true, false, List, [], ◌∷◌, ◌++◌}
 use Rattle.std.proofs.Common.{map, length, take, drop, option_map, Option, Some, None, Result, Ok, Err, Vec, Global}
 use Rattle.std.proofs.Common.{refl, sym, ap, subst, arith, append_assoc}
 use Rattle.std.specs.Prelude.{IsErr, get_or, if◌then◌else◌}
@@ -14,7 +14,6 @@ use Rattle.mm_definitions.specs.Streams.{Written}
 use Rattle.mm_definitions.specs.declared.answers.Fault.{Fault}
 use Rattle.mm_definitions.specs.declared.entries.Row.{Row as RowTold}
 use Rattle.mm_definitions.proofs.Parts.{same_some}
-use Rattle.mm_definitions.specs.Faults.{IsStoreFault}
 use Rattle.mm_reads.specs.RowLists.{MostRows, first_rows, lists_rows, numbered, numbered_told, rows_on}
 use Rattle.mm_reads.specs.Shown.{shown_rows}
 use Rattle.mm_reads.specs.Viewers.{IsOn, LeavesPackage, ShowsValue}

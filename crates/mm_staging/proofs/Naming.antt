@@ -9,7 +9,6 @@ use Rattle.mm_definitions.proofs.Parts.{not_none}
 use Rattle.mm_store.specs.Blobs.{Shelf, Told}
 use Rattle.mm_store.specs.Kept.{Spare, piece_id, piece_with}
 use Rattle.mm_store.specs.Rows.{maybe, StagedRow}
-use Rattle.mm_store.proofs.Keys.{maybe_is}
 use Rattle.mm_blobs.proofs.Keeping.{but_other}
 use Rattle.mm_staging.specs.Kept.{spare_named}
 

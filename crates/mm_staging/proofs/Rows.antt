@@ -1,5 +1,5 @@
 -- What the row of a staged piece shows.
-use Rattle.std.proofs.Common.{◌≡◌, ℕ, ℤ, Bool, true, false, not, ◌&&◌, [], ◌∷◌, List, Option, Some, None, refl, sym, ap, subst, ◌∙◌, Result, Ok}
+use Rattle.std.proofs.Common.{◌≡◌, ℕ, ℤ, not, [], ◌∷◌, List, Option, Some, None, refl, sym, ap, subst, ◌∙◌, Result, Ok}
 use Rattle.sqlite.specs.declared.types.Value.TheVariants.{Int, Text as Words}
 use Rattle.sqlite.specs.Order.{Row, column}
 use Rattle.sqlite.specs.Term.{Term, col}
@@ -13,7 +13,6 @@ use Rattle.sql_forms.proofs.Selects.{shows}
 use Rattle.mm_definitions.specs.Keys.{Text, PieceKey, piece_cmp}
 use Rattle.mm_definitions.specs.Effects.{is_other}
 use Rattle.mm_definitions.specs.Package.{PieceRow}
-use Rattle.mm_definitions.proofs.Parts.{same_some}
 use Rattle.mm_store.specs.Blobs.{Shelf, StandsAt, Told}
 use Rattle.mm_store.specs.Kept.{piece_id, piece_with}
 use Rattle.mm_store.specs.Rows.{past_rowid, maybe, StagedRow, staged_row}

@@ -18,7 +18,7 @@ use Rattle.mm_core.specs.Viewers.{IsOn, LeavesPackage}
 use Rattle.mm_core.specs.Writing.{IsBegun, ListingTellsWriter}
 use Rattle.mm_show.specs.Records.{row_records}
 use Rattle.mm_show.specs.Showing.{ShowsRecords, records_by, rows_shown, show_refusal}
-use Rattle.mm_work.specs.Shown.{IsShowing, IsShowingCut, TellsReason, TellsRows, shown_text, status_by, text_by}
+use Rattle.mm_work.specs.Shown.{IsShowing, IsShowingCut, TellsReason, TellsRows, status_by, text_by}
 
 -- ---- what is printed
 

@@ -15,7 +15,7 @@ use Rattle.sqlite.specs.Tree.{Trees, with_tree, put_row, rowid}
 use Rattle.sqlite.specs.Edit.{is_taken}
 use Rattle.sql_forms.specs.Rules.{equal}
 use Rattle.sql_forms.proofs.ListLemmas.{some_from, some_has}
-use Rattle.sql_forms.specs.Tables.{has_key, Finds, without}
+use Rattle.sql_forms.specs.Tables.{has_key, FindsRow, without}
 use Rattle.sql_forms.specs.Maps.{Holds}
 use Rattle.sql_forms.proofs.Keys.{as_truth, equal_text, equal_int}
 use Rattle.sql_forms.proofs.Rows.{equal_is}
@@ -29,7 +29,7 @@ use Rattle.mm_store.proofs.Keys.{by_number}
 use Rattle.std.specs.declared.cmp.Ordering.{Ordering}
 use Rattle.mm_definitions.specs.Package.{Package}
 use Rattle.mm_store.specs.Blobs.{Blob, Shelf, AreBlobs, blob_of, blob_row, bytes_at, digest_of, StandsAt, Told, NamesBlob}
-use Rattle.mm_store.specs.Kept.{Kept, Spare, Keeps, IsNamed, tile_id, tile_with, medium_id, medium_with, piece_id, piece_with}
+use Rattle.mm_store.specs.Kept.{Kept, Spare, HoldsKept, IsNamed, tile_id, tile_with, medium_id, medium_with, piece_id, piece_with}
 use Rattle.mm_blobs.specs.Views.{View, HoldsAs, spare_too, spare_but, Lacks, IsFound, TellsWhether}
 use Rattle.mm_blobs.specs.Moves.{GivesNumber}
 
@@ -78,7 +78,7 @@ but_other spare id z n h = rw (h, apart numbers z id n) refl
 abbrev pub by_bytes : Text → List ℕ → Row → Bool
 by_bytes digest bytes = has_key (2 ∷ 3 ∷ []) (Words digest ∷ Bytes bytes ∷ [])
 
-module _ (spare : Spare) (tables : Trees) (x : Kept) (p : Package) (h : Keeps spare tables x p) where
+module _ (spare : Spare) (tables : Trees) (x : Kept) (p : Package) (h : HoldsKept spare tables x p) where
   module _ (digest : Text) (bytes : List ℕ) (is_digest : digest ≡ digest_of bytes) where
     hits : (id : ℤ) (b : Blob) → get x.shelf id ≡ Some b → b.bytes ≡ bytes → (r : Row) → r ≡ blob_row id b → by_bytes digest bytes r ≡ true
     hits id b is same r row =
@@ -88,13 +88,14 @@ module _ (spare : Spare) (tables : Trees) (x : Kept) (p : Package) (h : Keeps sp
         ∙ ap (λ t. t && (equal Binary (Bytes bytes) (Bytes bytes) && true)) (itself_text digest) ∙ ap (λ t. t && true) (itself_bytes bytes)
 
     pub found_blob : (it : Option ℤ) (first : Option Row) → GivesNumber it first
-        → Finds (by_bytes digest bytes) (λ r. column r 0 ∷ []) (tables 27) first → IsFound x.shelf bytes it
+        → FindsRow (by_bytes digest bytes) (λ r. column r 0 ∷ []) (tables 27) first → IsFound x.shelf bytes it
     found_blob None first gives found = λ id b is same.
-        let none : list_any (by_bytes digest bytes) (tables 27) ≡ false = subst (Finds (by_bytes digest bytes) (λ r. column r 0 ∷ []) (tables 27)) gives found in
+        let none : list_any (by_bytes digest bytes) (tables 27) ≡ false =
+        subst (FindsRow (by_bytes digest bytes) (λ r. column r 0 ∷ []) (tables 27)) gives found in
         let r = h.blobs.complete id b is in
         both_ways _ none (some_from (by_bytes digest bytes) (tables 27) r.0 r.1 (hits id b is same r.0 r.2))
     found_blob (Some id) first gives found =
-        let some = subst (Finds (by_bytes digest bytes) (λ r. column r 0 ∷ []) (tables 27)) gives.1 found in
+        let some = subst (FindsRow (by_bytes digest bytes) (λ r. column r 0 ∷ []) (tables 27)) gives.1 found in
         let at = h.blobs.sound some.0 some.1 in
         let passes : by_bytes digest bytes (blob_row at.0 at.1) ≡ true = sym (ap (by_bytes digest bytes) at.3) ∙ some.2 in
         let second = (and_parts _ _ passes).1 in
@@ -160,7 +161,7 @@ module _ (spare : Spare) (tables : Trees) (x : Kept) (p : Package) (h : Keeps sp
     }
 
     pub keeps_more : rest ≡ Null ∷ Words (digest_of bytes) ∷ Bytes bytes ∷ []
-        → Keeps (spare_too id spare) (with_tree tables 27 (put_row (Int id ∷ rest) (tables 27))) (record x { shelf = insert x.shelf id (blob_of bytes) }) p
+        → HoldsKept (spare_too id spare) (with_tree tables 27 (put_row (Int id ∷ rest) (tables 27))) (record x { shelf = insert x.shelf id (blob_of bytes) }) p
     keeps_more row = record {
       tiles = h.tiles;
       media = h.media;
@@ -176,10 +177,10 @@ module _ (spare : Spare) (tables : Trees) (x : Kept) (p : Package) (h : Keeps sp
       ];
     }
 
-  pub keeps_looser : (id : ℤ) → Keeps (spare_too id spare) tables x p
+  pub keeps_looser : (id : ℤ) → HoldsKept (spare_too id spare) tables x p
   keeps_looser id = record { tiles = h.tiles; media = h.media; pieces = h.pieces; blobs = h.blobs; tiles_told = h.tiles_told; media_told = h.media_told; pieces_told = h.pieces_told; are = h.are; named = λ z b is. elim (h.named z b is) [ inl named ↦ inl named | inr spared ↦ inr (too_before spare id z spared) ] }
 
-  pub keeps_named : (id : ℤ) → IsNamed x id → Keeps (spare_but id spare) tables x p
+  pub keeps_named : (id : ℤ) → IsNamed x id → HoldsKept (spare_but id spare) tables x p
   keeps_named id names = record {
     tiles = h.tiles;
     media = h.media;
@@ -219,7 +220,7 @@ module _ (spare : Spare) (tables : Trees) (x : Kept) (p : Package) (h : Keeps sp
     told_left id_of filled ids none k None entry is e = e
     told_left id_of filled ids none k (Some i) entry is e = (e.0, at_left (id_of i) e.0 (λ names. none (k, i, is, names)) e.1, e.2)
 
-    pub keeps_less : Keeps (spare_but id spare) (with_tree tables 27 (without (by_number id) (tables 27))) (record x { shelf = remove x.shelf id }) p
+    pub keeps_less : HoldsKept (spare_but id spare) (with_tree tables 27 (without (by_number id) (tables 27))) (record x { shelf = remove x.shelf id }) p
     keeps_less = record {
       tiles = h.tiles;
       media = h.media;
@@ -263,17 +264,17 @@ only_id place id r (Some z) is h = ap Some (numbers.exact z id (equal_is _ (sym 
 -- ---- from what is kept to the package with it
 
 module _ (spare more : Spare) (version : ℤ) (tables : Trees) (x : View) (h : HoldsAs spare version tables x) where
-  pub kept_in : Keeps spare tables x.kept x.content
-  kept_in = subst (λ k. Keeps spare tables k x.content) h.1 h.0.keeps
+  pub kept_in : HoldsKept spare tables x.kept x.content
+  kept_in = subst (λ k. HoldsKept spare tables k x.content) h.1 h.0.keeps
 
-  pub holds_with : (rows : List Row) (k : Kept) → Keeps more (with_tree tables 27 rows) k x.content
+  pub holds_with : (rows : List Row) (k : Kept) → HoldsKept more (with_tree tables 27 rows) k x.content
       → HoldsAs more version (with_tree tables 27 rows) (record x { kept = k })
   holds_with rows k keeps = (
     record { systems = h.0.systems; contents = h.0.contents; kinds = h.0.kinds; sets = h.0.sets; matrices = h.0.matrices; extensions = h.0.extensions; rows = h.0.rows; relations = h.0.relations; pairings = h.0.pairings; editions = h.0.editions; kept = k; keeps = keeps; profile = h.0.profile },
     refl,
   )
 
-  pub holds_still : Keeps more tables x.kept x.content → HoldsAs more version tables x
+  pub holds_still : HoldsKept more tables x.kept x.content → HoldsAs more version tables x
   holds_still keeps = (
     record { systems = h.0.systems; contents = h.0.contents; kinds = h.0.kinds; sets = h.0.sets; matrices = h.0.matrices; extensions = h.0.extensions; rows = h.0.rows; relations = h.0.relations; pairings = h.0.pairings; editions = h.0.editions; kept = x.kept; keeps = keeps; profile = h.0.profile },
     refl,

@@ -6,14 +6,14 @@ use Rattle.sqlite.specs.declared.types.Value.TheVariants.{Int}
 use Rattle.sqlite.specs.Order.{Row, column}
 use Rattle.sqlite.specs.Tree.{Trees, with_tree}
 use Rattle.sql_forms.specs.Maps.{Holds}
-use Rattle.sql_forms.specs.Tables.{Finds}
+use Rattle.sql_forms.specs.Tables.{FindsRow}
 use Rattle.mm_store.proofs.Parts.{IsPart, finds_none, finds_some}
 use Rattle.mm_definitions.specs.Keys.{same_number, TileKey, tile_cmp, Item, item_cmp, PieceKey, piece_cmp}
 use Rattle.mm_definitions.specs.Package.{Package, Medium, PieceRow}
 use Rattle.mm_definitions.proofs.Parts.{IsKeyOrder, same_key, same_some, at_put, beside_put, at_remove, beside_remove}
 use Rattle.mm_definitions.proofs.KeyLaws.{numbers, tile_keys, items, piece_keys}
 use Rattle.mm_store.specs.Blobs.{Shelf, StandsAt, Told, Tells, NamesBlob}
-use Rattle.mm_store.specs.Kept.{Kept, Spare, Keeps, tile_id, tile_with, medium_id, medium_with, piece_id, piece_with}
+use Rattle.mm_store.specs.Kept.{Kept, Spare, HoldsKept, tile_id, tile_with, medium_id, medium_with, piece_id, piece_with}
 use Rattle.mm_store.specs.Rows.{past_rowid, tile_row, MediumRow, medium_row, StagedRow, staged_row}
 use Rattle.mm_blobs.specs.Views.{View, HoldsAs, spare_too, spare_but}
 use Rattle.mm_blobs.specs.Entries.{NamedAt, spare_freed}
@@ -77,10 +77,10 @@ module _ {K I : Type 0} {R : K → K → Ordering} (o : IsKeyOrder R) (id_of : I
 module _ {K I : Type 0} {R : K → K → Ordering} {part : Row → Row} {row_of : K → I → Row} {test : K → Row → Bool} (it : IsPart R part row_of test) (rows : List Row) (ids : FinMap R I) (h : Holds part row_of rows ids) (k : K) where
   pub id_found : (show : Row → Row) (of : I → ℤ) → ((r : Row) (i : I) → part r ≡ row_of k i → column (show r) 0 ≡ Int (of i))
       → (answer : Option ℤ) (first : Option Row) → GivesNumber answer first
-      → Finds (test k) show rows first → option_map of (get ids k) ≡ answer
-  id_found show of shows None first gives found = ap (option_map of) (finds_none it rows ids h k show (subst (Finds (test k) show rows) gives found))
+      → FindsRow (test k) show rows first → option_map of (get ids k) ≡ answer
+  id_found show of shows None first gives found = ap (option_map of) (finds_none it rows ids h k show (subst (FindsRow (test k) show rows) gives found))
   id_found show of shows (Some id) first gives found =
-      let at = finds_some it rows ids h k show gives.0 (subst (Finds (test k) show rows) gives.1 found) in
+      let at = finds_some it rows ids h k show gives.0 (subst (FindsRow (test k) show rows) gives.1 found) in
       let e : Int id ≡ Int (of at.0) = sym gives.2 ∙ ap (λ (r : Row). column r 0) at.4 ∙ shows at.2 at.0 at.3 in
       let same : of at.0 ≡ id = cc in
       ap (option_map of) at.1 ∙ ap Some same
@@ -119,11 +119,11 @@ naming (Some id) z = elim (same_key numbers id z) [ inl same ↦ inl (ap Some sa
 
 -- ---- what is kept
 
-module _ (spare more : Spare) (tables : Trees) (x : Kept) (p : Package) (h : Keeps spare tables x p) (rows : List Row) where
+module _ (spare more : Spare) (tables : Trees) (x : Kept) (p : Package) (h : HoldsKept spare tables x p) (rows : List Row) where
   -- a tile names a blob: the blob need not be spared any more, and the one that it named before has to be
   pub keeps_tile : (key : TileKey) (id : ℤ) (bytes : List ℕ) → Holds past_rowid tile_row rows (insert x.tiles key id) → StandsAt x.shelf (Some id) bytes
       → ((z : ℤ) → spare z ≡ true → Some id ≢ Some z → more z ≡ true) → ((z : ℤ) → NamedAt tile_id x.tiles key z → Some id ≢ Some z → more z ≡ true)
-      → Keeps more (with_tree tables 15 rows) (record x { tiles = insert x.tiles key id }) (record p { tiles = insert p.tiles key bytes })
+      → HoldsKept more (with_tree tables 15 rows) (record x { tiles = insert x.tiles key id }) (record p { tiles = insert p.tiles key bytes })
   keeps_tile key id bytes holds stands still freed = record {
     tiles = holds;
     media = h.media;
@@ -147,7 +147,7 @@ module _ (spare more : Spare) (tables : Trees) (x : Kept) (p : Package) (h : Kee
 
   pub keeps_no_tile : (key : TileKey) → Holds past_rowid tile_row rows (remove x.tiles key) → ((z : ℤ) → spare z ≡ true → more z ≡ true)
       → ((z : ℤ) → NamedAt tile_id x.tiles key z → more z ≡ true)
-      → Keeps more (with_tree tables 15 rows) (record x { tiles = remove x.tiles key }) (record p { tiles = remove p.tiles key })
+      → HoldsKept more (with_tree tables 15 rows) (record x { tiles = remove x.tiles key }) (record p { tiles = remove p.tiles key })
   keeps_no_tile key holds still freed = record {
     tiles = holds;
     media = h.media;
@@ -169,7 +169,7 @@ module _ (spare more : Spare) (tables : Trees) (x : Kept) (p : Package) (h : Kee
   pub keeps_medium : (key : Item) (i : MediumRow) (bytes : List ℕ) → Holds past_rowid medium_row rows (insert x.media key i)
       → StandsAt x.shelf (medium_id i) bytes
       → ((z : ℤ) → spare z ≡ true → medium_id i ≢ Some z → more z ≡ true) → ((z : ℤ) → NamedAt medium_id x.media key z → medium_id i ≢ Some z → more z ≡ true)
-      → Keeps more (with_tree tables 19 rows) (record x { media = insert x.media key i }) (record p { media = insert p.media key (medium_with i bytes) })
+      → HoldsKept more (with_tree tables 19 rows) (record x { media = insert x.media key i }) (record p { media = insert p.media key (medium_with i bytes) })
   keeps_medium key i bytes holds stands still freed = record {
     tiles = h.tiles;
     media = holds;
@@ -196,7 +196,7 @@ module _ (spare more : Spare) (tables : Trees) (x : Kept) (p : Package) (h : Kee
 
   pub keeps_no_medium : (key : Item) → Holds past_rowid medium_row rows (remove x.media key) → ((z : ℤ) → spare z ≡ true → more z ≡ true)
       → ((z : ℤ) → NamedAt medium_id x.media key z → more z ≡ true)
-      → Keeps more (with_tree tables 19 rows) (record x { media = remove x.media key }) (record p { media = remove p.media key })
+      → HoldsKept more (with_tree tables 19 rows) (record x { media = remove x.media key }) (record p { media = remove p.media key })
   keeps_no_medium key holds still freed = record {
     tiles = h.tiles;
     media = holds;
@@ -221,7 +221,7 @@ module _ (spare more : Spare) (tables : Trees) (x : Kept) (p : Package) (h : Kee
   pub keeps_piece : (key : PieceKey) (i : StagedRow) (bytes : List ℕ) → Holds past_rowid staged_row rows (insert x.pieces key i)
       → StandsAt x.shelf (piece_id i) bytes
       → ((z : ℤ) → spare z ≡ true → piece_id i ≢ Some z → more z ≡ true) → ((z : ℤ) → NamedAt piece_id x.pieces key z → piece_id i ≢ Some z → more z ≡ true)
-      → Keeps more (with_tree tables 25 rows) (record x { pieces = insert x.pieces key i }) (record p { pieces = insert p.pieces key (piece_with i bytes) })
+      → HoldsKept more (with_tree tables 25 rows) (record x { pieces = insert x.pieces key i }) (record p { pieces = insert p.pieces key (piece_with i bytes) })
   keeps_piece key i bytes holds stands still freed = record {
     tiles = h.tiles;
     media = h.media;
@@ -249,21 +249,21 @@ module _ (spare more : Spare) (tables : Trees) (x : Kept) (p : Package) (h : Kee
 -- ---- the package with it
 
 module _ (spare more : Spare) (version : ℤ) (tables : Trees) (x : View) (h : HoldsAs spare version tables x) (rows : List Row) (k : Kept) where
-  pub holds_tiles : (m : FinMap tile_cmp (List ℕ)) → Keeps more (with_tree tables 15 rows) k (record (x.content) { tiles = m })
+  pub holds_tiles : (m : FinMap tile_cmp (List ℕ)) → HoldsKept more (with_tree tables 15 rows) k (record (x.content) { tiles = m })
       → HoldsAs more version (with_tree tables 15 rows) (record { content = record (x.content) { tiles = m }; kept = k })
   holds_tiles m keeps = (
     record { systems = h.0.systems; contents = h.0.contents; kinds = h.0.kinds; sets = h.0.sets; matrices = h.0.matrices; extensions = h.0.extensions; rows = h.0.rows; relations = h.0.relations; pairings = h.0.pairings; editions = h.0.editions; kept = k; keeps = keeps; profile = h.0.profile },
     refl,
   )
 
-  pub holds_media : (m : FinMap item_cmp Medium) → Keeps more (with_tree tables 19 rows) k (record (x.content) { media = m })
+  pub holds_media : (m : FinMap item_cmp Medium) → HoldsKept more (with_tree tables 19 rows) k (record (x.content) { media = m })
       → HoldsAs more version (with_tree tables 19 rows) (record { content = record (x.content) { media = m }; kept = k })
   holds_media m keeps = (
     record { systems = h.0.systems; contents = h.0.contents; kinds = h.0.kinds; sets = h.0.sets; matrices = h.0.matrices; extensions = h.0.extensions; rows = h.0.rows; relations = h.0.relations; pairings = h.0.pairings; editions = h.0.editions; kept = k; keeps = keeps; profile = h.0.profile },
     refl,
   )
 
-  pub holds_pieces : (m : FinMap piece_cmp PieceRow) → Keeps more (with_tree tables 25 rows) k (record (x.content) { pieces = m })
+  pub holds_pieces : (m : FinMap piece_cmp PieceRow) → HoldsKept more (with_tree tables 25 rows) k (record (x.content) { pieces = m })
       → HoldsAs more version (with_tree tables 25 rows) (record { content = record (x.content) { pieces = m }; kept = k })
   holds_pieces m keeps = (
     record { systems = h.0.systems; contents = h.0.contents; kinds = h.0.kinds; sets = h.0.sets; matrices = h.0.matrices; extensions = h.0.extensions; rows = h.0.rows; relations = h.0.relations; pairings = h.0.pairings; editions = h.0.editions; kept = k; keeps = keeps; profile = h.0.profile },

@@ -10,7 +10,7 @@ use Rattle.mm_store.specs.Blobs.{Blob}
 use Rattle.mm_store.specs.Kept.{Kept, Spare, IsNamed}
 use Rattle.mm_store.specs.Stands.{Ground, IsInsideBut}
 use Rattle.sqlite.specs.Tree.{Trees}
-use Rattle.mm_store.specs.Kept.{Keeps}
+use Rattle.mm_store.specs.Kept.{HoldsKept}
 use Rattle.mm_blobs.specs.Views.{View, IsSeen}
 use Rattle.mm_blobs.proofs.Moving.{inside_looser}
 use Rattle.mm_blobs.proofs.Keeping.{kept_in, holds_still}
@@ -35,8 +35,8 @@ closes spare profile s ground x it = record {
 
 -- ---- where more may be spared
 
-keeps_looser : (spare more : Spare) (tables : Trees) (x : Kept) (p : Package) → ((z : ℤ) → spare z ≡ true → more z ≡ true) → Keeps spare tables x p
-    → Keeps more tables x p
+keeps_looser : (spare more : Spare) (tables : Trees) (x : Kept) (p : Package) → ((z : ℤ) → spare z ≡ true → more z ≡ true) → HoldsKept spare tables x p
+    → HoldsKept more tables x p
 keeps_looser spare more tables x p still h = record {
   tiles = h.tiles;
   media = h.media;

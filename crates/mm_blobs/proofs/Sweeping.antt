@@ -33,7 +33,7 @@ use Rattle.mm_store.proofs.Selecting as statement
 use Rattle.mm_definitions.specs.Package.{Package}
 use Rattle.mm_definitions.proofs.Parts.{true_or_false}
 use Rattle.mm_store.specs.Blobs.{Blob, blob_row}
-use Rattle.mm_store.specs.Kept.{Kept, Spare, no_spare, Keeps, IsNamed, tile_id, medium_id, piece_id}
+use Rattle.mm_store.specs.Kept.{Kept, Spare, no_spare, HoldsKept, IsNamed, tile_id, medium_id, piece_id}
 use Rattle.mm_store.specs.Rows.{tile_row, medium_row, staged_row}
 use Rattle.mm_blobs.specs.Views.{spare_each}
 use Rattle.mm_blobs.proofs.Keeping.{at_id, hits_id, only_id, told_names}
@@ -125,7 +125,7 @@ module _ (old new : State) (has : old.now.schema ≡ schema) (given : Row) (same
   at n listed = no_overlay old.now.trees n ∙ sym (rows_at schema n old.now.trees listed)
 
   -- each blob is named, or listed
-  pub each_named : (spare : Spare) (x : Kept) (p : Package) → Keeps spare seen_in x p → (id : ℤ) (b : Blob) → get x.shelf id ≡ Some b
+  pub each_named : (spare : Spare) (x : Kept) (p : Package) → HoldsKept spare seen_in x p → (id : ℤ) (b : Blob) → get x.shelf id ≡ Some b
       → IsNamed x id ⊎ (spare_each rows no_spare id ≡ true)
   each_named spare x p h id b is = elim (true_or_false (list_any (at_id 5 id) (seen_in 15))) [
     | inl some ↦ inl (inl (told_names tile_id tile_row (seen_in 15) x.tiles h.tiles id (at_id 5 id) (λ r k i same. hits_id 5 id r (tile_id i) (columns_are r (tile_row k i) 4 same)) (λ r k i same. only_id 5 id r (tile_id i) (columns_are r (tile_row k i) 4 same)) true some))

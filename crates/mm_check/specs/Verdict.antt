@@ -3,7 +3,7 @@ use Rattle.std.specs.Prelude.{◌≡◌, ◌⊎◌, ℕ, ◌≤◌, ◌<◌, ◌
 use Rattle.sqlite.specs.State.{State, HasCleanDisk}
 use Rattle.mm_definitions.specs.Bounds.{Profile}
 use Rattle.mm_definitions.specs.Package.{Package}
-use Rattle.mm_definitions.specs.Rules.{Meets, GivenSystems, NamedSystems, DistinctIdentifiers, Names, Registry}
+use Rattle.mm_definitions.specs.Rules.{Meets, GivenSystems, NamedSystems, DistinctIdentifiers, ProperNames, Registry}
 use Rattle.mm_definitions.specs.Rules.{Extents, MatricesFit, HigherIsFiner, NextIsHalved, TilesInside, Items}
 use Rattle.mm_definitions.specs.Rules.{RelationsSuited, PairingsJoin, ExactExtensions, Editions, Limits}
 use Rattle.mm_definitions.specs.declared.answers.Fault.{Fault}
@@ -19,7 +19,7 @@ rule profile k p =
     chosen (k == 1) (GivenSystems p.systems)
     (chosen (k == 2) (NamedSystems p.systems p.contents p.kinds p.sets)
     (chosen (k == 3) (DistinctIdentifiers p.contents)
-    (chosen (k == 4) (Names p.contents p.relations p.editions)
+    (chosen (k == 4) (ProperNames p.contents p.relations p.editions)
     (chosen (k == 5) (Registry p.contents p.kinds p.sets)
     (chosen (k == 6) (Extents p.contents p.sets)
     (chosen (k == 7) (MatricesFit p.kinds p.sets p.matrices)

@@ -21,7 +21,7 @@ use Rattle.mm_store.specs.Stands.{Ground, StandsInside}
 use Rattle.mm_store.proofs.Going.{goes_less}
 use Rattle.mm_layout.specs.Handed.{Lends}
 use Rattle.mm_layout.specs.Stamped.{step_at}
-use Rattle.mm_core.specs.Handed.{Tries}
+use Rattle.mm_core.specs.Handed.{TriesCommand}
 
 told : (s : State) (ground : Ground) (p : Package) (c : Command) (moment : ℕ) (r : Result Outcome Fault)
     → IfOk r (λ it. IsTrue s.is_open × StandsInside current s ground (step p c moment) × (refusal p c ≡ refused_as it))
@@ -41,12 +41,12 @@ tried {g = g} {b = b} {c = c} {r = r} moment h = record {
 }
 
 module _ {S : Type 0} {g : Ghosts S} {a b : Transaction S} {c : Command} {at : Text} {r : Result Outcome Fault} where
-  pub tries : Lends g a b c at r → Tries g a b c at r
+  pub tries : Lends g a b c at r → TriesCommand g a b c at r
   tries h = record {
     same = h.goes.same;
     tried = λ moment stamped. tried {c = c} moment
         (goes_less h.goes (λ profile p it meets says. (ap (λ text. step_at p c text) (sym (stamp_only moment at stamped)), says)));
   }
 
-  pub tries_unstamped : Applies g a b c r → Tries g a b c at r
+  pub tries_unstamped : Applies g a b c r → TriesCommand g a b c at r
   tries_unstamped h = record { same = (h.goes 0).same; tried = λ moment stamped. tried {c = c} moment (h.goes moment) }

@@ -14,6 +14,6 @@ use Rattle.mm_store.specs.Shapes.{IsTried}
 
 module _ {S : Type 0} (g : Ghosts S) (old new : Transaction S) where
   -- it does the command, and writes the stamp of the moment as last_change; after a refusal nothing is said of the transaction
-  pub record Tries (command : Command) (last_change : Text) (result : Result Outcome Fault) : Type 0 where
+  pub record TriesCommand (command : Command) (last_change : Text) (result : Result Outcome Fault) : Type 0 where
     pub same : IsSame old new
     pub tried : (moment : ℕ) → IsStamp moment last_change → IsTried current command moment (state g old.conn.now) (state g new.conn.now) result

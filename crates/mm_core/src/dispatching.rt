@@ -4,7 +4,7 @@ ghost use Rattle.std.specs.Prelude.{◌≡◌, false, true};
 ghost use Rattle.mm_definitions.specs.CommandGroups.{is_layout_change, lays_out_pyramid, is_tile_change, is_item_change, is_relation_change, prepares_edition, rehearses};
 ghost use Rattle.mm_store.specs.Handed.{Applies};
 ghost use Rattle.mm_layout.specs.Handed.{Lends};
-ghost use Rattle.mm_core.specs.Handed.{Tries};
+ghost use Rattle.mm_core.specs.Handed.{TriesCommand};
 
 use mm_definitions::answers::{Fault, Outcome};
 use mm_definitions::commands::Command;
@@ -238,7 +238,7 @@ pub(crate) fn run_command<S: Alter>(
     last_change: &str,
 ) -> Result<Outcome, Fault>
     requires { rehearses command.now ≡ false }
-    ensures { Tries S.Store tx.old tx.new command.now last_change.now result }
+    ensures { TriesCommand S.Store tx.old tx.new command.now last_change.now result }
 {
     match command {
         Command::Srs { .. } | Command::Table { .. } | Command::Drop { .. } => {

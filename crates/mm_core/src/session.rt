@@ -192,7 +192,7 @@ impl<S: Alter> Session<S> {
     ghost use Rattle.sqlite.specs.State.{HasCleanDisk};
     ghost use Rattle.mm_definitions.specs.Bounds.{current};
     ghost use Rattle.mm_definitions.specs.Streams.{inside, written};
-    ghost use Rattle.mm_run.specs.Promised.{Runs, RunsList};
+    ghost use Rattle.mm_run.specs.Promised.{KeepsRun, RunsList};
     ghost use Rattle.mm_store.specs.Stands.{IsSettled};
     ghost use Rattle.mm_core.specs.Parts.{connection, must_reopen, shown};
 
@@ -215,7 +215,7 @@ impl<S: Alter> Session<S> {
     ) -> Result<Tally, RunFault>
         ensures runs { RunsList ⟦<Session<S> as Apply>⟧ R.Read W.Write at self.old self.new
             reader.old reader.new writer.old writer.new result }
-        ensures settled { Runs at (HasCleanDisk (state S.Store (connection self.new)))
+        ensures settled { KeepsRun at (HasCleanDisk (state S.Store (connection self.new)))
             (λ p. IsSettled current (state S.Store (connection self.old)) p)
             (R.remaining (inside reader.old)) (must_reopen self.old) (λ p. shown S.Store self.new)
             (written W.contents writer.old) (written W.contents writer.new) result }

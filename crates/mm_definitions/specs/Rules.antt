@@ -79,7 +79,7 @@ DistinctIdentifiers contents = Each contents (λ table c. Each contents (λ othe
 
 -- ---- 4: tables, mappings and editions have names, and no mapping the name of a table
 -- each name keeps the limits of names, and no mapping has the name of a table
-pub record Names (contents : ContentsPart) (relations : RelationsPart) (editions : EditionsPart) : Type 0 where
+pub record ProperNames (contents : ContentsPart) (relations : RelationsPart) (editions : EditionsPart) : Type 0 where
   pub of_tables : Each contents (λ table _. IsName table)
   pub of_mappings : Each relations (λ mapping _. IsName mapping × (get contents mapping ≡ None))
   pub of_editions : Each editions (λ edition _. IsName edition)
@@ -369,7 +369,7 @@ pub record Meets (profile : Profile) (p : Package) : Type 0 where
   pub q1 : GivenSystems p.systems
   pub q2 : NamedSystems p.systems p.contents p.kinds p.sets
   pub q3 : DistinctIdentifiers p.contents
-  pub q4 : Names p.contents p.relations p.editions
+  pub q4 : ProperNames p.contents p.relations p.editions
   pub q5 : Registry p.contents p.kinds p.sets
   pub q6 : Extents p.contents p.sets
   pub q7 : MatricesFit p.kinds p.sets p.matrices

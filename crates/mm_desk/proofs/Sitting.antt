@@ -9,7 +9,7 @@ use Rattle.mm_laws.proofs.FirstParts.{first_part_after}
 use Rattle.mm_run.specs.Answers.{calls_of}
 use Rattle.mm_run.specs.Applied.{IsSound}
 use Rattle.mm_run.specs.Readings.{Reading, AreReadAs}
-use Rattle.mm_run.specs.Promised.{Runs as RunsFor}
+use Rattle.mm_run.specs.Promised.{KeepsRun}
 use Rattle.mm_run.specs.Runs.{AreFirstParts}
 use Rattle.mm_run.specs.Sessions.{shown}
 use Rattle.mm_run.specs.declared.apply.Apply.{Ghosts}
@@ -92,7 +92,7 @@ module _ {A : Type 0} (apply : Ghosts A) where
         (run p (calls_of v.moment readings)))
 
     as_settled : (v : Visit) (before behind : A) → RunsVisit apply v before behind
-        → RunsFor v.moment (apply.is_clean behind) (apply.settled before) (Some v.bytes) (apply.has_failed before) (λ p. shown apply behind) v.old v.new
+        → KeepsRun v.moment (apply.is_clean behind) (apply.settled before) (Some v.bytes) (apply.has_failed before) (λ p. shown apply behind) v.old v.new
         v.result
     as_settled v before behind ran =
         settled_runs apply law v.moment (apply.is_clean behind) before behind (Some v.bytes) v.old v.new v.result ran.seen

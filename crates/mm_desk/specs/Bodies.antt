@@ -3,7 +3,7 @@ use Rattle.std.specs.Prelude.{◌≡◌, ℕ, List, Some, Result, IfErr, codes}
 use Rattle.mm_definitions.specs.Streams.{Written}
 use Rattle.mm_definitions.specs.declared.answers.RunFault.{RunFault}
 use Rattle.mm_definitions.specs.declared.answers.Tally.{Tally}
-use Rattle.mm_run.specs.Promised.{Runs}
+use Rattle.mm_run.specs.Promised.{KeepsRun}
 use Rattle.mm_run.specs.Runs.{IsToldOf, RunTellsReopening, TellsWriter}
 use Rattle.mm_run.specs.Sessions.{shown_since}
 use Rattle.mm_run.specs.declared.apply.Apply as applies
@@ -17,7 +17,7 @@ pub record RunsBody {A : Type 0} (apply : applies.Ghosts A) (moment : ℕ) (old 
     (output output_now : Written) (result : Result Tally RunFault) : Type 0 where
   pub clean : apply.is_clean new → apply.is_clean old
   -- of a session that read as a package, and so of one that was settled for it (`settled_runs`)
-  pub seen : Runs moment (apply.is_clean new) (apply.seen old) (Some bytes) (apply.has_failed old) (λ p. shown_since apply old p new)
+  pub seen : KeepsRun moment (apply.is_clean new) (apply.seen old) (Some bytes) (apply.has_failed old) (λ p. shown_since apply old p new)
       output output_now result
   pub told : IsToldOf output output_now result
   pub session : RunTellsReopening (apply.has_failed old) (apply.has_failed new) (new ≡ old) result

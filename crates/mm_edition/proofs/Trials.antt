@@ -27,7 +27,7 @@ use Rattle.mm_laws.proofs.OneStamp.{stamped_moment}
 use Rattle.mm_laws.proofs.Published.{by_kind, piece_keeps, read_back}
 use Rattle.mm_definitions.specs.Faults.{store}
 use Rattle.mm_store.specs.Stands.{Ground, StandsInside}
-use Rattle.mm_edition.specs.Turns.{IsOpened, row_given, piece_given, after_turn, TellsTurn, TakesTurn, TellsTrial, Attempts, TriesPieces}
+use Rattle.mm_edition.specs.Turns.{IsOpened, row_given, piece_given, after_turn, TellsPieceTurn, TakesTurn, TellsTrial, Attempts, TriesPieces}
 use Rattle.mm_edition.specs.declared.running.Turn.{Turn}
 use Rattle.mm_edition.specs.declared.running.Turn.TheVariants.{Done, End, Refused}
 use Rattle.mm_edition.proofs.Attempting.{attempts, attempts_then, attempts_failed, attempts_fault}
@@ -92,7 +92,7 @@ module _ (edition at : Text) (number : ℕ) (profile : Profile) (s : State) (gro
 
   -- one more is done
   pub one_more : (s' : State) (moment : ℕ) → IsStamp moment at → StandsInside profile s' ground (after_turn edition number at on.edited Done)
-      → TellsTurn edition number on.edited Done
+      → TellsPieceTurn edition number on.edited Done
       → IsOn edition at (number + 1) profile s' ground p
   one_more s' moment stamped inside (x, there, none) = subst (λ n. IsOn edition at n profile s' ground p)
       (sym (add-one number)) (by on.rest on.are on.goes_on)
@@ -114,7 +114,7 @@ module _ (edition at : Text) (number : ℕ) (profile : Profile) (s : State) (gro
       }
 
   -- all are done
-  pub all_done : (s' : State) → IsTrue s'.is_open → StandsInside profile s' ground on.edited → TellsTurn edition number on.edited End
+  pub all_done : (s' : State) → IsTrue s'.is_open → StandsInside profile s' ground on.edited → TellsPieceTurn edition number on.edited End
       → TellsTrial edition at profile s' ground p None
   all_done s' up inside none = (on.edited, sym on.goes_on ∙ by on.rest on.are, on.editions, up, inside)
     where
@@ -123,7 +123,7 @@ module _ (edition at : Text) (number : ℕ) (profile : Profile) (s : State) (gro
       by (e ∷ es) are = absurd (not_none are.1 (ap (get p.pieces) are.0 ∙ none_is none))
 
   -- this one is refused
-  pub one_refused : (s' : State) (why : ℕ) → TellsTurn edition number on.edited (Refused why)
+  pub one_refused : (s' : State) (why : ℕ) → TellsPieceTurn edition number on.edited (Refused why)
       → TellsTrial edition at profile s' ground p (Some (number, why))
   one_refused s' why (x, there, reason) = sym on.goes_on ∙ by on.rest on.are
     where

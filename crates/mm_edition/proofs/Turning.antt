@@ -26,7 +26,7 @@ use Rattle.mm_layout.specs.Stamped.{step_at}
 use Rattle.mm_layout.specs.Handed.{LendsFor}
 use Rattle.mm_staging.specs.Outlines.{with_bytes, IsOutlined}
 use Rattle.mm_staging.specs.declared.outlines.Outline.{Outline}
-use Rattle.mm_edition.specs.Turns.{HoldsPiece, piece_given, row_given, after_turn, TellsTurn, TakesTurn}
+use Rattle.mm_edition.specs.Turns.{HoldsPiece, piece_given, row_given, after_turn, TellsPieceTurn, TakesTurn}
 use Rattle.mm_edition.specs.declared.running.Turn.{Turn}
 use Rattle.mm_edition.specs.declared.running.Turn.TheVariants.{Done, End, Refused}
 use Rattle.mm_edition.proofs.Lending.{goes_for}
@@ -71,7 +71,7 @@ module _ (edition : Text) (number : ℕ) (at : Text) where
   -- the command of the piece that stands gives what its turn gives
   command_turn : (p : Package) (q : Piece) (it : Outcome) → get p.pieces (piece edition (pos number)) ≡ Some (piece_row q)
       → refusal p (piece_command q) ≡ refused_as it
-      → (after_turn edition number at p (as_turn it) ≡ step_at p (piece_command q) at) × TellsTurn edition number p (as_turn it)
+      → (after_turn edition number at p (as_turn it) ≡ step_at p (piece_command q) at) × TellsPieceTurn edition number p (as_turn it)
   command_turn p q outcome.Done there accepted = (
     ap (row_given p at) there ∙ ap (piece_given p at) (read_back q)
         ∙ sym (ap (λ r. unless_refused r (done p (piece_command q) at) p) accepted ∙ piece_done p q at),
@@ -107,7 +107,7 @@ module _ {S : Type 0} {g : Ghosts S} {a b : Transaction S} {edition : Text} {num
 module _ {S : Type 0} {g : Ghosts S} {a b c : Transaction S} {found : Option Outline} {outline : Outline} where
   took : (edition : Text) (number : ℕ) (at : Text) {r : Result Outcome Fault} → Found g a b edition number (Ok found) → found ≡ Some outline
       → Taken g b c edition number outline at r
-      → Goes g a c Meets (λ p it. after_turn edition number at p (as_turn it)) (λ profile p it. TellsTurn edition number p (as_turn it)) r
+      → Goes g a c Meets (λ p it. after_turn edition number at p (as_turn it)) (λ profile p it. TellsPieceTurn edition number p (as_turn it)) r
   took edition number at look is taken = goes_for (goes_given look (λ profile p meets. tt)) [] taken.goes (λ profile p meets says.
       let told = says meets in
       let there = told.1 ∙ ap (option_map (λ (it : Outline). piece_row (with_bytes told.0 it))) is in
@@ -118,7 +118,7 @@ module _ {S : Type 0} {g : Ghosts S} {a b c : Transaction S} {found : Option Out
         → turn ≡ as_turn it → TakesTurn g a c edition number at (Ok turn)
     turn_taken look is taken same = record {
       goes = goes_as (took edition number at look is taken)
-          (λ profile p meets says. (ap (after_turn edition number at p) same, subst (TellsTurn edition number p) (sym same) says));
+          (λ profile p meets says. (ap (after_turn edition number at p) same, subst (TellsPieceTurn edition number p) (sym same) says));
     }
 
     pub turn_gave_up : {e : Fault} {r : Result Turn Fault} → Found g a b edition number (Ok found) → found ≡ Some outline

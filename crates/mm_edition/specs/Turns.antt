@@ -51,11 +51,11 @@ after_turn edition number at p End = p
 after_turn edition number at p (Refused why) = p
 
 -- the piece of the number stands and nothing refuses it; or there is none; or it is refused for this
-abbrev pub TellsTurn : Text → ℕ → Package → Turn → Type 0
-TellsTurn edition number p Done =
+abbrev pub TellsPieceTurn : Text → ℕ → Package → Turn → Type 0
+TellsPieceTurn edition number p Done =
     (q : Piece) × (get p.pieces (piece edition (pos number)) ≡ Some (piece_row q)) × (least (piece_reasons p q) ≡ None)
-TellsTurn edition number p End = get p.pieces (piece edition (pos number)) ≡ None
-TellsTurn edition number p (Refused why) =
+TellsPieceTurn edition number p End = get p.pieces (piece edition (pos number)) ≡ None
+TellsPieceTurn edition number p (Refused why) =
     (q : Piece) × (get p.pieces (piece edition (pos number)) ≡ Some (piece_row q)) × (least (piece_reasons p q) ≡ Some why)
 
 -- ---- all pieces, and what publishing comes to. Of the transaction after a refusal, which is rolled back, nothing is said.
@@ -89,7 +89,7 @@ TellsPublish edition at profile new ground p it =
 module _ {S : Type 0} (g : Ghosts S) (old new : Transaction S) where
   -- it does the piece of the number, and writes this text as last_change
   pub record TakesTurn (edition : Text) (number : ℕ) (at : Text) (result : Result Turn Fault) : Type 0 where
-    pub goes : Goes g old new Meets (after_turn edition number at) (λ profile. TellsTurn edition number) result
+    pub goes : Goes g old new Meets (after_turn edition number at) (λ profile. TellsPieceTurn edition number) result
 
   -- As `Goes`, but that what is said is said of the state after the call too, which need not stand for any package.
   pub record Attempts {T : Type 0} (When : Known) (Says : Said T) (result : Result T Fault) : Type 0 where

@@ -7,7 +7,7 @@ use Rattle.sqlite.specs.State.{State}
 use Rattle.sqlite.specs.Order.{Row, column}
 use Rattle.sqlite.specs.Term.{col}
 use Rattle.sql_forms.specs.Maps.{Holds}
-use Rattle.sql_forms.specs.Tables.{Finds}
+use Rattle.sql_forms.specs.Tables.{FindsRow}
 use Rattle.sql_forms.proofs.Keys.{columns_are}
 use Rattle.sql_forms.proofs.Selects.{shows}
 use Rattle.mm_definitions.specs.Bounds.{Profile}
@@ -48,11 +48,12 @@ module _ (rows : List Row) (ids : FinMap piece_cmp StagedRow) (h : Holds past_ro
   abbrev key : PieceKey
   key = piece edition (pos number)
 
-  pub blob_told : (answer : Option ℤ) (first : Option Row) → GivesNumber answer first → Finds (by_piece key) (shows (col 1 14 ∷ []) params) rows first
+  pub blob_told : (answer : Option ℤ) (first : Option Row) → GivesNumber answer first → FindsRow (by_piece key) (shows (col 1 14 ∷ []) params) rows first
       → TellsBlob edition number shelf p answer
   blob_told None first gives found = tt
   blob_told (Some id) first gives found = λ bytes has.
-      let at = finds_some parts.pieces rows ids h key (shows (col 1 14 ∷ []) params) gives.0 (subst (Finds (by_piece key) (shows (col 1 14 ∷ []) params) rows) gives.1 found) in
+      let at = finds_some parts.pieces rows ids h key (shows (col 1 14 ∷ []) params) gives.0
+      (subst (FindsRow (by_piece key) (shows (col 1 14 ∷ []) params) rows) gives.1 found) in
       let shown : maybe at.0.blob ≡ Int id = sym (columns_are at.2 (staged_row key at.0) 13 at.3) ∙ sym (ap (λ (r : Row). column r 0) at.4) ∙ gives.2 in
       stands_at shelf at.0 has.0 id bytes (subst (λ o. Told piece_id piece_with shelf (Some at.0) o) has.1 (subst (λ o. Told piece_id piece_with shelf o (get p.pieces key)) at.1 told)) (maybe_some id at.0.blob shown) has.2
 

@@ -16,7 +16,7 @@ use Rattle.mm_definitions.specs.Reading.{ReadsTo, refused}
 use Rattle.mm_definitions.specs.declared.answers.ReadFault.{ReadFault}
 use Rattle.mm_definitions.specs.declared.answers.ReadFault.TheVariants as faults
 use Rattle.mm_base.proofs.RecordFacts.{first_and_rest, rest_of}
-use Rattle.mm_kit.specs.declared.entries.Entry.{Entry}
+use Rattle.mm_kit.specs.declared.entries.KitEntry.{KitEntry}
 use Rattle.mm_kit.specs.Entries.{HoldsAgainstEntry, IsEntry, IsLeftToAsk, entry_of, file_of, least_fault, without_file}
 
 low_number : (word : Text) (n : ℕ) → IsAgainst id_field word n → n ≤ 11
@@ -107,13 +107,13 @@ module _ (place : ℕ) (word : Text) (r : Record) where
   -- whose number is refused
   pub number_refused : (n : ℕ) (piece : Result Piece ReadFault) → IsAgainst id_field word n
       → ReadsTo (SpellsPiece current (without_file r)) (IsLeast (HoldsAgainstPiece current (without_file r))) piece
-      → ReadsTo {A = Entry} (IsEntry place (word ∷ r)) (IsLeast Held) (Err (least_fault n piece))
+      → ReadsTo {A = KitEntry} (IsEntry place (word ∷ r)) (IsLeast Held) (Err (least_fault n piece))
   number_refused n (Ok q) h reads = (refl, number_alone n q h reads)
   number_refused n (Err faults.Memory) h reads = tt
   number_refused n (Err (faults.Refused why)) h reads = by (nat_lt why.number n) refl
     where
       by : (b : Bool) → nat_lt why.number n ≡ b
-          → ReadsTo {A = Entry} (IsEntry place (word ∷ r)) (IsLeast Held) (Err (if b then faults.Refused why else refused n))
+          → ReadsTo {A = KitEntry} (IsEntry place (word ∷ r)) (IsLeast Held) (Err (if b then faults.Refused why else refused n))
       by true e = (reads.0, piece_first n why.number h reads.1 (lower (ltb-true why.number n e)))
         where
           lower : {a b : ℕ} → a < b → a ≤ b
@@ -124,12 +124,12 @@ module _ (place : ℕ) (word : Text) (r : Record) where
   module _ (z : ℤ) (spells : SpellsNumber word z) (low : pos 1 ≤ℤ z) (high : z ≤ℤ pos 9007199254740992) where
     pub piece_refused : (fault : ReadFault)
         → ReadsTo (SpellsPiece current (without_file r)) (IsLeast (HoldsAgainstPiece current (without_file r))) (Err fault)
-        → ReadsTo {A = Entry} (IsEntry place (word ∷ r)) (IsLeast Held) (Err fault)
+        → ReadsTo {A = KitEntry} (IsEntry place (word ∷ r)) (IsLeast Held) (Err fault)
     piece_refused faults.Memory reads = tt
     piece_refused (faults.Refused why) reads = (reads.0, piece_alone z spells low high why.number reads.1)
 
 -- the fields behind the first are the record of the piece
-pub entry_whole : (place : ℕ) (xs items : List (Bor Text)) (r : Result Entry ReadFault) → 1 ≤ length xs → items ≡ rest_of xs
+pub entry_whole : (place : ℕ) (xs items : List (Bor Text)) (r : Result KitEntry ReadFault) → 1 ≤ length xs → items ≡ rest_of xs
     → ReadsTo (IsEntry place (text_at xs 0 ∷ texts_of items)) (IsLeast (HoldsAgainstEntry place (text_at xs 0 ∷ texts_of items))) r
     → ReadsTo (IsEntry place (texts_of xs)) (IsLeast (HoldsAgainstEntry place (texts_of xs))) r
 entry_whole place xs items r some is h =

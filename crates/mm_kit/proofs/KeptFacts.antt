@@ -15,7 +15,7 @@ use Rattle.mm_definitions.proofs.RefusalFacts.{refused}
 use Rattle.mm_kit.specs.Editions.{HasPieces}
 use Rattle.mm_kit.specs.Imports.{IsEntryStaged, IsFirstOf, IsPassedBy, KeepsOthers, SameBut}
 use Rattle.mm_kit.specs.Folders.{Files}
-use Rattle.mm_kit.specs.declared.entries.Entry.{Entry}
+use Rattle.mm_kit.specs.declared.entries.KitEntry.{KitEntry}
 use Rattle.mm_run.specs.Applied.{IsSound}
 use Rattle.mm_run.specs.Shown.{Shown}
 use Rattle.mm_kit.proofs.LawFacts.{numbered-in}
@@ -78,7 +78,7 @@ module _ (name : Text) (p q : Package) (old : List Piece) (meets : Meets current
       (step q c moment, stands, next, kept (k + 1) name p old (step q c moment) before (passed_by-more less passed free moment))
 
 -- an entry was staged
-pub passed-staged : {D : Type 0} (shows : Shown D) (told : Option Files) (e : Entry) (name : Text) (p q : Package) (old : List Piece) (k : ℕ)
+pub passed-staged : {D : Type 0} (shows : Shown D) (told : Option Files) (e : KitEntry) (name : Text) (p q : Package) (old : List Piece) (k : ℕ)
     → Meets current q → k < 4096 → IsPassedBy k name p old q → (moment : ℕ)
     → IsEntryStaged told e name (k + 1) q moment shows (Ok None) → (r : Package) × IsSound shows.settled r × IsPassedBy (k + 1) name p old r
 passed-staged shows told e name p q old k meets less passed moment (x, it, good, goes) =

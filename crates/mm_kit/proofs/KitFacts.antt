@@ -18,7 +18,7 @@ use Rattle.mm_kit.specs.Folders.{Files}
 use Rattle.mm_kit.specs.Imports.{IsImportAnswered, AreImported, AreStaged, AreStagedOn, HasCounted, ImportWorksOn, GrowsAlong, IsCounted, OnlyGrows, MayBeStaged, IsImportStopped}
 use Rattle.mm_kit.specs.Kits.{edition_answer, kit_of}
 use Rattle.mm_kit.specs.Lists.{IsKitList}
-use Rattle.mm_kit.specs.declared.entries.Entry.{Entry}
+use Rattle.mm_kit.specs.declared.entries.KitEntry.{KitEntry}
 use Rattle.mm_kit.proofs.EditionFacts.{open_has}
 
 zero_le : (n : ℕ) → 0 ≤ n
@@ -48,7 +48,7 @@ some_edition p name meets = by (get p.editions name) refl
     ]
 
 module _ (files : Files) (name : Text) (p : Package) where
-  pub imported : (entries : List Entry) (a : Staged) (settled : Package → Type 0) → IsKitList files (Ok entries)
+  pub imported : (entries : List KitEntry) (a : Staged) (settled : Package → Type 0) → IsKitList files (Ok entries)
       → AreImported files name entries p settled a → IsImportAnswered files name p settled a
   imported entries a settled read it = record {
     list = Ok entries;
@@ -79,18 +79,18 @@ module _ (files : Files) (name : Text) (p : Package) where
         has = tt;
       }
 
-  along : (list : Result (List Entry) (ℕ × ℕ)) → IsKitList files list → (q : Package) → OnlyGrows name (kit_of files list) p q → GrowsAlong files name p q
+  along : (list : Result (List KitEntry) (ℕ × ℕ)) → IsKitList files list → (q : Package) → OnlyGrows name (kit_of files list) p q → GrowsAlong files name p q
   along list read q (inl same) = inl same
   along list read q (inr grown) = inr (list, read, grown)
 
-  pub stopped_some : {D : Type 0} (entries : List Entry) (may_leave : D → Type 0) (stands_for : D → Package → Type 0) (s : ℕ)
+  pub stopped_some : {D : Type 0} (entries : List KitEntry) (may_leave : D → Type 0) (stands_for : D → Package → Type 0) (s : ℕ)
       → IsKitList files (Ok entries) → MayBeStaged files name entries p may_leave stands_for s
       → IsImportStopped files name p may_leave stands_for s
   stopped_some entries may_leave stands_for s read left db may =
       let (q, stands, meets, grows, counted) = left db may in
       (q, stands, meets, along (Ok entries) read q grows, counted)
 
-  pub works_some : (entries : List Entry) (settled : Package → Type 0) (s : ℕ) → IsKitList files (Ok entries)
+  pub works_some : (entries : List KitEntry) (settled : Package → Type 0) (s : ℕ) → IsKitList files (Ok entries)
       → AreStagedOn files name entries p settled s → ImportWorksOn files name p settled s
   works_some entries settled s read (q, sound, grows, counted) = (q, sound, along (Ok entries) read q grows, counted)
 
@@ -98,12 +98,12 @@ module _ (files : Files) (name : Text) (p : Package) where
       → ((db : D) → may_leave db → stands_for db p) → IsImportStopped files name p may_leave stands_for 0
   stopped_at_once may_leave stands_for meets left db may = (p, left db may, meets, inl refl, as_it_was name p)
 
-  pub staged_at_once : {D : Type 0} (entries : List Entry) (may_leave : D → Type 0) (stands_for : D → Package → Type 0) → Meets current p
+  pub staged_at_once : {D : Type 0} (entries : List KitEntry) (may_leave : D → Type 0) (stands_for : D → Package → Type 0) → Meets current p
       → ((db : D) → may_leave db → stands_for db p) → MayBeStaged files name entries p may_leave stands_for 0
   staged_at_once entries may_leave stands_for meets left db may = (p, left db may, meets, inl refl, as_it_was name p)
 
   -- ---- the import of the entries, by how the edition stands
-  module _ (entries : List Entry) (settled : Package → Type 0) where
+  module _ (entries : List KitEntry) (settled : Package → Type 0) where
     at_once : (place number : ℕ) (edition : Option Edition) → IsEdition p name edition → IsSound settled p
         → Refused place number ≡ edition_answer files entries edition → ((number ≡ 57) ⊎ (number ≡ 11) → ⊥)
         → AreImported files name entries p settled (Refused place number)

@@ -9,9 +9,9 @@ use Rattle.mm_io.specs.Records.{Record}
 use Rattle.std.proofs.Common.{ℕ}
 use Rattle.mm_kit.specs.Entries.{HoldsAgainstEntry, IsEntry}
 use Rattle.mm_kit.specs.Lists.{IsEntryRead}
-use Rattle.mm_kit.specs.declared.entries.Entry.{Entry}
+use Rattle.mm_kit.specs.declared.entries.KitEntry.{KitEntry}
 
-pub text_read : (place : ℕ) (r : Record) (result : Result Entry ReadFault) → AllText r
+pub text_read : (place : ℕ) (r : Record) (result : Result KitEntry ReadFault) → AllText r
     → ReadsTo (IsEntry place r) (IsLeast (HoldsAgainstEntry place r)) result → IsEntryRead place r result
 text_read place r (Ok e) text h = (text, h)
 text_read place r (Err faults.Memory) text h = tt

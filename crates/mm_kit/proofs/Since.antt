@@ -22,11 +22,11 @@ use Rattle.mm_kit.specs.Folders.{Files}
 use Rattle.mm_kit.specs.Imports.{AreStaged, AreStagedOn, ImportWorksOn, IsEntryStaged, IsImportAnswered, IsImportKept, IsImportStopped}
 use Rattle.mm_kit.specs.Imports.{IsStillKept, MayBeStaged}
 use Rattle.mm_kit.specs.Promised.{Imports}
-use Rattle.mm_kit.specs.declared.entries.Entry.{Entry}
+use Rattle.mm_kit.specs.declared.entries.KitEntry.{KitEntry}
 use Rattle.mm_kit.proofs.EditionFacts.{open_has}
 
 module _ {D : Type 0} (a b : Shown D) (eases : Eases a b) where
-  entry_eased : (told : Option Files) (e : Entry) (name : Text) (n : ℕ) (p : Package) (moment : ℕ) (result : Result (Option ℕ) Fault)
+  entry_eased : (told : Option Files) (e : KitEntry) (name : Text) (n : ℕ) (p : Package) (moment : ℕ) (result : Result (Option ℕ) Fault)
       → IsEntryStaged told e name n p moment a result → IsEntryStaged told e name n p moment b result
   entry_eased told e name n p moment (Ok None) h = (h.0, h.1, h.2, sound_eased a b eases _ h.3)
   entry_eased told e name n p moment (Ok (Some number)) h = (sound_eased a b eases p h.0, h.1)
@@ -34,7 +34,7 @@ module _ {D : Type 0} (a b : Shown D) (eases : Eases a b) where
   entry_eased told e name n p moment (Err fault) (inr h) =
       inr (eases.failed ∙ h.0, h.1, h.2, h.3, either_eased a b eases p (commands.Stage name (pos n) h.1) moment h.4)
 
-  pub are_staged_eased : (files : Files) (name : Text) (entries : List Entry) (p : Package) (old : List Piece) (answer : Staged)
+  pub are_staged_eased : (files : Files) (name : Text) (entries : List KitEntry) (p : Package) (old : List Piece) (answer : Staged)
       → AreStaged files name entries p old a.settled answer → AreStaged files name entries p old b.settled answer
   are_staged_eased files name entries p old answer it = record {
     answer_is = it.answer_is;
@@ -58,7 +58,7 @@ module _ {D : Type 0} (a b : Shown D) (eases : Eases a b) where
     has = it.has;
   }
 
-  pub may_be_staged_eased : (files : Files) (name : Text) (entries : List Entry) (p : Package) (s : ℕ)
+  pub may_be_staged_eased : (files : Files) (name : Text) (entries : List KitEntry) (p : Package) (s : ℕ)
       → MayBeStaged files name entries p a.may_leave a.stands_for s → MayBeStaged files name entries p b.may_leave b.stands_for s
   may_be_staged_eased files name entries p s it db may =
       let (q, stands, meets, grows, counted) = it db (eases.left db may) in (q, eases.stands db q stands, meets, grows, counted)
@@ -68,7 +68,7 @@ module _ {D : Type 0} (a b : Shown D) (eases : Eases a b) where
   stopped_eased files name p s it db may =
       let (q, stands, meets, grows, counted) = it db (eases.left db may) in (q, eases.stands db q stands, meets, grows, counted)
 
-  pub staged_on_eased : (files : Files) (name : Text) (entries : List Entry) (p : Package) (s : ℕ)
+  pub staged_on_eased : (files : Files) (name : Text) (entries : List KitEntry) (p : Package) (s : ℕ)
       → AreStagedOn files name entries p a.settled s → AreStagedOn files name entries p b.settled s
   staged_on_eased files name entries p s (q, sound, grows, counted) = (q, sound_eased a b eases q sound, grows, counted)
 
@@ -87,7 +87,7 @@ module _ {D : Type 0} (a b : Shown D) (eases : Eases a b) where
 
 module _ {A : Type 0} (ghosts : Ghosts A) where
   -- one entry more
-  pub entry_since : (first mid new : A) (told : Option Files) (e : Entry) (name : Text) (n moment : ℕ) (result : Result (Option ℕ) Fault)
+  pub entry_since : (first mid new : A) (told : Option Files) (e : KitEntry) (name : Text) (n moment : ℕ) (result : Result (Option ℕ) Fault)
       (clean : Type 0)
       → (clean → (q : Package) → IsSound (ghosts.seen mid) q → IsEntryStaged told e name n q moment (shown_since ghosts mid q new) result)
       → (was : Package) → clean → (q : Package) → IsSound (shown_since ghosts first was mid).settled q

@@ -34,7 +34,7 @@ use Rattle.mm_kit.specs.Editions.{HasPieces, numbered}
 use Rattle.mm_kit.specs.Folders.{Files}
 use Rattle.mm_kit.specs.Kits.{against, beside, filled, first_number, kit_pieces}
 use Rattle.mm_kit.specs.Imports.{HasCounted, IsEntryStaged, IsFilled, IsFirstOf, SameBut, OnlyGrows, HasFirst, HasWhole, IsCounted, IsPassed, IsImportedSoFar}
-use Rattle.mm_kit.specs.declared.entries.Entry.{Entry}
+use Rattle.mm_kit.specs.declared.entries.KitEntry.{KitEntry}
 
 -- ---- pieces by their numbers
 
@@ -321,7 +321,8 @@ module _ (name : Text) (p q : Package) (old done : List Piece) (before : HasPiec
 
 -- ---- the loop
 
-pub so_far-none : (files : Files) (name : Text) (entries : List Entry) (p : Package) (old : List Piece) → IsImportedSoFar files name entries entries p old 0 p
+pub so_far-none : (files : Files) (name : Text) (entries : List KitEntry) (p : Package) (old : List Piece)
+    → IsImportedSoFar files name entries entries p old 0 p
 so_far-none files name entries p old = record {
   done = [];
   count = refl;
@@ -332,7 +333,7 @@ so_far-none files name entries p old = record {
 }
 
 -- what is filled is told by the files
-pub fills : (files : Files) (told : Option Files) (e : Entry) (full : Result Piece ℕ) → told ≡ Some files → IsFilled told e full → filled files e ≡ full
+pub fills : (files : Files) (told : Option Files) (e : KitEntry) (full : Result Piece ℕ) → told ≡ Some files → IsFilled told e full → filled files e ≡ full
 fills files told e full tells it = sym (rw tells at it)
 
 -- 52 is of no file
@@ -340,8 +341,8 @@ no_file : (n : ℕ) → n ≡ 52 → (n ≡ 57) ⊎ (n ≡ 11) → ⊥
 no_file n e (inl h) = absurd (omega (arith, e, h))
 no_file n e (inr h) = absurd (omega (arith, e, h))
 
-module _ (files : Files) (name : Text) (entries : List Entry) (p : Package) (old : List Piece) (before : HasPieces p name old) where
-  pub so_far-more : (left : List Entry) (e : Entry) (x : Piece) (k : ℕ) (q : Package) → IsImportedSoFar files name entries (e ∷ left) p old k q
+module _ (files : Files) (name : Text) (entries : List KitEntry) (p : Package) (old : List Piece) (before : HasPieces p name old) where
+  pub so_far-more : (left : List KitEntry) (e : KitEntry) (x : Piece) (k : ℕ) (q : Package) → IsImportedSoFar files name entries (e ∷ left) p old k q
       → filled files e ≡ Ok x → k < 4096 → Meets current q
       → (moment : ℕ) → refusal q (commands.Stage name (pos (k + 1)) x) ≡ None
       → IsImportedSoFar files name entries left p old (k + 1) (step q (commands.Stage name (pos (k + 1)) x) moment)
@@ -360,7 +361,7 @@ module _ (files : Files) (name : Text) (entries : List Entry) (p : Package) (old
       }
 
   -- the same of an entry that was staged
-  pub staged-more : {D : Type 0} (shows : Shown D) (left : List Entry) (e : Entry) (k : ℕ) (q : Package)
+  pub staged-more : {D : Type 0} (shows : Shown D) (left : List KitEntry) (e : KitEntry) (k : ℕ) (q : Package)
       → IsImportedSoFar files name entries (e ∷ left) p old k q → k < 4096 → Meets current q
       → (told : Option Files) → told ≡ Some files → (moment : ℕ) → IsEntryStaged told e name (k + 1) q moment shows (Ok None)
       → (r : Package) × IsSound shows.settled r × IsImportedSoFar files name entries left p old (k + 1) r
@@ -368,7 +369,7 @@ module _ (files : Files) (name : Text) (entries : List Entry) (p : Package) (old
       (step q (commands.Stage name (pos (k + 1)) x) moment, goes, so_far-more left e x k q s (fills files told e (Ok x) tells it) less meets moment good)
 
   -- ---- what stands then
-  pub grows : (left : List Entry) (k : ℕ) (q : Package) → IsImportedSoFar files name entries left p old k q → OnlyGrows name (kit_pieces files entries) p q
+  pub grows : (left : List KitEntry) (k : ℕ) (q : Package) → IsImportedSoFar files name entries left p old k q → OnlyGrows name (kit_pieces files entries) p q
   grows left k q s = by s.passed
     where
       by : IsPassed name p old s.done q → OnlyGrows name (kit_pieces files entries) p q
@@ -381,20 +382,20 @@ module _ (files : Files) (name : Text) (entries : List Entry) (p : Package) (old
   size k done q count (inl (same, (rest, e))) = (old, subst (λ r. HasPieces r name old) (sym same) before, sym (max-eq_left (omega (arith, count, ap length e, length-append done rest))))
   size k done q count (inr ((rest, e), has, same)) = (done, has, count ∙ sym (max-eq_right (omega (arith, count, ap length e, length-append old rest))))
 
-  pub counted_all : (left : List Entry) (k : ℕ) (q : Package) → IsImportedSoFar files name entries left p old k q → HasCounted k name p q
+  pub counted_all : (left : List KitEntry) (k : ℕ) (q : Package) → IsImportedSoFar files name entries left p old k q → HasCounted k name p q
   counted_all left k q s old2 has2 =
       let it = size k s.done q s.count s.passed in
       let is : old2 ≡ old = has_one p name old2 old has2 before in
       (it.0, it.1, it.2 ∙ ap (λ l. max (length l) k) (sym is))
 
-  pub counted : (left : List Entry) (k : ℕ) (q : Package) → IsImportedSoFar files name entries left p old k q → IsCounted k name p q
+  pub counted : (left : List KitEntry) (k : ℕ) (q : Package) → IsImportedSoFar files name entries left p old k q → IsCounted k name p q
   counted left k q s old2 has2 =
       let it = size k s.done q s.count s.passed in
       let is : old2 ≡ old = has_one p name old2 old has2 before in
       (it.0, it.1, inl (it.2 ∙ ap (λ l. max (length l) k) (sym is)))
 
   -- the same, where one more may stand
-  pub doubted : (left : List Entry) (k : ℕ) (q : Package) → IsImportedSoFar files name entries left p old (k + 1) q → IsCounted k name p q
+  pub doubted : (left : List KitEntry) (k : ℕ) (q : Package) → IsImportedSoFar files name entries left p old (k + 1) q → IsCounted k name p q
   doubted left k q s old2 has2 =
       let it = size (k + 1) s.done q s.count s.passed in
       let is : old2 ≡ old = has_one p name old2 old has2 before in
@@ -407,7 +408,7 @@ module _ (files : Files) (name : Text) (entries : List Entry) (p : Package) (old
       by new all (inl it) = inl (all ∙ max-eq_left it.1 ∙ sym (max-eq_left (omega (arith, it.1))))
 
   -- ---- the answers
-  pub number_refused : (left : List Entry) (e : Entry) (x : Piece) (k : ℕ) (q : Package) → IsImportedSoFar files name entries (e ∷ left) p old k q
+  pub number_refused : (left : List KitEntry) (e : KitEntry) (x : Piece) (k : ℕ) (q : Package) → IsImportedSoFar files name entries (e ∷ left) p old k q
       → filled files e ≡ Ok x → k < 4096 → Meets current q
       → (why : Refusal) → refusal q (commands.Stage name (pos (k + 1)) x) ≡ Some why
       → (first_number (against files old) 1 entries ≡ Some (k + 1, why.number)) × (why.number ≡ 52)
@@ -418,7 +419,7 @@ module _ (files : Files) (name : Text) (entries : List Entry) (p : Package) (old
       let (number, is) = rw (s.count) at turn in
       (s.answer ∙ rw (full, number) refl, is)
 
-  pub number_unfilled : (left : List Entry) (e : Entry) (k n : ℕ) (q : Package) → IsImportedSoFar files name entries (e ∷ left) p old k q
+  pub number_unfilled : (left : List KitEntry) (e : KitEntry) (k n : ℕ) (q : Package) → IsImportedSoFar files name entries (e ∷ left) p old k q
       → filled files e ≡ Err n → first_number (against files old) 1 entries ≡ Some (k + 1, n)
   unfolding first_number
   number_unfilled left e k n q s lacks = s.answer ∙ rw lacks refl
@@ -434,7 +435,7 @@ module _ (files : Files) (name : Text) (entries : List Entry) (p : Package) (old
       subst (λ r. HasPieces r name done) (sym same) (subst (HasPieces p name) (e ∙ ap (λ l. done ++ l) no_more ∙ append-nil done) before)
   all_staged done q (inr it) h = it.1
 
-  pub has_first : (left : List Entry) (e : Entry) (k n : ℕ) (q : Package) → IsImportedSoFar files name entries (e ∷ left) p old k q
+  pub has_first : (left : List KitEntry) (e : KitEntry) (k n : ℕ) (q : Package) → IsImportedSoFar files name entries (e ∷ left) p old k q
       → filled files e ≡ Err n → HasFirst files name entries p q n
   unfolding kit_pieces
   has_first left e k n q s lacks why old2 has2 (rest, front) =
@@ -451,7 +452,7 @@ module _ (files : Files) (name : Text) (entries : List Entry) (p : Package) (old
       (s.answer, record { whole = s.whole; pieces = subst (HasPieces q name) (sym kit) (all_staged s.done q s.passed (omega (arith, s.count, most))); count = ap length kit ∙ s.count })
 
   -- the entry was refused, for its file or as a command
-  pub refused_at : (left : List Entry) (e : Entry) (k n : ℕ) (q : Package) → IsImportedSoFar files name entries (e ∷ left) p old k q → k < 4096
+  pub refused_at : (left : List KitEntry) (e : KitEntry) (k n : ℕ) (q : Package) → IsImportedSoFar files name entries (e ∷ left) p old k q → k < 4096
       → Meets current q → (told : Option Files) → told ≡ Some files
       → IsFilled told e (Err n) ⊎ ((x : Piece) × IsFilled told e (Ok x) × (why : Refusal) × (why.number ≡ n) × (refusal q (commands.Stage name (pos (k + 1)) x) ≡ Some why))
       → (first_number (against files old) 1 entries ≡ Some (k + 1, n)) × HasFirst files name entries p q n
@@ -463,7 +464,7 @@ module _ (files : Files) (name : Text) (entries : List Entry) (p : Package) (old
       (first ∙ ap (λ m. Some (k + 1, m)) is, λ files. absurd (no_file n (sym is ∙ number) files))
 
   -- ---- a command in doubt
-  pub left_in_doubt : {D : Type 0} (stands_for : D → Package → Type 0) (db : D) (left : List Entry) (e : Entry) (x : Piece) (k : ℕ) (q : Package)
+  pub left_in_doubt : {D : Type 0} (stands_for : D → Package → Type 0) (db : D) (left : List KitEntry) (e : KitEntry) (x : Piece) (k : ℕ) (q : Package)
       → IsImportedSoFar files name entries (e ∷ left) p old k q → filled files e ≡ Ok x → k < 4096 → Meets current q
       → (moment : ℕ) → Meets current (step q (commands.Stage name (pos (k + 1)) x) moment)
       → stands_for db q ⊎ ((refusal q (commands.Stage name (pos (k + 1)) x) ≡ None) × stands_for db (step q (commands.Stage name (pos (k + 1)) x) moment))

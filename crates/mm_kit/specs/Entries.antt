@@ -16,8 +16,8 @@ use Rattle.mm_definitions.specs.declared.commands.Piece.{Piece}
 use Rattle.mm_definitions.specs.declared.commands.Piece.TheVariants as pieces
 use Rattle.mm_io.specs.Records.{Record}
 use Rattle.mm_kit.specs.FileNames.{IsFileName}
-use Rattle.mm_kit.specs.declared.entries.Entry.{Entry}
-use Rattle.mm_kit.specs.declared.entries.Entry.TheVariants.{Ready, Tile, Media}
+use Rattle.mm_kit.specs.declared.entries.KitEntry.{KitEntry}
+use Rattle.mm_kit.specs.declared.entries.KitEntry.TheVariants.{Ready, Tile, Media}
 
 -- the last field of the piece's record is a file's name
 abbrev pub takes_file : Record → Bool
@@ -33,7 +33,7 @@ abbrev pub without_file : Record → Record
 without_file r = if takes_file r then take (length r - 1) r ++ codes "00" ∷ [] else r
 
 -- the entry of the piece that is then spelled
-abbrev pub entry_of : Piece → Option Text → Entry
+abbrev pub entry_of : Piece → Option Text → KitEntry
 entry_of (pieces.Tile table zoom column row bytes) (Some file) = Tile table zoom column row file
 entry_of (pieces.Media table id content_type bytes) (Some file) = Media table id content_type file
 entry_of q file = Ready q
@@ -44,7 +44,7 @@ IsInForm None = ⊤
 IsInForm (Some name) = IsFileName name
 
 -- the record at this place of the list is this entry
-abbrev pub IsEntry : ℕ → Record → Entry → Type 0
+abbrev pub IsEntry : ℕ → Record → KitEntry → Type 0
 IsEntry place [] e = ⊥
 IsEntry place (number ∷ r) e = SpellsNumber number (pos place) × (place ≤ MostPieces) × IsInForm (file_of r)
     × (q : Piece) × SpellsPiece current (without_file r) q × (e ≡ entry_of q (file_of r))
@@ -59,7 +59,7 @@ HoldsAgainstEntry place (number ∷ r) n =
     ⊎ ((n ≡ NO_FILE) × ¬ (IsInForm (file_of r)))
 
 -- The entry, or the least number that is against the record. One with a field that isn't text is refused 10.
-abbrev pub IsEntryReadAs : ℕ → Record → Result Entry ℕ → Type 0
+abbrev pub IsEntryReadAs : ℕ → Record → Result KitEntry ℕ → Type 0
 IsEntryReadAs place r (Ok e) = AllText r × IsEntry place r e
 IsEntryReadAs place r (Err n) = (AllText r × IsLeast (HoldsAgainstEntry place r) n) ⊎ (¬ (AllText r) × (n ≡ NO_SUCH_RECORD))
 

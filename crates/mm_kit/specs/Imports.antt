@@ -21,7 +21,7 @@ use Rattle.mm_kit.specs.Editions.{Edition, HasPieces, IsEdition}
 use Rattle.mm_kit.specs.Folders.{Files}
 use Rattle.mm_kit.specs.Kits.{IsWholeKit, against, edition_answer, filled, error_of, first_answer, first_number, kit_answer, kit_of, kit_pieces}
 use Rattle.mm_kit.specs.Lists.{IsKitList}
-use Rattle.mm_kit.specs.declared.entries.Entry.{Entry}
+use Rattle.mm_kit.specs.declared.entries.KitEntry.{KitEntry}
 
 -- the one list is a front of the other, or all of it
 abbrev pub IsFirstOf : List Piece → List Piece → Type 0
@@ -49,18 +49,18 @@ OnlyGrows name kit p q = (q ≡ p) ⊎ IsGrown name kit p q
 -- ---- an import that is answered
 
 -- complete: the kit is whole, has so many pieces, and they are the edition's
-pub record HasWhole (files : Files) (name : Text) (entries : List Entry) (q : Package) (n : ℕ) : Type 0 where
+pub record HasWhole (files : Files) (name : Text) (entries : List KitEntry) (q : Package) (n : ℕ) : Type 0 where
   pub whole : IsWholeKit files entries
   pub pieces : HasPieces q name (kit_pieces files entries)
   pub count : length (kit_pieces files entries) ≡ n
 
 -- refused for a file: where the edition's pieces were a first part of the kit, they are the kit
-abbrev pub HasFirst : Files → Text → List Entry → Package → Package → ℕ → Type 0
+abbrev pub HasFirst : Files → Text → List KitEntry → Package → Package → ℕ → Type 0
 HasFirst files name entries p q number =
     (number ≡ NO_FILE) ⊎ (number ≡ OUT_OF_LIMITS) → (old : List Piece) → HasPieces p name old → IsFirstOf old (kit_pieces files entries) → HasPieces q name (kit_pieces files entries)
 
 -- what q, the package after the import, has of the kit by the answer; where the list is refused it can't be complete
-abbrev pub HasAnswered : Files → Text → Result (List Entry) (ℕ × ℕ) → Package → Package → Staged → Type 0
+abbrev pub HasAnswered : Files → Text → Result (List KitEntry) (ℕ × ℕ) → Package → Package → Staged → Type 0
 HasAnswered files name (Ok entries) p q (Complete n) = HasWhole files name entries q n
 HasAnswered files name (Ok entries) p q (Refused place number) = HasFirst files name entries p q number
 HasAnswered files name (Err at) p q (Complete n) = ⊥
@@ -68,7 +68,7 @@ HasAnswered files name (Err at) p q (Refused place number) = ⊤
 
 -- The answer is that of the kit on the package, and the session is then settled for a package that has grown along the kit.
 pub record IsImportAnswered (files : Files) (name : Text) (p : Package) (settled : Package → Type 0) (answer : Staged) : Type 0 where
-  pub list : Result (List Entry) (ℕ × ℕ)
+  pub list : Result (List KitEntry) (ℕ × ℕ)
   pub read : IsKitList files list
   pub edition : Option Edition
   pub stands : IsEdition p name edition
@@ -91,7 +91,7 @@ HasCounted s name p q = (old : List Piece) → HasPieces p name old → (new : L
 
 -- the package is as it was, or its edition has grown along the kit of the folder
 abbrev pub GrowsAlong : Files → Text → Package → Package → Type 0
-GrowsAlong files name p q = (q ≡ p) ⊎ ((list : Result (List Entry) (ℕ × ℕ)) × IsKitList files list × IsGrown name (kit_of files list) p q)
+GrowsAlong files name p q = (q ≡ p) ⊎ ((list : Result (List KitEntry) (ℕ × ℕ)) × IsKitList files list × IsGrown name (kit_of files list) p q)
 
 -- each database that may be left stands for such a package, which meets the rules
 abbrev pub IsImportStopped : {D : Type 0} → Files → Text → Package → (D → Type 0) → (D → Package → Type 0) → ℕ → Type 0
@@ -142,7 +142,7 @@ IsStillKept name p settled = (q : Package) × IsSound settled q × KeepsOthers n
 
 -- the list of the folder is a kit's, so its pieces are to be staged
 abbrev pub AsksForPackage : Option Files → Type 0
-AsksForPackage told = (files : Files) → told ≡ Some files → (entries : List Entry) × IsKitList files (Ok entries)
+AsksForPackage told = (files : Files) → told ≡ Some files → (entries : List KitEntry) × IsKitList files (Ok entries)
 
 -- What an import tells of a session that has to be opened again: it is as it was, nothing is staged, and 92 comes only there.
 abbrev pub ImportTellsReopening : Bool → Bool → Type 0 → Result Staged KitFault → Type 0
@@ -170,13 +170,13 @@ abbrev pub IsPassedBy : ℕ → Text → Package → List Piece → Package → 
 IsPassedBy k name p old q = (new : List Piece) × HasPieces q name new × (k ≤ length new) × IsFirstOf old new × SameBut name p q
 
 -- the piece of an entry, or the number that its file is refused with, by the files of a folder that tells them
-abbrev pub IsFilled : Option Files → Entry → Result Piece ℕ → Type 0
+abbrev pub IsFilled : Option Files → KitEntry → Result Piece ℕ → Type 0
 IsFilled told e full = IfSome told (λ files. full ≡ filled files e)
 
 -- What became of the entry of this number. It was staged; or it was refused, for its file or as a command, and the session is
 -- settled for the package as it was. A fault came before the command, and then it is so too; or it has failed the session, and
 -- the command may be done or not.
-abbrev pub IsEntryStaged : {D : Type 0} → Option Files → Entry → Text → ℕ → Package → ℕ → Shown D → Result (Option ℕ) Fault → Type 0
+abbrev pub IsEntryStaged : {D : Type 0} → Option Files → KitEntry → Text → ℕ → Package → ℕ → Shown D → Result (Option ℕ) Fault → Type 0
 IsEntryStaged told e name n p moment shows (Ok None) =
     (x : Piece) × IsFilled told e (Ok x) × (refusal p (commands.Stage name (pos n) x) ≡ None) × IsSound shows.settled (step p (commands.Stage name (pos n) x) moment)
 IsEntryStaged told e name n p moment shows (Ok (Some number)) =
@@ -193,7 +193,7 @@ is_of_folder (Ok a) = false
 is_of_folder (Err fault) = fault.0 == input.0
 
 -- After k entries, where these are left: what is still to be staged, and the answer, are those of the entries left.
-pub record IsImportedSoFar (files : Files) (name : Text) (entries left : List Entry) (p : Package) (old : List Piece) (k : ℕ) (q : Package) : Type 0 where
+pub record IsImportedSoFar (files : Files) (name : Text) (entries left : List KitEntry) (p : Package) (old : List Piece) (k : ℕ) (q : Package) : Type 0 where
   pub done : List Piece
   pub count : length done ≡ k
   pub kit : kit_pieces files entries ≡ done ++ kit_pieces files left
@@ -202,7 +202,8 @@ pub record IsImportedSoFar (files : Files) (name : Text) (entries left : List En
   pub passed : IsPassed name p old done q
 
 -- what staging the entries comes to, in an edition that has these pieces
-pub record AreStaged (files : Files) (name : Text) (entries : List Entry) (p : Package) (old : List Piece) (settled : Package → Type 0) (answer : Staged) : Type 0 where
+pub record AreStaged (files : Files) (name : Text) (entries : List KitEntry) (p : Package) (old : List Piece)
+    (settled : Package → Type 0) (answer : Staged) : Type 0 where
   pub answer_is : answer ≡ first_answer (length entries) (first_number (against files old) 1 entries)
   pub next : Package
   pub sound : IsSound settled next
@@ -211,16 +212,16 @@ pub record AreStaged (files : Files) (name : Text) (entries : List Entry) (p : P
 
 -- Where staging stopped after s pieces were answered ok, each database that may be left stands for a package that meets the
 -- rules: as it was, or with the edition grown along the kit, and with as many pieces as `IsCounted` says.
-abbrev pub MayBeStaged : {D : Type 0} → Files → Text → List Entry → Package → (D → Type 0) → (D → Package → Type 0) → ℕ → Type 0
+abbrev pub MayBeStaged : {D : Type 0} → Files → Text → List KitEntry → Package → (D → Type 0) → (D → Package → Type 0) → ℕ → Type 0
 MayBeStaged {D} files name entries p may_leave stands_for s =
     (db : D) → may_leave db → (q : Package) × stands_for db q × Meets current q × OnlyGrows name (kit_pieces files entries) p q × IsCounted s name p q
 
 -- the same where the session works on, and no piece is in doubt
-abbrev pub AreStagedOn : Files → Text → List Entry → Package → (Package → Type 0) → ℕ → Type 0
+abbrev pub AreStagedOn : Files → Text → List KitEntry → Package → (Package → Type 0) → ℕ → Type 0
 AreStagedOn files name entries p settled s = (q : Package) × IsSound settled q × OnlyGrows name (kit_pieces files entries) p q × HasCounted s name p q
 
 -- what the import of the entries comes to
-pub record AreImported (files : Files) (name : Text) (entries : List Entry) (p : Package) (settled : Package → Type 0) (answer : Staged) : Type 0 where
+pub record AreImported (files : Files) (name : Text) (entries : List KitEntry) (p : Package) (settled : Package → Type 0) (answer : Staged) : Type 0 where
   pub edition : Option Edition
   pub stands : IsEdition p name edition
   pub answer_is : answer ≡ edition_answer files entries edition

@@ -9,8 +9,8 @@ use Rattle.mm_definitions.specs.declared.answers.Staged.{Staged}
 use Rattle.mm_definitions.specs.declared.answers.Staged.TheVariants.{Complete, Refused}
 use Rattle.mm_kit.specs.Editions.{Edition, Open, Published, numbered}
 use Rattle.mm_kit.specs.Folders.{Files}
-use Rattle.mm_kit.specs.declared.entries.Entry.{Entry}
-use Rattle.mm_kit.specs.declared.entries.Entry.TheVariants.{Ready, Tile, Media}
+use Rattle.mm_kit.specs.declared.entries.KitEntry.{KitEntry}
+use Rattle.mm_kit.specs.declared.entries.KitEntry.TheVariants.{Ready, Tile, Media}
 
 -- ---- the pieces
 
@@ -20,7 +20,7 @@ with_file most make None = Err NO_FILE
 with_file most make (Some bytes) = if nat_le 1 (length bytes) && nat_le (length bytes) most then Ok (make bytes) else Err OUT_OF_LIMITS
 
 -- the piece of an entry, with its file's bytes where it names one: no more than a tile or a medium has
-abbrev pub filled : Files → Entry → Result Piece ℕ
+abbrev pub filled : Files → KitEntry → Result Piece ℕ
 filled files (Ready q) = Ok q
 filled files (Tile table zoom column row file) =
     with_file MostTileBytes (λ bytes. pieces.Tile table zoom column row bytes) (files file)
@@ -33,12 +33,12 @@ or_end (Ok q) later = q ∷ later
 or_end (Err n) later = []
 
 -- the pieces before the first whose file is missing or of a wrong length
-unfoldable pub kit_pieces : Files → List Entry → List Piece
+unfoldable pub kit_pieces : Files → List KitEntry → List Piece
 kit_pieces files [] = []
 kit_pieces files (e ∷ rest) = or_end (filled files e) (kit_pieces files rest)
 
 -- a list that is refused is no kit
-abbrev pub kit_of : Files → Result (List Entry) (ℕ × ℕ) → List Piece
+abbrev pub kit_of : Files → Result (List KitEntry) (ℕ × ℕ) → List Piece
 kit_of files (Ok entries) = kit_pieces files entries
 kit_of files (Err at) = []
 
@@ -55,12 +55,12 @@ or_later i (Some n) later = Some (i, n)
 or_later i None later = later
 
 -- the first in order with a number against it, counted from i, and the number
-unfoldable pub first_number : (ℕ → Entry → Option ℕ) → ℕ → List Entry → Option (ℕ × ℕ)
+unfoldable pub first_number : (ℕ → KitEntry → Option ℕ) → ℕ → List KitEntry → Option (ℕ × ℕ)
 first_number condition i [] = None
 first_number condition i (e ∷ rest) = or_later i (condition i e) (first_number condition (i + 1) rest)
 
 -- each file is there and has a length within its limits
-abbrev pub IsWholeKit : Files → List Entry → Type 0
+abbrev pub IsWholeKit : Files → List KitEntry → Type 0
 IsWholeKit files entries = first_number (λ i e. error_of (filled files e)) 1 entries ≡ None
 
 -- ---- the answer
@@ -76,7 +76,7 @@ against_piece old i (Err n) = Some n
 against_piece old i (Ok q) = beside (numbered old i) q
 
 -- what is against an entry, for an edition with these pieces: 57 or 11 of its file, or 52
-abbrev pub against : Files → List Piece → ℕ → Entry → Option ℕ
+abbrev pub against : Files → List Piece → ℕ → KitEntry → Option ℕ
 against files old i e = against_piece old i (filled files e)
 
 -- complete with n pieces, or refused at the first place that has a number against it
@@ -85,14 +85,14 @@ first_answer n None = Complete n
 first_answer n (Some at) = Refused at.0 at.1
 
 -- the answer for the entries of a list: 51 where there is no such edition, 55 where it is published
-abbrev pub edition_answer : Files → List Entry → Option Edition → Staged
+abbrev pub edition_answer : Files → List KitEntry → Option Edition → Staged
 edition_answer files entries None = Refused 0 NO_EDITION
 edition_answer files entries (Some Published) = Refused 0 PUBLISHED_ALREADY
 edition_answer files entries (Some (Open old)) = if nat_lt (length entries) (length old) then Refused (length entries + 1) NOT_THE_NEXT_PIECE
     else first_answer (length entries) (first_number (against files old) 1 entries)
 
 -- the answer for a list and an edition; a list that is refused is answered with its place and number, whatever the edition
-abbrev pub kit_answer : Files → Result (List Entry) (ℕ × ℕ) → Option Edition → Staged
+abbrev pub kit_answer : Files → Result (List KitEntry) (ℕ × ℕ) → Option Edition → Staged
 kit_answer files (Ok entries) edition = edition_answer files entries edition
 kit_answer files (Err at) edition = Refused at.0 at.1
 

@@ -13,7 +13,7 @@ use Rattle.mm_run.specs.declared.apply.Apply as applies
 use Rattle.mm_kit.specs.Editions.{HasPieces}
 use Rattle.mm_kit.specs.Imports.{AreImported, AreStaged, AreStagedOn, AsksForPackage, ImportEnded, ImportTellsReopening, ImportWorksOn, IsImportAnswered, IsImportKept, IsImportStopped, IsKitFault, IsStillKept, MayBeStaged, OnKit, TellsFolder}
 use Rattle.mm_kit.specs.Folders.{Files}
-use Rattle.mm_kit.specs.declared.entries.Entry.{Entry}
+use Rattle.mm_kit.specs.declared.entries.KitEntry.{KitEntry}
 use Rattle.mm_kit.specs.declared.folders.Folder as folders
 
 -- What an import promises of the package, by what the editor was settled for, what the folder told, whether the editor had failed, and
@@ -59,7 +59,7 @@ pub record ImportsKit {A F : Type 0} (apply : applies.Ghosts A) (shelf : folders
 -- ---- inside the import
 
 -- The same of the entries of the kit's list.
-pub record ImportsEntries {A F : Type 0} (apply : applies.Ghosts A) (shelf : folders.Ghosts F) (name : Text) (entries : List Entry)
+pub record ImportsEntries {A F : Type 0} (apply : applies.Ghosts A) (shelf : folders.Ghosts F) (name : Text) (entries : List KitEntry)
     (old new : A) (kit kit_now : F) (result : Result Staged KitFault) : Type 0 where
   pub clean : apply.is_clean new → apply.is_clean old
   pub answered : IfOk result (λ a. OnKit (apply.is_clean new) (apply.seen old) (shelf.files kit)
@@ -80,7 +80,7 @@ pub record ImportsEntries {A F : Type 0} (apply : applies.Ghosts A) (shelf : fol
   pub why : IfErr result (λ e. IsKitFault e.fault.0)
 
 -- The same where the edition is open, and the editor has not failed: the entries are staged in order.
-pub record StagesEntries {A F : Type 0} (apply : applies.Ghosts A) (shelf : folders.Ghosts F) (name : Text) (entries : List Entry)
+pub record StagesEntries {A F : Type 0} (apply : applies.Ghosts A) (shelf : folders.Ghosts F) (name : Text) (entries : List KitEntry)
     (old new : A) (kit kit_now : F) (result : Result Staged KitFault) : Type 0 where
   pub clean : apply.is_clean new → apply.is_clean old
   pub answered : IfOk result (λ a. OnKit (apply.is_clean new) (apply.seen old) (shelf.files kit)

@@ -22,7 +22,7 @@ use std::alloc::{AllocError, Global};
 
 /// A record of a kit's list: a piece, or a tile or media item whose bytes a file holds.
 #[derive(Drop)]
-pub enum Entry {
+pub enum KitEntry {
     Ready(Piece),
     Tile {
         table: Name,
@@ -61,11 +61,11 @@ fn show<'a>(fields: &mut Vec<&'a str>) -> Result<Option<&'a str>, AllocError>
 }
 
 /// The entry of a piece and, where its bytes are a file's, of that file.
-fn place_entry(piece: Piece, file: Option<FileName>) -> Entry
+fn place_entry(piece: Piece, file: Option<FileName>) -> KitEntry
     ensures { result ≡ entry_of piece file }
 {
     let Some(file) = file else {
-        return Entry::Ready(piece);
+        return KitEntry::Ready(piece);
     };
     match piece {
         Piece::Tile {
@@ -74,7 +74,7 @@ fn place_entry(piece: Piece, file: Option<FileName>) -> Entry
             column,
             row,
             bytes: _bytes,
-        } => Entry::Tile {
+        } => KitEntry::Tile {
             table,
             zoom,
             column,
@@ -86,13 +86,13 @@ fn place_entry(piece: Piece, file: Option<FileName>) -> Entry
             id,
             content_type,
             bytes: _bytes,
-        } => Entry::Media {
+        } => KitEntry::Media {
             table,
             id,
             content_type,
             file,
         },
-        other => Entry::Ready(other),
+        other => KitEntry::Ready(other),
     }
 }
 
@@ -143,7 +143,12 @@ fn least_fault(number: Reason, piece: Result<Piece, ReadFault>) -> ReadFault
 }
 
 /// The entry of a number and the record of a piece.
-fn read_record(alloc: Global, place: u32, number: &str, rest: Vec<&str>) -> Result<Entry, ReadFault>
+fn read_record(
+    alloc: Global,
+    place: u32,
+    number: &str,
+    rest: Vec<&str>,
+) -> Result<KitEntry, ReadFault>
     ensures { ReadsTo (IsEntry place (number.now ∷ map (λ f. f.now) rest.entry.items))
         (IsLeast (HoldsAgainstEntry place
         (number.now ∷ map (λ f. f.now) rest.entry.items))) result }
@@ -169,7 +174,7 @@ fn read_record(alloc: Global, place: u32, number: &str, rest: Vec<&str>) -> Resu
 /// no record of a kit, 11 where a number or length is outside its limits, 12 where a name is none, 54 where it is behind the
 /// 4,096th, 56 where its number isn't its place, 57 where the name of its file is out of form. Memory is answered only for
 /// want of memory.
-pub(crate) fn read_entry(alloc: Global, place: u32, fields: &[&str]) -> Result<Entry, ReadFault>
+pub(crate) fn read_entry(alloc: Global, place: u32, fields: &[&str]) -> Result<KitEntry, ReadFault>
     ensures { ReadsTo (IsEntry place (map (λ f. f.now) fields.now))
         (IsLeast (HoldsAgainstEntry place (map (λ f. f.now) fields.now))) result }
 {

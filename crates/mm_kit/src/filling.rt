@@ -7,7 +7,7 @@ ghost use Rattle.mm_kit.specs.Filling.{full_of, is_folders};
 ghost use Rattle.mm_kit.specs.Kits.{filled, made, with_file};
 ghost use Rattle.mm_definitions.specs.declared.commands.Piece.{Piece as SpecPiece};
 
-use crate::entries::Entry;
+use crate::entries::KitEntry;
 use crate::file_names::FileName;
 use crate::folders::{Folder, FolderFault, Found};
 use mm_definitions::bytes::Bytes;
@@ -63,7 +63,7 @@ fn read_bytes<const MOST: usize, F: Folder>(
 pub(crate) fn fill<F: Folder>(
     alloc: Global,
     folder: &mut F,
-    entry: Entry,
+    entry: KitEntry,
 ) -> Result<Piece, Unfilled>
     ensures fills { IfSome (full_of result)
         (λ r. IfSome (F.files folder.old) (λ these. r ≡ filled these entry)) }
@@ -71,8 +71,8 @@ pub(crate) fn fill<F: Folder>(
     ensures fails { F.has_failed folder.new ≡ (F.has_failed folder.old || is_folders result) }
 {
     match entry {
-        Entry::Ready(piece) => Ok(piece),
-        Entry::Tile {
+        KitEntry::Ready(piece) => Ok(piece),
+        KitEntry::Tile {
             table,
             zoom,
             column,
@@ -88,7 +88,7 @@ pub(crate) fn fill<F: Folder>(
                 bytes,
             })
         }
-        Entry::Media {
+        KitEntry::Media {
             table,
             id,
             content_type,

@@ -5,7 +5,7 @@ ghost use Rattle.mm_kit.specs.Folders.{Files, is_failure};
 ghost use Rattle.mm_kit.specs.Lists.{AreFew, AreSound, IsKitList, list_read};
 ghost use Rattle.mm_kit.specs.Promised.{ImportsEntries, ImportsKit};
 
-use crate::entries::Entry;
+use crate::entries::KitEntry;
 use crate::folders::{Folder, FolderFault, Found};
 use crate::lists::{Listed, read_list};
 use crate::staging::{folder_fault, stage_all};
@@ -44,7 +44,7 @@ fn import_entries<A: Editor, F: Folder>(
     editor: &mut A,
     name: &Name,
     folder: &mut F,
-    entries: Vec<Entry>,
+    entries: Vec<KitEntry>,
     at: Moment,
 ) -> Result<Staged, KitFault>
     requires { AreFew entries.items }

@@ -11,7 +11,7 @@ ghost use Rattle.mm_kit.specs.Editions.{HasPieces, rows_from};
 ghost use Rattle.mm_kit.specs.Folders.{Files};
 ghost use Rattle.mm_kit.specs.Kits.{kit_of};
 ghost use Rattle.mm_kit.specs.Lists.{IsKitList};
-ghost use Rattle.mm_kit.specs.declared.entries.Entry.{Entry};
+ghost use Rattle.mm_kit.specs.declared.entries.KitEntry.{KitEntry};
 ghost use Rattle.mm_kit.specs.Imports.{AreRepeats, IsFirstOf, OnlyGrows, SameBut};
 
 /// Pieces that are a first part of the kit stay one, and no shorter.
@@ -64,6 +64,6 @@ pub fn the_stops_make_no_difference()
 
 /// A folder has one list: its entries, or the first record that is refused.
 pub fn a_folder_has_one_list()
-    ensures { (files : Files) (a b : Result (List Entry) (ℕ × ℕ)) → IsKitList files a
+    ensures { (files : Files) (a b : Result (List KitEntry) (ℕ × ℕ)) → IsKitList files a
         → IsKitList files b → a ≡ b }
 {}

@@ -46,7 +46,7 @@ mod lists;
 mod memory;
 mod staging;
 
-pub use entries::Entry;
+pub use entries::KitEntry;
 pub use file_names::FileName;
 pub use folders::{Folder, FolderFault, Found};
 pub use importing::import_kit;

@@ -8,7 +8,7 @@ ghost use Rattle.mm_io.specs.Records.{IsSetUp, NextRow, records_of};
 ghost use Rattle.csv.specs.Reading.{default_config, records};
 ghost use Rattle.mm_kit.specs.Lists.{AreSound, IsListRead, IsEntryRead, list_read};
 
-use crate::entries::{Entry, read_entry};
+use crate::entries::{KitEntry, read_entry};
 use csv::{ByteRecord, Reader, StringRecord};
 use mm_definitions::answers::ReadFault;
 use mm_definitions::limits::MOST_PIECES;
@@ -20,7 +20,7 @@ use std::io::Read;
 /// What a list comes to: its entries, or the first record that is refused, with its number.
 #[derive(Drop)]
 pub enum Listed {
-    Entries(Vec<Entry>),
+    Entries(Vec<KitEntry>),
     Refused(u32, Reason),
 }
 
@@ -42,7 +42,7 @@ fn next_record<T: Read>(
 }
 
 /// The entry of a record at a place. One with a field that isn't text is refused 10.
-fn read_row(alloc: Global, place: u32, row: ByteRecord) -> Result<Entry, ReadFault>
+fn read_row(alloc: Global, place: u32, row: ByteRecord) -> Result<KitEntry, ReadFault>
     ensures { IsEntryRead place (fields_of row) result }
 {
     let Ok(text) = StringRecord::from_byte_record(row) else {

@@ -16,7 +16,7 @@ ghost use Rattle.mm_kit.specs.Imports.{IsEntryStaged, IsKitFault, is_of_folder};
 ghost use Rattle.mm_kit.specs.Lists.{AreFew};
 ghost use Rattle.mm_kit.specs.Promised.{StagesEntries};
 
-use crate::entries::Entry;
+use crate::entries::KitEntry;
 use crate::filling::{Unfilled, fill};
 use crate::folders::{Folder, FolderFault};
 use mm_definitions::answers::{Answer, Fault, KitFault, Staged};
@@ -92,7 +92,7 @@ fn stage_entry<A: Editor, F: Folder>(
     edition: &Name,
     folder: &mut F,
     number: u32,
-    entry: Entry,
+    entry: KitEntry,
     at: Moment,
 ) -> Result<Option<Reason>, Fault>
     requires number { 0 < number }
@@ -127,7 +127,7 @@ pub(crate) fn stage_all<A: Editor, F: Folder>(
     editor: &mut A,
     edition: &Name,
     folder: &mut F,
-    entries: Vec<Entry>,
+    entries: Vec<KitEntry>,
     at: Moment,
 ) -> Result<Staged, KitFault>
     requires few { AreFew entries.items }

@@ -35,8 +35,8 @@ fn are_system_numbers(row: &Row) -> bool
         (number_of (column row.now 3)) }
 {
     match (
-        number(row, System::ID),
-        number(row, System::ORGANIZATION_ID),
+        number(row, SystemRow::ID),
+        number(row, SystemRow::ORGANIZATION_ID),
     ) {
         (Some(id), Some(organization_id)) => {
             is_from(id, 1, LAST_ID as i64) && is_from(organization_id, 1, LAST_ID as i64)
@@ -47,9 +47,9 @@ fn are_system_numbers(row: &Row) -> bool
 }
 
 /// A row of reference systems, column by column.
-struct System;
+struct SystemRow;
 
-impl System {
+impl SystemRow {
     const ID: usize = 0;
 
     const NAME: usize = 1;
@@ -63,7 +63,7 @@ impl System {
     const DESCRIPTION: usize = 5;
 }
 
-impl RowTest for System {
+impl RowTest for SystemRow {
     ghost good = { λ _ row. IsSystemWithinRow row };
 
     fn passes(&self, row: &Row) -> bool {
@@ -83,17 +83,17 @@ pub fn systems_within<S: Alter>(conn: &mut Connection<S>) -> Result<bool, Fault>
         conn,
         "SELECT t.srs_id, t.srs_name, t.organization, t.organization_coordsys_id, t.definition, t.description FROM gpkg_spatial_ref_sys AS t ORDER BY t.srs_id",
         &[],
-        &System,
+        &SystemRow,
     )
 }
 
 /// A row of contents, column by column.
 #[derive(Clone, Copy)]
-struct Contents {
+struct ContentsRow {
     unit: Unit,
 }
 
-impl Contents {
+impl ContentsRow {
     const TABLE: usize = 0;
 
     const DATA_TYPE: usize = 1;
@@ -115,7 +115,7 @@ impl Contents {
     const SYSTEM: usize = 9;
 }
 
-impl RowTest for Contents {
+impl RowTest for ContentsRow {
     ghost good = { λ it row. IsContentsWithinRow (profile_of it.unit) row };
 
     fn passes(&self, row: &Row) -> bool {
@@ -141,20 +141,20 @@ pub fn contents_within<S: Alter>(conn: &mut Connection<S>, unit: Unit) -> Result
         conn,
         "SELECT t.table_name, t.data_type, t.identifier, t.description, t.last_change, t.min_x, t.min_y, t.max_x, t.max_y, t.srs_id FROM gpkg_contents AS t ORDER BY t.table_name",
         &[],
-        &Contents { unit },
+        &ContentsRow { unit },
     )
 }
 
 /// A row of the registry, column by column.
-struct Kind;
+struct KindRow;
 
-impl Kind {
+impl KindRow {
     const TABLE: usize = 0;
 
     const KIND: usize = 1;
 }
 
-impl RowTest for Kind {
+impl RowTest for KindRow {
     ghost good = { λ _ row. IsKindWithinRow row };
 
     fn passes(&self, row: &Row) -> bool {
@@ -170,17 +170,17 @@ pub fn kinds_within<S: Alter>(conn: &mut Connection<S>) -> Result<bool, Fault>
         conn,
         "SELECT t.table_name, t.kind FROM mm_tables AS t ORDER BY t.table_name",
         &[],
-        &Kind,
+        &KindRow,
     )
 }
 
 /// A row of matrix sets, column by column.
 #[derive(Clone, Copy)]
-struct MatrixSet {
+struct SetRow {
     unit: Unit,
 }
 
-impl MatrixSet {
+impl SetRow {
     const TABLE: usize = 0;
 
     const SYSTEM: usize = 1;
@@ -194,7 +194,7 @@ impl MatrixSet {
     const MAX_Y: usize = 5;
 }
 
-impl RowTest for MatrixSet {
+impl RowTest for SetRow {
     ghost good = { λ it row. IsSetWithinRow (profile_of it.unit) row };
 
     fn passes(&self, row: &Row) -> bool {
@@ -216,17 +216,17 @@ pub fn sets_within<S: Alter>(conn: &mut Connection<S>, unit: Unit) -> Result<boo
         conn,
         "SELECT t.table_name, t.srs_id, t.min_x, t.min_y, t.max_x, t.max_y FROM gpkg_tile_matrix_set AS t ORDER BY t.table_name",
         &[],
-        &MatrixSet { unit },
+        &SetRow { unit },
     )
 }
 
 /// A row of matrices, column by column.
 #[derive(Clone, Copy)]
-struct Matrix {
+struct MatrixRow {
     unit: Unit,
 }
 
-impl Matrix {
+impl MatrixRow {
     const TABLE: usize = 0;
 
     const ZOOM: usize = 1;
@@ -244,7 +244,7 @@ impl Matrix {
     const PIXEL_Y: usize = 7;
 }
 
-impl RowTest for Matrix {
+impl RowTest for MatrixRow {
     ghost good = { λ it row. IsMatrixWithinRow (profile_of it.unit) row };
 
     fn passes(&self, row: &Row) -> bool {
@@ -268,14 +268,14 @@ pub fn matrices_within<S: Alter>(conn: &mut Connection<S>, unit: Unit) -> Result
         conn,
         "SELECT t.table_name, t.zoom_level, t.matrix_width, t.matrix_height, t.tile_width, t.tile_height, t.pixel_x_size, t.pixel_y_size FROM gpkg_tile_matrix AS t ORDER BY t.table_name, t.zoom_level",
         &[],
-        &Matrix { unit },
+        &MatrixRow { unit },
     )
 }
 
 /// A row of extension rows, column by column.
-struct Extension;
+struct ExtensionRow;
 
-impl Extension {
+impl ExtensionRow {
     const TABLE: usize = 0;
 
     const COLUMN: usize = 1;
@@ -287,7 +287,7 @@ impl Extension {
     const SCOPE: usize = 4;
 }
 
-impl RowTest for Extension {
+impl RowTest for ExtensionRow {
     ghost good = { λ _ row. IsExtensionWithinRow row };
 
     fn passes(&self, row: &Row) -> bool {
@@ -307,14 +307,14 @@ pub fn extensions_within<S: Alter>(conn: &mut Connection<S>) -> Result<bool, Fau
         conn,
         "SELECT t.table_name, t.column_name, t.extension_name, t.definition, t.scope FROM gpkg_extensions AS t",
         &[],
-        &Extension,
+        &ExtensionRow,
     )
 }
 
 /// A row of tiles, column by column.
-struct Tile;
+struct TileRow;
 
-impl Tile {
+impl TileRow {
     const TABLE: usize = 0;
 
     const ZOOM: usize = 1;
@@ -326,7 +326,7 @@ impl Tile {
     const BYTES: usize = 4;
 }
 
-impl RowTest for Tile {
+impl RowTest for TileRow {
     ghost good = { λ _ row. IsTileWithinRow row };
 
     fn passes(&self, row: &Row) -> bool {
@@ -346,14 +346,14 @@ pub fn tiles_within<S: Alter>(conn: &mut Connection<S>) -> Result<bool, Fault>
         conn,
         "SELECT t.table_name, t.zoom_level, t.tile_column, t.tile_row, b.data FROM mm_tiles AS t LEFT JOIN mm_blobs AS b ON b.id = t.blob ORDER BY t.table_name, t.zoom_level, t.tile_column, t.tile_row",
         &[],
-        &Tile,
+        &TileRow,
     )
 }
 
 /// A row of attribute rows, column by column.
-struct Item;
+struct AttributeRow;
 
-impl Item {
+impl AttributeRow {
     const TABLE: usize = 0;
 
     const ID: usize = 1;
@@ -365,7 +365,7 @@ impl Item {
     const AMOUNT: usize = 4;
 }
 
-impl RowTest for Item {
+impl RowTest for AttributeRow {
     ghost good = { λ _ row. IsAttributeWithinRow row };
 
     fn passes(&self, row: &Row) -> bool {
@@ -385,14 +385,14 @@ pub fn rows_within<S: Alter>(conn: &mut Connection<S>) -> Result<bool, Fault>
         conn,
         "SELECT t.table_name, t.id, t.title, t.note, t.amount FROM mm_rows AS t ORDER BY t.table_name, t.id",
         &[],
-        &Item,
+        &AttributeRow,
     )
 }
 
 /// A row of media, column by column.
-struct Medium;
+struct MediumRow;
 
-impl Medium {
+impl MediumRow {
     const TABLE: usize = 0;
 
     const ID: usize = 1;
@@ -402,7 +402,7 @@ impl Medium {
     const CONTENT_TYPE: usize = 3;
 }
 
-impl RowTest for Medium {
+impl RowTest for MediumRow {
     ghost good = { λ _ row. IsMediumWithinRow row };
 
     fn passes(&self, row: &Row) -> bool {
@@ -421,14 +421,14 @@ pub fn media_within<S: Alter>(conn: &mut Connection<S>) -> Result<bool, Fault>
         conn,
         "SELECT t.table_name, t.id, b.data, t.content_type FROM mm_media AS t LEFT JOIN mm_blobs AS b ON b.id = t.blob ORDER BY t.table_name, t.id",
         &[],
-        &Medium,
+        &MediumRow,
     )
 }
 
 /// A row of relations, column by column.
-struct Relation;
+struct RelationRow;
 
-impl Relation {
+impl RelationRow {
     const MAPPING: usize = 0;
 
     const BASE: usize = 1;
@@ -442,7 +442,7 @@ impl Relation {
     const NAME: usize = 5;
 }
 
-impl RowTest for Relation {
+impl RowTest for RelationRow {
     ghost good = { λ _ row. IsRelationWithinRow row };
 
     fn passes(&self, row: &Row) -> bool {
@@ -463,14 +463,14 @@ pub fn relations_within<S: Alter>(conn: &mut Connection<S>) -> Result<bool, Faul
         conn,
         "SELECT t.mapping_table_name, t.base_table_name, t.base_primary_column, t.related_table_name, t.related_primary_column, t.relation_name FROM gpkgext_relations AS t ORDER BY t.mapping_table_name",
         &[],
-        &Relation,
+        &RelationRow,
     )
 }
 
 /// A row of mapping rows, column by column.
-struct Pairing;
+struct PairingRow;
 
-impl Pairing {
+impl PairingRow {
     const MAPPING: usize = 0;
 
     const BASE_ID: usize = 1;
@@ -478,7 +478,7 @@ impl Pairing {
     const RELATED_ID: usize = 2;
 }
 
-impl RowTest for Pairing {
+impl RowTest for PairingRow {
     ghost good = { λ _ row. IsPairingWithinRow row };
 
     fn passes(&self, row: &Row) -> bool {
@@ -496,20 +496,20 @@ pub fn pairings_within<S: Alter>(conn: &mut Connection<S>) -> Result<bool, Fault
         conn,
         "SELECT t.mapping, t.base_id, t.related_id FROM mm_map AS t ORDER BY t.mapping, t.base_id, t.related_id",
         &[],
-        &Pairing,
+        &PairingRow,
     )
 }
 
 /// A row of editions, column by column.
-struct Edition;
+struct EditionRow;
 
-impl Edition {
+impl EditionRow {
     const NAME: usize = 0;
 
     const STATE: usize = 1;
 }
 
-impl RowTest for Edition {
+impl RowTest for EditionRow {
     ghost good = { λ _ row. IsEditionWithinRow row };
 
     fn passes(&self, row: &Row) -> bool {
@@ -525,20 +525,20 @@ pub fn editions_within<S: Alter>(conn: &mut Connection<S>) -> Result<bool, Fault
         conn,
         "SELECT t.name, t.state FROM mm_editions AS t ORDER BY t.name",
         &[],
-        &Edition,
+        &EditionRow,
     )
 }
 
 /// A row of staged pieces, column by column.
-struct Piece;
+struct PieceRow;
 
-impl Piece {
+impl PieceRow {
     const EDITION: usize = 0;
 
     const NUMBER: usize = 1;
 }
 
-impl RowTest for Piece {
+impl RowTest for PieceRow {
     ghost good = { λ _ row. IsPieceWithinRow row };
 
     fn passes(&self, row: &Row) -> bool {
@@ -554,7 +554,7 @@ pub fn pieces_within<S: Alter>(conn: &mut Connection<S>) -> Result<bool, Fault>
         conn,
         "SELECT t.edition, t.piece_no FROM mm_pieces AS t ORDER BY t.edition, t.piece_no",
         &[],
-        &Piece,
+        &PieceRow,
     )
 }
 

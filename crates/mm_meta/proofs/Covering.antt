@@ -6,7 +6,7 @@ use Rattle.std.proofs.lemmas.Bool.{and_from, false_from_ne_true}
 use Rattle.sqlite.specs.declared.types.Value.TheVariants.{Text as Words}
 use Rattle.sqlite.specs.Order.{Row, column}
 use Rattle.sqlite.specs.Term.{Term, col}
-use Rattle.sql_forms.specs.Tables.{Finds}
+use Rattle.sql_forms.specs.Tables.{FindsRow}
 use Rattle.sql_forms.specs.Maps.{Holds}
 use Rattle.sql_forms.proofs.Keys.{columns_are}
 use Rattle.sql_forms.proofs.Selects.{shows}
@@ -41,11 +41,13 @@ abbrev pub extent_columns : List Term
 extent_columns = col 1 3 ∷ col 1 4 ∷ col 1 5 ∷ col 1 6 ∷ []
 
 pub extent_found : (rows : List Row) (m : FinMap text_cmp MatrixSet) (h : Holds past_rowid set_row rows m) (table : Text) (x : Option Box) (first : Option Row) → GivesExtent x first
-    → Finds (by_text table) (shows extent_columns (Words table ∷ [])) rows first → option_map (λ (s : MatrixSet). s.box) (get m table) ≡ x
+    → FindsRow (by_text table) (shows extent_columns (Words table ∷ [])) rows first → option_map (λ (s : MatrixSet). s.box) (get m table) ≡ x
 extent_found rows m h table None first gives found =
-    ap (option_map (λ (s : MatrixSet). s.box)) (finds_none parts.sets rows m h table (shows extent_columns (Words table ∷ [])) (subst (Finds (by_text table) (shows extent_columns (Words table ∷ [])) rows) gives found))
+    ap (option_map (λ (s : MatrixSet). s.box)) (finds_none parts.sets rows m h table (shows extent_columns (Words table ∷ []))
+    (subst (FindsRow (by_text table) (shows extent_columns (Words table ∷ [])) rows) gives found))
 extent_found rows m h table (Some e) first gives found =
-    let at = finds_some parts.sets rows m h table (shows extent_columns (Words table ∷ [])) gives.0 (subst (Finds (by_text table) (shows extent_columns (Words table ∷ [])) rows) gives.1 found) in
+    let at = finds_some parts.sets rows m h table (shows extent_columns (Words table ∷ [])) gives.0
+    (subst (FindsRow (by_text table) (shows extent_columns (Words table ∷ [])) rows) gives.1 found) in
     let a : at.0.box.min_x ≡ e.min_x = same_int (sym (columns_are at.2 (set_row table at.0) 2 at.3) ∙ sym (ap (λ (r : Row). column r 0) at.4) ∙ gives.2.min_x) in
     let b : at.0.box.min_y ≡ e.min_y = same_int (sym (columns_are at.2 (set_row table at.0) 3 at.3) ∙ sym (ap (λ (r : Row). column r 1) at.4) ∙ gives.2.min_y) in
     let c : at.0.box.max_x ≡ e.max_x = same_int (sym (columns_are at.2 (set_row table at.0) 4 at.3) ∙ sym (ap (λ (r : Row). column r 2) at.4) ∙ gives.2.max_x) in

@@ -101,16 +101,16 @@ abbrev pub MayCommitScaled : State → Trees → Type 0
 MayCommitScaled old db = ShowsProfile millimetres.version old × ((p : Package) → MayScale old p → StandsFor micrometres.version db (scale p))
 
 -- an opening number or a rule
-abbrev pub IsRefusal : Result (Unit {0}) Open → Type 0
-IsRefusal (Ok _) = ⊥
-IsRefusal (Err (opens.Fault fault)) = ⊥
-IsRefusal (Err _) = ⊤
+abbrev pub IsOpeningRefusal : Result (Unit {0}) Open → Type 0
+IsOpeningRefusal (Ok _) = ⊥
+IsOpeningRefusal (Err (opens.Fault fault)) = ⊥
+IsOpeningRefusal (Err _) = ⊤
 
 -- `Ok` leaves the store open. What may be left, and what is told, is as the profile of the package has it.
 pub record IsMigration (old new : State) (result : Result (Unit {0}) Open) : Type 0 where
   pub survives : Survives old new (MayCommitScaled old)
   pub is_open : HasCleanDisk new → OnOk result (IsTrue new.is_open)
-  pub refused : IsRefusal result → CommitsNothing old new
+  pub refused : IsOpeningRefusal result → CommitsNothing old new
   pub adopts : HasCleanDisk new → (p : Package) → IsSettled micrometres old p → Adopts p new result
   pub migrates : HasCleanDisk new → (p : Package) → IsSettled millimetres old p → Migrates p new result
   pub adopts_seen : HasCleanDisk new → (p : Package) → IsSeenAs micrometres old p → AdoptsSeen p new result
@@ -125,7 +125,7 @@ pub record IsMigration (old new : State) (result : Result (Unit {0}) Open) : Typ
 pub record IsOlder (old new : State) (result : Result (Unit {0}) Open) : Type 0 where
   pub survives : Survives old new (λ db. (p : Package) → MayScale old p → StandsFor micrometres.version db (scale p))
   pub is_open : HasCleanDisk new → OnOk result (IsTrue new.is_open)
-  pub refused : IsRefusal result → CommitsNothing old new
+  pub refused : IsOpeningRefusal result → CommitsNothing old new
   pub migrates : HasCleanDisk new → (p : Package) → IsSettled millimetres old p → Migrates p new result
   pub migrates_seen : HasCleanDisk new → (p : Package) → IsSeenAs millimetres old p → MigratesSeen p new result
   pub blobs : HasCleanDisk new → TellsForm old result

@@ -4,7 +4,7 @@ use Rattle.std.specs.declared.cmp.Ordering.{Ordering}
 use Rattle.std.specs.FinMap.{FinMap, get}
 use Rattle.sqlite.specs.Order.{Row}
 use Rattle.sqlite.specs.Term.{col}
-use Rattle.sql_forms.specs.Tables.{Finds}
+use Rattle.sql_forms.specs.Tables.{FindsRow}
 use Rattle.sql_forms.specs.Maps.{Holds}
 use Rattle.sql_forms.proofs.Keys.{columns_are}
 use Rattle.sql_forms.proofs.Selects.{shows}
@@ -19,15 +19,15 @@ use Rattle.mm_store.specs.Rows.{past_rowid, attribute_row, MediumRow, medium_row
 use Rattle.mm_store.proofs.Keys as parts
 use Rattle.mm_store.proofs.Keys.{by_item, same_words, same_int}
 use Rattle.mm_store.proofs.Parts.{IsPart, finds_none, finds_some}
-use Rattle.mm_reads.specs.Told.{Gives, ShowsMedium, IsMediumRow, ShowsRow, shown_medium, shown_row}
+use Rattle.mm_reads.specs.Told.{GivesFirst, ShowsMedium, IsMediumRow, ShowsRow, shown_medium, shown_row}
 
 -- what is told of the row that the query shows is the entry
 module _ {K V T : Type 0} {R : K → K → Ordering} {part : Row → Row} {shown : K → V → Row} {test : K → Row → Bool} (it : IsPart R part shown test) (rows : List Row) (m : FinMap R V) (h : Holds part shown rows m) (k : K)
     (show : Row → Row) (Shows : Row → T → Type 0) (of : T → V) (tells : (r : Row) (v : V) (x : T) → part r ≡ shown k v → Shows (show r) x → v ≡ of x) where
-  pub entry_found : (o : Option T) (first : Option Row) → Gives Shows o first → Finds (test k) show rows first → get m k ≡ option_map of o
-  entry_found None first gives found = finds_none it rows m h k show (subst (Finds (test k) show rows) gives found)
+  pub entry_found : (o : Option T) (first : Option Row) → GivesFirst Shows o first → FindsRow (test k) show rows first → get m k ≡ option_map of o
+  entry_found None first gives found = finds_none it rows m h k show (subst (FindsRow (test k) show rows) gives found)
   entry_found (Some x) first gives found =
-      let at = finds_some it rows m h k show gives.0 (subst (Finds (test k) show rows) gives.1 found) in
+      let at = finds_some it rows m h k show gives.0 (subst (FindsRow (test k) show rows) gives.1 found) in
       at.1 ∙ ap Some (tells at.2 at.0 x at.3 (subst (λ (r : Row). Shows r x) at.4 gives.2))
 
 -- ---- the three parts
@@ -37,13 +37,13 @@ module _ (rows : List Row) (ids : FinMap item_cmp MediumRow) (h : Holds past_row
   abbrev medium_shown : Row → Row
   medium_shown = shows (col 1 3 ∷ col 1 4 ∷ []) params
 
-  by_row : (first : Option Row) → Finds (by_item k) medium_shown rows first → IsMediumRow (get ids k) first
+  by_row : (first : Option Row) → FindsRow (by_item k) medium_shown rows first → IsMediumRow (get ids k) first
   by_row None found = subst (λ o. IsMediumRow o None) (sym (finds_none parts.media rows ids h k medium_shown found)) tt
   by_row (Some row) found =
       let at = finds_some parts.media rows ids h k medium_shown row found in
       subst (λ o. IsMediumRow o (Some row)) (sym at.1) (subst (λ r. ShowsMedium r at.0) (sym at.4) (record { blob = columns_are at.2 (medium_row k at.0) 2 at.3; content_type = columns_are at.2 (medium_row k at.0) 3 at.3 }))
 
-  pub medium_found : (x first : Option Row) → x ≡ first → Finds (by_item k) medium_shown rows first → IsMediumRow (get ids k) x
+  pub medium_found : (x first : Option Row) → x ≡ first → FindsRow (by_item k) medium_shown rows first → IsMediumRow (get ids k) x
   medium_found x first gives found = subst (IsMediumRow (get ids k)) (sym gives) (by_row first found)
 
 -- the medium of a row, with the bytes of the blob that it names

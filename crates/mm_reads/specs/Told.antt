@@ -21,9 +21,9 @@ abbrev pub shown_row : RowTold → AttributeRow
 shown_row r = record { title = r.title; note = r.note; amount = r.amount }
 
 -- what is told of the first row of a query: nothing where it has none
-abbrev pub Gives : {T : Type 0} → (Row → T → Type 0) → Option T → Option Row → Type 0
-Gives Shows None first = first ≡ None
-Gives Shows (Some it) first = (row : Row) × (first ≡ Some row) × Shows row it
+abbrev pub GivesFirst : {T : Type 0} → (Row → T → Type 0) → Option T → Option Row → Type 0
+GivesFirst Shows None first = first ≡ None
+GivesFirst Shows (Some it) first = (row : Row) × (first ≡ Some row) × Shows row it
 
 -- the row shows the id of the blob that a medium names, and its content type
 pub record ShowsMedium (row : Row) (m : MediumRow) : Type 0 where

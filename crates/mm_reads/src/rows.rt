@@ -5,7 +5,7 @@ ghost use Rattle.std.specs.FinMap.{get};
 ghost use Rattle.sqlite.specs.Values.{bound};
 ghost use Rattle.mm_definitions.specs.Keys.{item};
 ghost use Rattle.mm_definitions.specs.Faults.{IsStoreFault};
-ghost use Rattle.mm_reads.specs.Told.{Gives, ShowsRow, shown_row};
+ghost use Rattle.mm_reads.specs.Told.{GivesFirst, ShowsRow, shown_row};
 ghost use Rattle.mm_store.specs.Handed.{Asks, Looks};
 ghost use Rattle.mm_store.specs.Seen.{ReadsOn};
 
@@ -38,7 +38,7 @@ fn first_row<S: Alter>(
     sql: &str,
     params: &[ValueRef<'_>],
 ) -> Result<Option<Row>, Fault>
-    ensures { Asks S.Store tx.old tx.new sql.now (bound params.now) (Gives ShowsRow) result }
+    ensures { Asks S.Store tx.old tx.new sql.now (bound params.now) (GivesFirst ShowsRow) result }
 {
     match first(tx, sql, params)? {
         Some(row) => Ok(Some(row_in(&row)?)),

@@ -5,7 +5,7 @@ use Rattle.sqlite.specs.declared.types.Value.TheVariants.{Text as Words}
 use Rattle.sqlite.specs.Order.{Row, column}
 use Rattle.sqlite.specs.Term.{col}
 use Rattle.sql_forms.specs.Maps.{Holds}
-use Rattle.sql_forms.specs.Tables.{Finds}
+use Rattle.sql_forms.specs.Tables.{FindsRow}
 use Rattle.sql_forms.proofs.Selects.{selects_one, shows}
 use Rattle.mm_store.specs.Compiled as text
 use Rattle.mm_store.proofs.Selecting as statement
@@ -32,7 +32,7 @@ abbrev shown_row : Text → Row → Row
 shown_row mapping = shows (col 1 2 ∷ col 1 4 ∷ []) (Words mapping ∷ [])
 
 ends_found : (p : Package) (mapping : Text) (rows : List Row) → Holds past_id relation_row rows p.relations → (first : Option Row)
-    → Finds (by_mapping mapping) (shown_row mapping) rows first → EndsShown (get p.relations mapping) first
+    → FindsRow (by_mapping mapping) (shown_row mapping) rows first → EndsShown (get p.relations mapping) first
 ends_found p mapping rows h None found = finds_none parts.relations rows p.relations h mapping (shown_row mapping) found
 ends_found p mapping rows h (Some x) found =
     let at = finds_some parts.relations rows p.relations h mapping (shown_row mapping) x found in (

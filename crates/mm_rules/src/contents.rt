@@ -1,7 +1,7 @@
 //! The rules of contents, of the registry of kinds and of matrix sets.
 
 ghost use Rattle.std.specs.Prelude.{◌↔◌, IsTrue};
-ghost use Rattle.mm_definitions.specs.Rules.{NamedSystems, DistinctIdentifiers, Names, Registry, Extents, IsPlane, IsOrdered};
+ghost use Rattle.mm_definitions.specs.Rules.{NamedSystems, DistinctIdentifiers, ProperNames, Registry, Extents, IsPlane, IsOrdered};
 ghost use Rattle.sqlite.specs.Order.{column};
 ghost use Rattle.mm_walk.specs.Columns.{number_of};
 ghost use Rattle.mm_rules.specs.Parts.{ContentsSystems, SetSystems, MappingNames, Registered, KindsHaveContents, SetsHaveContents, SetExtents, ContentsExtents};
@@ -138,7 +138,7 @@ pub fn mapping_names<S: Alter>(conn: &mut Connection<S>) -> Result<bool, Fault>
 
 /// Rule 4, where rule 16 holds: no mapping has the name of a table.
 pub fn names<S: Alter>(conn: &mut Connection<S>) -> Result<bool, Fault>
-    ensures { DecidesWithin S.Store conn.old conn.new (λ p. Names p.contents p.relations p.editions)
+    ensures { DecidesWithin S.Store conn.old conn.new (λ p. ProperNames p.contents p.relations p.editions)
         result }
 {
     mapping_names(conn)

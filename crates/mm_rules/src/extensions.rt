@@ -14,25 +14,25 @@ use sqlite::{Alter, Connection, Row};
 fn is_related(row: &Row) -> bool
     ensures { IsTrue result ↔ IsRelated row.now }
 {
-    !stands(row, Wanted::COLUMN)
-        && text_is(row, Wanted::NAME, "gpkg_related_tables")
-        && text_is(row, Wanted::DEFINITION, "OGC 18-000")
-        && text_is(row, Wanted::SCOPE, "read-write")
+    !stands(row, WantedRow::COLUMN)
+        && text_is(row, WantedRow::NAME, "gpkg_related_tables")
+        && text_is(row, WantedRow::DEFINITION, "OGC 18-000")
+        && text_is(row, WantedRow::SCOPE, "read-write")
 }
 
 fn is_zoom_other(row: &Row) -> bool
     ensures { IsTrue result ↔ IsZoomOther row.now }
 {
-    text_is(row, Wanted::COLUMN, "tile_data")
-        && text_is(row, Wanted::NAME, "gpkg_zoom_other")
-        && text_is(row, Wanted::DEFINITION, "OGC 12-128r17")
-        && text_is(row, Wanted::SCOPE, "read-write")
+    text_is(row, WantedRow::COLUMN, "tile_data")
+        && text_is(row, WantedRow::NAME, "gpkg_zoom_other")
+        && text_is(row, WantedRow::DEFINITION, "OGC 12-128r17")
+        && text_is(row, WantedRow::SCOPE, "read-write")
 }
 
 /// An extension row with what may want it.
-struct Wanted;
+struct WantedRow;
 
-impl Wanted {
+impl WantedRow {
     const TABLE: usize = 0;
 
     const COLUMN: usize = 1;
@@ -48,7 +48,7 @@ impl Wanted {
     const KIND: usize = 6;
 }
 
-impl RowTest for Wanted {
+impl RowTest for WantedRow {
     ghost good = { λ _ row. IsWantedRow row };
 
     fn passes(&self, row: &Row) -> bool {
@@ -67,7 +67,7 @@ pub fn extensions_wanted<S: Alter>(conn: &mut Connection<S>) -> Result<bool, Fau
         conn,
         "SELECT e.table_name, e.column_name, e.extension_name, e.definition, e.scope, r.mapping_table_name, k.kind FROM gpkg_extensions AS e LEFT JOIN gpkgext_relations AS r ON r.mapping_table_name = e.table_name LEFT JOIN mm_tables AS k ON k.table_name = e.table_name",
         &[],
-        &Wanted,
+        &WantedRow,
     )
 }
 

@@ -20,7 +20,7 @@ use Rattle.mm_io.proofs.RecordsFacts.{records-all, records-first}
 use Rattle.mm_run.specs.Readings.{IsCommandRead, IsReadAs}
 use Rattle.mm_run.specs.Answers.{accepted_of, is_fault, plain, refused_of}
 use Rattle.mm_run.specs.Applied.{IsAnswer, OnFault}
-use Rattle.mm_run.specs.Told.{AreTold, AreCounted, Goes, HasLine, IsStoppedText, Stops}
+use Rattle.mm_run.specs.Told.{AreTold, AreCounted, GoesOn, HasLine, IsStoppedText, Stops}
 use Rattle.mm_run.specs.Runs.{IsStopped}
 use Rattle.mm_run.specs.Ended.{AreAllRefused, ended_answer, AreRefused, AreRefusedSoFar, IsEndedAt, IsEndedRun, IsEndedTurn, IsReadNext, RanEnded, SpellsNext, refusals}
 use Rattle.mm_run.proofs.Answered.{whole}
@@ -141,7 +141,7 @@ module _ {T : Type 0} (remaining : T → Option (List ℕ)) (a b : Reader T) (xs
 
   -- it was answered
   pub ended-more : (x : Answer) (t2 : Tally) (n : ℕ) (new : Option (List ℕ)) (was failed : Bool) → IsEndedTurn remaining a b (Some x)
-      → Goes (written_as mid was) (written_as new failed) n x t t2 → t.written + 1 ≡ n
+      → GoesOn (written_as mid was) (written_as new failed) n x t t2 → t.written + 1 ≡ n
       → AreRefusedSoFar xs s (source_of remaining b) b.state t2 old new
   ended-more answers.Ok t2 n new was failed turn goes at = absurd turn
   ended-more (answers.Fault f) t2 n new was failed turn goes at = absurd (goes.0)

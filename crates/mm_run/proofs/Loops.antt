@@ -15,7 +15,7 @@ use Rattle.mm_io.specs.Lines.{line, lines, lines_from}
 use Rattle.mm_io.specs.Records.{IsReadFault}
 use Rattle.mm_run.specs.Answers.{is_accepted, is_refused, accepted_of, refused_of, is_fault}
 use Rattle.mm_run.specs.Applied.{IsAnswer, OnFault}
-use Rattle.mm_run.specs.Told.{AreCounted, AreTold, Goes, HasLine, IsCutAt, Stops, with_answer, with_line}
+use Rattle.mm_run.specs.Told.{AreCounted, AreTold, GoesOn, HasLine, IsCutAt, Stops, with_answer, with_line}
 use Rattle.mm_run.specs.Runs.{IsRunFault, IsStopped, TellsWriter}
 use Rattle.mm_run.proofs.Lists.{accepted_of-more, length-lines_from, lines_from-more, refused_of-more, text-more}
 use Rattle.mm_definitions.specs.Streams.{written_as}
@@ -49,7 +49,7 @@ counted-more given a t h = (
 
 -- one more line
 pub told-more : (given : List Answer) (a : Answer) (t t2 : Tally) (n : ℕ) (old mid new : Option (List ℕ)) (before failed : Bool)
-    → AreTold given t old mid → Goes (written_as mid before) (written_as new failed) n a t t2 → length given + 1 ≡ n → AreTold (given ++ a ∷ []) t2 old new
+    → AreTold given t old mid → GoesOn (written_as mid before) (written_as new failed) n a t t2 → length given + 1 ≡ n → AreTold (given ++ a ∷ []) t2 old new
 told-more given a t t2 n old mid new before failed d g e =
     let counts = counted-more given a t d.0 in
     let more : (with_line (with_answer a t)).written ≡ length (given ++ a ∷ []) = omega (arith, written-with a t, length-append given (a ∷ []), d.1) in

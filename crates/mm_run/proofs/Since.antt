@@ -14,7 +14,7 @@ use Rattle.mm_definitions.specs.declared.commands.Command.{Command}
 use Rattle.mm_io.specs.Records.{Record}
 use Rattle.mm_run.specs.Answers.{after}
 use Rattle.mm_run.specs.Applied.{IsSound, LeavesEither}
-use Rattle.mm_run.specs.Promised.{Runs}
+use Rattle.mm_run.specs.Promised.{KeepsRun}
 use Rattle.mm_run.specs.Runs.{AreFirstParts, IsAnswered, IsKept, OnSound, RanAll, RanSome, Turns, WorksOn}
 use Rattle.mm_run.specs.Sessions.{shown, shown_since}
 use Rattle.mm_run.specs.Shown.{Shown}
@@ -165,8 +165,8 @@ module _ {A : Type 0} (ghosts : Ghosts A) where
     -- What is promised of a session that reads as a package holds of one that is settled for it.
     pub settled_runs : (moment : ℕ) (clean : Type 0) (old new : A) (told : Option (List ℕ)) (output output_now : Written)
         (result : Result Tally RunFault)
-        → Runs moment clean (ghosts.seen old) told (ghosts.has_failed old) (λ p. shown_since ghosts old p new) output output_now result
-        → Runs moment clean (ghosts.settled old) told (ghosts.has_failed old) (λ p. shown ghosts new) output output_now result
+        → KeepsRun moment clean (ghosts.seen old) told (ghosts.has_failed old) (λ p. shown_since ghosts old p new) output output_now result
+        → KeepsRun moment clean (ghosts.settled old) told (ghosts.has_failed old) (λ p. shown ghosts new) output output_now result
     settled_runs moment clean old new told output output_now (Ok t) it = record {
       done = λ is p sound bytes here.
           ran-all_eased (shown_since ghosts old p new) (shown ghosts new) (settles old p sound.0 new) p moment bytes output output_now t

@@ -20,7 +20,7 @@ use Rattle.mm_run.specs.declared.apply.Apply as applies
 
 -- What a run promises of the package, by what the session was settled for, what the input told, whether the session had failed, what
 -- it shows now, by that package, and the output before and after.
-pub record Runs {D : Type 0} (moment : ℕ) (clean : Type 0) (settled : Package → Type 0) (told : Option (List ℕ)) (before : Bool)
+pub record KeepsRun {D : Type 0} (moment : ℕ) (clean : Type 0) (settled : Package → Type 0) (told : Option (List ℕ)) (before : Bool)
     (shows : Package → Shown D) (output output_now : Written) (result : Result Tally RunFault) : Type 0 where
   -- Without a fault each record is answered, and all that was accepted stands.
   pub done : IfOk result (λ t. OnRun clean settled told (λ p bytes. RanAll p moment bytes (shows p) output output_now t))
@@ -39,7 +39,7 @@ pub record RunsList {A R W : Type 0} (apply : applies.Ghosts A) (read : reads.Gh
   -- Of a session that reads as a package, whatever a crash would leave of it: it reads then as the package after the answers. Each
   -- database that may be left stands for a first part of the accepted commands, or might be left before the run, and that part gives
   -- the package that the session read as then. So one that was settled is settled then (`settled_runs`).
-  pub seen : Runs moment (apply.is_clean new) (apply.seen old) (read.remaining (inside input)) (apply.has_failed old)
+  pub seen : KeepsRun moment (apply.is_clean new) (apply.seen old) (read.remaining (inside input)) (apply.has_failed old)
       (λ p. shown_since apply old p new) (written write.contents output) (written write.contents output_now) result
   -- Without a fault the input is at its end.
   pub end : OnOk result (IsAtEnd (read.remaining (inside input_now)))

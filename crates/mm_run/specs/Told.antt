@@ -28,8 +28,8 @@ abbrev pub AreCounted : Tally → List Answer → Type 0
 AreCounted t given = (t.accepted ≡ accepted_of given) × (t.refused ≡ refused_of given)
 
 -- line n was written whole and flushed, and tells no fault
-abbrev pub Goes : Written → Written → ℕ → Answer → Tally → Tally → Type 0
-Goes old new n a t t2 = IsAnswer a × (t2 ≡ with_line (with_answer a t)) × Appends old.contents new.contents (line n a) × (new.failed ≡ old.failed)
+abbrev pub GoesOn : Written → Written → ℕ → Answer → Tally → Tally → Type 0
+GoesOn old new n a t t2 = IsAnswer a × (t2 ≡ with_line (with_answer a t)) × Appends old.contents new.contents (line n a) × (new.failed ≡ old.failed)
 
 -- the line of a fault was written whole, and the writer has not failed; or it did behind the line, or inside it
 abbrev pub Stops : Written → Written → ℕ → Answer → Tally → RunFault → Type 0

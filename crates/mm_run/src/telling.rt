@@ -3,7 +3,7 @@
 ghost use Rattle.std.specs.Prelude.{◌≡◌, ◌≢◌, ◌+◌, ◌<◌, ◌^◌, IfOk, IfErr, true};
 ghost use Rattle.mm_definitions.specs.Faults.{output};
 ghost use Rattle.mm_definitions.specs.Streams.{is_flushed, written};
-ghost use Rattle.mm_run.specs.Told.{Goes, IsNear, Stops, with_answer};
+ghost use Rattle.mm_run.specs.Told.{GoesOn, IsNear, Stops, with_answer};
 
 use mm_definitions::answers::{Answer, Fault, RunFault, Tally};
 use mm_definitions::streams::Io;
@@ -38,7 +38,7 @@ pub(crate) fn tell<W: Write>(
 ) -> Result<Tally, RunFault>
     requires { (tally.accepted + tally.refused + 1 ≡ n) × (tally.written + 1 ≡ n) }
     ensures goes { IfOk result
-        (λ t. Goes (written W.contents writer.old) (written W.contents writer.new) n
+        (λ t. GoesOn (written W.contents writer.old) (written W.contents writer.new) n
         answer tally t) }
     ensures near { IfErr result (λ e. IsNear e.tally) }
     ensures stops { IfErr result

@@ -4,7 +4,7 @@ use Rattle.sqlite.specs.declared.types.Value.TheVariants.{Int, Text as Words}
 use Rattle.sqlite.specs.Order.{Row, column}
 use Rattle.sqlite.specs.Term.{Term, col}
 use Rattle.std.specs.FinMap.{FinMap, get}
-use Rattle.sql_forms.specs.Tables.{Finds}
+use Rattle.sql_forms.specs.Tables.{FindsRow}
 use Rattle.sql_forms.specs.Maps.{Holds}
 use Rattle.sql_forms.specs.Collation.TheVariants.{Binary}
 use Rattle.sql_forms.specs.Rules.{equal}
@@ -100,13 +100,13 @@ no_row_tells shelf (Some r) entry is told = absurd is
 
 -- the row that was looked up by the key shows the piece of the key
 module _ (rows : List Row) (ids : FinMap piece_cmp StagedRow) (h : Holds past_rowid staged_row rows ids) (k : PieceKey) (params : Row) where
-  by_row : (first : Option Row) → Finds (by_piece k) (shows piece_terms params) rows first → IsPieceRow (get ids k) first
+  by_row : (first : Option Row) → FindsRow (by_piece k) (shows piece_terms params) rows first → IsPieceRow (get ids k) first
   by_row None found = subst (λ o. IsPieceRow o None) (sym (finds_none parts.pieces rows ids h k (shows piece_terms params) found)) tt
   by_row (Some row) found =
       let at = finds_some parts.pieces rows ids h k (shows piece_terms params) row found in
       subst (λ o. IsPieceRow o (Some row)) (sym at.1) (subst (λ r. IsPieceRow (Some at.0) (Some r)) (sym at.4) (shown_piece k at.0 params at.2 at.3))
 
-  pub found_row : (x first : Option Row) → x ≡ first → Finds (by_piece k) (shows piece_terms params) rows first → IsPieceRow (get ids k) x
+  pub found_row : (x first : Option Row) → x ≡ first → FindsRow (by_piece k) (shows piece_terms params) rows first → IsPieceRow (get ids k) x
   found_row x first gives found = subst (IsPieceRow (get ids k)) (sym gives) (by_row first found)
 
 -- whether a row is of another edition

@@ -38,8 +38,8 @@ abbrev pub kept_row : Kept → PieceRow
 kept_row k = kept_with (bytes_or_none k.bytes) k
 
 -- the entry is the row that was read, with the bytes that it has; where none was read there is no entry
-abbrev pub IsKept : Option PieceRow → Option Kept → Type 0
-IsKept entry kept = (bytes : List ℕ) × (entry ≡ option_map (kept_with bytes) kept)
+abbrev pub IsKeptRow : Option PieceRow → Option Kept → Type 0
+IsKeptRow entry kept = (bytes : List ℕ) × (entry ≡ option_map (kept_with bytes) kept)
 
 -- the row that is to be written
 abbrev pub written_row : Written → PieceRow

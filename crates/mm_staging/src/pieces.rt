@@ -10,7 +10,7 @@ ghost use Rattle.mm_store.specs.Kept.{piece_id, piece_with};
 ghost use Rattle.mm_store.specs.Removals.{FreedByEdition};
 ghost use Rattle.mm_store.specs.Rows.{maybe};
 ghost use Rattle.mm_blobs.specs.Views.{ListsEach};
-ghost use Rattle.mm_staging.specs.Kept.{kept_row, written_row, bytes_or_none, IsKept, IsPieceRow};
+ghost use Rattle.mm_staging.specs.Kept.{kept_row, written_row, bytes_or_none, IsKeptRow, IsPieceRow};
 ghost use Rattle.mm_staging.specs.Outlines.{IsOutlined};
 ghost use Rattle.mm_store.specs.Handed.{Looks, Tells, ChangesWhere, LooksByRules};
 ghost use Rattle.mm_blobs.specs.Handed.{Finds};
@@ -103,7 +103,7 @@ fn kept_but_bytes<S: Alter>(
     edition: &str,
     number: i64,
 ) -> Result<Option<Kept>, Fault>
-    ensures { Looks S.Store tx.old tx.new (λ p kept. IsKept
+    ensures { Looks S.Store tx.old tx.new (λ p kept. IsKeptRow
         (get p.pieces (keys.piece edition.now number)) kept) result }
 {
     let Some(row) = row_of_piece(tx, edition, number)? else {

@@ -4,7 +4,7 @@ use Rattle.std.specs.declared.cmp.Ordering.{Ordering}
 use Rattle.std.specs.FinMap.{FinMap, get}
 use Rattle.sqlite.specs.declared.types.Value.TheVariants.{Int, Text as Words}
 use Rattle.sqlite.specs.Order.{Row, column}
-use Rattle.sql_forms.specs.Tables.{Finds}
+use Rattle.sql_forms.specs.Tables.{FindsRow}
 use Rattle.sql_forms.specs.Maps.{Holds}
 use Rattle.mm_store.specs.Statements.{GivesText, GivesPair}
 use Rattle.mm_store.proofs.Parts.{IsPart, finds_none, finds_some}
@@ -17,10 +17,10 @@ module _ {K V : Type 0} {R : K → K → Ordering} {part : Row → Row} {row_of 
   -- a text of the entry, where the row shows it in its first column
   pub text_found : {A : Type 0} (show : Row → Row) (of : V → List ℕ) → ((r : Row) (v : V) → part r ≡ row_of k v → column (show r) 0 ≡ Words (of v))
       → (x : Option (String A)) (first : Option Row) → GivesText x first
-      → Finds (test k) show rows first → option_map of (get m k) ≡ option_map string_bytes x
-  text_found show of shows None first gives found = ap (option_map of) (finds_none it rows m h k show (subst (Finds (test k) show rows) gives found))
+      → FindsRow (test k) show rows first → option_map of (get m k) ≡ option_map string_bytes x
+  text_found show of shows None first gives found = ap (option_map of) (finds_none it rows m h k show (subst (FindsRow (test k) show rows) gives found))
   text_found show of shows (Some text) first gives found =
-      let at = finds_some it rows m h k show gives.0 (subst (Finds (test k) show rows) gives.1 found) in
+      let at = finds_some it rows m h k show gives.0 (subst (FindsRow (test k) show rows) gives.1 found) in
       let e : Words (string_bytes text) ≡ Words (of at.0) = sym gives.2 ∙ ap (λ (r : Row). column r 0) at.4 ∙ shows at.2 at.0 at.3 in
       let same : of at.0 ≡ string_bytes text = cc in
       ap (option_map of) at.1 ∙ ap Some same
@@ -29,10 +29,10 @@ module _ {K V : Type 0} {R : K → K → Ordering} {part : Row → Row} {row_of 
   pub pair_found : (show : Row → Row) (of : V → ℤ × ℤ)
       → ((r : Row) (v : V) → part r ≡ row_of k v → (column (show r) 0 ≡ Int (of v).0) × (column (show r) 1 ≡ Int (of v).1))
       → (x : Option (ℤ × ℤ)) (first : Option Row) → GivesPair x first
-      → Finds (test k) show rows first → option_map of (get m k) ≡ x
-  pair_found show of shows None first gives found = ap (option_map of) (finds_none it rows m h k show (subst (Finds (test k) show rows) gives found))
+      → FindsRow (test k) show rows first → option_map of (get m k) ≡ x
+  pair_found show of shows None first gives found = ap (option_map of) (finds_none it rows m h k show (subst (FindsRow (test k) show rows) gives found))
   pair_found show of shows (Some pair) first gives found =
-      let at = finds_some it rows m h k show gives.0 (subst (Finds (test k) show rows) gives.1 found) in
+      let at = finds_some it rows m h k show gives.0 (subst (FindsRow (test k) show rows) gives.1 found) in
       let s = shows at.2 at.0 at.3 in
       let a : Int pair.0 ≡ Int (of at.0).0 = sym gives.2 ∙ ap (λ (r : Row). column r 0) at.4 ∙ s.0 in
       let b : Int pair.1 ≡ Int (of at.0).1 = sym gives.3 ∙ ap (λ (r : Row). column r 1) at.4 ∙ s.1 in

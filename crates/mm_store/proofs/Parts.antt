@@ -8,7 +8,7 @@ use Rattle.sqlite.specs.Order.{Row}
 use Rattle.sqlite.specs.Tree.{put_row}
 use Rattle.sqlite.specs.Edit.{is_taken}
 use Rattle.sql_forms.proofs.ListLemmas.{some_has, has_filtered, has_kept}
-use Rattle.sql_forms.specs.Tables.{Finds, without, with_changed}
+use Rattle.sql_forms.specs.Tables.{FindsRow, without, with_changed}
 use Rattle.sql_forms.specs.Maps.{Holds}
 use Rattle.sql_forms.proofs.Maps as maps
 use Rattle.mm_definitions.proofs.Parts.{IsKeyOrder, not_none, kept, after_retain}
@@ -55,10 +55,10 @@ module _ {K V : Type 0} {R : K → K → Ordering} {part : Row → Row} {row_of 
           go true is = let r = some_has (test k) rows is in let at = maps.passes_at it.order.total it.order.exact part row_of it.key_is rows m h k (test k) (it.decides k) r.0 r.1 r.2 in sym (ap is_some at.1)
           go false is = sym (ap is_some (maps.none_at it.order.total it.order.exact part row_of it.key_is rows m h k (test k) (it.decides k) is))
 
-      pub finds_none : (show : Row → Row) → Finds (test k) show rows None → get m k ≡ None
+      pub finds_none : (show : Row → Row) → FindsRow (test k) show rows None → get m k ≡ None
       finds_none show none = maps.none_at it.order.total it.order.exact part row_of it.key_is rows m h k (test k) (it.decides k) none
 
-      pub finds_some : (show : Row → Row) (x : Row) → Finds (test k) show rows (Some x)
+      pub finds_some : (show : Row → Row) (x : Row) → FindsRow (test k) show rows (Some x)
           → (v : V) × (get m k ≡ Some v) × (r : Row) × (part r ≡ row_of k v) × (x ≡ show r)
       finds_some show x some =
           let at = maps.passes_at it.order.total it.order.exact part row_of it.key_is rows m h k (test k) (it.decides k) some.0 some.1 some.2 in

@@ -11,7 +11,7 @@ use Rattle.mm_definitions.specs.Package.{Package}
 use Rattle.mm_definitions.proofs.KeyLaws.{extension_keys, tile_keys, items, piece_keys}
 use Rattle.mm_definitions.proofs.Parts.{IsKeyOrder, same_some}
 use Rattle.mm_store.specs.Blobs.{Shelf, StandsAt, Told, Tells}
-use Rattle.mm_store.specs.Kept.{Kept, Spare, no_spare, Keeps, tile_id, tile_with, medium_id, medium_with, piece_id, piece_with}
+use Rattle.mm_store.specs.Kept.{Kept, Spare, no_spare, HoldsKept, tile_id, tile_with, medium_id, medium_with, piece_id, piece_with}
 use Rattle.mm_store.specs.Stands.{HoldingBut, StandsForBut, StandsFor}
 use Rattle.mm_store.proofs.Parts.{one_map}
 use Rattle.mm_store.proofs.Keys as parts
@@ -34,7 +34,7 @@ module _ {K I V : Type 0} {R : K → K → Ordering} (o : IsKeyOrder R) (id_of :
       let k : Tells id_of filled shelf ids n = subst (λ s. Tells id_of filled s ids n) (sym p) (subst (λ is. Tells id_of filled other is n) (sym q) j) in
       same_map o.total o.exact m n (λ key. one_told id_of filled shelf (get ids key) (get m key) (get n key) (h key) (k key))
 
-module _ (spare more : Spare) (tables : Trees) (a b : Kept) (p q : Package) (h : Keeps spare tables a p) (j : Keeps more tables b q) where
+module _ (spare more : Spare) (tables : Trees) (a b : Kept) (p q : Package) (h : HoldsKept spare tables a p) (j : HoldsKept more tables b q) where
   same_shelf : a.shelf ≡ b.shelf
   same_shelf = one_map parts.blobs _ a.shelf b.shelf h.blobs j.blobs
 

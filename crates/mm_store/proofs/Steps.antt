@@ -15,7 +15,7 @@ use Rattle.sqlite.specs.Tree.{Trees, with_tree, put_row}
 use Rattle.sqlite.specs.State.{State, ExecutesInside, IsUnchanged}
 use Rattle.sql_forms.specs.Listing.{IsSound}
 use Rattle.sql_forms.specs.Forms.{first_of}
-use Rattle.sql_forms.specs.Tables.{tables_of, AreRows, IsReady, Leaves, IsFirstShown, Finds, passes, without, with_changed}
+use Rattle.sql_forms.specs.Tables.{tables_of, AreRows, IsReady, Leaves, IsFirstShown, FindsRow, passes, without, with_changed}
 use Rattle.sql_forms.proofs.Cascades.{IsCascade, cascaded}
 use Rattle.sql_forms.specs.Cascade.{cut}
 use Rattle.sql_forms.proofs.Casts.{are_of}
@@ -96,7 +96,7 @@ module _ {S : Type 0} {g : Ghosts S} {a b : Transaction S} {sql : List ℕ} {giv
         → Asks g a b sql given Gives r
         → (params : Row) → given ≡ params
         → ((version : ℤ) (p : Package) (db : Trees) → Holding version db p → (x : T) (first : Option Row)
-        → Gives x first → Finds (passes terms params) (shows project params) (db tree) first → Says p x)
+        → Gives x first → FindsRow (passes terms params) (shows project params) (db tree) first → Says p x)
         → Looks g a b Says r
     asks_one h params same finds = looks h (λ x first ready shown gives.
         let read = selects_one schema sql tree terms project names it (state g a.conn.now)

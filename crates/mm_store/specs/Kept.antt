@@ -57,7 +57,7 @@ abbrev pub no_spare : Spare
 no_spare id = false
 
 -- The four tables hold what is kept; it has the bytes of the package; and every blob is named, or may be spared.
-pub record Keeps (spare : Spare) (tables : Trees) (kept : Kept) (p : Package) : Type 0 where
+pub record HoldsKept (spare : Spare) (tables : Trees) (kept : Kept) (p : Package) : Type 0 where
   pub tiles : Holds past_rowid tile_row (tables mm_tiles.tree) kept.tiles
   pub media : Holds past_rowid medium_row (tables mm_media.tree) kept.media
   pub pieces : Holds past_rowid staged_row (tables mm_pieces.tree) kept.pieces

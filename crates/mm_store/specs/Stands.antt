@@ -12,7 +12,7 @@ use Rattle.mm_store.specs.Tables.{schema, gpkg_spatial_ref_sys, gpkg_contents, g
 use Rattle.mm_definitions.specs.Package.{Package}
 use Rattle.mm_definitions.specs.Bounds.{Profile}
 use Rattle.mm_store.specs.Rows.{whole, past_rowid, past_id, system_row, contents_row, kind_row, set_row, grid_row, attribute_row, relation_row, pairing_row, edition_row, Counts}
-use Rattle.mm_store.specs.Kept.{Kept, Keeps, Spare, no_spare}
+use Rattle.mm_store.specs.Kept.{Kept, HoldsKept, Spare, no_spare}
 
 -- the one row of the profile's table
 abbrev pub profile_row : ℤ → Row
@@ -31,7 +31,7 @@ pub record HoldingBut (spare : Spare) (version : ℤ) (tables : Trees) (p : Pack
   pub pairings : Holds past_rowid pairing_row (tables mm_map.tree) p.pairings
   pub editions : Holds past_rowid edition_row (tables mm_editions.tree) p.editions
   pub kept : Kept
-  pub keeps : Keeps spare tables kept p
+  pub keeps : HoldsKept spare tables kept p
   pub profile : tables mm_profile.tree ≡ profile_row version ∷ []
 
 -- the same with every blob named

@@ -18,12 +18,12 @@ use Rattle.mm_core.specs.Viewers.{IsOn, LeavesPackage}
 use Rattle.mm_core.specs.Writing.{IsBegun, ListingTellsWriter}
 use Rattle.mm_show.specs.Records.{row_records}
 use Rattle.mm_show.specs.Showing.{ShowsRecords, records_by, rows_shown, show_refusal}
-use Rattle.mm_work.specs.Shown.{IsShowing, IsShowingCut, TellsReason, TellsRows, status_by, text_by}
+use Rattle.mm_work.specs.Shown.{IsShowing, IsShowingCut, TellsReason, TellsShownRows, status_by, text_by}
 
 -- ---- what is printed
 
 pub told_records : (p : Package) (table : Text) (id : Option ℤ) (old new : Written)
-    → ShowsRecords p table id old new (Ok None) → TellsRows p table id old new (Ok 0)
+    → ShowsRecords p table id old new (Ok None) → TellsShownRows p table id old new (Ok 0)
 told_records p table id old new (none, printed) = (
   subst (λ (o : Option ℕ). Appends old.contents new.contents (text_by o (row_records table (rows_shown p table id))))
       (sym none) printed,
@@ -32,7 +32,7 @@ told_records p table id old new (none, printed) = (
 
 pub told_reason : (p : Package) (table : Text) (id : Option ℤ) (old mid new : Written) (number : ℕ) (r : Result ℕ Fault)
     → ShowsRecords p table id old mid (Ok (Some number))
-    → TellsReason mid new number r → TellsRows p table id old new r
+    → TellsReason mid new number r → TellsShownRows p table id old new r
 told_reason p table id old mid new number (Ok status) (why, same) (printed, is) = (
   subst (λ (o : Option ℕ). Appends old.contents new.contents (text_by o (row_records table (rows_shown p table id))))
       (sym why)
@@ -55,7 +55,7 @@ begun_by (Some number) records old new (b ∷ front, rest, is, appends) = absurd
 pub told_begun : (p : Package) (table : Text) (id : Option ℤ) (old new : Written) (fault : Fault) (r : Result ℕ Fault)
     → IsErr r
     → ShowsRecords p table id old new (Err fault)
-    → TellsRows p table id old new r
+    → TellsShownRows p table id old new r
 told_begun p table id old new fault (Ok status) stops begun = absurd (let f : false ≡ true = stops in cc)
 told_begun p table id old new fault (Err other) stops begun =
     begun_by (show_refusal p table id) _ old.contents new.contents begun
@@ -68,7 +68,7 @@ module _ (table : Text) (id : Option ℤ) (old mid new : State) (adopted : IsAdo
   early clean = omega (arith, clean, kept.survives.clean)
 
   abbrev Tells : Written → Written → Result ℕ Fault → Type 0
-  Tells before after r = (p : Package) → IsOn false mid new p → TellsRows p table id before after r
+  Tells before after r = (p : Package) → IsOn false mid new p → TellsShownRows p table id before after r
 
   on : (clean : HasCleanDisk new) (p : Package) → IsSettled current old p → IsOn false mid new p
   on clean p settled works = (

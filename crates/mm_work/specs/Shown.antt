@@ -42,10 +42,10 @@ TellsReason old new number (Ok status) = IsTextPrinted old new (text_by (Some nu
 TellsReason old new number (Err fault) = IsTextPrinted old new (text_by (Some number) (codes "")) (Err fault)
 
 -- the text was printed, and its status is told; or a beginning of it was
-abbrev pub TellsRows : Package → Text → Option ℤ → Written → Written → Result ℕ Fault → Type 0
-TellsRows p table id old new (Ok status) =
+abbrev pub TellsShownRows : Package → Text → Option ℤ → Written → Written → Result ℕ Fault → Type 0
+TellsShownRows p table id old new (Ok status) =
     Appends old.contents new.contents (shown_text p table id) × (status ≡ shown_status p table id)
-TellsRows p table id old new (Err fault) = IsBegun old.contents new.contents (shown_text p table id)
+TellsShownRows p table id old new (Err fault) = IsBegun old.contents new.contents (shown_text p table id)
 
 -- It was adopted, and wrote nothing to the package, which meets the rules, and the text was printed, with its status.
 pub record IsShowing (table : Text) (id : Option ℤ) (old new : State) (held holds : Option (List ℕ))

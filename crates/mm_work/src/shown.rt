@@ -6,7 +6,7 @@ ghost use Rattle.mm_definitions.specs.Package.{Package};
 ghost use Rattle.mm_definitions.specs.Streams.{has_failed, inside, written};
 ghost use Rattle.mm_core.specs.Viewers.{IsOn, LeavesPackage};
 ghost use Rattle.mm_core.specs.Writing.{ListingTellsWriter};
-ghost use Rattle.mm_work.specs.Shown.{IsShowing, IsUnshown, TellsReason, TellsRows};
+ghost use Rattle.mm_work.specs.Shown.{IsShowing, IsUnshown, TellsReason, TellsShownRows};
 ghost use Rattle.mm_work.specs.Told.{stop_status};
 
 use crate::package::adopt_package;
@@ -47,7 +47,7 @@ fn rows_told<D: Desk, W: Write>(
     ensures kept { LeavesPackage (D.store desk.old) (D.store desk.new) }
     ensures told { (p : Package)
         → IsOn (D.Viewer.has_failed desk.old) (D.store desk.old) (D.store desk.new) p
-        → TellsRows p table.now id (written W.contents output.old) (written W.contents output.new)
+        → TellsShownRows p table.now id (written W.contents output.old) (written W.contents output.new)
         result }
     ensures status { IfOk result (λ status. status ≤ 1) }
     ensures working { OnOk result (has_failed output.new ≡ has_failed output.old) }

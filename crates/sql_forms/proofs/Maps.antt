@@ -13,7 +13,7 @@ use Rattle.sqlite_rules.specs.Lists.{Has}
 use Rattle.sqlite_rules.proofs.ListLemmas.{some_from, has_filtered, has_kept}
 use Rattle.sqlite_rules.proofs.ProbeLemmas.{has_mapped, mapped_has}
 use Rattle.sqlite_rules.proofs.TableLemmas.{has_put, put_has, put_all_keeps}
-use Rattle.sql_forms.specs.Tables.{without, with_changed, Finds}
+use Rattle.sql_forms.specs.Tables.{without, with_changed, FindsRow}
 use Rattle.sql_forms.specs.Maps.{Holds}
 use Rattle.sql_forms.proofs.Rows.{equal_is}
 
@@ -48,7 +48,7 @@ module _ {K V : Type 0} {R : K → K → Ordering} (total : IsTotalOrder R) (sam
               absurd (both_ways _ none (some_from test rows r.0 r.1 (decides r.0 k v r.2 ∙ itself k)))
 
       -- SELECT by the key
-      pub looks_up : (show : Row → Row) (o : Option Row) → Finds test show rows o
+      pub looks_up : (show : Row → Row) (o : Option Row) → FindsRow test show rows o
           → ((o ≡ None) × (get m k ≡ None)) ⊎ ((r : Row) × (v : V) × (o ≡ Some (show r)) × (get m k ≡ Some v) × (part r ≡ row_of k v))
       looks_up show None found = inl (refl, none_at found)
       looks_up show (Some x) found = let it = passes_at found.0 found.1 found.2 in inr (found.0, it.0, ap Some found.3, it.1, it.2)

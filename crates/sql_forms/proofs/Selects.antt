@@ -21,7 +21,7 @@ use Rattle.sqlite.specs.Listing.{understood, reads_listing}
 use Rattle.sqlite.specs.State.{State, Shown, IsUnchanged}
 use Rattle.sqlite.proofs.Callers.{IsPlain, command_of}
 use Rattle.sql_forms.specs.Forms.{over, all_of, first_of, alone, no_limit}
-use Rattle.sql_forms.specs.Tables.{is_table, tables_of, passes, Finds, IsFirstShown}
+use Rattle.sql_forms.specs.Tables.{is_table, tables_of, passes, FindsRow, IsFirstShown}
 use Rattle.sql_forms.proofs.States.{shows_as}
 use Rattle.sql_forms.proofs.Queries.{AnswersOver, answers_over, answers_all}
 use Rattle.sql_forms.proofs.Tables.{rows_at}
@@ -57,13 +57,13 @@ nothing_left test rows none = false_from_ne_true _ (λ any. let r = some_has tes
     past (y ∷ xs) x h none = omega arith
 
 finds : (test : Row → Bool) (show : Row → Row) (rows shown : List Row) → IsPermutation (map show (filter test rows)) shown
-    → Finds test show rows (slice_get shown 0)
+    → FindsRow test show rows (slice_get shown 0)
 finds test show rows [] h = nothing_left test rows (sym (length-map (filter test rows) show) ∙ sym (length_permutation _ _ h))
 finds test show rows (x ∷ more) h =
     (all-permutation (λ y. (r : Row) × Has rows r × (test r ≡ true) × (y ≡ show r)) _ _ h
     (all-map (λ y. (r : Row) × Has rows r × (test r ≡ true) × (y ≡ show r)) show (filter test rows) (all_from _ _ (λ r here. let was = has_filtered test rows r here in (r, was.0, was.1, refl))))).0
 
-pub any_found : (test : Row → Bool) (show : Row → Row) (table : List Row) (first : Option Row) → Finds test show table first
+pub any_found : (test : Row → Bool) (show : Row → Row) (table : List Row) (first : Option Row) → FindsRow test show table first
     → is_some first ≡ list_any test table
 any_found test show table None h = sym h
 any_found test show table (Some x) h = sym (some_from test table h.0 h.1 h.2)
@@ -89,7 +89,7 @@ module _ (schema : Schema) (sql : List ℕ) (tree : ℕ) (terms project : List T
     (it : IsSelect schema sql tree (first_of tree terms project) names) (old new : State) (has : old.now.schema ≡ schema) (params given : Row) (same : given ≡ params) where
   module _ (first : Option Row) (shown : IsFirstShown sql given old new first) where
     -- one of the rows that pass, if there is one
-    pub selects_one : IsUnchanged old new × Finds (passes terms params) (shows project params) (tables_of schema old.now.trees tree) first
+    pub selects_one : IsUnchanged old new × FindsRow (passes terms params) (shows project params) (tables_of schema old.now.trees tree) first
     selects_one =
         let table = tables_of schema old.now.trees tree in
         let q = first_of tree terms project in
@@ -98,8 +98,11 @@ module _ (schema : Schema) (sql : List ℕ) (tree : ℕ) (terms project : List T
         let passing : IsPermutation (map (shows project params) (filter (passes terms params) table)) all =
         subst (λ xs. IsPermutation xs all) (map-map (λ (o : Output). o.1) (λ r. output q (params ∷ r ∷ []))
         (filter (passes terms params) table)) (IsPermutation-map (λ (o : Output). o.1) _ _ read.0.same) in
-        let first_is : first ≡ slice_get all 0 = shown.2 ∙ ap (λ xs. slice_get xs 0) read.0.shows ∙ first_taken all in
-        (read.1, subst (Finds (passes terms params) (shows project params) table) (sym first_is) (finds (passes terms params) (shows project params) table all passing))
+        let first_is : first ≡ slice_get all 0 = shown.2 ∙ ap (λ xs. slice_get xs 0) read.0.shows ∙ first_taken all in (
+          read.1,
+          subst (FindsRow (passes terms params) (shows project params) table) (sym first_is)
+              (finds (passes terms params) (shows project params) table all passing),
+        )
 
     -- whether there is one
     pub selects_any : IsUnchanged old new × (is_some first ≡ list_any (passes terms params) (tables_of schema old.now.trees tree))

@@ -1,6 +1,6 @@
 -- What a statement sees of a database and leaves in it: the rows of the tables of a schema.
 use Rattle.std.specs.Prelude.{◌≡◌, ℕ, Bool, true, false, not, ◌&&◌, ◌==◌, if◌then◌else◌, List, [], ◌∷◌, filter, map}
-use Rattle.std.specs.Prelude.{IsPermutation, IsSorted, Option, Some, None, slice_get, IsTrue}
+use Rattle.std.specs.Prelude.{Option, Some, None, slice_get, IsTrue}
 use Rattle.std.specs.List.{AllByRecursion, list_any, list_all}
 use Rattle.std.specs.declared.cmp.Ordering.{Ordering}
 use Rattle.std.specs.Ordering.{is_lt}
@@ -70,22 +70,15 @@ pub record Leaves (schema : Schema) (old new : State) (tables : Trees) : Type 0 
   pub committed : new.committed ≡ old.committed
 
 -- what a query for one row by its key gives
-abbrev pub Finds : (Row → Bool) → (Row → Row) → List Row → Option Row → Type 0
-Finds test show rows None = list_any test rows ≡ false
-Finds test show rows (Some x) = (r : Row) × Has rows r × (test r ≡ true) × (x ≡ show r)
+abbrev pub FindsRow : (Row → Bool) → (Row → Row) → List Row → Option Row → Type 0
+FindsRow test show rows None = list_any test rows ≡ false
+FindsRow test show rows (Some x) = (r : Row) × Has rows r × (test r ≡ true) × (x ≡ show r)
 
 -- what a query for the first row in an order gives
 abbrev pub FindsFirst : (Row → Bool) → (Row → Row → Ordering) → (Row → Row) → List Row → Option Row → Type 0
 FindsFirst test cmp show rows None = list_any test rows ≡ false
 FindsFirst test cmp show rows (Some x) = (r : Row) × Has rows r × (test r ≡ true) × (x ≡ show r)
     × ((y : Row) → Has rows y → test y ≡ true → is_lt (cmp y r) ≡ false)
-
--- what a query for all rows in an order gives
-pub record Lists (rows : List Row) (cmp : Row → Row → Ordering) (show : Row → Row) (shown : List Row) : Type 0 where
-  pub in_order : List Row
-  pub same : IsPermutation rows in_order
-  pub sorted : IsSorted cmp in_order
-  pub shows : shown ≡ map show in_order
 
 -- the first row of an answer, if it has one
 abbrev pub IsFirstShown : List ℕ → Row → State → State → Option Row → Type 0

@@ -1,6 +1,6 @@
 use Rattle.std.specs.Prelude.{⊤}
 use Rattle.sqlite.specs.Held.{state}
-use Rattle.mm_definitions.specs.Rules.{Limits, GivenSystems, NamedSystems, DistinctIdentifiers, Names, Registry}
+use Rattle.mm_definitions.specs.Rules.{Limits, GivenSystems, NamedSystems, DistinctIdentifiers, ProperNames, Registry}
 use Rattle.mm_definitions.specs.Rules.{Extents, MatricesFit, HigherIsFiner, NextIsHalved, TilesInside, Items}
 use Rattle.mm_definitions.specs.Rules.{RelationsSuited, PairingsJoin, ExactExtensions, Editions}
 use Rattle.mm_definitions.specs.Units.{profile_of}
@@ -32,7 +32,7 @@ pub returns-in-4 : goal.returns-in-4
 unfolding rule
 returns-in-4 g c = as_rule (profile_of c.args.unit) (state g.S.Store c.args.conn.now)
     (state g.S.Store c.names.new.conn) (λ p. Limits (profile_of c.args.unit) p)
-    (λ p. Names p.contents p.relations p.editions) c.args.k 4 c.in-4.is (λ p before. before.0)
+    (λ p. ProperNames p.contents p.relations p.editions) c.args.k 4 c.in-4.is (λ p before. before.0)
     (λ p. (λ h. h, λ h. h)) c.names.result (c.names.ensures (profile_of c.args.unit))
 
 pub returns-in-5 : goal.returns-in-5

@@ -1,6 +1,6 @@
 use Rattle.std.proofs.Common.{Some, ap, subst}
 use Rattle.mm_definitions.specs.Streams.{written}
-use Rattle.mm_run.specs.Promised.{Runs}
+use Rattle.mm_run.specs.Promised.{KeepsRun}
 use Rattle.mm_run.specs.Sessions.{shown_since}
 use Rattle.mm_desk.proofs.bodies.run_body.Goals as goal
 
@@ -18,7 +18,7 @@ returns-clause-ran g c =
       record {
         clean = it.clean;
         seen = subst
-            (λ told. Runs c.args.at (A.is_clean new) (A.seen old) told (A.has_failed old) (λ p. shown_since A old p new) between after c.run_list.result)
+            (λ told. KeepsRun c.args.at (A.is_clean new) (A.seen old) told (A.has_failed old) (λ p. shown_since A old p new) between after c.run_list.result)
             (ap (λ r. Some r.now) c.new-records.ensures.inside) it.seen;
         told = it.told;
         session = it.session;

@@ -1,6 +1,6 @@
 use Rattle.std.specs.Prelude.{⊤}
 use Rattle.sqlite.specs.Held.{state}
-use Rattle.mm_definitions.specs.Rules.{Limits, Names}
+use Rattle.mm_definitions.specs.Rules.{Limits, ProperNames}
 use Rattle.mm_rules.specs.Parts.{MappingNames}
 use Rattle.mm_walk.proofs.Compose.{same_rule}
 use Rattle.mm_rules.proofs.contents.names.Goals as goal
@@ -8,7 +8,7 @@ use Rattle.mm_rules.proofs.contents.names.Goals as goal
 pub returns : goal.returns
 returns g c profile =
     same_rule profile (state g.S.Store c.args.conn.now) (state g.S.Store c.mapping_names.new.conn) (λ _. ⊤)
-    (λ p. Limits profile p) MappingNames (λ p. Names p.contents p.relations p.editions) (λ p limits. tt)
+    (λ p. Limits profile p) MappingNames (λ p. ProperNames p.contents p.relations p.editions) (λ p limits. tt)
     (λ p limits. (
       λ apart. record {
         of_tables = λ k c is. (limits.contents k c is).table;

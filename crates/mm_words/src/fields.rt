@@ -353,6 +353,21 @@ fn write_form<W: fmt::Write>(f: &mut Formatter<W>, word: &str, form: &[Field]) -
     Ok(())
 }
 
+/// Why a word is no command, and what a list from elsewhere has in its place.
+fn write_command<W: fmt::Write>(f: &mut Formatter<W>, word: &str) -> fmt::Result {
+    if word.contains(';') || word.contains('\t') {
+        return write!(
+            f,
+            "{word:?} is one field: a comma parts fields, and no other sign"
+        );
+    }
+    write!(f, "{word:?} is no command")?;
+    if word.as_bytes().iter().any(|byte| byte.is_ascii_uppercase()) {
+        return write!(f, ": small letters are wanted");
+    }
+    Ok(())
+}
+
 /// Why a text isn't what its field holds.
 fn write_why<W: fmt::Write>(
     f: &mut Formatter<W>,
@@ -394,7 +409,7 @@ fn write_why<W: fmt::Write>(
 impl Display for Remark<'_> {
     fn fmt<W: fmt::Write>(&self, f: &mut Formatter<W>) -> fmt::Result {
         match &self.0 {
-            Why::Command(word) => write!(f, "{word:?} is no command"),
+            Why::Command(word) => write_command(f, word),
             Why::Piece(word) => write!(f, "{word:?} is no piece"),
             Why::Count { has, word, form } => {
                 let wanted = form.len().saturating_add(1);

@@ -1,14 +1,17 @@
 #!/usr/bin/env python3
-"""Proves the libraries that a crate stands on, each as soon as those below it are proved, as many side by side as there are processors.
+"""Proves crates and what they stand on, each as soon as those below it are proved, as many side by side as there are processors.
 
-    scripts/prove.py mm_cli
+    scripts/prove.py CRATE ..
 
-A crate that has processors to spare gets them (`rt lib --jobs`). What stands is not proved again. It tells each crate as it is proved, how
-many of how many, and the minutes so far; on a terminal in one line that is renewed. out/build.log has what rt said.
+Of a program (mm_cli) what it stands on is proved. A crate that has processors to spare gets them (`rt lib --jobs`). What stands is not proved
+again, and a build that was stopped goes on. It tells each crate as it is proved, how many of how many, and the minutes so far; on a terminal in one
+line that is renewed. out/build.log has what rt said.
 
 Two runs of rt in one tree wait for one another where they share a library, and all share the lowest. So each runs in a copy of the sources of
-its own, in out/rooms; rt hands what one copy proved to the others, and at last to the tree.
+its own, in out/rooms. What is proved in a room is handed to the tree, and from there to each room that wants it, without a second copy on the disk.
 """
+import contextlib
+import fcntl
 import os
 import shutil
 import subprocess
@@ -21,6 +24,9 @@ TOP = Path(__file__).resolve().parent.parent
 LOG = TOP / "out" / "build.log"
 ROOMS = TOP / "out" / "rooms"
 PARTS = ("src", "specs", "proofs")
+PROGRAMS = {"mm_cli"}
+# What rt keeps of a crate in its out/: the library, which is made anew and never changed, and the work on its proofs.
+LIBRARY, WORK = "rlib", "incremental"
 # The memory that the check of a crate may take, in kilobytes.
 MEMORY = 3_500_000
 
@@ -63,6 +69,8 @@ def room_for(wanted, number):
     """A copy of the sources of what is wanted, for one run of rt at a time."""
     room = ROOMS / str(number)
     for name in wanted:
+        if not (TOP / "crates" / name / "out" / WORK).is_dir():
+            hand_work(room / "crates" / name, TOP / "crates" / name)  # of a build that was stopped
         for part in PARTS:
             shutil.rmtree(room / "crates" / name / part, ignore_errors=True)
             if (TOP / "crates" / name / part).is_dir():
@@ -72,6 +80,40 @@ def room_for(wanted, number):
     (room / "crates.txt").write_text("\n".join(kept) + "\n")
     shutil.copy(TOP / "HANDLES", room)
     return room
+
+
+@contextlib.contextmanager
+def held(folder):
+    """Keeps each rt out of a crate's folder, as rt does."""
+    folder.mkdir(parents=True, exist_ok=True)
+    lock = os.open(folder, os.O_RDONLY)
+    try:
+        fcntl.flock(lock, fcntl.LOCK_EX)
+        yield
+    finally:
+        os.close(lock)
+
+
+def stamp(crate):
+    """The sum of all that a crate's library was made from, or None where there is no library."""
+    file = crate / "out" / LIBRARY / "stamp"
+    return file.read_text() if file.is_file() else None
+
+
+def hand_library(source, target):
+    """Gives a crate's folder the library that another has."""
+    if stamp(source) in (None, stamp(target)):
+        return
+    shutil.rmtree(target / "out" / LIBRARY, ignore_errors=True)
+    shutil.copytree(source / "out" / LIBRARY, target / "out" / LIBRARY, copy_function=os.link)
+
+
+def hand_work(source, target):
+    """Moves the work on a crate's proofs from one folder to another."""
+    if (source / "out" / WORK).is_dir():
+        shutil.rmtree(target / "out" / WORK, ignore_errors=True)
+        (target / "out").mkdir(parents=True, exist_ok=True)
+        (source / "out" / WORK).rename(target / "out" / WORK)
 
 
 def processors():
@@ -99,10 +141,17 @@ class Build:
 
     def prove(self, name, jobs, room):
         """Proves one crate, and says so to whoever waits."""
-        said = subprocess.run(
-            ["rt", "lib", "--jobs", str(jobs)], cwd=room / "crates" / name,
-            stdin=subprocess.DEVNULL, stdout=subprocess.PIPE, stderr=subprocess.STDOUT, text=True, errors="replace",
-        )
+        here, there = TOP / "crates" / name, room / "crates" / name
+        with held(here):
+            for it in below(self.listed, name) | {name}:
+                hand_library(TOP / "crates" / it, room / "crates" / it)
+            hand_work(here, there)
+            said = subprocess.run(
+                ["rt", "lib", "--jobs", str(jobs)], cwd=there,
+                stdin=subprocess.DEVNULL, stdout=subprocess.PIPE, stderr=subprocess.STDOUT, text=True, errors="replace",
+            )
+            hand_library(there, here)
+            hand_work(there, here)
         with self.turn:
             self.log.write(f"== {name}\n{said.stdout}")
             self.log.flush()
@@ -150,7 +199,7 @@ def main():
         print(__doc__, file=sys.stderr)
         return 2
     listed = crates_listed()
-    wanted = set().union(*(below(listed, it) for it in sys.argv[1:]))
+    wanted = set().union(*(below(listed, it) | ({it} - PROGRAMS) for it in sys.argv[1:]))
     build = Build(listed, wanted, processors())
     return 0 if build.run() else 1
 

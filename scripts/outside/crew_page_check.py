@@ -540,6 +540,67 @@ def check_two_tabs(scene):
     expect(titles, [f"Tab {it}" for it in range(7)], "the rows")
 
 
+def check_two_tabs_that_type(scene):
+    """Each of two tabs keeps what is typed and taken in it, also when it is loaded again; what a closed one leaves is listed in the other."""
+    seat = scene.seat()
+    with devtools.Browser(scene.command, scene.folder / "drafts") as browser:
+        one, other = (Crew(browser, seat.address, kept=True) for _ in range(2))
+        for crew, title in ((one, "One"), (other, "Other")):
+            crew.page.ask("Page.bringToFront")
+            crew.press("fresh")
+            crew.fill(title=title, note=f"of {title}", photos=[scene.photo])
+        for crew, title in ((other, "Other"), (one, "One")):
+            crew.page.ask("Page.bringToFront")
+            crew.reload()
+            crew.page.wait(f"form !== null && form.photos.length === 1 && byId('state').innerText === '{STANDS}'")
+            expect(crew.value("byId('title').value"), title, "the form that comes back")
+        one.page.close()
+        other.page.ask("Page.bringToFront")
+        other.page.wait("byId('state').innerText === '1 not saved'")
+        expect(other.waiting(), ["One / typed in a tab that is closed, and not saved / Open Throw away"], "what is listed")
+        press_of_outbox(other, "Open")
+        expect((other.text("told"), other.value("byId('title').value")), ("Save or close this row first.", "Other"), "the form that is open")
+        scene.screenshot(other, "left")
+        other.save()
+        press_of_outbox(other, "Open")
+        other.page.wait("form !== null && byId('thumbnails').ariaBusy === 'false'")
+        other.save()
+        other.wait_until_it_stands()
+        expect_quiet(other)
+    rows = rows_of(seat)
+    found = [(note, [it[0] for it in related_of(seat, number)]) for number, (note, _) in (by_title(rows, it) for it in ("One", "Other"))]
+    expect(found, [("of One", ["image/jpeg"]), ("of Other", ["image/jpeg"])], "the rows with their photos")
+
+
+def check_forms_of_a_browser_that_was_killed(scene):
+    """Of two forms that were open when the browser ended one opens in the next, and the other is listed, also for two tabs at once."""
+    seat = scene.seat()
+    profile = scene.folder / "ended"
+    with devtools.Browser(scene.command, profile) as browser:
+        for title in ("One", "Other"):
+            crew = Crew(browser, seat.address, kept=True)
+            crew.page.ask("Page.bringToFront")
+            crew.press("fresh")
+            crew.fill(title=title, photos=[scene.photo])
+        browser.kill()
+    with devtools.Browser(scene.command, profile) as browser:
+        crew = Crew(browser, seat.address, kept=True)
+        crew.page.wait("form !== null && form.photos.length === 1 && left.length === 1")
+        shown = crew.value("byId('title').value")
+        second = Crew(browser, seat.address, kept=True)
+        second.page.wait("form !== null && form.photos.length === 1")
+        crew.page.wait("left.length === 0")
+        expect({shown, second.value("byId('title').value")}, {"One", "Other"}, "the forms")
+        second.page.close()
+        crew.page.ask("Page.bringToFront")
+        crew.page.wait("left.length === 1")
+        for _ in range(2):
+            press_of_outbox(crew, "Throw away")
+        crew.page.wait("left.length === 0 && byId('outbox').children.length === 0")
+        expect(crew.value("byId('title').value"), shown, "the form that is left")
+        expect_quiet(crew)
+
+
 def check_the_outbox_of_another_package(scene):
     """Unsent work of one package doesn't go to another at the same port, nor, unasked, to a copy under another key."""
     seat = scene.seat()

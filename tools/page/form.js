@@ -48,43 +48,13 @@ function openForm({ table, row, fresh, act = null, photos = [] }) {
   (fresh && matchMedia("(pointer: fine)").matches ? byId("title") : byId("which")).focus({ preventScroll: true });
 }
 
-const FIELDS = ["into", "title", "note", "amount", "east", "north"];
 const typed = () => JSON.stringify([...FIELDS.map(it => byId(it).value), ...form.photos.map(it => it.id)]);
-const drafts = durability => store.transaction("drafts", "readwrite", { durability }).objectStore("drafts");
-
-/** Keeps what is typed, so that it is there when the page is loaded again; "strict" has it on the disk at once. */
-function keepDraft(durability = "relaxed") {
-  if (!form || form.act) return;
-  const { table, row, fresh, place } = form;
-  drafts(durability).put({ table, row, fresh, place, values: FIELDS.map(it => byId(it).value) }, 0);
-}
-
-/** Keeps the photos that aren't saved yet, with the number of their row. */
-function keepPhotos() {
-  if (!form || form.act) return;
-  keepDraft();
-  drafts("strict").put({ of: form.row.id, photos: form.photos }, 1);
-}
-
-/** Opens the form as it was typed in when the page went, with its photos. */
-async function openDraft() {
-  const [draft, taken] = await Promise.all([0, 1].map(it => done(drafts("relaxed").get(it))));
-  const { table, row, fresh, place, values } = draft ?? {};
-  if (!row || form || !tables().some(it => it.table === table)) return;
-  openForm({ table, row, fresh });
-  for (const [at, it] of FIELDS.entries()) byId(it).value = values[at];
-  form.place = place;
-  showPlace();
-  if (taken?.of === row.id) form.photos = taken.photos;
-  showPhotos();
-  byId("told").textContent = "This wasn't saved yet.";
-}
 
 /** Closes the form; the panel shows what it showed before. */
 function closeForm() {
   const from = form?.from;
   form = null;
-  drafts("relaxed").clear();
+  drafts("relaxed").delete(keysOf(tab));
   byId("edit").hidden = true;
   if (from !== undefined) byId("panel").scrollTop = from;
   tap(false);

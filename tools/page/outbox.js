@@ -35,6 +35,7 @@ async function openOutbox(word) {
     for (const name of ["photos", "drafts"]) request.result.createObjectStore(name);
   };
   store = await done(request);
+  await takeTab();
   tabs = new BroadcastChannel(store.name);
   tabs.onmessage = ({ data }) => heard(data);
   waiting = await acts();
@@ -78,11 +79,11 @@ async function keep(work) {
 
 /**
  * Puts acts and the bytes of their photos into the outbox, all or none, and sends them. One that has a number takes the place of that.
- * Where they close a form, what was typed in it goes by the same change: it isn't there again where the browser ends behind it.
+ * Where they close the form, what was typed in it goes by the same change: it isn't there again where the browser ends behind it.
  */
 async function post(list, photos = [], gone = [], closes = false) {
   await keep((acts, bytes, drafts) => {
-    if (closes) drafts.clear();
+    if (closes) drafts.delete(keysOf(tab));
     for (const act of list) acts.put({ ...act, at: KEY, saved: freshId() });
     for (const id of gone) bytes.delete(id);
     for (const photo of photos) bytes.put(photo.bytes, photo.id);
@@ -110,7 +111,7 @@ async function heard(act) {
 }
 
 async function recount() {
-  waiting = await acts();
+  [waiting, left] = await Promise.all([acts(), leftDrafts()]);
   showWaiting();
   showRows();
   showMarks();
@@ -240,36 +241,40 @@ function tellState(text, kind) {
   byId("state").className = kind;
 }
 
-/** Tells how much waits and was refused. */
+/** Tells how much waits, was refused, and was typed and left. */
 function showState() {
   if (ended) return;
   const refused = waiting.filter(it => it.refused).length, open = waiting.length - refused;
-  const words = [open && `${open} to send`, refused && `${refused} refused`].filter(it => it).join(", ");
+  const words = [open && `${open} to send`, refused && `${refused} refused`, left.length && `${left.length} not saved`].filter(it => it).join(", ");
   tellState(words || "all is in the package", words ? "waits" : "");
+}
+
+/** An item that says what isn't in the package yet, and why. */
+const listItem = (what, why, kind = "") => element("li", what, Object.assign(element("small", why), { className: kind }));
+
+function buttonIn(item, text, act) {
+  const made = Object.assign(element("button", text), { type: "button" });
+  if (act) made.addEventListener("click", act);
+  item.append(made, " ");
+  return made;
 }
 
 /** What an act of the outbox waits for, in words, and the buttons that go on with it. */
 function waitingItem(act) {
-  const why = element("small", act.refused ? `refused: ${act.refused}` : act.at === KEY ? "waits to be sent"
-    : "was saved under another key of this package: send it here, or open the address that it was saved at");
-  why.className = act.refused ? "bad" : "";
-  const item = element("li", act.what, why), button = (text, what) => {
-    const made = Object.assign(element("button", text), { type: "button" });
-    if (what) made.addEventListener("click", what);
-    item.append(made, " ");
-    return made;
-  };
-  if (act.refused && act.row) button("Change", () => change(act));
+  const why = act.refused ? `refused: ${act.refused}` : act.at === KEY ? "waits to be sent"
+    : "was saved under another key of this package: send it here, or open the address that it was saved at";
+  const item = listItem(act.what, why, act.refused ? "bad" : "");
+  if (act.refused && act.row) buttonIn(item, "Change", () => change(act));
   const anew = { ...act, refused: undefined, records: act.dropped ? [] : act.records };
-  if (!isOpen(act)) button(act.refused ? "Send again" : "Send it here", () => post([anew]));
-  if (!isOpen(act)) twice(button("Throw away"), () => become(act));
+  if (!isOpen(act)) buttonIn(item, act.refused ? "Send again" : "Send it here", () => post([anew]));
+  if (!isOpen(act)) twice(buttonIn(item, "Throw away"), () => become(act));
   return item;
 }
 
 function showWaiting() {
   showState();
-  byId("nothing").hidden = waiting.length > 0;
-  byId("outbox").replaceChildren(...waiting.map(waitingItem));
+  byId("nothing").hidden = waiting.length + left.length > 0;
+  byId("outbox").replaceChildren(...left.map(leftItem), ...waiting.map(waitingItem));
 }
 
 /** Has a button do something only when it is pressed twice, where that is asked for. */

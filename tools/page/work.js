@@ -135,7 +135,7 @@ async function endDay() {
   say("ended", null);
   if (!ended) return tellState("the package doesn't answer: the day isn't ended", "gone");
   tellState("the day is ended: the package is closed, and its file may be copied", "gone");
-  say("ended", waiting.length ? "The package is closed, and what 'Not in the package yet' lists isn't in it: open it again to send that."
+  say("ended", waiting.length + left.length ? "The package is closed, and what 'Not in the package yet' lists isn't in it: open it again for that."
     : "The package is closed. This page may be closed too.");
 }
 
@@ -178,6 +178,6 @@ async function startWork(known) {
   onReturn[1] = () => { readRows(); send(); };
   await readRows();
   showWaiting();
-  await openDraft();
+  await startDrafts();
   send();
 }

@@ -1,0 +1,117 @@
+// What is typed and isn't saved. Each tab keeps its own, and what a tab left that is gone is had by those that are there.
+//
+// A draft has two keys: an even number, which is its tab's, for what is typed, and the next for its photos. A tab has a lock as long as it is there.
+
+const FIELDS = ["into", "title", "note", "amount", "east", "north"];
+const GONE_WITHIN = 1000;  // milliseconds in which a page is gone that is loaded again
+
+let tab = 0;                // this tab's number
+let left = [];              // the drafts of tabs that are gone, each with its owner's number
+const watched = new Set();  // the numbers of tabs with a draft that are there
+
+const drafts = durability => store.transaction("drafts", "readwrite", { durability }).objectStore("drafts");
+const keysOf = owner => IDBKeyRange.bound(owner, owner + 1);
+const lockOf = owner => `${store.name} tab ${owner}`;
+
+/** Keeps what is typed, so that it is there when the page is loaded again; "strict" has it on the disk at once. */
+function keepDraft(durability = "relaxed") {
+  if (!form || form.act) return;
+  const { table, row, fresh, place } = form;
+  drafts(durability).put({ table, row, fresh, place, values: FIELDS.map(it => byId(it).value) }, tab);
+}
+
+/** Keeps the photos that aren't saved yet, with the number of their row. */
+function keepPhotos() {
+  if (!form || form.act) return;
+  keepDraft();
+  drafts("strict").put({ of: form.row.id, photos: form.photos }, tab + 1);
+}
+
+/** Takes a number for this tab, and its lock. */
+function takeTab() {
+  tab = 2 * Math.floor(freshId() / 2);
+  return new Promise(good => navigator.locks.request(lockOf(tab), () => { good(); return new Promise(() => {}); }));
+}
+
+/** Opens the form that this tab had before it was loaded again, or else the last that a tab has left. */
+async function startDrafts() {
+  const before = Number(sessionStorage.tab ?? 0);
+  sessionStorage.tab = tab;
+  if (!form) await openDraft(before);
+  await lookForLeft();
+  if (!form && left.length) await openDraft(left.at(-1).owner);
+  addEventListener("focus", lookForLeft);
+}
+
+/** The drafts that tabs have left, by their tabs' numbers. */
+async function leftDrafts() {
+  const owners = (await done(drafts("relaxed").getAllKeys())).filter(it => it % 2 === 0 && it !== tab);
+  const { held } = await navigator.locks.query(), there = new Set(held.map(it => it.name));
+  for (const it of owners.filter(it => there.has(lockOf(it)))) watch(it);
+  const gone = owners.filter(it => !there.has(lockOf(it)));
+  const found = await Promise.all(gone.map(async owner => ({ owner, ...await done(drafts("relaxed").get(owner)) })));
+  return found.filter(it => it.row && tables().some(({ table }) => table === it.table));
+}
+
+/** Looks what a tab has left, once it is gone. */
+function watch(owner) {
+  if (watched.has(owner)) return;
+  watched.add(owner);
+  navigator.locks.request(lockOf(owner), { mode: "shared" }, () => watched.delete(owner)).then(lookForLeft);
+}
+
+/** Looks what tabs have left. The list stays the same where that is nothing new: else a tap under way would be lost. */
+async function lookForLeft() {
+  const before = String(left.map(it => it.owner));
+  left = await leftDrafts();
+  if (String(left.map(it => it.owner)) !== before) showWaiting();
+}
+
+/** Opens the form as it was typed in a tab, with its photos, once that tab is gone; it is this tab's then. */
+async function openDraft(owner) {
+  const how = { signal: AbortSignal.timeout(GONE_WITHIN) };
+  await navigator.locks.request(lockOf(owner), how, async () => {
+    const [draft, taken] = await Promise.all([owner, owner + 1].map(it => done(drafts("relaxed").get(it))));
+    if (!draft?.row || form || !tables().some(it => it.table === draft.table)) return;
+    const moved = drafts("strict");
+    moved.delete(keysOf(owner));
+    moved.put(draft, tab);
+    if (taken) moved.put(taken, tab + 1);
+    fillForm(draft, taken);
+  }).catch(error => { if (error.name !== "TimeoutError") throw error; });
+  await tellLeft();
+}
+
+/** Fills the form with a draft and its photos. */
+function fillForm({ table, row, fresh, place, values }, taken) {
+  openForm({ table, row, fresh });
+  for (const [at, it] of FIELDS.entries()) byId(it).value = values[at];
+  form.place = place;
+  showPlace();
+  if (taken?.of === row.id) form.photos = taken.photos;
+  showPhotos();
+  byId("told").textContent = "This wasn't saved yet.";
+}
+
+async function throwDraftAway(owner) {
+  await done(drafts("strict").delete(keysOf(owner)));
+  await tellLeft();
+}
+
+/** Shows anew, here and in other tabs, what tabs have left. */
+async function tellLeft() {
+  await recount();
+  tabs.postMessage(null);
+}
+
+/** A draft that a tab has left, in words, and the buttons that go on with it. */
+function leftItem({ owner, row, values: [, title] }) {
+  const item = listItem(title || nameOf(row), "typed in a tab that is closed, and not saved");
+  buttonIn(item, "Open", () => {
+    if (isHeld()) return;
+    closeForm();
+    openDraft(owner);
+  });
+  twice(buttonIn(item, "Throw away"), () => throwDraftAway(owner));
+  return item;
+}

@@ -818,6 +818,28 @@ def check_a_mark_opens_its_row(scene):
     expect_quiet(crew)
 
 
+def check_names_and_places_in_sight(scene):
+    """Names stand beside the marks that are seen, where there is room for them; the map goes to a row that is opened where it doesn't show it."""
+    seat, crew = scene.begin(width=390, height=800, touch=True)
+    names = "[...document.querySelectorAll('.leaflet-tooltip')].map(it => it.innerText).sort().join()"
+    crew.page.wait("byId('map').querySelector('.leaflet-tooltip') === null && marked.size === 12")
+    crew.value("map.setView([5600360, 500420], 4, { animate: false }); 0")
+    crew.page.wait(f"{names} === 'Stone 5,Stone 6,Stone 7'")
+    crew.open("Stone 12")
+    expect(crew.value("((it) => [it.lng, it.lat])(map.getCenter())"), [500840, 5600720], "the map's middle")
+    crew.page.wait(f"{names} === 'Stone 11,Stone 12'")
+    scene.screenshot(crew, "names")
+    crew.write("title", "Stone twelve")
+    crew.save()
+    crew.page.wait(f"{names} === 'Stone 11,Stone twelve'")
+    crew.tap(500_840, 5_600_722)
+    crew.page.wait("form !== null")
+    expect(crew.value("map.getCenter().lat"), 5_600_722, "the map's middle where the row was in sight")
+    crew.wait_until_it_stands()
+    expect_quiet(crew)
+    rows_of(seat)
+
+
 def check_the_end_of_the_day(scene):
     """'End the day' closes the package well, behind what waits, and says so; not while a form has what isn't saved."""
     seat = scene.seat()

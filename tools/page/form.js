@@ -43,6 +43,7 @@ function openForm({ table, row, fresh, act = null, photos = [] }) {
   tap(fresh && !place && !act && Boolean(map));
   showPhotos();
   showPlace();
+  bringIntoSight(place);
   byId("edit").scrollIntoView({ block: "nearest" });
   // Under fingers a field that has the focus brings up the keys, which cover the map.
   (fresh && matchMedia("(pointer: fine)").matches ? byId("title") : byId("which")).focus({ preventScroll: true });

@@ -184,6 +184,7 @@ function show(pyramid) {
   onReturn[0] = () => layer.redraw();
   layer.on("load", () => tellMissing(layer));
   map.on("moveend", () => tellMissing(layer));
+  map.on("moveend", nameMarks);
   tellMissing(layer);
   cover(pyramid);
   scaleBar().addTo(map);

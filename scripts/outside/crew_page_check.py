@@ -337,6 +337,40 @@ def check_where_the_device_is(scene):
     expect_quiet(crew)
 
 
+def check_the_way_to_a_row(scene):
+    """A form tells how far its place is from the map's middle and which way, and the list does in its order; the device leads there as it goes."""
+    seat, crew = scene.begin()
+    page = crew.page
+    scene.browser.ask("Browser.grantPermissions", permissions=["geolocation"], origin=f"http://127.0.0.1:{seat.port}", browserContextId=page.context)
+    ways = {(3, 4): "5.0 m, 37° (NE)", (0, -12.4): "12 m, 180° (S)", (-1500, 1): "1,500 m, 270° (W)", (-0.01, 20): "20 m, 0° (N)"}
+    for (east, north), words in ways.items():
+        expect(crew.value(f"wordsOfWay({east}, {north})"), words, "a way in words")
+    crew.value("map.setView([5600360, 500420], 2, { animate: false }); 0")
+    crew.value("byId('order').value = 'near'; byId('order').dispatchEvent(new Event('change')); 0")
+    texts = "[...byId('rows').querySelectorAll('small')].slice(0, 2).map(it => it.innerText)"
+    expect(crew.value(texts), ["0.0 m, 0° (N) · from the books · 6", "92 m, 229° (SW) · from the books · 5"], "the list")
+    crew.value("map.setView([5600420, 500490], 2, { animate: false }); 0")
+    expect(crew.value(texts)[0], "0.0 m, 0° (N) · from the books · 7", "the list where the map has moved")
+    crew.open("Stone 6")
+    expect(crew.text("way"), "From the map's middle: 92 m, 229° (SW)", "the way in the form")
+    crew.write("east", "500490")
+    expect(crew.text("way"), "From the map's middle: 60 m, 180° (S)", "the way to another place")
+    # By gdaltransform the first is at 500354.2 E, 5600007.5 N.
+    page.ask("Emulation.setGeolocationOverride", longitude=9.005, latitude=50.552, accuracy=4.2)
+    crew.press("lead")
+    page.wait("byId('way').innerText === '378 m, 21° (N), within 5 m'")
+    expect(crew.value("[[5600007, 500354], [5600360, 500490]].every(it => map.getBounds().contains(it))"), True, "both are on the map")
+    scene.screenshot(crew, "way")
+    page.ask("Emulation.setGeolocationOverride", longitude=9.006, latitude=50.552, accuracy=9)
+    page.wait("byId('way').innerText === '358 m, 10° (N), within 9 m'")
+    crew.press("lead")
+    expect((crew.value("led"), crew.text("way").split(":")[0]), (None, "From the map's middle"), "the way behind that")
+    crew.press("lead")
+    page.value("byId('pyramids').value = 'plan'; byId('pyramids').dispatchEvent(new Event('change')); 0")
+    expect(crew.value("[led, byId('lead').hidden, byId('way').innerText]"), [None, True, ""], "the way in a plan")
+    expect_quiet(crew)
+
+
 class Late:
     """Answers to requests that have a word: they come when they are let go."""
 

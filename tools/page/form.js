@@ -41,6 +41,7 @@ function openForm({ table, row, fresh, act = null, photos = [] }) {
   byId("remove").hidden = fresh;
   byId("edit").hidden = false;
   tap(fresh && !place && !act && Boolean(map));
+  lead(false);
   showPhotos();
   showPlace();
   bringIntoSight(place);
@@ -59,7 +60,7 @@ function closeForm() {
   byId("edit").hidden = true;
   if (from !== undefined) byId("panel").scrollTop = from;
   tap(false);
-  showDraft();
+  lead(false);
 }
 
 /** The place in the form's fields; null where they are empty, undefined where they are none. */
@@ -211,6 +212,7 @@ function listenToForm() {
   byId("tap").addEventListener("click", () => tap(!isTapping()));
   byId("middle").addEventListener("click", () => map && setPlace(map.getCenter().lng, map.getCenter().lat, digitsHere()));
   byId("here").addEventListener("click", placeByDevice);
+  byId("lead").addEventListener("click", () => lead(!led));
   for (const it of ["east", "north"]) byId(it).addEventListener("input", showDraft);
   for (const it of ["camera", "pictures"]) byId(it).addEventListener("change", choose);
   twice(byId("leave"), closeForm, isHeld);

@@ -184,14 +184,14 @@ function show(pyramid) {
   onReturn[0] = () => layer.redraw();
   layer.on("load", () => tellMissing(layer));
   map.on("moveend", () => tellMissing(layer));
-  map.on("moveend", nameMarks);
+  map.on("moveend", moved);
   tellMissing(layer);
   cover(pyramid);
   scaleBar().addTo(map);
   document.title = pyramid.identifier;
   showMarks();
-  showDraft();
   offerDevice();
+  showDraft();
 }
 
 /** Outlines a map, and covers what its tiles have outside the bounds that are kept. */

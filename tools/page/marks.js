@@ -54,11 +54,13 @@ function bringIntoSight(place) {
   map.setView(there, map.getZoom(), { animate: false });
 }
 
-/** Draws the place that the form has. */
+/** Draws the place that the form has, and the way to it from a device that leads there. */
 function showDraft() {
   draft?.remove();
-  const place = form && map ? placeOfForm() : null;
-  if (!place || place.system !== shown.srs_id) return;
-  const how = { interactive: false, radius: 13, weight: 3, color: "#c00", fill: false };
-  draft = L.circleMarker([Number(place.north), Number(place.east)], how).addTo(map);
+  showWay();
+  const place = placeOnMap(), at = led?.at;
+  if (!place) return;
+  const there = [Number(place.north), Number(place.east)], how = { interactive: false, weight: 3, color: "#c00" };
+  const way = at ? [L.polyline([[at.north, at.east], there], { ...how, dashArray: "6 8" })] : [];
+  draft = L.layerGroup([...way, L.circleMarker(there, { ...how, radius: 13, fill: false })]).addTo(map);
 }

@@ -2,6 +2,7 @@
 
 const PLACE = /(?:^|\s)@(?:([1-9]\d{0,15}):)?(-?\d{1,9}(?:\.\d{1,6})?)\/(-?\d{1,9}(?:\.\d{1,6})?)(?=\s|$)/;
 const METRES = /^-?\d{1,9}([.,]\d{1,6})?$/;
+const DEVICE_PATIENCE = 20000;  // milliseconds until a device that doesn't tell where it is is given up
 
 let systems = {};     // of item 4, by number: the parameters of those that the page can reckon
 let onlySystem = null; // the system of all maps, null where they have several: a place that names none is of it
@@ -43,7 +44,7 @@ function projected(system, longitude, latitude) {
 
 /** Where the device is in the map's system, with how many metres it may be off. */
 async function deviceAt() {
-  const how = { enableHighAccuracy: true, timeout: 20000, maximumAge: 0 };
+  const how = { enableHighAccuracy: true, timeout: DEVICE_PATIENCE, maximumAge: 0 };
   const { coords } = await new Promise((good, bad) => navigator.geolocation.getCurrentPosition(good, bad, how));
   return { ...projected(systems[shown.srs_id], coords.longitude, coords.latitude), accuracy: coords.accuracy };
 }
@@ -59,15 +60,21 @@ function whyNoDevice({ code, message }) {
 function offerDevice() {
   const can = Boolean(navigator.geolocation && systems[shown.srs_id]);
   byId("locate").hidden = byId("here").hidden = !can;
+  if (!can) lead(false);
 }
 
-/** Draws where the device is, and how far it may be off, and goes there. */
-function showDevice({ east, north, accuracy }) {
+/** Draws where the device is, and how far it may be off. */
+function drawDevice({ east, north, accuracy }) {
   device?.remove();
   const how = { interactive: false, color: "#0b4f8a", weight: 2 }, place = [north, east];
   device = L.layerGroup([L.circle(place, { ...how, radius: accuracy, fillOpacity: 0.15 }), L.circleMarker(place, { ...how, radius: 5 })]).addTo(map);
+}
+
+/** Draws where the device is, and goes there. */
+function showDevice(place) {
+  drawDevice(place);
   pointed = null;
-  map.setView(place, map.getZoom(), { animate: false });
+  map.setView([place.north, place.east], map.getZoom(), { animate: false });
 }
 
 async function goToDevice() {

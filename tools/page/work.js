@@ -87,7 +87,8 @@ function rowItem() {
 
 /** Shows a row in its item, which stays the same while the row changes: else a tap under way would be lost. */
 function fillItem(item, row) {
-  const place = placeIn(row.note), words = [place ? place.rest : row.note, row.amount || "", row.waits ? `(${row.waits})` : ""];
+  const place = placeIn(row.note), way = byId("order").value === "near" ? wayFromMiddle(place) : "";
+  const words = [way, place ? place.rest : row.note, row.amount || "", row.waits ? `(${row.waits})` : ""];
   const [title, more] = [row.title || `(no title) ${row.id}`, words.filter(it => it !== "").join(" · ")];
   item.row = row;
   if (item.told === title + more) return item;

@@ -24,7 +24,7 @@ import time
 
 import devtools
 from checks import end, expect, mmpkg, run_checks
-from crew_page import KEY, MIDDLE, STANDS, Crew, Seat, free_port
+from crew_page import KEY, MIDDLE, STANDS, Crew, Seat, free_port, wait_until
 from devtools import WAIT_SECONDS
 from viewer_package import PYRAMIDS, Pyramid, picture, new_package, record, take_in
 
@@ -633,6 +633,36 @@ def check_forms_of_a_browser_that_was_killed(scene):
         crew.page.wait("left.length === 0 && byId('outbox').children.length === 0")
         expect(crew.value("byId('title').value"), shown, "the form that is left")
         expect_quiet(crew)
+
+
+def check_what_waits_as_a_file(scene):
+    """What waits while the package is lost goes into another copy by the file that the browser keeps of it, and stands there as it was saved."""
+    seat, crew = scene.begin()
+    seat.kill()
+    crew.new(title='A "stone", lost', note="by file", amount=4, place=(500_400, 5_600_500), photos=[scene.photo])
+    crew.change("Stone 2", amount=99)
+    crew.remove("Stone 3")
+    crew.page.wait("waiting.length === 3 && byId('state').className === 'gone'")
+    folder = scene.folder / "kept files"
+    folder.mkdir()
+    scene.browser.ask("Browser.setDownloadBehavior", behavior="allow", downloadPath=str(folder), browserContextId=crew.page.context)
+    crew.press("file")
+    wait_until(lambda: list(folder.glob("*.csv")), "the file is there")
+    scene.screenshot(crew, "file")
+    (file,) = folder.glob("*.csv")
+    assert re.fullmatch(r"not-in-the-package-[0-9-]{10}\.csv", file.name), file.name
+    other = scene.copy()
+    expect(mmpkg("run", other, given=file.read_bytes()), "1 ok\n2 ok\n3 ok\n4 ok\n5 ok\n", "the records of the file")
+    second = Seat(other)
+    scene.seats.append(second)
+    rows = rows_of(second)
+    number, rest = by_title(rows, 'A "stone", lost')
+    expect((rest, related_of(second, number)[0][0]), (("@25832:500400.0/5600500.0 by file", 4), "image/jpeg"), "the new row and its photo")
+    expect((rows[2][2], 3 in rows), (99, False), "the row that was changed, and that which was removed")
+    seat.start()
+    crew.wait_until_it_stands()
+    expect(crew.value("byId('file').hidden"), True, "no file of nothing")
+    expect_quiet(crew, "ERR_", "Failed to load resource")
 
 
 def check_the_outbox_of_another_package(scene):

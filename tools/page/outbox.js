@@ -138,6 +138,20 @@ async function bodyOf(records) {
   return new Blob((await Promise.all(lines)).flat());
 }
 
+/**
+ * Has the browser keep what waits, or was refused, as a file of records, which 'mmpkg run' puts into another copy where this package is lost. Of a
+ * removal that wasn't sent yet it has the last record alone: what leads from the row only the package tells.
+ */
+async function keepAsFile() {
+  const bodies = [];  // of one act behind another, so that the photos of one alone are in memory
+  for (const { records, table, dropped, then = [] } of waiting) {
+    bodies.push(await bodyOf([...records.length ? records : [["row-drop", table, dropped]], ...then]));
+  }
+  const href = URL.createObjectURL(new Blob(bodies)), day = new Date().toISOString().slice(0, 10);
+  Object.assign(document.createElement("a"), { href, download: `not-in-the-package-${day}.csv` }).click();
+  setTimeout(() => URL.revokeObjectURL(href), PATIENCE);
+}
+
 /** Sends records, and answers the lines that came whole; of a refused request its status. */
 async function ran({ records }) {
   const body = await bodyOf(records);
@@ -273,6 +287,7 @@ function waitingItem(act) {
 
 function showWaiting() {
   showState();
+  byId("file").hidden = waiting.length === 0;
   byId("nothing").hidden = waiting.length + left.length > 0;
   byId("outbox").replaceChildren(...left.map(leftItem), ...waiting.map(waitingItem));
 }

@@ -154,6 +154,7 @@ function listenToList() {
     byId("waits").focus({ preventScroll: true });
   });
   byId("more").addEventListener("click", () => { most += SHOWN_ROWS; showRows(); });
+  byId("file").addEventListener("click", keepAsFile);
   twice(byId("end"), endDay);
 }
 

@@ -331,7 +331,7 @@ def check_where_the_device_is(scene):
     crew.save()
     crew.wait_until_it_stands()
     crew.press("locate")
-    page.wait("byId('gone').innerText.startsWith('The device is here, within 5 m')")
+    page.wait("byId('messages').innerText === 'The device is here, within 5 m.'")
     page.value("byId('pyramids').value = 'plan'; byId('pyramids').dispatchEvent(new Event('change')); 0")
     expect(crew.value("[byId('locate').hidden, byId('here').hidden]"), [True, True], "the buttons in a plan")
     expect_quiet(crew)

@@ -5,6 +5,7 @@
 const MICROMETRES = 1e6;  // in a metre: the package's lengths are whole micrometres, and metres from pyramidOf on
 const BESIDE = 2;         // how many zooms before the first, and behind the last, show its tiles, made smaller or larger
 const AGAIN = 4000;       // milliseconds until a program that doesn't answer is asked again
+const READING = 10000;    // milliseconds for which words stand that nothing else takes away
 // The page is ROOT media/TABLE/1: "/" of 'mmpkg serve', where it shows, and "/KEY/" of 'mmpkg desk', where it works.
 const ROOT = new URL("../..", location.href).pathname;
 const WORKS = ROOT !== "/";
@@ -36,6 +37,12 @@ function say(key, text) {
   messages[key] = text;
   if (text === null) delete messages[key];
   byId("messages").replaceChildren(...Object.values(messages).map(it => element("li", it)));
+}
+
+/** Says something for so long as it takes to read it. */
+function sayFor(key, text) {
+  say(key, text);
+  setTimeout(() => messages[key] === text && say(key, null), READING);
 }
 
 /** Asks for a body as a "blob" or as "json", null where there is none. */

@@ -78,13 +78,13 @@ function showDevice(place) {
 }
 
 async function goToDevice() {
-  byId("gone").textContent = "asking ..";
+  say("device", "The device is asked where it is ..");
   try {
     const place = await deviceAt();
     showDevice(place);
-    byId("gone").textContent = `The device is here, within ${Math.ceil(place.accuracy)} m` +
-      (shown.bounds.contains([place.north, place.east]) ? "." : ", outside the map.");
+    sayFor("device", `The device is here, within ${Math.ceil(place.accuracy)} m` +
+      (shown.bounds.contains([place.north, place.east]) ? "." : ", outside the map."));
   } catch (error) {
-    byId("gone").textContent = whyNoDevice(error);
+    sayFor("device", whyNoDevice(error));
   }
 }

@@ -770,6 +770,26 @@ def check_what_is_refused_is_changed(scene):
     expect(by_title(rows_of(seat), "Bench")[1], ("a word", 0), "the row")
 
 
+def check_a_refused_row_that_is_being_changed(scene):
+    """What was typed into the form of a refused row is there when the page is loaded again, with the row's photo, and is saved in its place."""
+    seat, crew = scene.begin()
+    row = "{ id: 900, title: 'With', note: '', amount: 0 }"
+    records = "[['row', 'none', 900, 'With', '', 0], ['media', 'photos', 902, 'image/jpeg']]"
+    crew.value(f"post([{{ table: 'owners', of: 900, row: {row}, what: 'With', records: {records} }}], [{{ id: 902, bytes: new ArrayBuffer(10) }}])")
+    crew.page.wait("waiting.length === 1 && waiting[0].refused")
+    press_of_outbox(crew, "Change")
+    crew.page.wait("form !== null")
+    crew.write("note", "half a word")
+    crew.reload()
+    crew.page.wait("form !== null && byId('thumbnails').ariaBusy === 'false'")
+    found = crew.value("[byId('which').innerText, byId('note').value, form.photos.length, waiting.length]")
+    expect(found, ["Refused: the row: there is no such table (25)", "half a word", 1, 1], "the form behind that")
+    save_as_bench(crew)
+    crew.wait_until_it_stands()
+    expect_quiet(crew)
+    expect((by_title(rows_of(seat), "Bench"), related_of(seat, 900)), ((900, ("half a word", 0)), [("image/jpeg", 10)]), "the row and its photo")
+
+
 def check_a_list_that_is_refused_in_part(scene):
     """A row that stands while its photo was refused is shown, also when what was refused is thrown away."""
     seat, crew = scene.begin()

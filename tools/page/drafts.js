@@ -15,14 +15,14 @@ const lockOf = owner => `${store.name} tab ${owner}`;
 
 /** Keeps what is typed, so that it is there when the page is loaded again; "strict" has it on the disk at once. */
 function keepDraft(durability = "relaxed") {
-  if (!form || form.act) return;
-  const { table, row, fresh, place } = form;
-  drafts(durability).put({ table, row, fresh, place, values: FIELDS.map(it => byId(it).value) }, tab);
+  if (!form) return;
+  const { table, row, fresh, act, place } = form;
+  drafts(durability).put({ table, row, fresh, act: act?.number, place, values: FIELDS.map(it => byId(it).value) }, tab);
 }
 
 /** Keeps the photos that aren't saved yet, with the number of their row. */
 function keepPhotos() {
-  if (!form || form.act) return;
+  if (!form) return;
   keepDraft();
   drafts("strict").put({ of: form.row.id, photos: form.photos }, tab + 1);
 }
@@ -38,7 +38,6 @@ async function startDrafts() {
   const before = Number(sessionStorage.tab ?? 0);
   sessionStorage.tab = tab;
   if (!form) await openDraft(before);
-  await lookForLeft();
   if (!form && left.length) await openDraft(left.at(-1).owner);
   addEventListener("focus", lookForLeft);
 }
@@ -70,25 +69,27 @@ async function lookForLeft() {
 /** Opens the form as it was typed in a tab, with its photos, once that tab is gone; it is this tab's then. */
 async function openDraft(owner) {
   const how = { signal: AbortSignal.timeout(GONE_WITHIN) };
-  await navigator.locks.request(lockOf(owner), how, async () => {
+  const opened = await navigator.locks.request(lockOf(owner), how, async () => {
     const [draft, taken] = await Promise.all([owner, owner + 1].map(it => done(drafts("relaxed").get(it))));
-    if (!draft?.row || form || !tables().some(it => it.table === draft.table)) return;
+    const act = waiting.find(it => it.refused && it.number === draft?.act);
+    const photos = draft && taken?.of === draft.row.id ? taken.photos : await broughtBy(act);
+    if (!draft || form || !tables().some(it => it.table === draft.table)) return false;
     const moved = drafts("strict");
     moved.delete(keysOf(owner));
     moved.put(draft, tab);
     if (taken) moved.put(taken, tab + 1);
-    fillForm(draft, taken);
+    fillForm(draft, act, photos);
+    return true;
   }).catch(error => { if (error.name !== "TimeoutError") throw error; });
-  await tellLeft();
+  await (opened ? tellLeft() : lookForLeft());
 }
 
-/** Fills the form with a draft and its photos. */
-function fillForm({ table, row, fresh, place, values }, taken) {
-  openForm({ table, row, fresh });
+/** Fills the form with a draft, the act that it changes, if any, and its photos. */
+function fillForm({ table, row, fresh, place, values }, act, photos) {
+  openForm({ table, row, fresh, act });
   for (const [at, it] of FIELDS.entries()) byId(it).value = values[at];
-  form.place = place;
+  Object.assign(form, { place, photos });
   showPlace();
-  if (taken?.of === row.id) form.photos = taken.photos;
   showPhotos();
   byId("told").textContent = "This wasn't saved yet.";
 }

@@ -24,8 +24,7 @@ function open(row) {
 /** Opens the form on an act that was refused, so that it is changed and sent again. */
 async function change(act) {
   if (isHeld()) return;
-  const photos = await Promise.all(photosIn(act).map(async id => ({ id, bytes: await photoOf(id) })));
-  openForm({ table: act.table, row: act.row, fresh: true, act, photos });
+  openForm({ table: act.table, row: act.row, fresh: true, act, photos: await broughtBy(act) });
 }
 
 function openForm({ table, row, fresh, act = null, photos = [] }) {
@@ -221,6 +220,6 @@ function listenToForm() {
   byId("edit").addEventListener("keydown", event => event.key === "Escape" && (isHeld() || closeForm()));
   byId("edit").addEventListener("input", () => keepDraft());
   byId("edit").addEventListener("change", () => keepDraft("strict"));
-  // Of a row that was refused what is changed isn't kept until it is saved, nor is a photo that is on its way.
-  addEventListener("beforeunload", event => form && (form.coming || (form.act && typed() !== form.before)) && event.preventDefault());
+  // A photo that is on its way isn't kept yet.
+  addEventListener("beforeunload", event => form?.coming && event.preventDefault());
 }

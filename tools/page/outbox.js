@@ -61,6 +61,9 @@ const photosIn = act => (act?.records ?? []).filter(([word]) => word === "media"
 /** The bytes of a photo of the outbox. */
 const photoOf = id => done(store.transaction("photos").objectStore("photos").get(id));
 
+/** The photos that an act brings, with their bytes. */
+const broughtBy = act => Promise.all(photosIn(act).map(async id => ({ id, bytes: await photoOf(id) })));
+
 /** Changes the outbox, wholly or not at all; once the promise is kept the disk has it. */
 async function keep(work) {
   const change = store.transaction(["acts", "photos", "drafts"], "readwrite", { durability: "strict" });

@@ -37,7 +37,7 @@ function takeTab() {
 async function startDrafts() {
   const before = Number(sessionStorage.tab ?? 0);
   sessionStorage.tab = tab;
-  if (!form) await openDraft(before);
+  await (form ? lookForLeft() : openDraft(before));
   if (!form && left.length) await openDraft(left.at(-1).owner);
   addEventListener("focus", lookForLeft);
 }

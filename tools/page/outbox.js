@@ -114,7 +114,8 @@ async function heard(act) {
 }
 
 async function recount() {
-  [waiting, left] = await Promise.all([acts(), leftDrafts()]);
+  left = await leftDrafts();
+  waiting = await acts();  // last: of two counts that overlap the one that was read last stays
   showWaiting();
   showRows();
   showMarks();

@@ -617,6 +617,7 @@ def check_forms_of_a_browser_that_was_killed(scene):
             crew.page.ask("Page.bringToFront")
             crew.press("fresh")
             crew.fill(title=title, photos=[scene.photo])
+            crew.page.wait("done(drafts('strict').get(tab + 1)).then(it => it?.photos.length === 1)")
         browser.kill()
     with devtools.Browser(scene.command, profile) as browser:
         crew = Crew(browser, seat.address, kept=True)
@@ -872,7 +873,7 @@ def check_what_is_typed(scene):
         crew.page.wait("form !== null")
         found = [crew.value(f"byId('{it}').value") for it in ("title", "note", "east", "north")]
         expect((found, crew.value("form.row.id")), (["Half", "a word", "500400.0", "5600500.0"], number), "the form")
-        expect(crew.text("told"), "This wasn't saved yet.", "what is said")
+        expect((crew.text("told"), crew.value("isTapping()")), ("This wasn't saved yet.", False), "what is said, and whether a tap sets another place")
         crew.page.wait("byId('thumbnails').querySelector('img')?.naturalWidth === 300")
     crew.save()
     crew.wait_until_it_stands()

@@ -89,6 +89,7 @@ function fillForm({ table, row, fresh, place, values }, act, photos) {
   openForm({ table, row, fresh, act });
   for (const [at, it] of FIELDS.entries()) byId(it).value = values[at];
   Object.assign(form, { place, photos });
+  if (placeOfForm() !== null) tap(false);
   showPlace();
   showPhotos();
   byId("told").textContent = "This wasn't saved yet.";

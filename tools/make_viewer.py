@@ -60,8 +60,18 @@ from border import (
 )
 
 PAGE = pathlib.Path(__file__).resolve().parent / "page"
-SCRIPTS = ("map.js", "places.js", "outbox.js", "photos.js", "marks.js", "way.js", "drafts.js", "form.js", "work.js",
-           "start.js")
+SCRIPTS = (
+    "map.js",
+    "places.js",
+    "outbox.js",
+    "photos.js",
+    "marks.js",
+    "way.js",
+    "drafts.js",
+    "form.js",
+    "work.js",
+    "start.js",
+)
 LEAFLET = pathlib.Path("/usr/share/javascript/leaflet")
 LICENCE = pathlib.Path("/usr/share/doc/libjs-leaflet/copyright")
 CONTENT_TYPES = {1: "text/html", 2: "text/javascript", 3: "text/css", 4: "application/json"}

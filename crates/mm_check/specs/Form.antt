@@ -1,5 +1,5 @@
 -- What form the blobs of a database have, and what a check of it does.
-use Rattle.std.specs.Prelude.{◌≡◌, ◌≢◌, ◌↔◌, ℕ, ℤ, ◌<ℤ◌, Bool, true, false, List, [], ◌∷◌, Option, Some, None, IsTrue, Result, Ok, Err, IfOk, IfErr, OnOk, ⊤}
+use Rattle.std.specs.Prelude.{◌≡◌, ◌≢◌, ◌↔◌, ℕ, ℤ, ◌<ℤ◌, Bool, false, List, [], ◌∷◌, Option, Some, IsTrue, Result, Ok, Err, IfOk, IfErr, OnOk, ⊤}
 use Rattle.std.specs.FinMap.{get}
 use Rattle.sqlite.specs.Order.{Row, column}
 use Rattle.sqlite.specs.Tree.{Trees}

@@ -1,5 +1,5 @@
 -- What a desk answers to one request, and what that does to its session.
-use Rattle.std.specs.Prelude.{◌≡◌, ◌⊎◌, ◌≤◌, ◌<◌, ◌+◌, ℕ, Bool, true, false, [], ◌++◌, Option, Some, Result, Ok, Err, IfSome, length, map, option_map, take}
+use Rattle.std.specs.Prelude.{◌≡◌, ◌⊎◌, ◌≤◌, ◌<◌, ◌+◌, ℕ, Bool, true, [], ◌++◌, Option, Result, Ok, Err, IfSome, length, map, option_map, take}
 use Rattle.std.specs.Io.KnownBytes.{Appends, Consumes}
 use Rattle.httparse.specs.Grammar.{RequestHead}
 use Rattle.httparse.specs.Spans.{name_and_value}

@@ -1,6 +1,6 @@
 -- The entry of a record, and the least number that is against it.
 use Rattle.mm_definitions.specs.Bounds.{current}
-use Rattle.std.proofs.Common.{◌≡◌, ◌∙◌, ◌⊎◌, inl, inr, ◌<◌, ◌≤◌, ℕ, ℤ, pos, ◌≤ℤ◌, List, [], ◌∷◌, length, Option, Result, Ok, Err, Bool, true, false, refl, sym, ap, subst, arith}
+use Rattle.std.proofs.Common.{◌≡◌, ◌∙◌, ◌⊎◌, inl, inr, ◌<◌, ◌≤◌, ℕ, ℤ, pos, ◌≤ℤ◌, List, ◌∷◌, length, Option, Result, Ok, Err, Bool, true, false, refl, sym, ap, subst, arith}
 use Rattle.std.specs.Borrow.{Bor}
 use Rattle.mm_definitions.specs.Fields.{IsAgainst, Whole}
 use Rattle.mm_definitions.specs.Keys.{Text}

@@ -1,7 +1,7 @@
 -- The parts of rules that are decided by a walk each.
 use Rattle.std.specs.Prelude.{◌≡◌, ◌<ℤ◌, codes, Some, None, IfSome}
 use Rattle.std.specs.FinMap.{get}
-use Rattle.mm_definitions.specs.Parts.{Each, Has, Stands}
+use Rattle.mm_definitions.specs.Parts.{Each, Stands}
 use Rattle.mm_definitions.specs.Package.{Package, HasKind, general_extension, mapping_extension, zoom_extension}
 use Rattle.mm_definitions.specs.Rules.{MayName, Suits, IsOrdered, IsWanted}
 use Rattle.mm_definitions.specs.Keys.{Text}

@@ -3,9 +3,9 @@ use Rattle.std.proofs.lemmas.List.{length-drop, take_all}
 use Rattle.std.specs.Io.KnownBytes.{Consumes}
 use Rattle.mm_definitions.specs.Streams.{has_failed, inside, written}
 use Rattle.mm_gate.specs.Demand.{demanded}
-use Rattle.mm_page.specs.Heads.{Heads, IsNeeded, MostHeadBytes}
+use Rattle.mm_page.specs.Heads.{IsNeeded, MostHeadBytes}
 use Rattle.mm_page.proofs.ServeFacts.{err_so, ok_so}
-use Rattle.mm_desk.specs.Answered.{Demands, IsHeadless, IsReadTo, page_of}
+use Rattle.mm_desk.specs.Answered.{Demands, IsHeadless, page_of}
 use Rattle.mm_desk.specs.Responses.{refusal_of}
 use Rattle.mm_desk.specs.Sent.{IsCut}
 use Rattle.mm_desk.proofs.Answering.{Lifts, answered_up, cut_short, head_lifts, reads_head, reads_to, some_weaker, stays_same}

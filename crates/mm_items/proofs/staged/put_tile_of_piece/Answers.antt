@@ -1,4 +1,4 @@
-use Rattle.std.proofs.Common.{[], refl, sym, ◌∙◌}
+use Rattle.std.proofs.Common.{refl, sym, ◌∙◌}
 use Rattle.mm_definitions.proofs.RefusalFacts.{refused_for, accepted_for}
 use Rattle.mm_store.proofs.Going.{goes_given, next_change}
 use Rattle.mm_items.proofs.Piecing.{change_for, does_for, refuses_for, command_fails_for}

@@ -1,5 +1,4 @@
-use Rattle.std.proofs.Common.{option_map, sym, ap, ◌∙◌, rules}
-use Rattle.std.proofs.lemmas.Result.{err_from_is_err_and}
+use Rattle.std.proofs.Common.{option_map, sym, ap, ◌∙◌}
 use Rattle.mm_definitions.specs.Keys.{same_text}
 use Rattle.mm_definitions.specs.Parts.{at_value}
 use Rattle.mm_definitions.specs.Package.{kind_text}
